@@ -1,0 +1,184 @@
+-- Classes of an action: matching, key tuples, moments, the seven names, journeys. Assumes nothing.
+use mathlib.Core.Bool.{Bool, true, false, _&&_, _||_, not, cond}
+use mathlib.Core.List.{List, [], _∷_, _++_, map, flatMap}
+use Prim.Native.Nat.{ℕ, zero, suc}
+use lib.Dec.{eqb, leb}
+use lib.ListN.{length}
+use Rattle.records.specs.Lists.{keepIf, filterBy, all, any, sameList, elem, dedup}
+use Rattle.literals.specs.declared.Variable.{Variable}
+use Rattle.literals.specs.declared.Object.{Object}
+use Rattle.literals.specs.declared.Key.{Key}
+use Rattle.literals.specs.declared.Label.{Label}
+use Rattle.literals.specs.declared.Time.{Time}
+use Rattle.literals.specs.declared.Time.the-variants.{AtStart, OverAll, AtEnd}
+use Rattle.literals.specs.declared.Clause.{Clause}
+use Rattle.literals.specs.declared.Clause.the-variants.{Positive, Negative, Add, Delete}
+use Rattle.literals.specs.declared.Role.{Role}
+use Rattle.literals.specs.Domain.{key, sameVariable, sameObject, Atom, Fact, sameLiteral, sameTime, sameClause, Literal, Action, Component, isKey, isCounted, keysOf, Domain}
+use Rattle.classes.specs.declared.Moment.{Moment}
+use Rattle.classes.specs.declared.Moment.the-variants.{Start, End}
+use Rattle.classes.specs.declared.Name.{Name}
+use Rattle.classes.specs.declared.Name.the-variants.{Unreachable, Irrelevant, Heavy, Balanced, Unbalanced, Bounded, Unbounded}
+
+-- ---- matching and key tuples, of literals and of facts alike
+
+module _ {A : Type 0} where
+  -- the arguments under a key
+  abbrev pub under : Key → List Label → List A → List A
+  under k [] vs = []
+  under k (l ∷ ls) [] = []
+  under k (l ∷ ls) (v ∷ vs) = keepIf (isKey k l) v (under k ls vs)
+
+  -- "Its key tuple is the variables under keys 0, 1, .. n-1."
+  abbrev pub keyTuple : ℕ → List Label → List A → List A
+  keyTuple zero ls vs = []
+  keyTuple (suc n) ls vs = keyTuple n ls vs ++ under (key n) ls vs
+
+  -- c is the component of f's relation. That there is a label for each argument holds of every literal and fact of a domain; facts that somebody chooses are not asked for it, so it is tested here
+  abbrev pub isOf : Component → Atom A → Bool
+  isOf c f = eqb (c .rel) (f .rel) && eqb (length (c .labels)) (length (f .args))
+
+  -- "A literal matches if its relation has a component." The key tuples of an atom: one where it matches, else none
+  abbrev pub tuplesBy : ℕ → List Component → Atom A → List (List A)
+  tuplesBy n [] f = []
+  tuplesBy n (c ∷ cs) f = keepIf (isOf c f) (keyTuple n (c .labels) (f .args)) (tuplesBy n cs f)
+
+  unfoldable pub tuplesOf : Domain → Atom A → List (List A)
+  tuplesOf D f = tuplesBy (keysOf (D .template)) (D .template) f
+
+  -- the atom matches, and its key tuple is x
+  unfoldable pub hasTuple : (A → A → Bool) → Domain → List A → Atom A → Bool
+  unfolding tuplesOf
+  hasTuple eq D x f = any (λ t. sameList eq t x) (tuplesOf D f)
+
+-- the literal belongs to the class of the key tuple x
+abbrev pub belongs : Domain → List Variable → Atom Variable → Bool
+belongs D x p = hasTuple sameVariable D x p
+
+-- "An instance gives each key an object": the instance y matches the fact
+abbrev pub matches : Domain → List Object → Fact → Bool
+matches D y f = hasTuple sameObject D y f
+
+-- ---- moments, and the literals that count there
+
+-- "Each class has one moment (0), or for a lasting action start (0) and end (1)."
+abbrev pub momentNumber : Moment → ℕ
+momentNumber Start = 0
+momentNumber End = 1
+
+abbrev pub momentsOf : Action → List Moment
+momentsOf a = cond (a .lasting) (Start ∷ End ∷ []) (Start ∷ [])
+
+-- the time of a moment's own literals
+abbrev pub ownTime : Moment → Time
+ownTime Start = AtStart
+ownTime End = AtEnd
+
+-- whether a moment's conditions include the over-all ones
+abbrev pub endsOverAll : Moment → Bool
+endsOverAll Start = false
+endsOverAll End = true
+
+-- a role of a moment's own
+abbrev pub own : Moment → Clause → Role → Bool
+own m c r = sameTime (ownTime m) (r .time) && sameClause c (r .clause)
+
+-- an over-all role
+abbrev pub overAll : Clause → Role → Bool
+overAll c r = sameTime OverAll (r .time) && sameClause c (r .clause)
+
+-- the atoms of the literals whose role passes a test, in file order
+abbrev pub withRole : (Role → Bool) → List Literal → List (Atom Variable)
+withRole p [] = []
+withRole p (l ∷ ls) = keepIf (p (l .role)) (l .atom) (withRole p ls)
+
+-- the action's literals of one clause at one moment, in file order: "An end's conditions are its own and the over-all ones, a literal in both counting once." Adds and deletes have no over-all role
+unfoldable pub literalsAt : Action → Moment → Clause → List (Atom Variable)
+literalsAt a m c = dedup sameLiteral (withRole (λ r. own m c r || (endsOverAll m && overAll c r)) (a .lits))
+
+-- the conditions that must hold where an event happens
+abbrev pub required : Action → Moment → Clause → List (Atom Variable)
+required = literalsAt
+
+-- the conditions that count for interference
+abbrev pub guarded : Action → Moment → Clause → List (Atom Variable)
+guarded = literalsAt
+
+-- the true conditions that count towards unreachable, and the literals that count towards every other name
+abbrev pub countedForReach : Action → Moment → List (Atom Variable)
+countedForReach a m = literalsAt a m Positive
+
+abbrev pub countedForName : Action → Moment → Clause → List (Atom Variable)
+countedForName = literalsAt
+
+-- the action's over-all conditions
+abbrev pub overAllLiterals : Action → Clause → List (Atom Variable)
+overAllLiterals a c = withRole (overAll c) (a .lits)
+
+-- ---- classes: each is its key tuple
+
+-- "Literals of one action with equal tuples form a class; with n = 0 all matching literals form one. Classes are numbered by first literal in the file."
+unfoldable pub classes : Domain → Action → List (List Variable)
+unfolding tuplesOf flatMap
+classes D a = dedup (sameList sameVariable) (flatMap (λ (l : Literal). tuplesOf D (l .atom)) (a .lits))
+
+-- "Only the class's literals of that moment count"
+unfoldable pub inClass : Domain → Action → List Variable → Moment → Clause → List (Atom Variable)
+unfolding hasTuple literalsAt
+inClass D a x m c = filterBy (belongs D x) (countedForName a m c)
+
+-- ---- the seven names
+
+abbrev pub nameNumber : Name → ℕ
+nameNumber Unreachable = 1
+nameNumber Irrelevant = 2
+nameNumber Heavy = 3
+nameNumber Balanced = 4
+nameNumber Unbalanced = 5
+nameNumber Bounded = 6
+nameNumber Unbounded = 7
+
+-- "the first line that fits names it": of the true conditions towards unreachable, the true conditions and adds towards the rest, whether the true condition is also an add or a delete, and whether each component is covered
+unfoldable pub nameBy : ℕ → ℕ → ℕ → Bool → Bool → Name
+nameBy reach conditions adds changed covered =
+    cond (leb 2 reach) Unreachable
+    (cond (eqb adds 0) Irrelevant
+    (cond (leb 2 adds) Heavy
+    (cond (eqb conditions 1) (cond changed Balanced Unbalanced)
+    (cond covered Bounded Unbounded))))
+
+-- a literal is deleted by one of these deletes
+abbrev pub deletedBy : List (Atom Variable) → Atom Variable → Bool
+deletedBy dels p = elem sameLiteral p dels
+
+-- "one true condition, also an add or a delete"
+abbrev pub changedBy : List (Atom Variable) → List (Atom Variable) → Atom Variable → Bool
+changedBy adds dels p = elem sameLiteral p adds || deletedBy dels p
+
+-- "covered, that is, has no FF and its relation occurs among them"
+abbrev pub covered : List (Atom Variable) → Component → Bool
+covered ps c = not (any isCounted (c .labels)) && any (λ (p : Atom Variable). eqb (c .rel) (p .rel)) ps
+
+-- "among them as false condition, add or delete"
+unfoldable pub excluding : Domain → Action → List Variable → Moment → List (Atom Variable)
+unfolding inClass
+excluding D a x m = inClass D a x m Negative ++ (inClass D a x m Add ++ inClass D a x m Delete)
+
+-- the name of the class x at a moment
+unfoldable pub nameOf : Domain → Action → List Variable → Moment → Name
+unfolding inClass excluding nameBy literalsAt hasTuple
+nameOf D a x m =
+    nameBy (length (filterBy (belongs D x) (countedForReach a m))) (length (inClass D a x m Positive)) (length (inClass D a x m Add))
+    (all (changedBy (inClass D a x m Add) (inClass D a x m Delete)) (inClass D a x m Positive))
+    (all (covered (excluding D a x m)) (D .template))
+
+-- the paper's own term: "A journey is a class of a lasting action whose start has no add and exactly one true condition, which the start deletes, and whose end has no true condition and one add."
+unfoldable pub journey : Domain → Action → List Variable → Bool
+unfolding inClass
+journey D a x =
+    a .lasting
+    && eqb (length (inClass D a x Start Add)) 0
+    && eqb (length (inClass D a x Start Positive)) 1
+    && all (deletedBy (inClass D a x Start Delete)) (inClass D a x Start Positive)
+    && eqb (length (inClass D a x End Positive)) 0
+    && eqb (length (inClass D a x End Add)) 1

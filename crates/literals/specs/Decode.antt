@@ -1,0 +1,287 @@
+-- Reading a domain file, record by record: the domain, or the number that stops it. Assumes nothing.
+use mathlib.Core.Bool.{Bool, true, false, _&&_, _||_, not, cond}
+use mathlib.Core.List.{List, [], _∷_, _++_, map}
+use Prim.Native.Nat.{ℕ, zero, suc, _+_}
+use lib.Dec.{eqb, ltb, leb}
+use lib.ListN.{length, getD, drop}
+use Rattle.records.specs.Lists.{any, empty}
+use Rattle.records.specs.declared.Record.{Record}
+use Rattle.records.specs.declared.Record.the-variants.{Whole, Cut, End}
+use Rattle.records.specs.Record.{recordAt, payload}
+use Rattle.literals.specs.declared.Label.{Label}
+use Rattle.literals.specs.declared.Label.the-variants.{Key as keyed, Counted}
+use Rattle.literals.specs.declared.Time.{Time}
+use Rattle.literals.specs.declared.Time.the-variants.{AtStart}
+use Rattle.literals.specs.declared.Clause.{Clause}
+use Rattle.literals.specs.declared.Clause.the-variants.{Positive, Negative, Add, Delete}
+use Rattle.literals.specs.Domain.{variable, key, Atom, sameLiteral, roleOf, sameTime, sameClause, sameRole, Literal, Action, Component, Template, keysOf, labelsFit, Domain, arity, noAction}
+
+-- ---- "Limits: file 65,535 bytes; 64 relations; 64 actions; 64 literals an action; 16 components."
+
+abbrev pub maxFile : ℕ
+maxFile = 65535
+
+abbrev pub maxRelations : ℕ
+maxRelations = 64
+
+abbrev pub maxActions : ℕ
+maxActions = 64
+
+abbrev pub maxLiterals : ℕ
+maxLiterals = 64
+
+abbrev pub maxComponents : ℕ
+maxComponents = 16
+
+-- ---- the kinds of record
+
+-- "Kind 1, relation .. Kind 5, closing"
+pub data RecordKind : Type 0 where
+  relationRecord actionRecord literalRecord componentRecord closingRecord unknownRecord : RecordKind
+
+abbrev pub kindOf : ℕ → RecordKind
+kindOf k =
+    cond (eqb k 1) relationRecord
+    (cond (eqb k 2) actionRecord
+    (cond (eqb k 3) literalRecord
+    (cond (eqb k 4) componentRecord
+    (cond (eqb k 5) closingRecord unknownRecord))))
+
+abbrev pub isUnknown : RecordKind → Bool
+isUnknown relationRecord = false
+isUnknown actionRecord = false
+isUnknown literalRecord = false
+isUnknown componentRecord = false
+isUnknown closingRecord = false
+isUnknown unknownRecord = true
+
+abbrev pub isClosing : RecordKind → Bool
+isClosing relationRecord = false
+isClosing actionRecord = false
+isClosing literalRecord = false
+isClosing componentRecord = false
+isClosing closingRecord = true
+isClosing unknownRecord = false
+
+-- ---- record head, of the domain read so far
+
+-- "the latest action"
+abbrev pub latest : List Action → Action
+latest [] = noAction
+latest (a ∷ []) = a
+latest (a ∷ b ∷ bs) = latest (b ∷ bs)
+
+-- "Order: relations, actions each followed by its literals, components, one closing record."
+abbrev pub outOfOrder : Domain → RecordKind → Bool
+outOfOrder D relationRecord = not (empty (D .actions) && empty (D .template))
+outOfOrder D actionRecord = not (empty (D .template))
+outOfOrder D literalRecord = empty (D .actions) || not (empty (D .template))
+outOfOrder D componentRecord = false
+outOfOrder D closingRecord = false
+outOfOrder D unknownRecord = false
+
+-- one record more would exceed a limit
+abbrev pub atLimit : Domain → RecordKind → Bool
+atLimit D relationRecord = leb maxRelations (length (D .arities))
+atLimit D actionRecord = leb maxActions (length (D .actions))
+atLimit D literalRecord = leb maxLiterals (length (latest (D .actions) .lits))
+atLimit D componentRecord = leb maxComponents (length (D .template))
+atLimit D closingRecord = false
+atLimit D unknownRecord = false
+
+-- "11 unknown kind; 13 kind out of order; 14 over a limit", or 0
+unfoldable pub headStop : Domain → RecordKind → ℕ
+headStop D k = cond (isUnknown k) 11 (cond (outOfOrder D k) 13 (cond (atLimit D k) 14 0))
+
+-- ---- fields, then the rows "literal", "component" and "closing": the number that stops the record, or 0
+
+abbrev pub byte : List ℕ → ℕ → ℕ
+byte p i = getD p i 0
+
+-- "12 wrong length; 15 arity": "arity, 0 to 6"
+unfoldable pub relationStop : List ℕ → ℕ
+relationStop p = cond (not (eqb (length p) 1)) 12 (cond (ltb 6 (byte p 0)) 15 0)
+
+-- "15 count or sort": "variable count, 0 to 16; sort, 0 at once, 1 lasting"
+unfoldable pub actionStop : List ℕ → ℕ
+actionStop p = cond (not (eqb (length p) 2)) 12 (cond (ltb 16 (byte p 0)) 15 (cond (ltb 1 (byte p 1)) 15 0))
+
+-- "role, relation, one variable per argument"
+abbrev pub literalOf : List ℕ → Literal
+literalOf p = record { role = roleOf (byte p 0); atom = record { rel = byte p 1; args = map variable (drop 2 p) } }
+
+-- "19 repeated in its role"
+abbrev pub repeats : Literal → Literal → Bool
+repeats l m = sameRole (l .role) (m .role) && sameLiteral (l .atom) (m .atom)
+
+-- one is a true condition, the other a false one
+abbrev pub contrary : Clause → Clause → Bool
+contrary Positive d = sameClause d Negative
+contrary Negative d = sameClause d Positive
+contrary Add d = false
+contrary Delete d = false
+
+-- "among roles 0, 1 or among 4 to 7": both at the start, or both not
+abbrev pub together : Time → Time → Bool
+together t u = cond (sameTime t AtStart) (sameTime u AtStart) (not (sameTime u AtStart))
+
+-- "20 both true and false among roles 0, 1 or among 4 to 7"
+abbrev pub contradicts : Literal → Literal → Bool
+contradicts l m = contrary (l .role .clause) (m .role .clause) && together (l .role .time) (m .role .time) && sameLiteral (l .atom) (m .atom)
+
+-- "16 role": "Roles 4 to 9 need a lasting action."
+abbrev pub noRole : Action → ℕ → Bool
+noRole a r = ltb 9 r || (ltb 3 r && not (a .lasting))
+
+-- "16 role; 17 relation; 18 variable", "19 repeated in its role; 20 both true and false"; "A length comes first where it is fixed or too short for the relation or action, else once that is known."
+unfoldable pub literalStop : Domain → List ℕ → ℕ
+unfolding roleOf
+literalStop D p =
+    let a = latest (D .actions) in
+    cond (ltb (length p) 2) 12
+    (cond (noRole a (byte p 0)) 16
+    (cond (leb (length (D .arities)) (byte p 1)) 17
+    (cond (not (eqb (length p) (2 + arity D (byte p 1)))) 12
+    (cond (any (leb (a .vars)) (drop 2 p)) 18
+    (cond (any (repeats (literalOf p)) (a .lits)) 19
+    (cond (any (contradicts (literalOf p)) (a .lits)) 20 0))))))
+
+-- "A label is a key number, or FF for counted."
+abbrev pub labelOf : ℕ → Label
+labelOf b = cond (eqb b 255) Counted (keyed (key b))
+
+-- "relation, one label per argument"
+abbrev pub componentOf : List ℕ → Component
+componentOf p = record { rel = byte p 0; labels = map labelOf (drop 1 p) }
+
+-- "21 labels": of a template that has n keys
+unfoldable pub labelStop : ℕ → List Label → ℕ
+unfolding labelsFit
+labelStop n ls = cond (labelsFit n ls) 0 21
+
+-- "22 relation used before; 21 labels"
+unfoldable pub componentStop : Domain → List ℕ → ℕ
+unfolding labelStop
+componentStop D p =
+    let c = componentOf p in
+    cond (ltb (length p) 1) 12
+    (cond (leb (length (D .arities)) (byte p 0)) 17
+    (cond (not (eqb (length p) (1 + arity D (byte p 0)))) 12
+    (cond (any (λ (d : Component). eqb (c .rel) (d .rel)) (D .template)) 22
+    (labelStop (keysOf (D .template ++ (c ∷ []))) (c .labels)))))
+
+-- "no payload", "23 no component"
+unfoldable pub closingStop : Domain → List ℕ → ℕ
+closingStop D p = cond (not (eqb (length p) 0)) 12 (cond (empty (D .template)) 23 0)
+
+unfoldable pub fieldStop : Domain → RecordKind → List ℕ → ℕ
+unfolding relationStop actionStop literalStop componentStop closingStop
+fieldStop D relationRecord p = relationStop p
+fieldStop D actionRecord p = actionStop p
+fieldStop D literalRecord p = literalStop D p
+fieldStop D componentRecord p = componentStop D p
+fieldStop D closingRecord p = closingStop D p
+fieldStop D unknownRecord p = 0
+
+-- "each down the rows": the number that stops a whole record, or 0
+unfoldable pub stopOf : Domain → RecordKind → List ℕ → ℕ
+unfolding headStop fieldStop
+stopOf D k p = cond (eqb (headStop D k) 0) (fieldStop D k p) (headStop D k)
+
+-- ---- the domain with one record more
+
+-- "literal of the latest action"
+abbrev pub withLiteral : Literal → List Action → List Action
+withLiteral l [] = []
+withLiteral l (a ∷ []) = record { vars = a .vars; lasting = a .lasting; lits = a .lits ++ (l ∷ []) } ∷ []
+withLiteral l (a ∷ b ∷ bs) = a ∷ withLiteral l (b ∷ bs)
+
+abbrev pub actionOf : List ℕ → Action
+actionOf p = record { vars = byte p 0; lasting = eqb (byte p 1) 1; lits = [] }
+
+unfoldable pub extend : Domain → RecordKind → List ℕ → Domain
+unfolding roleOf
+extend D relationRecord p = record { arities = D .arities ++ (byte p 0 ∷ []); actions = D .actions; template = D .template }
+extend D actionRecord p = record { arities = D .arities; actions = D .actions ++ (actionOf p ∷ []); template = D .template }
+extend D literalRecord p = record { arities = D .arities; actions = withLiteral (literalOf p) (D .actions); template = D .template }
+extend D componentRecord p = record { arities = D .arities; actions = D .actions; template = D .template ++ (componentOf p ∷ []) }
+extend D closingRecord p = D
+extend D unknownRecord p = D
+
+-- ---- the file
+
+-- why a file is refused: the number of the table, its place, and where the record at fault starts
+pub record Refusal : Type 0 where
+  pub number : ℕ
+  pub place : ℕ
+  pub start : ℕ
+
+-- "9 to 23 .. give the record's offset as first place"
+abbrev pub refuse : ℕ → ℕ → Refusal
+refuse n start = record { number = n; place = start; start = start }
+
+pub data Decoded : Type 0 where
+  refused : Refusal → Decoded
+  domain : Domain → Decoded
+
+-- where reading stands: the next record's offset, whether the closing record is read, and the domain so far
+pub record Reading : Type 0 where
+  pub at : ℕ
+  pub closed : Bool
+  pub sofar : Domain
+
+-- what one record leads to
+pub data ReadTurn : Type 0 where
+  goOn : Reading → ReadTurn
+  finish : Decoded → ReadTurn
+
+-- a whole record, of this kind and payload, and the offset behind it
+unfoldable pub readRecord : Reading → RecordKind → List ℕ → ℕ → ReadTurn
+unfolding stopOf extend
+readRecord r k p behind =
+    cond (eqb (stopOf (r .sofar) k p) 0)
+    (goOn (record { at = behind; closed = isClosing k; sofar = extend (r .sofar) k p }))
+    (finish (refused (refuse (stopOf (r .sofar) k p) (r .at))))
+
+-- "10 cut short or no closing record"
+unfoldable pub readFound : List ℕ → Reading → Record → ReadTurn
+unfolding readRecord payload
+readFound s r (Whole k start len) = readRecord r (kindOf k) (payload s start len) (start + len)
+readFound s r Cut = finish (refused (refuse 10 (r .at)))
+readFound s r End = finish (refused (refuse 10 (r .at)))
+
+-- "anything behind the closing record: 13, before all else there"
+unfoldable pub readStep : List ℕ → Reading → ReadTurn
+unfolding readFound recordAt
+readStep s r =
+    cond (r .closed)
+    (cond (ltb (r .at) (length s)) (finish (refused (refuse 13 (r .at)))) (finish (domain (r .sofar))))
+    (readFound s r (recordAt s (r .at)))
+
+-- how reading ends, and the domain read until then
+pub record Finished : Type 0 where
+  pub result : Decoded
+  pub read : Domain
+
+-- "Records are checked in file order". More fuel than the file's length changes nothing: `more-fuel` of proofs/Loop
+unfoldable pub readFrom : ℕ → List ℕ → Reading → Finished
+unfolding readStep
+readFrom zero s r = record { result = refused (refuse 10 (r .at)); read = r .sofar }
+readFrom (suc fuel) s r = elim (readStep s r) [ goOn next ↦ readFrom fuel s next | finish d ↦ record { result = d; read = r .sofar } ]
+
+abbrev pub noDomain : Domain
+noDomain = record { arities = []; actions = []; template = [] }
+
+abbrev pub fromStart : Reading
+fromStart = record { at = 0; closed = false; sofar = noDomain }
+
+-- "9 too long", else record by record
+unfoldable pub readFile : List ℕ → Finished
+unfolding readFrom
+readFile f =
+    elim (ltb maxFile (length f)) [ true ↦ record { result = refused (refuse 9 0); read = noDomain } | false ↦ readFrom (suc (length f)) f fromStart ]
+
+-- what a file says
+unfoldable pub decode : List ℕ → Decoded
+unfolding readFile
+decode f = readFile f .result
