@@ -1,0 +1,4 @@
+-- Playing a run: the run file, the player, what is claimed of it, and the samples.
+pub mod RunFile
+pub mod Play
+pub mod Claims
