@@ -13,7 +13,7 @@ use Rattle.records.specs.declared.Record.the-variants.{Whole, Cut, End}
 use Rattle.records.specs.Record.{recordAt, payload}
 use Rattle.records.proofs.Laws.{whole-within}
 use Rattle.literals.specs.Domain.{Domain}
-use Rattle.literals.specs.Decode.{RecordKind, kindOf, isClosing, stopOf, extend, Refusal, refuse, Decoded, refused, domain, Reading, ReadTurn, goOn, finish, readRecord, readFound, readStep, Finished, readFrom, fromStart}
+use Rattle.literals.specs.Decode.{RecordKind, kindOf, isClosing, stopOf, extend, Refusal, refuse, Decoded, refused, domain, Reading, ReadTurn, goOn, finish, readRecord, readFound, readStep, readFrom, fromStart}
 
 -- ---- one turn of the loop
 

@@ -7,7 +7,7 @@ use native.Mathlib.Omega.{arith}
 use lib.Dec.{eqb, ltb, leb}
 use lib.ListN.{length, drop, length-append, length-drop, length-map, List·getD-append}
 use borrow.Author.Tests.{ltb-true, leb-false, lt-ltb, eqb-true, eq-eqb}
-use Rattle.records.specs.Lists.{In, all, any, pairwise, distinct}
+use Rattle.records.specs.Lists.{all, any, distinct}
 use Rattle.records.proofs.Lists.{and-l, and-r, and-i, not-false, clash, all-of, any-out, eqb-comm, sameList-comm, all-snoc, pairwise-snoc, all-weaken, any-none, all-map}
 use Rattle.literals.specs.declared.Variable.{Variable}
 use Rattle.literals.specs.declared.Time.{Time}
@@ -15,8 +15,8 @@ use Rattle.literals.specs.declared.Time.the-variants.{AtStart}
 use Rattle.literals.specs.declared.Clause.{Clause}
 use Rattle.literals.specs.declared.Clause.the-variants.{Positive, Negative, Add, Delete}
 use Rattle.literals.specs.Domain.{variable, sameVariable, Atom, sameLiteral, clauseNumber, firstRole, sameTime, Literal, Action, Component, Template, keysOf, labelsFit, Domain, arity}
-use Rattle.literals.specs.Decode.{RecordKind, relationRecord, actionRecord, literalRecord, componentRecord, closingRecord, unknownRecord, latest, byte, literalOf, repeats, contrary, together, contradicts, noRole, labelOf, componentOf, headStop, literalStop, labelStop, componentStop, fieldStop, stopOf, withLiteral, actionOf, extend, refuse, Decoded, refused, domain, Reading, ReadTurn, goOn, finish, readStep, Finished, readFrom, noDomain, fromStart, readFile, decode, maxFile}
-use Rattle.literals.proofs.Loop.{read-more, read-done, GoesOn, goOn-at, finish-sofar}
+use Rattle.literals.specs.Decode.{RecordKind, relationRecord, actionRecord, literalRecord, componentRecord, closingRecord, unknownRecord, latest, byte, literalOf, repeats, contrary, together, contradicts, noRole, labelOf, componentOf, headStop, literalStop, labelStop, componentStop, fieldStop, stopOf, withLiteral, actionOf, extend, refuse, refused, domain, Reading, ReadTurn, goOn, finish, readStep, Finished, readFrom, noDomain, fromStart, readFile, decode, maxFile}
+use Rattle.literals.proofs.Loop.{read-more, read-done, goOn-at, finish-sofar}
 use Rattle.verdict.specs.Claims.{hasArity, wellFormedAction, wellFormedTemplate, wellFormed, DecodedIsWellFormed}
 
 -- ---- the tests of a literal and of a component
