@@ -1,3 +1,4 @@
--- The domain: its parts, and how a file is read.
+-- The domain: its parts, how a file is read, and how the code holds it.
 pub mod Domain
 pub mod Decode
+pub mod Table

@@ -1,6 +1,12 @@
-// Reading a domain file: numberings, roles, labels, and the file itself.
+// Reading a domain file: numberings, roles and labels, and how the code holds a domain (here); the fields of a record (fields); the rows of the
+// literal table (row); what one record adds to the domain (take); the file (read).
+pub mod fields;
+pub mod read;
+pub mod row;
+pub mod take;
 ghost use mathlib.Core.Path.{_≡_};
-ghost use Rattle.literals.specs.Domain.{roleOf};
+ghost use Rattle.literals.specs.Domain.{clauseOf, roleOf};
+ghost use Rattle.literals.specs.Table.{conditionGroup, roleRank};
 
 // Variables, objects and keys are three separate numberings, each from 0.
 pub struct Variable(pub u8);
@@ -31,4 +37,106 @@ pub enum Clause {
 pub struct Role {
     pub time: Time,
     pub clause: Clause,
+}
+
+// A domain as the code holds it, beside the table of its literals (8 bytes a row: role, relation, variables, FF to fill).
+pub struct Index {
+    pub relations: usize,
+    pub arities: [u8; 64],
+    pub actions: usize,
+    pub variables: [u8; 64],
+    // 0 at once, 1 lasting
+    pub sorts: [u8; 64],
+    // the first row of each action's literals
+    pub starts: [usize; 64],
+    pub rows: usize,
+    pub components: usize,
+    // 8 bytes a component: relation, labels, FF to fill
+    pub parts: [u8; 128],
+    // the number of keys, 0 before the first component
+    pub keys: usize,
+}
+
+// What one record led to: 0 and the domain with it, or the number that stopped it and the domain before it.
+pub struct Taken {
+    pub number: u64,
+    pub index: Index,
+}
+
+// Where reading stands: the next record's offset, whether the closing record is read, and the domain so far.
+pub struct Progress {
+    pub at: usize,
+    pub closed: bool,
+    pub index: Index,
+}
+
+// What a file led to: 0 and its domain, or the number that refused it with its place, where the record at fault starts, and the domain until then.
+pub struct ReadAnswer {
+    pub number: u64,
+    pub place: usize,
+    pub start: usize,
+    pub index: Index,
+}
+
+fn clause_of(n: u8) -> Clause
+    ensures { λ r. ⌜ r ≡ clauseOf n ⌝ }
+{
+    match n {
+        0 => Clause::Positive,
+        1 => Clause::Negative,
+        2 => Clause::Add,
+        _ => Clause::Delete,
+    }
+}
+
+// The role byte, sorted by its ranges. Reading refuses a byte above 9 before it is sorted.
+pub fn role_of(role: u8) -> Role
+    ensures { λ r. ⌜ r ≡ roleOf role ⌝ }
+{
+    match role {
+        0..=3 => Role {
+            time: Time::AtStart,
+            clause: clause_of(role),
+        },
+        4..=5 => Role {
+            time: Time::OverAll,
+            clause: clause_of(role - 4),
+        },
+        _ => Role {
+            time: Time::AtEnd,
+            clause: clause_of(role - 6),
+        },
+    }
+}
+
+// The conditions that may contradict each other: 1 for the roles 0 and 1, 2 for 4 to 7, 0 for the others.
+fn condition_group(role: u8) -> u8
+    ensures { λ r. ⌜ r ≡ conditionGroup role ⌝ }
+{
+    match role {
+        0..=1 => 1,
+        2..=3 => 0,
+        4..=7 => 2,
+        _ => 0,
+    }
+}
+
+// The role bytes of two literals with the same atom: 2 where it is repeated in its role, 1 where it is both true and false, else 0.
+pub fn role_rank(a: u8, b: u8) -> u64
+    ensures { λ r. ⌜ r ≡ roleRank a b ⌝ }
+{
+    if a == b {
+        return 2;
+    }
+    let group = condition_group(a);
+    if group == 0 {
+        return 0;
+    }
+    if condition_group(b) == group {
+        if a % 2 == b % 2 {
+            return 0;
+        }
+        return 1;
+    }
+    0
 }

@@ -1,0 +1,192 @@
+-- How the code holds a domain: an index by value, and a lent table with 8 bytes a literal. Assumes nothing.
+use mathlib.Core.Path.{_≡_}
+use mathlib.Core.Bool.{Bool, true, false, _&&_, _||_, not, cond}
+use mathlib.Core.List.{List, [], _∷_, _++_, map, flatMap, foldr}
+use Prim.Native.Nat.{ℕ, zero, suc, _+_, _-_, _*_, _%_, _≤_, _<_, max}
+use lib.Dec.{eqb, ltb, leb}
+use lib.ListN.{length, take, drop, getD, replicate}
+use Rattle.records.specs.Lists.{In, all, any, countBy, sameList}
+use Rattle.records.specs.Memory.{over}
+use Rattle.literals.specs.declared.Variable.{Variable}
+use Rattle.literals.specs.declared.Label.{Label}
+use Rattle.literals.specs.declared.Label.the-variants.{Key as keyed, Counted}
+use Rattle.literals.specs.declared.Index.{Index}
+use Rattle.literals.specs.declared.Taken.{Taken}
+use Rattle.literals.specs.declared.Progress.{Progress}
+use Rattle.literals.specs.declared.ReadAnswer.{ReadAnswer}
+use Rattle.literals.specs.Domain.{roleNumber, roleOf, Literal, Action, Component, keysOf, Domain}
+use Rattle.literals.specs.Decode.{byte, RecordKind, stopOf, extend, Refusal, Decoded, refused, domain, Reading, Finished, readFile}
+
+-- ---- rows of 8 bytes
+
+-- a payload, and FF to fill
+abbrev pub rowOf : List ℕ → List ℕ
+rowOf p = p ++ replicate (8 - length p) 255
+
+-- a literal: role, relation, variables
+abbrev pub literalRow : Literal → List ℕ
+literalRow l = rowOf (roleNumber (l .role) ∷ l .atom .rel ∷ map (λ (v : Variable). v .0) (l .atom .args))
+
+abbrev pub labelNumber : Label → ℕ
+labelNumber (keyed k) = k .0
+labelNumber Counted = 255
+
+-- a component: relation, labels
+abbrev pub componentRow : Component → List ℕ
+componentRow c = rowOf (c .rel ∷ map labelNumber (c .labels))
+
+-- the literals of all actions, in file order
+unfoldable pub allLiterals : List Action → List Literal
+unfolding flatMap
+allLiterals as′ = flatMap (λ (a : Action). a .lits) as′
+
+-- the table's rows
+unfoldable pub tableBytes : Domain → List ℕ
+unfolding flatMap allLiterals
+tableBytes D = flatMap literalRow (allLiterals (D .actions))
+
+-- ---- the index
+
+-- a list in an array of n numbers, 0 behind it
+abbrev pub pad : ℕ → List ℕ → List ℕ
+pad n l = l ++ replicate (n - length l) 0
+
+-- the first row of each action, where the first has row n
+abbrev pub startsFrom : ℕ → List Action → List ℕ
+startsFrom n [] = []
+startsFrom n (a ∷ as′) = n ∷ startsFrom (n + length (a .lits)) as′
+
+abbrev pub sortNumber : Action → ℕ
+sortNumber a = cond (a .lasting) 1 0
+
+unfoldable pub indexOf : Domain → Index
+unfolding allLiterals flatMap
+indexOf D =
+    record {
+      relations = length (D .arities);
+      arities = pad 64 (D .arities);
+      actions = length (D .actions);
+      variables = pad 64 (map (λ (a : Action). a .vars) (D .actions));
+      sorts = pad 64 (map sortNumber (D .actions));
+      starts = pad 64 (startsFrom 0 (D .actions));
+      rows = length (allLiterals (D .actions));
+      components = length (D .template);
+      parts = pad 128 (flatMap componentRow (D .template));
+      keys = keysOf (D .template);
+    }
+
+-- ---- a literal's fields, and the rows that it is compared with
+
+-- the row "fields" of a literal record, of the arities and of the latest action's variable count and sort
+unfoldable pub literalFields : List ℕ → ℕ → ℕ → List ℕ → ℕ
+literalFields arities vars sort p =
+    cond (ltb (length p) 2) 12
+    (cond (ltb 9 (byte p 0)) 16
+    (cond (ltb 3 (byte p 0) && not (eqb sort 1)) 16
+    (cond (leb (length arities) (byte p 1)) 17
+    (cond (not (eqb (length p) (2 + getD arities (byte p 1) 0))) 12
+    (cond (any (leb vars) (drop 2 p)) 18 0)))))
+
+-- the roles whose conditions may contradict each other: 1 for 0 and 1, 2 for 4 to 7, 0 for the others
+abbrev pub conditionGroup : ℕ → ℕ
+conditionGroup r = cond (ltb r 2) 1 (cond (ltb r 4) 0 (cond (ltb r 8) 2 0))
+
+-- of two role bytes: 2 where they are the same, 1 where one is true and the other false in one group, else 0
+unfoldable pub roleRank : ℕ → ℕ → ℕ
+roleRank a b =
+    cond (eqb a b) 2
+    (cond (eqb (conditionGroup a) 0) 0
+    (cond (eqb (conditionGroup b) (conditionGroup a)) (cond (eqb (a % 2) (b % 2)) 0 1) 0))
+
+-- of a payload and a row: the rank of their roles where their atoms are the same, else 0
+unfoldable pub rowRank : List ℕ → List ℕ → ℕ
+unfolding roleRank
+rowRank p row = cond (sameList eqb (drop 1 (rowOf p)) (drop 1 row)) (roleRank (byte p 0) (byte row 0)) 0
+
+-- the first n rows of a memory
+abbrev pub rowsIn : ℕ → List ℕ → List (List ℕ)
+rowsIn zero t = []
+rowsIn (suc n) t = take 8 t ∷ rowsIn n (drop 8 t)
+
+-- the highest rank of a payload with these rows
+unfoldable pub rowsRank : List ℕ → List (List ℕ) → ℕ
+unfolding rowRank
+rowsRank p rows = foldr (λ row n. max (rowRank p row) n) 0 rows
+
+-- ---- a component's fields
+
+-- the row "fields" of a component record, of the arities
+unfoldable pub componentFields : List ℕ → List ℕ → ℕ
+componentFields arities p =
+    cond (ltb (length p) 1) 12
+    (cond (leb (length arities) (byte p 0)) 17
+    (cond (not (eqb (length p) (1 + getD arities (byte p 0) 0))) 12 0))
+
+-- ---- labels, as bytes
+
+-- every label other than FF is below n
+abbrev pub keysBelow : ℕ → List ℕ → Bool
+keysBelow n bs = all (λ b. eqb b 255 || ltb b n) bs
+
+-- each of the numbers below n stands once
+abbrev pub eachOnce : ℕ → List ℕ → Bool
+eachOnce zero bs = true
+eachOnce (suc n) bs = eachOnce n bs && eqb (countBy (eqb n) bs) 1
+
+-- ---- what an index holds
+
+-- what reading keeps of every domain, so that it fits the index and the table
+pub record Bounded (D : Domain) : Type 0 where
+  pub relations : length (D .arities) ≤ 64
+  pub arities : (n : ℕ) → In n (D .arities) → n ≤ 6
+  pub actions : length (D .actions) ≤ 64
+  pub sizes : (a : Action) → In a (D .actions) → length (a .lits) ≤ 64
+  pub arguments : (a : Action) → In a (D .actions) → (l : Literal) → In l (a .lits) → length (l .atom .args) ≤ 6
+  pub variables : (a : Action) → In a (D .actions) → (l : Literal) → In l (a .lits) → (v : Variable) → In v (l .atom .args) → v .0 < 255
+  pub roles : (a : Action) → In a (D .actions) → (l : Literal) → In l (a .lits) → (roleNumber (l .role) ≤ 9) × (roleOf (roleNumber (l .role)) ≡ l .role)
+  pub components : length (D .template) ≤ 16
+  pub labels : (c : Component) → In c (D .template) → length (c .labels) ≤ 6
+
+pub record Holds (D : Domain) (index : Index) : Type 0 where
+  pub is : index ≡ indexOf D
+  pub bounded : Bounded D
+
+-- the bounds of an index that holds a domain
+pub record Shaped (index : Index) : Type 0 where
+  pub relations : index .relations ≤ 64
+  pub actions : index .actions ≤ 64
+  pub rows : index .rows ≤ 64 * index .actions
+  pub order : getD (index .starts) (index .actions - 1) 0 ≤ index .rows
+  pub last : getD (index .starts) (index .actions - 1) 0 ≤ 64 * (index .actions - 1)
+  pub components : index .components ≤ 16
+  pub keys : index .keys ≤ 6
+
+-- ---- what reading leaves
+
+-- the domain behind a record, or the domain before it where a number stops it
+unfoldable pub behind : Domain → RecordKind → List ℕ → Domain
+unfolding stopOf extend
+behind D k p = cond (eqb (stopOf D k p) 0) (extend D k p) D
+
+-- one record
+unfoldable pub takenOf : Domain → RecordKind → List ℕ → Taken
+unfolding stopOf behind indexOf
+takenOf D k p = record { number = stopOf D k p; index = indexOf (behind D k p) }
+
+-- where reading stands
+abbrev pub progressOf : Reading → Progress
+progressOf r = record { at = r .at; closed = r .closed; index = indexOf (r .sofar) }
+
+-- the answer: 0 and the index of the domain, or the refusal with the index of what was read until then
+abbrev pub readBy : Decoded → Index → ReadAnswer
+readBy (refused r) i = record { number = r .number; place = r .place; start = r .start; index = i }
+readBy (domain D) i = record { number = 0; place = 0; start = 0; index = i }
+
+unfoldable pub readOf : List ℕ → ReadAnswer
+unfolding readFile indexOf
+readOf f = readBy (readFile f .result) (indexOf (readFile f .read))
+
+-- the table afterwards: the literals that were read, the rest untouched
+unfoldable pub tableAfter : List ℕ → List ℕ → List ℕ
+unfolding readFile tableBytes over
+tableAfter f table = over (tableBytes (readFile f .read)) table

@@ -1,0 +1,184 @@
+// The fields of a record: each check answers the number that stops it, or 0.
+ghost use mathlib.Core.Path.{_≡_};
+ghost use mathlib.Core.Bool.{not};
+ghost use mathlib.Core.List.{map};
+ghost use Prim.Native.Nat.{_+_, _<_, _≤_};
+ghost use lib.Dec.{eqb, leb};
+ghost use lib.ListN.{length, drop, take};
+ghost use Rattle.records.specs.Lists.{any, countBy};
+ghost use Rattle.literals.specs.Domain.{isCounted};
+ghost use Rattle.literals.specs.Decode.{relationStop, actionStop, labelOf, labelStop};
+ghost use Rattle.literals.specs.Table.{literalFields, componentFields, keysBelow, eachOnce};
+
+pub fn wide(b: u8) -> usize
+    ensures { λ r. ⌜ (r ≡ b) × (r < 256) ⌝ }
+{
+    b as usize
+}
+
+// A relation: its arity.
+pub fn relation_fields(p: &[u8]) -> u64
+    ensures { λ r. ⌜ r ≡ relationStop (now (p .entry)) ⌝ }
+{
+    if p.len() == 1 {
+        if 6 < p[0] {
+            return 15;
+        }
+        return 0;
+    }
+    12
+}
+
+// An action: variable count, sort.
+pub fn action_fields(p: &[u8]) -> u64
+    ensures { λ r. ⌜ r ≡ actionStop (now (p .entry)) ⌝ }
+{
+    if p.len() == 2 {
+        if 16 < p[0] {
+            return 15;
+        }
+        if 1 < p[1] {
+            return 15;
+        }
+        return 0;
+    }
+    12
+}
+
+// Whether a byte from `from` on is not below the limit.
+pub fn any_from(s: &[u8], from: usize, limit: u8) -> bool
+    ensures { λ r. ⌜ r ≡ any (leb limit) (drop from (now (s .entry))) ⌝ }
+{
+    let mut i = from;
+    while i < s.len() {
+        if limit <= s[i] {
+            return true;
+        }
+        i += 1;
+    }
+    false
+}
+
+// How many bytes from `from` on equal b.
+pub fn count_from(s: &[u8], from: usize, b: u8) -> usize
+    ensures { λ r. ⌜ r ≡ countBy (eqb b) (drop from (now (s .entry))) ⌝ }
+{
+    let mut n: usize = 0;
+    let mut i = from;
+    while i < s.len() {
+        if s[i] == b {
+            n += 1;
+        }
+        i += 1;
+    }
+    n
+}
+
+// A literal: role, relation, one variable per argument.
+pub fn literal_fields(relations: usize, arities: [u8; 64], vars: u8, sort: u8, p: &[u8]) -> u64
+    requires { ⌜ relations ≤ 64 ⌝ }
+    ensures { λ r. ⌜ r ≡ literalFields (take relations arities) vars sort (now (p .entry)) ⌝ }
+{
+    if p.len() < 2 {
+        return 12;
+    }
+    let role = p[0];
+    if 9 < role {
+        return 16;
+    }
+    if sort != 1 {
+        if 3 < role {
+            return 16;
+        }
+    }
+    let relation = wide(p[1]);
+    if relations <= relation {
+        return 17;
+    }
+    if p.len() == 2 + wide(arities[relation]) {
+        if any_from(p, 2, vars) {
+            return 18;
+        }
+        return 0;
+    }
+    12
+}
+
+// A component: relation, one label per argument.
+pub fn component_fields(relations: usize, arities: [u8; 64], p: &[u8]) -> u64
+    requires { ⌜ relations ≤ 64 ⌝ }
+    ensures { λ r. ⌜ r ≡ componentFields (take relations arities) (now (p .entry)) ⌝ }
+{
+    if p.len() < 1 {
+        return 12;
+    }
+    let relation = wide(p[0]);
+    if relations <= relation {
+        return 17;
+    }
+    if p.len() == 1 + wide(arities[relation]) {
+        return 0;
+    }
+    12
+}
+
+// Whether every label but FF is below n.
+pub fn keys_below(p: &[u8], n: usize) -> bool
+    ensures { λ r. ⌜ r ≡ keysBelow n (drop 1 (now (p .entry))) ⌝ }
+{
+    let mut i = 1;
+    while i < p.len() {
+        if p[i] != 255 {
+            if n <= wide(p[i]) {
+                return false;
+            }
+        }
+        i += 1;
+    }
+    true
+}
+
+// Whether each key below n stands once.
+pub fn each_once(p: &[u8], n: usize) -> bool
+    requires { ⌜ n ≤ 6 ⌝ }
+    ensures { λ r. ⌜ r ≡ eachOnce n (drop 1 (now (p .entry))) ⌝ }
+{
+    for k in 0..n {
+        if count_from(p, 1, k as u8) != 1 {
+            return false;
+        }
+    }
+    true
+}
+
+// The labels of a component of a template that has n keys.
+pub fn label_fields(p: &[u8], n: usize) -> u64
+    requires { ⌜ n ≤ 6 ⌝ }
+    ensures { λ r. ⌜ r ≡ labelStop n (map labelOf (drop 1 (now (p .entry)))) ⌝ }
+{
+    if keys_below(p, n) {
+        if each_once(p, n) {
+            if count_from(p, 1, 255) <= 1 {
+                return 0;
+            }
+            return 21;
+        }
+        return 21;
+    }
+    21
+}
+
+// The number of labels other than FF.
+pub fn count_keys(p: &[u8]) -> usize
+    ensures { λ r. ⌜ r ≡ countBy (λ l. not (isCounted l)) (map labelOf (drop 1 (now (p .entry)))) ⌝ }
+{
+    let mut n: usize = 0;
+    let mut i = 1;
+    while i < p.len() {
+        if p[i] != 255 {
+            n += 1;
+        }
+        i += 1;
+    }
+    n
+}

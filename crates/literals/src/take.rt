@@ -1,0 +1,151 @@
+// What one record adds to the domain: each function takes a record of one kind, or refuses it and leaves all as it was.
+use super::fields::{action_fields, component_fields, count_keys, label_fields, literal_fields, relation_fields};
+use super::row::{any_row, put_row, rows_rank};
+use super::{Index, Taken};
+ghost use mathlib.Core.Path.{_≡_};
+ghost use mathlib.Core.List.{List, _∷_, []};
+ghost use mathlib.Core.List.{_++_};
+ghost use Prim.Native.Nat.{ℕ};
+ghost use Rattle.records.specs.Memory.{over};
+ghost use Rattle.literals.specs.Domain.{Domain, keysOf};
+ghost use Rattle.literals.specs.Decode.{relationRecord, actionRecord, literalRecord, componentRecord, closingRecord, kindOf, literalStop, componentStop, componentOf};
+ghost use Rattle.literals.specs.Table.{Holds, Shaped, tableBytes, takenOf, behind};
+
+fn refuse(number: u64, index: Index) -> Taken
+    ensures { λ r. ⌜ (r .number ≡ number) × (r .index ≡ index) ⌝ }
+{
+    Taken { number, index }
+}
+
+pub fn take_relation(index: Index, p: &[u8]) -> Taken
+    requires { ⌜ Shaped index ⌝ }
+    ensures { λ r. ⌜ ((D : Domain) → Holds D index → r ≡ takenOf D relationRecord (now (p .entry))) ⌝ }
+{
+    let n = index.relations;
+    if 0 < index.actions {
+        return Taken { number: 13, index };
+    }
+    if 0 < index.components {
+        return Taken { number: 13, index };
+    }
+    if 64 <= n {
+        return Taken { number: 14, index };
+    }
+    let number = relation_fields(p);
+    if number == 0 {
+        let mut next = index;
+        next.arities[n] = p[0];
+        next.relations = n + 1;
+        return Taken {
+            number: 0,
+            index: next,
+        };
+    }
+    Taken { number, index }
+}
+
+pub fn take_action(index: Index, p: &[u8]) -> Taken
+    requires { ⌜ Shaped index ⌝ }
+    ensures { λ r. ⌜ ((D : Domain) → Holds D index → r ≡ takenOf D actionRecord (now (p .entry))) ⌝ }
+{
+    let n = index.actions;
+    if 0 < index.components {
+        return Taken { number: 13, index };
+    }
+    if 64 <= n {
+        return Taken { number: 14, index };
+    }
+    let number = action_fields(p);
+    if number == 0 {
+        let mut next = index;
+        next.variables[n] = p[0];
+        next.sorts[n] = p[1];
+        next.starts[n] = index.rows;
+        next.actions = n + 1;
+        return Taken {
+            number: 0,
+            index: next,
+        };
+    }
+    Taken { number, index }
+}
+
+// The number that stops a literal of the action `last`, the latest.
+fn literal_number(index: Index, last: usize, table: &[u8], p: &[u8]) -> u64
+    requires { ⌜ Shaped index × (last + 1 ≡ index .actions) × (length (now table) ≡ 32768) ⌝ }
+    ensures { λ r. ⌜ ((D : Domain) (old : List ℕ) → Holds D index → now (table .entry) ≡ over (tableBytes D) old → r ≡ literalStop D (now (p .entry))) ⌝ }
+{
+    let arities = index.arities;
+    let variables = index.variables;
+    let sorts = index.sorts;
+    let starts = index.starts;
+    let fields = literal_fields(index.relations, arities, variables[last], sorts[last], p);
+    if fields != 0 {
+        return fields;
+    }
+    let rank = rows_rank(table, starts[last], index.rows, p);
+    if rank == 2 {
+        return 19;
+    }
+    if rank == 1 {
+        return 20;
+    }
+    0
+}
+
+pub fn take_literal(index: Index, table: &mut [u8; 32768], p: &[u8]) -> Taken
+    requires { ⌜ Shaped index ⌝ }
+    ensures { λ r. ⌜ ((D : Domain) (old : List ℕ) → Holds D index → now (table .entry) ≡ over (tableBytes D) old
+        → (r ≡ takenOf D literalRecord (now (p .entry))) × (now (table .exit) ≡ over (tableBytes (behind D literalRecord (now (p .entry)))) old)) ⌝ }
+{
+    let n = index.actions;
+    let rows = index.rows;
+    if n == 0 {
+        return Taken { number: 13, index };
+    }
+    if 0 < index.components {
+        return Taken { number: 13, index };
+    }
+    let last = n - 1;
+    let starts = index.starts;
+    if 64 <= rows - starts[last] {
+        return Taken { number: 14, index };
+    }
+    let number = literal_number(index, last, table, p);
+    if number == 0 {
+        put_row(table, 8 * rows, p);
+        let mut next = index;
+        next.rows = rows + 1;
+        return Taken {
+            number: 0,
+            index: next,
+        };
+    }
+    Taken { number, index }
+}
+
+// The number of keys of the template with this component.
+fn keys_with(index: Index, p: &[u8]) -> usize
+    ensures { λ r. ⌜ ((D : Domain) → Holds D index → r ≡ keysOf (D .template ++ (componentOf (now (p .entry)) ∷ []))) ⌝ }
+{
+    if index.components == 0 {
+        return count_keys(p);
+    }
+    index.keys
+}
+
+fn component_number(index: Index, keys: usize, p: &[u8]) -> u64
+    requires { ⌜ Shaped index × (keys ≤ 6) ⌝ }
+    ensures { λ r. ⌜ ((D : Domain) → Holds D index → keys ≡ keysOf (D .template ++ (componentOf (now (p .entry)) ∷ [])) → r ≡ componentStop D (now (p .entry))) ⌝ }
+{
+    let arities = index.arities;
+    let parts = index.parts;
+    let fields = component_fields(index.relations, arities, p);
+    if fields != 0 {
+        return fields;
+    }
+    if any_row(&parts, index.components, p[0]) {
+        return 22;
+    }
+    label_fields(p, keys)
+}
