@@ -14,8 +14,9 @@ use Rattle.literals.specs.declared.Index.{Index}
 use Rattle.literals.specs.declared.Taken.{Taken}
 use Rattle.literals.specs.declared.Progress.{Progress}
 use Rattle.literals.specs.declared.ReadAnswer.{ReadAnswer}
+use Rattle.literals.specs.declared.read.Stepped.{Stepped}
 use Rattle.literals.specs.Domain.{roleNumber, roleOf, Literal, Action, Component, keysOf, Domain}
-use Rattle.literals.specs.Decode.{byte, RecordKind, stopOf, extend, Refusal, Decoded, refused, domain, Reading, Finished, readFile}
+use Rattle.literals.specs.Decode.{byte, RecordKind, stopOf, extend, Refusal, Decoded, refused, domain, Reading, ReadTurn, goOn, finish, Finished, readFile}
 
 -- ---- rows of 8 bytes
 
@@ -140,6 +141,7 @@ pub record Bounded (D : Domain) : Type 0 where
   pub relations : length (D .arities) ≤ 64
   pub arities : (n : ℕ) → In n (D .arities) → n ≤ 6
   pub actions : length (D .actions) ≤ 64
+  pub counts : (a : Action) → In a (D .actions) → a .vars ≤ 16
   pub sizes : (a : Action) → In a (D .actions) → length (a .lits) ≤ 64
   pub arguments : (a : Action) → In a (D .actions) → (l : Literal) → In l (a .lits) → length (l .atom .args) ≤ 6
   pub variables : (a : Action) → In a (D .actions) → (l : Literal) → In l (a .lits) → (v : Variable) → In v (l .atom .args) → v .0 < 255
@@ -154,6 +156,7 @@ pub record Holds (D : Domain) (index : Index) : Type 0 where
 -- the bounds of an index that holds a domain
 pub record Shaped (index : Index) : Type 0 where
   pub relations : index .relations ≤ 64
+  pub arities : (i : ℕ) → getD (index .arities) i 0 ≤ 6
   pub actions : index .actions ≤ 64
   pub rows : index .rows ≤ 64 * index .actions
   pub order : getD (index .starts) (index .actions - 1) 0 ≤ index .rows
@@ -176,6 +179,17 @@ takenOf D k p = record { number = stopOf D k p; index = indexOf (behind D k p) }
 -- where reading stands
 abbrev pub progressOf : Reading → Progress
 progressOf r = record { at = r .at; closed = r .closed; index = indexOf (r .sofar) }
+
+-- what a turn of reading leads to: 0 where it goes on, 1 where the file is read, else the number that refuses it
+abbrev pub steppedOf : Reading → ReadTurn → Stepped
+steppedOf q (goOn r) = record { number = 0; progress = progressOf r }
+steppedOf q (finish (refused r)) = record { number = r .number; progress = progressOf q }
+steppedOf q (finish (domain D)) = record { number = 1; progress = progressOf q }
+
+-- the domain that is then read
+abbrev pub soFar : Reading → ReadTurn → Domain
+soFar q (goOn r) = r .sofar
+soFar q (finish d) = q .sofar
 
 -- the answer: 0 and the index of the domain, or the refusal with the index of what was read until then
 abbrev pub readBy : Decoded → Index → ReadAnswer

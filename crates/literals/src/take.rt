@@ -3,19 +3,13 @@ use super::fields::{action_fields, component_fields, count_keys, label_fields, l
 use super::row::{any_row, put_row, rows_rank};
 use super::{Index, Taken};
 ghost use mathlib.Core.Path.{_≡_};
-ghost use mathlib.Core.List.{List, _∷_, []};
-ghost use mathlib.Core.List.{_++_};
-ghost use Prim.Native.Nat.{ℕ};
+ghost use mathlib.Core.List.{List, [], _∷_, _++_};
+ghost use Prim.Native.Nat.{ℕ, _+_, _≤_};
+ghost use lib.ListN.{length};
 ghost use Rattle.records.specs.Memory.{over};
 ghost use Rattle.literals.specs.Domain.{Domain, keysOf};
-ghost use Rattle.literals.specs.Decode.{relationRecord, actionRecord, literalRecord, componentRecord, closingRecord, kindOf, literalStop, componentStop, componentOf};
+ghost use Rattle.literals.specs.Decode.{relationRecord, actionRecord, literalRecord, componentRecord, closingRecord, kindOf, literalStop, componentOf, componentStop};
 ghost use Rattle.literals.specs.Table.{Holds, Shaped, tableBytes, takenOf, behind};
-
-fn refuse(number: u64, index: Index) -> Taken
-    ensures { λ r. ⌜ (r .number ≡ number) × (r .index ≡ index) ⌝ }
-{
-    Taken { number, index }
-}
 
 pub fn take_relation(index: Index, p: &[u8]) -> Taken
     requires { ⌜ Shaped index ⌝ }
@@ -73,7 +67,8 @@ pub fn take_action(index: Index, p: &[u8]) -> Taken
 // The number that stops a literal of the action `last`, the latest.
 fn literal_number(index: Index, last: usize, table: &[u8], p: &[u8]) -> u64
     requires { ⌜ Shaped index × (last + 1 ≡ index .actions) × (length (now table) ≡ 32768) ⌝ }
-    ensures { λ r. ⌜ ((D : Domain) (old : List ℕ) → Holds D index → now (table .entry) ≡ over (tableBytes D) old → r ≡ literalStop D (now (p .entry))) ⌝ }
+    ensures number { λ r. ⌜ ((D : Domain) (old : List ℕ) → Holds D index → now (table .entry) ≡ over (tableBytes D) old → r ≡ literalStop D (now (p .entry))) ⌝ }
+    ensures fits { λ r. ⌜ (r ≡ 0 → length (now (p .entry)) ≤ 8) ⌝ }
 {
     let arities = index.arities;
     let variables = index.variables;
@@ -126,7 +121,9 @@ pub fn take_literal(index: Index, table: &mut [u8; 32768], p: &[u8]) -> Taken
 
 // The number of keys of the template with this component.
 fn keys_with(index: Index, p: &[u8]) -> usize
-    ensures { λ r. ⌜ ((D : Domain) → Holds D index → r ≡ keysOf (D .template ++ (componentOf (now (p .entry)) ∷ []))) ⌝ }
+    requires { ⌜ Shaped index × (length (now p) ≤ 7) ⌝ }
+    ensures number { λ r. ⌜ ((D : Domain) → Holds D index → r ≡ keysOf (D .template ++ (componentOf (now (p .entry)) ∷ []))) ⌝ }
+    ensures few { λ r. ⌜ r ≤ 6 ⌝ }
 {
     if index.components == 0 {
         return count_keys(p);
@@ -134,9 +131,11 @@ fn keys_with(index: Index, p: &[u8]) -> usize
     index.keys
 }
 
-fn component_number(index: Index, keys: usize, p: &[u8]) -> u64
-    requires { ⌜ Shaped index × (keys ≤ 6) ⌝ }
-    ensures { λ r. ⌜ ((D : Domain) → Holds D index → keys ≡ keysOf (D .template ++ (componentOf (now (p .entry)) ∷ [])) → r ≡ componentStop D (now (p .entry))) ⌝ }
+// The number that stops a component.
+fn component_number(index: Index, p: &[u8]) -> u64
+    requires { ⌜ Shaped index ⌝ }
+    ensures number { λ r. ⌜ ((D : Domain) → Holds D index → r ≡ componentStop D (now (p .entry))) ⌝ }
+    ensures fits { λ r. ⌜ (r ≡ 0 → length (now (p .entry)) ≤ 7) ⌝ }
 {
     let arities = index.arities;
     let parts = index.parts;
@@ -147,5 +146,57 @@ fn component_number(index: Index, keys: usize, p: &[u8]) -> u64
     if any_row(&parts, index.components, p[0]) {
         return 22;
     }
-    label_fields(p, keys)
+    label_fields(p, keys_with(index, p))
+}
+
+pub fn take_component(index: Index, p: &[u8]) -> Taken
+    requires { ⌜ Shaped index ⌝ }
+    ensures { λ r. ⌜ ((D : Domain) → Holds D index → r ≡ takenOf D componentRecord (now (p .entry))) ⌝ }
+{
+    let n = index.components;
+    if 16 <= n {
+        return Taken { number: 14, index };
+    }
+    let number = component_number(index, p);
+    if number == 0 {
+        let mut parts = index.parts;
+        put_row(&mut parts, 8 * n, p);
+        let mut next = index;
+        next.parts = parts;
+        next.components = n + 1;
+        next.keys = keys_with(index, p);
+        return Taken {
+            number: 0,
+            index: next,
+        };
+    }
+    Taken { number, index }
+}
+
+pub fn take_closing(index: Index, p: &[u8]) -> Taken
+    ensures { λ r. ⌜ ((D : Domain) → Holds D index → r ≡ takenOf D closingRecord (now (p .entry))) ⌝ }
+{
+    if p.len() != 0 {
+        return Taken { number: 12, index };
+    }
+    if index.components == 0 {
+        return Taken { number: 23, index };
+    }
+    Taken { number: 0, index }
+}
+
+// A record of any kind.
+pub fn take_record(index: Index, table: &mut [u8; 32768], kind: u16, p: &[u8]) -> Taken
+    requires { ⌜ Shaped index ⌝ }
+    ensures { λ r. ⌜ ((D : Domain) (old : List ℕ) → Holds D index → now (table .entry) ≡ over (tableBytes D) old
+        → (r ≡ takenOf D (kindOf kind) (now (p .entry))) × (now (table .exit) ≡ over (tableBytes (behind D (kindOf kind) (now (p .entry)))) old)) ⌝ }
+{
+    match kind {
+        1 => take_relation(index, p),
+        2 => take_action(index, p),
+        3 => take_literal(index, table, p),
+        4 => take_component(index, p),
+        5 => take_closing(index, p),
+        _ => Taken { number: 11, index },
+    }
 }

@@ -1,0 +1,222 @@
+-- Every record that is read keeps the domain within the bounds of the index. Assumes nothing.
+use mathlib.Core.Path.{_≡_, refl, sym, ap, _∙_}
+use mathlib.Core.Bool.{Bool, true, false, not, _&&_, _||_, cond}
+use mathlib.Core.Logic.{_⊎_, inl, inr}
+use mathlib.Core.List.{List, [], _∷_, _++_, map, Memᴰ·of-map, List·Memᴰ·head, List·Memᴰ·tail, List·Memᴰ·not-nil, List·Memᴰ·append-cases, List·Memᴰ·eq-of-singleton}
+use Prim.Native.Nat.{ℕ, zero, suc, _+_, _-_, _≤_, _<_}
+use native.Mathlib.Omega.{arith}
+use lib.Dec.{eqb, ltb, leb}
+use lib.ListN.{length, drop, getD, length-append, length-drop, length-map, List·getD-eq-default}
+use borrow.Author.Tests.{leb-true, leb-false, eqb-true, eqb-false}
+use Rattle.records.specs.Lists.{In, any, empty}
+use Rattle.records.proofs.Lists.{any-out, getD-in, and-l, and-r}
+use Rattle.literals.specs.declared.Variable.{Variable}
+use Rattle.literals.specs.Domain.{variable, roleOf, roleNumber, Literal, Action, Component, Domain, arity}
+use Rattle.literals.specs.Decode.{RecordKind, relationRecord, actionRecord, literalRecord, componentRecord, closingRecord, unknownRecord, latest, byte, literalOf, labelOf, componentOf, actionOf, withLiteral, fieldStop, stopOf, extend, noDomain}
+use Rattle.literals.specs.Table.{Bounded}
+use Rattle.literals.proofs.Stops.{Passes, passes, relation-passes, action-passes, LiteralPasses, literal-passes, role-nine, ComponentPasses, component-passes}
+
+-- ---- the role bytes up to 9
+
+-- a test of every number below n
+abbrev pub allBelow : ℕ → (ℕ → Bool) → Bool
+allBelow zero p = true
+allBelow (suc n) p = p n && allBelow n p
+
+pub below-in : (n : ℕ) (p : ℕ → Bool) → allBelow n p ≡ true → (k : ℕ) → k < n → p k ≡ true
+below-in zero p t k h = absurd (omega arith)
+below-in (suc n) p t k h = go (eqb k n) refl (λ l. below-in n p (and-r (p n) _ t) k l)
+  where
+    go : (b : Bool) → eqb k n ≡ b → (k < n → p k ≡ true) → p k ≡ true
+    go true q ih = ap p (eqb-true k n q) ∙ and-l _ _ t
+    go false q ih = let ne = eqb-false k n q in ih (omega arith)
+
+-- a role byte up to 9 is the number of its role
+pub role-number : (r : ℕ) → r ≤ 9 → roleNumber (roleOf r) ≡ r
+unfolding roleOf
+role-number r h = eqb-true _ r (below-in 10 (λ n. eqb (roleNumber (roleOf n)) n) refl r (omega arith))
+
+-- ---- lists
+
+in-snoc : {A : Type 0} {P : A → Type 0} (xs : List A) (x : A) → ((a : A) → In a xs → P a) → P x → (a : A) → In a (xs ++ (x ∷ [])) → P a
+in-snoc {A} {P} xs x h hx a m = go (List·Memᴰ·append-cases xs m)
+  where
+    go : In a xs ⊎ In a (x ∷ []) → P a
+    go (inl n) = h a n
+    go (inr n) = rw (List·Memᴰ·eq-of-singleton n) hx
+
+length-snoc : {A : Type 0} (xs : List A) (x : A) → length (xs ++ (x ∷ [])) ≡ length xs + 1
+length-snoc xs x = length-append xs (x ∷ [])
+
+-- the arity of a relation of the domain is one of its arities, or 0
+pub arity-six : (D : Domain) → ((n : ℕ) → In n (D .arities) → n ≤ 6) → (r : ℕ) → arity D r ≤ 6
+arity-six D h r = go (leb (length (D .arities)) r) refl
+  where
+    go : (b : Bool) → leb (length (D .arities)) r ≡ b → arity D r ≤ 6
+    go true q = let z = List·getD-eq-default (D .arities) 0 (leb-true (length (D .arities)) r q) in omega arith
+    go false q = h (arity D r) (getD-in (D .arities) r 0 (leb-false (length (D .arities)) r q))
+
+-- ---- one literal more
+
+-- what an action gives the index
+record Fits (a : Action) : Type 0 where
+  counts : a .vars ≤ 16
+  sizes : length (a .lits) ≤ 64
+  arguments : (l : Literal) → In l (a .lits) → length (l .atom .args) ≤ 6
+  variables : (l : Literal) → In l (a .lits) → (v : Variable) → In v (l .atom .args) → v .0 < 255
+  roles : (l : Literal) → In l (a .lits) → (roleNumber (l .role) ≤ 9) × (roleOf (roleNumber (l .role)) ≡ l .role)
+
+fits-of : (D : Domain) → Bounded D → (a : Action) → In a (D .actions) → Fits a
+fits-of D h a m = record { counts = h .counts a m; sizes = h .sizes a m; arguments = h .arguments a m; variables = h .variables a m; roles = h .roles a m }
+
+bounded-actions : (D : Domain) (as′ : List Action) → Bounded D → length as′ ≤ 64 → ((a : Action) → In a as′ → Fits a)
+    → Bounded (record { arities = D .arities; actions = as′; template = D .template })
+bounded-actions D as′ h n f =
+    record {
+      relations = h .relations;
+      arities = h .arities;
+      actions = n;
+      counts = λ a m. f a m .counts;
+      sizes = λ a m. f a m .sizes;
+      arguments = λ a m. f a m .arguments;
+      variables = λ a m. f a m .variables;
+      roles = λ a m. f a m .roles;
+      components = h .components;
+      labels = h .labels;
+    }
+
+-- the actions with a literal more: those before, and the latest with it
+in-withLiteral : (l : Literal) (as′ : List Action) (a : Action) → In a (withLiteral l as′)
+    → In a as′ ⊎ (In (latest as′) as′ × (a ≡ record { vars = latest as′ .vars; lasting = latest as′ .lasting; lits = latest as′ .lits ++ (l ∷ []) }))
+in-withLiteral l [] a m = absurd (List·Memᴰ·not-nil m)
+in-withLiteral l (b ∷ []) a m = inr (List·Memᴰ·head refl, List·Memᴰ·eq-of-singleton m)
+in-withLiteral l (b ∷ c ∷ cs) a (List·Memᴰ·head e) = inl (List·Memᴰ·head e)
+in-withLiteral l (b ∷ c ∷ cs) a (List·Memᴰ·tail m) = go (in-withLiteral l (c ∷ cs) a m)
+  where
+    ext : Action → Action
+    ext x = record { vars = x .vars; lasting = x .lasting; lits = x .lits ++ (l ∷ []) }
+
+    go : In a (c ∷ cs) ⊎ (In (latest (c ∷ cs)) (c ∷ cs) × (a ≡ ext (latest (c ∷ cs)))) → In a (b ∷ c ∷ cs) ⊎ (In (latest (c ∷ cs)) (b ∷ c ∷ cs) × (a ≡ ext (latest (c ∷ cs))))
+    go (inl n) = inl (List·Memᴰ·tail n)
+    go (inr n) = inr (List·Memᴰ·tail (n .0), n .1)
+
+pub length-withLiteral : (l : Literal) (as′ : List Action) → length (withLiteral l as′) ≡ length as′
+length-withLiteral l [] = refl
+length-withLiteral l (a ∷ []) = refl
+length-withLiteral l (a ∷ b ∷ bs) = ap suc (length-withLiteral l (b ∷ bs))
+
+literal-fits : (D : Domain) (p : List ℕ) → Bounded D → stopOf D literalRecord p ≡ 0 → Fits (latest (D .actions))
+    → Fits (record { vars = latest (D .actions) .vars; lasting = latest (D .actions) .lasting; lits = latest (D .actions) .lits ++ (literalOf p ∷ []) })
+unfolding fieldStop
+literal-fits D p h e f =
+    record {
+      counts = f .counts;
+      sizes = let n = length-snoc (last .lits) (literalOf p) in let r = leb-false 64 (length (last .lits)) (ok .room) in omega arith;
+      arguments = in-snoc {P = λ l. length (l .atom .args) ≤ 6} (last .lits) (literalOf p) (f .arguments) six;
+      variables = in-snoc {P = λ l. (v : Variable) → In v (l .atom .args) → v .0 < 255} (last .lits) (literalOf p) (f .variables) low;
+      roles = in-snoc {P = λ l. (roleNumber (l .role) ≤ 9) × (roleOf (roleNumber (l .role)) ≡ l .role)} (last .lits) (literalOf p) (f .roles) ranged;
+    }
+  where
+    last : Action
+    last = latest (D .actions)
+
+    ok : Passes D literalRecord p
+    ok = passes D literalRecord p e
+
+    q : LiteralPasses D p
+    q = literal-passes D p (ok .fields)
+
+    six : length (map variable (drop 2 p)) ≤ 6
+    six = let a = arity-six D (h .arities) (byte p 1) in let n = length-map (drop 2 p) variable in let d = length-drop 2 p in let g = q .arguments in omega arith
+
+    low : (v : Variable) → In v (map variable (drop 2 p)) → v .0 < 255
+    low v m =
+        let o = Memᴰ·of-map variable (drop 2 p) m in
+        let g : o .0 < last .vars = leb-false (last .vars) (o .0) (any-out (leb (last .vars)) (q .variables) (o .1)) in
+        let z : o .0 ≡ v .0 = ap (λ (w : Variable). w .0) (o .2) in
+        let c = f .counts in
+        omega arith
+
+    ranged : (roleNumber (roleOf (byte p 0)) ≤ 9) × (roleOf (roleNumber (roleOf (byte p 0))) ≡ roleOf (byte p 0))
+    ranged =
+        let n = role-nine last (byte p 0) (q .role) in
+        let r = role-number (byte p 0) n in
+        (omega arith, ap roleOf r)
+
+-- ---- every kind of record
+
+pub bounded-extend : (D : Domain) (k : RecordKind) (p : List ℕ) → Bounded D → stopOf D k p ≡ 0 → Bounded (extend D k p)
+unfolding extend fieldStop
+bounded-extend D relationRecord p h e =
+    let ok = passes D relationRecord p e in
+    let n = length-snoc (D .arities) (byte p 0) in
+    let r = leb-false 64 (length (D .arities)) (ok .room) in
+    record {
+      relations = omega arith;
+      arities = in-snoc {P = λ n. n ≤ 6} (D .arities) (byte p 0) (h .arities) (relation-passes p (ok .fields) .1);
+      actions = h .actions;
+      counts = h .counts;
+      sizes = h .sizes;
+      arguments = h .arguments;
+      variables = h .variables;
+      roles = h .roles;
+      components = h .components;
+      labels = h .labels;
+    }
+bounded-extend D actionRecord p h e =
+    let ok = passes D actionRecord p e in
+    let n = length-snoc (D .actions) (actionOf p) in
+    let r = leb-false 64 (length (D .actions)) (ok .room) in
+    bounded-actions D (D .actions ++ (actionOf p ∷ [])) h (omega arith)
+    (in-snoc {P = Fits} (D .actions) (actionOf p) (fits-of D h)
+    (record {
+      counts = action-passes p (ok .fields) .1;
+      sizes = omega arith;
+      arguments = λ l m. absurd (List·Memᴰ·not-nil m);
+      variables = λ l m. absurd (List·Memᴰ·not-nil m);
+      roles = λ l m. absurd (List·Memᴰ·not-nil m);
+    }))
+bounded-extend D literalRecord p h e =
+    let n = length-withLiteral (literalOf p) (D .actions) in
+    let a = h .actions in
+    bounded-actions D (withLiteral (literalOf p) (D .actions)) h (omega arith) (λ a m. go a (in-withLiteral (literalOf p) (D .actions) a m))
+  where
+    go : (a : Action) → In a (D .actions) ⊎ (In (latest (D .actions)) (D .actions) × (a ≡ record { vars = latest (D .actions) .vars; lasting = latest (D .actions) .lasting; lits = latest (D .actions) .lits ++ (literalOf p ∷ []) })) → Fits a
+    go a (inl m) = fits-of D h a m
+    go a (inr m) = rw (m .1) (literal-fits D p h e (fits-of D h (latest (D .actions)) (m .0)))
+bounded-extend D componentRecord p h e =
+    let ok = passes D componentRecord p e in
+    let n = length-snoc (D .template) (componentOf p) in
+    let r = leb-false 16 (length (D .template)) (ok .room) in
+    record {
+      relations = h .relations;
+      arities = h .arities;
+      actions = h .actions;
+      counts = h .counts;
+      sizes = h .sizes;
+      arguments = h .arguments;
+      variables = h .variables;
+      roles = h .roles;
+      components = omega arith;
+      labels = in-snoc {P = λ c. length (c .labels) ≤ 6} (D .template) (componentOf p) (h .labels) (six (component-passes D p (ok .fields)));
+    }
+  where
+    six : ComponentPasses D p → length (map labelOf (drop 1 p)) ≤ 6
+    six q = let a = arity-six D (h .arities) (byte p 0) in let n = length-map (drop 1 p) labelOf in let d = length-drop 1 p in let g = q .arguments in omega arith
+bounded-extend D closingRecord p h e = h
+bounded-extend D unknownRecord p h e = h
+
+pub bounded-none : Bounded noDomain
+bounded-none =
+    record {
+      relations = omega arith;
+      arities = λ n m. absurd (List·Memᴰ·not-nil m);
+      actions = omega arith;
+      counts = λ a m. absurd (List·Memᴰ·not-nil m);
+      sizes = λ a m. absurd (List·Memᴰ·not-nil m);
+      arguments = λ a m. absurd (List·Memᴰ·not-nil m);
+      variables = λ a m. absurd (List·Memᴰ·not-nil m);
+      roles = λ a m. absurd (List·Memᴰ·not-nil m);
+      components = omega arith;
+      labels = λ c m. absurd (List·Memᴰ·not-nil m);
+    }
