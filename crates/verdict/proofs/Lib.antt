@@ -1,0 +1,2 @@
+-- The laws of the definitions, and the claims proved.
+pub mod Steps
