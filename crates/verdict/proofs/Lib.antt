@@ -1,2 +1,4 @@
 -- The laws of the definitions, and the claims proved.
+pub mod Equality
 pub mod Steps
+pub mod Events
