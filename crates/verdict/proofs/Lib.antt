@@ -2,3 +2,4 @@
 pub mod Equality
 pub mod Steps
 pub mod Events
+pub mod Weight
