@@ -3,3 +3,4 @@ pub mod Equality
 pub mod Steps
 pub mod Events
 pub mod Weight
+pub mod Tuples
