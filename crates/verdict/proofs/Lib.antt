@@ -4,3 +4,4 @@ pub mod Steps
 pub mod Events
 pub mod Weight
 pub mod Tuples
+pub mod WellFormed
