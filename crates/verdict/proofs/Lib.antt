@@ -1,3 +1,9 @@
--- What is claimed of the verdict, proved.
+-- The laws of the definitions, and the claims proved.
+pub mod Equality
+pub mod Steps
+pub mod Events
+pub mod Weight
+pub mod Tuples
+pub mod WellFormed
 pub mod Decodes
 pub mod Answers
