@@ -5,3 +5,4 @@ pub mod Events
 pub mod Weight
 pub mod Tuples
 pub mod WellFormed
+pub mod Arguments
