@@ -6,3 +6,4 @@ pub mod Weight
 pub mod Tuples
 pub mod WellFormed
 pub mod Arguments
+pub mod Acts
