@@ -7,3 +7,5 @@ pub mod Tuples
 pub mod WellFormed
 pub mod Decodes
 pub mod Answers
+pub mod Arguments
+pub mod Acts
