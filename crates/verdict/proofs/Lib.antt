@@ -9,3 +9,5 @@ pub mod Decodes
 pub mod Answers
 pub mod Arguments
 pub mod Acts
+pub mod Objects
+pub mod Instances
