@@ -324,3 +324,11 @@ module _ {A : Type 0} where
   dedup-same eq [] o = refl
   dedup-same eq (x ∷ xs) o =
       rw (dedup-same eq xs (and-r (all (λ y. not (eq x y)) xs) _ o)) (ap {B = List A} (λ l. x ∷ l) (filter-all (λ y. not (eq x y)) xs (and-l _ _ o)))
+
+  -- any two elements are equal, or pass one way round
+  pub pairwise-in : (r : A → A → Bool) {a b : A} (l : List A) → pairwise r l ≡ true → In a l → In b l → (a ≡ b) ⊎ ((r a b ≡ true) ⊎ (r b a ≡ true))
+  pairwise-in r {a} {b} (x ∷ xs) o (List·Memᴰ·head p) (List·Memᴰ·head q) = inl (p ∙ sym q)
+  pairwise-in r {a} {b} (x ∷ xs) o (List·Memᴰ·head p) (List·Memᴰ·tail n) = inr (inl (ap (λ z. r z b) p ∙ all-in (r x) xs (and-l _ _ o) n))
+  pairwise-in r {a} {b} (x ∷ xs) o (List·Memᴰ·tail m) (List·Memᴰ·head q) = inr (inr (ap (λ z. r z a) q ∙ all-in (r x) xs (and-l _ _ o) m))
+  pairwise-in r {a} {b} (x ∷ xs) o (List·Memᴰ·tail m) (List·Memᴰ·tail n) = pairwise-in r xs (and-r (all (r x) xs) _ o) m n
+  pairwise-in r {a} {b} [] o m n = absurd (List·Memᴰ·not-nil m)

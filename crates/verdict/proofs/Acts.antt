@@ -165,10 +165,10 @@ module _ (D : Domain) (a : Action) (ok : wellFormedAction D a ≡ true) (b : Bin
   lit-below : (l : Literal) → In l (a .lits) → Below (length b) (l .atom .args)
   lit-below l m = rw len (literal-below D a ok l m)
 
-  at-below : (m : Moment) (c : Clause) (p : Atom Variable) → In p (literalsAt a m c) → Below (length b) (p .args)
+  pub at-below : (m : Moment) (c : Clause) (p : Atom Variable) → In p (literalsAt a m c) → Below (length b) (p .args)
   at-below m c p h = let r = literalsAt-in a m c h in rw (r .3) (lit-below (r .0) (r .1))
 
-  class-below : (x : List Variable) → In x (classes D a) → Below (length b) x
+  pub class-below : (x : List Variable) → In x (classes D a) → Below (length b) x
   class-below x h = let r = class-in D a h in tuple-below D (length b) (r .0 .atom) (lit-below (r .0) (r .1)) (r .2)
 
   -- a fact of the event that the instance matches belongs to a class that is bound to the instance
@@ -195,7 +195,7 @@ module _ (D : Domain) (a : Action) (ok : wellFormedAction D a ≡ true) (b : Bin
     pub back : (c : Clause) (f : Fact) → In f (effect a b m c) → matches D y f ≡ true → (p : Atom Variable) × In p (inClass D a x m c) × (f ≡ bind b p)
     back c f h t = let r = some-class m c f h t in rw (one-class x (r .0) hx (r .1) ex (r .2)) (r .3)
 
-    class-at : (c : Clause) (p : Atom Variable) → In p (inClass D a x m c) → In p (literalsAt a m c)
+    pub class-at : (c : Clause) (p : Atom Variable) → In p (inClass D a x m c) → In p (literalsAt a m c)
     unfolding inClass
     class-at c p h = filter-in (belongs D x) (literalsAt a m c) h .0
 
@@ -206,10 +206,10 @@ module _ (D : Domain) (a : Action) (ok : wellFormedAction D a ≡ true) (b : Bin
     unfolding inClass
     forth-matches c p h = rw (← ex) (matches-bind D b x p (filter-in (belongs D x) (literalsAt a m c) h .1))
 
-    gone : (c : Clause) → inClass D a x m c ≡ [] → (f : Fact) → In f (effect a b m c) → matches D y f ≡ true → ⊥
+    pub gone : (c : Clause) → inClass D a x m c ≡ [] → (f : Fact) → In f (effect a b m c) → matches D y f ≡ true → ⊥
     gone c e f h t = let r = back c f h t in List·Memᴰ·not-nil (rw e at (r .1))
 
-    only : (c : Clause) (q : Atom Variable) → inClass D a x m c ≡ q ∷ [] → (f : Fact) → In f (effect a b m c) → matches D y f ≡ true → f ≡ bind b q
+    pub only : (c : Clause) (q : Atom Variable) → inClass D a x m c ≡ q ∷ [] → (f : Fact) → In f (effect a b m c) → matches D y f ≡ true → f ≡ bind b q
     only c q e f h t = let r = back c f h t in r .2 ∙ ap (bind b) (List·Memᴰ·eq-of-singleton (rw e at (r .1)))
 
     one-in : (c : Clause) {q : Atom Variable} {l : List (Atom Variable)} → inClass D a x m c ≡ q ∷ l → In q (inClass D a x m c)
@@ -219,12 +219,13 @@ module _ (D : Domain) (a : Action) (ok : wellFormedAction D a ≡ true) (b : Bin
     unfolding inClass literalsAt
     class-distinct c = pairwise-filter (λ p q. not (sameLiteral p q)) (belongs D x) (literalsAt a m c) (distinct-dedup sameLiteral (withRole (counts m c) (a .lits)))
 
-    twice : (p q : Atom Variable) (ps : List (Atom Variable)) → inClass D a x m Positive ≡ p ∷ q ∷ ps → bind b p ≡ bind b q → ⊥
-    twice p q ps e h =
-        let hp : In p (inClass D a x m Positive) = rw e (List·Memᴰ·head refl) in
-        let hq : In q (inClass D a x m Positive) = rw e (List·Memᴰ·tail (List·Memᴰ·head refl)) in
-        let pq : p ≡ q = bind-inj b d p q (at-below m Positive p (class-at Positive p hp)) (at-below m Positive q (class-at Positive q hq)) h in
-        let o : distinct sameLiteral (p ∷ q ∷ ps) ≡ true = rw e at (class-distinct Positive) in
+    -- two literals of a clause are bound to two facts
+    pub twice : (c : Clause) (p q : Atom Variable) (ps : List (Atom Variable)) → inClass D a x m c ≡ p ∷ q ∷ ps → bind b p ≡ bind b q → ⊥
+    twice c p q ps e h =
+        let hp : In p (inClass D a x m c) = rw e (List·Memᴰ·head refl) in
+        let hq : In q (inClass D a x m c) = rw e (List·Memᴰ·tail (List·Memᴰ·head refl)) in
+        let pq : p ≡ q = bind-inj b d p q (at-below m c p (class-at c p hp)) (at-below m c q (class-at c q hq)) h in
+        let o : distinct sameLiteral (p ∷ q ∷ ps) ≡ true = rw e at (class-distinct c) in
         clash (sym (ap (sameLiteral p) pq) ∙ literal-self p) (not-true (sameLiteral p q) (and-l _ _ (and-l _ _ o)))
 
     module _ (v : Bool) (okT : wellFormedTemplate D ≡ true) (s t : ℕ) where
@@ -257,7 +258,7 @@ module _ (D : Domain) (a : Action) (ok : wellFormedAction D a ≡ true) (b : Bin
       by-name s0 t0 (p ∷ q ∷ ps) as′ ch cov ep ea ec ev hl =
           let hp : In p (inClass D a x m Positive) = rw ep (List·Memᴰ·head refl) in
           let hq : In q (inClass D a x m Positive) = rw ep (List·Memᴰ·tail (List·Memᴰ·head refl)) in
-          dead (bind b p) (bind b q) (forth Positive p hp) (forth Positive q hq) (forth-matches Positive p hp) (forth-matches Positive q hq) (twice p q ps ep)
+          dead (bind b p) (bind b q) (forth Positive p hp) (forth Positive q hq) (forth-matches Positive p hp) (forth-matches Positive q hq) (twice Positive p q ps ep)
       by-name s0 t0 [] [] ch cov ep ea ec ev hl = idle s0 t0 (gone Add ea)
       by-name s0 t0 [] (c ∷ []) ch true ep ea ec ev hl = fills (bind b c) hl s0 t0 (only Add c ea) (excluded c ea ev)
       by-name s0 t0 [] (c ∷ []) ch false ep ea ec ev hl = absurd hl

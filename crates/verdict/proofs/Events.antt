@@ -4,7 +4,7 @@ use mathlib.Core.Bool.{Bool, true, false, not, _&&_, _||_}
 use mathlib.Core.Logic.{_⊎_, inl, inr}
 use mathlib.Core.List.{List, [], _∷_, _++_, map, flatMap, Memᴰ·append-left, Memᴰ·append-right, List·Memᴰ·append-cases}
 use Rattle.records.specs.Lists.{In, all, filterBy, elem, dedup}
-use Rattle.records.proofs.Lists.{and-l, and-r, or-l, or-r, not-true, clash, in-any, all-in, filter-in, elem-in, in-elem, not-elem, dedup-in, flatMap-in, in-flatMap}
+use Rattle.records.proofs.Lists.{and-l, and-r, or-l, or-r, not-true, off, bool-cases, clash, in-any, all-in, filter-in, in-filter, elem-in, in-elem, not-elem, dedup-in, in-dedup, flatMap-in, in-flatMap}
 use Rattle.literals.specs.declared.Clause.{Clause}
 use Rattle.literals.specs.declared.Clause.the-variants.{Positive, Negative, Add, Delete}
 use Rattle.literals.specs.Domain.{Atom, Fact, sameFact, Domain}
@@ -45,6 +45,24 @@ after-in D s es f m = go (List·Memᴰ·append-cases kept m)
         let r = filter-in (λ g. not (elem sameFact g (stepFacts D es Delete))) s n in
         inl (r .0, λ e i d. not-fact f _ (r .1) (in-stepFacts D Delete i d))
     go (inr n) = inr (stepFacts-in D Add es (dedup-in sameFact _ (filter-in (λ g. not (elem sameFact g kept)) _ n .0)))
+
+pub in-after : (D : Domain) (s : List Fact) (es : List Event) (f : Fact) → After (eventFacts D) (λ g. In g s) es f → In f (factsAfter D s es)
+unfolding factsAfter
+in-after D s es f h = go h (bool-cases (elem sameFact f kept))
+  where
+    kept : List Fact
+    kept = filterBy (λ g. not (elem sameFact g (stepFacts D es Delete))) s
+
+    struck : elem sameFact f (stepFacts D es Delete) ≡ true → (e : Event) × In e es × In f (eventFacts D e Delete)
+    struck t = stepFacts-in D Delete es (elem-fact f (stepFacts D es Delete) t)
+
+    go : After (eventFacts D) (λ g. In g s) es f → (elem sameFact f kept ≡ true) ⊎ (elem sameFact f kept ≡ false)
+        → In f (kept ++ filterBy (λ g. not (elem sameFact g kept)) (dedup sameFact (stepFacts D es Add)))
+    go (inl k) t =
+        Memᴰ·append-left _ (in-filter (λ g. not (elem sameFact g (stepFacts D es Delete))) (k .0)
+        (ap not (off (elem sameFact f (stepFacts D es Delete)) (λ u. let r = struck u in k .1 (r .0) (r .1) (r .2)))))
+    go (inr k) (inl t) = Memᴰ·append-left _ (elem-fact f kept t)
+    go (inr k) (inr t) = Memᴰ·append-right kept (in-filter (λ g. not (elem sameFact g kept)) (in-dedup sameFact fact-eq (in-stepFacts D Add (k .1) (k .2))) (ap not t))
 
 -- ---- an allowed step
 
