@@ -11,3 +11,4 @@ pub mod Arguments
 pub mod Acts
 pub mod Objects
 pub mod Instances
+pub mod Exact
