@@ -7,3 +7,4 @@ pub mod Tuples
 pub mod WellFormed
 pub mod Arguments
 pub mod Acts
+pub mod Open
