@@ -8,3 +8,4 @@ pub mod WellFormed
 pub mod Arguments
 pub mod Acts
 pub mod Open
+pub mod Rows
