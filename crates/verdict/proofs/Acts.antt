@@ -58,6 +58,10 @@ pub in-class : (D : Domain) (a : Action) {l : Literal} {u : List Variable} → I
 unfolding classes
 in-class D a h m = in-dedup (sameList sameVariable) variables-eq (in-flatMap (λ (l : Literal). tuplesOf D (l .atom)) h m)
 
+pub classes-distinct : (D : Domain) (a : Action) → distinct (sameList sameVariable) (classes D a) ≡ true
+unfolding classes
+classes-distinct D a = distinct-dedup (sameList sameVariable) (flatMap (λ (l : Literal). tuplesOf D (l .atom)) (a .lits))
+
 -- ---- the names as a table, by the lists themselves
 
 abbrev pub nameTable : List (Atom Variable) → List (Atom Variable) → Bool → Bool → Name

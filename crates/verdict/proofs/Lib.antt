@@ -9,3 +9,4 @@ pub mod Arguments
 pub mod Acts
 pub mod Open
 pub mod Rows
+pub mod Safety
