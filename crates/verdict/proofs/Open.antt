@@ -1,13 +1,13 @@
 -- What a step does to the list of open actions, summed by a measure c. Assumes nothing.
-use mathlib.Core.Path.{_≡_, refl, sym, ap, _∙_}
-use mathlib.Core.Bool.{Bool, true, false, not, _&&_, _||_, cond, false≢true}
+use mathlib.Core.Path.{_≡_, refl, ap, _∙_}
+use mathlib.Core.Bool.{Bool, true, false, not, _&&_, cond, false≢true}
 use mathlib.Core.Logic.{_⊎_, inl, inr}
 use mathlib.Core.List.{List, [], _∷_, _++_, List·Memᴰ·head, List·Memᴰ·tail}
-use Prim.Native.Nat.{ℕ, zero, suc, _+_}
+use Prim.Native.Nat.{ℕ, _+_}
 use native.Mathlib.Omega.{arith}
 use Rattle.records.specs.Lists.{In, all, keepIf, elem, distinct}
 use Rattle.records.proofs.Lists.{and-l, and-r, or-l, or-r, or-cases, not-true, clash, all-in}
-use Rattle.literals.specs.Domain.{Action, Domain, action}
+use Rattle.literals.specs.Domain.{Domain, action}
 use Rattle.classes.specs.declared.Moment.{Moment}
 use Rattle.classes.specs.declared.Moment.the-variants.{Start, End}
 use Rattle.verdict.specs.Machine.{GroundAction, Event, sameGround, sameMoment, sameEvent, isOpenAt, isOpen, closeOne, closeAt, closeAll, opens, openedBy}

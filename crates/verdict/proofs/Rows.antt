@@ -1,9 +1,8 @@
 -- What an accepted template says of every class and moment. Assumes nothing.
 use mathlib.Core.Path.{_≡_, refl, sym, ap, _∙_}
-use mathlib.Core.Bool.{Bool, true, false, not, _&&_, cond, true≢false, false≢true}
-use mathlib.Core.Logic.{_⊎_, inl, inr}
+use mathlib.Core.Bool.{Bool, true, false, not, _&&_, cond, true≢false}
 use mathlib.Core.Option.{Option, none, some}
-use mathlib.Core.List.{List, [], _∷_, _++_, map, head?, List·Memᴰ·head, List·Memᴰ·tail, List·Memᴰ·not-nil, Memᴰ·append-left, Memᴰ·append-right, Memᴰ·map, Memᴰ·cast}
+use mathlib.Core.List.{List, [], _∷_, map, head?, List·Memᴰ·head, List·Memᴰ·tail, List·Memᴰ·not-nil, Memᴰ·append-left, Memᴰ·append-right, Memᴰ·map, Memᴰ·cast}
 use Prim.Native.Nat.{ℕ, zero, suc, _<_}
 use native.Mathlib.Nat.{not-suc-le-zero, le-of-suc-le-suc}
 use native.Mathlib.Omega.{arith}
@@ -18,8 +17,8 @@ use Rattle.classes.specs.declared.Moment.{Moment}
 use Rattle.classes.specs.declared.Moment.the-variants.{Start, End}
 use Rattle.classes.specs.declared.Name.{Name}
 use Rattle.classes.specs.declared.Name.the-variants.{Unreachable, Irrelevant, Heavy, Balanced, Unbalanced, Bounded, Unbounded}
-use Rattle.classes.specs.Classes.{momentsOf, classes, nameOf}
-use Rattle.verdict.specs.Decision.{Row, journeyEndAt, rowAt, rowsOfClasses, rowsFrom, rows, isUnbounded, isBounded, faultBy, faultOf, isFaulty, isBoundedOutside, Decision, accept, decideBounded, decideBy, decideRows, decision}
+use Rattle.classes.specs.Classes.{momentsOf, classes}
+use Rattle.verdict.specs.Decision.{Row, rowAt, rowsOfClasses, rowsFrom, rows, isUnbounded, isBounded, faultBy, faultOf, isFaulty, isBoundedOutside, accept, decideBounded, decideBy, decideRows, decision}
 use Rattle.verdict.specs.Machine.{hasMoment}
 use Rattle.verdict.proofs.Acts.{Harmless}
 

@@ -1,20 +1,20 @@
 -- Safety: an accepted template keeps every instance at weight at most one, in every state that a run reaches; and under verdict 1 weight and open journeys together never rise.
 -- Assumes nothing.
 use mathlib.Core.Path.{_≡_, refl, sym, ap, _∙_}
-use mathlib.Core.Bool.{Bool, true, false, not, _&&_, cond, true≢false}
+use mathlib.Core.Bool.{Bool, true, false, _&&_, cond}
 use mathlib.Core.Logic.{_⊎_, inl, inr}
 use mathlib.Core.Option.{Option, none, some}
-use mathlib.Core.List.{List, [], _∷_, _++_, map, foldr, List·Memᴰ·head, List·Memᴰ·tail, List·Memᴰ·not-nil}
+use mathlib.Core.List.{List, [], _∷_, _++_, map, List·Memᴰ·head, List·Memᴰ·tail, List·Memᴰ·not-nil}
 use Prim.Native.Nat.{ℕ, zero, suc, _+_, _≤_, _<_}
 use native.Mathlib.Omega.{arith}
-use lib.Dec.{eqb, ltb, leb}
+use lib.Dec.{ltb}
 use lib.ListN.{length}
 use borrow.Author.Tests.{ltb-true, eqb-true, le-leb}
 use Rattle.records.specs.Lists.{In, all, any, countBy, sameList, distinct, dedup}
-use Rattle.records.proofs.Lists.{and-l, and-r, and-i, bool-cases, clash, off, in-any, any-in, all-in, all-of, count-pos, count-none, count-some, count-single, single-count, distinct-dedup}
+use Rattle.records.proofs.Lists.{and-l, and-r, and-i, bool-cases, clash, in-any, any-in, all-in, all-of, count-pos, count-none, count-some, count-single, single-count, distinct-dedup}
 use Rattle.literals.specs.declared.Variable.{Variable}
 use Rattle.literals.specs.declared.Object.{Object}
-use Rattle.literals.specs.Domain.{sameVariable, sameObject, Atom, Fact, sameFact, Action, Domain, action}
+use Rattle.literals.specs.Domain.{sameVariable, sameObject, Fact, sameFact, Action, Domain, action}
 use Rattle.classes.specs.declared.Moment.{Moment}
 use Rattle.classes.specs.declared.Moment.the-variants.{Start, End}
 use Rattle.classes.specs.Classes.{matches, classes, nameOf, journey}
@@ -22,7 +22,7 @@ use Rattle.verdict.specs.Binding.{Binding, bindTuple}
 use Rattle.verdict.specs.Decision.{Row, journeyEndAt, rows, decision}
 use Rattle.verdict.specs.Judged.{answerRow, decided}
 use Rattle.verdict.specs.Machine.{GroundAction, Event, State, sameEvent, eventFacts, hasMoment, legal, legalStep, injective, isOpen, conditionsHold, overAllHold, independent, allowed, factsAfter, closeAll, openedBy, next, startState, run, weight}
-use Rattle.verdict.specs.Claims.{wellFormedAction, wellFormed, among, isEvent, Chosen, Safe, Safety, journeysFor, total, neverRising, TotalNeverRises, NeverRises}
+use Rattle.verdict.specs.Claims.{wellFormedAction, wellFormed, isEvent, Chosen, Safe, Safety, journeysFor, total, neverRising, NeverRises}
 use Rattle.verdict.proofs.Equality.{fact-self, variables-self, objects-eq, objects-self}
 use Rattle.verdict.proofs.Steps.{Inv, Act, sum, inv-after, inv-less, none-after}
 use Rattle.verdict.proofs.Events.{after-in, holds-of, quiets-of}
@@ -30,7 +30,7 @@ use Rattle.verdict.proofs.Weight.{distinct-after}
 use Rattle.verdict.proofs.WellFormed.{action-well-formed, template-well-formed}
 use Rattle.verdict.proofs.Acts.{classes-distinct, Harmless, journey-lasts, journey-of, one-class, harmless-act, apart-act, start-act, end-act}
 use Rattle.verdict.proofs.Open.{endsAt, startsAt, ends, starts, closeAll-sum, running-sum}
-use Rattle.verdict.proofs.Rows.{RowOf, row-of, Fine, fine-rows, harmless-of}
+use Rattle.verdict.proofs.Rows.{RowOf, row-of, fine-rows, harmless-of}
 
 -- ---- the journeys of an entry
 
