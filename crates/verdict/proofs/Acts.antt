@@ -3,24 +3,24 @@ use mathlib.Core.Path.{_≡_, refl, sym, ap, _∙_}
 use mathlib.Core.Bool.{Bool, true, false, not, _&&_, _||_, cond, false≢true}
 use mathlib.Core.Logic.{_⊎_, inl, inr}
 use mathlib.Core.List.{List, [], _∷_, _++_, map, flatMap, List·Memᴰ·head, List·Memᴰ·tail, List·Memᴰ·not-nil, List·Memᴰ·append-cases, Memᴰ·of-map, Memᴰ·map, Memᴰ·cast, List·Memᴰ·eq-of-singleton}
-use Prim.Native.Nat.{ℕ, zero, suc}
+use Prim.Native.Nat.{ℕ, suc}
 use native.Mathlib.Omega.{arith}
 use lib.Dec.{eqb, leb, leb·zero, leb·suc-suc, eqb·suc-zero}
 use lib.ListN.{length}
 use borrow.Author.Tests.{eqb-true}
-use Rattle.records.specs.Lists.{In, keepIf, filterBy, all, any, pairwise, sameList, elem, distinct, dedup}
+use Rattle.records.specs.Lists.{In, all, any, sameList, elem, distinct}
 use Rattle.records.proofs.Lists.{and-l, and-r, or-cases, not-true, clash, in-keepIf, filter-in, in-filter, any-in, all-in, elem-in, in-dedup, dedup-in, flatMap-in, in-flatMap, pairwise-filter, distinct-dedup}
 use Rattle.literals.specs.declared.Variable.{Variable}
 use Rattle.literals.specs.declared.Object.{Object}
 use Rattle.literals.specs.declared.Clause.{Clause}
 use Rattle.literals.specs.declared.Clause.the-variants.{Positive, Negative, Add, Delete}
 use Rattle.literals.specs.declared.Role.{Role}
-use Rattle.literals.specs.Domain.{sameVariable, sameObject, Atom, Fact, sameLiteral, Literal, Action, Component, isCounted, Domain}
+use Rattle.literals.specs.Domain.{sameVariable, sameObject, Atom, Fact, sameLiteral, Literal, Action, isCounted, Domain}
 use Rattle.classes.specs.declared.Moment.{Moment}
 use Rattle.classes.specs.declared.Moment.the-variants.{Start, End}
 use Rattle.classes.specs.declared.Name.{Name}
 use Rattle.classes.specs.declared.Name.the-variants.{Unreachable, Irrelevant, Heavy, Balanced, Unbalanced, Bounded, Unbounded}
-use Rattle.classes.specs.Classes.{own, overAll, endsOverAll, withRole, literalsAt, tuplesOf, hasTuple, belongs, matches, classes, inClass, nameBy, deletedBy, changedBy, covered, excluding, nameOf, journey}
+use Rattle.classes.specs.Classes.{own, overAll, endsOverAll, withRole, literalsAt, tuplesOf, belongs, matches, classes, inClass, nameBy, deletedBy, changedBy, covered, excluding, nameOf, journey}
 use Rattle.verdict.specs.Binding.{Binding, bind, bindTuple}
 use Rattle.verdict.specs.Claims.{wellFormedAction, wellFormedTemplate}
 use Rattle.verdict.proofs.Equality.{literal-eq, literal-self, variables-eq}
@@ -57,6 +57,10 @@ class-in D a m = flatMap-in (λ (l : Literal). tuplesOf D (l .atom)) (a .lits) (
 pub in-class : (D : Domain) (a : Action) {l : Literal} {u : List Variable} → In l (a .lits) → In u (tuplesOf D (l .atom)) → In u (classes D a)
 unfolding classes
 in-class D a h m = in-dedup (sameList sameVariable) variables-eq (in-flatMap (λ (l : Literal). tuplesOf D (l .atom)) h m)
+
+pub classes-distinct : (D : Domain) (a : Action) → distinct (sameList sameVariable) (classes D a) ≡ true
+unfolding classes
+classes-distinct D a = distinct-dedup (sameList sameVariable) (flatMap (λ (l : Literal). tuplesOf D (l .atom)) (a .lits))
 
 -- ---- the names as a table, by the lists themselves
 

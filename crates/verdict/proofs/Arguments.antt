@@ -1,6 +1,6 @@
 -- Where a component has no counted place, the key tuple says all the arguments. Assumes nothing.
 use mathlib.Core.Path.{_≡_, refl, sym, ap, ap₂, _∙_}
-use mathlib.Core.Bool.{Bool, true, false, not, _&&_, false≢true}
+use mathlib.Core.Bool.{Bool, true, false, not, false≢true}
 use mathlib.Core.Logic.{_⊎_, inl, inr}
 use mathlib.Core.List.{List, [], _∷_, _++_, head-eq-of-cons-eq, tail-eq-of-cons-eq}
 use Prim.Native.Nat.{ℕ, zero, suc, _+_, _<_}
@@ -14,7 +14,7 @@ use Rattle.literals.specs.declared.Object.{Object}
 use Rattle.literals.specs.declared.Key.{Key}
 use Rattle.literals.specs.declared.Label.{Label}
 use Rattle.literals.specs.declared.Label.the-variants.{Key as keyed, Counted}
-use Rattle.literals.specs.Domain.{key, Atom, Fact, Component, isKey, isCounted, keyBelow, keysOf, Domain}
+use Rattle.literals.specs.Domain.{key, Fact, Component, isKey, isCounted, keyBelow, keysOf, Domain}
 use Rattle.classes.specs.Classes.{under, keyTuple, isOf, matches}
 use Rattle.verdict.specs.Claims.{wellFormedTemplate}
 use Rattle.verdict.proofs.Equality.{atom-of}

@@ -12,3 +12,6 @@ pub mod Acts
 pub mod Objects
 pub mod Instances
 pub mod Exact
+pub mod Open
+pub mod Rows
+pub mod Safety

@@ -1,15 +1,15 @@
 -- What a well-formed domain gives the proofs, as facts. Assumes nothing.
-use mathlib.Core.Path.{_≡_, refl, sym, ap, _∙_}
-use mathlib.Core.Bool.{Bool, true, false, not, _&&_}
+use mathlib.Core.Path.{_≡_, sym, ap, _∙_}
+use mathlib.Core.Bool.{Bool, true, not, _&&_}
 use mathlib.Core.List.{List, [], _∷_, List·Memᴰ·head, List·Memᴰ·tail, List·Memᴰ·not-nil}
-use Prim.Native.Nat.{ℕ, zero, suc, _<_}
+use Prim.Native.Nat.{ℕ, _<_}
 use lib.Dec.{eqb, ltb, leb}
 use lib.ListN.{length}
-use borrow.Author.Tests.{ltb-true, eqb-true, eq-eqb}
+use borrow.Author.Tests.{ltb-true, eq-eqb}
 use Rattle.records.specs.Lists.{In, all, countBy, pairwise, distinct}
 use Rattle.records.proofs.Lists.{and-l, and-r, all-in, getD-in, not-true, clash}
 use Rattle.literals.specs.declared.Variable.{Variable}
-use Rattle.literals.specs.Domain.{Atom, Literal, Action, Component, isCounted, keyBelow, eachKeyOnce, keysOf, labelsFit, Domain, arity, noAction, action}
+use Rattle.literals.specs.Domain.{Literal, Action, Component, isCounted, keyBelow, eachKeyOnce, keysOf, labelsFit, Domain, noAction, action}
 use Rattle.literals.specs.Decode.{repeats, contradicts}
 use Rattle.verdict.specs.Claims.{hasArity, wellFormedAction, wellFormedTemplate, wellFormed}
 use Rattle.verdict.proofs.Tuples.{Below}
