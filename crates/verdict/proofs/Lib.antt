@@ -15,3 +15,4 @@ pub mod Exact
 pub mod Open
 pub mod Rows
 pub mod Safety
+pub mod Harm
