@@ -77,9 +77,9 @@ module _ (D : Domain) (wf : wellFormed D ≡ true) (objs : List Object) (fs : Li
   dis : distinct sameObject b ≡ true
   dis = and-r (legal D e) _ (and-l _ _ (h .event))
 
-  idx : e .ground .action < length (D .actions)
+  pub harm-listed : e .ground .action < length (D .actions)
   unfolding legal
-  idx = ltb-true _ _ (and-l _ _ (and-l _ _ is-legal))
+  harm-listed = ltb-true _ _ (and-l _ _ (and-l _ _ is-legal))
 
   has : hasMoment a (e .moment) ≡ true
   unfolding legal
@@ -90,7 +90,7 @@ module _ (D : Domain) (wf : wellFormed D ≡ true) (objs : List Object) (fs : Li
   len = eqb-true _ _ (and-r (ltb (e .ground .action) (length (D .actions)) && hasMoment a (e .moment)) _ is-legal)
 
   ok : wellFormedAction D a ≡ true
-  ok = action-well-formed D wf (e .ground .action) idx
+  ok = action-well-formed D wf (e .ground .action) harm-listed
 
   -- the event is not one that keeps the weight
   not-kept : Act (matches D y) true (effect a b (e .moment)) 0 0 → ⊥
@@ -124,15 +124,18 @@ harm-of-faulty-class D wf objs fs y e h once =
     let m : e .moment ≡ Start = start-only (action D (e .ground .action)) (e .moment) (has D wf objs fs y e h) once in
     (
       k .0,
-      record { listed = idx D wf objs fs y e h; at-once = once; numbered = k .1 },
+      record { listed = harm-listed D wf objs fs y e h; at-once = once; numbered = k .1 },
       ap (bindTuple (e .ground .binding)) (k .2) ∙ r .2,
       λ z. faulty D wf objs fs y e h (r .0) (r .1) (r .2) (ap (λ n. faultBy (nameOf D a (r .0) n) false) m ∙ ap (λ x. faultBy (nameOf D a x Start) false) (sym (k .2)) ∙ z),
     )
 
-pub class-exactness : ClassExactness
+pub class-listed : (D : Domain) (i j : ℕ) → j < length (classes D (action D i)) → In (classAt D i j) (classes D (action D i))
 unfolding classAt
+class-listed D i j h = getD-in (classes D (action D i)) j [] h
+
+pub class-exactness : ClassExactness
 class-exactness D wf i j c =
-    let listed : In (classAt D i j) (classes D (action D i)) = getD-in (classes D (action D i)) j [] (c .numbered) in
+    let listed = class-listed D i j (c .numbered) in
     (
       λ ne. fault-harms D wf i (c .listed) (classAt D i j) listed ne,
       λ h z. faulty D wf (plainObjects D i) (witnessAt D (action D i) (classAt D i j) Start) (plainInstance D i j) (plainEvent D i) h (classAt D i j) listed refl z,

@@ -16,3 +16,5 @@ pub mod Open
 pub mod Rows
 pub mod Safety
 pub mod Harm
+pub mod Demand
+pub mod Files

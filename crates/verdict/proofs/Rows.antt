@@ -1,10 +1,11 @@
 -- What an accepted template says of every class and moment. Assumes nothing.
-use mathlib.Core.Path.{_≡_, refl, sym, ap, _∙_}
+use mathlib.Core.Path.{_≡_, refl, sym, ap, ap₂, _∙_}
 use mathlib.Core.Bool.{Bool, true, false, not, _&&_, cond, true≢false}
+use mathlib.Core.Logic.{_⊎_, inl, inr}
 use mathlib.Core.Option.{Option, none, some}
-use mathlib.Core.List.{List, [], _∷_, map, head?, List·Memᴰ·head, List·Memᴰ·tail, List·Memᴰ·not-nil, Memᴰ·append-left, Memᴰ·append-right, Memᴰ·map, Memᴰ·cast}
-use Prim.Native.Nat.{ℕ, zero, suc, _<_}
-use native.Mathlib.Nat.{not-suc-le-zero, le-of-suc-le-suc}
+use mathlib.Core.List.{List, [], _∷_, map, head?, List·Memᴰ·head, List·Memᴰ·tail, List·Memᴰ·not-nil, List·Memᴰ·append-cases, Memᴰ·append-left, Memᴰ·append-right, Memᴰ·of-map, Memᴰ·map, Memᴰ·cast}
+use Prim.Native.Nat.{ℕ, zero, suc, _+_, _<_}
+use native.Mathlib.Nat.{not-suc-le-zero, le-of-suc-le-suc, zero-add}
 use native.Mathlib.Omega.{arith}
 use lib.Dec.{eqb}
 use lib.ListN.{getD, length}
@@ -18,7 +19,7 @@ use Rattle.classes.specs.declared.Moment.the-variants.{Start, End}
 use Rattle.classes.specs.declared.Name.{Name}
 use Rattle.classes.specs.declared.Name.the-variants.{Unreachable, Irrelevant, Heavy, Balanced, Unbalanced, Bounded, Unbounded}
 use Rattle.classes.specs.Classes.{momentsOf, classes}
-use Rattle.verdict.specs.Decision.{Row, rowAt, rowsOfClasses, rowsFrom, rows, isUnbounded, isBounded, faultBy, faultOf, isFaulty, isBoundedOutside, accept, decideBounded, decideBy, decideRows, decision}
+use Rattle.verdict.specs.Decision.{Row, rowAt, rowsOfClasses, rowsFrom, rows, isUnbounded, isBounded, faultBy, faultOf, isFaulty, isBoundedOutside, accept, decideBounded, decideBy, decideRows, decision, classAt}
 use Rattle.verdict.specs.Machine.{hasMoment}
 use Rattle.verdict.proofs.Acts.{Harmless}
 
@@ -51,6 +52,59 @@ pub row-of : (D : Domain) (n : ℕ) (x : List Variable) (m : Moment) → n < len
     → In x (classes D (action D n)) → RowOf D (action D n) x m (rows D)
 unfolding rows action
 row-of D n x m h l k = row-action D 0 n (D .actions) x m h l k
+
+-- ---- and every row is of a class and a moment
+
+class-of-row : (D : Domain) (a : Action) (i j : ℕ) (xs : List (List Variable)) (r : Row) → In r (rowsOfClasses D a i j xs)
+    → (k : ℕ) × (k < length xs) × ((m : Moment) × In m (momentsOf a) × (r ≡ rowAt D a i (j + k) (getD xs k []) m))
+class-of-row D a i j [] r h = absurd (List·Memᴰ·not-nil h)
+class-of-row D a i j (x ∷ xs) r h = go (λ k. class-of-row D a i (suc j) xs r k) (List·Memᴰ·append-cases (map (rowAt D a i j x) (momentsOf a)) h)
+  where
+    Of : ℕ → List (List Variable) → Type 0
+    Of j xs = (k : ℕ) × (k < length xs) × ((m : Moment) × In m (momentsOf a) × (r ≡ rowAt D a i (j + k) (getD xs k []) m))
+
+    go : (In r (rowsOfClasses D a i (suc j) xs) → Of (suc j) xs) → In r (map (rowAt D a i j x) (momentsOf a)) ⊎ In r (rowsOfClasses D a i (suc j) xs) → Of j (x ∷ xs)
+    go ih (inl h) =
+        let o = Memᴰ·of-map (rowAt D a i j x) (momentsOf a) h in
+        let z : j ≡ j + 0 = omega arith in
+        (0, omega arith, (o .0, o .1, sym (o .2) ∙ ap (λ n. rowAt D a i n x (o .0)) z))
+    go ih (inr h) = up (ih h)
+      where
+        up : Of (suc j) xs → Of j (x ∷ xs)
+        up (k, l, (m, n, e)) = let z : suc j + k ≡ j + suc k = omega arith in (suc k, omega arith, (m, n, e ∙ ap (λ q. rowAt D a i q (getD xs k []) m) z))
+
+action-of-row : (D : Domain) (i : ℕ) (acts : List Action) (r : Row) → In r (rowsFrom D i acts)
+    → (n : ℕ) × (n < length acts) × In r (rowsOfClasses D (getD acts n noAction) (i + n) 0 (classes D (getD acts n noAction)))
+action-of-row D i [] r h = absurd (List·Memᴰ·not-nil h)
+action-of-row D i (a ∷ acts) r h = go (λ k. action-of-row D (suc i) acts r k) (List·Memᴰ·append-cases (rowsOfClasses D a i 0 (classes D a)) h)
+  where
+    Of : ℕ → List Action → Type 0
+    Of i acts = (n : ℕ) × (n < length acts) × In r (rowsOfClasses D (getD acts n noAction) (i + n) 0 (classes D (getD acts n noAction)))
+
+    go : (In r (rowsFrom D (suc i) acts) → Of (suc i) acts) → In r (rowsOfClasses D a i 0 (classes D a)) ⊎ In r (rowsFrom D (suc i) acts) → Of i (a ∷ acts)
+    go ih (inl k) = let z : i ≡ i + 0 = omega arith in (0, omega arith, rw z at k)
+    go ih (inr k) = up (ih k)
+      where
+        up : Of (suc i) acts → Of i (a ∷ acts)
+        up (n, l, h) = let z : suc i + n ≡ i + suc n = omega arith in (suc n, omega arith, rw z at h)
+
+pub record Stands (D : Domain) (r : Row) : Type 0 where
+  pub action-listed : r .action < length (D .actions)
+  pub class-listed : r .class < length (classes D (action D (r .action)))
+  pub moment-listed : In (r .moment) (momentsOf (action D (r .action)))
+  pub is : r ≡ rowAt D (action D (r .action)) (r .action) (r .class) (classAt D (r .action) (r .class)) (r .moment)
+
+pub stands : (D : Domain) (r : Row) → In r (rows D) → Stands D r
+unfolding rows action classAt
+stands D r h = go (action-of-row D 0 (D .actions) r h)
+  where
+    go : (n : ℕ) × (n < length (D .actions)) × In r (rowsOfClasses D (getD (D .actions) n noAction) (0 + n) 0 (classes D (getD (D .actions) n noAction))) → Stands D r
+    go (n, l, k) =
+        let a = getD (D .actions) n noAction in
+        let c = class-of-row D a (0 + n) 0 (classes D a) r k in
+        let e : r ≡ rowAt D a n (c .0) (getD (classes D a) (c .0) []) (c .2 .0) =
+        c .2 .2 ∙ ap₂ (λ i j. rowAt D a i j (getD (classes D a) (c .0) []) (c .2 .0)) (zero-add n) (zero-add (c .0)) in
+        rw e (record { action-listed = l; class-listed = c .1; moment-listed = c .2 .1; is = refl })
 
 -- ---- the decision 0 (v) or 1 (not v)
 
