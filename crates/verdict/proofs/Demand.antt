@@ -1,28 +1,27 @@
 -- Where no action lasts: a template is refused exactly where one event can do harm, and the witness shows it. Assumes nothing.
 use mathlib.Core.Path.{_≡_, refl, sym, ap, ap₂, _∙_}
-use mathlib.Core.Bool.{Bool, true, false, not, _&&_, cond, false≢true}
+use mathlib.Core.Bool.{Bool, true, false, not, cond, false≢true}
 use mathlib.Core.Logic.{_⊎_, inl, inr}
 use mathlib.Core.Option.{Option, none, some}
-use mathlib.Core.List.{List, [], _∷_, List·Memᴰ·eq-of-singleton}
+use mathlib.Core.List.{List, List·Memᴰ·eq-of-singleton}
 use Prim.Native.Nat.{ℕ, _≤_, _<_}
 use native.Mathlib.Omega.{arith}
-use lib.Dec.{eqb, leb}
+use lib.Dec.{leb}
 use lib.ListN.{length}
 use borrow.Author.Tests.{ne-eqb, eqb-false, leb-true, le-leb}
 use Rattle.records.specs.Lists.{In, any}
-use Rattle.records.proofs.Lists.{and-l, and-i, not-true, clash, any-in, all-in, getD-in}
-use Rattle.literals.specs.Domain.{Fact, Action, Domain, action}
+use Rattle.records.proofs.Lists.{and-l, and-i, not-true, clash, any-in, all-in}
+use Rattle.literals.specs.Domain.{Action, Domain, action}
 use Rattle.classes.specs.declared.Moment.{Moment}
-use Rattle.classes.specs.declared.Moment.the-variants.{Start, End}
+use Rattle.classes.specs.declared.Moment.the-variants.{Start}
 use Rattle.classes.specs.declared.Name.{Name}
 use Rattle.classes.specs.declared.Name.the-variants.{Unreachable, Irrelevant, Heavy, Balanced, Unbalanced, Bounded, Unbounded}
-use Rattle.classes.specs.Classes.{momentNumber, momentsOf, classes, nameOf}
+use Rattle.classes.specs.Classes.{momentNumber, momentsOf, nameOf}
 use Rattle.verdict.specs.Decision.{Row, journeyEndAt, rows, isUnbounded, faultBy, faultOf, isFaulty, isBoundedOutside, firstRow, Decision, accept, refuseAt, decideBounded, decideBy, decideRows, decision, classAt, witnessAt, witnessOf, witness}
-use Rattle.verdict.specs.Judged.{Answer, answerRow, decided}
-use Rattle.verdict.specs.Machine.{hasMoment}
-use Rattle.verdict.specs.Claims.{wellFormed, noneLasts, refusedForClass, Harm, Harmful, FaultyClass, ClassAtOnce, Exactness, Shown, WitnessShows, plainObjects, plainInstance, plainEvent}
+use Rattle.verdict.specs.Judged.{answerRow, decided}
+use Rattle.verdict.specs.Claims.{wellFormed, noneLasts, refusedForClass, Harmful, FaultyClass, ClassAtOnce, Exactness, Shown, WitnessShows, plainObjects, plainInstance, plainEvent}
 use Rattle.verdict.proofs.WellFormed.{action-in}
-use Rattle.verdict.proofs.Rows.{row-of, Stands, stands, filter-empty, filter-first, fine-rows}
+use Rattle.verdict.proofs.Rows.{row-of, stands, filter-empty, filter-first, fine-rows}
 use Rattle.verdict.proofs.Harm.{harm-listed, class-listed, class-exactness, harm-of-faulty-class}
 
 -- ---- the numbers of faults

@@ -2,14 +2,14 @@
 use mathlib.Core.Path.{_≡_, refl, sym, ap, _∙_}
 use mathlib.Core.Bool.{Bool, true, false, not, _&&_, false≢true}
 use mathlib.Core.Logic.{_⊎_, inl, inr}
-use mathlib.Core.List.{List, [], _∷_, _++_, map, List·Memᴰ·head, List·Memᴰ·tail, List·Memᴰ·not-nil, List·Memᴰ·append-cases, Memᴰ·append-left, Memᴰ·append-right, Memᴰ·of-map, Memᴰ·map, Memᴰ·cast, List·Memᴰ·eq-of-singleton}
-use Prim.Native.Nat.{ℕ, zero, suc, _+_, _≤_, _<_}
+use mathlib.Core.List.{List, [], _∷_, _++_, map, List·Memᴰ·head, List·Memᴰ·tail, List·Memᴰ·append-cases, Memᴰ·append-left, Memᴰ·append-right, Memᴰ·of-map, Memᴰ·cast, List·Memᴰ·eq-of-singleton}
+use Prim.Native.Nat.{ℕ, suc, _+_, _≤_, _<_}
 use native.Mathlib.Omega.{arith}
-use lib.Dec.{eqb, ltb}
+use lib.Dec.{eqb}
 use lib.ListN.{length, length-map}
 use borrow.Author.Tests.{eqb-true, eq-eqb, lt-ltb}
 use Rattle.records.specs.Lists.{In, all, any, countBy, elem, distinct, dedup}
-use Rattle.records.proofs.Lists.{and-l, and-r, and-i, or-l, or-r, or-cases, off, not-true, bool-cases, clash, eqb-same, eqb-comm, in-any, all-in, all-of, all-append, getD-in, in-elem, in-dedup, dedup-in, distinct-dedup, pairwise-in, count-single, single-count}
+use Rattle.records.proofs.Lists.{and-l, and-r, and-i, or-l, or-r, or-cases, off, not-true, bool-cases, clash, eqb-comm, in-any, all-of, all-append, getD-in, in-elem, in-dedup, dedup-in, distinct-dedup, pairwise-in, count-single, single-count}
 use Rattle.literals.specs.declared.Variable.{Variable}
 use Rattle.literals.specs.declared.Object.{Object}
 use Rattle.literals.specs.declared.Time.{Time}
@@ -19,13 +19,12 @@ use Rattle.literals.specs.declared.Clause.the-variants.{Positive, Negative, Add
 use Rattle.literals.specs.declared.Role.{Role}
 use Rattle.literals.specs.Domain.{object, sameObject, Atom, Fact, sameFact, sameLiteral, firstRole, clauseNumber, sameTime, sameClause, Literal, Action, Component, isCounted, keysOf, Domain, action}
 use Rattle.literals.specs.Decode.{repeats, contrary, together, contradicts}
-use Rattle.classes.specs.declared.Moment.{Moment}
 use Rattle.classes.specs.declared.Moment.the-variants.{Start}
 use Rattle.classes.specs.Classes.{own, literalsAt, matches, classes, inClass, excluding, covered, changedBy, nameOf}
 use Rattle.verdict.specs.Binding.{Binding, valueOf, bind, bindTuple, sameNumbers, spare}
 use Rattle.verdict.specs.Decision.{faultBy, objectUnder, instanceFact, firstUncovered, witnessBy, witnessAt}
-use Rattle.verdict.specs.Machine.{Event, eventFacts, conditionsHold, allowed, factsAfter, next, startState, weight, legal}
-use Rattle.verdict.specs.Claims.{hasArity, among, isFact, isInstance, isEvent, wellFormedAction, wellFormedTemplate, wellFormed, Harm, plainObjects, plainEvent}
+use Rattle.verdict.specs.Machine.{Event, eventFacts, conditionsHold, allowed, factsAfter, next, weight, legal}
+use Rattle.verdict.specs.Claims.{hasArity, among, isFact, wellFormedAction, wellFormedTemplate, wellFormed, Harm, plainObjects, plainEvent}
 use Rattle.verdict.proofs.Equality.{object-self, literal-self, fact-eq, fact-self}
 use Rattle.verdict.proofs.Events.{elem-fact, fact-elem, in-after}
 use Rattle.verdict.proofs.Tuples.{Below, bind-inj}

@@ -1,12 +1,11 @@
 -- Demand 3 of files: the claims of a domain, of the domain that a file says. Assumes nothing.
-use mathlib.Core.Path.{_≡_, sym, ap, _∙_}
-use mathlib.Core.Bool.{true}
+use mathlib.Core.Path.{_≡_, ap}
 use mathlib.Core.List.{List}
 use Prim.Native.Nat.{ℕ}
 use Rattle.literals.specs.Domain.{Domain}
 use Rattle.literals.specs.Decode.{domain, decode}
-use Rattle.verdict.specs.Judged.{Answer, decided, decidedBy, decidedFile}
-use Rattle.verdict.specs.Claims.{Accepted, refusedForClass, Shown, Exact, SafetyOfFile, ExactnessOfFile, WitnessOfFile, NeverRisesOfFile}
+use Rattle.verdict.specs.Judged.{decided, decidedBy, decidedFile}
+use Rattle.verdict.specs.Claims.{SafetyOfFile, ExactnessOfFile, WitnessOfFile, NeverRisesOfFile}
 use Rattle.verdict.proofs.Decodes.{decoded-well-formed}
 use Rattle.verdict.proofs.Safety.{safety, never-rises}
 use Rattle.verdict.proofs.Demand.{exactness, witness-shows}

@@ -1,6 +1,6 @@
 -- Of an action at once: a class is faulty exactly where its witness does harm, and all harm is of a faulty class. Assumes nothing.
 use mathlib.Core.Path.{_≡_, refl, sym, ap, _∙_}
-use mathlib.Core.Bool.{Bool, true, false, _&&_}
+use mathlib.Core.Bool.{true, false, _&&_}
 use mathlib.Core.Logic.{_⊎_, inl, inr}
 use mathlib.Core.List.{List, [], _∷_, List·Memᴰ·eq-of-singleton}
 use Prim.Native.Nat.{ℕ, _≤_, _<_}
@@ -20,8 +20,8 @@ use Rattle.classes.specs.declared.Name.the-variants.{Unreachable, Irrelevant, H
 use Rattle.classes.specs.Classes.{matches, classes, nameOf}
 use Rattle.verdict.specs.Binding.{Binding, bindTuple}
 use Rattle.verdict.specs.Decision.{faultBy, classAt, witnessAt}
-use Rattle.verdict.specs.Machine.{Event, eventFacts, hasMoment, legal, injective, isOpen, conditionsHold, allowed, factsAfter, next, startState, weight}
-use Rattle.verdict.specs.Claims.{wellFormedAction, wellFormed, Harm, FaultyClass, ClassAtOnce, plainObjects, plainInstance, plainEvent, ClassExactness, HarmIsOfFaultyClass}
+use Rattle.verdict.specs.Machine.{Event, eventFacts, hasMoment, legal, isOpen, conditionsHold, allowed, factsAfter, next, startState, weight}
+use Rattle.verdict.specs.Claims.{wellFormedAction, wellFormed, Harm, plainObjects, plainInstance, plainEvent, ClassExactness, HarmIsOfFaultyClass}
 use Rattle.verdict.proofs.Equality.{fact-self, objects-eq, objects-self}
 use Rattle.verdict.proofs.Steps.{Inv, Act, inv-after, inv-less}
 use Rattle.verdict.proofs.Events.{after-in, holds-of, quiets-of}

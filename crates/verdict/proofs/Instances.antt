@@ -1,11 +1,11 @@
 -- The key tuple of an instance fact is the instance; the first component that is not covered. Assumes nothing.
 use mathlib.Core.Path.{_≡_, refl, sym, ap, ap₂, _∙_}
-use mathlib.Core.Bool.{Bool, true, false, not, _&&_, true≢false, false≢true, cond}
+use mathlib.Core.Bool.{Bool, true, false, _&&_, true≢false, false≢true, cond}
 use mathlib.Core.Logic.{_⊎_, inl, inr}
 use mathlib.Core.List.{List, [], _∷_, _++_, map, List·Memᴰ·head, List·Memᴰ·tail, List·Memᴰ·not-nil, Memᴰ·of-map}
 use Prim.Native.Nat.{ℕ, zero, suc, _+_, _≤_, _<_}
 use native.Mathlib.Omega.{arith}
-use lib.Dec.{eqb, ltb}
+use lib.Dec.{eqb}
 use lib.ListN.{getD, length, take, length-map, length-append}
 use lib.Seq.{take-suc, take-all}
 use borrow.Author.Tests.{eqb-true, ltb-true}
@@ -16,7 +16,7 @@ use Rattle.literals.specs.declared.Object.{Object}
 use Rattle.literals.specs.declared.Key.{Key}
 use Rattle.literals.specs.declared.Label.{Label}
 use Rattle.literals.specs.declared.Label.the-variants.{Key as keyed, Counted}
-use Rattle.literals.specs.Domain.{object, key, Atom, Fact, Action, Component, isKey, isCounted, keyBelow, eachKeyOnce, keysOf, Domain}
+use Rattle.literals.specs.Domain.{object, key, Atom, Action, Component, isKey, isCounted, keyBelow, eachKeyOnce, keysOf, Domain}
 use Rattle.classes.specs.Classes.{under, keyTuple, isOf, tuplesBy, tuplesOf, matches, classes, covered}
 use Rattle.verdict.specs.Decision.{objectUnder, instanceFact, firstUncovered}
 use Rattle.verdict.specs.Claims.{wellFormedTemplate}
