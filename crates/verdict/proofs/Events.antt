@@ -1,14 +1,18 @@
 -- The machine's lists as facts: membership after a step, the conditions, no interference. Assumes nothing.
 use mathlib.Core.Path.{_≡_, ap}
-use mathlib.Core.Bool.{true, false, not}
+use mathlib.Core.Bool.{true, false, not, _&&_}
 use mathlib.Core.Logic.{_⊎_, inl, inr}
 use mathlib.Core.List.{List, [], _∷_, _++_, Memᴰ·append-left, Memᴰ·append-right, List·Memᴰ·append-cases}
+use Prim.Native.Nat.{_<_}
+use lib.Dec.{ltb}
+use lib.ListN.{length}
+use borrow.Author.Tests.{ltb-true, eqb-true}
 use Rattle.records.specs.Lists.{In, all, filterBy, elem, dedup}
 use Rattle.records.proofs.Lists.{and-l, and-r, or-l, or-r, not-true, off, bool-cases, clash, in-any, all-in, filter-in, in-filter, elem-in, in-elem, not-elem, dedup-in, in-dedup, flatMap-in, in-flatMap}
 use Rattle.literals.specs.declared.Clause.{Clause}
 use Rattle.literals.specs.declared.Clause.the-variants.{Positive, Negative, Add, Delete}
-use Rattle.literals.specs.Domain.{Fact, sameFact, Domain}
-use Rattle.verdict.specs.Machine.{Event, eventFacts, stepFacts, factsAfter, conditionsHold, interfere, disturbs, independent, meet}
+use Rattle.literals.specs.Domain.{Fact, sameFact, Domain, action}
+use Rattle.verdict.specs.Machine.{Event, eventFacts, stepFacts, factsAfter, conditionsHold, interfere, disturbs, independent, meet, hasMoment, legal}
 use Rattle.verdict.proofs.Equality.{fact-eq, fact-self}
 use Rattle.verdict.proofs.Steps.{Holds, Quiet, Quiets, alone, beside, After}
 
@@ -63,6 +67,21 @@ in-after D s es f h = go h (bool-cases (elem sameFact f kept))
         (ap not (off (elem sameFact f (stepFacts D es Delete)) (λ u. let r = struck u in k .1 (r .0) (r .1) (r .2)))))
     go (inr k) (inl t) = Memᴰ·append-left _ (elem-fact f kept t)
     go (inr k) (inr t) = Memᴰ·append-right kept (in-filter (λ g. not (elem sameFact g kept)) (in-dedup sameFact fact-eq (in-stepFacts D Add (k .1) (k .2))) (ap not t))
+
+-- ---- a legal event
+
+module _ (D : Domain) (e : Event) (ok : legal D e ≡ true) where
+  pub legal-listed : e .ground .action < length (D .actions)
+  unfolding legal
+  legal-listed = ltb-true _ _ (and-l _ _ (and-l _ _ ok))
+
+  pub legal-moment : hasMoment (action D (e .ground .action)) (e .moment) ≡ true
+  unfolding legal
+  legal-moment = and-r (ltb (e .ground .action) (length (D .actions))) _ (and-l _ _ ok)
+
+  pub legal-length : length (e .ground .binding) ≡ action D (e .ground .action) .vars
+  unfolding legal
+  legal-length = eqb-true _ _ (and-r (ltb (e .ground .action) (length (D .actions)) && hasMoment (action D (e .ground .action)) (e .moment)) _ ok)
 
 -- ---- an allowed step
 

@@ -54,7 +54,8 @@ own-of c r h = go (or-cases (own Start c r) false h)
     go (inl k) = (and-l _ _ k, and-r (sameTime AtStart (r .time)) _ k)
     go (inr k) = absurd (false≢true k)
 
-never-both : (D : Domain) (a : Action) → wellFormedAction D a ≡ true → (p : Atom Variable) → In p (literalsAt a Start Positive) → In p (literalsAt a Start Negative) → ⊥
+never-both : (D : Domain) (a : Action) → wellFormedAction D a ≡ true → (p : Atom Variable)
+    → In p (literalsAt a Start Positive) → In p (literalsAt a Start Negative) → ⊥
 never-both D a ok p m n =
     let l = literalsAt-in a Start Positive m in
     let k = literalsAt-in a Start Negative n in
@@ -133,7 +134,8 @@ module _ (D : Domain) (wf : wellFormed D ≡ true) (i : ℕ) (idx : i < length (
   unlike f m n =
       let p = Memᴰ·of-map (bind b) (literalsAt act Start Negative) m in
       let q = Memᴰ·of-map (bind b) (literalsAt act Start Positive) n in
-      let e : p .0 ≡ q .0 = bind-inj b dis (p .0) (q .0) (at-below D act ok b len dis [] Start Negative (p .0) (p .1)) (at-below D act ok b len dis [] Start Positive (q .0) (q .1)) (p .2 ∙ sym (q .2)) in
+      let e : p .0 ≡ q .0 = bind-inj b dis (p .0) (q .0) (at-below D act ok b len dis [] Start Negative (p .0) (p .1))
+      (at-below D act ok b len dis [] Start Positive (q .0) (q .1)) (p .2 ∙ sym (q .2)) in
       never-both D act ok (q .0) (q .1) (Memᴰ·cast (sym e) (p .1))
 
   module _ (y : List Object) (size : length y ≡ keysOf (D .template)) (over : (o : Object) → In o y → In o (plainObjects D i)) where
@@ -229,7 +231,10 @@ module _ (D : Domain) (wf : wellFormed D ≡ true) (i : ℕ) (idx : i < length (
         let hp : In p (inClass D act x Start Positive) = rw ep (List·Memᴰ·head refl) in
         let hc : In c (inClass D act x Start Add) = rw ea (List·Memᴰ·head refl) in
         alone-harm y size over (one-hold p ep) (bind b c) (bind b p) (fact-of Add c hc)
-        (inr (fact-of Positive p hp, λ k. unchanged (or-r (elem sameLiteral p (inClass D act x Start Add)) (in-elem sameLiteral literal-self (of-clause Positive Delete p hp k)))))
+        (inr (
+          fact-of Positive p hp,
+          λ k. unchanged (or-r (elem sameLiteral p (inClass D act x Start Add)) (in-elem sameLiteral literal-self (of-clause Positive Delete p hp k))),
+        ))
         (fact-matches Add c hc) (fact-matches Positive p hp)
         (λ e. unchanged (or-l (elem sameLiteral p (inClass D act x Start Delete)) (in-elem sameLiteral literal-self (of-clause Positive Add p hp (Memᴰ·cast (sym e) (fact-of Add c hc))))))
       where
@@ -246,13 +251,18 @@ module _ (D : Domain) (wf : wellFormed D ≡ true) (i : ℕ) (idx : i < length (
             → Harm D (plainObjects D i) (effect act b Start Positive ++ map (instanceFact (spare act) y) (firstUncovered (excluding D act x Start) (D .template))) y ev
         go (u, mu, cu, eu) =
             rw eu (does-harm y size over (effect act b Start Positive ++ (f ∷ []))
-            (all-append (isFact D (plainObjects D i)) (effect act b Start Positive) (f ∷ []) (all-of (isFact D (plainObjects D i)) (effect act b Start Positive) (held-fact Positive)) (and-i fact refl))
+            (all-append (isFact D (plainObjects D i)) (effect act b Start Positive) (f ∷ [])
+            (all-of (isFact D (plainObjects D i)) (effect act b Start Positive) (held-fact Positive)) (and-i fact refl))
             (λ g m. Memᴰ·append-left (f ∷ []) m) (λ g m n. lacking g m (List·Memᴰ·append-cases (effect act b Start Positive) n))
             (λ g h m n s t. is g (List·Memᴰ·append-cases (effect act b Start Positive) m) s ∙ sym (is h (List·Memᴰ·append-cases (effect act b Start Positive) n) t))
             (bind b c) f (fact-of Add c hc)
-            (inr (Memᴰ·append-right (effect act b Start Positive) (List·Memᴰ·head refl), bad Delete (λ q j. Memᴰ·append-right (inClass D act x Start Negative) (Memᴰ·append-right (inClass D act x Start Add) j))))
+            (inr (
+              Memᴰ·append-right (effect act b Start Positive) (List·Memᴰ·head refl),
+              bad Delete (λ q j. Memᴰ·append-right (inClass D act x Start Negative) (Memᴰ·append-right (inClass D act x Start Add) j)),
+            ))
             (fact-matches Add c hc) fm
-            (λ e. bad Add (λ q j. Memᴰ·append-right (inClass D act x Start Negative) (Memᴰ·append-left (inClass D act x Start Delete) j)) (Memᴰ·cast (sym e) (fact-of Add c hc))))
+            (λ e. bad Add (λ q j. Memᴰ·append-right (inClass D act x Start Negative) (Memᴰ·append-left (inClass D act x Start Delete) j))
+            (Memᴰ·cast (sym e) (fact-of Add c hc))))
           where
             f : Fact
             f = instanceFact (spare act) y u
@@ -264,7 +274,8 @@ module _ (D : Domain) (wf : wellFormed D ≡ true) (i : ℕ) (idx : i < length (
             fm = instance-matches D okT (spare act) y size u mu
 
             fact : isFact D (plainObjects D i) f ≡ true
-            fact = and-i {a = hasArity D (u .rel) (f .args)} (rw (length-map (u .labels) (objectUnder (spare act) y)) (component-arity D okT u mu)) (among-of (plainObjects D i) (f .args) (λ o m. inside o (instance-objects D okT (spare act) y size u mu o m)))
+            fact = and-i {a = hasArity D (u .rel) (f .args)} (rw (length-map (u .labels) (objectUnder (spare act) y)) (component-arity D okT u mu))
+                (among-of (plainObjects D i) (f .args) (λ o m. inside o (instance-objects D okT (spare act) y size u mu o m)))
               where
                 inside : (o : Object) → In o y ⊎ (o ≡ spare act) → In o (plainObjects D i)
                 inside o (inl m) = over o m
@@ -285,7 +296,8 @@ module _ (D : Domain) (wf : wellFormed D ≡ true) (i : ℕ) (idx : i < length (
                     spare-out (value-in (r .0 .args) (at-below D act ok b len dis y Start k (r .0) (r .1)) (spare act) s)
                 by-label (inr t) =
                     let r = literal-of k f m fm in
-                    clash (and-i (ap not t) (in-any (λ (p : Atom Variable). eqb (u .rel) (p .rel)) (up (r .0) (r .1)) (eq-eqb (u .rel) (r .0 .rel) (ap (λ (g : Fact). g .rel) (r .2))))) cu
+                    clash (and-i (ap not t) (in-any (λ (p : Atom Variable). eqb (u .rel) (p .rel)) (up (r .0) (r .1))
+                    (eq-eqb (u .rel) (r .0 .rel) (ap (λ (g : Fact). g .rel) (r .2))))) cu
 
             lacking : (g : Fact) → In g (effect act b Start Negative) → In g (effect act b Start Positive) ⊎ In g (f ∷ []) → ⊥
             lacking g m (inl n) = unlike g m n

@@ -1,13 +1,11 @@
 -- Of an action at once: a class is faulty exactly where its witness does harm, and all harm is of a faulty class. Assumes nothing.
 use mathlib.Core.Path.{_≡_, refl, sym, ap, _∙_}
-use mathlib.Core.Bool.{true, false, _&&_}
+use mathlib.Core.Bool.{true, false}
 use mathlib.Core.Logic.{_⊎_, inl, inr}
 use mathlib.Core.List.{List, [], _∷_, List·Memᴰ·eq-of-singleton}
 use Prim.Native.Nat.{ℕ, _≤_, _<_}
 use native.Mathlib.Omega.{arith}
-use lib.Dec.{ltb}
 use lib.ListN.{length}
-use borrow.Author.Tests.{ltb-true, eqb-true}
 use Rattle.records.specs.Lists.{In, all, any, sameList, distinct, dedup}
 use Rattle.records.proofs.Lists.{and-l, and-r, bool-cases, clash, in-any, any-in, all-in, getD-in, in-getD, count-single, single-count, distinct-dedup}
 use Rattle.literals.specs.declared.Variable.{Variable}
@@ -24,7 +22,7 @@ use Rattle.verdict.specs.Machine.{Event, eventFacts, hasMoment, legal, i
 use Rattle.verdict.specs.Claims.{wellFormedAction, wellFormed, Harm, plainObjects, plainInstance, plainEvent, ClassExactness, HarmIsOfFaultyClass}
 use Rattle.verdict.proofs.Equality.{fact-self, objects-eq, objects-self}
 use Rattle.verdict.proofs.Steps.{Inv, Act, inv-after, inv-less}
-use Rattle.verdict.proofs.Events.{after-in, holds-of, quiets-of}
+use Rattle.verdict.proofs.Events.{after-in, legal-listed, legal-moment, legal-length, holds-of, quiets-of}
 use Rattle.verdict.proofs.Weight.{distinct-after}
 use Rattle.verdict.proofs.WellFormed.{action-well-formed, template-well-formed}
 use Rattle.verdict.proofs.Acts.{Harmless, effect, harmless-act, apart-act}
@@ -62,7 +60,8 @@ one-event D y fs e act w al =
     after : Inv (matches D y) true (λ f. In f (factsAfter D s (e ∷ []))) 0
     after = inv-less (matches D y) true (after-in D s (e ∷ []))
         (inv-after (matches D y) true (eventFacts D) (λ _. 0) (λ _. 0) (λ f. In f s) (e ∷ []) 0 0 before
-        (λ d m. holds-of D s d (all-in (conditionsHold D s) (e ∷ []) holds m)) (quiets-of D (e ∷ []) refl) (λ d m. same d (List·Memᴰ·eq-of-singleton m)) (omega arith) (omega arith))
+        (λ d m. holds-of D s d (all-in (conditionsHold D s) (e ∷ []) holds m)) (quiets-of D (e ∷ []) refl)
+        (λ d m. same d (List·Memᴰ·eq-of-singleton m)) (omega arith) (omega arith))
 
 module _ (D : Domain) (wf : wellFormed D ≡ true) (objs : List Object) (fs : List Fact) (y : List Object) (e : Event) (h : Harm D objs fs y e) where
   abbrev a : Action
@@ -78,16 +77,10 @@ module _ (D : Domain) (wf : wellFormed D ≡ true) (objs : List Object) (fs : Li
   dis = and-r (legal D e) _ (and-l _ _ (h .event))
 
   pub harm-listed : e .ground .action < length (D .actions)
-  unfolding legal
-  harm-listed = ltb-true _ _ (and-l _ _ (and-l _ _ is-legal))
-
-  has : hasMoment a (e .moment) ≡ true
-  unfolding legal
-  has = and-r (ltb (e .ground .action) (length (D .actions))) _ (and-l _ _ is-legal)
+  harm-listed = legal-listed D e is-legal
 
   len : length b ≡ a .vars
-  unfolding legal
-  len = eqb-true _ _ (and-r (ltb (e .ground .action) (length (D .actions)) && hasMoment a (e .moment)) _ is-legal)
+  len = legal-length D e is-legal
 
   ok : wellFormedAction D a ≡ true
   ok = action-well-formed D wf (e .ground .action) harm-listed
@@ -121,8 +114,7 @@ harm-of-faulty-class D wf objs fs y e h once =
     let r = bound D wf objs fs y e h in
     let k = in-getD (classes D (action D (e .ground .action))) [] (r .1) in
     let a = action D (e .ground .action) in
-    let m : e .moment ≡ Start = start-only (action D (e .ground .action)) (e .moment) (has D wf objs fs y e h) once in
-    (
+    let m : e .moment ≡ Start = start-only (action D (e .ground .action)) (e .moment) (legal-moment D e (is-legal D wf objs fs y e h)) once in (
       k .0,
       record { listed = harm-listed D wf objs fs y e h; at-once = once; numbered = k .1 },
       ap (bindTuple (e .ground .binding)) (k .2) ∙ r .2,
@@ -135,8 +127,7 @@ class-listed D i j h = getD-in (classes D (action D i)) j [] h
 
 pub class-exactness : ClassExactness
 class-exactness D wf i j c =
-    let listed = class-listed D i j (c .numbered) in
-    (
+    let listed = class-listed D i j (c .numbered) in (
       λ ne. fault-harms D wf i (c .listed) (classAt D i j) listed ne,
       λ h z. faulty D wf (plainObjects D i) (witnessAt D (action D i) (classAt D i j) Start) (plainInstance D i j) (plainEvent D i) h (classAt D i j) listed refl z,
     )

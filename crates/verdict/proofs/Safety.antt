@@ -7,9 +7,8 @@ use mathlib.Core.Option.{Option, none, some}
 use mathlib.Core.List.{List, [], _∷_, _++_, map, List·Memᴰ·head, List·Memᴰ·tail, List·Memᴰ·not-nil}
 use Prim.Native.Nat.{ℕ, zero, suc, _+_, _≤_, _<_}
 use native.Mathlib.Omega.{arith}
-use lib.Dec.{ltb}
 use lib.ListN.{length}
-use borrow.Author.Tests.{ltb-true, eqb-true, le-leb}
+use borrow.Author.Tests.{le-leb}
 use Rattle.records.specs.Lists.{In, all, any, countBy, sameList, distinct, dedup}
 use Rattle.records.proofs.Lists.{and-l, and-r, and-i, bool-cases, clash, in-any, any-in, all-in, all-of, count-pos, count-none, count-some, count-single, single-count, distinct-dedup}
 use Rattle.literals.specs.declared.Variable.{Variable}
@@ -25,7 +24,7 @@ use Rattle.verdict.specs.Machine.{GroundAction, Event, State, sameEvent,
 use Rattle.verdict.specs.Claims.{wellFormedAction, wellFormed, isEvent, Chosen, Safe, Safety, journeysFor, total, neverRising, NeverRises}
 use Rattle.verdict.proofs.Equality.{fact-self, variables-self, objects-eq, objects-self}
 use Rattle.verdict.proofs.Steps.{Inv, Act, sum, inv-after, inv-less, none-after}
-use Rattle.verdict.proofs.Events.{after-in, holds-of, quiets-of}
+use Rattle.verdict.proofs.Events.{after-in, legal-listed, legal-moment, legal-length, holds-of, quiets-of}
 use Rattle.verdict.proofs.Weight.{distinct-after}
 use Rattle.verdict.proofs.WellFormed.{action-well-formed, template-well-formed}
 use Rattle.verdict.proofs.Acts.{classes-distinct, Harmless, journey-lasts, journey-of, one-class, harmless-act, apart-act, start-act, end-act}
@@ -114,7 +113,7 @@ module _ (D : Domain) (wf : wellFormed D ≡ true) (v : Bool) (acc : decision D 
   -- what an event of the domain does to the instance
   event-act : (m : Moment) (g : GroundAction) → legal D (record { moment = m; ground = g }) ≡ true → distinct sameObject (g .binding) ≡ true
       → Act (matches D y) v (eventFacts D (record { moment = m; ground = g })) (startsAt c m g) (endsAt c m g)
-  unfolding legal eventFacts
+  unfolding eventFacts
   event-act m g h dis = by-class (bool-cases (any (λ x. sameList sameObject (bindTuple b x) y) (classes D a)))
     where
       a : Action
@@ -123,14 +122,17 @@ module _ (D : Domain) (wf : wellFormed D ≡ true) (v : Bool) (acc : decision D 
       b : Binding
       b = g .binding
 
+      e : Event
+      e = record { moment = m; ground = g }
+
       idx : g .action < length (D .actions)
-      idx = ltb-true _ _ (and-l _ _ (and-l _ _ h))
+      idx = legal-listed D e h
 
       has : hasMoment a m ≡ true
-      has = and-r (ltb (g .action) (length (D .actions))) _ (and-l _ _ h)
+      has = legal-moment D e h
 
       len : length b ≡ a .vars
-      len = eqb-true _ _ (and-r (ltb (g .action) (length (D .actions)) && hasMoment a m) _ h)
+      len = legal-length D e h
 
       ok : wellFormedAction D a ≡ true
       ok = action-well-formed D wf (g .action) idx
