@@ -1,0 +1,6 @@
+-- The laws of the definitions, and the claims proved.
+pub mod Equality
+pub mod Steps
+pub mod Events
+pub mod Weight
+pub mod Tuples
