@@ -1,0 +1,3 @@
+-- What playing a run file means for the machine.
+pub mod Allowed
+pub mod Loop
