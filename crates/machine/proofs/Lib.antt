@@ -1,3 +1,5 @@
 -- What playing a run file means for the machine.
 pub mod Allowed
 pub mod Loop
+pub mod Entries
+pub mod Runs

@@ -1,8 +1,8 @@
 -- Laws that turn a test, `b ≡ true`, into a fact and back. Assumes nothing.
 use mathlib.Core.Path.{_≡_, refl, sym, ap, ap₂, _∙_}
-use mathlib.Core.Bool.{Bool, true, false, not, _&&_, _||_, true≢false, false≢true}
+use mathlib.Core.Bool.{Bool, true, false, not, _&&_, _||_, cond, true≢false, false≢true}
 use mathlib.Core.Logic.{_⊎_, inl, inr}
-use mathlib.Core.List.{List, [], _∷_, _++_, flatMap, List·Memᴰ·head, List·Memᴰ·tail, List·Memᴰ·not-nil, Memᴰ·cast, Memᴰ·append-left, Memᴰ·append-right, List·Memᴰ·append-cases}
+use mathlib.Core.List.{List, [], _∷_, _++_, flatMap, append-nil, List·Memᴰ·head, List·Memᴰ·tail, List·Memᴰ·not-nil, Memᴰ·cast, Memᴰ·append-left, Memᴰ·append-right, List·Memᴰ·append-cases}
 use Prim.Native.Nat.{ℕ, zero, suc, _+_, _≤_, _<_}
 use native.Mathlib.Omega.{arith}
 use lib.Dec.{eqb}
@@ -288,3 +288,52 @@ module _ {A : Type 0} where
   dedup-same eq [] o = refl
   dedup-same eq (x ∷ xs) o =
       rw (dedup-same eq xs (and-r (all (λ y. not (eq x y)) xs) _ o)) (ap {B = List A} (λ l. x ∷ l) (filter-all (λ y. not (eq x y)) xs (and-l _ _ o)))
+
+-- ---- lists joined together
+
+module _ {A : Type 0} where
+  pub any-append : (p : A → Bool) (xs ys : List A) → any p (xs ++ ys) ≡ any p xs || any p ys
+  any-append p [] ys = refl
+  any-append p (x ∷ xs) ys = go (p x) (any-append p xs ys)
+    where
+      go : (b : Bool) → any p (xs ++ ys) ≡ any p xs || any p ys → b || any p (xs ++ ys) ≡ (b || any p xs) || any p ys
+      go true h = refl
+      go false h = h
+
+  pub filter-append : (p : A → Bool) (xs ys : List A) → filterBy p (xs ++ ys) ≡ filterBy p xs ++ filterBy p ys
+  filter-append p [] ys = refl
+  filter-append p (x ∷ xs) ys = go (p x) (filter-append p xs ys)
+    where
+      go : (b : Bool) → filterBy p (xs ++ ys) ≡ filterBy p xs ++ filterBy p ys → keepIf b x (filterBy p (xs ++ ys)) ≡ keepIf b x (filterBy p xs) ++ filterBy p ys
+      go true h = ap {B = List A} (λ l. x ∷ l) h
+      go false h = h
+
+  pub filter-none : (p : A → Bool) (l : List A) → ((a : A) → In a l → p a ≡ false) → filterBy p l ≡ []
+  filter-none p [] h = refl
+  filter-none p (x ∷ xs) h = rw (h x (List·Memᴰ·head refl)) (filter-none p xs (λ a m. h a (List·Memᴰ·tail m)))
+
+  -- one more element, which joins unless it is there
+  module _ (eq : A → A → Bool) (sound : (a b : A) → eq a b ≡ true → a ≡ b) (self : (a : A) → eq a a ≡ true) where
+    pub dedup-snoc : (l : List A) (x : A) → dedup eq (l ++ (x ∷ [])) ≡ cond (elem eq x (dedup eq l)) (dedup eq l) (dedup eq l ++ (x ∷ []))
+    dedup-snoc [] x = refl
+    dedup-snoc (y ∷ ys) x = ap {B = List A} (λ l. y ∷ filterBy other l) (dedup-snoc ys x) ∙ go (eq x y) (elem eq x ds) refl refl
+      where
+        other : A → Bool
+        other a = not (eq y a)
+
+        ds : List A
+        ds = dedup eq ys
+
+        go : (b c : Bool) → eq x y ≡ b → elem eq x ds ≡ c
+            → y ∷ filterBy other (cond c ds (ds ++ (x ∷ []))) ≡ cond (b || elem eq x (filterBy other ds)) (y ∷ filterBy other ds) (y ∷ (filterBy other ds ++ (x ∷ [])))
+        go true true s t = refl
+        go true false s t =
+            let e : eq y x ≡ true = ap (eq y) (sound x y s) ∙ self y in
+            ap {B = List A} (λ l. y ∷ l) (filter-append other ds (x ∷ []) ∙ rw e (append-nil (filterBy other ds)))
+        go false true s t =
+            rw (in-elem eq self (in-filter other (elem-in eq sound x ds t) (ap not (off (eq y x) (λ e. clash (ap (eq x) (sound y x e) ∙ self x) s)))))
+        go false false s t =
+            let e : eq y x ≡ false = off (eq y x) (λ e. clash (ap (eq x) (sound y x e) ∙ self x) s) in
+            let n : elem eq x (filterBy other ds) ≡ false = off (elem eq x (filterBy other ds)) (λ m. clash (in-elem eq self (filter-in other ds (elem-in eq sound x (filterBy other ds) m) .0)) t) in
+            let f : filterBy other (ds ++ (x ∷ [])) ≡ filterBy other ds ++ (x ∷ []) = filter-append other ds (x ∷ []) ∙ rw e in
+            rw (n, f)
