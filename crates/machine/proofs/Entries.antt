@@ -13,7 +13,7 @@ use Rattle.records.specs.declared.Record.{Record}
 use Rattle.records.specs.declared.Record.the-variants.{Whole, Cut, End}
 use Rattle.records.specs.Record.{recordAt, payload}
 use Rattle.records.proofs.Laws.{whole-within}
-use Rattle.records.proofs.Lists.{all-of, any-append, filter-all, filter-append, filter-none}
+use Rattle.records.proofs.Lists.{or-r, all-of, any-append, filter-all, filter-append, filter-none}
 use Rattle.literals.specs.Domain.{Fact}
 use Rattle.verdict.specs.Machine.{Event}
 use Rattle.machine.specs.RunFile.{RunKind, objectsRecord, factRecord, eventRecord, stepRecord, endRecord, otherRecord, runKindOf, factOf, eventOf, Entry, entriesFrom, entries, entriesBefore, entriesUpTo, factsBy, startFactsIn, waitingBy, waitingFrom, waitingIn, closedBy, stepsFrom, stepsIn, begins, begunIn}
@@ -176,14 +176,31 @@ steps-from-snoc ws (x ∷ xs) e = go (x .kind) (λ vs. steps-from-snoc vs xs e)
 pub steps-snoc : (es : List Entry) (e : Entry) → stepsIn (es ++ (e ∷ [])) ≡ stepsIn es ++ closedBy (e .kind) (waitingIn es) []
 steps-snoc = steps-from-snoc []
 
--- a record of kind 18 to 20 begins, any other leaves it as it is
-pub begun-snoc : (es : List Entry) (e : Entry) → begunIn (es ++ (e ∷ [])) ≡ (begunIn es || begins (e .kind))
-begun-snoc es e = any-append (λ (e : Entry). begins (e .kind)) es (e ∷ []) ∙ go (begunIn es) (begins (e .kind))
-  where
-    go : (b c : Bool) → b || (c || false) ≡ (b || c)
-    go true c = refl
-    go false true = refl
-    go false false = refl
+begun-snoc : (es : List Entry) (e : Entry) → begunIn (es ++ (e ∷ [])) ≡ begunIn es || (begins (e .kind) || false)
+begun-snoc es e = any-append (λ (e : Entry). begins (e .kind)) es (e ∷ [])
+
+-- ---- a record that adds nothing of a sort
+
+module _ (es : List Entry) (e : Entry) where
+  pub facts-keep : factsBy (e .kind) (e .bytes) [] ≡ [] → startFactsIn (es ++ (e ∷ [])) ≡ startFactsIn es
+  facts-keep h = facts-snoc es e ∙ rw h (append-nil (startFactsIn es))
+
+  pub steps-keep : closedBy (e .kind) (waitingIn es) [] ≡ [] → stepsIn (es ++ (e ∷ [])) ≡ stepsIn es
+  steps-keep h = steps-snoc es e ∙ rw h (append-nil (stepsIn es))
+
+  pub begun-keep : begins (e .kind) ≡ false → begunIn (es ++ (e ∷ [])) ≡ begunIn es
+  begun-keep h = begun-snoc es e ∙ rw h (go (begunIn es))
+    where
+      go : (b : Bool) → b || false ≡ b
+      go true = refl
+      go false = refl
+
+  -- where the run has begun, or begins with this record
+  pub begun-here : begins (e .kind) ≡ true → begunIn (es ++ (e ∷ [])) ≡ true
+  begun-here h = begun-snoc es e ∙ rw h (or-r (begunIn es) refl)
+
+  pub begun-before : begunIn es ≡ true → begunIn (es ++ (e ∷ [])) ≡ true
+  begun-before h = begun-snoc es e ∙ rw h
 
 -- before the first record of kind 18 to 20 there is no step, and no event waits
 pub nothing-early : (es : List Entry) → begunIn es ≡ false → (stepsIn es ≡ []) × (waitingIn es ≡ [])

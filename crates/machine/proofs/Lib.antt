@@ -3,3 +3,5 @@ pub mod Allowed
 pub mod Loop
 pub mod Entries
 pub mod Runs
+pub mod Stops
+pub mod Traced
