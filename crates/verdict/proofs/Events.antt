@@ -1,16 +1,16 @@
 -- The machine's lists as facts: membership after a step, the conditions, no interference. Assumes nothing.
-use mathlib.Core.Path.{_≡_, refl, sym, ap, _∙_}
-use mathlib.Core.Bool.{Bool, true, false, not, _&&_, _||_}
+use mathlib.Core.Path.{_≡_}
+use mathlib.Core.Bool.{true, not}
 use mathlib.Core.Logic.{_⊎_, inl, inr}
-use mathlib.Core.List.{List, [], _∷_, _++_, map, flatMap, Memᴰ·append-left, Memᴰ·append-right, List·Memᴰ·append-cases}
+use mathlib.Core.List.{List, [], _∷_, _++_, Memᴰ·append-left, Memᴰ·append-right, List·Memᴰ·append-cases}
 use Rattle.records.specs.Lists.{In, all, filterBy, elem, dedup}
 use Rattle.records.proofs.Lists.{and-l, and-r, or-l, or-r, not-true, clash, in-any, all-in, filter-in, elem-in, in-elem, not-elem, dedup-in, flatMap-in, in-flatMap}
 use Rattle.literals.specs.declared.Clause.{Clause}
 use Rattle.literals.specs.declared.Clause.the-variants.{Positive, Negative, Add, Delete}
-use Rattle.literals.specs.Domain.{Atom, Fact, sameFact, Domain}
+use Rattle.literals.specs.Domain.{Fact, sameFact, Domain}
 use Rattle.verdict.specs.Machine.{Event, eventFacts, stepFacts, factsAfter, conditionsHold, interfere, disturbs, independent, meet}
 use Rattle.verdict.proofs.Equality.{fact-eq, fact-self}
-use Rattle.verdict.proofs.Steps.{Facts, Holds, Quiet, Quiets, alone, beside, After}
+use Rattle.verdict.proofs.Steps.{Holds, Quiet, Quiets, alone, beside, After}
 
 -- ---- membership of facts
 
@@ -61,8 +61,8 @@ quiet-of D e d c = record {
   yes = λ f m n. untouched f (Memᴰ·append-left (eventFacts D d Negative) m) (Memᴰ·append-right (eventFacts D e Add) n);
   no = λ f m n. untouched f (Memᴰ·append-right (eventFacts D d Positive) m) (Memᴰ·append-left (eventFacts D e Delete) n);
   stay = λ f m n.
-  clash (or-l (disturbs D d e) (or-r (meet (eventFacts D e Positive ++ eventFacts D e Negative) (eventFacts D d Add ++ eventFacts D d Delete)) (hit f m n)))
-  (not-true _ c);
+      clash (or-l (disturbs D d e) (or-r (meet (eventFacts D e Positive ++ eventFacts D e Negative) (eventFacts D d Add ++ eventFacts D d Delete)) (hit f m n)))
+      (not-true _ c);
 }
   where
     hit : (f : Fact) {fs gs : List Fact} → In f fs → In f gs → meet fs gs ≡ true

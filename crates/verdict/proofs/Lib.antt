@@ -4,3 +4,9 @@ pub mod Steps
 pub mod Events
 pub mod Weight
 pub mod Tuples
+pub mod WellFormed
+pub mod Arguments
+pub mod Acts
+pub mod Open
+pub mod Rows
+pub mod Safety

@@ -1,11 +1,11 @@
 -- Steps of events that do not interfere, and what they do to one instance. Facts are a predicate here, so that no list of facts is taken apart.
 -- The facts of the instance and its journeys under way (j) are together at most one; each event is one of six kinds, and each kind keeps that.
 -- Assumes nothing.
-use mathlib.Core.Path.{_≡_, refl, sym, ap, _∙_}
+use mathlib.Core.Path.{_≡_, refl, sym, _∙_}
 use mathlib.Core.Bool.{Bool, true, false, true≢false}
 use mathlib.Core.Logic.{_⊎_, inl, inr}
 use mathlib.Core.List.{List, [], _∷_, foldr, List·Memᴰ·head, List·Memᴰ·tail, List·Memᴰ·not-nil, Memᴰ·cast}
-use Prim.Native.Nat.{ℕ, zero, suc, _+_, _-_, _≤_}
+use Prim.Native.Nat.{ℕ, _+_, _-_, _≤_}
 use native.Mathlib.Omega.{arith}
 use Rattle.records.specs.Lists.{In}
 use Rattle.literals.specs.declared.Clause.{Clause}

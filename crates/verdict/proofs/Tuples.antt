@@ -1,11 +1,10 @@
 -- Key tuples under a binding: an injective binding keeps different tuples and different literals apart. Assumes nothing.
 use mathlib.Core.Path.{_≡_, refl, sym, ap, ap₂, _∙_}
-use mathlib.Core.Bool.{Bool, true, false, not, _&&_}
+use mathlib.Core.Bool.{Bool, true, false, not}
 use mathlib.Core.Logic.{_⊎_, inl, inr}
 use mathlib.Core.List.{List, [], _∷_, _++_, map, List·Memᴰ·head, List·Memᴰ·tail, List·Memᴰ·not-nil, List·Memᴰ·append-cases, Memᴰ·of-map, Memᴰ·map, Memᴰ·cast, nil≢cons, cons≢nil, head-eq-of-cons-eq, tail-eq-of-cons-eq}
 use Prim.Native.Nat.{ℕ, zero, suc, _<_}
 use native.Mathlib.Nat.{not-suc-le-zero, le-of-suc-le-suc}
-use lib.Dec.{eqb}
 use lib.ListN.{getD, length, length-map}
 use Rattle.records.specs.Lists.{In, all, keepIf, sameList, distinct}
 use Rattle.records.proofs.Lists.{and-l, and-r, in-any, any-in, all-in, in-keepIf, getD-in, not-true, clash, sameList-eq, sameList-self}

@@ -1,6 +1,6 @@
 -- A step holds each fact once. Assumes nothing.
-use mathlib.Core.Path.{_≡_, refl, sym, ap, _∙_}
-use mathlib.Core.Bool.{Bool, true, false, not}
+use mathlib.Core.Path.{_≡_, ap}
+use mathlib.Core.Bool.{true, not}
 use mathlib.Core.List.{List, _++_, Memᴰ·cast}
 use Rattle.records.specs.Lists.{In, filterBy, elem, distinct, dedup}
 use Rattle.records.proofs.Lists.{off, filter-in, pairwise-filter, pairwise-append, distinct-dedup}
