@@ -10,3 +10,6 @@ pub mod Acts
 pub mod Open
 pub mod Rows
 pub mod Safety
+-- What is claimed of the verdict, proved.
+pub mod Decodes
+pub mod Answers

@@ -1,0 +1,267 @@
+-- The domain that a file says is well-formed: each record read keeps it so. Assumes nothing.
+use mathlib.Core.Path.{_≡_, refl, sym, ap, ap₂, _∙_}
+use mathlib.Core.Bool.{Bool, true, false, not, _&&_, cond}
+use mathlib.Core.List.{List, [], _∷_, _++_, map}
+use Prim.Native.Nat.{ℕ, zero, suc, _+_, _-_}
+use native.Mathlib.Omega.{arith}
+use lib.Dec.{eqb, ltb, leb}
+use lib.ListN.{length, drop, length-append, length-drop, length-map, List·getD-append}
+use borrow.Author.Tests.{ltb-true, leb-false, lt-ltb, eqb-true, eq-eqb}
+use Rattle.records.specs.Lists.{all, any, distinct}
+use Rattle.records.proofs.Lists.{and-l, and-r, and-i, not-false, clash, all-of, any-out, eqb-comm, sameList-comm, all-snoc, pairwise-snoc, all-weaken, any-none, all-map}
+use Rattle.literals.specs.declared.Variable.{Variable}
+use Rattle.literals.specs.declared.Time.{Time}
+use Rattle.literals.specs.declared.Time.the-variants.{AtStart}
+use Rattle.literals.specs.declared.Clause.{Clause}
+use Rattle.literals.specs.declared.Clause.the-variants.{Positive, Negative, Add, Delete}
+use Rattle.literals.specs.Domain.{variable, sameVariable, Atom, sameLiteral, clauseNumber, firstRole, sameTime, Literal, Action, Component, Template, keysOf, labelsFit, Domain, arity}
+use Rattle.literals.specs.Decode.{RecordKind, relationRecord, actionRecord, literalRecord, componentRecord, closingRecord, unknownRecord, latest, byte, literalOf, repeats, contrary, together, contradicts, noRole, labelOf, componentOf, headStop, literalStop, labelStop, componentStop, fieldStop, stopOf, withLiteral, actionOf, extend, refuse, refused, domain, Reading, ReadTurn, goOn, finish, readStep, Finished, readFrom, noDomain, fromStart, readFile, decode, maxFile}
+use Rattle.literals.proofs.Loop.{read-more, read-done, goOn-at, finish-sofar}
+use Rattle.verdict.specs.Claims.{hasArity, wellFormedAction, wellFormedTemplate, wellFormed, DecodedIsWellFormed}
+
+-- ---- the tests of a literal and of a component
+
+-- a literal of an action with n variables
+abbrev literalFits : Domain → ℕ → Literal → Bool
+literalFits D n l = hasArity D (l .atom .rel) (l .atom .args) && all (λ (v : Variable). ltb (v .0) n) (l .atom .args)
+
+-- the earlier literal first
+abbrev agree : Literal → Literal → Bool
+agree l m = not (repeats l m) && not (contradicts l m)
+
+-- a component of a template with n keys
+abbrev componentFits : Domain → ℕ → Component → Bool
+componentFits D n c = hasArity D (c .rel) (c .labels) && labelsFit n (c .labels)
+
+abbrev sameRelation : Component → Component → Bool
+sameRelation c d = eqb (c .rel) (d .rel)
+
+-- ---- the rows that did not stop a record
+
+literal-rows : (a b c d e f g : Bool) → _≡_ {A = ℕ} (cond a 12 (cond b 16 (cond c 17 (cond d 12 (cond e 18 (cond f 19 (cond g 20 0))))))) 0
+    → (c ≡ false) × (d ≡ false) × (e ≡ false) × (f ≡ false) × (g ≡ false)
+literal-rows true b c d e f g z = absurd (omega arith)
+literal-rows false true c d e f g z = absurd (omega arith)
+literal-rows false false true d e f g z = absurd (omega arith)
+literal-rows false false false true e f g z = absurd (omega arith)
+literal-rows false false false false true f g z = absurd (omega arith)
+literal-rows false false false false false true g z = absurd (omega arith)
+literal-rows false false false false false false true z = absurd (omega arith)
+literal-rows false false false false false false false z = (refl, refl, refl, refl, refl)
+
+component-rows : (a b c d e : Bool) → _≡_ {A = ℕ} (cond a 12 (cond b 17 (cond c 12 (cond d 22 (cond e 0 21))))) 0
+    → (b ≡ false) × (c ≡ false) × (d ≡ false) × (e ≡ true)
+component-rows true b c d e z = absurd (omega arith)
+component-rows false true c d e z = absurd (omega arith)
+component-rows false false true d e z = absurd (omega arith)
+component-rows false false false true e z = absurd (omega arith)
+component-rows false false false false false z = absurd (omega arith)
+component-rows false false false false true z = (refl, refl, refl, refl)
+
+-- a record that nothing stops has fields that nothing stops
+field-of : (h f : ℕ) → cond (eqb h 0) f h ≡ 0 → f ≡ 0
+field-of h f e = go (eqb h 0) refl e
+  where
+    go : (b : Bool) → eqb h 0 ≡ b → cond b f h ≡ 0 → f ≡ 0
+    go true q e = e
+    go false q e = absurd (clash (eq-eqb h 0 e) q)
+
+-- ---- the tests of two literals do not mind which comes first
+
+sameLiteral-comm : (p q : Atom Variable) → sameLiteral p q ≡ sameLiteral q p
+sameLiteral-comm p q = ap₂ _&&_ (eqb-comm (p .rel) (q .rel)) (sameList-comm sameVariable (λ v w. eqb-comm (v .0) (w .0)) (p .args) (q .args))
+
+repeats-comm : (l m : Literal) → repeats l m ≡ repeats m l
+repeats-comm l m =
+    ap₂ _&&_ (ap₂ _&&_ (eqb-comm (firstRole (l .role .time)) (firstRole (m .role .time))) (eqb-comm (clauseNumber (l .role .clause)) (clauseNumber (m .role .clause))))
+    (sameLiteral-comm (l .atom) (m .atom))
+
+contrary-comm : (c d : Clause) → contrary c d ≡ contrary d c
+contrary-comm Positive Positive = refl
+contrary-comm Positive Negative = refl
+contrary-comm Positive Add = refl
+contrary-comm Positive Delete = refl
+contrary-comm Negative Positive = refl
+contrary-comm Negative Negative = refl
+contrary-comm Negative Add = refl
+contrary-comm Negative Delete = refl
+contrary-comm Add Positive = refl
+contrary-comm Add Negative = refl
+contrary-comm Add Add = refl
+contrary-comm Add Delete = refl
+contrary-comm Delete Positive = refl
+contrary-comm Delete Negative = refl
+contrary-comm Delete Add = refl
+contrary-comm Delete Delete = refl
+
+together-comm : (t u : Time) → together t u ≡ together u t
+together-comm t u = go (sameTime t AtStart) (sameTime u AtStart)
+  where
+    go : (a b : Bool) → cond a b (not b) ≡ cond b a (not a)
+    go true true = refl
+    go true false = refl
+    go false true = refl
+    go false false = refl
+
+contradicts-comm : (l m : Literal) → contradicts l m ≡ contradicts m l
+contradicts-comm l m =
+    ap₂ _&&_ (ap₂ _&&_ (contrary-comm (l .role .clause) (m .role .clause)) (together-comm (l .role .time) (m .role .time))) (sameLiteral-comm (l .atom) (m .atom))
+
+-- ---- a relation with its arity
+
+-- of a record with n bytes, k of them before the arguments, that the rows 17 and 12 did not stop
+has-arity : {A : Type 0} (D : Domain) (r n k : ℕ) (vs : List A) → leb (length (D .arities)) r ≡ false → not (eqb n (k + arity D r)) ≡ false → length vs ≡ n - k
+    → hasArity D r vs ≡ true
+has-arity D r n k vs e d q =
+    let w : n ≡ k + arity D r = eqb-true n (k + arity D r) (not-false _ d) in
+    and-i (lt-ltb r (length (D .arities)) (leb-false (length (D .arities)) r e)) (eq-eqb (length vs) (arity D r) (omega arith))
+
+-- one relation more leaves the arities of those before it
+arity-more : {A : Type 0} (D : Domain) (p : List ℕ) (r : ℕ) (vs : List A) → hasArity D r vs ≡ true → hasArity (extend D relationRecord p) r vs ≡ true
+unfolding extend
+arity-more D p r vs t =
+    let h = ltb-true r (length (D .arities)) (and-l _ _ t) in
+    let q = length-append (D .arities) (byte p 0 ∷ []) in
+    and-i (lt-ltb r (length (D .arities ++ (byte p 0 ∷ []))) (omega arith)) (rw (List·getD-append (D .arities) (byte p 0 ∷ []) 0 r h) (and-r (ltb r (length (D .arities))) _ t))
+
+-- ---- kind 1: one relation more
+
+module _ (D : Domain) (p : List ℕ) where
+  relation-action : (a : Action) → wellFormedAction D a ≡ true → wellFormedAction (extend D relationRecord p) a ≡ true
+  unfolding wellFormedAction
+  relation-action a t =
+      and-i (all-weaken (literalFits D (a .vars)) (literalFits (extend D relationRecord p) (a .vars)) (a .lits) fits (and-l _ _ t)) (and-r (all (literalFits D (a .vars)) (a .lits)) _ t)
+    where
+      fits : (l : Literal) → literalFits D (a .vars) l ≡ true → literalFits (extend D relationRecord p) (a .vars) l ≡ true
+      fits l h = and-i (arity-more D p (l .atom .rel) (l .atom .args) (and-l _ _ h)) (and-r (hasArity D (l .atom .rel) (l .atom .args)) _ h)
+
+  relation-template : wellFormedTemplate D ≡ true → wellFormedTemplate (extend D relationRecord p) ≡ true
+  unfolding wellFormedTemplate extend
+  relation-template t =
+      and-i {a = distinct sameRelation (D .template)} (and-l _ _ t)
+      (all-weaken (componentFits D n) (componentFits (extend D relationRecord p) n) (D .template) fits (and-r (distinct sameRelation (D .template)) _ t))
+    where
+      n : ℕ
+      n = keysOf (D .template)
+
+      fits : (c : Component) → componentFits D n c ≡ true → componentFits (extend D relationRecord p) n c ≡ true
+      fits c h = and-i (arity-more D p (c .rel) (c .labels) (and-l _ _ h)) (and-r (hasArity D (c .rel) (c .labels)) _ h)
+
+  relation-keeps : wellFormed D ≡ true → wellFormed (extend D relationRecord p) ≡ true
+  unfolding wellFormed extend
+  relation-keeps h =
+      and-i (all-weaken (wellFormedAction D) (wellFormedAction (extend D relationRecord p)) (D .actions) relation-action (and-l _ _ h))
+      (relation-template (and-r (all (wellFormedAction D) (D .actions)) _ h))
+
+-- ---- kind 2: one action more, as yet without literals
+
+action-keeps : (D : Domain) (p : List ℕ) → wellFormed D ≡ true → wellFormed (extend D actionRecord p) ≡ true
+unfolding wellFormed wellFormedAction wellFormedTemplate extend
+action-keeps D p h = and-i (all-snoc (wellFormedAction D) (D .actions) (actionOf p) (and-l _ _ h) refl) (and-r (all (wellFormedAction D) (D .actions)) _ h)
+
+-- ---- kind 3: one literal more
+
+abbrev oneMore : Literal → Action → Action
+oneMore l a = record { vars = a .vars; lasting = a .lasting; lits = a .lits ++ (l ∷ []) }
+
+all-withLiteral : (t : Action → Bool) (l : Literal) (xs : List Action) → (t (latest xs) ≡ true → t (oneMore l (latest xs)) ≡ true) → all t xs ≡ true → all t (withLiteral l xs) ≡ true
+all-withLiteral t l [] k h = refl
+all-withLiteral t l (a ∷ []) k h = and-i (k (and-l _ _ h)) refl
+all-withLiteral t l (a ∷ b ∷ bs) k h = and-i {a = t a} (and-l _ (all t (b ∷ bs)) h) (all-withLiteral t l (b ∷ bs) k (and-r (t a) _ h))
+
+literal-agrees : (l : Literal) (ms : List Literal) → any (repeats l) ms ≡ false → any (contradicts l) ms ≡ false → all (λ m. agree m l) ms ≡ true
+literal-agrees l ms f g =
+    all-of (λ m. agree m l) ms
+    (λ m i. and-i (ap not (repeats-comm m l ∙ any-out (repeats l) f i)) (ap not (contradicts-comm m l ∙ any-out (contradicts l) g i)))
+
+literal-keeps : (D : Domain) (p : List ℕ) → wellFormed D ≡ true → literalStop D p ≡ 0 → wellFormed (extend D literalRecord p) ≡ true
+unfolding wellFormed wellFormedAction wellFormedTemplate literalStop extend
+literal-keeps D p h e = and-i (all-withLiteral (wellFormedAction D) (literalOf p) (D .actions) keeps (and-l _ _ h)) (and-r (all (wellFormedAction D) (D .actions)) _ h)
+  where
+    a : Action
+    a = latest (D .actions)
+
+    keeps : wellFormedAction D a ≡ true → wellFormedAction D (oneMore (literalOf p) a) ≡ true
+    keeps t =
+        let rows =
+        literal-rows (ltb (length p) 2) (noRole a (byte p 0)) (leb (length (D .arities)) (byte p 1)) (not (eqb (length p) (2 + arity D (byte p 1)))) (any (leb (a .vars)) (drop 2 p))
+        (any (repeats (literalOf p)) (a .lits)) (any (contradicts (literalOf p)) (a .lits)) e in
+        let new =
+        and-i (has-arity D (byte p 1) (length p) 2 (map variable (drop 2 p)) (rows .0) (rows .1) (length-map (drop 2 p) variable ∙ length-drop 2 p))
+        (all-map variable (λ (v : Variable). ltb (v .0) (a .vars)) (drop 2 p)
+        ∙ any-none (leb (a .vars)) (λ n. ltb n (a .vars)) (drop 2 p) (λ n k. lt-ltb n (a .vars) (leb-false (a .vars) n k)) (rows .2)) in
+        and-i (all-snoc (literalFits D (a .vars)) (a .lits) (literalOf p) (and-l _ _ t) new)
+        (pairwise-snoc agree (a .lits) (literalOf p) (and-r (all (literalFits D (a .vars)) (a .lits)) _ t) (literal-agrees (literalOf p) (a .lits) (rows .3) (rows .4)))
+
+-- ---- kind 4: one component more
+
+-- the first component alone says how many keys there are
+keys-kept : (D : Domain) (cs : Template) (c : Component) → all (componentFits D (keysOf cs)) cs ≡ true → all (componentFits D (keysOf (cs ++ (c ∷ [])))) cs ≡ true
+keys-kept D [] c h = refl
+keys-kept D (d ∷ ds) c h = h
+
+component-keeps : (D : Domain) (p : List ℕ) → wellFormed D ≡ true → componentStop D p ≡ 0 → wellFormed (extend D componentRecord p) ≡ true
+unfolding wellFormed wellFormedAction wellFormedTemplate componentStop labelStop extend
+component-keeps D p h e =
+    and-i {a = all (wellFormedAction D) (D .actions)} (and-l _ _ h)
+    (and-i (pairwise-snoc (λ d x. not (sameRelation d x)) (D .template) c (and-l _ _ t) other)
+    (all-snoc (componentFits D n) (D .template) c (keys-kept D (D .template) c (and-r (distinct sameRelation (D .template)) _ t)) new))
+  where
+    c : Component
+    c = componentOf p
+
+    n : ℕ
+    n = keysOf (D .template ++ (c ∷ []))
+
+    t : wellFormedTemplate D ≡ true
+    t = and-r (all (wellFormedAction D) (D .actions)) _ h
+
+    rows : (leb (length (D .arities)) (byte p 0) ≡ false) × (not (eqb (length p) (1 + arity D (byte p 0))) ≡ false) × (any (sameRelation c) (D .template) ≡ false) × (labelsFit n (c .labels) ≡ true)
+    rows =
+        component-rows (ltb (length p) 1) (leb (length (D .arities)) (byte p 0)) (not (eqb (length p) (1 + arity D (byte p 0)))) (any (sameRelation c) (D .template)) (labelsFit n (c .labels)) e
+
+    other : all (λ d. not (sameRelation d c)) (D .template) ≡ true
+    other = any-none (sameRelation c) (λ d. not (sameRelation d c)) (D .template) (λ d k. ap not (eqb-comm (d .rel) (c .rel) ∙ k)) (rows .2)
+
+    new : componentFits D n c ≡ true
+    new = and-i (has-arity D (byte p 0) (length p) 1 (c .labels) (rows .0) (rows .1) (length-map (drop 1 p) labelOf ∙ length-drop 1 p)) (rows .3)
+
+-- ---- the file
+
+record-keeps : (D : Domain) (k : RecordKind) (p : List ℕ) → wellFormed D ≡ true → stopOf D k p ≡ 0 → wellFormed (extend D k p) ≡ true
+unfolding stopOf fieldStop extend
+record-keeps D relationRecord p h e = relation-keeps D p h
+record-keeps D actionRecord p h e = action-keeps D p h
+record-keeps D literalRecord p h e = literal-keeps D p h (field-of (headStop D literalRecord) (literalStop D p) e)
+record-keeps D componentRecord p h e = component-keeps D p h (field-of (headStop D componentRecord) (componentStop D p) e)
+record-keeps D closingRecord p h e = h
+record-keeps D unknownRecord p h e = h
+
+step-keeps : (s : List ℕ) (r q : Reading) → wellFormed (r .sofar) ≡ true → readStep s r ≡ goOn q → wellFormed (q .sofar) ≡ true
+step-keeps s r q h e = let g = goOn-at s r q e in rw (← (g .extends)) (record-keeps (r .sofar) (g .kind) (g .bytes) h (g .passes))
+
+from-keeps : (fuel : ℕ) (s : List ℕ) (r : Reading) (D : Domain) → wellFormed (r .sofar) ≡ true → readFrom fuel s r .result ≡ domain D → wellFormed D ≡ true
+unfolding readFrom
+from-keeps zero s r D h e = let z : _≡_ {A = ℕ} 0 1 = cc in absurd (omega arith)
+from-keeps (suc fuel) s r D h e = go (λ q. from-keeps fuel s q D) (readStep s r) refl
+  where
+    go : ((q : Reading) → wellFormed (q .sofar) ≡ true → readFrom fuel s q .result ≡ domain D → wellFormed D ≡ true)
+        → (t : ReadTurn) → readStep s r ≡ t → wellFormed D ≡ true
+    go ih (goOn q) t = ih q (step-keeps s r q h t) (ap (λ (x : Finished). x .result) (sym (read-more fuel s r q t)) ∙ e)
+    go ih (finish d) t =
+        let f : d ≡ domain D = ap (λ (x : Finished). x .result) (sym (read-done fuel s r d t)) ∙ e in
+        rw (← (finish-sofar s r D (t ∙ ap finish f))) h
+
+no-domain-fits : wellFormed noDomain ≡ true
+unfolding wellFormed wellFormedTemplate
+no-domain-fits = refl
+
+pub decoded-well-formed : DecodedIsWellFormed
+unfolding decode readFile
+decoded-well-formed f D e = go (ltb maxFile (length f)) e
+  where
+    go : (b : Bool)
+        → (elim b as (λ _. Finished) [ true ↦ record { result = refused (refuse 9 0); read = noDomain } | false ↦ readFrom (suc (length f)) f fromStart ]) .result ≡ domain D
+        → wellFormed D ≡ true
+    go true z = let y : _≡_ {A = ℕ} 0 1 = cc in absurd (omega arith)
+    go false z = from-keeps (suc (length f)) f fromStart D no-domain-fits z
