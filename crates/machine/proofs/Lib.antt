@@ -5,3 +5,5 @@ pub mod Entries
 pub mod Runs
 pub mod Stops
 pub mod Traced
+pub mod Weights
+pub mod Never
