@@ -1,8 +1,6 @@
 -- What the player tests at a step's close is what the machine allows. Assumes nothing.
 use mathlib.Core.Path.{_≡_, refl}
 use mathlib.Core.Bool.{Bool, true, false, _&&_, not, cond}
-use mathlib.Core.List.{List}
-use Prim.Native.Nat.{ℕ}
 use lib.Dec.{eqb}
 use Rattle.records.specs.Lists.{all}
 use Rattle.verdict.specs.Machine.{isOpen, conditionsHold, overAllHold, independent, allowed}

@@ -1,5 +1,5 @@
 -- Laws of the reader of the run file: the records before an offset, and what one more record adds. Assumes nothing.
-use mathlib.Core.Path.{_≡_, refl, sym, ap, _∙_}
+use mathlib.Core.Path.{_≡_, refl, ap, _∙_}
 use mathlib.Core.Bool.{Bool, true, false, _||_, true≢false}
 use mathlib.Core.Logic.{_⊎_, inl, inr}
 use mathlib.Core.List.{List, [], _∷_, _++_, append-nil, List·Memᴰ·head, List·Memᴰ·tail, List·Memᴰ·not-nil}
@@ -101,8 +101,10 @@ module _ (r : List ℕ) where
     before-chain =
         rw split
         (filter-append before es (entriesFrom (suc left) r at)
-        ∙ rw (filter-all before es (all-of before es (λ e m. lt-ltb (e .at) at (chain-before c e m))),
-            filter-none before (entriesFrom (suc left) r at) (λ e m. le-ltb (e .at) at (read-place (suc left) at e m .0)))
+        ∙ rw (
+          filter-all before es (all-of before es (λ e m. lt-ltb (e .at) at (chain-before c e m))),
+          filter-none before (entriesFrom (suc left) r at) (λ e m. le-ltb (e .at) at (read-place (suc left) at e m .0)),
+        )
         (append-nil es))
       where
         before : Entry → Bool
@@ -119,8 +121,11 @@ module _ (r : List ℕ) where
     up-to-whole {k} {start} {len} w =
         rw (split, read-whole left at w)
         (filter-append upTo es (entryAt r at k start len ∷ entriesFrom left r (start + len))
-        ∙ rw (kept, le-leb at at (omega arith),
-            filter-none upTo (entriesFrom left r (start + len)) (λ e m. let h = read-place left (start + len) e m in let g = whole-within r at w in lt-leb (e .at) at (omega arith))))
+        ∙ rw (
+          kept,
+          le-leb at at (omega arith),
+          filter-none upTo (entriesFrom left r (start + len)) (λ e m. let h = read-place left (start + len) e m in let g = whole-within r at w in lt-leb (e .at) at (omega arith)),
+        ))
 
     pub up-to-none : NotWhole at → entriesUpTo r at ≡ es
     unfolding entriesUpTo

@@ -1,5 +1,5 @@
 -- Playing goes record by record, each at least 4 bytes further on, so the fuel is never used up. Assumes nothing.
-use mathlib.Core.Path.{_≡_, refl, sym, ap, _∙_}
+use mathlib.Core.Path.{_≡_, refl, sym, _∙_}
 use mathlib.Core.Bool.{Bool, true, false, _&&_, cond}
 use mathlib.Core.List.{List, []}
 use Prim.Native.Nat.{ℕ, zero, suc, _+_, _≤_, _<_}
@@ -15,7 +15,7 @@ use Rattle.literals.specs.Domain.{Domain}
 use Rattle.literals.specs.Decode.{byte}
 use Rattle.verdict.specs.Machine.{State, next, topWeight}
 use Rattle.machine.specs.RunFile.{RunKind, objectsRecord, factRecord, eventRecord, stepRecord, endRecord, otherRecord, runKindOf, factOf, eventOf}
-use Rattle.machine.specs.Play.{Playing, beforeRun, onward, Outcome, PlayTurn, goOn, finish, outcomeAt, stopAt, begin, objectsStop, withObjects, factStop, withFact, eventStop, withEvent, forbidden, tooLarge, tallied, accepted, afterStep, closeStep, stepStop, endStop, withClose, unless, playRecord, playFound, playStep, playFrom}
+use Rattle.machine.specs.Play.{Playing, beforeRun, onward, Outcome, PlayTurn, goOn, finish, outcomeAt, stopAt, begin, objectsStop, withObjects, factStop, withFact, eventStop, withEvent, forbidden, tooLarge, tallied, accepted, afterStep, closeStep, stepStop, endStop, withClose, playRecord, playFound, playStep, playFrom}
 
 -- ---- one turn of the loop
 

@@ -1,11 +1,11 @@
 -- 59 never comes, so that every run is played exactly as the machine plays it: demand 3 for the player. Assumes nothing.
-use mathlib.Core.Path.{_≡_, refl, sym, ap, _∙_}
+use mathlib.Core.Path.{_≡_, refl, _∙_}
 use mathlib.Core.Bool.{Bool, true, false, _&&_, cond}
-use mathlib.Core.Logic.{_⊎_, inl, inr}
-use mathlib.Core.List.{List, [], _∷_, _++_, map, List·Memᴰ·head, List·Memᴰ·tail, Memᴰ·append-left, Memᴰ·append-right}
-use Prim.Native.Nat.{ℕ, zero, suc, _+_, _≤_, _<_, max}
+use mathlib.Core.Logic.{inl, inr}
+use mathlib.Core.List.{List, _++_, Memᴰ·append-left}
+use Prim.Native.Nat.{ℕ, zero, suc, _≤_}
 use native.Mathlib.Omega.{arith}
-use lib.Dec.{eqb, ltb, leb}
+use lib.Dec.{ltb}
 use lib.ListN.{length}
 use borrow.Author.Tests.{eq-eqb, leb-true}
 use Rattle.records.specs.Lists.{In, all, elem}
@@ -17,14 +17,14 @@ use Rattle.literals.proofs.Refusals.{refusal-number}
 use Rattle.verdict.specs.Binding.{objectsFrom}
 use Rattle.verdict.specs.Decision.{decision}
 use Rattle.verdict.specs.Judged.{decided, decidedFile}
-use Rattle.verdict.specs.Machine.{Event, State, legal, legalStep, injective, startState, instancesIn, run, largest, topWeight}
+use Rattle.verdict.specs.Machine.{Event, State, legal, legalStep, injective, startState, instancesIn, run, topWeight}
 use Rattle.verdict.specs.Claims.{among, isEvent, hasArity, isFact, wellFormed, Chosen, Accepted}
 use Rattle.verdict.proofs.Equality.{object-self}
 use Rattle.verdict.proofs.Decodes.{decoded-well-formed}
 use Rattle.verdict.proofs.Safety.{decided-number, safety}
 use Rattle.machine.specs.RunFile.{entriesBefore, entriesUpTo, startFactsIn, stepsIn, begunIn}
-use Rattle.machine.specs.Play.{workBytes, accepted, playRun, Played, Returned, ofRun, Call, playedAt, outcomeCall, callBy, call, played}
-use Rattle.machine.specs.Claims.{startOf, statesOf, peakOf, AsMachine, PlayedAsMachine, NoAlarm, WeightStaysLow}
+use Rattle.machine.specs.Play.{workBytes, accepted, playRun, Played, ofRun, Call, playedAt, outcomeCall, callBy, call, played}
+use Rattle.machine.specs.Claims.{statesOf, peakOf, AsMachine, PlayedAsMachine, NoAlarm, WeightStaysLow}
 use Rattle.machine.proofs.Traced.{Alarm, Ended, ended}
 use Rattle.machine.proofs.Weights.{largest-below, below-top, top-below, instance-size}
 

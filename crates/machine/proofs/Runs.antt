@@ -1,11 +1,10 @@
 -- A run with one step more, and start facts with one more. Assumes nothing.
-use mathlib.Core.Path.{_≡_, refl, sym, ap, _∙_}
+use mathlib.Core.Path.{_≡_, refl, ap}
 use mathlib.Core.Bool.{Bool, true, false, cond}
 use mathlib.Core.List.{List, [], _∷_, _++_, map}
-use Prim.Native.Nat.{ℕ, zero, suc, _+_, max}
+use Prim.Native.Nat.{ℕ, suc, max}
 use native.Mathlib.Omega.{arith}
 use lib.ListN.{length, length-append}
-use Rattle.records.specs.Lists.{dedup}
 use Rattle.records.proofs.Lists.{dedup-snoc}
 use Rattle.literals.specs.Domain.{Fact, sameFact, Domain}
 use Rattle.verdict.specs.Machine.{Event, State, allowed, next, startState, run, lastState, largest, topWeight}

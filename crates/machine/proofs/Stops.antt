@@ -1,22 +1,22 @@
 -- The tests of each record: the numbers that stop it, and what holds where none does. Assumes nothing.
-use mathlib.Core.Path.{_≡_, refl, sym, ap, _∙_}
-use mathlib.Core.Bool.{Bool, true, false, not, _&&_, _||_, cond, true≢false}
+use mathlib.Core.Path.{_≡_, refl, ap, _∙_}
+use mathlib.Core.Bool.{Bool, true, false, not, _&&_, _||_, cond}
 use mathlib.Core.Logic.{_⊎_, inl, inr}
-use mathlib.Core.List.{List, [], _∷_, _++_, map, List·Memᴰ·eq-of-singleton}
+use mathlib.Core.List.{List, [], _∷_, _++_, map}
 use Prim.Native.Nat.{ℕ, zero, suc, _+_, _≤_, _<_}
 use native.Mathlib.Omega.{arith}
 use lib.Dec.{eqb, ltb, leb}
 use lib.ListN.{length, drop, length-map, length-drop}
-use borrow.Author.Tests.{eqb-true, eqb-false, eq-eqb, ne-eqb, lt-ltb, leb-false}
-use Rattle.records.specs.Lists.{In, any, all, empty, elem, distinct}
-use Rattle.records.proofs.Lists.{and-l, and-r, and-i, or-l, or-r, not-false, bool-cases, off, clash, eqb-same, any-out, all-append, pairwise-append}
-use Rattle.literals.specs.Domain.{object, sameObject, Fact, sameFact, Action, Domain, arity, action}
+use borrow.Author.Tests.{eqb-true, eqb-false, eq-eqb, lt-ltb, leb-false}
+use Rattle.records.specs.Lists.{any, all, empty, elem}
+use Rattle.records.proofs.Lists.{and-l, and-r, and-i, or-l, or-r, not-false, bool-cases, off, clash, eqb-same, all-snoc, pairwise-snoc, any-none, all-map}
+use Rattle.literals.specs.Domain.{object, sameObject, sameFact, Action, Domain, arity, action}
 use Rattle.literals.specs.Decode.{byte}
 use Rattle.classes.specs.declared.Moment.{Moment}
 use Rattle.classes.specs.declared.Moment.the-variants.{Start, End}
 use Rattle.verdict.specs.Binding.{objectsFrom}
-use Rattle.verdict.specs.Machine.{GroundAction, Event, State, sameGround, sameMoment, sameEvent, hasMoment, legal, legalStep, injective, isOpen, conditionsHold, overAllHold, independent}
-use Rattle.verdict.specs.Claims.{among, isEvent, hasArity, isFact}
+use Rattle.verdict.specs.Machine.{Event, State, sameMoment, sameEvent, hasMoment, legal, legalStep, injective, isOpen, conditionsHold, overAllHold, independent}
+use Rattle.verdict.specs.Claims.{among, isEvent, isFact}
 use Rattle.verdict.proofs.Equality.{objects-self, ground-eq}
 use Rattle.machine.specs.RunFile.{factOf, momentOf, eventOf}
 use Rattle.machine.specs.Play.{maxObjects, maxFacts, maxEvents, Playing, outside, objectsStop, factStop, eventStop, forbidden, stepStop, endStop}
@@ -50,13 +50,9 @@ objects-elem k (suc n) x h l = go (bool-cases (eqb x k)) (λ g. objects-elem (su
 
 -- where no number is outside, all are among the run's objects
 among-of : (n : ℕ) (os : List ℕ) → any (leb n) os ≡ false → among (objectsFrom 0 n) (map object os) ≡ true
-among-of n [] h = refl
-among-of n (o ∷ os) h = go (leb n o) refl h (λ k. among-of n os k)
-  where
-    go : (b : Bool) → leb n o ≡ b → b || any (leb n) os ≡ false → (any (leb n) os ≡ false → among (objectsFrom 0 n) (map object os) ≡ true)
-        → elem sameObject (object o) (objectsFrom 0 n) && among (objectsFrom 0 n) (map object os) ≡ true
-    go true e h ih = absurd (true≢false h)
-    go false e h ih = let l = leb-false n o e in and-i (objects-elem 0 n o (omega arith) (omega arith)) (ih h)
+among-of n os h =
+    all-map object (λ o. elem sameObject o (objectsFrom 0 n)) os
+    ∙ any-none (leb n) (λ o. elem sameObject (object o) (objectsFrom 0 n)) os (λ o e. let l = leb-false n o e in objects-elem 0 n o (omega arith) (omega arith)) h
 
 -- ---- kind 16
 
@@ -96,13 +92,14 @@ fact-tested D p b =
     go false false false false true false false e1 e2 e3 e4 e5 =
         let l = eqb-true (length b) (1 + arity D (byte b 0)) e4 in
         let n : length (map object (drop 1 b)) ≡ arity D (byte b 0) = simp (length-map, length-drop) (omega arith) in
-        inl
-        (refl,
+        inl (
+          refl,
           record {
             objects = eqb-false (p .objects) 0 e1;
             early = e2;
             fact = and-i (and-i (lt-ltb (byte b 0) (length (D .arities)) (leb-false (length (D .arities)) (byte b 0) e3)) (eq-eqb (length (map object (drop 1 b))) (arity D (byte b 0)) n)) (among-of (p .objects) (drop 1 b) e5);
-          })
+          },
+        )
 
 -- ---- kind 18
 
@@ -202,6 +199,6 @@ no-events D = refl
 pub legal-snoc : (D : Domain) (es : List Event) (e : Event) → legalStep D es ≡ true → legal D e ≡ true → elem sameEvent e es ≡ false → legalStep D (es ++ (e ∷ [])) ≡ true
 unfolding legalStep
 legal-snoc D es e t l n =
-    and-i (all-append (legal D) es (e ∷ []) (and-l _ _ t) (and-i l refl))
-    (pairwise-append (λ x y. not (sameEvent x y)) es (e ∷ []) (and-r (all (legal D) es) _ t) refl
-    (λ x y m k. ap not (off (sameEvent x y) (λ q. clash (rw (List·Memᴰ·eq-of-singleton k) at (event-flip x y q)) (any-out (sameEvent e) n m)))))
+    and-i (all-snoc (legal D) es e (and-l _ _ t) l)
+    (pairwise-snoc (λ x y. not (sameEvent x y)) es e (and-r (all (legal D) es) _ t)
+    (any-none (sameEvent e) (λ x. not (sameEvent x e)) es (λ x f. ap not (off (sameEvent x e) (λ q. clash (event-flip x e q) f))) n))

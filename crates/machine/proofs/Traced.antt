@@ -1,32 +1,32 @@
 -- Every outcome of playing is the machine's, or it raises the alarm 59 and then shows a run that breaks demand 3. Assumes nothing.
 use mathlib.Core.Path.{_≡_, refl, sym, ap, _∙_}
-use mathlib.Core.Bool.{Bool, true, false, not, _&&_, cond, true≢false, false≢true}
+use mathlib.Core.Bool.{Bool, true, false, _&&_, cond, false≢true}
 use mathlib.Core.Logic.{_⊎_, inl, inr}
-use mathlib.Core.List.{List, [], _∷_, _++_, map, append-nil, List·Memᴰ·head, Memᴰ·append-right}
-use Prim.Native.Nat.{ℕ, zero, suc, _+_, _≤_, _<_, max}
+use mathlib.Core.List.{List, [], _∷_, _++_, List·Memᴰ·head, Memᴰ·append-right}
+use Prim.Native.Nat.{ℕ, zero, suc, _+_, _≤_, _<_}
 use native.Mathlib.Omega.{arith}
 use lib.Dec.{eqb, ltb, leb}
 use lib.ListN.{length, length-append}
-use borrow.Author.Tests.{eqb-true, eq-eqb, ne-eqb, ltb-true, ltb-false, leb-true}
+use borrow.Author.Tests.{eq-eqb, ne-eqb, ltb-true, ltb-false, leb-true}
 use Rattle.records.specs.Lists.{In, all}
 use Rattle.records.specs.declared.Record.{Record}
 use Rattle.records.specs.declared.Record.the-variants.{Whole, Cut, End}
 use Rattle.records.specs.Record.{recordAt, payload}
 use Rattle.records.proofs.Laws.{cases}
-use Rattle.records.proofs.Lists.{and-l, and-r, and-i, bool-cases, clash, all-append}
+use Rattle.records.proofs.Lists.{and-l, and-r, clash, all-snoc}
 use Rattle.literals.specs.Domain.{Fact, Domain}
 use Rattle.literals.specs.Decode.{byte}
 use Rattle.verdict.specs.Binding.{objectsFrom}
 use Rattle.verdict.specs.Machine.{Event, State, legalStep, allowed, next, startState, run, topWeight}
 use Rattle.verdict.specs.Claims.{isEvent, isFact}
-use Rattle.machine.specs.RunFile.{RunKind, objectsRecord, factRecord, eventRecord, stepRecord, endRecord, otherRecord, runKindOf, factOf, eventOf, Entry, entries, entriesBefore, entriesUpTo, startFactsIn, stepsIn, waitingIn, begins, begunIn}
+use Rattle.machine.specs.RunFile.{RunKind, objectsRecord, factRecord, eventRecord, stepRecord, endRecord, otherRecord, runKindOf, factOf, eventOf, Entry, entries, entriesUpTo, startFactsIn, stepsIn, waitingIn, begunIn}
 use Rattle.machine.specs.Play.{Tally, Playing, beforeRun, onward, Outcome, PlayTurn, goOn, finish, outcomeAt, stopAt, startTally, begin, objectsStop, withObjects, factStop, joined, withFact, eventStop, withEvent, forbidden, tooLarge, tallied, accepted, afterStep, closeStep, stepStop, endStop, withClose, unless, playRecord, playFound, playStep, playFrom, playRun}
 use Rattle.machine.specs.Claims.{finalOf, AsMachine}
 use Rattle.machine.proofs.Allowed.{allowed-not-forbidden}
 use Rattle.machine.proofs.Loop.{play-more, play-done, play-at}
-use Rattle.machine.proofs.Entries.{entryAt, Chain, here, snoc, chain-within, NotWhole, before-chain, up-to-whole, up-to-none, all-read, facts-snoc, waiting-snoc, steps-snoc, facts-keep, steps-keep, begun-keep, begun-here, begun-before, nothing-early}
+use Rattle.machine.proofs.Entries.{entryAt, Chain, here, snoc, chain-within, before-chain, up-to-whole, up-to-none, all-read, facts-snoc, waiting-snoc, steps-snoc, facts-keep, steps-keep, begun-keep, begun-here, begun-before, nothing-early}
 use Rattle.machine.proofs.Runs.{final, Taken, peak, no-steps, run-snoc, taken-snoc, final-snoc, peak-snoc, start-snoc}
-use Rattle.machine.proofs.Stops.{Row, Tested, objects-tested, FactPasses, fact-tested, EventPasses, event-tested, step-tested, end-tested, forbidden-by, no-events, legal-snoc}
+use Rattle.machine.proofs.Stops.{Row, Tested, objects-tested, fact-tested, event-tested, step-tested, end-tested, forbidden-by, no-events, legal-snoc}
 
 -- ---- what holds of the machine, of start facts, steps taken and events that wait
 
@@ -72,7 +72,7 @@ module _ (D : Domain) {n : ℕ} {s : State} {fs : List Fact} {ess : List (List E
         steps-legal = h .steps-legal;
         events-legal = h .events-legal;
         waiting-legal = l;
-        waiting-events = all-append (isEvent D (objectsFrom 0 n)) ws (e ∷ []) (h .waiting-events) (and-i i refl);
+        waiting-events = all-snoc (isEvent D (objectsFrom 0 n)) ws e (h .waiting-events) i;
         none-yet = λ q. absurd (z q);
         taken = h .taken;
         state = h .state;
@@ -84,8 +84,8 @@ module _ (D : Domain) {n : ℕ} {s : State} {fs : List Fact} {ess : List (List E
       let b : allowed D (final D (startState fs) ess) ws ≡ true = rw (h .state) at a in
       record {
         facts-legal = h .facts-legal;
-        steps-legal = all-append (legalStep D) ess (ws ∷ []) (h .steps-legal) (and-i (h .waiting-legal) refl);
-        events-legal = all-append (all (isEvent D (objectsFrom 0 n))) ess (ws ∷ []) (h .events-legal) (and-i (h .waiting-events) refl);
+        steps-legal = all-snoc (legalStep D) ess ws (h .steps-legal) (h .waiting-legal);
+        events-legal = all-snoc (all (isEvent D (objectsFrom 0 n))) ess ws (h .events-legal) (h .waiting-events);
         waiting-legal = no-events D;
         waiting-events = refl;
         none-yet = λ q. absurd (z q);
@@ -127,7 +127,7 @@ with-fact : (D : Domain) {n : ℕ} {s : State} {fs : List Fact} {ws : List Event
 with-fact D {n} {s} {fs} {ws} f z i h =
     let e : s ≡ startState fs = h .state ∙ rw no-steps in
     record {
-      facts-legal = all-append (isFact D (objectsFrom 0 n)) fs (f ∷ []) (h .facts-legal) (and-i i refl);
+      facts-legal = all-snoc (isFact D (objectsFrom 0 n)) fs f (h .facts-legal) i;
       steps-legal = refl;
       events-legal = refl;
       waiting-legal = h .waiting-legal;
@@ -345,7 +345,7 @@ module _ (D : Domain) (r : List ℕ) where
             record {
               chain = f .further;
               reached = rw (facts-keep es e refl, steps-keep es e refl, waiting-snoc es e)
-                (with-event D (eventOf b) (z .objects) (z .event) (legal-snoc D (waitingIn es) (eventOf b) (g .reached .waiting-legal) (and-l _ _ (and-l _ _ (z .event))) (rw (g .waiting) at (z .fresh))) (g .reached));
+                  (with-event D (eventOf b) (z .objects) (z .event) (legal-snoc D (waitingIn es) (eventOf b) (g .reached .waiting-legal) (and-l _ _ (and-l _ _ (z .event))) (rw (g .waiting) at (z .fresh))) (g .reached));
               counts = rw (begun-here es e refl, facts-keep es e refl, steps-keep es e refl) (g .counts);
               waiting = rw (waiting-snoc es e, g .waiting);
             };

@@ -1,8 +1,8 @@
 -- The highest weight of any instance, and the instances that weigh anything. Assumes nothing.
-use mathlib.Core.Path.{_≡_, refl, sym, ap, ap₂, _∙_}
-use mathlib.Core.Bool.{Bool, true, false, _&&_}
-use mathlib.Core.List.{List, [], _∷_, _++_, map, flatMap, List·Memᴰ·head, List·Memᴰ·tail, List·Memᴰ·not-nil}
-use Prim.Native.Nat.{ℕ, zero, suc, _+_, _≤_, max}
+use mathlib.Core.Path.{_≡_, refl, ap}
+use mathlib.Core.Bool.{Bool, true, false}
+use mathlib.Core.List.{List, [], _∷_, map, List·Memᴰ·head, List·Memᴰ·tail, List·Memᴰ·not-nil}
+use Prim.Native.Nat.{ℕ, zero, suc, _≤_}
 use native.Mathlib.Omega.{arith}
 use lib.Dec.{eqb}
 use lib.ListN.{length, length-append}
@@ -12,7 +12,7 @@ use Rattle.records.proofs.Lists.{and-l, and-r, count-some, flatMap-in, in-flatM
 use Rattle.literals.specs.declared.Object.{Object}
 use Rattle.literals.specs.declared.Key.{Key}
 use Rattle.literals.specs.declared.Label.{Label}
-use Rattle.literals.specs.Domain.{key, Fact, Component, isKey, eachKeyOnce, keysOf, Domain}
+use Rattle.literals.specs.Domain.{key, Fact, isKey, eachKeyOnce, keysOf, Domain}
 use Rattle.classes.specs.Classes.{under, keyTuple, tuplesOf, matches}
 use Rattle.verdict.specs.Machine.{weight, instancesIn, largest, topWeight}
 use Rattle.verdict.specs.Claims.{wellFormed}

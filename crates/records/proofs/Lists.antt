@@ -339,6 +339,7 @@ module _ {A : Type 0} where
             let n : elem eq x (filterBy other ds) ≡ false = off (elem eq x (filterBy other ds)) (λ m. clash (in-elem eq self (filter-in other ds (elem-in eq sound x (filterBy other ds) m) .0)) t) in
             let f : filterBy other (ds ++ (x ∷ [])) ≡ filterBy other ds ++ (x ∷ []) = filter-append other ds (x ∷ []) ∙ rw e in
             rw (n, f)
+
 -- ---- one element more, and tests that do not mind the order
 
 pub eqb-comm : (m n : ℕ) → eqb m n ≡ eqb n m
