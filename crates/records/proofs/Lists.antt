@@ -2,11 +2,8 @@
 use mathlib.Core.Path.{_≡_, refl, sym, ap, ap₂, _∙_}
 use mathlib.Core.Bool.{Bool, true, false, not, _&&_, _||_, cond, true≢false, false≢true}
 use mathlib.Core.Logic.{_⊎_, inl, inr}
-use mathlib.Core.List.{List, [], _∷_, _++_, flatMap, append-nil, List·Memᴰ·head, List·Memᴰ·tail, List·Memᴰ·not-nil, Memᴰ·cast, Memᴰ·append-left, Memᴰ·append-right, List·Memᴰ·append-cases}
+use mathlib.Core.List.{List, [], _∷_, _++_, map, flatMap, append-nil, List·Memᴰ·head, List·Memᴰ·tail, List·Memᴰ·not-nil, Memᴰ·cast, Memᴰ·append-left, Memᴰ·append-right, List·Memᴰ·append-cases}
 use Prim.Native.Nat.{ℕ, zero, suc, _+_, _≤_, _<_}
-use mathlib.Core.List.{List, [], _∷_, _++_, map, flatMap, List·Memᴰ·head, List·Memᴰ·tail, List·Memᴰ·not-nil, Memᴰ·cast, Memᴰ·append-left, Memᴰ·append-right, List·Memᴰ·append-cases}
-use Prim.Native.Nat.{ℕ, zero, suc, _+_, _≤_, _<_}
-use Prim.Native.Nat.{ℕ, zero, suc, _+_, _<_}
 use native.Mathlib.Omega.{arith}
 use lib.Dec.{eqb}
 use lib.ListN.{length, getD}
@@ -383,39 +380,3 @@ module _ {A : Type 0} where
             let n : elem eq x (filterBy other ds) ≡ false = off (elem eq x (filterBy other ds)) (λ m. clash (in-elem eq self (filter-in other ds (elem-in eq sound x (filterBy other ds) m) .0)) t) in
             let f : filterBy other (ds ++ (x ∷ [])) ≡ filterBy other ds ++ (x ∷ []) = filter-append other ds (x ∷ []) ∙ rw e in
             rw (n, f)
-
--- ---- one element more, and tests that do not mind the order
-
-pub eqb-comm : (m n : ℕ) → eqb m n ≡ eqb n m
-eqb-comm m n = go (bool-cases (eqb m n))
-  where
-    go : (eqb m n ≡ true) ⊎ (eqb m n ≡ false) → eqb m n ≡ eqb n m
-    go (inl t) = t ∙ sym (eq-eqb n m (sym (eqb-true m n t)))
-    go (inr f) = f ∙ sym (off (eqb n m) (λ t. clash (eq-eqb m n (sym (eqb-true n m t))) f))
-
-module _ {A : Type 0} where
-  pub sameList-comm : (eq : A → A → Bool) → ((a b : A) → eq a b ≡ eq b a) → (x y : List A) → sameList eq x y ≡ sameList eq y x
-  sameList-comm eq h [] [] = refl
-  sameList-comm eq h [] (y ∷ ys) = refl
-  sameList-comm eq h (x ∷ xs) [] = refl
-  sameList-comm eq h (x ∷ xs) (y ∷ ys) = ap₂ _&&_ (h x y) (sameList-comm eq h xs ys)
-
-  pub all-snoc : (p : A → Bool) (xs : List A) (x : A) → all p xs ≡ true → p x ≡ true → all p (xs ++ (x ∷ [])) ≡ true
-  all-snoc p xs x s t = all-append p xs (x ∷ []) s (and-i t refl)
-
-  pub pairwise-snoc : (r : A → A → Bool) (xs : List A) (x : A) → pairwise r xs ≡ true → all (λ y. r y x) xs ≡ true → pairwise r (xs ++ (x ∷ [])) ≡ true
-  pairwise-snoc r [] x s t = refl
-  pairwise-snoc r (y ∷ ys) x s t =
-      and-i (all-snoc (r y) ys x (and-l _ _ s) (and-l _ _ t)) (pairwise-snoc r ys x (and-r (all (r y) ys) _ s) (and-r (r y x) _ t))
-
-  -- where a test implies another, so on every element
-  pub all-weaken : (p q : A → Bool) (l : List A) → ((a : A) → p a ≡ true → q a ≡ true) → all p l ≡ true → all q l ≡ true
-  all-weaken p q l h t = all-of q l (λ a m. h a (all-in p l t m))
-
-  -- where no element passes, each passes the test that this implies
-  pub any-none : (p q : A → Bool) (l : List A) → ((a : A) → p a ≡ false → q a ≡ true) → any p l ≡ false → all q l ≡ true
-  any-none p q l h e = all-of q l (λ a m. h a (any-out p e m))
-
-pub all-map : {A B : Type 0} (f : A → B) (p : B → Bool) (l : List A) → all p (map f l) ≡ all (λ a. p (f a)) l
-all-map f p [] = refl
-all-map f p (x ∷ xs) = ap (λ (b : Bool). p (f x) && b) (all-map f p xs)

@@ -18,6 +18,3 @@ pub mod Safety
 pub mod Harm
 pub mod Demand
 pub mod Files
--- What is claimed of the verdict, proved.
-pub mod Decodes
-pub mod Answers
