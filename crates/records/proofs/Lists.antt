@@ -1,9 +1,9 @@
 -- Laws that turn a test, `b ≡ true`, into a fact and back. Assumes nothing.
 use mathlib.Core.Path.{_≡_, refl, sym, ap, ap₂, _∙_}
-use mathlib.Core.Bool.{Bool, true, false, not, _&&_, _||_, true≢false, false≢true}
+use mathlib.Core.Bool.{Bool, true, false, not, _&&_, _||_, cond, true≢false, false≢true}
 use mathlib.Core.Logic.{_⊎_, inl, inr}
-use mathlib.Core.List.{List, [], _∷_, _++_, map, flatMap, List·Memᴰ·head, List·Memᴰ·tail, List·Memᴰ·not-nil, Memᴰ·cast, Memᴰ·append-left, Memᴰ·append-right, List·Memᴰ·append-cases}
-use Prim.Native.Nat.{ℕ, zero, suc, _+_, _<_}
+use mathlib.Core.List.{List, [], _∷_, _++_, map, flatMap, append-nil, List·Memᴰ·head, List·Memᴰ·tail, List·Memᴰ·not-nil, Memᴰ·cast, Memᴰ·append-left, Memᴰ·append-right, List·Memᴰ·append-cases}
+use Prim.Native.Nat.{ℕ, zero, suc, _+_, _≤_, _<_}
 use native.Mathlib.Omega.{arith}
 use lib.Dec.{eqb}
 use lib.ListN.{length, getD}
@@ -231,3 +231,152 @@ module _ {A : Type 0} where
 pub all-map : {A B : Type 0} (f : A → B) (p : B → Bool) (l : List A) → all p (map f l) ≡ all (λ a. p (f a)) l
 all-map f p [] = refl
 all-map f p (x ∷ xs) = ap (λ (b : Bool). p (f x) && b) (all-map f p xs)
+
+-- ---- counting, as facts
+
+module _ {A : Type 0} (p : A → Bool) where
+  pub count-pos : {a : A} {l : List A} → In a l → p a ≡ true → 1 ≤ countBy p l
+  count-pos (List·Memᴰ·head {xs = xs} e) t = rw (sym (ap p e) ∙ t) (omega arith)
+  count-pos (List·Memᴰ·tail {x = x} {xs = xs} m) t = go (p x) (count-pos m t)
+    where
+      go : (b : Bool) → 1 ≤ countBy p xs → 1 ≤ addIf b (countBy p xs)
+      go true h = omega arith
+      go false h = h
+
+  pub count-none : (l : List A) → ((a : A) → In a l → p a ≡ true → ⊥) → countBy p l ≡ 0
+  count-none [] h = refl
+  count-none (x ∷ xs) h = go (p x) refl (count-none xs (λ a m. h a (List·Memᴰ·tail m)))
+    where
+      go : (b : Bool) → p x ≡ b → countBy p xs ≡ 0 → addIf b (countBy p xs) ≡ 0
+      go true e r = absurd (h x (List·Memᴰ·head refl) e)
+      go false e r = r
+
+  pub count-some : (l : List A) → 1 ≤ countBy p l → (a : A) × In a l × (p a ≡ true)
+  count-some [] h = absurd (omega arith)
+  count-some (x ∷ xs) h = go (p x) refl h (λ k. count-some xs k)
+    where
+      go : (b : Bool) → p x ≡ b → 1 ≤ addIf b (countBy p xs) → (1 ≤ countBy p xs → (a : A) × In a xs × (p a ≡ true)) → (a : A) × In a (x ∷ xs) × (p a ≡ true)
+      go true e k ih = (x, List·Memᴰ·head refl, e)
+      go false e k ih = let r = ih k in (r .0, List·Memᴰ·tail (r .1), r .2)
+
+  -- where at most one passes, any two that pass are equal
+  pub count-single : (l : List A) → countBy p l ≤ 1 → (a b : A) → In a l → In b l → p a ≡ true → p b ≡ true → a ≡ b
+  count-single [] le a b m n s t = absurd (List·Memᴰ·not-nil m)
+  count-single (x ∷ xs) le a b (List·Memᴰ·head d) (List·Memᴰ·head e) s t = d ∙ sym e
+  count-single (x ∷ xs) le a b (List·Memᴰ·head d) (List·Memᴰ·tail n) s t =
+      let k = count-pos n t in
+      let z : suc (countBy p xs) ≤ 1 = rw (sym (ap p d) ∙ s) at le in absurd (omega arith)
+  count-single (x ∷ xs) le a b (List·Memᴰ·tail m) (List·Memᴰ·head e) s t =
+      let k = count-pos m s in
+      let z : suc (countBy p xs) ≤ 1 = rw (sym (ap p e) ∙ t) at le in absurd (omega arith)
+  count-single (x ∷ xs) le a b (List·Memᴰ·tail m) (List·Memᴰ·tail n) s t = count-single xs (go (p x) le) a b m n s t
+    where
+      go : (b : Bool) → addIf b (countBy p xs) ≤ 1 → countBy p xs ≤ 1
+      go true h = omega arith
+      go false h = h
+
+  -- and the other way round, where no element stands twice
+  pub single-count : (eq : A → A → Bool) → ((a : A) → eq a a ≡ true) → (l : List A) → distinct eq l ≡ true
+      → ((a b : A) → In a l → In b l → p a ≡ true → p b ≡ true → a ≡ b) → countBy p l ≤ 1
+  single-count eq self [] o h = omega arith
+  single-count eq self (x ∷ xs) o h =
+      go (p x) refl (single-count eq self xs (and-r (all (λ y. not (eq x y)) xs) _ o) (λ a b m n. h a b (List·Memᴰ·tail m) (List·Memᴰ·tail n)))
+    where
+      other : (a : A) → In a xs → x ≡ a → ⊥
+      other a m e = clash (sym (ap (eq x) e) ∙ self x) (not-true _ (all-in (λ y. not (eq x y)) xs (and-l _ _ o) m))
+
+      go : (b : Bool) → p x ≡ b → countBy p xs ≤ 1 → addIf b (countBy p xs) ≤ 1
+      go false e r = r
+      go true e r = let z = count-none xs (λ a m t. other a m (h x a (List·Memᴰ·head refl) (List·Memᴰ·tail m) e t)) in omega arith
+
+-- ---- every two elements pass; no element twice
+
+module _ {A : Type 0} where
+  pub all-filter : (p : A → Bool) (l : List A) → all p (filterBy p l) ≡ true
+  all-filter p l = all-of p (filterBy p l) (λ a m. filter-in p l m .1)
+
+  pub filter-all : (p : A → Bool) (l : List A) → all p l ≡ true → filterBy p l ≡ l
+  filter-all p [] h = refl
+  filter-all p (x ∷ xs) h = rw (and-l (p x) _ h) (ap {B = List A} (λ l. x ∷ l) (filter-all p xs (and-r (p x) _ h)))
+
+  pub pairwise-filter : (r : A → A → Bool) (p : A → Bool) (l : List A) → pairwise r l ≡ true → pairwise r (filterBy p l) ≡ true
+  pairwise-filter r p [] o = refl
+  pairwise-filter r p (x ∷ xs) o = go (p x) (pairwise-filter r p xs (and-r (all (r x) xs) _ o))
+    where
+      go : (b : Bool) → pairwise r (filterBy p xs) ≡ true → pairwise r (keepIf b x (filterBy p xs)) ≡ true
+      go true h = and-i (all-of (r x) (filterBy p xs) (λ a m. all-in (r x) xs (and-l _ _ o) (filter-in p xs m .0))) h
+      go false h = h
+
+  pub pairwise-append : (r : A → A → Bool) (xs ys : List A) → pairwise r xs ≡ true → pairwise r ys ≡ true
+      → ((a b : A) → In a xs → In b ys → r a b ≡ true) → pairwise r (xs ++ ys) ≡ true
+  pairwise-append r [] ys s t h = t
+  pairwise-append r (x ∷ xs) ys s t h =
+      and-i (all-append (r x) xs ys (and-l _ _ s) (all-of (r x) ys (λ b n. h x b (List·Memᴰ·head refl) n)))
+      (pairwise-append r xs ys (and-r (all (r x) xs) _ s) t (λ a b m n. h a b (List·Memᴰ·tail m) n))
+
+  pub distinct-dedup : (eq : A → A → Bool) (l : List A) → distinct eq (dedup eq l) ≡ true
+  distinct-dedup eq [] = refl
+  distinct-dedup eq (x ∷ xs) =
+      and-i (all-filter (λ y. not (eq x y)) (dedup eq xs)) (pairwise-filter (λ x y. not (eq x y)) (λ y. not (eq x y)) (dedup eq xs) (distinct-dedup eq xs))
+
+  -- where no element stands twice, `dedup` changes nothing
+  pub dedup-same : (eq : A → A → Bool) (l : List A) → distinct eq l ≡ true → dedup eq l ≡ l
+  dedup-same eq [] o = refl
+  dedup-same eq (x ∷ xs) o =
+      rw (dedup-same eq xs (and-r (all (λ y. not (eq x y)) xs) _ o)) (ap {B = List A} (λ l. x ∷ l) (filter-all (λ y. not (eq x y)) xs (and-l _ _ o)))
+
+  -- any two elements are equal, or pass one way round
+  pub pairwise-in : (r : A → A → Bool) {a b : A} (l : List A) → pairwise r l ≡ true → In a l → In b l → (a ≡ b) ⊎ ((r a b ≡ true) ⊎ (r b a ≡ true))
+  pairwise-in r {a} {b} (x ∷ xs) o (List·Memᴰ·head p) (List·Memᴰ·head q) = inl (p ∙ sym q)
+  pairwise-in r {a} {b} (x ∷ xs) o (List·Memᴰ·head p) (List·Memᴰ·tail n) = inr (inl (ap (λ z. r z b) p ∙ all-in (r x) xs (and-l _ _ o) n))
+  pairwise-in r {a} {b} (x ∷ xs) o (List·Memᴰ·tail m) (List·Memᴰ·head q) = inr (inr (ap (λ z. r z a) q ∙ all-in (r x) xs (and-l _ _ o) m))
+  pairwise-in r {a} {b} (x ∷ xs) o (List·Memᴰ·tail m) (List·Memᴰ·tail n) = pairwise-in r xs (and-r (all (r x) xs) _ o) m n
+  pairwise-in r {a} {b} [] o m n = absurd (List·Memᴰ·not-nil m)
+-- ---- lists joined together
+
+module _ {A : Type 0} where
+  pub any-append : (p : A → Bool) (xs ys : List A) → any p (xs ++ ys) ≡ any p xs || any p ys
+  any-append p [] ys = refl
+  any-append p (x ∷ xs) ys = go (p x) (any-append p xs ys)
+    where
+      go : (b : Bool) → any p (xs ++ ys) ≡ any p xs || any p ys → b || any p (xs ++ ys) ≡ (b || any p xs) || any p ys
+      go true h = refl
+      go false h = h
+
+  pub filter-append : (p : A → Bool) (xs ys : List A) → filterBy p (xs ++ ys) ≡ filterBy p xs ++ filterBy p ys
+  filter-append p [] ys = refl
+  filter-append p (x ∷ xs) ys = go (p x) (filter-append p xs ys)
+    where
+      go : (b : Bool) → filterBy p (xs ++ ys) ≡ filterBy p xs ++ filterBy p ys → keepIf b x (filterBy p (xs ++ ys)) ≡ keepIf b x (filterBy p xs) ++ filterBy p ys
+      go true h = ap {B = List A} (λ l. x ∷ l) h
+      go false h = h
+
+  pub filter-none : (p : A → Bool) (l : List A) → ((a : A) → In a l → p a ≡ false) → filterBy p l ≡ []
+  filter-none p [] h = refl
+  filter-none p (x ∷ xs) h = rw (h x (List·Memᴰ·head refl)) (filter-none p xs (λ a m. h a (List·Memᴰ·tail m)))
+
+  -- one more element, which joins unless it is there
+  module _ (eq : A → A → Bool) (sound : (a b : A) → eq a b ≡ true → a ≡ b) (self : (a : A) → eq a a ≡ true) where
+    pub dedup-snoc : (l : List A) (x : A) → dedup eq (l ++ (x ∷ [])) ≡ cond (elem eq x (dedup eq l)) (dedup eq l) (dedup eq l ++ (x ∷ []))
+    dedup-snoc [] x = refl
+    dedup-snoc (y ∷ ys) x = ap {B = List A} (λ l. y ∷ filterBy other l) (dedup-snoc ys x) ∙ go (eq x y) (elem eq x ds) refl refl
+      where
+        other : A → Bool
+        other a = not (eq y a)
+
+        ds : List A
+        ds = dedup eq ys
+
+        go : (b c : Bool) → eq x y ≡ b → elem eq x ds ≡ c
+            → y ∷ filterBy other (cond c ds (ds ++ (x ∷ []))) ≡ cond (b || elem eq x (filterBy other ds)) (y ∷ filterBy other ds) (y ∷ (filterBy other ds ++ (x ∷ [])))
+        go true true s t = refl
+        go true false s t =
+            let e : eq y x ≡ true = ap (eq y) (sound x y s) ∙ self y in
+            ap {B = List A} (λ l. y ∷ l) (filter-append other ds (x ∷ []) ∙ rw e (append-nil (filterBy other ds)))
+        go false true s t =
+            rw (in-elem eq self (in-filter other (elem-in eq sound x ds t) (ap not (off (eq y x) (λ e. clash (ap (eq x) (sound y x e) ∙ self x) s)))))
+        go false false s t =
+            let e : eq y x ≡ false = off (eq y x) (λ e. clash (ap (eq x) (sound y x e) ∙ self x) s) in
+            let n : elem eq x (filterBy other ds) ≡ false = off (elem eq x (filterBy other ds)) (λ m. clash (in-elem eq self (filter-in other ds (elem-in eq sound x (filterBy other ds) m) .0)) t) in
+            let f : filterBy other (ds ++ (x ∷ [])) ≡ filterBy other ds ++ (x ∷ []) = filter-append other ds (x ∷ []) ∙ rw e in
+            rw (n, f)

@@ -1,0 +1,38 @@
+-- The objects of the witness: "variable i is object i". Assumes nothing.
+use mathlib.Core.Path.{_≡_, refl, ap}
+use mathlib.Core.Bool.{true, false, not}
+use mathlib.Core.Logic.{_⊎_, inl, inr}
+use mathlib.Core.List.{List·Memᴰ·head, List·Memᴰ·tail, List·Memᴰ·not-nil}
+use Prim.Native.Nat.{ℕ, zero, suc, _+_, _≤_, _<_}
+use native.Mathlib.Omega.{arith}
+use lib.Dec.{eqb}
+use lib.ListN.{length}
+use borrow.Author.Tests.{ne-eqb, eqb-true, eqb-false}
+use Rattle.records.specs.Lists.{In, distinct}
+use Rattle.records.proofs.Lists.{and-i, all-of, bool-cases}
+use Rattle.literals.specs.declared.Object.{Object}
+use Rattle.literals.specs.Domain.{object, sameObject}
+use Rattle.verdict.specs.Binding.{objectsFrom}
+
+pub objects-length : (k n : ℕ) → length (objectsFrom k n) ≡ n
+objects-length k zero = refl
+objects-length k (suc n) = ap suc (objects-length (suc k) n)
+
+pub objects-range : (k n : ℕ) (o : Object) → In o (objectsFrom k n) → (k ≤ o .0) × (o .0 < k + n)
+objects-range k zero o m = absurd (List·Memᴰ·not-nil m)
+objects-range k (suc n) o (List·Memᴰ·head e) = let z : o .0 ≡ k = ap (λ (p : Object). p .0) e in (omega arith, omega arith)
+objects-range k (suc n) o (List·Memᴰ·tail m) = let r = objects-range (suc k) n o m in let s = r .0 in let t = r .1 in (omega arith, omega arith)
+
+pub object-in : (k n : ℕ) (o : Object) → k ≤ o .0 → o .0 < k + n → In o (objectsFrom k n)
+object-in k zero o h l = absurd (omega arith)
+object-in k (suc n) o h l = go (bool-cases (eqb (o .0) k)) (λ g. object-in (suc k) n o g (omega arith))
+  where
+    go : (eqb (o .0) k ≡ true) ⊎ (eqb (o .0) k ≡ false) → (suc k ≤ o .0 → In o (objectsFrom (suc k) n)) → In o (objectsFrom k (suc n))
+    go (inl t) ih = List·Memᴰ·head (ap object (eqb-true (o .0) k t))
+    go (inr f) ih = let ne = eqb-false (o .0) k f in List·Memᴰ·tail (ih (omega arith))
+
+pub objects-distinct : (k n : ℕ) → distinct sameObject (objectsFrom k n) ≡ true
+objects-distinct k zero = refl
+objects-distinct k (suc n) =
+    and-i (all-of (λ o. not (sameObject (object k) o)) (objectsFrom (suc k) n) (λ o m. let r = objects-range (suc k) n o m .0 in ap not (ne-eqb k (o .0) (λ e. omega arith))))
+    (objects-distinct (suc k) n)

@@ -1,0 +1,336 @@
+-- Safety: an accepted template keeps every instance at weight at most one, in every state that a run reaches; and under verdict 1 weight and open journeys together never rise.
+-- Assumes nothing.
+use mathlib.Core.Path.{_≡_, refl, sym, ap, _∙_}
+use mathlib.Core.Bool.{Bool, true, false, _&&_, cond}
+use mathlib.Core.Logic.{_⊎_, inl, inr}
+use mathlib.Core.Option.{Option, none, some}
+use mathlib.Core.List.{List, [], _∷_, _++_, map, List·Memᴰ·head, List·Memᴰ·tail, List·Memᴰ·not-nil}
+use Prim.Native.Nat.{ℕ, zero, suc, _+_, _≤_, _<_}
+use native.Mathlib.Omega.{arith}
+use lib.ListN.{length}
+use borrow.Author.Tests.{le-leb}
+use Rattle.records.specs.Lists.{In, all, any, countBy, sameList, distinct, dedup}
+use Rattle.records.proofs.Lists.{and-l, and-r, and-i, bool-cases, clash, in-any, any-in, all-in, all-of, count-pos, count-none, count-some, count-single, single-count, distinct-dedup}
+use Rattle.literals.specs.declared.Variable.{Variable}
+use Rattle.literals.specs.declared.Object.{Object}
+use Rattle.literals.specs.Domain.{sameVariable, sameObject, Fact, sameFact, Action, Domain, action}
+use Rattle.classes.specs.declared.Moment.{Moment}
+use Rattle.classes.specs.declared.Moment.the-variants.{Start, End}
+use Rattle.classes.specs.Classes.{matches, classes, nameOf, journey}
+use Rattle.verdict.specs.Binding.{Binding, bindTuple}
+use Rattle.verdict.specs.Decision.{Row, journeyEndAt, rows, decision}
+use Rattle.verdict.specs.Judged.{answerRow, decided}
+use Rattle.verdict.specs.Machine.{GroundAction, Event, State, sameEvent, eventFacts, hasMoment, legal, legalStep, injective, isOpen, conditionsHold, overAllHold, independent, allowed, factsAfter, closeAll, openedBy, next, startState, run, weight}
+use Rattle.verdict.specs.Claims.{wellFormedAction, wellFormed, isEvent, Chosen, Safe, Safety, journeysFor, total, neverRising, NeverRises}
+use Rattle.verdict.proofs.Equality.{fact-self, variables-self, objects-eq, objects-self}
+use Rattle.verdict.proofs.Steps.{Inv, Act, sum, inv-after, inv-less, none-after}
+use Rattle.verdict.proofs.Events.{after-in, legal-listed, legal-moment, legal-length, holds-of, quiets-of}
+use Rattle.verdict.proofs.Weight.{distinct-after}
+use Rattle.verdict.proofs.WellFormed.{action-well-formed, template-well-formed}
+use Rattle.verdict.proofs.Acts.{classes-distinct, Harmless, journey-lasts, journey-of, one-class, harmless-act, apart-act, start-act, end-act}
+use Rattle.verdict.proofs.Open.{endsAt, startsAt, ends, starts, closeAll-sum, running-sum}
+use Rattle.verdict.proofs.Rows.{RowOf, row-of, fine-rows, harmless-of}
+
+-- ---- the journeys of an entry
+
+abbrev journeyFor : Domain → List Object → GroundAction → List Variable → Bool
+journeyFor D y g x = journey D (action D (g .action)) x && sameList sameObject (bindTuple (g .binding) x) y
+
+-- x is a journey of the entry g that belongs to the instance y
+pub record BoundJourney (D : Domain) (y : List Object) (g : GroundAction) (x : List Variable) : Type 0 where
+  pub listed : In x (classes D (action D (g .action)))
+  pub is-journey : journey D (action D (g .action)) x ≡ true
+  pub bound : bindTuple (g .binding) x ≡ y
+
+module _ (D : Domain) (y : List Object) (g : GroundAction) where
+  bound-of : (x : List Variable) → In x (classes D (action D (g .action))) → journeyFor D y g x ≡ true → BoundJourney D y g x
+  bound-of x m t = record { listed = m; is-journey = and-l _ _ t; bound = objects-eq _ y (and-r (journey D (action D (g .action)) x) _ t) }
+
+  bound-test : (x : List Variable) → BoundJourney D y g x → journeyFor D y g x ≡ true
+  bound-test x j = and-i (j .is-journey) (rw (j .bound) (objects-self y))
+
+  pub journeys-none : ((x : List Variable) → BoundJourney D y g x → ⊥) → journeysFor D y g ≡ 0
+  unfolding journeysFor
+  journeys-none h = count-none (journeyFor D y g) (classes D (action D (g .action))) (λ x m t. h x (bound-of x m t))
+
+  -- an entry has one such journey where at most one of its classes is bound to the instance
+  pub journeys-one : ((x z : List Variable) → BoundJourney D y g x → BoundJourney D y g z → x ≡ z) → (x : List Variable) → BoundJourney D y g x → journeysFor D y g ≡ 1
+  unfolding journeysFor
+  journeys-one one x j =
+      let le : countBy (journeyFor D y g) (classes D (action D (g .action))) ≤ 1
+      = single-count (journeyFor D y g) (sameList sameVariable) variables-self (classes D (action D (g .action))) (classes-distinct D (action D (g .action)))
+      (λ u w m n s t. one u w (bound-of u m s) (bound-of w n t)) in
+      let ge : 1 ≤ countBy (journeyFor D y g) (classes D (action D (g .action))) = count-pos (journeyFor D y g) (j .listed) (bound-test x j) in
+      omega arith
+
+-- the journeys that count; v: verdict 0, where none needs to
+unfoldable pub measure : Bool → Domain → List Object → GroundAction → ℕ
+unfolding journeysFor
+measure v D y g = cond v 0 (journeysFor D y g)
+
+-- ---- a step that somebody chooses
+
+pub record InjectiveStep (D : Domain) (es : List Event) : Type 0 where
+  pub legal-events : all (legal D) es ≡ true
+  pub different : distinct sameEvent es ≡ true
+  pub injective-events : all injective es ≡ true
+
+module _ (D : Domain) (wf : wellFormed D ≡ true) (v : Bool) (acc : decision D .number ≡ cond v 0 1) (y : List Object) where
+  abbrev c : GroundAction → ℕ
+  c = measure v D y
+
+  none-counted : (g : GroundAction) → (v ≡ false → (x : List Variable) → BoundJourney D y g x → ⊥) → c g ≡ 0
+  unfolding measure
+  none-counted g h = go v (λ f. journeys-none D y g (h f))
+    where
+      go : (v : Bool) → (v ≡ false → journeysFor D y g ≡ 0) → cond v 0 (journeysFor D y g) ≡ 0
+      go true h = refl
+      go false h = h refl
+
+  one-counted : (g : GroundAction) → v ≡ false → ((x z : List Variable) → BoundJourney D y g x → BoundJourney D y g z → x ≡ z)
+      → (x : List Variable) → BoundJourney D y g x → c g ≡ 1
+  unfolding measure
+  one-counted g vf one x j = rw vf (journeys-one D y g one x j)
+
+  not-lasting : (g : GroundAction) → action D (g .action) .lasting ≡ false → c g ≡ 0
+  not-lasting g h = none-counted g (λ _ x j. clash (journey-lasts D (action D (g .action)) x (j .is-journey)) h)
+
+  none-starts : (m : Moment) (g : GroundAction) → c g ≡ 0 → startsAt c m g ≡ 0
+  none-starts Start g h = h
+  none-starts End g h = refl
+
+  none-ends : (m : Moment) (g : GroundAction) → c g ≡ 0 → endsAt c m g ≡ 0
+  none-ends Start g h = refl
+  none-ends End g h = h
+
+  end-only : (a : Action) (x : List Variable) (m : Moment) → journey D a x ≡ false → journeyEndAt D a x m ≡ false
+  end-only a x Start h = refl
+  end-only a x End h = h
+
+  harmless-row : (a : Action) (x : List Variable) (m : Moment) → RowOf D a x m (rows D) → (v ≡ false → journey D a x ≡ false) → Harmless v (nameOf D a x m)
+  harmless-row a x m r j = harmless-of v (nameOf D a x m) (journeyEndAt D a x m) (fine-rows D v acc _ (r .2)) (λ vf. end-only a x m (j vf))
+
+  -- what an event of the domain does to the instance
+  event-act : (m : Moment) (g : GroundAction) → legal D (record { moment = m; ground = g }) ≡ true → distinct sameObject (g .binding) ≡ true
+      → Act (matches D y) v (eventFacts D (record { moment = m; ground = g })) (startsAt c m g) (endsAt c m g)
+  unfolding eventFacts
+  event-act m g h dis = by-class (bool-cases (any (λ x. sameList sameObject (bindTuple b x) y) (classes D a)))
+    where
+      a : Action
+      a = action D (g .action)
+
+      b : Binding
+      b = g .binding
+
+      e : Event
+      e = record { moment = m; ground = g }
+
+      idx : g .action < length (D .actions)
+      idx = legal-listed D e h
+
+      has : hasMoment a m ≡ true
+      has = legal-moment D e h
+
+      len : length b ≡ a .vars
+      len = legal-length D e h
+
+      ok : wellFormedAction D a ≡ true
+      ok = action-well-formed D wf (g .action) idx
+
+      one : (x z : List Variable) → BoundJourney D y g x → BoundJourney D y g z → x ≡ z
+      one x z j k = one-class D a ok b len dis y x z (j .listed) (k .listed) (j .bound) (k .bound)
+
+      at-journey : (m : Moment) (x : List Variable) → BoundJourney D y g x → v ≡ false
+          → Act (matches D y) v (eventFacts D (record { moment = m; ground = g })) (startsAt c m g) (endsAt c m g)
+      at-journey Start x j vf =
+          start-act D a ok b len dis y x (j .listed) (j .bound) (journey-of D a x (j .is-journey)) v _ _ vf (one-counted g vf one x j) refl
+      at-journey End x j vf = end-act D a ok b len dis y x (j .listed) (j .bound) (journey-of D a x (j .is-journey)) v _ _ refl (one-counted g vf one x j)
+
+      elsewhere : (x : List Variable) → In x (classes D a) → bindTuple b x ≡ y → (v ≡ false → journey D a x ≡ false)
+          → Act (matches D y) v (eventFacts D (record { moment = m; ground = g })) (startsAt c m g) (endsAt c m g)
+      elsewhere x hx ex nj =
+          let z : c g ≡ 0 = none-counted g (λ vf u j.
+          clash (sym (ap (journey D a) (one-class D a ok b len dis y u x (j .listed) hx (j .bound) ex)) ∙ j .is-journey) (nj vf)) in
+          harmless-act D a ok b len dis y x hx ex m v (template-well-formed D wf) _ _ (none-starts m g z) (none-ends m g z)
+          (harmless-row a x m (row-of D (g .action) x m idx has hx) nj)
+
+      by-journey : (x : List Variable) → In x (classes D a) → bindTuple b x ≡ y → (v ≡ true) ⊎ (v ≡ false) → (journey D a x ≡ true) ⊎ (journey D a x ≡ false)
+          → Act (matches D y) v (eventFacts D (record { moment = m; ground = g })) (startsAt c m g) (endsAt c m g)
+      by-journey x hx ex (inl vt) j = elsewhere x hx ex (λ vf. absurd (clash vt vf))
+      by-journey x hx ex (inr vf) (inl t) = at-journey m x (record { listed = hx; is-journey = t; bound = ex }) vf
+      by-journey x hx ex (inr vf) (inr f) = elsewhere x hx ex (λ _. f)
+
+      by-class : (any (λ x. sameList sameObject (bindTuple b x) y) (classes D a) ≡ true) ⊎ (any (λ x. sameList sameObject (bindTuple b x) y) (classes D a) ≡ false)
+          → Act (matches D y) v (eventFacts D (record { moment = m; ground = g })) (startsAt c m g) (endsAt c m g)
+      by-class (inl t) =
+          let r = any-in (λ x. sameList sameObject (bindTuple b x) y) (classes D a) t in
+          by-journey (r .0) (r .1) (objects-eq _ y (r .2)) (bool-cases v) (bool-cases (journey D a (r .0)))
+      by-class (inr f) =
+          let none : (x : List Variable) → In x (classes D a) → bindTuple b x ≡ y → ⊥
+          = λ x hx ex. clash (in-any (λ x. sameList sameObject (bindTuple b x) y) hx (rw ex (objects-self y))) f in
+          let z : c g ≡ 0 = none-counted g (λ _ x j. none x (j .listed) (j .bound)) in
+          apart-act D a ok b len dis y v _ _ m (none-starts m g z) (none-ends m g z) none
+
+  -- ---- states
+
+  -- each fact once, and at most one fact of the instance or open journey of its
+  pub record Guarded (s : State) : Type 0 where
+    pub facts-once : distinct sameFact (s .facts) ≡ true
+    pub inv : Inv (matches D y) v (λ f. In f (s .facts)) (sum c (s .running))
+
+  -- what an allowed step gives the argument
+  record Taken (s : State) (es : List Event) : Type 0 where
+    are-open : (e : Event) → In e es → isOpen (s .running) e ≡ true
+    conditions : all (conditionsHold D (s .facts)) es ≡ true
+    apart : independent D es ≡ true
+    acts : (e : Event) → In e es → Act (matches D y) v (eventFacts D e) (starts c e) (ends c e)
+    ended : sum c (closeAll es (s .running)) + sum (ends c) es ≡ sum c (s .running)
+    moved : sum c (closeAll es (s .running) ++ openedBy D es) + sum (ends c) es ≡ sum c (s .running) + sum (starts c) es
+
+  taken : (s : State) (es : List Event) → InjectiveStep D es → allowed D s es ≡ true → Taken s es
+  unfolding allowed
+  taken s es l al =
+      let op : (e : Event) → In e es → isOpen (s .running) e ≡ true = λ e m. all-in (isOpen (s .running)) es (and-l _ _ (and-l _ _ (and-l _ _ al))) m in
+      record {
+        are-open = op;
+        conditions = and-r (all (isOpen (s .running)) es) _ (and-l _ _ (and-l _ _ al));
+        apart = and-r (all (isOpen (s .running)) es && all (conditionsHold D (s .facts)) es && all (overAllHold D (s .facts)) (s .running)) _ al;
+        acts = λ e m. event-act (e .moment) (e .ground) (all-in (legal D) es (l .legal-events) m) (all-in injective es (l .injective-events) m);
+        ended = closeAll-sum c es (s .running) op (l .different);
+        moved = running-sum c D not-lasting es (s .running) op (l .different);
+      }
+
+  guarded-next : (s : State) (es : List Event) → InjectiveStep D es → allowed D s es ≡ true → Guarded s → Guarded (next D s es)
+  unfolding next
+  guarded-next s es l al k =
+      let t = taken s es l al in
+      let ended = t .ended in
+      record {
+        facts-once = distinct-after D (s .facts) es (k .facts-once);
+        inv = inv-less (matches D y) v (after-in D (s .facts) es)
+            (inv-after (matches D y) v (eventFacts D) (starts c) (ends c) (λ f. In f (s .facts)) es (sum c (s .running)) (sum c (closeAll es (s .running) ++ openedBy D es)) (k .inv)
+            (λ e m. holds-of D (s .facts) e (all-in (conditionsHold D (s .facts)) es (t .conditions) m)) (quiets-of D es (t .apart)) (t .acts) (omega arith) (t .moved));
+      }
+
+  guarded-weight : (s : State) → Guarded s → weight D y (s .facts) ≤ 1
+  unfolding weight
+  guarded-weight s k = single-count (matches D y) sameFact fact-self (s .facts) (k .facts-once) (k .inv .single)
+
+  guarded-start : (fs : List Fact) → weight D y (startState fs .facts) ≤ 1 → Guarded (startState fs)
+  unfolding weight
+  guarded-start fs w = record {
+    facts-once = distinct-dedup sameFact fs;
+    inv = record { single = count-single (matches D y) (dedup sameFact fs) w; free = λ f i t. refl; few = omega arith; none-open = λ _. refl };
+  }
+
+  guarded-run : (s : State) (steps : List (List Event)) → ((es : List Event) → In es steps → InjectiveStep D es) → Guarded s
+      → (r : State) → In r (run D s steps) → Guarded r
+  unfolding run
+  guarded-run s [] l k r (List·Memᴰ·head e) = rw e k
+  guarded-run s [] l k r (List·Memᴰ·tail m) = absurd (List·Memᴰ·not-nil m)
+  guarded-run s (es ∷ rest) l k r (List·Memᴰ·head e) = rw e k
+  guarded-run s (es ∷ rest) l k r (List·Memᴰ·tail m) =
+      go (allowed D s es) refl
+      (λ al i. guarded-run (next D s es) rest (λ ds n. l ds (List·Memᴰ·tail n)) (guarded-next s es (l es (List·Memᴰ·head refl)) al k) r i) m
+    where
+      go : (b : Bool) → allowed D s es ≡ b → (allowed D s es ≡ true → In r (run D (next D s es) rest) → Guarded r)
+          → In r (cond b (run D (next D s es) rest) []) → Guarded r
+      go true e ih m = ih e m
+      go false e ih m = absurd (List·Memᴰ·not-nil m)
+
+  -- ---- verdict 1
+
+  abbrev pub counted : State → ℕ
+  counted s = weight D y (s .facts) + sum c (s .running)
+
+  counted-few : (s : State) → Guarded s → counted s ≤ 1
+  unfolding weight
+  counted-few s k = go (guarded-weight s k) (either (countBy (matches D y) (s .facts)) refl)
+    where
+      either : (n : ℕ) → countBy (matches D y) (s .facts) ≡ n → (countBy (matches D y) (s .facts) ≡ 0) ⊎ (sum c (s .running) ≡ 0)
+      either zero e = inl e
+      either (suc n) e = let r = count-some (matches D y) (s .facts) (omega arith) in inr (k .inv .free (r .0) (r .1) (r .2))
+
+      go : countBy (matches D y) (s .facts) ≤ 1 → (countBy (matches D y) (s .facts) ≡ 0) ⊎ (sum c (s .running) ≡ 0)
+          → countBy (matches D y) (s .facts) + sum c (s .running) ≤ 1
+      go w (inl z) = let f = k .inv .few in omega arith
+      go w (inr z) = omega arith
+
+  counted-next : v ≡ false → (s : State) (es : List Event) → InjectiveStep D es → allowed D s es ≡ true → Guarded s → counted (next D s es) ≤ counted s
+  unfolding next weight
+  counted-next vf s es l al k = go (counted s) refl
+    where
+      go : (n : ℕ) → counted s ≡ n → counted (next D s es) ≤ counted s
+      go (suc n) e = let f = counted-few (next D s es) (guarded-next s es l al k) in omega arith
+      go zero e =
+          let t = taken s es l al in
+          let ended = t .ended in
+          let moved = t .moved in
+          let na = none-after (matches D y) v (eventFacts D) (starts c) (ends c) (λ f. In f (s .facts)) es vf (λ f m t. let p = count-pos (matches D y) m t in omega arith)
+          (λ e m. holds-of D (s .facts) e (all-in (conditionsHold D (s .facts)) es (t .conditions) m)) (t .acts) (omega arith) in
+          let z = count-none (matches D y) (factsAfter D (s .facts) es) (λ f m t. na .0 f (after-in D (s .facts) es f m) t) in
+          let j = na .1 in
+          omega arith
+
+  total-counted : v ≡ false → (s : State) → total D y s ≡ counted s
+  unfolding total measure
+  total-counted vf s = rw vf refl
+
+  never-rising-cons : (n : ℕ) (s : State) (steps : List (List Event)) → total D y s ≤ n → neverRising (map (total D y) (run D s steps)) ≡ true
+      → neverRising (n ∷ map (total D y) (run D s steps)) ≡ true
+  unfolding run
+  never-rising-cons n s [] le h = and-i (le-leb (total D y s) n le) h
+  never-rising-cons n s (es ∷ rest) le h = and-i (le-leb (total D y s) n le) h
+
+  never-rising-run : v ≡ false → (s : State) (steps : List (List Event)) → ((es : List Event) → In es steps → InjectiveStep D es) → Guarded s
+      → neverRising (map (total D y) (run D s steps)) ≡ true
+  unfolding run
+  never-rising-run vf s [] l k = refl
+  never-rising-run vf s (es ∷ rest) l k =
+      go (allowed D s es) refl (λ al. never-rising-run vf (next D s es) rest (λ ds n. l ds (List·Memᴰ·tail n)) (guarded-next s es (l es (List·Memᴰ·head refl)) al k))
+    where
+      falls : allowed D s es ≡ true → total D y (next D s es) ≤ total D y s
+      falls al =
+          let f = counted-next vf s es (l es (List·Memᴰ·head refl)) al k in
+          let p = total-counted vf s in
+          let q = total-counted vf (next D s es) in omega arith
+
+      go : (b : Bool) → allowed D s es ≡ b → (allowed D s es ≡ true → neverRising (map (total D y) (run D (next D s es) rest)) ≡ true)
+          → neverRising (total D y s ∷ map (total D y) (cond b (run D (next D s es) rest) [])) ≡ true
+      go true e ih = never-rising-cons (total D y s) (next D s es) rest (falls e) (ih e)
+      go false e ih = refl
+
+-- ---- the claims
+
+pub decided-number : (D : Domain) → decided D .number ≡ decision D .number
+unfolding decided
+decided-number D = go (decision D .number) (decision D .place)
+  where
+    go : (n : ℕ) (o : Option Row) → answerRow n o .number ≡ n
+    go n none = refl
+    go n (some r) = refl
+
+pub steps-injective : (D : Domain) (objs : List Object) (fs : List Fact) (y : List Object) (steps : List (List Event)) → Chosen D objs fs y steps
+    → (es : List Event) → In es steps → InjectiveStep D es
+unfolding legalStep
+steps-injective D objs fs y steps ch es m =
+    let l = all-in (legalStep D) steps (ch .steps-legal) m in
+    let ev = all-in (all (isEvent D objs)) steps (ch .events) m in
+    record {
+      legal-events = and-l _ _ l;
+      different = and-r (all (legal D) es) _ l;
+      injective-events = all-of injective es (λ e n. and-r (legal D e) _ (and-l _ _ (all-in (isEvent D objs) es ev n)));
+    }
+
+safe : (D : Domain) → wellFormed D ≡ true → (v : Bool) → decision D .number ≡ cond v 0 1 → Safe D
+safe D wf v acc objs fs y steps ch w s m =
+    guarded-weight D wf v acc y s (guarded-run D wf v acc y (startState fs) steps (steps-injective D objs fs y steps ch) (guarded-start D wf v acc y fs w) s m)
+
+pub safety : Safety
+safety D wf (inl z) = safe D wf true (sym (decided-number D) ∙ z)
+safety D wf (inr z) = safe D wf false (sym (decided-number D) ∙ z)
+
+pub never-rises : NeverRises
+never-rises D wf z objs fs y steps ch w =
+    let acc : decision D .number ≡ 1 = sym (decided-number D) ∙ z in
+    never-rising-run D wf false acc y refl (startState fs) steps (steps-injective D objs fs y steps ch) (guarded-start D wf false acc y fs w)

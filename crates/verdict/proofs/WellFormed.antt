@@ -1,0 +1,94 @@
+-- What a well-formed domain gives the proofs, as facts. Assumes nothing.
+use mathlib.Core.Path.{_≡_, sym, ap, _∙_}
+use mathlib.Core.Bool.{Bool, true, not, _&&_}
+use mathlib.Core.List.{List, [], _∷_, List·Memᴰ·head, List·Memᴰ·tail, List·Memᴰ·not-nil}
+use Prim.Native.Nat.{ℕ, _<_}
+use lib.Dec.{eqb, ltb, leb}
+use lib.ListN.{length}
+use borrow.Author.Tests.{ltb-true, eq-eqb}
+use Rattle.records.specs.Lists.{In, all, countBy, pairwise, distinct}
+use Rattle.records.proofs.Lists.{and-l, and-r, all-in, getD-in, not-true, clash}
+use Rattle.literals.specs.declared.Variable.{Variable}
+use Rattle.literals.specs.Domain.{Literal, Action, Component, isCounted, keyBelow, eachKeyOnce, keysOf, labelsFit, Domain, noAction, action}
+use Rattle.literals.specs.Decode.{repeats, contradicts}
+use Rattle.verdict.specs.Claims.{hasArity, wellFormedAction, wellFormedTemplate, wellFormed}
+use Rattle.verdict.proofs.Tuples.{Below}
+
+-- ---- actions
+
+abbrev literalFits : Domain → Action → Literal → Bool
+literalFits D a l = hasArity D (l .atom .rel) (l .atom .args) && all (λ (v : Variable). ltb (v .0) (a .vars)) (l .atom .args)
+
+pub literal-arity : (D : Domain) (a : Action) → wellFormedAction D a ≡ true → (l : Literal) → In l (a .lits) → hasArity D (l .atom .rel) (l .atom .args) ≡ true
+unfolding wellFormedAction
+literal-arity D a ok l m = and-l _ _ (all-in (literalFits D a) (a .lits) (and-l _ _ ok) m)
+
+pub literal-below : (D : Domain) (a : Action) → wellFormedAction D a ≡ true → (l : Literal) → In l (a .lits) → Below (a .vars) (l .atom .args)
+unfolding wellFormedAction
+literal-below D a ok l m v k =
+    ltb-true (v .0) (a .vars)
+    (all-in (λ (v : Variable). ltb (v .0) (a .vars)) (l .atom .args)
+    (and-r (hasArity D (l .atom .rel) (l .atom .args)) _ (all-in (literalFits D a) (a .lits) (and-l _ _ ok) m)) k)
+
+pub literals-apart : (D : Domain) (a : Action) → wellFormedAction D a ≡ true → pairwise (λ l m. not (repeats l m) && not (contradicts l m)) (a .lits) ≡ true
+unfolding wellFormedAction
+literals-apart D a ok = and-r (all (literalFits D a) (a .lits)) _ ok
+
+-- the action of a number in the file
+pub action-in : (D : Domain) (i : ℕ) → i < length (D .actions) → In (action D i) (D .actions)
+unfolding action
+action-in D i h = getD-in (D .actions) i noAction h
+
+pub action-well-formed : (D : Domain) → wellFormed D ≡ true → (i : ℕ) → i < length (D .actions) → wellFormedAction D (action D i) ≡ true
+unfolding wellFormed
+action-well-formed D wf i h = all-in (wellFormedAction D) (D .actions) (and-l _ _ wf) (action-in D i h)
+
+-- ---- the template
+
+pub template-well-formed : (D : Domain) → wellFormed D ≡ true → wellFormedTemplate D ≡ true
+unfolding wellFormed
+template-well-formed D wf = and-r (all (wellFormedAction D) (D .actions)) _ wf
+
+module _ (D : Domain) (ok : wellFormedTemplate D ≡ true) where
+  once-each : distinct (λ (c d : Component). eqb (c .rel) (d .rel)) (D .template) ≡ true
+  unfolding wellFormedTemplate
+  once-each = and-l _ _ ok
+
+  -- one component a relation
+  pub one-component : (c d : Component) → In c (D .template) → In d (D .template) → c .rel ≡ d .rel → c ≡ d
+  one-component = go (D .template) once-each
+    where
+      differ : (c d : Component) (cs : List Component) → all (λ (e : Component). not (eqb (c .rel) (e .rel))) cs ≡ true → In d cs → c .rel ≡ d .rel → ⊥
+      differ c d cs o m e = clash (eq-eqb (c .rel) (d .rel) e) (not-true _ (all-in (λ (e : Component). not (eqb (c .rel) (e .rel))) cs o m))
+
+      go : (cs : List Component) → distinct (λ (c d : Component). eqb (c .rel) (d .rel)) cs ≡ true → (c d : Component) → In c cs → In d cs → c .rel ≡ d .rel → c ≡ d
+      go [] o c d m n e = absurd (List·Memᴰ·not-nil m)
+      go (x ∷ xs) o c d (List·Memᴰ·head p) (List·Memᴰ·head q) e = p ∙ sym q
+      go (x ∷ xs) o c d (List·Memᴰ·head p) (List·Memᴰ·tail n) e = absurd (differ x d xs (and-l _ _ o) n (sym (ap (λ (z : Component). z .rel) p) ∙ e))
+      go (x ∷ xs) o c d (List·Memᴰ·tail m) (List·Memᴰ·head q) e = absurd (differ x c xs (and-l _ _ o) m (sym (ap (λ (z : Component). z .rel) q) ∙ sym e))
+      go (x ∷ xs) o c d (List·Memᴰ·tail m) (List·Memᴰ·tail n) e = go xs (and-r (all (λ (z : Component). not (eqb (x .rel) (z .rel))) xs) _ o) c d m n e
+
+  module _ (c : Component) (m : In c (D .template)) where
+    fits : hasArity D (c .rel) (c .labels) && labelsFit (keysOf (D .template)) (c .labels) ≡ true
+    unfolding wellFormedTemplate
+    fits =
+        all-in (λ (c : Component). hasArity D (c .rel) (c .labels) && labelsFit (keysOf (D .template)) (c .labels)) (D .template)
+        (and-r (distinct (λ (c d : Component). eqb (c .rel) (d .rel)) (D .template)) _ ok) m
+
+    pub component-arity : hasArity D (c .rel) (c .labels) ≡ true
+    component-arity = and-l _ _ fits
+
+    labels-fit : labelsFit (keysOf (D .template)) (c .labels) ≡ true
+    labels-fit = and-r (hasArity D (c .rel) (c .labels)) _ fits
+
+    pub keys-below : all (keyBelow (keysOf (D .template))) (c .labels) ≡ true
+    unfolding labelsFit
+    keys-below = and-l _ _ (and-l _ _ labels-fit)
+
+    pub keys-once : eachKeyOnce (keysOf (D .template)) (c .labels) ≡ true
+    unfolding labelsFit
+    keys-once = and-r (all (keyBelow (keysOf (D .template))) (c .labels)) _ (and-l _ _ labels-fit)
+
+    pub counted-few : leb (countBy isCounted (c .labels)) 1 ≡ true
+    unfolding labelsFit
+    counted-few = and-r (all (keyBelow (keysOf (D .template))) (c .labels) && eachKeyOnce (keysOf (D .template)) (c .labels)) _ labels-fit
