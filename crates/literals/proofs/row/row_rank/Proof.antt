@@ -1,0 +1,42 @@
+use borrow.Author.Needs.{needs}
+use Rattle.literals.proofs.row.row_rank.Statement.{statement}
+use Rattle.literals.proofs.row.row_rank.Tie as tie
+use Rattle.literals.proofs.row.row_rank.Reads as reads
+use Rattle.literals.proofs.row.row_rank.Lts as lts
+use Rattle.literals.proofs.role_rank.Reads as role-rank-reads
+use Rattle.literals.proofs.row.same_atom.Reads as same-atom-reads
+
+-- src/row.rt:53:8
+same-atom-requires : tie.Need-same-atom-requires
+same-atom-requires c κs = search needs
+
+-- src/row.rt:54:26
+shared-slice-read-role-rank : tie.Need-shared-slice-read-role-rank
+shared-slice-read-role-rank c = search needs
+
+-- src/row.rt:54:32
+shared-slice-read-role-rank-2 : tie.Need-shared-slice-read-role-rank-2
+shared-slice-read-role-rank-2 c = search needs
+
+-- src/row.rt:54:9
+role-rank-requires : tie.Need-role-rank-requires
+role-rank-requires c κs = search needs
+
+-- src/row.rt:54:9
+returns : tie.Need-returns
+returns c = ?
+
+-- src/row.rt:49:1
+returns-2 : tie.Need-returns-2
+returns-2 c = ?
+
+pub row-rank-spec : {M : Type 1} → statement M
+row-rank-spec =
+    tie.close
+    (tie.spec
+    same-atom-requires
+    shared-slice-read-role-rank
+    shared-slice-read-role-rank-2
+    role-rank-requires
+    returns
+    returns-2)
