@@ -11,7 +11,7 @@ use lib.Seq.{drop-cons, getD-drop, getD-take, getD-append-add, drop-drop, length
 use borrow.Author.Tests.{eq-eqb, ne-eqb}
 use Rattle.records.specs.Lists.{any, sameList}
 use Rattle.literals.specs.Decode.{byte}
-use Rattle.literals.specs.Table.{rowOf, rowRank, rowsIn, rowsRank}
+use Rattle.literals.specs.Table.{rowOf, roleRank, rowRank, rowsIn, rowsRank}
 
 -- ---- a payload's row
 
@@ -54,6 +54,9 @@ module _ (x y : List ℕ) (i : ℕ) where
 
 -- ---- the row at an offset of a memory
 
+pub part-first : (t : List ℕ) (at : ℕ) → byte (take 8 (drop at t)) 0 ≡ getD t at 0
+part-first t at = getD-take 8 (drop at t) 0 0 (omega arith) ∙ getD-drop at t 0 0 ∙ ap (λ (k : ℕ). getD t k 0) (omega arith)
+
 module _ (t : List ℕ) (at : ℕ) (h : at + 8 ≤ length t) where
   pub length-part : length (take 8 (drop at t)) ≡ 8
   length-part = length-take-le 8 (drop at t) (simp length-drop (omega arith))
@@ -74,15 +77,12 @@ rows-end t n i h = let e : n - i ≡ 0 = omega arith in rw e
 
 -- whether a row from row i on starts with b
 module _ (t : List ℕ) (b n i : ℕ) (h : i < n) where
-  first : byte (take 8 (drop (8 * i) t)) 0 ≡ getD t (8 * i) 0
-  first = getD-take 8 (drop (8 * i) t) 0 0 (omega arith) ∙ getD-drop (8 * i) t 0 0 ∙ ap (λ (k : ℕ). getD t k 0) (omega arith)
-
   pub rows-hit : getD t (8 * i) 0 ≡ b → any (λ row. eqb b (byte row 0)) (rowsIn (n - i) (drop (8 * i) t)) ≡ true
-  rows-hit e = rw (rows-more t n i h, first, eq-eqb b (getD t (8 * i) 0) (sym e))
+  rows-hit e = rw (rows-more t n i h, part-first t (8 * i), eq-eqb b (getD t (8 * i) 0) (sym e))
 
   pub rows-miss : (getD t (8 * i) 0 ≡ b → ⊥)
       → any (λ row. eqb b (byte row 0)) (rowsIn (n - i) (drop (8 * i) t)) ≡ any (λ row. eqb b (byte row 0)) (rowsIn (n - (i + 1)) (drop (8 * (i + 1)) t))
-  rows-miss e = rw (rows-more t n i h, first, ne-eqb b (getD t (8 * i) 0) (λ f. e (sym f)))
+  rows-miss e = rw (rows-more t n i h, part-first t (8 * i), ne-eqb b (getD t (8 * i) 0) (λ f. e (sym f)))
 
 -- the atom of a payload and of the row at an offset, from byte i on
 module _ (p t : List ℕ) (at i : ℕ) (g : length p ≤ 8) (h : at + 8 ≤ length t) where
@@ -95,3 +95,24 @@ module _ (p t : List ℕ) (at i : ℕ) (g : length p ≤ 8) (h : at + 8 ≤ leng
 
   pub atom-end : 8 ≤ i → sameList eqb (drop i (rowOf p)) (drop i (take 8 (drop at t))) ≡ true
   atom-end l = same-end (rowOf p) (take 8 (drop at t)) i (omega (arith, length-row p g)) (omega (arith, length-part t at h))
+
+-- ---- ranks
+
+pub rank-same : (p t : List ℕ) (at r : ℕ) → sameList eqb (drop 1 (rowOf p)) (drop 1 (take 8 (drop at t))) ≡ true → r ≡ roleRank (getD p 0 0) (getD t at 0) → r ≡ rowRank p (take 8 (drop at t))
+unfolding rowRank
+rank-same p t at r e f = rw (e, part-first t at) f
+
+pub rank-other : (p t : List ℕ) (at : ℕ) → sameList eqb (drop 1 (rowOf p)) (drop 1 (take 8 (drop at t))) ≡ false → 0 ≡ rowRank p (take 8 (drop at t))
+unfolding rowRank
+rank-other p t at e = rw e
+
+-- the loop over the rows: of the rank so far, and the rows from row i on
+module _ (p t : List ℕ) (n i rank : ℕ) where
+  pub ranks-more : (r s : ℕ) → i < n → r ≡ rowRank p (take 8 (drop (8 * i) t)) → s ≡ max rank r
+      → max s (rowsRank p (rowsIn (n - (i + 1)) (drop (8 * (i + 1)) t))) ≡ max rank (rowsRank p (rowsIn (n - i) (drop (8 * i) t)))
+  unfolding rowsRank
+  ranks-more r s h e f = rw (rows-more t n i h, ← e, f) (omega arith)
+
+  pub ranks-end : n ≤ i → max rank (rowsRank p (rowsIn (n - i) t)) ≡ rank
+  unfolding rowsRank
+  ranks-end h = rw (rows-end t n i h) (omega arith)

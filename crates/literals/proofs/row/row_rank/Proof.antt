@@ -1,4 +1,7 @@
+-- `row_rank` meets its contract: the rank of the roles where the atoms are the same. Assumes nothing.
 use borrow.Author.Needs.{needs}
+use mathlib.Core.Path.{sym, _∙_}
+use Rattle.literals.proofs.Rows.{rank-same, rank-other}
 use Rattle.literals.proofs.row.row_rank.Statement.{statement}
 use Rattle.literals.proofs.row.row_rank.Tie as tie
 use Rattle.literals.proofs.row.row_rank.Reads as reads
@@ -24,11 +27,11 @@ role-rank-requires c κs = search needs
 
 -- src/row.rt:54:9
 returns : tie.Need-returns
-returns c = ?
+returns c = let a = c .before .before .before .before .before .before .before .args in rank-same (a .p .now) (a .table .now) (a .at) (c .role-rank .result) (sym (c .before .before .before .before .same-atom .ensures) ∙ c .before .before .before .if1 .taken) (c .role-rank .ensures)
 
 -- src/row.rt:49:1
 returns-2 : tie.Need-returns-2
-returns-2 c = ?
+returns-2 c = let a = c .before .before .before .before .args in rank-other (a .p .now) (a .table .now) (a .at) (sym (c .before .same-atom .ensures) ∙ c .if1 .left)
 
 pub row-rank-spec : {M : Type 1} → statement M
 row-rank-spec =
