@@ -1,11 +1,11 @@
 -- Laws of lent memory whose first bytes are new, and of what fills it. Assumes nothing.
-use mathlib.Core.Path.{_≡_, refl, sym, ap, ap₂, _∙_}
+use mathlib.Core.Path.{_≡_, refl, ap, ap₂, _∙_}
 use mathlib.Core.List.{List, [], _∷_, _++_, append-assoc}
 use Prim.Native.Nat.{ℕ, zero, suc, _+_, _-_, _≤_, _<_}
 use native.Mathlib.Nat.{sub-zero, zero-sub, suc-sub-suc}
 use native.Mathlib.Numerals.{add-one}
 use native.Mathlib.Omega.{arith}
-use lib.ListN.{length, getD, set, take, drop, replicate, length-append, length-drop}
+use lib.ListN.{length, getD, set, drop, replicate, length-append, length-drop}
 use lib.Seq.{set-at, take-at, take-all, drop-cons, drop-drop, drop-append-add, paste}
 use Rattle.records.specs.Memory.{over}
 

@@ -4,18 +4,13 @@ use Rattle.literals.proofs.Rows.{row-inside, row-behind}
 use borrow.Author.Needs.{needs}
 use Rattle.literals.proofs.row.row_byte.Statement.{statement}
 use Rattle.literals.proofs.row.row_byte.Tie as tie
-use Rattle.literals.proofs.row.row_byte.Reads as reads
-use Rattle.literals.proofs.row.row_byte.Lts as lts
 
--- src/row.rt:18:16
 shared-slice-read-result : tie.Need-shared-slice-read-result
 shared-slice-read-result c = search needs
 
--- src/row.rt:18:9
 returns : tie.Need-returns
 returns c = let a = c .before .before .args in row-inside (a .p .now) (a .i) (omega arith)
 
--- src/row.rt:13:1
 returns-2 : tie.Need-returns-2
 returns-2 c = let a = c .before .args in row-behind (a .p .now) (a .i) (omega arith) (omega arith)
 

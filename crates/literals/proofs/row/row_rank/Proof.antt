@@ -4,32 +4,22 @@ use mathlib.Core.Path.{sym, _∙_}
 use Rattle.literals.proofs.Rows.{rank-same, rank-other}
 use Rattle.literals.proofs.row.row_rank.Statement.{statement}
 use Rattle.literals.proofs.row.row_rank.Tie as tie
-use Rattle.literals.proofs.row.row_rank.Reads as reads
-use Rattle.literals.proofs.row.row_rank.Lts as lts
-use Rattle.literals.proofs.role_rank.Reads as role-rank-reads
-use Rattle.literals.proofs.row.same_atom.Reads as same-atom-reads
 
--- src/row.rt:53:8
 same-atom-requires : tie.Need-same-atom-requires
 same-atom-requires c κs = search needs
 
--- src/row.rt:54:26
 shared-slice-read-role-rank : tie.Need-shared-slice-read-role-rank
 shared-slice-read-role-rank c = search needs
 
--- src/row.rt:54:32
 shared-slice-read-role-rank-2 : tie.Need-shared-slice-read-role-rank-2
 shared-slice-read-role-rank-2 c = search needs
 
--- src/row.rt:54:9
 role-rank-requires : tie.Need-role-rank-requires
 role-rank-requires c κs = search needs
 
--- src/row.rt:54:9
 returns : tie.Need-returns
 returns c = let a = c .before .before .before .before .before .before .before .args in rank-same (a .p .now) (a .table .now) (a .at) (c .role-rank .result) (sym (c .before .before .before .before .same-atom .ensures) ∙ c .before .before .before .if1 .taken) (c .role-rank .ensures)
 
--- src/row.rt:49:1
 returns-2 : tie.Need-returns-2
 returns-2 c = let a = c .before .before .before .before .args in rank-other (a .p .now) (a .table .now) (a .at) (sym (c .before .same-atom .ensures) ∙ c .if1 .left)
 

@@ -9,10 +9,6 @@ use Rattle.literals.specs.Table.{rowsIn, rowsRank}
 use Rattle.literals.proofs.Rows.{ranks-more, ranks-end}
 use Rattle.literals.proofs.row.rows_rank.Statement.{statement}
 use Rattle.literals.proofs.row.rows_rank.Tie as tie
-use Rattle.literals.proofs.row.rows_rank.Reads as reads
-use Rattle.literals.proofs.row.rows_rank.Lts as lts
-use Rattle.literals.proofs.row.larger.Reads as larger-reads
-use Rattle.literals.proofs.row.row_rank.Reads as row-rank-reads
 
 abbrev Inv-loop : tie.InvT-loop
 Inv-loop table from to p rank₀ i₀ rank i = (i ≤ to) × (max rank (rowsRank p (rowsIn (to - i) (drop (8 * i) table))) ≡ rowsRank p (rowsIn (to - from) (drop (8 * from) table)))
@@ -20,37 +16,29 @@ Inv-loop table from to p rank₀ i₀ rank i = (i ≤ to) × (max rank (rowsRank
 abbrev μ-loop : tie.MeasureT-loop
 μ-loop table from to p rank₀ i₀ rank i = to - i
 
--- src/row.rt:75:5
 loop-holds : tie.Need-loop-holds Inv-loop μ-loop
 loop-holds c = (omega arith, zero-max _)
 
--- src/row.rt:76:45
 mul-row-rank : tie.Need-mul-row-rank Inv-loop μ-loop
 mul-row-rank c = omega arith
 
--- src/row.rt:76:29
 row-rank-requires : tie.Need-row-rank-requires Inv-loop μ-loop
 row-rank-requires c κs = let h = c .before .before .before .before .pre in (omega arith, omega arith, omega arith)
 
--- src/row.rt:76:9
 larger-requires : tie.Need-larger-requires Inv-loop μ-loop
 larger-requires c κs = search needs
 
--- src/row.rt:77:9
 add-i : tie.Need-add-i Inv-loop μ-loop
 add-i c = omega arith
 
--- src/row.rt:75:5
 loop-less : tie.Need-loop-less Inv-loop μ-loop
 loop-less c = omega arith
 
--- src/row.rt:75:5
 loop-again : tie.Need-loop-again Inv-loop μ-loop
 loop-again c = let a = c .before .before .before .before .before .before .args in
     let l = c .before .before .before .loop in
     (omega arith, ranks-more (a .p .now) (a .table .now) (a .to) (l .i) (l .rank) (c .before .row-rank .result) (c .larger .result) (omega arith) (c .before .row-rank .ensures) (c .larger .ensures) ∙ l .inv .1)
 
--- src/row.rt:69:1
 returns : tie.Need-returns Inv-loop μ-loop
 returns c = let a = c .before .before .before .before .args in
     let l = c .before .loop in
