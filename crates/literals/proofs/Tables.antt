@@ -39,8 +39,12 @@ module _ {A : Type 0} (f : A → List ℕ) where
   rows-flat [] rest h = refl
   rows-flat (x ∷ xs) rest h =
       let e = h x (List·Memᴰ·head refl) in
-      rw (append-assoc (f x) (flatMap f xs) rest, take-at (f x) (flatMap f xs ++ rest) 8 e, drop-at (f x) (flatMap f xs ++ rest) 8 e,
-      rows-flat xs rest (λ a m. h a (List·Memᴰ·tail m)))
+      rw (
+        append-assoc (f x) (flatMap f xs) rest,
+        take-at (f x) (flatMap f xs ++ rest) 8 e,
+        drop-at (f x) (flatMap f xs ++ rest) 8 e,
+        rows-flat xs rest (λ a m. h a (List·Memᴰ·tail m)),
+      )
 
   -- those of the later elements, from their first row on
   pub rows-behind : (xs ys : List A) (old : List ℕ) → ((a : A) → In a (xs ++ ys) → length (f a) ≡ 8)
@@ -215,12 +219,12 @@ literals-rank p (l ∷ ls) h k =
 -- "19 repeated in its role; 20 both true and false", by the highest rank
 pub literals-stop : (p : List ℕ) (ls : List Literal) → Comparable p → ((l : Literal) → In l ls → Kept l)
     → _≡_ {A = ℕ} (cond (eqb (rowsRank p (map literalRow ls)) 2) 19 (cond (eqb (rowsRank p (map literalRow ls)) 1) 20 0))
-      (cond (any (repeats (literalOf p)) ls) 19 (cond (any (contradicts (literalOf p)) ls) 20 0))
+    (cond (any (repeats (literalOf p)) ls) 19 (cond (any (contradicts (literalOf p)) ls) 20 0))
 literals-stop p ls h k =
     ap (λ (n : ℕ). cond (eqb n 2) 19 (cond (eqb n 1) 20 0)) (literals-rank p ls h k)
     ∙ told (any (repeats (literalOf p)) ls) (any (contradicts (literalOf p)) ls)
-    where
-      told : (r c : Bool) → _≡_ {A = ℕ} (cond (eqb (rank r c) 2) 19 (cond (eqb (rank r c) 1) 20 0)) (cond r 19 (cond c 20 0))
-      told true c = refl
-      told false true = refl
-      told false false = refl
+  where
+    told : (r c : Bool) → _≡_ {A = ℕ} (cond (eqb (rank r c) 2) 19 (cond (eqb (rank r c) 1) 20 0)) (cond r 19 (cond c 20 0))
+    told true c = refl
+    told false true = refl
+    told false false = refl

@@ -27,9 +27,9 @@ pub over-paste : (new old s : List ℕ) (at n : ℕ) → length new ≡ at → l
 unfolding over
 over-paste new old s at n e f =
     ap₂ _++_ (ap₂ _++_ (take-at new (drop (length new) old) at e) (take-all n s (omega arith))) behind
-    where
-      behind : drop (at + n) (new ++ drop (length new) old) ≡ drop (length (new ++ s)) old
-      behind = rw (← e, ← f, drop-append-add, drop-drop, length-append)
+  where
+    behind : drop (at + n) (new ++ drop (length new) old) ≡ drop (length (new ++ s)) old
+    behind = rw (← e, ← f, drop-append-add, drop-drop, length-append)
 
 -- ---- fills
 

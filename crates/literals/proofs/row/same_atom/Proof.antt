@@ -42,10 +42,11 @@ loop-less c = omega arith
 
 loop-again : tie.Need-loop-again Inv-loop μ-loop
 loop-again c = let a = c .before .before .before .before .before .before .before .args in
-    let l = c .before .before .before .before .loop in
-    (omega arith,
-    sym (atom-hit (a .p .now) (a .table .now) (a .at) (l .i) (omega arith) (omega arith) (c .before .before .row-byte .result) (omega arith) (c .before .before .row-byte .ensures) (c .if1 .left))
-    ∙ l .inv .1)
+    let l = c .before .before .before .before .loop in (
+      omega arith,
+      sym (atom-hit (a .p .now) (a .table .now) (a .at) (l .i) (omega arith) (omega arith) (c .before .before .row-byte .result) (omega arith) (c .before .before .row-byte .ensures) (c .if1 .left))
+          ∙ l .inv .1,
+    )
 
 returns-2 : tie.Need-returns-2 Inv-loop μ-loop
 returns-2 c = let a = c .before .before .before .before .args in
