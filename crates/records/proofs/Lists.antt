@@ -4,6 +4,8 @@ use mathlib.Core.Bool.{Bool, true, false, not, _&&_, _||_, cond, true≢false, f
 use mathlib.Core.Logic.{_⊎_, inl, inr}
 use mathlib.Core.List.{List, [], _∷_, _++_, map, flatMap, append-nil, List·Memᴰ·head, List·Memᴰ·tail, List·Memᴰ·not-nil, Memᴰ·cast, Memᴰ·append-left, Memᴰ·append-right, List·Memᴰ·append-cases}
 use Prim.Native.Nat.{ℕ, zero, suc, _+_, _≤_, _<_}
+use mathlib.Core.List.{List, [], _∷_, _++_, append-assoc, map, flatMap, List·Memᴰ·head, List·Memᴰ·tail, List·Memᴰ·not-nil, Memᴰ·cast, Memᴰ·append-left, Memᴰ·append-right, List·Memᴰ·append-cases}
+use Prim.Native.Nat.{ℕ, zero, suc, _+_, _<_}
 use native.Mathlib.Omega.{arith}
 use lib.Dec.{eqb}
 use lib.ListN.{length, getD}
@@ -380,3 +382,11 @@ module _ {A : Type 0} where
             let n : elem eq x (filterBy other ds) ≡ false = off (elem eq x (filterBy other ds)) (λ m. clash (in-elem eq self (filter-in other ds (elem-in eq sound x (filterBy other ds) m) .0)) t) in
             let f : filterBy other (ds ++ (x ∷ [])) ≡ filterBy other ds ++ (x ∷ []) = filter-append other ds (x ∷ []) ∙ rw e in
             rw (n, f)
+pub any-map : {A B : Type 0} (f : A → B) (p : B → Bool) (l : List A) → any p (map f l) ≡ any (λ a. p (f a)) l
+any-map f p [] = refl
+any-map f p (x ∷ xs) = ap (λ (b : Bool). p (f x) || b) (any-map f p xs)
+
+pub flatMap-append : {A B : Type 0} (f : A → List B) (xs ys : List A) → flatMap f (xs ++ ys) ≡ flatMap f xs ++ flatMap f ys
+unfolding flatMap
+flatMap-append f [] ys = refl
+flatMap-append f (x ∷ xs) ys = rw (flatMap-append f xs ys, append-assoc)

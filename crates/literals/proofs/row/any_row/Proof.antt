@@ -1,45 +1,52 @@
+-- `any_row` meets its contract: no row before i starts with the byte, so the test is that of the rows from i on. Assumes nothing.
+use native.Mathlib.Omega.{arith}
+use mathlib.Core.Path.{_≡_, sym, ap, _∙_}
+use Prim.Native.Nat.{ℕ, _-_, _*_, _≤_}
+use native.Mathlib.Nat.{sub-zero}
+use lib.Dec.{eqb}
+use lib.ListN.{drop}
+use Rattle.records.specs.Lists.{any}
+use Rattle.literals.specs.Decode.{byte}
+use Rattle.literals.specs.Table.{rowsIn}
+use Rattle.literals.proofs.Rows.{rows-hit, rows-miss, rows-end}
 use Rattle.literals.proofs.row.any_row.Statement.{statement}
 use Rattle.literals.proofs.row.any_row.Tie as tie
-use Rattle.literals.proofs.row.any_row.Reads as reads
-use Rattle.literals.proofs.row.any_row.Lts as lts
 
 abbrev Inv-loop : tie.InvT-loop
-Inv-loop table n b i₀ i = ?
+Inv-loop table n b i₀ i = (i ≤ n) × (any (λ row. eqb b (byte row 0)) (rowsIn (n - i) (drop (8 * i) table)) ≡ any (λ row. eqb b (byte row 0)) (rowsIn n table))
 
 abbrev μ-loop : tie.MeasureT-loop
-μ-loop table n b i₀ i = ?
+μ-loop table n b i₀ i = n - i
 
--- src/row.rt:88:5
 loop-holds : tie.Need-loop-holds Inv-loop μ-loop
-loop-holds c = ?
+loop-holds c = (omega arith, ap (λ (k : ℕ). any (λ row. eqb (c .args .b) (byte row 0)) (rowsIn k (c .args .table .now))) (sub-zero (c .args .n)))
 
--- src/row.rt:89:18
 mul-if1 : tie.Need-mul-if1 Inv-loop μ-loop
-mul-if1 c = ?
+mul-if1 c = omega arith
 
--- src/row.rt:89:12
 shared-slice-read-if1 : tie.Need-shared-slice-read-if1 Inv-loop μ-loop
-shared-slice-read-if1 c = ?
+shared-slice-read-if1 c = omega arith
 
--- src/row.rt:90:13
 returns : tie.Need-returns Inv-loop μ-loop
-returns c = ?
+returns c = let a = c .before .before .before .before .args in
+    let l = c .before .before .before .loop in
+    sym (rows-hit (a .table .now) (a .b) (a .n) (l .i) (omega arith) (c .if1 .taken)) ∙ l .inv .1
 
--- src/row.rt:92:9
 add-i : tie.Need-add-i Inv-loop μ-loop
-add-i c = ?
+add-i c = omega arith
 
--- src/row.rt:88:5
 loop-less : tie.Need-loop-less Inv-loop μ-loop
-loop-less c = ?
+loop-less c = omega arith
 
--- src/row.rt:88:5
 loop-again : tie.Need-loop-again Inv-loop μ-loop
-loop-again c = ?
+loop-again c = let a = c .before .before .before .before .args in
+    let l = c .before .before .before .loop in
+    (omega arith, sym (rows-miss (a .table .now) (a .b) (a .n) (l .i) (omega arith) (c .if1 .left)) ∙ l .inv .1)
 
--- src/row.rt:83:1
 returns-2 : tie.Need-returns-2 Inv-loop μ-loop
-returns-2 c = ?
+returns-2 c = let a = c .before .before .args in
+    let l = c .before .loop in
+    sym (ap (any (λ row. eqb (a .b) (byte row 0))) (rows-end (drop (8 * l .i) (a .table .now)) (a .n) (l .i) (omega arith))) ∙ l .inv .1
 
 pub any-row-spec : {M : Type 1} → statement M
 any-row-spec =

@@ -1,20 +1,18 @@
+-- `row_byte` meets its contract: within the payload its byte, behind it FF. Assumes nothing.
+use native.Mathlib.Omega.{arith}
+use Rattle.literals.proofs.Rows.{row-inside, row-behind}
 use borrow.Author.Needs.{needs}
 use Rattle.literals.proofs.row.row_byte.Statement.{statement}
 use Rattle.literals.proofs.row.row_byte.Tie as tie
-use Rattle.literals.proofs.row.row_byte.Reads as reads
-use Rattle.literals.proofs.row.row_byte.Lts as lts
 
--- src/row.rt:18:16
 shared-slice-read-result : tie.Need-shared-slice-read-result
 shared-slice-read-result c = search needs
 
--- src/row.rt:18:9
 returns : tie.Need-returns
-returns c = ?
+returns c = let a = c .before .before .args in row-inside (a .p .now) (a .i) (omega arith)
 
--- src/row.rt:13:1
 returns-2 : tie.Need-returns-2
-returns-2 c = ?
+returns-2 c = let a = c .before .args in row-behind (a .p .now) (a .i) (omega arith) (omega arith)
 
 pub row-byte-spec : {M : Type 1} → statement M
 row-byte-spec = tie.close (tie.spec shared-slice-read-result returns returns-2)
