@@ -1,9 +1,9 @@
 // The fields of a record: each check answers the number that stops it, or 0.
 ghost use mathlib.Core.Path.{_≡_};
-ghost use mathlib.Core.Bool.{not};
+ghost use mathlib.Core.Bool.{_&&_, _||_, not};
 ghost use mathlib.Core.List.{map};
 ghost use Prim.Native.Nat.{_+_, _<_, _≤_};
-ghost use lib.Dec.{eqb, leb};
+ghost use lib.Dec.{eqb, ltb, leb};
 ghost use lib.ListN.{length, drop, take};
 ghost use Rattle.records.specs.Lists.{any, countBy};
 ghost use Rattle.literals.specs.Domain.{isCounted};
@@ -74,6 +74,19 @@ pub fn count_from(s: &[u8], from: usize, b: u8) -> usize
     n
 }
 
+// Whether an action of this sort has no such role.
+fn no_role(sort: u8, role: u8) -> bool
+    ensures { λ r. ⌜ r ≡ (ltb 9 role || (ltb 3 role && not (eqb sort 1))) ⌝ }
+{
+    if 9 < role {
+        return true;
+    }
+    if 3 < role {
+        return sort != 1;
+    }
+    false
+}
+
 // A literal: role, relation, one variable per argument.
 pub fn literal_fields(relations: usize, arities: [u8; 64], vars: u8, sort: u8, p: &[u8]) -> u64
     requires { ⌜ relations ≤ 64 ⌝ }
@@ -82,14 +95,8 @@ pub fn literal_fields(relations: usize, arities: [u8; 64], vars: u8, sort: u8, p
     if p.len() < 2 {
         return 12;
     }
-    let role = p[0];
-    if 9 < role {
+    if no_role(sort, p[0]) {
         return 16;
-    }
-    if sort != 1 {
-        if 3 < role {
-            return 16;
-        }
     }
     let relation = wide(p[1]);
     if relations <= relation {
@@ -122,18 +129,27 @@ pub fn component_fields(relations: usize, arities: [u8; 64], p: &[u8]) -> u64
     12
 }
 
+// Whether a label is FF or a key below n.
+fn label_below(b: u8, n: usize) -> bool
+    ensures { λ r. ⌜ r ≡ (eqb b 255 || ltb b n) ⌝ }
+{
+    if b == 255 {
+        return true;
+    }
+    wide(b) < n
+}
+
 // Whether every label but FF is below n.
 pub fn keys_below(p: &[u8], n: usize) -> bool
     ensures { λ r. ⌜ r ≡ keysBelow n (drop 1 (now (p .entry))) ⌝ }
 {
     let mut i = 1;
     while i < p.len() {
-        if p[i] != 255 {
-            if n <= wide(p[i]) {
-                return false;
-            }
+        if label_below(p[i], n) {
+            i += 1;
+        } else {
+            return false;
         }
-        i += 1;
     }
     true
 }
@@ -161,9 +177,7 @@ pub fn label_fields(p: &[u8], n: usize) -> u64
             if count_from(p, 1, 255) <= 1 {
                 return 0;
             }
-            return 21;
         }
-        return 21;
     }
     21
 }
@@ -172,13 +186,8 @@ pub fn label_fields(p: &[u8], n: usize) -> u64
 pub fn count_keys(p: &[u8]) -> usize
     ensures { λ r. ⌜ r ≡ countBy (λ l. not (isCounted l)) (map labelOf (drop 1 (now (p .entry)))) ⌝ }
 {
-    let mut n: usize = 0;
-    let mut i = 1;
-    while i < p.len() {
-        if p[i] != 255 {
-            n += 1;
-        }
-        i += 1;
+    if p.len() == 0 {
+        return 0;
     }
-    n
+    p.len() - 1 - count_from(p, 1, 255)
 }
