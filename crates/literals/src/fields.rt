@@ -8,7 +8,7 @@ ghost use lib.ListN.{length, drop, take};
 ghost use Rattle.records.specs.Lists.{any, countBy};
 ghost use Rattle.literals.specs.Domain.{isCounted};
 ghost use Rattle.literals.specs.Decode.{relationStop, actionStop, labelOf, labelStop};
-ghost use Rattle.literals.specs.Table.{literalFields, componentFields, keysBelow, eachOnce};
+ghost use Rattle.literals.specs.Table.{argumentsStop, literalFields, componentFields, keysBelow, eachOnce};
 
 pub fn wide(b: u8) -> usize
     ensures { λ r. ⌜ (r ≡ b) × (r < 256) ⌝ }
@@ -87,6 +87,21 @@ fn no_role(sort: u8, role: u8) -> bool
     false
 }
 
+// The relation of a literal or component whose arguments start at `first` of its `given` bytes.
+fn arguments_stop(relations: usize, arities: [u8; 64], relation: u8, first: usize, given: usize) -> u64
+    requires { ⌜ (relations ≤ 64) × (first ≤ 2) ⌝ }
+    ensures { λ r. ⌜ r ≡ argumentsStop (take relations arities) relation first given ⌝ }
+{
+    let at = wide(relation);
+    if relations <= at {
+        return 17;
+    }
+    if given == first + wide(arities[at]) {
+        return 0;
+    }
+    12
+}
+
 // A literal: role, relation, one variable per argument.
 pub fn literal_fields(relations: usize, arities: [u8; 64], vars: u8, sort: u8, p: &[u8]) -> u64
     requires { ⌜ relations ≤ 64 ⌝ }
@@ -98,17 +113,14 @@ pub fn literal_fields(relations: usize, arities: [u8; 64], vars: u8, sort: u8, p
     if no_role(sort, p[0]) {
         return 16;
     }
-    let relation = wide(p[1]);
-    if relations <= relation {
-        return 17;
+    let stop = arguments_stop(relations, arities, p[1], 2, p.len());
+    if stop != 0 {
+        return stop;
     }
-    if p.len() == 2 + wide(arities[relation]) {
-        if any_from(p, 2, vars) {
-            return 18;
-        }
-        return 0;
+    if any_from(p, 2, vars) {
+        return 18;
     }
-    12
+    0
 }
 
 // A component: relation, one label per argument.
@@ -119,14 +131,7 @@ pub fn component_fields(relations: usize, arities: [u8; 64], p: &[u8]) -> u64
     if p.len() < 1 {
         return 12;
     }
-    let relation = wide(p[0]);
-    if relations <= relation {
-        return 17;
-    }
-    if p.len() == 1 + wide(arities[relation]) {
-        return 0;
-    }
-    12
+    arguments_stop(relations, arities, p[0], 1, p.len())
 }
 
 // Whether a label is FF or a key below n.
@@ -145,11 +150,10 @@ pub fn keys_below(p: &[u8], n: usize) -> bool
 {
     let mut i = 1;
     while i < p.len() {
-        if label_below(p[i], n) {
-            i += 1;
-        } else {
+        if !label_below(p[i], n) {
             return false;
         }
+        i += 1;
     }
     true
 }
@@ -172,12 +176,14 @@ pub fn label_fields(p: &[u8], n: usize) -> u64
     requires { ⌜ n ≤ 6 ⌝ }
     ensures { λ r. ⌜ r ≡ labelStop n (map labelOf (drop 1 (now (p .entry)))) ⌝ }
 {
-    if keys_below(p, n) {
-        if each_once(p, n) {
-            if count_from(p, 1, 255) <= 1 {
-                return 0;
-            }
-        }
+    if !keys_below(p, n) {
+        return 21;
+    }
+    if !each_once(p, n) {
+        return 21;
+    }
+    if count_from(p, 1, 255) <= 1 {
+        return 0;
     }
     21
 }

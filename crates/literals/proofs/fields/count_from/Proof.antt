@@ -1,5 +1,5 @@
 -- `literals::fields::count_from` meets its contract. The loop's invariant: those counted and those among the bytes left are all. Assumes nothing.
-use mathlib.Core.Path.{_≡_}
+use mathlib.Core.Path.{_≡_, sym}
 use mathlib.Core.Logic.{⊎-elim}
 use Prim.Native.Nat.{_+_, _-_, _≤_}
 use native.Mathlib.Omega.{arith}
@@ -35,7 +35,13 @@ loop-less : tie.Need-loop-less Inv-loop μ-loop
 loop-less c = omega arith
 
 loop-again : tie.Need-loop-again Inv-loop μ-loop
-loop-again c = ?
+loop-again c =
+    let p = eqb (c .before .before .before .before .args .b) in
+    let s = c .before .before .before .before .args .s .now in
+    let i = c .before .before .before .loop .i in
+    ⊎-elim (λ w. let e = count-hit p s i (omega arith) (eq-eqb _ _ (sym (w .0 .taken))) in (omega arith, omega arith))
+    (λ w. let e = count-miss p s i (omega arith) (ne-eqb _ _ (λ g. w .0 .left (sym g))) in (omega arith, omega arith))
+    (c .if1 .came)
 
 returns : tie.Need-returns Inv-loop μ-loop
 returns c = omega (arith, count-end (eqb (c .before .before .args .b)) (c .before .before .args .s .now) (c .before .loop .i) (omega arith))

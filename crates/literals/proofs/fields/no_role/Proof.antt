@@ -1,19 +1,17 @@
+-- `literals::fields::no_role` meets its contract. Assumes nothing.
+use native.Mathlib.Omega.{arith}
+use borrow.Author.Tests.{lt-ltb, le-ltb}
 use Rattle.literals.proofs.fields.no_role.Statement.{statement}
 use Rattle.literals.proofs.fields.no_role.Tie as tie
-use Rattle.literals.proofs.fields.no_role.Reads as reads
-use Rattle.literals.proofs.fields.no_role.Lts as lts
 
--- src/fields.rt:82:9
 returns : tie.Need-returns
-returns c = ?
+returns c = simp (lt-ltb 9 (c .before .args .role) (omega arith))
 
--- src/fields.rt:85:9
 returns-2 : tie.Need-returns-2
-returns-2 c = ?
+returns-2 c = let r = c .before .before .args .role in simp (le-ltb 9 r (omega arith), lt-ltb 3 r (omega arith))
 
--- src/fields.rt:78:1
 returns-3 : tie.Need-returns-3
-returns-3 c = ?
+returns-3 c = let r = c .before .before .args .role in simp (le-ltb 9 r (omega arith), le-ltb 3 r (omega arith))
 
 pub no-role-spec : {M : Type 1} → statement M
 no-role-spec = tie.close (tie.spec returns returns-2 returns-3)
