@@ -52,6 +52,10 @@ module _ (p : ℕ → Bool) (s : List ℕ) (i : ℕ) where
 
 -- ---- a relation that is known, and its arguments
 
+-- what was read at an index that is i
+pub read-at : (l : List ℕ) {a at i : ℕ} → at ≡ i → a ≡ getD l at 0 → a ≡ getD l i 0
+read-at l e f = f ∙ ap (λ (j : ℕ). getD l j 0) e
+
 module _ (n : ℕ) (arities : List ℕ) (relation first given : ℕ) (h : n ≤ length arities) where
   pub unknown : n ≤ relation → argumentsStop (take n arities) relation first given ≡ 17
   unfolding argumentsStop

@@ -1,3 +1,8 @@
+-- `literals::fields::component_fields` meets its contract. Assumes nothing.
+use native.Mathlib.Omega.{arith}
+use borrow.Author.Tests.{lt-ltb, le-ltb}
+use lib.ListN.{length}
+use Rattle.literals.specs.Table.{argumentsStop, componentFields}
 use borrow.Author.Needs.{needs}
 use Rattle.literals.proofs.fields.component_fields.Statement.{statement}
 use Rattle.literals.proofs.fields.component_fields.Tie as tie
@@ -5,21 +10,19 @@ use Rattle.literals.proofs.fields.component_fields.Reads as reads
 use Rattle.literals.proofs.fields.component_fields.Lts as lts
 use Rattle.literals.proofs.fields.arguments_stop.Reads as arguments-stop-reads
 
--- src/fields.rt:132:9
 returns : tie.Need-returns
-returns c = ?
+unfolding componentFields
+returns c = simp (lt-ltb (length (c .before .before .args .p .now)) 1 (omega arith))
 
--- src/fields.rt:134:40
 shared-slice-read-arguments-stop : tie.Need-shared-slice-read-arguments-stop
 shared-slice-read-arguments-stop c = search needs
 
--- src/fields.rt:134:5
 arguments-stop-requires : tie.Need-arguments-stop-requires
 arguments-stop-requires c κs = search needs
 
--- src/fields.rt:127:1
 returns-2 : tie.Need-returns-2
-returns-2 c = ?
+unfolding componentFields argumentsStop
+returns-2 c = simp (c .arguments-stop .ensures, le-ltb (length (c .before .before .before .before .args .p .now)) 1 (omega arith))
 
 pub component-fields-spec : {M : Type 1} → statement M
 component-fields-spec =

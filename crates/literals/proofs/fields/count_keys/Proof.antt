@@ -1,3 +1,8 @@
+-- `literals::fields::count_keys` meets its contract. Assumes nothing.
+use mathlib.Core.Path.{_≡_, refl, sym, _∙_}
+use native.Mathlib.Omega.{arith}
+use lib.ListN.{length, drop, length-drop, drop-of-length-le}
+use Rattle.literals.proofs.Bytes.{keys-and-counted}
 use borrow.Author.Needs.{needs}
 use Rattle.literals.proofs.fields.count_keys.Statement.{statement}
 use Rattle.literals.proofs.fields.count_keys.Tie as tie
@@ -5,25 +10,20 @@ use Rattle.literals.proofs.fields.count_keys.Reads as reads
 use Rattle.literals.proofs.fields.count_keys.Lts as lts
 use Rattle.literals.proofs.fields.count_from.Reads as count-from-reads
 
--- src/fields.rt:196:9
 returns : tie.Need-returns
-returns c = ?
+returns c = simp (drop-of-length-le (c .before .before .args .p .now) {i = 1} (omega arith))
 
--- src/fields.rt:198:5
 sub-result : tie.Need-sub-result
 sub-result c = search needs
 
--- src/fields.rt:198:19
 count-from-requires : tie.Need-count-from-requires
 count-from-requires c κs = search needs
 
--- src/fields.rt:198:5
 sub-result-2 : tie.Need-sub-result-2
-sub-result-2 c = ?
+sub-result-2 c = let p = c .before .before .before .args .p .now in omega (arith, keys-and-counted (drop 1 p), length-drop 1 p)
 
--- src/fields.rt:192:1
 returns-2 : tie.Need-returns-2
-returns-2 c = ?
+returns-2 c = let p = c .before .before .before .args .p .now in omega (arith, keys-and-counted (drop 1 p), length-drop 1 p)
 
 pub count-keys-spec : {M : Type 1} → statement M
 count-keys-spec =

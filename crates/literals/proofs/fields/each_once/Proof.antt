@@ -1,7 +1,7 @@
 -- `literals::fields::each_once` meets its contract. The loop's invariant: each number below k stands once. Assumes nothing.
-use mathlib.Core.Path.{_≡_, refl, sym, _∙_}
+use mathlib.Core.Path.{_≡_, refl, sym, ap, _∙_}
 use mathlib.Core.Bool.{true, false}
-use Prim.Native.Nat.{_-_, _≤_}
+use Prim.Native.Nat.{ℕ, _-_, _≤_}
 use native.Mathlib.Omega.{arith}
 use borrow.Author.Needs.{needs}
 use lib.ListN.{length, drop}
@@ -30,7 +30,8 @@ count-from-requires : tie.Need-count-from-requires Inv-loop μ-loop
 count-from-requires c κs = search needs
 
 returns : tie.Need-returns Inv-loop μ-loop
-returns c = ?
+returns c =
+    sym (off _ (λ t. c .if1 .taken (c .before .count-from .ensures ∙ once-at (c .before .before .before .loop .k) (c .before .before .before .before .before .args .n) (drop 1 (c .before .before .before .before .before .args .p .now)) (omega arith) t)))
 
 add-k : tie.Need-add-k Inv-loop μ-loop
 add-k c = omega arith
@@ -39,10 +40,12 @@ loop-less : tie.Need-loop-less Inv-loop μ-loop
 loop-less c = omega arith
 
 loop-again : tie.Need-loop-again Inv-loop μ-loop
-loop-again c = ?
+loop-again c = (omega arith, once-more (c .before .before .before .loop .k) (drop 1 (c .before .before .before .before .before .args .p .now)) (c .before .before .before .loop .inv .1) (sym (c .before .count-from .ensures) ∙ c .if1 .left))
 
 returns-2 : tie.Need-returns-2 Inv-loop μ-loop
-returns-2 c = ?
+returns-2 c =
+    let e : c .before .loop .k ≡ c .before .before .before .args .n = omega arith in
+    sym (c .before .loop .inv .1) ∙ ap (λ (m : ℕ). eachOnce m (drop 1 (c .before .before .before .args .p .now))) e
 
 pub each-once-spec : {M : Type 1} → statement M
 each-once-spec =

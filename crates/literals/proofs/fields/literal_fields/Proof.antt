@@ -1,3 +1,9 @@
+-- `literals::fields::literal_fields` meets its contract. Assumes nothing.
+use mathlib.Core.Path.{_≡_, sym, _∙_}
+use native.Mathlib.Omega.{arith}
+use borrow.Author.Tests.{lt-ltb, le-ltb, eq-eqb, ne-eqb}
+use lib.ListN.{length}
+use Rattle.literals.proofs.Bytes.{literal-by}
 use borrow.Author.Needs.{needs}
 use Rattle.literals.proofs.fields.literal_fields.Statement.{statement}
 use Rattle.literals.proofs.fields.literal_fields.Tie as tie
@@ -7,45 +13,35 @@ use Rattle.literals.proofs.fields.any_from.Reads as any-from-reads
 use Rattle.literals.proofs.fields.arguments_stop.Reads as arguments-stop-reads
 use Rattle.literals.proofs.fields.no_role.Reads as no-role-reads
 
--- src/fields.rt:111:9
 returns : tie.Need-returns
-returns c = ?
+returns c = simp (literal-by, lt-ltb (length (c .before .before .args .p .now)) 2 (omega arith))
 
--- src/fields.rt:113:22
 shared-slice-read-no-role : tie.Need-shared-slice-read-no-role
 shared-slice-read-no-role c = search needs
 
--- src/fields.rt:113:8
 no-role-requires : tie.Need-no-role-requires
 no-role-requires c κs = search needs
 
--- src/fields.rt:114:9
 returns-2 : tie.Need-returns-2
-returns-2 c = ?
+returns-2 c = simp (literal-by, le-ltb (length (c .before .before .before .before .before .args .p .now)) 2 (omega arith), sym (c .before .no-role .ensures) ∙ c .if2 .taken)
 
--- src/fields.rt:116:51
 shared-slice-read-arguments-stop : tie.Need-shared-slice-read-arguments-stop
 shared-slice-read-arguments-stop c = search needs
 
--- src/fields.rt:116:9
 arguments-stop-requires : tie.Need-arguments-stop-requires
 arguments-stop-requires c κs = search needs
 
--- src/fields.rt:118:9
 returns-3 : tie.Need-returns-3
-returns-3 c = ?
+returns-3 c = simp (literal-by, le-ltb (length (c .before .before .before .before .before .before .before .before .args .p .now)) 2 (omega arith), sym (c .before .before .before .before .no-role .ensures) ∙ c .before .before .before .if2 .left, sym (c .before .arguments-stop .ensures), ne-eqb (c .before .arguments-stop .result) 0 (omega arith))
 
--- src/fields.rt:120:8
 any-from-requires : tie.Need-any-from-requires
 any-from-requires c κs = search needs
 
--- src/fields.rt:121:9
 returns-4 : tie.Need-returns-4
-returns-4 c = ?
+returns-4 c = simp (literal-by, le-ltb (length (c .before .before .before .before .before .before .before .before .before .before .args .p .now)) 2 (omega arith), sym (c .before .before .before .before .before .before .no-role .ensures) ∙ c .before .before .before .before .before .if2 .left, sym (c .before .before .before .arguments-stop .ensures), eq-eqb (c .before .before .before .arguments-stop .result) 0 (omega arith), sym (c .before .any-from .ensures) ∙ c .if4 .taken)
 
--- src/fields.rt:106:1
 returns-5 : tie.Need-returns-5
-returns-5 c = ?
+returns-5 c = simp (literal-by, le-ltb (length (c .before .before .before .before .before .before .before .before .before .before .args .p .now)) 2 (omega arith), sym (c .before .before .before .before .before .before .no-role .ensures) ∙ c .before .before .before .before .before .if2 .left, sym (c .before .before .before .arguments-stop .ensures), eq-eqb (c .before .before .before .arguments-stop .result) 0 (omega arith), sym (c .before .any-from .ensures) ∙ c .if4 .left)
 
 pub literal-fields-spec : {M : Type 1} → statement M
 literal-fields-spec =
