@@ -78,6 +78,10 @@ indexOf D =
 
 -- ---- a literal's fields, and the rows that it is compared with
 
+-- of a literal or component whose arguments start at `first` of its `given` bytes: "17 relation", then "12 wrong length"
+unfoldable pub argumentsStop : List ℕ → ℕ → ℕ → ℕ → ℕ
+argumentsStop arities relation first given = cond (leb (length arities) relation) 17 (cond (not (eqb given (first + getD arities relation 0))) 12 0)
+
 -- the row "fields" of a literal record, of the arities and of the latest action's variable count and sort
 unfoldable pub literalFields : List ℕ → ℕ → ℕ → List ℕ → ℕ
 literalFields arities vars sort p =

@@ -1,14 +1,14 @@
 // The fields of a record: each check answers the number that stops it, or 0.
 ghost use mathlib.Core.Path.{_≡_};
-ghost use mathlib.Core.Bool.{not};
+ghost use mathlib.Core.Bool.{_&&_, _||_, not};
 ghost use mathlib.Core.List.{map};
 ghost use Prim.Native.Nat.{_+_, _<_, _≤_};
-ghost use lib.Dec.{eqb, leb};
+ghost use lib.Dec.{eqb, ltb, leb};
 ghost use lib.ListN.{length, drop, take};
 ghost use Rattle.records.specs.Lists.{any, countBy};
 ghost use Rattle.literals.specs.Domain.{isCounted};
 ghost use Rattle.literals.specs.Decode.{relationStop, actionStop, labelOf, labelStop};
-ghost use Rattle.literals.specs.Table.{literalFields, componentFields, keysBelow, eachOnce};
+ghost use Rattle.literals.specs.Table.{argumentsStop, literalFields, componentFields, keysBelow, eachOnce};
 
 pub fn wide(b: u8) -> usize
     ensures { λ r. ⌜ (r ≡ b) × (r < 256) ⌝ }
@@ -74,6 +74,34 @@ pub fn count_from(s: &[u8], from: usize, b: u8) -> usize
     n
 }
 
+// Whether an action of this sort has no such role.
+fn no_role(sort: u8, role: u8) -> bool
+    ensures { λ r. ⌜ r ≡ (ltb 9 role || (ltb 3 role && not (eqb sort 1))) ⌝ }
+{
+    if 9 < role {
+        return true;
+    }
+    if 3 < role {
+        return sort != 1;
+    }
+    false
+}
+
+// The relation of a literal or component whose arguments start at `first` of its `given` bytes.
+fn arguments_stop(relations: usize, arities: [u8; 64], relation: u8, first: usize, given: usize) -> u64
+    requires { ⌜ (relations ≤ 64) × (first ≤ 2) ⌝ }
+    ensures { λ r. ⌜ r ≡ argumentsStop (take relations arities) relation first given ⌝ }
+{
+    let at = wide(relation);
+    if relations <= at {
+        return 17;
+    }
+    if given == first + wide(arities[at]) {
+        return 0;
+    }
+    12
+}
+
 // A literal: role, relation, one variable per argument.
 pub fn literal_fields(relations: usize, arities: [u8; 64], vars: u8, sort: u8, p: &[u8]) -> u64
     requires { ⌜ relations ≤ 64 ⌝ }
@@ -82,26 +110,17 @@ pub fn literal_fields(relations: usize, arities: [u8; 64], vars: u8, sort: u8, p
     if p.len() < 2 {
         return 12;
     }
-    let role = p[0];
-    if 9 < role {
+    if no_role(sort, p[0]) {
         return 16;
     }
-    if sort != 1 {
-        if 3 < role {
-            return 16;
-        }
+    let stop = arguments_stop(relations, arities, p[1], 2, p.len());
+    if stop != 0 {
+        return stop;
     }
-    let relation = wide(p[1]);
-    if relations <= relation {
-        return 17;
+    if any_from(p, 2, vars) {
+        return 18;
     }
-    if p.len() == 2 + wide(arities[relation]) {
-        if any_from(p, 2, vars) {
-            return 18;
-        }
-        return 0;
-    }
-    12
+    0
 }
 
 // A component: relation, one label per argument.
@@ -112,14 +131,17 @@ pub fn component_fields(relations: usize, arities: [u8; 64], p: &[u8]) -> u64
     if p.len() < 1 {
         return 12;
     }
-    let relation = wide(p[0]);
-    if relations <= relation {
-        return 17;
+    arguments_stop(relations, arities, p[0], 1, p.len())
+}
+
+// Whether a label is FF or a key below n.
+fn label_below(b: u8, n: usize) -> bool
+    ensures { λ r. ⌜ r ≡ (eqb b 255 || ltb b n) ⌝ }
+{
+    if b == 255 {
+        return true;
     }
-    if p.len() == 1 + wide(arities[relation]) {
-        return 0;
-    }
-    12
+    wide(b) < n
 }
 
 // Whether every label but FF is below n.
@@ -128,10 +150,8 @@ pub fn keys_below(p: &[u8], n: usize) -> bool
 {
     let mut i = 1;
     while i < p.len() {
-        if p[i] != 255 {
-            if n <= wide(p[i]) {
-                return false;
-            }
+        if !label_below(p[i], n) {
+            return false;
         }
         i += 1;
     }
@@ -156,14 +176,14 @@ pub fn label_fields(p: &[u8], n: usize) -> u64
     requires { ⌜ n ≤ 6 ⌝ }
     ensures { λ r. ⌜ r ≡ labelStop n (map labelOf (drop 1 (now (p .entry)))) ⌝ }
 {
-    if keys_below(p, n) {
-        if each_once(p, n) {
-            if count_from(p, 1, 255) <= 1 {
-                return 0;
-            }
-            return 21;
-        }
+    if !keys_below(p, n) {
         return 21;
+    }
+    if !each_once(p, n) {
+        return 21;
+    }
+    if count_from(p, 1, 255) <= 1 {
+        return 0;
     }
     21
 }
@@ -172,13 +192,8 @@ pub fn label_fields(p: &[u8], n: usize) -> u64
 pub fn count_keys(p: &[u8]) -> usize
     ensures { λ r. ⌜ r ≡ countBy (λ l. not (isCounted l)) (map labelOf (drop 1 (now (p .entry)))) ⌝ }
 {
-    let mut n: usize = 0;
-    let mut i = 1;
-    while i < p.len() {
-        if p[i] != 255 {
-            n += 1;
-        }
-        i += 1;
+    if p.len() == 0 {
+        return 0;
     }
-    n
+    p.len() - 1 - count_from(p, 1, 255)
 }

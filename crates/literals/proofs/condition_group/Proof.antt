@@ -1,23 +1,22 @@
+-- `literals::condition_group` meets its contract. Assumes nothing.
+use native.Mathlib.Omega.{arith}
+use borrow.Author.Tests.{lt-ltb, le-ltb}
 use Rattle.literals.proofs.condition_group.Statement.{statement}
 use Rattle.literals.proofs.condition_group.Tie as tie
 use Rattle.literals.proofs.condition_group.Reads as reads
 use Rattle.literals.proofs.condition_group.Lts as lts
 
--- src/lib.rt:113:1
 returns : tie.Need-returns
-returns c = ?
+returns c = simp (lt-ltb (c .before .args .role) 2 (omega arith))
 
--- src/lib.rt:113:1
 returns-2 : tie.Need-returns-2
-returns-2 c = ?
+returns-2 c = let r = c .before .before .args .role in simp (le-ltb r 2 (omega arith), lt-ltb r 4 (omega arith))
 
--- src/lib.rt:113:1
 returns-3 : tie.Need-returns-3
-returns-3 c = ?
+returns-3 c = let r = c .before .before .before .args .role in simp (le-ltb r 2 (omega arith), le-ltb r 4 (omega arith), lt-ltb r 8 (omega arith))
 
--- src/lib.rt:113:1
 returns-4 : tie.Need-returns-4
-returns-4 c = ?
+returns-4 c = let r = c .before .before .before .args .role in simp (le-ltb r 2 (omega arith), le-ltb r 4 (omega arith), le-ltb r 8 (omega arith))
 
 pub condition-group-spec : {M : Type 1} → statement M
 condition-group-spec = tie.close (tie.spec returns returns-2 returns-3 returns-4)

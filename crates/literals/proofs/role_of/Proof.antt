@@ -1,33 +1,34 @@
+-- `literals::role_of` meets its contract. Assumes nothing.
+use native.Mathlib.Omega.{arith}
 use borrow.Author.Needs.{needs}
+use borrow.Author.Tests.{lt-ltb, le-ltb}
+use Rattle.literals.specs.Domain.{roleOf}
 use Rattle.literals.proofs.role_of.Statement.{statement}
 use Rattle.literals.proofs.role_of.Tie as tie
 use Rattle.literals.proofs.role_of.Reads as reads
 use Rattle.literals.proofs.role_of.Lts as lts
 use Rattle.literals.proofs.clause_of.Reads as clause-of-reads
 
--- src/lib.rt:100:21
 clause-of-requires : tie.Need-clause-of-requires
 clause-of-requires c κs = search needs
 
--- src/lib.rt:104:21
 clause-of-requires-2 : tie.Need-clause-of-requires-2
 clause-of-requires-2 c κs = search needs
 
--- src/lib.rt:108:21
 clause-of-requires-3 : tie.Need-clause-of-requires-3
 clause-of-requires-3 c κs = search needs
 
--- src/lib.rt:94:1
 returns : tie.Need-returns
-returns c = ?
+unfolding roleOf
+returns c = simp (c .clause-of .ensures, lt-ltb (c .before .before .args .role) 4 (omega arith))
 
--- src/lib.rt:94:1
 returns-2 : tie.Need-returns-2
-returns-2 c = ?
+unfolding roleOf
+returns-2 c = let r = c .before .before .before .args .role in simp (c .clause-of2 .ensures, le-ltb r 4 (omega arith), lt-ltb r 6 (omega arith))
 
--- src/lib.rt:94:1
 returns-3 : tie.Need-returns-3
-returns-3 c = ?
+unfolding roleOf
+returns-3 c = let r = c .before .before .before .args .role in simp (c .clause-of3 .ensures, le-ltb r 4 (omega arith), le-ltb r 6 (omega arith))
 
 pub role-of-spec : {M : Type 1} → statement M
 role-of-spec =

@@ -1,37 +1,53 @@
+-- `literals::role_rank` meets its contract. Assumes nothing.
+use mathlib.Core.Path.{sym, _∙_}
+use Prim.Native.Nat.{_%_}
+use native.Mathlib.Omega.{arith}
 use borrow.Author.Needs.{needs}
+use borrow.Author.Tests.{eq-eqb, ne-eqb}
+use Rattle.literals.specs.Table.{conditionGroup, roleRank}
 use Rattle.literals.proofs.role_rank.Statement.{statement}
 use Rattle.literals.proofs.role_rank.Tie as tie
 use Rattle.literals.proofs.role_rank.Reads as reads
 use Rattle.literals.proofs.role_rank.Lts as lts
 use Rattle.literals.proofs.condition_group.Reads as condition-group-reads
 
--- src/lib.rt:129:9
 returns : tie.Need-returns
-returns c = ?
+unfolding roleRank
+returns c = simp (eq-eqb (c .before .args .a) (c .before .args .b) (c .if1 .taken))
 
--- src/lib.rt:131:9
 condition-group-requires : tie.Need-condition-group-requires
 condition-group-requires c κs = search needs
 
--- src/lib.rt:133:9
 returns-2 : tie.Need-returns-2
-returns-2 c = ?
+unfolding roleRank
+returns-2 c =
+    let a = c .before .before .before .args .a in
+    let b = c .before .before .before .args .b in
+    simp (ne-eqb a b (omega arith), eq-eqb (conditionGroup a) 0 (omega arith))
 
--- src/lib.rt:135:8
 condition-group-requires-2 : tie.Need-condition-group-requires-2
 condition-group-requires-2 c κs = search needs
 
--- src/lib.rt:137:13
 returns-3 : tie.Need-returns-3
-returns-3 c = ?
+unfolding roleRank
+returns-3 c =
+    let a = c .before .before .before .before .before .before .args .a in
+    let b = c .before .before .before .before .before .before .args .b in
+    simp (ne-eqb a b (omega arith), ne-eqb (conditionGroup a) 0 (omega arith), eq-eqb (conditionGroup b) (conditionGroup a) (omega arith), eq-eqb (a % 2) (b % 2) (c .if4 .taken))
 
--- src/lib.rt:139:9
 returns-4 : tie.Need-returns-4
-returns-4 c = ?
+unfolding roleRank
+returns-4 c =
+    let a = c .before .before .before .before .before .before .args .a in
+    let b = c .before .before .before .before .before .before .args .b in
+    simp (ne-eqb a b (omega arith), ne-eqb (conditionGroup a) 0 (omega arith), eq-eqb (conditionGroup b) (conditionGroup a) (omega arith), ne-eqb (a % 2) (b % 2) (c .if4 .left))
 
--- src/lib.rt:125:1
 returns-5 : tie.Need-returns-5
-returns-5 c = ?
+unfolding roleRank
+returns-5 c =
+    let a = c .before .before .before .before .before .args .a in
+    let b = c .before .before .before .before .before .args .b in
+    simp (ne-eqb a b (omega arith), ne-eqb (conditionGroup a) 0 (omega arith), ne-eqb (conditionGroup b) (conditionGroup a) (omega arith))
 
 pub role-rank-spec : {M : Type 1} → statement M
 role-rank-spec =

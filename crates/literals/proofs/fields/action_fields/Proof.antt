@@ -1,32 +1,39 @@
+-- `literals::fields::action_fields` meets its contract. Assumes nothing.
+use native.Mathlib.Omega.{arith}
 use borrow.Author.Needs.{needs}
+use borrow.Author.Tests.{lt-ltb, le-ltb, eq-eqb, ne-eqb}
+use lib.ListN.{length, getD}
+use Rattle.literals.specs.Decode.{actionStop}
 use Rattle.literals.proofs.fields.action_fields.Statement.{statement}
 use Rattle.literals.proofs.fields.action_fields.Tie as tie
 use Rattle.literals.proofs.fields.action_fields.Reads as reads
 use Rattle.literals.proofs.fields.action_fields.Lts as lts
 
--- src/fields.rt:37:17
 shared-slice-read-if2 : tie.Need-shared-slice-read-if2
 shared-slice-read-if2 c = search needs
 
--- src/fields.rt:38:13
 returns : tie.Need-returns
-returns c = ?
+unfolding actionStop
+returns c = let p = c .before .before .before .args .p .now in simp (eq-eqb (length p) 2 (omega arith), lt-ltb 16 (getD p 0 0) (omega arith))
 
--- src/fields.rt:40:16
 shared-slice-read-if3 : tie.Need-shared-slice-read-if3
 shared-slice-read-if3 c = search needs
 
--- src/fields.rt:41:13
 returns-2 : tie.Need-returns-2
-returns-2 c = ?
+unfolding actionStop
+returns-2 c =
+    let p = c .before .before .before .before .before .args .p .now in
+    simp (eq-eqb (length p) 2 (omega arith), le-ltb 16 (getD p 0 0) (omega arith), lt-ltb 1 (getD p 1 0) (omega arith))
 
--- src/fields.rt:43:9
 returns-3 : tie.Need-returns-3
-returns-3 c = ?
+unfolding actionStop
+returns-3 c =
+    let p = c .before .before .before .before .before .args .p .now in
+    simp (eq-eqb (length p) 2 (omega arith), le-ltb 16 (getD p 0 0) (omega arith), le-ltb 1 (getD p 1 0) (omega arith))
 
--- src/fields.rt:33:1
 returns-4 : tie.Need-returns-4
-returns-4 c = ?
+unfolding actionStop
+returns-4 c = simp (ne-eqb (length (c .before .args .p .now)) 2 (omega arith))
 
 pub action-fields-spec : {M : Type 1} → statement M
 action-fields-spec =

@@ -1,41 +1,47 @@
+-- `literals::fields::any_from` meets its contract. The loop's invariant: the bytes left answer as all do. Assumes nothing.
+use mathlib.Core.Path.{_≡_, refl, sym, _∙_}
+use Prim.Native.Nat.{_-_}
+use native.Mathlib.Omega.{arith}
+use borrow.Author.Tests.{le-leb, lt-leb}
+use lib.Dec.{leb}
+use lib.ListN.{length, drop}
+use Rattle.records.specs.Lists.{any}
+use Rattle.literals.proofs.Bytes.{any-hit, any-miss, any-end}
 use Rattle.literals.proofs.fields.any_from.Statement.{statement}
 use Rattle.literals.proofs.fields.any_from.Tie as tie
 use Rattle.literals.proofs.fields.any_from.Reads as reads
 use Rattle.literals.proofs.fields.any_from.Lts as lts
 
 abbrev Inv-loop : tie.InvT-loop
-Inv-loop s from limit i₀ i = ?
+Inv-loop s from limit i₀ i = any (leb limit) (drop i s) ≡ any (leb limit) (drop from s)
 
 abbrev μ-loop : tie.MeasureT-loop
-μ-loop s from limit i₀ i = ?
+μ-loop s from limit i₀ i = length s - i
 
--- src/fields.rt:53:5
 loop-holds : tie.Need-loop-holds Inv-loop μ-loop
-loop-holds c = ?
+loop-holds c = refl
 
--- src/fields.rt:54:21
 shared-slice-read-if1 : tie.Need-shared-slice-read-if1 Inv-loop μ-loop
-shared-slice-read-if1 c = ?
+shared-slice-read-if1 c = omega arith
 
--- src/fields.rt:55:13
 returns : tie.Need-returns Inv-loop μ-loop
-returns c = ?
+returns c =
+    sym (any-hit _ (c .before .before .before .before .args .s .now) (c .before .before .before .loop .i) (omega arith) (le-leb _ _ (c .if1 .taken)))
+    ∙ c .before .before .before .loop .inv
 
--- src/fields.rt:57:9
 add-i : tie.Need-add-i Inv-loop μ-loop
-add-i c = ?
+add-i c = omega arith
 
--- src/fields.rt:53:5
 loop-less : tie.Need-loop-less Inv-loop μ-loop
-loop-less c = ?
+loop-less c = omega arith
 
--- src/fields.rt:53:5
 loop-again : tie.Need-loop-again Inv-loop μ-loop
-loop-again c = ?
+loop-again c =
+    sym (any-miss _ (c .before .before .before .before .args .s .now) (c .before .before .before .loop .i) (omega arith) (lt-leb _ _ (c .if1 .left)))
+    ∙ c .before .before .before .loop .inv
 
--- src/fields.rt:49:1
 returns-2 : tie.Need-returns-2 Inv-loop μ-loop
-returns-2 c = ?
+returns-2 c = sym (any-end _ (c .before .before .args .s .now) (c .before .loop .i) (omega arith)) ∙ c .before .loop .inv
 
 pub any-from-spec : {M : Type 1} → statement M
 any-from-spec =

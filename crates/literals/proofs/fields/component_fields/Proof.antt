@@ -1,56 +1,29 @@
+-- `literals::fields::component_fields` meets its contract. Assumes nothing.
+use native.Mathlib.Omega.{arith}
+use borrow.Author.Tests.{lt-ltb, le-ltb}
+use lib.ListN.{length}
+use Rattle.literals.specs.Table.{argumentsStop, componentFields}
 use borrow.Author.Needs.{needs}
 use Rattle.literals.proofs.fields.component_fields.Statement.{statement}
 use Rattle.literals.proofs.fields.component_fields.Tie as tie
 use Rattle.literals.proofs.fields.component_fields.Reads as reads
 use Rattle.literals.proofs.fields.component_fields.Lts as lts
-use Rattle.literals.proofs.fields.wide.Reads as wide-reads
+use Rattle.literals.proofs.fields.arguments_stop.Reads as arguments-stop-reads
 
--- src/fields.rt:113:9
 returns : tie.Need-returns
-returns c = ?
+unfolding componentFields
+returns c = simp (lt-ltb (length (c .before .before .args .p .now)) 1 (omega arith))
 
--- src/fields.rt:115:25
-shared-slice-read-wide : tie.Need-shared-slice-read-wide
-shared-slice-read-wide c = search needs
+shared-slice-read-arguments-stop : tie.Need-shared-slice-read-arguments-stop
+shared-slice-read-arguments-stop c = search needs
 
--- src/fields.rt:115:9
-wide-requires : tie.Need-wide-requires
-wide-requires c κs = search needs
+arguments-stop-requires : tie.Need-arguments-stop-requires
+arguments-stop-requires c κs = search needs
 
--- src/fields.rt:117:9
 returns-2 : tie.Need-returns-2
-returns-2 c = ?
-
--- src/fields.rt:119:28
-array-read-wide : tie.Need-array-read-wide
-array-read-wide c = search needs
-
--- src/fields.rt:119:23
-wide-requires-2 : tie.Need-wide-requires-2
-wide-requires-2 c κs = search needs
-
--- src/fields.rt:119:19
-add-if3 : tie.Need-add-if3
-add-if3 c = search needs
-
--- src/fields.rt:120:9
-returns-3 : tie.Need-returns-3
-returns-3 c = ?
-
--- src/fields.rt:108:1
-returns-4 : tie.Need-returns-4
-returns-4 c = ?
+unfolding componentFields argumentsStop
+returns-2 c = simp (c .arguments-stop .ensures, le-ltb (length (c .before .before .before .before .args .p .now)) 1 (omega arith))
 
 pub component-fields-spec : {M : Type 1} → statement M
 component-fields-spec =
-    tie.close
-    (tie.spec
-    returns
-    shared-slice-read-wide
-    wide-requires
-    returns-2
-    array-read-wide
-    wide-requires-2
-    add-if3
-    returns-3
-    returns-4)
+    tie.close (tie.spec returns shared-slice-read-arguments-stop arguments-stop-requires returns-2)

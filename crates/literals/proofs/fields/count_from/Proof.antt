@@ -1,41 +1,50 @@
+-- `literals::fields::count_from` meets its contract. The loop's invariant: those counted and those among the bytes left are all. Assumes nothing.
+use mathlib.Core.Path.{_≡_, sym}
+use mathlib.Core.Logic.{⊎-elim}
+use Prim.Native.Nat.{_+_, _-_, _≤_}
+use native.Mathlib.Omega.{arith}
+use borrow.Author.Tests.{eq-eqb, ne-eqb}
+use lib.Dec.{eqb}
+use lib.ListN.{length, drop}
+use Rattle.records.specs.Lists.{countBy}
+use Rattle.literals.proofs.Bytes.{count-hit, count-miss, count-end}
 use Rattle.literals.proofs.fields.count_from.Statement.{statement}
 use Rattle.literals.proofs.fields.count_from.Tie as tie
 use Rattle.literals.proofs.fields.count_from.Reads as reads
 use Rattle.literals.proofs.fields.count_from.Lts as lts
 
 abbrev Inv-loop : tie.InvT-loop
-Inv-loop s from b n₀ i₀ n i = ?
+Inv-loop s from b n₀ i₀ n i = (n ≤ i) × (n + countBy (eqb b) (drop i s) ≡ countBy (eqb b) (drop from s))
 
 abbrev μ-loop : tie.MeasureT-loop
-μ-loop s from b n₀ i₀ n i = ?
+μ-loop s from b n₀ i₀ n i = length s - i
 
--- src/fields.rt:68:5
 loop-holds : tie.Need-loop-holds Inv-loop μ-loop
-loop-holds c = ?
+loop-holds c = (omega arith, omega arith)
 
--- src/fields.rt:69:12
 shared-slice-read-if1 : tie.Need-shared-slice-read-if1 Inv-loop μ-loop
-shared-slice-read-if1 c = ?
+shared-slice-read-if1 c = omega arith
 
--- src/fields.rt:70:13
 add-n : tie.Need-add-n Inv-loop μ-loop
-add-n c = ?
+add-n c = omega arith
 
--- src/fields.rt:72:9
 add-i : tie.Need-add-i Inv-loop μ-loop
-add-i c = ?
+add-i c = omega arith
 
--- src/fields.rt:68:5
 loop-less : tie.Need-loop-less Inv-loop μ-loop
-loop-less c = ?
+loop-less c = omega arith
 
--- src/fields.rt:68:5
 loop-again : tie.Need-loop-again Inv-loop μ-loop
-loop-again c = ?
+loop-again c =
+    let p = eqb (c .before .before .before .before .args .b) in
+    let s = c .before .before .before .before .args .s .now in
+    let i = c .before .before .before .loop .i in
+    ⊎-elim (λ w. let e = count-hit p s i (omega arith) (eq-eqb _ _ (sym (w .0 .taken))) in (omega arith, omega arith))
+    (λ w. let e = count-miss p s i (omega arith) (ne-eqb _ _ (λ g. w .0 .left (sym g))) in (omega arith, omega arith))
+    (c .if1 .came)
 
--- src/fields.rt:63:1
 returns : tie.Need-returns Inv-loop μ-loop
-returns c = ?
+returns c = omega (arith, count-end (eqb (c .before .before .args .b)) (c .before .before .args .s .now) (c .before .loop .i) (omega arith))
 
 pub count-from-spec : {M : Type 1} → statement M
 count-from-spec =

@@ -1,52 +1,30 @@
+-- `literals::fields::count_keys` meets its contract. Assumes nothing.
+use mathlib.Core.Path.{_≡_, refl, sym, _∙_}
+use native.Mathlib.Omega.{arith}
+use lib.ListN.{length, drop, length-drop, drop-of-length-le}
+use Rattle.literals.proofs.Bytes.{keys-and-counted}
+use borrow.Author.Needs.{needs}
 use Rattle.literals.proofs.fields.count_keys.Statement.{statement}
 use Rattle.literals.proofs.fields.count_keys.Tie as tie
 use Rattle.literals.proofs.fields.count_keys.Reads as reads
 use Rattle.literals.proofs.fields.count_keys.Lts as lts
+use Rattle.literals.proofs.fields.count_from.Reads as count-from-reads
 
-abbrev Inv-loop : tie.InvT-loop
-Inv-loop p n₀ i₀ n i = ?
+returns : tie.Need-returns
+returns c = simp (drop-of-length-le (c .before .before .args .p .now) {i = 1} (omega arith))
 
-abbrev μ-loop : tie.MeasureT-loop
-μ-loop p n₀ i₀ n i = ?
+sub-result : tie.Need-sub-result
+sub-result c = search needs
 
--- src/fields.rt:177:5
-loop-holds : tie.Need-loop-holds Inv-loop μ-loop
-loop-holds c = ?
+count-from-requires : tie.Need-count-from-requires
+count-from-requires c κs = search needs
 
--- src/fields.rt:178:12
-shared-slice-read-if1 : tie.Need-shared-slice-read-if1 Inv-loop μ-loop
-shared-slice-read-if1 c = ?
+sub-result-2 : tie.Need-sub-result-2
+sub-result-2 c = let p = c .before .before .before .args .p .now in omega (arith, keys-and-counted (drop 1 p), length-drop 1 p)
 
--- src/fields.rt:179:13
-add-n : tie.Need-add-n Inv-loop μ-loop
-add-n c = ?
-
--- src/fields.rt:181:9
-add-i : tie.Need-add-i Inv-loop μ-loop
-add-i c = ?
-
--- src/fields.rt:177:5
-loop-less : tie.Need-loop-less Inv-loop μ-loop
-loop-less c = ?
-
--- src/fields.rt:177:5
-loop-again : tie.Need-loop-again Inv-loop μ-loop
-loop-again c = ?
-
--- src/fields.rt:172:1
-returns : tie.Need-returns Inv-loop μ-loop
-returns c = ?
+returns-2 : tie.Need-returns-2
+returns-2 c = let p = c .before .before .before .args .p .now in omega (arith, keys-and-counted (drop 1 p), length-drop 1 p)
 
 pub count-keys-spec : {M : Type 1} → statement M
 count-keys-spec =
-    tie.close
-    (tie.spec
-    Inv-loop
-    μ-loop
-    loop-holds
-    shared-slice-read-if1
-    add-n
-    add-i
-    loop-less
-    loop-again
-    returns)
+    tie.close (tie.spec returns sub-result count-from-requires sub-result-2 returns-2)

@@ -1,50 +1,55 @@
+-- `literals::fields::keys_below` meets its contract. The loop's invariant: the bytes left answer as all do. Assumes nothing.
+use mathlib.Core.Path.{_≡_, refl, sym, _∙_}
+use mathlib.Core.Bool.{Bool, _||_}
+use Prim.Native.Nat.{ℕ, _-_}
+use native.Mathlib.Omega.{arith}
+use borrow.Author.Needs.{needs}
+use borrow.Author.Tests.{not-true, not-false}
+use lib.Dec.{eqb, ltb}
+use lib.ListN.{length, drop}
+use Rattle.records.specs.Lists.{all}
+use Rattle.literals.specs.Table.{keysBelow}
+use Rattle.literals.proofs.Bytes.{all-hit, all-miss, all-end}
 use Rattle.literals.proofs.fields.keys_below.Statement.{statement}
 use Rattle.literals.proofs.fields.keys_below.Tie as tie
 use Rattle.literals.proofs.fields.keys_below.Reads as reads
 use Rattle.literals.proofs.fields.keys_below.Lts as lts
-use Rattle.literals.proofs.fields.wide.Reads as wide-reads
+use Rattle.literals.proofs.fields.label_below.Reads as label-below-reads
+
+abbrev fits : ℕ → ℕ → Bool
+fits n b = eqb b 255 || ltb b n
 
 abbrev Inv-loop : tie.InvT-loop
-Inv-loop p n i₀ i = ?
+Inv-loop p n i₀ i = all (fits n) (drop i p) ≡ keysBelow n (drop 1 p)
 
 abbrev μ-loop : tie.MeasureT-loop
-μ-loop p n i₀ i = ?
+μ-loop p n i₀ i = length p - i
 
--- src/fields.rt:130:5
 loop-holds : tie.Need-loop-holds Inv-loop μ-loop
-loop-holds c = ?
+loop-holds c = refl
 
--- src/fields.rt:131:12
-shared-slice-read-if1 : tie.Need-shared-slice-read-if1 Inv-loop μ-loop
-shared-slice-read-if1 c = ?
+shared-slice-read-label-below : tie.Need-shared-slice-read-label-below Inv-loop μ-loop
+shared-slice-read-label-below c = omega arith
 
--- src/fields.rt:132:26
-shared-slice-read-wide : tie.Need-shared-slice-read-wide Inv-loop μ-loop
-shared-slice-read-wide c = ?
+label-below-requires : tie.Need-label-below-requires Inv-loop μ-loop
+label-below-requires c κs = search needs
 
--- src/fields.rt:132:21
-wide-requires : tie.Need-wide-requires Inv-loop μ-loop
-wide-requires c κs = ?
-
--- src/fields.rt:133:17
 returns : tie.Need-returns Inv-loop μ-loop
-returns c = ?
+returns c =
+    sym (all-miss (fits (c .before .before .before .before .before .before .args .n)) (c .before .before .before .before .before .before .args .p .now) (c .before .before .before .before .loop .i) (omega arith) (sym (c .before .label-below .ensures) ∙ not-true _ (c .if1 .taken))) ∙ c .before .before .before .before .loop .inv
 
--- src/fields.rt:136:9
 add-i : tie.Need-add-i Inv-loop μ-loop
-add-i c = ?
+add-i c = omega arith
 
--- src/fields.rt:130:5
 loop-less : tie.Need-loop-less Inv-loop μ-loop
-loop-less c = ?
+loop-less c = omega arith
 
--- src/fields.rt:130:5
 loop-again : tie.Need-loop-again Inv-loop μ-loop
-loop-again c = ?
+loop-again c =
+    sym (all-hit (fits (c .before .before .before .before .before .before .args .n)) (c .before .before .before .before .before .before .args .p .now) (c .before .before .before .before .loop .i) (omega arith) (sym (c .before .label-below .ensures) ∙ not-false _ (c .if1 .left))) ∙ c .before .before .before .before .loop .inv
 
--- src/fields.rt:126:1
 returns-2 : tie.Need-returns-2 Inv-loop μ-loop
-returns-2 c = ?
+returns-2 c = sym (all-end (fits (c .before .before .before .args .n)) (c .before .before .before .args .p .now) (c .before .loop .i) (omega arith)) ∙ c .before .loop .inv
 
 pub keys-below-spec : {M : Type 1} → statement M
 keys-below-spec =
@@ -53,9 +58,8 @@ keys-below-spec =
     Inv-loop
     μ-loop
     loop-holds
-    shared-slice-read-if1
-    shared-slice-read-wide
-    wide-requires
+    shared-slice-read-label-below
+    label-below-requires
     returns
     add-i
     loop-less

@@ -1,24 +1,28 @@
+-- `literals::fields::relation_fields` meets its contract. Assumes nothing.
+use native.Mathlib.Omega.{arith}
 use borrow.Author.Needs.{needs}
+use borrow.Author.Tests.{lt-ltb, le-ltb, eq-eqb, ne-eqb}
+use lib.ListN.{length, getD}
+use Rattle.literals.specs.Decode.{relationStop}
 use Rattle.literals.proofs.fields.relation_fields.Statement.{statement}
 use Rattle.literals.proofs.fields.relation_fields.Tie as tie
 use Rattle.literals.proofs.fields.relation_fields.Reads as reads
 use Rattle.literals.proofs.fields.relation_fields.Lts as lts
 
--- src/fields.rt:24:16
 shared-slice-read-if2 : tie.Need-shared-slice-read-if2
 shared-slice-read-if2 c = search needs
 
--- src/fields.rt:25:13
 returns : tie.Need-returns
-returns c = ?
+unfolding relationStop
+returns c = let p = c .before .before .before .args .p .now in simp (eq-eqb (length p) 1 (omega arith), lt-ltb 6 (getD p 0 0) (omega arith))
 
--- src/fields.rt:27:9
 returns-2 : tie.Need-returns-2
-returns-2 c = ?
+unfolding relationStop
+returns-2 c = let p = c .before .before .before .args .p .now in simp (eq-eqb (length p) 1 (omega arith), le-ltb 6 (getD p 0 0) (omega arith))
 
--- src/fields.rt:20:1
 returns-3 : tie.Need-returns-3
-returns-3 c = ?
+unfolding relationStop
+returns-3 c = simp (ne-eqb (length (c .before .args .p .now)) 1 (omega arith))
 
 pub relation-fields-spec : {M : Type 1} → statement M
 relation-fields-spec = tie.close (tie.spec shared-slice-read-if2 returns returns-2 returns-3)

@@ -1,0 +1,63 @@
+-- `literals::fields::each_once` meets its contract. The loop's invariant: each number below k stands once. Assumes nothing.
+use mathlib.Core.Path.{_≡_, refl, sym, ap, _∙_}
+use mathlib.Core.Bool.{true, false}
+use Prim.Native.Nat.{ℕ, _-_, _≤_}
+use native.Mathlib.Omega.{arith}
+use borrow.Author.Needs.{needs}
+use lib.ListN.{length, drop}
+use Rattle.records.proofs.Lists.{off}
+use Rattle.literals.specs.Table.{eachOnce}
+use Rattle.literals.proofs.Bytes.{once-more, once-at}
+use Rattle.literals.proofs.fields.each_once.Statement.{statement}
+use Rattle.literals.proofs.fields.each_once.Tie as tie
+use Rattle.literals.proofs.fields.each_once.Reads as reads
+use Rattle.literals.proofs.fields.each_once.Lts as lts
+use Rattle.literals.proofs.fields.count_from.Reads as count-from-reads
+
+abbrev Inv-loop : tie.InvT-loop
+Inv-loop p n k₀ k = (k ≤ n) × (eachOnce k (drop 1 p) ≡ true)
+
+abbrev μ-loop : tie.MeasureT-loop
+μ-loop p n k₀ k = n - k
+
+loop-holds : tie.Need-loop-holds Inv-loop μ-loop
+loop-holds c = (omega arith, refl)
+
+cast-count-from : tie.Need-cast-count-from Inv-loop μ-loop
+cast-count-from c = omega arith
+
+count-from-requires : tie.Need-count-from-requires Inv-loop μ-loop
+count-from-requires c κs = search needs
+
+returns : tie.Need-returns Inv-loop μ-loop
+returns c =
+    sym (off _ (λ t. c .if1 .taken (c .before .count-from .ensures ∙ once-at (c .before .before .before .loop .k) (c .before .before .before .before .before .args .n) (drop 1 (c .before .before .before .before .before .args .p .now)) (omega arith) t)))
+
+add-k : tie.Need-add-k Inv-loop μ-loop
+add-k c = omega arith
+
+loop-less : tie.Need-loop-less Inv-loop μ-loop
+loop-less c = omega arith
+
+loop-again : tie.Need-loop-again Inv-loop μ-loop
+loop-again c = (omega arith, once-more (c .before .before .before .loop .k) (drop 1 (c .before .before .before .before .before .args .p .now)) (c .before .before .before .loop .inv .1) (sym (c .before .count-from .ensures) ∙ c .if1 .left))
+
+returns-2 : tie.Need-returns-2 Inv-loop μ-loop
+returns-2 c =
+    let e : c .before .loop .k ≡ c .before .before .before .args .n = omega arith in
+    sym (c .before .loop .inv .1) ∙ ap (λ (m : ℕ). eachOnce m (drop 1 (c .before .before .before .args .p .now))) e
+
+pub each-once-spec : {M : Type 1} → statement M
+each-once-spec =
+    tie.close
+    (tie.spec
+    Inv-loop
+    μ-loop
+    loop-holds
+    cast-count-from
+    count-from-requires
+    returns
+    add-k
+    loop-less
+    loop-again
+    returns-2)
