@@ -14,7 +14,7 @@ use Rattle.literals.specs.declared.Label.the-variants.{Key as keyed, Cou
 use Rattle.literals.specs.Domain.{key, Literal, Action, Component, keysOf, Domain}
 use Rattle.literals.specs.Decode.{relationRecord, actionRecord, literalRecord, componentRecord, byte, literalOf, labelOf, componentOf, actionOf, withLiteral, extend}
 use Rattle.literals.specs.Table.{rowOf, labelNumber, allLiterals, componentRow, pad, startsFrom, sortNumber, indexOf, Holds}
-use Rattle.literals.proofs.Tables.{pad-more, pad-row, components-length}
+use Rattle.literals.proofs.Tables.{pad-more, pad-row, length-components}
 use Rattle.literals.proofs.Bounds.{length-withLiteral}
 use Rattle.literals.proofs.Held.{rows-snoc, literals-snoc, literals-more, starts-more, map-more, starts-length}
 
@@ -189,7 +189,7 @@ module _ {D : Domain} {index : Index} (h : Holds D index) (p : List ℕ) where
       few = rw (h .is) at g
 
       bytes : length (flatMap componentRow (D .template)) ≡ 8 * length (D .template)
-      bytes = components-length (D .template) (h .bounded .labels)
+      bytes = length-components (D .template) (h .bounded .labels)
 
       written : parts ≡ pad 128 (flatMap componentRow (D .template ++ (componentOf p ∷ [])))
       written =
@@ -197,6 +197,6 @@ module _ {D : Domain} {index : Index} (h : Holds D index) (p : List ℕ) where
           let f = few in
           e
           ∙ rw (h .is) (ap (λ (n : ℕ). paste (pad 128 (flatMap componentRow (D .template))) n (rowOf p) 8) (sym bytes))
-          ∙ pad-row 128 (flatMap componentRow (D .template)) p (omega arith) (omega arith)
+          ∙ pad-row 128 (flatMap componentRow (D .template)) p (omega arith)
           ∙ ap (λ (r : List ℕ). pad 128 (flatMap componentRow (D .template) ++ r)) (component-row p l)
           ∙ ap (pad 128) (sym (components-snoc (D .template) (componentOf p)))

@@ -74,3 +74,50 @@ impl Progress {
         }
     }
 }
+
+// The answer of a record that ends reading.
+fn answer_of(stepped: Stepped) -> ReadAnswer {
+    let number = stepped.number;
+    let progress = stepped.progress;
+    let at = progress.at;
+    let index = progress.index;
+    if number == 1 {
+        return ReadAnswer {
+            number: 0,
+            place: 0,
+            start: 0,
+            index,
+        };
+    }
+    ReadAnswer {
+        number,
+        place: at,
+        start: at,
+        index,
+    }
+}
+
+// A domain file, read into a lent table and an index, or refused.
+pub fn read_domain(s: &[u8], table: &mut [u8; 32768]) -> ReadAnswer
+    ensures { λ r. ⌜ (r ≡ readOf (now (s .entry))) × (now (table .exit) ≡ tableAfter (now (s .entry)) (now (table .entry))) ⌝ }
+{
+    let mut progress = Progress::new();
+    if 65535 < s.len() {
+        let index = progress.index;
+        return ReadAnswer {
+            number: 9,
+            place: 0,
+            start: 0,
+            index,
+        };
+    }
+    loop {
+        let stepped = progress.step(s, table);
+        let number = stepped.number;
+        if number == 0 {
+            progress = stepped.progress;
+            continue;
+        }
+        return answer_of(stepped);
+    }
+}
