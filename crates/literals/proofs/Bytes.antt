@@ -78,7 +78,7 @@ pub literal-by : (arities : List ℕ) (vars sort : ℕ) (p : List ℕ)
     (cond (eqb (argumentsStop arities (byte p 1) 2 (length p)) 0) (cond (any (leb vars) (drop 2 p)) 18 0) (argumentsStop arities (byte p 1) 2 (length p))))
 unfolding literalFields argumentsStop
 literal-by arities vars sort p =
-    ap (cond (ltb (length p) 2) 12) 
+    ap (cond (ltb (length p) 2) 12)
     (steps (ltb 9 (byte p 0)) (ltb 3 (byte p 0) && not (eqb sort 1)) (leb (length arities) (byte p 1)) (not (eqb (length p) (2 + getD arities (byte p 1) 0)))
     (cond (any (leb vars) (drop 2 p)) 18 0))
   where

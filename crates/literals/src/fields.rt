@@ -88,7 +88,13 @@ fn no_role(sort: u8, role: u8) -> bool
 }
 
 // The relation of a literal or component whose arguments start at `first` of its `given` bytes.
-fn arguments_stop(relations: usize, arities: [u8; 64], relation: u8, first: usize, given: usize) -> u64
+fn arguments_stop(
+    relations: usize,
+    arities: [u8; 64],
+    relation: u8,
+    first: usize,
+    given: usize,
+) -> u64
     requires { ⌜ (relations ≤ 64) × (first ≤ 2) ⌝ }
     ensures { λ r. ⌜ r ≡ argumentsStop (take relations arities) relation first given ⌝ }
 {

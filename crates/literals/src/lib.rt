@@ -4,13 +4,16 @@ pub mod fields;
 pub mod read;
 pub mod row;
 pub mod take;
+
 ghost use mathlib.Core.Path.{_≡_};
 ghost use Rattle.literals.specs.Domain.{clauseOf, roleOf};
 ghost use Rattle.literals.specs.Table.{conditionGroup, roleRank};
 
 // Variables, objects and keys are three separate numberings, each from 0.
 pub struct Variable(pub u8);
+
 pub struct Object(pub u8);
+
 pub struct Key(pub u8);
 
 // One label of a component: a key, or the counted argument.

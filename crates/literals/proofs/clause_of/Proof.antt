@@ -1,4 +1,4 @@
--- Assumes nothing.
+-- `literals::clause_of` meets its contract. Assumes nothing.
 use native.Mathlib.Omega.{arith}
 use borrow.Author.Tests.{eq-eqb, ne-eqb}
 use Rattle.literals.proofs.clause_of.Statement.{statement}

@@ -3,8 +3,6 @@ use native.Mathlib.Omega.{arith}
 use borrow.Author.Tests.{lt-ltb, le-ltb}
 use Rattle.literals.proofs.condition_group.Statement.{statement}
 use Rattle.literals.proofs.condition_group.Tie as tie
-use Rattle.literals.proofs.condition_group.Reads as reads
-use Rattle.literals.proofs.condition_group.Lts as lts
 
 returns : tie.Need-returns
 returns c = simp (lt-ltb (c .before .args .role) 2 (omega arith))

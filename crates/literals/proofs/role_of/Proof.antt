@@ -5,9 +5,6 @@ use borrow.Author.Tests.{lt-ltb, le-ltb}
 use Rattle.literals.specs.Domain.{roleOf}
 use Rattle.literals.proofs.role_of.Statement.{statement}
 use Rattle.literals.proofs.role_of.Tie as tie
-use Rattle.literals.proofs.role_of.Reads as reads
-use Rattle.literals.proofs.role_of.Lts as lts
-use Rattle.literals.proofs.clause_of.Reads as clause-of-reads
 
 clause-of-requires : tie.Need-clause-of-requires
 clause-of-requires c κs = search needs

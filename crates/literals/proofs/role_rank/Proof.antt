@@ -1,5 +1,4 @@
 -- `literals::role_rank` meets its contract. Assumes nothing.
-use mathlib.Core.Path.{sym, _∙_}
 use Prim.Native.Nat.{_%_}
 use native.Mathlib.Omega.{arith}
 use borrow.Author.Needs.{needs}
@@ -7,9 +6,6 @@ use borrow.Author.Tests.{eq-eqb, ne-eqb}
 use Rattle.literals.specs.Table.{conditionGroup, roleRank}
 use Rattle.literals.proofs.role_rank.Statement.{statement}
 use Rattle.literals.proofs.role_rank.Tie as tie
-use Rattle.literals.proofs.role_rank.Reads as reads
-use Rattle.literals.proofs.role_rank.Lts as lts
-use Rattle.literals.proofs.condition_group.Reads as condition-group-reads
 
 returns : tie.Need-returns
 unfolding roleRank

@@ -6,8 +6,6 @@ use lib.ListN.{length, getD}
 use Rattle.literals.specs.Decode.{actionStop}
 use Rattle.literals.proofs.fields.action_fields.Statement.{statement}
 use Rattle.literals.proofs.fields.action_fields.Tie as tie
-use Rattle.literals.proofs.fields.action_fields.Reads as reads
-use Rattle.literals.proofs.fields.action_fields.Lts as lts
 
 shared-slice-read-if2 : tie.Need-shared-slice-read-if2
 shared-slice-read-if2 c = search needs

@@ -9,8 +9,6 @@ use Rattle.records.specs.Lists.{any}
 use Rattle.literals.proofs.Bytes.{any-hit, any-miss, any-end}
 use Rattle.literals.proofs.fields.any_from.Statement.{statement}
 use Rattle.literals.proofs.fields.any_from.Tie as tie
-use Rattle.literals.proofs.fields.any_from.Reads as reads
-use Rattle.literals.proofs.fields.any_from.Lts as lts
 
 abbrev Inv-loop : tie.InvT-loop
 Inv-loop s from limit i₀ i = any (leb limit) (drop i s) ≡ any (leb limit) (drop from s)
@@ -26,8 +24,8 @@ shared-slice-read-if1 c = omega arith
 
 returns : tie.Need-returns Inv-loop μ-loop
 returns c =
-    sym (any-hit _ (c .before .before .before .before .args .s .now) (c .before .before .before .loop .i) (omega arith) (le-leb _ _ (c .if1 .taken)))
-    ∙ c .before .before .before .loop .inv
+    let turn = c .before .before .before in
+    sym (any-hit _ (turn .before .args .s .now) (turn .loop .i) (omega arith) (le-leb _ _ (c .if1 .taken))) ∙ turn .loop .inv
 
 add-i : tie.Need-add-i Inv-loop μ-loop
 add-i c = omega arith
@@ -37,8 +35,8 @@ loop-less c = omega arith
 
 loop-again : tie.Need-loop-again Inv-loop μ-loop
 loop-again c =
-    sym (any-miss _ (c .before .before .before .before .args .s .now) (c .before .before .before .loop .i) (omega arith) (lt-leb _ _ (c .if1 .left)))
-    ∙ c .before .before .before .loop .inv
+    let turn = c .before .before .before in
+    sym (any-miss _ (turn .before .args .s .now) (turn .loop .i) (omega arith) (lt-leb _ _ (c .if1 .left))) ∙ turn .loop .inv
 
 returns-2 : tie.Need-returns-2 Inv-loop μ-loop
 returns-2 c = sym (any-end _ (c .before .before .args .s .now) (c .before .loop .i) (omega arith)) ∙ c .before .loop .inv

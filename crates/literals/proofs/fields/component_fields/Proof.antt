@@ -1,14 +1,11 @@
 -- `literals::fields::component_fields` meets its contract. Assumes nothing.
 use native.Mathlib.Omega.{arith}
+use borrow.Author.Needs.{needs}
 use borrow.Author.Tests.{lt-ltb, le-ltb}
 use lib.ListN.{length}
 use Rattle.literals.specs.Table.{argumentsStop, componentFields}
-use borrow.Author.Needs.{needs}
 use Rattle.literals.proofs.fields.component_fields.Statement.{statement}
 use Rattle.literals.proofs.fields.component_fields.Tie as tie
-use Rattle.literals.proofs.fields.component_fields.Reads as reads
-use Rattle.literals.proofs.fields.component_fields.Lts as lts
-use Rattle.literals.proofs.fields.arguments_stop.Reads as arguments-stop-reads
 
 returns : tie.Need-returns
 unfolding componentFields

@@ -10,8 +10,6 @@ use Rattle.records.specs.Lists.{countBy}
 use Rattle.literals.proofs.Bytes.{count-hit, count-miss, count-end}
 use Rattle.literals.proofs.fields.count_from.Statement.{statement}
 use Rattle.literals.proofs.fields.count_from.Tie as tie
-use Rattle.literals.proofs.fields.count_from.Reads as reads
-use Rattle.literals.proofs.fields.count_from.Lts as lts
 
 abbrev Inv-loop : tie.InvT-loop
 Inv-loop s from b n₀ i₀ n i = (n ≤ i) × (n + countBy (eqb b) (drop i s) ≡ countBy (eqb b) (drop from s))
@@ -36,15 +34,15 @@ loop-less c = omega arith
 
 loop-again : tie.Need-loop-again Inv-loop μ-loop
 loop-again c =
-    let p = eqb (c .before .before .before .before .args .b) in
-    let s = c .before .before .before .before .args .s .now in
-    let i = c .before .before .before .loop .i in
-    ⊎-elim (λ w. let e = count-hit p s i (omega arith) (eq-eqb _ _ (sym (w .0 .taken))) in (omega arith, omega arith))
-    (λ w. let e = count-miss p s i (omega arith) (ne-eqb _ _ (λ g. w .0 .left (sym g))) in (omega arith, omega arith))
+    let turn = c .before .before .before in
+    let p = eqb (turn .before .args .b) in
+    let s = turn .before .args .s .now in
+    ⊎-elim (λ w. let e = count-hit p s (turn .loop .i) (omega arith) (eq-eqb _ _ (sym (w .0 .taken))) in (omega arith, omega arith))
+    (λ w. let e = count-miss p s (turn .loop .i) (omega arith) (ne-eqb _ _ (λ g. w .0 .left (sym g))) in (omega arith, omega arith))
     (c .if1 .came)
 
 returns : tie.Need-returns Inv-loop μ-loop
-returns c = omega (arith, count-end (eqb (c .before .before .args .b)) (c .before .before .args .s .now) (c .before .loop .i) (omega arith))
+returns c = let start = c .before .before .args in omega (arith, count-end (eqb (start .b)) (start .s .now) (c .before .loop .i) (omega arith))
 
 pub count-from-spec : {M : Type 1} → statement M
 count-from-spec =

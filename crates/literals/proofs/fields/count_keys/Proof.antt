@@ -1,14 +1,10 @@
 -- `literals::fields::count_keys` meets its contract. Assumes nothing.
-use mathlib.Core.Path.{_≡_, refl, sym, _∙_}
 use native.Mathlib.Omega.{arith}
-use lib.ListN.{length, drop, length-drop, drop-of-length-le}
-use Rattle.literals.proofs.Bytes.{keys-and-counted}
 use borrow.Author.Needs.{needs}
+use lib.ListN.{drop, length-drop, drop-of-length-le}
+use Rattle.literals.proofs.Bytes.{keys-and-counted}
 use Rattle.literals.proofs.fields.count_keys.Statement.{statement}
 use Rattle.literals.proofs.fields.count_keys.Tie as tie
-use Rattle.literals.proofs.fields.count_keys.Reads as reads
-use Rattle.literals.proofs.fields.count_keys.Lts as lts
-use Rattle.literals.proofs.fields.count_from.Reads as count-from-reads
 
 returns : tie.Need-returns
 returns c = simp (drop-of-length-le (c .before .before .args .p .now) {i = 1} (omega arith))

@@ -1,18 +1,15 @@
 -- `literals::fields::each_once` meets its contract. The loop's invariant: each number below k stands once. Assumes nothing.
 use mathlib.Core.Path.{_≡_, refl, sym, ap, _∙_}
-use mathlib.Core.Bool.{true, false}
+use mathlib.Core.Bool.{true}
 use Prim.Native.Nat.{ℕ, _-_, _≤_}
 use native.Mathlib.Omega.{arith}
 use borrow.Author.Needs.{needs}
-use lib.ListN.{length, drop}
+use lib.ListN.{drop}
 use Rattle.records.proofs.Lists.{off}
 use Rattle.literals.specs.Table.{eachOnce}
 use Rattle.literals.proofs.Bytes.{once-more, once-at}
 use Rattle.literals.proofs.fields.each_once.Statement.{statement}
 use Rattle.literals.proofs.fields.each_once.Tie as tie
-use Rattle.literals.proofs.fields.each_once.Reads as reads
-use Rattle.literals.proofs.fields.each_once.Lts as lts
-use Rattle.literals.proofs.fields.count_from.Reads as count-from-reads
 
 abbrev Inv-loop : tie.InvT-loop
 Inv-loop p n k₀ k = (k ≤ n) × (eachOnce k (drop 1 p) ≡ true)
@@ -31,7 +28,9 @@ count-from-requires c κs = search needs
 
 returns : tie.Need-returns Inv-loop μ-loop
 returns c =
-    sym (off _ (λ t. c .if1 .taken (c .before .count-from .ensures ∙ once-at (c .before .before .before .loop .k) (c .before .before .before .before .before .args .n) (drop 1 (c .before .before .before .before .before .args .p .now)) (omega arith) t)))
+    let turn = c .before .before .before in
+    let start = turn .before .before .args in
+    sym (off _ (λ t. c .if1 .taken (c .before .count-from .ensures ∙ once-at (turn .loop .k) (start .n) (drop 1 (start .p .now)) (omega arith) t)))
 
 add-k : tie.Need-add-k Inv-loop μ-loop
 add-k c = omega arith
@@ -40,7 +39,10 @@ loop-less : tie.Need-loop-less Inv-loop μ-loop
 loop-less c = omega arith
 
 loop-again : tie.Need-loop-again Inv-loop μ-loop
-loop-again c = (omega arith, once-more (c .before .before .before .loop .k) (drop 1 (c .before .before .before .before .before .args .p .now)) (c .before .before .before .loop .inv .1) (sym (c .before .count-from .ensures) ∙ c .if1 .left))
+loop-again c =
+    let turn = c .before .before .before in
+    let bs = drop 1 (turn .before .before .args .p .now) in
+    (omega arith, once-more (turn .loop .k) bs (turn .loop .inv .1) (sym (c .before .count-from .ensures) ∙ c .if1 .left))
 
 returns-2 : tie.Need-returns-2 Inv-loop μ-loop
 returns-2 c =

@@ -12,9 +12,6 @@ use Rattle.literals.specs.Table.{keysBelow}
 use Rattle.literals.proofs.Bytes.{all-hit, all-miss, all-end}
 use Rattle.literals.proofs.fields.keys_below.Statement.{statement}
 use Rattle.literals.proofs.fields.keys_below.Tie as tie
-use Rattle.literals.proofs.fields.keys_below.Reads as reads
-use Rattle.literals.proofs.fields.keys_below.Lts as lts
-use Rattle.literals.proofs.fields.label_below.Reads as label-below-reads
 
 abbrev fits : ℕ → ℕ → Bool
 fits n b = eqb b 255 || ltb b n
@@ -36,7 +33,9 @@ label-below-requires c κs = search needs
 
 returns : tie.Need-returns Inv-loop μ-loop
 returns c =
-    sym (all-miss (fits (c .before .before .before .before .before .before .args .n)) (c .before .before .before .before .before .before .args .p .now) (c .before .before .before .before .loop .i) (omega arith) (sym (c .before .label-below .ensures) ∙ not-true _ (c .if1 .taken))) ∙ c .before .before .before .before .loop .inv
+    let turn = c .before .before .before .before in
+    let start = turn .before .before .args in
+    sym (all-miss (fits (start .n)) (start .p .now) (turn .loop .i) (omega arith) (sym (c .before .label-below .ensures) ∙ not-true _ (c .if1 .taken))) ∙ turn .loop .inv
 
 add-i : tie.Need-add-i Inv-loop μ-loop
 add-i c = omega arith
@@ -46,10 +45,14 @@ loop-less c = omega arith
 
 loop-again : tie.Need-loop-again Inv-loop μ-loop
 loop-again c =
-    sym (all-hit (fits (c .before .before .before .before .before .before .args .n)) (c .before .before .before .before .before .before .args .p .now) (c .before .before .before .before .loop .i) (omega arith) (sym (c .before .label-below .ensures) ∙ not-false _ (c .if1 .left))) ∙ c .before .before .before .before .loop .inv
+    let turn = c .before .before .before .before in
+    let start = turn .before .before .args in
+    sym (all-hit (fits (start .n)) (start .p .now) (turn .loop .i) (omega arith) (sym (c .before .label-below .ensures) ∙ not-false _ (c .if1 .left))) ∙ turn .loop .inv
 
 returns-2 : tie.Need-returns-2 Inv-loop μ-loop
-returns-2 c = sym (all-end (fits (c .before .before .before .args .n)) (c .before .before .before .args .p .now) (c .before .loop .i) (omega arith)) ∙ c .before .loop .inv
+returns-2 c =
+    let start = c .before .before .before .args in
+    sym (all-end (fits (start .n)) (start .p .now) (c .before .loop .i) (omega arith)) ∙ c .before .loop .inv
 
 pub keys-below-spec : {M : Type 1} → statement M
 keys-below-spec =

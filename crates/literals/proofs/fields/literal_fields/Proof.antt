@@ -1,17 +1,12 @@
 -- `literals::fields::literal_fields` meets its contract. Assumes nothing.
-use mathlib.Core.Path.{_≡_, sym, _∙_}
+use mathlib.Core.Path.{sym, _∙_}
 use native.Mathlib.Omega.{arith}
+use borrow.Author.Needs.{needs}
 use borrow.Author.Tests.{lt-ltb, le-ltb, eq-eqb, ne-eqb}
 use lib.ListN.{length}
 use Rattle.literals.proofs.Bytes.{literal-by}
-use borrow.Author.Needs.{needs}
 use Rattle.literals.proofs.fields.literal_fields.Statement.{statement}
 use Rattle.literals.proofs.fields.literal_fields.Tie as tie
-use Rattle.literals.proofs.fields.literal_fields.Reads as reads
-use Rattle.literals.proofs.fields.literal_fields.Lts as lts
-use Rattle.literals.proofs.fields.any_from.Reads as any-from-reads
-use Rattle.literals.proofs.fields.arguments_stop.Reads as arguments-stop-reads
-use Rattle.literals.proofs.fields.no_role.Reads as no-role-reads
 
 returns : tie.Need-returns
 returns c = simp (literal-by, lt-ltb (length (c .before .before .args .p .now)) 2 (omega arith))
@@ -23,7 +18,12 @@ no-role-requires : tie.Need-no-role-requires
 no-role-requires c κs = search needs
 
 returns-2 : tie.Need-returns-2
-returns-2 c = simp (literal-by, le-ltb (length (c .before .before .before .before .before .args .p .now)) 2 (omega arith), sym (c .before .no-role .ensures) ∙ c .if2 .taken)
+returns-2 c =
+    simp (
+      literal-by,
+      le-ltb (length (c .before .before .before .before .before .args .p .now)) 2 (omega arith),
+      sym (c .before .no-role .ensures) ∙ c .if2 .taken,
+    )
 
 shared-slice-read-arguments-stop : tie.Need-shared-slice-read-arguments-stop
 shared-slice-read-arguments-stop c = search needs
@@ -32,16 +32,45 @@ arguments-stop-requires : tie.Need-arguments-stop-requires
 arguments-stop-requires c κs = search needs
 
 returns-3 : tie.Need-returns-3
-returns-3 c = simp (literal-by, le-ltb (length (c .before .before .before .before .before .before .before .before .args .p .now)) 2 (omega arith), sym (c .before .before .before .before .no-role .ensures) ∙ c .before .before .before .if2 .left, sym (c .before .arguments-stop .ensures), ne-eqb (c .before .arguments-stop .result) 0 (omega arith))
+returns-3 c =
+    let stop = c .before in
+    let sorted = stop .before .before .before in
+    simp (
+      literal-by,
+      le-ltb (length (sorted .before .before .before .before .args .p .now)) 2 (omega arith),
+      sym (sorted .no-role .ensures) ∙ stop .before .before .if2 .left,
+      ← stop .arguments-stop .ensures,
+      ne-eqb (stop .arguments-stop .result) 0 (omega arith),
+    )
 
 any-from-requires : tie.Need-any-from-requires
 any-from-requires c κs = search needs
 
 returns-4 : tie.Need-returns-4
-returns-4 c = simp (literal-by, le-ltb (length (c .before .before .before .before .before .before .before .before .before .before .args .p .now)) 2 (omega arith), sym (c .before .before .before .before .before .before .no-role .ensures) ∙ c .before .before .before .before .before .if2 .left, sym (c .before .before .before .arguments-stop .ensures), eq-eqb (c .before .before .before .arguments-stop .result) 0 (omega arith), sym (c .before .any-from .ensures) ∙ c .if4 .taken)
+returns-4 c =
+    let stop = c .before .before .before in
+    let sorted = stop .before .before .before in
+    simp (
+      literal-by,
+      le-ltb (length (sorted .before .before .before .before .args .p .now)) 2 (omega arith),
+      sym (sorted .no-role .ensures) ∙ stop .before .before .if2 .left,
+      ← stop .arguments-stop .ensures,
+      eq-eqb (stop .arguments-stop .result) 0 (omega arith),
+      sym (c .before .any-from .ensures) ∙ c .if4 .taken,
+    )
 
 returns-5 : tie.Need-returns-5
-returns-5 c = simp (literal-by, le-ltb (length (c .before .before .before .before .before .before .before .before .before .before .args .p .now)) 2 (omega arith), sym (c .before .before .before .before .before .before .no-role .ensures) ∙ c .before .before .before .before .before .if2 .left, sym (c .before .before .before .arguments-stop .ensures), eq-eqb (c .before .before .before .arguments-stop .result) 0 (omega arith), sym (c .before .any-from .ensures) ∙ c .if4 .left)
+returns-5 c =
+    let stop = c .before .before .before in
+    let sorted = stop .before .before .before in
+    simp (
+      literal-by,
+      le-ltb (length (sorted .before .before .before .before .args .p .now)) 2 (omega arith),
+      sym (sorted .no-role .ensures) ∙ stop .before .before .if2 .left,
+      ← stop .arguments-stop .ensures,
+      eq-eqb (stop .arguments-stop .result) 0 (omega arith),
+      sym (c .before .any-from .ensures) ∙ c .if4 .left,
+    )
 
 pub literal-fields-spec : {M : Type 1} → statement M
 literal-fields-spec =
