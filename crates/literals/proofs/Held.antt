@@ -1,21 +1,22 @@
 -- An index that holds a domain: its counts, its bounds, and what one record leads to. Assumes nothing.
-use mathlib.Core.Path.{_≡_, refl, sym, ap, _∙_}
+use mathlib.Core.Path.{_≡_, refl, sym, ap, ap₂, _∙_}
 use mathlib.Core.Bool.{Bool, true, false, not, _&&_, _||_, cond}
 use mathlib.Core.List.{List, [], _∷_, _++_, map, flatMap, append-nil, append-assoc, List·Memᴰ·head, List·Memᴰ·tail}
 use Prim.Native.Nat.{ℕ, zero, suc, _+_, _-_, _*_, _≤_, _<_}
 use native.Mathlib.Nat.{zero-add}
 use native.Mathlib.Omega.{arith}
 use lib.Dec.{eqb, ltb, leb}
-use lib.ListN.{length, getD, set, length-append, length-map}
+use lib.ListN.{length, take, getD, length-append}
 use borrow.Author.Tests.{le-leb, lt-leb, eq-eqb, ne-eqb}
 use Rattle.records.specs.Lists.{addIf, In, empty, countBy}
+use Rattle.records.proofs.Lists.{flatMap-in}
 use Rattle.literals.specs.declared.Index.{Index}
 use Rattle.literals.specs.declared.Taken.{Taken}
 use Rattle.literals.specs.Domain.{Literal, Action, Component, isCounted, keysOf, Domain}
 use Rattle.literals.specs.Decode.{RecordKind, relationRecord, actionRecord, literalRecord, componentRecord, closingRecord, unknownRecord, isUnknown, latest, outOfOrder, atLimit, headStop, byte, literalOf, componentOf, actionOf, withLiteral, fieldStop, stopOf, extend}
 use Rattle.literals.specs.Table.{allLiterals, componentRow, pad, startsFrom, sortNumber, indexOf, Bounded, Holds, Shaped, behind, takenOf}
 use Rattle.literals.proofs.Bounds.{arity-six}
-use Rattle.literals.proofs.Tables.{pad-at, pad-more}
+use Rattle.literals.proofs.Tables.{pad-at, take-pad, length-pad, length-components}
 
 -- ---- counts of lists
 
@@ -28,7 +29,7 @@ empty-yes [] h = refl
 empty-yes (x ∷ xs) h = absurd (omega arith)
 
 -- how many pass is at most how many there are
-count-le : {A : Type 0} (p : A → Bool) (l : List A) → countBy p l ≤ length l
+pub count-le : {A : Type 0} (p : A → Bool) (l : List A) → countBy p l ≤ length l
 count-le p [] = omega arith
 count-le p (x ∷ xs) = go (p x) (count-le p xs)
   where
@@ -124,6 +125,11 @@ unfolding latest-rows
 latest-start [] = refl
 latest-start (a ∷ as′) = latest-rows 0 (a ∷ as′) .start (omega arith) ∙ zero-add (length (latest-rows 0 (a ∷ as′) .earlier))
 
+-- a literal of all is one of some action's
+pub literals-in : (as′ : List Action) {l : Literal} → In l (allLiterals as′) → (a : Action) × In a as′ × In l (a .lits)
+unfolding allLiterals
+literals-in as′ m = flatMap-in (λ (a : Action). a .lits) as′ m
+
 -- at most 64 literals an action
 rows-few : (as′ : List Action) → ((a : Action) → In a as′ → length (a .lits) ≤ 64) → length (allLiterals as′) ≤ 64 * length as′
 unfolding allLiterals flatMap
@@ -184,6 +190,22 @@ module _ {D : Domain} {index : Index} (h : Holds D index) where
   unfolding indexOf
   starts-is = ap (λ (i : Index). i .starts) (h .is)
 
+  pub parts-is : index .parts ≡ pad 128 (flatMap componentRow (D .template))
+  unfolding indexOf
+  parts-is = ap (λ (i : Index). i .parts) (h .is)
+
+  pub variables-is : index .variables ≡ pad 64 (map (λ (a : Action). a .vars) (D .actions))
+  unfolding indexOf
+  variables-is = ap (λ (i : Index). i .variables) (h .is)
+
+  pub sorts-is : index .sorts ≡ pad 64 (map sortNumber (D .actions))
+  unfolding indexOf
+  sorts-is = ap (λ (i : Index). i .sorts) (h .is)
+
+  -- the arities that count
+  pub arities-taken : take (index .relations) (index .arities) ≡ D .arities
+  arities-taken = ap₂ take relations-is arities-is ∙ take-pad 64 (D .arities)
+
   -- the first row of the latest action
   pub start-is : getD (index .starts) (index .actions - 1) 0 ≡ length (latest-rows 0 (D .actions) .earlier)
   start-is =
@@ -214,5 +236,9 @@ module _ {D : Domain} {index : Index} (h : Holds D index) where
             omega arith;
         last = let a = start-is in let b = actions-is in let c = earlier-few 0 (D .actions) (h .bounded .sizes) in omega arith;
         components = let a = components-is in let b = h .bounded .components in omega arith;
+        parts =
+            let a = length-components (D .template) (h .bounded .labels) in
+            let b = h .bounded .components in
+            ap length parts-is ∙ length-pad 128 (flatMap componentRow (D .template)) (omega arith);
         keys = let a = keys-is in let b = keys-few (D .template) (h .bounded .labels) in omega arith;
       }

@@ -166,6 +166,7 @@ pub record Shaped (index : Index) : Type 0 where
   pub order : getD (index .starts) (index .actions - 1) 0 ≤ index .rows
   pub last : getD (index .starts) (index .actions - 1) 0 ≤ 64 * (index .actions - 1)
   pub components : index .components ≤ 16
+  pub parts : length (index .parts) ≡ 128
   pub keys : index .keys ≤ 6
 
 -- ---- what reading leaves

@@ -1,48 +1,54 @@
+-- Assumes nothing.
+use mathlib.Core.Path.{_≡_, sym, _∙_}
+use mathlib.Core.List.{List}
+use Prim.Native.Nat.{ℕ, _≤_}
+use native.Mathlib.Omega.{arith}
+use lib.ListN.{length, take}
 use borrow.Author.Needs.{needs}
+use Rattle.literals.specs.declared.Index.{Index}
+use Rattle.literals.specs.Table.{componentFields, Shaped}
+use Rattle.literals.proofs.Takes.{component-short, component-fields-stop, component-used, component-labels}
 use Rattle.literals.proofs.take.component_number.Statement.{statement}
 use Rattle.literals.proofs.take.component_number.Tie as tie
 use Rattle.literals.proofs.take.component_number.Reads as reads
 use Rattle.literals.proofs.take.component_number.Lts as lts
 use Rattle.literals.proofs.fields.component_fields.Reads as component-fields-reads
-use Rattle.literals.proofs.fields.label_fields.Reads as label-fields-reads
 use Rattle.literals.proofs.row.any_row.Reads as any-row-reads
 use Rattle.literals.proofs.take.keys_with.Reads as keys-with-reads
+use Rattle.literals.proofs.fields.label_fields.Reads as label-fields-reads
 
--- src/take.rt:142:9
+-- fields that pass leave at most 6 labels
+short : (i : Index) → Shaped i → (p : List ℕ) {n : ℕ} → n ≡ componentFields (take (i .relations) (i .arities)) p → n ≡ 0 → (1 ≤ length p) × (length p ≤ 7)
+short i s p e z = component-short (i .arities) (i .relations) p (sym e ∙ z) (s .arities)
+
 component-fields-requires : tie.Need-component-fields-requires
 component-fields-requires c κs = search needs
 
--- src/take.rt:144:9
 returns : tie.Need-returns
-returns c = ?
+returns c = (λ D h. component-fields-stop h _ (c .before .component-fields .ensures) (c .if1 .taken), λ z. absurd (c .if1 .taken z))
 
--- src/take.rt:146:16
 slice-aggregate-any-row : tie.Need-slice-aggregate-any-row
 slice-aggregate-any-row c = search needs
 
--- src/take.rt:146:42
 shared-slice-read-any-row : tie.Need-shared-slice-read-any-row
-shared-slice-read-any-row c = ?
+shared-slice-read-any-row c = let k = short (c .before .before .before .before .before .before .before .args .index) (c .before .before .before .before .before .before .before .pre) _ (c .before .before .before .component-fields .ensures) (c .before .before .if1 .left) .0 in omega arith
 
--- src/take.rt:146:8
 any-row-requires : tie.Need-any-row-requires
-any-row-requires c κs = ?
+any-row-requires c κs = let s = c .before .before .before .before .before .before .before .pre in let k = s .parts in let n = s .components in omega arith
 
--- src/take.rt:147:9
 returns-2 : tie.Need-returns-2
-returns-2 c = ?
+returns-2 c = (λ D h. component-used h _ (c .before .before .before .before .before .component-fields .ensures) (c .before .before .before .before .if1 .left) (c .before .any-row .ensures) (c .if2 .taken), λ z. absurd (omega arith))
 
--- src/take.rt:149:21
 keys-with-requires : tie.Need-keys-with-requires
-keys-with-requires c κs = ?
+keys-with-requires c κs = (c .before .before .before .before .before .before .before .before .before .pre, short (c .before .before .before .before .before .before .before .before .before .args .index) (c .before .before .before .before .before .before .before .before .before .pre) _ (c .before .before .before .before .before .component-fields .ensures) (c .before .before .before .before .if1 .left) .1)
 
--- src/take.rt:149:5
 label-fields-requires : tie.Need-label-fields-requires
 label-fields-requires c κs = search needs
 
--- src/take.rt:135:1
 returns-3 : tie.Need-returns-3
-returns-3 c = ?
+returns-3 c =
+    (λ D h. component-labels h _ (c .before .before .before .before .before .before .before .component-fields .ensures) (c .before .before .before .before .before .before .if1 .left) (c .before .before .before .any-row .ensures) (c .before .before .if2 .left) (c .before .keys-with .ensures .0 D h) (c .label-fields .ensures),
+    λ z. short (c .before .before .before .before .before .before .before .before .before .before .before .args .index) (c .before .before .before .before .before .before .before .before .before .before .before .pre) _ (c .before .before .before .before .before .before .before .component-fields .ensures) (c .before .before .before .before .before .before .if1 .left) .1)
 
 pub component-number-spec : {M : Type 1} → statement M
 component-number-spec =

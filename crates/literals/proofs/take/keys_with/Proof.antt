@@ -1,21 +1,27 @@
+-- Assumes nothing.
+use mathlib.Core.Path.{_≡_, _∙_}
+use native.Mathlib.Omega.{arith}
 use borrow.Author.Needs.{needs}
+use Rattle.literals.specs.Decode.{componentOf}
+use Rattle.literals.proofs.Takes.{keys-first, keys-later, keys-short}
 use Rattle.literals.proofs.take.keys_with.Statement.{statement}
 use Rattle.literals.proofs.take.keys_with.Tie as tie
 use Rattle.literals.proofs.take.keys_with.Reads as reads
 use Rattle.literals.proofs.take.keys_with.Lts as lts
 use Rattle.literals.proofs.fields.count_keys.Reads as count-keys-reads
 
--- src/take.rt:129:9
 count-keys-requires : tie.Need-count-keys-requires
 count-keys-requires c κs = search needs
 
--- src/take.rt:129:9
 returns : tie.Need-returns
-returns c = ?
+returns c =
+    let p = c .before .before .before .before .args .p .now in
+    let e = c .count-keys .ensures in
+    let k = keys-short p (c .before .before .before .before .pre .1) in
+    (λ D h. e ∙ keys-first h (componentOf p) (c .before .if1 .taken), rw e k)
 
--- src/take.rt:123:1
 returns-2 : tie.Need-returns-2
-returns-2 c = ?
+returns-2 c = (λ D h. keys-later h (componentOf (c .before .before .before .args .p .now)) (c .if1 .left), omega arith)
 
 pub keys-with-spec : {M : Type 1} → statement M
 keys-with-spec = tie.close (tie.spec count-keys-requires returns returns-2)

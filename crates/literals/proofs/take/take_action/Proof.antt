@@ -1,57 +1,54 @@
+-- Assumes nothing.
+use mathlib.Core.Path.{_≡_, refl, sym, _∙_}
+use native.Mathlib.Omega.{arith}
 use borrow.Author.Needs.{needs}
+use Rattle.literals.proofs.Stops.{action-passes}
+use Rattle.literals.proofs.Indexed.{index-action}
+use Rattle.literals.proofs.Takes.{action-behind-components, action-full, action-refused, action-taken, sort-is}
 use Rattle.literals.proofs.take.take_action.Statement.{statement}
 use Rattle.literals.proofs.take.take_action.Tie as tie
 use Rattle.literals.proofs.take.take_action.Reads as reads
 use Rattle.literals.proofs.take.take_action.Lts as lts
 use Rattle.literals.proofs.fields.action_fields.Reads as action-fields-reads
 
--- src/take.rt:47:9
 returns : tie.Need-returns
-returns c = ?
+returns c D h = action-behind-components h _ (c .if1 .taken)
 
--- src/take.rt:50:9
 returns-2 : tie.Need-returns-2
-returns-2 c = ?
+returns-2 c D h = action-full h _ (omega arith) (omega arith)
 
--- src/take.rt:52:9
 action-fields-requires : tie.Need-action-fields-requires
 action-fields-requires c κs = search needs
 
--- src/take.rt:55:29
 shared-slice-read-next : tie.Need-shared-slice-read-next
-shared-slice-read-next c = ?
+shared-slice-read-next c = let q = action-passes _ (sym (c .before .before .action-fields .ensures) ∙ c .before .if3 .taken) .0 in omega arith
 
--- src/take.rt:55:9
 element-write-next : tie.Need-element-write-next
 element-write-next c = search needs
 
--- src/take.rt:56:25
 shared-slice-read-next-2 : tie.Need-shared-slice-read-next-2
-shared-slice-read-next-2 c = ?
+shared-slice-read-next-2 c = let q = action-passes _ (sym (c .before .before .before .action-fields .ensures) ∙ c .before .before .if3 .taken) .0 in omega arith
 
--- src/take.rt:56:9
 element-write-next-2 : tie.Need-element-write-next-2
 element-write-next-2 c = search needs
 
--- src/take.rt:57:9
 mul-next : tie.Need-mul-next
 mul-next c = search needs
 
--- src/take.rt:57:9
 element-write-next-3 : tie.Need-element-write-next-3
 element-write-next-3 c = search needs
 
--- src/take.rt:58:24
 add-next : tie.Need-add-next
 add-next c = search needs
 
--- src/take.rt:59:9
 returns-3 : tie.Need-returns-3
-returns-3 c = ?
+returns-3 c D h =
+    let e = c .before .before .before .action-fields .ensures in
+    let z = c .before .before .if3 .taken in
+    action-taken h _ (omega arith) (omega arith) e z (index-action h _ _ _ refl (sort-is _ (sym e ∙ z)) (omega arith))
 
--- src/take.rt:41:1
 returns-4 : tie.Need-returns-4
-returns-4 c = ?
+returns-4 c D h = action-refused h _ (omega arith) (omega arith) (c .before .action-fields .ensures) (c .if3 .left)
 
 pub take-action-spec : {M : Type 1} → statement M
 take-action-spec =

@@ -1,19 +1,17 @@
+-- Assumes nothing.
+use native.Mathlib.Omega.{arith}
+use Rattle.literals.proofs.Takes.{closing-long, closing-alone, closing-taken}
 use Rattle.literals.proofs.take.take_closing.Statement.{statement}
 use Rattle.literals.proofs.take.take_closing.Tie as tie
-use Rattle.literals.proofs.take.take_closing.Reads as reads
-use Rattle.literals.proofs.take.take_closing.Lts as lts
 
--- src/take.rt:180:9
 returns : tie.Need-returns
-returns c = ?
+returns c D h = closing-long h _ (c .if1 .taken)
 
--- src/take.rt:183:9
 returns-2 : tie.Need-returns-2
-returns-2 c = ?
+returns-2 c D h = closing-alone h _ (c .before .before .if1 .left) (c .if2 .taken)
 
--- src/take.rt:176:1
 returns-3 : tie.Need-returns-3
-returns-3 c = ?
+returns-3 c D h = closing-taken h _ (c .before .before .if1 .left) (c .if2 .left)
 
 pub take-closing-spec : {M : Type 1} → statement M
 take-closing-spec = tie.close (tie.spec returns returns-2 returns-3)

@@ -1,4 +1,10 @@
+-- Assumes nothing.
+use mathlib.Core.Path.{_≡_, refl, sym, _∙_}
+use native.Mathlib.Omega.{arith}
 use borrow.Author.Needs.{needs}
+use Rattle.literals.proofs.Stops.{component-passes}
+use Rattle.literals.proofs.Indexed.{index-component}
+use Rattle.literals.proofs.Takes.{component-full, component-refused, component-taken}
 use Rattle.literals.proofs.take.take_component.Statement.{statement}
 use Rattle.literals.proofs.take.take_component.Tie as tie
 use Rattle.literals.proofs.take.take_component.Reads as reads
@@ -7,41 +13,39 @@ use Rattle.literals.proofs.row.put_row.Reads as put-row-reads
 use Rattle.literals.proofs.take.component_number.Reads as component-number-reads
 use Rattle.literals.proofs.take.keys_with.Reads as keys-with-reads
 
--- src/take.rt:158:9
 returns : tie.Need-returns
-returns c = ?
+returns c D h = component-full h _ (c .if1 .taken)
 
--- src/take.rt:160:9
 component-number-requires : tie.Need-component-number-requires
 component-number-requires c κs = search needs
 
--- src/take.rt:163:17
 slice-aggregate-put-row : tie.Need-slice-aggregate-put-row
 slice-aggregate-put-row c = search needs
 
--- src/take.rt:163:29
 mul-put-row : tie.Need-mul-put-row
 mul-put-row c = search needs
 
--- src/take.rt:163:9
 put-row-requires : tie.Need-put-row-requires
-put-row-requires c κs = ?
+put-row-requires c κs =
+    let k = c .before .before .before .before .before .before .pre .parts in
+    let l = c .before .before .before .component-number .ensures .1 (c .before .before .if2 .taken) in
+    (omega arith, omega arith)
 
--- src/take.rt:166:27
 add-next : tie.Need-add-next
 add-next c = search needs
 
--- src/take.rt:167:9
 keys-with-requires : tie.Need-keys-with-requires
-keys-with-requires c κs = ?
+keys-with-requires c κs = (c .before .before .before .before .before .before .before .before .pre, c .before .before .before .before .before .component-number .ensures .1 (c .before .before .before .before .if2 .taken))
 
--- src/take.rt:168:9
 returns-2 : tie.Need-returns-2
-returns-2 c = ?
+returns-2 c D h =
+    let e = c .before .before .before .before .before .before .component-number .ensures in
+    let z = c .before .before .before .before .before .if2 .taken in
+    let q = component-passes D _ (sym (e .0 D h) ∙ z) in
+    component-taken h _ (omega arith) (e .0 D h) z (index-component h _ _ _ (c .before .before .put-row .ensures) (c .keys-with .ensures .0 D h) (omega arith) (q .long) (e .1 z))
 
--- src/take.rt:152:1
 returns-3 : tie.Need-returns-3
-returns-3 c = ?
+returns-3 c D h = component-refused h _ (omega arith) (c .before .component-number .ensures .0 D h) (c .if2 .left)
 
 pub take-component-spec : {M : Type 1} → statement M
 take-component-spec =

@@ -1,4 +1,9 @@
+-- Assumes nothing.
+use mathlib.Core.Path.{_≡_, refl, sym, _∙_}
+use native.Mathlib.Omega.{arith}
 use borrow.Author.Needs.{needs}
+use Rattle.literals.proofs.Indexed.{index-literal}
+use Rattle.literals.proofs.Written.{literal-13, literal-13-late, literal-14, literal-refused, literal-taken}
 use Rattle.literals.proofs.take.take_literal.Statement.{statement}
 use Rattle.literals.proofs.take.take_literal.Tie as tie
 use Rattle.literals.proofs.take.take_literal.Reads as reads
@@ -6,57 +11,47 @@ use Rattle.literals.proofs.take.take_literal.Lts as lts
 use Rattle.literals.proofs.row.put_row.Reads as put-row-reads
 use Rattle.literals.proofs.take.literal_number.Reads as literal-number-reads
 
--- src/take.rt:99:9
 returns : tie.Need-returns
-returns c = ?
+returns c D old h t = literal-13 h _ old t (c .if1 .taken)
 
--- src/take.rt:102:9
 returns-2 : tie.Need-returns-2
-returns-2 c = ?
+returns-2 c D old h t = literal-13-late h _ old t (c .if2 .taken)
 
--- src/take.rt:104:16
 sub-last : tie.Need-sub-last
 sub-last c = search needs
 
--- src/take.rt:106:21
 mul-if3 : tie.Need-mul-if3
 mul-if3 c = search needs
 
--- src/take.rt:106:21
 array-read-if3 : tie.Need-array-read-if3
 array-read-if3 c = search needs
 
--- src/take.rt:106:14
 sub-if3 : tie.Need-sub-if3
 sub-if3 c = search needs
 
--- src/take.rt:107:9
 returns-3 : tie.Need-returns-3
-returns-3 c = ?
+returns-3 c D old h t = literal-14 h _ old t (omega arith) (omega arith) _ refl (c .if3 .taken)
 
--- src/take.rt:109:9
 literal-number-requires : tie.Need-literal-number-requires
 literal-number-requires c κs = search needs
 
--- src/take.rt:111:24
 mul-put-row : tie.Need-mul-put-row
 mul-put-row c = search needs
 
--- src/take.rt:111:9
 put-row-requires : tie.Need-put-row-requires
-put-row-requires c κs = ?
+put-row-requires c κs = (?, c .before .before .literal-number .ensures .1 (c .before .if4 .taken))
 
--- src/take.rt:113:21
 add-next : tie.Need-add-next
 add-next c = search needs
 
--- src/take.rt:114:9
 returns-4 : tie.Need-returns-4
-returns-4 c = ?
+returns-4 c D old h t =
+    let e = c .before .before .before .literal-number .ensures in
+    let z = c .before .before .if4 .taken in
+    literal-taken h _ old t (omega arith) (omega arith) _ refl (omega arith) (e .0 D old h t) z (index-literal h _ (omega arith)) (e .1 z) (c .put-row .ensures)
 
--- src/take.rt:91:1
 returns-5 : tie.Need-returns-5
-returns-5 c = ?
+returns-5 c D old h t = literal-refused h _ old t (omega arith) (omega arith) _ refl (omega arith) (c .before .literal-number .ensures .0 D old h t) (c .if4 .left)
 
 pub take-literal-spec : {M : Type 1} → statement M
 take-literal-spec =

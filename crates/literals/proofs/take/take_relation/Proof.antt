@@ -1,45 +1,42 @@
+-- Assumes nothing.
+use mathlib.Core.Path.{_≡_, refl, sym, _∙_}
+use native.Mathlib.Omega.{arith}
 use borrow.Author.Needs.{needs}
+use Rattle.literals.proofs.Stops.{relation-passes}
+use Rattle.literals.proofs.Indexed.{index-relation}
+use Rattle.literals.proofs.Takes.{relation-behind-actions, relation-behind-components, relation-full, relation-refused, relation-taken}
 use Rattle.literals.proofs.take.take_relation.Statement.{statement}
 use Rattle.literals.proofs.take.take_relation.Tie as tie
 use Rattle.literals.proofs.take.take_relation.Reads as reads
 use Rattle.literals.proofs.take.take_relation.Lts as lts
 use Rattle.literals.proofs.fields.relation_fields.Reads as relation-fields-reads
 
--- src/take.rt:20:9
 returns : tie.Need-returns
-returns c = ?
+returns c D h = relation-behind-actions h _ (c .if1 .taken)
 
--- src/take.rt:23:9
 returns-2 : tie.Need-returns-2
-returns-2 c = ?
+returns-2 c D h = relation-behind-components h _ (omega arith) (c .if2 .taken)
 
--- src/take.rt:26:9
 returns-3 : tie.Need-returns-3
-returns-3 c = ?
+returns-3 c D h = relation-full h _ (omega arith) (omega arith) (omega arith)
 
--- src/take.rt:28:9
 relation-fields-requires : tie.Need-relation-fields-requires
 relation-fields-requires c κs = search needs
 
--- src/take.rt:31:27
 shared-slice-read-next : tie.Need-shared-slice-read-next
-shared-slice-read-next c = ?
+shared-slice-read-next c = let q = relation-passes _ (sym (c .before .before .relation-fields .ensures) ∙ c .before .if4 .taken) .0 in omega arith
 
--- src/take.rt:31:9
 element-write-next : tie.Need-element-write-next
 element-write-next c = search needs
 
--- src/take.rt:32:26
 add-next : tie.Need-add-next
 add-next c = search needs
 
--- src/take.rt:33:9
 returns-4 : tie.Need-returns-4
-returns-4 c = ?
+returns-4 c D h = relation-taken h _ (omega arith) (omega arith) (omega arith) (c .before .before .relation-fields .ensures) (c .before .if4 .taken) (index-relation h _ _ refl (omega arith))
 
--- src/take.rt:14:1
 returns-5 : tie.Need-returns-5
-returns-5 c = ?
+returns-5 c D h = relation-refused h _ (omega arith) (omega arith) (omega arith) (c .before .relation-fields .ensures) (c .if4 .left)
 
 pub take-relation-spec : {M : Type 1} → statement M
 take-relation-spec =
