@@ -1,70 +1,64 @@
+-- `literals::Progress::step` meets its contract: a law of proofs/Turns for each return. Assumes nothing.
 use borrow.Author.Needs.{needs}
+use mathlib.Core.Path.{sym, _∙_}
+use native.Mathlib.Omega.{arith}
+use Rattle.records.proofs.Laws.{whole-within}
+use Rattle.literals.proofs.Turns.{held, step-behind, step-end, step-cut, step-none, step-on, step-stop}
 use Rattle.literals.proofs.Progress.step.Statement.{statement}
 use Rattle.literals.proofs.Progress.step.Tie as tie
-use Rattle.literals.proofs.Progress.step.Reads as reads
-use Rattle.literals.proofs.Progress.step.Lts as lts
-use Rattle.literals.proofs.take.take_record.Reads as take-record-reads
-use Rattle.records.proofs.record_at.Reads as record-at-reads
 
--- src/read.rt:50:17
 returns : tie.Need-returns
-returns c = ?
+returns c q old is bounded memory = step-behind _ _ q old is _ memory (c .before .if1 .taken) (c .if2 .taken)
 
--- src/read.rt:52:13
 returns-2 : tie.Need-returns-2
-returns-2 c = ?
+returns-2 c q old is bounded memory = step-end _ _ q old is _ memory (c .before .if1 .taken) (c .if2 .left)
 
--- src/read.rt:54:15
 record-at-requires : tie.Need-record-at-requires
 record-at-requires c κs = search needs
 
--- src/read.rt:55:29
 enum-known-kind : tie.Need-enum-known-kind
 enum-known-kind c = search needs
 
--- src/read.rt:56:27
 add-end : tie.Need-add-end
-add-end c = ?
+add-end c =
+    let w = whole-within _ _ (sym (c .before .before .before .record-at .ensures) ∙ c .before .kind .given .1) in
+    omega arith
 
--- src/read.rt:57:61
 sub-take-record : tie.Need-sub-take-record
 sub-take-record c = search needs
 
--- src/read.rt:57:61
 part-take-record-start : tie.Need-part-take-record-start
 part-take-record-start c = search needs
 
--- src/read.rt:57:61
 part-take-record-end : tie.Need-part-take-record-end
-part-take-record-end c = ?
+part-take-record-end c =
+    let w = whole-within _ _ (sym (c .before .before .before .before .record-at .ensures) ∙ c .before .before .kind .given .1) in
+    omega arith
 
--- src/read.rt:57:21
 take-record-requires : tie.Need-take-record-requires
 take-record-requires c κs = search needs
 
--- src/read.rt:61:21
 returns-3 : tie.Need-returns-3
-returns-3 c = ?
+returns-3 c q old is bounded memory =
+    step-on _ _ q old is (c .before .before .before .before .before .before .before .before .before .if1 .left) (sym (c .before .before .before .before .before .before .before .before .record-at .ensures) ∙ c .before .before .before .before .before .before .kind .given .1) (c .before .before .take-record .result) _
+    (c .before .before .take-record .ensures (q .sofar) old (held is bounded) memory) (c .if3 .taken)
 
--- src/read.rt:72:28
 enum-told : tie.Need-enum-told
 enum-told c = search needs
 
--- src/read.rt:73:28
 enum-told-2 : tie.Need-enum-told-2
 enum-told-2 c = search needs
 
--- src/read.rt:40:5
 returns-4 : tie.Need-returns-4
-returns-4 c = ?
+returns-4 c q old is bounded memory =
+    step-stop _ _ q old is (c .before .before .before .before .before .before .before .before .before .if1 .left) (sym (c .before .before .before .before .before .before .before .before .record-at .ensures) ∙ c .before .before .before .before .before .before .kind .given .1) (c .before .before .take-record .result) _
+    (c .before .before .take-record .ensures (q .sofar) old (held is bounded) memory) (c .if3 .left)
 
--- src/read.rt:40:5
 returns-5 : tie.Need-returns-5
-returns-5 c = ?
+returns-5 c q old is bounded memory = step-cut _ _ q old is _ memory (c .before .before .before .if1 .left) (sym (c .before .before .record-at .ensures) ∙ c .enum-told .given .1)
 
--- src/read.rt:40:5
 returns-6 : tie.Need-returns-6
-returns-6 c = ?
+returns-6 c q old is bounded memory = step-none _ _ q old is _ memory (c .before .before .before .if1 .left) (sym (c .before .before .record-at .ensures) ∙ c .enum-told2 .given .1)
 
 pub step-spec : {M : Type 1} → statement M
 step-spec =
