@@ -22,7 +22,7 @@ abbrev pub Refuses : ℕ → Type 0
 Refuses n = (9 ≤ n) × (n ≤ 23)
 
 -- such a number, or 0 where nothing stops the record
-abbrev Stop : ℕ → Type 0
+abbrev pub Stop : ℕ → Type 0
 Stop n = (n ≡ 0) ⊎ Refuses n
 
 stop-cond : (b : Bool) (m n : ℕ) → Refuses m → Stop n → Stop (cond b m n)
@@ -78,7 +78,7 @@ stop-field D closingRecord p =
     stop-cond (not (eqb (length p) 0)) 12 (cond (empty (D .template)) 23 0) (omega arith, omega arith) (stop-cond (empty (D .template)) 23 0 (omega arith, omega arith) (inl refl))
 stop-field D unknownRecord p = inl refl
 
-stop-of : (D : Domain) (k : RecordKind) (p : List ℕ) → Stop (stopOf D k p)
+pub stop-of : (D : Domain) (k : RecordKind) (p : List ℕ) → Stop (stopOf D k p)
 unfolding stopOf
 stop-of D k p = go (eqb (headStop D k) 0)
   where

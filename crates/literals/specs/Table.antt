@@ -201,6 +201,12 @@ abbrev pub readBy : Decoded → Index → ReadAnswer
 readBy (refused r) i = record { number = r .number; place = r .place; start = r .start; index = i }
 readBy (domain D) i = record { number = 0; place = 0; start = 0; index = i }
 
+-- the answer where a record ends reading: its number with the offset of the record, or 0 where the file is read
+unfoldable pub finishedOf : Stepped → ReadAnswer
+finishedOf o =
+    cond (eqb (o .number) 1) (record { number = 0; place = 0; start = 0; index = o .progress .index })
+    (record { number = o .number; place = o .progress .at; start = o .progress .at; index = o .progress .index })
+
 unfoldable pub readOf : List ℕ → ReadAnswer
 unfolding readFile indexOf
 readOf f = readBy (readFile f .result) (indexOf (readFile f .read))

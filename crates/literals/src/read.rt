@@ -1,14 +1,16 @@
 // The file, record by record.
+use super::Index;
+use super::Progress;
+use super::ReadAnswer;
 use super::take::take_record;
-use super::{Index, Progress, ReadAnswer};
 use records::Record;
 use records::record_at;
 ghost use mathlib.Core.Path.{_≡_};
 ghost use mathlib.Core.List.{List};
 ghost use Prim.Native.Nat.{ℕ};
 ghost use Rattle.records.specs.Memory.{over};
-ghost use Rattle.literals.specs.Decode.{Reading, readStep};
-ghost use Rattle.literals.specs.Table.{Bounded, Shaped, progressOf, readOf, steppedOf, soFar, tableAfter, tableBytes};
+ghost use Rattle.literals.specs.Decode.{Reading, readStep, fromStart};
+ghost use Rattle.literals.specs.Table.{Bounded, Shaped, finishedOf, progressOf, readOf, steppedOf, soFar, tableAfter, tableBytes};
 
 // What one record led to: 0 where reading goes on, 1 where the file is read, else the number that refuses it.
 pub struct Stepped {
@@ -17,7 +19,9 @@ pub struct Stepped {
 }
 
 impl Progress {
-    pub fn new() -> Progress {
+    pub fn new() -> Progress
+        ensures { λ r. ⌜ r ≡ progressOf fromStart ⌝ }
+    {
         Progress {
             at: 0,
             closed: false,
@@ -47,9 +51,15 @@ impl Progress {
         let index = self.index;
         if closed {
             if at < s.len() {
-                return Stepped { number: 13, progress: self };
+                return Stepped {
+                    number: 13,
+                    progress: self,
+                };
             }
-            return Stepped { number: 1, progress: self };
+            return Stepped {
+                number: 1,
+                progress: self,
+            };
         }
         match record_at(s, at) {
             Record::Whole { kind, start, len } => {
@@ -67,16 +77,27 @@ impl Progress {
                         },
                     };
                 }
-                Stepped { number, progress: self }
+                Stepped {
+                    number,
+                    progress: self,
+                }
             }
-            Record::Cut => Stepped { number: 10, progress: self },
-            Record::End => Stepped { number: 10, progress: self },
+            Record::Cut => Stepped {
+                number: 10,
+                progress: self,
+            },
+            Record::End => Stepped {
+                number: 10,
+                progress: self,
+            },
         }
     }
 }
 
 // The answer of a record that ends reading.
-fn answer_of(stepped: Stepped) -> ReadAnswer {
+fn answer_of(stepped: Stepped) -> ReadAnswer
+    ensures { λ r. ⌜ r ≡ finishedOf stepped ⌝ }
+{
     let number = stepped.number;
     let progress = stepped.progress;
     let at = progress.at;

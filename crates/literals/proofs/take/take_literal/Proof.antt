@@ -1,6 +1,7 @@
 -- Assumes nothing.
 use mathlib.Core.Path.{_≡_, refl, sym, _∙_}
 use native.Mathlib.Omega.{arith}
+use lib.ListN.{length}
 use borrow.Author.Needs.{needs}
 use Rattle.literals.proofs.Indexed.{index-literal}
 use Rattle.literals.proofs.Written.{literal-13, literal-13-late, literal-14, literal-refused, literal-taken}
@@ -39,7 +40,13 @@ mul-put-row : tie.Need-mul-put-row
 mul-put-row c = search needs
 
 put-row-requires : tie.Need-put-row-requires
-put-row-requires c κs = (?, c .before .before .literal-number .ensures .1 (c .before .if4 .taken))
+put-row-requires c κs =
+    let t : length (c .before .before .before .before .before .before .before .before .before .before .before .args .table .now) ≡ 32768 = search needs in
+    let q = c .before .before .before .before .before .before .before .before .before .before .before .pre in
+    let o = q .order in
+    let l = q .last in
+    let a = q .actions in
+    (omega arith, c .before .before .literal-number .ensures .1 (c .before .if4 .taken))
 
 add-next : tie.Need-add-next
 add-next c = search needs
