@@ -1,5 +1,5 @@
 -- The table with one record more. Assumes nothing.
-use mathlib.Core.Path.{_≡_, refl, sym, ap, ap₂, _∙_}
+use mathlib.Core.Path.{_≡_, refl, sym, ap, ap₂, subst, _∙_}
 use mathlib.Core.Bool.{Bool, true, false, cond}
 use mathlib.Core.List.{List, [], _∷_, _++_, map, flatMap, append-nil}
 use Prim.Native.Nat.{ℕ, suc, _+_, _-_, _*_, _≤_, _<_}
@@ -7,6 +7,7 @@ use native.Mathlib.Omega.{arith}
 use lib.Dec.{eqb}
 use lib.ListN.{length, getD}
 use lib.Seq.{paste}
+use borrow.Author.Tests.{eq-eqb, ne-eqb}
 use Rattle.records.specs.Lists.{In}
 use Rattle.records.specs.Memory.{over}
 use Rattle.records.proofs.Lists.{flatMap-append}
@@ -14,7 +15,7 @@ use Rattle.literals.specs.declared.Variable.{Variable}
 use Rattle.literals.specs.declared.Index.{Index}
 use Rattle.literals.specs.declared.Taken.{Taken}
 use Rattle.literals.specs.Domain.{variable, roleOf, Literal, Action, Domain}
-use Rattle.literals.specs.Decode.{RecordKind, relationRecord, actionRecord, literalRecord, componentRecord, closingRecord, unknownRecord, latest, outOfOrder, byte, literalOf, literalStop, withLiteral, actionOf, fieldStop, stopOf, extend}
+use Rattle.literals.specs.Decode.{RecordKind, relationRecord, actionRecord, literalRecord, componentRecord, closingRecord, unknownRecord, kindOf, latest, byte, literalOf, literalStop, withLiteral, actionOf, fieldStop, stopOf, extend}
 use Rattle.literals.specs.Table.{rowOf, literalRow, allLiterals, tableBytes, indexOf, Holds, behind, takenOf}
 use Rattle.literals.proofs.Stops.{literal-passes, role-nine}
 use Rattle.literals.proofs.Bounds.{role-number}
@@ -106,3 +107,34 @@ module _ {D : Domain} {index : Index} (h : Holds D index) (p : List ℕ) {t : Li
           (done h literalRecord p s k,
           v ∙ ap (λ (m : List ℕ). paste m (8 * index .rows) (rowOf p) 8) q ∙ over-row (tableBytes D) old p (8 * index .rows) table-length l
           ∙ ap (λ (m : List ℕ). over m old) (bytes-more (sym e ∙ z) (omega arith) ∙ ap tableBytes (sym (behind-done D literalRecord p s))))
+
+-- ---- a record by its kind's number
+
+module _ (D : Domain) (p : List ℕ) {r : Taken} {t : List ℕ} (old : List ℕ) where
+  -- what a record of a kind leads to, of the kind's number
+  pub by-kind : (k : ℕ) (j : RecordKind) → kindOf k ≡ j → (r ≡ takenOf D j p) × (t ≡ over (tableBytes (behind D j p)) old)
+      → (r ≡ takenOf D (kindOf k) p) × (t ≡ over (tableBytes (behind D (kindOf k) p)) old)
+  by-kind k j e x = subst (λ (i : RecordKind). (r ≡ takenOf D i p) × (t ≡ over (tableBytes (behind D i p)) old)) (sym e) x
+
+  -- of a kind that writes no literal
+  pub unwritten : (k : ℕ) (j : RecordKind) → kindOf k ≡ j → r ≡ takenOf D j p → tableBytes (behind D j p) ≡ tableBytes D → t ≡ over (tableBytes D) old
+      → (r ≡ takenOf D (kindOf k) p) × (t ≡ over (tableBytes (behind D (kindOf k) p)) old)
+  unwritten k j e x s q = by-kind k j e (x, q ∙ ap (λ (m : List ℕ). over m old) (sym s))
+
+pub kind-1 : (k : ℕ) → k ≡ 1 → kindOf k ≡ relationRecord
+kind-1 k e = simp (eq-eqb k 1 e)
+
+pub kind-2 : (k : ℕ) → k ≡ 2 → kindOf k ≡ actionRecord
+kind-2 k e = simp (ne-eqb k 1 (omega arith), eq-eqb k 2 e)
+
+pub kind-3 : (k : ℕ) → k ≡ 3 → kindOf k ≡ literalRecord
+kind-3 k e = simp (ne-eqb k 1 (omega arith), ne-eqb k 2 (omega arith), eq-eqb k 3 e)
+
+pub kind-4 : (k : ℕ) → k ≡ 4 → kindOf k ≡ componentRecord
+kind-4 k e = simp (ne-eqb k 1 (omega arith), ne-eqb k 2 (omega arith), ne-eqb k 3 (omega arith), eq-eqb k 4 e)
+
+pub kind-5 : (k : ℕ) → k ≡ 5 → kindOf k ≡ closingRecord
+kind-5 k e = simp (ne-eqb k 1 (omega arith), ne-eqb k 2 (omega arith), ne-eqb k 3 (omega arith), ne-eqb k 4 (omega arith), eq-eqb k 5 e)
+
+pub kind-other : (k : ℕ) → (k ≡ 1 → ⊥) → (k ≡ 2 → ⊥) → (k ≡ 3 → ⊥) → (k ≡ 4 → ⊥) → (k ≡ 5 → ⊥) → kindOf k ≡ unknownRecord
+kind-other k a b c d e = simp (ne-eqb k 1 a, ne-eqb k 2 b, ne-eqb k 3 c, ne-eqb k 4 d, ne-eqb k 5 e)

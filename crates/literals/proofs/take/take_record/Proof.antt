@@ -1,57 +1,52 @@
+-- Assumes nothing.
+use mathlib.Core.Path.{_≡_, refl}
+use native.Mathlib.Omega.{arith}
 use borrow.Author.Needs.{needs}
+use Rattle.literals.specs.Decode.{relationRecord, actionRecord, literalRecord, componentRecord, closingRecord, unknownRecord}
+use Rattle.literals.proofs.Takes.{unknown-refused}
+use Rattle.literals.proofs.Written.{same-relation, same-action, same-component, same-closing, same-unknown, by-kind, unwritten, kind-1, kind-2, kind-3, kind-4, kind-5, kind-other}
 use Rattle.literals.proofs.take.take_record.Statement.{statement}
 use Rattle.literals.proofs.take.take_record.Tie as tie
 use Rattle.literals.proofs.take.take_record.Reads as reads
 use Rattle.literals.proofs.take.take_record.Lts as lts
-use Rattle.literals.proofs.take.take_action.Reads as take-action-reads
-use Rattle.literals.proofs.take.take_closing.Reads as take-closing-reads
-use Rattle.literals.proofs.take.take_component.Reads as take-component-reads
-use Rattle.literals.proofs.take.take_literal.Reads as take-literal-reads
 use Rattle.literals.proofs.take.take_relation.Reads as take-relation-reads
+use Rattle.literals.proofs.take.take_action.Reads as take-action-reads
+use Rattle.literals.proofs.take.take_literal.Reads as take-literal-reads
+use Rattle.literals.proofs.take.take_component.Reads as take-component-reads
+use Rattle.literals.proofs.take.take_closing.Reads as take-closing-reads
 
--- src/take.rt:195:14
 take-relation-requires : tie.Need-take-relation-requires
 take-relation-requires c κs = search needs
 
--- src/take.rt:196:14
 take-action-requires : tie.Need-take-action-requires
 take-action-requires c κs = search needs
 
--- src/take.rt:197:14
 take-literal-requires : tie.Need-take-literal-requires
 take-literal-requires c κs = search needs
 
--- src/take.rt:198:14
 take-component-requires : tie.Need-take-component-requires
 take-component-requires c κs = search needs
 
--- src/take.rt:199:14
 take-closing-requires : tie.Need-take-closing-requires
 take-closing-requires c κs = search needs
 
--- src/take.rt:189:1
 returns : tie.Need-returns
-returns c = ?
+returns c D old h t = unwritten D _ old (c .before .before .before .args .kind) relationRecord (kind-1 (c .before .before .before .args .kind) (omega arith)) (c .take-relation .ensures D h) (same-relation D _) t
 
--- src/take.rt:189:1
 returns-2 : tie.Need-returns-2
-returns-2 c = ?
+returns-2 c D old h t = unwritten D _ old (c .before .before .before .args .kind) actionRecord (kind-2 (c .before .before .before .args .kind) (omega arith)) (c .take-action .ensures D h) (same-action D _) t
 
--- src/take.rt:189:1
 returns-3 : tie.Need-returns-3
-returns-3 c = ?
+returns-3 c D old h t = by-kind D _ old (c .before .before .before .before .args .kind) literalRecord (kind-3 (c .before .before .before .before .args .kind) (omega arith)) (c .take-literal .ensures D old h t)
 
--- src/take.rt:189:1
 returns-4 : tie.Need-returns-4
-returns-4 c = ?
+returns-4 c D old h t = unwritten D _ old (c .before .before .before .args .kind) componentRecord (kind-4 (c .before .before .before .args .kind) (omega arith)) (c .take-component .ensures D h) (same-component D _) t
 
--- src/take.rt:189:1
 returns-5 : tie.Need-returns-5
-returns-5 c = ?
+returns-5 c D old h t = unwritten D _ old (c .before .before .before .args .kind) closingRecord (kind-5 (c .before .before .before .args .kind) (omega arith)) (c .take-closing .ensures D h) (same-closing D _) t
 
--- src/take.rt:189:1
 returns-6 : tie.Need-returns-6
-returns-6 c = ?
+returns-6 c D old h t = unwritten D _ old (c .before .before .args .kind) unknownRecord (kind-other (c .before .before .args .kind) (omega arith) (omega arith) (omega arith) (omega arith) (omega arith)) (unknown-refused h _) (same-unknown D _) t
 
 pub take-record-spec : {M : Type 1} → statement M
 take-record-spec =
