@@ -2,3 +2,5 @@
 pub mod RunFile
 pub mod Play
 pub mod Claims
+pub mod Written
+pub mod Samples
