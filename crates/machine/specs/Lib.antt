@@ -4,3 +4,4 @@ pub mod Play
 pub mod Claims
 pub mod Written
 pub mod Samples
+pub mod Further
