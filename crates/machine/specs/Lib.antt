@@ -5,3 +5,4 @@ pub mod Claims
 pub mod Written
 pub mod Samples
 pub mod Further
+pub mod FurtherRuns

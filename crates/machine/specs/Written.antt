@@ -185,9 +185,14 @@ playing d r work =
 abbrev pub play : List ℕ → List ℕ → AfterPlaying
 play d r = playing d r (lent 8200)
 
--- the facts, zeros up to 8,192, and the rest of 8,200 is untouched
+-- n bytes: these, and zeros after them
+abbrev pub zeroed : ℕ → List ℕ → List ℕ
+zeroed n [] = replicate n 0
+zeroed n (b ∷ bs) = b ∷ zeroed (n - 1) bs
+
+-- the facts, zeros up to 8,192 bytes, and the rest of 8,200 is untouched
 abbrev pub worked : List ℕ → List ℕ
-worked facts = facts ++ (replicate (8192 - length facts) 0 ++ lent 8)
+worked facts = zeroed 8192 facts ++ lent 8
 
 -- number, first place, steps, weight
 abbrev pub reply : ℕ → ℕ → ℕ → ℕ → Played
