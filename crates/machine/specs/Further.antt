@@ -186,7 +186,7 @@ room =
       nothing-lent = refl;
     }
 
--- ---- refusals, 10 to 23
+-- ---- refusals, 9 to 23
 
 -- full/1 and an action of one variable, 11 bytes; a literal of full has 7, a component 6
 abbrev once : List ℕ
@@ -200,6 +200,9 @@ abbrev whole : List ℕ
 whole = relation 0 ++ component (0 ∷ []) ++ closing
 
 pub record Refusals : Type 0 where
+  -- 9: 65,536 bytes; one fewer is read, and is no record here
+  pub too-long : judge (lent 65536) ≡ refuses 9 0
+  pub longest : judge (lent 65535) ≡ refuses 11 0
   -- 10: a head, or a payload, that runs past the end; no closing record is told at the file's length
   pub head-cut : judge (0 ∷ 0 ∷ 5 ∷ []) ≡ refuses 10 0
   pub payload-cut : judge (relation 1 ++ (1 ∷ 0 ∷ 1 ∷ 0 ∷ [])) ≡ refuses 10 5
@@ -282,6 +285,8 @@ pub refusals : Refusals
 unfolding judged reportAfter witnessAfter
 refusals =
     record {
+      too-long = refl;
+      longest = refl;
       head-cut = refl;
       payload-cut = refl;
       not-closed = refl;

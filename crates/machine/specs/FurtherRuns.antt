@@ -4,7 +4,7 @@ use mathlib.Core.List.{List, [], _∷_, _++_}
 use Prim.Native.Nat.{ℕ}
 use Rattle.machine.specs.Play.{ofDomain, ofRun, played, workAfter, returned, returnedBytes}
 use Rattle.machine.specs.Written.{rec, each, relation, atOnce, lasting, component, closing, objects, fact, event, closeStep, closeRun}
-use Rattle.machine.specs.Written.{holds, lacks, adds, deletes, holdsOverAll, lacksOverAll, lent, held, playing, play, reply, plays, stops}
+use Rattle.machine.specs.Written.{holds, lacks, adds, deletes, holdsOverAll, lacksOverAll, lent, zeroed, held, playing, play, reply, plays, stops}
 use Rattle.machine.specs.Samples.{at, out, m1, m3}
 
 -- ---- the domain of most cases: lit/1, labelled 0, so that an instance is an object and weighs at most 1; its template is accepted
@@ -300,4 +300,38 @@ runFiles =
       not-closed = refl;
       bytes-behind = refl;
       close-behind = refl;
+    }
+
+-- ---- the part that comes back, and 58
+
+-- a domain file with a fault at 5
+abbrev faulty : List ℕ
+faulty = relation 1 ++ relation 7 ++ closing
+
+pub record Parts : Type 0 where
+  -- a fault of the domain file: the rest of that file, and the work memory is untouched; the run file is not looked at
+  pub domain-fault : playing faulty (step [] (light 0)) (lent 8200)
+      ≡ record { answer = reply 15 5 0 0; memory = lent 8200; part = ofDomain 5; bytes = relation 7 ++ closing }
+  -- it comes before 58
+  pub domain-fault-short : playing faulty [] (lent 8191)
+      ≡ record { answer = reply 15 5 0 0; memory = lent 8191; part = ofDomain 5; bytes = relation 7 ++ closing }
+  -- no closing record: the domain file's empty end
+  pub domain-not-closed : playing (relation 1) [] (lent 8200) ≡ record { answer = reply 10 5 0 0; memory = lent 8200; part = ofDomain 5; bytes = [] }
+  -- 58 comes before 50, though it is one byte: the run file's empty end
+  pub memory-short : playing lamps (light 0) (lent 8191) ≡ record { answer = reply 58 0 0 0; memory = lent 8191; part = ofRun 7; bytes = [] }
+  -- 8,192 bytes are enough
+  pub memory-enough : playing lamps (begun ++ closeRun) (lent 8192)
+      ≡ record { answer = reply 2 0 0 1; memory = zeroed 8192 (held (lit 0)); part = ofRun 15; bytes = [] }
+  pub too-long : playing (lent 65536) [] [] ≡ record { answer = reply 9 0 0 0; memory = []; part = ofDomain 0; bytes = lent 65536 }
+
+pub parts : Parts
+unfolding played workAfter returned returnedBytes
+parts =
+    record {
+      domain-fault = refl;
+      domain-fault-short = refl;
+      domain-not-closed = refl;
+      memory-short = refl;
+      memory-enough = refl;
+      too-long = refl;
     }
