@@ -2,10 +2,11 @@
 use mathlib.Core.Path.{_≡_, refl}
 use mathlib.Core.List.{List, [], _∷_, _++_}
 use Prim.Native.Nat.{ℕ}
+use lib.ListN.{replicate}
 use Rattle.verdict.specs.Judged.{judged, reportAfter, witnessAfter}
-use Rattle.machine.specs.Play.{played, workAfter, returned, returnedBytes}
+use Rattle.machine.specs.Play.{ofRun, played, workAfter, returned, returnedBytes}
 use Rattle.machine.specs.Written.{FF, relation, atOnce, lasting, holds, adds, deletes, addsAtEnd, component, closing, objects, fact, event, closeStep, closeRun}
-use Rattle.machine.specs.Written.{row, unreachable, irrelevant, heavy, balanced, unbalanced, bounded, unbounded, judge, answers, refuses, play, stops}
+use Rattle.machine.specs.Written.{row, unreachable, irrelevant, heavy, balanced, unbalanced, bounded, unbounded, lent, judge, answers, refuses, playing, reply}
 
 -- ---- M1 to M5, M8, M9 and M12 speak of at/2 and out/2
 
@@ -128,8 +129,9 @@ pub record Samples : Type 0 where
   pub m9-judged : judge m9 ≡ answers 0 0 0 0 (row 0 0 0 balanced) []
   pub m10-judged : judge m10 ≡ answers 43 0 0 0 (row 0 0 0 bounded ++ row 1 0 0 irrelevant ++ row 1 0 1 unbounded) []
   pub m11-judged : judge m11 ≡ refuses 10 0
-  -- no fact is left, and what comes back starts at the second step's close
-  pub m12-played : play m1 m12 ≡ stops 55 34 1 1 [] (closeStep ++ closeRun)
+  -- no fact is left: zeros up to 8,192 bytes, and the last 8 are untouched; what comes back starts at the second step's close
+  pub m12-played : playing m1 m12 (lent 8200)
+      ≡ record { answer = reply 55 34 1 1; memory = replicate 8192 0 ++ lent 8; part = ofRun 34; bytes = closeStep ++ closeRun }
 
 pub samples : Samples
 unfolding judged reportAfter witnessAfter played workAfter returned returnedBytes

@@ -2,6 +2,7 @@
 use mathlib.Core.List.{List, [], _∷_, _++_}
 use Prim.Native.Nat.{ℕ, zero, suc, _-_}
 use lib.ListN.{length, replicate}
+use Rattle.records.specs.Memory.{over}
 use Rattle.verdict.specs.Judged.{Answer, judged, reportAfter, witnessAfter}
 use Rattle.machine.specs.Play.{Played, Returned, ofDomain, ofRun, played, workAfter, returned, returnedBytes}
 
@@ -192,7 +193,7 @@ zeroed n (b ∷ bs) = b ∷ zeroed (n - 1) bs
 
 -- the facts, zeros up to 8,192 bytes, and the rest of 8,200 is untouched
 abbrev pub worked : List ℕ → List ℕ
-worked facts = zeroed 8192 facts ++ lent 8
+worked facts = over (zeroed 8192 facts) (lent 8200)
 
 -- number, first place, steps, weight
 abbrev pub reply : ℕ → ℕ → ℕ → ℕ → Played
