@@ -2,3 +2,7 @@
 pub mod RunFile
 pub mod Play
 pub mod Claims
+pub mod Written
+pub mod Samples
+pub mod Further
+pub mod FurtherRuns
