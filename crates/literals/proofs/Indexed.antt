@@ -73,17 +73,17 @@ module _ {D : Domain} {index : Index} (h : Holds D index) (p : List ℕ) where
       ≡ indexOf (extend D relationRecord p)
   unfolding indexOf extend
   index-relation v e g = rw (h .is) (λ i. record {
-        relations = sym (length-snoc (D .arities) (byte p 0)) i;
-        arities = (ap (λ (n : ℕ). set (pad 64 (D .arities)) (length (D .arities)) n) e ∙ pad-more 64 (D .arities) (byte p 0) (rw (h .is) at g)) i;
-        actions = length (D .actions);
-        variables = pad 64 (map (λ (a : Action). a .vars) (D .actions));
-        sorts = pad 64 (map sortNumber (D .actions));
-        starts = pad 64 (startsFrom 0 (D .actions));
-        rows = length (allLiterals (D .actions));
-        components = length (D .template);
-        parts = pad 128 (flatMap componentRow (D .template));
-        keys = keysOf (D .template);
-      })
+    relations = sym (length-snoc (D .arities) (byte p 0)) i;
+    arities = (ap (λ (n : ℕ). set (pad 64 (D .arities)) (length (D .arities)) n) e ∙ pad-more 64 (D .arities) (byte p 0) (rw (h .is) at g)) i;
+    actions = length (D .actions);
+    variables = pad 64 (map (λ (a : Action). a .vars) (D .actions));
+    sorts = pad 64 (map sortNumber (D .actions));
+    starts = pad 64 (startsFrom 0 (D .actions));
+    rows = length (allLiterals (D .actions));
+    components = length (D .template);
+    parts = pad 128 (flatMap componentRow (D .template));
+    keys = keysOf (D .template);
+  })
 
   pub index-action : (v s : ℕ) → v ≡ byte p 0 → s ≡ sortNumber (actionOf p) → index .actions < 64
       → record {
@@ -101,17 +101,17 @@ module _ {D : Domain} {index : Index} (h : Holds D index) (p : List ℕ) where
       ≡ indexOf (extend D actionRecord p)
   unfolding indexOf extend
   index-action v s e d g = rw (h .is) (λ i. record {
-        relations = length (D .arities);
-        arities = pad 64 (D .arities);
-        actions = sym (length-snoc (D .actions) (actionOf p)) i;
-        variables = store (λ (a : Action). a .vars) (D .actions) (actionOf p) v few e i;
-        sorts = store sortNumber (D .actions) (actionOf p) s few d i;
-        starts = starts i;
-        rows = ap length (sym (literals-snoc (D .actions) (actionOf p) ∙ append-nil (allLiterals (D .actions)))) i;
-        components = length (D .template);
-        parts = pad 128 (flatMap componentRow (D .template));
-        keys = keysOf (D .template);
-      })
+    relations = length (D .arities);
+    arities = pad 64 (D .arities);
+    actions = sym (length-snoc (D .actions) (actionOf p)) i;
+    variables = store (λ (a : Action). a .vars) (D .actions) (actionOf p) v few e i;
+    sorts = store sortNumber (D .actions) (actionOf p) s few d i;
+    starts = starts i;
+    rows = ap length (sym (literals-snoc (D .actions) (actionOf p) ∙ append-nil (allLiterals (D .actions)))) i;
+    components = length (D .template);
+    parts = pad 128 (flatMap componentRow (D .template));
+    keys = keysOf (D .template);
+  })
     where
       few : length (D .actions) < 64
       few = rw (h .is) at g
@@ -141,17 +141,17 @@ module _ {D : Domain} {index : Index} (h : Holds D index) (p : List ℕ) where
       ≡ indexOf (extend D literalRecord p)
   unfolding indexOf extend
   index-literal g = rw (h .is) (λ i. record {
-        relations = length (D .arities);
-        arities = pad 64 (D .arities);
-        actions = sym (length-withLiteral l (D .actions)) i;
-        variables = ap (pad 64) (sym (map-more (λ (a : Action). a .vars) (λ a m. refl) l (D .actions))) i;
-        sorts = ap (pad 64) (sym (map-more sortNumber (λ a m. refl) l (D .actions))) i;
-        starts = ap (pad 64) (sym (starts-more 0 l (D .actions))) i;
-        rows = (sym (length-snoc (allLiterals (D .actions)) l) ∙ ap length (sym (literals-more l (D .actions) (rw (h .is) at g)))) i;
-        components = length (D .template);
-        parts = pad 128 (flatMap componentRow (D .template));
-        keys = keysOf (D .template);
-      })
+    relations = length (D .arities);
+    arities = pad 64 (D .arities);
+    actions = sym (length-withLiteral l (D .actions)) i;
+    variables = ap (pad 64) (sym (map-more (λ (a : Action). a .vars) (λ a m. refl) l (D .actions))) i;
+    sorts = ap (pad 64) (sym (map-more sortNumber (λ a m. refl) l (D .actions))) i;
+    starts = ap (pad 64) (sym (starts-more 0 l (D .actions))) i;
+    rows = (sym (length-snoc (allLiterals (D .actions)) l) ∙ ap length (sym (literals-more l (D .actions) (rw (h .is) at g)))) i;
+    components = length (D .template);
+    parts = pad 128 (flatMap componentRow (D .template));
+    keys = keysOf (D .template);
+  })
     where
       l : Literal
       l = literalOf p
@@ -173,17 +173,17 @@ module _ {D : Domain} {index : Index} (h : Holds D index) (p : List ℕ) where
       ≡ indexOf (extend D componentRecord p)
   unfolding indexOf extend
   index-component parts keys e d g l m = rw (h .is) (λ i. record {
-        relations = length (D .arities);
-        arities = pad 64 (D .arities);
-        actions = length (D .actions);
-        variables = pad 64 (map (λ (a : Action). a .vars) (D .actions));
-        sorts = pad 64 (map sortNumber (D .actions));
-        starts = pad 64 (startsFrom 0 (D .actions));
-        rows = length (allLiterals (D .actions));
-        components = sym (length-snoc (D .template) (componentOf p)) i;
-        parts = written i;
-        keys = d i;
-      })
+    relations = length (D .arities);
+    arities = pad 64 (D .arities);
+    actions = length (D .actions);
+    variables = pad 64 (map (λ (a : Action). a .vars) (D .actions));
+    sorts = pad 64 (map sortNumber (D .actions));
+    starts = pad 64 (startsFrom 0 (D .actions));
+    rows = length (allLiterals (D .actions));
+    components = sym (length-snoc (D .template) (componentOf p)) i;
+    parts = written i;
+    keys = d i;
+  })
     where
       few : length (D .template) < 16
       few = rw (h .is) at g

@@ -299,7 +299,7 @@ literal-short arities n vars sort p e h =
     (q .long, omega arith)
 
 module _ {D : Domain} {index : Index} (h : Holds D index) (p : List ℕ) (last : ℕ) {n : ℕ} (w : last + 1 ≡ index .actions)
-  (e : n ≡ literalFields (take (index .relations) (index .arities)) (getD (index .variables) last 0) (getD (index .sorts) last 0) p) where
+    (e : n ≡ literalFields (take (index .relations) (index .arities)) (getD (index .variables) last 0) (getD (index .sorts) last 0) p) where
   some : 0 < length (D .actions)
   some = let a = actions-is h in omega arith
 
@@ -321,7 +321,7 @@ module _ {D : Domain} {index : Index} (h : Holds D index) (p : List ℕ) (last :
       ∙ sym (literal-split D p ∙ rw (ne-eqb (literalFields (D .arities) (latest (D .actions) .vars) (sortNumber (latest (D .actions))) p) 0 (λ q. z (literal-fields-are ∙ q))))
 
   module _ (z : n ≡ 0) {table : List ℕ} (old : List ℕ) (t : table ≡ over (tableBytes D) old) {r : ℕ}
-    (q : r ≡ rowsRank p (rowsIn (index .rows - getD (index .starts) last 0) (drop (8 * getD (index .starts) last 0) table))) where
+      (q : r ≡ rowsRank p (rowsIn (index .rows - getD (index .starts) last 0) (drop (8 * getD (index .starts) last 0) table))) where
     abbrev lits : List Literal
     lits = latest (D .actions) .lits
 

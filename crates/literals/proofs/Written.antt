@@ -103,10 +103,11 @@ module _ {D : Domain} {index : Index} (h : Holds D index) (p : List ℕ) {t : Li
       pub literal-taken : {i : Index} {u : List ℕ} → n ≡ 0 → i ≡ indexOf (extend D literalRecord p) → length p ≤ 8 → u ≡ paste t (8 * index .rows) (rowOf p) 8
           → (record { number = 0; index = i } ≡ takenOf D literalRecord p) × (u ≡ over (tableBytes (behind D literalRecord p)) old)
       literal-taken z k l v =
-          let s = literal-number h p a c (rw w at f) ∙ sym e ∙ z in
-          (done h literalRecord p s k,
-          v ∙ ap (λ (m : List ℕ). paste m (8 * index .rows) (rowOf p) 8) q ∙ over-row (tableBytes D) old p (8 * index .rows) table-length l
-          ∙ ap (λ (m : List ℕ). over m old) (bytes-more (sym e ∙ z) (omega arith) ∙ ap tableBytes (sym (behind-done D literalRecord p s))))
+          let s = literal-number h p a c (rw w at f) ∙ sym e ∙ z in (
+            done h literalRecord p s k,
+            v ∙ ap (λ (m : List ℕ). paste m (8 * index .rows) (rowOf p) 8) q ∙ over-row (tableBytes D) old p (8 * index .rows) table-length l
+                ∙ ap (λ (m : List ℕ). over m old) (bytes-more (sym e ∙ z) (omega arith) ∙ ap tableBytes (sym (behind-done D literalRecord p s))),
+          )
 
 -- ---- a record by its kind's number
 

@@ -1,7 +1,15 @@
 // What one record adds to the domain: each function takes a record of one kind, or refuses it and leaves all as it was.
-use super::fields::{action_fields, component_fields, count_keys, label_fields, literal_fields, relation_fields};
-use super::row::{any_row, put_row, rows_rank};
-use super::{Index, Taken};
+use super::Index;
+use super::Taken;
+use super::fields::action_fields;
+use super::fields::component_fields;
+use super::fields::count_keys;
+use super::fields::label_fields;
+use super::fields::literal_fields;
+use super::fields::relation_fields;
+use super::row::any_row;
+use super::row::put_row;
+use super::row::rows_rank;
 ghost use mathlib.Core.Path.{_≡_};
 ghost use mathlib.Core.List.{List, [], _∷_, _++_};
 ghost use Prim.Native.Nat.{ℕ, _+_, _≤_};

@@ -52,10 +52,10 @@ unfoldable pub entriesFrom : ℕ → List ℕ → ℕ → List Entry
 unfolding recordAt payload
 entriesFrom zero r at = []
 entriesFrom (suc fuel) r at =
-    elim (recordAt r at)
-    [ Whole k start len ↦ record { at = at; kind = runKindOf k; bytes = payload r start len } ∷ entriesFrom fuel r (start + len)
-    | Cut ↦ []
-    | End ↦ []
+    elim (recordAt r at) [
+      | Whole k start len ↦ record { at = at; kind = runKindOf k; bytes = payload r start len } ∷ entriesFrom fuel r (start + len)
+      | Cut ↦ []
+      | End ↦ []
     ]
 
 unfoldable pub entries : List ℕ → List Entry

@@ -334,6 +334,7 @@ module _ {A : Type 0} where
   pairwise-in r {a} {b} (x ∷ xs) o (List·Memᴰ·tail m) (List·Memᴰ·head q) = inr (inr (ap (λ z. r z a) q ∙ all-in (r x) xs (and-l _ _ o) m))
   pairwise-in r {a} {b} (x ∷ xs) o (List·Memᴰ·tail m) (List·Memᴰ·tail n) = pairwise-in r xs (and-r (all (r x) xs) _ o) m n
   pairwise-in r {a} {b} [] o m n = absurd (List·Memᴰ·not-nil m)
+
 -- ---- lists joined together
 
 module _ {A : Type 0} where
@@ -382,6 +383,7 @@ module _ {A : Type 0} where
             let n : elem eq x (filterBy other ds) ≡ false = off (elem eq x (filterBy other ds)) (λ m. clash (in-elem eq self (filter-in other ds (elem-in eq sound x (filterBy other ds) m) .0)) t) in
             let f : filterBy other (ds ++ (x ∷ [])) ≡ filterBy other ds ++ (x ∷ []) = filter-append other ds (x ∷ []) ∙ rw e in
             rw (n, f)
+
 pub any-map : {A B : Type 0} (f : A → B) (p : B → Bool) (l : List A) → any p (map f l) ≡ any (λ a. p (f a)) l
 any-map f p [] = refl
 any-map f p (x ∷ xs) = ap (λ (b : Bool). p (f x) || b) (any-map f p xs)

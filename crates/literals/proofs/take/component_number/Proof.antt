@@ -46,9 +46,10 @@ label-fields-requires : tie.Need-label-fields-requires
 label-fields-requires c κs = search needs
 
 returns-3 : tie.Need-returns-3
-returns-3 c =
-    (λ D h. component-labels h _ (c .before .before .before .before .before .before .before .component-fields .ensures) (c .before .before .before .before .before .before .if1 .left) (c .before .before .before .any-row .ensures) (c .before .before .if2 .left) (c .before .keys-with .ensures .0 D h) (c .label-fields .ensures),
-    λ z. short (c .before .before .before .before .before .before .before .before .before .before .before .args .index) (c .before .before .before .before .before .before .before .before .before .before .before .pre) _ (c .before .before .before .before .before .before .before .component-fields .ensures) (c .before .before .before .before .before .before .if1 .left) .1)
+returns-3 c = (
+  λ D h. component-labels h _ (c .before .before .before .before .before .before .before .component-fields .ensures) (c .before .before .before .before .before .before .if1 .left) (c .before .before .before .any-row .ensures) (c .before .before .if2 .left) (c .before .keys-with .ensures .0 D h) (c .label-fields .ensures),
+  λ z. short (c .before .before .before .before .before .before .before .before .before .before .before .args .index) (c .before .before .before .before .before .before .before .before .before .before .before .pre) _ (c .before .before .before .before .before .before .before .component-fields .ensures) (c .before .before .before .before .before .before .if1 .left) .1,
+)
 
 pub component-number-spec : {M : Type 1} → statement M
 component-number-spec =

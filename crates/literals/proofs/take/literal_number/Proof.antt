@@ -53,19 +53,22 @@ rows-rank-requires c κs =
     (ordered (c .before .before .before .before .before .before .before .before .args .index) (q .0) (c .before .before .before .before .before .before .before .before .args .last) (q .1), omega arith, omega arith, l .1)
 
 returns-2 : tie.Need-returns-2
-returns-2 c =
-    (λ D old h t. literal-repeated h _ (c .before .before .before .before .before .before .before .before .before .before .args .last) (c .before .before .before .before .before .before .before .before .before .before .pre .1) (c .before .before .before .literal-fields .ensures) (c .before .before .if1 .left) old t (c .before .rows-rank .ensures) (c .if2 .taken),
-    λ z. absurd (omega arith))
+returns-2 c = (
+  λ D old h t. literal-repeated h _ (c .before .before .before .before .before .before .before .before .before .before .args .last) (c .before .before .before .before .before .before .before .before .before .before .pre .1) (c .before .before .before .literal-fields .ensures) (c .before .before .if1 .left) old t (c .before .rows-rank .ensures) (c .if2 .taken),
+  λ z. absurd (omega arith),
+)
 
 returns-3 : tie.Need-returns-3
-returns-3 c =
-    (λ D old h t. literal-contradicted h _ (c .before .before .before .before .before .before .before .before .before .before .before .args .last) (c .before .before .before .before .before .before .before .before .before .before .before .pre .1) (c .before .before .before .before .literal-fields .ensures) (c .before .before .before .if1 .left) old t (c .before .before .rows-rank .ensures) (c .if3 .taken),
-    λ z. absurd (omega arith))
+returns-3 c = (
+  λ D old h t. literal-contradicted h _ (c .before .before .before .before .before .before .before .before .before .before .before .args .last) (c .before .before .before .before .before .before .before .before .before .before .before .pre .1) (c .before .before .before .before .literal-fields .ensures) (c .before .before .before .if1 .left) old t (c .before .before .rows-rank .ensures) (c .if3 .taken),
+  λ z. absurd (omega arith),
+)
 
 returns-4 : tie.Need-returns-4
-returns-4 c =
-    (λ D old h t. literal-fresh h _ (c .before .before .before .before .before .before .before .before .before .before .before .args .last) (c .before .before .before .before .before .before .before .before .before .before .before .pre .1) (c .before .before .before .before .literal-fields .ensures) (c .before .before .before .if1 .left) old t (c .before .before .rows-rank .ensures) (c .before .if2 .left) (c .if3 .left),
-    λ z. short (c .before .before .before .before .before .before .before .before .before .before .before .args .index) (c .before .before .before .before .before .before .before .before .before .before .before .pre .0) _ _ _ (c .before .before .before .before .literal-fields .ensures) (c .before .before .before .if1 .left) .1)
+returns-4 c = (
+  λ D old h t. literal-fresh h _ (c .before .before .before .before .before .before .before .before .before .before .before .args .last) (c .before .before .before .before .before .before .before .before .before .before .before .pre .1) (c .before .before .before .before .literal-fields .ensures) (c .before .before .before .if1 .left) old t (c .before .before .rows-rank .ensures) (c .before .if2 .left) (c .if3 .left),
+  λ z. short (c .before .before .before .before .before .before .before .before .before .before .before .args .index) (c .before .before .before .before .before .before .before .before .before .before .before .pre .0) _ _ _ (c .before .before .before .before .literal-fields .ensures) (c .before .before .before .if1 .left) .1,
+)
 
 pub literal-number-spec : {M : Type 1} → statement M
 literal-number-spec =
