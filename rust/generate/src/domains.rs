@@ -2,6 +2,7 @@
 
 use crate::records::{damage, encode, junk, near, rec, Rec};
 use crate::rng::Rng;
+use model::verdict::{decide, rows};
 
 pub const FF: u8 = 0xFF;
 
@@ -132,8 +133,30 @@ pub fn valid(rng: &mut Rng) -> Plan {
     valid_of(rng, mood, size)
 }
 
-/// A valid file of this mood and size.
+/// A valid file of this mood and size; of a few tries the first that has the verdict of the mood.
 pub fn valid_of(rng: &mut Rng, mood: Mood, size: Size) -> Plan {
+    let verdict = match mood {
+        Mood::Accepted0 => 0,
+        Mood::Accepted1 => 1,
+        Mood::Heavy40 => 40,
+        Mood::Unbalanced41 => 41,
+        Mood::Unbounded42 => 42,
+        Mood::Bounded43 => 43,
+        Mood::Anything => return one_of(rng, mood, size),
+    };
+    let tries = if size.actions > SMALL.actions * 2 { 2 } else { 4 };
+    for _ in 1..tries {
+        let plan = one_of(rng, mood, size);
+        if let Ok(domain) = model::read(&plan.file()) {
+            if decide(&rows(&domain)).number() == verdict {
+                return plan;
+            }
+        }
+    }
+    one_of(rng, mood, size)
+}
+
+fn one_of(rng: &mut Rng, mood: Mood, size: Size) -> Plan {
     let mut plan = template(rng, mood, size);
     let count = match mood {
         Mood::Bounded43 => rng.small(2, size.actions),
@@ -424,7 +447,8 @@ fn noise(rng: &mut Rng, plan: &Plan, action: &mut PlanAction) {
 
 /// Any literals.
 fn anything(rng: &mut Rng, plan: &Plan, action: &mut PlanAction) {
-    for _ in 0..rng.small(0, 10) {
+    let most = rng.pick(&[4, 12, 30]);
+    for _ in 0..rng.range(0, most) {
         let relation = rng.below(plan.relations.len());
         literal(rng, plan, action, relation as u8);
     }
@@ -787,6 +811,13 @@ pub fn damaged_for(rng: &mut Rng, mut plan: Plan, number: u8) -> Vec<u8> {
             if let Some(&action) = with_literal.first() {
                 let action = if rng.chance(50) { action } else { rng.pick(&with_literal) };
                 let literals = &mut plan.actions[action].literals;
+                if number == 20 && rng.chance(70) {
+                    // a condition, if there is one, comes to where it is picked
+                    if let Some(condition) = literals.iter().position(|l| [0, 1, 4, 5, 6, 7].contains(&l.0)) {
+                        literals.truncate(condition + 1);
+                        literals.drain(..condition);
+                    }
+                }
                 let (role, relation, arguments) = literals[rng.below(literals.len())].clone();
                 let role = match (number, role) {
                     (19, role) => role,

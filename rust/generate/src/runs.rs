@@ -109,7 +109,7 @@ fn any_event(rng: &mut Rng, script: &Script) -> Option<Event> {
 fn likely_event(rng: &mut Rng, script: &Script) -> Option<Event> {
     let actions = &script.domain.actions;
     let open = script.state.open();
-    if !open.is_empty() && rng.chance(35) {
+    if !open.is_empty() && rng.chance(45) {
         let entry = rng.pick(open);
         return Some(Event { moment: 1, action: entry.action, binding: entry.binding });
     }
@@ -188,6 +188,9 @@ fn start_facts(rng: &mut Rng, script: &mut Script) {
             let action = &script.domain.actions[event.action as usize];
             let bound = |literal| action.atom(literal).bind(|variable| event.binding[variable.0 as usize]);
             facts.extend(action.moments[0].trues.map(bound));
+            if rng.chance(30) {
+                facts.extend(action.moments[1].trues.map(bound));
+            }
         }
         for fact in facts {
             let template = &script.domain.template;
@@ -205,13 +208,18 @@ fn start_facts(rng: &mut Rng, script: &mut Script) {
 
 /// Steps that are all allowed and fit.
 fn legal_steps(rng: &mut Rng, script: &mut Script) {
-    for _ in 0..rng.small(0, 10) {
+    let most = if rng.chance(5) { 60 } else { 12 };
+    for _ in 0..rng.small(0, most).max(rng.below(5)) {
         // where an over-all condition fails, no step is allowed any more
         if script.state.allows(script.domain, &[]).is_err() {
             return;
         }
-        let wanted = if rng.chance(10) { rng.range(5, 16) } else { rng.small(0, 5) };
-        for _ in 0..3 * wanted {
+        let wanted = match rng.below(10) {
+            0 => rng.range(5, 16),
+            1 => 0,
+            _ => rng.small(1, 6),
+        };
+        for _ in 0..4 * wanted {
             let event = if rng.chance(80) { likely_event(rng, script) } else { any_event(rng, script) };
             if let Some(event) = event {
                 if script.events.len() < wanted && script.allows_also(event) {
@@ -292,9 +300,9 @@ pub fn faulty(rng: &mut Rng, domain: &Domain) -> Vec<u8> {
             }
         }
     }
-    match rng.below(14) {
+    match rng.below(17) {
         0..=1 => refused_step(rng, &mut script, Refusal::ConditionFails),
-        2..=3 => refused_step(rng, &mut script, Refusal::Interference),
+        2..=3 | 14..=15 => refused_step(rng, &mut script, Refusal::Interference),
         4..=5 => refused_step(rng, &mut script, Refusal::EndNotOpen),
         // any events at all, so that several faults stand in one step
         6..=7 => {
@@ -342,6 +350,18 @@ pub fn faulty(rng: &mut Rng, domain: &Domain) -> Vec<u8> {
             };
             script.records.insert(at, late);
         }
+        // one object bound twice, in an event that may be repeated or the 17th too
+        13 => {
+            if let Some(event) = any_event(rng, &script) {
+                let mut record = event_record(domain, &event);
+                let length = record.payload.len();
+                if length >= 4 {
+                    let (from, to) = (rng.range(2, length - 1), rng.range(2, length - 1));
+                    record.payload[to] = record.payload[from];
+                }
+                script.records.push(record);
+            }
+        }
         // the run closed while events wait
         _ => {
             script.close_run();
@@ -360,9 +380,9 @@ pub fn faulty(rng: &mut Rng, domain: &Domain) -> Vec<u8> {
 
 /// Events that make the step one that is refused so, if a few tries find them.
 fn refused_step(rng: &mut Rng, script: &mut Script, wanted: Refusal) {
-    for _ in 0..60 {
+    for _ in 0..100 {
         let mut events = script.events.clone();
-        for _ in 0..rng.range(1, 3) {
+        for _ in 0..rng.range(1, 4) {
             let event = match (wanted, rng.below(3)) {
                 (Refusal::EndNotOpen, 0..=1) | (_, 0) => any_event(rng, script),
                 _ => likely_event(rng, script),
@@ -627,6 +647,11 @@ pub fn pair(rng: &mut Rng) -> (Vec<u8>, Vec<u8>) {
         }
         _ => random(rng),
     };
-    let file = if rng.chance(4) { damage(rng, &plan.records()) } else { file };
+    let file = match rng.below(100) {
+        0..=2 => damage(rng, &plan.records()),
+        3..=4 => domains::damaged(rng),
+        5 => domains::near_limit(rng),
+        _ => file,
+    };
     (file, run)
 }
