@@ -1,0 +1,877 @@
+//! Domain files: valid ones of many shapes, ones near every limit, random bytes, damaged ones.
+
+use crate::records::{damage, encode, junk, near, rec, Rec};
+use crate::rng::Rng;
+use model::verdict::{decide, rows};
+
+pub const FF: u8 = 0xFF;
+
+/// A domain file to be written, well-formed or not.
+#[derive(Clone, Debug, Default)]
+pub struct Plan {
+    pub relations: Vec<u8>,
+    pub actions: Vec<PlanAction>,
+    pub components: Vec<(u8, Vec<u8>)>,
+}
+
+#[derive(Clone, Debug, Default)]
+pub struct PlanAction {
+    pub variables: u8,
+    pub lasting: bool,
+    /// Role, relation, variables.
+    pub literals: Vec<(u8, u8, Vec<u8>)>,
+}
+
+impl PlanAction {
+    pub fn new(variables: u8, lasting: bool) -> PlanAction {
+        PlanAction { variables, lasting, literals: Vec::new() }
+    }
+
+    /// Adds a literal, if the file stays well-formed with it.
+    pub fn push(&mut self, role: u8, relation: u8, arguments: Vec<u8>) {
+        let clash = |other: u8| match (role, other) {
+            _ if role == other => true,
+            (0, 1) | (1, 0) => true,
+            (4 | 6, 5 | 7) | (5 | 7, 4 | 6) => true,
+            _ => false,
+        };
+        let taken = self.literals.iter().any(|l| l.1 == relation && l.2 == arguments && clash(l.0));
+        if self.literals.len() < 64 && !taken {
+            self.literals.push((role, relation, arguments));
+        }
+    }
+
+    fn records(&self) -> Vec<Rec> {
+        let mut records = vec![rec(2, [self.variables, self.lasting as u8])];
+        for (role, relation, arguments) in &self.literals {
+            let mut payload = vec![*role, *relation];
+            payload.extend(arguments);
+            records.push(rec(3, payload));
+        }
+        records
+    }
+}
+
+impl Plan {
+    pub fn records(&self) -> Vec<Rec> {
+        let mut records: Vec<Rec> = self.relations.iter().map(|&arity| rec(1, [arity])).collect();
+        records.extend(self.actions.iter().flat_map(PlanAction::records));
+        for (relation, labels) in &self.components {
+            let mut payload = vec![*relation];
+            payload.extend(labels);
+            records.push(rec(4, payload));
+        }
+        records.push(rec(5, []));
+        records
+    }
+
+    pub fn file(&self) -> Vec<u8> {
+        encode(&self.records())
+    }
+
+    fn labels(&self, relation: u8) -> Option<&[u8]> {
+        self.components.iter().find(|c| c.0 == relation).map(|c| &c.1[..])
+    }
+
+    fn n(&self) -> usize {
+        self.components.first().map_or(0, |c| c.1.iter().filter(|&&label| label != FF).count())
+    }
+}
+
+/// What a valid file is biased towards: a verdict, or none.
+#[derive(Clone, Copy, PartialEq, Eq, Debug)]
+pub enum Mood {
+    Accepted0,
+    Accepted1,
+    Heavy40,
+    Unbalanced41,
+    Unbounded42,
+    Bounded43,
+    Anything,
+}
+
+pub const MOODS: [Mood; 7] = [
+    Mood::Accepted0,
+    Mood::Accepted1,
+    Mood::Heavy40,
+    Mood::Unbalanced41,
+    Mood::Unbounded42,
+    Mood::Bounded43,
+    Mood::Anything,
+];
+
+/// A pattern for the literals of one class at one moment, by the name that it aims at.
+#[derive(Clone, Copy, PartialEq, Eq, Debug)]
+enum Aim {
+    Unreachable,
+    Irrelevant,
+    Heavy,
+    Balanced,
+    Unbalanced,
+    Bounded,
+    Unbounded,
+    Nothing,
+}
+
+/// How large a valid file may be.
+#[derive(Clone, Copy, Debug)]
+pub struct Size {
+    pub components: usize,
+    pub others: usize,
+    pub actions: usize,
+    pub variables: usize,
+    pub classes: usize,
+}
+
+pub const SMALL: Size = Size { components: 3, others: 3, actions: 4, variables: 5, classes: 2 };
+pub const LARGE: Size = Size { components: 16, others: 48, actions: 64, variables: 16, classes: 8 };
+
+/// A valid file of a random mood and size.
+pub fn valid(rng: &mut Rng) -> Plan {
+    let mood = rng.pick(&MOODS);
+    let size = if rng.chance(6) { LARGE } else { SMALL };
+    valid_of(rng, mood, size)
+}
+
+/// A valid file of this mood and size; of a few tries the first that has the verdict of the mood.
+pub fn valid_of(rng: &mut Rng, mood: Mood, size: Size) -> Plan {
+    let verdict = match mood {
+        Mood::Accepted0 => 0,
+        Mood::Accepted1 => 1,
+        Mood::Heavy40 => 40,
+        Mood::Unbalanced41 => 41,
+        Mood::Unbounded42 => 42,
+        Mood::Bounded43 => 43,
+        Mood::Anything => return one_of(rng, mood, size),
+    };
+    let tries = if size.actions > SMALL.actions * 2 { 2 } else { 4 };
+    for _ in 1..tries {
+        let plan = one_of(rng, mood, size);
+        if let Ok(domain) = model::read(&plan.file()) {
+            if decide(&rows(&domain)).number() == verdict {
+                return plan;
+            }
+        }
+    }
+    one_of(rng, mood, size)
+}
+
+fn one_of(rng: &mut Rng, mood: Mood, size: Size) -> Plan {
+    let mut plan = template(rng, mood, size);
+    let count = match mood {
+        Mood::Bounded43 => rng.small(2, size.actions),
+        _ if rng.chance(3) => 0,
+        _ => rng.small(1, size.actions),
+    };
+    // The moment that the mood asks for comes at a random action; every action before it and, mostly,
+    // after it is harmless.
+    let special = if count > 0 { rng.below(count) } else { 0 };
+    for number in 0..count {
+        let mood = match mood {
+            Mood::Heavy40 | Mood::Unbalanced41 | Mood::Unbounded42 if number != special && rng.chance(80) => {
+                rng.pick(&[Mood::Accepted0, Mood::Accepted1])
+            }
+            Mood::Bounded43 if number != special => rng.pick(&[Mood::Accepted0, Mood::Accepted1]),
+            mood => mood,
+        };
+        let action = action(rng, &plan, mood, size);
+        plan.actions.push(action);
+    }
+    plan
+}
+
+/// Relations and components; the relations of components stand anywhere among the others.
+fn template(rng: &mut Rng, mood: Mood, size: Size) -> Plan {
+    let n = match rng.below(10) {
+        0 => 0,
+        1..=4 => 1,
+        5..=6 => 2,
+        _ => rng.range(0, 6),
+    };
+    // Which components have an FF: none (so that moments may be bounded), all, or some.
+    let percent = match mood {
+        Mood::Bounded43 => 0,
+        Mood::Accepted0 | Mood::Unbounded42 => rng.pick(&[0, 0, 50, 100]),
+        _ => rng.pick(&[0, 50, 100]),
+    };
+    let least = if mood == Mood::Bounded43 { 2 } else { 1 };
+    let mut relations: Vec<(u8, Option<Vec<u8>>)> = Vec::new();
+    for _ in 0..rng.small(least, size.components.max(least)) {
+        let mut labels: Vec<u8> = (0..n as u8).collect();
+        if n < 6 && rng.chance(percent) {
+            labels.push(FF);
+        }
+        if rng.chance(50) {
+            rng.shuffle(&mut labels);
+        }
+        relations.push((labels.len() as u8, Some(labels)));
+    }
+    for _ in 0..rng.small(0, size.others) {
+        relations.push((rng.small(0, 6) as u8, None));
+    }
+    rng.shuffle(&mut relations);
+    let mut plan = Plan { relations: relations.iter().map(|r| r.0).collect(), ..Plan::default() };
+    for (relation, (_, labels)) in relations.iter().enumerate() {
+        if let Some(labels) = labels {
+            plan.components.push((relation as u8, labels.clone()));
+        }
+    }
+    rng.shuffle(&mut plan.components);
+    plan
+}
+
+/// A literal's relation and variables.
+type PlanAtom = (u8, Vec<u8>);
+
+/// An atom of this component's relation under a key tuple.
+fn atom(rng: &mut Rng, plan: &Plan, action: &PlanAction, relation: u8, tuple: &[u8]) -> Option<PlanAtom> {
+    let labels = plan.labels(relation)?;
+    if !labels.is_empty() && action.variables == 0 {
+        return None;
+    }
+    let mut arguments = Vec::new();
+    for &label in labels {
+        arguments.push(if label == FF { rng.below(action.variables as usize) as u8 } else { tuple[label as usize] });
+    }
+    Some((relation, arguments))
+}
+
+fn any_atom(rng: &mut Rng, plan: &Plan, action: &PlanAction, tuple: &[u8]) -> Option<PlanAtom> {
+    let relation = plan.components[rng.below(plan.components.len())].0;
+    atom(rng, plan, action, relation, tuple)
+}
+
+/// An atom other than this one, if a few tries find one.
+fn other_atom(rng: &mut Rng, plan: &Plan, action: &PlanAction, tuple: &[u8], than: &PlanAtom) -> Option<PlanAtom> {
+    (0..8).find_map(|_| any_atom(rng, plan, action, tuple).filter(|found| found != than))
+}
+
+fn action(rng: &mut Rng, plan: &Plan, mood: Mood, size: Size) -> PlanAction {
+    let variables = match rng.below(20) {
+        0 => 0,
+        1 => size.variables,
+        _ => rng.small(1, size.variables).max(rng.below(3)),
+    };
+    let lasting = match mood {
+        Mood::Accepted1 => rng.chance(80),
+        _ => rng.chance(40),
+    };
+    let mut action = PlanAction::new(variables as u8, lasting);
+    if mood == Mood::Anything {
+        anything(rng, plan, &mut action);
+        return action;
+    }
+    noise(rng, plan, &mut action);
+    let harmless = [Aim::Balanced, Aim::Balanced, Aim::Irrelevant, Aim::Unreachable, Aim::Nothing];
+    let bounded = [Aim::Balanced, Aim::Bounded, Aim::Bounded, Aim::Irrelevant, Aim::Unreachable, Aim::Nothing];
+    let uncounted = plan.components.iter().all(|c| !c.1.contains(&FF));
+    let aims: &[Aim] = if mood == Mood::Accepted0 && uncounted { &bounded } else { &harmless };
+    let classes = if plan.n() == 0 { 1 } else { rng.small(1, size.classes) };
+    let special = rng.below(classes);
+    for class in 0..classes {
+        let mut tuple: Vec<u8> = Vec::new();
+        for _ in 0..plan.n() {
+            tuple.push(rng.below(variables.max(1)) as u8);
+        }
+        if lasting && (mood == Mood::Accepted1 || rng.chance(15)) && (mood != Mood::Accepted0 || uncounted) {
+            journey(rng, plan, &mut action, &tuple, mood == Mood::Accepted0);
+            continue;
+        }
+        let aim_of_mood = match mood {
+            Mood::Heavy40 => Aim::Heavy,
+            Mood::Unbalanced41 => Aim::Unbalanced,
+            Mood::Unbounded42 => Aim::Unbounded,
+            Mood::Bounded43 => Aim::Bounded,
+            _ => rng.pick(aims),
+        };
+        let chosen_moment = rng.below(1 + lasting as usize);
+        for moment in 0..1 + lasting as usize {
+            let chosen = class == special && moment == chosen_moment;
+            let aim = if chosen { aim_of_mood } else { rng.pick(aims) };
+            moment_of(rng, plan, &mut action, &tuple, moment == 1, aim);
+        }
+    }
+    if rng.chance(20) {
+        let mut literals = std::mem::take(&mut action.literals);
+        rng.shuffle(&mut literals);
+        action.literals = literals;
+    }
+    if rng.chance(5) {
+        anything(rng, plan, &mut action);
+    }
+    action
+}
+
+/// A true or false condition, in the roles that it may have at this moment.
+fn condition(rng: &mut Rng, action: &mut PlanAction, end: bool, truth: bool, atom: &PlanAtom) {
+    let role = if truth { 0 } else { 1 };
+    let roles: &[u8] = match (end, rng.below(4)) {
+        (false, _) => &[0],
+        (true, 0) => &[4],
+        (true, 1) => &[4, 6],
+        (true, _) => &[6],
+    };
+    for base in roles {
+        action.push(base + role, atom.0, atom.1.clone());
+    }
+}
+
+fn add(action: &mut PlanAction, end: bool, atom: &PlanAtom) {
+    action.push(if end { 8 } else { 2 }, atom.0, atom.1.clone());
+}
+
+fn delete(action: &mut PlanAction, end: bool, atom: &PlanAtom) {
+    action.push(if end { 9 } else { 3 }, atom.0, atom.1.clone());
+}
+
+/// Literals of one class at one moment.
+fn moment_of(rng: &mut Rng, plan: &Plan, action: &mut PlanAction, tuple: &[u8], end: bool, aim: Aim) {
+    let Some(first) = any_atom(rng, plan, action, tuple) else { return };
+    let second = other_atom(rng, plan, action, tuple, &first);
+    match aim {
+        Aim::Nothing => {}
+        Aim::Unreachable => {
+            condition(rng, action, end, true, &first);
+            if let Some(second) = second {
+                condition(rng, action, end, true, &second);
+                if rng.chance(60) {
+                    add(action, end, &second);
+                }
+            }
+            if let (true, Some(third)) = (rng.chance(50), any_atom(rng, plan, action, tuple)) {
+                add(action, end, &third);
+            }
+        }
+        Aim::Irrelevant => {
+            if rng.chance(60) {
+                delete(action, end, &first);
+            }
+            if rng.chance(60) {
+                let truth = rng.chance(50);
+                condition(rng, action, end, truth, &second.unwrap_or(first));
+            }
+        }
+        Aim::Heavy => {
+            add(action, end, &first);
+            if let Some(second) = second {
+                add(action, end, &second);
+            }
+            if let (true, Some(third)) = (rng.chance(50), any_atom(rng, plan, action, tuple)) {
+                let truth = rng.chance(60);
+                condition(rng, action, end, truth, &third);
+                if rng.chance(50) {
+                    delete(action, end, &third);
+                }
+            }
+        }
+        Aim::Balanced => {
+            condition(rng, action, end, true, &first);
+            if rng.chance(15) {
+                add(action, end, &first);
+            } else {
+                delete(action, end, &first);
+                add(action, end, &second.unwrap_or(first));
+            }
+        }
+        Aim::Unbalanced => {
+            if let Some(second) = second {
+                condition(rng, action, end, true, &first);
+                add(action, end, &second);
+                if rng.chance(20) {
+                    delete(action, end, &second);
+                }
+            }
+        }
+        Aim::Bounded => {
+            add(action, end, &first);
+            let mut covering: Vec<PlanAtom> = Vec::new();
+            for component in &plan.components {
+                covering.extend(atom(rng, plan, action, component.0, tuple));
+            }
+            for atom in covering {
+                match rng.below(3) {
+                    _ if atom == first && rng.chance(70) => {}
+                    0 => condition(rng, action, end, false, &atom),
+                    _ => delete(action, end, &atom),
+                }
+            }
+        }
+        Aim::Unbounded => {
+            add(action, end, &first);
+            if let Some(second) = second {
+                if rng.chance(40) {
+                    condition(rng, action, end, false, &second);
+                }
+                if rng.chance(20) {
+                    delete(action, end, &second);
+                }
+            }
+        }
+    }
+}
+
+/// A lasting class that is a journey, its end bounded or, mostly, not; now and then something is
+/// missing.
+fn journey(rng: &mut Rng, plan: &Plan, action: &mut PlanAction, tuple: &[u8], bounded: bool) {
+    let Some(first) = any_atom(rng, plan, action, tuple) else { return };
+    condition(rng, action, false, true, &first);
+    if !rng.chance(3) {
+        delete(action, false, &first);
+    }
+    if bounded {
+        moment_of(rng, plan, action, tuple, true, Aim::Bounded);
+        return;
+    }
+    if let Some(last) = any_atom(rng, plan, action, tuple) {
+        add(action, true, &last);
+        match rng.below(20) {
+            0 => delete(action, true, &last),
+            1 => condition(rng, action, true, false, &last),
+            2 => action.push(5, first.0, first.1),
+            3 => action.push(1, last.0, last.1),
+            4 => action.push(3, last.0, last.1),
+            _ => {}
+        }
+    }
+}
+
+/// Literals of relations without a component.
+fn noise(rng: &mut Rng, plan: &Plan, action: &mut PlanAction) {
+    for _ in 0..rng.small(0, 3) {
+        let relation = rng.below(plan.relations.len());
+        if plan.labels(relation as u8).is_none() {
+            literal(rng, plan, action, relation as u8);
+        }
+    }
+}
+
+/// Any literals.
+fn anything(rng: &mut Rng, plan: &Plan, action: &mut PlanAction) {
+    let most = rng.pick(&[4, 12, 30]);
+    for _ in 0..rng.range(0, most) {
+        let relation = rng.below(plan.relations.len());
+        literal(rng, plan, action, relation as u8);
+    }
+}
+
+fn literal(rng: &mut Rng, plan: &Plan, action: &mut PlanAction, relation: u8) {
+    let arity = plan.relations[relation as usize];
+    if arity > 0 && action.variables == 0 {
+        return;
+    }
+    let role = rng.below(if action.lasting { 10 } else { 4 });
+    let mut arguments = Vec::new();
+    for _ in 0..arity {
+        arguments.push(rng.below(action.variables as usize) as u8);
+    }
+    action.push(role as u8, relation, arguments);
+}
+
+/// A file near a limit, on either side of it.
+pub fn near_limit(rng: &mut Rng) -> Vec<u8> {
+    let over = rng.chance(50) as usize;
+    let mood = rng.pick(&MOODS);
+    let mut plan = valid_of(rng, mood, SMALL);
+    match rng.below(15) {
+        // 64 or 65 relations
+        0 => {
+            while plan.relations.len() < 64 + over {
+                plan.relations.push(rng.below(7) as u8);
+            }
+        }
+        // 64 or 65 actions
+        1 => {
+            while plan.actions.len() < 64 + over {
+                let action = action(rng, &plan, Mood::Accepted0, SMALL);
+                plan.actions.push(action);
+            }
+        }
+        // 64 or 65 literals
+        2 => {
+            let mut many = many_literals(rng);
+            if over == 1 {
+                let action = rng.below(many.actions.len());
+                let last = (2, many.relations.len() as u8 - 1, vec![15, 15]);
+                many.actions[action].literals.push(last);
+            }
+            plan = many;
+        }
+        // 16 or 17 components
+        3 => plan = many_components(rng, 16 + over),
+        // arity 6 or 7
+        4 => {
+            let relation = rng.below(plan.relations.len());
+            plan.relations[relation] = 6 + over as u8;
+        }
+        // 16 or 17 variables
+        5 => {
+            let action = PlanAction::new(16 + over as u8, rng.chance(50));
+            plan.actions.push(action);
+        }
+        // sort 1 or 2, and further
+        6 => {
+            let mut records = plan.records();
+            let sort = if over == 1 { rng.range(2, 255) as u8 } else { 1 };
+            let variables = rng.pick(&[0, 1, 16, 17]);
+            let at = records.iter().position(|r| r.kind > 1).unwrap_or(0);
+            records.insert(at, rec(2, [variables, sort]));
+            return encode(&records);
+        }
+        // 65,535 or 65,536 bytes: bytes behind the closing record, or one huge record
+        7 | 8 => {
+            let mut file = if rng.chance(50) {
+                plan.file()
+            } else {
+                let mut records = plan.records();
+                let at = rng.below(records.len());
+                records.insert(at, rec(rng.pick(&[1, 2, 3, 4, 5]), vec![0; 60_000]));
+                encode(&records)
+            };
+            file.resize(65_535 + over * rng.pick(&[1, 1, 2, 1_000]), 0);
+            return file;
+        }
+        // the last variable, relation, role, key, or one beyond
+        9 | 10 => {
+            let mut action = PlanAction::new(rng.range(1, 16) as u8, true);
+            let relation = rng.below(plan.relations.len());
+            let mut arguments = vec![action.variables - 1; plan.relations[relation] as usize];
+            let mut role = 9;
+            let mut named = relation;
+            if over == 1 {
+                match rng.below(3) {
+                    0 => role = 10,
+                    1 => named = plan.relations.len(),
+                    _ => {
+                        if let Some(last) = arguments.last_mut() {
+                            *last += 1;
+                        }
+                    }
+                }
+            }
+            action.literals.push((role, named as u8, arguments));
+            plan.actions.push(action);
+        }
+        // a role that needs a lasting action
+        11 => {
+            let relation = rng.below(plan.relations.len());
+            let mut action = PlanAction::new(6, over == 0);
+            let arguments = (0..plan.relations[relation]).collect();
+            action.literals.push((rng.range(4, 9) as u8, relation as u8, arguments));
+            plan.actions.push(action);
+        }
+        // as many rows as there may be: 8,192
+        12 => {
+            plan = many_rows(rng);
+        }
+        // as many facts in a witness as there may be
+        13 => plan = long_witness(rng),
+        // keys 0 to 5
+        _ => {
+            let mut labels: Vec<u8> = (0..6).collect();
+            rng.shuffle(&mut labels);
+            if over == 1 {
+                let place = rng.below(6);
+                labels[place] = rng.pick(&[0, 5, 6, 7, 0xFE, FF]);
+            }
+            plan.relations.push(6);
+            plan.components = vec![(plan.relations.len() as u8 - 1, labels)];
+            plan.actions.clear();
+            let mut action = PlanAction::new(6, false);
+            action.push(rng.below(4) as u8, plan.components[0].0, vec![5, 4, 3, 2, 1, 0]);
+            plan.actions.push(action);
+        }
+    }
+    if rng.chance(15) {
+        damage(rng, &plan.records())
+    } else {
+        plan.file()
+    }
+}
+
+/// Actions with 64 literals each.
+fn many_literals(rng: &mut Rng) -> Plan {
+    let mut plan = Plan { relations: vec![2, 2, 2], ..Plan::default() };
+    plan.components = vec![(0, vec![0, FF]), (2, vec![FF, 0])];
+    for _ in 0..rng.range(1, 3) {
+        let mut action = PlanAction::new(16, true);
+        while action.literals.len() < 64 {
+            let arguments = vec![rng.below(15) as u8, rng.below(15) as u8];
+            action.push(rng.below(10) as u8, rng.below(3) as u8, arguments);
+        }
+        plan.actions.push(action);
+    }
+    plan
+}
+
+fn many_components(rng: &mut Rng, count: usize) -> Plan {
+    let n = rng.range(0, 2) as u8;
+    let mut plan = Plan { relations: vec![n; count + 2], ..Plan::default() };
+    let mut action = PlanAction::new(3, false);
+    for relation in 0..count as u8 {
+        let mut labels: Vec<u8> = (0..n).collect();
+        rng.shuffle(&mut labels);
+        plan.components.push((relation, labels));
+        let arguments = (0..n).collect();
+        let role = if relation == 0 { 2 } else { rng.pick(&[1, 3]) };
+        if !rng.chance(3) {
+            action.push(role, relation, arguments);
+        }
+    }
+    rng.shuffle(&mut plan.components);
+    plan.actions.push(action);
+    plan
+}
+
+/// 64 lasting actions with 64 classes each, of harmless moments or of any.
+fn many_rows(rng: &mut Rng) -> Plan {
+    let roles: &[u8] = rng.pick(&[&[0u8, 1, 3, 4, 5, 6, 7, 9] as &[u8], &[0, 1, 2, 3, 4, 5, 6, 7, 8, 9]]);
+    let mut plan = Plan { relations: vec![2], ..Plan::default() };
+    plan.components = vec![(0, vec![1, 0])];
+    for _ in 0..64 {
+        let mut action = PlanAction::new(16, true);
+        let mut pairs: Vec<(u8, u8)> = (0..16).flat_map(|a| (0..16).map(move |b| (a, b))).collect();
+        rng.shuffle(&mut pairs);
+        for (a, b) in pairs.into_iter().take(64) {
+            action.push(rng.pick(roles), 0, vec![a, b]);
+        }
+        plan.actions.push(action);
+    }
+    plan
+}
+
+/// A refused class in an action with as many true conditions as it may have.
+fn long_witness(rng: &mut Rng) -> Plan {
+    let mut plan = Plan { relations: vec![2, 2], ..Plan::default() };
+    plan.components = vec![(0, vec![0, FF])];
+    let lasting = rng.chance(50);
+    let mut action = PlanAction::new(rng.range(9, 16) as u8, lasting);
+    let end = lasting && rng.chance(70);
+    let adds = rng.range(1, 2);
+    for add in 0..adds {
+        action.push(if end { 8 } else { 2 }, 0, vec![0, add as u8]);
+    }
+    if adds == 1 && rng.chance(40) {
+        action.push(if end { 4 } else { 0 }, 0, vec![0, 2]);
+    }
+    let target = rng.range(60, 64);
+    while action.literals.len() < target {
+        let arguments = vec![rng.range(1, 8) as u8, rng.below(9) as u8];
+        let role = if end { rng.pick(&[4, 6]) } else { 0 };
+        action.push(role, rng.below(2) as u8, arguments);
+    }
+    if rng.chance(50) {
+        rng.shuffle(&mut action.literals);
+    }
+    plan.actions.push(action);
+    plan
+}
+
+/// Random bytes, or random records.
+pub fn random(rng: &mut Rng) -> Vec<u8> {
+    match rng.below(4) {
+        0 => {
+            let length = rng.small(0, 300);
+            rng.bytes(length)
+        }
+        1 => {
+            // small numbers only, so that heads are often sensible
+            let length = rng.small(0, 120);
+            (0..length).map(|_| rng.small(0, 6) as u8).collect()
+        }
+        _ => {
+            let mut records = Vec::new();
+            let mut kind = 1;
+            for _ in 0..rng.small(0, 24) {
+                if rng.chance(25) {
+                    kind = (kind + 1).min(5);
+                }
+                if rng.chance(4) {
+                    kind = rng.range(0, 6);
+                }
+                let length = match kind {
+                    1 => 1,
+                    2 => 2,
+                    3 => rng.range(2, 5),
+                    4 => rng.range(1, 4),
+                    _ => 0,
+                };
+                let length = if rng.chance(3) { rng.below(8) } else { length };
+                records.push(rec(kind as u16, (0..length).map(|_| rng.small(0, 3) as u8).collect::<Vec<u8>>()));
+            }
+            if rng.chance(60) {
+                records.push(rec(5, []));
+            }
+            encode(&records)
+        }
+    }
+}
+
+/// A valid file damaged anyhow, or so that it stops with a number from 10 to 23.
+pub fn damaged(rng: &mut Rng) -> Vec<u8> {
+    let plan = valid(rng);
+    if rng.chance(50) {
+        return damage(rng, &plan.records());
+    }
+    let number = rng.range(10, 23) as u8;
+    damaged_for(rng, plan, number)
+}
+
+/// A valid file damaged so that it mostly stops with this number, or with another number that comes
+/// before it at the same record.
+pub fn damaged_for(rng: &mut Rng, mut plan: Plan, number: u8) -> Vec<u8> {
+    let with_literal: Vec<usize> =
+        (0..plan.actions.len()).filter(|&action| !plan.actions[action].literals.is_empty()).collect();
+    let mut records = plan.records();
+    match number {
+        10 => {
+            let mut file = plan.file();
+            let cut = if rng.chance(40) { file.len() - rng.range(1, 4) } else { rng.below(file.len()) };
+            file.truncate(cut);
+            return file;
+        }
+        11 => {
+            let at = rng.below(records.len());
+            records[at].kind = rng.pick(&[0, 6, 16, 20, 0x0101, 0x0500, 0xFFFF]);
+        }
+        12 => {
+            let at = rng.below(records.len());
+            if rng.chance(50) || records[at].payload.is_empty() {
+                let more = junk(rng);
+                records[at].payload.extend(more);
+            } else {
+                let length = rng.below(records[at].payload.len());
+                records[at].payload.truncate(length);
+            }
+        }
+        13 => {
+            let at = rng.below(records.len());
+            if rng.chance(40) {
+                let mut file = plan.file();
+                let more = if rng.chance(50) { junk(rng) } else { encode(&records[at..]) };
+                file.extend(more);
+                return file;
+            }
+            let record = records.remove(at);
+            let to = rng.below(records.len() + 1);
+            records.insert(to, record);
+        }
+        14 => {
+            // repeat records of one kind until there are too many
+            let at = rng.below(records.len());
+            let copy = records[at].clone();
+            for _ in 0..65 {
+                let mut copy = copy.clone();
+                if copy.kind == 3 {
+                    for byte in copy.payload.iter_mut().skip(2) {
+                        *byte = rng.below(8) as u8;
+                    }
+                }
+                records.insert(at, copy);
+            }
+        }
+        15 => {
+            let at = rng.below(records.len());
+            if records[at].kind <= 2 {
+                let place = rng.below(records[at].payload.len());
+                records[at].payload[place] = rng.pick(&[2, 7, 17, 128, 255]);
+            } else {
+                let kind = rng.range(1, 2) as u16;
+                let payload = if kind == 1 { vec![7] } else { vec![17, 2] };
+                records.insert(0, rec(kind, payload));
+            }
+        }
+        // several fields of one literal wrong at once
+        16..=18 => {
+            if with_literal.is_empty() {
+                plan.actions.push(PlanAction { variables: 2, lasting: rng.chance(50), literals: vec![(2, 0, vec![])] });
+                records = plan.records();
+            }
+            let literals: Vec<usize> = (0..records.len()).filter(|&at| records[at].kind == 3).collect();
+            let at = rng.pick(&literals);
+            let payload = &mut records[at].payload;
+            if number == 16 || rng.chance(15) {
+                payload[0] = rng.pick(&[4, 5, 6, 7, 8, 9, 10, 10, 11, 255]);
+            }
+            if number == 17 || rng.chance(15) {
+                payload[1] = rng.pick(&[plan.relations.len() as u8, 64, 255]);
+            }
+            if number == 18 || rng.chance(15) {
+                let place = rng.below(payload.len());
+                if place >= 2 {
+                    payload[place] = rng.pick(&[16, 17, 64, 255]);
+                } else {
+                    payload.push(rng.byte());
+                }
+            }
+            if rng.chance(10) {
+                payload.pop();
+            }
+        }
+        19 | 20 => {
+            if let Some(&action) = with_literal.first() {
+                let action = if rng.chance(50) { action } else { rng.pick(&with_literal) };
+                let literals = &mut plan.actions[action].literals;
+                if number == 20 && rng.chance(70) {
+                    // a condition, if there is one, comes to where it is picked
+                    if let Some(condition) = literals.iter().position(|l| [0, 1, 4, 5, 6, 7].contains(&l.0)) {
+                        literals.truncate(condition + 1);
+                        literals.drain(..condition);
+                    }
+                }
+                let (role, relation, arguments) = literals[rng.below(literals.len())].clone();
+                let role = match (number, role) {
+                    (19, role) => role,
+                    (_, 0) => 1,
+                    (_, 1) => 0,
+                    (_, 4 | 6) => rng.pick(&[5, 7]),
+                    (_, 5 | 7) => rng.pick(&[4, 6]),
+                    (_, role) => role ^ 1,
+                };
+                let to = rng.below(literals.len() + 1);
+                literals.insert(to, (role, relation, arguments));
+            }
+            records = plan.records();
+        }
+        21 | 22 => {
+            let at = rng.below(plan.components.len());
+            if number == 22 {
+                let copy = plan.components[at].clone();
+                let to = rng.below(plan.components.len() + 1);
+                plan.components.insert(to, copy);
+            }
+            if number == 21 || rng.chance(30) {
+                let n = plan.n() as u8;
+                let labels = &mut plan.components[at].1;
+                if !labels.is_empty() {
+                    let place = rng.below(labels.len());
+                    labels[place] = match rng.below(5) {
+                        0 => FF,
+                        1 => n,
+                        2 => 0,
+                        3 => labels[rng.below(labels.len())],
+                        _ => near(rng, labels[place]),
+                    };
+                }
+            }
+            if rng.chance(10) {
+                plan.components[at].0 = plan.relations.len() as u8;
+            }
+            records = plan.records();
+        }
+        _ => {
+            plan.components.clear();
+            records = plan.records();
+            if rng.chance(20) {
+                if let Some(last) = records.last_mut() {
+                    last.payload = junk(rng);
+                }
+            }
+            if rng.chance(20) {
+                let mut file = encode(&records);
+                file.extend(junk(rng));
+                return file;
+            }
+        }
+    }
+    encode(&records)
+}

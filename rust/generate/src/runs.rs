@@ -1,0 +1,657 @@
+//! Run files for a domain: legal concurrent runs, forbidden steps of every kind, runs near every
+//! limit, damaged ones.
+
+use crate::domains::{self, Mood, Plan, PlanAction, Size, FF};
+use crate::records::{damage, encode, junk, near, rec, Rec};
+use crate::rng::Rng;
+use model::domain::{Atom, Domain, Fact, Object};
+use model::machine::{binding, Event, Refusal, State};
+use model::player::{EVENTS, FACTS, OPEN};
+
+/// A run file while it is written, with the state that playing it so far leaves.
+pub struct Script<'d> {
+    pub domain: &'d Domain,
+    pub objects: u8,
+    pub state: State,
+    /// The events of the step that isn't closed yet.
+    pub events: Vec<Event>,
+    pub records: Vec<Rec>,
+}
+
+pub fn fact_record(fact: &Fact) -> Rec {
+    let mut payload = vec![fact.relation];
+    payload.extend(fact.args().iter().map(|object| object.0));
+    rec(17, payload)
+}
+
+pub fn event_record(domain: &Domain, event: &Event) -> Rec {
+    let variables = domain.actions[event.action as usize].variables as usize;
+    let mut payload = vec![event.moment, event.action];
+    payload.extend(event.binding[..variables].iter().map(|object| object.0));
+    rec(18, payload)
+}
+
+impl<'d> Script<'d> {
+    pub fn new(domain: &'d Domain, objects: u8) -> Script<'d> {
+        let records = vec![rec(16, [objects])];
+        Script { domain, objects, state: State::default(), events: Vec::new(), records }
+    }
+
+    /// A start fact; one held already is repeated in the file.
+    pub fn start(&mut self, fact: Fact) {
+        self.records.push(fact_record(&fact));
+        if !self.state.holds(&fact) {
+            self.state.insert(&self.domain.template, fact);
+        }
+    }
+
+    fn event(&mut self, event: Event) {
+        self.records.push(event_record(self.domain, &event));
+        self.events.push(event);
+    }
+
+    /// Whether the step may have this event too.
+    fn allows_also(&self, event: Event) -> bool {
+        let mut events = self.events.clone();
+        events.push(event);
+        !self.events.contains(&event)
+            && events.len() <= EVENTS
+            && self.state.allows(self.domain, &events).is_ok()
+            && self.fits(&events)
+    }
+
+    fn fits(&self, events: &[Event]) -> bool {
+        let change = self.state.change(self.domain, events);
+        let (facts, open) = self.state.sizes_after(&change);
+        facts <= FACTS && open <= OPEN
+    }
+
+    /// Closes the step; the state goes on if the step is allowed and fits.
+    fn close(&mut self) {
+        self.records.push(rec(19, []));
+        if self.state.allows(self.domain, &self.events).is_ok() && self.fits(&self.events) {
+            let change = self.state.change(self.domain, &self.events);
+            self.state.advance(&self.domain.template, &change);
+        }
+        self.events.clear();
+    }
+
+    fn close_run(&mut self) {
+        self.records.push(rec(20, []));
+    }
+}
+
+/// Different objects for so many variables, or none if there are too few.
+fn different(rng: &mut Rng, variables: u8, objects: u8) -> Option<Vec<u8>> {
+    if variables > objects {
+        return None;
+    }
+    let mut all: Vec<u8> = (0..objects).collect();
+    rng.shuffle(&mut all);
+    all.truncate(variables as usize);
+    Some(all)
+}
+
+/// Any event with a binding to different objects; an end mostly isn't open.
+fn any_event(rng: &mut Rng, script: &Script) -> Option<Event> {
+    let actions = &script.domain.actions;
+    if actions.is_empty() {
+        return None;
+    }
+    let action = rng.below(actions.len());
+    let objects = different(rng, actions[action].variables, script.objects)?;
+    let moment = (actions[action].lasting && rng.chance(40)) as u8;
+    Some(Event { moment, action: action as u8, binding: binding(&objects) })
+}
+
+/// An event that is likely to be allowed: an end of something open, or an action bound so that its
+/// true conditions are facts held.
+fn likely_event(rng: &mut Rng, script: &Script) -> Option<Event> {
+    let actions = &script.domain.actions;
+    let open = script.state.open();
+    if !open.is_empty() && rng.chance(45) {
+        let entry = rng.pick(open);
+        return Some(Event { moment: 1, action: entry.action, binding: entry.binding });
+    }
+    if actions.is_empty() {
+        return None;
+    }
+    let number = rng.below(actions.len());
+    let action = &actions[number];
+    let spare = different(rng, action.variables, script.objects)?;
+    let mut bound: Vec<Option<u8>> = vec![None; action.variables as usize];
+    for literal in action.moments[0].trues {
+        let atom = action.atom(literal);
+        let fitting: Vec<&Fact> = script
+            .state
+            .facts()
+            .iter()
+            .filter(|fact| fact.relation == atom.relation && extended(&bound, atom, fact).is_some())
+            .collect();
+        if !fitting.is_empty() {
+            let fact = rng.pick(&fitting);
+            if let Some(longer) = extended(&bound, atom, fact) {
+                bound = longer;
+            }
+        }
+    }
+    let mut unused: Vec<u8> = spare.into_iter().chain(0..script.objects).collect();
+    let mut objects = Vec::new();
+    for variable in 0..bound.len() {
+        let object = match bound[variable] {
+            Some(object) => object,
+            None => {
+                unused.retain(|object| !bound.contains(&Some(*object)) && !objects.contains(object));
+                *unused.first()?
+            }
+        };
+        objects.push(object);
+    }
+    Some(Event { moment: 0, action: number as u8, binding: binding(&objects) })
+}
+
+/// The binding, with the atom made this fact, if that can be.
+fn extended(bound: &[Option<u8>], atom: &Atom<model::Var>, fact: &Fact) -> Option<Vec<Option<u8>>> {
+    let mut bound = bound.to_vec();
+    for (variable, object) in atom.args().iter().zip(fact.args()) {
+        let place = variable.0 as usize;
+        match bound[place] {
+            Some(already) if already == object.0 => {}
+            Some(_) => return None,
+            None if bound.contains(&Some(object.0)) => return None,
+            None => bound[place] = Some(object.0),
+        }
+    }
+    Some(bound)
+}
+
+fn any_fact(rng: &mut Rng, script: &Script) -> Option<Fact> {
+    let relations = &script.domain.relations;
+    if relations.is_empty() {
+        return None;
+    }
+    let relation = rng.below(relations.len());
+    let arguments: Vec<Object> = (0..relations[relation]).map(|_| Object(rng.below(script.objects as usize) as u8)).collect();
+    Some(Atom::new(relation as u8, arguments.into_iter()))
+}
+
+/// Start facts: random ones, and the true conditions of random events. In most runs no instance
+/// weighs more than one.
+fn start_facts(rng: &mut Rng, script: &mut Script) {
+    let clean = rng.chance(75);
+    let wanted = rng.small(0, 16);
+    for _ in 0..wanted {
+        let mut facts: Vec<Fact> = Vec::new();
+        if rng.chance(40) {
+            facts.extend(any_fact(rng, script));
+        } else if let Some(event) = any_event(rng, script) {
+            let action = &script.domain.actions[event.action as usize];
+            let bound = |literal| action.atom(literal).bind(|variable| event.binding[variable.0 as usize]);
+            facts.extend(action.moments[0].trues.map(bound));
+            if rng.chance(30) {
+                facts.extend(action.moments[1].trues.map(bound));
+            }
+        }
+        for fact in facts {
+            let template = &script.domain.template;
+            let weight = template.tuple(&fact).map_or(0, |instance| script.state.weight(&instance));
+            if clean && weight > 0 && !script.state.holds(&fact) {
+                continue;
+            }
+            script.start(fact);
+            if rng.chance(8) {
+                script.start(fact);
+            }
+        }
+    }
+}
+
+/// Steps that are all allowed and fit.
+fn legal_steps(rng: &mut Rng, script: &mut Script) {
+    let most = if rng.chance(5) { 60 } else { 12 };
+    for _ in 0..rng.small(0, most).max(rng.below(5)) {
+        // where an over-all condition fails, no step is allowed any more
+        if script.state.allows(script.domain, &[]).is_err() {
+            return;
+        }
+        let wanted = match rng.below(10) {
+            0 => rng.range(5, 16),
+            1 => 0,
+            _ => rng.small(1, 6),
+        };
+        for _ in 0..4 * wanted {
+            let event = if rng.chance(80) { likely_event(rng, script) } else { any_event(rng, script) };
+            if let Some(event) = event {
+                if script.events.len() < wanted && script.allows_also(event) {
+                    script.event(event);
+                }
+            }
+        }
+        script.close();
+    }
+}
+
+/// A domain to play on, mostly accepted, with lasting actions.
+pub fn playground(rng: &mut Rng) -> Plan {
+    let mood = rng.pick(&[
+        Mood::Accepted0,
+        Mood::Accepted0,
+        Mood::Accepted1,
+        Mood::Accepted1,
+        Mood::Accepted1,
+        Mood::Bounded43,
+        Mood::Unbounded42,
+        Mood::Heavy40,
+        Mood::Unbalanced41,
+        Mood::Anything,
+    ]);
+    let size = Size { components: 3, others: 2, actions: 6, variables: 4, classes: 2 };
+    let mut plan = domains::valid_of(rng, mood, size);
+    // An action without conditions now and then, so that more steps are allowed.
+    if rng.chance(50) && plan.actions.len() < 64 {
+        let mut action = PlanAction::new(rng.range(0, 3) as u8, rng.chance(60));
+        for _ in 0..rng.range(1, 3) {
+            let relation = rng.below(plan.relations.len()) as u8;
+            let arity = plan.relations[relation as usize];
+            let component = plan.components.iter().any(|c| c.0 == relation);
+            if (component && rng.chance(70)) || (arity > 0 && action.variables == 0) {
+                continue;
+            }
+            let role = if action.lasting { rng.pick(&[2, 3, 4, 5, 8, 9]) } else { rng.pick(&[2, 3]) };
+            let arguments = (0..arity).map(|_| rng.below(action.variables as usize) as u8).collect();
+            action.push(role, relation, arguments);
+        }
+        plan.actions.push(action);
+    }
+    plan
+}
+
+fn objects(rng: &mut Rng) -> u8 {
+    match rng.below(10) {
+        0 => 1,
+        1 => 64,
+        2 => rng.range(1, 64) as u8,
+        _ => rng.range(2, 7) as u8,
+    }
+}
+
+/// A run in which everything is allowed, closed.
+pub fn legal(rng: &mut Rng, domain: &Domain) -> Vec<Rec> {
+    let mut script = Script::new(domain, objects(rng));
+    start_facts(rng, &mut script);
+    legal_steps(rng, &mut script);
+    script.close_run();
+    script.records
+}
+
+/// A legal run that ends with a fault of some kind, then more records that aren't reached.
+pub fn faulty(rng: &mut Rng, domain: &Domain) -> Vec<u8> {
+    let mut script = Script::new(domain, objects(rng));
+    start_facts(rng, &mut script);
+    if rng.chance(12) {
+        messy_start_fact(rng, &mut script);
+    }
+    legal_steps(rng, &mut script);
+    // some events of the step at fault may be allowed
+    for _ in 0..rng.small(0, 3) {
+        if let Some(event) = likely_event(rng, &script) {
+            if script.allows_also(event) {
+                script.event(event);
+            }
+        }
+    }
+    match rng.below(17) {
+        0..=1 => refused_step(rng, &mut script, Refusal::ConditionFails),
+        2..=3 | 14..=15 => refused_step(rng, &mut script, Refusal::Interference),
+        4..=5 => refused_step(rng, &mut script, Refusal::EndNotOpen),
+        // any events at all, so that several faults stand in one step
+        6..=7 => {
+            for _ in 0..rng.range(1, 6) {
+                if let Some(event) = any_event(rng, &script) {
+                    if !script.events.contains(&event) {
+                        script.event(event);
+                    }
+                }
+            }
+        }
+        // an event repeated in its step, also as its 17th
+        8 => {
+            for _ in 0..rng.range(1, 30) {
+                if let Some(event) = any_event(rng, &script) {
+                    if !script.events.contains(&event) && script.events.len() < EVENTS {
+                        script.event(event);
+                    }
+                }
+            }
+            if let Some(&event) = script.events.get(rng.below(EVENTS)) {
+                script.event(event);
+            }
+        }
+        // the step's 17th event, or no more than 16
+        9 => {
+            for _ in 0..80 {
+                if let Some(event) = any_event(rng, &script) {
+                    if !script.events.contains(&event) && script.events.len() <= EVENTS {
+                        script.event(event);
+                    }
+                }
+            }
+        }
+        10..=11 => messy_event(rng, &mut script),
+        // a record out of order, or of unknown kind
+        12 => {
+            let records = script.records.len();
+            let at = rng.below(records + 1);
+            let late = match rng.below(4) {
+                0 => rec(16, [script.objects]),
+                1 => any_fact(rng, &script).map_or(rec(17, []), |fact| fact_record(&fact)),
+                2 => rec(rng.pick(&[0, 1, 5, 15, 21, 0x1010, 0x0112]), []),
+                _ => rec(rng.pick(&[16, 17, 18, 19, 20]), rng.bytes(1)),
+            };
+            script.records.insert(at, late);
+        }
+        // one object bound twice, in an event that may be repeated or the 17th too
+        13 => {
+            if let Some(event) = any_event(rng, &script) {
+                let mut record = event_record(domain, &event);
+                let length = record.payload.len();
+                if length >= 4 {
+                    let (from, to) = (rng.range(2, length - 1), rng.range(2, length - 1));
+                    record.payload[to] = record.payload[from];
+                }
+                script.records.push(record);
+            }
+        }
+        // the run closed while events wait
+        _ => {
+            script.close_run();
+        }
+    }
+    script.records.push(rec(19, []));
+    script.close_run();
+    let mut file = encode(&script.records);
+    match rng.below(20) {
+        0 => file.extend(junk(rng)),
+        1 => file.truncate(file.len() - rng.range(1, 9).min(file.len())),
+        _ => {}
+    }
+    file
+}
+
+/// Events that make the step one that is refused so, if a few tries find them.
+fn refused_step(rng: &mut Rng, script: &mut Script, wanted: Refusal) {
+    for _ in 0..100 {
+        let mut events = script.events.clone();
+        for _ in 0..rng.range(1, 4) {
+            let event = match (wanted, rng.below(3)) {
+                (Refusal::EndNotOpen, 0..=1) | (_, 0) => any_event(rng, script),
+                _ => likely_event(rng, script),
+            };
+            if let Some(event) = event {
+                if !events.contains(&event) && events.len() < EVENTS {
+                    events.push(event);
+                }
+            }
+        }
+        if script.state.allows(script.domain, &events) == Err(wanted) {
+            for event in events.split_off(script.events.len()) {
+                script.event(event);
+            }
+            return;
+        }
+    }
+}
+
+/// An event record of which several fields may be wrong at once.
+fn messy_event(rng: &mut Rng, script: &mut Script) {
+    let event = if rng.chance(50) { likely_event(rng, script) } else { any_event(rng, script) };
+    let mut record = event.map_or(rec(18, [0, 0]), |event| event_record(script.domain, &event));
+    let payload = &mut record.payload;
+    if rng.chance(25) {
+        payload[0] = rng.pick(&[1, 1, 1, 2, 3, 255]);
+    }
+    if rng.chance(15) {
+        payload[1] = rng.pick(&[script.domain.actions.len() as u8, 64, 255]);
+    }
+    for place in 2..payload.len() {
+        if rng.chance(15) {
+            payload[place] = rng.pick(&[script.objects, script.objects - 1, 64, 255]);
+        }
+        if rng.chance(20) {
+            payload[place] = rng.pick(&payload[2..]);
+        }
+    }
+    if rng.chance(10) {
+        payload.push(near(rng, 0));
+    }
+    if rng.chance(10) {
+        payload.truncate(rng.below(payload.len()));
+    }
+    script.records.push(record);
+}
+
+/// A start fact record of which several fields may be wrong at once.
+fn messy_start_fact(rng: &mut Rng, script: &mut Script) {
+    let mut record = any_fact(rng, script).map_or(rec(17, [0]), |fact| fact_record(&fact));
+    let payload = &mut record.payload;
+    if rng.chance(30) {
+        payload[0] = rng.pick(&[script.domain.relations.len() as u8, 64, 255]);
+    }
+    for byte in payload.iter_mut().skip(1) {
+        if rng.chance(20) {
+            *byte = rng.pick(&[script.objects, 64, 255]);
+        }
+    }
+    if rng.chance(15) {
+        payload.push(rng.byte());
+    }
+    if rng.chance(15) {
+        payload.truncate(rng.below(payload.len()));
+    }
+    script.records.push(record);
+}
+
+/// A domain and a run near a limit of the player, on either side of it.
+pub fn near_limit(rng: &mut Rng) -> (Vec<u8>, Vec<u8>) {
+    let mut plan = Plan { relations: vec![2, 2, 1, 0], ..Plan::default() };
+    plan.components = match rng.below(3) {
+        0 => vec![(1, vec![0, FF])],
+        1 => vec![(1, vec![0, FF]), (2, vec![0])],
+        _ => vec![(2, vec![FF]), (3, vec![])],
+    };
+    // 0: adds one fact; 1: deletes one fact; 2: adds six facts; 3: lasts, adds one at its end;
+    // 4: moves a fact; 5: lasts, over all without a fact
+    let mut once = PlanAction::new(2, false);
+    once.push(2, 0, vec![0, 1]);
+    let mut delete = PlanAction::new(2, false);
+    delete.push(3, 0, vec![0, 1]);
+    let mut six = PlanAction::new(3, false);
+    for (a, b) in [(0, 1), (0, 2), (1, 0), (1, 2), (2, 0), (2, 1)] {
+        six.push(2, 0, vec![a, b]);
+    }
+    let mut lasts = PlanAction::new(2, true);
+    lasts.push(8, 0, vec![0, 1]);
+    let mut moves = PlanAction::new(3, false);
+    moves.push(0, 0, vec![0, 1]);
+    moves.push(3, 0, vec![0, 1]);
+    moves.push(2, 0, vec![0, 2]);
+    let mut over_all = PlanAction::new(1, true);
+    over_all.push(5, 2, vec![0]);
+    plan.actions = vec![once, delete, six, lasts, moves, over_all];
+    let file = plan.file();
+    let Ok(domain) = model::read(&file) else { return (file, Vec::new()) };
+    let count = rng.pick(&[64, 64, 64, 40, 33]);
+    let mut script = Script::new(&domain, count);
+    let over = rng.chance(50) as usize;
+    match rng.below(6) {
+        // object counts
+        0 => {
+            let count = rng.pick(&[0, 1, 63, 64, 65, 128, 255]);
+            let object = rng.pick(&[0, 62, 63, 64]);
+            let records = [rec(16, [count]), rec(17, [2, object]), rec(19, []), rec(20, [])];
+            return (file, encode(&records));
+        }
+        // 1,024 or 1,025 different start facts, some repeated
+        1 => many_facts(rng, &mut script, FACTS + over),
+        // 1,024 or 1,025 facts after a step
+        2 | 3 => {
+            let room = rng.below(20);
+            many_facts(rng, &mut script, FACTS - room);
+            near_full(rng, &mut script);
+        }
+        // 32 or 33 open
+        4 => {
+            let starts = rng.pick(&[3, 3, 5]);
+            while script.state.open().len() < OPEN {
+                let wanted = rng.range(1, 16).min(OPEN - script.state.open().len());
+                while script.events.len() < wanted {
+                    let variables = domain.actions[starts as usize].variables;
+                    if let Some(objects) = different(rng, variables, count) {
+                        let event = Event { moment: 0, action: starts, binding: binding(&objects) };
+                        if !script.events.contains(&event) {
+                            script.event(event);
+                        }
+                    }
+                }
+                script.close();
+            }
+            for _ in 0..rng.range(1, 3) {
+                let mut ended = 0;
+                for _ in 0..rng.below(4) {
+                    let entry = rng.pick(script.state.open());
+                    let event = Event { moment: 1, action: entry.action, binding: entry.binding };
+                    if !script.events.contains(&event) {
+                        script.event(event);
+                        ended += 1;
+                    }
+                }
+                for started in 0..(ended + over).min(12) {
+                    let objects = [started as u8, started as u8 + 1];
+                    script.event(Event { moment: 0, action: 3, binding: binding(&objects) });
+                }
+                script.close();
+            }
+        }
+        // 16 or 17 events
+        _ => {
+            while script.events.len() < 16 + over {
+                let action = rng.pick(&[0, 3]);
+                if let Some(objects) = different(rng, 2, count) {
+                    let event = Event { moment: 0, action, binding: binding(&objects) };
+                    if !script.events.contains(&event) {
+                        script.event(event);
+                    }
+                }
+            }
+            if over == 1 && rng.chance(30) {
+                if let Some(last) = script.records.last_mut() {
+                    last.payload = near_event(rng, &last.payload);
+                }
+            }
+            script.close();
+        }
+    }
+    if !script.events.is_empty() {
+        script.close();
+    }
+    script.close_run();
+    (file, encode(&script.records))
+}
+
+fn near_event(rng: &mut Rng, payload: &[u8]) -> Vec<u8> {
+    let mut payload = payload.to_vec();
+    let place = rng.below(payload.len());
+    payload[place] = near(rng, payload[place]);
+    payload
+}
+
+/// So many different start facts, most of relation 0.
+fn many_facts(rng: &mut Rng, script: &mut Script, count: usize) {
+    let mut all: Vec<Fact> = Vec::new();
+    for a in 0..script.objects {
+        for b in 0..script.objects {
+            all.push(Atom::new(0, [Object(a), Object(b)].into_iter()));
+        }
+        if rng.chance(30) {
+            all.push(Atom::new(2, [Object(a)].into_iter()));
+        }
+    }
+    rng.shuffle(&mut all);
+    for &fact in &all[..count.min(all.len())] {
+        script.start(fact);
+        if rng.chance(2) {
+            let again = rng.pick(script.state.facts());
+            script.start(again);
+        }
+    }
+}
+
+/// Steps where nearly as many facts are held as may be.
+fn near_full(rng: &mut Rng, script: &mut Script) {
+    for _ in 0..rng.range(1, 4) {
+        for _ in 0..rng.range(1, 12) {
+            let event = if rng.chance(60) { any_event(rng, script) } else { likely_event(rng, script) };
+            let Some(event) = event else { continue };
+            let mut events = script.events.clone();
+            if event.moment == 1 || events.contains(&event) {
+                continue;
+            }
+            events.push(event);
+            if script.state.allows(script.domain, &events).is_ok() {
+                script.event(event);
+            }
+        }
+        script.close();
+    }
+}
+
+/// Random bytes, or random records of a run.
+pub fn random(rng: &mut Rng) -> Vec<u8> {
+    if rng.chance(30) {
+        let length = rng.small(0, 60);
+        return rng.bytes(length);
+    }
+    let mut records = Vec::new();
+    if !rng.chance(10) {
+        records.push(rec(16, [rng.range(0, 8) as u8]));
+    }
+    for _ in 0..rng.small(0, 12) {
+        let kind = if rng.chance(5) { rng.range(14, 22) } else { rng.range(17, 19) };
+        let length = match kind {
+            17 => rng.range(1, 3),
+            18 => rng.range(2, 5),
+            _ => 0,
+        };
+        records.push(rec(kind as u16, (0..length).map(|_| rng.small(0, 3) as u8).collect::<Vec<u8>>()));
+    }
+    if !rng.chance(10) {
+        records.push(rec(20, []));
+    }
+    encode(&records)
+}
+
+/// A domain file and a run file for it.
+pub fn pair(rng: &mut Rng) -> (Vec<u8>, Vec<u8>) {
+    if rng.chance(6) {
+        return near_limit(rng);
+    }
+    let plan = playground(rng);
+    let file = plan.file();
+    let Ok(domain) = model::read(&file) else { return (file, Vec::new()) };
+    let run = match rng.below(20) {
+        0..=6 => encode(&legal(rng, &domain)),
+        7..=15 => faulty(rng, &domain),
+        16..=18 => {
+            let records = legal(rng, &domain);
+            damage(rng, &records)
+        }
+        _ => random(rng),
+    };
+    let file = match rng.below(100) {
+        0..=2 => damage(rng, &plan.records()),
+        3..=4 => domains::damaged(rng),
+        5 => domains::near_limit(rng),
+        _ => file,
+    };
+    (file, run)
+}

@@ -1,0 +1,127 @@
+//! "Classes of an action": classes, names, journeys.
+
+use crate::domain::{Action, Literals, Moment, Template, Tuple, Var};
+
+/// "Literals of one action with equal tuples form a class; with n = 0 all matching literals form
+/// one."
+#[derive(Clone, Copy, Debug)]
+pub struct Class {
+    pub tuple: Tuple<Var>,
+    pub literals: Literals,
+}
+
+/// "Classes are numbered by first literal in the file."
+pub fn classes(template: &Template, action: &Action) -> Vec<Class> {
+    let mut classes: Vec<Class> = Vec::new();
+    for (number, literal) in action.literals.iter().enumerate() {
+        let Some(tuple) = template.tuple(&literal.atom) else { continue };
+        let class = match classes.iter().position(|class| class.tuple == tuple) {
+            Some(class) => class,
+            None => {
+                classes.push(Class { tuple, literals: Literals::default() });
+                classes.len() - 1
+            }
+        };
+        classes[class].literals.insert(number);
+    }
+    classes
+}
+
+impl Class {
+    /// "Only the class's literals of that moment count"
+    ///
+    /// An end's literal that stands both in its own role and over all has one tuple, so both are of
+    /// one class and it counts once here as it does in the action's moment.
+    pub fn at(&self, moment: &Moment) -> Moment {
+        Moment {
+            trues: moment.trues.and(self.literals),
+            falses: moment.falses.and(self.literals),
+            adds: moment.adds.and(self.literals),
+            deletes: moment.deletes.and(self.literals),
+        }
+    }
+}
+
+/// The names with their numbers 1 to 7.
+#[derive(Clone, Copy, PartialEq, Eq, Debug)]
+pub enum Name {
+    Unreachable = 1,
+    Irrelevant = 2,
+    Heavy = 3,
+    Balanced = 4,
+    Unbalanced = 5,
+    Bounded = 6,
+    Unbounded = 7,
+}
+
+impl Name {
+    pub fn text(self) -> &'static str {
+        match self {
+            Name::Unreachable => "unreachable",
+            Name::Irrelevant => "irrelevant",
+            Name::Heavy => "heavy",
+            Name::Balanced => "balanced",
+            Name::Unbalanced => "unbalanced",
+            Name::Bounded => "bounded",
+            Name::Unbounded => "unbounded",
+        }
+    }
+}
+
+/// "the first line that fits names it", of the class's literals of one moment
+pub fn name(template: &Template, action: &Action, class: &Moment) -> Name {
+    // "unreachable: two or more true conditions in the class"
+    if class.trues.count() >= 2 {
+        return Name::Unreachable;
+    }
+    // "irrelevant: no add"
+    if class.adds.is_empty() {
+        return Name::Irrelevant;
+    }
+    // "heavy: two or more adds"
+    if class.adds.count() >= 2 {
+        return Name::Heavy;
+    }
+    // "balanced: one true condition, also an add or a delete"
+    // "unbalanced: one true condition, neither"
+    if let Some(condition) = class.trues.into_iter().next() {
+        return if action.among(class.adds.or(class.deletes), action.atom(condition)) {
+            Name::Balanced
+        } else {
+            Name::Unbalanced
+        };
+    }
+    // "bounded: each component of the template is covered"
+    // "unbounded: otherwise"
+    match first_uncovered(template, action, class) {
+        None => Name::Bounded,
+        Some(_) => Name::Unbounded,
+    }
+}
+
+/// The number of the first component that isn't covered. "covered, that is, has no FF and its
+/// relation occurs among them as false condition, add or delete", where "they" are the class's
+/// literals of the moment.
+pub fn first_uncovered(template: &Template, action: &Action, class: &Moment) -> Option<usize> {
+    let mut occurring = 0u64;
+    for literal in class.falses.or(class.adds).or(class.deletes) {
+        occurring |= 1 << action.atom(literal).relation;
+    }
+    let covered = |counted: Option<u8>, relation: u8| counted.is_none() && occurring >> relation & 1 == 1;
+    template.components.iter().position(|component| !covered(component.counted, component.relation))
+}
+
+/// "A journey is a class of a lasting action whose start has no add and exactly one true condition,
+/// which the start deletes, and whose end has no true condition and one add."
+pub fn is_journey(action: &Action, class: &Class) -> bool {
+    if !action.lasting {
+        return false;
+    }
+    let start = class.at(&action.moments[0]);
+    let end = class.at(&action.moments[1]);
+    start.adds.is_empty()
+        && start.trues.count() == 1
+        && start.trues.into_iter().all(|condition| action.among(start.deletes, action.atom(condition)))
+        && end.trues.is_empty()
+        && end.adds.count() == 1
+}

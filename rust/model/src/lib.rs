@@ -1,0 +1,34 @@
+//! A model of "One field per volume: templates, classes and runs" (the paper), written from the
+//! paper alone. Sentences of the paper stand in quotation marks beside the code that follows them.
+//!
+//! - [`records`]: the record form that both files share
+//! - [`domain`]: reading a domain file, numbers 9 to 23
+//! - [`classes`]: classes, names, journeys
+//! - [`verdict`]: rows, decision, witness, [`judge`]
+//! - [`machine`]: state, events, steps
+//! - [`player`]: the run file, [`play`]
+//! - [`listing`]: what the listing program prints
+//!
+//! The paper leaves some places open; these are the readings taken.
+//! - Zero relations and zero actions are well-formed. An action without matching literals has no
+//!   class and no row, also where n = 0.
+//! - A record is cut short where its head or its payload runs past the end of the file.
+//! - An end's conditions are its own and the over-all ones everywhere, so also where events
+//!   interfere.
+//! - Over-all conditions are checked for what is open before the step: not for a start in it, but
+//!   still for an end in it.
+//! - The start weights count as soon as a whole record of kind 18 to 20 stands in the run file,
+//!   even if that record is refused.
+
+pub mod classes;
+pub mod domain;
+pub mod listing;
+pub mod machine;
+pub mod player;
+pub mod records;
+pub mod verdict;
+
+pub use domain::{read, Domain, Fact, Key, Object, Stop, Var};
+pub use listing::listing;
+pub use player::{play, Part, Played, Source, WORK};
+pub use verdict::{judge, Answer};

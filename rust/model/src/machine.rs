@@ -1,0 +1,311 @@
+//! "The machine": state, events, steps. It has no size limits.
+
+use crate::domain::{Domain, Fact, Literals, Moment, Object, Template, Tuple, VARIABLES};
+use std::collections::{HashMap, HashSet};
+use std::hash::{BuildHasherDefault, Hasher};
+
+/// "a binding of its variables to different objects": the object of each variable, filled.
+pub type Binding = [Object; VARIABLES];
+
+/// The binding of variable i to the i-th of these objects.
+pub fn binding(objects: &[u8]) -> Binding {
+    let mut binding = [Object(0xFF); VARIABLES];
+    for (place, &object) in binding.iter_mut().zip(objects) {
+        *place = Object(object);
+    }
+    binding
+}
+
+/// "An event is an action at once, a start, or an end, with a binding of its variables to different
+/// objects." Moment 1 is an end.
+#[derive(Clone, Copy, PartialEq, Eq, Debug)]
+pub struct Event {
+    pub moment: u8,
+    pub action: u8,
+    pub binding: Binding,
+}
+
+impl Event {
+    /// The open lasting action that a start makes and an end needs.
+    fn entry(&self) -> Entry {
+        Entry { action: self.action, binding: self.binding }
+    }
+
+    fn is_end(&self) -> bool {
+        self.moment == 1
+    }
+
+    fn is_start(&self, domain: &Domain) -> bool {
+        self.moment == 0 && domain.actions[self.action as usize].lasting
+    }
+
+    fn moment<'d>(&self, domain: &'d Domain) -> &'d Moment {
+        &domain.actions[self.action as usize].moments[self.moment as usize]
+    }
+
+    /// The facts that the literals of a set are for this event, in the order of the file.
+    fn facts<'d>(&self, domain: &'d Domain, set: Literals) -> impl Iterator<Item = Fact> + 'd {
+        bound(domain, self.entry(), set)
+    }
+}
+
+/// An open lasting action with its binding.
+#[derive(Clone, Copy, PartialEq, Eq, Debug)]
+pub struct Entry {
+    pub action: u8,
+    pub binding: Binding,
+}
+
+fn bound(domain: &Domain, entry: Entry, set: Literals) -> impl Iterator<Item = Fact> + '_ {
+    let action = &domain.actions[entry.action as usize];
+    set.map(move |literal| action.atom(literal).bind(|variable| entry.binding[variable.0 as usize]))
+}
+
+/// "State: a set of facts and a list of open lasting actions with bindings, where one entry may
+/// occur twice."
+#[derive(Clone, Debug, Default)]
+pub struct State {
+    /// The facts, in the order of the player's work memory.
+    facts: Vec<Fact>,
+    /// The same facts, to find them.
+    held: HashSet<Fact, Quick>,
+    open: Vec<Entry>,
+    /// The weight of every instance that matches a fact, the instance written as one word.
+    weights: HashMap<u64, u32, Quick>,
+}
+
+fn word(instance: &Tuple<Object>) -> u64 {
+    instance.iter().fold(0, |word, object| word << 8 | object.0 as u64)
+}
+
+/// Why a step isn't allowed, by the number that the player gives it.
+#[derive(Clone, Copy, PartialEq, Eq, Debug)]
+pub enum Refusal {
+    EndNotOpen = 57,
+    ConditionFails = 55,
+    Interference = 56,
+}
+
+/// What an allowed step makes of a state.
+#[derive(Clone, Debug, Default)]
+pub struct Change {
+    /// The facts held and deleted.
+    gone: Vec<Fact>,
+    /// The facts added that aren't held after the deletes, in order, once each.
+    new: Vec<Fact>,
+    ends: Vec<Entry>,
+    starts: Vec<Entry>,
+}
+
+impl State {
+    pub fn facts(&self) -> &[Fact] {
+        &self.facts
+    }
+
+    pub fn open(&self) -> &[Entry] {
+        &self.open
+    }
+
+    pub fn holds(&self, fact: &Fact) -> bool {
+        self.held.contains(fact)
+    }
+
+    /// Puts in a fact that isn't held, and tells the weight of the instance that it matches, 0 if its
+    /// relation has no component.
+    pub fn insert(&mut self, template: &Template, fact: Fact) -> u32 {
+        self.facts.push(fact);
+        self.held.insert(fact);
+        let Some(instance) = template.tuple(&fact) else { return 0 };
+        let weight = self.weights.entry(word(&instance)).or_insert(0);
+        *weight += 1;
+        *weight
+    }
+
+    /// "An instance gives each key an object; its weight is the number of facts it matches."
+    pub fn weight(&self, instance: &Tuple<Object>) -> u32 {
+        self.weights.get(&word(instance)).copied().unwrap_or(0)
+    }
+
+    /// The highest weight of any instance.
+    pub fn highest_weight(&self) -> u32 {
+        self.weights.values().copied().max().unwrap_or(0)
+    }
+
+    /// Whether a step, a list of different events, is allowed. "It is allowed if every end is open;
+    /// every event's conditions hold; the over-all conditions of everything open hold; and no two of
+    /// its events interfere." Of several refusals the player's first comes: 57, 55, 56.
+    pub fn allows(&self, domain: &Domain, events: &[Event]) -> Result<(), Refusal> {
+        for event in events {
+            if event.is_end() && !self.open.contains(&event.entry()) {
+                return Err(Refusal::EndNotOpen);
+            }
+        }
+        for event in events {
+            if !self.conditions_hold(domain, event.entry(), event.moment(domain)) {
+                return Err(Refusal::ConditionFails);
+            }
+        }
+        for entry in &self.open {
+            if !self.conditions_hold(domain, *entry, &domain.actions[entry.action as usize].over_all) {
+                return Err(Refusal::ConditionFails);
+            }
+        }
+        if some_interfere(domain, events) {
+            return Err(Refusal::Interference);
+        }
+        Ok(())
+    }
+
+    fn conditions_hold(&self, domain: &Domain, entry: Entry, conditions: &Moment) -> bool {
+        bound(domain, entry, conditions.trues).all(|fact| self.holds(&fact))
+            && bound(domain, entry, conditions.falses).all(|fact| !self.holds(&fact))
+    }
+
+    /// What an allowed step changes. "Afterwards: all deletes out, then all adds in; ends leave the
+    /// list (one entry each), starts join it."
+    pub fn change(&self, domain: &Domain, events: &[Event]) -> Change {
+        let mut change = Change::default();
+        for event in events {
+            for fact in event.facts(domain, event.moment(domain).deletes) {
+                if self.holds(&fact) {
+                    change.gone.push(fact);
+                }
+            }
+            if event.is_end() {
+                change.ends.push(event.entry());
+            } else if event.is_start(domain) {
+                change.starts.push(event.entry());
+            }
+        }
+        change.gone.sort_unstable();
+        change.gone.dedup();
+        // "new ones by event and literal (a fact deleted and added again is new)"
+        let mut added: HashSet<Fact, Quick> = HashSet::default();
+        for event in events {
+            for fact in event.facts(domain, event.moment(domain).adds) {
+                let kept = self.holds(&fact) && change.gone.binary_search(&fact).is_err();
+                if !kept && added.insert(fact) {
+                    change.new.push(fact);
+                }
+            }
+        }
+        change
+    }
+
+    /// How many facts are held, and how many lasting actions are open, after the change.
+    pub fn sizes_after(&self, change: &Change) -> (usize, usize) {
+        let facts = self.facts.len() - change.gone.len() + change.new.len();
+        let open = self.open.len() - change.ends.len() + change.starts.len();
+        (facts, open)
+    }
+
+    /// Makes the change of an allowed step, and tells the highest weight of the instances that got a
+    /// new fact; of all other instances the weight is no higher than before.
+    pub fn advance(&mut self, template: &Template, change: &Change) -> u32 {
+        for fact in &change.gone {
+            self.held.remove(fact);
+            let instance = template.tuple(fact);
+            if let Some(weight) = instance.and_then(|instance| self.weights.get_mut(&word(&instance))) {
+                *weight -= 1;
+            }
+        }
+        // "kept ones in order"
+        if !change.gone.is_empty() {
+            self.facts.retain(|fact| change.gone.binary_search(fact).is_err());
+        }
+        // "all adds in": as the deletes are out already, a weight only rises here.
+        let mut highest = 0;
+        for fact in &change.new {
+            highest = highest.max(self.insert(template, *fact));
+        }
+        for entry in &change.ends {
+            if let Some(place) = self.open.iter().position(|open| open == entry) {
+                self.open.remove(place);
+            }
+        }
+        self.open.extend_from_slice(&change.starts);
+        highest
+    }
+}
+
+/// The events for which a fact stands in one role: none, one, or several.
+#[derive(Clone, Copy, Default)]
+enum Events {
+    #[default]
+    None,
+    One(usize),
+    Several,
+}
+
+impl Events {
+    fn insert(&mut self, event: usize) {
+        *self = match *self {
+            Events::None => Events::One(event),
+            Events::One(only) if only == event => Events::One(event),
+            _ => Events::Several,
+        };
+    }
+
+    /// Whether two different events are there, one of these and one of the others.
+    fn differ(self, others: Events) -> bool {
+        match (self, others) {
+            (Events::None, _) | (_, Events::None) => false,
+            (Events::One(one), Events::One(other)) => one != other,
+            _ => true,
+        }
+    }
+}
+
+/// "Two events interfere if a condition of one, true or false, is an add or delete of the other, or
+/// an add of one is a delete of the other." Told for each fact that the events name, instead of for
+/// each pair of events.
+fn some_interfere(domain: &Domain, events: &[Event]) -> bool {
+    if events.len() < 2 {
+        return false;
+    }
+    let mut named: HashMap<Fact, [Events; 3], Quick> = HashMap::default();
+    for (number, event) in events.iter().enumerate() {
+        let moment = event.moment(domain);
+        let roles = [moment.trues.or(moment.falses), moment.adds, moment.deletes];
+        for (role, set) in roles.into_iter().enumerate() {
+            for fact in event.facts(domain, set) {
+                let roles = named.entry(fact).or_default();
+                roles[role].insert(number);
+                let [conditions, adds, deletes] = *roles;
+                if conditions.differ(adds) || conditions.differ(deletes) || adds.differ(deletes) {
+                    return true;
+                }
+            }
+        }
+    }
+    false
+}
+
+/// A quick hash for facts and instances.
+#[derive(Default)]
+pub struct Mix(u64);
+
+type Quick = BuildHasherDefault<Mix>;
+
+impl Hasher for Mix {
+    fn finish(&self) -> u64 {
+        self.0
+    }
+
+    fn write(&mut self, bytes: &[u8]) {
+        for chunk in bytes.chunks(8) {
+            let mut word = [0; 8];
+            word[..chunk.len()].copy_from_slice(chunk);
+            self.write_u64(u64::from_le_bytes(word));
+        }
+    }
+
+    fn write_u64(&mut self, word: u64) {
+        let mixed = (self.0 ^ word).wrapping_mul(0x9E37_79B9_7F4A_7C15);
+        self.0 = mixed ^ (mixed >> 29);
+    }
+
+    fn write_usize(&mut self, word: usize) {
+        self.write_u64(word as u64);
+    }
+}
