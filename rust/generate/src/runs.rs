@@ -180,7 +180,8 @@ fn any_fact(rng: &mut Rng, script: &Script) -> Option<Fact> {
         return None;
     }
     let relation = rng.below(relations.len());
-    let arguments: Vec<Object> = (0..relations[relation]).map(|_| Object(rng.below(script.objects as usize) as u8)).collect();
+    let arguments: Vec<Object> =
+        (0..relations[relation]).map(|_| Object(rng.below(script.objects as usize) as u8)).collect();
     Some(Atom::new(relation as u8, arguments.into_iter()))
 }
 
@@ -673,7 +674,8 @@ pub fn duel(rng: &mut Rng) -> (Vec<u8>, Vec<u8>) {
             if arity > 0 && action.variables == 0 {
                 continue;
             }
-            let role = if action.lasting { rng.pick(&[0, 1, 2, 3, 4, 4, 5, 5, 6, 7, 8, 9]) } else { rng.below(4) as u8 };
+            let role =
+                if action.lasting { rng.pick(&[0, 1, 2, 3, 4, 4, 5, 5, 6, 7, 8, 9]) } else { rng.below(4) as u8 };
             let arguments = (0..arity).map(|_| rng.below(action.variables as usize) as u8).collect();
             action.push(role, relation, arguments);
         }
@@ -687,7 +689,8 @@ pub fn duel(rng: &mut Rng) -> (Vec<u8>, Vec<u8>) {
             script.start(fact);
         }
     }
-    let refusal = rng.pick(&[Refusal::Interference, Refusal::Interference, Refusal::ConditionFails, Refusal::EndNotOpen]);
+    let refusal =
+        rng.pick(&[Refusal::Interference, Refusal::Interference, Refusal::ConditionFails, Refusal::EndNotOpen]);
     let steps = rng.below(5);
     legal_steps(rng, &mut script, steps);
     if rng.chance(80) {
