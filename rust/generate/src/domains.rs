@@ -581,10 +581,17 @@ pub fn near_limit(rng: &mut Rng) -> Vec<u8> {
             plan.actions.push(action);
         }
     }
+    let mut records = plan.records();
+    if rng.chance(25) {
+        // a record out of order, perhaps over a limit too
+        let record = records[rng.below(records.len())].clone();
+        let later = records.iter().rposition(|r| r.kind < 5).unwrap_or(0);
+        records.insert(later + rng.below(2), record);
+    }
     if rng.chance(15) {
-        damage(rng, &plan.records())
+        damage(rng, &records)
     } else {
-        plan.file()
+        encode(&records)
     }
 }
 
@@ -780,7 +787,7 @@ pub fn damaged_for(rng: &mut Rng, mut plan: Plan, number: u8) -> Vec<u8> {
                 records.insert(0, rec(kind, payload));
             }
         }
-        // several fields of one literal wrong at once
+        // a literal with two faults, so that it shows which comes first
         16..=18 => {
             if with_literal.is_empty() {
                 plan.actions.push(PlanAction { variables: 2, lasting: rng.chance(50), literals: vec![(2, 0, vec![])] });
@@ -788,23 +795,27 @@ pub fn damaged_for(rng: &mut Rng, mut plan: Plan, number: u8) -> Vec<u8> {
             }
             let literals: Vec<usize> = (0..records.len()).filter(|&at| records[at].kind == 3).collect();
             let at = rng.pick(&literals);
-            let payload = &mut records[at].payload;
-            if number == 16 || rng.chance(15) {
-                payload[0] = rng.pick(&[4, 5, 6, 7, 8, 9, 10, 10, 11, 255]);
-            }
-            if number == 17 || rng.chance(15) {
-                payload[1] = rng.pick(&[plan.relations.len() as u8, 64, 255]);
-            }
-            if number == 18 || rng.chance(15) {
-                let place = rng.below(payload.len());
-                if place >= 2 {
-                    payload[place] = rng.pick(&[16, 17, 64, 255]);
-                } else {
-                    payload.push(rng.byte());
+            let second = rng.range(16, 21) as u8;
+            for fault in [number, second] {
+                let payload = &mut records[at].payload;
+                if payload.len() < 2 {
+                    break;
                 }
-            }
-            if rng.chance(10) {
-                payload.pop();
+                match fault {
+                    16 => payload[0] = rng.pick(&[4, 5, 6, 7, 8, 9, 10, 10, 11, 255]),
+                    17 => payload[1] = rng.pick(&[plan.relations.len() as u8, 64, 255]),
+                    18 => {
+                        let place = rng.range(2, payload.len());
+                        if place < payload.len() {
+                            payload[place] = rng.pick(&[16, 17, 64, 255]);
+                        }
+                    }
+                    19 => payload.push(rng.below(20) as u8),
+                    20 => {
+                        payload.pop();
+                    }
+                    _ => {}
+                }
             }
         }
         19 | 20 => {
@@ -844,8 +855,8 @@ pub fn damaged_for(rng: &mut Rng, mut plan: Plan, number: u8) -> Vec<u8> {
                 let labels = &mut plan.components[at].1;
                 if !labels.is_empty() {
                     let place = rng.below(labels.len());
-                    labels[place] = match rng.below(5) {
-                        0 => FF,
+                    labels[place] = match rng.below(6) {
+                        0 | 5 => FF,
                         1 => n,
                         2 => 0,
                         3 => labels[rng.below(labels.len())],
@@ -853,8 +864,15 @@ pub fn damaged_for(rng: &mut Rng, mut plan: Plan, number: u8) -> Vec<u8> {
                     };
                 }
             }
-            if rng.chance(10) {
-                plan.components[at].0 = plan.relations.len() as u8;
+            // a second fault, so that it shows which comes first
+            let at = rng.below(plan.components.len());
+            match rng.below(10) {
+                0 => plan.components[at].0 = plan.relations.len() as u8,
+                1 => plan.components[at].1.push(rng.pick(&[0, 1, FF])),
+                2 => {
+                    plan.components[at].1.pop();
+                }
+                _ => {}
             }
             records = plan.records();
         }

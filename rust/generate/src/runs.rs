@@ -60,6 +60,15 @@ impl<'d> Script<'d> {
             && self.fits(&events)
     }
 
+    /// Whether an empty step is allowed after the step with this event too.
+    fn goes_on(&self, event: Event) -> bool {
+        let mut events = self.events.clone();
+        events.push(event);
+        let mut state = self.state.clone();
+        state.advance(&self.domain.template, &self.state.change(self.domain, &events));
+        state.allows(self.domain, &[]).is_ok()
+    }
+
     fn fits(&self, events: &[Event]) -> bool {
         let change = self.state.change(self.domain, events);
         let (facts, open) = self.state.sizes_after(&change);
@@ -171,7 +180,8 @@ fn any_fact(rng: &mut Rng, script: &Script) -> Option<Fact> {
         return None;
     }
     let relation = rng.below(relations.len());
-    let arguments: Vec<Object> = (0..relations[relation]).map(|_| Object(rng.below(script.objects as usize) as u8)).collect();
+    let arguments: Vec<Object> =
+        (0..relations[relation]).map(|_| Object(rng.below(script.objects as usize) as u8)).collect();
     Some(Atom::new(relation as u8, arguments.into_iter()))
 }
 
@@ -206,10 +216,11 @@ fn start_facts(rng: &mut Rng, script: &mut Script) {
     }
 }
 
-/// Steps that are all allowed and fit.
-fn legal_steps(rng: &mut Rng, script: &mut Script) {
-    let most = if rng.chance(5) { 60 } else { 12 };
-    for _ in 0..rng.small(0, most).max(rng.below(5)) {
+/// Steps that are all allowed and fit, so many or fewer.
+fn legal_steps(rng: &mut Rng, script: &mut Script, steps: usize) {
+    // in most runs the over-all conditions of what is open stay true
+    let careful = rng.chance(75);
+    for _ in 0..steps {
         // where an over-all condition fails, no step is allowed any more
         if script.state.allows(script.domain, &[]).is_err() {
             return;
@@ -222,13 +233,19 @@ fn legal_steps(rng: &mut Rng, script: &mut Script) {
         for _ in 0..4 * wanted {
             let event = if rng.chance(80) { likely_event(rng, script) } else { any_event(rng, script) };
             if let Some(event) = event {
-                if script.events.len() < wanted && script.allows_also(event) {
+                let wanted = script.events.len() < wanted && script.allows_also(event);
+                if wanted && (!careful || script.goes_on(event)) {
                     script.event(event);
                 }
             }
         }
         script.close();
     }
+}
+
+fn step_count(rng: &mut Rng) -> usize {
+    let most = if rng.chance(5) { 60 } else { 12 };
+    rng.small(0, most).max(rng.below(5))
 }
 
 /// A domain to play on, mostly accepted, with lasting actions.
@@ -279,7 +296,8 @@ fn objects(rng: &mut Rng) -> u8 {
 pub fn legal(rng: &mut Rng, domain: &Domain) -> Vec<Rec> {
     let mut script = Script::new(domain, objects(rng));
     start_facts(rng, &mut script);
-    legal_steps(rng, &mut script);
+    let steps = step_count(rng);
+    legal_steps(rng, &mut script, steps);
     script.close_run();
     script.records
 }
@@ -291,7 +309,8 @@ pub fn faulty(rng: &mut Rng, domain: &Domain) -> Vec<u8> {
     if rng.chance(12) {
         messy_start_fact(rng, &mut script);
     }
-    legal_steps(rng, &mut script);
+    let steps = step_count(rng);
+    legal_steps(rng, &mut script, steps);
     // some events of the step at fault may be allowed
     for _ in 0..rng.small(0, 3) {
         if let Some(event) = likely_event(rng, &script) {
@@ -300,7 +319,7 @@ pub fn faulty(rng: &mut Rng, domain: &Domain) -> Vec<u8> {
             }
         }
     }
-    match rng.below(17) {
+    match rng.below(19) {
         0..=1 => refused_step(rng, &mut script, Refusal::ConditionFails),
         2..=3 | 14..=15 => refused_step(rng, &mut script, Refusal::Interference),
         4..=5 => refused_step(rng, &mut script, Refusal::EndNotOpen),
@@ -337,7 +356,7 @@ pub fn faulty(rng: &mut Rng, domain: &Domain) -> Vec<u8> {
                 }
             }
         }
-        10..=11 => messy_event(rng, &mut script),
+        10..=11 | 16..=17 => messy_event(rng, &mut script),
         // a record out of order, or of unknown kind
         12 => {
             let records = script.records.len();
@@ -350,15 +369,17 @@ pub fn faulty(rng: &mut Rng, domain: &Domain) -> Vec<u8> {
             };
             script.records.insert(at, late);
         }
-        // one object bound twice, in an event that may be repeated or the 17th too
+        // one object bound twice, at times an object out of range too
         13 => {
-            if let Some(event) = any_event(rng, &script) {
+            let several = |event: &Event| domain.actions[event.action as usize].variables >= 2;
+            if let Some(event) = (0..10).find_map(|_| any_event(rng, &script).filter(several)) {
                 let mut record = event_record(domain, &event);
-                let length = record.payload.len();
-                if length >= 4 {
-                    let (from, to) = (rng.range(2, length - 1), rng.range(2, length - 1));
-                    record.payload[to] = record.payload[from];
+                let mut places: Vec<usize> = (2..record.payload.len()).collect();
+                rng.shuffle(&mut places);
+                if rng.chance(30) {
+                    record.payload[rng.pick(&places)] = rng.pick(&[script.objects, 64, 255]);
                 }
+                record.payload[places[1]] = record.payload[places[0]];
                 script.records.push(record);
             }
         }
@@ -402,51 +423,64 @@ fn refused_step(rng: &mut Rng, script: &mut Script, wanted: Refusal) {
     }
 }
 
-/// An event record of which several fields may be wrong at once.
+/// An event record with two faults, so that it shows which comes first.
 fn messy_event(rng: &mut Rng, script: &mut Script) {
     let event = if rng.chance(50) { likely_event(rng, script) } else { any_event(rng, script) };
     let mut record = event.map_or(rec(18, [0, 0]), |event| event_record(script.domain, &event));
-    let payload = &mut record.payload;
-    if rng.chance(25) {
-        payload[0] = rng.pick(&[1, 1, 1, 2, 3, 255]);
-    }
-    if rng.chance(15) {
-        payload[1] = rng.pick(&[script.domain.actions.len() as u8, 64, 255]);
-    }
-    for place in 2..payload.len() {
-        if rng.chance(15) {
-            payload[place] = rng.pick(&[script.objects, script.objects - 1, 64, 255]);
+    let at_once = script.domain.actions.iter().position(|action| !action.lasting);
+    for _ in 0..rng.range(1, 2) {
+        let payload = &mut record.payload;
+        let place = rng.range(2, 17);
+        let other = rng.range(2, 17);
+        match rng.below(10) {
+            0 => payload[0] = rng.pick(&[2, 3, 255]),
+            1 => payload[1] = rng.pick(&[script.domain.actions.len() as u8, 64, 255]),
+            2 => payload.push(near(rng, 0)),
+            3 if payload.len() > 2 => {
+                payload.pop();
+            }
+            4 if rng.chance(40) => {
+                record.payload.truncate(rng.below(2));
+                break;
+            }
+            // the end of an action at once, with as many objects as that needs
+            5 | 6 => {
+                if let Some(action) = at_once {
+                    payload[0] = 1;
+                    payload[1] = action as u8;
+                    let objects = script.domain.actions[action].variables as usize;
+                    let some = payload[2..].to_vec();
+                    payload.truncate(2);
+                    payload.extend(some.into_iter().chain(0..16).take(objects));
+                }
+            }
+            7 if place < payload.len() => payload[place] = rng.pick(&[script.objects, 64, 255]),
+            8 | 9 if place < payload.len() && other < payload.len() => payload[place] = payload[other],
+            _ => {}
         }
-        if rng.chance(20) {
-            payload[place] = rng.pick(&payload[2..]);
-        }
-    }
-    if rng.chance(10) {
-        payload.push(near(rng, 0));
-    }
-    if rng.chance(10) {
-        payload.truncate(rng.below(payload.len()));
     }
     script.records.push(record);
 }
 
-/// A start fact record of which several fields may be wrong at once.
+/// A start fact record with two faults, so that it shows which comes first.
 fn messy_start_fact(rng: &mut Rng, script: &mut Script) {
     let mut record = any_fact(rng, script).map_or(rec(17, [0]), |fact| fact_record(&fact));
-    let payload = &mut record.payload;
-    if rng.chance(30) {
-        payload[0] = rng.pick(&[script.domain.relations.len() as u8, 64, 255]);
-    }
-    for byte in payload.iter_mut().skip(1) {
-        if rng.chance(20) {
-            *byte = rng.pick(&[script.objects, 64, 255]);
+    for _ in 0..rng.range(1, 2) {
+        let payload = &mut record.payload;
+        let place = rng.range(1, 6);
+        match rng.below(5) {
+            0 => payload[0] = rng.pick(&[script.domain.relations.len() as u8, 64, 255]),
+            1 => payload.push(near(rng, 0)),
+            2 if payload.len() > 1 => {
+                payload.pop();
+            }
+            3 if place < payload.len() => payload[place] = rng.pick(&[script.objects, 64, 255]),
+            4 if rng.chance(20) => {
+                payload.clear();
+                break;
+            }
+            _ => {}
         }
-    }
-    if rng.chance(15) {
-        payload.push(rng.byte());
-    }
-    if rng.chance(15) {
-        payload.truncate(rng.below(payload.len()));
     }
     script.records.push(record);
 }
@@ -486,16 +520,29 @@ pub fn near_limit(rng: &mut Rng) -> (Vec<u8>, Vec<u8>) {
     match rng.below(6) {
         // object counts
         0 => {
-            let count = rng.pick(&[0, 1, 63, 64, 65, 128, 255]);
+            let count = rng.pick(&[0, 1, 63, 64, 65, 65, 255]);
             let object = rng.pick(&[0, 62, 63, 64]);
             let records = [rec(16, [count]), rec(17, [2, object]), rec(19, []), rec(20, [])];
             return (file, encode(&records));
         }
         // 1,024 or 1,025 different start facts, some repeated
-        1 => many_facts(rng, &mut script, FACTS + over),
+        1 => {
+            many_facts(rng, &mut script, FACTS);
+            for _ in 0..rng.below(3) {
+                let again = rng.pick(script.state.facts());
+                script.start(again);
+            }
+            if over == 1 {
+                while script.state.facts().len() == FACTS {
+                    if let Some(fact) = any_fact(rng, &script) {
+                        script.start(fact);
+                    }
+                }
+            }
+        }
         // 1,024 or 1,025 facts after a step
         2 | 3 => {
-            let room = rng.below(20);
+            let room = rng.small(0, 20);
             many_facts(rng, &mut script, FACTS - room);
             near_full(rng, &mut script);
         }
@@ -560,6 +607,10 @@ pub fn near_limit(rng: &mut Rng) -> (Vec<u8>, Vec<u8>) {
 
 fn near_event(rng: &mut Rng, payload: &[u8]) -> Vec<u8> {
     let mut payload = payload.to_vec();
+    if payload.len() >= 4 && rng.chance(40) {
+        payload[3] = payload[2];
+        return payload;
+    }
     let place = rng.below(payload.len());
     payload[place] = near(rng, payload[place]);
     payload
@@ -605,6 +656,51 @@ fn near_full(rng: &mut Rng, script: &mut Script) {
     }
 }
 
+/// A domain of a few short actions over a few facts, and a run of crowded steps on it, so that every
+/// role of one event meets every role of another.
+pub fn duel(rng: &mut Rng) -> (Vec<u8>, Vec<u8>) {
+    let mut plan = Plan { relations: vec![1, 0, 2], ..Plan::default() };
+    plan.components = match rng.below(4) {
+        0 => vec![(0, vec![0])],
+        1 => vec![(0, vec![FF]), (1, vec![])],
+        2 => vec![(2, vec![FF, 0]), (0, vec![0])],
+        _ => vec![(2, vec![1, 0])],
+    };
+    for _ in 0..rng.range(2, 5) {
+        let mut action = PlanAction::new(rng.range(0, 2) as u8, rng.chance(65));
+        for _ in 0..rng.range(0, 3) {
+            let relation = rng.pick(&[0, 0, 1, 2]);
+            let arity = plan.relations[relation as usize];
+            if arity > 0 && action.variables == 0 {
+                continue;
+            }
+            let role =
+                if action.lasting { rng.pick(&[0, 1, 2, 3, 4, 4, 5, 5, 6, 7, 8, 9]) } else { rng.below(4) as u8 };
+            let arguments = (0..arity).map(|_| rng.below(action.variables as usize) as u8).collect();
+            action.push(role, relation, arguments);
+        }
+        plan.actions.push(action);
+    }
+    let file = plan.file();
+    let Ok(domain) = model::read(&file) else { return (file, Vec::new()) };
+    let mut script = Script::new(&domain, rng.range(1, 3) as u8);
+    for _ in 0..rng.below(5) {
+        if let Some(fact) = any_fact(rng, &script) {
+            script.start(fact);
+        }
+    }
+    let refusal =
+        rng.pick(&[Refusal::Interference, Refusal::Interference, Refusal::ConditionFails, Refusal::EndNotOpen]);
+    let steps = rng.below(5);
+    legal_steps(rng, &mut script, steps);
+    if rng.chance(80) {
+        refused_step(rng, &mut script, refusal);
+        script.close();
+    }
+    script.close_run();
+    (file, encode(&script.records))
+}
+
 /// Random bytes, or random records of a run.
 pub fn random(rng: &mut Rng) -> Vec<u8> {
     if rng.chance(30) {
@@ -632,8 +728,10 @@ pub fn random(rng: &mut Rng) -> Vec<u8> {
 
 /// A domain file and a run file for it.
 pub fn pair(rng: &mut Rng) -> (Vec<u8>, Vec<u8>) {
-    if rng.chance(6) {
-        return near_limit(rng);
+    match rng.below(100) {
+        0..=6 => return near_limit(rng),
+        7..=26 => return duel(rng),
+        _ => {}
     }
     let plan = playground(rng);
     let file = plan.file();

@@ -177,7 +177,7 @@ fn the_player_is_the_plain_machine() {
         compared += compare(&domain, &run, seed) as usize;
     }
     for seed in 0..60 {
-        let (domain, run) = near_limit(&mut Rng::new(0x11317_0000 + seed));
+        let (domain, run) = near_limit(&mut Rng::new(0x0113_0000 + seed));
         compared += compare(&domain, &run, seed) as usize;
     }
     println!("{compared} runs compared with the plain machine");
@@ -204,7 +204,7 @@ fn legal_runs_are_played() {
 #[test]
 fn valid_files_are_well_formed() {
     for seed in 0..3_000 {
-        let rng = &mut Rng::new(0xA11_0000 + seed);
+        let rng = &mut Rng::new(0x0A11_0000 + seed);
         assert!(read(&generate::domains::valid(rng).file()).is_ok(), "seed {seed}");
     }
 }
@@ -217,7 +217,7 @@ fn valid_files_are_well_formed() {
 fn a_witness_shows_two_facts() {
     let mut shown = [0; 3];
     for seed in 0..6_000 {
-        let rng = &mut Rng::new(0x317_0000 + seed);
+        let rng = &mut Rng::new(0x0317_0000 + seed);
         let mood = rng.pick(&MOODS);
         let mut plan = valid_of(rng, mood, SMALL);
         for action in &mut plan.actions {

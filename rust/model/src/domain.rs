@@ -269,8 +269,8 @@ impl Template {
     pub fn tuple<T: Argument>(&self, atom: &Atom<T>) -> Option<Tuple<T>> {
         let component = self.component(atom.relation)?;
         let mut tuple = [T::FILL; ARITY];
-        for key in 0..self.n as usize {
-            tuple[key] = atom.args[component.place_of[key] as usize];
+        for (under_key, place) in tuple.iter_mut().zip(component.place_of).take(self.n as usize) {
+            *under_key = atom.args[place as usize];
         }
         Some(tuple)
     }

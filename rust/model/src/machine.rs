@@ -263,7 +263,8 @@ fn some_interfere(domain: &Domain, events: &[Event]) -> bool {
     if events.len() < 2 {
         return false;
     }
-    let mut named: HashMap<Fact, [Events; 3], Quick> = HashMap::default();
+    let literals = events.iter().map(|event| domain.actions[event.action as usize].literals.len()).sum();
+    let mut named: HashMap<Fact, [Events; 3], Quick> = HashMap::with_capacity_and_hasher(literals, Quick::default());
     for (number, event) in events.iter().enumerate() {
         let moment = event.moment(domain);
         let roles = [moment.trues.or(moment.falses), moment.adds, moment.deletes];
@@ -301,8 +302,8 @@ impl Hasher for Mix {
     }
 
     fn write_u64(&mut self, word: u64) {
-        let mixed = (self.0 ^ word).wrapping_mul(0x9E37_79B9_7F4A_7C15);
-        self.0 = mixed ^ (mixed >> 29);
+        let wide = (self.0 ^ word) as u128 * 0x9E37_79B9_7F4A_7C15;
+        self.0 = wide as u64 ^ (wide >> 64) as u64;
     }
 
     fn write_usize(&mut self, word: usize) {

@@ -149,11 +149,8 @@ pub fn judge(file: &[u8], report: &mut [u8], witness_memory: &mut [u8]) -> Answe
     // "40 to 43 action, class, moment; unused places are 0"
     match decision {
         Decision::Accepted(number) => Answer::at(number, 0),
-        Decision::Refused(number, row) => Answer {
-            number,
-            first: row.action as usize,
-            second: row.class as usize,
-            third: row.moment as usize,
-        },
+        Decision::Refused(number, row) => {
+            Answer { number, first: row.action as usize, second: row.class as usize, third: row.moment as usize }
+        }
     }
 }

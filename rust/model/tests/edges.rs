@@ -13,7 +13,7 @@ fn bytes(text: &str) -> Vec<u8> {
     if text == "-" {
         return Vec::new();
     }
-    assert!(text.len() % 2 == 0 && !text.is_empty(), "not hexadecimal: {text:?}");
+    assert!(text.len().is_multiple_of(2) && !text.is_empty(), "not hexadecimal: {text:?}");
     let digit = |b: u8| (b as char).to_digit(16).unwrap_or_else(|| panic!("not hexadecimal: {text:?}")) as u8;
     text.as_bytes().chunks_exact(2).map(|pair| digit(pair[0]) << 4 | digit(pair[1])).collect()
 }
@@ -58,7 +58,9 @@ fn judge_line(fields: &[&str]) {
         assert_eq!(exact, got, "{name}: exact room");
         assert_eq!((report_memory, witness_memory), (report.clone(), witness.clone()), "{name}: exact room");
         // ... and in one byte less, where 30 comes before 31 and memory stays untouched.
-        for (r, w, expected) in [(report.len().wrapping_sub(1), witness.len(), 30), (report.len(), witness.len().wrapping_sub(1), 31)] {
+        for (r, w, expected) in
+            [(report.len().wrapping_sub(1), witness.len(), 30), (report.len(), witness.len().wrapping_sub(1), 31)]
+        {
             if r == usize::MAX || w == usize::MAX {
                 continue;
             }
@@ -82,7 +84,7 @@ fn play_line(fields: &[&str]) {
         "none" => vec![0; 8_192],
         facts => {
             let mut memory = bytes(facts);
-            assert!(memory.len() % 8 == 0 && memory.len() <= 8_192, "facts: {facts:?}");
+            assert!(memory.len().is_multiple_of(8) && memory.len() <= 8_192, "facts: {facts:?}");
             memory.resize(8_192, 0);
             memory
         }

@@ -5,7 +5,7 @@ use model::{judge, listing, play, Part, Source, WORK};
 /// Bytes in hexadecimal, blanks between them left out.
 fn hex(text: &str) -> Vec<u8> {
     let digits: Vec<u8> = text.chars().filter(|c| !c.is_whitespace()).map(|c| c.to_digit(16).unwrap() as u8).collect();
-    assert!(digits.len() % 2 == 0);
+    assert!(digits.len().is_multiple_of(2));
     digits.chunks(2).map(|pair| pair[0] << 4 | pair[1]).collect()
 }
 
@@ -128,10 +128,8 @@ fn m11_empty_input() {
 /// "M12: M1 with at(0,1), start lend(0,1,2), then move(0,1,3): 55, 1 step, weight 1."
 #[test]
 fn m12_a_run() {
-    let run = hex(
-        "0100 1000 04  0300 1100 000001  0500 1200 0001000102  0000 1300 \
-         0500 1200 0000000103  0000 1300  0000 1400",
-    );
+    let run = hex("0100 1000 04  0300 1100 000001  0500 1200 0001000102  0000 1300 \
+         0500 1200 0000000103  0000 1300  0000 1400");
     let mut work = vec![0xEE; WORK + 8];
     let played = play(&m1(), &run, &mut work);
     // The close of the second step stands behind 5 + 7 + 9 + 4 + 9 bytes.
@@ -146,10 +144,8 @@ fn m12_a_run() {
 /// The same run with lend's end in place of move is played, and hands out(0,2) on.
 #[test]
 fn m12_played_to_the_end() {
-    let run = hex(
-        "0100 1000 04  0300 1100 000001  0500 1200 0001000102  0000 1300 \
-         0500 1200 0101000102  0000 1300  0000 1400",
-    );
+    let run = hex("0100 1000 04  0300 1100 000001  0500 1200 0001000102  0000 1300 \
+         0500 1200 0101000102  0000 1300  0000 1400");
     let mut work = vec![0xEE; WORK];
     let played = play(&m1(), &run, &mut work);
     assert_eq!((played.number, played.first, played.steps, played.weight), (2, 0, 2, 1));

@@ -1,0 +1,127 @@
+//! Places of the paper that cases/edges.txt doesn't reach, each with the reading that the model takes.
+
+use model::{judge, play, Played, WORK};
+
+fn file(records: &[(u16, &[u8])]) -> Vec<u8> {
+    let mut file = Vec::new();
+    for (kind, payload) in records {
+        file.extend((payload.len() as u16).to_le_bytes());
+        file.extend(kind.to_le_bytes());
+        file.extend(*payload);
+    }
+    file
+}
+
+/// The answer, and the facts left.
+fn run(domain: &[u8], records: &[(u16, &[u8])]) -> (Played, Vec<[u8; 8]>) {
+    let mut work = vec![0xA5; WORK];
+    let played = play(domain, &file(records), &mut work);
+    let facts = work.chunks(8).take_while(|fact| fact[7] == 0xFF).map(|fact| fact.try_into().unwrap()).collect();
+    (played, facts)
+}
+
+const fn p(object: u8) -> [u8; 8] {
+    [0, 1, object, 0xFF, 0xFF, 0xFF, 0xFF, 0xFF]
+}
+
+/// p/1; action 0 lasts, over all true p(0); action 1 at once, delete p(0); p[0].
+fn over_all() -> Vec<u8> {
+    file(&[(1, &[1]), (2, &[1, 1]), (3, &[4, 0, 0]), (2, &[1, 0]), (3, &[3, 0, 0]), (4, &[0, 0]), (5, &[])])
+}
+
+/// "An end's conditions are its own and the over-all ones", so an end interferes with an event that
+/// deletes what it needs over all.
+#[test]
+fn an_end_interferes_by_its_over_all_conditions() {
+    let (played, facts) = run(
+        &over_all(),
+        &[
+            (16, &[2]),
+            (17, &[0, 0]),
+            (18, &[0, 0, 0]),
+            (19, &[]),
+            (18, &[1, 0, 0]),
+            (18, &[0, 1, 0]),
+            (19, &[]),
+            (20, &[]),
+        ],
+    );
+    assert_eq!((played.number, played.steps, facts), (56, 1, vec![p(0)]));
+}
+
+/// A start has no over-all conditions: neither must they hold, nor do they interfere. From the next
+/// step on they must hold.
+#[test]
+fn a_start_has_no_over_all_conditions() {
+    let (played, facts) = run(
+        &over_all(),
+        &[(16, &[2]), (17, &[0, 0]), (18, &[0, 0, 0]), (18, &[0, 1, 0]), (19, &[]), (19, &[]), (20, &[])],
+    );
+    assert_eq!((played.number, played.steps, facts), (55, 1, vec![]));
+    let (played, _) = run(&over_all(), &[(16, &[2]), (18, &[0, 0, 0]), (19, &[]), (20, &[])]);
+    assert_eq!((played.number, played.steps), (2, 1));
+}
+
+/// "a literal in both counting once": the end is balanced, not unreachable; and it is once in a
+/// witness.
+#[test]
+fn a_literal_in_both_counts_once() {
+    let balanced =
+        file(&[(1, &[1]), (2, &[1, 1]), (3, &[6, 0, 0]), (3, &[4, 0, 0]), (3, &[8, 0, 0]), (4, &[0, 0]), (5, &[])]);
+    let (mut report, mut witness) = ([0xA5; 8], [0xA5; 8]);
+    let answer = judge(&balanced, &mut report, &mut witness);
+    assert_eq!((answer.number, report), (0, [0, 0, 0, 2, 0, 0, 1, 4]));
+    assert_eq!(witness, [0xA5; 8]);
+
+    // p/1 without a component, q/2 with q[0,FF]: over all and at the end true p(1), at the end true
+    // q(0,1) and add q(0,0)
+    let unbalanced = file(&[
+        (1, &[1]),
+        (1, &[2]),
+        (2, &[2, 1]),
+        (3, &[4, 0, 1]),
+        (3, &[6, 1, 0, 1]),
+        (3, &[6, 0, 1]),
+        (3, &[8, 1, 0, 0]),
+        (4, &[1, 0, 0xFF]),
+        (5, &[]),
+    ]);
+    let mut witness = [0xA5; 24];
+    let answer = judge(&unbalanced, &mut report, &mut witness);
+    assert_eq!([answer.number as usize, answer.first, answer.second, answer.third], [41, 0, 0, 1]);
+    assert_eq!(witness[..8], p(1));
+    assert_eq!(witness[8..16], [1, 2, 0, 1, 0xFF, 0xFF, 0xFF, 0xFF]);
+    assert_eq!(witness[16..], [0xA5; 8]);
+}
+
+/// "a fact deleted and added again is new", also where one event does both, so that it doesn't
+/// interfere with itself.
+#[test]
+fn deleted_and_added_again_is_new() {
+    let domain =
+        file(&[(1, &[1]), (2, &[1, 0]), (3, &[0, 0, 0]), (3, &[2, 0, 0]), (3, &[3, 0, 0]), (4, &[0, 0]), (5, &[])]);
+    let (played, facts) = run(
+        &domain,
+        &[(16, &[3]), (17, &[0, 0]), (17, &[0, 1]), (17, &[0, 2]), (18, &[0, 0, 0]), (19, &[]), (20, &[])],
+    );
+    assert_eq!((played.number, played.steps, played.weight), (2, 1, 1));
+    assert_eq!(facts, vec![p(1), p(2), p(0)]);
+}
+
+/// "50 to 57 leave ... the start facts read so far"; "steps and weight are 0 before"
+#[test]
+fn a_fault_among_the_start_facts() {
+    let (played, facts) = run(&over_all(), &[(16, &[3]), (17, &[0, 0]), (17, &[0, 3]), (19, &[])]);
+    assert_eq!((played.number, played.first, played.steps, played.weight), (51, 11, 0, 0));
+    assert_eq!(facts, vec![p(0)]);
+}
+
+/// The order of rows for one start fact: a wrong length comes before an object out of range, the
+/// relation before both.
+#[test]
+fn order_in_a_start_fact() {
+    for (payload, number) in [(&[] as &[u8], 50), (&[1, 9, 9], 51), (&[0, 9, 9], 50), (&[0, 9], 51)] {
+        let (played, _) = run(&over_all(), &[(16, &[3]), (17, payload)]);
+        assert_eq!((played.number, played.first), (number, 5));
+    }
+}
