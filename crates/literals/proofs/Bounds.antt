@@ -1,17 +1,17 @@
 -- Every record that is read keeps the domain within the bounds of the index. Assumes nothing.
-use mathlib.Core.Path.{_≡_, refl, sym, ap, _∙_}
-use mathlib.Core.Bool.{Bool, true, false, not, _&&_, _||_, cond}
+use mathlib.Core.Path.{_≡_, refl, ap}
+use mathlib.Core.Bool.{Bool, true, false}
 use mathlib.Core.Logic.{_⊎_, inl, inr}
-use mathlib.Core.List.{List, [], _∷_, _++_, map, Memᴰ·of-map, List·Memᴰ·head, List·Memᴰ·tail, List·Memᴰ·not-nil, List·Memᴰ·append-cases, List·Memᴰ·eq-of-singleton}
-use Prim.Native.Nat.{ℕ, zero, suc, _+_, _-_, _≤_, _<_}
+use mathlib.Core.List.{List, [], _∷_, _++_, map, Memᴰ·of-map, List·Memᴰ·head, List·Memᴰ·tail, List·Memᴰ·not-nil, List·Memᴰ·eq-of-singleton}
+use Prim.Native.Nat.{ℕ, suc, _≤_, _<_}
 use native.Mathlib.Omega.{arith}
-use lib.Dec.{eqb, ltb, leb}
-use lib.ListN.{length, drop, getD, length-append, length-drop, length-map, List·getD-eq-default}
-use borrow.Author.Tests.{leb-true, leb-false, eqb-true, eqb-false}
-use Rattle.records.specs.Lists.{In, any, empty}
+use lib.Dec.{eqb, leb}
+use lib.ListN.{length, drop, length-append, length-drop, length-map, List·getD-eq-default}
+use borrow.Author.Tests.{leb-true, leb-false, eqb-true}
+use Rattle.records.specs.Lists.{In}
 use Rattle.records.proofs.Lists.{any-out, getD-in, in-snoc, below-in}
 use Rattle.literals.specs.declared.Variable.{Variable}
-use Rattle.literals.specs.Domain.{variable, roleOf, roleNumber, Literal, Action, Component, Domain, arity}
+use Rattle.literals.specs.Domain.{variable, roleOf, roleNumber, Literal, Action, Domain, arity}
 use Rattle.literals.specs.Decode.{RecordKind, relationRecord, actionRecord, literalRecord, componentRecord, closingRecord, unknownRecord, latest, byte, literalOf, labelOf, componentOf, actionOf, withLiteral, fieldStop, stopOf, extend, noDomain}
 use Rattle.literals.specs.Table.{Bounded}
 use Rattle.literals.proofs.Stops.{Passes, passes, relation-passes, action-passes, LiteralPasses, literal-passes, role-nine, ComponentPasses, component-passes}

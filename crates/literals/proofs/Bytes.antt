@@ -10,7 +10,7 @@ use lib.Dec.{eqb, ltb, leb}
 use lib.ListN.{length, take, drop, getD, drop-of-length-le}
 use lib.Seq.{drop-cons, length-take-le, getD-take}
 use borrow.Author.Tests.{eq-eqb, ne-eqb, eqb-true, eqb-false, le-leb, lt-leb}
-use Rattle.records.specs.Lists.{addIf, all, any, countBy}
+use Rattle.records.specs.Lists.{all, any, countBy}
 use Rattle.records.proofs.Lists.{and-l, and-r, and-i, bool-cases, eqb-comm, count-not, count-map}
 use Rattle.records.proofs.Numbers.{rows-split, cond-or}
 use Rattle.literals.specs.declared.Label.the-variants.{Key as keyed, Counted}

@@ -1,20 +1,18 @@
 -- An index that holds a domain: its counts, its bounds, and what one record leads to. Assumes nothing.
 use mathlib.Core.Path.{_≡_, refl, sym, ap, ap₂, _∙_}
-use mathlib.Core.Bool.{Bool, true, false, not, _&&_, _||_, cond}
+use mathlib.Core.Bool.{true, false, not}
 use mathlib.Core.List.{List, [], _∷_, _++_, map, flatMap, append-nil, append-assoc, List·Memᴰ·head, List·Memᴰ·tail}
-use Prim.Native.Nat.{ℕ, zero, suc, _+_, _-_, _*_, _≤_, _<_}
+use Prim.Native.Nat.{ℕ, suc, _+_, _-_, _*_, _≤_, _<_}
 use native.Mathlib.Nat.{zero-add}
 use native.Mathlib.Omega.{arith}
-use lib.Dec.{eqb, ltb, leb}
 use lib.ListN.{length, take, getD, length-append}
-use borrow.Author.Tests.{le-leb, lt-leb, eq-eqb, ne-eqb}
-use Rattle.records.specs.Lists.{addIf, In, empty, countBy}
+use borrow.Author.Tests.{eq-eqb, ne-eqb}
+use Rattle.records.specs.Lists.{In}
 use Rattle.records.proofs.Lists.{flatMap-in, flatMap-snoc, count-le}
 use Rattle.literals.specs.declared.Index.{Index}
-use Rattle.literals.specs.declared.Taken.{Taken}
 use Rattle.literals.specs.Domain.{Literal, Action, Component, isCounted, keysOf, Domain}
-use Rattle.literals.specs.Decode.{RecordKind, relationRecord, actionRecord, literalRecord, componentRecord, closingRecord, unknownRecord, isUnknown, latest, outOfOrder, atLimit, headStop, byte, literalOf, componentOf, actionOf, withLiteral, fieldStop, stopOf, extend}
-use Rattle.literals.specs.Table.{allLiterals, componentRow, pad, startsFrom, sortNumber, indexOf, Bounded, Holds, Shaped, behind, takenOf}
+use Rattle.literals.specs.Decode.{RecordKind, isUnknown, latest, outOfOrder, atLimit, headStop, withLiteral, fieldStop, stopOf, extend}
+use Rattle.literals.specs.Table.{allLiterals, componentRow, pad, startsFrom, sortNumber, indexOf, Holds, Shaped, behind, takenOf}
 use Rattle.literals.proofs.Bounds.{arity-six}
 use Rattle.literals.proofs.Tables.{pad-at, take-pad, length-pad, length-components}
 

@@ -2,7 +2,7 @@
 use mathlib.Core.Path.{_≡_, refl, sym, ap, _∙_}
 use mathlib.Core.Bool.{Bool, true, false, cond}
 use mathlib.Core.List.{List, [], _∷_, _++_, map, flatMap, map-append, append-nil}
-use Prim.Native.Nat.{ℕ, zero, suc, _+_, _*_, _≤_, _<_}
+use Prim.Native.Nat.{ℕ, _+_, _*_, _≤_, _<_}
 use native.Mathlib.Nat.{zero-add}
 use native.Mathlib.Omega.{arith}
 use lib.Dec.{eqb}
@@ -12,8 +12,8 @@ use borrow.Author.Tests.{eqb-true}
 use Rattle.records.proofs.Lists.{flatMap-snoc, map-back}
 use Rattle.literals.specs.declared.Index.{Index}
 use Rattle.literals.specs.declared.Label.the-variants.{Key as keyed, Counted}
-use Rattle.literals.specs.Domain.{key, Literal, Action, Component, keysOf, Domain}
-use Rattle.literals.specs.Decode.{relationRecord, actionRecord, literalRecord, componentRecord, byte, literalOf, labelOf, componentOf, actionOf, withLiteral, extend}
+use Rattle.literals.specs.Domain.{key, Literal, Action, keysOf, Domain}
+use Rattle.literals.specs.Decode.{relationRecord, actionRecord, literalRecord, componentRecord, byte, literalOf, labelOf, componentOf, actionOf, extend}
 use Rattle.literals.specs.Table.{rowOf, labelNumber, allLiterals, componentRow, pad, startsFrom, sortNumber, indexOf, Holds}
 use Rattle.literals.proofs.Tables.{pad-more, pad-row, length-components}
 use Rattle.literals.proofs.Bounds.{length-withLiteral}

@@ -6,16 +6,15 @@ use mathlib.Core.List.{List, [], _∷_, _++_}
 use Prim.Native.Nat.{ℕ, zero, suc, _+_, _≤_}
 use native.Mathlib.Omega.{arith}
 use lib.Dec.{eqb, ltb, leb}
-use lib.ListN.{length, drop}
-use borrow.Author.Tests.{eqb-false, leb-true}
-use Rattle.records.specs.Lists.{any, empty}
+use lib.ListN.{length}
+use borrow.Author.Tests.{eqb-false}
+use Rattle.records.specs.Lists.{empty}
 use Rattle.records.specs.declared.Record.{Record}
 use Rattle.records.specs.declared.Record.the-variants.{Whole, Cut, End}
 use Rattle.records.specs.Record.{recordAt, payload}
-use Rattle.records.proofs.Lists.{and-l, and-r}
-use Rattle.records.proofs.Numbers.{numberOf, numbered, by-rows}
-use Rattle.literals.specs.Domain.{Component, keysOf, labelsFit, Domain, arity}
-use Rattle.literals.specs.Decode.{maxFile, RecordKind, relationRecord, actionRecord, literalRecord, componentRecord, closingRecord, unknownRecord, kindOf, isUnknown, isClosing, latest, outOfOrder, atLimit, headStop, byte, relationStop, actionStop, literalOf, repeats, contradicts, noRole, literalStop, componentOf, labelStop, componentStop, closingStop, fieldStop, stopOf, extend, Refusal, refuse, Decoded, refused, domain, Reading, ReadTurn, goOn, finish, readRecord, readFound, readStep, Finished, readFrom, fromStart, readFile, decode}
+use Rattle.records.proofs.Numbers.{numberOf, numbered, by-numbers}
+use Rattle.literals.specs.Domain.{keysOf, labelsFit, Domain}
+use Rattle.literals.specs.Decode.{maxFile, RecordKind, relationRecord, actionRecord, literalRecord, componentRecord, closingRecord, unknownRecord, kindOf, isUnknown, isClosing, outOfOrder, atLimit, headStop, byte, relationStop, actionStop, literalStop, componentOf, labelStop, componentStop, closingStop, fieldStop, stopOf, extend, Refusal, refuse, Decoded, refused, domain, Reading, ReadTurn, goOn, finish, readRecord, readFound, readStep, Finished, readFrom, fromStart, readFile, decode}
 use Rattle.literals.proofs.Stops.{literalRows, componentRows}
 
 -- ---- the number that stops a record
@@ -30,7 +29,7 @@ Stop n = (n ≡ 0) ⊎ Refuses n
 
 -- rows with such numbers stop a record by one of them
 stop-rows : (rows : List (Bool × ℕ)) (n : ℕ) → numbered (λ m. leb 9 m && leb m 23) rows ≡ true → Stop n → Stop (numberOf rows n)
-stop-rows rows n t h = by-rows Stop (λ m. leb 9 m && leb m 23) (λ m l. inr (leb-true 9 m (and-l _ _ l), leb-true m 23 (and-r (leb 9 m) _ l))) rows n t (λ g. h)
+stop-rows rows n t h = by-numbers 9 23 Stop (λ m l u. inr (l, u)) rows n t (λ g. h)
 
 stop-head : (D : Domain) (k : RecordKind) → Stop (headStop D k)
 unfolding headStop

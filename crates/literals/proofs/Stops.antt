@@ -1,14 +1,14 @@
 -- What is known of a record that no number stops. Assumes nothing.
 use mathlib.Core.Path.{_≡_, refl}
-use mathlib.Core.Bool.{Bool, true, false, not, _&&_, _||_, cond}
+use mathlib.Core.Bool.{Bool, true, false, not, cond}
 use mathlib.Core.List.{List, [], _∷_, _++_}
 use Prim.Native.Nat.{ℕ, _+_, _≤_, _<_}
 use native.Mathlib.Omega.{arith}
 use lib.Dec.{eqb, ltb, leb}
 use lib.ListN.{length, drop}
 use borrow.Author.Tests.{ltb-false, leb-false, eqb-true, eq-eqb}
-use Rattle.records.specs.Lists.{any, empty}
-use Rattle.records.proofs.Lists.{not-false, clash}
+use Rattle.records.specs.Lists.{any}
+use Rattle.records.proofs.Lists.{not-false, clash, or-out}
 use Rattle.records.proofs.Numbers.{none-passes}
 use Rattle.literals.specs.Domain.{Action, Component, keysOf, labelsFit, Domain, arity}
 use Rattle.literals.specs.Decode.{RecordKind, latest, isUnknown, outOfOrder, atLimit, headStop, byte, relationStop, actionStop, literalOf, repeats, contradicts, noRole, literalStop, componentOf, labelStop, componentStop, fieldStop, stopOf}
@@ -82,11 +82,7 @@ literal-passes D p e =
     }
 
 pub role-nine : (a : Action) (r : ℕ) → noRole a r ≡ false → r ≤ 9
-role-nine a r e = go (ltb 9 r) refl e
-  where
-    go : (b : Bool) → ltb 9 r ≡ b → b || (ltb 3 r && not (a .lasting)) ≡ false → r ≤ 9
-    go true q z = absurd (clash {b = true} refl z)
-    go false q z = ltb-false 9 r q
+role-nine a r e = ltb-false 9 r (or-out (ltb 9 r) _ e .0)
 
 pub record ComponentPasses (D : Domain) (p : List ℕ) : Type 0 where
   pub long : 1 ≤ length p

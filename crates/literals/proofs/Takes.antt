@@ -1,26 +1,24 @@
 -- What a record of each kind leads to, in the shape of the code's tests. Assumes nothing.
 use mathlib.Core.Path.{_≡_, refl, sym, ap, ap₂, _∙_}
-use mathlib.Core.Bool.{Bool, true, false, not, _&&_, _||_, cond, or-true}
+use mathlib.Core.Bool.{Bool, true, false, not, _&&_, cond, or-true}
 use mathlib.Core.List.{List, [], _∷_, _++_, map, flatMap, List·Memᴰ·head, List·Memᴰ·tail}
 use Prim.Native.Nat.{ℕ, zero, suc, _+_, _-_, _*_, _≤_, _<_}
 use native.Mathlib.Omega.{arith}
 use lib.Dec.{eqb, ltb, leb}
-use lib.ListN.{length, set, take, drop, getD, length-map, length-drop, length-append}
+use lib.ListN.{length, take, drop, getD, length-map, length-drop, length-append}
 use borrow.Author.Tests.{le-leb, lt-leb, eq-eqb, ne-eqb, eqb-true, eqb-false, ltb-false, leb-false}
 use Rattle.records.specs.Lists.{In, any, countBy, empty}
 use Rattle.records.specs.Memory.{over}
 use Rattle.records.proofs.Lists.{not-false, any-out, empty-no, empty-yes, count-le}
 use Rattle.records.proofs.Numbers.{none-passes, rows-split, cond-or}
 use Rattle.literals.specs.declared.Index.{Index}
-use Rattle.literals.specs.declared.Taken.{Taken}
-use Rattle.literals.specs.Domain.{Literal, Action, Component, isCounted, keysOf, Domain, arity}
-use Rattle.literals.specs.Decode.{RecordKind, relationRecord, actionRecord, literalRecord, componentRecord, closingRecord, unknownRecord, latest, outOfOrder, atLimit, headStop, byte, relationStop, actionStop, literalOf, repeats, contradicts, literalStop, labelStop, componentStop, closingStop, fieldStop, stopOf, extend, actionOf, labelOf, componentOf}
+use Rattle.literals.specs.Domain.{Literal, Action, Component, isCounted, keysOf, Domain}
+use Rattle.literals.specs.Decode.{relationRecord, actionRecord, literalRecord, componentRecord, closingRecord, unknownRecord, latest, outOfOrder, headStop, byte, relationStop, actionStop, literalOf, repeats, contradicts, literalStop, labelStop, componentStop, closingStop, fieldStop, stopOf, extend, actionOf, labelOf, componentOf}
 use Rattle.literals.specs.Table.{literalRow, allLiterals, tableBytes, pad, rowsIn, rowsRank, sortNumber, indexOf, literalFields, componentFields, Holds, takenOf}
 use Rattle.literals.proofs.Stops.{action-passes}
 use Rattle.literals.proofs.Bounds.{arity-six}
 use Rattle.literals.proofs.Tables.{pad-at, rows-components, any-component, Comparable, kept, rows-literals, literals-stop}
 use Rattle.literals.proofs.Held.{stop-order, stop-limit, stop-field, latest-rows, relations-is, actions-is, rows-is, components-is, keys-is, parts-is, variables-is, sorts-is, arities-taken, literals-in, start-is, stopped-at, done}
-use Rattle.literals.proofs.Indexed.{index-relation, index-action}
 
 -- a bound on the numbers of a list holds of what is taken of it
 six-taken : (l : List ℕ) (n i : ℕ) → ((i : ℕ) → getD l i 0 ≤ 6) → getD (take n l) i 0 ≤ 6

@@ -1,26 +1,25 @@
 -- The table with one record more. Assumes nothing.
 use mathlib.Core.Path.{_≡_, refl, sym, ap, ap₂, subst, _∙_}
 use mathlib.Core.Bool.{Bool, true, false, cond}
-use mathlib.Core.List.{List, [], _∷_, _++_, map, flatMap, append-nil}
-use Prim.Native.Nat.{ℕ, suc, _+_, _-_, _*_, _≤_, _<_}
+use mathlib.Core.List.{List, [], _∷_, _++_, flatMap, append-nil}
+use Prim.Native.Nat.{ℕ, _-_, _*_, _≤_, _<_}
 use native.Mathlib.Omega.{arith}
 use lib.Dec.{eqb}
 use lib.ListN.{length, getD}
 use lib.Seq.{paste}
 use borrow.Author.Tests.{eq-eqb, ne-eqb}
-use Rattle.records.specs.Lists.{In}
 use Rattle.records.specs.Memory.{over}
 use Rattle.records.proofs.Lists.{flatMap-snoc, map-back}
 use Rattle.literals.specs.declared.Variable.{Variable}
 use Rattle.literals.specs.declared.Index.{Index}
 use Rattle.literals.specs.declared.Taken.{Taken}
-use Rattle.literals.specs.Domain.{variable, roleOf, Literal, Action, Domain}
-use Rattle.literals.specs.Decode.{RecordKind, relationRecord, actionRecord, literalRecord, componentRecord, closingRecord, unknownRecord, kindOf, latest, byte, literalOf, literalStop, withLiteral, actionOf, fieldStop, stopOf, extend}
+use Rattle.literals.specs.Domain.{variable, Domain}
+use Rattle.literals.specs.Decode.{RecordKind, relationRecord, actionRecord, literalRecord, componentRecord, closingRecord, unknownRecord, kindOf, latest, byte, literalOf, literalStop, actionOf, stopOf, extend}
 use Rattle.literals.specs.Table.{rowOf, literalRow, allLiterals, tableBytes, indexOf, Holds, behind, takenOf}
 use Rattle.literals.proofs.Stops.{literal-passes, role-nine}
 use Rattle.literals.proofs.Bounds.{role-number}
 use Rattle.literals.proofs.Tables.{over-row, length-literals}
-use Rattle.literals.proofs.Held.{literals-snoc, literals-more, literals-in, behind-stop, behind-done, rows-is, actions-is, components-is, stopped-at, done}
+use Rattle.literals.proofs.Held.{literals-snoc, literals-more, literals-in, behind-stop, behind-done, rows-is, actions-is, stopped-at, done}
 use Rattle.literals.proofs.Takes.{literal-early, literal-late, literal-full, literal-number}
 
 -- a record that is stopped leaves the table

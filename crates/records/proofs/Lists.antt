@@ -34,6 +34,11 @@ pub or-cases : (a b : Bool) → a || b ≡ true → (a ≡ true) ⊎ (b ≡ true
 or-cases true b t = inl refl
 or-cases false b t = inr t
 
+-- of two tests neither
+pub or-out : (a b : Bool) → a || b ≡ false → (a ≡ false) × (b ≡ false)
+or-out true b t = absurd (true≢false t)
+or-out false b t = (refl, t)
+
 pub bool-cases : (b : Bool) → (b ≡ true) ⊎ (b ≡ false)
 bool-cases true = inl refl
 bool-cases false = inr refl

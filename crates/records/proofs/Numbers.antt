@@ -1,11 +1,11 @@
 -- Rows of tests, each with its number: the first test that passes decides. Assumes nothing.
 use mathlib.Core.Path.{_≡_, refl}
-use mathlib.Core.Bool.{Bool, true, false, _||_, cond}
+use mathlib.Core.Bool.{Bool, true, false, _&&_, _||_, cond}
 use mathlib.Core.List.{List, [], _∷_}
-use Prim.Native.Nat.{ℕ, zero, suc}
+use Prim.Native.Nat.{ℕ, zero, suc, _≤_}
 use native.Mathlib.Omega.{arith}
-use lib.Dec.{eqb, ltb}
-use borrow.Author.Tests.{ltb-true, ne-eqb}
+use lib.Dec.{eqb, ltb, leb}
+use borrow.Author.Tests.{ltb-true, leb-true, ne-eqb}
 use Rattle.records.specs.Lists.{all}
 use Rattle.records.proofs.Lists.{and-l, and-r}
 
@@ -37,6 +37,11 @@ by-rows P ok h (row ∷ rows) n t f = go (row .0) refl (by-rows P ok h rows n (a
     go : (b : Bool) → row .0 ≡ b → ((((i : ℕ) → testOf rows i ≡ false) → P n) → P (numberOf rows n)) → P (cond b (row .1) (numberOf rows n))
     go true e ih = h (row .1) (and-l _ _ t)
     go false e ih = ih (λ g. f (none e g))
+
+-- the same of rows with numbers from a to b
+pub by-numbers : (a b : ℕ) (P : ℕ → Type 0) → ((m : ℕ) → a ≤ m → m ≤ b → P m) → (rows : List (Bool × ℕ)) (n : ℕ) → numbered (λ m. leb a m && leb m b) rows ≡ true
+    → (((i : ℕ) → testOf rows i ≡ false) → P n) → P (numberOf rows n)
+by-numbers a b P h = by-rows P (λ m. leb a m && leb m b) (λ m t. h m (leb-true a m (and-l _ _ t)) (leb-true m b (and-r (leb a m) _ t)))
 
 -- where the number is 0, no test passes
 pub none-passes : (rows : List (Bool × ℕ)) (n : ℕ) → numbered (ltb 0) rows ≡ true → numberOf rows n ≡ 0 → ((i : ℕ) → testOf rows i ≡ false) × (n ≡ 0)
