@@ -86,11 +86,14 @@ fact-tested D p b =
     let l = eqb-true (length b) (1 + arity D (byte b 0)) (not-false _ (g 3)) in
     let n : length (map object (drop 1 b)) ≡ arity D (byte b 0) = simp (length-map, length-drop) (omega arith) in
     let o = or-out (eqb (p .objects) 0) (p .tally .begun) (g 0) in
-    inl (refl, record {
-      objects = eqb-false (p .objects) 0 (o .0);
-      early = o .1;
-      fact = and-i (and-i (lt-ltb (byte b 0) (length (D .arities)) (leb-false (length (D .arities)) (byte b 0) (g 2))) (eq-eqb (length (map object (drop 1 b))) (arity D (byte b 0)) n)) (among-of (p .objects) (drop 1 b) (g 4));
-    }))
+    inl (
+      refl,
+      record {
+        objects = eqb-false (p .objects) 0 (o .0);
+        early = o .1;
+        fact = and-i (and-i (lt-ltb (byte b 0) (length (D .arities)) (leb-false (length (D .arities)) (byte b 0) (g 2))) (eq-eqb (length (map object (drop 1 b))) (arity D (byte b 0)) n)) (among-of (p .objects) (drop 1 b) (g 4));
+      },
+    ))
 
 -- ---- kind 18
 
@@ -125,11 +128,14 @@ event-tested D p b =
     let h1 : ltb (byte b 1) (length (D .actions)) ≡ true = lt-ltb (byte b 1) (length (D .actions)) (leb-false (length (D .actions)) (byte b 1) (g 3)) in
     let h2 : hasMoment a (momentOf (byte b 0)) ≡ true = moment-of (eqb (byte b 0) 1) a (g 5) in
     let h3 : eqb (length (map object (drop 2 b))) (a .vars) ≡ true = eq-eqb (length (map object (drop 2 b))) (a .vars) n in
-    inl (refl, record {
-      objects = eqb-false (p .objects) 0 (g 0);
-      event = and-i (and-i (and-i (and-i h1 h2) h3) (not-false _ (g 7))) (among-of (p .objects) (drop 2 b) (g 6));
-      fresh = g 8;
-    }))
+    inl (
+      refl,
+      record {
+        objects = eqb-false (p .objects) 0 (g 0);
+        event = and-i (and-i (and-i (and-i h1 h2) h3) (not-false _ (g 7))) (among-of (p .objects) (drop 2 b) (g 6));
+        fresh = g 8;
+      },
+    ))
   where
     a : Action
     a = action D (byte b 1)
