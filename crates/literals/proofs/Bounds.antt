@@ -1,52 +1,29 @@
 -- Every record that is read keeps the domain within the bounds of the index. Assumes nothing.
-use mathlib.Core.Path.{_≡_, refl, sym, ap, _∙_}
-use mathlib.Core.Bool.{Bool, true, false, not, _&&_, _||_, cond}
+use mathlib.Core.Path.{_≡_, refl, ap}
+use mathlib.Core.Bool.{Bool, true, false}
 use mathlib.Core.Logic.{_⊎_, inl, inr}
-use mathlib.Core.List.{List, [], _∷_, _++_, map, Memᴰ·of-map, List·Memᴰ·head, List·Memᴰ·tail, List·Memᴰ·not-nil, List·Memᴰ·append-cases, List·Memᴰ·eq-of-singleton}
-use Prim.Native.Nat.{ℕ, zero, suc, _+_, _-_, _≤_, _<_}
+use mathlib.Core.List.{List, [], _∷_, _++_, map, Memᴰ·of-map, List·Memᴰ·head, List·Memᴰ·tail, List·Memᴰ·not-nil, List·Memᴰ·eq-of-singleton}
+use Prim.Native.Nat.{ℕ, suc, _≤_, _<_}
 use native.Mathlib.Omega.{arith}
-use lib.Dec.{eqb, ltb, leb}
-use lib.ListN.{length, drop, getD, length-append, length-drop, length-map, List·getD-eq-default}
-use borrow.Author.Tests.{leb-true, leb-false, eqb-true, eqb-false}
-use Rattle.records.specs.Lists.{In, any, empty}
-use Rattle.records.proofs.Lists.{any-out, getD-in, and-l, and-r}
+use lib.Dec.{eqb, leb}
+use lib.ListN.{length, drop, length-append, length-drop, length-map, List·getD-eq-default}
+use borrow.Author.Tests.{leb-true, leb-false, eqb-true}
+use Rattle.records.specs.Lists.{In}
+use Rattle.records.proofs.Lists.{any-out, getD-in, in-snoc, below-in}
 use Rattle.literals.specs.declared.Variable.{Variable}
-use Rattle.literals.specs.Domain.{variable, roleOf, roleNumber, Literal, Action, Component, Domain, arity}
+use Rattle.literals.specs.Domain.{variable, roleOf, roleNumber, Literal, Action, Domain, arity}
 use Rattle.literals.specs.Decode.{RecordKind, relationRecord, actionRecord, literalRecord, componentRecord, closingRecord, unknownRecord, latest, byte, literalOf, labelOf, componentOf, actionOf, withLiteral, fieldStop, stopOf, extend, noDomain}
 use Rattle.literals.specs.Table.{Bounded}
 use Rattle.literals.proofs.Stops.{Passes, passes, relation-passes, action-passes, LiteralPasses, literal-passes, role-nine, ComponentPasses, component-passes}
 
 -- ---- the role bytes up to 9
 
--- a test of every number below n
-abbrev pub allBelow : ℕ → (ℕ → Bool) → Bool
-allBelow zero p = true
-allBelow (suc n) p = p n && allBelow n p
-
-pub below-in : (n : ℕ) (p : ℕ → Bool) → allBelow n p ≡ true → (k : ℕ) → k < n → p k ≡ true
-below-in zero p t k h = absurd (omega arith)
-below-in (suc n) p t k h = go (eqb k n) refl (λ l. below-in n p (and-r (p n) _ t) k l)
-  where
-    go : (b : Bool) → eqb k n ≡ b → (k < n → p k ≡ true) → p k ≡ true
-    go true q ih = ap p (eqb-true k n q) ∙ and-l _ _ t
-    go false q ih = let ne = eqb-false k n q in ih (omega arith)
-
 -- a role byte up to 9 is the number of its role
 pub role-number : (r : ℕ) → r ≤ 9 → roleNumber (roleOf r) ≡ r
 unfolding roleOf
 role-number r h = eqb-true _ r (below-in 10 (λ n. eqb (roleNumber (roleOf n)) n) refl r (omega arith))
 
--- ---- lists
-
-in-snoc : {A : Type 0} {P : A → Type 0} (xs : List A) (x : A) → ((a : A) → In a xs → P a) → P x → (a : A) → In a (xs ++ (x ∷ [])) → P a
-in-snoc {A} {P} xs x h hx a m = go (List·Memᴰ·append-cases xs m)
-  where
-    go : In a xs ⊎ In a (x ∷ []) → P a
-    go (inl n) = h a n
-    go (inr n) = rw (List·Memᴰ·eq-of-singleton n) hx
-
-length-snoc : {A : Type 0} (xs : List A) (x : A) → length (xs ++ (x ∷ [])) ≡ length xs + 1
-length-snoc xs x = length-append xs (x ∷ [])
+-- ---- arities
 
 -- the arity of a relation of the domain is one of its arities, or 0
 pub arity-six : (D : Domain) → ((n : ℕ) → In n (D .arities) → n ≤ 6) → (r : ℕ) → arity D r ≤ 6
@@ -111,7 +88,7 @@ unfolding fieldStop
 literal-fits D p h e f =
     record {
       counts = f .counts;
-      sizes = let n = length-snoc (last .lits) (literalOf p) in let r = leb-false 64 (length (last .lits)) (ok .room) in omega arith;
+      sizes = let n = length-append (last .lits) (literalOf p ∷ []) in let r = leb-false 64 (length (last .lits)) (ok .room) in omega arith;
       arguments = in-snoc {P = λ l. length (l .atom .args) ≤ 6} (last .lits) (literalOf p) (f .arguments) six;
       variables = in-snoc {P = λ l. (v : Variable) → In v (l .atom .args) → v .0 < 255} (last .lits) (literalOf p) (f .variables) low;
       roles = in-snoc {P = λ l. (roleNumber (l .role) ≤ 9) × (roleOf (roleNumber (l .role)) ≡ l .role)} (last .lits) (literalOf p) (f .roles) ranged;
@@ -149,7 +126,7 @@ pub bounded-extend : (D : Domain) (k : RecordKind) (p : List ℕ) → Bounded D 
 unfolding extend fieldStop
 bounded-extend D relationRecord p h e =
     let ok = passes D relationRecord p e in
-    let n = length-snoc (D .arities) (byte p 0) in
+    let n = length-append (D .arities) (byte p 0 ∷ []) in
     let r = leb-false 64 (length (D .arities)) (ok .room) in
     record {
       relations = omega arith;
@@ -165,7 +142,7 @@ bounded-extend D relationRecord p h e =
     }
 bounded-extend D actionRecord p h e =
     let ok = passes D actionRecord p e in
-    let n = length-snoc (D .actions) (actionOf p) in
+    let n = length-append (D .actions) (actionOf p ∷ []) in
     let r = leb-false 64 (length (D .actions)) (ok .room) in
     bounded-actions D (D .actions ++ (actionOf p ∷ [])) h (omega arith)
     (in-snoc {P = Fits} (D .actions) (actionOf p) (fits-of D h)
@@ -186,7 +163,7 @@ bounded-extend D literalRecord p h e =
     go a (inr m) = rw (m .1) (literal-fits D p h e (fits-of D h (latest (D .actions)) (m .0)))
 bounded-extend D componentRecord p h e =
     let ok = passes D componentRecord p e in
-    let n = length-snoc (D .template) (componentOf p) in
+    let n = length-append (D .template) (componentOf p ∷ []) in
     let r = leb-false 16 (length (D .template)) (ok .room) in
     record {
       relations = h .relations;

@@ -10,8 +10,9 @@ use lib.Dec.{eqb, ltb, leb}
 use lib.ListN.{length, take, drop, getD, drop-of-length-le}
 use lib.Seq.{drop-cons, length-take-le, getD-take}
 use borrow.Author.Tests.{eq-eqb, ne-eqb, eqb-true, eqb-false, le-leb, lt-leb}
-use Rattle.records.specs.Lists.{addIf, all, any, countBy}
-use Rattle.records.proofs.Lists.{and-l, and-r, and-i, bool-cases, eqb-comm}
+use Rattle.records.specs.Lists.{all, any, countBy}
+use Rattle.records.proofs.Lists.{and-l, and-r, and-i, bool-cases, eqb-comm, count-not, count-map}
+use Rattle.records.proofs.Numbers.{rows-split, cond-or}
 use Rattle.literals.specs.declared.Label.the-variants.{Key as keyed, Counted}
 use Rattle.literals.specs.Domain.{key, isKey, isCounted, keyBelow, eachKeyOnce, labelsFit}
 use Rattle.literals.specs.Decode.{byte, labelOf, labelStop}
@@ -79,31 +80,11 @@ pub literal-by : (arities : List ℕ) (vars sort : ℕ) (p : List ℕ)
 unfolding literalFields argumentsStop
 literal-by arities vars sort p =
     ap (cond (ltb (length p) 2) 12)
-    (steps (ltb 9 (byte p 0)) (ltb 3 (byte p 0) && not (eqb sort 1)) (leb (length arities) (byte p 1)) (not (eqb (length p) (2 + getD arities (byte p 1) 0)))
-    (cond (any (leb vars) (drop 2 p)) 18 0))
-  where
-    steps : (a b c d : Bool) (z : ℕ) → cond a 16 (cond b 16 (cond c 17 (cond d 12 z)))
-        ≡ cond (a || b) 16 (cond (eqb (cond c 17 (cond d 12 0)) 0) z (cond c 17 (cond d 12 0)))
-    steps true b c d z = refl
-    steps false true c d z = refl
-    steps false false true d z = refl
-    steps false false false true z = refl
-    steps false false false false z = refl
+    (sym (cond-or (ltb 9 (byte p 0)) (ltb 3 (byte p 0) && not (eqb sort 1)) 16 _)
+    ∙ ap (cond (ltb 9 (byte p 0) || (ltb 3 (byte p 0) && not (eqb sort 1))) 16)
+    (rows-split ((leb (length arities) (byte p 1), 17) ∷ (not (eqb (length p) (2 + getD arities (byte p 1) 0)), 12) ∷ []) (cond (any (leb vars) (drop 2 p)) 18 0) refl))
 
 -- ---- labels, as bytes
-
-count-map : {A B : Type 0} (f : A → B) (p : B → Bool) (q : A → Bool) → ((a : A) → p (f a) ≡ q a) → (l : List A) → countBy p (map f l) ≡ countBy q l
-count-map f p q h [] = refl
-count-map f p q h (x ∷ xs) = ap₂ addIf (h x) (count-map f p q h xs)
-
-count-not : {A : Type 0} (p : A → Bool) (l : List A) → countBy (λ a. not (p a)) l + countBy p l ≡ length l
-count-not p [] = refl
-count-not p (x ∷ xs) = go (p x) (count-not p xs)
-  where
-    go : (t : Bool) → countBy (λ a. not (p a)) xs + countBy p xs ≡ length xs
-        → addIf (not t) (countBy (λ a. not (p a)) xs) + addIf t (countBy p xs) ≡ suc (length xs)
-    go true h = omega arith
-    go false h = omega arith
 
 label-counted : (b : ℕ) → isCounted (labelOf b) ≡ eqb 255 b
 label-counted b = go (eqb b 255) ∙ eqb-comm b 255

@@ -1,41 +1,20 @@
 -- An index that holds a domain: its counts, its bounds, and what one record leads to. Assumes nothing.
 use mathlib.Core.Path.{_≡_, refl, sym, ap, ap₂, _∙_}
-use mathlib.Core.Bool.{Bool, true, false, not, _&&_, _||_, cond}
+use mathlib.Core.Bool.{true, false, not}
 use mathlib.Core.List.{List, [], _∷_, _++_, map, flatMap, append-nil, append-assoc, List·Memᴰ·head, List·Memᴰ·tail}
-use Prim.Native.Nat.{ℕ, zero, suc, _+_, _-_, _*_, _≤_, _<_}
+use Prim.Native.Nat.{ℕ, suc, _+_, _-_, _*_, _≤_, _<_}
 use native.Mathlib.Nat.{zero-add}
 use native.Mathlib.Omega.{arith}
-use lib.Dec.{eqb, ltb, leb}
 use lib.ListN.{length, take, getD, length-append}
-use borrow.Author.Tests.{le-leb, lt-leb, eq-eqb, ne-eqb}
-use Rattle.records.specs.Lists.{addIf, In, empty, countBy}
-use Rattle.records.proofs.Lists.{flatMap-in}
+use borrow.Author.Tests.{eq-eqb, ne-eqb}
+use Rattle.records.specs.Lists.{In}
+use Rattle.records.proofs.Lists.{flatMap-in, flatMap-snoc, count-le}
 use Rattle.literals.specs.declared.Index.{Index}
-use Rattle.literals.specs.declared.Taken.{Taken}
 use Rattle.literals.specs.Domain.{Literal, Action, Component, isCounted, keysOf, Domain}
-use Rattle.literals.specs.Decode.{RecordKind, relationRecord, actionRecord, literalRecord, componentRecord, closingRecord, unknownRecord, isUnknown, latest, outOfOrder, atLimit, headStop, byte, literalOf, componentOf, actionOf, withLiteral, fieldStop, stopOf, extend}
-use Rattle.literals.specs.Table.{allLiterals, componentRow, pad, startsFrom, sortNumber, indexOf, Bounded, Holds, Shaped, behind, takenOf}
+use Rattle.literals.specs.Decode.{RecordKind, isUnknown, latest, outOfOrder, atLimit, headStop, withLiteral, fieldStop, stopOf, extend}
+use Rattle.literals.specs.Table.{allLiterals, componentRow, pad, startsFrom, sortNumber, indexOf, Holds, Shaped, behind, takenOf}
 use Rattle.literals.proofs.Bounds.{arity-six}
 use Rattle.literals.proofs.Tables.{pad-at, take-pad, length-pad, length-components}
-
--- ---- counts of lists
-
-pub empty-no : {A : Type 0} (l : List A) → 0 < length l → empty l ≡ false
-empty-no [] h = absurd (omega arith)
-empty-no (x ∷ xs) h = refl
-
-pub empty-yes : {A : Type 0} (l : List A) → length l ≤ 0 → empty l ≡ true
-empty-yes [] h = refl
-empty-yes (x ∷ xs) h = absurd (omega arith)
-
--- how many pass is at most how many there are
-pub count-le : {A : Type 0} (p : A → Bool) (l : List A) → countBy p l ≤ length l
-count-le p [] = omega arith
-count-le p (x ∷ xs) = go (p x) (count-le p xs)
-  where
-    go : (b : Bool) → countBy p xs ≤ length xs → addIf b (countBy p xs) ≤ suc (length xs)
-    go true h = omega arith
-    go false h = omega arith
 
 -- ---- the number that stops a record
 
@@ -73,9 +52,8 @@ rows-snoc n (b ∷ bs) a =
     ap {B = List ℕ} (λ r. n ∷ r) (rows-snoc (n + length (b .lits)) bs a ∙ ap (λ m. startsFrom (n + length (b .lits)) bs ++ (m ∷ [])) z)
 
 pub literals-snoc : (as′ : List Action) (a : Action) → allLiterals (as′ ++ (a ∷ [])) ≡ allLiterals as′ ++ a .lits
-unfolding allLiterals flatMap
-literals-snoc [] a = append-nil (a .lits)
-literals-snoc (b ∷ bs) a = ap (λ r. b .lits ++ r) (literals-snoc bs a) ∙ sym (append-assoc (b .lits) (allLiterals bs) (a .lits))
+unfolding allLiterals
+literals-snoc as′ a = flatMap-snoc (λ (a : Action). a .lits) as′ a
 
 pub literals-more : (l : Literal) (as′ : List Action) → 0 < length as′ → allLiterals (withLiteral l as′) ≡ allLiterals as′ ++ (l ∷ [])
 unfolding allLiterals flatMap

@@ -1,29 +1,23 @@
 -- The index with one record more. Assumes nothing.
-use mathlib.Core.Path.{_≡_, refl, sym, ap, ap₂, _∙_}
+use mathlib.Core.Path.{_≡_, refl, sym, ap, _∙_}
 use mathlib.Core.Bool.{Bool, true, false, cond}
-use mathlib.Core.List.{List, [], _∷_, _++_, map, flatMap, append-nil, append-assoc}
-use Prim.Native.Nat.{ℕ, zero, suc, _+_, _*_, _≤_, _<_}
+use mathlib.Core.List.{List, [], _∷_, _++_, map, flatMap, map-append, append-nil}
+use Prim.Native.Nat.{ℕ, _+_, _*_, _≤_, _<_}
 use native.Mathlib.Nat.{zero-add}
 use native.Mathlib.Omega.{arith}
 use lib.Dec.{eqb}
 use lib.ListN.{length, set, length-append, length-map}
 use lib.Seq.{paste}
 use borrow.Author.Tests.{eqb-true}
+use Rattle.records.proofs.Lists.{flatMap-snoc, map-back}
 use Rattle.literals.specs.declared.Index.{Index}
 use Rattle.literals.specs.declared.Label.the-variants.{Key as keyed, Counted}
-use Rattle.literals.specs.Domain.{key, Literal, Action, Component, keysOf, Domain}
-use Rattle.literals.specs.Decode.{relationRecord, actionRecord, literalRecord, componentRecord, byte, literalOf, labelOf, componentOf, actionOf, withLiteral, extend}
+use Rattle.literals.specs.Domain.{key, Literal, Action, keysOf, Domain}
+use Rattle.literals.specs.Decode.{relationRecord, actionRecord, literalRecord, componentRecord, byte, literalOf, labelOf, componentOf, actionOf, extend}
 use Rattle.literals.specs.Table.{rowOf, labelNumber, allLiterals, componentRow, pad, startsFrom, sortNumber, indexOf, Holds}
 use Rattle.literals.proofs.Tables.{pad-more, pad-row, length-components}
 use Rattle.literals.proofs.Bounds.{length-withLiteral}
 use Rattle.literals.proofs.Held.{rows-snoc, literals-snoc, literals-more, starts-more, map-more, starts-length}
-
-map-snoc : {A B : Type 0} (f : A → B) (xs : List A) (x : A) → map f (xs ++ (x ∷ [])) ≡ map f xs ++ (f x ∷ [])
-map-snoc f [] x = refl
-map-snoc {B = B} f (y ∷ ys) x = ap {B = List B} (λ r. f y ∷ r) (map-snoc f ys x)
-
-length-snoc : {A : Type 0} (xs : List A) (x : A) → length (xs ++ (x ∷ [])) ≡ length xs + 1
-length-snoc xs x = length-append xs (x ∷ [])
 
 -- a number stored behind those of a list
 store : {A : Type 0} (f : A → ℕ) (xs : List A) (x : A) (v : ℕ) → length xs < 64 → v ≡ f x → set (pad 64 (map f xs)) (length xs) v ≡ pad 64 (map f (xs ++ (x ∷ [])))
@@ -32,18 +26,12 @@ store f xs x v h e =
     ap (λ (n : ℕ). set (pad 64 (map f xs)) n v) (sym l)
     ∙ pad-more 64 (map f xs) v (omega arith)
     ∙ ap (λ (n : ℕ). pad 64 (map f xs ++ (n ∷ []))) e
-    ∙ ap (pad 64) (sym (map-snoc f xs x))
-
--- the bytes of a template with a component more
-components-snoc : (cs : List Component) (c : Component) → flatMap componentRow (cs ++ (c ∷ [])) ≡ flatMap componentRow cs ++ componentRow c
-unfolding flatMap
-components-snoc [] c = append-nil (componentRow c)
-components-snoc (d ∷ ds) c = ap (λ r. componentRow d ++ r) (components-snoc ds c) ∙ sym (append-assoc (componentRow d) (flatMap componentRow ds) (componentRow c))
+    ∙ ap (pad 64) (sym (map-append f xs (x ∷ [])))
 
 -- a component's payload is its row
 component-row : (p : List ℕ) → 1 ≤ length p → rowOf p ≡ componentRow (componentOf p)
 component-row [] h = absurd (omega arith)
-component-row (r ∷ ls) h = ap (λ k. rowOf (r ∷ k)) (sym (numbers ls))
+component-row (r ∷ ls) h = ap (λ k. rowOf (r ∷ k)) (sym (map-back labelNumber labelOf number ls))
   where
     number : (b : ℕ) → labelNumber (labelOf b) ≡ b
     number b = go (eqb b 255) refl
@@ -51,10 +39,6 @@ component-row (r ∷ ls) h = ap (λ k. rowOf (r ∷ k)) (sym (numbers ls))
         go : (t : Bool) → eqb b 255 ≡ t → labelNumber (cond t Counted (keyed (key b))) ≡ b
         go true q = sym (eqb-true b 255 q)
         go false q = refl
-
-    numbers : (bs : List ℕ) → map labelNumber (map labelOf bs) ≡ bs
-    numbers [] = refl
-    numbers (b ∷ bs) = ap₂ _∷_ (number b) (numbers bs)
 
 module _ {D : Domain} {index : Index} (h : Holds D index) (p : List ℕ) where
   pub index-relation : (v : ℕ) → v ≡ byte p 0 → index .relations < 64
@@ -73,7 +57,7 @@ module _ {D : Domain} {index : Index} (h : Holds D index) (p : List ℕ) where
       ≡ indexOf (extend D relationRecord p)
   unfolding indexOf extend
   index-relation v e g = rw (h .is) (λ i. record {
-    relations = sym (length-snoc (D .arities) (byte p 0)) i;
+    relations = sym (length-append (D .arities) (byte p 0 ∷ [])) i;
     arities = (ap (λ (n : ℕ). set (pad 64 (D .arities)) (length (D .arities)) n) e ∙ pad-more 64 (D .arities) (byte p 0) (rw (h .is) at g)) i;
     actions = length (D .actions);
     variables = pad 64 (map (λ (a : Action). a .vars) (D .actions));
@@ -103,7 +87,7 @@ module _ {D : Domain} {index : Index} (h : Holds D index) (p : List ℕ) where
   index-action v s e d g = rw (h .is) (λ i. record {
     relations = length (D .arities);
     arities = pad 64 (D .arities);
-    actions = sym (length-snoc (D .actions) (actionOf p)) i;
+    actions = sym (length-append (D .actions) (actionOf p ∷ [])) i;
     variables = store (λ (a : Action). a .vars) (D .actions) (actionOf p) v few e i;
     sorts = store sortNumber (D .actions) (actionOf p) s few d i;
     starts = starts i;
@@ -147,7 +131,7 @@ module _ {D : Domain} {index : Index} (h : Holds D index) (p : List ℕ) where
     variables = ap (pad 64) (sym (map-more (λ (a : Action). a .vars) (λ a m. refl) l (D .actions))) i;
     sorts = ap (pad 64) (sym (map-more sortNumber (λ a m. refl) l (D .actions))) i;
     starts = ap (pad 64) (sym (starts-more 0 l (D .actions))) i;
-    rows = (sym (length-snoc (allLiterals (D .actions)) l) ∙ ap length (sym (literals-more l (D .actions) (rw (h .is) at g)))) i;
+    rows = (sym (length-append (allLiterals (D .actions)) (l ∷ [])) ∙ ap length (sym (literals-more l (D .actions) (rw (h .is) at g)))) i;
     components = length (D .template);
     parts = pad 128 (flatMap componentRow (D .template));
     keys = keysOf (D .template);
@@ -180,7 +164,7 @@ module _ {D : Domain} {index : Index} (h : Holds D index) (p : List ℕ) where
     sorts = pad 64 (map sortNumber (D .actions));
     starts = pad 64 (startsFrom 0 (D .actions));
     rows = length (allLiterals (D .actions));
-    components = sym (length-snoc (D .template) (componentOf p)) i;
+    components = sym (length-append (D .template) (componentOf p ∷ [])) i;
     parts = written i;
     keys = d i;
   })
@@ -199,4 +183,4 @@ module _ {D : Domain} {index : Index} (h : Holds D index) (p : List ℕ) where
           ∙ rw (h .is) (ap (λ (n : ℕ). paste (pad 128 (flatMap componentRow (D .template))) n (rowOf p) 8) (sym bytes))
           ∙ pad-row 128 (flatMap componentRow (D .template)) p (omega arith)
           ∙ ap (λ (r : List ℕ). pad 128 (flatMap componentRow (D .template) ++ r)) (component-row p l)
-          ∙ ap (pad 128) (sym (components-snoc (D .template) (componentOf p)))
+          ∙ ap (pad 128) (sym (flatMap-snoc componentRow (D .template) (componentOf p)))

@@ -1,19 +1,21 @@
 -- A file that is not well-formed is refused with a number from 9 to 23. Assumes nothing.
 use mathlib.Core.Path.{_≡_, refl}
-use mathlib.Core.Bool.{Bool, true, false, not, cond}
+use mathlib.Core.Bool.{Bool, true, false, not, _&&_, cond}
 use mathlib.Core.Logic.{_⊎_, inl, inr}
 use mathlib.Core.List.{List, [], _∷_, _++_}
 use Prim.Native.Nat.{ℕ, zero, suc, _+_, _≤_}
 use native.Mathlib.Omega.{arith}
 use lib.Dec.{eqb, ltb, leb}
-use lib.ListN.{length, drop}
+use lib.ListN.{length}
 use borrow.Author.Tests.{eqb-false}
-use Rattle.records.specs.Lists.{any, empty}
+use Rattle.records.specs.Lists.{empty}
 use Rattle.records.specs.declared.Record.{Record}
 use Rattle.records.specs.declared.Record.the-variants.{Whole, Cut, End}
 use Rattle.records.specs.Record.{recordAt, payload}
-use Rattle.literals.specs.Domain.{Component, keysOf, labelsFit, Domain, arity}
-use Rattle.literals.specs.Decode.{maxFile, RecordKind, relationRecord, actionRecord, literalRecord, componentRecord, closingRecord, unknownRecord, kindOf, isUnknown, isClosing, latest, outOfOrder, atLimit, headStop, byte, relationStop, actionStop, literalOf, repeats, contradicts, noRole, literalStop, componentOf, labelStop, componentStop, closingStop, fieldStop, stopOf, extend, Refusal, refuse, Decoded, refused, domain, Reading, ReadTurn, goOn, finish, readRecord, readFound, readStep, Finished, readFrom, fromStart, readFile, decode}
+use Rattle.records.proofs.Numbers.{numberOf, numbered, by-numbers}
+use Rattle.literals.specs.Domain.{keysOf, labelsFit, Domain}
+use Rattle.literals.specs.Decode.{maxFile, RecordKind, relationRecord, actionRecord, literalRecord, componentRecord, closingRecord, unknownRecord, kindOf, isUnknown, isClosing, outOfOrder, atLimit, headStop, byte, relationStop, actionStop, literalStop, componentOf, labelStop, componentStop, closingStop, fieldStop, stopOf, extend, Refusal, refuse, Decoded, refused, domain, Reading, ReadTurn, goOn, finish, readRecord, readFound, readStep, Finished, readFrom, fromStart, readFile, decode}
+use Rattle.literals.proofs.Stops.{literalRows, componentRows}
 
 -- ---- the number that stops a record
 
@@ -25,57 +27,27 @@ Refuses n = (9 ≤ n) × (n ≤ 23)
 abbrev pub Stop : ℕ → Type 0
 Stop n = (n ≡ 0) ⊎ Refuses n
 
-stop-cond : (b : Bool) (m n : ℕ) → Refuses m → Stop n → Stop (cond b m n)
-stop-cond true m n h k = inr h
-stop-cond false m n h k = k
+-- rows with such numbers stop a record by one of them
+stop-rows : (rows : List (Bool × ℕ)) (n : ℕ) → numbered (λ m. leb 9 m && leb m 23) rows ≡ true → Stop n → Stop (numberOf rows n)
+stop-rows rows n t h = by-numbers 9 23 Stop (λ m l u. inr (l, u)) rows n t (λ g. h)
 
 stop-head : (D : Domain) (k : RecordKind) → Stop (headStop D k)
 unfolding headStop
-stop-head D k =
-    stop-cond (isUnknown k) 11 (cond (outOfOrder D k) 13 (cond (atLimit D k) 14 0)) (omega arith, omega arith)
-    (stop-cond (outOfOrder D k) 13 (cond (atLimit D k) 14 0) (omega arith, omega arith)
-    (stop-cond (atLimit D k) 14 0 (omega arith, omega arith) (inl refl)))
+stop-head D k = stop-rows ((isUnknown k, 11) ∷ (outOfOrder D k, 13) ∷ (atLimit D k, 14) ∷ []) 0 refl (inl refl)
 
 stop-label : (b : Bool) → Stop (cond b 0 21)
 stop-label true = inl refl
 stop-label false = inr (omega arith, omega arith)
 
--- the rows of a literal
-stop-rows : (s t u v w x y : Bool) → Stop (cond s 12 (cond t 16 (cond u 17 (cond v 12 (cond w 18 (cond x 19 (cond y 20 0)))))))
-stop-rows true t u v w x y = inr (omega arith, omega arith)
-stop-rows false true u v w x y = inr (omega arith, omega arith)
-stop-rows false false true v w x y = inr (omega arith, omega arith)
-stop-rows false false false true w x y = inr (omega arith, omega arith)
-stop-rows false false false false true x y = inr (omega arith, omega arith)
-stop-rows false false false false false true y = inr (omega arith, omega arith)
-stop-rows false false false false false false true = inr (omega arith, omega arith)
-stop-rows false false false false false false false = inl refl
-
--- and those of a component
-stop-places : (s t u v : Bool) (n : ℕ) → Stop n → Stop (cond s 12 (cond t 17 (cond u 12 (cond v 22 n))))
-stop-places true t u v n h = inr (omega arith, omega arith)
-stop-places false true u v n h = inr (omega arith, omega arith)
-stop-places false false true v n h = inr (omega arith, omega arith)
-stop-places false false false true n h = inr (omega arith, omega arith)
-stop-places false false false false n h = h
-
 stop-field : (D : Domain) (k : RecordKind) (p : List ℕ) → Stop (fieldStop D k p)
 unfolding fieldStop relationStop actionStop literalStop componentStop labelStop closingStop
-stop-field D relationRecord p =
-    stop-cond (not (eqb (length p) 1)) 12 (cond (ltb 6 (byte p 0)) 15 0) (omega arith, omega arith) (stop-cond (ltb 6 (byte p 0)) 15 0 (omega arith, omega arith) (inl refl))
-stop-field D actionRecord p =
-    stop-cond (not (eqb (length p) 2)) 12 (cond (ltb 16 (byte p 0)) 15 (cond (ltb 1 (byte p 1)) 15 0)) (omega arith, omega arith)
-    (stop-cond (ltb 16 (byte p 0)) 15 (cond (ltb 1 (byte p 1)) 15 0) (omega arith, omega arith) (stop-cond (ltb 1 (byte p 1)) 15 0 (omega arith, omega arith) (inl refl)))
-stop-field D literalRecord p =
-    let a = latest (D .actions) in
-    stop-rows (ltb (length p) 2) (noRole a (byte p 0)) (leb (length (D .arities)) (byte p 1)) (not (eqb (length p) (2 + arity D (byte p 1)))) (any (leb (a .vars)) (drop 2 p)) (any (repeats (literalOf p)) (a .lits))
-    (any (contradicts (literalOf p)) (a .lits))
+stop-field D relationRecord p = stop-rows ((not (eqb (length p) 1), 12) ∷ (ltb 6 (byte p 0), 15) ∷ []) 0 refl (inl refl)
+stop-field D actionRecord p = stop-rows ((not (eqb (length p) 2), 12) ∷ (ltb 16 (byte p 0), 15) ∷ (ltb 1 (byte p 1), 15) ∷ []) 0 refl (inl refl)
+stop-field D literalRecord p = stop-rows (literalRows D p) 0 refl (inl refl)
 stop-field D componentRecord p =
-    let c = componentOf p in
-    stop-places (ltb (length p) 1) (leb (length (D .arities)) (byte p 0)) (not (eqb (length p) (1 + arity D (byte p 0)))) (any (λ (d : Component). eqb (c .rel) (d .rel)) (D .template))
-    (labelStop (keysOf (D .template ++ (c ∷ []))) (c .labels)) (stop-label (labelsFit (keysOf (D .template ++ (c ∷ []))) (c .labels)))
-stop-field D closingRecord p =
-    stop-cond (not (eqb (length p) 0)) 12 (cond (empty (D .template)) 23 0) (omega arith, omega arith) (stop-cond (empty (D .template)) 23 0 (omega arith, omega arith) (inl refl))
+    let n = keysOf (D .template ++ (componentOf p ∷ [])) in
+    stop-rows (componentRows D p) (labelStop n (componentOf p .labels)) refl (stop-label (labelsFit n (componentOf p .labels)))
+stop-field D closingRecord p = stop-rows ((not (eqb (length p) 0), 12) ∷ (empty (D .template), 23) ∷ []) 0 refl (inl refl)
 stop-field D unknownRecord p = inl refl
 
 pub stop-of : (D : Domain) (k : RecordKind) (p : List ℕ) → Stop (stopOf D k p)

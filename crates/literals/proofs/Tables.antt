@@ -3,8 +3,6 @@ use mathlib.Core.Path.{_≡_, refl, sym, ap, ap₂, _∙_}
 use mathlib.Core.Bool.{Bool, true, false, _&&_, _||_, cond}
 use mathlib.Core.List.{List, [], _∷_, _++_, map, flatMap, append-assoc, List·Memᴰ·head, List·Memᴰ·tail, Memᴰ·append-left, Memᴰ·append-right}
 use Prim.Native.Nat.{ℕ, zero, suc, _+_, _-_, _*_, _≤_, _<_, max}
-use native.Mathlib.Decide.{decLe}
-use native.Mathlib.Nat.{lt-of-not-le}
 use native.Mathlib.Omega.{arith}
 use lib.Dec.{eqb}
 use lib.ListN.{length, getD, set, take, drop, replicate, length-append, length-map, length-replicate}
@@ -12,7 +10,7 @@ use lib.Seq.{take-at, drop-at, take-append-seam, paste}
 use borrow.Author.Tests.{eqb-true, ne-eqb}
 use Rattle.records.specs.Lists.{In, any, sameList}
 use Rattle.records.specs.Memory.{over}
-use Rattle.records.proofs.Lists.{and-l, and-r, eqb-same, sameList-self, any-map, flatMap-append}
+use Rattle.records.proofs.Lists.{eqb-same, sameList-self, any-map, flatMap-append, allBelow, below-in}
 use Rattle.records.proofs.Memory.{over-more, over-paste, drop-replicate, getD-fill}
 use Rattle.literals.specs.declared.Variable.{Variable}
 use Rattle.literals.specs.declared.Role.{Role}
@@ -135,14 +133,6 @@ rank r c = cond r 2 (cond c 1 0)
 
 -- -- the roles: one test of all pairs below 10
 
-abbrev allBelow : ℕ → (ℕ → Bool) → Bool
-allBelow zero p = true
-allBelow (suc n) p = p n && allBelow n p
-
-below-all : (n : ℕ) (p : ℕ → Bool) (k : ℕ) → allBelow n p ≡ true → k < n → p k ≡ true
-below-all zero p k t h = absurd (omega arith)
-below-all (suc n) p k t h = elim (decLe n k) [ yes g ↦ (let e : k ≡ n = omega arith in ap p e ∙ and-l (p n) _ t) | no g ↦ below-all n p k (and-r (p n) _ t) (lt-of-not-le g) ]
-
 abbrev opposed : Role → Role → Bool
 opposed r s = contrary (r .clause) (s .clause) && together (r .time) (s .time)
 
@@ -154,7 +144,7 @@ unfolding roleRank roleOf
 all-agree = refl
 
 role-rank : (a b : ℕ) → a ≤ 9 → b ≤ 9 → roleRank a b ≡ rank (sameRole (roleOf a) (roleOf b)) (opposed (roleOf a) (roleOf b))
-role-rank a b h g = eqb-true _ _ (below-all 10 (agrees a) b (below-all 10 (λ a. allBelow 10 (agrees a)) a all-agree (omega arith)) (omega arith))
+role-rank a b h g = eqb-true _ _ (below-in 10 (agrees a) (below-in 10 (λ a. allBelow 10 (agrees a)) all-agree a (omega arith)) b (omega arith))
 
 -- -- the atoms: filled lists are the same where the lists are, as no argument is FF
 

@@ -1,25 +1,24 @@
 -- What a record of each kind leads to, in the shape of the code's tests. Assumes nothing.
 use mathlib.Core.Path.{_≡_, refl, sym, ap, ap₂, _∙_}
-use mathlib.Core.Bool.{Bool, true, false, not, _&&_, _||_, cond, or-true}
+use mathlib.Core.Bool.{Bool, true, false, not, _&&_, cond, or-true}
 use mathlib.Core.List.{List, [], _∷_, _++_, map, flatMap, List·Memᴰ·head, List·Memᴰ·tail}
 use Prim.Native.Nat.{ℕ, zero, suc, _+_, _-_, _*_, _≤_, _<_}
 use native.Mathlib.Omega.{arith}
 use lib.Dec.{eqb, ltb, leb}
-use lib.ListN.{length, set, take, drop, getD, length-map, length-drop, length-append}
+use lib.ListN.{length, take, drop, getD, length-map, length-drop, length-append}
 use borrow.Author.Tests.{le-leb, lt-leb, eq-eqb, ne-eqb, eqb-true, eqb-false, ltb-false, leb-false}
 use Rattle.records.specs.Lists.{In, any, countBy, empty}
 use Rattle.records.specs.Memory.{over}
-use Rattle.records.proofs.Lists.{not-false, any-out, flatMap-in}
+use Rattle.records.proofs.Lists.{not-false, any-out, empty-no, empty-yes, count-le}
+use Rattle.records.proofs.Numbers.{none-passes, rows-split, cond-or}
 use Rattle.literals.specs.declared.Index.{Index}
-use Rattle.literals.specs.declared.Taken.{Taken}
-use Rattle.literals.specs.Domain.{Literal, Action, Component, isCounted, keysOf, Domain, arity}
-use Rattle.literals.specs.Decode.{RecordKind, relationRecord, actionRecord, literalRecord, componentRecord, closingRecord, unknownRecord, latest, outOfOrder, atLimit, headStop, byte, relationStop, actionStop, literalOf, repeats, contradicts, literalStop, labelStop, componentStop, closingStop, fieldStop, stopOf, extend, actionOf, labelOf, componentOf}
+use Rattle.literals.specs.Domain.{Literal, Action, Component, isCounted, keysOf, Domain}
+use Rattle.literals.specs.Decode.{relationRecord, actionRecord, literalRecord, componentRecord, closingRecord, unknownRecord, latest, outOfOrder, headStop, byte, relationStop, actionStop, literalOf, repeats, contradicts, literalStop, labelStop, componentStop, closingStop, fieldStop, stopOf, extend, actionOf, labelOf, componentOf}
 use Rattle.literals.specs.Table.{literalRow, allLiterals, tableBytes, pad, rowsIn, rowsRank, sortNumber, indexOf, literalFields, componentFields, Holds, takenOf}
 use Rattle.literals.proofs.Stops.{action-passes}
 use Rattle.literals.proofs.Bounds.{arity-six}
 use Rattle.literals.proofs.Tables.{pad-at, rows-components, any-component, Comparable, kept, rows-literals, literals-stop}
-use Rattle.literals.proofs.Held.{count-le, empty-no, empty-yes, stop-order, stop-limit, stop-field, latest-rows, relations-is, actions-is, rows-is, components-is, keys-is, parts-is, variables-is, sorts-is, arities-taken, literals-in, start-is, stopped-at, done}
-use Rattle.literals.proofs.Indexed.{index-relation, index-action}
+use Rattle.literals.proofs.Held.{stop-order, stop-limit, stop-field, latest-rows, relations-is, actions-is, rows-is, components-is, keys-is, parts-is, variables-is, sorts-is, arities-taken, literals-in, start-is, stopped-at, done}
 
 -- a bound on the numbers of a list holds of what is taken of it
 six-taken : (l : List ℕ) (n i : ℕ) → ((i : ℕ) → getD l i 0 ≤ 6) → getD (take n l) i 0 ≤ 6
@@ -131,11 +130,10 @@ sort-is p e = go (eqb (byte p 1) 1) refl
 
 -- ---- a component
 
-three : (a b c : Bool) (x : ℕ) → cond a 12 (cond b 17 (cond c 12 x)) ≡ cond (eqb (cond a 12 (cond b 17 (cond c 12 0))) 0) x (cond a 12 (cond b 17 (cond c 12 0)))
-three true b c x = refl
-three false true c x = refl
-three false false true x = refl
-three false false false x = refl
+-- the rows "fields" of a component record
+abbrev componentFieldRows : List ℕ → List ℕ → List (Bool × ℕ)
+componentFieldRows arities p =
+    (ltb (length p) 1, 12) ∷ (leb (length arities) (byte p 0), 17) ∷ (not (eqb (length p) (1 + getD arities (byte p 0) 0)), 12) ∷ []
 
 -- the rows "fields" and "component" of a component record
 component-split : (D : Domain) (p : List ℕ)
@@ -144,22 +142,16 @@ component-split : (D : Domain) (p : List ℕ)
     (cond (any (λ (d : Component). eqb (byte p 0) (d .rel)) (D .template)) 22 (labelStop (keysOf (D .template ++ (componentOf p ∷ []))) (componentOf p .labels)))
     (componentFields (D .arities) p)
 unfolding componentStop componentFields
-component-split D p = three (ltb (length p) 1) (leb (length (D .arities)) (byte p 0)) (not (eqb (length p) (1 + getD (D .arities) (byte p 0) 0))) _
+component-split D p = rows-split (componentFieldRows (D .arities) p) _ refl
 
 -- a component whose fields pass has at most 6 labels
 pub component-short : (arities : List ℕ) (n : ℕ) (p : List ℕ) → componentFields (take n arities) p ≡ 0 → ((i : ℕ) → getD arities i 0 ≤ 6) → (1 ≤ length p) × (length p ≤ 7)
 unfolding componentFields
 component-short arities n p e h =
-    let r = zeros (ltb (length p) 1) (leb (length (take n arities)) (byte p 0)) (not (eqb (length p) (1 + getD (take n arities) (byte p 0) 0))) e in
-    let l = eqb-true (length p) (1 + getD (take n arities) (byte p 0) 0) (not-false _ (r .2)) in
+    let r = none-passes (componentFieldRows (take n arities) p) 0 refl e .0 in
+    let l = eqb-true (length p) (1 + getD (take n arities) (byte p 0) 0) (not-false _ (r 2)) in
     let s = six-taken arities n (byte p 0) h in
-    (ltb-false (length p) 1 (r .0), omega arith)
-  where
-    zeros : (a b c : Bool) → _≡_ {A = ℕ} (cond a 12 (cond b 17 (cond c 12 0))) 0 → (a ≡ false) × (b ≡ false) × (c ≡ false)
-    zeros true b c z = absurd (omega arith)
-    zeros false true c z = absurd (omega arith)
-    zeros false false true z = absurd (omega arith)
-    zeros false false false z = (refl, refl, refl)
+    (ltb-false (length p) 1 (r 0), omega arith)
 
 module _ {D : Domain} {index : Index} (h : Holds D index) (p : List ℕ) {n : ℕ} (e : n ≡ componentFields (take (index .relations) (index .arities)) p) where
   fields-are : n ≡ componentFields (D .arities) p
@@ -239,17 +231,6 @@ latest-in [] h = absurd (omega arith)
 latest-in (a ∷ []) h = List·Memᴰ·head refl
 latest-in (a ∷ b ∷ bs) h = List·Memᴰ·tail (latest-in (b ∷ bs) (omega arith))
 
-six : (a b c d e f : Bool) (x : ℕ)
-    → cond a 12 (cond (b || c) 16 (cond d 17 (cond e 12 (cond f 18 x))))
-    ≡ cond (eqb (cond a 12 (cond b 16 (cond c 16 (cond d 17 (cond e 12 (cond f 18 0)))))) 0) x (cond a 12 (cond b 16 (cond c 16 (cond d 17 (cond e 12 (cond f 18 0))))))
-six true b c d e f x = refl
-six false true c d e f x = refl
-six false false true d e f x = refl
-six false false false true e f x = refl
-six false false false false true f x = refl
-six false false false false false true x = refl
-six false false false false false false x = refl
-
 sort-lasts : (a : Action) → eqb (sortNumber a) 1 ≡ a .lasting
 sort-lasts a = go (a .lasting)
   where
@@ -257,7 +238,18 @@ sort-lasts a = go (a .lasting)
     go true = refl
     go false = refl
 
--- the rows "fields" and "literal" of a literal record
+-- the rows "fields" of a literal record, where no role is two rows
+abbrev literalFieldRows : List ℕ → ℕ → Bool → List ℕ → List (Bool × ℕ)
+literalFieldRows arities vars lasting p =
+    (ltb (length p) 2, 12)
+    ∷ (ltb 9 (byte p 0), 16)
+    ∷ (ltb 3 (byte p 0) && not lasting, 16)
+    ∷ (leb (length arities) (byte p 1), 17)
+    ∷ (not (eqb (length p) (2 + getD arities (byte p 1) 0)), 12)
+    ∷ (any (leb vars) (drop 2 p), 18)
+    ∷ []
+
+-- those and the rows "literal"
 literal-split : (D : Domain) (p : List ℕ)
     → let a = latest (D .actions) in
     let n = literalFields (D .arities) (a .vars) (sortNumber a) p in
@@ -265,9 +257,7 @@ literal-split : (D : Domain) (p : List ℕ)
 unfolding literalStop literalFields
 literal-split D p =
     let a = latest (D .actions) in
-    rw (sort-lasts a)
-    (six (ltb (length p) 2) (ltb 9 (byte p 0)) (ltb 3 (byte p 0) && not (a .lasting)) (leb (length (D .arities)) (byte p 1))
-    (not (eqb (length p) (2 + getD (D .arities) (byte p 1) 0))) (any (leb (a .vars)) (drop 2 p)) _)
+    rw (sort-lasts a) (ap (cond (ltb (length p) 2) 12) (cond-or (ltb 9 (byte p 0)) (ltb 3 (byte p 0) && not (a .lasting)) 16 _) ∙ rows-split (literalFieldRows (D .arities) (a .vars) (a .lasting) p) _ refl)
 
 -- a literal whose fields pass
 record FieldsPass (arities : List ℕ) (vars : ℕ) (p : List ℕ) : Type 0 where
@@ -279,17 +269,8 @@ record FieldsPass (arities : List ℕ) (vars : ℕ) (p : List ℕ) : Type 0 wher
 fields-pass : (arities : List ℕ) (vars sort : ℕ) (p : List ℕ) → literalFields arities vars sort p ≡ 0 → FieldsPass arities vars p
 unfolding literalFields
 fields-pass arities vars sort p e =
-    let r = zeros (ltb (length p) 2) (ltb 9 (byte p 0)) (ltb 3 (byte p 0) && not (eqb sort 1)) (leb (length arities) (byte p 1)) (not (eqb (length p) (2 + getD arities (byte p 1) 0))) (any (leb vars) (drop 2 p)) e in
-    record { long = ltb-false _ _ (r .0); role = ltb-false _ _ (r .1); arguments = eqb-true _ _ (not-false _ (r .2)); variables = r .3 }
-  where
-    zeros : (a b c d e f : Bool) → _≡_ {A = ℕ} (cond a 12 (cond b 16 (cond c 16 (cond d 17 (cond e 12 (cond f 18 0)))))) 0 → (a ≡ false) × (b ≡ false) × (e ≡ false) × (f ≡ false)
-    zeros true b c d e f z = absurd (omega arith)
-    zeros false true c d e f z = absurd (omega arith)
-    zeros false false true d e f z = absurd (omega arith)
-    zeros false false false true e f z = absurd (omega arith)
-    zeros false false false false true f z = absurd (omega arith)
-    zeros false false false false false true z = absurd (omega arith)
-    zeros false false false false false false z = (refl, refl, refl, refl)
+    let r = none-passes (literalFieldRows arities vars (eqb sort 1) p) 0 refl e .0 in
+    record { long = ltb-false _ _ (r 0); role = ltb-false _ _ (r 1); arguments = eqb-true _ _ (not-false _ (r 4)); variables = r 5 }
 
 pub literal-short : (arities : List ℕ) (n vars sort : ℕ) (p : List ℕ) → literalFields (take n arities) vars sort p ≡ 0 → ((i : ℕ) → getD arities i 0 ≤ 6) → (2 ≤ length p) × (length p ≤ 8)
 literal-short arities n vars sort p e h =

@@ -1,26 +1,25 @@
 -- The table with one record more. Assumes nothing.
 use mathlib.Core.Path.{_≡_, refl, sym, ap, ap₂, subst, _∙_}
 use mathlib.Core.Bool.{Bool, true, false, cond}
-use mathlib.Core.List.{List, [], _∷_, _++_, map, flatMap, append-nil}
-use Prim.Native.Nat.{ℕ, suc, _+_, _-_, _*_, _≤_, _<_}
+use mathlib.Core.List.{List, [], _∷_, _++_, flatMap, append-nil}
+use Prim.Native.Nat.{ℕ, _-_, _*_, _≤_, _<_}
 use native.Mathlib.Omega.{arith}
 use lib.Dec.{eqb}
 use lib.ListN.{length, getD}
 use lib.Seq.{paste}
 use borrow.Author.Tests.{eq-eqb, ne-eqb}
-use Rattle.records.specs.Lists.{In}
 use Rattle.records.specs.Memory.{over}
-use Rattle.records.proofs.Lists.{flatMap-append}
+use Rattle.records.proofs.Lists.{flatMap-snoc, map-back}
 use Rattle.literals.specs.declared.Variable.{Variable}
 use Rattle.literals.specs.declared.Index.{Index}
 use Rattle.literals.specs.declared.Taken.{Taken}
-use Rattle.literals.specs.Domain.{variable, roleOf, Literal, Action, Domain}
-use Rattle.literals.specs.Decode.{RecordKind, relationRecord, actionRecord, literalRecord, componentRecord, closingRecord, unknownRecord, kindOf, latest, byte, literalOf, literalStop, withLiteral, actionOf, fieldStop, stopOf, extend}
+use Rattle.literals.specs.Domain.{variable, Domain}
+use Rattle.literals.specs.Decode.{RecordKind, relationRecord, actionRecord, literalRecord, componentRecord, closingRecord, unknownRecord, kindOf, latest, byte, literalOf, literalStop, actionOf, stopOf, extend}
 use Rattle.literals.specs.Table.{rowOf, literalRow, allLiterals, tableBytes, indexOf, Holds, behind, takenOf}
 use Rattle.literals.proofs.Stops.{literal-passes, role-nine}
 use Rattle.literals.proofs.Bounds.{role-number}
 use Rattle.literals.proofs.Tables.{over-row, length-literals}
-use Rattle.literals.proofs.Held.{literals-snoc, literals-more, literals-in, behind-stop, behind-done, rows-is, actions-is, components-is, stopped-at, done}
+use Rattle.literals.proofs.Held.{literals-snoc, literals-more, literals-in, behind-stop, behind-done, rows-is, actions-is, stopped-at, done}
 use Rattle.literals.proofs.Takes.{literal-early, literal-late, literal-full, literal-number}
 
 -- a record that is stopped leaves the table
@@ -62,11 +61,7 @@ same-unknown D p = table-same D unknownRecord p refl
 literal-row : (p : List ℕ) → 2 ≤ length p → byte p 0 ≤ 9 → rowOf p ≡ literalRow (literalOf p)
 literal-row [] h r = absurd (omega arith)
 literal-row (a ∷ []) h r = absurd (omega arith)
-literal-row (a ∷ b ∷ q) h r = ap₂ (λ (x : ℕ) (y : List ℕ). rowOf (x ∷ b ∷ y)) (sym (role-number a r)) (sym (numbers q))
-  where
-    numbers : (bs : List ℕ) → map (λ (v : Variable). v .0) (map variable bs) ≡ bs
-    numbers [] = refl
-    numbers (x ∷ xs) = ap {B = List ℕ} (λ r. x ∷ r) (numbers xs)
+literal-row (a ∷ b ∷ q) h r = ap₂ (λ (x : ℕ) (y : List ℕ). rowOf (x ∷ b ∷ y)) (sym (role-number a r)) (sym (map-back (λ (v : Variable). v .0) variable (λ b. refl) q))
 
 module _ {D : Domain} {index : Index} (h : Holds D index) (p : List ℕ) {t : List ℕ} (old : List ℕ) (q : t ≡ over (tableBytes D) old) where
   stopped-both : {n : ℕ} → stopOf D literalRecord p ≡ n → (n ≡ 0 → ⊥)
@@ -82,8 +77,8 @@ module _ {D : Domain} {index : Index} (h : Holds D index) (p : List ℕ) {t : Li
   bytes-more e g =
       let s = literal-passes D p e in
       let a = actions-is h in
-      ap (λ (r : List ℕ). flatMap literalRow (allLiterals (D .actions)) ++ r) (literal-row p (s .long) (role-nine (latest (D .actions)) (byte p 0) (s .role)) ∙ sym (append-nil (literalRow (literalOf p))))
-      ∙ sym (flatMap-append literalRow (allLiterals (D .actions)) (literalOf p ∷ []))
+      ap (λ (r : List ℕ). flatMap literalRow (allLiterals (D .actions)) ++ r) (literal-row p (s .long) (role-nine (latest (D .actions)) (byte p 0) (s .role)))
+      ∙ sym (flatMap-snoc literalRow (allLiterals (D .actions)) (literalOf p))
       ∙ ap (flatMap literalRow) (sym (literals-more (literalOf p) (D .actions) (omega arith)))
 
   pub literal-13 : index .actions ≡ 0 → (record { number = 13; index = index } ≡ takenOf D literalRecord p) × (t ≡ over (tableBytes (behind D literalRecord p)) old)

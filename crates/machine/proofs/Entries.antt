@@ -134,14 +134,6 @@ module _ (r : List ℕ) where
     pub all-read : NotWhole at → entries r ≡ es
     all-read h = split ∙ rw (read-none (suc left) at h) (append-nil es)
 
-  -- all stand before the file's end
-  pub before-end : entriesBefore r (length r) ≡ entries r
-  unfolding entriesBefore entries
-  before-end = filter-all before (entries r) (all-of before (entries r) (λ e m. lt-ltb (e .at) (length r) (read-place (suc (length r)) 0 e m .1)))
-    where
-      before : Entry → Bool
-      before e = ltb (e .at) (length r)
-
 -- ---- one record more
 
 pub facts-snoc : (es : List Entry) (e : Entry) → startFactsIn (es ++ (e ∷ [])) ≡ startFactsIn es ++ factsBy (e .kind) (e .bytes) []

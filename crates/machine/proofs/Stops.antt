@@ -9,7 +9,8 @@ use lib.Dec.{eqb, ltb, leb}
 use lib.ListN.{length, drop, length-map, length-drop}
 use borrow.Author.Tests.{eqb-true, eqb-false, eq-eqb, lt-ltb, leb-false}
 use Rattle.records.specs.Lists.{any, all, empty, elem}
-use Rattle.records.proofs.Lists.{and-l, and-r, and-i, or-l, or-r, not-false, bool-cases, off, clash, eqb-same, all-snoc, pairwise-snoc, any-none, all-map}
+use Rattle.records.proofs.Lists.{and-l, and-r, and-i, or-l, or-r, or-out, not-false, bool-cases, off, clash, eqb-same, all-snoc, pairwise-snoc, any-none, all-map}
+use Rattle.records.proofs.Numbers.{numberOf, testOf, numbered, by-numbers}
 use Rattle.literals.specs.Domain.{object, sameObject, sameFact, Action, Domain, arity, action}
 use Rattle.literals.specs.Decode.{byte}
 use Rattle.classes.specs.declared.Moment.{Moment}
@@ -32,8 +33,8 @@ pub record Row (n : ℕ) : Type 0 where
 abbrev pub Tested : ℕ → Type 0 → Type 0
 Tested n P = ((n ≡ 0) × P) ⊎ Row n
 
-by-row : {n : ℕ} {P : Type 0} → 50 ≤ n → n ≤ 54 → Tested n P
-by-row l h = inr (record { low = l; high = h })
+tested : {P : Type 0} (rows : List (Bool × ℕ)) (n : ℕ) → numbered (λ m. leb 50 m && leb m 54) rows ≡ true → (((i : ℕ) → testOf rows i ≡ false) → Tested n P) → Tested (numberOf rows n) P
+tested {P} rows n = by-numbers 50 54 (λ m. Tested m P) (λ m l u. inr (record { low = l; high = u })) rows n
 
 -- ---- objects
 
@@ -58,13 +59,9 @@ among-of n os h =
 
 pub objects-tested : (p : Playing) (b : List ℕ) → Tested (objectsStop p b) (p .objects ≡ 0)
 unfolding objectsStop
-objects-tested p b = go (eqb (p .objects) 0) (not (eqb (length b) 1)) (eqb (byte b 0) 0 || ltb maxObjects (byte b 0)) refl
-  where
-    go : (x y z : Bool) → eqb (p .objects) 0 ≡ x → Tested (cond (not x) 50 (cond y 50 (cond z 51 0))) (p .objects ≡ 0)
-    go false y z e = by-row (omega arith) (omega arith)
-    go true true z e = by-row (omega arith) (omega arith)
-    go true false true e = by-row (omega arith) (omega arith)
-    go true false false e = inl (refl, eqb-true (p .objects) 0 e)
+objects-tested p b =
+    tested ((not (eqb (p .objects) 0), 50) ∷ (not (eqb (length b) 1), 50) ∷ (eqb (byte b 0) 0 || ltb maxObjects (byte b 0), 51) ∷ []) 0 refl
+    (λ g. inl (refl, eqb-true (p .objects) 0 (not-false _ (g 0))))
 
 -- ---- kind 17
 
@@ -77,29 +74,26 @@ pub record FactPasses (D : Domain) (p : Playing) (b : List ℕ) : Type 0 where
 pub fact-tested : (D : Domain) (p : Playing) (b : List ℕ) → Tested (factStop D p b) (FactPasses D p b)
 unfolding factStop
 fact-tested D p b =
-    go (eqb (p .objects) 0) (p .tally .begun) (ltb (length b) 1) (leb (length (D .arities)) (byte b 0)) (eqb (length b) (1 + arity D (byte b 0))) (outside p (drop 1 b))
-    (not (elem sameFact (factOf b) (p .state .facts)) && leb maxFacts (length (p .state .facts))) refl refl refl refl refl
-  where
-    go : (s t u v w x y : Bool) → eqb (p .objects) 0 ≡ s → p .tally .begun ≡ t → leb (length (D .arities)) (byte b 0) ≡ v → eqb (length b) (1 + arity D (byte b 0)) ≡ w → outside p (drop 1 b) ≡ x
-        → Tested (cond (s || t) 50 (cond u 50 (cond v 51 (cond (not w) 50 (cond x 51 (cond y 52 0)))))) (FactPasses D p b)
-    go true t u v w x y e1 e2 e3 e4 e5 = by-row (omega arith) (omega arith)
-    go false true u v w x y e1 e2 e3 e4 e5 = by-row (omega arith) (omega arith)
-    go false false true v w x y e1 e2 e3 e4 e5 = by-row (omega arith) (omega arith)
-    go false false false true w x y e1 e2 e3 e4 e5 = by-row (omega arith) (omega arith)
-    go false false false false false x y e1 e2 e3 e4 e5 = by-row (omega arith) (omega arith)
-    go false false false false true true y e1 e2 e3 e4 e5 = by-row (omega arith) (omega arith)
-    go false false false false true false true e1 e2 e3 e4 e5 = by-row (omega arith) (omega arith)
-    go false false false false true false false e1 e2 e3 e4 e5 =
-        let l = eqb-true (length b) (1 + arity D (byte b 0)) e4 in
-        let n : length (map object (drop 1 b)) ≡ arity D (byte b 0) = simp (length-map, length-drop) (omega arith) in
-        inl (
-          refl,
-          record {
-            objects = eqb-false (p .objects) 0 e1;
-            early = e2;
-            fact = and-i (and-i (lt-ltb (byte b 0) (length (D .arities)) (leb-false (length (D .arities)) (byte b 0) e3)) (eq-eqb (length (map object (drop 1 b))) (arity D (byte b 0)) n)) (among-of (p .objects) (drop 1 b) e5);
-          },
-        )
+    tested
+    ((eqb (p .objects) 0 || p .tally .begun, 50)
+    ∷ (ltb (length b) 1, 50)
+    ∷ (leb (length (D .arities)) (byte b 0), 51)
+    ∷ (not (eqb (length b) (1 + arity D (byte b 0))), 50)
+    ∷ (outside p (drop 1 b), 51)
+    ∷ (not (elem sameFact (factOf b) (p .state .facts)) && leb maxFacts (length (p .state .facts)), 52)
+    ∷ [])
+    0 refl (λ g.
+    let l = eqb-true (length b) (1 + arity D (byte b 0)) (not-false _ (g 3)) in
+    let n : length (map object (drop 1 b)) ≡ arity D (byte b 0) = simp (length-map, length-drop) (omega arith) in
+    let o = or-out (eqb (p .objects) 0) (p .tally .begun) (g 0) in
+    inl (
+      refl,
+      record {
+        objects = eqb-false (p .objects) 0 (o .0);
+        early = o .1;
+        fact = and-i (and-i (lt-ltb (byte b 0) (length (D .arities)) (leb-false (length (D .arities)) (byte b 0) (g 2))) (eq-eqb (length (map object (drop 1 b))) (arity D (byte b 0)) n)) (among-of (p .objects) (drop 1 b) (g 4));
+      },
+    ))
 
 -- ---- kind 18
 
@@ -116,68 +110,60 @@ moment-of false a e = refl
 pub event-tested : (D : Domain) (p : Playing) (b : List ℕ) → Tested (eventStop D p b) (EventPasses D p b)
 unfolding eventStop legal
 event-tested D p b =
-    go (eqb (p .objects) 0) (ltb (length b) 2) (ltb 1 (byte b 0)) (leb (length (D .actions)) (byte b 1)) (eqb (length b) (2 + a .vars)) (eqb (byte b 0) 1 && not (a .lasting)) (outside p (drop 2 b))
-    (injective (eventOf b)) (elem sameEvent (eventOf b) (p .waiting)) (leb maxEvents (length (p .waiting))) refl refl refl refl refl refl refl
+    tested
+    ((eqb (p .objects) 0, 50)
+    ∷ (ltb (length b) 2, 50)
+    ∷ (ltb 1 (byte b 0), 51)
+    ∷ (leb (length (D .actions)) (byte b 1), 51)
+    ∷ (not (eqb (length b) (2 + a .vars)), 50)
+    ∷ (eqb (byte b 0) 1 && not (a .lasting), 51)
+    ∷ (outside p (drop 2 b), 51)
+    ∷ (not (injective (eventOf b)), 53)
+    ∷ (elem sameEvent (eventOf b) (p .waiting), 54)
+    ∷ (leb maxEvents (length (p .waiting)), 52)
+    ∷ [])
+    0 refl (λ g.
+    let l = eqb-true (length b) (2 + a .vars) (not-false _ (g 4)) in
+    let n : length (map object (drop 2 b)) ≡ a .vars = simp (length-map, length-drop) (omega arith) in
+    let h1 : ltb (byte b 1) (length (D .actions)) ≡ true = lt-ltb (byte b 1) (length (D .actions)) (leb-false (length (D .actions)) (byte b 1) (g 3)) in
+    let h2 : hasMoment a (momentOf (byte b 0)) ≡ true = moment-of (eqb (byte b 0) 1) a (g 5) in
+    let h3 : eqb (length (map object (drop 2 b))) (a .vars) ≡ true = eq-eqb (length (map object (drop 2 b))) (a .vars) n in
+    inl (
+      refl,
+      record {
+        objects = eqb-false (p .objects) 0 (g 0);
+        event = and-i (and-i (and-i (and-i h1 h2) h3) (not-false _ (g 7))) (among-of (p .objects) (drop 2 b) (g 6));
+        fresh = g 8;
+      },
+    ))
   where
     a : Action
     a = action D (byte b 1)
-
-    go : (q r s t u v w x y z : Bool) → eqb (p .objects) 0 ≡ q → leb (length (D .actions)) (byte b 1) ≡ t → eqb (length b) (2 + a .vars) ≡ u → (eqb (byte b 0) 1 && not (a .lasting)) ≡ v → outside p (drop 2 b) ≡ w
-        → injective (eventOf b) ≡ x → elem sameEvent (eventOf b) (p .waiting) ≡ y
-        → Tested (cond q 50 (cond r 50 (cond s 51 (cond t 51 (cond (not u) 50 (cond v 51 (cond w 51 (cond (not x) 53 (cond y 54 (cond z 52 0)))))))))) (EventPasses D p b)
-    go true r s t u v w x y z e1 e2 e3 e4 e5 e6 e7 = by-row (omega arith) (omega arith)
-    go false true s t u v w x y z e1 e2 e3 e4 e5 e6 e7 = by-row (omega arith) (omega arith)
-    go false false true t u v w x y z e1 e2 e3 e4 e5 e6 e7 = by-row (omega arith) (omega arith)
-    go false false false true u v w x y z e1 e2 e3 e4 e5 e6 e7 = by-row (omega arith) (omega arith)
-    go false false false false false v w x y z e1 e2 e3 e4 e5 e6 e7 = by-row (omega arith) (omega arith)
-    go false false false false true true w x y z e1 e2 e3 e4 e5 e6 e7 = by-row (omega arith) (omega arith)
-    go false false false false true false true x y z e1 e2 e3 e4 e5 e6 e7 = by-row (omega arith) (omega arith)
-    go false false false false true false false false y z e1 e2 e3 e4 e5 e6 e7 = by-row (omega arith) (omega arith)
-    go false false false false true false false true true z e1 e2 e3 e4 e5 e6 e7 = by-row (omega arith) (omega arith)
-    go false false false false true false false true false true e1 e2 e3 e4 e5 e6 e7 = by-row (omega arith) (omega arith)
-    go false false false false true false false true false false e1 e2 e3 e4 e5 e6 e7 =
-        let l = eqb-true (length b) (2 + a .vars) e3 in
-        let n : length (map object (drop 2 b)) ≡ a .vars = simp (length-map, length-drop) (omega arith) in
-        let h1 : ltb (byte b 1) (length (D .actions)) ≡ true = lt-ltb (byte b 1) (length (D .actions)) (leb-false (length (D .actions)) (byte b 1) e2) in
-        let h2 : hasMoment a (momentOf (byte b 0)) ≡ true = moment-of (eqb (byte b 0) 1) a e4 in
-        let h3 : eqb (length (map object (drop 2 b))) (a .vars) ≡ true = eq-eqb (length (map object (drop 2 b))) (a .vars) n in
-        inl (refl, record { objects = eqb-false (p .objects) 0 e1; event = and-i (and-i (and-i (and-i h1 h2) h3) e6) (among-of (p .objects) (drop 2 b) e5); fresh = e7 })
 
 -- ---- kinds 19 and 20
 
 pub step-tested : (p : Playing) (b : List ℕ) → Tested (stepStop p b) (p .objects ≡ 0 → ⊥)
 unfolding stepStop
-step-tested p b = go (eqb (p .objects) 0) (eqb (length b) 0) refl
-  where
-    go : (x y : Bool) → eqb (p .objects) 0 ≡ x → Tested (cond x 50 (cond (not y) 50 0)) (p .objects ≡ 0 → ⊥)
-    go true y e = by-row (omega arith) (omega arith)
-    go false false e = by-row (omega arith) (omega arith)
-    go false true e = inl (refl, eqb-false (p .objects) 0 e)
+step-tested p b = tested ((eqb (p .objects) 0, 50) ∷ (not (eqb (length b) 0), 50) ∷ []) 0 refl (λ g. inl (refl, eqb-false (p .objects) 0 (g 0)))
 
 pub end-tested : (p : Playing) (b : List ℕ) → Tested (endStop p b) (p .waiting ≡ [])
 unfolding endStop
-end-tested p b = go (eqb (p .objects) 0) (eqb (length b) 0) (p .waiting) refl
+end-tested p b = tested ((eqb (p .objects) 0, 50) ∷ (not (eqb (length b) 0), 50) ∷ []) (cond (empty (p .waiting)) 0 50) refl (λ g. go (p .waiting) refl)
   where
-    go : (x y : Bool) (ws : List Event) → p .waiting ≡ ws → Tested (cond x 50 (cond (not y) 50 (cond (empty ws) 0 50))) (p .waiting ≡ [])
-    go true y ws e = by-row (omega arith) (omega arith)
-    go false false ws e = by-row (omega arith) (omega arith)
-    go false true (w ∷ ws) e = by-row (omega arith) (omega arith)
-    go false true [] e = inl (refl, e)
+    go : (ws : List Event) → p .waiting ≡ ws → Tested (cond (empty ws) 0 50) (p .waiting ≡ [])
+    go [] e = inl (refl, e)
+    go (w ∷ ws) e = inr (record { low = omega arith; high = omega arith })
 
 -- "57 end not open; 55 condition fails; 56 interference"
 pub forbidden-by : (D : Domain) (s : State) (es : List Event) → (forbidden D s es ≡ 0) ⊎ ((55 ≤ forbidden D s es) × (forbidden D s es ≤ 57))
 unfolding forbidden
 forbidden-by D s es =
-    go (all (isOpen (s .running)) es) (all (conditionsHold D (s .facts)) es && all (overAllHold D (s .facts)) (s .running)) (independent D es)
-  where
-    number : Bool → Bool → Bool → ℕ
-    number a b c = cond (not a) 57 (cond (not b) 55 (cond (not c) 56 0))
-
-    go : (a b c : Bool) → (number a b c ≡ 0) ⊎ ((55 ≤ number a b c) × (number a b c ≤ 57))
-    go false b c = inr (omega arith, omega arith)
-    go true false c = inr (omega arith, omega arith)
-    go true true false = inr (omega arith, omega arith)
-    go true true true = inl refl
+    by-numbers 55 57 (λ n. (n ≡ 0) ⊎ ((55 ≤ n) × (n ≤ 57))) (λ n l u. inr (l, u))
+    ((not (all (isOpen (s .running)) es), 57)
+    ∷ (not (all (conditionsHold D (s .facts)) es && all (overAllHold D (s .facts)) (s .running)), 55)
+    ∷ (not (independent D es), 56)
+    ∷ [])
+    0 refl (λ g. inl refl)
 
 -- ---- a step with one event more
 

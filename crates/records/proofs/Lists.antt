@@ -1,16 +1,14 @@
--- Laws that turn a test, `b ≡ true`, into a fact and back. Assumes nothing.
+-- Laws that turn a test, `b ≡ true`, into a fact and back, and laws of lists. Assumes nothing.
 use mathlib.Core.Path.{_≡_, refl, sym, ap, ap₂, _∙_}
 use mathlib.Core.Bool.{Bool, true, false, not, _&&_, _||_, cond, true≢false, false≢true}
 use mathlib.Core.Logic.{_⊎_, inl, inr}
-use mathlib.Core.List.{List, [], _∷_, _++_, map, flatMap, append-nil, List·Memᴰ·head, List·Memᴰ·tail, List·Memᴰ·not-nil, Memᴰ·cast, Memᴰ·append-left, Memᴰ·append-right, List·Memᴰ·append-cases}
+use mathlib.Core.List.{List, [], _∷_, _++_, map, flatMap, append-nil, append-assoc, List·Memᴰ·head, List·Memᴰ·tail, List·Memᴰ·not-nil, Memᴰ·cast, Memᴰ·append-left, Memᴰ·append-right, List·Memᴰ·append-cases, List·Memᴰ·eq-of-singleton}
 use Prim.Native.Nat.{ℕ, zero, suc, _+_, _≤_, _<_}
-use mathlib.Core.List.{List, [], _∷_, _++_, append-assoc, map, flatMap, List·Memᴰ·head, List·Memᴰ·tail, List·Memᴰ·not-nil, Memᴰ·cast, Memᴰ·append-left, Memᴰ·append-right, List·Memᴰ·append-cases}
-use Prim.Native.Nat.{ℕ, zero, suc, _+_, _<_}
 use native.Mathlib.Omega.{arith}
 use lib.Dec.{eqb}
 use lib.ListN.{length, getD}
-use borrow.Author.Tests.{eqb-true, eq-eqb}
-use Rattle.records.specs.Lists.{addIf, keepIf, filterBy, countBy, all, any, pairwise, In, sameList, elem, distinct, dedup}
+use borrow.Author.Tests.{eqb-true, eqb-false, eq-eqb}
+use Rattle.records.specs.Lists.{addIf, keepIf, filterBy, countBy, all, any, pairwise, empty, In, sameList, elem, distinct, dedup}
 
 -- ---- tests
 
@@ -36,6 +34,11 @@ pub or-cases : (a b : Bool) → a || b ≡ true → (a ≡ true) ⊎ (b ≡ true
 or-cases true b t = inl refl
 or-cases false b t = inr t
 
+-- of two tests neither
+pub or-out : (a b : Bool) → a || b ≡ false → (a ≡ false) × (b ≡ false)
+or-out true b t = absurd (true≢false t)
+or-out false b t = (refl, t)
+
 pub bool-cases : (b : Bool) → (b ≡ true) ⊎ (b ≡ false)
 bool-cases true = inl refl
 bool-cases false = inr refl
@@ -58,10 +61,6 @@ clash p q = true≢false (sym p ∙ q)
 
 pub eqb-same : (n : ℕ) → eqb n n ≡ true
 eqb-same n = eq-eqb n n refl
-
-pub addIf-plus : (b : Bool) (n : ℕ) → addIf b n ≡ n + addIf b 0
-addIf-plus true n = omega arith
-addIf-plus false n = omega arith
 
 -- ---- lists
 
@@ -392,3 +391,63 @@ pub flatMap-append : {A B : Type 0} (f : A → List B) (xs ys : List A) → flat
 unfolding flatMap
 flatMap-append f [] ys = refl
 flatMap-append f (x ∷ xs) ys = rw (flatMap-append f xs ys, append-assoc)
+
+-- one element more
+pub flatMap-snoc : {A B : Type 0} (f : A → List B) (xs : List A) (x : A) → flatMap f (xs ++ (x ∷ [])) ≡ flatMap f xs ++ f x
+unfolding flatMap
+flatMap-snoc f xs x = flatMap-append f xs (x ∷ []) ∙ ap (λ l. flatMap f xs ++ l) (append-nil (f x))
+
+pub in-snoc : {A : Type 0} {P : A → Type 0} (xs : List A) (x : A) → ((a : A) → In a xs → P a) → P x → (a : A) → In a (xs ++ (x ∷ [])) → P a
+in-snoc {A} {P} xs x h hx a m = go (List·Memᴰ·append-cases xs m)
+  where
+    go : In a xs ⊎ In a (x ∷ []) → P a
+    go (inl n) = h a n
+    go (inr n) = rw (List·Memᴰ·eq-of-singleton n) hx
+
+-- a map that another undoes
+pub map-back : {A B : Type 0} (f : B → A) (g : A → B) → ((a : A) → f (g a) ≡ a) → (l : List A) → map f (map g l) ≡ l
+map-back f g h [] = refl
+map-back f g h (x ∷ xs) = ap₂ _∷_ (h x) (map-back f g h xs)
+
+-- ---- how many
+
+module _ {A : Type 0} where
+  pub empty-no : (l : List A) → 0 < length l → empty l ≡ false
+  empty-no [] h = absurd (omega arith)
+  empty-no (x ∷ xs) h = refl
+
+  pub empty-yes : (l : List A) → length l ≤ 0 → empty l ≡ true
+  empty-yes [] h = refl
+  empty-yes (x ∷ xs) h = absurd (omega arith)
+
+  -- those that pass and those that do not
+  pub count-not : (p : A → Bool) (l : List A) → countBy (λ a. not (p a)) l + countBy p l ≡ length l
+  count-not p [] = refl
+  count-not p (x ∷ xs) = go (p x) (count-not p xs)
+    where
+      go : (t : Bool) → countBy (λ a. not (p a)) xs + countBy p xs ≡ length xs
+          → addIf (not t) (countBy (λ a. not (p a)) xs) + addIf t (countBy p xs) ≡ suc (length xs)
+      go true h = omega arith
+      go false h = omega arith
+
+  pub count-le : (p : A → Bool) (l : List A) → countBy p l ≤ length l
+  count-le p l = let h = count-not p l in omega arith
+
+pub count-map : {A B : Type 0} (f : A → B) (p : B → Bool) (q : A → Bool) → ((a : A) → p (f a) ≡ q a) → (l : List A) → countBy p (map f l) ≡ countBy q l
+count-map f p q h [] = refl
+count-map f p q h (x ∷ xs) = ap₂ addIf (h x) (count-map f p q h xs)
+
+-- ---- numbers below n
+
+-- a test of every number below n
+abbrev pub allBelow : ℕ → (ℕ → Bool) → Bool
+allBelow zero p = true
+allBelow (suc n) p = p n && allBelow n p
+
+pub below-in : (n : ℕ) (p : ℕ → Bool) → allBelow n p ≡ true → (k : ℕ) → k < n → p k ≡ true
+below-in zero p t k h = absurd (omega arith)
+below-in (suc n) p t k h = go (eqb k n) refl (λ l. below-in n p (and-r (p n) _ t) k l)
+  where
+    go : (b : Bool) → eqb k n ≡ b → (k < n → p k ≡ true) → p k ≡ true
+    go true q ih = ap p (eqb-true k n q) ∙ and-l _ _ t
+    go false q ih = let ne = eqb-false k n q in ih (omega arith)

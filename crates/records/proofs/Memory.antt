@@ -1,17 +1,13 @@
 -- Laws of lent memory whose first bytes are new, and of what fills it. Assumes nothing.
 use mathlib.Core.Path.{_≡_, refl, ap, ap₂, _∙_}
 use mathlib.Core.List.{List, [], _∷_, _++_, append-assoc}
-use Prim.Native.Nat.{ℕ, zero, suc, _+_, _-_, _≤_, _<_}
+use Prim.Native.Nat.{ℕ, zero, suc, _+_, _-_, _<_}
 use native.Mathlib.Nat.{sub-zero, zero-sub, suc-sub-suc}
 use native.Mathlib.Numerals.{add-one}
 use native.Mathlib.Omega.{arith}
-use lib.ListN.{length, getD, set, drop, replicate, length-append, length-drop}
+use lib.ListN.{length, getD, set, drop, replicate, length-append}
 use lib.Seq.{set-at, take-at, take-all, drop-cons, drop-drop, drop-append-add, paste}
 use Rattle.records.specs.Memory.{over}
-
-pub length-over : (new old : List ℕ) → length new ≤ length old → length (over new old) ≡ length old
-unfolding over
-length-over new old h = simp (length-append, length-drop) (omega arith)
 
 -- a store at the seam is one byte more of what is new
 pub over-more : (new old : List ℕ) (k a : ℕ) → length new ≡ k → k < length old → set (over new old) k a ≡ over (new ++ (a ∷ [])) old

@@ -2,20 +2,21 @@
 use mathlib.Core.Path.{_≡_, refl, sym, ap, ap₂, _∙_}
 use mathlib.Core.Bool.{Bool, true, false, not, _&&_, cond}
 use mathlib.Core.List.{List, [], _∷_, _++_, map}
-use Prim.Native.Nat.{ℕ, zero, suc, _+_, _-_}
+use Prim.Native.Nat.{ℕ, zero, suc, _+_, _-_, _<_}
 use native.Mathlib.Omega.{arith}
 use lib.Dec.{eqb, ltb, leb}
 use lib.ListN.{length, drop, length-append, length-drop, length-map, List·getD-append}
-use borrow.Author.Tests.{ltb-true, leb-false, lt-ltb, eqb-true, eq-eqb}
+use borrow.Author.Tests.{ltb-true, leb-false, lt-ltb, eq-eqb}
 use Rattle.records.specs.Lists.{all, any, distinct}
-use Rattle.records.proofs.Lists.{and-l, and-r, and-i, not-false, clash, all-of, any-out, eqb-comm, sameList-comm, all-snoc, pairwise-snoc, all-weaken, any-none, all-map}
+use Rattle.records.proofs.Lists.{and-l, and-r, and-i, all-of, any-out, eqb-comm, sameList-comm, all-snoc, pairwise-snoc, all-weaken, any-none, all-map}
 use Rattle.literals.specs.declared.Variable.{Variable}
 use Rattle.literals.specs.declared.Time.{Time}
 use Rattle.literals.specs.declared.Time.the-variants.{AtStart}
 use Rattle.literals.specs.declared.Clause.{Clause}
 use Rattle.literals.specs.declared.Clause.the-variants.{Positive, Negative, Add, Delete}
 use Rattle.literals.specs.Domain.{variable, sameVariable, Atom, sameLiteral, clauseNumber, firstRole, sameTime, Literal, Action, Component, Template, keysOf, labelsFit, Domain, arity}
-use Rattle.literals.specs.Decode.{RecordKind, relationRecord, actionRecord, literalRecord, componentRecord, closingRecord, unknownRecord, latest, byte, literalOf, repeats, contrary, together, contradicts, noRole, labelOf, componentOf, headStop, literalStop, labelStop, componentStop, fieldStop, stopOf, withLiteral, actionOf, extend, refuse, refused, domain, Reading, ReadTurn, goOn, finish, readStep, Finished, readFrom, noDomain, fromStart, readFile, decode, maxFile}
+use Rattle.literals.specs.Decode.{RecordKind, relationRecord, actionRecord, literalRecord, componentRecord, closingRecord, unknownRecord, latest, byte, literalOf, repeats, contrary, together, contradicts, labelOf, componentOf, literalStop, componentStop, fieldStop, stopOf, withLiteral, actionOf, extend, refuse, refused, domain, Reading, ReadTurn, goOn, finish, readStep, Finished, readFrom, noDomain, fromStart, readFile, decode, maxFile}
+use Rattle.literals.proofs.Stops.{passes, literal-passes, ComponentPasses, component-passes}
 use Rattle.literals.proofs.Loop.{read-more, read-done, goOn-at, finish-sofar}
 use Rattle.verdict.specs.Claims.{hasArity, wellFormedAction, wellFormedTemplate, wellFormed, DecodedIsWellFormed}
 
@@ -35,36 +36,6 @@ componentFits D n c = hasArity D (c .rel) (c .labels) && labelsFit n (c .labels)
 
 abbrev sameRelation : Component → Component → Bool
 sameRelation c d = eqb (c .rel) (d .rel)
-
--- ---- the rows that did not stop a record
-
-literal-rows : (a b c d e f g : Bool) → _≡_ {A = ℕ} (cond a 12 (cond b 16 (cond c 17 (cond d 12 (cond e 18 (cond f 19 (cond g 20 0))))))) 0
-    → (c ≡ false) × (d ≡ false) × (e ≡ false) × (f ≡ false) × (g ≡ false)
-literal-rows true b c d e f g z = absurd (omega arith)
-literal-rows false true c d e f g z = absurd (omega arith)
-literal-rows false false true d e f g z = absurd (omega arith)
-literal-rows false false false true e f g z = absurd (omega arith)
-literal-rows false false false false true f g z = absurd (omega arith)
-literal-rows false false false false false true g z = absurd (omega arith)
-literal-rows false false false false false false true z = absurd (omega arith)
-literal-rows false false false false false false false z = (refl, refl, refl, refl, refl)
-
-component-rows : (a b c d e : Bool) → _≡_ {A = ℕ} (cond a 12 (cond b 17 (cond c 12 (cond d 22 (cond e 0 21))))) 0
-    → (b ≡ false) × (c ≡ false) × (d ≡ false) × (e ≡ true)
-component-rows true b c d e z = absurd (omega arith)
-component-rows false true c d e z = absurd (omega arith)
-component-rows false false true d e z = absurd (omega arith)
-component-rows false false false true e z = absurd (omega arith)
-component-rows false false false false false z = absurd (omega arith)
-component-rows false false false false true z = (refl, refl, refl, refl)
-
--- a record that nothing stops has fields that nothing stops
-field-of : (h f : ℕ) → cond (eqb h 0) f h ≡ 0 → f ≡ 0
-field-of h f e = go (eqb h 0) refl e
-  where
-    go : (b : Bool) → eqb h 0 ≡ b → cond b f h ≡ 0 → f ≡ 0
-    go true q e = e
-    go false q e = absurd (clash (eq-eqb h 0 e) q)
 
 -- ---- the tests of two literals do not mind which comes first
 
@@ -109,12 +80,9 @@ contradicts-comm l m =
 
 -- ---- a relation with its arity
 
--- of a record with n bytes, k of them before the arguments, that the rows 17 and 12 did not stop
-has-arity : {A : Type 0} (D : Domain) (r n k : ℕ) (vs : List A) → leb (length (D .arities)) r ≡ false → not (eqb n (k + arity D r)) ≡ false → length vs ≡ n - k
-    → hasArity D r vs ≡ true
-has-arity D r n k vs e d q =
-    let w : n ≡ k + arity D r = eqb-true n (k + arity D r) (not-false _ d) in
-    and-i (lt-ltb r (length (D .arities)) (leb-false (length (D .arities)) r e)) (eq-eqb (length vs) (arity D r) (omega arith))
+-- of a record with n bytes, k of them before the arguments
+has-arity : {A : Type 0} (D : Domain) (r n k : ℕ) (vs : List A) → r < length (D .arities) → n ≡ k + arity D r → length vs ≡ n - k → hasArity D r vs ≡ true
+has-arity D r n k vs h w q = and-i (lt-ltb r (length (D .arities)) h) (eq-eqb (length vs) (arity D r) (omega arith))
 
 -- one relation more leaves the arities of those before it
 arity-more : {A : Type 0} (D : Domain) (p : List ℕ) (r : ℕ) (vs : List A) → hasArity D r vs ≡ true → hasArity (extend D relationRecord p) r vs ≡ true
@@ -175,7 +143,7 @@ literal-agrees l ms f g =
     (λ m i. and-i (ap not (repeats-comm m l ∙ any-out (repeats l) f i)) (ap not (contradicts-comm m l ∙ any-out (contradicts l) g i)))
 
 literal-keeps : (D : Domain) (p : List ℕ) → wellFormed D ≡ true → literalStop D p ≡ 0 → wellFormed (extend D literalRecord p) ≡ true
-unfolding wellFormed wellFormedAction wellFormedTemplate literalStop extend
+unfolding wellFormed wellFormedAction wellFormedTemplate extend
 literal-keeps D p h e = and-i (all-withLiteral (wellFormedAction D) (literalOf p) (D .actions) keeps (and-l _ _ h)) (and-r (all (wellFormedAction D) (D .actions)) _ h)
   where
     a : Action
@@ -183,15 +151,13 @@ literal-keeps D p h e = and-i (all-withLiteral (wellFormedAction D) (literalOf p
 
     keeps : wellFormedAction D a ≡ true → wellFormedAction D (oneMore (literalOf p) a) ≡ true
     keeps t =
-        let rows =
-        literal-rows (ltb (length p) 2) (noRole a (byte p 0)) (leb (length (D .arities)) (byte p 1)) (not (eqb (length p) (2 + arity D (byte p 1)))) (any (leb (a .vars)) (drop 2 p))
-        (any (repeats (literalOf p)) (a .lits)) (any (contradicts (literalOf p)) (a .lits)) e in
+        let q = literal-passes D p e in
         let new =
-        and-i (has-arity D (byte p 1) (length p) 2 (map variable (drop 2 p)) (rows .0) (rows .1) (length-map (drop 2 p) variable ∙ length-drop 2 p))
+        and-i (has-arity D (byte p 1) (length p) 2 (map variable (drop 2 p)) (q .relation) (q .arguments) (length-map (drop 2 p) variable ∙ length-drop 2 p))
         (all-map variable (λ (v : Variable). ltb (v .0) (a .vars)) (drop 2 p)
-        ∙ any-none (leb (a .vars)) (λ n. ltb n (a .vars)) (drop 2 p) (λ n k. lt-ltb n (a .vars) (leb-false (a .vars) n k)) (rows .2)) in
+        ∙ any-none (leb (a .vars)) (λ n. ltb n (a .vars)) (drop 2 p) (λ n k. lt-ltb n (a .vars) (leb-false (a .vars) n k)) (q .variables)) in
         and-i (all-snoc (literalFits D (a .vars)) (a .lits) (literalOf p) (and-l _ _ t) new)
-        (pairwise-snoc agree (a .lits) (literalOf p) (and-r (all (literalFits D (a .vars)) (a .lits)) _ t) (literal-agrees (literalOf p) (a .lits) (rows .3) (rows .4)))
+        (pairwise-snoc agree (a .lits) (literalOf p) (and-r (all (literalFits D (a .vars)) (a .lits)) _ t) (literal-agrees (literalOf p) (a .lits) (q .once) (q .agrees)))
 
 -- ---- kind 4: one component more
 
@@ -201,7 +167,7 @@ keys-kept D [] c h = refl
 keys-kept D (d ∷ ds) c h = h
 
 component-keeps : (D : Domain) (p : List ℕ) → wellFormed D ≡ true → componentStop D p ≡ 0 → wellFormed (extend D componentRecord p) ≡ true
-unfolding wellFormed wellFormedAction wellFormedTemplate componentStop labelStop extend
+unfolding wellFormed wellFormedAction wellFormedTemplate extend
 component-keeps D p h e =
     and-i {a = all (wellFormedAction D) (D .actions)} (and-l _ _ h)
     (and-i (pairwise-snoc (λ d x. not (sameRelation d x)) (D .template) c (and-l _ _ t) other)
@@ -216,24 +182,23 @@ component-keeps D p h e =
     t : wellFormedTemplate D ≡ true
     t = and-r (all (wellFormedAction D) (D .actions)) _ h
 
-    rows : (leb (length (D .arities)) (byte p 0) ≡ false) × (not (eqb (length p) (1 + arity D (byte p 0))) ≡ false) × (any (sameRelation c) (D .template) ≡ false) × (labelsFit n (c .labels) ≡ true)
-    rows =
-        component-rows (ltb (length p) 1) (leb (length (D .arities)) (byte p 0)) (not (eqb (length p) (1 + arity D (byte p 0)))) (any (sameRelation c) (D .template)) (labelsFit n (c .labels)) e
+    q : ComponentPasses D p
+    q = component-passes D p e
 
     other : all (λ d. not (sameRelation d c)) (D .template) ≡ true
-    other = any-none (sameRelation c) (λ d. not (sameRelation d c)) (D .template) (λ d k. ap not (eqb-comm (d .rel) (c .rel) ∙ k)) (rows .2)
+    other = any-none (sameRelation c) (λ d. not (sameRelation d c)) (D .template) (λ d k. ap not (eqb-comm (d .rel) (c .rel) ∙ k)) (q .once)
 
     new : componentFits D n c ≡ true
-    new = and-i (has-arity D (byte p 0) (length p) 1 (c .labels) (rows .0) (rows .1) (length-map (drop 1 p) labelOf ∙ length-drop 1 p)) (rows .3)
+    new = and-i (has-arity D (byte p 0) (length p) 1 (c .labels) (q .relation) (q .arguments) (length-map (drop 1 p) labelOf ∙ length-drop 1 p)) (q .labels)
 
 -- ---- the file
 
 record-keeps : (D : Domain) (k : RecordKind) (p : List ℕ) → wellFormed D ≡ true → stopOf D k p ≡ 0 → wellFormed (extend D k p) ≡ true
-unfolding stopOf fieldStop extend
+unfolding fieldStop extend
 record-keeps D relationRecord p h e = relation-keeps D p h
 record-keeps D actionRecord p h e = action-keeps D p h
-record-keeps D literalRecord p h e = literal-keeps D p h (field-of (headStop D literalRecord) (literalStop D p) e)
-record-keeps D componentRecord p h e = component-keeps D p h (field-of (headStop D componentRecord) (componentStop D p) e)
+record-keeps D literalRecord p h e = literal-keeps D p h (passes D literalRecord p e .fields)
+record-keeps D componentRecord p h e = component-keeps D p h (passes D componentRecord p e .fields)
 record-keeps D closingRecord p h e = h
 record-keeps D unknownRecord p h e = h
 

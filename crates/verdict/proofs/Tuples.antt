@@ -2,7 +2,7 @@
 use mathlib.Core.Path.{_≡_, refl, sym, ap, ap₂, _∙_}
 use mathlib.Core.Bool.{Bool, true, false, not}
 use mathlib.Core.Logic.{_⊎_, inl, inr}
-use mathlib.Core.List.{List, [], _∷_, _++_, map, List·Memᴰ·head, List·Memᴰ·tail, List·Memᴰ·not-nil, List·Memᴰ·append-cases, Memᴰ·of-map, Memᴰ·map, Memᴰ·cast, nil≢cons, cons≢nil, head-eq-of-cons-eq, tail-eq-of-cons-eq}
+use mathlib.Core.List.{List, [], _∷_, _++_, map, map-append, List·Memᴰ·head, List·Memᴰ·tail, List·Memᴰ·not-nil, List·Memᴰ·append-cases, Memᴰ·of-map, Memᴰ·map, Memᴰ·cast, nil≢cons, cons≢nil, head-eq-of-cons-eq, tail-eq-of-cons-eq}
 use Prim.Native.Nat.{ℕ, zero, suc, _<_}
 use native.Mathlib.Nat.{not-suc-le-zero, le-of-suc-le-suc}
 use lib.ListN.{getD, length, length-map}
@@ -20,10 +20,6 @@ use Rattle.verdict.proofs.Equality.{variable-eq, variable-self, object-
 -- ---- tuples of the arguments' images
 
 module _ {A B : Type 0} (f : A → B) where
-  map-append : (xs ys : List A) → map f (xs ++ ys) ≡ map f xs ++ map f ys
-  map-append [] ys = refl
-  map-append (x ∷ xs) ys = ap {B = List B} (λ l. f x ∷ l) (map-append xs ys)
-
   pub under-map : (k : Key) (ls : List Label) (vs : List A) → under k ls (map f vs) ≡ map f (under k ls vs)
   under-map k [] vs = refl
   under-map k (l ∷ ls) [] = refl
@@ -35,7 +31,7 @@ module _ {A B : Type 0} (f : A → B) where
 
   pub keyTuple-map : (n : ℕ) (ls : List Label) (vs : List A) → keyTuple n ls (map f vs) ≡ map f (keyTuple n ls vs)
   keyTuple-map zero ls vs = refl
-  keyTuple-map (suc n) ls vs = ap₂ _++_ (keyTuple-map n ls vs) (under-map (key n) ls vs) ∙ sym (map-append (keyTuple n ls vs) (under (key n) ls vs))
+  keyTuple-map (suc n) ls vs = ap₂ _++_ (keyTuple-map n ls vs) (under-map (key n) ls vs) ∙ sym (map-append f (keyTuple n ls vs) (under (key n) ls vs))
 
 -- the tuples of a bound literal are the bound tuples
 pub tuples-bind : (b : Binding) (n : ℕ) (cs : List Component) (p : Atom Variable) → tuplesBy n cs (bind b p) ≡ map (bindTuple b) (tuplesBy n cs p)

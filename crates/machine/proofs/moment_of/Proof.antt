@@ -1,4 +1,4 @@
--- Assumes nothing.
+-- `moment_of` meets its contract. Assumes nothing.
 use borrow.Author.Tests.{eq-eqb, ne-eqb}
 use Rattle.machine.proofs.moment_of.Statement.{statement}
 use Rattle.machine.proofs.moment_of.Tie as tie

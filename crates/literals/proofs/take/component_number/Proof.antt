@@ -1,4 +1,4 @@
--- Assumes nothing.
+-- `component_number` meets its contract. Assumes nothing.
 use mathlib.Core.Path.{_≡_, sym, _∙_}
 use mathlib.Core.List.{List}
 use Prim.Native.Nat.{ℕ, _≤_}
@@ -10,12 +10,6 @@ use Rattle.literals.specs.Table.{componentFields, Shaped}
 use Rattle.literals.proofs.Takes.{component-short, component-fields-stop, component-used, component-labels}
 use Rattle.literals.proofs.take.component_number.Statement.{statement}
 use Rattle.literals.proofs.take.component_number.Tie as tie
-use Rattle.literals.proofs.take.component_number.Reads as reads
-use Rattle.literals.proofs.take.component_number.Lts as lts
-use Rattle.literals.proofs.fields.component_fields.Reads as component-fields-reads
-use Rattle.literals.proofs.row.any_row.Reads as any-row-reads
-use Rattle.literals.proofs.take.keys_with.Reads as keys-with-reads
-use Rattle.literals.proofs.fields.label_fields.Reads as label-fields-reads
 
 -- fields that pass leave at most 6 labels
 short : (i : Index) → Shaped i → (p : List ℕ) {n : ℕ} → n ≡ componentFields (take (i .relations) (i .arities)) p → n ≡ 0 → (1 ≤ length p) × (length p ≤ 7)

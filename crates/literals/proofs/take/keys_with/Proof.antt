@@ -1,14 +1,11 @@
--- Assumes nothing.
-use mathlib.Core.Path.{_≡_, _∙_}
+-- `keys_with` meets its contract. Assumes nothing.
+use mathlib.Core.Path.{_∙_}
 use native.Mathlib.Omega.{arith}
 use borrow.Author.Needs.{needs}
 use Rattle.literals.specs.Decode.{componentOf}
 use Rattle.literals.proofs.Takes.{keys-first, keys-later, keys-short}
 use Rattle.literals.proofs.take.keys_with.Statement.{statement}
 use Rattle.literals.proofs.take.keys_with.Tie as tie
-use Rattle.literals.proofs.take.keys_with.Reads as reads
-use Rattle.literals.proofs.take.keys_with.Lts as lts
-use Rattle.literals.proofs.fields.count_keys.Reads as count-keys-reads
 
 count-keys-requires : tie.Need-count-keys-requires
 count-keys-requires c κs = search needs

@@ -1,5 +1,5 @@
--- Assumes nothing.
-use mathlib.Core.Path.{_≡_, refl, sym, ap, _∙_}
+-- `literal_number` meets its contract. Assumes nothing.
+use mathlib.Core.Path.{_≡_, sym, ap, _∙_}
 use mathlib.Core.List.{List}
 use Prim.Native.Nat.{ℕ, _+_, _-_, _≤_}
 use native.Mathlib.Omega.{arith}
@@ -10,10 +10,6 @@ use Rattle.literals.specs.Table.{literalFields, Shaped}
 use Rattle.literals.proofs.Takes.{literal-short, literal-fields-stop, literal-repeated, literal-contradicted, literal-fresh}
 use Rattle.literals.proofs.take.literal_number.Statement.{statement}
 use Rattle.literals.proofs.take.literal_number.Tie as tie
-use Rattle.literals.proofs.take.literal_number.Reads as reads
-use Rattle.literals.proofs.take.literal_number.Lts as lts
-use Rattle.literals.proofs.fields.literal_fields.Reads as literal-fields-reads
-use Rattle.literals.proofs.row.rows_rank.Reads as rows-rank-reads
 
 -- fields that pass leave at most 8 bytes
 short : (i : Index) → Shaped i → (v s : ℕ) (p : List ℕ) {n : ℕ} → n ≡ literalFields (take (i .relations) (i .arities)) v s p → n ≡ 0 → (2 ≤ length p) × (length p ≤ 8)

@@ -1,5 +1,5 @@
--- Assumes nothing.
-use mathlib.Core.Path.{_≡_, refl, sym, _∙_}
+-- `take_action` meets its contract. Assumes nothing.
+use mathlib.Core.Path.{refl, sym, _∙_}
 use native.Mathlib.Omega.{arith}
 use borrow.Author.Needs.{needs}
 use Rattle.literals.proofs.Stops.{action-passes}
@@ -7,9 +7,6 @@ use Rattle.literals.proofs.Indexed.{index-action}
 use Rattle.literals.proofs.Takes.{action-behind-components, action-full, action-refused, action-taken, sort-is}
 use Rattle.literals.proofs.take.take_action.Statement.{statement}
 use Rattle.literals.proofs.take.take_action.Tie as tie
-use Rattle.literals.proofs.take.take_action.Reads as reads
-use Rattle.literals.proofs.take.take_action.Lts as lts
-use Rattle.literals.proofs.fields.action_fields.Reads as action-fields-reads
 
 returns : tie.Need-returns
 returns c D h = action-behind-components h _ (c .if1 .taken)

@@ -1,5 +1,4 @@
--- Assumes nothing.
-use native.Mathlib.Omega.{arith}
+-- `take_closing` meets its contract. Assumes nothing.
 use Rattle.literals.proofs.Takes.{closing-long, closing-alone, closing-taken}
 use Rattle.literals.proofs.take.take_closing.Statement.{statement}
 use Rattle.literals.proofs.take.take_closing.Tie as tie

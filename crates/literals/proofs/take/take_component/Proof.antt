@@ -1,5 +1,5 @@
--- Assumes nothing.
-use mathlib.Core.Path.{_≡_, refl, sym, _∙_}
+-- `take_component` meets its contract. Assumes nothing.
+use mathlib.Core.Path.{sym, _∙_}
 use native.Mathlib.Omega.{arith}
 use borrow.Author.Needs.{needs}
 use Rattle.literals.proofs.Stops.{component-passes}
@@ -7,11 +7,6 @@ use Rattle.literals.proofs.Indexed.{index-component}
 use Rattle.literals.proofs.Takes.{component-full, component-refused, component-taken}
 use Rattle.literals.proofs.take.take_component.Statement.{statement}
 use Rattle.literals.proofs.take.take_component.Tie as tie
-use Rattle.literals.proofs.take.take_component.Reads as reads
-use Rattle.literals.proofs.take.take_component.Lts as lts
-use Rattle.literals.proofs.row.put_row.Reads as put-row-reads
-use Rattle.literals.proofs.take.component_number.Reads as component-number-reads
-use Rattle.literals.proofs.take.keys_with.Reads as keys-with-reads
 
 returns : tie.Need-returns
 returns c D h = component-full h _ (c .if1 .taken)

@@ -1,5 +1,5 @@
--- Assumes nothing.
-use mathlib.Core.Path.{_≡_, refl, sym, _∙_}
+-- `take_literal` meets its contract. Assumes nothing.
+use mathlib.Core.Path.{_≡_, refl}
 use native.Mathlib.Omega.{arith}
 use lib.ListN.{length}
 use borrow.Author.Needs.{needs}
@@ -7,10 +7,6 @@ use Rattle.literals.proofs.Indexed.{index-literal}
 use Rattle.literals.proofs.Written.{literal-13, literal-13-late, literal-14, literal-refused, literal-taken}
 use Rattle.literals.proofs.take.take_literal.Statement.{statement}
 use Rattle.literals.proofs.take.take_literal.Tie as tie
-use Rattle.literals.proofs.take.take_literal.Reads as reads
-use Rattle.literals.proofs.take.take_literal.Lts as lts
-use Rattle.literals.proofs.row.put_row.Reads as put-row-reads
-use Rattle.literals.proofs.take.literal_number.Reads as literal-number-reads
 
 returns : tie.Need-returns
 returns c D old h t = literal-13 h _ old t (c .if1 .taken)

@@ -1,5 +1,4 @@
--- Assumes nothing.
-use mathlib.Core.Path.{_≡_, refl}
+-- `take_record` meets its contract. Assumes nothing.
 use native.Mathlib.Omega.{arith}
 use borrow.Author.Needs.{needs}
 use Rattle.literals.specs.Decode.{relationRecord, actionRecord, literalRecord, componentRecord, closingRecord, unknownRecord}
@@ -7,13 +6,6 @@ use Rattle.literals.proofs.Takes.{unknown-refused}
 use Rattle.literals.proofs.Written.{same-relation, same-action, same-component, same-closing, same-unknown, by-kind, unwritten, kind-1, kind-2, kind-3, kind-4, kind-5, kind-other}
 use Rattle.literals.proofs.take.take_record.Statement.{statement}
 use Rattle.literals.proofs.take.take_record.Tie as tie
-use Rattle.literals.proofs.take.take_record.Reads as reads
-use Rattle.literals.proofs.take.take_record.Lts as lts
-use Rattle.literals.proofs.take.take_relation.Reads as take-relation-reads
-use Rattle.literals.proofs.take.take_action.Reads as take-action-reads
-use Rattle.literals.proofs.take.take_literal.Reads as take-literal-reads
-use Rattle.literals.proofs.take.take_component.Reads as take-component-reads
-use Rattle.literals.proofs.take.take_closing.Reads as take-closing-reads
 
 take-relation-requires : tie.Need-take-relation-requires
 take-relation-requires c κs = search needs

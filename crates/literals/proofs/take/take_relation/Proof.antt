@@ -1,5 +1,5 @@
--- Assumes nothing.
-use mathlib.Core.Path.{_≡_, refl, sym, _∙_}
+-- `take_relation` meets its contract. Assumes nothing.
+use mathlib.Core.Path.{refl, sym, _∙_}
 use native.Mathlib.Omega.{arith}
 use borrow.Author.Needs.{needs}
 use Rattle.literals.proofs.Stops.{relation-passes}
@@ -7,9 +7,6 @@ use Rattle.literals.proofs.Indexed.{index-relation}
 use Rattle.literals.proofs.Takes.{relation-behind-actions, relation-behind-components, relation-full, relation-refused, relation-taken}
 use Rattle.literals.proofs.take.take_relation.Statement.{statement}
 use Rattle.literals.proofs.take.take_relation.Tie as tie
-use Rattle.literals.proofs.take.take_relation.Reads as reads
-use Rattle.literals.proofs.take.take_relation.Lts as lts
-use Rattle.literals.proofs.fields.relation_fields.Reads as relation-fields-reads
 
 returns : tie.Need-returns
 returns c D h = relation-behind-actions h _ (c .if1 .taken)
