@@ -248,7 +248,9 @@ pub record RunFiles : Type 0 where
   pub close-long : play lamps (begun ++ rec 20 (0 ∷ [])) ≡ stops 50 11 0 1 (held (lit 0)) (rec 20 (0 ∷ []))
   pub event-waits : play lamps (begun ++ light 1 ++ closeRun) ≡ stops 50 18 0 1 (held (lit 0)) closeRun
   -- when the start counts: not before an uncut record of kind 18 to 20, whole even where that record is refused, as above
-  pub unknown-kind : play lamps (begun ++ rec 21 []) ≡ stops 50 11 0 0 (held (lit 0)) (rec 21 [])
+  pub kind-15 : play lamps (begun ++ rec 15 []) ≡ stops 50 11 0 0 (held (lit 0)) (rec 15 [])
+  pub kind-21 : play lamps (begun ++ rec 21 []) ≡ stops 50 11 0 0 (held (lit 0)) (rec 21 [])
+  pub kind-275 : play lamps (begun ++ (0 ∷ 0 ∷ 19 ∷ 1 ∷ [])) ≡ stops 50 11 0 0 (held (lit 0)) (0 ∷ 0 ∷ 19 ∷ 1 ∷ [])
   pub event-cut : play lamps (begun ++ (3 ∷ 0 ∷ 18 ∷ 0 ∷ 0 ∷ 0 ∷ [])) ≡ stops 50 11 0 0 (held (lit 0)) (3 ∷ 0 ∷ 18 ∷ 0 ∷ 0 ∷ 0 ∷ [])
   pub start-alone : play lamps (begun ++ closeRun) ≡ plays 0 1 (held (lit 0)) 15
   -- a run that is not closed, at its length; bytes behind its close, from the first of them
@@ -294,7 +296,9 @@ runFiles =
       step-long = refl;
       close-long = refl;
       event-waits = refl;
-      unknown-kind = refl;
+      kind-15 = refl;
+      kind-21 = refl;
+      kind-275 = refl;
       event-cut = refl;
       start-alone = refl;
       not-closed = refl;
