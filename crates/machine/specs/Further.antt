@@ -44,13 +44,13 @@ pub record Names : Type 0 where
       ≡ role AtStart Positive ∷ role AtStart Negative ∷ role AtStart Add ∷ role AtStart Delete
       ∷ role OverAll Positive ∷ role OverAll Negative
       ∷ role AtEnd Positive ∷ role AtEnd Negative ∷ role AtEnd Add ∷ role AtEnd Delete ∷ []
-  -- an over-all true condition counts at the end, which is balanced by it and else were unbounded
+  -- an over-all true condition counts at the end: without it this end would be unbounded
   pub over-all-at-end : judge (library (lasting 3 ++ holdsOverAll (at 0 1) ++ addsAtEnd (at 0 2) ++ deletesAtEnd (at 0 1)))
       ≡ answers 0 0 0 0 (row 0 0 0 irrelevant ++ row 0 0 1 balanced) []
-  -- and doesn't count at the start, which else were balanced by it; nor is it in the start's witness
+  -- it doesn't count at the start, which would be balanced by it, nor is it in the start's witness
   pub over-all-not-at-start : judge (library (lasting 2 ++ adds (at 0 1) ++ holdsOverAll (at 0 1)))
       ≡ answers 42 0 0 0 (row 0 0 0 unbounded ++ row 0 0 1 irrelevant) (held (at 0 2))
-  -- a literal in roles 4 and 6 counts once, else the end were unreachable; its fact is in the witness once
+  -- a literal in roles 4 and 6 counts once: twice would make the end unreachable; its fact is in the witness once
   pub over-all-and-end-once : judge (library (lasting 3 ++ holdsOverAll (at 0 1) ++ holdsAtEnd (at 0 1) ++ addsAtEnd (at 0 2)))
       ≡ answers 41 0 0 1 (row 0 0 0 irrelevant ++ row 0 0 1 unbalanced) (held (at 0 1))
   -- two over-all true conditions of the class make its end unreachable
@@ -189,47 +189,48 @@ room =
 -- ---- refusals, 9 to 23
 
 -- full/1 and an action of one variable, 11 bytes; a literal of full has 7, a component 6
-abbrev once : List ℕ
-once = relation 1 ++ atOnce 1
+abbrev startAtOnce : List ℕ
+startAtOnce = relation 1 ++ atOnce 1
 
-abbrev long : List ℕ
-long = relation 1 ++ lasting 1
+abbrev startLasting : List ℕ
+startLasting = relation 1 ++ lasting 1
 
 -- a whole file, 14 bytes
 abbrev whole : List ℕ
 whole = relation 0 ++ component (0 ∷ []) ++ closing
 
 pub record Refusals : Type 0 where
-  -- 9: 65,536 bytes; one fewer is read, and is no record here
+  -- 9: 65,536 bytes; one fewer is read, and its first record is of no kind
   pub too-long : judge (lent 65536) ≡ refuses 9 0
   pub longest : judge (lent 65535) ≡ refuses 11 0
   -- 10: a head, or a payload, that runs past the end; no closing record is told at the file's length
   pub head-cut : judge (0 ∷ 0 ∷ 5 ∷ []) ≡ refuses 10 0
   pub payload-cut : judge (relation 1 ++ (1 ∷ 0 ∷ 1 ∷ 0 ∷ [])) ≡ refuses 10 5
-  pub not-closed : judge once ≡ refuses 10 11
+  pub not-closed : judge startAtOnce ≡ refuses 10 11
   -- the length's second byte counts 256
   pub length-high : judge (0 ∷ 1 ∷ 5 ∷ 0 ∷ []) ≡ refuses 10 0
   -- 10 before 11
   pub cut-before-unknown : judge (1 ∷ 0 ∷ 6 ∷ 0 ∷ []) ≡ refuses 10 0
-  -- 11: the kind's second byte counts 256
+  -- 11: below 1 and above 5; the kind's second byte counts 256
+  pub kind-0 : judge (relation 1 ++ rec 0 []) ≡ refuses 11 5
   pub kind-6 : judge (relation 1 ++ rec 6 []) ≡ refuses 11 5
   pub kind-257 : judge (1 ∷ 0 ∷ 1 ∷ 1 ∷ 1 ∷ []) ≡ refuses 11 0
   -- 12: before 15, and before 23
   pub action-short : judge (rec 2 (17 ∷ [])) ≡ refuses 12 0
   pub closing-long : judge (rec 5 (0 ∷ [])) ≡ refuses 12 0
   -- before 16 where the payload is too short for any relation
-  pub literal-short : judge (once ++ rec 3 (10 ∷ [])) ≡ refuses 12 11
+  pub literal-short : judge (startAtOnce ++ rec 3 (10 ∷ [])) ≡ refuses 12 11
   -- before 18 once the relation is known, and before 21 and 22
-  pub literal-long : judge (once ++ holds (0 ∷ 9 ∷ 9 ∷ [])) ≡ refuses 12 11
-  pub component-long : judge (once ++ component (full 0) ++ component (0 ∷ 9 ∷ 9 ∷ [])) ≡ refuses 12 17
-  pub component-empty : judge (once ++ component []) ≡ refuses 12 11
+  pub literal-long : judge (startAtOnce ++ holds (0 ∷ 9 ∷ 9 ∷ [])) ≡ refuses 12 11
+  pub component-long : judge (startAtOnce ++ component (full 0) ++ component (0 ∷ 9 ∷ 9 ∷ [])) ≡ refuses 12 17
+  pub component-empty : judge (startAtOnce ++ component []) ≡ refuses 12 11
   -- 13: each kind behind its place, and a literal before any action
-  pub relation-late : judge (once ++ relation 1) ≡ refuses 13 11
-  pub action-late : judge (once ++ component (full 0) ++ atOnce 1) ≡ refuses 13 17
-  pub literal-late : judge (once ++ component (full 0) ++ adds (full 0)) ≡ refuses 13 17
+  pub relation-late : judge (startAtOnce ++ relation 1) ≡ refuses 13 11
+  pub action-late : judge (startAtOnce ++ component (full 0) ++ atOnce 1) ≡ refuses 13 17
+  pub literal-late : judge (startAtOnce ++ component (full 0) ++ adds (full 0)) ≡ refuses 13 17
   pub literal-early : judge (relation 1 ++ adds (full 0)) ≡ refuses 13 5
   -- before 12
-  pub order-before-length : judge (once ++ rec 1 []) ≡ refuses 13 11
+  pub order-before-length : judge (startAtOnce ++ rec 1 []) ≡ refuses 13 11
   -- before 14: a 65th relation that comes late
   pub order-before-limit : judge (each 64 (λ i. relation 0) ++ atOnce 0 ++ relation 0) ≡ refuses 13 326
   -- behind the closing record before all else: a byte that is no head, a second closing record, an unknown kind
@@ -248,27 +249,27 @@ pub record Refusals : Type 0 where
   pub variables-17 : judge (atOnce 17) ≡ refuses 15 0
   pub sort-2 : judge (rec 2 (1 ∷ 2 ∷ [])) ≡ refuses 15 0
   -- 16: no such role, or one of a lasting action
-  pub role-10 : judge (long ++ literal 10 (full 0)) ≡ refuses 16 11
-  pub role-4-at-once : judge (once ++ holdsOverAll (full 0)) ≡ refuses 16 11
+  pub role-10 : judge (startLasting ++ literal 10 (full 0)) ≡ refuses 16 11
+  pub role-4-at-once : judge (startAtOnce ++ holdsOverAll (full 0)) ≡ refuses 16 11
   -- before 17, and before a length that only the relation tells
-  pub role-before-relation : judge (once ++ literal 10 (9 ∷ 0 ∷ [])) ≡ refuses 16 11
-  pub role-before-length : judge (once ++ literal 10 (0 ∷ 0 ∷ 0 ∷ [])) ≡ refuses 16 11
+  pub role-before-relation : judge (startAtOnce ++ literal 10 (9 ∷ 0 ∷ [])) ≡ refuses 16 11
+  pub role-before-length : judge (startAtOnce ++ literal 10 (0 ∷ 0 ∷ 0 ∷ [])) ≡ refuses 16 11
   -- 17: before that length
-  pub literal-relation : judge (once ++ holds (1 ∷ 0 ∷ [])) ≡ refuses 17 11
-  pub relation-before-length : judge (once ++ holds (1 ∷ [])) ≡ refuses 17 11
-  pub component-relation : judge (once ++ component (1 ∷ 0 ∷ [])) ≡ refuses 17 11
+  pub literal-relation : judge (startAtOnce ++ holds (1 ∷ 0 ∷ [])) ≡ refuses 17 11
+  pub relation-before-length : judge (startAtOnce ++ holds (1 ∷ [])) ≡ refuses 17 11
+  pub component-relation : judge (startAtOnce ++ component (1 ∷ 0 ∷ [])) ≡ refuses 17 11
   -- 18
-  pub variable-1 : judge (once ++ holds (full 1)) ≡ refuses 18 11
+  pub variable-1 : judge (startAtOnce ++ holds (full 1)) ≡ refuses 18 11
   -- 19: in its role; true, added and deleted at once is no repeat
-  pub repeated : judge (once ++ holds (full 0) ++ adds (full 0) ++ deletes (full 0) ++ adds (full 0)) ≡ refuses 19 32
+  pub repeated : judge (startAtOnce ++ holds (full 0) ++ adds (full 0) ++ deletes (full 0) ++ adds (full 0)) ≡ refuses 19 32
   -- 20: among roles 0 and 1, and among 4 to 7, in either order
-  pub false-and-true : judge (once ++ lacks (full 0) ++ holds (full 0)) ≡ refuses 20 18
-  pub over-all-and-end : judge (long ++ holdsOverAll (full 0) ++ lacksAtEnd (full 0)) ≡ refuses 20 18
-  pub end-and-over-all : judge (long ++ holdsAtEnd (full 0) ++ lacksOverAll (full 0)) ≡ refuses 20 18
+  pub false-and-true : judge (startAtOnce ++ lacks (full 0) ++ holds (full 0)) ≡ refuses 20 18
+  pub over-all-and-end : judge (startLasting ++ holdsOverAll (full 0) ++ lacksAtEnd (full 0)) ≡ refuses 20 18
+  pub end-and-over-all : judge (startLasting ++ holdsAtEnd (full 0) ++ lacksOverAll (full 0)) ≡ refuses 20 18
   -- not across: true at the start and false at the end, false at the start and true over all
-  pub start-and-end : judge (long ++ holds (full 0) ++ lacksAtEnd (full 0) ++ component (full 0) ++ closing)
+  pub start-and-end : judge (startLasting ++ holds (full 0) ++ lacksAtEnd (full 0) ++ component (full 0) ++ closing)
       ≡ answers 0 0 0 0 (row 0 0 0 irrelevant ++ row 0 0 1 irrelevant) []
-  pub start-and-over-all : judge (long ++ lacks (full 0) ++ holdsOverAll (full 0) ++ component (full 0) ++ closing)
+  pub start-and-over-all : judge (startLasting ++ lacks (full 0) ++ holdsOverAll (full 0) ++ component (full 0) ++ closing)
       ≡ answers 0 0 0 0 (row 0 0 0 irrelevant ++ row 0 0 1 irrelevant) []
   -- 21: two FF; a key twice; a key that isn't below n; another n than the first component's, more and fewer
   pub two-counted : judge (relation 3 ++ component (0 ∷ 0 ∷ FF ∷ FF ∷ [])) ≡ refuses 21 5
@@ -277,9 +278,9 @@ pub record Refusals : Type 0 where
   pub more-keys : judge (relation 1 ++ relation 2 ++ component (full 0) ++ component (out 0 1)) ≡ refuses 21 16
   pub fewer-keys : judge (relation 1 ++ relation 1 ++ component (full 0) ++ component (empty FF)) ≡ refuses 21 16
   -- 22: before 21
-  pub used-before : judge (once ++ component (full 0) ++ component (full 9)) ≡ refuses 22 17
+  pub used-before : judge (startAtOnce ++ component (full 0) ++ component (full 9)) ≡ refuses 22 17
   -- 23
-  pub no-component : judge (once ++ closing) ≡ refuses 23 11
+  pub no-component : judge (startAtOnce ++ closing) ≡ refuses 23 11
 
 pub refusals : Refusals
 unfolding judged reportAfter witnessAfter
@@ -292,6 +293,7 @@ refusals =
       not-closed = refl;
       length-high = refl;
       cut-before-unknown = refl;
+      kind-0 = refl;
       kind-6 = refl;
       kind-257 = refl;
       action-short = refl;

@@ -2,17 +2,18 @@
 use mathlib.Core.Path.{_≡_, refl}
 use mathlib.Core.List.{List, [], _∷_, _++_}
 use Prim.Native.Nat.{ℕ}
+use Rattle.verdict.specs.Judged.{decidedFile}
 use Rattle.machine.specs.Play.{ofDomain, ofRun, played, workAfter, returned, returnedBytes}
-use Rattle.machine.specs.Written.{rec, each, relation, atOnce, lasting, component, closing, objects, fact, event, closeStep, closeRun}
+use Rattle.machine.specs.Written.{FF, rec, each, relation, atOnce, lasting, component, closing, objects, fact, event, closeStep, closeRun}
 use Rattle.machine.specs.Written.{holds, lacks, adds, deletes, holdsOverAll, lacksOverAll, lent, zeroed, held, playing, play, reply, plays, stops}
 use Rattle.machine.specs.Samples.{at, out, m1, m3}
 
--- ---- the domain of most cases: lit/1, labelled 0, so that an instance is an object and weighs at most 1; its template is accepted
+-- ---- the domain of most cases: lit/1, labelled 0, so that an instance is an object and weighs at most 1; its template is accepted, 0
 
 abbrev lit : ℕ → List ℕ
 lit x = 0 ∷ x ∷ []
 
--- the actions 0 to 7
+-- with the actions 0 to 7
 abbrev lamps : List ℕ
 lamps =
     relation 1
@@ -75,6 +76,7 @@ rest = closeStep ++ closeRun
 -- ---- steps: what is allowed, and the state afterwards
 
 pub record Steps : Type 0 where
+  pub lamps-accepted : decidedFile lamps ≡ record { number = 0; first = 0; second = 0; third = 0 }
   -- 56: a true condition of one is a delete of the other, either way round
   pub true-deleted : play lamps (step (fact (lit 0)) (see 0 ++ snuff 0)) ≡ stops 56 25 0 1 (held (lit 0)) rest
   pub deleted-true : play lamps (step (fact (lit 0)) (snuff 0 ++ see 0)) ≡ stops 56 25 0 1 (held (lit 0)) rest
@@ -145,9 +147,10 @@ pub record Steps : Type 0 where
   pub empty-step : play lamps (objects 1 ++ closeStep ++ closeRun) ≡ plays 1 0 [] 13
 
 pub steps : Steps
-unfolding played workAfter returned returnedBytes
+unfolding decidedFile played workAfter returned returnedBytes
 steps =
     record {
+      lamps-accepted = refl;
       true-deleted = refl;
       deleted-true = refl;
       true-added = refl;
@@ -186,9 +189,9 @@ steps =
 
 -- ---- limits of the player, and which record is at fault: 50 to 54
 
--- an action of one variable at once, and a lasting one without variables, neither with a literal
+-- an action of one variable at once and a lasting one without variables, neither with a literal, and one at once that adds a fact without arguments
 abbrev calm : List ℕ
-calm = relation 0 ++ atOnce 1 ++ lasting 0 ++ component (0 ∷ []) ++ closing
+calm = relation 0 ++ atOnce 1 ++ lasting 0 ++ (atOnce 0 ++ adds (0 ∷ [])) ++ component (0 ∷ []) ++ closing
 
 -- 7 bytes
 abbrev nod : ℕ → List ℕ
@@ -198,14 +201,17 @@ nod x = event 0 0 (x ∷ [])
 abbrev wait : List ℕ
 wait = event 0 1 []
 
+abbrev mark : List ℕ
+mark = event 0 2 []
+
 -- three objects, and the start fact lit(0): 11 bytes
 abbrev begun : List ℕ
 begun = objects 3 ++ fact (lit 0)
 
 pub record RunFiles : Type 0 where
-  -- 52: 32 equal entries are open, a 33rd is too many
+  -- 52: 32 equal entries are open, a 33rd is too many, and nothing of its step is done
   pub open-32 : play calm (objects 1 ++ each 32 (λ i. wait ++ closeStep) ++ closeRun) ≡ plays 32 0 [] 329
-  pub open-33 : play calm (objects 1 ++ each 33 (λ i. wait ++ closeStep) ++ closeRun) ≡ stops 52 331 32 0 [] rest
+  pub open-33 : play calm (objects 1 ++ each 32 (λ i. wait ++ closeStep) ++ mark ++ wait ++ closeStep ++ closeRun) ≡ stops 52 337 32 0 [] rest
   -- events at once open nothing
   pub at-once-33 : play calm (objects 1 ++ each 33 (λ i. nod 0 ++ closeStep) ++ closeRun) ≡ plays 33 0 [] 372
   -- 52: 16 events make a step, a 17th is too many; 54 comes first
@@ -215,7 +221,7 @@ pub record RunFiles : Type 0 where
   -- 54: in its step, not in the next
   pub event-repeated : play calm (objects 1 ++ nod 0 ++ nod 0 ++ closeStep ++ closeRun) ≡ stops 54 12 0 0 [] (nod 0 ++ rest)
   pub event-in-two-steps : play calm (objects 1 ++ nod 0 ++ closeStep ++ nod 0 ++ closeStep ++ closeRun) ≡ plays 2 0 [] 31
-  -- 50: before the record of kind 16 there is nothing; nor a second one, nor a start fact behind an event or a step's close
+  -- 50: nothing stands before the record of kind 16, which stands once; no start fact stands behind an event or a step's close
   pub empty-run : play lamps [] ≡ stops 50 0 0 0 [] []
   pub fact-early : play lamps (fact (lit 0)) ≡ stops 50 0 0 0 [] (fact (lit 0))
   pub event-early : play lamps (light 0) ≡ stops 50 0 0 0 [] (light 0)
@@ -247,8 +253,10 @@ pub record RunFiles : Type 0 where
   pub step-long : play lamps (begun ++ rec 19 (0 ∷ [])) ≡ stops 50 11 0 1 (held (lit 0)) (rec 19 (0 ∷ []))
   pub close-long : play lamps (begun ++ rec 20 (0 ∷ [])) ≡ stops 50 11 0 1 (held (lit 0)) (rec 20 (0 ∷ []))
   pub event-waits : play lamps (begun ++ light 1 ++ closeRun) ≡ stops 50 18 0 1 (held (lit 0)) closeRun
-  -- when the start counts: not before an uncut record of kind 18 to 20, whole even where that record is refused, as above
-  pub unknown-kind : play lamps (begun ++ rec 21 []) ≡ stops 50 11 0 0 (held (lit 0)) (rec 21 [])
+  -- the start counts from the first uncut record of kind 18 to 20 on, refused (above) or not; before it the weight is 0
+  pub kind-15 : play lamps (begun ++ rec 15 []) ≡ stops 50 11 0 0 (held (lit 0)) (rec 15 [])
+  pub kind-21 : play lamps (begun ++ rec 21 []) ≡ stops 50 11 0 0 (held (lit 0)) (rec 21 [])
+  pub kind-275 : play lamps (begun ++ (0 ∷ 0 ∷ 19 ∷ 1 ∷ [])) ≡ stops 50 11 0 0 (held (lit 0)) (0 ∷ 0 ∷ 19 ∷ 1 ∷ [])
   pub event-cut : play lamps (begun ++ (3 ∷ 0 ∷ 18 ∷ 0 ∷ 0 ∷ 0 ∷ [])) ≡ stops 50 11 0 0 (held (lit 0)) (3 ∷ 0 ∷ 18 ∷ 0 ∷ 0 ∷ 0 ∷ [])
   pub start-alone : play lamps (begun ++ closeRun) ≡ plays 0 1 (held (lit 0)) 15
   -- a run that is not closed, at its length; bytes behind its close, from the first of them
@@ -294,7 +302,9 @@ runFiles =
       step-long = refl;
       close-long = refl;
       event-waits = refl;
-      unknown-kind = refl;
+      kind-15 = refl;
+      kind-21 = refl;
+      kind-275 = refl;
       event-cut = refl;
       start-alone = refl;
       not-closed = refl;
@@ -317,11 +327,12 @@ pub record Parts : Type 0 where
       ≡ record { answer = reply 15 5 0 0; memory = lent 8191; part = ofDomain 5; bytes = relation 7 ++ closing }
   -- no closing record: the domain file's empty end
   pub domain-not-closed : playing (relation 1) [] (lent 8200) ≡ record { answer = reply 10 5 0 0; memory = lent 8200; part = ofDomain 5; bytes = [] }
-  -- 58 comes before 50, though it is one byte: the run file's empty end
+  -- 58: one byte too few; it comes before 50 of the first record, and the run file's empty end comes back
   pub memory-short : playing lamps (light 0) (lent 8191) ≡ record { answer = reply 58 0 0 0; memory = lent 8191; part = ofRun 7; bytes = [] }
-  -- 8,192 bytes are enough
+  -- 8,192 bytes are enough; the fact's bytes written out
   pub memory-enough : playing lamps (begun ++ closeRun) (lent 8192)
-      ≡ record { answer = reply 2 0 0 1; memory = zeroed 8192 (held (lit 0)); part = ofRun 15; bytes = [] }
+      ≡ record { answer = reply 2 0 0 1; memory = zeroed 8192 (0 ∷ 1 ∷ 0 ∷ FF ∷ FF ∷ FF ∷ FF ∷ FF ∷ []); part = ofRun 15; bytes = [] }
+  -- 9: the whole domain file
   pub too-long : playing (lent 65536) [] [] ≡ record { answer = reply 9 0 0 0; memory = []; part = ofDomain 0; bytes = lent 65536 }
 
 pub parts : Parts

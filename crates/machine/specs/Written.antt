@@ -4,7 +4,7 @@ use Prim.Native.Nat.{ℕ, zero, suc, _-_}
 use lib.ListN.{length, replicate}
 use Rattle.records.specs.Memory.{over}
 use Rattle.verdict.specs.Judged.{Answer, judged, reportAfter, witnessAfter}
-use Rattle.machine.specs.Play.{Played, Returned, ofDomain, ofRun, played, workAfter, returned, returnedBytes}
+use Rattle.machine.specs.Play.{Played, Returned, ofRun, played, workAfter, returned, returnedBytes}
 
 -- ---- records: "payload length (2 bytes, little-endian), kind (2 bytes), payload"
 
@@ -160,7 +160,7 @@ written b = b ++ lent (24 - length b)
 abbrev pub answers : ℕ → ℕ → ℕ → ℕ → List ℕ → List ℕ → AfterJudging
 answers n action class moment rows facts = leaves n action class moment (written rows) (written facts)
 
--- 10 to 23: a number with the record's offset, and nothing is written
+-- 9 to 23: a number with the record's offset, and nothing is written
 abbrev pub refuses : ℕ → ℕ → AfterJudging
 refuses n offset = leaves n offset 0 0 (lent 24) (lent 24)
 
