@@ -1,4 +1,7 @@
-// Classes of an action: their moments and names.
+// Classes of an action: their moments and names (here), their numbers (number), and what a class has at a moment (counts).
+pub mod counts;
+pub mod number;
+
 ghost use mathlib.Core.Path.{_≡_};
 ghost use Rattle.classes.specs.Classes.{momentNumber, nameNumber, nameBy};
 
@@ -17,6 +20,24 @@ pub enum Name {
     Unbalanced,
     Bounded,
     Unbounded,
+}
+
+// The key tuples of an action's classes: 8 bytes each, variables in the order of the keys, FF to fill and behind them.
+pub struct ClassTable {
+    pub tuples: [u8; 512],
+    pub count: usize,
+}
+
+// What the name of a class at a moment is decided by.
+pub struct Summary {
+    pub conditions: usize,
+    pub adds: usize,
+    // each true condition is also an add or a delete
+    pub changed: bool,
+    // each true condition is deleted
+    pub deleted: bool,
+    // the first uncovered component, or the number of components
+    pub uncovered: usize,
 }
 
 // The byte of a moment in the report.

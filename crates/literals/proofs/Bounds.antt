@@ -1,19 +1,20 @@
--- Every record that is read keeps the domain within the bounds of the index. Assumes nothing.
-use mathlib.Core.Path.{_≡_, refl, ap}
-use mathlib.Core.Bool.{Bool, true, false}
+-- Every record that is read keeps the domain within the bounds of the index, with the arities of its relations and the keys of its template. Assumes nothing.
+use mathlib.Core.Path.{_≡_, refl, ap, _∙_}
+use mathlib.Core.Bool.{Bool, true, false, not}
 use mathlib.Core.Logic.{_⊎_, inl, inr}
 use mathlib.Core.List.{List, [], _∷_, _++_, map, Memᴰ·of-map, List·Memᴰ·head, List·Memᴰ·tail, List·Memᴰ·not-nil, List·Memᴰ·eq-of-singleton}
-use Prim.Native.Nat.{ℕ, suc, _≤_, _<_}
+use Prim.Native.Nat.{ℕ, suc, _+_, _-_, _≤_, _<_}
 use native.Mathlib.Omega.{arith}
 use lib.Dec.{eqb, leb}
 use lib.ListN.{length, drop, length-append, length-drop, length-map, List·getD-eq-default}
 use borrow.Author.Tests.{leb-true, leb-false, eqb-true}
-use Rattle.records.specs.Lists.{In}
-use Rattle.records.proofs.Lists.{any-out, getD-in, in-snoc, below-in}
+use Rattle.records.specs.Lists.{In, any, empty, distinct}
+use Rattle.records.proofs.Lists.{any-out, any-none, getD-in, in-snoc, below-in, and-l, and-r, not-false, clash, eqb-comm, pairwise-snoc}
 use Rattle.literals.specs.declared.Variable.{Variable}
-use Rattle.literals.specs.Domain.{variable, roleOf, roleNumber, Literal, Action, Domain, arity}
-use Rattle.literals.specs.Decode.{RecordKind, relationRecord, actionRecord, literalRecord, componentRecord, closingRecord, unknownRecord, latest, byte, literalOf, labelOf, componentOf, actionOf, withLiteral, fieldStop, stopOf, extend, noDomain}
+use Rattle.literals.specs.Domain.{variable, roleOf, roleNumber, Literal, Action, Component, Template, keysOf, labelsFit, Domain, arity}
+use Rattle.literals.specs.Decode.{RecordKind, relationRecord, actionRecord, literalRecord, componentRecord, closingRecord, unknownRecord, latest, byte, literalOf, labelOf, componentOf, actionOf, withLiteral, fieldStop, stopOf, extend, noDomain, domain, decode}
 use Rattle.literals.specs.Table.{Bounded}
+use Rattle.literals.proofs.Loop.{decoded-by}
 use Rattle.literals.proofs.Stops.{Passes, passes, relation-passes, action-passes, LiteralPasses, literal-passes, role-nine, ComponentPasses, component-passes}
 
 -- ---- the role bytes up to 9
@@ -24,6 +25,10 @@ unfolding roleOf
 role-number r h = eqb-true _ r (below-in 10 (λ n. eqb (roleNumber (roleOf n)) n) refl r (omega arith))
 
 -- ---- arities
+
+empty-none : {A : Type 0} (l : List A) {a : A} → empty l ≡ true → In a l → ⊥
+empty-none [] e m = List·Memᴰ·not-nil m
+empty-none (x ∷ xs) e m = clash e refl
 
 -- the arity of a relation of the domain is one of its arities, or 0
 pub arity-six : (D : Domain) → ((n : ℕ) → In n (D .arities) → n ≤ 6) → (r : ℕ) → arity D r ≤ 6
@@ -36,17 +41,28 @@ arity-six D h r = go (leb (length (D .arities)) r) refl
 -- ---- one literal more
 
 -- what an action gives the index
-record Fits (a : Action) : Type 0 where
+record Fits (D : Domain) (a : Action) : Type 0 where
   counts : a .vars ≤ 16
   sizes : length (a .lits) ≤ 64
   arguments : (l : Literal) → In l (a .lits) → length (l .atom .args) ≤ 6
   variables : (l : Literal) → In l (a .lits) → (v : Variable) → In v (l .atom .args) → v .0 < 255
+  below : (l : Literal) → In l (a .lits) → (v : Variable) → In v (l .atom .args) → v .0 < a .vars
   roles : (l : Literal) → In l (a .lits) → (roleNumber (l .role) ≤ 9) × (roleOf (roleNumber (l .role)) ≡ l .role)
+  literalArity : (l : Literal) → In l (a .lits) → length (l .atom .args) ≡ arity D (l .atom .rel)
 
-fits-of : (D : Domain) → Bounded D → (a : Action) → In a (D .actions) → Fits a
-fits-of D h a m = record { counts = h .counts a m; sizes = h .sizes a m; arguments = h .arguments a m; variables = h .variables a m; roles = h .roles a m }
+fits-of : (D : Domain) → Bounded D → (a : Action) → In a (D .actions) → Fits D a
+fits-of D h a m =
+    record {
+      counts = h .counts a m;
+      sizes = h .sizes a m;
+      arguments = h .arguments a m;
+      variables = h .variables a m;
+      below = h .below a m;
+      roles = h .roles a m;
+      literalArity = h .literalArity a m;
+    }
 
-bounded-actions : (D : Domain) (as′ : List Action) → Bounded D → length as′ ≤ 64 → ((a : Action) → In a as′ → Fits a)
+bounded-actions : (D : Domain) (as′ : List Action) → Bounded D → length as′ ≤ 64 → ((a : Action) → In a as′ → Fits D a)
     → Bounded (record { arities = D .arities; actions = as′; template = D .template })
 bounded-actions D as′ h n f =
     record {
@@ -57,9 +73,14 @@ bounded-actions D as′ h n f =
       sizes = λ a m. f a m .sizes;
       arguments = λ a m. f a m .arguments;
       variables = λ a m. f a m .variables;
+      below = λ a m. f a m .below;
       roles = λ a m. f a m .roles;
       components = h .components;
       labels = h .labels;
+      literalArity = λ a m. f a m .literalArity;
+      componentArity = h .componentArity;
+      keysFit = h .keysFit;
+      componentsOnce = h .componentsOnce;
     }
 
 -- the actions with a literal more: those before, and the latest with it
@@ -82,8 +103,8 @@ length-withLiteral l [] = refl
 length-withLiteral l (a ∷ []) = refl
 length-withLiteral l (a ∷ b ∷ bs) = ap suc (length-withLiteral l (b ∷ bs))
 
-literal-fits : (D : Domain) (p : List ℕ) → Bounded D → stopOf D literalRecord p ≡ 0 → Fits (latest (D .actions))
-    → Fits (record { vars = latest (D .actions) .vars; lasting = latest (D .actions) .lasting; lits = latest (D .actions) .lits ++ (literalOf p ∷ []) })
+literal-fits : (D : Domain) (p : List ℕ) → Bounded D → stopOf D literalRecord p ≡ 0 → Fits D (latest (D .actions))
+    → Fits D (record { vars = latest (D .actions) .vars; lasting = latest (D .actions) .lasting; lits = latest (D .actions) .lits ++ (literalOf p ∷ []) })
 unfolding fieldStop
 literal-fits D p h e f =
     record {
@@ -91,7 +112,9 @@ literal-fits D p h e f =
       sizes = let n = length-append (last .lits) (literalOf p ∷ []) in let r = leb-false 64 (length (last .lits)) (ok .room) in omega arith;
       arguments = in-snoc {P = λ l. length (l .atom .args) ≤ 6} (last .lits) (literalOf p) (f .arguments) six;
       variables = in-snoc {P = λ l. (v : Variable) → In v (l .atom .args) → v .0 < 255} (last .lits) (literalOf p) (f .variables) low;
+      below = in-snoc {P = λ l. (v : Variable) → In v (l .atom .args) → v .0 < last .vars} (last .lits) (literalOf p) (f .below) lower;
       roles = in-snoc {P = λ l. (roleNumber (l .role) ≤ 9) × (roleOf (roleNumber (l .role)) ≡ l .role)} (last .lits) (literalOf p) (f .roles) ranged;
+      literalArity = in-snoc {P = λ l. length (l .atom .args) ≡ arity D (l .atom .rel)} (last .lits) (literalOf p) (f .literalArity) same;
     }
   where
     last : Action
@@ -106,19 +129,46 @@ literal-fits D p h e f =
     six : length (map variable (drop 2 p)) ≤ 6
     six = let a = arity-six D (h .arities) (byte p 1) in let n = length-map (drop 2 p) variable in let d = length-drop 2 p in let g = q .arguments in omega arith
 
-    low : (v : Variable) → In v (map variable (drop 2 p)) → v .0 < 255
-    low v m =
+    same : length (map variable (drop 2 p)) ≡ arity D (byte p 1)
+    same = let n = length-map (drop 2 p) variable in let d = length-drop 2 p in let g = q .arguments in omega arith
+
+    lower : (v : Variable) → In v (map variable (drop 2 p)) → v .0 < last .vars
+    lower v m =
         let o = Memᴰ·of-map variable (drop 2 p) m in
         let g : o .0 < last .vars = leb-false (last .vars) (o .0) (any-out (leb (last .vars)) (q .variables) (o .1)) in
         let z : o .0 ≡ v .0 = ap (λ (w : Variable). w .0) (o .2) in
-        let c = f .counts in
         omega arith
+
+    low : (v : Variable) → In v (map variable (drop 2 p)) → v .0 < 255
+    low v m = let g = lower v m in let c = f .counts in omega arith
 
     ranged : (roleNumber (roleOf (byte p 0)) ≤ 9) × (roleOf (roleNumber (roleOf (byte p 0))) ≡ roleOf (byte p 0))
     ranged =
         let n = role-nine last (byte p 0) (q .role) in
         let r = role-number (byte p 0) n in
         (omega arith, ap roleOf r)
+
+-- ---- one component more
+
+-- it is the template's first, or the keys are those before it
+keys-snoc : (cs : Template) (c : Component) → (cs ≡ []) ⊎ (keysOf (cs ++ (c ∷ [])) ≡ keysOf cs)
+keys-snoc [] c = inl refl
+keys-snoc (d ∷ ds) c = inr refl
+
+fit-snoc : (cs : Template) (c : Component) → ((d : Component) → In d cs → labelsFit (keysOf cs) (d .labels) ≡ true) → labelsFit (keysOf (cs ++ (c ∷ []))) (c .labels) ≡ true
+    → (d : Component) → In d (cs ++ (c ∷ [])) → labelsFit (keysOf (cs ++ (c ∷ []))) (d .labels) ≡ true
+fit-snoc cs c h g = in-snoc {P = λ d. labelsFit (keysOf (cs ++ (c ∷ []))) (d .labels) ≡ true} cs c (λ d m. go d m (keys-snoc cs c)) g
+  where
+    go : (d : Component) → In d cs → (cs ≡ []) ⊎ (keysOf (cs ++ (c ∷ [])) ≡ keysOf cs) → labelsFit (keysOf (cs ++ (c ∷ []))) (d .labels) ≡ true
+    go d m (inl e) = absurd (List·Memᴰ·not-nil (rw e at m))
+    go d m (inr e) = rw e (h d m)
+
+-- no component before it has its relation
+once-snoc : (cs : Template) (c : Component) → distinct (λ (x y : Component). eqb (x .rel) (y .rel)) cs ≡ true → any (λ (d : Component). eqb (c .rel) (d .rel)) cs ≡ false
+    → distinct (λ (x y : Component). eqb (x .rel) (y .rel)) (cs ++ (c ∷ [])) ≡ true
+once-snoc cs c h e =
+    pairwise-snoc (λ (x y : Component). not (eqb (x .rel) (y .rel))) cs c h
+    (any-none (λ (d : Component). eqb (c .rel) (d .rel)) (λ (d : Component). not (eqb (d .rel) (c .rel))) cs (λ d f. ap not (eqb-comm (d .rel) (c .rel) ∙ f)) e)
 
 -- ---- every kind of record
 
@@ -128,6 +178,7 @@ bounded-extend D relationRecord p h e =
     let ok = passes D relationRecord p e in
     let n = length-append (D .arities) (byte p 0 ∷ []) in
     let r = leb-false 64 (length (D .arities)) (ok .room) in
+    let first = not-false _ (ok .order) in
     record {
       relations = omega arith;
       arities = in-snoc {P = λ n. n ≤ 6} (D .arities) (byte p 0) (h .arities) (relation-passes p (ok .fields) .1);
@@ -136,29 +187,36 @@ bounded-extend D relationRecord p h e =
       sizes = h .sizes;
       arguments = h .arguments;
       variables = h .variables;
+      below = h .below;
       roles = h .roles;
       components = h .components;
       labels = h .labels;
+      literalArity = λ a m. absurd (empty-none (D .actions) (and-l _ _ first) m);
+      componentArity = λ c m. absurd (empty-none (D .template) (and-r (empty (D .actions)) _ first) m);
+      keysFit = h .keysFit;
+      componentsOnce = h .componentsOnce;
     }
 bounded-extend D actionRecord p h e =
     let ok = passes D actionRecord p e in
     let n = length-append (D .actions) (actionOf p ∷ []) in
     let r = leb-false 64 (length (D .actions)) (ok .room) in
     bounded-actions D (D .actions ++ (actionOf p ∷ [])) h (omega arith)
-    (in-snoc {P = Fits} (D .actions) (actionOf p) (fits-of D h)
+    (in-snoc {P = Fits D} (D .actions) (actionOf p) (fits-of D h)
     (record {
       counts = action-passes p (ok .fields) .1;
       sizes = omega arith;
       arguments = λ l m. absurd (List·Memᴰ·not-nil m);
       variables = λ l m. absurd (List·Memᴰ·not-nil m);
+      below = λ l m. absurd (List·Memᴰ·not-nil m);
       roles = λ l m. absurd (List·Memᴰ·not-nil m);
+      literalArity = λ l m. absurd (List·Memᴰ·not-nil m);
     }))
 bounded-extend D literalRecord p h e =
     let n = length-withLiteral (literalOf p) (D .actions) in
     let a = h .actions in
     bounded-actions D (withLiteral (literalOf p) (D .actions)) h (omega arith) (λ a m. go a (in-withLiteral (literalOf p) (D .actions) a m))
   where
-    go : (a : Action) → In a (D .actions) ⊎ (In (latest (D .actions)) (D .actions) × (a ≡ record { vars = latest (D .actions) .vars; lasting = latest (D .actions) .lasting; lits = latest (D .actions) .lits ++ (literalOf p ∷ []) })) → Fits a
+    go : (a : Action) → In a (D .actions) ⊎ (In (latest (D .actions)) (D .actions) × (a ≡ record { vars = latest (D .actions) .vars; lasting = latest (D .actions) .lasting; lits = latest (D .actions) .lits ++ (literalOf p ∷ []) })) → Fits D a
     go a (inl m) = fits-of D h a m
     go a (inr m) = rw (m .1) (literal-fits D p h e (fits-of D h (latest (D .actions)) (m .0)))
 bounded-extend D componentRecord p h e =
@@ -173,11 +231,19 @@ bounded-extend D componentRecord p h e =
       sizes = h .sizes;
       arguments = h .arguments;
       variables = h .variables;
+      below = h .below;
       roles = h .roles;
       components = omega arith;
       labels = in-snoc {P = λ c. length (c .labels) ≤ 6} (D .template) (componentOf p) (h .labels) (six (component-passes D p (ok .fields)));
+      literalArity = h .literalArity;
+      componentArity = in-snoc {P = λ c. length (c .labels) ≡ arity D (c .rel)} (D .template) (componentOf p) (h .componentArity) (same (component-passes D p (ok .fields)));
+      keysFit = fit-snoc (D .template) (componentOf p) (h .keysFit) (component-passes D p (ok .fields) .labels);
+      componentsOnce = once-snoc (D .template) (componentOf p) (h .componentsOnce) (component-passes D p (ok .fields) .once);
     }
   where
+    same : ComponentPasses D p → length (map labelOf (drop 1 p)) ≡ arity D (byte p 0)
+    same q = let n = length-map (drop 1 p) labelOf in let d = length-drop 1 p in let g = q .arguments in omega arith
+
     six : ComponentPasses D p → length (map labelOf (drop 1 p)) ≤ 6
     six q = let a = arity-six D (h .arities) (byte p 0) in let n = length-map (drop 1 p) labelOf in let d = length-drop 1 p in let g = q .arguments in omega arith
 bounded-extend D closingRecord p h e = h
@@ -193,7 +259,16 @@ bounded-none =
       sizes = λ a m. absurd (List·Memᴰ·not-nil m);
       arguments = λ a m. absurd (List·Memᴰ·not-nil m);
       variables = λ a m. absurd (List·Memᴰ·not-nil m);
+      below = λ a m. absurd (List·Memᴰ·not-nil m);
       roles = λ a m. absurd (List·Memᴰ·not-nil m);
       components = omega arith;
       labels = λ c m. absurd (List·Memᴰ·not-nil m);
+      literalArity = λ a m. absurd (List·Memᴰ·not-nil m);
+      componentArity = λ c m. absurd (List·Memᴰ·not-nil m);
+      keysFit = λ c m. absurd (List·Memᴰ·not-nil m);
+      componentsOnce = refl;
     }
+
+-- the domain of a file is within the bounds
+pub decoded-bounded : (f : List ℕ) (D : Domain) → decode f ≡ domain D → Bounded D
+decoded-bounded = decoded-by Bounded (λ D k p h e. bounded-extend D k p h e) bounded-none

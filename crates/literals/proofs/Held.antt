@@ -15,6 +15,7 @@ use Rattle.literals.specs.Decode.{RecordKind, isUnknown, latest, outOfOr
 use Rattle.literals.specs.Table.{allLiterals, componentRow, pad, startsFrom, sortNumber, indexOf, Holds, Shaped, behind, takenOf}
 use Rattle.literals.proofs.Bounds.{arity-six}
 use Rattle.literals.proofs.Tables.{pad-at, take-pad, length-pad, length-components}
+use Rattle.literals.proofs.Spans.{spanned}
 
 -- ---- the number that stops a record
 
@@ -130,7 +131,7 @@ earlier-few n (a ∷ b ∷ bs) h =
     let z : length {A = Action} (a ∷ b ∷ bs) - 1 ≡ suc (length {A = Action} (b ∷ bs) - 1) = omega arith in
     omega arith
 
-keys-few : (cs : List Component) → ((c : Component) → In c cs → length (c .labels) ≤ 6) → keysOf cs ≤ 6
+pub keys-few : (cs : List Component) → ((c : Component) → In c cs → length (c .labels) ≤ 6) → keysOf cs ≤ 6
 keys-few [] h = omega arith
 keys-few (c ∷ cs) h =
     let k = h c (List·Memᴰ·head refl) in
@@ -213,6 +214,7 @@ module _ {D : Domain} {index : Index} (h : Holds D index) where
             let c = ap length (latest-rows 0 (D .actions) .split) ∙ length-append (latest-rows 0 (D .actions) .earlier) (latest (D .actions) .lits) in
             omega arith;
         last = let a = start-is in let b = actions-is in let c = earlier-few 0 (D .actions) (h .bounded .sizes) in omega arith;
+        spans = spanned h;
         components = let a = components-is in let b = h .bounded .components in omega arith;
         parts =
             let a = length-components (D .template) (h .bounded .labels) in

@@ -13,7 +13,7 @@ use Rattle.records.specs.declared.Record.the-variants.{Whole, Cut, End}
 use Rattle.records.specs.Record.{recordAt, payload}
 use Rattle.records.proofs.Laws.{whole-within}
 use Rattle.literals.specs.Domain.{Domain}
-use Rattle.literals.specs.Decode.{RecordKind, kindOf, isClosing, stopOf, extend, Refusal, refuse, Decoded, refused, domain, Reading, ReadTurn, goOn, finish, readRecord, readFound, readStep, readFrom, fromStart}
+use Rattle.literals.specs.Decode.{RecordKind, kindOf, isClosing, stopOf, extend, Refusal, refuse, Decoded, refused, domain, Reading, ReadTurn, goOn, finish, readRecord, readFound, readStep, Finished, readFrom, noDomain, fromStart, maxFile, readFile, decode}
 
 -- ---- one turn of the loop
 
@@ -120,3 +120,50 @@ more-fuel-from k (suc fuel) s r h l = rw add-suc (go (λ q. more-fuel-from k fue
 -- more fuel than `readFile` takes changes nothing: the fuel is a device and nothing else
 pub more-fuel : (k : ℕ) (s : List ℕ) → readFrom (k + suc (length s)) s fromStart ≡ readFrom (suc (length s)) s fromStart
 more-fuel k s = more-fuel-from k (suc (length s)) s fromStart (omega arith) (omega arith)
+
+-- ---- what every record keeps, the domain of a file has
+
+module _ (P : Domain → Type 0) (keeps : (D : Domain) (k : RecordKind) (p : List ℕ) → P D → stopOf D k p ≡ 0 → P (extend D k p)) where
+  read-by : (fuel : ℕ) (s : List ℕ) (r : Reading) (D : Domain) → P (r .sofar) → readFrom fuel s r .result ≡ domain D → P D
+  unfolding readFrom
+  read-by zero s r D h e = let z : _≡_ {A = ℕ} 0 1 = cc in absurd (omega arith)
+  read-by (suc fuel) s r D h e = go (λ q k d. read-by fuel s q D k d) (readStep s r) refl e
+    where
+      go : ((q : Reading) → P (q .sofar) → readFrom fuel s q .result ≡ domain D → P D) → (t : ReadTurn) → readStep s r ≡ t
+          → elim t as (λ _. Finished) [ goOn next ↦ readFrom fuel s next | finish d ↦ record { result = d; read = r .sofar } ] .result ≡ domain D → P D
+      go ih (goOn q) t z = let g = goOn-at s r q t in ih q (rw (← (g .extends)) (keeps (r .sofar) (g .kind) (g .bytes) h (g .passes))) z
+      go ih (finish d) t z = rw (← (finish-sofar s r D (t ∙ ap finish z))) h
+
+  pub decoded-by : P noDomain → (f : List ℕ) (D : Domain) → decode f ≡ domain D → P D
+  unfolding decode readFile
+  decoded-by none f D e = go (ltb maxFile (length f)) e
+    where
+      go : (b : Bool) → elim b as (λ _. Finished) [ true ↦ record { result = refused (refuse 9 0); read = noDomain } | false ↦ readFrom (suc (length f)) f fromStart ] .result ≡ domain D → P D
+      go true z = let y : _≡_ {A = ℕ} 0 1 = cc in absurd (omega arith)
+      go false z = read-by (suc (length f)) f fromStart D none z
+
+-- ---- the domain that was read
+
+-- where a file says a domain, that domain was read
+read-sofar : (fuel : ℕ) (s : List ℕ) (r : Reading) (D : Domain) → readFrom fuel s r .result ≡ domain D → readFrom fuel s r .read ≡ D
+unfolding readFrom
+read-sofar zero s r D e = let z : _≡_ {A = ℕ} 0 1 = cc in absurd (omega arith)
+read-sofar (suc fuel) s r D e = go (λ q. read-sofar fuel s q D) (readStep s r) refl e
+  where
+    by : ReadTurn → Finished
+    by t = elim t as (λ _. Finished) [ goOn next ↦ readFrom fuel s next | finish d ↦ record { result = d; read = r .sofar } ]
+
+    go : ((q : Reading) → readFrom fuel s q .result ≡ domain D → readFrom fuel s q .read ≡ D) → (t : ReadTurn) → readStep s r ≡ t → by t .result ≡ domain D → by t .read ≡ D
+    go ih (goOn q) t z = ih q z
+    go ih (finish d) t z = finish-sofar s r D (t ∙ ap finish z)
+
+pub read-is : (f : List ℕ) (D : Domain) → decode f ≡ domain D → readFile f .read ≡ D
+unfolding decode readFile
+read-is f D e = go (ltb maxFile (length f)) e
+  where
+    by : Bool → Finished
+    by b = elim b as (λ _. Finished) [ true ↦ record { result = refused (refuse 9 0); read = noDomain } | false ↦ readFrom (suc (length f)) f fromStart ]
+
+    go : (b : Bool) → by b .result ≡ domain D → by b .read ≡ D
+    go true z = let y : _≡_ {A = ℕ} 0 1 = cc in absurd (omega arith)
+    go false z = read-sofar (suc (length f)) f fromStart D z

@@ -1,5 +1,5 @@
 -- Rows of 8 bytes: a payload's row by its bytes, and the loops that write rows, compare them and go through them. Assumes nothing.
-use mathlib.Core.Path.{_≡_, sym, ap, ap₂, _∙_}
+use mathlib.Core.Path.{_≡_, sym, ap, _∙_}
 use mathlib.Core.Bool.{true, false}
 use mathlib.Core.List.{List, [], _∷_}
 use Prim.Native.Nat.{ℕ, suc, _+_, _-_, _*_, _≤_, _<_, max}
@@ -7,9 +7,10 @@ use native.Mathlib.Numerals.{add-one}
 use native.Mathlib.Omega.{arith}
 use lib.Dec.{eqb}
 use lib.ListN.{length, getD, set, take, drop, replicate, length-append, length-replicate, length-drop, getD-replicate, List·getD-append, drop-of-length-le}
-use lib.Seq.{drop-cons, getD-drop, getD-take, getD-append-add, drop-drop, length-take-le, paste, paste-suc, length-paste}
+use lib.Seq.{drop-cons, getD-drop, getD-take, getD-append-add, drop-drop, length-take-le, paste}
 use borrow.Author.Tests.{eq-eqb, ne-eqb}
 use Rattle.records.specs.Lists.{any, sameList}
+use Rattle.records.proofs.Memory.{paste-more, paste-length}
 use Rattle.literals.specs.Decode.{byte}
 use Rattle.literals.specs.Table.{rowOf, roleRank, rowRank, rowsIn, rowsRank}
 
@@ -32,13 +33,10 @@ row-behind p i h g =
 
 pub put-more : (p out₀ out : List ℕ) (at i r : ℕ) → at + 8 ≤ length out₀ → length p ≤ 8 → i < 8 → out ≡ paste out₀ at (rowOf p) i → r ≡ getD (rowOf p) i 0
     → set out (at + i) r ≡ paste out₀ at (rowOf p) (i + 1)
-put-more p out₀ out at i r h g l e f =
-    ap₂ (λ (d : List ℕ) (x : ℕ). set d (at + i) x) e f
-    ∙ paste-suc out₀ at (rowOf p) i 0 (omega arith) (omega (arith, length-row p g))
-    ∙ ap (paste out₀ at (rowOf p)) (sym (add-one i))
+put-more p out₀ out at i r h g l e f = paste-more (rowOf p) out₀ out at i 8 h (length-row p g) e r l f
 
 pub put-length : (p out₀ out : List ℕ) (at i : ℕ) → at + 8 ≤ length out₀ → length p ≤ 8 → i ≤ 8 → out ≡ paste out₀ at (rowOf p) i → length out ≡ length out₀
-put-length p out₀ out at i h g l e = ap length e ∙ length-paste out₀ at (rowOf p) i (omega arith) (omega (arith, length-row p g))
+put-length p out₀ out at i h g l e = paste-length (rowOf p) out₀ out at i 8 h (length-row p g) e l
 
 -- ---- comparing two lists from an index on
 

@@ -148,7 +148,7 @@ role-rank a b h g = eqb-true _ _ (below-in 10 (agrees a) (below-in 10 (λ a. all
 
 -- -- the atoms: filled lists are the same where the lists are, as no argument is FF
 
-same-filled : (x : List ℕ) (y : List Variable) (m n : ℕ) → ((b : ℕ) → In b x → b < 255) → ((v : Variable) → In v y → v .0 < 255) → length x + m ≡ length y + n
+pub same-filled : (x : List ℕ) (y : List Variable) (m n : ℕ) → ((b : ℕ) → In b x → b < 255) → ((v : Variable) → In v y → v .0 < 255) → length x + m ≡ length y + n
     → sameList eqb (x ++ replicate m 255) (map (λ (v : Variable). v .0) y ++ replicate n 255) ≡ sameList sameVariable (map variable x) y
 same-filled [] [] m n h g e = let f : m ≡ n = omega arith in rw f (sameList-self eqb eqb-same (replicate n 255))
 same-filled [] (v ∷ vs) zero n h g e = absurd (omega arith)

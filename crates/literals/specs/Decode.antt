@@ -14,7 +14,7 @@ use Rattle.literals.specs.declared.Time.{Time}
 use Rattle.literals.specs.declared.Time.the-variants.{AtStart}
 use Rattle.literals.specs.declared.Clause.{Clause}
 use Rattle.literals.specs.declared.Clause.the-variants.{Positive, Negative, Add, Delete}
-use Rattle.literals.specs.Domain.{variable, key, Atom, sameLiteral, roleOf, sameTime, sameClause, sameRole, Literal, Action, Component, Template, keysOf, labelsFit, Domain, arity, noAction}
+use Rattle.literals.specs.Domain.{variable, key, sameLiteral, roleOf, sameTime, sameClause, sameRole, Literal, Action, Component, keysOf, labelsFit, Domain, arity, noAction}
 
 -- ---- "Limits: file 65,535 bytes; 64 relations; 64 actions; 64 literals an action; 16 components."
 

@@ -1,10 +1,10 @@
 -- A domain without its bytes: relations, actions with their literals, and the template. Assumes nothing.
 use mathlib.Core.Bool.{Bool, true, false, _&&_, not, cond}
-use mathlib.Core.List.{List, [], _∷_, map}
+use mathlib.Core.List.{List, [], _∷_}
 use Prim.Native.Nat.{ℕ, zero, suc, _+_, _-_}
 use lib.Dec.{eqb, ltb, leb}
 use lib.ListN.{getD}
-use Rattle.records.specs.Lists.{all, any, countBy, sameList, elem}
+use Rattle.records.specs.Lists.{all, countBy, sameList}
 use Rattle.literals.specs.declared.Variable.{Variable}
 use Rattle.literals.specs.declared.Object.{Object}
 use Rattle.literals.specs.declared.Key.{Key}

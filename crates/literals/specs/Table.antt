@@ -1,11 +1,11 @@
 -- How the code holds a domain: an index by value, and a lent table with 8 bytes a literal. Assumes nothing.
 use mathlib.Core.Path.{_≡_}
-use mathlib.Core.Bool.{Bool, true, false, _&&_, _||_, not, cond}
+use mathlib.Core.Bool.{Bool, true, _&&_, _||_, not, cond}
 use mathlib.Core.List.{List, [], _∷_, _++_, map, flatMap, foldr}
 use Prim.Native.Nat.{ℕ, zero, suc, _+_, _-_, _*_, _%_, _≤_, _<_, max}
 use lib.Dec.{eqb, ltb, leb}
 use lib.ListN.{length, take, drop, getD, replicate}
-use Rattle.records.specs.Lists.{In, all, any, countBy, sameList}
+use Rattle.records.specs.Lists.{In, all, any, countBy, sameList, distinct}
 use Rattle.records.specs.Memory.{over}
 use Rattle.literals.specs.declared.Variable.{Variable}
 use Rattle.literals.specs.declared.Label.{Label}
@@ -15,8 +15,8 @@ use Rattle.literals.specs.declared.Taken.{Taken}
 use Rattle.literals.specs.declared.Progress.{Progress}
 use Rattle.literals.specs.declared.ReadAnswer.{ReadAnswer}
 use Rattle.literals.specs.declared.read.Stepped.{Stepped}
-use Rattle.literals.specs.Domain.{roleNumber, roleOf, Literal, Action, Component, keysOf, Domain}
-use Rattle.literals.specs.Decode.{byte, RecordKind, stopOf, extend, Refusal, Decoded, refused, domain, Reading, ReadTurn, goOn, finish, Finished, readFile}
+use Rattle.literals.specs.Domain.{roleNumber, roleOf, Literal, Action, Component, keysOf, labelsFit, Domain, arity}
+use Rattle.literals.specs.Decode.{byte, RecordKind, stopOf, extend, Decoded, refused, domain, Reading, ReadTurn, goOn, finish, readFile}
 
 -- ---- rows of 8 bytes
 
@@ -140,7 +140,7 @@ eachOnce (suc n) bs = eachOnce n bs && eqb (countBy (eqb n) bs) 1
 
 -- ---- what an index holds
 
--- what reading keeps of every domain, so that it fits the index and the table
+-- what reading keeps of every domain, so that it fits the index and the table, and that its literals have variables below the count, and its literals and components the arities of their relations, each relation one component, and each component the keys once each
 pub record Bounded (D : Domain) : Type 0 where
   pub relations : length (D .arities) ≤ 64
   pub arities : (n : ℕ) → In n (D .arities) → n ≤ 6
@@ -149,13 +149,28 @@ pub record Bounded (D : Domain) : Type 0 where
   pub sizes : (a : Action) → In a (D .actions) → length (a .lits) ≤ 64
   pub arguments : (a : Action) → In a (D .actions) → (l : Literal) → In l (a .lits) → length (l .atom .args) ≤ 6
   pub variables : (a : Action) → In a (D .actions) → (l : Literal) → In l (a .lits) → (v : Variable) → In v (l .atom .args) → v .0 < 255
+  pub below : (a : Action) → In a (D .actions) → (l : Literal) → In l (a .lits) → (v : Variable) → In v (l .atom .args) → v .0 < a .vars
   pub roles : (a : Action) → In a (D .actions) → (l : Literal) → In l (a .lits) → (roleNumber (l .role) ≤ 9) × (roleOf (roleNumber (l .role)) ≡ l .role)
   pub components : length (D .template) ≤ 16
   pub labels : (c : Component) → In c (D .template) → length (c .labels) ≤ 6
+  pub literalArity : (a : Action) → In a (D .actions) → (l : Literal) → In l (a .lits) → length (l .atom .args) ≡ arity D (l .atom .rel)
+  pub componentArity : (c : Component) → In c (D .template) → length (c .labels) ≡ arity D (c .rel)
+  pub keysFit : (c : Component) → In c (D .template) → labelsFit (keysOf (D .template)) (c .labels) ≡ true
+  pub componentsOnce : distinct (λ (c d : Component). eqb (c .rel) (d .rel)) (D .template) ≡ true
 
 pub record Holds (D : Domain) (index : Index) : Type 0 where
   pub is : index ≡ indexOf D
   pub bounded : Bounded D
+
+-- the row behind the last literal of an action
+abbrev pub endOf : Index → ℕ → ℕ
+endOf index i = cond (ltb (i + 1) (index .actions)) (getD (index .starts) (i + 1) 0) (index .rows)
+
+-- the rows of an action's literals
+pub record Spanned (index : Index) (i : ℕ) : Type 0 where
+  pub order : getD (index .starts) i 0 ≤ endOf index i
+  pub within : endOf index i ≤ index .rows
+  pub few : endOf index i ≤ getD (index .starts) i 0 + 64
 
 -- the bounds of an index that holds a domain
 pub record Shaped (index : Index) : Type 0 where
@@ -165,6 +180,7 @@ pub record Shaped (index : Index) : Type 0 where
   pub rows : index .rows ≤ 64 * index .actions
   pub order : getD (index .starts) (index .actions - 1) 0 ≤ index .rows
   pub last : getD (index .starts) (index .actions - 1) 0 ≤ 64 * (index .actions - 1)
+  pub spans : (i : ℕ) → i < index .actions → Spanned index i
   pub components : index .components ≤ 16
   pub parts : length (index .parts) ≡ 128
   pub keys : index .keys ≤ 6

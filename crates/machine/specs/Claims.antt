@@ -1,20 +1,20 @@
 -- Demand 2 of a run, "played exactly as the written-out machine plays it", and what demand 3 says of it. The claims, each proved in proofs/. Assumes nothing.
 use mathlib.Core.Path.{_≡_}
-use mathlib.Core.Bool.{Bool, true, false, _&&_, cond}
+use mathlib.Core.Bool.{true, false, cond}
 use mathlib.Core.Logic.{_⊎_}
-use mathlib.Core.List.{List, [], _∷_, map}
+use mathlib.Core.List.{List, [], map}
 use Prim.Native.Nat.{ℕ, suc, _≤_}
-use lib.Dec.{eqb, leb}
+use lib.Dec.{eqb}
 use lib.ListN.{length}
-use Rattle.records.specs.Lists.{all, empty}
-use Rattle.literals.specs.Domain.{Fact, Domain}
+use Rattle.records.specs.Lists.{all}
+use Rattle.literals.specs.Domain.{Domain}
 use Rattle.literals.specs.Decode.{domain, decode}
 use Rattle.verdict.specs.Binding.{objectsFrom}
 use Rattle.verdict.specs.Judged.{decidedFile}
 use Rattle.verdict.specs.Machine.{Event, State, legalStep, allowed, startState, run, lastState, largest, topWeight}
 use Rattle.verdict.specs.Claims.{Accepted, isEvent, isFact}
 use Rattle.machine.specs.RunFile.{Entry, entries, entriesBefore, entriesUpTo, startFactsIn, stepsIn, waitingIn, begunIn}
-use Rattle.machine.specs.Play.{workBytes, Outcome, playRun, Played, played, forbidden}
+use Rattle.machine.specs.Play.{Outcome, playRun, played, forbidden}
 
 -- ---- a run of the machine on what a run file holds
 

@@ -4,7 +4,7 @@ use mathlib.Core.List.{List, [], _∷_, _++_}
 use Prim.Native.Nat.{ℕ, zero, suc, _+_, _-_, max}
 use lib.Dec.{eqb, ltb, leb}
 use lib.ListN.{length, drop, replicate}
-use Rattle.records.specs.Lists.{any, all, empty, elem, distinct}
+use Rattle.records.specs.Lists.{any, all, empty, elem}
 use Rattle.records.specs.Memory.{over}
 use Rattle.records.specs.declared.Record.{Record}
 use Rattle.records.specs.declared.Record.the-variants.{Whole, Cut, End}
@@ -13,7 +13,7 @@ use Rattle.literals.specs.Domain.{Fact, sameFact, Domain, arity, action}
 use Rattle.literals.specs.Decode.{Refusal, Decoded, refused, domain, decode, byte}
 use Rattle.verdict.specs.Decision.{decision}
 use Rattle.verdict.specs.Judged.{factBytes}
-use Rattle.verdict.specs.Machine.{Event, State, sameEvent, injective, isOpen, conditionsHold, overAllHold, interfere, independent, allowed, next, topWeight}
+use Rattle.verdict.specs.Machine.{Event, State, sameEvent, injective, isOpen, conditionsHold, overAllHold, interfere, independent, next, topWeight}
 use Rattle.machine.specs.RunFile.{RunKind, objectsRecord, factRecord, eventRecord, stepRecord, endRecord, otherRecord, runKindOf, factOf, eventOf}
 
 -- ---- the player's own limits: "The machine has no size limits; those in 52 are the player's."

@@ -9,6 +9,9 @@ use lib.Dec.{eqb}
 use lib.ListN.{length, getD}
 use borrow.Author.Tests.{eqb-true, eqb-false, eq-eqb}
 use Rattle.records.specs.Lists.{addIf, keepIf, filterBy, countBy, all, any, pairwise, empty, In, sameList, elem, distinct, dedup}
+use lib.ListN.{length, getD, length-append}
+use borrow.Author.Tests.{eqb-true, eq-eqb}
+use Rattle.records.specs.Lists.{addIf, keepIf, filterBy, countBy, all, any, pairwise, In, sameList, elem, distinct, dedup}
 
 -- ---- tests
 
@@ -451,3 +454,30 @@ below-in (suc n) p t k h = go (eqb k n) refl (λ l. below-in n p (and-r (p n) _ 
     go : (b : Bool) → eqb k n ≡ b → (k < n → p k ≡ true) → p k ≡ true
     go true q ih = ap p (eqb-true k n q) ∙ and-l _ _ t
     go false q ih = let ne = eqb-false k n q in ih (omega arith)
+
+-- ---- at most as many
+
+module _ {A : Type 0} where
+  pub filter-few : (p : A → Bool) (l : List A) → length (filterBy p l) ≤ length l
+  filter-few p [] = omega arith
+  filter-few p (x ∷ xs) = go (p x) (filter-few p xs)
+    where
+      go : (b : Bool) → length (filterBy p xs) ≤ length xs → length (keepIf b x (filterBy p xs)) ≤ suc (length xs)
+      go true h = omega arith
+      go false h = omega arith
+
+  pub dedup-few : (eq : A → A → Bool) (l : List A) → length (dedup eq l) ≤ length l
+  dedup-few eq [] = omega arith
+  dedup-few eq (x ∷ xs) =
+      let f = filter-few (λ y. not (eq x y)) (dedup eq xs) in
+      let r = dedup-few eq xs in
+      omega arith
+
+  pub flat-few : {B : Type 0} (f : A → List B) (l : List A) → ((a : A) → length (f a) ≤ 1) → length (flatMap f l) ≤ length l
+  unfolding flatMap
+  flat-few f [] h = omega arith
+  flat-few f (x ∷ xs) h =
+      let l = length-append (f x) (flatMap f xs) in
+      let r = flat-few f xs h in
+      let k = h x in
+      omega arith

@@ -1,13 +1,17 @@
 -- Laws of lent memory whose first bytes are new, and of what fills it. Assumes nothing.
-use mathlib.Core.Path.{_≡_, refl, ap, ap₂, _∙_}
+use mathlib.Core.Path.{_≡_, refl, sym, ap, ap₂, _∙_}
 use mathlib.Core.List.{List, [], _∷_, _++_, append-assoc}
-use Prim.Native.Nat.{ℕ, zero, suc, _+_, _-_, _<_}
+use Prim.Native.Nat.{ℕ, zero, suc, _+_, _-_, _≤_, _<_}
 use native.Mathlib.Nat.{sub-zero, zero-sub, suc-sub-suc}
 use native.Mathlib.Numerals.{add-one}
 use native.Mathlib.Omega.{arith}
-use lib.ListN.{length, getD, set, drop, replicate, length-append}
-use lib.Seq.{set-at, take-at, take-all, drop-cons, drop-drop, drop-append-add, paste}
+use lib.ListN.{length, getD, set, drop, replicate, length-append, length-drop}
+use lib.Seq.{set-at, take-at, take-all, drop-cons, drop-drop, drop-append-add, paste, paste-suc, length-paste}
 use Rattle.records.specs.Memory.{over}
+
+pub length-over : (new old : List ℕ) → length new ≤ length old → length (over new old) ≡ length old
+unfolding over
+length-over new old h = simp (length-append, length-drop) (omega arith)
 
 -- a store at the seam is one byte more of what is new
 pub over-more : (new old : List ℕ) (k a : ℕ) → length new ≡ k → k < length old → set (over new old) k a ≡ over (new ++ (a ∷ [])) old
@@ -41,3 +45,15 @@ getD-fill [] (suc m) zero d = refl
 getD-fill [] (suc m) (suc i) d = getD-fill [] m i d
 getD-fill (x ∷ xs) m zero d = refl
 getD-fill (x ∷ xs) m (suc i) d = getD-fill xs m i d
+
+-- ---- a copy of n bytes, of which i are written
+
+module _ (s out₀ out : List ℕ) (at i n : ℕ) (h : at + n ≤ length out₀) (g : length s ≡ n) (e : out ≡ paste out₀ at s i) where
+  pub paste-more : (r : ℕ) → i < n → r ≡ getD s i 0 → set out (at + i) r ≡ paste out₀ at s (i + 1)
+  paste-more r l f =
+      ap₂ (λ (d : List ℕ) (x : ℕ). set d (at + i) x) e f
+      ∙ paste-suc out₀ at s i 0 (omega arith) (omega arith)
+      ∙ ap (paste out₀ at s) (sym (add-one i))
+
+  pub paste-length : i ≤ n → length out ≡ length out₀
+  paste-length l = ap length e ∙ length-paste out₀ at s i (omega arith) (omega arith)

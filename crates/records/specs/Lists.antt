@@ -1,7 +1,7 @@
 -- Tests on lists that compute. The library's `filter` and `countP` take a decision for each element and do not compute from a test, so `filterBy` and `countBy` stand here.
 -- Assumes nothing.
 use mathlib.Core.Bool.{Bool, true, false, _&&_, _||_, not}
-use mathlib.Core.List.{List, [], _∷_, _++_, List·Memᴰ}
+use mathlib.Core.List.{List, [], _∷_, List·Memᴰ}
 use Prim.Native.Nat.{ℕ, zero, suc}
 
 -- one more where the test passes

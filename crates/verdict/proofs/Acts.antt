@@ -1,8 +1,8 @@
 -- What an event does to an instance, read off the name of its class and moment. Assumes nothing.
 use mathlib.Core.Path.{_≡_, refl, sym, ap, _∙_}
-use mathlib.Core.Bool.{Bool, true, false, not, _&&_, _||_, cond, false≢true}
+use mathlib.Core.Bool.{Bool, true, false, not, _&&_, cond, false≢true}
 use mathlib.Core.Logic.{_⊎_, inl, inr}
-use mathlib.Core.List.{List, [], _∷_, _++_, map, flatMap, List·Memᴰ·head, List·Memᴰ·tail, List·Memᴰ·not-nil, List·Memᴰ·append-cases, Memᴰ·of-map, Memᴰ·map, Memᴰ·cast, List·Memᴰ·eq-of-singleton}
+use mathlib.Core.List.{List, [], _∷_, _++_, map, List·Memᴰ·head, List·Memᴰ·tail, List·Memᴰ·not-nil, List·Memᴰ·append-cases, Memᴰ·of-map, Memᴰ·map, Memᴰ·cast, List·Memᴰ·eq-of-singleton}
 use Prim.Native.Nat.{ℕ, suc}
 use native.Mathlib.Omega.{arith}
 use lib.Dec.{eqb, leb, leb·zero, leb·suc-suc, eqb·suc-zero}
@@ -20,7 +20,8 @@ use Rattle.classes.specs.declared.Moment.{Moment}
 use Rattle.classes.specs.declared.Moment.the-variants.{Start, End}
 use Rattle.classes.specs.declared.Name.{Name}
 use Rattle.classes.specs.declared.Name.the-variants.{Unreachable, Irrelevant, Heavy, Balanced, Unbalanced, Bounded, Unbounded}
-use Rattle.classes.specs.Classes.{own, overAll, endsOverAll, withRole, literalsAt, tuplesOf, belongs, matches, classes, inClass, nameBy, deletedBy, changedBy, covered, excluding, nameOf, journey}
+use Rattle.classes.specs.Classes.{withRole, literalsAt, tuplesOf, belongs, matches, classes, inClass, nameBy, deletedBy, changedBy, covered, excluding, nameOf, journey}
+use Rattle.classes.proofs.Clauses.{counts}
 use Rattle.verdict.specs.Binding.{Binding, bind, bindTuple}
 use Rattle.verdict.specs.Claims.{wellFormedAction, wellFormedTemplate}
 use Rattle.verdict.proofs.Equality.{literal-eq, literal-self, variables-eq}
@@ -41,10 +42,6 @@ withRole-in rs (l ∷ ls) {p} m = go (λ k. withRole-in rs ls k) (in-keepIf (rs 
     go ih (inl h) = (l, List·Memᴰ·head refl, h .0, h .1)
     go ih (inr k) = let r = ih k in (r .0, List·Memᴰ·tail (r .1), r .2, r .3)
 
--- the roles that count at a moment in a clause
-abbrev pub counts : Moment → Clause → Role → Bool
-counts m c r = own m c r || (endsOverAll m && overAll c r)
-
 pub literalsAt-in : (a : Action) (m : Moment) (c : Clause) {p : Atom Variable} → In p (literalsAt a m c)
     → (l : Literal) × In l (a .lits) × (counts m c (l .role) ≡ true) × (p ≡ l .atom)
 unfolding literalsAt
@@ -57,10 +54,6 @@ class-in D a m = flatMap-in (λ (l : Literal). tuplesOf D (l .atom)) (a .lits) (
 pub in-class : (D : Domain) (a : Action) {l : Literal} {u : List Variable} → In l (a .lits) → In u (tuplesOf D (l .atom)) → In u (classes D a)
 unfolding classes
 in-class D a h m = in-dedup (sameList sameVariable) variables-eq (in-flatMap (λ (l : Literal). tuplesOf D (l .atom)) h m)
-
-pub classes-distinct : (D : Domain) (a : Action) → distinct (sameList sameVariable) (classes D a) ≡ true
-unfolding classes
-classes-distinct D a = distinct-dedup (sameList sameVariable) (flatMap (λ (l : Literal). tuplesOf D (l .atom)) (a .lits))
 
 -- ---- the names as a table, by the lists themselves
 

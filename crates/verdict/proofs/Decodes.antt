@@ -8,15 +8,16 @@ use lib.Dec.{eqb, ltb, leb}
 use lib.ListN.{length, drop, length-append, length-drop, length-map, List·getD-append}
 use borrow.Author.Tests.{ltb-true, leb-false, lt-ltb, eq-eqb}
 use Rattle.records.specs.Lists.{all, any, distinct}
-use Rattle.records.proofs.Lists.{and-l, and-r, and-i, all-of, any-out, eqb-comm, sameList-comm, all-snoc, pairwise-snoc, all-weaken, any-none, all-map}
+use Rattle.records.proofs.Lists.{and-l, and-r, and-i, all-of, any-out, eqb-comm, all-snoc, pairwise-snoc, all-weaken, any-none, all-map}
 use Rattle.literals.specs.declared.Variable.{Variable}
 use Rattle.literals.specs.declared.Time.{Time}
 use Rattle.literals.specs.declared.Time.the-variants.{AtStart}
 use Rattle.literals.specs.declared.Clause.{Clause}
 use Rattle.literals.specs.declared.Clause.the-variants.{Positive, Negative, Add, Delete}
-use Rattle.literals.specs.Domain.{variable, sameVariable, Atom, sameLiteral, clauseNumber, firstRole, sameTime, Literal, Action, Component, Template, keysOf, labelsFit, Domain, arity}
+use Rattle.literals.specs.Domain.{variable, clauseNumber, firstRole, sameTime, Literal, Action, Component, Template, keysOf, labelsFit, Domain, arity}
 use Rattle.literals.specs.Decode.{RecordKind, relationRecord, actionRecord, literalRecord, componentRecord, closingRecord, unknownRecord, latest, byte, literalOf, repeats, contrary, together, contradicts, labelOf, componentOf, literalStop, componentStop, fieldStop, stopOf, withLiteral, actionOf, extend, refuse, refused, domain, Reading, ReadTurn, goOn, finish, readStep, Finished, readFrom, noDomain, fromStart, readFile, decode, maxFile}
 use Rattle.literals.proofs.Stops.{passes, literal-passes, ComponentPasses, component-passes}
+use Rattle.literals.proofs.Equality.{literal-comm}
 use Rattle.literals.proofs.Loop.{read-more, read-done, goOn-at, finish-sofar}
 use Rattle.verdict.specs.Claims.{hasArity, wellFormedAction, wellFormedTemplate, wellFormed, DecodedIsWellFormed}
 
@@ -39,13 +40,10 @@ sameRelation c d = eqb (c .rel) (d .rel)
 
 -- ---- the tests of two literals do not mind which comes first
 
-sameLiteral-comm : (p q : Atom Variable) → sameLiteral p q ≡ sameLiteral q p
-sameLiteral-comm p q = ap₂ _&&_ (eqb-comm (p .rel) (q .rel)) (sameList-comm sameVariable (λ v w. eqb-comm (v .0) (w .0)) (p .args) (q .args))
-
 repeats-comm : (l m : Literal) → repeats l m ≡ repeats m l
 repeats-comm l m =
     ap₂ _&&_ (ap₂ _&&_ (eqb-comm (firstRole (l .role .time)) (firstRole (m .role .time))) (eqb-comm (clauseNumber (l .role .clause)) (clauseNumber (m .role .clause))))
-    (sameLiteral-comm (l .atom) (m .atom))
+    (literal-comm (l .atom) (m .atom))
 
 contrary-comm : (c d : Clause) → contrary c d ≡ contrary d c
 contrary-comm Positive Positive = refl
@@ -76,7 +74,7 @@ together-comm t u = go (sameTime t AtStart) (sameTime u AtStart)
 
 contradicts-comm : (l m : Literal) → contradicts l m ≡ contradicts m l
 contradicts-comm l m =
-    ap₂ _&&_ (ap₂ _&&_ (contrary-comm (l .role .clause) (m .role .clause)) (together-comm (l .role .time) (m .role .time))) (sameLiteral-comm (l .atom) (m .atom))
+    ap₂ _&&_ (ap₂ _&&_ (contrary-comm (l .role .clause) (m .role .clause)) (together-comm (l .role .time) (m .role .time))) (literal-comm (l .atom) (m .atom))
 
 -- ---- a relation with its arity
 

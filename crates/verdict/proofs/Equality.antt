@@ -1,62 +1,11 @@
 -- The tests of equality on variables, objects, literals, facts and ground actions decide equality. Assumes nothing.
-use mathlib.Core.Path.{_≡_, ap}
-use mathlib.Core.Bool.{Bool, true}
-use mathlib.Core.List.{List}
+use mathlib.Core.Path.{_≡_}
+use mathlib.Core.Bool.{true}
 use lib.Dec.{eqb}
 use borrow.Author.Tests.{eqb-true}
-use Rattle.records.specs.Lists.{sameList}
-use Rattle.records.proofs.Lists.{and-l, and-r, and-i, eqb-same, sameList-eq, sameList-self}
-use Rattle.literals.specs.declared.Variable.{Variable}
-use Rattle.literals.specs.declared.Object.{Object}
-use Rattle.literals.specs.Domain.{variable, object, sameVariable, sameObject, Atom, Fact, sameAtom, sameLiteral, sameFact}
+use Rattle.records.proofs.Lists.{and-l, and-r}
+pub use Rattle.literals.proofs.Equality.{variable-eq, variable-self, object-eq, object-self, atom-of, atom-eq, atom-self, literal-eq, literal-self, fact-eq, fact-self, variables-eq, variables-self, objects-eq, objects-self}
 use Rattle.verdict.specs.Machine.{GroundAction, sameGround}
-
-pub variable-eq : (v w : Variable) → sameVariable v w ≡ true → v ≡ w
-variable-eq v w t = ap variable (eqb-true (v .0) (w .0) t)
-
-pub variable-self : (v : Variable) → sameVariable v v ≡ true
-variable-self v = eqb-same (v .0)
-
-pub object-eq : (o p : Object) → sameObject o p ≡ true → o ≡ p
-object-eq o p t = ap object (eqb-true (o .0) (p .0) t)
-
-pub object-self : (o : Object) → sameObject o o ≡ true
-object-self o = eqb-same (o .0)
-
-module _ {A : Type 0} where
-  pub atom-of : {f g : Atom A} → f .rel ≡ g .rel → f .args ≡ g .args → f ≡ g
-  atom-of r a = λ i. record { rel = r i; args = a i }
-
-  pub atom-eq : (eq : A → A → Bool) → ((a b : A) → eq a b ≡ true → a ≡ b) → (f g : Atom A) → sameAtom eq f g ≡ true → f ≡ g
-  atom-eq eq sound f g t = atom-of (eqb-true _ _ (and-l _ _ t)) (sameList-eq eq sound (f .args) (g .args) (and-r (eqb (f .rel) (g .rel)) _ t))
-
-  pub atom-self : (eq : A → A → Bool) → ((a : A) → eq a a ≡ true) → (f : Atom A) → sameAtom eq f f ≡ true
-  atom-self eq self f = and-i (eqb-same (f .rel)) (sameList-self eq self (f .args))
-
-pub literal-eq : (p q : Atom Variable) → sameLiteral p q ≡ true → p ≡ q
-literal-eq = atom-eq sameVariable variable-eq
-
-pub literal-self : (p : Atom Variable) → sameLiteral p p ≡ true
-literal-self = atom-self sameVariable variable-self
-
-pub fact-eq : (f g : Fact) → sameFact f g ≡ true → f ≡ g
-fact-eq = atom-eq sameObject object-eq
-
-pub fact-self : (f : Fact) → sameFact f f ≡ true
-fact-self = atom-self sameObject object-self
-
--- key tuples of variables, and of objects
-pub variables-eq : (x y : List Variable) → sameList sameVariable x y ≡ true → x ≡ y
-variables-eq = sameList-eq sameVariable variable-eq
-
-pub variables-self : (x : List Variable) → sameList sameVariable x x ≡ true
-variables-self = sameList-self sameVariable variable-self
-
-pub objects-eq : (x y : List Object) → sameList sameObject x y ≡ true → x ≡ y
-objects-eq = sameList-eq sameObject object-eq
-
-pub objects-self : (x : List Object) → sameList sameObject x x ≡ true
-objects-self = sameList-self sameObject object-self
 
 pub ground-eq : (g h : GroundAction) → sameGround g h ≡ true → g ≡ h
 ground-eq g h t =

@@ -21,6 +21,7 @@ use Rattle.literals.specs.Domain.{object, sameObject, Atom, Fact, sameFact, sam
 use Rattle.literals.specs.Decode.{repeats, contrary, together, contradicts}
 use Rattle.classes.specs.declared.Moment.the-variants.{Start}
 use Rattle.classes.specs.Classes.{own, literalsAt, matches, classes, inClass, excluding, covered, changedBy, nameOf}
+use Rattle.classes.proofs.Clauses.{counts}
 use Rattle.verdict.specs.Binding.{Binding, valueOf, bind, bindTuple, sameNumbers, spare}
 use Rattle.verdict.specs.Decision.{faultBy, objectUnder, instanceFact, firstUncovered, witnessBy, witnessAt}
 use Rattle.verdict.specs.Machine.{Event, eventFacts, conditionsHold, allowed, factsAfter, next, weight, legal}
@@ -29,7 +30,7 @@ use Rattle.verdict.proofs.Equality.{object-self, literal-self, fact-eq,
 use Rattle.verdict.proofs.Events.{elem-fact, fact-elem, in-after}
 use Rattle.verdict.proofs.Tuples.{Below, bind-inj}
 use Rattle.verdict.proofs.WellFormed.{literal-arity, literals-apart, action-well-formed, template-well-formed, component-arity}
-use Rattle.verdict.proofs.Acts.{counts, literalsAt-in, nameTable, name-of, effect, at-below, class-below, back, class-at, forth, forth-matches, gone, only, twice}
+use Rattle.verdict.proofs.Acts.{literalsAt-in, nameTable, name-of, effect, at-below, class-below, back, class-at, forth, forth-matches, gone, only, twice}
 use Rattle.verdict.proofs.Objects.{objects-length, objects-range, object-in, objects-distinct}
 use Rattle.verdict.proofs.Instances.{class-length, instance-matches, instance-objects, spare-in, first-uncovered}
 

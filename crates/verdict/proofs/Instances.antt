@@ -45,12 +45,17 @@ module _ {A : Type 0} where
       let k = length-append (keyTuple n ls u) (under (key n) ls u) in
       omega arith
 
-pub class-length : (D : Domain) (a : Action) → wellFormedTemplate D ≡ true → (x : List Variable) → In x (classes D a) → length x ≡ keysOf (D .template)
-class-length D a ok x m =
+-- where each component has each key once
+pub class-keys : (D : Domain) (a : Action) → ((c : Component) → In c (D .template) → eachKeyOnce (keysOf (D .template)) (c .labels) ≡ true)
+    → (x : List Variable) → In x (classes D a) → length x ≡ keysOf (D .template)
+class-keys D a once x m =
     let l = class-in D a m in
     let c = component-of D (l .0 .atom) (l .2) in
     ap length (c .3) ∙ tuple-count (keysOf (D .template)) (c .0 .labels) (l .0 .atom .args)
-    (eqb-true _ _ (and-r (eqb (c .0 .rel) (l .0 .atom .rel)) _ (c .2))) (keys-once D ok (c .0) (c .1))
+    (eqb-true _ _ (and-r (eqb (c .0 .rel) (l .0 .atom .rel)) _ (c .2))) (once (c .0) (c .1))
+
+pub class-length : (D : Domain) (a : Action) → wellFormedTemplate D ≡ true → (x : List Variable) → In x (classes D a) → length x ≡ keysOf (D .template)
+class-length D a ok = class-keys D a (keys-once D ok)
 
 -- ---- the tuple of an instance fact is the instance
 

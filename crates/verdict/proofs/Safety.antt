@@ -17,6 +17,7 @@ use Rattle.literals.specs.Domain.{sameVariable, sameObject, Fact, sameFact, Act
 use Rattle.classes.specs.declared.Moment.{Moment}
 use Rattle.classes.specs.declared.Moment.the-variants.{Start, End}
 use Rattle.classes.specs.Classes.{matches, classes, nameOf, journey}
+use Rattle.classes.proofs.Members.{classes-distinct}
 use Rattle.verdict.specs.Binding.{Binding, bindTuple}
 use Rattle.verdict.specs.Decision.{Row, journeyEndAt, rows, decision}
 use Rattle.verdict.specs.Judged.{answerRow, decided}
@@ -27,7 +28,7 @@ use Rattle.verdict.proofs.Steps.{Inv, Act, sum, inv-after, inv-less, no
 use Rattle.verdict.proofs.Events.{after-in, legal-listed, legal-moment, legal-length, holds-of, quiets-of}
 use Rattle.verdict.proofs.Weight.{distinct-after}
 use Rattle.verdict.proofs.WellFormed.{action-well-formed, template-well-formed}
-use Rattle.verdict.proofs.Acts.{classes-distinct, Harmless, journey-lasts, journey-of, one-class, harmless-act, apart-act, start-act, end-act}
+use Rattle.verdict.proofs.Acts.{Harmless, journey-lasts, journey-of, one-class, harmless-act, apart-act, start-act, end-act}
 use Rattle.verdict.proofs.Open.{endsAt, startsAt, ends, starts, closeAll-sum, running-sum}
 use Rattle.verdict.proofs.Rows.{RowOf, row-of, fine-rows, harmless-of}
 

@@ -3,18 +3,18 @@ use mathlib.Core.Path.{_≡_}
 use mathlib.Core.Bool.{Bool, true, false, not, _&&_}
 use mathlib.Core.Logic.{_⊎_, _↔_}
 use mathlib.Core.List.{List, [], _∷_, map, foldr}
-use Prim.Native.Nat.{ℕ, zero, suc, _+_, _≤_, _<_}
+use Prim.Native.Nat.{ℕ, zero, suc, _+_, _*_, _≤_, _<_}
 use lib.Dec.{eqb, ltb, leb}
-use lib.ListN.{length}
-use Rattle.records.specs.Lists.{In, all, any, countBy, pairwise, sameList, elem, distinct}
+use lib.ListN.{length, take, drop}
+use Rattle.records.specs.Lists.{In, all, countBy, pairwise, sameList, elem, distinct}
 use Rattle.literals.specs.declared.Variable.{Variable}
 use Rattle.literals.specs.declared.Object.{Object}
-use Rattle.literals.specs.Domain.{sameObject, Atom, Fact, Literal, Action, Component, keysOf, labelsFit, Domain, arity, action}
-use Rattle.literals.specs.Decode.{repeats, contradicts, domain, decode}
+use Rattle.literals.specs.Domain.{object, sameObject, Fact, Literal, Action, Component, keysOf, labelsFit, Domain, arity, action}
+use Rattle.literals.specs.Decode.{byte, repeats, contradicts, domain, decode}
 use Rattle.classes.specs.declared.Moment.the-variants.{Start}
 use Rattle.classes.specs.Classes.{classes, nameOf, journey}
 use Rattle.verdict.specs.Binding.{bindTuple, objectsFrom, sameNumbers}
-use Rattle.verdict.specs.Decision.{faultBy, classAt, decision, witnessAt, witness}
+use Rattle.verdict.specs.Decision.{faultBy, classAt, witnessAt, witness}
 use Rattle.verdict.specs.Judged.{Answer, answerAt, decided, decidedFile, judged}
 use Rattle.verdict.specs.Machine.{GroundAction, Event, State, legal, legalStep, injective, allowed, next, startState, run, weight}
 
@@ -208,3 +208,30 @@ NeverRisesOfFile = (f : List ℕ) (D : Domain) → decode f ≡ domain D → dec
 abbrev pub JudgingDecides : Type 0
 JudgingDecides =
     (f report wit : List ℕ) → (judged f report wit ≡ decidedFile f) ⊎ ((judged f report wit ≡ answerAt 30 0) ⊎ (judged f report wit ≡ answerAt 31 0))
+
+-- the facts in a witness's bytes, k of them: "8 bytes a fact (relation, arity, arguments, FF to fill)"
+unfoldable pub readFacts : ℕ → List ℕ → List Fact
+readFacts zero b = []
+readFacts (suc k) b = record { rel = byte b 0; args = map object (take (byte b 1) (drop 2 b)) } ∷ readFacts k (drop 8 b)
+
+-- demand 3 of an answer to the file f: the number n with its places, and the bytes w of the witness afterwards
+
+-- an accepted template is safe
+abbrev pub AcceptedSafe : List ℕ → ℕ → Type 0
+AcceptedSafe f n = (D : Domain) → decode f ≡ domain D → (n ≡ 0) ⊎ (n ≡ 1) → Safe D
+
+-- where no action lasts, a template is refused for a class exactly when some event does harm, "unless 30 or 31 comes in its place"
+abbrev pub RefusedHarmful : List ℕ → ℕ → Type 0
+RefusedHarmful f n =
+    (D : Domain) → decode f ≡ domain D → noneLasts D ≡ true → (n ≡ 30 → ⊥) → (n ≡ 31 → ⊥)
+    → (leb 40 n && leb n 43 ≡ true) ↔ Harmful D
+
+-- the bytes hold facts that show the harm of the named action to the named class
+pub record ShownBy (D : Domain) (w : List ℕ) (i j m : ℕ) : Type 0 where
+  pub count : ℕ
+  pub room : 8 * count ≤ length w
+  pub at-start : m ≡ 0
+  pub harm : Harm D (plainObjects D i) (readFacts count w) (plainInstance D i j) (plainEvent D i)
+
+abbrev pub WitnessHarms : List ℕ → ℕ → List ℕ → ℕ → ℕ → ℕ → Type 0
+WitnessHarms f n w i j m = (D : Domain) → decode f ≡ domain D → noneLasts D ≡ true → leb 40 n && leb n 43 ≡ true → ShownBy D w i j m

@@ -1,16 +1,16 @@
 -- Judging a file: the answer, and what the lent report and witness hold afterwards. Assumes nothing.
-use mathlib.Core.Bool.{Bool, true, false, _&&_, _||_, not, cond}
+use mathlib.Core.Bool.{Bool, _&&_, _||_, cond}
 use mathlib.Core.List.{List, [], _∷_, _++_, map}
 use mathlib.Core.Option.{Option, none, some}
-use Prim.Native.Nat.{ℕ, zero, suc, _-_, _*_}
-use lib.Dec.{eqb, ltb, leb}
+use Prim.Native.Nat.{ℕ, _-_, _*_}
+use lib.Dec.{ltb, leb}
 use lib.ListN.{length, replicate}
 use Rattle.records.specs.Memory.{over}
 use Rattle.literals.specs.declared.Object.{Object}
-use Rattle.literals.specs.Domain.{Atom, Fact, Domain}
+use Rattle.literals.specs.Domain.{Fact, Domain}
 use Rattle.literals.specs.Decode.{Refusal, Decoded, refused, domain, decode}
 use Rattle.classes.specs.Classes.{momentNumber, nameNumber}
-use Rattle.verdict.specs.Decision.{Row, rows, Decision, decision, witness}
+use Rattle.verdict.specs.Decision.{Row, rows, decision, witness}
 
 -- ---- bytes
 

@@ -1,14 +1,14 @@
 -- The machine: states, events, interference, allowed steps, the next state, runs, instances and their weight. Assumes nothing.
 use mathlib.Core.Bool.{Bool, true, false, _&&_, _||_, not, cond}
 use mathlib.Core.List.{List, [], _∷_, _++_, map, flatMap, foldr}
-use Prim.Native.Nat.{ℕ, zero, suc, max}
+use Prim.Native.Nat.{ℕ, max}
 use lib.Dec.{eqb, ltb}
 use lib.ListN.{length}
 use Rattle.records.specs.Lists.{keepIf, filterBy, countBy, all, any, pairwise, sameList, elem, distinct, dedup}
 use Rattle.literals.specs.declared.Object.{Object}
 use Rattle.literals.specs.declared.Clause.{Clause}
 use Rattle.literals.specs.declared.Clause.the-variants.{Positive, Negative, Add, Delete}
-use Rattle.literals.specs.Domain.{sameObject, Atom, Fact, sameFact, Action, Domain, action}
+use Rattle.literals.specs.Domain.{sameObject, Fact, sameFact, Action, Domain, action}
 use Rattle.classes.specs.declared.Moment.{Moment}
 use Rattle.classes.specs.declared.Moment.the-variants.{Start, End}
 use Rattle.classes.specs.Classes.{momentNumber, literalsAt, overAllLiterals, tuplesOf, hasTuple, matches}

@@ -1,0 +1,260 @@
+-- The clause of each literal at a moment: by the bytes of its row, and as the literals that count there. Assumes nothing.
+use mathlib.Core.Path.{_≡_, refl, sym, ap, ap₂, _∙_}
+use mathlib.Core.Bool.{Bool, true, false, _&&_, _||_, not, cond}
+use mathlib.Core.Logic.{_⊎_, inl, inr}
+use mathlib.Core.List.{List, [], _∷_, _++_, map, flatMap, map-append, append-nil, append-assoc}
+use Prim.Native.Nat.{ℕ, zero, suc, _+_, _*_, _≤_, _<_}
+use native.Mathlib.Numerals.{add-one}
+use native.Mathlib.Omega.{arith}
+use lib.Dec.{eqb, eqb·zero-suc, eqb·suc-suc}
+use lib.ListN.{length, getD, set, take, length-map}
+use lib.Seq.{take-suc, take-length}
+use borrow.Author.Tests.{eqb-true}
+use Rattle.records.specs.Lists.{In, keepIf, filterBy, any, elem, dedup}
+use Rattle.records.proofs.Lists.{allBelow, below-in, bool-cases, off, clash, eqb-same, eqb-comm, any-map, elem-in, in-elem, in-dedup, dedup-in, dedup-snoc}
+use Rattle.literals.specs.declared.Variable.{Variable}
+use Rattle.literals.specs.declared.Time.the-variants.{OverAll}
+use Rattle.literals.specs.declared.Clause.{Clause}
+use Rattle.literals.specs.declared.Clause.the-variants.{Positive, Negative, Add, Delete}
+use Rattle.literals.specs.declared.Role.{Role}
+use Rattle.literals.specs.Domain.{Atom, sameLiteral, clauseNumber, roleNumber, roleOf, sameTime, Literal, Action, Domain}
+use Rattle.literals.specs.Table.{literalRow, pad, Bounded}
+use Rattle.literals.proofs.Equality.{literal-eq, literal-self, literal-comm}
+use Rattle.literals.proofs.Tables.{Kept, kept, length-literals, pad-more}
+use Rattle.classes.specs.declared.Moment.{Moment}
+use Rattle.classes.specs.declared.Moment.the-variants.{Start, End}
+use Rattle.classes.specs.Classes.{ownTime, endsOverAll, own, overAll, withRole, literalsAt}
+use Rattle.classes.specs.Coded.{clauseAt, clauseOnce, clausesFrom, clausesAt, below, clauseByte, saysAt, clauseIn}
+use Rattle.classes.proofs.Indices.{at-take, at-all, any-agree, any-below, map-agree, below-snoc, length-from, pick-snoc}
+use Rattle.classes.proofs.Rows.{noLiteral, literalAt, kept-at, role-at, atoms-at}
+
+-- ---- by bytes
+
+abbrev agrees : Moment → ℕ → Bool
+agrees m b = eqb (clauseByte m b) (clauseAt m (roleOf b))
+
+all-agree : (m : Moment) → allBelow 10 (agrees m) ≡ true
+unfolding clauseByte roleOf
+all-agree Start = refl
+all-agree End = refl
+
+clause-byte : (m : Moment) (l : Literal) → Kept l → clauseByte m (roleNumber (l .role)) ≡ clauseAt m (l .role)
+clause-byte m l k =
+    let h = k .small in
+    eqb-true _ _ (below-in 10 (agrees m) (all-agree m) (roleNumber (l .role)) (omega arith)) ∙ ap (clauseAt m) (k .back)
+
+-- the clauses of a list, by index
+pub clauses-at : (m : Moment) (ls : List Literal) (j : ℕ) → j < length ls → getD (clausesFrom m [] ls) j 0 ≡ clauseOnce m (take j ls) (literalAt ls j)
+clauses-at m ls j h = from [] ls j h
+  where
+    from : (earlier rest : List Literal) (j : ℕ) → j < length rest → getD (clausesFrom m earlier rest) j 0 ≡ clauseOnce m (earlier ++ take j rest) (literalAt rest j)
+    from earlier [] j h = absurd (omega arith)
+    from earlier (l ∷ ls) zero h = ap (λ (e : List Literal). clauseOnce m e l) (sym (append-nil earlier))
+    from earlier (l ∷ ls) (suc j) h =
+        from (earlier ++ (l ∷ [])) ls j (omega arith) ∙ ap (λ (e : List Literal). clauseOnce m e (literalAt ls j)) (append-assoc earlier (l ∷ []) (take j ls))
+
+pub length-clauses : (m : Moment) (earlier ls : List Literal) → length (clausesFrom m earlier ls) ≡ length ls
+length-clauses m earlier [] = refl
+length-clauses m earlier (l ∷ ls) = ap suc (length-clauses m (earlier ++ (l ∷ [])) ls)
+
+module _ (ls : List Literal) (k : (l : Literal) → In l ls → Kept l) (m : Moment) where
+  clause-at : (j : ℕ) → j < length ls → clauseByte m (getD (flatMap literalRow ls) (8 * j) 0) ≡ clauseAt m (literalAt ls j .role)
+  clause-at j h = ap (clauseByte m) (role-at ls k j h) ∙ clause-byte m (literalAt ls j) (kept-at ls k j h)
+
+  clause-in : (j : ℕ) → j < length ls → clauseIn (flatMap literalRow ls) m j ≡ clauseOnce m (take j ls) (literalAt ls j)
+  unfolding clauseIn saysAt
+  clause-in j h =
+      ap₂ (λ (t : Bool) (n : ℕ). cond t 0 n)
+      (any-below (saysAt (flatMap literalRow ls) m (clauseByte m (getD (flatMap literalRow ls) (8 * j) 0)) j) (λ i. said (literalAt ls i)) j
+      (λ i g. ap₂ _&&_ (ap₂ eqb (clause-at i (omega arith)) (clause-at j h)) (atoms-at ls k i j (omega arith) h))
+      ∙ sym (any-map (literalAt ls) said (below j))
+      ∙ ap (any said) (at-take noLiteral ls j (omega arith)))
+      (clause-at j h)
+    where
+      said : Literal → Bool
+      said e = eqb (clauseAt m (e .role)) (clauseAt m (literalAt ls j .role)) && sameLiteral (e .atom) (literalAt ls j .atom)
+
+-- the clauses that the code counts, of an action's rows
+pub clauses-in : {D : Domain} {a : Action} (m : Moment) → Bounded D → In a (D .actions) → map (clauseIn (flatMap literalRow (a .lits)) m) (below (length (a .lits))) ≡ clausesAt a m
+unfolding clausesAt
+clauses-in {D} {a} m B i =
+    map-agree (clauseIn (flatMap literalRow (a .lits)) m) (λ j. getD (clausesFrom m [] (a .lits)) j 0) (length (a .lits))
+    (λ j h. clause-in (a .lits) (λ l n. kept B i n) m j h ∙ sym (clauses-at m (a .lits) j h))
+    ∙ ap (λ (n : ℕ). map (λ j. getD (clausesFrom m [] (a .lits)) j 0) (below n)) (sym (length-clauses m [] (a .lits)))
+    ∙ at-all 0 (clausesFrom m [] (a .lits))
+
+-- of rows that hold the action's literals
+pub clauses-held : {D : Domain} {a : Action} (m : Moment) (rows : List ℕ) (n : ℕ) → Bounded D → In a (D .actions) → rows ≡ flatMap literalRow (a .lits) → length rows ≡ 8 * n
+    → map (clauseIn rows m) (below n) ≡ clausesAt a m
+clauses-held {D} {a} m rows n B i e l =
+    let f = sym (ap length e) ∙ l in
+    let g = length-literals (a .lits) (λ k j. kept B i j .fits) in
+    let k : n ≡ length (a .lits) = omega arith in
+    ap₂ (λ (r : List ℕ) (k : ℕ). map (clauseIn r m) (below k)) e k ∙ clauses-in m B i
+
+-- the loop that fills an array with them
+pub clauses-more : (rows : List ℕ) (m : Moment) (clauses : List ℕ) (j r : ℕ) → j < 64 → clauses ≡ pad 64 (map (clauseIn rows m) (below j)) → r ≡ clauseIn rows m j
+    → set clauses j r ≡ pad 64 (map (clauseIn rows m) (below (j + 1)))
+clauses-more rows m clauses j r h e f =
+    let l : length (map (clauseIn rows m) (below j)) ≡ j = length-map (below j) (clauseIn rows m) ∙ length-from 0 j in
+    ap₂ (λ (c : List ℕ) (k : ℕ). set c k r) e (sym l)
+    ∙ pad-more 64 (map (clauseIn rows m) (below j)) r (omega arith)
+    ∙ ap (λ (k : ℕ). pad 64 (map (clauseIn rows m) (below j) ++ (k ∷ []))) f
+    ∙ ap (pad 64) (sym (map-append (clauseIn rows m) (below j) (j ∷ [])) ∙ ap (map (clauseIn rows m)) (sym (below-snoc j)) ∙ ap (λ (k : ℕ). map (clauseIn rows m) (below k)) (sym (add-one j)))
+
+-- ---- as the literals that count at the moment
+
+-- the roles that count at a moment in a clause
+abbrev pub counts : Moment → Clause → Role → Bool
+counts m c r = own m c r || (endsOverAll m && overAll c r)
+
+-- a role counts with a clause exactly where that is its clause at the moment
+role-counts : (m : Moment) (c : Clause) (r : Role) → counts m c r ≡ eqb (clauseAt m r) (suc (clauseNumber c))
+role-counts m c r =
+    ap (λ (s : Bool). (o && s) || (v && (w && s))) (eqb-comm (clauseNumber c) d)
+    ∙ both o v w (eqb d (clauseNumber c))
+    ∙ sym (of-clause (own m (r .clause) r || (endsOverAll m && overAll (r .clause) r))
+    ∙ ap (λ (t : Bool). t && eqb d (clauseNumber c)) (both o v w (eqb d d) ∙ ap (λ (t : Bool). (o || (v && w)) && t) (eqb-same d) ∙ and-true (o || (v && w))))
+  where
+    d : ℕ
+    d = clauseNumber (r .clause)
+
+    o : Bool
+    o = sameTime (ownTime m) (r .time)
+
+    v : Bool
+    v = endsOverAll m
+
+    w : Bool
+    w = sameTime OverAll (r .time)
+
+    both : (o v w b : Bool) → (o && b) || (v && (w && b)) ≡ (o || (v && w)) && b
+    both true v w true = refl
+    both true true true false = refl
+    both true true false false = refl
+    both true false w false = refl
+    both false true w b = refl
+    both false false w b = refl
+
+    and-true : (t : Bool) → t && true ≡ t
+    and-true true = refl
+    and-true false = refl
+
+    of-clause : (t : Bool) → eqb (cond t (suc d) 0) (suc (clauseNumber c)) ≡ t && eqb d (clauseNumber c)
+    of-clause true = eqb·suc-suc d (clauseNumber c)
+    of-clause false = eqb·zero-suc (clauseNumber c)
+
+any-role : (r : Role → Bool) (q : Atom Variable → Bool) (ls : List Literal) → any q (withRole r ls) ≡ any (λ (l : Literal). r (l .role) && q (l .atom)) ls
+any-role r q [] = refl
+any-role r q (l ∷ ls) = go (r (l .role)) (any-role r q ls)
+  where
+    go : (t : Bool) → any q (withRole r ls) ≡ any (λ (l : Literal). r (l .role) && q (l .atom)) ls
+        → any q (keepIf t (l .atom) (withRole r ls)) ≡ (t && q (l .atom)) || any (λ (l : Literal). r (l .role) && q (l .atom)) ls
+    go true h = ap (λ (b : Bool). q (l .atom) || b) h
+    go false h = h
+
+with-snoc : (r : Role → Bool) (ls : List Literal) (l : Literal) → withRole r (ls ++ (l ∷ [])) ≡ withRole r ls ++ keepIf (r (l .role)) (l .atom) []
+with-snoc r [] l = refl
+with-snoc r (k ∷ ls) l = go (r (k .role)) (with-snoc r ls l)
+  where
+    go : (t : Bool) → withRole r (ls ++ (l ∷ [])) ≡ withRole r ls ++ keepIf (r (l .role)) (l .atom) []
+        → keepIf t (k .atom) (withRole r (ls ++ (l ∷ []))) ≡ keepIf t (k .atom) (withRole r ls) ++ keepIf (r (l .role)) (l .atom) []
+    go true h = ap {B = List (Atom Variable)} (λ x. k .atom ∷ x) h
+    go false h = h
+
+-- a literal's clause, where an earlier one says it and where none does
+once-counts : (m : Moment) (c : Clause) (earlier : List Literal) (l : Literal)
+    → eqb (clauseOnce m earlier l) (suc (clauseNumber c)) ≡ counts m c (l .role) && not (elem sameLiteral (l .atom) (withRole (counts m c) earlier))
+once-counts m c earlier l = go (bool-cases (eqb (clauseAt m (l .role)) n))
+  where
+    n : ℕ
+    n = suc (clauseNumber c)
+
+    said : Literal → Bool
+    said e = eqb (clauseAt m (e .role)) (clauseAt m (l .role)) && sameLiteral (e .atom) (l .atom)
+
+    here : (t : Bool) → eqb (cond t 0 n) n ≡ not t
+    here true = eqb·zero-suc (clauseNumber c)
+    here false = eqb-same n
+
+    elsewhere : (t : Bool) → eqb (clauseAt m (l .role)) n ≡ false → eqb (cond t 0 (clauseAt m (l .role))) n ≡ false
+    elsewhere true e = eqb·zero-suc (clauseNumber c)
+    elsewhere false e = e
+
+    go : (eqb (clauseAt m (l .role)) n ≡ true) ⊎ (eqb (clauseAt m (l .role)) n ≡ false)
+        → eqb (clauseOnce m earlier l) n ≡ counts m c (l .role) && not (elem sameLiteral (l .atom) (withRole (counts m c) earlier))
+    go (inl t) =
+        let e = eqb-true (clauseAt m (l .role)) n t in
+        ap (λ (k : ℕ). eqb (cond (any said earlier) 0 k) n) e
+        ∙ here (any said earlier)
+        ∙ ap not
+        (any-agree said (λ (k : Literal). counts m c (k .role) && sameLiteral (l .atom) (k .atom)) earlier
+        (λ k i. ap₂ _&&_ (ap (eqb (clauseAt m (k .role))) e ∙ sym (role-counts m c (k .role))) (literal-comm (k .atom) (l .atom)))
+        ∙ sym (any-role (counts m c) (sameLiteral (l .atom)) earlier))
+        ∙ ap (λ (b : Bool). b && not (elem sameLiteral (l .atom) (withRole (counts m c) earlier))) (sym (role-counts m c (l .role) ∙ t))
+    go (inr t) =
+        elsewhere (any said earlier) t
+        ∙ ap (λ (b : Bool). b && not (elem sameLiteral (l .atom) (withRole (counts m c) earlier))) (sym (role-counts m c (l .role) ∙ t))
+
+elem-dedup : (x : Atom Variable) (l : List (Atom Variable)) → elem sameLiteral x (dedup sameLiteral l) ≡ elem sameLiteral x l
+elem-dedup x l = go (bool-cases (elem sameLiteral x l))
+  where
+    go : (elem sameLiteral x l ≡ true) ⊎ (elem sameLiteral x l ≡ false) → elem sameLiteral x (dedup sameLiteral l) ≡ elem sameLiteral x l
+    go (inl t) = in-elem sameLiteral literal-self (in-dedup sameLiteral literal-eq (elem-in sameLiteral literal-eq x l t)) ∙ sym t
+    go (inr f) = off _ (λ t. clash (in-elem sameLiteral literal-self (dedup-in sameLiteral l (elem-in sameLiteral literal-eq x _ t))) f) ∙ sym f
+
+dedup-keep : (t : Bool) (x : Atom Variable) (l : List (Atom Variable))
+    → dedup sameLiteral (l ++ keepIf t x []) ≡ dedup sameLiteral l ++ keepIf (t && not (elem sameLiteral x l)) x []
+dedup-keep false x l = ap (dedup sameLiteral) (append-nil l) ∙ sym (append-nil (dedup sameLiteral l))
+dedup-keep true x l = dedup-snoc sameLiteral literal-eq literal-self l x ∙ ap (λ (b : Bool). cond b (dedup sameLiteral l) (dedup sameLiteral l ++ (x ∷ []))) (elem-dedup x l) ∙ go (elem sameLiteral x l)
+  where
+    go : (b : Bool) → cond b (dedup sameLiteral l) (dedup sameLiteral l ++ (x ∷ [])) ≡ dedup sameLiteral l ++ keepIf (not b) x []
+    go true = sym (append-nil (dedup sameLiteral l))
+    go false = refl
+
+-- the first n literals
+literals-first : (m : Moment) (c : Clause) (ls : List Literal) (n : ℕ) → n ≤ length ls
+    → dedup sameLiteral (withRole (counts m c) (take n ls))
+    ≡ map (λ j. literalAt ls j .atom) (filterBy (λ j. eqb (getD (clausesFrom m [] ls) j 0) (suc (clauseNumber c))) (below n))
+literals-first m c ls zero h = refl
+literals-first m c ls (suc n) h =
+    ap (λ (t : List Literal). dedup sameLiteral (withRole (counts m c) t)) (take-suc ls n noLiteral (omega arith))
+    ∙ ap (dedup sameLiteral) (with-snoc (counts m c) (take n ls) (literalAt ls n))
+    ∙ dedup-keep (counts m c (literalAt ls n .role)) (literalAt ls n .atom) (withRole (counts m c) (take n ls))
+    ∙ ap₂ (λ (x : List (Atom Variable)) (b : Bool). x ++ keepIf b (literalAt ls n .atom) []) (literals-first m c ls n (omega arith))
+    (sym (ap (λ (k : ℕ). eqb k (suc (clauseNumber c))) (clauses-at m ls n (omega arith)) ∙ once-counts m c (take n ls) (literalAt ls n)))
+    ∙ sym (pick-snoc (λ j. eqb (getD (clausesFrom m [] ls) j 0) (suc (clauseNumber c))) (λ j. literalAt ls j .atom) n)
+
+-- the literals that count are those with that clause, in file order
+pub literals-at : (a : Action) (m : Moment) (c : Clause)
+    → literalsAt a m c ≡ map (λ j. literalAt (a .lits) j .atom) (filterBy (λ j. eqb (getD (clausesAt a m) j 0) (suc (clauseNumber c))) (below (length (a .lits))))
+unfolding literalsAt clausesAt
+literals-at a m c =
+    ap (λ (t : List Literal). dedup sameLiteral (withRole (counts m c) t)) (sym (take-length (a .lits)))
+    ∙ literals-first m c (a .lits) (length (a .lits)) (omega arith)
+
+-- ---- a clause is at most 4
+
+clause-few : (m : Moment) (r : Role) → clauseAt m r ≤ 4
+clause-few m r = go (own m (r .clause) r || (endsOverAll m && overAll (r .clause) r)) (r .clause)
+  where
+    go : (t : Bool) (c : Clause) → cond t (suc (clauseNumber c)) 0 ≤ 4
+    go true Positive = omega arith
+    go true Negative = omega arith
+    go true Add = omega arith
+    go true Delete = omega arith
+    go false c = omega arith
+
+pub clauses-few : (a : Action) (m : Moment) (j : ℕ) → j < length (a .lits) → getD (clausesAt a m) j 0 ≤ 4
+unfolding clausesAt
+clauses-few a m j h = rw (clauses-at m (a .lits) j h) (go (any said (take j (a .lits))))
+  where
+    l : Literal
+    l = literalAt (a .lits) j
+
+    said : Literal → Bool
+    said e = eqb (clauseAt m (e .role)) (clauseAt m (l .role)) && sameLiteral (e .atom) (l .atom)
+
+    go : (t : Bool) → cond t 0 (clauseAt m (l .role)) ≤ 4
+    go true = omega arith
+    go false = clause-few m (l .role)

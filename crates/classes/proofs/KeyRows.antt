@@ -1,0 +1,226 @@
+-- Laws of the loops over the rows of components, literals and classes: the place of a row, and the key tuple of a row. Assumes nothing.
+use mathlib.Core.Path.{_≡_, refl, sym, ap, ap₂, _∙_}
+use mathlib.Core.Bool.{Bool, true, false, cond}
+use mathlib.Core.List.{List, [], _∷_, _++_, append-nil}
+use Prim.Native.Nat.{ℕ, zero, suc, _+_, _-_, _*_, _≤_, _<_}
+use native.Mathlib.Numerals.{add-one}
+use native.Mathlib.Omega.{arith}
+use lib.Dec.{eqb}
+use lib.ListN.{length, getD, set, take, drop, replicate, length-append, length-replicate, drop-of-length-le}
+use lib.Seq.{drop-cons, drop-drop, paste}
+use borrow.Author.Tests.{eq-eqb, ne-eqb}
+use Rattle.records.specs.Lists.{sameList}
+use Rattle.records.specs.Memory.{over}
+use Rattle.records.proofs.Memory.{over-more, drop-replicate}
+use Rattle.literals.specs.Decode.{byte}
+use Rattle.literals.specs.Table.{rowOf, rowsIn}
+use Rattle.literals.proofs.Rows.{length-row, same-miss, same-hit, same-end, length-part, part-at, part-first, rows-more, rows-end}
+use Rattle.classes.specs.Coded.{position, underKey, underKeys, keyRow, keyRows, numberedBy, tuplesAfter}
+
+-- ---- the place of the first row that passes, from row c on
+
+module _ (p : List ℕ → Bool) (t : List ℕ) (n c : ℕ) where
+  pub place-end : n ≤ c → c + position p (rowsIn (n - c) (drop (8 * c) t)) ≡ c
+  place-end h = rw (rows-end (drop (8 * c) t) n c h) (omega arith)
+
+  module _ (h : c < n) where
+    pub place-hit : p (take 8 (drop (8 * c) t)) ≡ true → c + position p (rowsIn (n - c) (drop (8 * c) t)) ≡ c
+    place-hit e = rw (rows-more t n c h, e) (omega arith)
+
+    pub place-miss : p (take 8 (drop (8 * c) t)) ≡ false
+        → c + 1 + position p (rowsIn (n - (c + 1)) (drop (8 * (c + 1)) t)) ≡ c + position p (rowsIn (n - c) (drop (8 * c) t))
+    place-miss e = rw (rows-more t n c h, e) (omega arith)
+
+-- whether the row at c starts with b
+pub starts-yes : (t : List ℕ) (b c : ℕ) → getD t (8 * c) 0 ≡ b → eqb b (byte (take 8 (drop (8 * c) t)) 0) ≡ true
+starts-yes t b c e = rw (part-first t (8 * c)) (eq-eqb b (getD t (8 * c) 0) (sym e))
+
+pub starts-no : (t : List ℕ) (b c : ℕ) → (getD t (8 * c) 0 ≡ b → ⊥) → eqb b (byte (take 8 (drop (8 * c) t)) 0) ≡ false
+starts-no t b c e = rw (part-first t (8 * c)) (ne-eqb b (getD t (8 * c) 0) (λ f. e (sym f)))
+
+-- ---- a key tuple and the row at an offset, from byte i on
+
+module _ (x t : List ℕ) (at i : ℕ) (e : length x ≡ 8) (h : at + 8 ≤ length t) where
+  pub tuple-miss : i < 8 → (getD x i 0 ≡ getD t (at + i) 0 → ⊥) → sameList eqb (drop i x) (drop i (take 8 (drop at t))) ≡ false
+  tuple-miss l n = same-miss x (take 8 (drop at t)) i (omega arith) (omega (arith, length-part t at h)) (λ f. n (f ∙ part-at t at h i l))
+
+  pub tuple-hit : i < 8 → getD x i 0 ≡ getD t (at + i) 0
+      → sameList eqb (drop i x) (drop i (take 8 (drop at t))) ≡ sameList eqb (drop (i + 1) x) (drop (i + 1) (take 8 (drop at t)))
+  tuple-hit l f = same-hit x (take 8 (drop at t)) i (omega arith) (omega (arith, length-part t at h)) (f ∙ sym (part-at t at h i l))
+
+  pub tuple-end : 8 ≤ i → sameList eqb (drop i x) (drop i (take 8 (drop at t))) ≡ true
+  tuple-end l = same-end x (take 8 (drop at t)) i (omega arith) (omega (arith, length-part t at h))
+
+-- ---- the argument under a key, from label i on
+
+under-none : (k : ℕ) (bs : List ℕ) → underKey k bs [] ≡ 255
+under-none k [] = refl
+under-none k (b ∷ bs) = refl
+
+-- a row at an offset, from byte i on
+row-cons : (t : List ℕ) (at : ℕ) → at + 8 ≤ length t → (i j k : ℕ) → i < 8 → i + 1 ≡ j → at + i ≡ k
+    → drop i (take 8 (drop at t)) ≡ getD t k 0 ∷ drop j (take 8 (drop at t))
+row-cons t at h i j k l e f =
+    drop-cons (take 8 (drop at t)) i 0 (omega (arith, length-part t at h))
+    ∙ ap₂ _∷_ (part-at t at h i l ∙ ap (λ (n : ℕ). getD t n 0) f) (ap (λ (n : ℕ). drop n (take 8 (drop at t))) (sym (add-one i) ∙ e))
+
+module _ (parts rows : List ℕ) (part at k i : ℕ) (h : part + 8 ≤ length parts) (g : at + 8 ≤ length rows) where
+  pub under-end : 6 ≤ i → underKey k (drop (i + 1) (take 8 (drop part parts))) (drop (i + 2) (take 8 (drop at rows))) ≡ 255
+  under-end l =
+      ap (underKey k (drop (i + 1) (take 8 (drop part parts)))) (drop-of-length-le (take 8 (drop at rows)) {i = i + 2} (omega (arith, length-part rows at g)))
+      ∙ under-none k (drop (i + 1) (take 8 (drop part parts)))
+
+  module _ (l : i < 6) where
+    under-more : underKey k (drop (i + 1) (take 8 (drop part parts))) (drop (i + 2) (take 8 (drop at rows)))
+        ≡ cond (eqb k (getD parts (part + 1 + i) 0)) (getD rows (at + 2 + i) 0)
+        (underKey k (drop (i + 1 + 1) (take 8 (drop part parts))) (drop (i + 1 + 2) (take 8 (drop at rows))))
+    under-more =
+        ap₂ (underKey k) (row-cons parts part h (i + 1) (i + 1 + 1) (part + 1 + i) (omega arith) (omega arith) (omega arith)) (row-cons rows at g (i + 2) (i + 1 + 2) (at + 2 + i) (omega arith) (omega arith) (omega arith))
+
+    pub under-hit : getD parts (part + 1 + i) 0 ≡ k → underKey k (drop (i + 1) (take 8 (drop part parts))) (drop (i + 2) (take 8 (drop at rows))) ≡ getD rows (at + 2 + i) 0
+    under-hit e = under-more ∙ rw (eq-eqb k (getD parts (part + 1 + i) 0) (sym e))
+
+    pub under-miss : (getD parts (part + 1 + i) 0 ≡ k → ⊥)
+        → underKey k (drop (i + 1) (take 8 (drop part parts))) (drop (i + 2) (take 8 (drop at rows)))
+        ≡ underKey k (drop (i + 1 + 1) (take 8 (drop part parts))) (drop (i + 1 + 2) (take 8 (drop at rows)))
+    under-miss e = under-more ∙ rw (ne-eqb k (getD parts (part + 1 + i) 0) (λ f. e (sym f)))
+
+-- ---- the key tuple, key by key
+
+pub length-keys : (n : ℕ) (bs vs : List ℕ) → length (underKeys n bs vs) ≡ n
+length-keys zero bs vs = refl
+length-keys (suc n) bs vs = length-append (underKeys n bs vs) (underKey n bs vs ∷ []) ∙ omega (arith, length-keys n bs vs)
+
+row-over : (l : List ℕ) → rowOf l ≡ over l (replicate 8 255)
+unfolding over
+row-over l = rw drop-replicate
+
+row-more : (l : List ℕ) (k v : ℕ) → length l ≡ k → k < 8 → set (rowOf l) k v ≡ rowOf (l ++ (v ∷ []))
+row-more l k v e h =
+    ap (λ (a : List ℕ). set a k v) (row-over l)
+    ∙ over-more l (replicate 8 255) k v e (simp length-replicate h)
+    ∙ sym (row-over (l ++ (v ∷ [])))
+
+-- a row is filled already
+pub row-full : (l : List ℕ) → length l ≡ 8 → rowOf l ≡ l
+row-full l e = rw e (append-nil l)
+
+pub tuple-none : (part row : List ℕ) → replicate 8 255 ≡ keyRow 0 part row
+unfolding keyRow
+tuple-none part row = refl
+
+pub tuple-more : (part row t : List ℕ) (k r : ℕ) → k < 8 → t ≡ keyRow k part row → r ≡ underKey k (drop 1 part) (drop 2 row) → set t k r ≡ keyRow (k + 1) part row
+unfolding keyRow
+tuple-more part row t k r h e f =
+    ap₂ (λ (a : List ℕ) (v : ℕ). set a k v) e f
+    ∙ row-more (underKeys k (drop 1 part) (drop 2 row)) k (underKey k (drop 1 part) (drop 2 row)) (length-keys k (drop 1 part) (drop 2 row)) h
+    ∙ ap (λ (n : ℕ). rowOf (underKeys n (drop 1 part) (drop 2 row))) (sym (add-one k))
+
+pub length-tuple : (n : ℕ) (part row : List ℕ) → n ≤ 8 → length (keyRow n part row) ≡ 8
+unfolding keyRow
+length-tuple n part row h = length-row (underKeys n (drop 1 part) (drop 2 row)) (omega (arith, length-keys n (drop 1 part) (drop 2 row)))
+
+-- ---- places
+
+pub place-le : {A : Type 0} (p : A → Bool) (l : List A) → position p l ≤ length l
+place-le p [] = omega arith
+place-le p (x ∷ xs) = go (p x) (place-le p xs)
+  where
+    go : (b : Bool) → position p xs ≤ length xs → cond b zero (suc (position p xs)) ≤ suc (length xs)
+    go true h = omega arith
+    go false h = omega arith
+
+pub length-rows : (n : ℕ) (t : List ℕ) → length (rowsIn n t) ≡ n
+length-rows zero t = refl
+length-rows (suc n) t = ap suc (length-rows n (drop 8 t))
+
+pub rows-at : (n : ℕ) (t : List ℕ) (c : ℕ) (d : List ℕ) → c < n → getD (rowsIn n t) c d ≡ take 8 (drop (8 * c) t)
+rows-at zero t c d h = absurd (omega arith)
+rows-at (suc n) t zero d h = refl
+rows-at (suc n) t (suc c) d h =
+    let e : 8 + 8 * c ≡ 8 * suc c = omega arith in
+    rows-at n (drop 8 t) c d (omega arith) ∙ ap (take 8) (drop-drop (8 * c) 8 t) ∙ ap (λ (k : ℕ). take 8 (drop k t)) e
+
+-- ---- the key tuple of a literal's row, by the place of its component
+
+module _ (keys r : ℕ) (row : List ℕ) (e : byte row 1 ≡ r) where
+  key-rows-none : (ps : List (List ℕ)) → position (λ p. eqb r (byte p 0)) ps ≡ length ps → keyRows keys ps row ≡ []
+  unfolding keyRows
+  key-rows-none [] h = refl
+  key-rows-none (p ∷ ps) h = rw e (go (eqb r (byte p 0)) (λ k. key-rows-none ps k) h)
+    where
+      go : (b : Bool) → (position (λ p. eqb r (byte p 0)) ps ≡ length ps → keyRows keys ps row ≡ [])
+          → cond b zero (suc (position (λ p. eqb r (byte p 0)) ps)) ≡ suc (length ps) → cond b (keyRow keys p row ∷ []) (keyRows keys ps row) ≡ []
+      go true ih k = absurd (omega arith)
+      go false ih k = ih (omega arith)
+
+  key-rows-one : (ps : List (List ℕ)) → (position (λ p. eqb r (byte p 0)) ps ≡ length ps → ⊥)
+      → keyRows keys ps row ≡ keyRow keys (getD ps (position (λ p. eqb r (byte p 0)) ps) []) row ∷ []
+  unfolding keyRows
+  key-rows-one [] h = absurd (h refl)
+  key-rows-one (p ∷ ps) h = rw e (go (eqb r (byte p 0)) (λ k. key-rows-one ps k) h)
+    where
+      go : (b : Bool)
+          → ((position (λ p. eqb r (byte p 0)) ps ≡ length ps → ⊥) → keyRows keys ps row ≡ keyRow keys (getD ps (position (λ p. eqb r (byte p 0)) ps) []) row ∷ [])
+          → (cond b zero (suc (position (λ p. eqb r (byte p 0)) ps)) ≡ suc (length ps) → ⊥)
+          → cond b (keyRow keys p row ∷ []) (keyRows keys ps row) ≡ keyRow keys (getD (p ∷ ps) (cond b zero (suc (position (λ p. eqb r (byte p 0)) ps))) []) row ∷ []
+      go true ih k = refl
+      go false ih k = ih (λ z. k (ap suc z))
+
+-- ---- one literal's class
+
+module _ (t tuples : List ℕ) (count class : ℕ) (e : class ≡ position (sameList eqb t) (rowsIn count tuples)) where
+  numbered-new : class ≡ count → record { class = class; count = count + 1 } ≡ numberedBy (t ∷ []) count tuples
+  unfolding numberedBy
+  numbered-new f = rw (← e, eq-eqb class count f)
+
+  numbered-old : (class ≡ count → ⊥) → record { class = class; count = count } ≡ numberedBy (t ∷ []) count tuples
+  unfolding numberedBy
+  numbered-old f = rw (← e, ne-eqb class count f)
+
+  tuples-new : class ≡ count → paste tuples (8 * count) t 8 ≡ tuplesAfter (t ∷ []) count tuples
+  unfolding tuplesAfter
+  tuples-new f = rw (← e, eq-eqb class count f)
+
+  tuples-old : (class ≡ count → ⊥) → tuples ≡ tuplesAfter (t ∷ []) count tuples
+  unfolding tuplesAfter
+  tuples-old f = rw (← e, ne-eqb class count f)
+
+-- by the place of the component of its relation
+module _ (parts rows tuples : List ℕ) (n keys at count c : ℕ) (g : at + 8 ≤ length rows) (e : c ≡ position (λ row. eqb (getD rows (at + 1) 0) (byte row 0)) (rowsIn n parts)) where
+  pub component-le : c ≤ n
+  component-le = omega (arith, place-le (λ row. eqb (getD rows (at + 1) 0) (byte row 0)) (rowsIn n parts), length-rows n parts)
+
+  pub unmatched : c ≡ n
+      → (record { class = 255; count = count } ≡ numberedBy (keyRows keys (rowsIn n parts) (take 8 (drop at rows))) count tuples)
+      × (tuples ≡ tuplesAfter (keyRows keys (rowsIn n parts) (take 8 (drop at rows))) count tuples)
+  unfolding numberedBy tuplesAfter
+  unmatched f =
+      rw (key-rows-none keys (getD rows (at + 1) 0) (take 8 (drop at rows)) (part-at rows at g 1 (omega arith)) (rowsIn n parts) (sym e ∙ f ∙ sym (length-rows n parts)))
+      (refl, refl)
+
+  module _ (h : c ≡ n → ⊥) (t : List ℕ) (f : t ≡ keyRow keys (take 8 (drop (8 * c) parts)) (take 8 (drop at rows))) where
+    matched : keyRows keys (rowsIn n parts) (take 8 (drop at rows)) ≡ t ∷ []
+    matched =
+        let u = key-rows-one keys (getD rows (at + 1) 0) (take 8 (drop at rows)) (part-at rows at g 1 (omega arith)) (rowsIn n parts) (λ z. h (e ∙ z ∙ length-rows n parts)) in
+        let v : c < n = omega (arith, component-le) in
+        u
+        ∙ ap (λ (k : ℕ). keyRow keys (getD (rowsIn n parts) k []) (take 8 (drop at rows)) ∷ []) (sym e)
+        ∙ ap (λ (p : List ℕ). keyRow keys p (take 8 (drop at rows)) ∷ []) (rows-at n parts c [] v)
+        ∙ ap (λ (x : List ℕ). x ∷ []) (sym f)
+
+    module _ (class : ℕ) (q : class ≡ position (sameList eqb t) (rowsIn count tuples)) where
+      pub class-le : class ≤ count
+      class-le = omega (arith, place-le (sameList eqb t) (rowsIn count tuples), length-rows count tuples)
+
+      pub new-class : class ≡ count → keys ≤ 8 → (out : List ℕ) → out ≡ paste tuples (8 * count) (rowOf t) 8
+          → (record { class = class; count = count + 1 } ≡ numberedBy (keyRows keys (rowsIn n parts) (take 8 (drop at rows))) count tuples)
+          × (out ≡ tuplesAfter (keyRows keys (rowsIn n parts) (take 8 (drop at rows))) count tuples)
+      new-class z k out o =
+          let l : length t ≡ 8 = ap length f ∙ length-tuple keys (take 8 (drop (8 * c) parts)) (take 8 (drop at rows)) k in
+          rw matched (numbered-new t tuples count class q z, o ∙ ap (λ (x : List ℕ). paste tuples (8 * count) x 8) (row-full t l) ∙ tuples-new t tuples count class q z)
+
+      pub old-class : (class ≡ count → ⊥)
+          → (record { class = class; count = count } ≡ numberedBy (keyRows keys (rowsIn n parts) (take 8 (drop at rows))) count tuples)
+          × (tuples ≡ tuplesAfter (keyRows keys (rowsIn n parts) (take 8 (drop at rows))) count tuples)
+      old-class z = rw matched (numbered-old t tuples count class q z, tuples-old t tuples count class q z)

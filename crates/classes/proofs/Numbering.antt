@@ -1,0 +1,176 @@
+-- The loop over the literals of an action: the classes and the class numbers after j turns. Assumes nothing.
+use mathlib.Core.Path.{_≡_, refl, sym, ap, ap₂, subst, _∙_}
+use mathlib.Core.Bool.{Bool, true, false, cond}
+use mathlib.Core.List.{List, [], _∷_, _++_, map, flatMap, append-nil, Memᴰ·append-left}
+use Prim.Native.Nat.{ℕ, _+_, _-_, _*_, _≤_, _<_}
+use native.Mathlib.Numerals.{add-one}
+use native.Mathlib.Omega.{arith}
+use lib.Dec.{eqb}
+use lib.ListN.{length, getD, set, take, drop, replicate, length-map, length-set, drop-of-length-le, take-append-drop}
+use lib.Seq.{take-suc, take-all, length-take-le}
+use Rattle.records.specs.Lists.{In, all, sameList}
+use Rattle.records.specs.Memory.{over}
+use Rattle.records.proofs.Lists.{and-l, and-r, getD-in}
+use Rattle.records.proofs.Memory.{over-more}
+use Rattle.literals.specs.declared.Variable.{Variable}
+use Rattle.literals.specs.declared.Index.{Index}
+use Rattle.literals.specs.Domain.{Literal, Action, Component, keyBelow, keysOf, labelsFit, Domain}
+use Rattle.literals.specs.Table.{literalRow, componentRow, rowsIn, Holds, Shaped}
+use Rattle.literals.proofs.Tables.{kept, length-literals, rows-components}
+use Rattle.literals.proofs.Held.{components-is, keys-is, parts-is}
+use Rattle.classes.specs.declared.number.Numbered.{Numbered}
+use Rattle.classes.specs.Classes.{tuplesOf, classes}
+use Rattle.classes.specs.Coded.{rowAt, position, classNumberBy, classNumbers, tupleRow, classTable, keyRows, numberedBy, tuplesAfter}
+use Rattle.classes.proofs.Rows.{noLiteral, row-at}
+use Rattle.classes.proofs.Numbers.{One, Fits, tuples-one, tuples-rows, found, numbers, numbers-more, rowsOf, numbered-more, tuples-more}
+
+abbrev pub tuples : Domain → Literal → List (List Variable)
+tuples D l = tuplesOf D (l .atom)
+
+-- the classes and the class numbers of these literals, as the code holds them
+pub record Numbered-by (D : Domain) (ls : List Literal) (of₀ of rows : List ℕ) (count : ℕ) : Type 0 where
+  pub table : rows ≡ rowsOf (found (tuples D) ls)
+  pub counted : count ≡ length (found (tuples D) ls)
+  pub given : of ≡ over (numbers (tuples D) ls) of₀
+
+-- ---- the literals of an action of a domain that an index holds
+
+module _ {D : Domain} {index : Index} (h : Holds D index) (s : Shaped index) {a : Action} (i : In a (D .actions)) where
+  few-keys : keysOf (D .template) ≤ 6
+  few-keys = let k = s .keys in omega (arith, keys-is h)
+
+  fits : (c : Component) → In c (D .template) → Fits D (keysOf (D .template)) c
+  unfolding labelsFit
+  fits c m = record { arguments = h .bounded .componentArity c m; keys = and-r (all (keyBelow (keysOf (D .template))) (c .labels)) _ (and-l _ _ (h .bounded .keysFit c m)) }
+
+  pub one : (l : Literal) → In l (a .lits) → One (keysOf (D .template)) (tuples D l)
+  unfolding tuplesOf
+  one l m = tuples-one D (keysOf (D .template)) few-keys l (h .bounded .literalArity a i l m) (D .template) fits (h .bounded .componentsOnce)
+
+  -- the key tuples of a literal, by the bytes of the index
+  tuples-are : (l : Literal) → In l (a .lits) → keyRows (index .keys) (rowsIn (index .components) (index .parts)) (literalRow l) ≡ map tupleRow (tuples D l)
+  unfolding tuplesOf
+  tuples-are l m =
+      ap (λ (k : ℕ). keyRows k (rowsIn (index .components) (index .parts)) (literalRow l)) (keys-is h)
+      ∙ ap (λ (ps : List (List ℕ)). keyRows (keysOf (D .template)) ps (literalRow l))
+      (ap₂ rowsIn (components-is h) (parts-is h) ∙ rows-components (D .template) (h .bounded .labels) (replicate (128 - length (flatMap componentRow (D .template))) 0))
+      ∙ tuples-rows D (keysOf (D .template)) few-keys l (h .bounded .literalArity a i l m) (D .template) fits (h .bounded .componentsOnce)
+
+  module _ {rows : List ℕ} (e : rows ≡ flatMap literalRow (a .lits)) where
+    row-of : (j : ℕ) → j < length (a .lits) → take 8 (drop (8 * j) rows) ≡ literalRow (getD (a .lits) j noLiteral)
+    row-of j g =
+        ap (λ (t : List ℕ). rowAt t j) e ∙ row-at (a .lits) (λ l m. kept (h .bounded) i m) j g
+
+    rows-length : length rows ≡ 8 * length (a .lits)
+    rows-length = ap length e ∙ length-literals (a .lits) (h .bounded .arguments a i)
+
+-- ---- the loop
+
+pub record SoFar (index : Index) (rows of₀ of table : List ℕ) (count j : ℕ) : Type 0 where
+  pub few : count ≤ j
+  pub reach : j ≤ length of₀
+  pub whole : length of ≡ length of₀
+  pub room : length table ≡ 512
+  pub is : (D : Domain) (a : Action) → Holds D index → In a (D .actions) → rows ≡ flatMap literalRow (a .lits) → Numbered-by D (take j (a .lits)) of₀ of table count
+
+pub so-far-none : (index : Index) (rows of₀ : List ℕ) → SoFar index rows of₀ of₀ (replicate 512 255) 0 0
+unfolding over flatMap
+so-far-none index rows of₀ =
+    record { few = omega arith; reach = omega arith; whole = refl; room = refl; is = λ D a h i e. record { table = refl; counted = refl; given = refl } }
+
+numbered-few : (ts : List (List ℕ)) (count : ℕ) (table : List ℕ) → numberedBy ts count table .count ≤ count + 1
+unfolding numberedBy
+numbered-few [] count table = omega arith
+numbered-few (t ∷ ts) count table = go (eqb (position (sameList eqb t) (rowsIn count table)) count)
+  where
+    go : (b : Bool) → cond b (count + 1) count ≤ count + 1
+    go true = omega arith
+    go false = omega arith
+
+module _ (index : Index) (rows of₀ of table table′ : List ℕ) (count j : ℕ) (o : Numbered) (m : length table′ ≡ 512) (s : Shaped index) (l : length rows ≡ 8 * length of₀) (w : SoFar index rows of₀ of table count j)
+    (g : j < length of₀)
+    (e : o ≡ numberedBy (keyRows (index .keys) (rowsIn (index .components) (index .parts)) (take 8 (drop (8 * j) rows))) count table)
+    (f : table′ ≡ tuplesAfter (keyRows (index .keys) (rowsIn (index .components) (index .parts)) (take 8 (drop (8 * j) rows))) count table) where
+  turn : (D : Domain) (a : Action) → Holds D index → In a (D .actions) → rows ≡ flatMap literalRow (a .lits) → Numbered-by D (take (j + 1) (a .lits)) of₀ (set of j (o .class)) table′ (o .count)
+  turn D a h i r = rw (add-one j, take-suc (a .lits) j noLiteral inside) after
+    where
+      before : Numbered-by D (take j (a .lits)) of₀ of table count
+      before = w .is D a h i r
+
+      inside : j < length (a .lits)
+      inside = let k = rows-length h s i r in omega arith
+
+      x : Literal
+      x = getD (a .lits) j noLiteral
+
+      its : One (keysOf (D .template)) (tuples D x)
+      its = one h s i x (getD-in (a .lits) j noLiteral inside)
+
+      -- of the literals so far
+      those : (y : Literal) → In y (take j (a .lits)) → One (keysOf (D .template)) (tuples D y)
+      those y m = one h s i y (subst (λ (ls : List Literal). In y ls) (take-append-drop j (a .lits)) (Memᴰ·append-left (drop j (a .lits)) m))
+
+      keyed-by : keyRows (index .keys) (rowsIn (index .components) (index .parts)) (take 8 (drop (8 * j) rows)) ≡ map tupleRow (tuples D x)
+      keyed-by =
+          ap (keyRows (index .keys) (rowsIn (index .components) (index .parts))) (row-of h s i r j inside)
+          ∙ tuples-are h s i x (getD-in (a .lits) j noLiteral inside)
+
+      result : o ≡ record { class = classNumberBy (found (tuples D) (take j (a .lits) ++ (x ∷ []))) (tuples D x); count = length (found (tuples D) (take j (a .lits) ++ (x ∷ []))) }
+      result =
+          e
+          ∙ ap (λ (ts : List (List ℕ)). numberedBy ts count table) keyed-by
+          ∙ ap₂ (numberedBy (map tupleRow (tuples D x))) (before .counted) (before .table)
+          ∙ numbered-more (tuples D) (keysOf (D .template)) (few-keys h s i) (take j (a .lits)) those x its
+
+      after : Numbered-by D (take j (a .lits) ++ (x ∷ [])) of₀ (set of j (o .class)) table′ (o .count)
+      after =
+          record {
+            table =
+                f
+                ∙ ap (λ (ts : List (List ℕ)). tuplesAfter ts count table) keyed-by
+                ∙ ap₂ (tuplesAfter (map tupleRow (tuples D x))) (before .counted) (before .table)
+                ∙ tuples-more (tuples D) (keysOf (D .template)) (few-keys h s i) (take j (a .lits)) those x its;
+            counted = ap (λ (p : Numbered). p .count) result;
+            given =
+                ap₂ (λ (t : List ℕ) (v : ℕ). set t j v) (before .given) (ap (λ (p : Numbered). p .class) result)
+                ∙ over-more (numbers (tuples D) (take j (a .lits))) of₀ j (classNumberBy (found (tuples D) (take j (a .lits) ++ (x ∷ []))) (tuples D x))
+                (length-map (take j (a .lits)) (λ y. classNumberBy (found (tuples D) (take j (a .lits))) (tuples D y)) ∙ length-take-le j (a .lits) (omega (arith, inside)))
+                g
+                ∙ ap (λ (t : List ℕ). over t of₀) (sym (numbers-more (tuples D) (take j (a .lits)) x its));
+          }
+
+  pub so-far-more : SoFar index rows of₀ (set of j (o .class)) table′ (o .count) (j + 1)
+  so-far-more =
+      record {
+        few =
+            let k = numbered-few (keyRows (index .keys) (rowsIn (index .components) (index .parts)) (take 8 (drop (8 * j) rows))) count table in
+            let q = ap (λ (p : Numbered). p .count) e in
+            let u = w .few in
+            omega arith;
+        reach = omega arith;
+        whole = length-set of j (o .class) ∙ w .whole;
+        room = m;
+        is = turn;
+      }
+
+pub so-far-all : (index : Index) (rows of₀ of table : List ℕ) (count j : ℕ) → Shaped index → length rows ≡ 8 * length of₀ → SoFar index rows of₀ of table count j → length of₀ ≤ j
+    → (D : Domain) (a : Action) → Holds D index → In a (D .actions) → rows ≡ flatMap literalRow (a .lits)
+    → (record { tuples = table; count = count } ≡ classTable D a) × (of ≡ classNumbers D a)
+unfolding classTable classNumbers classes over
+so-far-all index rows of₀ of table count j s l w g D a h i r = (
+  (λ k. record { tuples = (now .table ∙ ap (λ (ls : List Literal). rowsOf (found (tuples D) ls)) done) k; count = (now .counted ∙ ap (λ (ls : List Literal). length (found (tuples D) ls)) done) k }),
+  now .given ∙ ap (λ (ls : List Literal). over (numbers (tuples D) ls) of₀) done ∙ covers,
+)
+  where
+    now : Numbered-by D (take j (a .lits)) of₀ of table count
+    now = w .is D a h i r
+
+    done : take j (a .lits) ≡ a .lits
+    done = let k = rows-length h s i r in take-all j (a .lits) (omega arith)
+
+    covers : over (numbers (tuples D) (a .lits)) of₀ ≡ numbers (tuples D) (a .lits)
+    covers =
+        let k = rows-length h s i r in
+        let n = length-map (a .lits) (λ y. classNumberBy (found (tuples D) (a .lits)) (tuples D y)) in
+        ap (λ (t : List ℕ). numbers (tuples D) (a .lits) ++ t) (drop-of-length-le of₀ {i = length (numbers (tuples D) (a .lits))} (omega arith))
+        ∙ append-nil (numbers (tuples D) (a .lits))

@@ -1,0 +1,363 @@
+-- The numbers of an action's classes, literal by literal: what the loops over rows find in a domain. Assumes nothing.
+use mathlib.Core.Path.{_≡_, refl, sym, ap, ap₂, _∙_}
+use mathlib.Core.Bool.{Bool, true, false, _&&_, _||_, not, cond}
+use mathlib.Core.Logic.{_⊎_, inl, inr}
+use mathlib.Core.List.{List, [], _∷_, _++_, map, flatMap, map-append, append-nil, List·Memᴰ·head, List·Memᴰ·tail, List·Memᴰ·not-nil, List·Memᴰ·eq-of-singleton}
+use Prim.Native.Nat.{ℕ, zero, suc, _+_, _-_, _*_, _≤_, _<_}
+use native.Mathlib.Omega.{arith}
+use lib.Dec.{eqb}
+use lib.ListN.{length, drop, replicate, length-append, length-map}
+use lib.Seq.{paste}
+use borrow.Author.Tests.{eqb-true, eq-eqb, ne-eqb}
+use Rattle.records.specs.Lists.{addIf, keepIf, countBy, all, any, In, sameList, elem, distinct, dedup}
+use Rattle.records.specs.Memory.{over}
+use Rattle.records.proofs.Lists.{and-l, and-r, bool-cases, clash, not-true, all-in, eqb-comm, eqb-same, sameList-self, in-elem, in-dedup, dedup-in, flatMap-in, in-flatMap, flatMap-append, dedup-snoc}
+use Rattle.records.proofs.Memory.{drop-replicate}
+use Rattle.literals.specs.declared.Variable.{Variable}
+use Rattle.literals.specs.declared.Label.{Label}
+use Rattle.literals.specs.declared.Label.the-variants.{Key as keyed, Counted}
+use Rattle.literals.specs.Domain.{key, sameVariable, Literal, Component, isKey, eachKeyOnce, Domain, arity}
+use Rattle.literals.specs.Table.{rowOf, literalRow, labelNumber, componentRow, rowsIn}
+use Rattle.literals.proofs.Equality.{variables-eq, variables-self}
+use Rattle.literals.proofs.Rows.{length-row}
+use Rattle.literals.proofs.Tables.{over-row, length-flat, rows-flat}
+use Rattle.classes.specs.Classes.{under, keyTuple, tuplesBy}
+use Rattle.classes.specs.Coded.{position, classNumberBy, tupleRow, underKey, underKeys, keyRow, keyRows, numberedBy, tuplesAfter}
+use Rattle.classes.proofs.KeyRows.{length-keys}
+
+abbrev pub value : Variable → ℕ
+value v = v .0
+
+abbrev pub same : List Variable → List Variable → Bool
+same = sameList sameVariable
+
+-- ---- places
+
+module _ {A : Type 0} (p : A → Bool) where
+  -- behind an element that passes, more elements change nothing
+  place-more : (xs ys : List A) → any p xs ≡ true → position p (xs ++ ys) ≡ position p xs
+  place-more [] ys t = absurd (clash t refl)
+  place-more (x ∷ xs) ys t = go (p x) t (place-more xs ys)
+    where
+      go : (b : Bool) → b || any p xs ≡ true → (any p xs ≡ true → position p (xs ++ ys) ≡ position p xs) → cond b zero (suc (position p (xs ++ ys))) ≡ cond b zero (suc (position p xs))
+      go true t ih = refl
+      go false t ih = ap suc (ih t)
+
+  place-some : (xs : List A) → any p xs ≡ true → position p xs < length xs
+  place-some [] t = absurd (clash t refl)
+  place-some (x ∷ xs) t = go (p x) t (place-some xs)
+    where
+      go : (b : Bool) → b || any p xs ≡ true → (any p xs ≡ true → position p xs < length xs) → cond b zero (suc (position p xs)) < suc (length xs)
+      go true t ih = omega arith
+      go false t ih = let h = ih t in omega arith
+
+  -- where none passes, the place is the length and that of what stands behind
+  place-past : (xs ys : List A) → any p xs ≡ false → position p (xs ++ ys) ≡ length xs + position p ys
+  place-past [] ys t = omega arith
+  place-past (x ∷ xs) ys t = go (p x) t (place-past xs ys)
+    where
+      go : (b : Bool) → b || any p xs ≡ false → (any p xs ≡ false → position p (xs ++ ys) ≡ length xs + position p ys) → cond b zero (suc (position p (xs ++ ys))) ≡ suc (length xs) + position p ys
+      go true t ih = absurd (clash {b = true} refl t)
+      go false t ih = let h = ih t in omega arith
+
+place-map : {A B : Type 0} (f : A → B) (p : B → Bool) (q : A → Bool) (l : List A) → ((a : A) → In a l → p (f a) ≡ q a) → position p (map f l) ≡ position q l
+place-map f p q [] h = refl
+place-map f p q (x ∷ xs) h = ap₂ (λ (b : Bool) (n : ℕ). cond b zero (suc n)) (h x (List·Memᴰ·head refl)) (place-map f p q xs (λ a m. h a (List·Memᴰ·tail m)))
+
+map-same : {A B : Type 0} (f g : A → B) (l : List A) → ((a : A) → In a l → f a ≡ g a) → map f l ≡ map g l
+map-same f g [] h = refl
+map-same f g (x ∷ xs) h = ap₂ _∷_ (h x (List·Memᴰ·head refl)) (map-same f g xs (λ a m. h a (List·Memᴰ·tail m)))
+
+-- ---- the arguments under the keys, by bytes
+
+module _ (k : ℕ) (h : k < 255) where
+  key-byte : (l : Label) → isKey (key k) l ≡ eqb k (labelNumber l)
+  key-byte (keyed m) = refl
+  key-byte Counted = sym (ne-eqb k 255 (λ e. omega arith))
+
+  under-absent : (ls : List Label) (vs : List Variable) → countBy (isKey (key k)) ls ≡ 0 → under (key k) ls vs ≡ []
+  under-absent [] vs e = refl
+  under-absent (l ∷ ls) [] e = refl
+  under-absent (l ∷ ls) (v ∷ vs) e = go (isKey (key k) l) e (under-absent ls vs)
+    where
+      go : (b : Bool) → addIf b (countBy (isKey (key k)) ls) ≡ 0 → (countBy (isKey (key k)) ls ≡ 0 → under (key k) ls vs ≡ []) → keepIf b v (under (key k) ls vs) ≡ []
+      go true e ih = absurd (omega arith)
+      go false e ih = ih e
+
+  -- under a key that stands once
+  under-once : (ls : List Label) (vs : List Variable) (xs ys : List ℕ) → length ls ≡ length vs → countBy (isKey (key k)) ls ≡ 1
+      → map value (under (key k) ls vs) ≡ underKey k (map labelNumber ls ++ xs) (map value vs ++ ys) ∷ []
+  under-once [] vs xs ys e c = absurd (omega arith)
+  under-once (l ∷ ls) [] xs ys e c = absurd (omega arith)
+  under-once (l ∷ ls) (v ∷ vs) xs ys e c =
+      go (isKey (key k) l) c (under-once ls vs xs ys (omega arith))
+      ∙ ap (λ (b : Bool). cond b (v .0) (underKey k (map labelNumber ls ++ xs) (map value vs ++ ys)) ∷ []) (key-byte l)
+    where
+      go : (b : Bool) → addIf b (countBy (isKey (key k)) ls) ≡ 1
+          → (countBy (isKey (key k)) ls ≡ 1 → map value (under (key k) ls vs) ≡ underKey k (map labelNumber ls ++ xs) (map value vs ++ ys) ∷ [])
+          → map value (keepIf b v (under (key k) ls vs)) ≡ cond b (v .0) (underKey k (map labelNumber ls ++ xs) (map value vs ++ ys)) ∷ []
+      go true c ih = ap (λ (l : List Variable). v .0 ∷ map value l) (under-absent ls vs (omega arith))
+      go false c ih = ih c
+
+key-bytes : (n : ℕ) (ls : List Label) (vs : List Variable) (xs ys : List ℕ) → n ≤ 255 → length ls ≡ length vs → eachKeyOnce n ls ≡ true
+    → map value (keyTuple n ls vs) ≡ underKeys n (map labelNumber ls ++ xs) (map value vs ++ ys)
+key-bytes zero ls vs xs ys h e t = refl
+key-bytes (suc n) ls vs xs ys h e t =
+    map-append value (keyTuple n ls vs) (under (key n) ls vs)
+    ∙ ap₂ _++_ (key-bytes n ls vs xs ys (omega arith) e (and-l _ _ t)) (under-once n (omega arith) ls vs xs ys e (eqb-true _ 1 (and-r (eachKeyOnce n ls) _ t)))
+
+-- ---- the key tuples of a literal: none, or one under each key
+
+abbrev pub One : ℕ → List (List Variable) → Type 0
+One n ts = (ts ≡ []) ⊎ ((t : List Variable) × (ts ≡ t ∷ []) × (length t ≡ n))
+
+-- each relation has one component
+abbrev pub Once : List Component → Type 0
+Once cs = distinct (λ (c d : Component). eqb (c .rel) (d .rel)) cs ≡ true
+
+pub record Fits (D : Domain) (n : ℕ) (c : Component) : Type 0 where
+  pub arguments : length (c .labels) ≡ arity D (c .rel)
+  pub keys : eachKeyOnce n (c .labels) ≡ true
+
+module _ (D : Domain) (n : ℕ) (small : n ≤ 6) (l : Literal) (e : length (l .atom .args) ≡ arity D (l .atom .rel)) where
+  -- of a component of its relation
+  module _ (c : Component) (f : Fits D n c) (r : c .rel ≡ l .atom .rel) where
+    same-length : length (c .labels) ≡ length (l .atom .args)
+    same-length = f .arguments ∙ ap (arity D) r ∙ sym e
+
+    tuple-bytes : map value (keyTuple n (c .labels) (l .atom .args)) ≡ underKeys n (drop 1 (componentRow c)) (drop 2 (literalRow l))
+    tuple-bytes =
+        key-bytes n (c .labels) (l .atom .args)
+        (replicate (8 - suc (length (map labelNumber (c .labels)))) 255)
+        (replicate (8 - suc (suc (length (map value (l .atom .args))))) 255)
+        (omega arith)
+        same-length
+        (f .keys)
+
+    tuple-row : keyRow n (componentRow c) (literalRow l) ≡ tupleRow (keyTuple n (c .labels) (l .atom .args))
+    unfolding keyRow
+    tuple-row = ap rowOf (sym tuple-bytes)
+
+    tuple-length : length (keyTuple n (c .labels) (l .atom .args)) ≡ n
+    tuple-length = sym (length-map (keyTuple n (c .labels) (l .atom .args)) value) ∙ ap length tuple-bytes ∙ length-keys n (drop 1 (componentRow c)) (drop 2 (literalRow l))
+
+  tuples-none : (cs : List Component) → ((c : Component) → In c cs → eqb (c .rel) (l .atom .rel) ≡ false) → tuplesBy n cs (l .atom) ≡ []
+  tuples-none [] h = refl
+  tuples-none (c ∷ cs) h = rw (h c (List·Memᴰ·head refl)) (tuples-none cs (λ d m. h d (List·Memᴰ·tail m)))
+
+  -- where the first component has its relation, no later one has
+  later-none : (c : Component) (cs : List Component) → Once (c ∷ cs) → c .rel ≡ l .atom .rel → tuplesBy n cs (l .atom) ≡ []
+  later-none c cs o r =
+      tuples-none cs
+      (λ d m. eqb-comm (d .rel) (l .atom .rel) ∙ ap (λ (k : ℕ). eqb k (d .rel)) (sym r) ∙ not-true _ (all-in (λ (y : Component). not (eqb (c .rel) (y .rel))) cs (and-l _ _ o) m))
+
+  module _ (c : Component) (cs : List Component) (f : Fits D n c) (o : Once (c ∷ cs)) where
+    -- by whether the first component has its relation
+    tuples-first : eqb (c .rel) (l .atom .rel) ≡ true → tuplesBy n (c ∷ cs) (l .atom) ≡ keyTuple n (c .labels) (l .atom .args) ∷ []
+    tuples-first q =
+        let r = eqb-true (c .rel) (l .atom .rel) q in
+        rw (q, eq-eqb (length (c .labels)) (length (l .atom .args)) (same-length c f r)) (ap (λ (ts : List (List Variable)). keyTuple n (c .labels) (l .atom .args) ∷ ts) (later-none c cs o r))
+
+    tuples-later : eqb (c .rel) (l .atom .rel) ≡ false → tuplesBy n (c ∷ cs) (l .atom) ≡ tuplesBy n cs (l .atom)
+    tuples-later q = rw q
+
+  pub tuples-one : (cs : List Component) → ((c : Component) → In c cs → Fits D n c) → Once cs → One n (tuplesBy n cs (l .atom))
+  tuples-one [] f o = inl refl
+  tuples-one (c ∷ cs) f o = go (bool-cases (eqb (c .rel) (l .atom .rel))) (tuples-one cs (λ d m. f d (List·Memᴰ·tail m)) (and-r (all (λ (y : Component). not (eqb (c .rel) (y .rel))) cs) _ o))
+    where
+      here : Fits D n c
+      here = f c (List·Memᴰ·head refl)
+
+      go : (eqb (c .rel) (l .atom .rel) ≡ true) ⊎ (eqb (c .rel) (l .atom .rel) ≡ false) → One n (tuplesBy n cs (l .atom)) → One n (tuplesBy n (c ∷ cs) (l .atom))
+      go (inl q) ih = inr (keyTuple n (c .labels) (l .atom .args), tuples-first c cs here o q, tuple-length c here (eqb-true _ _ q))
+      go (inr q) ih = rw (tuples-later c cs here o q) ih
+
+  -- as the rows of the template give them
+  pub tuples-rows : (cs : List Component) → ((c : Component) → In c cs → Fits D n c) → Once cs
+      → keyRows n (map componentRow cs) (literalRow l) ≡ map tupleRow (tuplesBy n cs (l .atom))
+  unfolding keyRows
+  tuples-rows [] f o = refl
+  tuples-rows (c ∷ cs) f o =
+      ap (λ (b : Bool). cond b (keyRow n (componentRow c) (literalRow l) ∷ []) (keyRows n (map componentRow cs) (literalRow l))) (eqb-comm (l .atom .rel) (c .rel))
+      ∙ go (bool-cases (eqb (c .rel) (l .atom .rel))) (tuples-rows cs (λ d m. f d (List·Memᴰ·tail m)) (and-r (all (λ (y : Component). not (eqb (c .rel) (y .rel))) cs) _ o))
+    where
+      here : Fits D n c
+      here = f c (List·Memᴰ·head refl)
+
+      go : (eqb (c .rel) (l .atom .rel) ≡ true) ⊎ (eqb (c .rel) (l .atom .rel) ≡ false) → keyRows n (map componentRow cs) (literalRow l) ≡ map tupleRow (tuplesBy n cs (l .atom))
+          → cond (eqb (c .rel) (l .atom .rel)) (keyRow n (componentRow c) (literalRow l) ∷ []) (keyRows n (map componentRow cs) (literalRow l)) ≡ map tupleRow (tuplesBy n (c ∷ cs) (l .atom))
+      go (inl q) ih = ap (λ (b : Bool). cond b (keyRow n (componentRow c) (literalRow l) ∷ []) (keyRows n (map componentRow cs) (literalRow l))) q
+          ∙ ap (λ (x : List ℕ). x ∷ []) (tuple-row c here (eqb-true _ _ q))
+          ∙ ap (map tupleRow) (sym (tuples-first c cs here o q))
+      go (inr q) ih = ap (λ (b : Bool). cond b (keyRow n (componentRow c) (literalRow l) ∷ []) (keyRows n (map componentRow cs) (literalRow l))) q
+          ∙ ih
+          ∙ ap (map tupleRow) (sym (tuples-later c cs here o q))
+
+-- ---- classes so far, and the class numbers of the literals so far
+
+module _ (T : Literal → List (List Variable)) where
+  abbrev pub found : List Literal → List (List Variable)
+  found ls = dedup same (flatMap T ls)
+
+  abbrev pub numbers : List Literal → List ℕ
+  numbers ls = map (λ l. classNumberBy (found ls) (T l)) ls
+
+  flat-snoc : (ls : List Literal) (l : Literal) → flatMap T (ls ++ (l ∷ [])) ≡ flatMap T ls ++ T l
+  unfolding flatMap
+  flat-snoc ls l = flatMap-append T ls (l ∷ []) ∙ ap (λ (x : List (List Variable)). flatMap T ls ++ x) (append-nil (T l))
+
+  module _ (ls : List Literal) (l : Literal) where
+    found-skip : T l ≡ [] → found (ls ++ (l ∷ [])) ≡ found ls
+    found-skip e = ap (dedup same) (flat-snoc ls l ∙ ap (λ (x : List (List Variable)). flatMap T ls ++ x) e ∙ append-nil (flatMap T ls))
+
+    found-more : (t : List Variable) → T l ≡ t ∷ [] → found (ls ++ (l ∷ [])) ≡ cond (elem same t (found ls)) (found ls) (found ls ++ (t ∷ []))
+    found-more t e = ap (dedup same) (flat-snoc ls l ∙ ap (λ (x : List (List Variable)). flatMap T ls ++ x) e) ∙ dedup-snoc same variables-eq variables-self (flatMap T ls) t
+
+    found-known : (t : List Variable) → T l ≡ t ∷ [] → elem same t (found ls) ≡ true → found ls ≡ found (ls ++ (l ∷ []))
+    found-known t e b = sym (found-more t e ∙ ap (λ (c : Bool). cond c (found ls) (found ls ++ (t ∷ []))) b)
+
+    found-joined : (t : List Variable) → T l ≡ t ∷ [] → elem same t (found ls) ≡ false → found ls ++ (t ∷ []) ≡ found (ls ++ (l ∷ []))
+    found-joined t e b = sym (found-more t e ∙ ap (λ (c : Bool). cond c (found ls) (found ls ++ (t ∷ []))) b)
+
+    -- a class stays where it is
+    stays : (xs ys ts : List (List Variable)) → ((x : List Variable) → In x ts → In x xs) → classNumberBy (xs ++ ys) ts ≡ classNumberBy xs ts
+    stays xs ys [] h = refl
+    stays xs ys (x ∷ ts) h = place-more (same x) xs ys (in-elem same variables-self (h x (List·Memᴰ·head refl)))
+
+    earlier : {n : ℕ} → One n (T l) → (k : Literal) → In k ls → classNumberBy (found (ls ++ (l ∷ []))) (T k) ≡ classNumberBy (found ls) (T k)
+    earlier (inl e) k m = ap (λ (xs : List (List Variable)). classNumberBy xs (T k)) (found-skip e)
+    earlier (inr (t, e, q)) k m = ap (λ (xs : List (List Variable)). classNumberBy xs (T k)) (found-more t e) ∙ go (elem same t (found ls))
+      where
+        go : (b : Bool) → classNumberBy (cond b (found ls) (found ls ++ (t ∷ []))) (T k) ≡ classNumberBy (found ls) (T k)
+        go true = refl
+        go false = stays (found ls) (t ∷ []) (T k) (λ x i. in-dedup same variables-eq (in-flatMap T m i))
+
+    pub numbers-more : {n : ℕ} → One n (T l) → numbers (ls ++ (l ∷ [])) ≡ numbers ls ++ (classNumberBy (found (ls ++ (l ∷ []))) (T l) ∷ [])
+    numbers-more o =
+        map-append (λ k. classNumberBy (found (ls ++ (l ∷ []))) (T k)) ls (l ∷ [])
+        ∙ ap (λ (x : List ℕ). x ++ (classNumberBy (found (ls ++ (l ∷ []))) (T l) ∷ []))
+        (map-same (λ k. classNumberBy (found (ls ++ (l ∷ []))) (T k)) (λ k. classNumberBy (found ls) (T k)) ls (earlier o))
+
+  found-lengths : (n : ℕ) (ls : List Literal) → ((l : Literal) → In l ls → One n (T l)) → (x : List Variable) → In x (found ls) → length x ≡ n
+  found-lengths n ls h x m = let r = flatMap-in T ls (dedup-in same (flatMap T ls) m) in go (T (r .0)) (h (r .0) (r .1)) (r .2)
+    where
+      go : (ts : List (List Variable)) → One n ts → In x ts → length x ≡ n
+      go ts (inl e) i = absurd (List·Memᴰ·not-nil (rw e at i))
+      go ts (inr (t, e, q)) i = ap length (List·Memᴰ·eq-of-singleton (rw e at i)) ∙ q
+
+-- ---- their bytes
+
+-- the rows of classes, and FF behind them
+abbrev pub rowsOf : List (List Variable) → List ℕ
+rowsOf xs = flatMap tupleRow xs ++ replicate (512 - length (flatMap tupleRow xs)) 255
+
+rows-over : (xs : List (List Variable)) → rowsOf xs ≡ over (flatMap tupleRow xs) (replicate 512 255)
+unfolding over
+rows-over xs = ap (λ (b : List ℕ). flatMap tupleRow xs ++ b) (sym (drop-replicate (length (flatMap tupleRow xs)) 512 255))
+
+alike-filled : (m : ℕ) (x y : List Variable) → length x ≡ length y → sameList eqb (map value x ++ replicate m 255) (map value y ++ replicate m 255) ≡ same x y
+alike-filled m [] [] e = sameList-self eqb eqb-same (replicate m 255)
+alike-filled m [] (y ∷ ys) e = absurd (omega arith)
+alike-filled m (x ∷ xs) [] e = absurd (omega arith)
+alike-filled m (x ∷ xs) (y ∷ ys) e = ap (λ (b : Bool). eqb (x .0) (y .0) && b) (alike-filled m xs ys (omega arith))
+
+alike-rows : (x y : List Variable) → length x ≡ length y → sameList eqb (tupleRow x) (tupleRow y) ≡ same x y
+alike-rows x y e =
+    let f : length (map value x) ≡ length (map value y) = length-map x value ∙ e ∙ sym (length-map y value) in
+    ap (λ (k : ℕ). sameList eqb (map value x ++ replicate (8 - k) 255) (tupleRow y)) f
+    ∙ alike-filled (8 - length (map value y)) x y e
+
+length-tuple-row : (x : List Variable) → length x ≤ 8 → length (tupleRow x) ≡ 8
+length-tuple-row x h = length-row (map value x) (rw length-map h)
+
+module _ (n : ℕ) (small : n ≤ 6) (xs : List (List Variable)) (sized : (x : List Variable) → In x xs → length x ≡ n) where
+  eight : (x : List Variable) → In x xs → length (tupleRow x) ≡ 8
+  eight x m = length-tuple-row x (omega (arith, sized x m))
+
+  length-found : length (flatMap tupleRow xs) ≡ 8 * length xs
+  length-found = length-flat tupleRow xs eight
+
+  module _ (t : List Variable) (e : length t ≡ n) where
+    place-row : position (sameList eqb (tupleRow t)) (rowsIn (length xs) (rowsOf xs)) ≡ position (same t) xs
+    place-row =
+        ap (position (sameList eqb (tupleRow t))) (rows-flat tupleRow xs (replicate (512 - length (flatMap tupleRow xs)) 255) eight)
+        ∙ place-map tupleRow (sameList eqb (tupleRow t)) (same t) xs (λ x m. alike-rows t x (e ∙ sym (sized x m)))
+
+    flat-row : flatMap tupleRow (xs ++ (t ∷ [])) ≡ flatMap tupleRow xs ++ tupleRow t
+    unfolding flatMap
+    flat-row = flatMap-append tupleRow xs (t ∷ []) ∙ ap (λ (x : List ℕ). flatMap tupleRow xs ++ x) (append-nil (tupleRow t))
+
+    paste-row : paste (rowsOf xs) (8 * length xs) (tupleRow t) 8 ≡ rowsOf (xs ++ (t ∷ []))
+    paste-row =
+        ap (λ (b : List ℕ). paste b (8 * length xs) (tupleRow t) 8) (rows-over xs)
+        ∙ over-row (flatMap tupleRow xs) (replicate 512 255) (map value t) (8 * length xs) length-found (rw length-map (omega arith))
+        ∙ ap (λ (b : List ℕ). over b (replicate 512 255)) (sym flat-row)
+        ∙ sym (rows-over (xs ++ (t ∷ [])))
+
+    numbered-known : elem same t xs ≡ true → numberedBy (tupleRow t ∷ []) (length xs) (rowsOf xs) ≡ record { class = position (same t) xs; count = length xs }
+    unfolding numberedBy
+    numbered-known q =
+        ap (λ (c : ℕ). record { class = c; count = cond (eqb c (length xs)) (length xs + 1) (length xs) }) place-row
+        ∙ ap (λ (b : Bool). record { class = position (same t) xs; count = cond b (length xs + 1) (length xs) }) (ne-eqb (position (same t) xs) (length xs) (λ z. omega (arith, place-some (same t) xs q)))
+
+    tuples-known : elem same t xs ≡ true → tuplesAfter (tupleRow t ∷ []) (length xs) (rowsOf xs) ≡ rowsOf xs
+    unfolding tuplesAfter
+    tuples-known q =
+        ap (λ (c : ℕ). cond (eqb c (length xs)) (paste (rowsOf xs) (8 * length xs) (tupleRow t) 8) (rowsOf xs)) place-row
+        ∙ ap (λ (b : Bool). cond b (paste (rowsOf xs) (8 * length xs) (tupleRow t) 8) (rowsOf xs)) (ne-eqb (position (same t) xs) (length xs) (λ z. omega (arith, place-some (same t) xs q)))
+
+    module _ (q : elem same t xs ≡ false) where
+      place-last : position (same t) xs ≡ length xs
+      place-last = ap (position (same t)) (sym (append-nil xs)) ∙ place-past (same t) xs [] q ∙ omega arith
+
+      place-joined : position (same t) xs ≡ position (same t) (xs ++ (t ∷ []))
+      place-joined = place-last ∙ sym (place-past (same t) xs (t ∷ []) q ∙ ap (λ (b : Bool). length xs + cond b zero 1) (variables-self t) ∙ omega arith)
+
+      length-joined : length xs + 1 ≡ length (xs ++ (t ∷ []))
+      length-joined = sym (length-append xs (t ∷ []))
+
+      numbered-joined : numberedBy (tupleRow t ∷ []) (length xs) (rowsOf xs) ≡ record { class = position (same t) (xs ++ (t ∷ [])); count = length (xs ++ (t ∷ [])) }
+      unfolding numberedBy
+      numbered-joined =
+          ap (λ (c : ℕ). record { class = c; count = cond (eqb c (length xs)) (length xs + 1) (length xs) }) place-row
+          ∙ ap (λ (b : Bool). record { class = position (same t) xs; count = cond b (length xs + 1) (length xs) }) (eq-eqb (position (same t) xs) (length xs) place-last)
+          ∙ (λ i. record { class = place-joined i; count = length-joined i })
+
+      tuples-joined : tuplesAfter (tupleRow t ∷ []) (length xs) (rowsOf xs) ≡ rowsOf (xs ++ (t ∷ []))
+      unfolding tuplesAfter
+      tuples-joined =
+          ap (λ (c : ℕ). cond (eqb c (length xs)) (paste (rowsOf xs) (8 * length xs) (tupleRow t) 8) (rowsOf xs)) place-row
+          ∙ ap (λ (b : Bool). cond b (paste (rowsOf xs) (8 * length xs) (tupleRow t) 8) (rowsOf xs)) (eq-eqb (position (same t) xs) (length xs) place-last)
+          ∙ paste-row
+
+-- one literal more
+module _ (T : Literal → List (List Variable)) (n : ℕ) (small : n ≤ 6) (ls : List Literal) (h : (l : Literal) → In l ls → One n (T l)) (l : Literal) where
+  pub numbered-more : One n (T l)
+      → numberedBy (map tupleRow (T l)) (length (found T ls)) (rowsOf (found T ls))
+      ≡ record { class = classNumberBy (found T (ls ++ (l ∷ []))) (T l); count = length (found T (ls ++ (l ∷ []))) }
+  unfolding numberedBy
+  numbered-more (inl e) =
+      rw (found-skip T ls l e, e)
+  numbered-more (inr (t, e, q)) =
+      ap (λ (ts : List (List Variable)). numberedBy (map tupleRow ts) (length (found T ls)) (rowsOf (found T ls))) e
+      ∙ go (bool-cases (elem same t (found T ls)))
+      ∙ ap (λ (ts : List (List Variable)). record { class = classNumberBy (found T (ls ++ (l ∷ []))) ts; count = length (found T (ls ++ (l ∷ []))) }) (sym e)
+    where
+      go : (elem same t (found T ls) ≡ true) ⊎ (elem same t (found T ls) ≡ false)
+          → numberedBy (tupleRow t ∷ []) (length (found T ls)) (rowsOf (found T ls)) ≡ record { class = position (same t) (found T (ls ++ (l ∷ []))); count = length (found T (ls ++ (l ∷ []))) }
+      go (inl b) =
+          numbered-known n small (found T ls) (found-lengths T n ls h) t q b
+          ∙ ap (λ (xs : List (List Variable)). record { class = position (same t) xs; count = length xs }) (found-known T ls l t e b)
+      go (inr b) =
+          numbered-joined n small (found T ls) (found-lengths T n ls h) t q b
+          ∙ ap (λ (xs : List (List Variable)). record { class = position (same t) xs; count = length xs }) (found-joined T ls l t e b)
+
+  pub tuples-more : One n (T l) → tuplesAfter (map tupleRow (T l)) (length (found T ls)) (rowsOf (found T ls)) ≡ rowsOf (found T (ls ++ (l ∷ [])))
+  unfolding tuplesAfter
+  tuples-more (inl e) = rw (found-skip T ls l e, e)
+  tuples-more (inr (t, e, q)) =
+      ap (λ (ts : List (List Variable)). tuplesAfter (map tupleRow ts) (length (found T ls)) (rowsOf (found T ls))) e ∙ go (bool-cases (elem same t (found T ls)))
+    where
+      go : (elem same t (found T ls) ≡ true) ⊎ (elem same t (found T ls) ≡ false) → tuplesAfter (tupleRow t ∷ []) (length (found T ls)) (rowsOf (found T ls)) ≡ rowsOf (found T (ls ++ (l ∷ [])))
+      go (inl b) = tuples-known n small (found T ls) (found-lengths T n ls h) t q b ∙ ap rowsOf (found-known T ls l t e b)
+      go (inr b) = tuples-joined n small (found T ls) (found-lengths T n ls h) t q b ∙ ap rowsOf (found-joined T ls l t e b)

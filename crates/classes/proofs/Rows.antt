@@ -1,0 +1,109 @@
+-- Rows of 8 bytes by index: what they say of the literals and components that they hold. Assumes nothing.
+use mathlib.Core.Path.{_≡_, refl, sym, ap, ap₂, _∙_}
+use mathlib.Core.Bool.{Bool, true, false, _&&_}
+use mathlib.Core.List.{List, [], _∷_, _++_, map, flatMap, append-nil, Memᴰ·of-map}
+use Prim.Native.Nat.{ℕ, suc, _+_, _-_, _*_, _≤_, _<_}
+use native.Mathlib.Omega.{arith}
+use lib.Dec.{eqb}
+use lib.ListN.{length, getD, drop, length-append, length-map}
+use Rattle.records.specs.Lists.{In, sameList}
+use Rattle.records.proofs.Lists.{getD-in}
+use Rattle.literals.specs.declared.Variable.{Variable}
+use Rattle.literals.specs.declared.Time.the-variants.{AtStart}
+use Rattle.literals.specs.declared.Clause.the-variants.{Positive}
+use Rattle.literals.specs.Domain.{variable, sameVariable, sameLiteral, roleNumber, Literal}
+use Rattle.literals.specs.Table.{literalRow}
+use Rattle.literals.proofs.Rows.{same-miss, same-hit, same-end, length-part, part-at}
+use Rattle.literals.proofs.Tables.{Kept, length-flat, rows-flat, length-literal-row, same-filled}
+use Rattle.classes.specs.Coded.{rowAt, sameAtomAt}
+use Rattle.classes.proofs.Indices.{getD-map}
+use Rattle.classes.proofs.KeyRows.{rows-at}
+
+-- ---- comparing two rows from byte k on
+
+module _ (rows : List ℕ) (i j k : ℕ) (h : 8 * i + 8 ≤ length rows) (g : 8 * j + 8 ≤ length rows) where
+  pub atom-miss : k < 8 → (getD rows (8 * i + k) 0 ≡ getD rows (8 * j + k) 0 → ⊥) → sameList eqb (drop k (rowAt rows i)) (drop k (rowAt rows j)) ≡ false
+  atom-miss l n =
+      same-miss (rowAt rows i) (rowAt rows j) k (omega (arith, length-part rows (8 * i) h)) (omega (arith, length-part rows (8 * j) g))
+      (λ e. n (sym (part-at rows (8 * i) h k l) ∙ e ∙ part-at rows (8 * j) g k l))
+
+  pub atom-hit : k < 8 → getD rows (8 * i + k) 0 ≡ getD rows (8 * j + k) 0
+      → sameList eqb (drop k (rowAt rows i)) (drop k (rowAt rows j)) ≡ sameList eqb (drop (k + 1) (rowAt rows i)) (drop (k + 1) (rowAt rows j))
+  atom-hit l e =
+      same-hit (rowAt rows i) (rowAt rows j) k (omega (arith, length-part rows (8 * i) h)) (omega (arith, length-part rows (8 * j) g))
+      (part-at rows (8 * i) h k l ∙ e ∙ sym (part-at rows (8 * j) g k l))
+
+  pub atom-end : 8 ≤ k → sameList eqb (drop k (rowAt rows i)) (drop k (rowAt rows j)) ≡ true
+  atom-end l = same-end (rowAt rows i) (rowAt rows j) k (omega (arith, length-part rows (8 * i) h)) (omega (arith, length-part rows (8 * j) g))
+
+-- ---- the rows of a list's elements
+
+module _ {A : Type 0} (f : A → List ℕ) (l : List A) (rest : List ℕ) (d : A) (h : (a : A) → In a l → length (f a) ≡ 8) where
+  pub row-flat : (j : ℕ) → j < length l → rowAt (flatMap f l ++ rest) j ≡ f (getD l j d)
+  row-flat j g =
+      sym (rows-at (length l) (flatMap f l ++ rest) j [] g) ∙ ap (λ (r : List (List ℕ)). getD r j []) (rows-flat f l rest h) ∙ getD-map f l j d [] g
+
+  pub byte-flat : (j k : ℕ) → j < length l → k < 8 → getD (flatMap f l ++ rest) (8 * j + k) 0 ≡ getD (f (getD l j d)) k 0
+  byte-flat j k g s =
+      let e = length-append (flatMap f l) rest in
+      let u = length-flat f l h in
+      sym (part-at (flatMap f l ++ rest) (8 * j) (omega arith) k s) ∙ ap (λ (r : List ℕ). getD r k 0) (row-flat j g)
+
+-- ---- of literals
+
+abbrev pub noLiteral : Literal
+noLiteral = record { role = record { time = AtStart; clause = Positive }; atom = record { rel = 0; args = [] } }
+
+-- the literal of a row
+abbrev pub literalAt : List Literal → ℕ → Literal
+literalAt ls j = getD ls j noLiteral
+
+numbers-back : (vs : List Variable) → map variable (map (λ (v : Variable). v .0) vs) ≡ vs
+numbers-back [] = refl
+numbers-back (v ∷ vs) = ap {B = List Variable} (λ l. v ∷ l) (numbers-back vs)
+
+-- two rows agree behind their roles where the literals have the same atom
+same-rows : (l m : Literal) → Kept l → Kept m → sameList eqb (drop 1 (literalRow l)) (drop 1 (literalRow m)) ≡ sameLiteral (l .atom) (m .atom)
+same-rows l m h k =
+    let f = h .fits in
+    let g = k .fits in
+    let u = length-map (l .atom .args) (λ (v : Variable). v .0) in
+    let w = length-map (m .atom .args) (λ (v : Variable). v .0) in
+    ap (λ (t : Bool). eqb (l .atom .rel) (m .atom .rel) && t)
+    (same-filled
+    (map (λ (v : Variable). v .0) (l .atom .args))
+    (m .atom .args)
+    (8 - suc (suc (length (map (λ (v : Variable). v .0) (l .atom .args)))))
+    (8 - suc (suc (length (map (λ (v : Variable). v .0) (m .atom .args)))))
+    small
+    (k .arguments)
+    (omega arith)
+    ∙ ap (λ (vs : List Variable). sameList sameVariable vs (m .atom .args)) (numbers-back (l .atom .args)))
+  where
+    small : (b : ℕ) → In b (map (λ (v : Variable). v .0) (l .atom .args)) → b < 255
+    small b i = let r = Memᴰ·of-map (λ (v : Variable). v .0) (l .atom .args) i in let e = r .2 in let q = h .arguments (r .0) (r .1) in omega arith
+
+module _ (ls : List Literal) (k : (l : Literal) → In l ls → Kept l) where
+  pub kept-at : (j : ℕ) → j < length ls → Kept (literalAt ls j)
+  kept-at j h = k (literalAt ls j) (getD-in ls j noLiteral h)
+
+  literal-row : (l : Literal) → In l ls → length (literalRow l) ≡ 8
+  literal-row l m = length-literal-row l (k l m .fits)
+
+  pub row-at : (j : ℕ) → j < length ls → rowAt (flatMap literalRow ls) j ≡ literalRow (literalAt ls j)
+  row-at j h = ap (λ (t : List ℕ). rowAt t j) (sym (append-nil (flatMap literalRow ls))) ∙ row-flat literalRow ls [] noLiteral literal-row j h
+
+  byte-at : (j i : ℕ) → j < length ls → i < 8 → getD (flatMap literalRow ls) (8 * j + i) 0 ≡ getD (literalRow (literalAt ls j)) i 0
+  byte-at j i h g = ap (λ (t : List ℕ). getD t (8 * j + i) 0) (sym (append-nil (flatMap literalRow ls))) ∙ byte-flat literalRow ls [] noLiteral literal-row j i h g
+
+  pub role-at : (j : ℕ) → j < length ls → getD (flatMap literalRow ls) (8 * j) 0 ≡ roleNumber (literalAt ls j .role)
+  role-at j h = let e : 8 * j ≡ 8 * j + 0 = omega arith in ap (λ (i : ℕ). getD (flatMap literalRow ls) i 0) e ∙ byte-at j 0 h (omega arith)
+
+  pub relation-at : (j : ℕ) → j < length ls → getD (flatMap literalRow ls) (8 * j + 1) 0 ≡ literalAt ls j .atom .rel
+  relation-at j h = byte-at j 1 h (omega arith)
+
+  pub atoms-at : (i j : ℕ) → i < length ls → j < length ls → sameAtomAt (flatMap literalRow ls) i j ≡ sameLiteral (literalAt ls i .atom) (literalAt ls j .atom)
+  unfolding sameAtomAt
+  atoms-at i j h g =
+      ap₂ (λ (x y : List ℕ). sameList eqb (drop 1 x) (drop 1 y)) (row-at i h) (row-at j g)
+      ∙ same-rows (literalAt ls i) (literalAt ls j) (kept-at i h) (kept-at j g)

@@ -1,0 +1,210 @@
+-- How the code holds the classes of an action: class numbers, the clause of each literal at a moment, and what a name is decided by. Assumes nothing.
+use mathlib.Core.Bool.{Bool, _&&_, _||_, not, cond}
+use mathlib.Core.List.{List, [], _∷_, _++_, map, flatMap}
+use Prim.Native.Nat.{ℕ, zero, suc, _+_, _-_, _*_}
+use lib.Dec.{eqb, ltb, leb}
+use lib.ListN.{length, getD, take, drop, replicate}
+use lib.Seq.{paste}
+use Rattle.records.specs.Lists.{all, any, countBy, sameList}
+use Rattle.literals.specs.declared.Variable.{Variable}
+use Rattle.literals.specs.declared.Role.{Role}
+use Rattle.literals.specs.declared.Index.{Index}
+use Rattle.literals.specs.declared.Clause.the-variants.{Positive, Add, Delete}
+use Rattle.literals.specs.Domain.{sameVariable, sameLiteral, clauseNumber, Literal, Action, Domain}
+use Rattle.literals.specs.Decode.{byte}
+use Rattle.literals.specs.Table.{rowOf, rowsIn}
+use Rattle.classes.specs.declared.Moment.{Moment}
+use Rattle.classes.specs.declared.Moment.the-variants.{Start, End}
+use Rattle.classes.specs.declared.Name.{Name}
+use Rattle.classes.specs.declared.ClassTable.{ClassTable}
+use Rattle.classes.specs.declared.Summary.{Summary}
+use Rattle.classes.specs.declared.number.Numbered.{Numbered}
+use Rattle.classes.specs.Classes.{tuplesOf, own, overAll, endsOverAll, classes, inClass, nameBy, deletedBy, changedBy, covered, excluding}
+
+-- ---- class numbers
+
+-- the place of the first element that passes, or the length
+abbrev pub position : {A : Type 0} → (A → Bool) → List A → ℕ
+position p [] = zero
+position p (x ∷ xs) = cond (p x) zero (suc (position p xs))
+
+-- the number of a literal's class among these, FF where it does not match
+abbrev pub classNumberBy : List (List Variable) → List (List Variable) → ℕ
+classNumberBy xs [] = 255
+classNumberBy xs (t ∷ ts) = position (sameList sameVariable t) xs
+
+-- the class number of each literal of an action, in file order
+unfoldable pub classNumbers : Domain → Action → List ℕ
+unfolding tuplesOf classes
+classNumbers D a = map (λ (l : Literal). classNumberBy (classes D a) (tuplesOf D (l .atom))) (a .lits)
+
+-- a key tuple as a row of 8 bytes
+abbrev pub tupleRow : List Variable → List ℕ
+tupleRow x = rowOf (map (λ (v : Variable). v .0) x)
+
+-- the key tuples of the classes, 8 bytes each, in an array for 64, FF behind them
+unfoldable pub classTable : Domain → Action → ClassTable
+unfolding classes flatMap
+classTable D a =
+    let b = flatMap tupleRow (classes D a) in
+    record { tuples = b ++ replicate (512 - length b) 255; count = length (classes D a) }
+
+-- ---- class numbers, by the bytes of rows
+
+-- the first argument under the label k, or FF
+abbrev pub underKey : ℕ → List ℕ → List ℕ → ℕ
+underKey k [] vs = 255
+underKey k (b ∷ bs) [] = 255
+underKey k (b ∷ bs) (v ∷ vs) = cond (eqb k b) v (underKey k bs vs)
+
+-- those under the keys 0 to n-1
+abbrev pub underKeys : ℕ → List ℕ → List ℕ → List ℕ
+underKeys zero bs vs = []
+underKeys (suc n) bs vs = underKeys n bs vs ++ (underKey n bs vs ∷ [])
+
+-- the key tuple, as a row, of a literal's row under a component's row
+unfoldable pub keyRow : ℕ → List ℕ → List ℕ → List ℕ
+keyRow n part row = rowOf (underKeys n (drop 1 part) (drop 2 row))
+
+-- that of a literal's row under the first component's row with its relation, or none
+unfoldable pub keyRows : ℕ → List (List ℕ) → List ℕ → List (List ℕ)
+unfolding keyRow
+keyRows n [] row = []
+keyRows n (part ∷ parts) row = cond (eqb (byte row 1) (byte part 0)) (keyRow n part row ∷ []) (keyRows n parts row)
+
+-- the class number of a literal with these key tuples, none or one, and how many classes there then are: `tuples` has the rows of `count` classes
+unfoldable pub numberedBy : List (List ℕ) → ℕ → List ℕ → Numbered
+numberedBy [] count tuples = record { class = 255; count = count }
+numberedBy (t ∷ ts) count tuples =
+    let c = position (sameList eqb t) (rowsIn count tuples) in
+    record { class = c; count = cond (eqb c count) (count + 1) count }
+
+-- the rows of the classes then
+unfoldable pub tuplesAfter : List (List ℕ) → ℕ → List ℕ → List ℕ
+tuplesAfter [] count tuples = tuples
+tuplesAfter (t ∷ ts) count tuples = cond (eqb (position (sameList eqb t) (rowsIn count tuples)) count) (paste tuples (8 * count) t 8) tuples
+
+-- ---- what a literal is at a moment
+
+-- 1 to 4 for a true condition, false condition, add or delete of the moment, 0 for none
+abbrev pub clauseAt : Moment → Role → ℕ
+clauseAt m r = cond (own m (r .clause) r || (endsOverAll m && overAll (r .clause) r)) (suc (clauseNumber (r .clause))) 0
+
+-- the same, 0 where an earlier literal of the same clause at that moment has the same atom: "a literal in both counting once"
+abbrev pub clauseOnce : Moment → List Literal → Literal → ℕ
+clauseOnce m earlier l =
+    cond (any (λ (k : Literal). eqb (clauseAt m (k .role)) (clauseAt m (l .role)) && sameLiteral (k .atom) (l .atom)) earlier) 0 (clauseAt m (l .role))
+
+abbrev pub clausesFrom : Moment → List Literal → List Literal → List ℕ
+clausesFrom m earlier [] = []
+clausesFrom m earlier (l ∷ ls) = clauseOnce m earlier l ∷ clausesFrom m (earlier ++ (l ∷ [])) ls
+
+-- for each literal of an action, in file order
+unfoldable pub clausesAt : Action → Moment → List ℕ
+clausesAt a m = clausesFrom m [] (a .lits)
+
+-- ---- what a name and a journey are decided by
+
+-- the place of the first uncovered component, or the number of components
+unfoldable pub uncoveredAt : Domain → Action → List Variable → Moment → ℕ
+unfolding excluding
+uncoveredAt D a x m = position (λ c. not (covered (excluding D a x m) c)) (D .template)
+
+-- of the class x at a moment: how many true conditions and adds, whether each true condition is also an add or a delete, whether each is deleted, and the first uncovered component
+unfoldable pub summaryOf : Domain → Action → List Variable → Moment → Summary
+unfolding inClass uncoveredAt
+summaryOf D a x m =
+    record {
+      conditions = length (inClass D a x m Positive);
+      adds = length (inClass D a x m Add);
+      changed = all (changedBy (inClass D a x m Add) (inClass D a x m Delete)) (inClass D a x m Positive);
+      deleted = all (deletedBy (inClass D a x m Delete)) (inClass D a x m Positive);
+      uncovered = uncoveredAt D a x m;
+    }
+
+-- the name, of a template with n components
+abbrev pub nameBySummary : Summary → ℕ → Name
+nameBySummary s n = nameBy (s .conditions) (s .conditions) (s .adds) (s .changed) (eqb (s .uncovered) n)
+
+-- whether a class of a lasting action is a journey, by its start and its end
+abbrev pub journeyBySummaries : Summary → Summary → Bool
+journeyBySummaries s e = eqb (s .adds) 0 && eqb (s .conditions) 1 && s .deleted && eqb (e .conditions) 0 && eqb (e .adds) 1
+
+-- ---- the same by index: of rows of 8 bytes, class numbers and clauses
+
+-- the n numbers from i on
+abbrev pub numbersFrom : ℕ → ℕ → List ℕ
+numbersFrom i zero = []
+numbersFrom i (suc n) = i ∷ numbersFrom (suc i) n
+
+abbrev pub below : ℕ → List ℕ
+below n = numbersFrom 0 n
+
+-- the clause at a moment of a role byte
+unfoldable pub clauseByte : Moment → ℕ → ℕ
+clauseByte Start r = cond (ltb r 4) (r + 1) 0
+clauseByte End r = cond (ltb r 4) 0 (cond (ltb r 6) (r - 3) (cond (ltb r 10) (r - 5) 0))
+
+abbrev pub rowAt : List ℕ → ℕ → List ℕ
+rowAt rows i = take 8 (drop (8 * i) rows)
+
+-- two rows have the same relation and arguments
+unfoldable pub sameAtomAt : List ℕ → ℕ → ℕ → Bool
+sameAtomAt rows i j = sameList eqb (drop 1 (rowAt rows i)) (drop 1 (rowAt rows j))
+
+-- the row i has this clause at the moment, and the atom of the row j
+unfoldable pub saysAt : List ℕ → Moment → ℕ → ℕ → ℕ → Bool
+unfolding clauseByte sameAtomAt
+saysAt rows m clause j i = eqb (clauseByte m (getD rows (8 * i) 0)) clause && sameAtomAt rows i j
+
+-- the clause of the row j at the moment, 0 where an earlier row says it
+unfoldable pub clauseIn : List ℕ → Moment → ℕ → ℕ
+unfolding clauseByte saysAt
+clauseIn rows m j =
+    let clause = clauseByte m (getD rows (8 * j) 0) in
+    cond (any (saysAt rows m clause j) (below j)) 0 clause
+
+-- the row j is in this class with this clause
+unfoldable pub isAt : List ℕ → List ℕ → ℕ → ℕ → ℕ → Bool
+isAt of clauses class clause j = eqb (getD of j 0) class && eqb (getD clauses j 0) clause
+
+-- besides, it has the atom of the row i
+unfoldable pub isSameAt : List ℕ → List ℕ → List ℕ → ℕ → ℕ → ℕ → ℕ → Bool
+unfolding isAt sameAtomAt
+isSameAt rows of clauses class clause i j = isAt of clauses class clause j && sameAtomAt rows i j
+
+unfoldable pub sameIn : List ℕ → List ℕ → List ℕ → ℕ → ℕ → ℕ → Bool
+unfolding isSameAt
+sameIn rows of clauses class clause i = any (isSameAt rows of clauses class clause i) (below (length of))
+
+-- where the row i is a true condition of the class, it is also an add or a delete
+unfoldable pub changedAt : List ℕ → List ℕ → List ℕ → ℕ → ℕ → Bool
+unfolding isAt sameIn
+changedAt rows of clauses class i = not (isAt of clauses class 1 i) || (sameIn rows of clauses class 3 i || sameIn rows of clauses class 4 i)
+
+-- and it is deleted
+unfoldable pub deletedAt : List ℕ → List ℕ → List ℕ → ℕ → ℕ → Bool
+unfolding isAt sameIn
+deletedAt rows of clauses class i = not (isAt of clauses class 1 i) || sameIn rows of clauses class 4 i
+
+-- the row j is a false condition, add or delete of the class, with this relation
+unfoldable pub excludesAt : List ℕ → List ℕ → List ℕ → ℕ → ℕ → ℕ → Bool
+excludesAt rows of clauses class relation j = eqb (getD of j 0) class && (leb 2 (getD clauses j 0) && eqb relation (getD rows (8 * j + 1) 0))
+
+-- the class covers the component c, of these components and arities
+unfoldable pub coveredAt : List ℕ → List ℕ → List ℕ → List ℕ → List ℕ → ℕ → ℕ → Bool
+unfolding excludesAt
+coveredAt parts arities rows of clauses class c =
+    let relation = getD parts (8 * c) 0 in
+    not (any (λ i. eqb (getD parts (8 * c + 1 + i) 0) 255) (below (getD arities relation 0))) && any (excludesAt rows of clauses class relation) (below (length of))
+
+unfoldable pub summaryIn : Index → List ℕ → List ℕ → List ℕ → ℕ → Summary
+unfolding isAt changedAt deletedAt coveredAt
+summaryIn index rows of clauses class =
+    record {
+      conditions = countBy (isAt of clauses class 1) (below (length of));
+      adds = countBy (isAt of clauses class 3) (below (length of));
+      changed = all (changedAt rows of clauses class) (below (length of));
+      deleted = all (deletedAt rows of clauses class) (below (length of));
+      uncovered = position (λ c. not (coveredAt (index .parts) (index .arities) rows of clauses class c)) (below (index .components));
+    }

@@ -1,0 +1,34 @@
+-- `goadlotus_judge` meets its contract: what `verdict::judging::judge` promises, with the answer's parts each in its place. Assumes nothing.
+use mathlib.Core.Path.{ap}
+use borrow.Author.Needs.{needs}
+use Rattle.verdict.specs.declared.Judgement.{Judgement}
+use Rattle.goadlotus.proofs.goadlotus_judge.Statement.{statement}
+use Rattle.goadlotus.proofs.goadlotus_judge.Tie as tie
+use Rattle.goadlotus.proofs.goadlotus_judge.Reads as reads
+use Rattle.goadlotus.proofs.goadlotus_judge.Lts as lts
+use Rattle.verdict.proofs.judging.judge.Reads as judge-reads
+
+judge-requires : tie.Need-judge-requires
+judge-requires c κs = search needs
+
+same-length : tie.Need-same-length
+same-length c = search needs
+
+same-length-2 : tie.Need-same-length-2
+same-length-2 c = search needs
+
+returns : tie.Need-returns
+returns c =
+    let (is, (told, (shown, (safe, (exact, harms))))) = c .before .before .before .before .judge .ensures in (
+      ap (λ (j : Judgement). j .number) is,
+      (
+        ap (λ (j : Judgement). j .first) is,
+        (
+          ap (λ (j : Judgement). j .second) is,
+          (ap (λ (j : Judgement). j .third) is, (told, (shown, (safe, (exact, harms))))),
+        ),
+      ),
+    )
+
+pub goadlotus-judge-spec : {M : Type 1} → statement M
+goadlotus-judge-spec = tie.close (tie.spec judge-requires same-length same-length-2 returns)

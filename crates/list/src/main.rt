@@ -1,0 +1,8 @@
+// Lists the domain file on standard input.
+use libc::STDIN_FILENO;
+
+fn main() {
+    let mut file = [0u8; 65536];
+    let n = io::read_full(STDIN_FILENO, &mut file);
+    listing::list(&file[..n]);
+}

@@ -1,0 +1,66 @@
+// Prints the verdict of a domain file and its rows.
+use libc::STDOUT_FILENO;
+
+// A word, then a number.
+fn put(word: &[u8], n: u64) {
+    io::write_all(STDOUT_FILENO, word);
+    io::print_decimal(STDOUT_FILENO, n);
+}
+
+fn put_byte(word: &[u8], n: u8) {
+    put(word, n as u64);
+}
+
+fn name(n: u8) {
+    match n {
+        1 => {
+            io::write_all(STDOUT_FILENO, b" unreachable\n");
+        }
+        2 => {
+            io::write_all(STDOUT_FILENO, b" irrelevant\n");
+        }
+        3 => {
+            io::write_all(STDOUT_FILENO, b" heavy\n");
+        }
+        4 => {
+            io::write_all(STDOUT_FILENO, b" balanced\n");
+        }
+        5 => {
+            io::write_all(STDOUT_FILENO, b" unbalanced\n");
+        }
+        6 => {
+            io::write_all(STDOUT_FILENO, b" bounded\n");
+        }
+        _ => {
+            io::write_all(STDOUT_FILENO, b" unbounded\n");
+        }
+    }
+}
+
+// The rows of a report: those before the first that was not filled (FF in its name's place).
+fn rows(report: &[u8]) {
+    let mut at = 0;
+    while at + 4 <= report.len() {
+        if report[at + 3] == 255 {
+            return;
+        }
+        put_byte(b"row ", report[at]);
+        put_byte(b" ", report[at + 1]);
+        put_byte(b" ", report[at + 2]);
+        name(report[at + 3]);
+        at += 4;
+    }
+}
+
+// The verdict line, then each row (9 to 31: the first line alone).
+pub fn list(file: &[u8]) {
+    let mut report = [255u8; 32768];
+    let mut witness = [255u8; 1024];
+    let v = verdict::judging::judge(file, &mut report, &mut witness);
+    put(b"verdict ", v.number);
+    put(b" ", v.first);
+    put(b" ", v.second);
+    put(b" ", v.third);
+    io::write_all(STDOUT_FILENO, b"\n");
+    rows(&report);
+}

@@ -1,0 +1,364 @@
+-- Laws of the rows of a domain, one class or one action more at a time, how many there are, and naming them. Assumes nothing.
+use mathlib.Core.Path.{_≡_, refl, sym, ap, ap₂, _∙_, subst}
+use mathlib.Core.Bool.{Bool, true, false, not, cond, _&&_}
+use mathlib.Core.List.{List, [], _∷_, _++_, map, flatMap, map-append, append-nil, append-assoc, List·Memᴰ·head, List·Memᴰ·tail}
+use Prim.Native.Nat.{ℕ, suc, _+_, _-_, _*_, _≤_, _<_}
+use native.Mathlib.Numerals.{add-one}
+use native.Mathlib.Omega.{arith}
+use lib.Dec.{eqb}
+use lib.ListN.{length, getD, set, take, drop, length-append, length-map}
+use lib.Seq.{take-suc, take-all, take-at, drop-cons, length-take-le}
+use borrow.Author.Tests.{eq-eqb, eqb-true, lt-ltb, le-ltb}
+use Rattle.records.specs.Lists.{In, keepIf, distinct, all, sameList}
+use Rattle.records.specs.Memory.{over}
+use Rattle.records.proofs.Lists.{and-l, and-r, clash, not-true, off, dedup-few, flat-few}
+use Rattle.records.proofs.Memory.{over-more}
+use Rattle.literals.specs.declared.Variable.{Variable}
+use Rattle.literals.specs.Domain.{sameVariable, Atom, Literal, Action, Component, Domain, noAction, keysOf, action}
+use Rattle.literals.specs.declared.Index.{Index}
+use Rattle.literals.specs.Table.{literalRow, tableBytes, pad, endOf, Bounded, Holds, Shaped}
+use Rattle.literals.proofs.Tables.{pad-more}
+use Rattle.literals.proofs.Held.{components-is}
+use Rattle.literals.proofs.Spans.{sort-at, span-part}
+use Rattle.classes.specs.declared.Moment.the-variants.{Start, End}
+use Rattle.classes.specs.declared.Moment.{Moment}
+use Rattle.classes.specs.declared.Name.{Name}
+use Rattle.classes.specs.declared.Summary.{Summary}
+use Rattle.classes.specs.declared.ClassTable.{ClassTable}
+use Rattle.classes.specs.Classes.{momentsOf, nameNumber, isOf, keyTuple, tuplesBy, tuplesOf, classes, nameOf, journey}
+use Rattle.classes.specs.Coded.{classNumbers, classTable, summaryOf, nameBySummary, journeyBySummaries}
+use Rattle.classes.proofs.Summaries.{name-summary, journey-summary}
+use Rattle.verdict.specs.declared.naming.Naming.{Naming}
+use Rattle.verdict.specs.Decision.{Row, rowAt, rowsOfClasses, rowsFrom, rows}
+use Rattle.verdict.specs.Coded.{rowFor, notesOf, nameBytes, classCounts, Named, namingOf}
+
+-- ---- one class or one action more
+
+-- the rows of the class j with the key tuple x
+abbrev pub classRows : Domain → Action → ℕ → ℕ → List Variable → List Row
+classRows D a i j x = map (rowAt D a i j x) (momentsOf a)
+
+module _ (D : Domain) (a : Action) (i : ℕ) where
+  pub classes-more : (j : ℕ) (xs : List (List Variable)) (x : List Variable)
+      → rowsOfClasses D a i j (xs ++ (x ∷ [])) ≡ rowsOfClasses D a i j xs ++ classRows D a i (j + length xs) x
+  classes-more j [] x =
+      let z : j ≡ j + 0 = omega arith in
+      append-nil (classRows D a i j x) ∙ ap (λ (k : ℕ). classRows D a i k x) z
+  classes-more j (y ∷ ys) x =
+      let z : suc j + length ys ≡ j + suc (length ys) = omega arith in
+      ap (λ (r : List Row). classRows D a i j y ++ r) (classes-more (suc j) ys x ∙ ap (λ (k : ℕ). rowsOfClasses D a i (suc j) ys ++ classRows D a i k x) z)
+      ∙ sym (append-assoc (classRows D a i j y) (rowsOfClasses D a i (suc j) ys) (classRows D a i (j + suc (length ys)) x))
+
+  -- the first k + 1 classes
+  pub classes-next : (xs : List (List Variable)) (k : ℕ) → k < length xs
+      → rowsOfClasses D a i 0 (take (k + 1) xs) ≡ rowsOfClasses D a i 0 (take k xs) ++ classRows D a i k (getD xs k [])
+  classes-next xs k h =
+      let l = length-take-le k xs (omega arith) in
+      let z : 0 + length (take k xs) ≡ k = omega arith in
+      ap (λ (n : ℕ). rowsOfClasses D a i 0 (take n xs)) (add-one k)
+      ∙ ap (rowsOfClasses D a i 0) (take-suc xs k [] h)
+      ∙ classes-more 0 (take k xs) (getD xs k [])
+      ∙ ap (λ (n : ℕ). rowsOfClasses D a i 0 (take k xs) ++ classRows D a i n (getD xs k [])) z
+
+  -- and those from k on
+  pub classes-left : (xs : List (List Variable)) (k : ℕ) → k < length xs
+      → rowsOfClasses D a i k (drop k xs) ≡ classRows D a i k (getD xs k []) ++ rowsOfClasses D a i (k + 1) (drop (k + 1) xs)
+  classes-left xs k h =
+      ap (rowsOfClasses D a i k) (drop-cons xs k [] h)
+      ∙ ap (λ (n : ℕ). classRows D a i k (getD xs k []) ++ rowsOfClasses D a i n (drop n xs)) (sym (add-one k))
+
+-- the rows of the action a of the number i
+abbrev pub actionRows : Domain → Action → ℕ → List Row
+actionRows D a i = rowsOfClasses D a i 0 (classes D a)
+
+module _ (D : Domain) where
+  pub actions-more : (i : ℕ) (as′ : List Action) (a : Action) → rowsFrom D i (as′ ++ (a ∷ [])) ≡ rowsFrom D i as′ ++ actionRows D a (i + length as′)
+  actions-more i [] a =
+      let z : i ≡ i + 0 = omega arith in
+      append-nil (actionRows D a i) ∙ ap (actionRows D a) z
+  actions-more i (b ∷ bs) a =
+      let z : suc i + length bs ≡ i + suc (length bs) = omega arith in
+      ap (λ (r : List Row). actionRows D b i ++ r) (actions-more (suc i) bs a ∙ ap (λ (k : ℕ). rowsFrom D (suc i) bs ++ actionRows D a k) z)
+      ∙ sym (append-assoc (actionRows D b i) (rowsFrom D (suc i) bs) (actionRows D a (i + suc (length bs))))
+
+  -- the first k + 1 actions
+  pub actions-next : (as′ : List Action) (k : ℕ) → k < length as′
+      → rowsFrom D 0 (take (k + 1) as′) ≡ rowsFrom D 0 (take k as′) ++ actionRows D (getD as′ k noAction) k
+  actions-next as′ k h =
+      let l = length-take-le k as′ (omega arith) in
+      let z : 0 + length (take k as′) ≡ k = omega arith in
+      ap (λ (n : ℕ). rowsFrom D 0 (take n as′)) (add-one k)
+      ∙ ap (rowsFrom D 0) (take-suc as′ k noAction h)
+      ∙ actions-more 0 (take k as′) (getD as′ k noAction)
+      ∙ ap (λ (n : ℕ). rowsFrom D 0 (take k as′) ++ actionRows D (getD as′ k noAction) n) z
+
+  -- and those from k on
+  pub actions-left : (as′ : List Action) (k : ℕ) → k < length as′
+      → rowsFrom D k (drop k as′) ≡ actionRows D (getD as′ k noAction) k ++ rowsFrom D (k + 1) (drop (k + 1) as′)
+  actions-left as′ k h =
+      ap (rowsFrom D k) (drop-cons as′ k noAction h)
+      ∙ ap (λ (n : ℕ). actionRows D (getD as′ k noAction) k ++ rowsFrom D n (drop n as′)) (sym (add-one k))
+
+-- the rows of a class, by its moments
+module _ (D : Domain) (a : Action) (i j : ℕ) (x : List Variable) where
+  pub once-rows : a .lasting ≡ false → classRows D a i j x ≡ rowAt D a i j x Start ∷ []
+  once-rows l = ap (λ (b : Bool). map (rowAt D a i j x) (cond b (Start ∷ End ∷ []) (Start ∷ []))) l
+
+  pub lasting-rows : a .lasting ≡ true → classRows D a i j x ≡ rowAt D a i j x Start ∷ rowAt D a i j x End ∷ []
+  lasting-rows l = ap (λ (b : Bool). map (rowAt D a i j x) (cond b (Start ∷ End ∷ []) (Start ∷ []))) l
+
+-- ---- how many
+
+abbrev pub momentCount : Action → ℕ
+momentCount a = cond (a .lasting) 2 1
+
+moments-count : (a : Action) → length (momentsOf a) ≡ momentCount a
+moments-count a = go (a .lasting)
+  where
+    go : (b : Bool) → length (cond b (Start ∷ End ∷ []) (Start ∷ [])) ≡ cond b 2 1
+    go true = refl
+    go false = refl
+
+pub moments-few : (a : Action) → momentCount a ≤ 2
+moments-few a = go (a .lasting)
+  where
+    go : (b : Bool) → cond b 2 1 ≤ 2
+    go true = omega arith
+    go false = omega arith
+
+pub length-class : (D : Domain) (a : Action) (i j : ℕ) (x : List Variable) → length (classRows D a i j x) ≡ momentCount a
+length-class D a i j x = length-map (momentsOf a) (rowAt D a i j x) ∙ moments-count a
+
+pub classes-few-rows : (D : Domain) (a : Action) (i j : ℕ) (xs : List (List Variable)) → length (rowsOfClasses D a i j xs) ≤ 2 * length xs
+classes-few-rows D a i j [] = omega arith
+classes-few-rows D a i j (x ∷ xs) =
+    let l = length-append (classRows D a i j x) (rowsOfClasses D a i (suc j) xs) in
+    let k = length-class D a i j x in
+    let m = moments-few a in
+    let r = classes-few-rows D a i (suc j) xs in
+    omega arith
+
+-- where no relation has two components, an atom has at most one key tuple
+module _ {A : Type 0} (n : ℕ) (p : Atom A) where
+  others-none : (c : Component) (cs : List Component) → isOf c p ≡ true → all (λ (d : Component). not (eqb (c .rel) (d .rel))) cs ≡ true → tuplesBy n cs p ≡ []
+  others-none c [] h o = refl
+  others-none c (d ∷ ds) h o = rw (other) (others-none c ds h (and-r (not (eqb (c .rel) (d .rel))) _ o))
+    where
+      other : isOf d p ≡ false
+      other =
+          off (isOf d p)
+          (λ t.
+          let e : c .rel ≡ d .rel = eqb-true (c .rel) (p .rel) (and-l _ _ h) ∙ sym (eqb-true (d .rel) (p .rel) (and-l _ _ t)) in
+          clash (eq-eqb (c .rel) (d .rel) e) (not-true _ (and-l _ _ o)))
+
+  tuples-few : (cs : List Component) → distinct (λ (c d : Component). eqb (c .rel) (d .rel)) cs ≡ true → length (tuplesBy n cs p) ≤ 1
+  tuples-few [] o = omega arith
+  tuples-few (c ∷ cs) o = go (isOf c p) refl (tuples-few cs (and-r (all (λ (d : Component). not (eqb (c .rel) (d .rel))) cs) _ o))
+    where
+      go : (b : Bool) → isOf c p ≡ b → length (tuplesBy n cs p) ≤ 1 → length (keepIf b (keyTuple n (c .labels) (p .args)) (tuplesBy n cs p)) ≤ 1
+      go true e h = let l = ap length (others-none c cs e (and-l _ _ o)) in omega arith
+      go false e h = h
+
+module _ (D : Domain) (once : distinct (λ (c d : Component). eqb (c .rel) (d .rel)) (D .template) ≡ true) where
+  -- an action has at most as many classes as literals
+  pub classes-few : (a : Action) → length (classes D a) ≤ length (a .lits)
+  unfolding classes tuplesOf
+  classes-few a =
+      let d = dedup-few (sameList sameVariable) (flatMap (λ (l : Literal). tuplesOf D (l .atom)) (a .lits)) in
+      let f = flat-few (λ (l : Literal). tuplesOf D (l .atom)) (a .lits) (λ l. tuples-few (keysOf (D .template)) (l .atom) (D .template) once) in
+      omega arith
+
+  pub action-few-rows : (a : Action) (i : ℕ) → length (actionRows D a i) ≤ 2 * length (a .lits)
+  action-few-rows a i =
+      let r = classes-few-rows D a i 0 (classes D a) in
+      let c = classes-few a in
+      omega arith
+
+  -- at most 128 rows an action
+  pub few-rows : (i : ℕ) (as′ : List Action) → ((a : Action) → In a as′ → length (a .lits) ≤ 64) → length (rowsFrom D i as′) ≤ 128 * length as′
+  few-rows i [] h = omega arith
+  few-rows i (a ∷ as′) h =
+      let l = length-append (actionRows D a i) (rowsFrom D (suc i) as′) in
+      let r = few-rows (suc i) as′ (λ b m. h b (List·Memᴰ·tail m)) in
+      let k = h a (List·Memᴰ·head refl) in
+      let f = action-few-rows a i in
+      omega arith
+
+  pub rows-within : Bounded D → length (rows D) ≤ 8192
+  unfolding rows
+  rows-within B =
+      let r = few-rows 0 (D .actions) (B .sizes) in
+      let n = B .actions in
+      omega arith
+
+-- ---- naming
+
+-- one row more
+pub named-more : (rs : List Row) (r : Row) (n : Naming) {m : Naming} (names old : List ℕ) (v : ℕ) → n .rows < 8192 → Named rs n names old
+    → m .rows ≡ n .rows + 1 → m .notes ≡ notesOf (rs ++ (r ∷ [])) → v ≡ nameNumber (r .name) → Named (rs ++ (r ∷ [])) m (set names (n .rows) v) old
+named-more rs r n {m} names old v h N e f g =
+    let k = N .rows-named in
+    let w = N .room in
+    record {
+      room = w;
+      rows-named = let l = length-append rs (r ∷ []) in omega arith;
+      noted = f;
+      bytes =
+          ap₂ (λ (l : List ℕ) (a : ℕ). set l (n .rows) a) (N .bytes) g
+          ∙ over-more (nameBytes rs) old (n .rows) (nameNumber (r .name)) (length-map rs (λ (r : Row). nameNumber (r .name)) ∙ sym k) (omega arith)
+          ∙ ap (λ (l : List ℕ). over l old) (sym (map-append (λ (r : Row). nameNumber (r .name)) rs (r ∷ [])));
+    }
+
+-- the rows of a class, by their names
+module _ (D : Domain) (a : Action) (i j : ℕ) (x : List Variable) (rs : List Row) {n : Naming} {names old : List ℕ} where
+  pub named-once : (s : Name) → a .lasting ≡ false → s ≡ nameOf D a x Start
+      → Named (rs ++ (rowFor s false record { action = i; class = j; moment = 0 } ∷ [])) n names old → Named (rs ++ classRows D a i j x) n names old
+  named-once s l e N = subst (λ (k : List Row). Named (rs ++ k) n names old) (sym same) N
+    where
+      same : classRows D a i j x ≡ rowFor s false record { action = i; class = j; moment = 0 } ∷ []
+      same =
+          once-rows D a i j x l
+          ∙ (λ k. record { action = i; class = j; moment = Start; name = sym e k; journeyEnd = false } ∷ [])
+
+  pub named-lasting : (s e : Name) (t : Bool) → a .lasting ≡ true → s ≡ nameOf D a x Start → e ≡ nameOf D a x End → t ≡ journey D a x
+      → Named ((rs ++ (rowFor s false record { action = i; class = j; moment = 0 } ∷ [])) ++ (rowFor e t record { action = i; class = j; moment = 1 } ∷ [])) n names old
+      → Named (rs ++ classRows D a i j x) n names old
+  named-lasting s e t l p q o N = subst (λ (k : List Row). Named k n names old) (append-assoc rs (_ ∷ []) (_ ∷ []) ∙ ap (λ (k : List Row). rs ++ k) (sym same)) N
+    where
+      same : classRows D a i j x ≡ rowFor s false record { action = i; class = j; moment = 0 } ∷ rowFor e t record { action = i; class = j; moment = 1 } ∷ []
+      same =
+          lasting-rows D a i j x l
+          ∙ (λ k. record { action = i; class = j; moment = Start; name = sym p k; journeyEnd = false } ∷ record { action = i; class = j; moment = End; name = sym q k; journeyEnd = sym o k } ∷ [])
+
+-- the classes of an action, after k of them
+module _ (D : Domain) (a : Action) (i : ℕ) (xs : List (List Variable)) (rs : List Row) {n : Naming} {names old : List ℕ} where
+  pub named-begin : Named rs n names old → Named (rs ++ rowsOfClasses D a i 0 (take 0 xs)) n names old
+  named-begin N = subst (λ (l : List Row). Named l n names old) (sym (append-nil rs)) N
+
+  pub named-next : (k : ℕ) → k < length xs → Named ((rs ++ rowsOfClasses D a i 0 (take k xs)) ++ classRows D a i k (getD xs k [])) n names old
+      → Named (rs ++ rowsOfClasses D a i 0 (take (k + 1) xs)) n names old
+  named-next k h N =
+      subst (λ (l : List Row). Named l n names old)
+      (append-assoc rs (rowsOfClasses D a i 0 (take k xs)) (classRows D a i k (getD xs k [])) ∙ ap (λ (l : List Row). rs ++ l) (sym (classes-next D a i xs k h)))
+      N
+
+  pub named-end : (k : ℕ) → length xs ≤ k → Named (rs ++ rowsOfClasses D a i 0 (take k xs)) n names old → Named (rs ++ rowsOfClasses D a i 0 xs) n names old
+  named-end k h N = subst (λ (l : List (List Variable)). Named (rs ++ rowsOfClasses D a i 0 l) n names old) (take-all k xs h) N
+
+-- the counts of classes stand beside
+pub named-counted : {rs : List Row} {n : Naming} {names old : List ℕ} (counts : List ℕ) → Named rs n names old → Named rs record { rows = n .rows; notes = n .notes; counts = counts } names old
+named-counted counts N = record { room = N .room; rows-named = N .rows-named; noted = N .noted; bytes = N .bytes }
+
+-- the actions of a domain, after k of them
+module _ (D : Domain) where
+  pub named-action : (k : ℕ) {n : Naming} {names old : List ℕ} → k < length (D .actions)
+      → Named (rowsFrom D 0 (take k (D .actions)) ++ actionRows D (action D k) k) n names old → Named (rowsFrom D 0 (take (k + 1) (D .actions))) n names old
+  unfolding action
+  named-action k {n} {names} {old} h N = subst (λ (l : List Row). Named l n names old) (sym (actions-next D (D .actions) k h)) N
+
+  pub counted-action : (k : ℕ) (counts : List ℕ) → k < length (D .actions) → length (D .actions) ≤ 64 → counts ≡ pad 64 (classCounts D (take k (D .actions)))
+      → set counts k (length (classes D (action D k))) ≡ pad 64 (classCounts D (take (k + 1) (D .actions)))
+  unfolding action
+  counted-action k counts h w e =
+      let before = classCounts D (take k (D .actions)) in
+      let now = length (classes D (getD (D .actions) k noAction)) in
+      let l : length before ≡ k = length-map (take k (D .actions)) (λ (a : Action). length (classes D a)) ∙ length-take-le k (D .actions) (omega arith) in
+      ap₂ (λ (c : List ℕ) (m : ℕ). set c m now) e (sym l)
+      ∙ pad-more 64 before now (omega arith)
+      ∙ ap (pad 64)
+      (sym (ap (λ (m : ℕ). classCounts D (take m (D .actions))) (add-one k)
+      ∙ ap (classCounts D) (take-suc (D .actions) k noAction h)
+      ∙ map-append (λ (a : Action). length (classes D a)) (take k (D .actions)) (getD (D .actions) k noAction ∷ [])))
+
+  pub naming-done : (k : ℕ) (n : Naming) {names old : List ℕ} → length (D .actions) ≤ k → Named (rowsFrom D 0 (take k (D .actions))) n names old
+      → n .counts ≡ pad 64 (classCounts D (take k (D .actions))) → (n ≡ namingOf D) × (names ≡ over (nameBytes (rows D)) old)
+  unfolding rows namingOf
+  naming-done k n {names} {old} h N e =
+      let all = take-all k (D .actions) h in (
+        λ i. record {
+          rows = (N .rows-named ∙ ap (λ (l : List Action). length (rowsFrom D 0 l)) all) i;
+          notes = (N .noted ∙ ap (λ (l : List Action). notesOf (rowsFrom D 0 l)) all) i;
+          counts = (e ∙ ap (λ (l : List Action). pad 64 (classCounts D l)) all) i;
+        },
+        N .bytes ∙ ap (λ (l : List Action). over (nameBytes (rowsFrom D 0 l)) old) all,
+      )
+
+-- ---- the rows of an action's literals
+
+module _ (index : Index) (i : ℕ) where
+  pub span-inner : i + 1 < index .actions → getD (index .starts) (i + 1) 0 ≡ endOf index i
+  span-inner h = rw (lt-ltb (i + 1) (index .actions) h)
+
+  pub span-last : index .actions ≤ i + 1 → index .rows ≡ endOf index i
+  span-last h = rw (le-ltb (i + 1) (index .actions) h)
+
+-- ---- the names of a class, by its summaries
+
+module _ {D : Domain} {index : Index} (H : Holds D index) (a : Action) (x : List Variable) where
+  pub named-by : (m : Moment) {s : Summary} {r : Name} → r ≡ nameBySummary s (index .components) → s ≡ summaryOf D a x m → r ≡ nameOf D a x m
+  named-by m e f = e ∙ ap₂ nameBySummary f (components-is H) ∙ sym (name-summary D a x m)
+
+  pub journey-by : {s e : Summary} {r : Bool} → r ≡ journeyBySummaries s e → s ≡ summaryOf D a x Start → e ≡ summaryOf D a x End → a .lasting ≡ true → r ≡ journey D a x
+  journey-by p f g l =
+      p
+      ∙ ap₂ journeyBySummaries f g
+      ∙ ap (λ (b : Bool). b && journeyBySummaries (summaryOf D a x Start) (summaryOf D a x End)) (sym l)
+      ∙ sym (journey-summary D a x)
+
+-- ---- where the loops of naming stand
+
+-- the sort byte of an action tells whether it lasts
+pub lasting-byte : {D : Domain} {index : Index} → Holds D index → (i : ℕ) → action D i .lasting ≡ eqb (getD (index .sorts) i 0) 1
+lasting-byte {D} H i = sym (ap (λ (s : ℕ). eqb s 1) (sort-at H i) ∙ go (action D i .lasting))
+  where
+    go : (b : Bool) → eqb (cond b 1 0) 1 ≡ b
+    go true = refl
+    go false = refl
+
+-- in an action, after k of its classes
+pub record InClasses (index : Index) (rows of : List ℕ) (count i : ℕ) (names₀ : List ℕ) (next₀ : Naming) (names : List ℕ) (next : Naming) (k : ℕ) : Type 0 where
+  pub reach : k ≤ count
+  pub few : next .rows ≤ 128 * i + 2 * k
+  pub counted : next .counts ≡ next₀ .counts
+  pub named : (rs : List Row) (old : List ℕ) (D : Domain) → Named rs next₀ names₀ old → Holds D index → rows ≡ flatMap literalRow (action D i .lits) → of ≡ classNumbers D (action D i)
+      → count ≡ length (classes D (action D i)) → Named (rs ++ rowsOfClasses D (action D i) i 0 (take k (classes D (action D i)))) next names old
+
+-- the first n of an array, where a call has put xs there
+module _ (xs ys : List ℕ) (n : ℕ) (e : length xs ≡ n) where
+  pub part-within : n ≤ length (xs ++ ys)
+  part-within = let l = length-append xs ys in omega arith
+
+  pub part-again : take (n - 0) (xs ++ ys) ≡ xs
+  part-again = let z : length xs ≡ n - 0 = omega arith in take-at xs ys (n - 0) z
+
+pub class-count : (D : Domain) (a : Action) {t : ClassTable} → t ≡ classTable D a → t .count ≡ length (classes D a)
+unfolding classTable
+class-count D a e = ap (λ (t : ClassTable). t .count) e
+
+-- the part of the table between the first row of an action and the one behind its last, in bytes
+pub part-literals : {D : Domain} {index : Index} (H : Holds D index) (i : ℕ) → i < length (D .actions) → (table old : List ℕ) → table ≡ over (tableBytes D) old
+    → (from to : ℕ) → from ≡ getD (index .starts) i 0 → to ≡ endOf index i → take (8 * to - 8 * from) (drop (8 * from) table) ≡ flatMap literalRow (action D i .lits)
+part-literals H i b table old e from to p q = ap₂ (λ (f t : ℕ). take (8 * t - 8 * f) (drop (8 * f) table)) p q ∙ span-part H i b old e
+
+-- the bounds of an action's part of the table
+pub record PartBounds (from to : ℕ) : Type 0 where
+  pub order : from ≤ to
+  pub within : to ≤ 4096
+  pub few : to ≤ from + 64
+
+pub part-bounds : {index : Index} → Shaped index → (i : ℕ) → i < index .actions → (from to : ℕ) → from ≡ getD (index .starts) i 0 → to ≡ endOf index i → PartBounds from to
+part-bounds {index} S i h from to p q =
+    let s = S .spans i h in
+    let n = S .actions in
+    let r = S .rows in
+    let o = s .order in
+    let w = s .within in
+    let f = s .few in
+    record { order = omega arith; within = omega arith; few = omega arith }
+
+-- in a domain, after k of its actions
+pub record InActions (index : Index) (table names₀ names : List ℕ) (naming : Naming) (k : ℕ) : Type 0 where
+  pub reach : k ≤ index .actions
+  pub few : naming .rows ≤ 128 * k
+  pub named : (D : Domain) (old : List ℕ) → Holds D index → table ≡ over (tableBytes D) old → length names₀ ≡ 8192
+      → Named (rowsFrom D 0 (take k (D .actions))) naming names names₀ × (naming .counts ≡ pad 64 (classCounts D (take k (D .actions))))
