@@ -8,7 +8,7 @@ use lib.Dec.{eqb, eqb·zero-suc, eqb·suc-zero, eqb·suc-suc}
 use lib.ListN.{length, getD, length-append}
 use borrow.Author.Tests.{eqb-true, ne-eqb}
 use Rattle.records.specs.Lists.{In, keepIf, filterBy, any, all, distinct, dedup, sameList}
-use Rattle.records.proofs.Lists.{and-l, and-r, not-true, eqb-comm, all-in, getD-in, distinct-dedup}
+use Rattle.records.proofs.Lists.{and-l, and-r, not-true, eqb-comm, all-in, getD-in, distinct-dedup, dedup-few, flat-few}
 use Rattle.literals.specs.declared.Variable.{Variable}
 use Rattle.literals.specs.Domain.{sameVariable, Atom, Literal, Action, Component, keysOf, Domain}
 use Rattle.literals.specs.Table.{Bounded}
@@ -44,28 +44,11 @@ tuple-once D B f = tuples-few (keysOf (D .template)) f (D .template) (B .compone
 
 -- ---- there are at most as many classes as literals
 
-filter-shorter : {A : Type 0} (p : A → Bool) (l : List A) → length (filterBy p l) ≤ length l
-filter-shorter p [] = omega arith
-filter-shorter p (x ∷ xs) = go (p x) (filter-shorter p xs)
-  where
-    go : (t : Bool) → length (filterBy p xs) ≤ length xs → length (keepIf t x (filterBy p xs)) ≤ suc (length xs)
-    go true h = omega arith
-    go false h = omega arith
-
-dedup-shorter : {A : Type 0} (eq : A → A → Bool) (l : List A) → length (dedup eq l) ≤ length l
-dedup-shorter eq [] = omega arith
-dedup-shorter eq (x ∷ xs) = let h = dedup-shorter eq xs in let g = filter-shorter (λ y. not (eq x y)) (dedup eq xs) in omega arith
-
-flat-shorter : {A B : Type 0} (f : A → List B) (l : List A) → ((a : A) → length (f a) ≤ 1) → length (flatMap f l) ≤ length l
-unfolding flatMap
-flat-shorter f [] h = omega arith
-flat-shorter f (x ∷ xs) h = let k = h x in let r = flat-shorter f xs h in rw (length-append (f x) (flatMap f xs)) (omega arith)
-
 pub classes-few : (D : Domain) (a : Action) → Bounded D → length (classes D a) ≤ length (a .lits)
 unfolding classes
 classes-few D a B =
-    let h = flat-shorter (λ (l : Literal). tuplesOf D (l .atom)) (a .lits) (λ l. tuple-once D B (l .atom)) in
-    let g = dedup-shorter (sameList sameVariable) (flatMap (λ (l : Literal). tuplesOf D (l .atom)) (a .lits)) in
+    let h = flat-few (λ (l : Literal). tuplesOf D (l .atom)) (a .lits) (λ l. tuple-once D B (l .atom)) in
+    let g = dedup-few (sameList sameVariable) (flatMap (λ (l : Literal). tuplesOf D (l .atom)) (a .lits)) in
     omega arith
 
 -- ---- the place of an element that stands once

@@ -100,10 +100,6 @@ literalsAt a m c = dedup sameLiteral (withRole (λ r. own m c r || (endsOverAll 
 abbrev pub required : Action → Moment → Clause → List (Atom Variable)
 required = literalsAt
 
--- the conditions that count for interference
-abbrev pub guarded : Action → Moment → Clause → List (Atom Variable)
-guarded = literalsAt
-
 -- the true conditions that count towards unreachable, and the literals that count towards every other name
 abbrev pub countedForReach : Action → Moment → List (Atom Variable)
 countedForReach a m = literalsAt a m Positive

@@ -7,15 +7,15 @@ use native.Mathlib.Numerals.{add-one}
 use native.Mathlib.Nat.{zero-add}
 use native.Mathlib.Omega.{arith}
 use lib.Dec.{ltb}
-use lib.ListN.{length, take, drop, getD, length-append, List·getD-map}
-use lib.Seq.{take-all, take-at, drop-at, split-at}
+use lib.ListN.{length, take, drop, getD, length-append, length-drop, List·getD-map}
+use lib.Seq.{take-all, take-at, drop-at, split-at, length-take-le}
 use borrow.Author.Tests.{ltb-true, ltb-false}
 use Rattle.records.specs.Lists.{In}
 use Rattle.records.specs.Memory.{over}
 use Rattle.records.proofs.Lists.{getD-in, flatMap-in, flatMap-append}
 use Rattle.literals.specs.declared.Index.{Index}
-use Rattle.literals.specs.Domain.{Literal, Action, Domain, arity, noAction, action}
-use Rattle.literals.specs.Table.{literalRow, allLiterals, tableBytes, startsFrom, sortNumber, indexOf, Holds, endOf, Spanned}
+use Rattle.literals.specs.Domain.{Literal, Action, Domain, noAction, action}
+use Rattle.literals.specs.Table.{literalRow, allLiterals, tableBytes, startsFrom, sortNumber, indexOf, Holds, Shaped, endOf, Spanned}
 use Rattle.literals.proofs.Tables.{length-literal-row, length-flat, pad-at}
 
 -- ---- the rows of some elements, between those before them and those behind them
@@ -80,10 +80,6 @@ ends-at as′ i = go (ltb (i + 1) (length as′)) refl
 -- ---- what an index that holds a domain says of an action
 
 module _ {D : Domain} {index : Index} (h : Holds D index) where
-  pub arity-at : (r : ℕ) → getD (index .arities) r 0 ≡ arity D r
-  unfolding indexOf
-  arity-at r = ap (λ (x : Index). getD (x .arities) r 0) (h .is) ∙ pad-at 64 (D .arities) r
-
   -- of no action, the entry is 0 as that of `noAction`
   pub vars-at : (i : ℕ) → getD (index .variables) i 0 ≡ action D i .vars
   unfolding indexOf action
@@ -167,3 +163,32 @@ module _ {D : Domain} {index : Index} (h : Holds D index) where
       let e = span-end i b in
       let k = h .bounded .sizes (action D i) (action-listed i b) in
       record { order = omega arith; within = span-within i b; few = omega arith }
+
+-- ---- the part of the table between two rows, in bytes
+
+-- from the first row of an action to the one behind its last: its literals
+pub part-literals : {D : Domain} {index : Index} (H : Holds D index) (i : ℕ) → i < length (D .actions) → (table old : List ℕ) → table ≡ over (tableBytes D) old
+    → (from to : ℕ) → from ≡ getD (index .starts) i 0 → to ≡ endOf index i → take (8 * to - 8 * from) (drop (8 * from) table) ≡ flatMap literalRow (action D i .lits)
+part-literals H i b table old e from to p q = ap₂ (λ (f t : ℕ). take (8 * t - 8 * f) (drop (8 * f) table)) p q ∙ span-part H i b old e
+
+-- the bounds of an action's part of the table
+pub record PartBounds (from to : ℕ) : Type 0 where
+  pub order : from ≤ to
+  pub within : to ≤ 4096
+  pub few : to ≤ from + 64
+
+pub part-bounds : {index : Index} → Shaped index → (i : ℕ) → i < index .actions → (from to : ℕ) → from ≡ getD (index .starts) i 0 → to ≡ endOf index i → PartBounds from to
+part-bounds {index} S i h from to p q =
+    let s = S .spans i h in
+    let n = S .actions in
+    let r = S .rows in
+    let o = s .order in
+    let w = s .within in
+    let f = s .few in
+    record { order = omega arith; within = omega arith; few = omega arith }
+
+pub part-length : (table : List ℕ) (start behind : ℕ) → length table ≡ 32768 → start ≤ behind → behind ≤ 4096 → length (take (8 * behind - 8 * start) (drop (8 * start) table)) ≡ 8 * (behind - start)
+part-length table start behind l h g =
+    let d = length-drop (8 * start) table in
+    let z : 8 * behind - 8 * start ≡ 8 * (behind - start) = omega arith in
+    length-take-le (8 * behind - 8 * start) (drop (8 * start) table) (omega arith) ∙ z

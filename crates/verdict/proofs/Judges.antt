@@ -136,7 +136,7 @@ judged-shown f report wit D e nl t =
     let is = decides f report wit (λ z. omega arith) (λ z. omega arith) in
     rw (is, witness-of f D e report wit) (shown is (file-witness f D e nl (rw is at t)))
   where
-    shown : judged f report wit ≡ decidedFile f → Shown D (decidedFile f) → ShownBy D (witnessMemoryBy (domain D) report wit) (decidedFile f .first) (decidedFile f .second) (decidedFile f .third)
+    shown : judged f report wit ≡ decidedFile f → Shown D (decidedFile f) → ShownBy D (decidedFile f .number) (witnessMemoryBy (domain D) report wit) (decidedFile f .first) (decidedFile f .second) (decidedFile f .third)
     shown is s =
         let d = ap (λ (x : Answer). x .number) (decided-of f D e) in
         let lo = s .numbered .0 in
@@ -148,7 +148,9 @@ judged-shown f report wit D e nl t =
         let l = bytes-length (witness D) few in
         let r = w .1 in
         record {
-          count = length (witness D);
+          numbered = s .numbered;
+          action-listed = s .action-listed;
+          class-listed = s .class-listed;
           room = rw (w .0) (rw (length-over (factBytes (witness D)) wit (omega arith)) r);
           at-start = s .at-start;
           harm = rw (w .0, read-over few) (s .harm);

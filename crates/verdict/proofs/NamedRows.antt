@@ -1,31 +1,30 @@
--- Laws of the rows of a domain, one class or one action more at a time, how many there are, and naming them. Assumes nothing.
+-- Laws of the rows of a domain, one class or one action more at a time, and naming them. Assumes nothing.
 use mathlib.Core.Path.{_≡_, refl, sym, ap, ap₂, _∙_, subst}
-use mathlib.Core.Bool.{Bool, true, false, not, cond, _&&_}
-use mathlib.Core.List.{List, [], _∷_, _++_, map, flatMap, map-append, append-nil, append-assoc, List·Memᴰ·head, List·Memᴰ·tail}
+use mathlib.Core.Bool.{Bool, true, false, cond, _&&_}
+use mathlib.Core.List.{List, [], _∷_, _++_, map, flatMap, map-append, append-nil, append-assoc}
 use Prim.Native.Nat.{ℕ, suc, _+_, _-_, _*_, _≤_, _<_}
 use native.Mathlib.Numerals.{add-one}
 use native.Mathlib.Omega.{arith}
 use lib.Dec.{eqb}
 use lib.ListN.{length, getD, set, take, drop, length-append, length-map}
 use lib.Seq.{take-suc, take-all, take-at, drop-cons, length-take-le}
-use borrow.Author.Tests.{eq-eqb, eqb-true, lt-ltb, le-ltb}
-use Rattle.records.specs.Lists.{In, keepIf, distinct, all, sameList}
+use borrow.Author.Tests.{lt-ltb, le-ltb}
+use Rattle.records.specs.Lists.{all}
 use Rattle.records.specs.Memory.{over}
-use Rattle.records.proofs.Lists.{and-l, and-r, clash, not-true, off, dedup-few, flat-few}
 use Rattle.records.proofs.Memory.{over-more}
 use Rattle.literals.specs.declared.Variable.{Variable}
-use Rattle.literals.specs.Domain.{sameVariable, Atom, Literal, Action, Component, Domain, noAction, keysOf, action}
+use Rattle.literals.specs.Domain.{Action, Domain, noAction, action}
 use Rattle.literals.specs.declared.Index.{Index}
-use Rattle.literals.specs.Table.{literalRow, tableBytes, pad, endOf, Bounded, Holds, Shaped}
+use Rattle.literals.specs.Table.{literalRow, tableBytes, pad, endOf, Holds}
 use Rattle.literals.proofs.Tables.{pad-more}
 use Rattle.literals.proofs.Held.{components-is}
-use Rattle.literals.proofs.Spans.{sort-at, span-part}
+use Rattle.literals.proofs.Spans.{sort-at}
 use Rattle.classes.specs.declared.Moment.the-variants.{Start, End}
 use Rattle.classes.specs.declared.Moment.{Moment}
 use Rattle.classes.specs.declared.Name.{Name}
 use Rattle.classes.specs.declared.Summary.{Summary}
 use Rattle.classes.specs.declared.ClassTable.{ClassTable}
-use Rattle.classes.specs.Classes.{momentsOf, nameNumber, isOf, keyTuple, tuplesBy, tuplesOf, classes, nameOf, journey}
+use Rattle.classes.specs.Classes.{momentsOf, nameNumber, classes, nameOf, journey}
 use Rattle.classes.specs.Coded.{classNumbers, classTable, summaryOf, nameBySummary, journeyBySummaries}
 use Rattle.classes.proofs.Summaries.{name-summary, journey-summary}
 use Rattle.verdict.specs.declared.naming.Naming.{Naming}
@@ -106,90 +105,6 @@ module _ (D : Domain) (a : Action) (i j : ℕ) (x : List Variable) where
 
   pub lasting-rows : a .lasting ≡ true → classRows D a i j x ≡ rowAt D a i j x Start ∷ rowAt D a i j x End ∷ []
   lasting-rows l = ap (λ (b : Bool). map (rowAt D a i j x) (cond b (Start ∷ End ∷ []) (Start ∷ []))) l
-
--- ---- how many
-
-abbrev pub momentCount : Action → ℕ
-momentCount a = cond (a .lasting) 2 1
-
-moments-count : (a : Action) → length (momentsOf a) ≡ momentCount a
-moments-count a = go (a .lasting)
-  where
-    go : (b : Bool) → length (cond b (Start ∷ End ∷ []) (Start ∷ [])) ≡ cond b 2 1
-    go true = refl
-    go false = refl
-
-pub moments-few : (a : Action) → momentCount a ≤ 2
-moments-few a = go (a .lasting)
-  where
-    go : (b : Bool) → cond b 2 1 ≤ 2
-    go true = omega arith
-    go false = omega arith
-
-pub length-class : (D : Domain) (a : Action) (i j : ℕ) (x : List Variable) → length (classRows D a i j x) ≡ momentCount a
-length-class D a i j x = length-map (momentsOf a) (rowAt D a i j x) ∙ moments-count a
-
-pub classes-few-rows : (D : Domain) (a : Action) (i j : ℕ) (xs : List (List Variable)) → length (rowsOfClasses D a i j xs) ≤ 2 * length xs
-classes-few-rows D a i j [] = omega arith
-classes-few-rows D a i j (x ∷ xs) =
-    let l = length-append (classRows D a i j x) (rowsOfClasses D a i (suc j) xs) in
-    let k = length-class D a i j x in
-    let m = moments-few a in
-    let r = classes-few-rows D a i (suc j) xs in
-    omega arith
-
--- where no relation has two components, an atom has at most one key tuple
-module _ {A : Type 0} (n : ℕ) (p : Atom A) where
-  others-none : (c : Component) (cs : List Component) → isOf c p ≡ true → all (λ (d : Component). not (eqb (c .rel) (d .rel))) cs ≡ true → tuplesBy n cs p ≡ []
-  others-none c [] h o = refl
-  others-none c (d ∷ ds) h o = rw (other) (others-none c ds h (and-r (not (eqb (c .rel) (d .rel))) _ o))
-    where
-      other : isOf d p ≡ false
-      other =
-          off (isOf d p)
-          (λ t.
-          let e : c .rel ≡ d .rel = eqb-true (c .rel) (p .rel) (and-l _ _ h) ∙ sym (eqb-true (d .rel) (p .rel) (and-l _ _ t)) in
-          clash (eq-eqb (c .rel) (d .rel) e) (not-true _ (and-l _ _ o)))
-
-  tuples-few : (cs : List Component) → distinct (λ (c d : Component). eqb (c .rel) (d .rel)) cs ≡ true → length (tuplesBy n cs p) ≤ 1
-  tuples-few [] o = omega arith
-  tuples-few (c ∷ cs) o = go (isOf c p) refl (tuples-few cs (and-r (all (λ (d : Component). not (eqb (c .rel) (d .rel))) cs) _ o))
-    where
-      go : (b : Bool) → isOf c p ≡ b → length (tuplesBy n cs p) ≤ 1 → length (keepIf b (keyTuple n (c .labels) (p .args)) (tuplesBy n cs p)) ≤ 1
-      go true e h = let l = ap length (others-none c cs e (and-l _ _ o)) in omega arith
-      go false e h = h
-
-module _ (D : Domain) (once : distinct (λ (c d : Component). eqb (c .rel) (d .rel)) (D .template) ≡ true) where
-  -- an action has at most as many classes as literals
-  pub classes-few : (a : Action) → length (classes D a) ≤ length (a .lits)
-  unfolding classes tuplesOf
-  classes-few a =
-      let d = dedup-few (sameList sameVariable) (flatMap (λ (l : Literal). tuplesOf D (l .atom)) (a .lits)) in
-      let f = flat-few (λ (l : Literal). tuplesOf D (l .atom)) (a .lits) (λ l. tuples-few (keysOf (D .template)) (l .atom) (D .template) once) in
-      omega arith
-
-  pub action-few-rows : (a : Action) (i : ℕ) → length (actionRows D a i) ≤ 2 * length (a .lits)
-  action-few-rows a i =
-      let r = classes-few-rows D a i 0 (classes D a) in
-      let c = classes-few a in
-      omega arith
-
-  -- at most 128 rows an action
-  pub few-rows : (i : ℕ) (as′ : List Action) → ((a : Action) → In a as′ → length (a .lits) ≤ 64) → length (rowsFrom D i as′) ≤ 128 * length as′
-  few-rows i [] h = omega arith
-  few-rows i (a ∷ as′) h =
-      let l = length-append (actionRows D a i) (rowsFrom D (suc i) as′) in
-      let r = few-rows (suc i) as′ (λ b m. h b (List·Memᴰ·tail m)) in
-      let k = h a (List·Memᴰ·head refl) in
-      let f = action-few-rows a i in
-      omega arith
-
-  pub rows-within : Bounded D → length (rows D) ≤ 8192
-  unfolding rows
-  rows-within B =
-      let r = few-rows 0 (D .actions) (B .sizes) in
-      let n = B .actions in
-      omega arith
 
 -- ---- naming
 
@@ -334,27 +249,6 @@ module _ (xs ys : List ℕ) (n : ℕ) (e : length xs ≡ n) where
 pub class-count : (D : Domain) (a : Action) {t : ClassTable} → t ≡ classTable D a → t .count ≡ length (classes D a)
 unfolding classTable
 class-count D a e = ap (λ (t : ClassTable). t .count) e
-
--- the part of the table between the first row of an action and the one behind its last, in bytes
-pub part-literals : {D : Domain} {index : Index} (H : Holds D index) (i : ℕ) → i < length (D .actions) → (table old : List ℕ) → table ≡ over (tableBytes D) old
-    → (from to : ℕ) → from ≡ getD (index .starts) i 0 → to ≡ endOf index i → take (8 * to - 8 * from) (drop (8 * from) table) ≡ flatMap literalRow (action D i .lits)
-part-literals H i b table old e from to p q = ap₂ (λ (f t : ℕ). take (8 * t - 8 * f) (drop (8 * f) table)) p q ∙ span-part H i b old e
-
--- the bounds of an action's part of the table
-pub record PartBounds (from to : ℕ) : Type 0 where
-  pub order : from ≤ to
-  pub within : to ≤ 4096
-  pub few : to ≤ from + 64
-
-pub part-bounds : {index : Index} → Shaped index → (i : ℕ) → i < index .actions → (from to : ℕ) → from ≡ getD (index .starts) i 0 → to ≡ endOf index i → PartBounds from to
-part-bounds {index} S i h from to p q =
-    let s = S .spans i h in
-    let n = S .actions in
-    let r = S .rows in
-    let o = s .order in
-    let w = s .within in
-    let f = s .few in
-    record { order = omega arith; within = omega arith; few = omega arith }
 
 -- in a domain, after k of its actions
 pub record InActions (index : Index) (table names₀ names : List ℕ) (naming : Naming) (k : ℕ) : Type 0 where

@@ -5,8 +5,8 @@ use mathlib.Core.List.{List, [], _∷_, _++_, map, flatMap, append-nil, append-a
 use Prim.Native.Nat.{ℕ, zero, suc, _+_, _-_, _*_, _≤_, _<_}
 use native.Mathlib.Omega.{arith}
 use lib.Dec.{eqb, leb}
-use lib.ListN.{length, getD, take, drop, replicate, length-append, length-take, length-drop, length-map}
-use lib.Seq.{take-at, drop-at, drop-drop, length-take-le, paste}
+use lib.ListN.{length, getD, take, drop, replicate, length-append, length-take, length-map}
+use lib.Seq.{take-at, drop-at, drop-drop, paste}
 use borrow.Author.Tests.{lt-ltb, ltb-true, le-leb, lt-leb, eq-eqb, ne-eqb}
 use Rattle.records.specs.Lists.{In, keepIf, filterBy, countBy, all}
 use Rattle.records.specs.Memory.{over}
@@ -19,11 +19,11 @@ use Rattle.literals.specs.declared.Label.the-variants.{Key as keyed, Counted}
 use Rattle.literals.specs.declared.Clause.the-variants.{Positive, Add, Delete}
 use Rattle.literals.specs.declared.Index.{Index}
 use Rattle.literals.specs.Domain.{object, Atom, Fact, Literal, Action, Component, keyBelow, eachKeyOnce, keysOf, labelsFit, Domain, arity, action}
-use Rattle.literals.specs.Table.{literalRow, labelNumber, componentRow, rowsIn, tableBytes, pad, Bounded, Holds, Shaped, endOf}
+use Rattle.literals.specs.Table.{literalRow, labelNumber, componentRow, rowsIn, pad, Bounded, Holds}
 use Rattle.literals.proofs.Rows.{length-row, row-inside, part-first}
 use Rattle.literals.proofs.Tables.{rows-flat, length-literals, length-literal-row, length-component-row, pad-at, take-pad}
 use Rattle.literals.proofs.Held.{arities-is, parts-is, keys-is, shaped}
-use Rattle.literals.proofs.Spans.{action-listed, span-part}
+use Rattle.literals.proofs.Spans.{action-listed}
 use Rattle.classes.specs.declared.Moment.{Moment}
 use Rattle.classes.specs.declared.Moment.the-variants.{Start, End}
 use Rattle.classes.specs.declared.Name.{Name}
@@ -485,29 +485,6 @@ given {D} {index} {a} m {rows} {clauses} {n} H i e l c =
 -- the true conditions are no more than the literals
 pub conditions-few : (clauses : List ℕ) (n k : ℕ) → n ≤ 64 → k ≡ countBy isCondition (take n clauses) → k ≤ 64
 conditions-few clauses n k h e = let l = length-take n clauses in let c = count-le isCondition (take n clauses) in omega arith
-
--- ---- the part of the table with the rows of an action's literals, from row `start` to row `behind`
-
-module _ {index : Index} (i start behind : ℕ) (s : start ≡ getD (index .starts) i 0) (b : behind ≡ endOf index i) where
-  pub span-fits : Shaped index → i < index .actions → (start ≤ behind) × (behind ≤ 4096) × (behind ≤ start + 64)
-  span-fits S h =
-      let p = S .spans i h in
-      let o = p .order in
-      let w = p .within in
-      let f = p .few in
-      let r = S .rows in
-      let n = S .actions in
-      (omega arith, omega arith, omega arith)
-
-  pub span-held : {D : Domain} {table : List ℕ} (old : List ℕ) → Holds D index → i < length (D .actions) → table ≡ over (tableBytes D) old
-      → take (8 * behind - 8 * start) (drop (8 * start) table) ≡ flatMap literalRow (action D i .lits)
-  span-held {D} {table} old H h e = ap₂ (λ (b s : ℕ). take (8 * b - 8 * s) (drop (8 * s) table)) b s ∙ span-part H i h old e
-
-pub span-length : (table : List ℕ) (start behind : ℕ) → length table ≡ 32768 → start ≤ behind → behind ≤ 4096 → length (take (8 * behind - 8 * start) (drop (8 * start) table)) ≡ 8 * (behind - start)
-span-length table start behind l h g =
-    let d = length-drop (8 * start) table in
-    let z : 8 * behind - 8 * start ≡ 8 * (behind - start) = omega arith in
-    length-take-le (8 * behind - 8 * start) (drop (8 * start) table) (omega arith) ∙ z
 
 -- a class of an action has a number below 64
 pub class-few : {D : Domain} {index : Index} → Holds D index → (i j : ℕ) → i < length (D .actions) → j < length (classes D (action D i)) → j < 64

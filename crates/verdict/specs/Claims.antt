@@ -226,12 +226,14 @@ RefusedHarmful f n =
     (D : Domain) → decode f ≡ domain D → noneLasts D ≡ true → (n ≡ 30 → ⊥) → (n ≡ 31 → ⊥)
     → (leb 40 n && leb n 43 ≡ true) ↔ Harmful D
 
--- the bytes hold facts that show the harm of the named action to the named class
-pub record ShownBy (D : Domain) (w : List ℕ) (i j m : ℕ) : Type 0 where
-  pub count : ℕ
-  pub room : 8 * count ≤ length w
+-- what `Shown` says of a decision, of the number n and the places i, j and m that were answered, with the facts that stand in the bytes w
+pub record ShownBy (D : Domain) (n : ℕ) (w : List ℕ) (i j m : ℕ) : Type 0 where
+  pub numbered : (40 ≤ n) × (n ≤ 42)
+  pub action-listed : i < length (D .actions)
+  pub class-listed : j < length (classes D (action D i))
   pub at-start : m ≡ 0
-  pub harm : Harm D (plainObjects D i) (readFacts count w) (plainInstance D i j) (plainEvent D i)
+  pub room : 8 * length (witness D) ≤ length w
+  pub harm : Harm D (plainObjects D i) (readFacts (length (witness D)) w) (plainInstance D i j) (plainEvent D i)
 
 abbrev pub WitnessHarms : List ℕ → ℕ → List ℕ → ℕ → ℕ → ℕ → Type 0
-WitnessHarms f n w i j m = (D : Domain) → decode f ≡ domain D → noneLasts D ≡ true → leb 40 n && leb n 43 ≡ true → ShownBy D w i j m
+WitnessHarms f n w i j m = (D : Domain) → decode f ≡ domain D → noneLasts D ≡ true → leb 40 n && leb n 43 ≡ true → ShownBy D n w i j m

@@ -5,7 +5,8 @@ use borrow.Author.Needs.{needs}
 use lib.ListN.{length}
 use mathlib.Core.Path.{_∙_}
 use Rattle.literals.proofs.Held.{actions-is}
-use Rattle.verdict.proofs.NamedRows.{PartBounds, InActions, part-bounds, part-literals, named-action, counted-action, naming-done}
+use Rattle.literals.proofs.Spans.{PartBounds, part-bounds, part-literals}
+use Rattle.verdict.proofs.NamedRows.{InActions, named-action, counted-action, naming-done}
 use Rattle.verdict.proofs.naming.name_all.Statement.{statement}
 use Rattle.verdict.proofs.naming.name_all.Tie as tie
 
