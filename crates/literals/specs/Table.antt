@@ -11,6 +11,7 @@ use Rattle.literals.specs.declared.Variable.{Variable}
 use Rattle.literals.specs.declared.Label.{Label}
 use Rattle.literals.specs.declared.Label.the-variants.{Key as keyed, Counted}
 use Rattle.literals.specs.declared.Index.{Index}
+use Rattle.literals.specs.declared.Counts.{Counts}
 use Rattle.literals.specs.declared.Taken.{Taken}
 use Rattle.literals.specs.declared.Progress.{Progress}
 use Rattle.literals.specs.declared.ReadAnswer.{ReadAnswer}
@@ -74,6 +75,22 @@ indexOf D =
       components = length (D .template);
       parts = pad 128 (flatMap componentRow (D .template));
       keys = keysOf (D .template);
+    }
+
+-- an index by its counts and the memories that hold its lists: arities, variables, sorts, starts, parts
+abbrev pub indexWith : Counts → List ℕ → List ℕ → List ℕ → List ℕ → List ℕ → Index
+indexWith n arities variables sorts starts parts =
+    record {
+      relations = n .relations;
+      arities = arities;
+      actions = n .actions;
+      variables = variables;
+      sorts = sorts;
+      starts = starts;
+      rows = n .rows;
+      components = n .components;
+      parts = parts;
+      keys = n .keys;
     }
 
 -- ---- a literal's fields, and the rows that it is compared with

@@ -60,6 +60,15 @@ pub struct Index {
     pub keys: usize,
 }
 
+// How many a domain has of each: relations, actions, literals, components, and keys (0 before the first component).
+pub struct Counts {
+    pub relations: usize,
+    pub actions: usize,
+    pub rows: usize,
+    pub components: usize,
+    pub keys: usize,
+}
+
 // What one record led to: 0 and the domain with it, or the number that stopped it and the domain before it.
 pub struct Taken {
     pub number: u64,
