@@ -9,22 +9,23 @@ use native.Mathlib.Omega.{arith}
 use lib.Dec.{eqb, eqb·zero-suc, eqb·suc-suc}
 use lib.ListN.{length, getD, set, take, length-map}
 use lib.Seq.{take-suc, take-length}
-use borrow.Author.Tests.{eqb-true}
-use Rattle.records.specs.Lists.{In, keepIf, filterBy, any, elem, dedup}
-use Rattle.records.proofs.Lists.{allBelow, below-in, bool-cases, off, clash, eqb-same, eqb-comm, any-map, elem-in, in-elem, in-dedup, dedup-in, dedup-snoc}
+use borrow.Author.Tests.{eq-eqb, ne-eqb, eqb-true, eqb-false}
+use Rattle.records.specs.Lists.{In, keepIf, filterBy, any, pairwise, elem, dedup}
+use Rattle.records.proofs.Lists.{and-l, and-r, and-i, not-true, any-in, in-take, pairwise-before, allBelow, below-in, bool-cases, off, clash, eqb-same, eqb-comm, any-map, elem-in, in-elem, in-dedup, dedup-in, dedup-snoc}
 use Rattle.literals.specs.declared.Variable.{Variable}
 use Rattle.literals.specs.declared.Time.the-variants.{OverAll}
 use Rattle.literals.specs.declared.Clause.{Clause}
 use Rattle.literals.specs.declared.Clause.the-variants.{Positive, Negative, Add, Delete}
 use Rattle.literals.specs.declared.Role.{Role}
-use Rattle.literals.specs.Domain.{Atom, sameLiteral, clauseNumber, roleNumber, roleOf, sameTime, Literal, Action, Domain}
+use Rattle.literals.specs.Domain.{Atom, sameLiteral, clauseNumber, firstRole, roleNumber, roleOf, sameTime, sameRole, Literal, Action, Domain}
+use Rattle.literals.specs.Decode.{repeats}
 use Rattle.literals.specs.Table.{literalRow, pad, Bounded}
 use Rattle.literals.proofs.Equality.{literal-eq, literal-self, literal-comm}
 use Rattle.literals.proofs.Tables.{Kept, kept, length-literals, pad-more}
 use Rattle.classes.specs.declared.Moment.{Moment}
 use Rattle.classes.specs.declared.Moment.the-variants.{Start, End}
 use Rattle.classes.specs.Classes.{ownTime, endsOverAll, own, overAll, withRole, literalsAt}
-use Rattle.classes.specs.Coded.{clauseAt, clauseOnce, clausesFrom, clausesAt, below, clauseByte, saysAt, clauseIn}
+use Rattle.classes.specs.Coded.{clauseAt, clauseOnce, clausesFrom, clausesAt, noRepeats, below, clauseByte, mayMeet, saysAt, clauseIn}
 use Rattle.classes.proofs.Indices.{at-take, at-all, any-agree, any-below, map-agree, below-snoc, length-from, pick-snoc}
 use Rattle.classes.proofs.Rows.{noLiteral, literalAt, kept-at, role-at, atoms-at}
 
@@ -42,6 +43,36 @@ clause-byte : (m : Moment) (l : Literal) → Kept l → clauseByte m (roleNumber
 clause-byte m l k =
     let h = k .small in
     eqb-true _ _ (below-in 10 (agrees m) (all-agree m) (roleNumber (l .role)) (omega arith)) ∙ ap (clauseAt m) (k .back)
+
+-- two role bytes with the same clause, which is not one that may meet, are the same
+abbrev apartAt : Moment → ℕ → ℕ → Bool
+apartAt m b d = not (eqb (clauseByte m b) (clauseByte m d)) || (mayMeet m (clauseByte m d) || (eqb (clauseByte m d) 0 || eqb b d))
+
+all-apart : (m : Moment) → allBelow 10 (λ b. allBelow 10 (apartAt m b)) ≡ true
+unfolding clauseByte
+all-apart Start = refl
+all-apart End = refl
+
+same-role : (m : Moment) (b d : ℕ) → b < 10 → d < 10 → clauseByte m b ≡ clauseByte m d → mayMeet m (clauseByte m d) ≡ false → (clauseByte m d ≡ 0 → ⊥) → b ≡ d
+same-role m b d h g e f n =
+    eqb-true b d
+    (go (eqb (clauseByte m b) (clauseByte m d)) (mayMeet m (clauseByte m d)) (eqb (clauseByte m d) 0) (eqb b d) (eq-eqb _ _ e) f (ne-eqb _ _ n)
+    (below-in 10 (apartAt m b) (below-in 10 (λ b. allBelow 10 (apartAt m b)) (all-apart m) b h) d g))
+  where
+    go : (p q r s : Bool) → p ≡ true → q ≡ false → r ≡ false → not p || (q || (r || s)) ≡ true → s ≡ true
+    go p q r s ep eq er t = rw (ep, eq, er) at t
+
+-- so a literal that says the same as another there repeats it
+repeated : (m : Moment) (l k : Literal) → Kept l → Kept k → clauseAt m (l .role) ≡ clauseAt m (k .role) → mayMeet m (clauseAt m (k .role)) ≡ false → (clauseAt m (k .role) ≡ 0 → ⊥)
+    → sameLiteral (l .atom) (k .atom) ≡ true → repeats l k ≡ true
+repeated m l k u v e f n t =
+    let h = u .small in
+    let g = v .small in
+    let r =
+    same-role m (roleNumber (l .role)) (roleNumber (k .role)) (omega arith) (omega arith) (clause-byte m l u ∙ e ∙ sym (clause-byte m k v))
+    (ap (mayMeet m) (clause-byte m k v) ∙ f) (λ z. n (sym (clause-byte m k v) ∙ z)) in
+    let s : l .role ≡ k .role = sym (u .back) ∙ ap roleOf r ∙ v .back in
+    and-i (ap (λ (q : Role). sameRole q (k .role)) s ∙ and-i (eqb-same (firstRole (k .role .time))) (eqb-same (clauseNumber (k .role .clause)))) t
 
 -- the clauses of a list, by index
 pub clauses-at : (m : Moment) (ls : List Literal) (j : ℕ) → j < length ls → getD (clausesFrom m [] ls) j 0 ≡ clauseOnce m (take j ls) (literalAt ls j)
@@ -61,36 +92,63 @@ module _ (ls : List Literal) (k : (l : Literal) → In l ls → Kept l) (m : Mom
   clause-at : (j : ℕ) → j < length ls → clauseByte m (getD (flatMap literalRow ls) (8 * j) 0) ≡ clauseAt m (literalAt ls j .role)
   clause-at j h = ap (clauseByte m) (role-at ls k j h) ∙ clause-byte m (literalAt ls j) (kept-at ls k j h)
 
-  clause-in : (j : ℕ) → j < length ls → clauseIn (flatMap literalRow ls) m j ≡ clauseOnce m (take j ls) (literalAt ls j)
+  clause-in : pairwise (λ l k. not (repeats l k)) ls ≡ true → (j : ℕ) → j < length ls → clauseIn (flatMap literalRow ls) m j ≡ clauseOnce m (take j ls) (literalAt ls j)
   unfolding clauseIn saysAt
-  clause-in j h =
-      ap₂ (λ (t : Bool) (n : ℕ). cond t 0 n)
+  clause-in apart j h =
+      ap₂ (λ (t : Bool) (n : ℕ). cond (mayMeet m n && t) 0 n)
       (any-below (saysAt (flatMap literalRow ls) m (clauseByte m (getD (flatMap literalRow ls) (8 * j) 0)) j) (λ i. said (literalAt ls i)) j
       (λ i g. ap₂ _&&_ (ap₂ eqb (clause-at i (omega arith)) (clause-at j h)) (atoms-at ls k i j (omega arith) h))
       ∙ sym (any-map (literalAt ls) said (below j))
       ∙ ap (any said) (at-take noLiteral ls j (omega arith)))
       (clause-at j h)
+      ∙ go (bool-cases (mayMeet m here))
     where
       said : Literal → Bool
       said e = eqb (clauseAt m (e .role)) (clauseAt m (literalAt ls j .role)) && sameLiteral (e .atom) (literalAt ls j .atom)
 
+      here : ℕ
+      here = clauseAt m (literalAt ls j .role)
+
+      -- a literal before it that says the same has its role
+      new : mayMeet m here ≡ false → (here ≡ 0 → ⊥) → any said (take j ls) ≡ false
+      new e n =
+          off (any said (take j ls))
+          (λ t.
+          let r = any-in said (take j ls) t in
+          clash
+          (repeated m (r .0) (literalAt ls j) (k (r .0) (in-take j ls (r .1))) (kept-at ls k j h) (eqb-true _ _ (and-l _ _ (r .2))) e n
+          (and-r (eqb (clauseAt m (r .0 .role)) here) _ (r .2)))
+          (not-true _ (pairwise-before (λ l k. not (repeats l k)) ls noLiteral apart j h (r .1))))
+
+      go : (mayMeet m here ≡ true) ⊎ (mayMeet m here ≡ false) → cond (mayMeet m here && any said (take j ls)) 0 here ≡ clauseOnce m (take j ls) (literalAt ls j)
+      go (inl t) = ap (λ (b : Bool). cond (b && any said (take j ls)) 0 here) t
+      go (inr t) = ap (λ (b : Bool). cond (b && any said (take j ls)) 0 here) t ∙ by-clause (bool-cases (eqb here 0))
+        where
+          by-clause : (eqb here 0 ≡ true) ⊎ (eqb here 0 ≡ false) → here ≡ clauseOnce m (take j ls) (literalAt ls j)
+          by-clause (inl z) = nothing (any said (take j ls)) (eqb-true here 0 z)
+            where
+              nothing : (b : Bool) → here ≡ 0 → here ≡ cond b 0 here
+              nothing true e = e
+              nothing false e = refl
+          by-clause (inr z) = sym (ap (λ (b : Bool). cond b 0 here) (new t (eqb-false here 0 z)))
+
 -- the clauses that the code counts, of an action's rows
-pub clauses-in : {D : Domain} {a : Action} (m : Moment) → Bounded D → In a (D .actions) → map (clauseIn (flatMap literalRow (a .lits)) m) (below (length (a .lits))) ≡ clausesAt a m
+pub clauses-in : {D : Domain} {a : Action} (m : Moment) → Bounded D → In a (D .actions) → noRepeats a ≡ true → map (clauseIn (flatMap literalRow (a .lits)) m) (below (length (a .lits))) ≡ clausesAt a m
 unfolding clausesAt
-clauses-in {D} {a} m B i =
+clauses-in {D} {a} m B i apart =
     map-agree (clauseIn (flatMap literalRow (a .lits)) m) (λ j. getD (clausesFrom m [] (a .lits)) j 0) (length (a .lits))
-    (λ j h. clause-in (a .lits) (λ l n. kept B i n) m j h ∙ sym (clauses-at m (a .lits) j h))
+    (λ j h. clause-in (a .lits) (λ l n. kept B i n) m apart j h ∙ sym (clauses-at m (a .lits) j h))
     ∙ ap (λ (n : ℕ). map (λ j. getD (clausesFrom m [] (a .lits)) j 0) (below n)) (sym (length-clauses m [] (a .lits)))
     ∙ at-all 0 (clausesFrom m [] (a .lits))
 
 -- of rows that hold the action's literals
-pub clauses-held : {D : Domain} {a : Action} (m : Moment) (rows : List ℕ) (n : ℕ) → Bounded D → In a (D .actions) → rows ≡ flatMap literalRow (a .lits) → length rows ≡ 8 * n
+pub clauses-held : {D : Domain} {a : Action} (m : Moment) (rows : List ℕ) (n : ℕ) → Bounded D → In a (D .actions) → noRepeats a ≡ true → rows ≡ flatMap literalRow (a .lits) → length rows ≡ 8 * n
     → map (clauseIn rows m) (below n) ≡ clausesAt a m
-clauses-held {D} {a} m rows n B i e l =
+clauses-held {D} {a} m rows n B i apart e l =
     let f = sym (ap length e) ∙ l in
     let g = length-literals (a .lits) (λ k j. kept B i j .fits) in
     let k : n ≡ length (a .lits) = omega arith in
-    ap₂ (λ (r : List ℕ) (k : ℕ). map (clauseIn r m) (below k)) e k ∙ clauses-in m B i
+    ap₂ (λ (r : List ℕ) (k : ℕ). map (clauseIn r m) (below k)) e k ∙ clauses-in m B i apart
 
 -- the loop that fills an array with them
 pub clauses-more : (rows : List ℕ) (m : Moment) (clauses : List ℕ) (j r : ℕ) → j < 64 → clauses ≡ pad 64 (map (clauseIn rows m) (below j)) → r ≡ clauseIn rows m j

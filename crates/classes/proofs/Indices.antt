@@ -1,6 +1,7 @@
 -- Tests of the numbers below a bound, as a loop passes them, and what they say of the elements of a list. Assumes nothing.
 use mathlib.Core.Path.{_≡_, refl, sym, ap, ap₂, _∙_}
 use mathlib.Core.Bool.{Bool, true, false, _&&_, _||_, not, cond}
+use mathlib.Core.Logic.{_⊎_, inl, inr}
 use mathlib.Core.List.{List, [], _∷_, _++_, map, map-append, List·Memᴰ·head, List·Memᴰ·tail, List·Memᴰ·not-nil}
 use Prim.Native.Nat.{ℕ, zero, suc, _+_, _-_, _≤_, _<_}
 use native.Mathlib.Numerals.{add-one}
@@ -8,9 +9,9 @@ use native.Mathlib.Nat.{sub-zero}
 use native.Mathlib.Omega.{arith}
 use lib.Dec.{eqb, eqb·suc-suc}
 use lib.ListN.{length, getD, take}
-use borrow.Author.Tests.{ne-eqb}
-use Rattle.records.specs.Lists.{In, keepIf, filterBy, countBy, all, any}
-use Rattle.records.proofs.Lists.{filter-append}
+use borrow.Author.Tests.{ne-eqb, eqb-true, eqb-false}
+use Rattle.records.specs.Lists.{In, keepIf, filterBy, all, any}
+use Rattle.records.proofs.Lists.{bool-cases, filter-append}
 use Rattle.classes.specs.Coded.{position, numbersFrom, below}
 
 -- ---- the numbers that a loop has left
@@ -31,12 +32,6 @@ module _ (p : ℕ → Bool) (n i : ℕ) where
   pub any-end : n ≤ i → any p (left n i) ≡ false
   any-end h = rw (left-none n i h)
 
-  pub all-end : n ≤ i → all p (left n i) ≡ true
-  all-end h = rw (left-none n i h)
-
-  pub count-end : n ≤ i → countBy p (left n i) ≡ 0
-  count-end h = rw (left-none n i h)
-
   pub position-end : n ≤ i → position p (left n i) ≡ 0
   position-end h = rw (left-none n i h)
 
@@ -46,18 +41,6 @@ module _ (p : ℕ → Bool) (n i : ℕ) where
 
     pub any-miss : p i ≡ false → any p (left n i) ≡ any p (left n (i + 1))
     any-miss t = rw (left-more n i h, t)
-
-    pub all-hit : p i ≡ true → all p (left n i) ≡ all p (left n (i + 1))
-    all-hit t = rw (left-more n i h, t)
-
-    pub all-miss : p i ≡ false → all p (left n i) ≡ false
-    all-miss t = rw (left-more n i h, t)
-
-    pub count-hit : p i ≡ true → countBy p (left n i) ≡ suc (countBy p (left n (i + 1)))
-    count-hit t = rw (left-more n i h, t)
-
-    pub count-miss : p i ≡ false → countBy p (left n i) ≡ countBy p (left n (i + 1))
-    count-miss t = rw (left-more n i h, t)
 
     pub position-hit : p i ≡ true → position p (left n i) ≡ 0
     position-hit t = rw (left-more n i h, t)
@@ -90,16 +73,24 @@ from-less i (suc n) (List·Memᴰ·tail m) = let h = from-less (suc i) n m in om
 pub below-less : (n : ℕ) {j : ℕ} → In j (below n) → j < n
 below-less n m = let h = from-less 0 n m in omega arith
 
+-- and each number below the bound is one of them
+from-in : (i n : ℕ) {j : ℕ} → i ≤ j → j < i + n → In j (numbersFrom i n)
+from-in i zero h g = absurd (omega arith)
+from-in i (suc n) {j} h g = go (bool-cases (eqb j i)) (λ k. from-in (suc i) n k (omega arith))
+  where
+    go : (eqb j i ≡ true) ⊎ (eqb j i ≡ false) → (suc i ≤ j → In j (numbersFrom (suc i) n)) → In j (i ∷ numbersFrom (suc i) n)
+    go (inl t) r = List·Memᴰ·head (eqb-true j i t)
+    go (inr f) r = let ne = eqb-false j i f in List·Memᴰ·tail (r (omega arith))
+
+pub below-in : (n : ℕ) {j : ℕ} → j < n → In j (below n)
+below-in n h = from-in 0 n (omega arith) (omega arith)
+
 -- ---- tests that agree on every element
 
 module _ {A : Type 0} (p q : A → Bool) where
   pub any-agree : (l : List A) → ((a : A) → In a l → p a ≡ q a) → any p l ≡ any q l
   any-agree [] h = refl
   any-agree (x ∷ xs) h = ap₂ _||_ (h x (List·Memᴰ·head refl)) (any-agree xs (λ a m. h a (List·Memᴰ·tail m)))
-
-  all-agree : (l : List A) → ((a : A) → In a l → p a ≡ q a) → all p l ≡ all q l
-  all-agree [] h = refl
-  all-agree (x ∷ xs) h = ap₂ _&&_ (h x (List·Memᴰ·head refl)) (all-agree xs (λ a m. h a (List·Memᴰ·tail m)))
 
   filter-agree : (l : List A) → ((a : A) → In a l → p a ≡ q a) → filterBy p l ≡ filterBy q l
   filter-agree [] h = refl
@@ -112,9 +103,6 @@ module _ {A : Type 0} (p q : A → Bool) where
 module _ (p q : ℕ → Bool) (n : ℕ) (h : (j : ℕ) → j < n → p j ≡ q j) where
   pub any-below : any p (below n) ≡ any q (below n)
   any-below = any-agree p q (below n) (λ j m. h j (below-less n m))
-
-  pub all-below : all p (below n) ≡ all q (below n)
-  all-below = all-agree p q (below n) (λ j m. h j (below-less n m))
 
   pub filter-below : filterBy p (below n) ≡ filterBy q (below n)
   filter-below = filter-agree p q (below n) (λ j m. h j (below-less n m))

@@ -1,20 +1,20 @@
 -- Laws of the loops over the rows of components, literals and classes: the place of a row, and the key tuple of a row. Assumes nothing.
 use mathlib.Core.Path.{_≡_, refl, sym, ap, ap₂, _∙_}
-use mathlib.Core.Bool.{Bool, true, false, cond}
+use mathlib.Core.Bool.{Bool, true, false, cond, _&&_}
 use mathlib.Core.List.{List, [], _∷_, _++_, append-nil}
 use Prim.Native.Nat.{ℕ, zero, suc, _+_, _-_, _*_, _≤_, _<_}
 use native.Mathlib.Numerals.{add-one}
 use native.Mathlib.Omega.{arith}
 use lib.Dec.{eqb}
 use lib.ListN.{length, getD, set, take, drop, replicate, length-append, length-replicate, drop-of-length-le}
-use lib.Seq.{drop-cons, drop-drop, paste}
+use lib.Seq.{drop-cons, drop-drop, take-all, paste}
 use borrow.Author.Tests.{eq-eqb, ne-eqb}
 use Rattle.records.specs.Lists.{sameList}
 use Rattle.records.specs.Memory.{over}
 use Rattle.records.proofs.Memory.{over-more, drop-replicate}
 use Rattle.literals.specs.Decode.{byte}
 use Rattle.literals.specs.Table.{rowOf, rowsIn}
-use Rattle.literals.proofs.Rows.{length-row, same-miss, same-hit, same-end, length-part, part-at, part-first, rows-more, rows-end}
+use Rattle.literals.proofs.Rows.{length-row, eight-by-four, same-miss, same-hit, same-end, length-part, part-at, part-first, rows-more, rows-end}
 use Rattle.classes.specs.Coded.{position, underKey, underKeys, keyRow, keyRows, numberedBy, tuplesAfter}
 
 -- ---- the place of the first row that passes, from row c on
@@ -50,6 +50,18 @@ module _ (x t : List ℕ) (at i : ℕ) (e : length x ≡ 8) (h : at + 8 ≤ leng
 
   pub tuple-end : 8 ≤ i → sameList eqb (drop i x) (drop i (take 8 (drop at t))) ≡ true
   tuple-end l = same-end x (take 8 (drop at t)) i (omega arith) (omega (arith, length-part t at h))
+
+-- the same, four bytes at a time
+module _ (x t : List ℕ) (at : ℕ) (e : length x ≡ 8) (h : at + 8 ≤ length t) where
+  tuple-by-four : sameList eqb x (take 8 (drop at t)) ≡ sameList eqb (take 4 (drop 0 x)) (take 4 (drop at t)) && sameList eqb (take 4 (drop 4 x)) (take 4 (drop (at + 4) t))
+  tuple-by-four = ap (λ (r : List ℕ). sameList eqb r (take 8 (drop at t))) (sym (take-all 8 x (omega arith))) ∙ eight-by-four x t 0 at (omega arith) h
+
+  pub tuple-same : {r : Bool} → sameList eqb (take 4 (drop 0 x)) (take 4 (drop at t)) ≡ true → r ≡ sameList eqb (take 4 (drop 4 x)) (take 4 (drop (at + 4) t))
+      → r ≡ sameList eqb x (take 8 (drop at t))
+  tuple-same p f = f ∙ sym (tuple-by-four ∙ ap (λ (b : Bool). b && sameList eqb (take 4 (drop 4 x)) (take 4 (drop (at + 4) t))) p)
+
+  pub tuple-other : sameList eqb (take 4 (drop 0 x)) (take 4 (drop at t)) ≡ false → false ≡ sameList eqb x (take 8 (drop at t))
+  tuple-other p = sym (tuple-by-four ∙ ap (λ (b : Bool). b && sameList eqb (take 4 (drop 4 x)) (take 4 (drop (at + 4) t))) p)
 
 -- ---- the argument under a key, from label i on
 

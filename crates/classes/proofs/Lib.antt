@@ -1,4 +1,4 @@
--- Laws of classes: class numbers by rows, tests and rows by index, the clauses of literals at a moment, the members of a class, and what a class has at a moment.
+-- Laws of classes: class numbers by rows, tests and rows by index, the clauses of literals at a moment, the members of a class, which literals of a class have a clause, and what decides its name.
 pub mod KeyRows
 pub mod Numbers
 pub mod Numbering
@@ -6,4 +6,5 @@ pub mod Indices
 pub mod Rows
 pub mod Clauses
 pub mod Members
-pub mod Summaries
+pub mod Soles
+pub mod Decides

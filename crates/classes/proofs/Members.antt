@@ -5,9 +5,9 @@ use mathlib.Core.List.{List, [], _∷_, flatMap}
 use Prim.Native.Nat.{ℕ, zero, suc, _≤_, _<_}
 use native.Mathlib.Omega.{arith}
 use lib.Dec.{eqb, eqb·zero-suc, eqb·suc-zero, eqb·suc-suc}
-use lib.ListN.{length, getD, length-append}
+use lib.ListN.{length, getD}
 use borrow.Author.Tests.{eqb-true, ne-eqb}
-use Rattle.records.specs.Lists.{In, keepIf, filterBy, any, all, distinct, dedup, sameList}
+use Rattle.records.specs.Lists.{In, keepIf, any, all, distinct, sameList}
 use Rattle.records.proofs.Lists.{and-l, and-r, not-true, eqb-comm, all-in, getD-in, distinct-dedup, dedup-few, flat-few}
 use Rattle.literals.specs.declared.Variable.{Variable}
 use Rattle.literals.specs.Domain.{sameVariable, Atom, Literal, Action, Component, keysOf, Domain}

@@ -13,14 +13,12 @@ use Rattle.records.specs.Memory.{over}
 use Rattle.records.proofs.Lists.{and-l, and-r, getD-in}
 use Rattle.records.proofs.Memory.{over-more}
 use Rattle.literals.specs.declared.Variable.{Variable}
-use Rattle.literals.specs.declared.Index.{Index}
 use Rattle.literals.specs.Domain.{Literal, Action, Component, keyBelow, keysOf, labelsFit, Domain}
-use Rattle.literals.specs.Table.{literalRow, componentRow, rowsIn, Holds, Shaped}
+use Rattle.literals.specs.Table.{literalRow, componentRow, rowsIn}
 use Rattle.literals.proofs.Tables.{kept, length-literals, rows-components}
-use Rattle.literals.proofs.Held.{components-is, keys-is, parts-is}
 use Rattle.classes.specs.declared.number.Numbered.{Numbered}
 use Rattle.classes.specs.Classes.{tuplesOf, classes}
-use Rattle.classes.specs.Coded.{rowAt, position, classNumberBy, classNumbers, tupleRow, classTable, keyRows, numberedBy, tuplesAfter}
+use Rattle.classes.specs.Coded.{TemplateIn, rowAt, position, classNumberBy, classNumbers, tupleRow, classTuples, keyRows, numberedBy, tuplesAfter}
 use Rattle.classes.proofs.Rows.{noLiteral, row-at}
 use Rattle.classes.proofs.Numbers.{One, Fits, tuples-one, tuples-rows, found, numbers, numbers-more, rowsOf, numbered-more, tuples-more}
 
@@ -33,11 +31,11 @@ pub record Numbered-by (D : Domain) (ls : List Literal) (of₀ of rows : List �
   pub counted : count ≡ length (found (tuples D) ls)
   pub given : of ≡ over (numbers (tuples D) ls) of₀
 
--- ---- the literals of an action of a domain that an index holds
+-- ---- the literals of an action of a domain whose template is held
 
-module _ {D : Domain} {index : Index} (h : Holds D index) (s : Shaped index) {a : Action} (i : In a (D .actions)) where
+module _ {D : Domain} {parts arities : List ℕ} {components keys : ℕ} (h : TemplateIn D parts components keys arities) (s : keys ≤ 6) {a : Action} (i : In a (D .actions)) where
   few-keys : keysOf (D .template) ≤ 6
-  few-keys = let k = s .keys in omega (arith, keys-is h)
+  few-keys = let k = h .keyed in omega arith
 
   fits : (c : Component) → In c (D .template) → Fits D (keysOf (D .template)) c
   unfolding labelsFit
@@ -48,12 +46,12 @@ module _ {D : Domain} {index : Index} (h : Holds D index) (s : Shaped index) {a 
   one l m = tuples-one D (keysOf (D .template)) few-keys l (h .bounded .literalArity a i l m) (D .template) fits (h .bounded .componentsOnce)
 
   -- the key tuples of a literal, by the bytes of the index
-  tuples-are : (l : Literal) → In l (a .lits) → keyRows (index .keys) (rowsIn (index .components) (index .parts)) (literalRow l) ≡ map tupleRow (tuples D l)
+  tuples-are : (l : Literal) → In l (a .lits) → keyRows keys (rowsIn components parts) (literalRow l) ≡ map tupleRow (tuples D l)
   unfolding tuplesOf
   tuples-are l m =
-      ap (λ (k : ℕ). keyRows k (rowsIn (index .components) (index .parts)) (literalRow l)) (keys-is h)
+      ap (λ (k : ℕ). keyRows k (rowsIn components parts) (literalRow l)) (h .keyed)
       ∙ ap (λ (ps : List (List ℕ)). keyRows (keysOf (D .template)) ps (literalRow l))
-      (ap₂ rowsIn (components-is h) (parts-is h) ∙ rows-components (D .template) (h .bounded .labels) (replicate (128 - length (flatMap componentRow (D .template))) 0))
+      (ap₂ rowsIn (h .count) (h .rows) ∙ rows-components (D .template) (h .bounded .labels) (replicate (128 - length (flatMap componentRow (D .template))) 0))
       ∙ tuples-rows D (keysOf (D .template)) few-keys l (h .bounded .literalArity a i l m) (D .template) fits (h .bounded .componentsOnce)
 
   module _ {rows : List ℕ} (e : rows ≡ flatMap literalRow (a .lits)) where
@@ -66,17 +64,17 @@ module _ {D : Domain} {index : Index} (h : Holds D index) (s : Shaped index) {a 
 
 -- ---- the loop
 
-pub record SoFar (index : Index) (rows of₀ of table : List ℕ) (count j : ℕ) : Type 0 where
+pub record SoFar (parts : List ℕ) (components keys : ℕ) (rows of₀ of table₀ table : List ℕ) (count j : ℕ) : Type 0 where
   pub few : count ≤ j
   pub reach : j ≤ length of₀
   pub whole : length of ≡ length of₀
   pub room : length table ≡ 512
-  pub is : (D : Domain) (a : Action) → Holds D index → In a (D .actions) → rows ≡ flatMap literalRow (a .lits) → Numbered-by D (take j (a .lits)) of₀ of table count
+  pub is : (D : Domain) (a : Action) (arities : List ℕ) → TemplateIn D parts components keys arities → In a (D .actions) → rows ≡ flatMap literalRow (a .lits) → table₀ ≡ replicate 512 255 → Numbered-by D (take j (a .lits)) of₀ of table count
 
-pub so-far-none : (index : Index) (rows of₀ : List ℕ) → SoFar index rows of₀ of₀ (replicate 512 255) 0 0
+pub so-far-none : (parts : List ℕ) (components keys : ℕ) (rows of₀ table₀ : List ℕ) → length table₀ ≡ 512 → SoFar parts components keys rows of₀ of₀ table₀ table₀ 0 0
 unfolding over flatMap
-so-far-none index rows of₀ =
-    record { few = omega arith; reach = omega arith; whole = refl; room = refl; is = λ D a h i e. record { table = refl; counted = refl; given = refl } }
+so-far-none parts components keys rows of₀ table₀ l =
+    record { few = omega arith; reach = omega arith; whole = refl; room = l; is = λ D a arities h i e f. record { table = f; counted = refl; given = refl } }
 
 numbered-few : (ts : List (List ℕ)) (count : ℕ) (table : List ℕ) → numberedBy ts count table .count ≤ count + 1
 unfolding numberedBy
@@ -87,15 +85,17 @@ numbered-few (t ∷ ts) count table = go (eqb (position (sameList eqb t) (rowsIn
     go true = omega arith
     go false = omega arith
 
-module _ (index : Index) (rows of₀ of table table′ : List ℕ) (count j : ℕ) (o : Numbered) (m : length table′ ≡ 512) (s : Shaped index) (l : length rows ≡ 8 * length of₀) (w : SoFar index rows of₀ of table count j)
+module _ (parts : List ℕ) (components keys : ℕ) (rows of₀ of table₀ table table′ : List ℕ) (count j : ℕ) (o : Numbered) (m : length table′ ≡ 512) (s : keys ≤ 6) (l : length rows ≡ 8 * length of₀)
+    (w : SoFar parts components keys rows of₀ of table₀ table count j)
     (g : j < length of₀)
-    (e : o ≡ numberedBy (keyRows (index .keys) (rowsIn (index .components) (index .parts)) (take 8 (drop (8 * j) rows))) count table)
-    (f : table′ ≡ tuplesAfter (keyRows (index .keys) (rowsIn (index .components) (index .parts)) (take 8 (drop (8 * j) rows))) count table) where
-  turn : (D : Domain) (a : Action) → Holds D index → In a (D .actions) → rows ≡ flatMap literalRow (a .lits) → Numbered-by D (take (j + 1) (a .lits)) of₀ (set of j (o .class)) table′ (o .count)
-  turn D a h i r = rw (add-one j, take-suc (a .lits) j noLiteral inside) after
+    (e : o ≡ numberedBy (keyRows keys (rowsIn components parts) (take 8 (drop (8 * j) rows))) count table)
+    (f : table′ ≡ tuplesAfter (keyRows keys (rowsIn components parts) (take 8 (drop (8 * j) rows))) count table) where
+  turn : (D : Domain) (a : Action) (arities : List ℕ) → TemplateIn D parts components keys arities → In a (D .actions) → rows ≡ flatMap literalRow (a .lits) → table₀ ≡ replicate 512 255
+      → Numbered-by D (take (j + 1) (a .lits)) of₀ (set of j (o .class)) table′ (o .count)
+  turn D a arities h i r z = rw (add-one j, take-suc (a .lits) j noLiteral inside) after
     where
       before : Numbered-by D (take j (a .lits)) of₀ of table count
-      before = w .is D a h i r
+      before = w .is D a arities h i r z
 
       inside : j < length (a .lits)
       inside = let k = rows-length h s i r in omega arith
@@ -110,9 +110,9 @@ module _ (index : Index) (rows of₀ of table table′ : List ℕ) (count j : �
       those : (y : Literal) → In y (take j (a .lits)) → One (keysOf (D .template)) (tuples D y)
       those y m = one h s i y (subst (λ (ls : List Literal). In y ls) (take-append-drop j (a .lits)) (Memᴰ·append-left (drop j (a .lits)) m))
 
-      keyed-by : keyRows (index .keys) (rowsIn (index .components) (index .parts)) (take 8 (drop (8 * j) rows)) ≡ map tupleRow (tuples D x)
+      keyed-by : keyRows keys (rowsIn components parts) (take 8 (drop (8 * j) rows)) ≡ map tupleRow (tuples D x)
       keyed-by =
-          ap (keyRows (index .keys) (rowsIn (index .components) (index .parts))) (row-of h s i r j inside)
+          ap (keyRows keys (rowsIn components parts)) (row-of h s i r j inside)
           ∙ tuples-are h s i x (getD-in (a .lits) j noLiteral inside)
 
       result : o ≡ record { class = classNumberBy (found (tuples D) (take j (a .lits) ++ (x ∷ []))) (tuples D x); count = length (found (tuples D) (take j (a .lits) ++ (x ∷ []))) }
@@ -139,11 +139,11 @@ module _ (index : Index) (rows of₀ of table table′ : List ℕ) (count j : �
                 ∙ ap (λ (t : List ℕ). over t of₀) (sym (numbers-more (tuples D) (take j (a .lits)) x its));
           }
 
-  pub so-far-more : SoFar index rows of₀ (set of j (o .class)) table′ (o .count) (j + 1)
+  pub so-far-more : SoFar parts components keys rows of₀ (set of j (o .class)) table₀ table′ (o .count) (j + 1)
   so-far-more =
       record {
         few =
-            let k = numbered-few (keyRows (index .keys) (rowsIn (index .components) (index .parts)) (take 8 (drop (8 * j) rows))) count table in
+            let k = numbered-few (keyRows keys (rowsIn components parts) (take 8 (drop (8 * j) rows))) count table in
             let q = ap (λ (p : Numbered). p .count) e in
             let u = w .few in
             omega arith;
@@ -153,17 +153,19 @@ module _ (index : Index) (rows of₀ of table table′ : List ℕ) (count j : �
         is = turn;
       }
 
-pub so-far-all : (index : Index) (rows of₀ of table : List ℕ) (count j : ℕ) → Shaped index → length rows ≡ 8 * length of₀ → SoFar index rows of₀ of table count j → length of₀ ≤ j
-    → (D : Domain) (a : Action) → Holds D index → In a (D .actions) → rows ≡ flatMap literalRow (a .lits)
-    → (record { tuples = table; count = count } ≡ classTable D a) × (of ≡ classNumbers D a)
-unfolding classTable classNumbers classes over
-so-far-all index rows of₀ of table count j s l w g D a h i r = (
-  (λ k. record { tuples = (now .table ∙ ap (λ (ls : List Literal). rowsOf (found (tuples D) ls)) done) k; count = (now .counted ∙ ap (λ (ls : List Literal). length (found (tuples D) ls)) done) k }),
+pub so-far-all : (parts : List ℕ) (components keys : ℕ) (rows of₀ of table₀ table : List ℕ) (count j : ℕ) → keys ≤ 6 → length rows ≡ 8 * length of₀
+    → SoFar parts components keys rows of₀ of table₀ table count j → length of₀ ≤ j
+    → (D : Domain) (a : Action) (arities : List ℕ) → TemplateIn D parts components keys arities → In a (D .actions) → rows ≡ flatMap literalRow (a .lits) → table₀ ≡ replicate 512 255
+    → (count ≡ length (classes D a)) × (table ≡ classTuples D a) × (of ≡ classNumbers D a)
+unfolding classTuples classNumbers classes over
+so-far-all parts components keys rows of₀ of table₀ table count j s l w g D a arities h i r z = (
+  now .counted ∙ ap (λ (ls : List Literal). length (found (tuples D) ls)) done,
+  now .table ∙ ap (λ (ls : List Literal). rowsOf (found (tuples D) ls)) done,
   now .given ∙ ap (λ (ls : List Literal). over (numbers (tuples D) ls) of₀) done ∙ covers,
 )
   where
     now : Numbered-by D (take j (a .lits)) of₀ of table count
-    now = w .is D a h i r
+    now = w .is D a arities h i r z
 
     done : take j (a .lits) ≡ a .lits
     done = let k = rows-length h s i r in take-all j (a .lits) (omega arith)

@@ -5,7 +5,7 @@ use mathlib.Core.List.{List, [], _∷_, _++_, map, flatMap, append-nil, Memᴰ·
 use Prim.Native.Nat.{ℕ, suc, _+_, _-_, _*_, _≤_, _<_}
 use native.Mathlib.Omega.{arith}
 use lib.Dec.{eqb}
-use lib.ListN.{length, getD, drop, length-append, length-map}
+use lib.ListN.{length, getD, take, drop, length-append, length-map}
 use Rattle.records.specs.Lists.{In, sameList}
 use Rattle.records.proofs.Lists.{getD-in}
 use Rattle.literals.specs.declared.Variable.{Variable}
@@ -13,28 +13,23 @@ use Rattle.literals.specs.declared.Time.the-variants.{AtStart}
 use Rattle.literals.specs.declared.Clause.the-variants.{Positive}
 use Rattle.literals.specs.Domain.{variable, sameVariable, sameLiteral, roleNumber, Literal}
 use Rattle.literals.specs.Table.{literalRow}
-use Rattle.literals.proofs.Rows.{same-miss, same-hit, same-end, length-part, part-at}
+use Rattle.literals.proofs.Rows.{seven-by-four, part-at}
 use Rattle.literals.proofs.Tables.{Kept, length-flat, rows-flat, length-literal-row, same-filled}
 use Rattle.classes.specs.Coded.{rowAt, sameAtomAt}
 use Rattle.classes.proofs.Indices.{getD-map}
 use Rattle.classes.proofs.KeyRows.{rows-at}
 
--- ---- comparing two rows from byte k on
+-- ---- comparing two rows, four bytes at a time
 
-module _ (rows : List ℕ) (i j k : ℕ) (h : 8 * i + 8 ≤ length rows) (g : 8 * j + 8 ≤ length rows) where
-  pub atom-miss : k < 8 → (getD rows (8 * i + k) 0 ≡ getD rows (8 * j + k) 0 → ⊥) → sameList eqb (drop k (rowAt rows i)) (drop k (rowAt rows j)) ≡ false
-  atom-miss l n =
-      same-miss (rowAt rows i) (rowAt rows j) k (omega (arith, length-part rows (8 * i) h)) (omega (arith, length-part rows (8 * j) g))
-      (λ e. n (sym (part-at rows (8 * i) h k l) ∙ e ∙ part-at rows (8 * j) g k l))
+module _ (rows : List ℕ) (i j : ℕ) (h : 8 * i + 8 ≤ length rows) (g : 8 * j + 8 ≤ length rows) where
+  pub agree-same : {r : Bool} → sameList eqb (take 4 (drop (8 * i + 1) rows)) (take 4 (drop (8 * j + 1) rows)) ≡ true
+      → r ≡ sameList eqb (take 4 (drop (8 * i + 4) rows)) (take 4 (drop (8 * j + 4) rows)) → r ≡ sameAtomAt rows i j
+  unfolding sameAtomAt
+  agree-same e f = f ∙ sym (seven-by-four rows rows (8 * i) (8 * j) h g ∙ ap (λ (b : Bool). b && sameList eqb (take 4 (drop (8 * i + 4) rows)) (take 4 (drop (8 * j + 4) rows))) e)
 
-  pub atom-hit : k < 8 → getD rows (8 * i + k) 0 ≡ getD rows (8 * j + k) 0
-      → sameList eqb (drop k (rowAt rows i)) (drop k (rowAt rows j)) ≡ sameList eqb (drop (k + 1) (rowAt rows i)) (drop (k + 1) (rowAt rows j))
-  atom-hit l e =
-      same-hit (rowAt rows i) (rowAt rows j) k (omega (arith, length-part rows (8 * i) h)) (omega (arith, length-part rows (8 * j) g))
-      (part-at rows (8 * i) h k l ∙ e ∙ sym (part-at rows (8 * j) g k l))
-
-  pub atom-end : 8 ≤ k → sameList eqb (drop k (rowAt rows i)) (drop k (rowAt rows j)) ≡ true
-  atom-end l = same-end (rowAt rows i) (rowAt rows j) k (omega (arith, length-part rows (8 * i) h)) (omega (arith, length-part rows (8 * j) g))
+  pub agree-other : sameList eqb (take 4 (drop (8 * i + 1) rows)) (take 4 (drop (8 * j + 1) rows)) ≡ false → false ≡ sameAtomAt rows i j
+  unfolding sameAtomAt
+  agree-other e = sym (seven-by-four rows rows (8 * i) (8 * j) h g ∙ ap (λ (b : Bool). b && sameList eqb (take 4 (drop (8 * i + 4) rows)) (take 4 (drop (8 * j + 4) rows))) e)
 
 -- ---- the rows of a list's elements
 

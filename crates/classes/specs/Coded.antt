@@ -1,25 +1,32 @@
--- How the code holds the classes of an action: class numbers, the clause of each literal at a moment, and what a name is decided by. Assumes nothing.
-use mathlib.Core.Bool.{Bool, _&&_, _||_, not, cond}
+-- How the code holds the template and the classes of an action: class numbers, the clause of each literal at a moment, and what a name is decided by. Assumes nothing.
+use mathlib.Core.Path.{_≡_}
+use mathlib.Core.Bool.{Bool, true, false, _&&_, _||_, not, cond}
 use mathlib.Core.List.{List, [], _∷_, _++_, map, flatMap}
 use Prim.Native.Nat.{ℕ, zero, suc, _+_, _-_, _*_}
 use lib.Dec.{eqb, ltb, leb}
 use lib.ListN.{length, getD, take, drop, replicate}
 use lib.Seq.{paste}
-use Rattle.records.specs.Lists.{all, any, countBy, sameList}
+use Rattle.records.specs.Lists.{any, pairwise, sameList}
 use Rattle.literals.specs.declared.Variable.{Variable}
 use Rattle.literals.specs.declared.Role.{Role}
-use Rattle.literals.specs.declared.Index.{Index}
-use Rattle.literals.specs.declared.Clause.the-variants.{Positive, Add, Delete}
-use Rattle.literals.specs.Domain.{sameVariable, sameLiteral, clauseNumber, Literal, Action, Domain}
-use Rattle.literals.specs.Decode.{byte}
-use Rattle.literals.specs.Table.{rowOf, rowsIn}
+use Rattle.literals.specs.Domain.{sameVariable, sameLiteral, clauseNumber, Literal, Action, keysOf, Domain}
+use Rattle.literals.specs.Decode.{byte, repeats}
+use Rattle.literals.specs.Table.{rowOf, rowsIn, componentRow, pad, Bounded}
 use Rattle.classes.specs.declared.Moment.{Moment}
 use Rattle.classes.specs.declared.Moment.the-variants.{Start, End}
-use Rattle.classes.specs.declared.Name.{Name}
-use Rattle.classes.specs.declared.ClassTable.{ClassTable}
-use Rattle.classes.specs.declared.Summary.{Summary}
+use Rattle.classes.specs.declared.Sole.{Sole}
 use Rattle.classes.specs.declared.number.Numbered.{Numbered}
-use Rattle.classes.specs.Classes.{tuplesOf, own, overAll, endsOverAll, classes, inClass, nameBy, deletedBy, changedBy, covered, excluding}
+use Rattle.classes.specs.Classes.{tuplesOf, own, overAll, endsOverAll, classes, covered, excluding}
+
+-- ---- the template
+
+-- the template of a domain as the code holds it: 8 bytes a component, how many there are, how many keys they have, and the arities of all relations
+pub record TemplateIn (D : Domain) (parts : List ℕ) (components keys : ℕ) (arities : List ℕ) : Type 0 where
+  pub bounded : Bounded D
+  pub rows : parts ≡ pad 128 (flatMap componentRow (D .template))
+  pub count : components ≡ length (D .template)
+  pub keyed : keys ≡ keysOf (D .template)
+  pub arguments : arities ≡ pad 64 (D .arities)
 
 -- ---- class numbers
 
@@ -42,12 +49,12 @@ classNumbers D a = map (λ (l : Literal). classNumberBy (classes D a) (tuplesOf 
 abbrev pub tupleRow : List Variable → List ℕ
 tupleRow x = rowOf (map (λ (v : Variable). v .0) x)
 
--- the key tuples of the classes, 8 bytes each, in an array for 64, FF behind them
-unfoldable pub classTable : Domain → Action → ClassTable
+-- the key tuples of the classes, 8 bytes each, in a memory for 64, FF behind them
+unfoldable pub classTuples : Domain → Action → List ℕ
 unfolding classes flatMap
-classTable D a =
+classTuples D a =
     let b = flatMap tupleRow (classes D a) in
-    record { tuples = b ++ replicate (512 - length b) 255; count = length (classes D a) }
+    b ++ replicate (512 - length b) 255
 
 -- ---- class numbers, by the bytes of rows
 
@@ -103,32 +110,14 @@ clausesFrom m earlier (l ∷ ls) = clauseOnce m earlier l ∷ clausesFrom m (ear
 unfoldable pub clausesAt : Action → Moment → List ℕ
 clausesAt a m = clausesFrom m [] (a .lits)
 
--- ---- what a name and a journey are decided by
+-- no literal is "repeated in its role", as reading has it
+abbrev pub noRepeats : Action → Bool
+noRepeats a = pairwise (λ l m. not (repeats l m)) (a .lits)
 
 -- the place of the first uncovered component, or the number of components
 unfoldable pub uncoveredAt : Domain → Action → List Variable → Moment → ℕ
 unfolding excluding
 uncoveredAt D a x m = position (λ c. not (covered (excluding D a x m) c)) (D .template)
-
--- of the class x at a moment: how many true conditions and adds, whether each true condition is also an add or a delete, whether each is deleted, and the first uncovered component
-unfoldable pub summaryOf : Domain → Action → List Variable → Moment → Summary
-unfolding inClass uncoveredAt
-summaryOf D a x m =
-    record {
-      conditions = length (inClass D a x m Positive);
-      adds = length (inClass D a x m Add);
-      changed = all (changedBy (inClass D a x m Add) (inClass D a x m Delete)) (inClass D a x m Positive);
-      deleted = all (deletedBy (inClass D a x m Delete)) (inClass D a x m Positive);
-      uncovered = uncoveredAt D a x m;
-    }
-
--- the name, of a template with n components
-abbrev pub nameBySummary : Summary → ℕ → Name
-nameBySummary s n = nameBy (s .conditions) (s .conditions) (s .adds) (s .changed) (eqb (s .uncovered) n)
-
--- whether a class of a lasting action is a journey, by its start and its end
-abbrev pub journeyBySummaries : Summary → Summary → Bool
-journeyBySummaries s e = eqb (s .adds) 0 && eqb (s .conditions) 1 && s .deleted && eqb (e .conditions) 0 && eqb (e .adds) 1
 
 -- ---- the same by index: of rows of 8 bytes, class numbers and clauses
 
@@ -157,12 +146,17 @@ unfoldable pub saysAt : List ℕ → Moment → ℕ → ℕ → ℕ → Bool
 unfolding clauseByte sameAtomAt
 saysAt rows m clause j i = eqb (clauseByte m (getD rows (8 * i) 0)) clause && sameAtomAt rows i j
 
--- the clause of the row j at the moment, 0 where an earlier row says it
+-- whether literals of different roles have this clause at the moment: an end's conditions are its own and the over-all ones
+abbrev pub mayMeet : Moment → ℕ → Bool
+mayMeet Start clause = false
+mayMeet End clause = not (eqb clause 0) && ltb clause 3
+
+-- the clause of the row j at the moment, 0 where an earlier row says it, which is asked of such clauses alone
 unfoldable pub clauseIn : List ℕ → Moment → ℕ → ℕ
 unfolding clauseByte saysAt
 clauseIn rows m j =
     let clause = clauseByte m (getD rows (8 * j) 0) in
-    cond (any (saysAt rows m clause j) (below j)) 0 clause
+    cond (mayMeet m clause && any (saysAt rows m clause j) (below j)) 0 clause
 
 -- the row j is in this class with this clause
 unfoldable pub isAt : List ℕ → List ℕ → ℕ → ℕ → ℕ → Bool
@@ -177,15 +171,10 @@ unfoldable pub sameIn : List ℕ → List ℕ → List ℕ → ℕ → ℕ → �
 unfolding isSameAt
 sameIn rows of clauses class clause i = any (isSameAt rows of clauses class clause i) (below (length of))
 
--- where the row i is a true condition of the class, it is also an add or a delete
+-- a literal with the atom of the row i is an add or a delete of the class
 unfoldable pub changedAt : List ℕ → List ℕ → List ℕ → ℕ → ℕ → Bool
-unfolding isAt sameIn
-changedAt rows of clauses class i = not (isAt of clauses class 1 i) || (sameIn rows of clauses class 3 i || sameIn rows of clauses class 4 i)
-
--- and it is deleted
-unfoldable pub deletedAt : List ℕ → List ℕ → List ℕ → ℕ → ℕ → Bool
-unfolding isAt sameIn
-deletedAt rows of clauses class i = not (isAt of clauses class 1 i) || sameIn rows of clauses class 4 i
+unfolding sameIn
+changedAt rows of clauses class i = sameIn rows of clauses class 3 i || sameIn rows of clauses class 4 i
 
 -- the row j is a false condition, add or delete of the class, with this relation
 unfoldable pub excludesAt : List ℕ → List ℕ → List ℕ → ℕ → ℕ → ℕ → Bool
@@ -198,13 +187,23 @@ coveredAt parts arities rows of clauses class c =
     let relation = getD parts (8 * c) 0 in
     not (any (λ i. eqb (getD parts (8 * c + 1 + i) 0) 255) (below (getD arities relation 0))) && any (excludesAt rows of clauses class relation) (below (length of))
 
-unfoldable pub summaryIn : Index → List ℕ → List ℕ → List ℕ → ℕ → Summary
-unfolding isAt changedAt deletedAt coveredAt
-summaryIn index rows of clauses class =
-    record {
-      conditions = countBy (isAt of clauses class 1) (below (length of));
-      adds = countBy (isAt of clauses class 3) (below (length of));
-      changed = all (changedAt rows of clauses class) (below (length of));
-      deleted = all (deletedAt rows of clauses class) (below (length of));
-      uncovered = position (λ c. not (coveredAt (index .parts) (index .arities) rows of clauses class c)) (below (index .components));
-    }
+-- ---- which literals pass a test: 0 for none, k + 1 for the literal k alone, 255 for more
+
+-- with the literal j, which passes or does not
+abbrev pub soleMore : Bool → ℕ → ℕ → ℕ
+soleMore true j s = cond (eqb s 0) (j + 1) 255
+soleMore false j s = s
+
+-- of the first n
+unfoldable pub soleBy : (ℕ → Bool) → ℕ → ℕ
+soleBy p zero = 0
+soleBy p (suc n) = soleMore (p n) n (soleBy p n)
+
+-- which literal of a class has this clause
+unfoldable pub soleAt : List ℕ → List ℕ → ℕ → ℕ → ℕ
+unfolding isAt soleBy
+soleAt of clauses class clause = soleBy (isAt of clauses class clause) (length of)
+
+-- the true conditions and the adds of a class
+abbrev pub soleOf : List ℕ → List ℕ → ℕ → Sole
+soleOf of clauses class = record { conditions = soleAt of clauses class 1; adds = soleAt of clauses class 3 }

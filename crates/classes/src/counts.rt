@@ -1,22 +1,21 @@
-// What a class has at a moment: the clause of each literal there, and the summary that decides the name.
+// What a class has at a moment: the clause of each literal there, its true conditions and adds, and the name that they decide.
 use super::Moment;
 use super::Name;
-use super::Summary;
-use super::name_by;
-use literals::Index;
+use super::Sole;
+use literals::row::same_four;
 ghost use mathlib.Core.Path.{_≡_};
-ghost use mathlib.Core.Bool.{not};
+ghost use mathlib.Core.Bool.{true, _&&_, not};
 ghost use mathlib.Core.List.{flatMap, []};
 ghost use Prim.Native.Nat.{ℕ, _+_, _*_, _≤_, _<_};
 ghost use lib.Dec.{eqb};
 ghost use lib.ListN.{length, getD};
-ghost use Rattle.records.specs.Lists.{In, all, any, countBy};
+ghost use Rattle.records.specs.Lists.{In, any};
 ghost use Rattle.literals.specs.Domain.{Domain, Action};
-ghost use Rattle.literals.specs.Table.{literalRow, pad, Bounded, Holds, Shaped};
+ghost use Rattle.literals.specs.Table.{literalRow, pad, Bounded};
 ghost use Rattle.classes.specs.declared.Moment.{Moment};
-ghost use Rattle.classes.specs.declared.Moment.the-variants.{End};
-ghost use Rattle.classes.specs.Classes.{classes};
-ghost use Rattle.classes.specs.Coded.{clausesAt, classNumbers, summaryOf, nameBySummary, journeyBySummaries, position, below, clauseByte, sameAtomAt, saysAt, clauseIn, isAt, isSameAt, sameIn, changedAt, deletedAt, excludesAt, coveredAt};
+ghost use Rattle.classes.specs.declared.Moment.the-variants.{Start, End};
+ghost use Rattle.classes.specs.Classes.{classes, nameOf, journey};
+ghost use Rattle.classes.specs.Coded.{TemplateIn, clausesAt, classNumbers, noRepeats, uncoveredAt, position, below, clauseByte, mayMeet, sameAtomAt, saysAt, clauseIn, isAt, isSameAt, sameIn, changedAt, excludesAt, coveredAt, soleMore, soleAt, soleOf};
 
 // The clause of a role byte at the end.
 fn clause_at_end(role: u8) -> u8
@@ -49,17 +48,15 @@ fn clause_at(m: Moment, role: u8) -> u8
     }
 }
 
-// Whether two rows have the same relation and arguments.
-fn same_atom(rows: &[u8], i: usize, j: usize) -> bool
+// Whether two rows have the same relation and arguments: the bytes 1 to 4, and 4 to 7.
+fn rows_agree(rows: &[u8], i: usize, j: usize) -> bool
     requires { ⌜ (8 * i + 8 ≤ length (now rows)) × (8 * j + 8 ≤ length (now rows)) ⌝ }
     ensures { λ r. ⌜ r ≡ sameAtomAt (now (rows .entry)) i j ⌝ }
 {
-    for k in 1..8 {
-        if rows[8 * i + k] != rows[8 * j + k] {
-            return false;
-        }
+    if same_four(rows, 8 * i + 1, rows, 8 * j + 1) {
+        return same_four(rows, 8 * i + 4, rows, 8 * j + 4);
     }
-    true
+    false
 }
 
 // Whether the row `i` has this clause at the moment, and the atom of the row `j`.
@@ -68,7 +65,7 @@ fn says(rows: &[u8], m: Moment, clause: u8, j: usize, i: usize) -> bool
     ensures { λ r. ⌜ r ≡ saysAt (now (rows .entry)) m clause j i ⌝ }
 {
     if clause_at(m, rows[8 * i]) == clause {
-        return same_atom(rows, i, j);
+        return rows_agree(rows, i, j);
     }
     false
 }
@@ -86,28 +83,45 @@ fn earlier_same(rows: &[u8], m: Moment, clause: u8, j: usize) -> bool
     false
 }
 
-// The clause of the row `j` at the moment, 0 where an earlier row says it.
+// Whether literals of different roles have this clause at the moment: an end's conditions are its own and the over-all ones.
+fn may_meet(m: Moment, clause: u8) -> bool
+    ensures { λ r. ⌜ r ≡ mayMeet m clause ⌝ }
+{
+    match m {
+        Moment::Start => false,
+        Moment::End => {
+            if clause == 0 {
+                return false;
+            }
+            clause < 3
+        }
+    }
+}
+
+// The clause of the row `j` at the moment, 0 where an earlier row says it. (Literals of one role are never the same.)
 fn clause_once(rows: &[u8], m: Moment, j: usize) -> u8
     requires { ⌜ 8 * j + 8 ≤ length (now rows) ⌝ }
     ensures { λ r. ⌜ r ≡ clauseIn (now (rows .entry)) m j ⌝ }
 {
     let clause = clause_at(m, rows[8 * j]);
+    if !may_meet(m, clause) {
+        return clause;
+    }
     if earlier_same(rows, m, clause, j) {
         return 0;
     }
     clause
 }
 
-// The clause of each literal at a moment, 0 for none and for one that an earlier literal says already.
-pub fn clauses_at(rows: &[u8], n: usize, m: Moment) -> [u8; 64]
-    requires { ⌜ (length (now rows) ≡ 8 * n) × (n ≤ 64) ⌝ }
-    ensures { λ r. ⌜ ((D : Domain) (a : Action) → Bounded D → In a (D .actions) → now (rows .entry) ≡ flatMap literalRow (a .lits) → r ≡ pad 64 (clausesAt a m)) ⌝ }
+// The clause of each literal at a moment, 0 for none and for one that an earlier literal says already; `clauses` is all 0 before.
+pub fn clauses_at(rows: &[u8], n: usize, m: Moment, clauses: &mut [u8])
+    requires { ⌜ (length (now rows) ≡ 8 * n) × (n ≤ 64) × (length (now clauses) ≡ 64) ⌝ }
+    ensures { λ _. ⌜ ((D : Domain) (a : Action) → Bounded D → In a (D .actions) → noRepeats a ≡ true → now (rows .entry) ≡ flatMap literalRow (a .lits)
+        → now (clauses .entry) ≡ pad 64 [] → now (clauses .exit) ≡ pad 64 (clausesAt a m)) ⌝ }
 {
-    let mut clauses = [0u8; 64];
     for j in 0..n {
         clauses[j] = clause_once(rows, m, j);
     }
-    clauses
 }
 
 // Whether the row `j` is in a class with this clause.
@@ -121,18 +135,34 @@ fn is_at(of: &[u8], clauses: &[u8], class: u8, clause: u8, j: usize) -> bool
     false
 }
 
-// How many literals of a class have this clause.
-fn count_clause(of: &[u8], clauses: &[u8], class: u8, clause: u8) -> usize
-    requires { ⌜ length (now of) ≤ length (now clauses) ⌝ }
-    ensures { λ r. ⌜ r ≡ countBy (isAt (now (of .entry)) (now (clauses .entry)) class clause) (below (length (now (of .entry)))) ⌝ }
+// Notes the literal `j`, of a class, where what it is here is this clause.
+fn mark(soles: &mut [u8], class: u8, here: u8, clause: u8, j: usize)
+    requires { ⌜ j < 64 ⌝ }
+    ensures { λ _. ⌜ ((k : ℕ) → k < length (now (soles .entry))
+        → getD (now (soles .exit)) k 0 ≡ soleMore (eqb class k && eqb here clause) j (getD (now (soles .entry)) k 0)) ⌝ }
 {
-    let mut n: usize = 0;
-    for j in 0..of.len() {
-        if is_at(of, clauses, class, clause, j) {
-            n += 1;
-        }
+    if here != clause {
+        return;
     }
-    n
+    let k = class as usize;
+    if soles.len() <= k {
+        return;
+    }
+    if soles[k] == 0 {
+        soles[k] = j as u8 + 1;
+        return;
+    }
+    soles[k] = 255;
+}
+
+// For each class number, which of its literals has this clause: 0 for none, k + 1 for the literal k alone, 255 for more; `soles` is all 0 before.
+pub fn soles_at(of: &[u8], clauses: &[u8], clause: u8, soles: &mut [u8])
+    requires { ⌜ (length (now of) ≤ length (now clauses)) × (length (now of) ≤ 64) × (length (now soles) ≡ 64) ⌝ }
+    ensures { λ _. ⌜ (now (soles .entry) ≡ pad 64 [] → (k : ℕ) → k < 64 → getD (now (soles .exit)) k 0 ≡ soleAt (now (of .entry)) (now (clauses .entry)) k clause) ⌝ }
+{
+    for j in 0..of.len() {
+        mark(soles, of[j], clauses[j], clause, j);
+    }
 }
 
 // Whether the row `j` is in a class with this clause, and has the atom of the row `i`.
@@ -149,7 +179,7 @@ fn is_same_at(
     ensures { λ r. ⌜ r ≡ isSameAt (now (rows .entry)) (now (of .entry)) (now (clauses .entry)) class clause i j ⌝ }
 {
     if is_at(of, clauses, class, clause, j) {
-        return same_atom(rows, i, j);
+        return rows_agree(rows, i, j);
     }
     false
 }
@@ -167,55 +197,15 @@ fn any_same(rows: &[u8], of: &[u8], clauses: &[u8], class: u8, clause: u8, i: us
     false
 }
 
-// Whether the row `i`, if it is a true condition of a class, is also an add or a delete.
+// Whether a literal with the atom of the row `i` is an add or a delete of a class.
 fn is_changed(rows: &[u8], of: &[u8], clauses: &[u8], class: u8, i: usize) -> bool
     requires { ⌜ (8 * length (now of) ≤ length (now rows)) × (length (now of) ≤ length (now clauses)) × (i < length (now of)) ⌝ }
     ensures { λ r. ⌜ r ≡ changedAt (now (rows .entry)) (now (of .entry)) (now (clauses .entry)) class i ⌝ }
 {
-    if !is_at(of, clauses, class, 1, i) {
-        return true;
-    }
     if any_same(rows, of, clauses, class, 3, i) {
         return true;
     }
     any_same(rows, of, clauses, class, 4, i)
-}
-
-// Whether each true condition of a class is also an add or a delete.
-fn all_changed(rows: &[u8], of: &[u8], clauses: &[u8], class: u8) -> bool
-    requires { ⌜ (8 * length (now of) ≤ length (now rows)) × (length (now of) ≤ length (now clauses)) ⌝ }
-    ensures { λ r. ⌜ r ≡ all (changedAt (now (rows .entry)) (now (of .entry)) (now (clauses .entry)) class) (below (length (now (of .entry)))) ⌝ }
-{
-    for i in 0..of.len() {
-        if !is_changed(rows, of, clauses, class, i) {
-            return false;
-        }
-    }
-    true
-}
-
-// Whether the row `i`, if it is a true condition of a class, is deleted.
-fn is_deleted(rows: &[u8], of: &[u8], clauses: &[u8], class: u8, i: usize) -> bool
-    requires { ⌜ (8 * length (now of) ≤ length (now rows)) × (length (now of) ≤ length (now clauses)) × (i < length (now of)) ⌝ }
-    ensures { λ r. ⌜ r ≡ deletedAt (now (rows .entry)) (now (of .entry)) (now (clauses .entry)) class i ⌝ }
-{
-    if !is_at(of, clauses, class, 1, i) {
-        return true;
-    }
-    any_same(rows, of, clauses, class, 4, i)
-}
-
-// Whether each true condition of a class is deleted.
-fn all_deleted(rows: &[u8], of: &[u8], clauses: &[u8], class: u8) -> bool
-    requires { ⌜ (8 * length (now of) ≤ length (now rows)) × (length (now of) ≤ length (now clauses)) ⌝ }
-    ensures { λ r. ⌜ r ≡ all (deletedAt (now (rows .entry)) (now (of .entry)) (now (clauses .entry)) class) (below (length (now (of .entry)))) ⌝ }
-{
-    for i in 0..of.len() {
-        if !is_deleted(rows, of, clauses, class, i) {
-            return false;
-        }
-    }
-    true
 }
 
 // Whether the row `j` is a false condition, add or delete of a class, with this relation.
@@ -258,11 +248,13 @@ fn any_counted(parts: &[u8], part: usize, n: usize) -> bool
     false
 }
 
-fn arity_of(arities: [u8; 64], relation: u8) -> usize
-    ensures { λ r. ⌜ r ≡ getD arities relation 0 ⌝ }
+// The arity of a relation, 0 where there is none.
+pub fn arity_of(arities: &[u8], relation: u8) -> u8
+    ensures { λ r. ⌜ r ≡ getD (now (arities .entry)) relation 0 ⌝ }
 {
-    if relation < 64 {
-        return arities[relation as usize] as usize;
+    let at = relation as usize;
+    if at < arities.len() {
+        return arities[at];
     }
     0
 }
@@ -270,83 +262,128 @@ fn arity_of(arities: [u8; 64], relation: u8) -> usize
 // Whether a class covers the component `c`.
 fn covers(
     parts: &[u8],
-    arities: [u8; 64],
+    arities: &[u8],
     rows: &[u8],
     of: &[u8],
     clauses: &[u8],
     class: u8,
     c: usize,
 ) -> bool
-    requires { ⌜ (8 * c + 8 ≤ length (now parts)) × ((i : ℕ) → getD arities i 0 ≤ 6) × (8 * length (now of) ≤ length (now rows)) × (length (now of) ≤ length (now clauses)) ⌝ }
-    ensures { λ r. ⌜ r ≡ coveredAt (now (parts .entry)) arities (now (rows .entry)) (now (of .entry)) (now (clauses .entry)) class c ⌝ }
+    requires { ⌜ (8 * c + 8 ≤ length (now parts)) × ((i : ℕ) → getD (now arities) i 0 ≤ 6) × (8 * length (now of) ≤ length (now rows)) × (length (now of) ≤ length (now clauses)) ⌝ }
+    ensures { λ r. ⌜ r ≡ coveredAt (now (parts .entry)) (now (arities .entry)) (now (rows .entry)) (now (of .entry)) (now (clauses .entry)) class c ⌝ }
 {
     let relation = parts[8 * c];
-    if any_counted(parts, 8 * c, arity_of(arities, relation)) {
+    if any_counted(parts, 8 * c, arity_of(arities, relation) as usize) {
         return false;
     }
     any_excluding(rows, of, clauses, class, relation)
 }
 
-// The first component that a class does not cover at a moment, or the number of components.
-fn first_uncovered(index: Index, rows: &[u8], of: &[u8], clauses: &[u8], class: u8) -> usize
-    requires { ⌜ Shaped index × (8 * length (now of) ≤ length (now rows)) × (length (now of) ≤ length (now clauses)) ⌝ }
-    ensures { λ r. ⌜ r ≡ position (λ c. not (coveredAt (index .parts) (index .arities) (now (rows .entry)) (now (of .entry)) (now (clauses .entry)) class c)) (below (index .components)) ⌝ }
+// The first of n components that a class does not cover, or n.
+fn first_lacking(
+    parts: &[u8],
+    n: usize,
+    arities: &[u8],
+    rows: &[u8],
+    of: &[u8],
+    clauses: &[u8],
+    class: u8,
+) -> usize
+    requires { ⌜ (8 * n ≤ length (now parts)) × ((i : ℕ) → getD (now arities) i 0 ≤ 6) × (8 * length (now of) ≤ length (now rows)) × (length (now of) ≤ length (now clauses)) ⌝ }
+    ensures { λ r. ⌜ r ≡ position (λ c. not (coveredAt (now (parts .entry)) (now (arities .entry)) (now (rows .entry)) (now (of .entry)) (now (clauses .entry)) class c)) (below n) ⌝ }
 {
-    let parts = index.parts;
-    let arities = index.arities;
-    let n = index.components;
     for c in 0..n {
-        if !covers(&parts, arities, rows, of, clauses, class, c) {
+        if !covers(parts, arities, rows, of, clauses, class, c) {
             return c;
         }
     }
     n
 }
 
-// What a class has at a moment: `of` holds the class numbers of the action's literals, `clauses` their clauses at the moment.
-pub fn summarize(index: Index, rows: &[u8], of: &[u8], clauses: [u8; 64], class: u8) -> Summary
-    requires { ⌜ Shaped index × (length (now rows) ≡ 8 * length (now of)) × (length (now of) ≤ 64) ⌝ }
-    ensures { λ r. ⌜ ((D : Domain) (a : Action) (m : Moment) → Holds D index → In a (D .actions) → now (rows .entry) ≡ flatMap literalRow (a .lits)
-        → now (of .entry) ≡ classNumbers D a → clauses ≡ pad 64 (clausesAt a m) → class < length (classes D a)
-        → r ≡ summaryOf D a (getD (classes D a) class []) m) ⌝ }
+// The first component that a class does not cover at the moment of these clauses, or the number of components; `of` holds the class numbers of the
+// action's literals, which are these rows.
+pub fn first_uncovered(
+    parts: &[u8],
+    components: usize,
+    arities: &[u8],
+    rows: &[u8],
+    of: &[u8],
+    clauses: &[u8],
+    class: u8,
+) -> usize
+    requires { ⌜ (8 * components ≤ length (now parts)) × ((i : ℕ) → getD (now arities) i 0 ≤ 6) × (8 * length (now of) ≤ length (now rows)) × (length (now of) ≤ length (now clauses)) ⌝ }
+    ensures { λ r. ⌜ ((D : Domain) (a : Action) (m : Moment) (keys : ℕ) → TemplateIn D (now (parts .entry)) components keys (now (arities .entry)) → In a (D .actions)
+        → now (rows .entry) ≡ flatMap literalRow (a .lits) → now (of .entry) ≡ classNumbers D a → now (clauses .entry) ≡ pad 64 (clausesAt a m)
+        → class < length (classes D a) → r ≡ uncoveredAt D a (getD (classes D a) class []) m) ⌝ }
 {
-    Summary {
-        conditions: count_clause(of, &clauses, class, 1),
-        adds: count_clause(of, &clauses, class, 3),
-        changed: all_changed(rows, of, &clauses, class),
-        deleted: all_deleted(rows, of, &clauses, class),
-        uncovered: first_uncovered(index, rows, of, &clauses, class),
-    }
+    first_lacking(parts, components, arities, rows, of, clauses, class)
 }
 
-// The name of a class, of a template with n components.
-pub fn name_of(s: Summary, n: usize) -> Name
-    ensures { λ r. ⌜ r ≡ nameBySummary s n ⌝ }
+// The name of a class at the moment of these clauses, of its true conditions and adds there. What they do not decide is looked up.
+pub fn name_at(
+    parts: &[u8],
+    components: usize,
+    arities: &[u8],
+    rows: &[u8],
+    of: &[u8],
+    clauses: &[u8],
+    sole: Sole,
+    class: u8,
+) -> Name
+    requires { ⌜ (8 * components ≤ length (now parts)) × ((i : ℕ) → getD (now arities) i 0 ≤ 6) × (8 * length (now of) ≤ length (now rows)) × (length (now of) ≤ length (now clauses))
+        × (length (now of) ≤ 64) × (sole ≡ soleOf (now of) (now clauses) class) ⌝ }
+    ensures { λ r. ⌜ ((D : Domain) (a : Action) (m : Moment) (keys : ℕ) → TemplateIn D (now (parts .entry)) components keys (now (arities .entry)) → In a (D .actions)
+        → now (rows .entry) ≡ flatMap literalRow (a .lits) → now (of .entry) ≡ classNumbers D a → now (clauses .entry) ≡ pad 64 (clausesAt a m)
+        → class < length (classes D a) → r ≡ nameOf D a (getD (classes D a) class []) m) ⌝ }
 {
-    name_by(
-        s.conditions,
-        s.conditions,
-        s.adds,
-        s.changed,
-        s.uncovered == n,
-    )
+    let conditions = sole.conditions;
+    let adds = sole.adds;
+    if conditions == 255 {
+        return Name::Unreachable;
+    }
+    if adds == 0 {
+        return Name::Irrelevant;
+    }
+    if adds == 255 {
+        return Name::Heavy;
+    }
+    if conditions == 0 {
+        if first_uncovered(parts, components, arities, rows, of, clauses, class) == components {
+            return Name::Bounded;
+        }
+        return Name::Unbounded;
+    }
+    if is_changed(rows, of, clauses, class, conditions as usize - 1) {
+        return Name::Balanced;
+    }
+    Name::Unbalanced
 }
 
-// Whether a class of a lasting action is a journey.
-pub fn is_journey(s: Summary, e: Summary) -> bool
-    ensures { λ r. ⌜ r ≡ journeyBySummaries s e ⌝ }
+// Whether a class of a lasting action is a journey, of its true conditions and adds at the start, whose clauses these are, and at the end.
+pub fn is_journey(rows: &[u8], of: &[u8], clauses: &[u8], start: Sole, end: Sole, class: u8) -> bool
+    requires { ⌜ (8 * length (now of) ≤ length (now rows)) × (length (now of) ≤ length (now clauses)) × (length (now of) ≤ 64) × (start ≡ soleOf (now of) (now clauses) class) ⌝ }
+    ensures { λ r. ⌜ ((D : Domain) (a : Action) → Bounded D → In a (D .actions) → a .lasting ≡ true → now (rows .entry) ≡ flatMap literalRow (a .lits)
+        → now (of .entry) ≡ classNumbers D a → now (clauses .entry) ≡ pad 64 (clausesAt a Start) → end ≡ soleOf (classNumbers D a) (pad 64 (clausesAt a End)) class
+        → class < length (classes D a) → r ≡ journey D a (getD (classes D a) class [])) ⌝ }
 {
-    if s.adds != 0 {
+    let condition = start.conditions;
+    if start.adds != 0 {
         return false;
     }
-    if s.conditions != 1 {
+    if condition == 0 {
         return false;
     }
-    if !s.deleted {
+    if condition == 255 {
         return false;
     }
-    if e.conditions != 0 {
+    if end.conditions != 0 {
         return false;
     }
-    e.adds == 1
+    if end.adds == 0 {
+        return false;
+    }
+    if end.adds == 255 {
+        return false;
+    }
+    any_same(rows, of, clauses, class, 4, condition as usize - 1)
 }

@@ -1,17 +1,17 @@
 // The classes of an action: each of its literals gets the number of its class, FF where it does not match.
-use super::ClassTable;
-use literals::Index;
 use literals::row::put_row;
+use literals::row::same_four;
 ghost use mathlib.Core.Path.{_≡_};
-ghost use mathlib.Core.List.{flatMap};
-ghost use Prim.Native.Nat.{_+_, _*_, _<_, _≤_};
+ghost use mathlib.Core.List.{List, flatMap};
+ghost use Prim.Native.Nat.{ℕ, _+_, _*_, _<_, _≤_};
 ghost use lib.Dec.{eqb};
-ghost use lib.ListN.{length, take, drop};
+ghost use lib.ListN.{length, take, drop, replicate};
 ghost use Rattle.records.specs.Lists.{In, sameList};
 ghost use Rattle.literals.specs.Domain.{Domain, Action};
 ghost use Rattle.literals.specs.Decode.{byte};
-ghost use Rattle.literals.specs.Table.{literalRow, rowsIn, Holds, Shaped};
-ghost use Rattle.classes.specs.Coded.{position, underKey, keyRow, keyRows, numberedBy, tuplesAfter, classNumbers, classTable};
+ghost use Rattle.literals.specs.Table.{literalRow, rowsIn};
+ghost use Rattle.classes.specs.Classes.{classes};
+ghost use Rattle.classes.specs.Coded.{TemplateIn, position, underKey, keyRow, keyRows, numberedBy, tuplesAfter, classNumbers, classTuples};
 
 // The number of a literal's class, FF where it does not match, and the number of classes with it.
 struct Numbered {
@@ -20,7 +20,7 @@ struct Numbered {
 }
 
 // The number of the first of n components with this relation, or n.
-fn component_of(parts: &[u8], n: usize, relation: u8) -> usize
+pub fn component_of(parts: &[u8], n: usize, relation: u8) -> usize
     requires { ⌜ 8 * n ≤ length (now parts) ⌝ }
     ensures { λ r. ⌜ r ≡ position (λ row. eqb relation (byte row 0)) (rowsIn n (now (parts .entry))) ⌝ }
 {
@@ -50,7 +50,7 @@ fn under_key(parts: &[u8], part: usize, rows: &[u8], at: usize, k: u8) -> u8
 }
 
 // The key tuple of the row at `at` under the component at `part`, for n keys.
-fn key_tuple(parts: &[u8], part: usize, rows: &[u8], at: usize, n: usize) -> [u8; 8]
+pub fn key_tuple(parts: &[u8], part: usize, rows: &[u8], at: usize, n: usize) -> [u8; 8]
     requires { ⌜ (part + 8 ≤ length (now parts)) × (at + 8 ≤ length (now rows)) × (n ≤ 6) ⌝ }
     ensures { λ r. ⌜ r ≡ keyRow n (take 8 (drop part (now (parts .entry)))) (take 8 (drop at (now (rows .entry)))) ⌝ }
 {
@@ -66,14 +66,10 @@ fn same_tuple(tuples: &[u8], at: usize, t: [u8; 8]) -> bool
     requires { ⌜ at + 8 ≤ length (now tuples) ⌝ }
     ensures { λ r. ⌜ r ≡ sameList eqb t (take 8 (drop at (now (tuples .entry)))) ⌝ }
 {
-    let mut i = 0;
-    while i < 8 {
-        if t[i] != tuples[at + i] {
-            return false;
-        }
-        i += 1;
+    if same_four(&t, 0, tuples, at) {
+        return same_four(&t, 4, tuples, at + 4);
     }
-    true
+    false
 }
 
 // The number of the first of n classes with this key tuple, or n.
@@ -124,28 +120,27 @@ fn number_literal(
     }
 }
 
-// The classes of an action whose literals are these rows; `of` gets the class number of each literal.
-pub fn number_classes(index: Index, rows: &[u8], of: &mut [u8]) -> ClassTable
-    requires { ⌜ Shaped index × (length (now rows) ≡ 8 * length (now of)) × (length (now of) ≤ 64) ⌝ }
-    ensures few { λ r. ⌜ r .count ≤ length (now (of .entry)) ⌝ }
-    ensures classes { λ r. ⌜ ((D : Domain) (a : Action) → Holds D index → In a (D .actions) → now (rows .entry) ≡ flatMap literalRow (a .lits)
-        → (r ≡ classTable D a) × (now (of .exit) ≡ classNumbers D a)) ⌝ }
+// How many classes an action has whose literals are these rows; `of` gets the class number of each literal, and `tuples`, which is all FF, the key tuples
+// of the classes, 8 bytes each: variables in the order of the keys, FF to fill.
+pub fn number_classes(
+    parts: &[u8],
+    components: usize,
+    keys: usize,
+    rows: &[u8],
+    of: &mut [u8],
+    tuples: &mut [u8],
+) -> usize
+    requires { ⌜ (8 * components ≤ length (now parts)) × (keys ≤ 6) × (length (now rows) ≡ 8 * length (now of)) × (length (now of) ≤ 64) × (length (now tuples) ≡ 512) ⌝ }
+    ensures few { λ r. ⌜ r ≤ length (now (of .entry)) ⌝ }
+    ensures classes { λ r. ⌜ ((D : Domain) (a : Action) (arities : List ℕ) → TemplateIn D (now (parts .entry)) components keys arities → In a (D .actions)
+        → now (rows .entry) ≡ flatMap literalRow (a .lits) → now (tuples .entry) ≡ replicate 512 255
+        → (r ≡ length (classes D a)) × (now (tuples .exit) ≡ classTuples D a) × (now (of .exit) ≡ classNumbers D a)) ⌝ }
 {
-    let parts = index.parts;
-    let mut tuples = [255u8; 512];
     let mut count: usize = 0;
     for j in 0..of.len() {
-        let o = number_literal(
-            &parts,
-            index.components,
-            index.keys,
-            rows,
-            8 * j,
-            &mut tuples,
-            count,
-        );
+        let o = number_literal(parts, components, keys, rows, 8 * j, tuples, count);
         of[j] = o.class;
         count = o.count;
     }
-    ClassTable { tuples, count }
+    count
 }

@@ -1,8 +1,14 @@
 // The library for C and Rust: no call asks anything of its caller beyond memory that it may read and write.
+use player::play::file_of;
+use player::play::offset_of;
+use player::play::play_files;
 use verdict::judging::judge;
 ghost use mathlib.Core.Path.{_≡_};
 ghost use Rattle.verdict.specs.Judged.{judged, reportAfter, witnessAfter};
 ghost use Rattle.verdict.specs.Claims.{AcceptedSafe, RefusedHarmful, WitnessHarms};
+ghost use Rattle.machine.specs.Play.{played, workAfter, returned};
+ghost use Rattle.player.specs.Called.{fileOf, offsetOf};
+ghost use Rattle.machine.specs.Claims.{PlaysAsMachine};
 
 // Judges a domain file: answers the number, and leaves its three places, the report and the witness.
 #[no_mangle]
@@ -28,5 +34,38 @@ pub extern "C" fn goadlotus_judge(
     *first = answer.first;
     *second = answer.second;
     *third = answer.third;
+    answer.number
+}
+
+// Plays a run file on a domain file: answers the number, and leaves its place, the steps made, the highest weight, the facts in the work memory, and
+// where the record at fault comes back from: the file (0 the domain file, 1 the run file) and the offset.
+#[no_mangle]
+pub extern "C" fn goadlotus_play(
+    domain: &[u8],
+    run: &[u8],
+    work: &mut [u8],
+    place: &mut u64,
+    steps: &mut u64,
+    weight: &mut u64,
+    part_file: &mut u64,
+    part_at: &mut u64,
+) -> u64
+    ensures number { λ r. ⌜ r ≡ played (now («domain» .entry)) (now (run .entry)) (now (work .entry)) .number ⌝ }
+    ensures place { λ _. ⌜ now (place .exit) ≡ played (now («domain» .entry)) (now (run .entry)) (now (work .entry)) .first ⌝ }
+    ensures steps { λ _. ⌜ now (steps .exit) ≡ played (now («domain» .entry)) (now (run .entry)) (now (work .entry)) .steps ⌝ }
+    ensures weight { λ _. ⌜ now (weight .exit) ≡ played (now («domain» .entry)) (now (run .entry)) (now (work .entry)) .weight ⌝ }
+    ensures work { λ _. ⌜ now (work .exit) ≡ workAfter (now («domain» .entry)) (now (run .entry)) (now (work .entry)) ⌝ }
+    ensures file { λ _. ⌜ now («part_file» .exit) ≡ fileOf (returned (now («domain» .entry)) (now (run .entry)) (now (work .entry))) ⌝ }
+    ensures offset { λ _. ⌜ now («part_at» .exit) ≡ offsetOf (returned (now («domain» .entry)) (now (run .entry)) (now (work .entry))) ⌝ }
+    ensures machine { λ r. ⌜ PlaysAsMachine (now («domain» .entry)) (now (run .entry)) (now (work .entry)) r (now (steps .exit)) (now (weight .exit)) (now (work .exit)) ⌝ }
+    ensures never { λ r. ⌜ (r ≡ 59 → ⊥) ⌝ }
+{
+    let answer = play_files(domain, run, work);
+    let fault = answer.fault;
+    *place = answer.place as u64;
+    *steps = answer.steps as u64;
+    *weight = answer.weight as u64;
+    *part_file = file_of(fault);
+    *part_at = offset_of(fault) as u64;
     answer.number
 }

@@ -1,13 +1,13 @@
-// Prints the verdict of a domain file and its rows.
+// Prints the verdict of a domain file and its rows, and lines of words and numbers.
 use libc::STDOUT_FILENO;
 
 // A word, then a number.
-fn put(word: &[u8], n: u64) {
+pub fn put(word: &[u8], n: u64) {
     io::write_all(STDOUT_FILENO, word);
     io::print_decimal(STDOUT_FILENO, n);
 }
 
-fn put_byte(word: &[u8], n: u8) {
+pub fn put_byte(word: &[u8], n: u8) {
     put(word, n as u64);
 }
 

@@ -5,14 +5,14 @@ use mathlib.Core.List.{List, [], _∷_, _++_, map, flatMap, append-nil, append-a
 use Prim.Native.Nat.{ℕ, suc, _+_, _-_, _*_, _≤_, _<_}
 use native.Mathlib.Nat.{zero-add}
 use native.Mathlib.Omega.{arith}
-use lib.ListN.{length, take, getD, length-append}
+use lib.ListN.{length, take, getD, length-append, length-map}
 use borrow.Author.Tests.{eq-eqb, ne-eqb}
 use Rattle.records.specs.Lists.{In}
 use Rattle.records.proofs.Lists.{flatMap-in, flatMap-snoc, count-le}
 use Rattle.literals.specs.declared.Index.{Index}
 use Rattle.literals.specs.Domain.{Literal, Action, Component, isCounted, keysOf, Domain}
 use Rattle.literals.specs.Decode.{RecordKind, isUnknown, latest, outOfOrder, atLimit, headStop, withLiteral, fieldStop, stopOf, extend}
-use Rattle.literals.specs.Table.{allLiterals, componentRow, pad, startsFrom, sortNumber, indexOf, Holds, Shaped, behind, takenOf}
+use Rattle.literals.specs.Table.{allLiterals, componentRow, pad, startsFrom, sortNumber, indexOf, Holds, Shaped, Sized, behind, takenOf}
 use Rattle.literals.proofs.Bounds.{arity-six}
 use Rattle.literals.proofs.Tables.{pad-at, take-pad, length-pad, length-components}
 use Rattle.literals.proofs.Spans.{spanned}
@@ -221,4 +221,14 @@ module _ {D : Domain} {index : Index} (h : Holds D index) where
             let b = h .bounded .components in
             ap length parts-is ∙ length-pad 128 (flatMap componentRow (D .template)) (omega arith);
         keys = let a = keys-is in let b = keys-few (D .template) (h .bounded .labels) in omega arith;
+      }
+
+  pub sized : Sized index
+  sized =
+      let b = h .bounded .actions in
+      record {
+        arities = ap length arities-is ∙ length-pad 64 (D .arities) (h .bounded .relations);
+        variables = ap length variables-is ∙ length-pad 64 (map (λ (a : Action). a .vars) (D .actions)) (let l = length-map (D .actions) (λ (a : Action). a .vars) in omega arith);
+        sorts = ap length sorts-is ∙ length-pad 64 (map sortNumber (D .actions)) (let l = length-map (D .actions) sortNumber in omega arith);
+        starts = ap length starts-is ∙ length-pad 64 (startsFrom 0 (D .actions)) (let l = starts-length 0 (D .actions) in omega arith);
       }

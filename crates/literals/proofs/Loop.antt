@@ -6,7 +6,8 @@ use Prim.Native.Nat.{ℕ, zero, suc, _+_, _≤_, _<_}
 use native.Mathlib.Nat.{add-suc}
 use native.Mathlib.Omega.{arith}
 use lib.Dec.{eqb, ltb}
-use lib.ListN.{length}
+use lib.ListN.{length, drop, length-drop}
+use lib.Seq.{length-take-le}
 use borrow.Author.Tests.{eqb-true}
 use Rattle.records.specs.declared.Record.{Record}
 use Rattle.records.specs.declared.Record.the-variants.{Whole, Cut, End}
@@ -33,13 +34,18 @@ goOn-inj e = cc
 finish-goOn : {d : Decoded} {q : Reading} {P : Type 0} → finish d ≡ goOn q → P
 finish-goOn e = let z : _≡_ {A = ℕ} 0 1 = cc in absurd (omega arith)
 
--- what a turn that goes on has read: a record that nothing stops, at least 4 bytes of the file
+-- a payload within the file is as long as its record says
+pub payload-length : (s : List ℕ) (start len : ℕ) → start + len ≤ length s → length (payload s start len) ≡ len
+unfolding payload
+payload-length s start len h = length-take-le len (drop start s) (let d = length-drop start s in omega arith)
+
+-- what a turn that goes on has read: a record that nothing stops, within the file
 pub record GoesOn (s : List ℕ) (r q : Reading) : Type 0 where
   pub kind : RecordKind
   pub bytes : List ℕ
   pub passes : stopOf (r .sofar) kind bytes ≡ 0
   pub extends : extend (r .sofar) kind bytes ≡ q .sofar
-  pub on : r .at + 4 ≤ q .at
+  pub on : r .at + 4 + length bytes ≡ q .at
   pub within : q .at ≤ length s
 
 pub goOn-at : (s : List ℕ) (r q : Reading) → readStep s r ≡ goOn q → GoesOn s r q
@@ -59,6 +65,7 @@ goOn-at s r q e = start (r .closed) (ltb (r .at) (length s)) e
         go true t z =
             let w = whole-within s (r .at) g in
             let x : p + n ≡ q .at = ap (λ (y : Reading). y .at) (goOn-inj z) in
+            let l = payload-length s p n (w .fits) in
             record { kind = kindOf k; bytes = payload s p n; passes = eqb-true stop 0 t; extends = ap (λ (y : Reading). y .sofar) (goOn-inj z); on = omega arith; within = omega arith }
         go false t z = finish-goOn z
     found Cut g z = finish-goOn z

@@ -1,18 +1,19 @@
 -- Rows of 8 bytes: a payload's row by its bytes, and the loops that write rows, compare them and go through them. Assumes nothing.
-use mathlib.Core.Path.{_≡_, sym, ap, _∙_}
-use mathlib.Core.Bool.{true, false}
-use mathlib.Core.List.{List, [], _∷_}
+use mathlib.Core.Path.{_≡_, refl, sym, ap, ap₂, _∙_}
+use mathlib.Core.Bool.{Bool, true, false, _&&_}
+use mathlib.Core.List.{List, [], _∷_, append-nil}
 use Prim.Native.Nat.{ℕ, suc, _+_, _-_, _*_, _≤_, _<_, max}
 use native.Mathlib.Numerals.{add-one}
 use native.Mathlib.Omega.{arith}
 use lib.Dec.{eqb}
 use lib.ListN.{length, getD, set, take, drop, replicate, length-append, length-replicate, length-drop, getD-replicate, List·getD-append, drop-of-length-le}
-use lib.Seq.{drop-cons, getD-drop, getD-take, getD-append-add, drop-drop, length-take-le, paste}
-use borrow.Author.Tests.{eq-eqb, ne-eqb}
+use lib.Seq.{drop-cons, getD-drop, getD-take, getD-append-add, drop-drop, length-take-le, take-all, paste}
+use borrow.Author.Tests.{eq-eqb, ne-eqb, eqb-true}
 use Rattle.records.specs.Lists.{any, sameList}
+use Rattle.records.proofs.Lists.{off, sameList-eq}
 use Rattle.records.proofs.Memory.{paste-more, paste-length}
 use Rattle.literals.specs.Decode.{byte}
-use Rattle.literals.specs.Table.{rowOf, roleRank, rowRank, rowsIn, rowsRank}
+use Rattle.literals.specs.Table.{rowOf, FourAt, roleRank, rowRank, rowsIn, rowsRank}
 
 -- ---- a payload's row
 
@@ -50,6 +51,109 @@ module _ (x y : List ℕ) (i : ℕ) where
   pub same-end : length x ≤ i → length y ≤ i → sameList eqb (drop i x) (drop i y) ≡ true
   same-end h g = rw (drop-of-length-le x h, drop-of-length-le y g)
 
+-- ---- four bytes at a time
+
+-- the byte k, where n is the next place
+next : (x : List ℕ) (k n : ℕ) → n ≡ k + 1 → k < length x → drop k x ≡ getD x k 0 ∷ drop n x
+next x k n e h = drop-cons x k 0 h ∙ ap (λ (m : ℕ). getD x k 0 ∷ drop m x) (let z : suc k ≡ n = omega arith in z)
+
+-- the four bytes from i on, whose places are i, j, k and l
+four-listed : (x : List ℕ) (i j k l : ℕ) → j ≡ i + 1 → k ≡ i + 2 → l ≡ i + 3 → i + 4 ≤ length x → (r : List ℕ) → r ≡ drop (i + 4) x → drop i x ≡ getD x i 0 ∷ getD x j 0 ∷ getD x k 0 ∷ getD x l 0 ∷ r
+four-listed x i j k l a b c h r e =
+    next x i j a (omega arith)
+    ∙ ap (λ (m : List ℕ). getD x i 0 ∷ m)
+    (next x j k (omega arith) (omega arith)
+    ∙ ap (λ (m : List ℕ). getD x j 0 ∷ m)
+    (next x k l (omega arith) (omega arith) ∙ ap (λ (m : List ℕ). getD x k 0 ∷ m) (next x l (i + 4) (omega arith) (omega arith) ∙ ap (λ (m : List ℕ). getD x l 0 ∷ m) (sym e))))
+
+four-cons : (x : List ℕ) (i j k l : ℕ) → j ≡ i + 1 → k ≡ i + 2 → l ≡ i + 3 → i + 4 ≤ length x → take 4 (drop i x) ≡ getD x i 0 ∷ getD x j 0 ∷ getD x k 0 ∷ getD x l 0 ∷ []
+four-cons x i j k l a b c h = ap (take 4) (four-listed x i j k l a b c h (drop (i + 4) x) refl)
+
+eight-cons : (x : List ℕ) (i : ℕ) → i + 8 ≤ length x
+    → take 8 (drop i x) ≡ getD x i 0 ∷ getD x (i + 1) 0 ∷ getD x (i + 2) 0 ∷ getD x (i + 3) 0 ∷ getD x (i + 4) 0 ∷ getD x (i + 5) 0 ∷ getD x (i + 6) 0 ∷ getD x (i + 7) 0 ∷ []
+eight-cons x i h =
+    ap (take 8)
+    (four-listed x i (i + 1) (i + 2) (i + 3) refl refl refl (omega arith) _
+    (sym (four-listed x (i + 4) (i + 5) (i + 6) (i + 7) (omega arith) (omega arith) (omega arith) (omega arith) (drop (i + 4 + 4) x) refl)))
+
+-- two numbers of four bytes are the same where the bytes are
+module _ (x y : List ℕ) (i j : ℕ) (h : i + 4 ≤ length x) (g : j + 4 ≤ length y) {a b : ℕ} (A : FourAt x i a) (B : FourAt y j b) where
+  pub four-same : a ≡ b → true ≡ sameList eqb (take 4 (drop i x)) (take 4 (drop j y))
+  four-same e =
+      let p = A .is in
+      let q = B .is in
+      let a0 = A .first in
+      let a1 = A .second in
+      let a2 = A .third in
+      let b0 = B .first in
+      let b1 = B .second in
+      let b2 = B .third in
+      let e3 : getD x (i + 3) 0 ≡ getD y (j + 3) 0 = omega arith in
+      let e2 : getD x (i + 2) 0 ≡ getD y (j + 2) 0 = omega arith in
+      let e1 : getD x (i + 1) 0 ≡ getD y (j + 1) 0 = omega arith in
+      let e0 : getD x i 0 ≡ getD y j 0 = omega arith in
+      sym
+      (rw (four-cons x i (i + 1) (i + 2) (i + 3) refl refl refl h, four-cons y j (j + 1) (j + 2) (j + 3) refl refl refl g, eq-eqb (getD x i 0) (getD y j 0) e0, eq-eqb (getD x (i + 1) 0) (getD y (j + 1) 0) e1, eq-eqb (getD x (i + 2) 0) (getD y (j + 2) 0) e2, eq-eqb (getD x (i + 3) 0) (getD y (j + 3) 0) e3))
+
+  pub four-other : (a ≡ b → ⊥) → false ≡ sameList eqb (take 4 (drop i x)) (take 4 (drop j y))
+  four-other n =
+      sym
+      (off (sameList eqb (take 4 (drop i x)) (take 4 (drop j y)))
+      (λ t.
+      let l = sym (four-cons x i (i + 1) (i + 2) (i + 3) refl refl refl h) ∙ sameList-eq eqb eqb-true (take 4 (drop i x)) (take 4 (drop j y)) t ∙ four-cons y j (j + 1) (j + 2) (j + 3) refl refl refl g in
+      let e0 : getD x i 0 ≡ getD y j 0 = ap (λ (m : List ℕ). getD m 0 0) l in
+      let e1 : getD x (i + 1) 0 ≡ getD y (j + 1) 0 = ap (λ (m : List ℕ). getD m 1 0) l in
+      let e2 : getD x (i + 2) 0 ≡ getD y (j + 2) 0 = ap (λ (m : List ℕ). getD m 2 0) l in
+      let e3 : getD x (i + 3) 0 ≡ getD y (j + 3) 0 = ap (λ (m : List ℕ). getD m 3 0) l in
+      let p = A .is in
+      let q = B .is in
+      n (omega arith)))
+
+-- rows of eight bytes, by their bytes 0 to 3 and 4 to 7; and all but their first byte, by the bytes 1 to 4 and 4 to 7
+join-eight : (a b c d r : Bool) → a && (b && (c && (d && r))) ≡ (a && (b && (c && (d && true)))) && r
+join-eight false b c d r = refl
+join-eight true false c d r = refl
+join-eight true true false d r = refl
+join-eight true true true false r = refl
+join-eight true true true true r = refl
+
+join-seven : (a b c d r : Bool) → a && (b && (c && (d && r))) ≡ (a && (b && (c && (d && true)))) && (d && r)
+join-seven false b c d r = refl
+join-seven true false c d r = refl
+join-seven true true false d r = refl
+join-seven true true true false r = refl
+join-seven true true true true r = refl
+
+module _ (x y : List ℕ) (i j : ℕ) (h : i + 8 ≤ length x) (g : j + 8 ≤ length y) where
+  pub eight-by-four : sameList eqb (take 8 (drop i x)) (take 8 (drop j y)) ≡ sameList eqb (take 4 (drop i x)) (take 4 (drop j y)) && sameList eqb (take 4 (drop (i + 4) x)) (take 4 (drop (j + 4) y))
+  eight-by-four =
+      ap₂ (sameList eqb) (eight-cons x i h) (eight-cons y j g)
+      ∙ join-eight (eqb (getD x i 0) (getD y j 0)) (eqb (getD x (i + 1) 0) (getD y (j + 1) 0)) (eqb (getD x (i + 2) 0) (getD y (j + 2) 0)) (eqb (getD x (i + 3) 0) (getD y (j + 3) 0)) _
+      ∙ ap₂ _&&_
+      (ap₂ (sameList eqb) (sym (four-cons x i (i + 1) (i + 2) (i + 3) refl refl refl (omega arith))) (sym (four-cons y j (j + 1) (j + 2) (j + 3) refl refl refl (omega arith))))
+      (ap₂ (sameList eqb) (sym (four-cons x (i + 4) (i + 5) (i + 6) (i + 7) (omega arith) (omega arith) (omega arith) (omega arith))) (sym (four-cons y (j + 4) (j + 5) (j + 6) (j + 7) (omega arith) (omega arith) (omega arith) (omega arith))))
+
+  pub seven-by-four : sameList eqb (drop 1 (take 8 (drop i x))) (drop 1 (take 8 (drop j y)))
+      ≡ sameList eqb (take 4 (drop (i + 1) x)) (take 4 (drop (j + 1) y)) && sameList eqb (take 4 (drop (i + 4) x)) (take 4 (drop (j + 4) y))
+  seven-by-four =
+      ap₂ (λ (p q : List ℕ). sameList eqb (drop 1 p) (drop 1 q)) (eight-cons x i h) (eight-cons y j g)
+      ∙ join-seven (eqb (getD x (i + 1) 0) (getD y (j + 1) 0)) (eqb (getD x (i + 2) 0) (getD y (j + 2) 0)) (eqb (getD x (i + 3) 0) (getD y (j + 3) 0)) (eqb (getD x (i + 4) 0) (getD y (j + 4) 0)) _
+      ∙ ap₂ _&&_
+      (ap₂ (sameList eqb) (sym (four-cons x (i + 1) (i + 2) (i + 3) (i + 4) (omega arith) (omega arith) (omega arith) (omega arith))) (sym (four-cons y (j + 1) (j + 2) (j + 3) (j + 4) (omega arith) (omega arith) (omega arith) (omega arith))))
+      (ap₂ (sameList eqb) (sym (four-cons x (i + 4) (i + 5) (i + 6) (i + 7) (omega arith) (omega arith) (omega arith) (omega arith))) (sym (four-cons y (j + 4) (j + 5) (j + 6) (j + 7) (omega arith) (omega arith) (omega arith) (omega arith))))
+
+-- a row, and the row at an offset
+module _ (row t : List ℕ) (at : ℕ) (g : length row ≡ 8) (h : at + 8 ≤ length t) where
+  atom-by-four : sameList eqb (drop 1 row) (drop 1 (take 8 (drop at t))) ≡ sameList eqb (take 4 (drop 1 row)) (take 4 (drop (at + 1) t)) && sameList eqb (take 4 (drop 4 row)) (take 4 (drop (at + 4) t))
+  atom-by-four = ap (λ (r : List ℕ). sameList eqb (drop 1 r) (drop 1 (take 8 (drop at t)))) (sym (take-all 8 row (omega arith))) ∙ seven-by-four row t 0 at (omega arith) h
+
+  pub atom-same : {r : Bool} → sameList eqb (take 4 (drop 1 row)) (take 4 (drop (at + 1) t)) ≡ true → r ≡ sameList eqb (take 4 (drop 4 row)) (take 4 (drop (at + 4) t))
+      → r ≡ sameList eqb (drop 1 row) (drop 1 (take 8 (drop at t)))
+  atom-same e f = f ∙ sym (atom-by-four ∙ ap (λ (b : Bool). b && sameList eqb (take 4 (drop 4 row)) (take 4 (drop (at + 4) t))) e)
+
+  pub atom-other : sameList eqb (take 4 (drop 1 row)) (take 4 (drop (at + 1) t)) ≡ false → false ≡ sameList eqb (drop 1 row) (drop 1 (take 8 (drop at t)))
+  atom-other e = sym (atom-by-four ∙ ap (λ (b : Bool). b && sameList eqb (take 4 (drop 4 row)) (take 4 (drop (at + 4) t))) e)
+
 -- ---- the row at an offset of a memory
 
 pub part-first : (t : List ℕ) (at : ℕ) → byte (take 8 (drop at t)) 0 ≡ getD t at 0
@@ -82,27 +186,33 @@ module _ (t : List ℕ) (b n i : ℕ) (h : i < n) where
       → any (λ row. eqb b (byte row 0)) (rowsIn (n - i) (drop (8 * i) t)) ≡ any (λ row. eqb b (byte row 0)) (rowsIn (n - (i + 1)) (drop (8 * (i + 1)) t))
   rows-miss e = rw (rows-more t n i h, part-first t (8 * i), ne-eqb b (getD t (8 * i) 0) (λ f. e (sym f)))
 
--- the atom of a payload and of the row at an offset, from byte i on
-module _ (p t : List ℕ) (at i : ℕ) (g : length p ≤ 8) (h : at + 8 ≤ length t) where
-  pub atom-miss : (r : ℕ) → i < 8 → r ≡ getD (rowOf p) i 0 → (r ≡ getD t (at + i) 0 → ⊥) → sameList eqb (drop i (rowOf p)) (drop i (take 8 (drop at t))) ≡ false
-  atom-miss r l e n = same-miss (rowOf p) (take 8 (drop at t)) i (omega (arith, length-row p g)) (omega (arith, length-part t at h)) (λ f. n (e ∙ f ∙ part-at t at h i l))
-
-  pub atom-hit : (r : ℕ) → i < 8 → r ≡ getD (rowOf p) i 0 → r ≡ getD t (at + i) 0
-      → sameList eqb (drop i (rowOf p)) (drop i (take 8 (drop at t))) ≡ sameList eqb (drop (i + 1) (rowOf p)) (drop (i + 1) (take 8 (drop at t)))
-  atom-hit r l e f = same-hit (rowOf p) (take 8 (drop at t)) i (omega (arith, length-row p g)) (omega (arith, length-part t at h)) (sym e ∙ f ∙ sym (part-at t at h i l))
-
-  pub atom-end : 8 ≤ i → sameList eqb (drop i (rowOf p)) (drop i (take 8 (drop at t))) ≡ true
-  atom-end l = same-end (rowOf p) (take 8 (drop at t)) i (omega (arith, length-row p g)) (omega (arith, length-part t at h))
-
 -- ---- ranks
 
-pub rank-same : (p t : List ℕ) (at r : ℕ) → sameList eqb (drop 1 (rowOf p)) (drop 1 (take 8 (drop at t))) ≡ true → r ≡ roleRank (getD p 0 0) (getD t at 0) → r ≡ rowRank p (take 8 (drop at t))
-unfolding rowRank
-rank-same p t at r e f = rw (e, part-first t at) f
+-- a row of 8 bytes is its own row
+row-full : (row : List ℕ) → length row ≡ 8 → rowOf row ≡ row
+row-full row g = let z : 8 - length row ≡ 0 = omega arith in rw z (append-nil row)
 
-pub rank-other : (p t : List ℕ) (at : ℕ) → sameList eqb (drop 1 (rowOf p)) (drop 1 (take 8 (drop at t))) ≡ false → 0 ≡ rowRank p (take 8 (drop at t))
-unfolding rowRank
-rank-other p t at e = rw e
+module _ (row t : List ℕ) (at : ℕ) (g : length row ≡ 8) where
+  pub rank-same : (r : ℕ) → sameList eqb (drop 1 row) (drop 1 (take 8 (drop at t))) ≡ true → r ≡ roleRank (getD row 0 0) (getD t at 0) → r ≡ rowRank row (take 8 (drop at t))
+  unfolding rowRank
+  rank-same r e f = rw (row-full row g, e, part-first t at) f
+
+  pub rank-other : sameList eqb (drop 1 row) (drop 1 (take 8 (drop at t))) ≡ false → 0 ≡ rowRank row (take 8 (drop at t))
+  unfolding rowRank
+  rank-other e = rw (row-full row g, e)
+
+-- a payload ranks as its row does
+ranks-row : (p : List ℕ) (rows : List (List ℕ)) → 0 < length p → length p ≤ 8 → rowsRank (rowOf p) rows ≡ rowsRank p rows
+unfolding rowsRank rowRank
+ranks-row p [] h g = refl
+ranks-row p (row ∷ rows) h g = ap₂ max (rw (row-full (rowOf p) (length-row p g), ← row-inside p 0 h)) (ranks-row p rows h g)
+
+-- its row, written over 8 bytes, of which nothing is left
+pub ranks-filled : (p old row : List ℕ) (rows : List (List ℕ)) {r : ℕ} → 0 < length p → length p ≤ 8 → length old ≡ 8 → row ≡ paste old 0 (rowOf p) 8 → r ≡ rowsRank row rows → r ≡ rowsRank p rows
+ranks-filled p old row rows h g e f q = q ∙ ap (λ (l : List ℕ). rowsRank l rows) (f ∙ alone) ∙ ranks-row p rows h g
+  where
+    alone : paste old 0 (rowOf p) 8 ≡ rowOf p
+    alone = let l = length-row p g in rw (take-all 8 (rowOf p) (omega arith), drop-of-length-le old (let z : length old ≤ 0 + 8 = omega arith in z)) (append-nil (rowOf p))
 
 -- the loop over the rows: of the rank so far, and the rows from row i on
 module _ (p t : List ℕ) (n i rank : ℕ) where

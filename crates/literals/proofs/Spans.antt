@@ -172,12 +172,13 @@ pub part-literals : {D : Domain} {index : Index} (H : Holds D index) (i : ℕ) �
 part-literals H i b table old e from to p q = ap₂ (λ (f t : ℕ). take (8 * t - 8 * f) (drop (8 * f) table)) p q ∙ span-part H i b old e
 
 -- the bounds of an action's part of the table
-pub record PartBounds (from to : ℕ) : Type 0 where
+pub record PartBounds (rows from to : ℕ) : Type 0 where
   pub order : from ≤ to
+  pub listed : to ≤ rows
   pub within : to ≤ 4096
   pub few : to ≤ from + 64
 
-pub part-bounds : {index : Index} → Shaped index → (i : ℕ) → i < index .actions → (from to : ℕ) → from ≡ getD (index .starts) i 0 → to ≡ endOf index i → PartBounds from to
+pub part-bounds : {index : Index} → Shaped index → (i : ℕ) → i < index .actions → (from to : ℕ) → from ≡ getD (index .starts) i 0 → to ≡ endOf index i → PartBounds (index .rows) from to
 part-bounds {index} S i h from to p q =
     let s = S .spans i h in
     let n = S .actions in
@@ -185,10 +186,10 @@ part-bounds {index} S i h from to p q =
     let o = s .order in
     let w = s .within in
     let f = s .few in
-    record { order = omega arith; within = omega arith; few = omega arith }
+    record { order = omega arith; listed = omega arith; within = omega arith; few = omega arith }
 
-pub part-length : (table : List ℕ) (start behind : ℕ) → length table ≡ 32768 → start ≤ behind → behind ≤ 4096 → length (take (8 * behind - 8 * start) (drop (8 * start) table)) ≡ 8 * (behind - start)
-part-length table start behind l h g =
+pub part-length : (table : List ℕ) (start behind : ℕ) → start ≤ behind → 8 * behind ≤ length table → length (take (8 * behind - 8 * start) (drop (8 * start) table)) ≡ 8 * (behind - start)
+part-length table start behind h g =
     let d = length-drop (8 * start) table in
     let z : 8 * behind - 8 * start ≡ 8 * (behind - start) = omega arith in
     length-take-le (8 * behind - 8 * start) (drop (8 * start) table) (omega arith) ∙ z

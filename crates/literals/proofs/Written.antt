@@ -12,10 +12,9 @@ use Rattle.records.specs.Memory.{over}
 use Rattle.records.proofs.Lists.{flatMap-snoc, map-back}
 use Rattle.literals.specs.declared.Variable.{Variable}
 use Rattle.literals.specs.declared.Index.{Index}
-use Rattle.literals.specs.declared.Taken.{Taken}
 use Rattle.literals.specs.Domain.{variable, Domain}
 use Rattle.literals.specs.Decode.{RecordKind, relationRecord, actionRecord, literalRecord, componentRecord, closingRecord, unknownRecord, kindOf, latest, byte, literalOf, literalStop, actionOf, stopOf, extend}
-use Rattle.literals.specs.Table.{rowOf, literalRow, allLiterals, tableBytes, indexOf, Holds, behind, takenOf}
+use Rattle.literals.specs.Table.{rowOf, literalRow, allLiterals, tableBytes, indexOf, Bounded, Holds, behind, Taken, takenOf}
 use Rattle.literals.proofs.Stops.{literal-passes, role-nine}
 use Rattle.literals.proofs.Bounds.{role-number}
 use Rattle.literals.proofs.Tables.{over-row, length-literals}
@@ -63,14 +62,18 @@ literal-row [] h r = absurd (omega arith)
 literal-row (a ∷ []) h r = absurd (omega arith)
 literal-row (a ∷ b ∷ q) h r = ap₂ (λ (x : ℕ) (y : List ℕ). rowOf (x ∷ b ∷ y)) (sym (role-number a r)) (sym (map-back (λ (v : Variable). v .0) variable (λ b. refl) q))
 
+-- 8 bytes a literal
+pub length-table : {D : Domain} → Bounded D → length (tableBytes D) ≡ 8 * length (allLiterals (D .actions))
+unfolding tableBytes
+length-table {D} b = length-literals (allLiterals (D .actions)) (λ l m. let o = literals-in (D .actions) m in b .arguments (o .0) (o .1) l (o .2))
+
 module _ {D : Domain} {index : Index} (h : Holds D index) (p : List ℕ) {t : List ℕ} (old : List ℕ) (q : t ≡ over (tableBytes D) old) where
   stopped-both : {n : ℕ} → stopOf D literalRecord p ≡ n → (n ≡ 0 → ⊥)
       → (record { number = n; index = index } ≡ takenOf D literalRecord p) × (t ≡ over (tableBytes (behind D literalRecord p)) old)
   stopped-both e z = (stopped-at h literalRecord p e z, table-stopped D literalRecord p old e z q)
 
   table-length : length (tableBytes D) ≡ 8 * index .rows
-  unfolding tableBytes
-  table-length = length-literals (allLiterals (D .actions)) (λ l m. let o = literals-in (D .actions) m in h .bounded .arguments (o .0) (o .1) l (o .2)) ∙ ap (λ (n : ℕ). 8 * n) (sym (rows-is h))
+  table-length = length-table (h .bounded) ∙ ap (λ (n : ℕ). 8 * n) (sym (rows-is h))
 
   bytes-more : literalStop D p ≡ 0 → 0 < index .actions → tableBytes D ++ rowOf p ≡ tableBytes (extend D literalRecord p)
   unfolding tableBytes extend

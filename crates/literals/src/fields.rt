@@ -88,15 +88,9 @@ fn no_role(sort: u8, role: u8) -> bool
 }
 
 // The relation of a literal or component whose arguments start at `first` of its `given` bytes.
-fn arguments_stop(
-    relations: usize,
-    arities: [u8; 64],
-    relation: u8,
-    first: usize,
-    given: usize,
-) -> u64
-    requires { ⌜ (relations ≤ 64) × (first ≤ 2) ⌝ }
-    ensures { λ r. ⌜ r ≡ argumentsStop (take relations arities) relation first given ⌝ }
+fn arguments_stop(relations: usize, arities: &[u8], relation: u8, first: usize, given: usize) -> u64
+    requires { ⌜ (relations ≤ length (now arities)) × (first ≤ 2) ⌝ }
+    ensures { λ r. ⌜ r ≡ argumentsStop (take relations (now (arities .entry))) relation first given ⌝ }
 {
     let at = wide(relation);
     if relations <= at {
@@ -109,9 +103,9 @@ fn arguments_stop(
 }
 
 // A literal: role, relation, one variable per argument.
-pub fn literal_fields(relations: usize, arities: [u8; 64], vars: u8, sort: u8, p: &[u8]) -> u64
-    requires { ⌜ relations ≤ 64 ⌝ }
-    ensures { λ r. ⌜ r ≡ literalFields (take relations arities) vars sort (now (p .entry)) ⌝ }
+pub fn literal_fields(relations: usize, arities: &[u8], vars: u8, sort: u8, p: &[u8]) -> u64
+    requires { ⌜ relations ≤ length (now arities) ⌝ }
+    ensures { λ r. ⌜ r ≡ literalFields (take relations (now (arities .entry))) vars sort (now (p .entry)) ⌝ }
 {
     if p.len() < 2 {
         return 12;
@@ -130,9 +124,9 @@ pub fn literal_fields(relations: usize, arities: [u8; 64], vars: u8, sort: u8, p
 }
 
 // A component: relation, one label per argument.
-pub fn component_fields(relations: usize, arities: [u8; 64], p: &[u8]) -> u64
-    requires { ⌜ relations ≤ 64 ⌝ }
-    ensures { λ r. ⌜ r ≡ componentFields (take relations arities) (now (p .entry)) ⌝ }
+pub fn component_fields(relations: usize, arities: &[u8], p: &[u8]) -> u64
+    requires { ⌜ relations ≤ length (now arities) ⌝ }
+    ensures { λ r. ⌜ r ≡ componentFields (take relations (now (arities .entry))) (now (p .entry)) ⌝ }
 {
     if p.len() < 1 {
         return 12;

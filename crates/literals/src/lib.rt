@@ -42,7 +42,8 @@ pub struct Role {
     pub clause: Clause,
 }
 
-// A domain as the code holds it, beside the table of its literals (8 bytes a row: role, relation, variables, FF to fill).
+// A domain as the code holds it, beside the table of its literals (8 bytes a row: role, relation, variables, FF to fill). Contracts speak of it as one; the
+// code passes its counts by value (`Counts`) and lends its lists.
 pub struct Index {
     pub relations: usize,
     pub arities: [u8; 64],
@@ -69,25 +70,25 @@ pub struct Counts {
     pub keys: usize,
 }
 
-// What one record led to: 0 and the domain with it, or the number that stopped it and the domain before it.
-pub struct Taken {
+// What one record led to: 0 and the counts with it, or the number that stopped it and the counts before it.
+pub struct Took {
     pub number: u64,
-    pub index: Index,
+    pub counts: Counts,
 }
 
-// Where reading stands: the next record's offset, whether the closing record is read, and the domain so far.
+// Where reading stands: the next record's offset, whether the closing record is read, and the counts of the domain so far.
 pub struct Progress {
     pub at: usize,
     pub closed: bool,
-    pub index: Index,
+    pub counts: Counts,
 }
 
-// What a file led to: 0 and its domain, or the number that refused it with its place, where the record at fault starts, and the domain until then.
-pub struct ReadAnswer {
+// What a file led to: 0 and the counts of its domain, or the number that refused it with its place, where the record at fault starts, and the counts until then.
+pub struct ReadEnd {
     pub number: u64,
     pub place: usize,
     pub start: usize,
-    pub index: Index,
+    pub counts: Counts,
 }
 
 fn clause_of(n: u8) -> Clause

@@ -1,7 +1,7 @@
 // The file, record by record.
-use super::Index;
+use super::Counts;
 use super::Progress;
-use super::ReadAnswer;
+use super::ReadEnd;
 use super::take::take_record;
 use records::Record;
 use records::record_at;
@@ -9,8 +9,8 @@ ghost use mathlib.Core.Path.{_≡_};
 ghost use mathlib.Core.List.{List};
 ghost use Prim.Native.Nat.{ℕ};
 ghost use Rattle.records.specs.Memory.{over};
-ghost use Rattle.literals.specs.Decode.{Reading, readStep, fromStart};
-ghost use Rattle.literals.specs.Table.{Bounded, Shaped, finishedOf, progressOf, readOf, steppedOf, soFar, tableAfter, tableBytes};
+ghost use Rattle.literals.specs.Decode.{Reading, readStep};
+ghost use Rattle.literals.specs.Table.{Bounded, Cleared, EnoughTable, StepReady, answerWith, atStart, finishedOf, readOf, soFar, standingOf, standingWith, tableAfter, tableBytes, turnOf, turnWith};
 
 // What one record led to: 0 where reading goes on, 1 where the file is read, else the number that refuses it.
 pub struct Stepped {
@@ -20,35 +20,42 @@ pub struct Stepped {
 
 impl Progress {
     pub fn new() -> Progress
-        ensures { λ r. ⌜ r ≡ progressOf fromStart ⌝ }
+        ensures { λ r. ⌜ r ≡ atStart ⌝ }
     {
         Progress {
             at: 0,
             closed: false,
-            index: Index {
+            counts: Counts {
                 relations: 0,
-                arities: [0u8; 64],
                 actions: 0,
-                variables: [0u8; 64],
-                sorts: [0u8; 64],
-                starts: [0usize; 64],
                 rows: 0,
                 components: 0,
-                parts: [0u8; 128],
                 keys: 0,
             },
         }
     }
 
     // One record more.
-    pub fn step(self, s: &[u8], table: &mut [u8; 32768]) -> Stepped
-        requires { ⌜ Shaped (self .index) ⌝ }
-        ensures { λ r. ⌜ ((q : Reading) (old : List ℕ) → self ≡ progressOf q → Bounded (q .sofar) → now (table .entry) ≡ over (tableBytes (q .sofar)) old
-            → (r ≡ steppedOf q (readStep (now (s .entry)) q)) × (now (table .exit) ≡ over (tableBytes (soFar q (readStep (now (s .entry)) q))) old)) ⌝ }
+    pub fn step(
+        self,
+        s: &[u8],
+        arities: &mut [u8],
+        variables: &mut [u8],
+        sorts: &mut [u8],
+        starts: &mut [usize],
+        parts: &mut [u8],
+        table: &mut [u8],
+    ) -> Stepped
+        requires { ⌜ StepReady (now s) (now table) (standingWith self (now arities) (now variables) (now sorts) (now starts) (now parts)) ⌝ }
+        ensures { λ r. ⌜ ((q : Reading) (old : List ℕ)
+            → standingWith self (now (arities .entry)) (now (variables .entry)) (now (sorts .entry)) (now (starts .entry)) (now (parts .entry)) ≡ standingOf q
+            → Bounded (q .sofar) → now (table .entry) ≡ over (tableBytes (q .sofar)) old
+            → (turnWith r (now (arities .exit)) (now (variables .exit)) (now (sorts .exit)) (now (starts .exit)) (now (parts .exit)) ≡ turnOf q (readStep (now (s .entry)) q))
+            × (now (table .exit) ≡ over (tableBytes (soFar q (readStep (now (s .entry)) q))) old)) ⌝ }
     {
         let at = self.at;
         let closed = self.closed;
-        let index = self.index;
+        let counts = self.counts;
         if closed {
             if at < s.len() {
                 return Stepped {
@@ -64,22 +71,37 @@ impl Progress {
         match record_at(s, at) {
             Record::Whole { kind, start, len } => {
                 let end = start + len;
-                let taken = take_record(index, table, kind, &s[start..end]);
-                let number = taken.number;
-                let next = taken.index;
+                let took = take_record(
+                    counts,
+                    arities,
+                    variables,
+                    sorts,
+                    starts,
+                    parts,
+                    table,
+                    kind,
+                    &s[start..end],
+                );
+                let number = took.number;
+                let next = took.counts;
                 if number == 0 {
                     return Stepped {
                         number: 0,
                         progress: Progress {
                             at: end,
                             closed: kind == 5,
-                            index: next,
+                            counts: next,
                         },
                     };
                 }
+                // A refused record has left the counts as they were.
                 Stepped {
                     number,
-                    progress: self,
+                    progress: Progress {
+                        at,
+                        closed,
+                        counts: next,
+                    },
                 }
             }
             Record::Cut => Stepped {
@@ -95,50 +117,60 @@ impl Progress {
 }
 
 // The answer of a record that ends reading.
-fn answer_of(stepped: Stepped) -> ReadAnswer
-    ensures { λ r. ⌜ r ≡ finishedOf stepped ⌝ }
+fn end_of(stepped: Stepped) -> ReadEnd
+    ensures { λ r. ⌜ ((arities variables sorts starts parts : List ℕ) → answerWith r arities variables sorts starts parts ≡ finishedOf (turnWith stepped arities variables sorts starts parts)) ⌝ }
 {
     let number = stepped.number;
     let progress = stepped.progress;
     let at = progress.at;
-    let index = progress.index;
+    let counts = progress.counts;
     if number == 1 {
-        return ReadAnswer {
+        return ReadEnd {
             number: 0,
             place: 0,
             start: 0,
-            index,
+            counts,
         };
     }
-    ReadAnswer {
+    ReadEnd {
         number,
         place: at,
         start: at,
-        index,
+        counts,
     }
 }
 
-// A domain file, read into a lent table and an index, or refused.
-pub fn read_domain(s: &[u8], table: &mut [u8; 32768]) -> ReadAnswer
-    ensures { λ r. ⌜ (r ≡ readOf (now (s .entry))) × (now (table .exit) ≡ tableAfter (now (s .entry)) (now (table .entry))) ⌝ }
+// A domain file, read into lent memories that are all 0 and a lent table that is enough, or refused.
+pub fn read_into(
+    s: &[u8],
+    arities: &mut [u8],
+    variables: &mut [u8],
+    sorts: &mut [u8],
+    starts: &mut [usize],
+    parts: &mut [u8],
+    table: &mut [u8],
+) -> ReadEnd
+    requires { ⌜ Cleared (now arities) (now variables) (now sorts) (now starts) (now parts) × EnoughTable (now s) (now table) ⌝ }
+    ensures { λ r. ⌜ (answerWith r (now (arities .exit)) (now (variables .exit)) (now (sorts .exit)) (now (starts .exit)) (now (parts .exit)) ≡ readOf (now (s .entry)))
+        × (now (table .exit) ≡ tableAfter (now (s .entry)) (now (table .entry))) ⌝ }
 {
     let mut progress = Progress::new();
     if 65535 < s.len() {
-        let index = progress.index;
-        return ReadAnswer {
+        let counts = progress.counts;
+        return ReadEnd {
             number: 9,
             place: 0,
             start: 0,
-            index,
+            counts,
         };
     }
     loop {
-        let stepped = progress.step(s, table);
+        let stepped = progress.step(s, arities, variables, sorts, starts, parts, table);
         let number = stepped.number;
         if number == 0 {
             progress = stepped.progress;
             continue;
         }
-        return answer_of(stepped);
+        return end_of(stepped);
     }
 }

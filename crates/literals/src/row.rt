@@ -7,7 +7,7 @@ ghost use lib.ListN.{length, take, drop, getD};
 ghost use lib.Seq.{paste};
 ghost use Rattle.records.specs.Lists.{any, sameList};
 ghost use Rattle.literals.specs.Decode.{byte};
-ghost use Rattle.literals.specs.Table.{rowOf, rowRank, rowsIn, rowsRank};
+ghost use Rattle.literals.specs.Table.{rowOf, FourAt, rowRank, rowsIn, rowsRank};
 
 // A byte of the row of a payload.
 pub fn row_byte(p: &[u8], i: usize) -> u8
@@ -30,28 +30,53 @@ pub fn put_row(out: &mut [u8], at: usize, p: &[u8])
     }
 }
 
-// Whether the row at an offset has the relation and the arguments of the payload.
-pub fn same_atom(table: &[u8], at: usize, p: &[u8]) -> bool
-    requires { ⌜ (at + 8 ≤ length (now table)) × (length (now p) ≤ 8) ⌝ }
-    ensures { λ r. ⌜ r ≡ sameList eqb (drop 1 (rowOf (now (p .entry)))) (drop 1 (take 8 (drop at (now (table .entry))))) ⌝ }
+fn widened(b: u8) -> u32
+    ensures { λ r. ⌜ (r ≡ b) × (r < 256) ⌝ }
 {
-    let mut i = 1;
-    while i < 8 {
-        if row_byte(p, i) != table[at + i] {
-            return false;
-        }
-        i += 1;
-    }
-    true
+    b as u32
 }
 
-// The rank of a payload with the row at an offset.
-pub fn row_rank(table: &[u8], at: usize, p: &[u8]) -> u64
-    requires { ⌜ (at + 8 ≤ length (now table)) × (0 < length (now p)) × (length (now p) ≤ 8) ⌝ }
-    ensures { λ r. ⌜ r ≡ rowRank (now (p .entry)) (take 8 (drop at (now (table .entry)))) ⌝ }
+// The number of the four bytes at an offset, the lowest first.
+fn four_at(s: &[u8], at: usize) -> u32
+    requires { ⌜ at + 4 ≤ length (now s) ⌝ }
+    ensures { λ r. ⌜ FourAt (now (s .entry)) at r ⌝ }
 {
-    if same_atom(table, at, p) {
-        return role_rank(p[0], table[at]);
+    let first = widened(s[at]);
+    let second = widened(s[at + 1]);
+    let third = widened(s[at + 2]);
+    let fourth = widened(s[at + 3]);
+    first + 256 * second + 65536 * third + 16777216 * fourth
+}
+
+// Whether the four bytes at an offset are the same as those at an offset of another memory. They are compared as one number, which is much quicker than byte by byte.
+pub fn same_four(x: &[u8], i: usize, y: &[u8], j: usize) -> bool
+    requires { ⌜ (i + 4 ≤ length (now x)) × (j + 4 ≤ length (now y)) ⌝ }
+    ensures { λ r. ⌜ r ≡ sameList eqb (take 4 (drop i (now (x .entry)))) (take 4 (drop j (now (y .entry)))) ⌝ }
+{
+    if four_at(x, i) == four_at(y, j) {
+        return true;
+    }
+    false
+}
+
+// Whether the row at an offset has the relation and the arguments of a row: the bytes 1 to 4, and 4 to 7.
+pub fn same_atom(table: &[u8], at: usize, row: &[u8]) -> bool
+    requires { ⌜ (at + 8 ≤ length (now table)) × (length (now row) ≡ 8) ⌝ }
+    ensures { λ r. ⌜ r ≡ sameList eqb (drop 1 (now (row .entry))) (drop 1 (take 8 (drop at (now (table .entry))))) ⌝ }
+{
+    if same_four(row, 1, table, at + 1) {
+        return same_four(row, 4, table, at + 4);
+    }
+    false
+}
+
+// The rank of a row with the row at an offset.
+pub fn row_rank(table: &[u8], at: usize, row: &[u8]) -> u64
+    requires { ⌜ (at + 8 ≤ length (now table)) × (length (now row) ≡ 8) ⌝ }
+    ensures { λ r. ⌜ r ≡ rowRank (now (row .entry)) (take 8 (drop at (now (table .entry)))) ⌝ }
+{
+    if same_atom(table, at, row) {
+        return role_rank(row[0], table[at]);
     }
     0
 }
@@ -65,18 +90,28 @@ fn larger(a: u64, b: u64) -> u64
     a
 }
 
-// The highest rank of a payload with the rows from `from` to `to`.
-pub fn rows_rank(table: &[u8], from: usize, to: usize, p: &[u8]) -> u64
-    requires { ⌜ (from ≤ to) × (8 * to ≤ length (now table)) × (0 < length (now p)) × (length (now p) ≤ 8) ⌝ }
-    ensures { λ r. ⌜ r ≡ rowsRank (now (p .entry)) (rowsIn (to - from) (drop (8 * from) (now (table .entry)))) ⌝ }
+// The highest rank of a row with the rows from `from` to `to`.
+fn highest_rank(table: &[u8], from: usize, to: usize, row: &[u8]) -> u64
+    requires { ⌜ (from ≤ to) × (8 * to ≤ length (now table)) × (length (now row) ≡ 8) ⌝ }
+    ensures { λ r. ⌜ r ≡ rowsRank (now (row .entry)) (rowsIn (to - from) (drop (8 * from) (now (table .entry)))) ⌝ }
 {
     let mut rank: u64 = 0;
     let mut i = from;
     while i < to {
-        rank = larger(rank, row_rank(table, 8 * i, p));
+        rank = larger(rank, row_rank(table, 8 * i, row));
         i += 1;
     }
     rank
+}
+
+// The highest rank of a payload with the rows from `from` to `to`. Its row is filled once, so that no comparison asks how long the payload is.
+pub fn rows_rank(table: &[u8], from: usize, to: usize, p: &[u8]) -> u64
+    requires { ⌜ (from ≤ to) × (8 * to ≤ length (now table)) × (0 < length (now p)) × (length (now p) ≤ 8) ⌝ }
+    ensures { λ r. ⌜ r ≡ rowsRank (now (p .entry)) (rowsIn (to - from) (drop (8 * from) (now (table .entry)))) ⌝ }
+{
+    let mut row = [0u8; 8];
+    put_row(&mut row, 0, p);
+    highest_rank(table, from, to, &row)
 }
 
 // Whether one of the first n rows starts with the byte b.

@@ -1,6 +1,7 @@
-// What one record adds to the domain: each function takes a record of one kind, or refuses it and leaves all as it was.
-use super::Index;
-use super::Taken;
+// What one record adds to the domain: each function takes a record of one kind, or refuses it and leaves all as it was. The lists of the index stand in
+// lent memories, and only the counts go by value: an index is too large to be copied for each record.
+use super::Counts;
+use super::Took;
 use super::fields::action_fields;
 use super::fields::component_fields;
 use super::fields::count_keys;
@@ -12,81 +13,95 @@ use super::row::put_row;
 use super::row::rows_rank;
 ghost use mathlib.Core.Path.{_≡_};
 ghost use mathlib.Core.List.{List, [], _∷_, _++_};
-ghost use Prim.Native.Nat.{ℕ, _+_, _≤_};
-ghost use lib.ListN.{length};
+ghost use Prim.Native.Nat.{ℕ, _+_, _-_, _*_, _<_, _≤_};
+ghost use lib.ListN.{length, getD};
 ghost use Rattle.records.specs.Memory.{over};
 ghost use Rattle.literals.specs.Domain.{Domain, keysOf};
 ghost use Rattle.literals.specs.Decode.{relationRecord, actionRecord, literalRecord, componentRecord, closingRecord, kindOf, literalStop, componentOf, componentStop};
-ghost use Rattle.literals.specs.Table.{Holds, Shaped, tableBytes, takenOf, behind};
+ghost use Rattle.literals.specs.Table.{indexWith, Holds, Shaped, Sized, tableBytes, takenOf, takenWith, behind, LiteralReady, RowRoom, ComponentReady};
 
-pub fn take_relation(index: Index, p: &[u8]) -> Taken
-    requires { ⌜ Shaped index ⌝ }
-    ensures { λ r. ⌜ ((D : Domain) → Holds D index → r ≡ takenOf D relationRecord (now (p .entry))) ⌝ }
+pub fn take_relation(counts: Counts, arities: &mut [u8], p: &[u8]) -> Took
+    requires { ⌜ length (now arities) ≡ 64 ⌝ }
+    ensures { λ r. ⌜ ((D : Domain) (variables sorts starts parts : List ℕ) → Holds D (indexWith counts (now (arities .entry)) variables sorts starts parts)
+        → takenWith r (now (arities .exit)) variables sorts starts parts ≡ takenOf D relationRecord (now (p .entry))) ⌝ }
 {
-    let n = index.relations;
-    if 0 < index.actions {
-        return Taken { number: 13, index };
+    let n = counts.relations;
+    if 0 < counts.actions {
+        return Took { number: 13, counts };
     }
-    if 0 < index.components {
-        return Taken { number: 13, index };
+    if 0 < counts.components {
+        return Took { number: 13, counts };
     }
     if 64 <= n {
-        return Taken { number: 14, index };
+        return Took { number: 14, counts };
     }
     let number = relation_fields(p);
     if number == 0 {
-        let mut next = index;
-        next.arities[n] = p[0];
+        arities[n] = p[0];
+        let mut next = counts;
         next.relations = n + 1;
-        return Taken {
+        return Took {
             number: 0,
-            index: next,
+            counts: next,
         };
     }
-    Taken { number, index }
+    Took { number, counts }
 }
 
-pub fn take_action(index: Index, p: &[u8]) -> Taken
-    requires { ⌜ Shaped index ⌝ }
-    ensures { λ r. ⌜ ((D : Domain) → Holds D index → r ≡ takenOf D actionRecord (now (p .entry))) ⌝ }
+pub fn take_action(
+    counts: Counts,
+    variables: &mut [u8],
+    sorts: &mut [u8],
+    starts: &mut [usize],
+    p: &[u8],
+) -> Took
+    requires { ⌜ (length (now variables) ≡ 64) × (length (now sorts) ≡ 64) × (length (now starts) ≡ 64) ⌝ }
+    ensures { λ r. ⌜ ((D : Domain) (arities parts : List ℕ) → Holds D (indexWith counts arities (now (variables .entry)) (now (sorts .entry)) (now (starts .entry)) parts)
+        → takenWith r arities (now (variables .exit)) (now (sorts .exit)) (now (starts .exit)) parts ≡ takenOf D actionRecord (now (p .entry))) ⌝ }
 {
-    let n = index.actions;
-    if 0 < index.components {
-        return Taken { number: 13, index };
+    let n = counts.actions;
+    if 0 < counts.components {
+        return Took { number: 13, counts };
     }
     if 64 <= n {
-        return Taken { number: 14, index };
+        return Took { number: 14, counts };
     }
     let number = action_fields(p);
     if number == 0 {
-        let mut next = index;
-        next.variables[n] = p[0];
-        next.sorts[n] = p[1];
-        next.starts[n] = index.rows;
+        variables[n] = p[0];
+        sorts[n] = p[1];
+        starts[n] = counts.rows;
+        let mut next = counts;
         next.actions = n + 1;
-        return Taken {
+        return Took {
             number: 0,
-            index: next,
+            counts: next,
         };
     }
-    Taken { number, index }
+    Took { number, counts }
 }
 
 // The number that stops a literal of the action `last`, the latest.
-fn literal_number(index: Index, last: usize, table: &[u8], p: &[u8]) -> u64
-    requires { ⌜ Shaped index × (last + 1 ≡ index .actions) × (length (now table) ≡ 32768) ⌝ }
-    ensures number { λ r. ⌜ ((D : Domain) (old : List ℕ) → Holds D index → now (table .entry) ≡ over (tableBytes D) old → r ≡ literalStop D (now (p .entry))) ⌝ }
-    ensures fits { λ r. ⌜ (r ≡ 0 → length (now (p .entry)) ≤ 8) ⌝ }
+fn literal_number(
+    counts: Counts,
+    last: usize,
+    arities: &[u8],
+    variables: &[u8],
+    sorts: &[u8],
+    starts: &[usize],
+    table: &[u8],
+    p: &[u8],
+) -> u64
+    requires { ⌜ LiteralReady counts (now arities) (now variables) (now sorts) (now starts) × (last + 1 ≡ counts .actions) × (2 ≤ length (now p) → 8 * counts .rows ≤ length (now table)) ⌝ }
+    ensures number { λ r. ⌜ ((D : Domain) (parts old : List ℕ) → Holds D (indexWith counts (now (arities .entry)) (now (variables .entry)) (now (sorts .entry)) (now (starts .entry)) parts)
+        → now (table .entry) ≡ over (tableBytes D) old → r ≡ literalStop D (now (p .entry))) ⌝ }
+    ensures fits { λ r. ⌜ (r ≡ 0 → (2 ≤ length (now (p .entry))) × (length (now (p .entry)) ≤ 8)) ⌝ }
 {
-    let arities = index.arities;
-    let variables = index.variables;
-    let sorts = index.sorts;
-    let starts = index.starts;
-    let fields = literal_fields(index.relations, arities, variables[last], sorts[last], p);
+    let fields = literal_fields(counts.relations, arities, variables[last], sorts[last], p);
     if fields != 0 {
         return fields;
     }
-    let rank = rows_rank(table, starts[last], index.rows, p);
+    let rank = rows_rank(table, starts[last], counts.rows, p);
     if rank == 2 {
         return 19;
     }
@@ -96,115 +111,137 @@ fn literal_number(index: Index, last: usize, table: &[u8], p: &[u8]) -> u64
     0
 }
 
-pub fn take_literal(index: Index, table: &mut [u8; 32768], p: &[u8]) -> Taken
-    requires { ⌜ Shaped index ⌝ }
-    ensures { λ r. ⌜ ((D : Domain) (old : List ℕ) → Holds D index → now (table .entry) ≡ over (tableBytes D) old
-        → (r ≡ takenOf D literalRecord (now (p .entry))) × (now (table .exit) ≡ over (tableBytes (behind D literalRecord (now (p .entry)))) old)) ⌝ }
+pub fn take_literal(
+    counts: Counts,
+    arities: &[u8],
+    variables: &[u8],
+    sorts: &[u8],
+    starts: &[usize],
+    table: &mut [u8],
+    p: &[u8],
+) -> Took
+    requires { ⌜ LiteralReady counts (now arities) (now variables) (now sorts) (now starts) × RowRoom counts (now starts) (now table) (now p) ⌝ }
+    ensures { λ r. ⌜ ((D : Domain) (parts old : List ℕ) → Holds D (indexWith counts (now (arities .entry)) (now (variables .entry)) (now (sorts .entry)) (now (starts .entry)) parts)
+        → now (table .entry) ≡ over (tableBytes D) old
+        → (takenWith r (now (arities .entry)) (now (variables .entry)) (now (sorts .entry)) (now (starts .entry)) parts ≡ takenOf D literalRecord (now (p .entry)))
+        × (now (table .exit) ≡ over (tableBytes (behind D literalRecord (now (p .entry)))) old)) ⌝ }
 {
-    let n = index.actions;
-    let rows = index.rows;
+    let n = counts.actions;
+    let rows = counts.rows;
     if n == 0 {
-        return Taken { number: 13, index };
+        return Took { number: 13, counts };
     }
-    if 0 < index.components {
-        return Taken { number: 13, index };
+    if 0 < counts.components {
+        return Took { number: 13, counts };
     }
     let last = n - 1;
-    let starts = index.starts;
     if 64 <= rows - starts[last] {
-        return Taken { number: 14, index };
+        return Took { number: 14, counts };
     }
-    let number = literal_number(index, last, table, p);
+    let number = literal_number(counts, last, arities, variables, sorts, starts, table, p);
     if number == 0 {
         put_row(table, 8 * rows, p);
-        let mut next = index;
+        let mut next = counts;
         next.rows = rows + 1;
-        return Taken {
+        return Took {
             number: 0,
-            index: next,
+            counts: next,
         };
     }
-    Taken { number, index }
+    Took { number, counts }
 }
 
 // The number of keys of the template with this component.
-fn keys_with(index: Index, p: &[u8]) -> usize
-    requires { ⌜ Shaped index × (length (now p) ≤ 7) ⌝ }
-    ensures number { λ r. ⌜ ((D : Domain) → Holds D index → r ≡ keysOf (D .template ++ (componentOf (now (p .entry)) ∷ []))) ⌝ }
+fn keys_with(counts: Counts, p: &[u8]) -> usize
+    requires { ⌜ (counts .keys ≤ 6) × (length (now p) ≤ 7) ⌝ }
+    ensures number { λ r. ⌜ ((D : Domain) (arities variables sorts starts parts : List ℕ) → Holds D (indexWith counts arities variables sorts starts parts)
+        → r ≡ keysOf (D .template ++ (componentOf (now (p .entry)) ∷ []))) ⌝ }
     ensures few { λ r. ⌜ r ≤ 6 ⌝ }
 {
-    if index.components == 0 {
+    if counts.components == 0 {
         return count_keys(p);
     }
-    index.keys
+    counts.keys
 }
 
 // The number that stops a component.
-fn component_number(index: Index, p: &[u8]) -> u64
-    requires { ⌜ Shaped index ⌝ }
-    ensures number { λ r. ⌜ ((D : Domain) → Holds D index → r ≡ componentStop D (now (p .entry))) ⌝ }
+fn component_number(counts: Counts, arities: &[u8], parts: &[u8], p: &[u8]) -> u64
+    requires { ⌜ ComponentReady counts (now arities) (now parts) ⌝ }
+    ensures number { λ r. ⌜ ((D : Domain) (variables sorts starts : List ℕ) → Holds D (indexWith counts (now (arities .entry)) variables sorts starts (now (parts .entry)))
+        → r ≡ componentStop D (now (p .entry))) ⌝ }
     ensures fits { λ r. ⌜ (r ≡ 0 → length (now (p .entry)) ≤ 7) ⌝ }
 {
-    let arities = index.arities;
-    let parts = index.parts;
-    let fields = component_fields(index.relations, arities, p);
+    let fields = component_fields(counts.relations, arities, p);
     if fields != 0 {
         return fields;
     }
-    if any_row(&parts, index.components, p[0]) {
+    if any_row(parts, counts.components, p[0]) {
         return 22;
     }
-    label_fields(p, keys_with(index, p))
+    label_fields(p, keys_with(counts, p))
 }
 
-pub fn take_component(index: Index, p: &[u8]) -> Taken
-    requires { ⌜ Shaped index ⌝ }
-    ensures { λ r. ⌜ ((D : Domain) → Holds D index → r ≡ takenOf D componentRecord (now (p .entry))) ⌝ }
+pub fn take_component(counts: Counts, arities: &[u8], parts: &mut [u8], p: &[u8]) -> Took
+    requires { ⌜ ComponentReady counts (now arities) (now parts) ⌝ }
+    ensures { λ r. ⌜ ((D : Domain) (variables sorts starts : List ℕ) → Holds D (indexWith counts (now (arities .entry)) variables sorts starts (now (parts .entry)))
+        → takenWith r (now (arities .entry)) variables sorts starts (now (parts .exit)) ≡ takenOf D componentRecord (now (p .entry))) ⌝ }
 {
-    let n = index.components;
+    let n = counts.components;
     if 16 <= n {
-        return Taken { number: 14, index };
+        return Took { number: 14, counts };
     }
-    let number = component_number(index, p);
+    let number = component_number(counts, arities, parts, p);
     if number == 0 {
-        let mut parts = index.parts;
-        put_row(&mut parts, 8 * n, p);
-        let mut next = index;
-        next.parts = parts;
+        put_row(parts, 8 * n, p);
+        let mut next = counts;
         next.components = n + 1;
-        next.keys = keys_with(index, p);
-        return Taken {
+        next.keys = keys_with(counts, p);
+        return Took {
             number: 0,
-            index: next,
+            counts: next,
         };
     }
-    Taken { number, index }
+    Took { number, counts }
 }
 
-pub fn take_closing(index: Index, p: &[u8]) -> Taken
-    ensures { λ r. ⌜ ((D : Domain) → Holds D index → r ≡ takenOf D closingRecord (now (p .entry))) ⌝ }
+pub fn take_closing(counts: Counts, p: &[u8]) -> Took
+    ensures { λ r. ⌜ ((D : Domain) (arities variables sorts starts parts : List ℕ) → Holds D (indexWith counts arities variables sorts starts parts)
+        → takenWith r arities variables sorts starts parts ≡ takenOf D closingRecord (now (p .entry))) ⌝ }
 {
     if p.len() != 0 {
-        return Taken { number: 12, index };
+        return Took { number: 12, counts };
     }
-    if index.components == 0 {
-        return Taken { number: 23, index };
+    if counts.components == 0 {
+        return Took { number: 23, counts };
     }
-    Taken { number: 0, index }
+    Took { number: 0, counts }
 }
 
 // A record of any kind.
-pub fn take_record(index: Index, table: &mut [u8; 32768], kind: u16, p: &[u8]) -> Taken
-    requires { ⌜ Shaped index ⌝ }
-    ensures { λ r. ⌜ ((D : Domain) (old : List ℕ) → Holds D index → now (table .entry) ≡ over (tableBytes D) old
-        → (r ≡ takenOf D (kindOf kind) (now (p .entry))) × (now (table .exit) ≡ over (tableBytes (behind D (kindOf kind) (now (p .entry)))) old)) ⌝ }
+pub fn take_record(
+    counts: Counts,
+    arities: &mut [u8],
+    variables: &mut [u8],
+    sorts: &mut [u8],
+    starts: &mut [usize],
+    parts: &mut [u8],
+    table: &mut [u8],
+    kind: u16,
+    p: &[u8],
+) -> Took
+    requires { ⌜ Shaped (indexWith counts (now arities) (now variables) (now sorts) (now starts) (now parts))
+        × Sized (indexWith counts (now arities) (now variables) (now sorts) (now starts) (now parts)) × RowRoom counts (now starts) (now table) (now p) ⌝ }
+    ensures { λ r. ⌜ ((D : Domain) (old : List ℕ) → Holds D (indexWith counts (now (arities .entry)) (now (variables .entry)) (now (sorts .entry)) (now (starts .entry)) (now (parts .entry)))
+        → now (table .entry) ≡ over (tableBytes D) old
+        → (takenWith r (now (arities .exit)) (now (variables .exit)) (now (sorts .exit)) (now (starts .exit)) (now (parts .exit)) ≡ takenOf D (kindOf kind) (now (p .entry)))
+        × (now (table .exit) ≡ over (tableBytes (behind D (kindOf kind) (now (p .entry)))) old)) ⌝ }
 {
     match kind {
-        1 => take_relation(index, p),
-        2 => take_action(index, p),
-        3 => take_literal(index, table, p),
-        4 => take_component(index, p),
-        5 => take_closing(index, p),
-        _ => Taken { number: 11, index },
+        1 => take_relation(counts, arities, p),
+        2 => take_action(counts, variables, sorts, starts, p),
+        3 => take_literal(counts, arities, variables, sorts, starts, table, p),
+        4 => take_component(counts, arities, parts, p),
+        5 => take_closing(counts, p),
+        _ => Took { number: 11, counts },
     }
 }

@@ -65,7 +65,7 @@ module _ {A : Type 0} where
       go true h = ap suc h
       go false h = h
 
-  tuple-size : (n : ℕ) (ls : List Label) (vs : List A) → length ls ≡ length vs → eachKeyOnce n ls ≡ true → length (keyTuple n ls vs) ≡ n
+  pub tuple-size : (n : ℕ) (ls : List Label) (vs : List A) → length ls ≡ length vs → eachKeyOnce n ls ≡ true → length (keyTuple n ls vs) ≡ n
   tuple-size zero ls vs e h = refl
   tuple-size (suc n) ls vs e h =
       let ih = tuple-size n ls vs e (and-l _ _ h) in

@@ -7,6 +7,7 @@ use Prim.Native.Nat.{ℕ, suc, _≤_}
 use lib.Dec.{eqb}
 use lib.ListN.{length}
 use Rattle.records.specs.Lists.{all}
+use Rattle.records.specs.Memory.{over}
 use Rattle.literals.specs.Domain.{Domain}
 use Rattle.literals.specs.Decode.{domain, decode}
 use Rattle.verdict.specs.Binding.{objectsFrom}
@@ -14,7 +15,7 @@ use Rattle.verdict.specs.Judged.{decidedFile}
 use Rattle.verdict.specs.Machine.{Event, State, legalStep, allowed, startState, run, lastState, largest, topWeight}
 use Rattle.verdict.specs.Claims.{Accepted, isEvent, isFact}
 use Rattle.machine.specs.RunFile.{Entry, entries, entriesBefore, entriesUpTo, startFactsIn, stepsIn, waitingIn, begunIn}
-use Rattle.machine.specs.Play.{Outcome, playRun, played, forbidden}
+use Rattle.machine.specs.Play.{workBytes, Outcome, playRun, heldBytes, played, forbidden}
 
 -- ---- a run of the machine on what a run file holds
 
@@ -58,6 +59,12 @@ pub record AsMachine (D : Domain) (r : List ℕ) (o : Outcome) : Type 0 where
 -- of every well-formed domain file and every run file; the answer, work memory and part of a call are made of this outcome by `outcomeCall`
 abbrev pub PlayedAsMachine : Type 0
 PlayedAsMachine = (d : List ℕ) (D : Domain) → decode d ≡ domain D → (r : List ℕ) → AsMachine D r (playRun D r)
+
+-- of a call on a well-formed domain file with enough work memory: what it answers and leaves is such an outcome
+abbrev pub PlaysAsMachine : List ℕ → List ℕ → List ℕ → ℕ → ℕ → ℕ → List ℕ → Type 0
+PlaysAsMachine d r w number steps weight memory =
+    (D : Domain) → decode d ≡ domain D → workBytes ≤ length w
+    → (o : Outcome) × AsMachine D r o × (number ≡ o .number) × (steps ≡ o .steps) × (weight ≡ o .weight) × (memory ≡ over (heldBytes (o .facts)) w)
 
 -- a step is allowed exactly where none of 57, 55 and 56 comes
 abbrev pub AllowedIsNotForbidden : Type 0

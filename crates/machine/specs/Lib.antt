@@ -2,6 +2,8 @@
 pub mod RunFile
 pub mod Play
 pub mod Claims
+pub mod Coded
+pub mod Stepping
 pub mod Written
 pub mod Samples
 pub mod Further

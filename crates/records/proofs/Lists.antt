@@ -6,7 +6,7 @@ use mathlib.Core.List.{List, [], _∷_, _++_, map, flatMap, append-nil, append-a
 use Prim.Native.Nat.{ℕ, zero, suc, _+_, _≤_, _<_}
 use native.Mathlib.Omega.{arith}
 use lib.Dec.{eqb}
-use lib.ListN.{length, getD}
+use lib.ListN.{length, getD, take}
 use borrow.Author.Tests.{eqb-true, eqb-false, eq-eqb}
 use Rattle.records.specs.Lists.{addIf, keepIf, filterBy, countBy, all, any, pairwise, empty, In, sameList, elem, distinct, dedup}
 use lib.ListN.{length, getD, length-append}
@@ -228,6 +228,10 @@ module _ {A : Type 0} where
   pub all-weaken : (p q : A → Bool) (l : List A) → ((a : A) → p a ≡ true → q a ≡ true) → all p l ≡ true → all q l ≡ true
   all-weaken p q l h t = all-of q l (λ a m. h a (all-in p l t m))
 
+  pub pairwise-weaken : (r s : A → A → Bool) (l : List A) → ((a b : A) → r a b ≡ true → s a b ≡ true) → pairwise r l ≡ true → pairwise s l ≡ true
+  pairwise-weaken r s [] h t = refl
+  pairwise-weaken r s (x ∷ xs) h t = and-i (all-weaken (r x) (s x) xs (h x) (and-l _ _ t)) (pairwise-weaken r s xs h (and-r (all (r x) xs) _ t))
+
   -- where no element passes, each passes the test that this implies
   pub any-none : (p q : A → Bool) (l : List A) → ((a : A) → p a ≡ false → q a ≡ true) → any p l ≡ false → all q l ≡ true
   any-none p q l h e = all-of q l (λ a m. h a (any-out p e m))
@@ -336,6 +340,22 @@ module _ {A : Type 0} where
   pairwise-in r {a} {b} (x ∷ xs) o (List·Memᴰ·tail m) (List·Memᴰ·head q) = inr (inr (ap (λ z. r z a) q ∙ all-in (r x) xs (and-l _ _ o) m))
   pairwise-in r {a} {b} (x ∷ xs) o (List·Memᴰ·tail m) (List·Memᴰ·tail n) = pairwise-in r xs (and-r (all (r x) xs) _ o) m n
   pairwise-in r {a} {b} [] o m n = absurd (List·Memᴰ·not-nil m)
+
+-- ---- the first elements of a list
+
+module _ {A : Type 0} where
+  pub in-take : (n : ℕ) (l : List A) {a : A} → In a (take n l) → In a l
+  in-take zero l m = absurd (List·Memᴰ·not-nil m)
+  in-take (suc n) [] m = absurd (List·Memᴰ·not-nil m)
+  in-take (suc n) (x ∷ xs) (List·Memᴰ·head e) = List·Memᴰ·head e
+  in-take (suc n) (x ∷ xs) (List·Memᴰ·tail m) = List·Memᴰ·tail (in-take n xs m)
+
+  -- an element before the one at an index passes with it
+  pub pairwise-before : (r : A → A → Bool) (l : List A) (d : A) → pairwise r l ≡ true → (j : ℕ) → j < length l → {a : A} → In a (take j l) → r a (getD l j d) ≡ true
+  pairwise-before r [] d o j h m = absurd (omega arith)
+  pairwise-before r (x ∷ xs) d o zero h m = absurd (List·Memᴰ·not-nil m)
+  pairwise-before r (x ∷ xs) d o (suc j) h (List·Memᴰ·head e) = ap (λ z. r z (getD xs j d)) e ∙ all-in (r x) xs (and-l _ _ o) (getD-in xs j d (omega arith))
+  pairwise-before r (x ∷ xs) d o (suc j) h (List·Memᴰ·tail m) = pairwise-before r xs d (and-r (all (r x) xs) _ o) j (omega arith) m
 
 -- ---- lists joined together
 

@@ -5,10 +5,9 @@ use Prim.Native.Nat.{ℕ}
 use native.Mathlib.Omega.{arith}
 use Rattle.records.specs.Memory.{over}
 use Rattle.literals.specs.declared.Index.{Index}
-use Rattle.literals.specs.declared.ReadAnswer.{ReadAnswer}
 use Rattle.literals.specs.Domain.{Domain}
 use Rattle.literals.specs.Decode.{Decoded, refused, domain, readFile, decode}
-use Rattle.literals.specs.Table.{tableBytes, indexOf, Holds, readBy, readOf, tableAfter}
+use Rattle.literals.specs.Table.{tableBytes, indexOf, Holds, ReadAnswer, readBy, readOf, tableAfter}
 use Rattle.literals.proofs.Bounds.{decoded-bounded}
 use Rattle.literals.proofs.Loop.{read-is}
 use Rattle.literals.proofs.Refusals.{refusal-number}
@@ -23,7 +22,7 @@ pub record WasRead (f : List ℕ) (index : Index) : Type 0 where
   pub holds : Holds said index
   pub lists : (table old : List ℕ) → table ≡ tableAfter f old → table ≡ over (tableBytes said) old
 
-read-by : (f : List ℕ) (r : ReadAnswer) → r ≡ readOf f → r ≡ readBy (decode f) (indexOf (readFile f .read))
+pub read-by : (f : List ℕ) (r : ReadAnswer) → r ≡ readOf f → r ≡ readBy (decode f) (indexOf (readFile f .read))
 unfolding readOf decode
 read-by f r e = e
 

@@ -1,35 +1,35 @@
 -- Laws of the rows of a domain, one class or one action more at a time, and naming them. Assumes nothing.
 use mathlib.Core.Path.{_≡_, refl, sym, ap, ap₂, _∙_, subst}
-use mathlib.Core.Bool.{Bool, true, false, cond, _&&_}
+use mathlib.Core.Bool.{Bool, true, false, cond, not, _&&_}
 use mathlib.Core.List.{List, [], _∷_, _++_, map, flatMap, map-append, append-nil, append-assoc}
 use Prim.Native.Nat.{ℕ, suc, _+_, _-_, _*_, _≤_, _<_}
 use native.Mathlib.Numerals.{add-one}
 use native.Mathlib.Omega.{arith}
-use lib.Dec.{eqb}
+use lib.Dec.{eqb, ltb}
 use lib.ListN.{length, getD, set, take, drop, length-append, length-map}
 use lib.Seq.{take-suc, take-all, take-at, drop-cons, length-take-le}
 use borrow.Author.Tests.{lt-ltb, le-ltb}
-use Rattle.records.specs.Lists.{all}
 use Rattle.records.specs.Memory.{over}
-use Rattle.records.proofs.Memory.{over-more}
+use Rattle.records.proofs.Lists.{and-l, pairwise-weaken}
+use Rattle.records.proofs.Memory.{length-over, over-more}
 use Rattle.literals.specs.declared.Variable.{Variable}
 use Rattle.literals.specs.Domain.{Action, Domain, noAction, action}
 use Rattle.literals.specs.declared.Index.{Index}
-use Rattle.literals.specs.Table.{literalRow, tableBytes, pad, endOf, Holds}
+use Rattle.literals.specs.declared.Counts.{Counts}
+use Rattle.literals.specs.Decode.{repeats, contradicts}
+use Rattle.literals.specs.Table.{literalRow, tableBytes, pad, indexWith, Holds, Shaped}
 use Rattle.literals.proofs.Tables.{pad-more}
-use Rattle.literals.proofs.Held.{components-is}
-use Rattle.literals.proofs.Spans.{sort-at}
+use Rattle.literals.proofs.Held.{arities-is, components-is, keys-is, parts-is}
+use Rattle.literals.proofs.Spans.{action-listed, sort-at}
 use Rattle.classes.specs.declared.Moment.the-variants.{Start, End}
-use Rattle.classes.specs.declared.Moment.{Moment}
 use Rattle.classes.specs.declared.Name.{Name}
-use Rattle.classes.specs.declared.Summary.{Summary}
-use Rattle.classes.specs.declared.ClassTable.{ClassTable}
 use Rattle.classes.specs.Classes.{momentsOf, nameNumber, classes, nameOf, journey}
-use Rattle.classes.specs.Coded.{classNumbers, classTable, summaryOf, nameBySummary, journeyBySummaries}
-use Rattle.classes.proofs.Summaries.{name-summary, journey-summary}
+use Rattle.classes.specs.Coded.{TemplateIn, classNumbers, clausesAt, soleOf}
 use Rattle.verdict.specs.declared.naming.Naming.{Naming}
 use Rattle.verdict.specs.Decision.{Row, rowAt, rowsOfClasses, rowsFrom, rows}
-use Rattle.verdict.specs.Coded.{rowFor, notesOf, nameBytes, classCounts, Named, namingOf}
+use Rattle.verdict.specs.Claims.{wellFormed}
+use Rattle.verdict.specs.Coded.{rowFor, notesOf, nameBytes, classCounts, ActionIn, SolesIn, Named, namingOf}
+use Rattle.verdict.proofs.WellFormed.{literals-apart, action-well-formed}
 
 -- ---- one class or one action more
 
@@ -109,18 +109,21 @@ module _ (D : Domain) (a : Action) (i j : ℕ) (x : List Variable) where
 -- ---- naming
 
 -- one row more
-pub named-more : (rs : List Row) (r : Row) (n : Naming) {m : Naming} (names old : List ℕ) (v : ℕ) → n .rows < 8192 → Named rs n names old
+pub named-more : (rs : List Row) (r : Row) (n : Naming) {m : Naming} (names old : List ℕ) (v : ℕ) → n .rows < length names → Named rs n names old
     → m .rows ≡ n .rows + 1 → m .notes ≡ notesOf (rs ++ (r ∷ [])) → v ≡ nameNumber (r .name) → Named (rs ++ (r ∷ [])) m (set names (n .rows) v) old
 named-more rs r n {m} names old v h N e f g =
     let k = N .rows-named in
     let w = N .room in
+    let l = length-append rs (r ∷ []) in
+    let b = length-map rs (λ (r : Row). nameNumber (r .name)) in
+    let u = ap length (N .bytes) ∙ length-over (nameBytes rs) old (omega arith) in
     record {
-      room = w;
-      rows-named = let l = length-append rs (r ∷ []) in omega arith;
+      room = omega arith;
+      rows-named = omega arith;
       noted = f;
       bytes =
           ap₂ (λ (l : List ℕ) (a : ℕ). set l (n .rows) a) (N .bytes) g
-          ∙ over-more (nameBytes rs) old (n .rows) (nameNumber (r .name)) (length-map rs (λ (r : Row). nameNumber (r .name)) ∙ sym k) (omega arith)
+          ∙ over-more (nameBytes rs) old (n .rows) (nameNumber (r .name)) (b ∙ sym k) (omega arith)
           ∙ ap (λ (l : List ℕ). over l old) (sym (map-append (λ (r : Row). nameNumber (r .name)) rs (r ∷ [])));
     }
 
@@ -160,10 +163,6 @@ module _ (D : Domain) (a : Action) (i : ℕ) (xs : List (List Variable)) (rs : L
   pub named-end : (k : ℕ) → length xs ≤ k → Named (rs ++ rowsOfClasses D a i 0 (take k xs)) n names old → Named (rs ++ rowsOfClasses D a i 0 xs) n names old
   named-end k h N = subst (λ (l : List (List Variable)). Named (rs ++ rowsOfClasses D a i 0 l) n names old) (take-all k xs h) N
 
--- the counts of classes stand beside
-pub named-counted : {rs : List Row} {n : Naming} {names old : List ℕ} (counts : List ℕ) → Named rs n names old → Named rs record { rows = n .rows; notes = n .notes; counts = counts } names old
-named-counted counts N = record { room = N .room; rows-named = N .rows-named; noted = N .noted; bytes = N .bytes }
-
 -- the actions of a domain, after k of them
 module _ (D : Domain) where
   pub named-action : (k : ℕ) {n : Naming} {names old : List ℕ} → k < length (D .actions)
@@ -185,40 +184,42 @@ module _ (D : Domain) where
       ∙ ap (classCounts D) (take-suc (D .actions) k noAction h)
       ∙ map-append (λ (a : Action). length (classes D a)) (take k (D .actions)) (getD (D .actions) k noAction ∷ [])))
 
-  pub naming-done : (k : ℕ) (n : Naming) {names old : List ℕ} → length (D .actions) ≤ k → Named (rowsFrom D 0 (take k (D .actions))) n names old
-      → n .counts ≡ pad 64 (classCounts D (take k (D .actions))) → (n ≡ namingOf D) × (names ≡ over (nameBytes (rows D)) old)
+  pub naming-done : (k : ℕ) (n : Naming) {names old counts : List ℕ} → length (D .actions) ≤ k → Named (rowsFrom D 0 (take k (D .actions))) n names old
+      → counts ≡ pad 64 (classCounts D (take k (D .actions))) → (n ≡ namingOf D) × (counts ≡ pad 64 (classCounts D (D .actions))) × (names ≡ over (nameBytes (rows D)) old)
   unfolding rows namingOf
-  naming-done k n {names} {old} h N e =
+  naming-done k n {names} {old} {counts} h N e =
       let all = take-all k (D .actions) h in (
         λ i. record {
           rows = (N .rows-named ∙ ap (λ (l : List Action). length (rowsFrom D 0 l)) all) i;
           notes = (N .noted ∙ ap (λ (l : List Action). notesOf (rowsFrom D 0 l)) all) i;
-          counts = (e ∙ ap (λ (l : List Action). pad 64 (classCounts D l)) all) i;
         },
+        e ∙ ap (λ (l : List Action). pad 64 (classCounts D l)) all,
         N .bytes ∙ ap (λ (l : List Action). over (nameBytes (rowsFrom D 0 l)) old) all,
       )
 
 -- ---- the rows of an action's literals
 
-module _ (index : Index) (i : ℕ) where
-  pub span-inner : i + 1 < index .actions → getD (index .starts) (i + 1) 0 ≡ endOf index i
-  span-inner h = rw (lt-ltb (i + 1) (index .actions) h)
+module _ (starts : List ℕ) (actions rows i : ℕ) where
+  pub span-inner : i + 1 < actions → getD starts (i + 1) 0 ≡ cond (ltb (i + 1) actions) (getD starts (i + 1) 0) rows
+  span-inner h = rw (lt-ltb (i + 1) actions h)
 
-  pub span-last : index .actions ≤ i + 1 → index .rows ≡ endOf index i
-  span-last h = rw (le-ltb (i + 1) (index .actions) h)
+  pub span-last : actions ≤ i + 1 → rows ≡ cond (ltb (i + 1) actions) (getD starts (i + 1) 0) rows
+  span-last h = rw (le-ltb (i + 1) actions h)
 
--- ---- the names of a class, by its summaries
+-- ---- an action of a domain that was read
 
-module _ {D : Domain} {index : Index} (H : Holds D index) (a : Action) (x : List Variable) where
-  pub named-by : (m : Moment) {s : Summary} {r : Name} → r ≡ nameBySummary s (index .components) → s ≡ summaryOf D a x m → r ≡ nameOf D a x m
-  named-by m e f = e ∙ ap₂ nameBySummary f (components-is H) ∙ sym (name-summary D a x m)
+pub template-in : {D : Domain} {index : Index} → Holds D index → TemplateIn D (index .parts) (index .components) (index .keys) (index .arities)
+template-in H = record { bounded = H .bounded; rows = parts-is H; count = components-is H; keyed = keys-is H; arguments = arities-is H }
 
-  pub journey-by : {s e : Summary} {r : Bool} → r ≡ journeyBySummaries s e → s ≡ summaryOf D a x Start → e ≡ summaryOf D a x End → a .lasting ≡ true → r ≡ journey D a x
-  journey-by p f g l =
-      p
-      ∙ ap₂ journeyBySummaries f g
-      ∙ ap (λ (b : Bool). b && journeyBySummaries (summaryOf D a x Start) (summaryOf D a x End)) (sym l)
-      ∙ sym (journey-summary D a x)
+pub action-held : {D : Domain} {index : Index} → Holds D index → wellFormed D ≡ true → (i : ℕ) → i < length (D .actions) → {rows : List ℕ} → rows ≡ flatMap literalRow (action D i .lits)
+    → ActionIn D (action D i) (index .parts) (index .components) (index .keys) (index .arities) rows
+action-held {D} H wf i h e =
+    record {
+      template = template-in H;
+      listed = action-listed H i h;
+      apart = pairwise-weaken (λ l m. not (repeats l m) && not (contradicts l m)) (λ l m. not (repeats l m)) (action D i .lits) (λ l m t. and-l _ _ t) (literals-apart D (action D i) (action-well-formed D wf i h));
+      literals = e;
+    }
 
 -- ---- where the loops of naming stand
 
@@ -230,13 +231,18 @@ lasting-byte {D} H i = sym (ap (λ (s : ℕ). eqb s 1) (sort-at H i) ∙ go (act
     go true = refl
     go false = refl
 
+-- a class by its number, of the true conditions and adds of all of them
+pub sole-at : {of clauses conditions adds : List ℕ} → SolesIn of clauses conditions adds → (k : ℕ) → k < 64 → record { conditions = getD conditions k 0; adds = getD adds k 0 } ≡ soleOf of clauses k
+sole-at S k h = λ i. record { conditions = S .conditions-are k h i; adds = S .adds-are k h i }
+
 -- in an action, after k of its classes
-pub record InClasses (index : Index) (rows of : List ℕ) (count i : ℕ) (names₀ : List ℕ) (next₀ : Naming) (names : List ℕ) (next : Naming) (k : ℕ) : Type 0 where
+pub record InClasses (parts : List ℕ) (components : ℕ) (arities rows of at-start at-end : List ℕ) (count i : ℕ) (lasting : Bool) (names₀ : List ℕ) (next₀ : Naming) (names : List ℕ) (next : Naming) (k : ℕ) : Type 0 where
   pub reach : k ≤ count
-  pub few : next .rows ≤ 128 * i + 2 * k
-  pub counted : next .counts ≡ next₀ .counts
-  pub named : (rs : List Row) (old : List ℕ) (D : Domain) → Named rs next₀ names₀ old → Holds D index → rows ≡ flatMap literalRow (action D i .lits) → of ≡ classNumbers D (action D i)
-      → count ≡ length (classes D (action D i)) → Named (rs ++ rowsOfClasses D (action D i) i 0 (take k (classes D (action D i)))) next names old
+  pub few : next .rows ≤ next₀ .rows + 2 * k
+  pub room : length names ≡ length names₀
+  pub named : (rs : List Row) (old : List ℕ) (D : Domain) (a : Action) (keys : ℕ) → Named rs next₀ names₀ old → ActionIn D a parts components keys arities rows → a .lasting ≡ lasting
+      → of ≡ classNumbers D a → at-start ≡ pad 64 (clausesAt a Start) → (lasting ≡ true → at-end ≡ pad 64 (clausesAt a End)) → count ≡ length (classes D a)
+      → Named (rs ++ rowsOfClasses D a i 0 (take k (classes D a))) next names old
 
 -- the first n of an array, where a call has put xs there
 module _ (xs ys : List ℕ) (n : ℕ) (e : length xs ≡ n) where
@@ -246,13 +252,47 @@ module _ (xs ys : List ℕ) (n : ℕ) (e : length xs ≡ n) where
   pub part-again : take (n - 0) (xs ++ ys) ≡ xs
   part-again = let z : length xs ≡ n - 0 = omega arith in take-at xs ys (n - 0) z
 
-pub class-count : (D : Domain) (a : Action) {t : ClassTable} → t ≡ classTable D a → t .count ≡ length (classes D a)
-unfolding classTable
-class-count D a e = ap (λ (t : ClassTable). t .count) e
+-- the first row of an action, or the one behind all of them
+abbrev pub beginOf : Counts → List ℕ → ℕ → ℕ
+beginOf domain starts k = cond (ltb k (domain .actions)) (getD starts k 0) (domain .rows)
+
+pub begin-inside : (domain : Counts) (starts : List ℕ) (k : ℕ) → k < domain .actions → beginOf domain starts k ≡ getD starts k 0
+begin-inside domain starts k h = rw (lt-ltb k (domain .actions) h)
+
+pub begin-last : (domain : Counts) (starts : List ℕ) (k : ℕ) → domain .actions ≤ k → beginOf domain starts k ≡ domain .rows
+begin-last domain starts k h = rw (le-ltb k (domain .actions) h)
+
+-- at most two rows for each literal
+module _ {domain : Counts} {arities variables sorts starts parts : List ℕ} (S : Shaped (indexWith domain arities variables sorts starts parts)) (i : ℕ) (h : i < domain .actions) (from to : ℕ)
+    (e : from ≡ getD starts i 0) (f : to ≡ beginOf domain starts (i + 1)) (r : ℕ) (g : r ≤ 2 * beginOf domain starts i) where
+  pub names-room : (n : ℕ) → 2 * domain .rows ≤ n → r + 2 * (to - from) ≤ n
+  names-room n l = let b = begin-inside domain starts i h in let s = S .spans i h in let o = s .order in let w = s .within in omega arith
+
+  pub names-next : (q : ℕ) → q ≤ r + 2 * (to - from) → q ≤ 2 * beginOf domain starts (i + 1)
+  names-next q l = let b = begin-inside domain starts i h in let s = S .spans i h in let o = s .order in omega arith
 
 -- in a domain, after k of its actions
-pub record InActions (index : Index) (table names₀ names : List ℕ) (naming : Naming) (k : ℕ) : Type 0 where
-  pub reach : k ≤ index .actions
-  pub few : naming .rows ≤ 128 * k
-  pub named : (D : Domain) (old : List ℕ) → Holds D index → table ≡ over (tableBytes D) old → length names₀ ≡ 8192
-      → Named (rowsFrom D 0 (take k (D .actions))) naming names names₀ × (naming .counts ≡ pad 64 (classCounts D (take k (D .actions))))
+pub record InActions (domain : Counts) (arities sorts starts parts table names₀ counts₀ names counts : List ℕ) (naming : Naming) (k : ℕ) : Type 0 where
+  pub reach : k ≤ domain .actions
+  pub few : naming .rows ≤ 2 * beginOf domain starts k
+  pub room : length names ≡ length names₀
+  pub counted : length counts ≡ 64
+  pub named : (D : Domain) (old variables : List ℕ) → Holds D (indexWith domain arities variables sorts starts parts) → wellFormed D ≡ true → table ≡ over (tableBytes D) old → counts₀ ≡ pad 64 []
+      → Named (rowsFrom D 0 (take k (D .actions))) naming names names₀ × (counts ≡ pad 64 (classCounts D (take k (D .actions))))
+
+-- the bounds of an index do not speak of its variables, nor of its sorts
+pub shaped-with : {domain : Counts} {arities variables sorts starts parts : List ℕ} (variables′ sorts′ : List ℕ) → Shaped (indexWith domain arities variables sorts starts parts)
+    → Shaped (indexWith domain arities variables′ sorts′ starts parts)
+shaped-with variables′ sorts′ S =
+    record {
+      relations = S .relations;
+      arities = S .arities;
+      actions = S .actions;
+      rows = S .rows;
+      order = S .order;
+      last = S .last;
+      spans = λ i h. let s = S .spans i h in record { order = s .order; within = s .within; few = s .few };
+      components = S .components;
+      parts = S .parts;
+      keys = S .keys;
+    }

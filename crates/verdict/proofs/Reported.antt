@@ -15,10 +15,9 @@ use Rattle.literals.specs.Table.{pad, sortNumber}
 use Rattle.literals.proofs.Tables.{pad-at}
 use Rattle.classes.specs.declared.Moment.the-variants.{Start, End}
 use Rattle.classes.specs.Classes.{momentNumber, nameNumber, classes}
-use Rattle.verdict.specs.declared.naming.Naming.{Naming}
 use Rattle.verdict.specs.Decision.{Row, rowAt, rowsOfClasses, rowsFrom, rows}
 use Rattle.verdict.specs.Judged.{rowBytes}
-use Rattle.verdict.specs.Coded.{nameBytes, classCounts, namingOf, Reporting}
+use Rattle.verdict.specs.Coded.{nameBytes, classCounts, Reporting}
 use Rattle.verdict.proofs.NamedRows.{classRows, once-rows, lasting-rows, classes-next, classes-left, actionRows, actions-next, actions-left}
 
 -- ---- the bytes of rows
@@ -189,7 +188,7 @@ module _ (D : Domain) where
     unfolding rows
     actions-end k h R = R .bytes ∙ ap (λ (l : List Action). over (rowBytes (rowsFrom D 0 l)) old) (take-all k (D .actions) h)
 
--- what the index and the naming say of an action
+-- what the sorts and the counts say of an action
 pub lasting-is : (D : Domain) (sorts : List ℕ) (i : ℕ) → sorts ≡ pad 64 (map sortNumber (D .actions)) → getD (D .actions) i noAction .lasting ≡ eqb (getD sorts i 0) 1
 lasting-is D sorts i e =
     sym (ap (λ (l : List ℕ). eqb (getD l i 0) 1) e ∙ ap (λ (n : ℕ). eqb n 1) (pad-at 64 (map sortNumber (D .actions)) i ∙ List·getD-map sortNumber (D .actions) i noAction) ∙ go (getD (D .actions) i noAction .lasting))
@@ -202,7 +201,3 @@ pub count-is : (D : Domain) (counts : List ℕ) (i : ℕ) → counts ≡ pad 64 
 unfolding classes flatMap
 count-is D counts i e =
     sym (ap (λ (l : List ℕ). getD l i 0) e ∙ pad-at 64 (classCounts D (D .actions)) i ∙ List·getD-map (λ (a : Action). length (classes D a)) (D .actions) i noAction)
-
-pub counts-is : (D : Domain) (n : Naming) → n ≡ namingOf D → n .counts ≡ pad 64 (classCounts D (D .actions))
-unfolding namingOf
-counts-is D n e = ap (λ (m : Naming). m .counts) e

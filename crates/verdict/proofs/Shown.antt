@@ -21,22 +21,23 @@ use Rattle.literals.specs.declared.Index.{Index}
 use Rattle.literals.specs.Domain.{object, Atom, Fact, Literal, Action, Component, keyBelow, eachKeyOnce, keysOf, labelsFit, Domain, arity, action}
 use Rattle.literals.specs.Table.{literalRow, labelNumber, componentRow, rowsIn, pad, Bounded, Holds}
 use Rattle.literals.proofs.Rows.{length-row, row-inside, part-first}
-use Rattle.literals.proofs.Tables.{rows-flat, length-literals, length-literal-row, length-component-row, pad-at, take-pad}
-use Rattle.literals.proofs.Held.{arities-is, parts-is, keys-is, shaped}
+use Rattle.literals.proofs.Tables.{rows-flat, length-literals, length-literal-row, length-component-row, length-components, length-pad, pad-at, take-pad}
+use Rattle.literals.proofs.Bounds.{arity-six as arity-most}
+use Rattle.literals.proofs.Held.{keys-few as keys-most}
 use Rattle.literals.proofs.Spans.{action-listed}
 use Rattle.classes.specs.declared.Moment.{Moment}
 use Rattle.classes.specs.declared.Moment.the-variants.{Start, End}
 use Rattle.classes.specs.declared.Name.{Name}
 use Rattle.classes.specs.declared.Name.the-variants.{Unreachable, Irrelevant, Heavy, Balanced, Unbalanced, Bounded as bounded, Unbounded}
 use Rattle.classes.specs.Classes.{belongs, literalsAt, required, countedForReach, classes, inClass, changedBy, covered, excluding, nameNumber, nameBy, nameOf}
-use Rattle.classes.specs.Coded.{position, tupleRow, classTable, clausesAt, uncoveredAt, numbersFrom}
+use Rattle.classes.specs.Coded.{TemplateIn, position, tupleRow, classTuples, clausesAt, noRepeats, uncoveredAt, numbersFrom}
 use Rattle.classes.proofs.Rows.{noLiteral}
 use Rattle.classes.proofs.Clauses.{length-clauses, literals-at}
 use Rattle.classes.proofs.Members.{classes-few}
 use Rattle.verdict.specs.Binding.{valueOf, bind, bindTuple, objectsFrom, sameNumbers, spare}
 use Rattle.verdict.specs.Decision.{faultBy, classAt, objectUnder, instanceFact, firstUncovered, witnessBy, witnessAt}
 use Rattle.verdict.specs.Judged.{objectNumbers, factBytes}
-use Rattle.verdict.specs.Coded.{momentBy, fitsIn, shownIn, conditionFacts, selectBy, isCondition, conditionOf, conditionsOf, objectByte, instanceBytes}
+use Rattle.verdict.specs.Coded.{ActionIn, momentBy, fitsIn, shownIn, conditionFacts, selectBy, isCondition, conditionOf, conditionsOf, objectByte, instanceBytes}
 use Rattle.verdict.proofs.Tuples.{Below, tuple-below}
 use Rattle.verdict.proofs.Acts.{class-in}
 use Rattle.verdict.proofs.Instances.{class-keys}
@@ -248,18 +249,19 @@ part-flat f (x ∷ xs) rest (suc j) d h g =
 
 -- ---- what the code holds of an action at a moment
 
-pub record Given (D : Domain) (index : Index) (a : Action) (m : Moment) (rows clauses : List ℕ) (n : ℕ) : Type 0 where
-  pub holds : Holds D index
-  pub listed : In a (D .actions)
-  pub rows-are : rows ≡ flatMap literalRow (a .lits)
+pub record Given (D : Domain) (a : Action) (parts : List ℕ) (components keys : ℕ) (arities : List ℕ) (m : Moment) (rows clauses : List ℕ) (n : ℕ) : Type 0 where
+  pub action : ActionIn D a parts components keys arities rows
   pub clauses-are : clauses ≡ pad 64 (clausesAt a m)
   pub count : n ≡ length (a .lits)
   -- the true conditions by what each literal is
   pub selected : selectBy isCondition (clausesAt a m) (map (λ (l : Literal). l .atom) (a .lits)) ≡ literalsAt a m Positive
 
-module _ {D : Domain} {index : Index} {a : Action} {m : Moment} {rows clauses : List ℕ} {n : ℕ} (G : Given D index a m rows clauses n) where
+module _ {D : Domain} {a : Action} {parts : List ℕ} {components keys : ℕ} {arities : List ℕ} {m : Moment} {rows clauses : List ℕ} {n : ℕ} (G : Given D a parts components keys arities m rows clauses n) where
+  T : TemplateIn D parts components keys arities
+  T = G .action .template
+
   B : Bounded D
-  B = G .holds .bounded
+  B = T .bounded
 
   clauses-length : length (clausesAt a m) ≡ n
   unfolding clausesAt
@@ -270,8 +272,8 @@ module _ {D : Domain} {index : Index} {a : Action} {m : Moment} {rows clauses : 
 
   rows-taken : rowsIn n rows ≡ map literalRow (a .lits)
   rows-taken =
-      ap₂ rowsIn (G .count) (G .rows-are ∙ sym (append-nil (flatMap literalRow (a .lits))))
-      ∙ rows-flat literalRow (a .lits) [] (λ l k. length-literal-row l (B .arguments a (G .listed) l k))
+      ap₂ rowsIn (G .count) (G .action .literals ∙ sym (append-nil (flatMap literalRow (a .lits))))
+      ∙ rows-flat literalRow (a .lits) [] (λ l k. length-literal-row l (B .arguments a (G .action .listed) l k))
 
   pub clauses-enough : n ≤ length clauses
   clauses-enough =
@@ -282,17 +284,17 @@ module _ {D : Domain} {index : Index} {a : Action} {m : Moment} {rows clauses : 
   pub rows-enough : 8 * n ≤ length rows
   rows-enough =
       let c = G .count in
-      let l = ap length (G .rows-are) ∙ length-literals (a .lits) (B .arguments a (G .listed)) in
+      let l = ap length (G .action .literals) ∙ length-literals (a .lits) (B .arguments a (G .action .listed)) in
       omega arith
 
-  arity-is : (r : ℕ) → getD (index .arities) r 0 ≡ arity D r
-  arity-is r = ap (λ (l : List ℕ). getD l r 0) (arities-is (G .holds)) ∙ pad-at 64 (D .arities) r
+  arity-is : (r : ℕ) → getD arities r 0 ≡ arity D r
+  arity-is r = ap (λ (l : List ℕ). getD l r 0) (T .arguments) ∙ pad-at 64 (D .arities) r
 
   -- the facts of the true conditions
-  pub conditions-are : conditionsOf (index .arities) (take n clauses) (rowsIn n rows) ≡ factBytes (conditionFacts a m)
+  pub conditions-are : conditionsOf arities (take n clauses) (rowsIn n rows) ≡ factBytes (conditionFacts a m)
   conditions-are =
-      ap₂ (conditionsOf (index .arities)) clauses-taken rows-taken
-      ∙ conditions-facts a (index .arities) (clausesAt a m) (a .lits) (λ l k. (arity-is (l .atom .rel) ∙ sym (B .literalArity a (G .listed) l k), B .below a (G .listed) l k))
+      ap₂ (conditionsOf arities) clauses-taken rows-taken
+      ∙ conditions-facts a arities (clausesAt a m) (a .lits) (λ l k. (arity-is (l .atom .rel) ∙ sym (B .literalArity a (G .action .listed) l k), B .below a (G .action .listed) l k))
       ∙ ap (λ (ps : List (Atom Variable)). factBytes (map (bind (sameNumbers a)) ps)) (G .selected)
 
   -- how many they are
@@ -308,11 +310,17 @@ module _ {D : Domain} {index : Index} {a : Action} {m : Moment} {rows clauses : 
 
   -- ---- the instance fact of a class and a component
 
-  arity-six : (r : ℕ) → getD (index .arities) r 0 ≤ 6
-  arity-six = shaped (G .holds) .arities
+  arity-six : (r : ℕ) → getD arities r 0 ≤ 6
+  arity-six r = let e = arity-is r in let b = arity-most D (B .arities) r in omega arith
 
   keys-few : keysOf (D .template) ≤ 6
-  keys-few = let k = shaped (G .holds) .keys in let e = keys-is (G .holds) in omega arith
+  keys-few = keys-most (D .template) (B .labels)
+
+  parts-long : length parts ≡ 128
+  parts-long =
+      let l = length-components (D .template) (B .labels) in
+      let b = B .components in
+      ap length (T .rows) ∙ length-pad 128 (flatMap componentRow (D .template)) (omega arith)
 
   keys-below : (c : Component) → In c (D .template) → all (keyBelow (keysOf (D .template))) (c .labels) ≡ true
   unfolding labelsFit
@@ -330,10 +338,10 @@ module _ {D : Domain} {index : Index} {a : Action} {m : Moment} {rows clauses : 
     class-listed = getD-in (classes D a) j [] h
 
     class-below : Below (a .vars) (getD (classes D a) j [])
-    class-below = let r = class-in D a class-listed in tuple-below D (a .vars) (r .0 .atom) (B .below a (G .listed) (r .0) (r .1)) (r .2)
+    class-below = let r = class-in D a class-listed in tuple-below D (a .vars) (r .0 .atom) (B .below a (G .action .listed) (r .0) (r .1)) (r .2)
 
-    tuple-part : (tuples : List ℕ) → tuples ≡ classTable D a .tuples → take 8 (drop (8 * j) tuples) ≡ tupleRow (getD (classes D a) j [])
-    unfolding classTable
+    tuple-part : (tuples : List ℕ) → tuples ≡ classTuples D a → take 8 (drop (8 * j) tuples) ≡ tupleRow (getD (classes D a) j [])
+    unfolding classTuples
     tuple-part tuples e =
         ap (λ (t : List ℕ). take 8 (drop (8 * j) t)) e
         ∙ part-flat tupleRow (classes D a) (replicate (512 - length (flatMap tupleRow (classes D a))) 255) j []
@@ -346,24 +354,24 @@ module _ {D : Domain} {index : Index} {a : Action} {m : Moment} {rows clauses : 
       part-listed : In part (D .template)
       part-listed = getD-in (D .template) u noComponent g
 
-      component-part : take 8 (drop (8 * u) (index .parts)) ≡ componentRow part
+      component-part : take 8 (drop (8 * u) parts) ≡ componentRow part
       component-part =
-          ap (λ (t : List ℕ). take 8 (drop (8 * u) t)) (parts-is (G .holds))
+          ap (λ (t : List ℕ). take 8 (drop (8 * u) t)) (T .rows)
           ∙ part-flat componentRow (D .template) (replicate (128 - length (flatMap componentRow (D .template))) 0) u noComponent (λ c k. length-component-row c (B .labels c k)) g
 
-      part-arity : getD (index .arities) (getD (index .parts) (8 * u) 0) 0 ≡ length (part .labels)
+      part-arity : getD arities (getD parts (8 * u) 0) 0 ≡ length (part .labels)
       part-arity =
-          ap (λ (r : ℕ). getD (index .arities) r 0) (sym (part-first (index .parts) (8 * u)) ∙ ap (λ (r : List ℕ). getD r 0 0) component-part)
+          ap (λ (r : ℕ). getD arities r 0) (sym (part-first parts (8 * u)) ∙ ap (λ (r : List ℕ). getD r 0 0) component-part)
           ∙ arity-is (part .rel)
           ∙ sym (B .componentArity part part-listed)
 
-      pub instance-is : (tuples : List ℕ) (k s : ℕ) → tuples ≡ classTable D a .tuples → k ≡ getD (index .arities) (getD (index .parts) (8 * u) 0) 0 → s ≡ a .vars
-          → instanceBytes k s (take 8 (drop (8 * j) tuples)) (take 8 (drop (8 * u) (index .parts)))
+      pub instance-is : (tuples : List ℕ) (k s : ℕ) → tuples ≡ classTuples D a → k ≡ getD arities (getD parts (8 * u) 0) 0 → s ≡ a .vars
+          → instanceBytes k s (take 8 (drop (8 * j) tuples)) (take 8 (drop (8 * u) parts))
           ≡ factBytes (instanceFact (spare a) (bindTuple (sameNumbers a) (getD (classes D a) j [])) part ∷ [])
       instance-is tuples k s e f q =
           let x : List Variable = getD (classes D a) j [] in
           let n = keys-few in
-          ap₂ (λ (k s : ℕ). instanceBytes k s (take 8 (drop (8 * j) tuples)) (take 8 (drop (8 * u) (index .parts)))) (f ∙ part-arity) q
+          ap₂ (λ (k s : ℕ). instanceBytes k s (take 8 (drop (8 * j) tuples)) (take 8 (drop (8 * u) parts))) (f ∙ part-arity) q
           ∙ ap₂ (instanceBytes (length (part .labels)) (a .vars)) (tuple-part tuples e) component-part
           ∙ instance-fact a x (keysOf (D .template)) class-below (tuple-length x class-listed) (omega arith) part (keys-below part part-listed)
 
@@ -378,7 +386,7 @@ module _ {D : Domain} {index : Index} {a : Action} {m : Moment} {rows clauses : 
       pub plain-short : length out < 8 * k → (false ≡ fitsIn (witnessAt D a x m) out) × (out ≡ shownIn (witnessAt D a x m) out)
       plain-short h = rw (witness-plain D a x m number e f z t) (too-short (conditionFacts a m) out (let c = facts-count in omega arith))
 
-      pub plain-shown : 8 * k ≤ length out → (out₁ : List ℕ) → out₁ ≡ over (conditionsOf (index .arities) (take n clauses) (rowsIn n rows)) out
+      pub plain-shown : 8 * k ≤ length out → (out₁ : List ℕ) → out₁ ≡ over (conditionsOf arities (take n clauses) (rowsIn n rows)) out
           → (true ≡ fitsIn (witnessAt D a x m) out) × (out₁ ≡ shownIn (witnessAt D a x m) out)
       plain-shown h out₁ o =
           let r = long-enough (conditionFacts a m) out (let c = facts-count in omega arith) in
@@ -405,25 +413,25 @@ module _ {D : Domain} {index : Index} {a : Action} {m : Moment} {rows clauses : 
         open-part = let b = open-listed D a x m number e f t in omega arith
 
         pub open-shown : 8 * k + 8 ≤ length out → (tuples : List ℕ) (r s : ℕ)
-            → tuples ≡ classTable D a .tuples → r ≡ getD (index .arities) (getD (index .parts) (8 * u) 0) 0 → s ≡ a .vars
-            → (out₁ out₂ : List ℕ) → out₁ ≡ over (conditionsOf (index .arities) (take n clauses) (rowsIn n rows)) out
-            → out₂ ≡ paste out₁ (8 * k) (instanceBytes r s (take 8 (drop (8 * j) tuples)) (take 8 (drop (8 * u) (index .parts)))) 8
+            → tuples ≡ classTuples D a → r ≡ getD arities (getD parts (8 * u) 0) 0 → s ≡ a .vars
+            → (out₁ out₂ : List ℕ) → out₁ ≡ over (conditionsOf arities (take n clauses) (rowsIn n rows)) out
+            → out₂ ≡ paste out₁ (8 * k) (instanceBytes r s (take 8 (drop (8 * j) tuples)) (take 8 (drop (8 * u) parts))) 8
             → (true ≡ fitsIn (witnessAt D a x m) out) × (out₂ ≡ shownIn (witnessAt D a x m) out)
         unfolding facts
         open-shown room tuples r s c l w out₁ out₂ o₁ o₂ =
-            let bytes : List ℕ = conditionsOf (index .arities) (take n clauses) (rowsIn n rows) in
-            let fact : List ℕ = instanceBytes r s (take 8 (drop (8 * j) tuples)) (take 8 (drop (8 * u) (index .parts))) in
+            let bytes : List ℕ = conditionsOf arities (take n clauses) (rowsIn n rows) in
+            let fact : List ℕ = instanceBytes r s (take 8 (drop (8 * j) tuples)) (take 8 (drop (8 * u) parts)) in
             let shown : Fact = instanceFact (spare a) (bindTuple (sameNumbers a) x) (getD (D .template) (uncoveredAt D a x m) noComponent) in
             let is : fact ≡ factBytes (shown ∷ []) =
             instance-is j h u open-part tuples r s c l w
             ∙ ap₂ (λ (x : List Variable) (u : ℕ). factBytes (instanceFact (spare a) (bindTuple (sameNumbers a) x) (getD (D .template) u noComponent) ∷ [])) (sym p) v in
-            let many : length bytes ≡ 8 * k = (let b = length-conditions (index .arities) clauses rows n clauses-enough rows-enough in omega arith) in
+            let many : length bytes ≡ 8 * k = (let b = length-conditions arities clauses rows n clauses-enough rows-enough in omega arith) in
             let eight : length fact ≡ 8 =
             (let b = B .components in
-            let d = shaped (G .holds) .parts in
+            let d = parts-long in
             let g = open-part in
-            let i = arity-six (getD (index .parts) (8 * u) 0) in
-            length-instance-at r s (take 8 (drop (8 * j) tuples)) (index .parts) (8 * u) (omega arith) (omega arith)) in
+            let i = arity-six (getD parts (8 * u) 0) in
+            length-instance-at r s (take 8 (drop (8 * j) tuples)) parts (8 * u) (omega arith) (omega arith)) in
             let full = long-enough facts out (let d = one-more in omega arith) in
             rw is-facts (
               full .0,
@@ -468,17 +476,15 @@ module _ (from : ℕ → ℕ → List ℕ) (none : (i : ℕ) → from i zero ≡
   selected-by a m d e = sym (e ∙ select-indexed isCondition (λ (l : Literal). l .atom) d (clausesAt a m) (a .lits) (length-clauses m [] (a .lits)))
 
 -- what the code holds, by what `clauses_at` ensures
-pub given : {D : Domain} {index : Index} {a : Action} (m : Moment) {rows clauses : List ℕ} {n : ℕ} → Holds D index → In a (D .actions) → rows ≡ flatMap literalRow (a .lits)
+pub given : {D : Domain} {a : Action} {parts : List ℕ} {components keys : ℕ} {arities : List ℕ} (m : Moment) {rows clauses : List ℕ} {n : ℕ} → ActionIn D a parts components keys arities rows
     → length rows ≡ 8 * n
-    → ((D : Domain) (a : Action) → Bounded D → In a (D .actions) → rows ≡ flatMap literalRow (a .lits) → clauses ≡ pad 64 (clausesAt a m))
-    → Given D index a m rows clauses n
-given {D} {index} {a} m {rows} {clauses} {n} H i e l c =
+    → ((D : Domain) (a : Action) → Bounded D → In a (D .actions) → noRepeats a ≡ true → rows ≡ flatMap literalRow (a .lits) → pad 64 [] ≡ pad 64 [] → clauses ≡ pad 64 (clausesAt a m))
+    → Given D a parts components keys arities m rows clauses n
+given {D} {a} m {rows} {clauses} {n} A l c =
     record {
-      holds = H;
-      listed = i;
-      rows-are = e;
-      clauses-are = c D a (H .bounded) i e;
-      count = (let k = sym (ap length e) ∙ l in let g = length-literals (a .lits) (H .bounded .arguments a i) in omega arith);
+      action = A;
+      clauses-are = c D a (A .template .bounded) (A .listed) (A .apart) (A .literals) refl;
+      count = (let k = sym (ap length (A .literals)) ∙ l in let g = length-literals (a .lits) (A .template .bounded .arguments a (A .listed)) in omega arith);
       selected = selected-by numbersFrom (λ i. refl) (λ i n. refl) a m noLiteral (literals-at a m Positive);
     }
 

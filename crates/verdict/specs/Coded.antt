@@ -3,18 +3,19 @@ use mathlib.Core.Path.{_≡_}
 use mathlib.Core.Bool.{Bool, true, false, _&&_, not, cond}
 use mathlib.Core.List.{List, [], _∷_, _++_, map, flatMap}
 use mathlib.Core.Option.{Option, none, some}
-use Prim.Native.Nat.{ℕ, _+_, _-_, _*_, _≤_}
+use Prim.Native.Nat.{ℕ, _+_, _-_, _*_, _≤_, _<_}
 use lib.Dec.{eqb, ltb, leb}
 use lib.ListN.{length, getD, take, drop, replicate}
-use Rattle.records.specs.Lists.{keepIf, any}
+use Rattle.records.specs.Lists.{In, keepIf, any}
 use Rattle.records.specs.Memory.{over}
 use Rattle.literals.specs.declared.Clause.the-variants.{Positive}
 use Rattle.literals.specs.Domain.{Fact, Action, Domain}
-use Rattle.literals.specs.Table.{pad}
+use Rattle.literals.specs.Table.{literalRow}
 use Rattle.classes.specs.declared.Moment.{Moment}
 use Rattle.classes.specs.declared.Moment.the-variants.{Start, End}
 use Rattle.classes.specs.declared.Name.{Name}
 use Rattle.classes.specs.Classes.{momentNumber, nameNumber, required, classes}
+use Rattle.classes.specs.Coded.{TemplateIn, noRepeats, soleAt}
 use Rattle.verdict.specs.declared.Judgement.{Judgement}
 use Rattle.verdict.specs.declared.Place.{Place}
 use Rattle.verdict.specs.declared.Notes.{Notes}
@@ -93,17 +94,31 @@ nameBytes rs = map (λ (r : Row). nameNumber (r .name)) rs
 abbrev pub classCounts : Domain → List Action → List ℕ
 classCounts D as′ = map (λ (a : Action). length (classes D a)) as′
 
--- where naming stands: rs are the rows named so far, their names in a memory for 8192 (that an array behind a `&mut` has its length is not told otherwise)
+-- an action of a domain, and the memories that hold the template and the action's literals, none of which is repeated in its role
+pub record ActionIn (D : Domain) (a : Action) (parts : List ℕ) (components keys : ℕ) (arities rows : List ℕ) : Type 0 where
+  pub template : TemplateIn D parts components keys arities
+  pub listed : In a (D .actions)
+  pub apart : noRepeats a ≡ true
+  pub literals : rows ≡ flatMap literalRow (a .lits)
+
+-- the true conditions and the adds of each class at the moment of these clauses
+pub record SolesIn (of clauses conditions adds : List ℕ) : Type 0 where
+  pub conditions-room : length conditions ≡ 64
+  pub adds-room : length adds ≡ 64
+  pub conditions-are : (k : ℕ) → k < 64 → getD conditions k 0 ≡ soleAt of clauses k 1
+  pub adds-are : (k : ℕ) → k < 64 → getD adds k 0 ≡ soleAt of clauses k 3
+
+-- where naming stands: rs are the rows named so far, their names in a memory that has room for them
 pub record Named (rs : List Row) (naming : Naming) (names old : List ℕ) : Type 0 where
-  pub room : length old ≡ 8192
+  pub room : length rs ≤ length old
   pub rows-named : naming .rows ≡ length rs
   pub noted : naming .notes ≡ notesOf rs
   pub bytes : names ≡ over (nameBytes rs) old
 
 -- what naming all actions leads to
 unfoldable pub namingOf : Domain → Naming
-unfolding rows notesOf classes
-namingOf D = record { rows = length (rows D); notes = notesOf (rows D); counts = pad 64 (classCounts D (D .actions)) }
+unfolding rows notesOf
+namingOf D = record { rows = length (rows D); notes = notesOf (rows D) }
 
 -- where reporting stands: the rows rs are written, the rest is still to come, and the names of both are given
 pub record Reporting (rs rest : List Row) (at : ℕ) (report names old given : List ℕ) : Type 0 where

@@ -1,23 +1,22 @@
 // The call: a domain file, a lent report and a lent witness.
 use super::Judgement;
-use super::naming::Naming;
 use super::naming::name_all;
 use super::report::put_report;
 use super::showing::show;
-use literals::Index;
-use literals::read::read_domain;
+use literals::Counts;
+use literals::read::read_into;
 ghost use mathlib.Core.Path.{_≡_};
+ghost use mathlib.Core.Bool.{true};
 ghost use mathlib.Core.List.{List};
 ghost use Prim.Native.Nat.{ℕ, _*_, _≤_};
 ghost use lib.ListN.{length};
 ghost use Rattle.records.specs.Memory.{over};
 ghost use Rattle.literals.specs.Domain.{Domain};
-ghost use Rattle.literals.specs.Decode.{domain};
-ghost use Rattle.literals.specs.Table.{tableBytes, Holds, Shaped};
-ghost use Rattle.verdict.specs.Decision.{rows};
-ghost use Rattle.verdict.specs.Judged.{rowBytes, answerAt, writesWitness, judgedDomain, reportBy, witnessMemoryBy, judged, reportAfter, witnessAfter};
-ghost use Rattle.verdict.specs.Claims.{AcceptedSafe, RefusedHarmful, WitnessHarms};
-ghost use Rattle.verdict.specs.Coded.{judgementOf, nameBytes, namingOf};
+ghost use Rattle.literals.specs.Decode.{domain as domainRead};
+ghost use Rattle.literals.specs.Table.{EnoughTable, tableBytes, indexWith, Holds, Shaped};
+ghost use Rattle.verdict.specs.Judged.{answerAt, writesWitness, judgedDomain, reportBy, witnessMemoryBy, judged, reportAfter, witnessAfter};
+ghost use Rattle.verdict.specs.Claims.{wellFormed, AcceptedSafe, RefusedHarmful, WitnessHarms};
+ghost use Rattle.verdict.specs.Coded.{judgementOf};
 
 fn at_offset(number: u64, place: usize) -> Judgement
     ensures { λ r. ⌜ r ≡ judgementOf (answerAt number place) ⌝ }
@@ -40,30 +39,39 @@ fn has_witness(number: u64) -> bool
     number <= 42
 }
 
-// The report of a domain whose names are in an array.
-fn put_names(index: Index, naming: Naming, names: &[u8; 8192], report: &mut [u8])
-    requires { ⌜ Shaped index ⌝ }
-    ensures { λ _. ⌜ ((D : Domain) (old : List ℕ) → Holds D index → naming ≡ namingOf D → now (names .entry) ≡ over (nameBytes (rows D)) old
-        → 4 * length (rows D) ≤ length (now (report .entry)) → now (report .exit) ≡ over (rowBytes (rows D)) (now (report .entry))) ⌝ }
-{
-    put_report(index, naming, names, report)
-}
-
-// A domain that was read.
-fn judge_domain(
-    index: Index,
-    table: &[u8; 32768],
+// A domain that was read, of the memories that hold it; `names` is room for a byte a moment.
+fn judge_with(
+    domain: Counts,
+    arities: &[u8],
+    variables: &[u8],
+    sorts: &[u8],
+    starts: &[usize],
+    parts: &[u8],
+    table: &[u8],
+    names: &mut [u8],
     report: &mut [u8],
     witness: &mut [u8],
 ) -> Judgement
-    requires { ⌜ Shaped index ⌝ }
-    ensures { λ r. ⌜ ((D : Domain) (old : List ℕ) → Holds D index → now (table .entry) ≡ over (tableBytes D) old
+    requires { ⌜ Shaped (indexWith domain (now arities) (now variables) (now sorts) (now starts) (now parts)) × (length (now variables) ≡ 64) × (length (now sorts) ≡ 64)
+        × (length (now starts) ≡ 64) × (8 * domain .rows ≤ length (now table)) × (2 * domain .rows ≤ length (now names)) ⌝ }
+    ensures { λ r. ⌜ ((D : Domain) (old : List ℕ)
+        → Holds D (indexWith domain (now (arities .entry)) (now (variables .entry)) (now (sorts .entry)) (now (starts .entry)) (now (parts .entry)))
+        → wellFormed D ≡ true → now (table .entry) ≡ over (tableBytes D) old
         → (r ≡ judgementOf (judgedDomain D (now (report .entry)) (now (witness .entry))))
-        × (now (report .exit) ≡ reportBy (domain D) (now (report .entry)) (now (witness .entry)))
-        × (now (witness .exit) ≡ witnessMemoryBy (domain D) (now (report .entry)) (now (witness .entry)))) ⌝ }
+        × (now (report .exit) ≡ reportBy (domainRead D) (now (report .entry)) (now (witness .entry)))
+        × (now (witness .exit) ≡ witnessMemoryBy (domainRead D) (now (report .entry)) (now (witness .entry)))) ⌝ }
 {
-    let mut names = [0u8; 8192];
-    let naming = name_all(index, table, &mut names);
+    let mut counts = [0u8; 64];
+    let naming = name_all(
+        domain,
+        arities,
+        sorts,
+        starts,
+        parts,
+        table,
+        names,
+        &mut counts,
+    );
     if report.len() < 4 * naming.rows {
         return at_offset(30, 0);
     }
@@ -72,7 +80,11 @@ fn judge_domain(
     let number = decided.number;
     if has_witness(number) {
         if show(
-            index,
+            domain,
+            arities,
+            variables,
+            starts,
+            parts,
             table,
             decided.first as usize,
             decided.second as usize,
@@ -80,30 +92,79 @@ fn judge_domain(
             number,
             witness,
         ) {
-            put_names(index, naming, &names, report);
+            put_report(domain.actions, sorts, &counts, names, report);
             return decided;
         }
         return at_offset(31, 0);
     }
-    put_names(index, naming, &names, report);
+    put_report(domain.actions, sorts, &counts, names, report);
     decided
 }
 
-// A file: read, or refused 9 to 23.
+// A file, read or refused 9 to 23; `table` is room for its literals, and `names` for two names a literal.
+fn judge_in(
+    file: &[u8],
+    table: &mut [u8],
+    names: &mut [u8],
+    report: &mut [u8],
+    witness: &mut [u8],
+) -> Judgement
+    requires { ⌜ EnoughTable (now file) (now table) × (length (now table) ≤ 4 * length (now names)) ⌝ }
+    ensures { λ r. ⌜ (r ≡ judgementOf (judged (now (file .entry)) (now (report .entry)) (now (witness .entry))))
+        × (now (report .exit) ≡ reportAfter (now (file .entry)) (now (report .entry)) (now (witness .entry)))
+        × (now (witness .exit) ≡ witnessAfter (now (file .entry)) (now (report .entry)) (now (witness .entry))) ⌝ }
+{
+    let mut arities = [0u8; 64];
+    let mut variables = [0u8; 64];
+    let mut sorts = [0u8; 64];
+    let mut starts = [0usize; 64];
+    let mut parts = [0u8; 128];
+    let read = read_into(
+        file,
+        &mut arities,
+        &mut variables,
+        &mut sorts,
+        &mut starts,
+        &mut parts,
+        table,
+    );
+    let number = read.number;
+    if number != 0 {
+        return at_offset(number, read.place);
+    }
+    judge_with(
+        read.counts,
+        &arities,
+        &variables,
+        &sorts,
+        &starts,
+        &parts,
+        table,
+        names,
+        report,
+        witness,
+    )
+}
+
+// A file, of any length: a small one gets small memories, since to clear large ones takes longer than to judge it.
 fn judge_file(file: &[u8], report: &mut [u8], witness: &mut [u8]) -> Judgement
     ensures { λ r. ⌜ (r ≡ judgementOf (judged (now (file .entry)) (now (report .entry)) (now (witness .entry))))
         × (now (report .exit) ≡ reportAfter (now (file .entry)) (now (report .entry)) (now (witness .entry)))
         × (now (witness .exit) ≡ witnessAfter (now (file .entry)) (now (report .entry)) (now (witness .entry))) ⌝ }
 {
-    let mut table = [0u8; 32768];
-    let read = read_domain(file, &mut table);
-    let number = read.number;
-    let place = read.place;
-    let index = read.index;
-    if number != 0 {
-        return at_offset(number, place);
+    if file.len() <= 384 {
+        let mut table = [0u8; 512];
+        let mut names = [0u8; 128];
+        return judge_in(file, &mut table, &mut names, report, witness);
     }
-    judge_domain(index, &table, report, witness)
+    if file.len() <= 3072 {
+        let mut table = [0u8; 4096];
+        let mut names = [0u8; 1024];
+        return judge_in(file, &mut table, &mut names, report, witness);
+    }
+    let mut table = [0u8; 32768];
+    let mut names = [0u8; 8192];
+    judge_in(file, &mut table, &mut names, report, witness)
 }
 
 // Judges a domain file, with demand 3 of the answer: an accepted template is safe for every catalogue and every run; where no action lasts, a template

@@ -83,7 +83,7 @@ impl Notes {
     fn with_fault(self, fault: u64, at: Place) -> Notes
         ensures { λ r. ⌜ r ≡ withFault self fault at ⌝ }
     {
-        if self.fault != 0 {
+        if 0 < self.fault {
             return self;
         }
         if fault == 0 {

@@ -1,29 +1,32 @@
-// The names of all moments, in the report's order.
+// The names of all moments, in the order of the report.
 use super::Notes;
 use super::Place;
 use classes::Moment;
 use classes::Name;
+use classes::Sole;
 use classes::counts::clauses_at;
 use classes::counts::is_journey;
-use classes::counts::name_of;
-use classes::counts::summarize;
+use classes::counts::name_at;
+use classes::counts::soles_at;
 use classes::name_number;
 use classes::number::number_classes;
-use literals::Index;
+use literals::Counts;
 ghost use mathlib.Core.Path.{_≡_};
-ghost use mathlib.Core.Bool.{Bool, true};
+ghost use mathlib.Core.Bool.{true, cond};
 ghost use mathlib.Core.List.{List, [], _∷_, _++_, map, flatMap};
 ghost use Prim.Native.Nat.{ℕ, _+_, _*_, _≤_, _<_};
+ghost use lib.Dec.{ltb};
 ghost use lib.ListN.{length, getD, set};
 ghost use Rattle.records.specs.Lists.{In};
 ghost use Rattle.records.specs.Memory.{over};
 ghost use Rattle.literals.specs.Domain.{Domain, Action, action};
-ghost use Rattle.literals.specs.Table.{literalRow, tableBytes, pad, Holds, Shaped, endOf};
+ghost use Rattle.literals.specs.Table.{literalRow, tableBytes, pad, indexWith, Holds, Shaped};
 ghost use Rattle.classes.specs.declared.Moment.the-variants.{Start, End};
 ghost use Rattle.classes.specs.Classes.{momentsOf, classes, nameOf, journey};
-ghost use Rattle.classes.specs.Coded.{classNumbers, clausesAt};
+ghost use Rattle.classes.specs.Coded.{TemplateIn, classNumbers, clausesAt, soleOf};
 ghost use Rattle.verdict.specs.Decision.{Row, rowAt, rowsOfClasses, rows};
-ghost use Rattle.verdict.specs.Coded.{rowFor, nameBytes, Named, namingOf};
+ghost use Rattle.verdict.specs.Claims.{wellFormed};
+ghost use Rattle.verdict.specs.Coded.{rowFor, nameBytes, classCounts, ActionIn, SolesIn, Named, namingOf};
 
 // The names of one class: at its start, and at its end where the action lasts.
 pub struct ClassNames {
@@ -32,11 +35,10 @@ pub struct ClassNames {
     pub journey: bool,
 }
 
-// Where naming stands: how many rows are named, what is noted of them, and how many classes each action has.
+// Where naming stands: how many rows are named, and what is noted of them.
 pub struct Naming {
     pub rows: usize,
     pub notes: Notes,
-    pub counts: [u8; 64],
 }
 
 // The rows of an action's literals: from the first, up to the one behind the last.
@@ -45,50 +47,51 @@ pub struct Span {
     pub to: usize,
 }
 
-pub fn span_of(index: Index, i: usize) -> Span
-    requires { ⌜ Shaped index × (i < index .actions) ⌝ }
-    ensures { λ r. ⌜ (r .from ≡ getD (index .starts) i 0) × (r .to ≡ endOf index i) ⌝ }
+// Those of the action i, of so many actions, which have so many rows.
+pub fn span_of(starts: &[usize], actions: usize, rows: usize, i: usize) -> Span
+    requires { ⌜ (i < actions) × (actions ≤ length (now starts)) ⌝ }
+    ensures { λ r. ⌜ (r .from ≡ getD (now (starts .entry)) i 0) × (r .to ≡ cond (ltb (i + 1) actions) (getD (now (starts .entry)) (i + 1) 0) rows) ⌝ }
 {
-    let starts = index.starts;
     let from = starts[i];
-    if i + 1 < index.actions {
+    if i + 1 < actions {
         return Span {
             from,
             to: starts[i + 1],
         };
     }
-    Span {
-        from,
-        to: index.rows,
-    }
+    Span { from, to: rows }
 }
 
+// The names of a class, of the clauses of the action's literals at its start and at its end, and of the class's true conditions and adds there.
 fn name_class(
-    index: Index,
+    parts: &[u8],
+    components: usize,
+    arities: &[u8],
     rows: &[u8],
     of: &[u8],
-    at_start: [u8; 64],
-    at_end: [u8; 64],
+    at_start: &[u8],
+    at_end: &[u8],
+    first: Sole,
+    last: Sole,
     class: u8,
     lasting: bool,
 ) -> ClassNames
-    requires { ⌜ Shaped index × (length (now rows) ≡ 8 * length (now of)) × (length (now of) ≤ 64) ⌝ }
-    ensures start { λ r. ⌜ ((D : Domain) (a : Action) → Holds D index → In a (D .actions) → now (rows .entry) ≡ flatMap literalRow (a .lits)
-        → now (of .entry) ≡ classNumbers D a → «at_start» ≡ pad 64 (clausesAt a Start) → class < length (classes D a)
-        → r .start ≡ nameOf D a (getD (classes D a) class []) Start) ⌝ }
-    ensures end { λ r. ⌜ ((D : Domain) (a : Action) → Holds D index → In a (D .actions) → now (rows .entry) ≡ flatMap literalRow (a .lits)
-        → now (of .entry) ≡ classNumbers D a → «at_start» ≡ pad 64 (clausesAt a Start) → «at_end» ≡ pad 64 (clausesAt a End) → class < length (classes D a)
-        → lasting ≡ true → a .lasting ≡ true
+    requires { ⌜ (8 * components ≤ length (now parts)) × ((i : ℕ) → getD (now arities) i 0 ≤ 6) × (8 * length (now of) ≤ length (now rows)) × (length (now of) ≤ length (now «at_start»))
+        × (length (now of) ≤ length (now «at_end»)) × (length (now of) ≤ 64) × (first ≡ soleOf (now of) (now «at_start») class) × (last ≡ soleOf (now of) (now «at_end») class) ⌝ }
+    ensures start { λ r. ⌜ ((D : Domain) (a : Action) (keys : ℕ) → TemplateIn D (now (parts .entry)) components keys (now (arities .entry)) → In a (D .actions)
+        → now (rows .entry) ≡ flatMap literalRow (a .lits) → now (of .entry) ≡ classNumbers D a → now («at_start» .entry) ≡ pad 64 (clausesAt a Start)
+        → class < length (classes D a) → r .start ≡ nameOf D a (getD (classes D a) class []) Start) ⌝ }
+    ensures end { λ r. ⌜ ((D : Domain) (a : Action) (keys : ℕ) → TemplateIn D (now (parts .entry)) components keys (now (arities .entry)) → In a (D .actions)
+        → now (rows .entry) ≡ flatMap literalRow (a .lits) → now (of .entry) ≡ classNumbers D a → now («at_start» .entry) ≡ pad 64 (clausesAt a Start)
+        → now («at_end» .entry) ≡ pad 64 (clausesAt a End) → class < length (classes D a) → lasting ≡ true → a .lasting ≡ true
         → (r .end ≡ nameOf D a (getD (classes D a) class []) End) × (r .journey ≡ journey D a (getD (classes D a) class []))) ⌝ }
 {
-    let s = summarize(index, rows, of, at_start, class);
-    let start = name_of(s, index.components);
+    let start = name_at(parts, components, arities, rows, of, at_start, first, class);
     if lasting {
-        let e = summarize(index, rows, of, at_end, class);
         return ClassNames {
             start,
-            end: name_of(e, index.components),
-            journey: is_journey(s, e),
+            end: name_at(parts, components, arities, rows, of, at_end, last, class),
+            journey: is_journey(rows, of, at_start, first, last, class),
         };
     }
     ClassNames {
@@ -100,19 +103,18 @@ fn name_class(
 
 impl Naming {
     pub fn new() -> Naming
-        ensures { λ r. ⌜ ((old : List ℕ) → length old ≡ 8192 → Named [] r old old) × (r .rows ≡ 0) × (r .counts ≡ pad 64 []) ⌝ }
+        ensures { λ r. ⌜ ((old : List ℕ) → Named [] r old old) × (r .rows ≡ 0) ⌝ }
     {
         Naming {
             rows: 0,
             notes: Notes::new(),
-            counts: [0u8; 64],
         }
     }
 
     // One row more.
-    fn with_row(self, name: Name, ended: bool, at: Place, names: &mut [u8; 8192]) -> Naming
-        requires { ⌜ self .rows < 8192 ⌝ }
-        ensures rows { λ r. ⌜ (r .rows ≡ self .rows + 1) × (r .counts ≡ self .counts) ⌝ }
+    fn with_row(self, name: Name, ended: bool, at: Place, names: &mut [u8]) -> Naming
+        requires { ⌜ self .rows < length (now names) ⌝ }
+        ensures rows { λ r. ⌜ r .rows ≡ self .rows + 1 ⌝ }
         ensures named { λ r. ⌜ ((rs : List Row) (old : List ℕ) → at .moment ≤ 1 → Named rs self (now (names .entry)) old
             → Named (rs ++ (rowFor name ended at ∷ [])) r (now (names .exit)) old) ⌝ }
     {
@@ -132,10 +134,10 @@ impl Naming {
         class: u8,
         lasting: bool,
         named: ClassNames,
-        names: &mut [u8; 8192],
+        names: &mut [u8],
     ) -> Naming
-        requires { ⌜ (self .rows + 2 ≤ 8192) × (action < 64) ⌝ }
-        ensures rows { λ r. ⌜ (r .rows ≤ self .rows + 2) × (r .counts ≡ self .counts) ⌝ }
+        requires { ⌜ (self .rows + 2 ≤ length (now names)) × (action < 64) ⌝ }
+        ensures rows { λ r. ⌜ r .rows ≤ self .rows + 2 ⌝ }
         ensures named { λ r. ⌜ ((rs : List Row) (old : List ℕ) (D : Domain) (a : Action) → Named rs self (now (names .entry)) old → a .lasting ≡ lasting
             → named .start ≡ nameOf D a (getD (classes D a) class []) Start
             → (lasting ≡ true → (named .end ≡ nameOf D a (getD (classes D a) class []) End) × (named .journey ≡ journey D a (getD (classes D a) class [])))
@@ -168,73 +170,206 @@ impl Naming {
         started
     }
 
-    // The rows of the classes of an action: `of` holds the class number of each of its literals, which are these rows.
-    fn with_classes(
+    // The rows of the classes of an action, of the clauses of its literals at both moments, and of each class's true conditions and adds there.
+    fn with_each(
         self,
-        index: Index,
+        parts: &[u8],
+        components: usize,
+        arities: &[u8],
         rows: &[u8],
         of: &[u8],
+        at_start: &[u8],
+        at_end: &[u8],
+        conditions: &[u8],
+        adds: &[u8],
+        end_conditions: &[u8],
+        end_adds: &[u8],
         count: usize,
         i: usize,
-        names: &mut [u8; 8192],
+        lasting: bool,
+        names: &mut [u8],
     ) -> Naming
-        requires { ⌜ Shaped index × (i < index .actions) × (length (now rows) ≡ 8 * length (now of)) × (length (now of) ≤ 64) × (count ≤ length (now of)) × (self .rows ≤ 128 * i) ⌝ }
-        ensures rows { λ r. ⌜ (r .rows ≤ 128 * i + 2 * count) × (r .counts ≡ self .counts) ⌝ }
-        ensures named { λ r. ⌜ ((rs : List Row) (old : List ℕ) (D : Domain) → Named rs self (now (names .entry)) old → Holds D index
-            → now (rows .entry) ≡ flatMap literalRow (action D i .lits) → now (of .entry) ≡ classNumbers D (action D i) → count ≡ length (classes D (action D i))
-            → Named (rs ++ rowsOfClasses D (action D i) i 0 (classes D (action D i))) r (now (names .exit)) old) ⌝ }
+        requires { ⌜ (8 * components ≤ length (now parts)) × ((i : ℕ) → getD (now arities) i 0 ≤ 6) × (8 * length (now of) ≤ length (now rows)) × (length (now of) ≤ length (now «at_start»))
+            × (length (now of) ≤ length (now «at_end»)) × (length (now of) ≤ 64) × SolesIn (now of) (now «at_start») (now conditions) (now adds)
+            × SolesIn (now of) (now «at_end») (now «end_conditions») (now «end_adds») × (count ≤ length (now of)) × (i < 64) × (self .rows + 2 * count ≤ length (now names)) ⌝ }
+        ensures rows { λ r. ⌜ r .rows ≤ self .rows + 2 * count ⌝ }
+        ensures named { λ r. ⌜ ((rs : List Row) (old : List ℕ) (D : Domain) (a : Action) (keys : ℕ) → Named rs self (now (names .entry)) old
+            → ActionIn D a (now (parts .entry)) components keys (now (arities .entry)) (now (rows .entry)) → a .lasting ≡ lasting
+            → now (of .entry) ≡ classNumbers D a → now («at_start» .entry) ≡ pad 64 (clausesAt a Start)
+            → (lasting ≡ true → now («at_end» .entry) ≡ pad 64 (clausesAt a End)) → count ≡ length (classes D a) → Named (rs ++ rowsOfClasses D a i 0 (classes D a)) r (now (names .exit)) old) ⌝ }
     {
-        let sorts = index.sorts;
-        let lasting = sorts[i] == 1;
-        let n = of.len();
-        let at_start = clauses_at(rows, n, Moment::Start);
-        let at_end = clauses_at(rows, n, Moment::End);
         let mut next = self;
         for class in 0..count {
-            let named = name_class(index, rows, of, at_start, at_end, class as u8, lasting);
+            let named = name_class(
+                parts,
+                components,
+                arities,
+                rows,
+                of,
+                at_start,
+                at_end,
+                Sole {
+                    conditions: conditions[class],
+                    adds: adds[class],
+                },
+                Sole {
+                    conditions: end_conditions[class],
+                    adds: end_adds[class],
+                },
+                class as u8,
+                lasting,
+            );
             next = next.with_class(i, class as u8, lasting, named, names);
         }
         next
     }
 
-    // The rows of one action more, whose literals are these rows.
+    // The rows of the classes of an action: `of` holds the class number of each of its literals, which are these rows. (An action at once has no end.)
+    fn with_classes(
+        self,
+        parts: &[u8],
+        components: usize,
+        arities: &[u8],
+        rows: &[u8],
+        of: &[u8],
+        count: usize,
+        i: usize,
+        lasting: bool,
+        names: &mut [u8],
+    ) -> Naming
+        requires { ⌜ (8 * components ≤ length (now parts)) × ((i : ℕ) → getD (now arities) i 0 ≤ 6) × (length (now rows) ≡ 8 * length (now of)) × (length (now of) ≤ 64)
+            × (count ≤ length (now of)) × (i < 64) × (self .rows + 2 * count ≤ length (now names)) ⌝ }
+        ensures rows { λ r. ⌜ r .rows ≤ self .rows + 2 * count ⌝ }
+        ensures named { λ r. ⌜ ((rs : List Row) (old : List ℕ) (D : Domain) (a : Action) (keys : ℕ) → Named rs self (now (names .entry)) old
+            → ActionIn D a (now (parts .entry)) components keys (now (arities .entry)) (now (rows .entry)) → a .lasting ≡ lasting
+            → now (of .entry) ≡ classNumbers D a → count ≡ length (classes D a) → Named (rs ++ rowsOfClasses D a i 0 (classes D a)) r (now (names .exit)) old) ⌝ }
+    {
+        let n = of.len();
+        let mut at_start = [0u8; 64];
+        let mut conditions = [0u8; 64];
+        let mut adds = [0u8; 64];
+        clauses_at(rows, n, Moment::Start, &mut at_start);
+        soles_at(of, &at_start, 1, &mut conditions);
+        soles_at(of, &at_start, 3, &mut adds);
+        if !lasting {
+            return self.with_each(
+                parts,
+                components,
+                arities,
+                rows,
+                of,
+                &at_start,
+                &at_start,
+                &conditions,
+                &adds,
+                &conditions,
+                &adds,
+                count,
+                i,
+                lasting,
+                names,
+            );
+        }
+        let mut at_end = [0u8; 64];
+        let mut end_conditions = [0u8; 64];
+        let mut end_adds = [0u8; 64];
+        clauses_at(rows, n, Moment::End, &mut at_end);
+        soles_at(of, &at_end, 1, &mut end_conditions);
+        soles_at(of, &at_end, 3, &mut end_adds);
+        self.with_each(
+            parts,
+            components,
+            arities,
+            rows,
+            of,
+            &at_start,
+            &at_end,
+            &conditions,
+            &adds,
+            &end_conditions,
+            &end_adds,
+            count,
+            i,
+            lasting,
+            names,
+        )
+    }
+
+    // The rows of one action more, whose n literals are these rows; `counts` gets how many classes it has.
     fn with_action(
         self,
-        index: Index,
+        parts: &[u8],
+        components: usize,
+        keys: usize,
+        arities: &[u8],
         rows: &[u8],
         n: usize,
         i: usize,
-        names: &mut [u8; 8192],
+        lasting: bool,
+        names: &mut [u8],
+        counts: &mut [u8],
     ) -> Naming
-        requires { ⌜ Shaped index × (i < index .actions) × (length (now rows) ≡ 8 * n) × (n ≤ 64) × (self .rows ≤ 128 * i) ⌝ }
-        ensures rows { λ r. ⌜ r .rows ≤ 128 * i + 128 ⌝ }
-        ensures named { λ r. ⌜ ((rs : List Row) (old : List ℕ) (D : Domain) → Named rs self (now (names .entry)) old → Holds D index
-            → now (rows .entry) ≡ flatMap literalRow (action D i .lits)
-            → (r .counts ≡ set (self .counts) i (length (classes D (action D i))))
-            × Named (rs ++ rowsOfClasses D (action D i) i 0 (classes D (action D i))) r (now (names .exit)) old) ⌝ }
+        requires { ⌜ (8 * components ≤ length (now parts)) × (keys ≤ 6) × ((i : ℕ) → getD (now arities) i 0 ≤ 6) × (length (now rows) ≡ 8 * n) × (n ≤ 64)
+            × (i < 64) × (self .rows + 2 * n ≤ length (now names)) × (length (now counts) ≡ 64) ⌝ }
+        ensures rows { λ r. ⌜ r .rows ≤ self .rows + 2 * n ⌝ }
+        ensures named { λ r. ⌜ ((rs : List Row) (old : List ℕ) (D : Domain) (a : Action) → Named rs self (now (names .entry)) old
+            → ActionIn D a (now (parts .entry)) components keys (now (arities .entry)) (now (rows .entry)) → a .lasting ≡ lasting
+            → (now (counts .exit) ≡ set (now (counts .entry)) i (length (classes D a)))
+            × Named (rs ++ rowsOfClasses D a i 0 (classes D a)) r (now (names .exit)) old) ⌝ }
     {
         let mut of = [0u8; 64];
-        let classes = number_classes(index, rows, &mut of[0..n]);
-        let count = classes.count;
-        let mut next = self.with_classes(index, rows, &of[0..n], count, i, names);
-        next.counts[i] = count as u8;
-        next
+        let mut tuples = [255u8; 512];
+        let count = number_classes(parts, components, keys, rows, &mut of[0..n], &mut tuples);
+        counts[i] = count as u8;
+        self.with_classes(
+            parts,
+            components,
+            arities,
+            rows,
+            &of[0..n],
+            count,
+            i,
+            lasting,
+            names,
+        )
     }
 }
 
-// The names of all moments of a domain: its index and literal table.
-pub fn name_all(index: Index, table: &[u8], names: &mut [u8; 8192]) -> Naming
-    requires { ⌜ Shaped index × (length (now table) ≡ 32768) ⌝ }
+// The names of all moments of a domain, of the memories that hold it; `counts` gets how many classes each action has.
+pub fn name_all(
+    domain: Counts,
+    arities: &[u8],
+    sorts: &[u8],
+    starts: &[usize],
+    parts: &[u8],
+    table: &[u8],
+    names: &mut [u8],
+    counts: &mut [u8],
+) -> Naming
+    requires { ⌜ ((variables : List ℕ) → Shaped (indexWith domain (now arities) variables (now sorts) (now starts) (now parts))) × (length (now sorts) ≡ 64) × (length (now starts) ≡ 64)
+        × (8 * domain .rows ≤ length (now table)) × (2 * domain .rows ≤ length (now names)) × (length (now counts) ≡ 64) ⌝ }
     ensures rows { λ r. ⌜ r .rows ≤ 8192 ⌝ }
-    ensures named { λ r. ⌜ ((D : Domain) (old : List ℕ) → Holds D index → now (table .entry) ≡ over (tableBytes D) old → length (now (names .entry)) ≡ 8192
-        → (r ≡ namingOf D) × (now (names .exit) ≡ over (nameBytes (rows D)) (now (names .entry)))) ⌝ }
+    ensures named { λ r. ⌜ ((D : Domain) (old variables : List ℕ) → Holds D (indexWith domain (now (arities .entry)) variables (now (sorts .entry)) (now (starts .entry)) (now (parts .entry)))
+        → wellFormed D ≡ true → now (table .entry) ≡ over (tableBytes D) old → now (counts .entry) ≡ pad 64 []
+        → (r ≡ namingOf D) × (now (counts .exit) ≡ pad 64 (classCounts D (D .actions))) × (now (names .exit) ≡ over (nameBytes (rows D)) (now (names .entry)))) ⌝ }
 {
     let mut naming = Naming::new();
-    for i in 0..index.actions {
-        let span = span_of(index, i);
+    for i in 0..domain.actions {
+        let span = span_of(starts, domain.actions, domain.rows, i);
         let from = 8 * span.from;
         let to = 8 * span.to;
-        naming = naming.with_action(index, &table[from..to], span.to - span.from, i, names);
+        naming = naming.with_action(
+            parts,
+            domain.components,
+            domain.keys,
+            arities,
+            &table[from..to],
+            span.to - span.from,
+            i,
+            sorts[i] == 1,
+            names,
+            counts,
+        );
     }
     naming
 }

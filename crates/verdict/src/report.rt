@@ -1,6 +1,4 @@
 // The report: 4 bytes a moment, in order of action, class and moment.
-use super::naming::Naming;
-use literals::Index;
 ghost use mathlib.Core.Path.{_≡_};
 ghost use mathlib.Core.List.{List, [], _∷_, _++_, map};
 ghost use Prim.Native.Nat.{ℕ, _+_, _*_, _≤_, _<_};
@@ -8,11 +6,11 @@ ghost use lib.ListN.{length};
 ghost use Rattle.records.specs.Memory.{over};
 ghost use Rattle.literals.specs.declared.Variable.{Variable};
 ghost use Rattle.literals.specs.Domain.{Action, Domain};
-ghost use Rattle.literals.specs.Table.{Holds, Shaped};
+ghost use Rattle.literals.specs.Table.{pad, sortNumber};
 ghost use Rattle.classes.specs.Classes.{momentNumber, momentsOf};
 ghost use Rattle.verdict.specs.Decision.{Row, rowAt, rowsOfClasses, rows};
 ghost use Rattle.verdict.specs.Judged.{rowBytes};
-ghost use Rattle.verdict.specs.Coded.{nameBytes, namingOf, Reporting};
+ghost use Rattle.verdict.specs.Coded.{nameBytes, classCounts, Reporting};
 
 // One row at a place, with the name that is stored for it. (That both memories have room is known of every domain; the tests keep it in sight.)
 fn put_row(report: &mut [u8], at: usize, action: u8, class: u8, moment: u8, names: &[u8])
@@ -75,16 +73,15 @@ fn put_action(
     next
 }
 
-// All rows.
-pub fn put_report(index: Index, naming: Naming, names: &[u8], report: &mut [u8])
-    requires { ⌜ Shaped index ⌝ }
-    ensures { λ _. ⌜ ((D : Domain) (old : List ℕ) → Holds D index → naming ≡ namingOf D → now (names .entry) ≡ over (nameBytes (rows D)) old
+// All rows, of so many actions, their sorts, how many classes each has, and the names.
+pub fn put_report(actions: usize, sorts: &[u8], counts: &[u8], names: &[u8], report: &mut [u8])
+    requires { ⌜ (actions ≤ 64) × (length (now sorts) ≡ 64) × (length (now counts) ≡ 64) ⌝ }
+    ensures { λ _. ⌜ ((D : Domain) (old : List ℕ) → actions ≡ length (D .actions) → now (sorts .entry) ≡ pad 64 (map sortNumber (D .actions))
+        → now (counts .entry) ≡ pad 64 (classCounts D (D .actions)) → now (names .entry) ≡ over (nameBytes (rows D)) old
         → 4 * length (rows D) ≤ length (now (report .entry)) → now (report .exit) ≡ over (rowBytes (rows D)) (now (report .entry))) ⌝ }
 {
-    let sorts = index.sorts;
-    let counts = naming.counts;
     let mut at = 0;
-    for i in 0..index.actions {
+    for i in 0..actions {
         at = put_action(report, at, i as u8, counts[i], sorts[i] == 1, names);
     }
 }

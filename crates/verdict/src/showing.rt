@@ -1,40 +1,31 @@
 // The witness: 8 bytes a fact (relation, arity, arguments, FF to fill), variable i as object i.
 use super::naming::span_of;
 use classes::Moment;
+use classes::counts::arity_of;
 use classes::counts::clauses_at;
-use classes::counts::summarize;
+use classes::counts::first_uncovered;
 use classes::number::number_classes;
-use literals::Index;
+use literals::Counts;
 ghost use mathlib.Core.Path.{_≡_};
-ghost use mathlib.Core.Bool.{Bool};
-ghost use mathlib.Core.List.{List, [], flatMap};
+ghost use mathlib.Core.Bool.{Bool, true};
+ghost use mathlib.Core.List.{List, []};
 ghost use Prim.Native.Nat.{ℕ, _+_, _*_, _≤_, _<_};
-ghost use lib.ListN.{length, getD, take, drop};
+ghost use lib.ListN.{length, getD, take, drop, replicate};
 ghost use lib.Seq.{paste};
 ghost use Rattle.records.specs.Lists.{countBy};
 ghost use Rattle.records.specs.Memory.{over};
-ghost use Rattle.records.specs.Lists.{In};
 ghost use Rattle.literals.specs.Domain.{Domain, Action, action};
-ghost use Rattle.literals.specs.Table.{literalRow, rowsIn, tableBytes, pad, Holds, Shaped};
+ghost use Rattle.literals.specs.Table.{rowsIn, tableBytes, pad, indexWith, Holds, Shaped};
 ghost use Rattle.classes.specs.Classes.{classes, nameOf};
-ghost use Rattle.classes.specs.Coded.{classTable, clausesAt, uncoveredAt};
+ghost use Rattle.classes.specs.Coded.{classTuples, clausesAt, uncoveredAt};
 ghost use Rattle.verdict.specs.Decision.{faultBy, classAt, witnessAt};
-ghost use Rattle.verdict.specs.Coded.{momentBy, fitsIn, shownIn, isCondition, conditionBytes, conditionIf, conditionsOf, objectByte, instanceBytes};
-
-// The arity of a relation, 0 where there is none.
-fn arity_of(arities: [u8; 64], relation: u8) -> u8
-    ensures { λ r. ⌜ r ≡ getD arities relation 0 ⌝ }
-{
-    if relation < 64 {
-        return arities[relation as usize];
-    }
-    0
-}
+ghost use Rattle.verdict.specs.Claims.{wellFormed};
+ghost use Rattle.verdict.specs.Coded.{ActionIn, momentBy, fitsIn, shownIn, isCondition, conditionBytes, conditionIf, conditionsOf, objectByte, instanceBytes};
 
 // How many literals are true conditions at the moment.
-fn count_conditions(clauses: [u8; 64], n: usize) -> usize
-    requires { ⌜ n ≤ 64 ⌝ }
-    ensures { λ r. ⌜ r ≡ countBy isCondition (take n clauses) ⌝ }
+fn count_conditions(clauses: &[u8], n: usize) -> usize
+    requires { ⌜ n ≤ length (now clauses) ⌝ }
+    ensures { λ r. ⌜ r ≡ countBy isCondition (take n (now (clauses .entry))) ⌝ }
 {
     let mut k: usize = 0;
     for j in 0..n {
@@ -70,17 +61,11 @@ fn put_condition(out: &mut [u8], at: usize, rows: &[u8], row: usize, arity: u8)
 }
 
 // The same where the literal is a true condition; the offset behind it.
-fn put_if(
-    out: &mut [u8],
-    at: usize,
-    arities: [u8; 64],
-    rows: &[u8],
-    row: usize,
-    clause: u8,
-) -> usize
+fn put_if(out: &mut [u8], at: usize, arities: &[u8], rows: &[u8], row: usize, clause: u8) -> usize
     requires { ⌜ (row + 8 ≤ length (now rows)) × (clause ≡ 1 → at + 8 ≤ length (now out)) ⌝ }
-    ensures written { λ _. ⌜ now (out .exit) ≡ paste (now (out .entry)) at (conditionIf arities clause (take 8 (drop row (now (rows .entry))))) (length (conditionIf arities clause (take 8 (drop row (now (rows .entry)))))) ⌝ }
-    ensures behind { λ r. ⌜ r ≡ at + length (conditionIf arities clause (take 8 (drop row (now (rows .entry))))) ⌝ }
+    ensures written { λ _. ⌜ now (out .exit) ≡ paste (now (out .entry)) at (conditionIf (now (arities .entry)) clause (take 8 (drop row (now (rows .entry)))))
+        (length (conditionIf (now (arities .entry)) clause (take 8 (drop row (now (rows .entry)))))) ⌝ }
+    ensures behind { λ r. ⌜ r ≡ at + length (conditionIf (now (arities .entry)) clause (take 8 (drop row (now (rows .entry))))) ⌝ }
 {
     if clause == 1 {
         put_condition(out, at, rows, row, arity_of(arities, rows[row + 1]));
@@ -90,9 +75,9 @@ fn put_if(
 }
 
 // The facts of the true conditions, in file order.
-fn put_conditions(out: &mut [u8], arities: [u8; 64], rows: &[u8], clauses: [u8; 64], n: usize)
-    requires { ⌜ (n ≤ 64) × (8 * n ≤ length (now rows)) × (8 * countBy isCondition (take n clauses) ≤ length (now out)) ⌝ }
-    ensures { λ _. ⌜ now (out .exit) ≡ over (conditionsOf arities (take n clauses) (rowsIn n (now (rows .entry)))) (now (out .entry)) ⌝ }
+fn put_conditions(out: &mut [u8], arities: &[u8], rows: &[u8], clauses: &[u8], n: usize)
+    requires { ⌜ (n ≤ length (now clauses)) × (8 * n ≤ length (now rows)) × (8 * countBy isCondition (take n (now clauses)) ≤ length (now out)) ⌝ }
+    ensures { λ _. ⌜ now (out .exit) ≡ over (conditionsOf (now (arities .entry)) (take n (now (clauses .entry))) (rowsIn n (now (rows .entry)))) (now (out .entry)) ⌝ }
 {
     let mut at: usize = 0;
     for j in 0..n {
@@ -156,49 +141,54 @@ fn put_instance(
 }
 
 // The witness of a moment that is not unbounded: its true conditions. Whether they fit; nothing is written where they do not.
-fn put_plain(index: Index, rows: &[u8], n: usize, m: Moment, out: &mut [u8]) -> bool
-    requires { ⌜ Shaped index × (length (now rows) ≡ 8 * n) × (n ≤ 64) ⌝ }
-    ensures { λ r. ⌜ ((D : Domain) (a : Action) (j number : ℕ) (e : Bool) → Holds D index → In a (D .actions) → now (rows .entry) ≡ flatMap literalRow (a .lits)
+fn put_plain(arities: &[u8], rows: &[u8], n: usize, m: Moment, out: &mut [u8]) -> bool
+    requires { ⌜ (length (now rows) ≡ 8 * n) × (n ≤ 64) ⌝ }
+    ensures { λ r. ⌜ ((D : Domain) (a : Action) (j number : ℕ) (e : Bool) (parts : List ℕ) (components keys : ℕ)
+        → ActionIn D a parts components keys (now (arities .entry)) (now (rows .entry))
         → (number ≡ 0 → ⊥) → (number ≡ 42 → ⊥) → number ≡ faultBy (nameOf D a (getD (classes D a) j []) m) e
         → (r ≡ fitsIn (witnessAt D a (getD (classes D a) j []) m) (now (out .entry)))
         × (now (out .exit) ≡ shownIn (witnessAt D a (getD (classes D a) j []) m) (now (out .entry)))) ⌝ }
 {
-    let arities = index.arities;
-    let clauses = clauses_at(rows, n, m);
-    let k = count_conditions(clauses, n);
+    let mut clauses = [0u8; 64];
+    clauses_at(rows, n, m, &mut clauses);
+    let k = count_conditions(&clauses, n);
     if out.len() < 8 * k {
         return false;
     }
-    put_conditions(out, arities, rows, clauses, n);
+    put_conditions(out, arities, rows, &clauses, n);
     true
 }
 
-// The key tuples of an action's classes, and the first component that one of the classes leaves uncovered, or the number of components.
-struct OpenClass {
-    tuples: [u8; 512],
-    uncovered: usize,
-}
-
-// Those of a class at the moment of these clauses; `of` is room for a number for each literal.
-fn open_class(index: Index, rows: &[u8], of: &mut [u8], clauses: [u8; 64], class: u8) -> OpenClass
-    requires { ⌜ Shaped index × (length (now rows) ≡ 8 * length (now of)) × (length (now of) ≤ 64) ⌝ }
-    ensures { λ r. ⌜ ((D : Domain) (a : Action) (m : Moment) → Holds D index → In a (D .actions) → now (rows .entry) ≡ flatMap literalRow (a .lits)
-        → clauses ≡ pad 64 (clausesAt a m) → class < length (classes D a)
-        → (r .tuples ≡ classTable D a .tuples) × (r .uncovered ≡ uncoveredAt D a (getD (classes D a) class []) m)) ⌝ }
+// The first component that a class leaves uncovered at the moment of these clauses, or the number of components; `tuples`, which is all FF, gets the key
+// tuples of the action's classes, and `of` is room for a number for each literal.
+fn open_class(
+    parts: &[u8],
+    components: usize,
+    keys: usize,
+    arities: &[u8],
+    rows: &[u8],
+    of: &mut [u8],
+    tuples: &mut [u8],
+    clauses: &[u8],
+    class: u8,
+) -> usize
+    requires { ⌜ (8 * components ≤ length (now parts)) × (keys ≤ 6) × ((i : ℕ) → getD (now arities) i 0 ≤ 6) × (length (now rows) ≡ 8 * length (now of)) × (length (now of) ≤ 64)
+        × (length (now tuples) ≡ 512) × (length (now of) ≤ length (now clauses)) ⌝ }
+    ensures { λ r. ⌜ ((D : Domain) (a : Action) (m : Moment) → ActionIn D a (now (parts .entry)) components keys (now (arities .entry)) (now (rows .entry))
+        → now (tuples .entry) ≡ replicate 512 255 → now (clauses .entry) ≡ pad 64 (clausesAt a m) → class < length (classes D a)
+        → (now (tuples .exit) ≡ classTuples D a) × (r ≡ uncoveredAt D a (getD (classes D a) class []) m)) ⌝ }
 {
-    let classes = number_classes(index, rows, of);
-    let tuples = classes.tuples;
-    let s = summarize(index, rows, of, clauses, class);
-    OpenClass {
-        tuples,
-        uncovered: s.uncovered,
-    }
+    number_classes(parts, components, keys, rows, of, tuples);
+    first_uncovered(parts, components, arities, rows, of, clauses, class)
 }
 
 // The witness of an unbounded moment of the class j: its true conditions, then the instance fact of the first uncovered component. Whether they fit;
 // nothing is written where they do not. (An unbounded moment has an uncovered component; the test keeps it in sight.)
 fn put_open(
-    index: Index,
+    parts: &[u8],
+    components: usize,
+    keys: usize,
+    arities: &[u8],
     rows: &[u8],
     n: usize,
     spare: u8,
@@ -206,60 +196,74 @@ fn put_open(
     m: Moment,
     out: &mut [u8],
 ) -> bool
-    requires { ⌜ Shaped index × (length (now rows) ≡ 8 * n) × (n ≤ 64) × (j < 64) ⌝ }
-    ensures { λ r. ⌜ ((D : Domain) (a : Action) (e : Bool) → Holds D index → In a (D .actions) → now (rows .entry) ≡ flatMap literalRow (a .lits)
+    requires { ⌜ (8 * components ≤ length (now parts)) × (components ≤ 16) × (keys ≤ 6) × ((i : ℕ) → getD (now arities) i 0 ≤ 6) × (length (now rows) ≡ 8 * n) × (n ≤ 64) × (j < 64) ⌝ }
+    ensures { λ r. ⌜ ((D : Domain) (a : Action) (e : Bool) → ActionIn D a (now (parts .entry)) components keys (now (arities .entry)) (now (rows .entry))
         → spare ≡ a .vars → j < length (classes D a) → 42 ≡ faultBy (nameOf D a (getD (classes D a) j []) m) e
         → (r ≡ fitsIn (witnessAt D a (getD (classes D a) j []) m) (now (out .entry)))
         × (now (out .exit) ≡ shownIn (witnessAt D a (getD (classes D a) j []) m) (now (out .entry)))) ⌝ }
 {
-    let parts = index.parts;
-    let arities = index.arities;
-    let clauses = clauses_at(rows, n, m);
-    let k = count_conditions(clauses, n);
+    let mut clauses = [0u8; 64];
+    clauses_at(rows, n, m, &mut clauses);
+    let k = count_conditions(&clauses, n);
     if out.len() < 8 * k + 8 {
         return false;
     }
     let mut of = [0u8; 64];
-    let class = open_class(index, rows, &mut of[0..n], clauses, j as u8);
-    let tuples = class.tuples;
-    let u = class.uncovered;
-    if index.components <= u {
+    let mut tuples = [255u8; 512];
+    let u = open_class(
+        parts,
+        components,
+        keys,
+        arities,
+        rows,
+        &mut of[0..n],
+        &mut tuples,
+        &clauses,
+        j as u8,
+    );
+    if components <= u {
         return false;
     }
     let arity = arity_of(arities, parts[8 * u]);
-    put_conditions(out, arities, rows, clauses, n);
-    put_instance(out, 8 * k, &parts, 8 * u, arity, &tuples, j, spare);
+    put_conditions(out, arities, rows, &clauses, n);
+    put_instance(out, 8 * k, parts, 8 * u, arity, &tuples, j, spare);
     true
 }
 
 // The witness of a moment that is refused by `number`.
 fn put_witness(
-    index: Index,
+    parts: &[u8],
+    components: usize,
+    keys: usize,
+    arities: &[u8],
     rows: &[u8],
     n: usize,
-    i: usize,
+    spare: u8,
     j: usize,
     m: Moment,
     number: u64,
     out: &mut [u8],
 ) -> bool
-    requires { ⌜ Shaped index × (length (now rows) ≡ 8 * n) × (n ≤ 64) × (i < index .actions) × (j < 64) ⌝ }
-    ensures { λ r. ⌜ ((D : Domain) (e : Bool) → Holds D index → now (rows .entry) ≡ flatMap literalRow (action D i .lits)
-        → j < length (classes D (action D i)) → (number ≡ 0 → ⊥) → number ≡ faultBy (nameOf D (action D i) (classAt D i j) m) e
-        → (r ≡ fitsIn (witnessAt D (action D i) (classAt D i j) m) (now (out .entry)))
-        × (now (out .exit) ≡ shownIn (witnessAt D (action D i) (classAt D i j) m) (now (out .entry)))) ⌝ }
+    requires { ⌜ (8 * components ≤ length (now parts)) × (components ≤ 16) × (keys ≤ 6) × ((i : ℕ) → getD (now arities) i 0 ≤ 6) × (length (now rows) ≡ 8 * n) × (n ≤ 64) × (j < 64) ⌝ }
+    ensures { λ r. ⌜ ((D : Domain) (a : Action) (e : Bool) → ActionIn D a (now (parts .entry)) components keys (now (arities .entry)) (now (rows .entry))
+        → spare ≡ a .vars → j < length (classes D a) → (number ≡ 0 → ⊥) → number ≡ faultBy (nameOf D a (getD (classes D a) j []) m) e
+        → (r ≡ fitsIn (witnessAt D a (getD (classes D a) j []) m) (now (out .entry)))
+        × (now (out .exit) ≡ shownIn (witnessAt D a (getD (classes D a) j []) m) (now (out .entry)))) ⌝ }
 {
-    let variables = index.variables;
     if number == 42 {
-        return put_open(index, rows, n, variables[i], j, m, out);
+        return put_open(parts, components, keys, arities, rows, n, spare, j, m, out);
     }
-    put_plain(index, rows, n, m, out)
+    put_plain(arities, rows, n, m, out)
 }
 
 // The witness of the place named: the class j of the action i at a moment, refused by `number`. Whether it fits; nothing is written where it does not.
 // (The decision names an action and a class of the domain; the tests keep it in sight.)
 pub fn show(
-    index: Index,
+    domain: Counts,
+    arities: &[u8],
+    variables: &[u8],
+    starts: &[usize],
+    parts: &[u8],
     table: &[u8],
     i: usize,
     j: usize,
@@ -267,25 +271,52 @@ pub fn show(
     number: u64,
     out: &mut [u8],
 ) -> bool
-    requires { ⌜ Shaped index × (length (now table) ≡ 32768) ⌝ }
-    ensures { λ r. ⌜ ((D : Domain) (old : List ℕ) (e : Bool) → Holds D index → now (table .entry) ≡ over (tableBytes D) old
-        → i < length (D .actions) → j < length (classes D (action D i)) → (number ≡ 0 → ⊥)
+    requires { ⌜ ((sorts : List ℕ) → Shaped (indexWith domain (now arities) (now variables) sorts (now starts) (now parts))) × (length (now variables) ≡ 64) × (length (now starts) ≡ 64)
+        × (8 * domain .rows ≤ length (now table)) ⌝ }
+    ensures { λ r. ⌜ ((D : Domain) (old sorts : List ℕ) (e : Bool)
+        → Holds D (indexWith domain (now (arities .entry)) (now (variables .entry)) sorts (now (starts .entry)) (now (parts .entry)))
+        → wellFormed D ≡ true → now (table .entry) ≡ over (tableBytes D) old → i < length (D .actions) → j < length (classes D (action D i)) → (number ≡ 0 → ⊥)
         → number ≡ faultBy (nameOf D (action D i) (classAt D i j) (momentBy moment)) e
         → (r ≡ fitsIn (witnessAt D (action D i) (classAt D i j) (momentBy moment)) (now (out .entry)))
         × (now (out .exit) ≡ shownIn (witnessAt D (action D i) (classAt D i j) (momentBy moment)) (now (out .entry)))) ⌝ }
 {
-    if index.actions <= i {
+    if domain.actions <= i {
         return false;
     }
     if 64 <= j {
         return false;
     }
-    let span = span_of(index, i);
+    let span = span_of(starts, domain.actions, domain.rows, i);
     let from = 8 * span.from;
     let to = 8 * span.to;
     let n = span.to - span.from;
+    let spare = variables[i];
     if moment == 0 {
-        return put_witness(index, &table[from..to], n, i, j, Moment::Start, number, out);
+        return put_witness(
+            parts,
+            domain.components,
+            domain.keys,
+            arities,
+            &table[from..to],
+            n,
+            spare,
+            j,
+            Moment::Start,
+            number,
+            out,
+        );
     }
-    put_witness(index, &table[from..to], n, i, j, Moment::End, number, out)
+    put_witness(
+        parts,
+        domain.components,
+        domain.keys,
+        arities,
+        &table[from..to],
+        n,
+        spare,
+        j,
+        Moment::End,
+        number,
+        out,
+    )
 }

@@ -1,57 +1,104 @@
-//! The judge lines of cases/edges.txt.
+//! The lines of cases/edges.txt.
+
+use crate::judging;
+use crate::playing::{self, Played, WORK};
+use model::Source;
 
 /// A judge line: what is lent, and what comes back.
 #[derive(Clone, PartialEq, Eq, Debug)]
-pub struct Edge {
+pub struct Judging {
     pub line: usize,
     pub name: String,
     pub file: Vec<u8>,
     pub report_lent: usize,
     pub witness_lent: usize,
-    /// The number with its three places.
-    pub answer: [u64; 4],
-    /// The bytes written.
-    pub report: Vec<u8>,
-    pub witness: Vec<u8>,
+    pub told: judging::Told,
+}
+
+/// A play line: what is lent, and what comes back.
+#[derive(Clone, PartialEq, Eq, Debug)]
+pub struct Playing {
+    pub line: usize,
+    pub name: String,
+    pub domain: Vec<u8>,
+    pub run: Vec<u8>,
+    pub work_lent: usize,
+    pub told: playing::Told,
 }
 
 /// Every judge line. Panics where a line doesn't have the form that the first lines tell.
-pub fn judge_lines() -> Vec<Edge> {
+pub fn judge_lines() -> Vec<Judging> {
+    lines("judge", judging_line)
+}
+
+/// Every play line. Panics where a line doesn't have the form that the first lines tell.
+pub fn play_lines() -> Vec<Playing> {
+    lines("play", playing_line)
+}
+
+fn lines<T>(kind: &str, read: impl Fn(usize, &[&str]) -> Option<T>) -> Vec<T> {
     let text = include_str!("../../cases/edges.txt");
     let mut edges = Vec::new();
-    for (at, line) in text.lines().enumerate() {
-        if line.starts_with('#') || line.starts_with("play ") {
-            continue;
-        }
-        let line_number = at + 1;
-        match edge(line_number, line) {
-            Some(edge) => edges.push(edge),
-            None => panic!("line {line_number} of edges.txt isn't a judge line: {line}"),
+    for (at, line) in text.lines().enumerate().filter(|(_, line)| !line.starts_with('#')) {
+        let fields: Vec<&str> = line.split(" | ").map(str::trim).collect();
+        assert!(["judge", "play"].contains(&fields[0]), "line {} of edges.txt: {line}", at + 1);
+        if fields[0] == kind {
+            let edge = read(at + 1, &fields[1..]);
+            edges.push(edge.unwrap_or_else(|| panic!("line {} of edges.txt isn't a {kind} line: {line}", at + 1)));
         }
     }
     edges
 }
 
-fn edge(line_number: usize, line: &str) -> Option<Edge> {
-    let fields: Vec<&str> = line.split(" | ").map(str::trim).collect();
-    let ["judge", name, file, room, answer, report, witness] = fields[..] else { return None };
+/// The words of a field as numbers, of which there must be so many.
+fn numbers<const N: usize>(text: &str) -> Option<[u64; N]> {
+    let numbers: Option<Vec<u64>> = text.split(' ').map(|word| word.parse().ok()).collect();
+    numbers?.try_into().ok()
+}
+
+fn judging_line(line: usize, fields: &[&str]) -> Option<Judging> {
+    let &[name, file, room, answer, report, witness] = fields else { return None };
     let room: Vec<&str> = room.split(' ').collect();
     let ["report", report_lent, "witness", witness_lent] = room[..] else { return None };
-    let answer: Option<Vec<u64>> = answer.split(' ').map(|word| word.parse().ok()).collect();
-    Some(Edge {
-        line: line_number,
+    Some(Judging {
+        line,
         name: name.to_string(),
         file: bytes(file)?,
         report_lent: report_lent.parse().ok()?,
         witness_lent: witness_lent.parse().ok()?,
-        answer: answer?.try_into().ok()?,
-        report: bytes(report)?,
-        witness: bytes(witness)?,
+        told: judging::Told { answer: numbers(answer)?, report: bytes(report)?, witness: bytes(witness)? },
+    })
+}
+
+fn playing_line(line: usize, fields: &[&str]) -> Option<Playing> {
+    let &[name, domain, run, room, answer, facts, part] = fields else { return None };
+    let (domain, run) = (bytes(domain)?, bytes(run)?);
+    let [number, place, steps, weight] = numbers(answer)?;
+    let mut work = if facts == "none" { Vec::new() } else { bytes(facts)? };
+    if facts != "-" {
+        work.resize(WORK, 0);
+    }
+    let (file, at) = part.split_once(' ')?;
+    let (file, whole) = match file {
+        "domain" => (Source::Domain, &domain),
+        "run" => (Source::Run, &run),
+        _ => return None,
+    };
+    let at: usize = at.parse().ok()?;
+    let length = whole.len().checked_sub(at)?;
+    let played = Played { number, place, steps, weight, file, at, length };
+    Some(Playing {
+        line,
+        name: name.to_string(),
+        work_lent: room.strip_prefix("work ")?.parse().ok()?,
+        told: playing::Told { played, work },
+        domain,
+        run,
     })
 }
 
 /// Bytes in hexadecimal, '-' for none.
-fn bytes(text: &str) -> Option<Vec<u8>> {
+pub fn bytes(text: &str) -> Option<Vec<u8>> {
     if text == "-" {
         return Some(Vec::new());
     }

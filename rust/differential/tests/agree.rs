@@ -2,23 +2,9 @@
 //!
 //! `GOADLOTUS_CASES` is the least number of cases, `GOADLOTUS_SEED` the first seed.
 
-use differential::{run, CASES_A_FILE};
-use std::env;
-use std::io::{self, Write};
+use differential::judging::{run, CASES_A_FILE};
+use differential::seeds::{setting, show};
 use std::time::Instant;
-
-fn setting(name: &str, otherwise: u64) -> u64 {
-    match env::var(name) {
-        Ok(text) => text.replace('_', "").parse().unwrap_or_else(|_| panic!("{name} isn't a number: {text:?}")),
-        Err(_) => otherwise,
-    }
-}
-
-/// Shows a text even where the test harness keeps what tests print.
-fn show(text: &str) {
-    let mut out = io::stdout().lock();
-    let _ = writeln!(out, "{text}").and_then(|()| out.flush());
-}
 
 #[test]
 fn library_and_model_agree() {

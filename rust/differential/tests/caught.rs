@@ -1,6 +1,6 @@
 //! The comparison itself: judges that are wrong in one thing each must be caught by it.
 
-use differential::{model, run, Judge, Judgement};
+use differential::judging::{model, run, Judge, Judgement, NUMBERS};
 
 const FIRST: u64 = 1;
 const FILES: u64 = 3_000;
@@ -31,14 +31,14 @@ fn the_model_itself_passes() {
 
 #[test]
 fn a_wrong_number() {
-    for number in differential::NUMBERS {
+    for number in NUMBERS {
         caught(changed(number, |answer| answer.number ^= 1));
     }
 }
 
 #[test]
 fn a_wrong_place() {
-    for number in differential::NUMBERS {
+    for number in NUMBERS {
         caught(changed(number, |answer| answer.first = u64::MAX));
         caught(changed(number, |answer| answer.second = u64::MAX));
         caught(changed(number, |answer| answer.third = u64::MAX));

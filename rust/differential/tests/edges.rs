@@ -1,56 +1,19 @@
-//! Every judge line of cases/edges.txt against the library, as the file tells it and not as the model
-//! does; then each of its files at every length and every cut against the model.
+//! Every line of cases/edges.txt against the library, as the file tells it and not as the model does; then each of its
+//! files at every length and every cut against the model.
 
-use differential::{compare, edges, hex};
+use differential::edges;
+use differential::judging::{compare, expect, expect_at_all_lengths};
+use differential::playing::{self, library as player, Played, WORK};
 use goadlotus::judge;
-
-/// What lent memory holds before a call: no two neighbours alike, and neither all 0 nor all FF.
-fn pattern(length: usize) -> Vec<u8> {
-    (0..length).map(|i| (i * 7 + i / 256 + 0xA5) as u8).collect()
-}
-
-/// Lent memory after a call: what was written, then the pattern as it was.
-fn after(lent: usize, written: &[u8]) -> Vec<u8> {
-    let mut memory = pattern(lent);
-    memory[..written.len()].copy_from_slice(written);
-    memory
-}
-
-/// Judges in memory of these lengths; panics unless this comes back and this is written.
-fn expect(name: &str, file: &[u8], lent: (usize, usize), answer: [u64; 4], report: &[u8], witness: &[u8]) {
-    let mut report_memory = pattern(lent.0);
-    let mut witness_memory = pattern(lent.1);
-    let got = judge(file, &mut report_memory, &mut witness_memory);
-    let file = hex(file);
-    assert_eq!([got.number, got.first, got.second, got.third], answer, "{name}, lent {lent:?}: {file}");
-    assert_eq!(report_memory, after(lent.0, report), "{name}, lent {lent:?}, report: {file}");
-    assert_eq!(witness_memory, after(lent.1, witness), "{name}, lent {lent:?}, witness: {file}");
-}
 
 #[test]
 fn every_judge_line() {
     let lines = edges::judge_lines();
     for edge in &lines {
         let name = format!("line {}, {}", edge.line, edge.name);
-        let (r, w) = (edge.report.len(), edge.witness.len());
-        expect(&name, &edge.file, (edge.report_lent, edge.witness_lent), edge.answer, &edge.report, &edge.witness);
-        if [30, 31].contains(&edge.answer[0]) {
-            continue;
-        }
-        // The decision is the same whatever memory is lent: in exactly the room needed, in more ...
-        for lent in [(r, w), (r + 1, w + 1), (r + 1_000, w + 1_000)] {
-            expect(&name, &edge.file, lent, edge.answer, &edge.report, &edge.witness);
-        }
-        // ... and in one byte less or in none, where 30 comes before 31 and memory stays untouched.
-        if r > 0 {
-            for lent in [(r - 1, w), (r - 1, 0), (0, w), (0, 0)] {
-                expect(&name, &edge.file, lent, [30, 0, 0, 0], &[], &[]);
-            }
-        }
-        if w > 0 {
-            for lent in [(r, w - 1), (r + 9, w - 1), (r, 0)] {
-                expect(&name, &edge.file, lent, [31, 0, 0, 0], &[], &[]);
-            }
+        expect(judge, &name, &edge.file, (edge.report_lent, edge.witness_lent), &edge.told);
+        if ![30, 31].contains(&edge.told.answer[0]) {
+            expect_at_all_lengths(judge, &name, &edge.file, &edge.told);
         }
     }
     println!("edges.txt: {} judge lines run", lines.len());
@@ -79,6 +42,65 @@ fn every_length_and_every_cut() {
             for cut in 0..edge.file.len() {
                 run(&edge.file[..cut], (report, witness));
             }
+        }
+    }
+    println!("{cases} cases");
+}
+
+#[test]
+fn every_play_line() {
+    let lines = edges::play_lines();
+    for edge in &lines {
+        let name = format!("line {}, {}", edge.line, edge.name);
+        // As told, and where work memory suffices with more of it, which stays untouched.
+        let more = if edge.work_lent >= WORK { edge.work_lent + 1_000 } else { edge.work_lent };
+        for lent in [edge.work_lent, more] {
+            playing::expect(player, &name, &edge.domain, &edge.run, lent, &edge.told);
+        }
+    }
+    println!("edges.txt: {} play lines run", lines.len());
+    assert!(!lines.is_empty());
+}
+
+/// "M12: M1 with at(0,1), start lend(0,1,2), then move(0,1,3): 55, 1 step, weight 1." The second step's close stands
+/// behind 34 bytes, and lend's start leaves no fact.
+#[test]
+fn the_papers_m12() {
+    let m1 = "0100010002 0100010002 020002000300 0400030000000001 0400030002000002 0400030003000001 \
+              020002000301 0400030000000001 0400030003000001 0400030008010002 \
+              03000400 0000FF 03000400 0100FF 00000500";
+    let run = "0100100004 03001100000001 050012000001000102 00001300 050012000000000103 00001300 00001400";
+    let [m1, run] = [m1, run].map(|text| edges::bytes(&text.replace(' ', "")).expect("hexadecimal"));
+    let (file, at) = (model::Source::Run, 34);
+    let played = Played { number: 55, place: 34, steps: 1, weight: 1, file, at, length: run.len() - at };
+    playing::expect(player, "M12", &m1, &run, WORK, &playing::Told { played, work: vec![0; WORK] });
+}
+
+#[test]
+fn every_work_length_every_cut_and_every_flip_of_a_run() {
+    let mut cases = 0;
+    for edge in edges::play_lines() {
+        let mut run = |domain: &[u8], run: &[u8], work: usize| {
+            if let Err(text) = playing::compare(player, domain, run, work, cases) {
+                panic!("line {}, {}\n{text}", edge.line, edge.name);
+            }
+            cases += 1;
+        };
+        for work in [0, 1, 8, WORK - 8, WORK - 1, WORK, WORK + 1, WORK + 8] {
+            run(&edge.domain, &edge.run, work);
+        }
+        for cut in 0..edge.run.len() {
+            run(&edge.domain, &edge.run[..cut], WORK);
+        }
+        let mut flipped = edge.run.clone();
+        for bit in 0..8 * edge.run.len().min(200) {
+            flipped[bit / 8] ^= 1 << (bit % 8);
+            run(&edge.domain, &flipped, WORK);
+            flipped[bit / 8] ^= 1 << (bit % 8);
+        }
+        // A cut of the domain file is refused before the run file is looked at.
+        for cut in (0..edge.domain.len()).step_by(7) {
+            run(&edge.domain[..cut], &edge.run, WORK);
         }
     }
     println!("{cases} cases");

@@ -5,6 +5,9 @@
 //! or more.
 
 pub mod domains;
+pub mod literature;
+pub mod met;
+pub mod plain;
 pub mod records;
 pub mod rng;
 pub mod runs;
@@ -39,7 +42,7 @@ pub fn case(seed: u64) -> Case {
             judge_case(rng, file)
         }
         _ => {
-            let (domain, run) = runs::pair(rng);
+            let (_, domain, run) = runs::pair(rng);
             play_case(rng, domain, run)
         }
     }

@@ -22,6 +22,17 @@ pub fn encode(records: &[Rec]) -> Vec<u8> {
     file
 }
 
+/// The records of a file, up to its end or to the first that is cut short.
+pub fn split(file: &[u8]) -> Vec<Rec> {
+    let mut records = Vec::new();
+    let mut at = 0;
+    while let Some(record) = model::records::Record::read(file, at) {
+        records.push(rec(record.kind, record.payload));
+        at = record.end();
+    }
+    records
+}
+
 /// A number near this one, or one at the ends of its range.
 pub fn near(rng: &mut Rng, byte: u8) -> u8 {
     match rng.below(8) {

@@ -423,6 +423,14 @@ fn refused_step(rng: &mut Rng, script: &mut Script, wanted: Refusal) {
     }
 }
 
+/// A byte too many, or more than any relation or action needs.
+fn lengthen(rng: &mut Rng, payload: &mut Vec<u8>) {
+    let more = if rng.chance(30) { rng.range(16, 300) } else { 1 };
+    for _ in 0..more {
+        payload.push(near(rng, 0));
+    }
+}
+
 /// An event record with two faults, so that it shows which comes first.
 fn messy_event(rng: &mut Rng, script: &mut Script) {
     let event = if rng.chance(50) { likely_event(rng, script) } else { any_event(rng, script) };
@@ -435,7 +443,7 @@ fn messy_event(rng: &mut Rng, script: &mut Script) {
         match rng.below(10) {
             0 => payload[0] = rng.pick(&[2, 3, 255]),
             1 => payload[1] = rng.pick(&[script.domain.actions.len() as u8, 64, 255]),
-            2 => payload.push(near(rng, 0)),
+            2 => lengthen(rng, payload),
             3 if payload.len() > 2 => {
                 payload.pop();
             }
@@ -470,7 +478,7 @@ fn messy_start_fact(rng: &mut Rng, script: &mut Script) {
         let place = rng.range(1, 6);
         match rng.below(5) {
             0 => payload[0] = rng.pick(&[script.domain.relations.len() as u8, 64, 255]),
-            1 => payload.push(near(rng, 0)),
+            1 => lengthen(rng, payload),
             2 if payload.len() > 1 => {
                 payload.pop();
             }
@@ -701,6 +709,165 @@ pub fn duel(rng: &mut Rng) -> (Vec<u8>, Vec<u8>) {
     (file, encode(&script.records))
 }
 
+/// A domain of relations of arity 4 to 6 and actions of 6 to 16 variables, and a run on it, with all six arguments
+/// different objects.
+pub fn wide(rng: &mut Rng) -> (Vec<u8>, Vec<u8>) {
+    let mut plan = Plan { relations: vec![6, 6, 5, 4], ..Plan::default() };
+    for relation in 0..rng.range(1, 3) as u8 {
+        let mut labels: Vec<u8> = (0..5).collect();
+        labels.extend((plan.relations[relation as usize] == 6).then_some(FF));
+        rng.shuffle(&mut labels);
+        plan.components.push((relation, labels));
+    }
+    for _ in 0..rng.range(2, 5) {
+        let mut action = PlanAction::new(rng.range(6, 16) as u8, rng.chance(60));
+        for _ in 0..rng.range(1, 4) {
+            let relation = rng.below(plan.relations.len()) as u8;
+            let mut arguments: Vec<u8> = (0..action.variables).collect();
+            rng.shuffle(&mut arguments);
+            arguments.truncate(plan.relations[relation as usize] as usize);
+            let roles: &[u8] = match (action.lasting, rng.below(4)) {
+                (false, 0) => &[0, 3],
+                (false, 1) => &[1],
+                (false, _) => &[2],
+                (true, 0) => &[0, 3],
+                (true, 1) => &[4],
+                (true, 2) => &[2, 9],
+                (true, _) => &[8],
+            };
+            for &role in roles {
+                action.push(role, relation, arguments.clone());
+            }
+        }
+        plan.actions.push(action);
+    }
+    let file = plan.file();
+    let Ok(domain) = model::read(&file) else { return (file, Vec::new()) };
+    let mut script = Script::new(&domain, rng.pick(&[16, 17, 63, 64]));
+    start_facts(rng, &mut script);
+    let steps = step_count(rng);
+    legal_steps(rng, &mut script, steps);
+    if rng.chance(30) {
+        messy_event(rng, &mut script);
+        script.close();
+    }
+    script.close_run();
+    (file, encode(&script.records))
+}
+
+/// A template that many facts of one instance match: 16 components without a key, or with one key.
+pub fn heavy(rng: &mut Rng) -> (Vec<u8>, Vec<u8>) {
+    let keys = rng.below(2) as u8;
+    let labels: Vec<u8> = (0..keys).chain([FF]).collect();
+    let mut plan = Plan { relations: vec![1 + keys; 16], ..Plan::default() };
+    plan.components = (0..16).map(|relation| (relation, labels.clone())).collect();
+    let all_variables: Vec<u8> = (0..=keys).collect();
+    for _ in 0..4 {
+        let mut action = PlanAction::new(1 + keys, rng.chance(30));
+        for _ in 0..rng.range(1, 3) {
+            let role = if action.lasting { rng.pick(&[2, 3, 8, 9]) } else { rng.pick(&[2, 3]) };
+            action.push(role, rng.below(16) as u8, all_variables.clone());
+        }
+        plan.actions.push(action);
+    }
+    let file = plan.file();
+    let Ok(domain) = model::read(&file) else { return (file, Vec::new()) };
+    let mut script = Script::new(&domain, 64);
+    // The facts of one instance, all or some of them.
+    let mut all: Vec<Fact> = Vec::new();
+    for relation in 0..16 {
+        for object in 0..64 {
+            let objects: &[Object] = if keys == 0 { &[Object(object)] } else { &[Object(7), Object(object)] };
+            all.push(Atom::new(relation, objects.iter().copied()));
+        }
+    }
+    rng.shuffle(&mut all);
+    let count = rng.pick(&[250, 255, 256, 257, 700, 1_023, 1_024]);
+    for &fact in &all[..count] {
+        script.start(fact);
+    }
+    let steps = rng.range(1, 6);
+    legal_steps(rng, &mut script, steps);
+    script.close_run();
+    (file, encode(&script.records))
+}
+
+/// Actions of 64 literals and 16 variables, and steps of up to 16 of their events: as many facts as may be come, are
+/// looked at and go in one step, or one fact too many comes.
+pub fn burst(rng: &mut Rng) -> (Vec<u8>, Vec<u8>) {
+    let mut plan = Plan { relations: vec![2, 2], ..Plan::default() };
+    plan.components = vec![(0, vec![0, FF])];
+    const ADDS: u8 = 0;
+    const DELETES: u8 = 1;
+    const NEEDS: u8 = 2;
+    const TAKES: u8 = 3;
+    const LASTS_TAKING: u8 = 4;
+    const LASTS_NEEDING: u8 = 5;
+    let lists: [(bool, &[u8]); 6] =
+        [(false, &[2]), (false, &[3]), (false, &[0]), (false, &[0, 3]), (true, &[3, 8]), (true, &[4])];
+    for (lasting, roles) in lists {
+        let mut action = PlanAction::new(16, lasting);
+        for literal in 0..64 / roles.len() as u8 {
+            for &role in roles {
+                action.push(role, 0, vec![literal / 8, 8 + literal % 8]);
+            }
+        }
+        plan.actions.push(action);
+    }
+    let file = plan.file();
+    let Ok(domain) = model::read(&file) else { return (file, Vec::new()) };
+    let mut script = Script::new(&domain, 64);
+    if rng.chance(40) {
+        script.start(Atom::new(rng.below(2) as u8, [Object(40), Object(3)].into_iter()));
+    }
+    // Group e binds 8 of the first 32 objects and 8 of the others, so that no two events share a fact.
+    let event = |moment: u8, action: u8, group: usize| {
+        let (first, second) = (8 * (group / 4), 32 + 8 * (group % 4));
+        let objects: Vec<u8> = (first..first + 8).chain(second..second + 8).map(|object| object as u8).collect();
+        Event { moment, action, binding: binding(&objects) }
+    };
+    let steps: &[(u8, u8)] = match rng.below(4) {
+        0 => &[(0, ADDS), (0, NEEDS), (0, DELETES), (0, ADDS), (0, TAKES)],
+        1 => &[(0, ADDS), (0, LASTS_NEEDING), (0, NEEDS), (1, LASTS_NEEDING), (0, DELETES)],
+        2 => &[(0, ADDS), (0, LASTS_TAKING), (1, LASTS_TAKING), (0, NEEDS), (0, DELETES)],
+        _ => &[(0, ADDS), (0, LASTS_NEEDING), (0, LASTS_TAKING), (1, LASTS_TAKING)],
+    };
+    let most = rng.pick(&[3, 15, 16, 16, 16]);
+    for &(moment, action) in steps {
+        let mut groups: Vec<usize> = (0..16).collect();
+        rng.shuffle(&mut groups);
+        for &group in &groups[..most] {
+            script.event(event(moment, action, group));
+        }
+        script.close();
+    }
+    script.close_run();
+    (file, encode(&script.records))
+}
+
+/// A run file longer than any domain file, of repeated start facts and empty steps, with a fault behind them or none.
+pub fn long(rng: &mut Rng) -> (Vec<u8>, Vec<u8>) {
+    let plan = playground(rng);
+    let file = plan.file();
+    let Ok(domain) = model::read(&file) else { return (file, Vec::new()) };
+    let mut script = Script::new(&domain, 5);
+    start_facts(rng, &mut script);
+    if let (true, Some(&fact)) = (rng.chance(50), script.state.facts().first()) {
+        for _ in 0..9_000 {
+            script.start(fact);
+        }
+    }
+    let empty = rng.pick(&[16_384, 17_000, 65_536, 66_000]);
+    script.records.extend((0..empty).map(|_| rec(19, [])));
+    legal_steps(rng, &mut script, 3);
+    if rng.chance(60) {
+        messy_event(rng, &mut script);
+        script.close();
+    }
+    script.close_run();
+    (file, encode(&script.records))
+}
+
 /// Random bytes, or random records of a run.
 pub fn random(rng: &mut Rng) -> Vec<u8> {
     if rng.chance(30) {
@@ -726,30 +893,55 @@ pub fn random(rng: &mut Rng) -> Vec<u8> {
     encode(&records)
 }
 
+/// Where a run comes from.
+#[derive(Clone, Copy, PartialEq, Eq, PartialOrd, Ord, Debug)]
+pub enum Origin {
+    NearLimit,
+    Duel,
+    Wide,
+    Heavy,
+    Burst,
+    Long,
+    Legal,
+    Faulty,
+    Damaged,
+    Random,
+    /// A domain file that is damaged, or not the one that the run was made for.
+    OtherDomain,
+}
+
 /// A domain file and a run file for it.
-pub fn pair(rng: &mut Rng) -> (Vec<u8>, Vec<u8>) {
+pub fn pair(rng: &mut Rng) -> (Origin, Vec<u8>, Vec<u8>) {
+    let told = |origin, (domain, run)| (origin, domain, run);
     match rng.below(100) {
-        0..=6 => return near_limit(rng),
-        7..=26 => return duel(rng),
+        0..=6 => return told(Origin::NearLimit, near_limit(rng)),
+        7..=24 => return told(Origin::Duel, duel(rng)),
+        25..=28 => return told(Origin::Wide, wide(rng)),
+        29 => {
+            return match rng.below(20) {
+                0 => told(Origin::Long, long(rng)),
+                1..=9 => told(Origin::Heavy, heavy(rng)),
+                _ => told(Origin::Burst, burst(rng)),
+            }
+        }
         _ => {}
     }
     let plan = playground(rng);
     let file = plan.file();
-    let Ok(domain) = model::read(&file) else { return (file, Vec::new()) };
-    let run = match rng.below(20) {
-        0..=6 => encode(&legal(rng, &domain)),
-        7..=15 => faulty(rng, &domain),
+    let Ok(domain) = model::read(&file) else { return (Origin::OtherDomain, file, Vec::new()) };
+    let (origin, run) = match rng.below(20) {
+        0..=6 => (Origin::Legal, encode(&legal(rng, &domain))),
+        7..=15 => (Origin::Faulty, faulty(rng, &domain)),
         16..=18 => {
             let records = legal(rng, &domain);
-            damage(rng, &records)
+            (Origin::Damaged, damage(rng, &records))
         }
-        _ => random(rng),
+        _ => (Origin::Random, random(rng)),
     };
-    let file = match rng.below(100) {
-        0..=2 => damage(rng, &plan.records()),
-        3..=4 => domains::damaged(rng),
-        5 => domains::near_limit(rng),
-        _ => file,
-    };
-    (file, run)
+    match rng.below(100) {
+        0..=2 => (Origin::OtherDomain, damage(rng, &plan.records()), run),
+        3..=4 => (Origin::OtherDomain, domains::damaged(rng), run),
+        5 => (Origin::OtherDomain, domains::near_limit(rng), run),
+        _ => (origin, file, run),
+    }
 }

@@ -1,155 +1,13 @@
-//! The sentences of the paper about the machine once more, as plainly as can be and without any
-//! index, against the model's player; and what the paper says that a witness shows.
+//! The plain machine against the model's player; and what the paper says that a witness shows.
 
 use generate::domains::{valid_of, MOODS, SMALL};
-use generate::records::{encode, rec, Rec};
+use generate::plain;
+use generate::records::{encode, rec, split};
 use generate::rng::Rng;
 use generate::runs::{fact_record, legal, near_limit, pair};
-use model::domain::{Action, Atom, Domain, Fact, List, Object, When};
+use model::domain::{Atom, Fact, Object};
 use model::verdict::{decide, rows, witness, Decision};
 use model::{play, read, Part, Source};
-
-type Event = (u8, u8, Vec<u8>);
-
-fn fact(atom: &Atom<model::Var>, objects: &[u8]) -> Fact {
-    Atom::new(atom.relation, atom.args().iter().map(|v| Object(objects[v.0 as usize])).collect::<Vec<_>>().into_iter())
-}
-
-/// The facts of an event's literals in these lists, straight from the literals.
-fn facts(action: &Action, event: &Event, lists: &[List]) -> Vec<Fact> {
-    let mut facts = Vec::new();
-    for literal in &action.literals {
-        let now = match (event.0, literal.when) {
-            (0, When::Start) => true,
-            // "An end's conditions are its own and the over-all ones"
-            (1, When::OverAll | When::End) => true,
-            _ => false,
-        };
-        if now && lists.contains(&literal.list) {
-            facts.push(fact(&literal.atom, &event.2));
-        }
-    }
-    facts
-}
-
-fn interfere(domain: &Domain, a: &Event, b: &Event) -> bool {
-    let of = |event: &Event, lists: &[List]| facts(&domain.actions[event.1 as usize], event, lists);
-    let meet = |x: Vec<Fact>, y: Vec<Fact>| x.iter().any(|fact| y.contains(fact));
-    let conditions = [List::True, List::False];
-    let effects = [List::Add, List::Delete];
-    meet(of(a, &conditions), of(b, &effects))
-        || meet(of(b, &conditions), of(a, &effects))
-        || meet(of(a, &[List::Add]), of(b, &[List::Delete]))
-        || meet(of(b, &[List::Add]), of(a, &[List::Delete]))
-}
-
-/// The highest weight of any instance: for each fact, how many facts match the instance it matches.
-fn highest_weight(domain: &Domain, state: &[Fact]) -> u32 {
-    let tuple = |fact: &Fact| domain.template.tuple(fact);
-    let weigh = |fact: &Fact| state.iter().filter(|other| tuple(other) == tuple(fact)).count();
-    state.iter().filter(|fact| tuple(fact).is_some()).map(weigh).max().unwrap_or(0) as u32
-}
-
-/// Number, place, steps, weight and facts of a well-formed run file.
-fn plainly(domain: &Domain, records: &[Rec]) -> (u8, usize, usize, u32, Vec<Fact>) {
-    let mut state: Vec<Fact> = Vec::new();
-    let mut open: Vec<(u8, Vec<u8>)> = Vec::new();
-    let mut events: Vec<Event> = Vec::new();
-    let (mut at, mut steps, mut weight, mut started) = (0, 0, 0, false);
-    for record in records {
-        if record.kind >= 18 && !started {
-            started = true;
-            weight = highest_weight(domain, &state);
-        }
-        let p = &record.payload;
-        match record.kind {
-            17 => {
-                let new = Atom::new(p[0], p[1..].iter().map(|&object| Object(object)).collect::<Vec<_>>().into_iter());
-                if !state.contains(&new) {
-                    if state.len() == 1_024 {
-                        return (52, at, steps, weight, state);
-                    }
-                    state.push(new);
-                }
-            }
-            18 => {
-                let event = (p[0], p[1], p[2..].to_vec());
-                if events.contains(&event) {
-                    return (54, at, steps, weight, state);
-                }
-                if events.len() == 16 {
-                    return (52, at, steps, weight, state);
-                }
-                events.push(event);
-            }
-            19 => {
-                let action = |event: &Event| &domain.actions[event.1 as usize];
-                if events.iter().any(|e| e.0 == 1 && !open.contains(&(e.1, e.2.clone()))) {
-                    return (57, at, steps, weight, state);
-                }
-                let fails = |e: &Event| {
-                    facts(action(e), e, &[List::True]).iter().any(|f| !state.contains(f))
-                        || facts(action(e), e, &[List::False]).iter().any(|f| state.contains(f))
-                };
-                let over_all_fails = |entry: &(u8, Vec<u8>)| {
-                    domain.actions[entry.0 as usize].literals.iter().any(|literal| {
-                        literal.when == When::OverAll
-                            && state.contains(&fact(&literal.atom, &entry.1)) != (literal.list == List::True)
-                    })
-                };
-                if events.iter().any(fails) || open.iter().any(over_all_fails) {
-                    return (55, at, steps, weight, state);
-                }
-                for (i, a) in events.iter().enumerate() {
-                    if events[..i].iter().any(|b| interfere(domain, a, b)) {
-                        return (56, at, steps, weight, state);
-                    }
-                }
-                let mut after = state.clone();
-                for event in &events {
-                    let out = facts(action(event), event, &[List::Delete]);
-                    after.retain(|fact| !out.contains(fact));
-                }
-                for event in &events {
-                    for new in facts(action(event), event, &[List::Add]) {
-                        if !after.contains(&new) {
-                            after.push(new);
-                        }
-                    }
-                }
-                let mut open_after = open.clone();
-                for event in events.iter().filter(|event| event.0 == 1) {
-                    let place = open_after.iter().position(|entry| entry.0 == event.1 && entry.1 == event.2);
-                    open_after.remove(place.unwrap());
-                }
-                for event in events.iter().filter(|event| event.0 == 0 && action(event).lasting) {
-                    open_after.push((event.1, event.2.clone()));
-                }
-                if after.len() > 1_024 || open_after.len() > 32 {
-                    return (52, at, steps, weight, state);
-                }
-                state = after;
-                open = open_after;
-                events.clear();
-                steps += 1;
-                weight = weight.max(highest_weight(domain, &state));
-            }
-            _ => {}
-        }
-        at += 4 + p.len();
-    }
-    (2, at, steps, weight, state)
-}
-
-fn split(file: &[u8]) -> Vec<Rec> {
-    let mut records = Vec::new();
-    let mut at = 0;
-    while let Some(record) = model::records::Record::read(file, at) {
-        records.push(rec(record.kind, record.payload));
-        at = record.end();
-    }
-    records
-}
 
 fn compare(domain_file: &[u8], run: &[u8], seed: u64) -> bool {
     let Ok(domain) = read(domain_file) else { return false };
@@ -159,12 +17,13 @@ fn compare(domain_file: &[u8], run: &[u8], seed: u64) -> bool {
     if ![2, 52, 54, 55, 56, 57].contains(&played.number) {
         return false;
     }
-    let (number, at, steps, weight, state) = plainly(&domain, &split(run));
-    let mut memory: Vec<u8> = state.iter().flat_map(Fact::bytes).collect();
+    let plainly = plain::play(&domain, &split(run), None);
+    let mut memory: Vec<u8> = plainly.facts.iter().flat_map(Fact::bytes).collect();
     memory.resize(8_192, 0);
-    assert_eq!((played.number, played.part), (number, Part { file: Source::Run, at }), "seed {seed}");
-    assert_eq!((played.steps, played.weight), (steps, weight), "seed {seed}");
-    assert_eq!(played.first, if number == 2 { 0 } else { at }, "seed {seed}");
+    let part = Part { file: Source::Run, at: plainly.at };
+    assert_eq!((played.number, played.part), (plainly.number, part), "seed {seed}");
+    assert_eq!((played.steps, played.weight), (plainly.steps, plainly.weight), "seed {seed}");
+    assert_eq!(played.first, if plainly.number == 2 { 0 } else { plainly.at }, "seed {seed}");
     assert!(work == memory, "seed {seed}: work memory");
     true
 }
@@ -173,7 +32,7 @@ fn compare(domain_file: &[u8], run: &[u8], seed: u64) -> bool {
 fn the_player_is_the_plain_machine() {
     let mut compared = 0;
     for seed in 0..3_000 {
-        let (domain, run) = pair(&mut Rng::new(0x5EED_0000 + seed));
+        let (_, domain, run) = pair(&mut Rng::new(0x5EED_0000 + seed));
         compared += compare(&domain, &run, seed) as usize;
     }
     for seed in 0..60 {

@@ -1,4 +1,4 @@
--- `arity_of` meets its contract: a relation from 64 on is past the end. Assumes nothing.
+-- `arity_of` meets its contract: a relation past the end has none. Assumes nothing.
 use borrow.Author.Needs.{needs}
 use native.Mathlib.Omega.{arith}
 use mathlib.Core.Path.{sym}
@@ -6,17 +6,14 @@ use lib.ListN.{List·getD-eq-default}
 use Rattle.classes.proofs.counts.arity_of.Statement.{statement}
 use Rattle.classes.proofs.counts.arity_of.Tie as tie
 
-array-read-result : tie.Need-array-read-result
-array-read-result c = search needs
-
-cast-result : tie.Need-cast-result
-cast-result c = search needs
+shared-slice-read-result : tie.Need-shared-slice-read-result
+shared-slice-read-result c = search needs
 
 returns : tie.Need-returns
 returns c = search needs
 
 returns-2 : tie.Need-returns-2
-returns-2 c = sym (List·getD-eq-default (c .before .args .t1) 0 (omega arith))
+returns-2 c = sym (List·getD-eq-default (c .before .args .arities .now) 0 (omega arith))
 
 pub arity-of-spec : {M : Type 1} → statement M
-arity-of-spec = tie.close (tie.spec array-read-result cast-result returns returns-2)
+arity-of-spec = tie.close (tie.spec shared-slice-read-result returns returns-2)

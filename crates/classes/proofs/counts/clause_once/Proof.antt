@@ -1,26 +1,30 @@
--- `clause_once` meets its contract: 0 where an earlier row says the clause. Assumes nothing.
-use mathlib.Core.Path.{_≡_, sym, ap, _∙_}
-use mathlib.Core.Bool.{Bool, true, false, cond}
+-- `clause_once` meets its contract: 0 where an earlier row says a clause that may meet. Assumes nothing.
+use mathlib.Core.Path.{_≡_, sym, ap, ap₂, _∙_}
+use mathlib.Core.Bool.{Bool, true, false, _&&_, cond}
 use mathlib.Core.List.{List}
 use Prim.Native.Nat.{ℕ, _*_}
 use lib.ListN.{getD}
+use borrow.Author.Tests.{not-true, not-false}
 use Rattle.records.specs.Lists.{any}
 use Rattle.classes.specs.declared.Moment.{Moment}
-use Rattle.classes.specs.Coded.{below, clauseByte, saysAt, clauseIn}
+use Rattle.classes.specs.Coded.{below, clauseByte, mayMeet, saysAt, clauseIn}
 use borrow.Author.Needs.{needs}
 use Rattle.classes.proofs.counts.clause_once.Statement.{statement}
 use Rattle.classes.proofs.counts.clause_once.Tie as tie
 
-module _ (rows : List ℕ) (m : Moment) (j clause : ℕ) (e : clause ≡ clauseByte m (getD rows (8 * j) 0)) (t : Bool) (f : t ≡ any (saysAt rows m clause j) (below j)) where
-  by-test : cond t 0 clause ≡ clauseIn rows m j
+module _ (rows : List ℕ) (m : Moment) (j clause : ℕ) (e : clause ≡ clauseByte m (getD rows (8 * j) 0)) where
+  by-test : cond (mayMeet m clause && any (saysAt rows m clause j) (below j)) 0 clause ≡ clauseIn rows m j
   unfolding clauseIn
-  by-test = ap (λ (b : Bool). cond b 0 clause) f ∙ ap (λ (k : ℕ). cond (any (saysAt rows m k j) (below j)) 0 k) e
+  by-test = ap (λ (k : ℕ). cond (mayMeet m k && any (saysAt rows m k j) (below j)) 0 k) e
 
-  said : t ≡ true → 0 ≡ clauseIn rows m j
-  said g = sym (ap (λ (b : Bool). cond b 0 clause) g) ∙ by-test
+  apart : mayMeet m clause ≡ false → clause ≡ clauseIn rows m j
+  apart g = sym (ap (λ (b : Bool). cond (b && any (saysAt rows m clause j) (below j)) 0 clause) g) ∙ by-test
 
-  new : t ≡ false → clause ≡ clauseIn rows m j
-  new g = sym (ap (λ (b : Bool). cond b 0 clause) g) ∙ by-test
+  said : mayMeet m clause ≡ true → any (saysAt rows m clause j) (below j) ≡ true → 0 ≡ clauseIn rows m j
+  said g h = sym (ap₂ (λ (b d : Bool). cond (b && d) 0 clause) g h) ∙ by-test
+
+  new : mayMeet m clause ≡ true → any (saysAt rows m clause j) (below j) ≡ false → clause ≡ clauseIn rows m j
+  new g h = sym (ap₂ (λ (b d : Bool). cond (b && d) 0 clause) g h) ∙ by-test
 
 mul-clause-at : tie.Need-mul-clause-at
 mul-clause-at c = search needs
@@ -31,20 +35,26 @@ shared-slice-read-clause-at c = search needs
 clause-at-requires : tie.Need-clause-at-requires
 clause-at-requires c κs = search needs
 
-earlier-same-requires : tie.Need-earlier-same-requires
-earlier-same-requires c κs = search needs
+may-meet-requires : tie.Need-may-meet-requires
+may-meet-requires c κs = search needs
 
 returns : tie.Need-returns
 returns c =
-    let once = c .before .before in
-    let a = once .before .before .before .args in
-    said (a .rows .now) (a .m) (a .j) (once .clause-at .result) (once .clause-at .ensures) (c .before .earlier-same .result) (c .before .earlier-same .ensures) (c .if1 .taken)
+    let a = c .before .before .before .before .before .args in
+    apart (a .rows .now) (a .m) (a .j) (c .before .before .clause-at .result) (c .before .before .clause-at .ensures) (sym (c .before .may-meet .ensures) ∙ not-true _ (c .if1 .taken))
+
+earlier-same-requires : tie.Need-earlier-same-requires
+earlier-same-requires c κs = search needs
 
 returns-2 : tie.Need-returns-2
 returns-2 c =
-    let once = c .before .before in
-    let a = once .before .before .before .args in
-    new (a .rows .now) (a .m) (a .j) (once .clause-at .result) (once .clause-at .ensures) (c .before .earlier-same .result) (c .before .earlier-same .ensures) (c .if1 .left)
+    let a = c .before .before .before .before .before .before .before .args in
+    said (a .rows .now) (a .m) (a .j) (c .before .before .before .before .clause-at .result) (c .before .before .before .before .clause-at .ensures) (sym (c .before .before .before .may-meet .ensures) ∙ not-false _ (c .before .before .if1 .left)) (sym (c .before .earlier-same .ensures) ∙ c .if2 .taken)
+
+returns-3 : tie.Need-returns-3
+returns-3 c =
+    let a = c .before .before .before .before .before .before .before .args in
+    new (a .rows .now) (a .m) (a .j) (c .before .before .before .before .clause-at .result) (c .before .before .before .before .clause-at .ensures) (sym (c .before .before .before .may-meet .ensures) ∙ not-false _ (c .before .before .if1 .left)) (sym (c .before .earlier-same .ensures) ∙ c .if2 .left)
 
 pub clause-once-spec : {M : Type 1} → statement M
 clause-once-spec =
@@ -53,6 +63,8 @@ clause-once-spec =
     mul-clause-at
     shared-slice-read-clause-at
     clause-at-requires
-    earlier-same-requires
+    may-meet-requires
     returns
-    returns-2)
+    earlier-same-requires
+    returns-2
+    returns-3)

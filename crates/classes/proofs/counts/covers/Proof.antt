@@ -39,9 +39,12 @@ mul-any-counted c = search needs
 arity-of-requires : tie.Need-arity-of-requires
 arity-of-requires c κs = search needs
 
+cast-any-counted : tie.Need-cast-any-counted
+cast-any-counted c = search needs
+
 any-counted-requires : tie.Need-any-counted-requires
 any-counted-requires c κs =
-    let start = c .before .before .before .before .before .before in
+    let start = c .before .before .before .before .before .before .before in
     let e = c .arity-of .ensures in
     let h = start .pre .1 (getD (start .args .parts .now) (8 * start .args .c) 0) in
     omega arith
@@ -49,8 +52,8 @@ any-counted-requires c κs =
 returns : tie.Need-returns
 returns c =
     let arity = c .before .before in
-    let a = arity .before .before .before .before .before .before .args in
-    counted (a .parts .now) (a .arities) (a .rows .now) (a .of .now) (a .clauses .now) (a .class) (a .c) (arity .arity-of .result) (arity .arity-of .ensures)
+    let a = arity .before .before .before .before .before .before .before .args in
+    counted (a .parts .now) (a .arities .now) (a .rows .now) (a .of .now) (a .clauses .now) (a .class) (a .c) (arity .arity-of .result) (arity .arity-of .ensures)
     (c .before .any-counted .result) (c .before .any-counted .ensures) (c .if1 .taken)
 
 any-excluding-requires : tie.Need-any-excluding-requires
@@ -59,8 +62,8 @@ any-excluding-requires c κs = search needs
 returns-2 : tie.Need-returns-2
 returns-2 c =
     let arity = c .before .before .before in
-    let a = arity .before .before .before .before .before .before .args in
-    keyed (a .parts .now) (a .arities) (a .rows .now) (a .of .now) (a .clauses .now) (a .class) (a .c) (arity .arity-of .result) (arity .arity-of .ensures)
+    let a = arity .before .before .before .before .before .before .before .args in
+    keyed (a .parts .now) (a .arities .now) (a .rows .now) (a .of .now) (a .clauses .now) (a .class) (a .c) (arity .arity-of .result) (arity .arity-of .ensures)
     (c .before .before .any-counted .result) (c .before .before .any-counted .ensures) (c .before .if1 .left) (c .any-excluding .result) (c .any-excluding .ensures)
 
 pub covers-spec : {M : Type 1} → statement M
@@ -71,6 +74,7 @@ covers-spec =
     shared-slice-read-relation
     mul-any-counted
     arity-of-requires
+    cast-any-counted
     any-counted-requires
     returns
     any-excluding-requires

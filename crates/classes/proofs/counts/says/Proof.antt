@@ -15,12 +15,12 @@ shared-slice-read-clause-at c = search needs
 clause-at-requires : tie.Need-clause-at-requires
 clause-at-requires c κs = search needs
 
-same-atom-requires : tie.Need-same-atom-requires
-same-atom-requires c κs = search needs
+rows-agree-requires : tie.Need-rows-agree-requires
+rows-agree-requires c κs = search needs
 
 returns : tie.Need-returns
 unfolding saysAt
-returns c = rw (eq-eqb _ _ (sym (c .before .before .clause-at .ensures) ∙ c .before .if1 .taken)) (c .same-atom .ensures)
+returns c = rw (eq-eqb _ _ (sym (c .before .before .clause-at .ensures) ∙ c .before .if1 .taken)) (c .rows-agree .ensures)
 
 returns-2 : tie.Need-returns-2
 unfolding saysAt
@@ -33,6 +33,6 @@ says-spec =
     mul-clause-at
     shared-slice-read-clause-at
     clause-at-requires
-    same-atom-requires
+    rows-agree-requires
     returns
     returns-2)

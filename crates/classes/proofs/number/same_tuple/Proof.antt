@@ -1,66 +1,42 @@
--- `same_tuple` meets its contract: the bytes before i agree, so the test is that from i on. Assumes nothing.
-use mathlib.Core.Path.{_≡_, refl, sym, _∙_}
-use Prim.Native.Nat.{_-_, _≤_}
+-- `same_tuple` meets its contract: eight bytes are four and four. Assumes nothing.
+use mathlib.Core.Path.{sym, _∙_}
 use native.Mathlib.Omega.{arith}
 use borrow.Author.Needs.{needs}
-use lib.Dec.{eqb}
-use lib.ListN.{take, drop}
-use Rattle.records.specs.Lists.{sameList}
-use Rattle.classes.proofs.KeyRows.{tuple-miss, tuple-hit, tuple-end}
+use Rattle.classes.proofs.KeyRows.{tuple-same, tuple-other}
 use Rattle.classes.proofs.number.same_tuple.Statement.{statement}
 use Rattle.classes.proofs.number.same_tuple.Tie as tie
 
-abbrev Inv-loop : tie.InvT-loop
-Inv-loop tuples at t i₀ i = (i ≤ 8) × (sameList eqb (drop i t) (drop i (take 8 (drop at tuples))) ≡ sameList eqb t (take 8 (drop at tuples)))
+slice-aggregate-same-four : tie.Need-slice-aggregate-same-four
+slice-aggregate-same-four c = search needs
 
-abbrev μ-loop : tie.MeasureT-loop
-μ-loop tuples at t i₀ i = 8 - i
+same-four-requires : tie.Need-same-four-requires
+same-four-requires c κs = search needs
 
-loop-holds : tie.Need-loop-holds Inv-loop μ-loop
-loop-holds c = (omega arith, refl)
+slice-aggregate-same-four-2 : tie.Need-slice-aggregate-same-four-2
+slice-aggregate-same-four-2 c = search needs
 
-array-read-if1 : tie.Need-array-read-if1 Inv-loop μ-loop
-array-read-if1 c = search needs
+add-same-four : tie.Need-add-same-four
+add-same-four c = search needs
 
-add-if1 : tie.Need-add-if1 Inv-loop μ-loop
-add-if1 c = omega arith
+same-four-requires-2 : tie.Need-same-four-requires-2
+same-four-requires-2 c κs = search needs
 
-shared-slice-read-if1 : tie.Need-shared-slice-read-if1 Inv-loop μ-loop
-shared-slice-read-if1 c = omega arith
+returns : tie.Need-returns
+returns c = let a = c .before .before .before .before .before .before .args in
+    tuple-same (a .t3) (a .tuples .now) (a .at) (omega arith) (omega arith) (sym (c .before .before .before .same-four .ensures) ∙ c .before .before .if1 .taken) (c .same-four2 .ensures)
 
-returns : tie.Need-returns Inv-loop μ-loop
-returns c = let a = c .before .before .before .before .args in
-    let l = c .before .before .before .loop in
-    sym (tuple-miss (a .t3) (a .tuples .now) (a .at) (l .i) (omega arith) (omega arith) (omega arith) (c .if1 .taken)) ∙ l .inv .1
-
-add-i : tie.Need-add-i Inv-loop μ-loop
-add-i c = omega arith
-
-loop-less : tie.Need-loop-less Inv-loop μ-loop
-loop-less c = omega arith
-
-loop-again : tie.Need-loop-again Inv-loop μ-loop
-loop-again c = let a = c .before .before .before .before .args in
-    let l = c .before .before .before .loop in
-    (omega arith, sym (tuple-hit (a .t3) (a .tuples .now) (a .at) (l .i) (omega arith) (omega arith) (omega arith) (c .if1 .left)) ∙ l .inv .1)
-
-returns-2 : tie.Need-returns-2 Inv-loop μ-loop
-returns-2 c = let a = c .before .before .args in
-    let l = c .before .loop in
-    sym (tuple-end (a .t3) (a .tuples .now) (a .at) (l .i) (omega arith) (omega arith) (omega arith)) ∙ l .inv .1
+returns-2 : tie.Need-returns-2
+returns-2 c = let a = c .before .before .before .before .args in
+    tuple-other (a .t3) (a .tuples .now) (a .at) (omega arith) (omega arith) (sym (c .before .same-four .ensures) ∙ c .if1 .left)
 
 pub same-tuple-spec : {M : Type 1} → statement M
 same-tuple-spec =
     tie.close
     (tie.spec
-    Inv-loop
-    μ-loop
-    loop-holds
-    array-read-if1
-    add-if1
-    shared-slice-read-if1
+    slice-aggregate-same-four
+    same-four-requires
+    slice-aggregate-same-four-2
+    add-same-four
+    same-four-requires-2
     returns
-    add-i
-    loop-less
-    loop-again
     returns-2)

@@ -1,9 +1,9 @@
 -- `literals::Progress::step` meets its contract: a law of proofs/Turns for each return. Assumes nothing.
-use borrow.Author.Needs.{needs}
 use mathlib.Core.Path.{sym, _∙_}
 use native.Mathlib.Omega.{arith}
+use borrow.Author.Needs.{needs}
 use Rattle.records.proofs.Laws.{whole-within}
-use Rattle.literals.proofs.Turns.{held, step-behind, step-end, step-cut, step-none, step-on, step-stop}
+use Rattle.literals.proofs.Turns.{held, row-room, step-behind, step-end, step-cut, step-none, step-on, step-stop}
 use Rattle.literals.proofs.Progress.step.Statement.{statement}
 use Rattle.literals.proofs.Progress.step.Tie as tie
 
@@ -20,9 +20,7 @@ enum-known-kind : tie.Need-enum-known-kind
 enum-known-kind c = search needs
 
 add-end : tie.Need-add-end
-add-end c =
-    let w = whole-within _ _ (sym (c .before .before .before .record-at .ensures) ∙ c .before .kind .given .1) in
-    omega arith
+add-end c = let w = whole-within _ _ (sym (c .before .before .before .record-at .ensures) ∙ c .before .kind .given .1) in omega arith
 
 sub-take-record : tie.Need-sub-take-record
 sub-take-record c = search needs
@@ -31,17 +29,33 @@ part-take-record-start : tie.Need-part-take-record-start
 part-take-record-start c = search needs
 
 part-take-record-end : tie.Need-part-take-record-end
-part-take-record-end c =
-    let w = whole-within _ _ (sym (c .before .before .before .before .record-at .ensures) ∙ c .before .before .kind .given .1) in
-    omega arith
+part-take-record-end c = let w = whole-within _ _ (sym (c .before .before .before .before .before .before .before .before .before .record-at .ensures) ∙ c .before .before .before .before .before .before .before .kind .given .1) in omega arith
 
 take-record-requires : tie.Need-take-record-requires
-take-record-requires c κs = search needs
+take-record-requires c κs = let r = c .before .before .before .before .before .before .before .before .before .before .before .before .before .before .before .before .before .before .before .before .pre in (r .shaped, r .sized, λ l f. row-room r (sym (c .before .before .before .before .before .before .before .before .before .before .record-at .ensures) ∙ c .before .before .before .before .before .before .before .before .kind .given .1) l f)
+
+same-length : tie.Need-same-length
+same-length c = search needs
+
+same-length-2 : tie.Need-same-length-2
+same-length-2 c = search needs
+
+same-length-3 : tie.Need-same-length-3
+same-length-3 c = search needs
+
+same-length-4 : tie.Need-same-length-4
+same-length-4 c = search needs
+
+same-length-5 : tie.Need-same-length-5
+same-length-5 c = search needs
+
+same-length-6 : tie.Need-same-length-6
+same-length-6 c = search needs
 
 returns-3 : tie.Need-returns-3
 returns-3 c q old is bounded memory =
-    step-on _ _ q old is (c .before .before .before .before .before .before .before .before .before .if1 .left) (sym (c .before .before .before .before .before .before .before .before .record-at .ensures) ∙ c .before .before .before .before .before .before .kind .given .1) (c .before .before .take-record .result) _
-    (c .before .before .take-record .ensures (q .sofar) old (held is bounded) memory) (c .if3 .taken)
+    step-on _ _ q old is (c .before .before .before .before .before .before .before .before .before .before .before .before .before .before .before .before .before .before .before .before .before .before .before .before .before .before .if1 .left) (sym (c .before .before .before .before .before .before .before .before .before .before .before .before .before .before .before .before .before .before .before .before .before .before .before .before .before .record-at .ensures) ∙ c .before .before .before .before .before .before .before .before .before .before .before .before .before .before .before .before .before .before .before .before .before .before .before .kind .given .1) _ _
+    (c .before .before .before .before .before .before .before .before .before .before .before .before .before .before .take-record .ensures (q .sofar) old (held is bounded) memory) (c .if3 .taken)
 
 enum-told : tie.Need-enum-told
 enum-told c = search needs
@@ -49,10 +63,28 @@ enum-told c = search needs
 enum-told-2 : tie.Need-enum-told-2
 enum-told-2 c = search needs
 
+same-length-7 : tie.Need-same-length-7
+same-length-7 c = search needs
+
+same-length-8 : tie.Need-same-length-8
+same-length-8 c = search needs
+
+same-length-9 : tie.Need-same-length-9
+same-length-9 c = search needs
+
+same-length-10 : tie.Need-same-length-10
+same-length-10 c = search needs
+
+same-length-11 : tie.Need-same-length-11
+same-length-11 c = search needs
+
+same-length-12 : tie.Need-same-length-12
+same-length-12 c = search needs
+
 returns-4 : tie.Need-returns-4
 returns-4 c q old is bounded memory =
-    step-stop _ _ q old is (c .before .before .before .before .before .before .before .before .before .if1 .left) (sym (c .before .before .before .before .before .before .before .before .record-at .ensures) ∙ c .before .before .before .before .before .before .kind .given .1) (c .before .before .take-record .result) _
-    (c .before .before .take-record .ensures (q .sofar) old (held is bounded) memory) (c .if3 .left)
+    step-stop _ _ q old is (c .before .before .before .before .before .before .before .before .before .before .before .before .before .before .before .before .before .before .before .before .before .before .before .before .before .before .if1 .left) (sym (c .before .before .before .before .before .before .before .before .before .before .before .before .before .before .before .before .before .before .before .before .before .before .before .before .before .record-at .ensures) ∙ c .before .before .before .before .before .before .before .before .before .before .before .before .before .before .before .before .before .before .before .before .before .before .before .kind .given .1) _ _
+    (c .before .before .before .before .before .before .before .before .before .before .before .before .before .before .take-record .ensures (q .sofar) old (held is bounded) memory) (c .if3 .left)
 
 returns-5 : tie.Need-returns-5
 returns-5 c q old is bounded memory = step-cut _ _ q old is _ memory (c .before .before .before .if1 .left) (sym (c .before .before .record-at .ensures) ∙ c .enum-told .given .1)
@@ -73,9 +105,21 @@ step-spec =
     part-take-record-start
     part-take-record-end
     take-record-requires
+    same-length
+    same-length-2
+    same-length-3
+    same-length-4
+    same-length-5
+    same-length-6
     returns-3
     enum-told
     enum-told-2
+    same-length-7
+    same-length-8
+    same-length-9
+    same-length-10
+    same-length-11
+    same-length-12
     returns-4
     returns-5
     returns-6)

@@ -11,10 +11,10 @@ wide-requires : tie.Need-wide-requires
 wide-requires c κs = search needs
 
 returns : tie.Need-returns
-returns c = let start = c .before .before .args in sym (unknown (start .relations) (start .t2) (start .relation) (start .first) (start .given) (omega arith) (omega arith))
+returns c = let start = c .before .before .before .args in sym (unknown (start .relations) (start .arities .now) (start .relation) (start .first) (start .given) (omega arith) (omega arith))
 
-array-read-wide : tie.Need-array-read-wide
-array-read-wide c = search needs
+shared-slice-read-wide : tie.Need-shared-slice-read-wide
+shared-slice-read-wide c = search needs
 
 wide-requires-2 : tie.Need-wide-requires-2
 wide-requires-2 c κs = search needs
@@ -24,19 +24,19 @@ add-if2 c = search needs
 
 returns-2 : tie.Need-returns-2
 returns-2 c =
-    let wide = c .before .before .before in
-    let start = wide .before .args in
-    let arity : c .before .wide2 .result ≡ getD (start .t2) (start .relation) 0 = read-at (start .t2) (wide .wide .ensures .0) (c .before .wide2 .ensures .0) in
-    sym (fit (start .relations) (start .t2) (start .relation) (start .first) (start .given) (omega arith) (omega arith) (omega arith))
+    let wide = c .before .before .before .before in
+    let start = wide .before .before .args in
+    let arity : c .before .wide2 .result ≡ getD (start .arities .now) (start .relation) 0 = read-at (start .arities .now) (wide .wide .ensures .0) (c .before .wide2 .ensures .0) in
+    sym (fit (start .relations) (start .arities .now) (start .relation) (start .first) (start .given) (omega arith) (omega arith) (omega arith))
 
 returns-3 : tie.Need-returns-3
 returns-3 c =
-    let wide = c .before .before .before in
-    let start = wide .before .args in
-    let arity : c .before .wide2 .result ≡ getD (start .t2) (start .relation) 0 = read-at (start .t2) (wide .wide .ensures .0) (c .before .wide2 .ensures .0) in
-    sym (misfit (start .relations) (start .t2) (start .relation) (start .first) (start .given) (omega arith) (omega arith) (omega arith))
+    let wide = c .before .before .before .before in
+    let start = wide .before .before .args in
+    let arity : c .before .wide2 .result ≡ getD (start .arities .now) (start .relation) 0 = read-at (start .arities .now) (wide .wide .ensures .0) (c .before .wide2 .ensures .0) in
+    sym (misfit (start .relations) (start .arities .now) (start .relation) (start .first) (start .given) (omega arith) (omega arith) (omega arith))
 
 pub arguments-stop-spec : {M : Type 1} → statement M
 arguments-stop-spec =
     tie.close
-    (tie.spec wide-requires returns array-read-wide wide-requires-2 add-if2 returns-2 returns-3)
+    (tie.spec wide-requires returns shared-slice-read-wide wide-requires-2 add-if2 returns-2 returns-3)

@@ -9,7 +9,7 @@ use Rattle.literals.proofs.fields.literal_fields.Statement.{statement}
 use Rattle.literals.proofs.fields.literal_fields.Tie as tie
 
 returns : tie.Need-returns
-returns c = simp (literal-by, lt-ltb (length (c .before .before .args .p .now)) 2 (omega arith))
+returns c = simp (literal-by, lt-ltb (length (c .before .before .before .args .p .now)) 2 (omega arith))
 
 shared-slice-read-no-role : tie.Need-shared-slice-read-no-role
 shared-slice-read-no-role c = search needs
@@ -21,7 +21,7 @@ returns-2 : tie.Need-returns-2
 returns-2 c =
     simp (
       literal-by,
-      le-ltb (length (c .before .before .before .before .before .args .p .now)) 2 (omega arith),
+      le-ltb (length (c .before .before .before .before .before .before .args .p .now)) 2 (omega arith),
       sym (c .before .no-role .ensures) ∙ c .if2 .taken,
     )
 
@@ -37,7 +37,7 @@ returns-3 c =
     let sorted = stop .before .before .before in
     simp (
       literal-by,
-      le-ltb (length (sorted .before .before .before .before .args .p .now)) 2 (omega arith),
+      le-ltb (length (sorted .before .before .before .before .before .args .p .now)) 2 (omega arith),
       sym (sorted .no-role .ensures) ∙ stop .before .before .if2 .left,
       ← stop .arguments-stop .ensures,
       ne-eqb (stop .arguments-stop .result) 0 (omega arith),
@@ -52,7 +52,7 @@ returns-4 c =
     let sorted = stop .before .before .before in
     simp (
       literal-by,
-      le-ltb (length (sorted .before .before .before .before .args .p .now)) 2 (omega arith),
+      le-ltb (length (sorted .before .before .before .before .before .args .p .now)) 2 (omega arith),
       sym (sorted .no-role .ensures) ∙ stop .before .before .if2 .left,
       ← stop .arguments-stop .ensures,
       eq-eqb (stop .arguments-stop .result) 0 (omega arith),
@@ -65,7 +65,7 @@ returns-5 c =
     let sorted = stop .before .before .before in
     simp (
       literal-by,
-      le-ltb (length (sorted .before .before .before .before .args .p .now)) 2 (omega arith),
+      le-ltb (length (sorted .before .before .before .before .before .args .p .now)) 2 (omega arith),
       sym (sorted .no-role .ensures) ∙ stop .before .before .if2 .left,
       ← stop .arguments-stop .ensures,
       eq-eqb (stop .arguments-stop .result) 0 (omega arith),

@@ -1,60 +1,35 @@
--- `rows_rank` meets its contract: the highest rank so far and that of the rows from i on make that of all. Assumes nothing.
-use borrow.Author.Needs.{needs}
+-- `rows_rank` meets its contract: a payload ranks as its row does. Assumes nothing.
+use mathlib.Core.Path.{refl}
 use native.Mathlib.Omega.{arith}
-use mathlib.Core.Path.{_≡_, sym, _∙_}
-use Prim.Native.Nat.{_-_, _*_, _≤_, max}
-use native.Mathlib.Nat.{zero-max}
-use lib.ListN.{drop}
-use Rattle.literals.specs.Table.{rowsIn, rowsRank}
-use Rattle.literals.proofs.Rows.{ranks-more, ranks-end}
+use lib.ListN.{replicate}
+use borrow.Author.Needs.{needs}
+use Rattle.literals.proofs.Rows.{ranks-filled}
 use Rattle.literals.proofs.row.rows_rank.Statement.{statement}
 use Rattle.literals.proofs.row.rows_rank.Tie as tie
 
-abbrev Inv-loop : tie.InvT-loop
-Inv-loop table from to p rank₀ i₀ rank i = (i ≤ to) × (max rank (rowsRank p (rowsIn (to - i) (drop (8 * i) table))) ≡ rowsRank p (rowsIn (to - from) (drop (8 * from) table)))
+slice-aggregate-put-row : tie.Need-slice-aggregate-put-row
+slice-aggregate-put-row c = search needs
 
-abbrev μ-loop : tie.MeasureT-loop
-μ-loop table from to p rank₀ i₀ rank i = to - i
+put-row-requires : tie.Need-put-row-requires
+put-row-requires c κs = search needs
 
-loop-holds : tie.Need-loop-holds Inv-loop μ-loop
-loop-holds c = (omega arith, zero-max _)
+slice-aggregate-highest-rank : tie.Need-slice-aggregate-highest-rank
+slice-aggregate-highest-rank c = search needs
 
-mul-row-rank : tie.Need-mul-row-rank Inv-loop μ-loop
-mul-row-rank c = omega arith
+highest-rank-requires : tie.Need-highest-rank-requires
+highest-rank-requires c κs = search needs
 
-row-rank-requires : tie.Need-row-rank-requires Inv-loop μ-loop
-row-rank-requires c κs = let h = c .before .before .before .before .pre in (omega arith, omega arith, omega arith)
-
-larger-requires : tie.Need-larger-requires Inv-loop μ-loop
-larger-requires c κs = search needs
-
-add-i : tie.Need-add-i Inv-loop μ-loop
-add-i c = omega arith
-
-loop-less : tie.Need-loop-less Inv-loop μ-loop
-loop-less c = omega arith
-
-loop-again : tie.Need-loop-again Inv-loop μ-loop
-loop-again c = let a = c .before .before .before .before .before .before .args in
-    let l = c .before .before .before .loop in
-    (omega arith, ranks-more (a .p .now) (a .table .now) (a .to) (l .i) (l .rank) (c .before .row-rank .result) (c .larger .result) (omega arith) (c .before .row-rank .ensures) (c .larger .ensures) ∙ l .inv .1)
-
-returns : tie.Need-returns Inv-loop μ-loop
-returns c = let a = c .before .before .before .before .args in
-    let l = c .before .loop in
-    sym (ranks-end (a .p .now) (drop (8 * l .i) (a .table .now)) (a .to) (l .i) (l .rank) (omega arith)) ∙ l .inv .1
+returns : tie.Need-returns
+returns c =
+    let a = c .before .before .before .before .before .before .before .args in
+    ranks-filled (a .p .now) (replicate 8 0) _ _ (omega arith) (omega arith) refl (c .before .before .before .put-row .ensures) (c .highest-rank .ensures)
 
 pub rows-rank-spec : {M : Type 1} → statement M
 rows-rank-spec =
     tie.close
     (tie.spec
-    Inv-loop
-    μ-loop
-    loop-holds
-    mul-row-rank
-    row-rank-requires
-    larger-requires
-    add-i
-    loop-less
-    loop-again
+    slice-aggregate-put-row
+    put-row-requires
+    slice-aggregate-highest-rank
+    highest-rank-requires
     returns)

@@ -5,7 +5,7 @@ use Rattle.verdict.proofs.Notes.with_fault.Statement.{statement}
 use Rattle.verdict.proofs.Notes.with_fault.Tie as tie
 
 returns : tie.Need-returns
-returns c = noted-before _ _ _ (c .if1 .taken)
+returns c = noted-before _ _ _ (λ e. omega arith)
 
 returns-2 : tie.Need-returns-2
 returns-2 c = noted-none _ _ _ (c .if2 .taken)

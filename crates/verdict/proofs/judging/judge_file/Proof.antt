@@ -1,30 +1,18 @@
 -- `verdict::judging::judge_file` meets its contract. Assumes nothing.
+use mathlib.Core.Logic.{inl, inr}
 use native.Mathlib.Omega.{arith}
 use borrow.Author.Needs.{needs}
-use Rattle.literals.proofs.Held.{shaped}
-use Rattle.verdict.proofs.FileCalls.{was-read, leaves-refused, leaves-read}
 use Rattle.verdict.proofs.judging.judge_file.Statement.{statement}
 use Rattle.verdict.proofs.judging.judge_file.Tie as tie
-use Rattle.verdict.proofs.judging.judge_file.Reads as reads
-use Rattle.verdict.proofs.judging.judge_file.Lts as lts
-use Rattle.literals.proofs.read.read_domain.Reads as read-domain-reads
-use Rattle.verdict.proofs.judging.at_offset.Reads as at-offset-reads
-use Rattle.verdict.proofs.judging.judge_domain.Reads as judge-domain-reads
 
-read-domain-requires : tie.Need-read-domain-requires
-read-domain-requires c κs = search needs
+slice-aggregate-judge-in : tie.Need-slice-aggregate-judge-in
+slice-aggregate-judge-in c = search needs
 
-at-offset-requires : tie.Need-at-offset-requires
-at-offset-requires c κs = search needs
+slice-aggregate-judge-in-2 : tie.Need-slice-aggregate-judge-in-2
+slice-aggregate-judge-in-2 c = search needs
 
-returns : tie.Need-returns
-returns c =
-    let start = c .before .before .before .before .before .before .before .before .args in
-    leaves-refused (start .file .now) (start .report .now) (start .witness .now) _ _ (c .before .before .before .read-domain .ensures .0) (λ z. omega arith) (c .at-offset .ensures)
-
-judge-domain-requires : tie.Need-judge-domain-requires
-judge-domain-requires c κs =
-    shaped (was-read (c .before .before .before .before .before .before .before .before .before .before .args .file .now) _ (c .before .before .before .before .before .read-domain .ensures .0) (omega arith) .holds)
+judge-in-requires : tie.Need-judge-in-requires
+judge-in-requires c κs = (inr (omega arith), omega arith)
 
 same-length : tie.Need-same-length
 same-length c = search needs
@@ -32,21 +20,64 @@ same-length c = search needs
 same-length-2 : tie.Need-same-length-2
 same-length-2 c = search needs
 
+returns : tie.Need-returns
+returns c = search needs
+
+slice-aggregate-judge-in-3 : tie.Need-slice-aggregate-judge-in-3
+slice-aggregate-judge-in-3 c = search needs
+
+slice-aggregate-judge-in-4 : tie.Need-slice-aggregate-judge-in-4
+slice-aggregate-judge-in-4 c = search needs
+
+judge-in-requires-2 : tie.Need-judge-in-requires-2
+judge-in-requires-2 c κs = (inr (omega arith), omega arith)
+
+same-length-3 : tie.Need-same-length-3
+same-length-3 c = search needs
+
+same-length-4 : tie.Need-same-length-4
+same-length-4 c = search needs
+
 returns-2 : tie.Need-returns-2
-returns-2 c =
-    let start = c .before .before .before .before .before .before .before .before .before .before .before .before .before .before .before .args in
-    let read = c .before .before .before .before .before .before .before .before .before .before .read-domain .ensures in
-    let r = was-read (start .file .now) _ (read .0) (omega arith) in
-    leaves-read (start .file .now) (start .report .now) (start .witness .now) _ _ _ (r .said) (r .decoded) (c .before .before .before .before .judge-domain .ensures (r .said) _ (r .holds) (r .lists _ _ (read .1)))
+returns-2 c = search needs
+
+slice-aggregate-judge-in-5 : tie.Need-slice-aggregate-judge-in-5
+slice-aggregate-judge-in-5 c = search needs
+
+slice-aggregate-judge-in-6 : tie.Need-slice-aggregate-judge-in-6
+slice-aggregate-judge-in-6 c = search needs
+
+judge-in-requires-3 : tie.Need-judge-in-requires-3
+judge-in-requires-3 c κs = (inl (omega arith), omega arith)
+
+same-length-5 : tie.Need-same-length-5
+same-length-5 c = search needs
+
+same-length-6 : tie.Need-same-length-6
+same-length-6 c = search needs
+
+returns-3 : tie.Need-returns-3
+returns-3 c = search needs
 
 pub judge-file-spec : {M : Type 1} → statement M
 judge-file-spec =
     tie.close
     (tie.spec
-    read-domain-requires
-    at-offset-requires
-    returns
-    judge-domain-requires
+    slice-aggregate-judge-in
+    slice-aggregate-judge-in-2
+    judge-in-requires
     same-length
     same-length-2
-    returns-2)
+    returns
+    slice-aggregate-judge-in-3
+    slice-aggregate-judge-in-4
+    judge-in-requires-2
+    same-length-3
+    same-length-4
+    returns-2
+    slice-aggregate-judge-in-5
+    slice-aggregate-judge-in-6
+    judge-in-requires-3
+    same-length-5
+    same-length-6
+    returns-3)

@@ -1,49 +1,41 @@
--- `verdict::naming::name_class` meets its contract: the summaries of the class at both moments decide its names. Assumes nothing.
+-- `verdict::naming::name_class` meets its contract: the names at both moments, and whether it is a journey. Assumes nothing.
 use borrow.Author.Needs.{needs}
 use Rattle.records.proofs.Lists.{clash}
+use mathlib.Core.Path.{_∙_, ap₂}
+use mathlib.Core.List.{List}
+use Prim.Native.Nat.{ℕ}
 use Rattle.classes.specs.declared.Moment.the-variants.{Start, End}
-use Rattle.verdict.proofs.NamedRows.{named-by, journey-by}
+use Rattle.classes.specs.Coded.{soleOf}
 use Rattle.verdict.proofs.naming.name_class.Statement.{statement}
 use Rattle.verdict.proofs.naming.name_class.Tie as tie
 
-summarize-requires : tie.Need-summarize-requires
-summarize-requires c κs = search needs
+-- src/naming.rt:89:9
+name-at-requires : tie.Need-name-at-requires
+name-at-requires c κs = search needs
 
-name-of-requires : tie.Need-name-of-requires
-name-of-requires c κs = search needs
+-- src/naming.rt:93:18
+name-at-requires-2 : tie.Need-name-at-requires-2
+name-at-requires-2 c κs = search needs
 
-summarize-requires-2 : tie.Need-summarize-requires-2
-summarize-requires-2 c κs = search needs
-
-name-of-requires-2 : tie.Need-name-of-requires-2
-name-of-requires-2 c κs = search needs
-
+-- src/naming.rt:94:22
 is-journey-requires : tie.Need-is-journey-requires
 is-journey-requires c κs = search needs
 
+-- src/naming.rt:91:9
 returns : tie.Need-returns
 returns c = (
-  λ D a H m e f g h. named-by H a _ Start (c .before .before .before .before .name-of .ensures) (c .before .before .before .before .before .summarize .ensures D a Start H m e f g h),
-  λ D a H m e f g k h t l.
-      let s = c .before .before .before .before .before .summarize .ensures D a Start H m e f g h in
-      let z = c .before .before .summarize2 .ensures D a End H m e f k h in
-      (named-by H a _ End (c .before .name-of2 .ensures) z, journey-by H a _ (c .is-journey .ensures) s z l),
+  λ D a keys T i e f g h. c .before .before .before .name-at .ensures D a Start keys T i e f g h,
+  λ D a keys T i e f g k h t l.
+      (c .before .name-at2 .ensures D a End keys T i e f k h, c .is-journey .ensures D a (T .bounded) i l e f g (c .before .before .before .before .before .before .before .before .before .before .pre .7 ∙ ap₂ (λ (o d : List ℕ). soleOf o d (c .before .before .before .before .before .before .before .before .before .before .args .class)) f k) h),
 )
 
+-- src/naming.rt:66:1
 returns-2 : tie.Need-returns-2
 returns-2 c = (
-  λ D a H m e f g h. named-by H a _ Start (c .before .name-of .ensures) (c .before .before .summarize .ensures D a Start H m e f g h),
-  λ D a H m e f g k h t l. absurd (clash t (c .if1 .left)),
+  λ D a keys T i e f g h. c .before .name-at .ensures D a Start keys T i e f g h,
+  λ D a keys T i e f g k h t l. absurd (clash t (c .if1 .left)),
 )
 
 pub name-class-spec : {M : Type 1} → statement M
 name-class-spec =
-    tie.close
-    (tie.spec
-    summarize-requires
-    name-of-requires
-    summarize-requires-2
-    name-of-requires-2
-    is-journey-requires
-    returns
-    returns-2)
+    tie.close (tie.spec name-at-requires name-at-requires-2 is-journey-requires returns returns-2)

@@ -5,31 +5,47 @@ use Rattle.verdict.proofs.NamedRows.{span-inner, span-last}
 use Rattle.verdict.proofs.naming.span_of.Statement.{statement}
 use Rattle.verdict.proofs.naming.span_of.Tie as tie
 
+-- src/naming.rt:55:16
 mul-from : tie.Need-mul-from
 mul-from c = search needs
 
-array-read-from : tie.Need-array-read-from
-array-read-from c = search needs
+-- src/naming.rt:55:16
+shared-slice-read-from : tie.Need-shared-slice-read-from
+shared-slice-read-from c = search needs
 
+-- src/naming.rt:56:8
 add-if1 : tie.Need-add-if1
 add-if1 c = search needs
 
+-- src/naming.rt:59:24
 add-t10 : tie.Need-add-t10
 add-t10 c = search needs
 
+-- src/naming.rt:59:17
 mul-t11 : tie.Need-mul-t11
 mul-t11 c = search needs
 
-array-read-t14 : tie.Need-array-read-t14
-array-read-t14 c = search needs
+-- src/naming.rt:59:17
+shared-slice-read-t13 : tie.Need-shared-slice-read-t13
+shared-slice-read-t13 c = search needs
 
+-- src/naming.rt:57:9
 returns : tie.Need-returns
-returns c = (refl, span-inner (c .before .before .before .args .index) _ (c .if1 .taken))
+returns c = let a = c .before .before .before .args in (refl, span-inner (a .starts .now) (a .actions) (a .rows) (a .i) (c .before .if1 .taken))
 
+-- src/naming.rt:51:1
 returns-2 : tie.Need-returns-2
-returns-2 c = (refl, span-last (c .before .before .before .args .index) _ (c .if1 .left))
+returns-2 c = let a = c .before .before .args in (refl, span-last (a .starts .now) (a .actions) (a .rows) (a .i) (c .if1 .left))
 
 pub span-of-spec : {M : Type 1} → statement M
 span-of-spec =
     tie.close
-    (tie.spec mul-from array-read-from add-if1 add-t10 mul-t11 array-read-t14 returns returns-2)
+    (tie.spec
+    mul-from
+    shared-slice-read-from
+    add-if1
+    add-t10
+    mul-t11
+    shared-slice-read-t13
+    returns
+    returns-2)

@@ -1,6 +1,7 @@
 -- `verdict::naming::Naming::new` meets its contract: no row is named. Assumes nothing.
 use borrow.Author.Needs.{needs}
 use mathlib.Core.Path.{refl}
+use native.Mathlib.Omega.{arith}
 use Rattle.records.specs.Memory.{over}
 use Rattle.verdict.proofs.naming.Naming.new.Statement.{statement}
 use Rattle.verdict.proofs.naming.Naming.new.Tie as tie
@@ -10,7 +11,7 @@ new-requires c κs = search needs
 
 returns : tie.Need-returns
 unfolding over
-returns c = (λ old h. record { room = h; rows-named = refl; noted = c .new .ensures; bytes = refl }, refl, refl)
+returns c = (λ old. record { room = omega arith; rows-named = refl; noted = c .new .ensures; bytes = refl }, refl)
 
 pub new-spec : {M : Type 1} → statement M
 new-spec = tie.close (tie.spec new-requires returns)

@@ -1,0 +1,495 @@
+-- What a class has at a moment, as the code holds it, and the name and journey that it decides. Assumes nothing.
+use mathlib.Core.Path.{_≡_, refl, sym, ap, ap₂, _∙_}
+use mathlib.Core.Bool.{Bool, true, false, _&&_, _||_, not, cond}
+use mathlib.Core.Logic.{_⊎_, inl, inr}
+use mathlib.Core.List.{List, [], _++_, map, flatMap}
+use Prim.Native.Nat.{ℕ, suc, _+_, _-_, _*_, _≤_, _<_}
+use native.Mathlib.Omega.{arith}
+use lib.Dec.{eqb, leb}
+use lib.ListN.{length, getD, replicate, length-map, List·getD-append}
+use borrow.Author.Tests.{eq-eqb, ne-eqb, eqb-true, eqb-false, le-leb, lt-leb, ltb-true}
+use Rattle.records.specs.Lists.{In, filterBy, countBy, any, all, elem}
+use Rattle.records.proofs.Lists.{below-in, bool-cases, and-l, not-true, getD-in, all-in, any-map, all-map, any-append, count-filter}
+use Rattle.literals.specs.declared.Variable.{Variable}
+use Rattle.literals.specs.declared.Label.{Label}
+use Rattle.literals.specs.declared.Label.the-variants.{Key as keyed, Counted}
+use Rattle.literals.specs.declared.Clause.{Clause}
+use Rattle.literals.specs.declared.Clause.the-variants.{Positive, Negative, Add, Delete}
+use Rattle.literals.specs.Domain.{Atom, sameLiteral, clauseNumber, Literal, Action, Component, isCounted, keyBelow, keysOf, labelsFit, Domain}
+use Rattle.literals.specs.Table.{literalRow, labelNumber, componentRow, pad, Bounded as BoundedDomain}
+use Rattle.literals.proofs.Tables.{Kept, kept, length-component-row, pad-at}
+use Rattle.literals.proofs.Held.{keys-few}
+use Rattle.classes.specs.declared.Moment.{Moment}
+use Rattle.classes.specs.declared.Moment.the-variants.{Start, End}
+use Rattle.classes.specs.declared.Name.the-variants.{Unreachable, Irrelevant, Heavy, Balanced, Unbalanced, Bounded, Unbounded}
+use Rattle.classes.specs.declared.Sole.{Sole}
+use Rattle.classes.specs.Classes.{tuplesOf, belongs, classes, inClass, deletedBy, changedBy, covered, excluding, nameBy, nameOf, journey}
+use Rattle.classes.specs.Coded.{TemplateIn, position, classNumberBy, classNumbers, clausesAt, uncoveredAt, below, isAt, isSameAt, sameIn, changedAt, excludesAt, coveredAt, soleBy, soleAt, soleOf}
+use Rattle.classes.proofs.Indices.{at-all, any-below, filter-below, position-below, any-filter, all-filter, filter-filter, filter-map, any-or, position-map, position-none, getD-map}
+use Rattle.classes.proofs.Rows.{literalAt, relation-at, atoms-at, byte-flat}
+use Rattle.classes.proofs.Clauses.{literals-at, clauses-few}
+use Rattle.classes.proofs.Members.{member}
+use Rattle.classes.proofs.Soles.{sole-none, sole-many, sole-one, sole-less, sole-passes, sole-all}
+
+-- ---- the members of a class at a moment
+
+and-comm : (s t : Bool) → s && t ≡ t && s
+and-comm true true = refl
+and-comm true false = refl
+and-comm false true = refl
+and-comm false false = refl
+
+-- ---- tests
+
+abbrev sameBool : Bool → Bool → Bool
+sameBool true b = b
+sameBool false b = not b
+
+bool-eq : (s t : Bool) → sameBool s t ≡ true → s ≡ t
+bool-eq true t e = sym e
+bool-eq false t e = sym (not-true t e)
+
+keys-below : (n : ℕ) (ls : List Label) → labelsFit n ls ≡ true → all (keyBelow n) ls ≡ true
+unfolding labelsFit
+keys-below n ls t = and-l _ _ (and-l _ _ t)
+
+-- ---- a component's labels, as bytes
+
+abbrev noComponent : Component
+noComponent = record { rel = 0; labels = [] }
+
+abbrev componentAt : Domain → ℕ → Component
+componentAt D c = getD (D .template) c noComponent
+
+-- a key's byte is never FF
+counted-byte : (n : ℕ) → n ≤ 6 → (l : Label) → keyBelow n l ≡ true → eqb (labelNumber l) 255 ≡ isCounted l
+counted-byte n h (keyed k) t = let g = ltb-true (k .0) n t in ne-eqb (k .0) 255 (λ e. omega arith)
+counted-byte n h Counted t = refl
+
+module _ {D : Domain} {parts arities : List ℕ} {components keys : ℕ} (T : TemplateIn D parts components keys arities) (c : ℕ) (h : c < length (D .template)) where
+  here : In (componentAt D c) (D .template)
+  here = getD-in (D .template) c noComponent h
+
+  part-byte : (i : ℕ) → i < 8 → getD parts (8 * c + i) 0 ≡ getD (componentRow (componentAt D c)) i 0
+  part-byte i g =
+      ap (λ (p : List ℕ). getD p (8 * c + i) 0) (T .rows)
+      ∙ byte-flat componentRow (D .template) (replicate (128 - length (flatMap componentRow (D .template))) 0) noComponent (λ d m. length-component-row d (T .bounded .labels d m)) c i h g
+
+  part-relation : getD parts (8 * c) 0 ≡ componentAt D c .rel
+  part-relation = let e : 8 * c ≡ 8 * c + 0 = omega arith in ap (λ (i : ℕ). getD parts i 0) e ∙ part-byte 0 (omega arith)
+
+  part-arity : getD arities (getD parts (8 * c) 0) 0 ≡ length (componentAt D c .labels)
+  part-arity =
+      ap₂ (λ (l : List ℕ) (r : ℕ). getD l r 0) (T .arguments) part-relation
+      ∙ pad-at 64 (D .arities) (componentAt D c .rel)
+      ∙ sym (T .bounded .componentArity (componentAt D c) here)
+
+  part-label : (i : ℕ) → i < length (componentAt D c .labels) → getD parts (8 * c + 1 + i) 0 ≡ labelNumber (getD (componentAt D c .labels) i Counted)
+  part-label i g =
+      let s = T .bounded .labels (componentAt D c) here in
+      let e : 8 * c + 1 + i ≡ 8 * c + suc i = omega arith in
+      let ns = map labelNumber (componentAt D c .labels) in
+      let f = length-map (componentAt D c .labels) labelNumber in
+      ap (λ (j : ℕ). getD parts j 0) e
+      ∙ part-byte (suc i) (omega arith)
+      ∙ List·getD-append ns (replicate (8 - suc (length ns)) 255) 0 i (omega arith)
+      ∙ getD-map labelNumber (componentAt D c .labels) i Counted 0 g
+
+  part-counted : any (λ i. eqb (getD parts (8 * c + 1 + i) 0) 255) (below (getD arities (getD parts (8 * c) 0) 0)) ≡ any isCounted (componentAt D c .labels)
+  part-counted =
+      ap (λ (n : ℕ). any (λ i. eqb (getD parts (8 * c + 1 + i) 0) 255) (below n)) part-arity
+      ∙ any-below (λ i. eqb (getD parts (8 * c + 1 + i) 0) 255) (λ i. isCounted (getD ls i Counted)) (length ls)
+      (λ i g. ap (λ (b : ℕ). eqb b 255) (part-label i g) ∙ counted-byte count (keys-few (D .template) (T .bounded .labels)) (getD ls i Counted) (all-in (keyBelow count) ls fits (getD-in ls i Counted g)))
+      ∙ sym (any-map (λ i. getD ls i Counted) isCounted (below (length ls)))
+      ∙ ap (any isCounted) (at-all Counted ls)
+    where
+      ls : List Label
+      ls = componentAt D c .labels
+
+      count : ℕ
+      count = keysOf (D .template)
+
+      fits : all (keyBelow count) ls ≡ true
+      fits = keys-below count ls (T .bounded .keysFit (componentAt D c) here)
+
+-- ---- a class by its number
+
+-- of a clause from 0 to 4
+abbrev excludes : ℕ → Bool
+excludes n = eqb n 2 || (eqb n 3 || eqb n 4)
+
+clause-excludes : (n : ℕ) → n ≤ 4 → leb 2 n ≡ excludes n
+clause-excludes n h = bool-eq (leb 2 n) (excludes n) (below-in 5 (λ n. sameBool (leb 2 n) (excludes n)) refl n (omega arith))
+
+-- the three clauses that exclude, one by one
+each-clause : (o p q r t : Bool) → o && ((p || (q || r)) && t) ≡ ((o && p) && t) || (((o && q) && t) || ((o && r) && t))
+each-clause true p q r t = spread p (q || r) t ∙ ap (λ (b : Bool). (p && t) || b) (spread q r t)
+  where
+    spread : (p s t : Bool) → (p || s) && t ≡ (p && t) || (s && t)
+    spread true s true = refl
+    spread true true false = refl
+    spread true false false = refl
+    spread false s t = refl
+each-clause false p q r t = refl
+
+module _ (D : Domain) (a : Action) (B : BoundedDomain D) (i : In a (D .actions)) (m : Moment) (k : ℕ) (h : k < length (classes D a)) where
+  abbrev n : ℕ
+  n = length (a .lits)
+
+  abbrev atom : ℕ → Atom Variable
+  atom j = literalAt (a .lits) j .atom
+
+  abbrev x : List Variable
+  x = getD (classes D a) k []
+
+  abbrev rows : List ℕ
+  rows = flatMap literalRow (a .lits)
+
+  abbrev clauses : List ℕ
+  clauses = pad 64 (clausesAt a m)
+
+  abbrev isMember : ℕ → ℕ → Bool
+  isMember clause = isAt (classNumbers D a) clauses k clause
+
+  in-class : (c : Clause) → inClass D a x m c ≡ map atom (filterBy (isMember (suc (clauseNumber c))) (below n))
+  unfolding inClass isAt
+  in-class c =
+      ap (filterBy (belongs D x)) (literals-at a m c)
+      ∙ filter-map atom (belongs D x) (filterBy counted (below n))
+      ∙ ap (map atom) (filter-filter counted (λ j. belongs D x (atom j)) (below n))
+      ∙ ap (map atom) (filter-below (λ j. counted j && belongs D x (atom j)) (isMember (suc (clauseNumber c))) n agree)
+    where
+      counted : ℕ → Bool
+      counted j = eqb (getD (clausesAt a m) j 0) (suc (clauseNumber c))
+
+      agree : (j : ℕ) → j < n → counted j && belongs D x (atom j) ≡ isMember (suc (clauseNumber c)) j
+      agree j g =
+          and-comm (counted j) (belongs D x (atom j))
+          ∙ ap₂ _&&_ (sym (member k B i h j g)) (ap (λ (d : ℕ). eqb d (suc (clauseNumber c))) (sym (pad-at 64 (clausesAt a m) j)))
+
+  -- how many there are
+  count-in : (c : Clause) → countBy (isMember (suc (clauseNumber c))) (below n) ≡ length (inClass D a x m c)
+  count-in c =
+      count-filter (isMember (suc (clauseNumber c))) (below n)
+      ∙ sym (length-map (filterBy (isMember (suc (clauseNumber c))) (below n)) atom)
+      ∙ ap length (sym (in-class c))
+
+  -- whether one passes a test
+  any-member : (c : Clause) (q : Atom Variable → Bool) → any q (inClass D a x m c) ≡ any (λ j. isMember (suc (clauseNumber c)) j && q (atom j)) (below n)
+  any-member c q =
+      ap (any q) (in-class c)
+      ∙ any-map atom q (filterBy (isMember (suc (clauseNumber c))) (below n))
+      ∙ any-filter (isMember (suc (clauseNumber c))) (λ j. q (atom j)) (below n)
+
+  all-member : (c : Clause) (q : Atom Variable → Bool) → all q (inClass D a x m c) ≡ all (λ j. not (isMember (suc (clauseNumber c)) j) || q (atom j)) (below n)
+  all-member c q =
+      ap (all q) (in-class c)
+      ∙ all-map atom q (filterBy (isMember (suc (clauseNumber c))) (below n))
+      ∙ all-filter (isMember (suc (clauseNumber c))) (λ j. q (atom j)) (below n)
+
+  length-numbers : length (classNumbers D a) ≡ n
+  unfolding classNumbers
+  length-numbers = length-map (a .lits) (λ (l : Literal). classNumberBy (classes D a) (tuplesOf D (l .atom)))
+
+  kept-in : (l : Literal) → In l (a .lits) → Kept l
+  kept-in l j = kept B i j
+
+  same-in : (c : Clause) (j : ℕ) → j < n → sameIn rows (classNumbers D a) clauses k (suc (clauseNumber c)) j ≡ elem sameLiteral (atom j) (inClass D a x m c)
+  unfolding sameIn isSameAt
+  same-in c j g =
+      ap (λ (l : ℕ). any (isSameAt rows (classNumbers D a) clauses k (suc (clauseNumber c)) j) (below l)) length-numbers
+      ∙ any-below (isSameAt rows (classNumbers D a) clauses k (suc (clauseNumber c)) j) (λ l. isMember (suc (clauseNumber c)) l && sameLiteral (atom j) (atom l)) n
+      (λ l f. ap (λ (t : Bool). isMember (suc (clauseNumber c)) l && t) (atoms-at (a .lits) kept-in j l g f))
+      ∙ sym (any-member c (sameLiteral (atom j)))
+
+  sole-in : (c : Clause) → soleAt (classNumbers D a) clauses k (suc (clauseNumber c)) ≡ soleBy (isMember (suc (clauseNumber c))) n
+  unfolding soleAt
+  sole-in c = ap (soleBy (isMember (suc (clauseNumber c)))) length-numbers
+
+  few : n ≤ 64
+  few = B .sizes a i
+
+  pub none-in : (c : Clause) → soleAt (classNumbers D a) clauses k (suc (clauseNumber c)) ≡ 0 → length (inClass D a x m c) ≡ 0
+  none-in c e = sym (count-in c) ∙ sole-none (isMember (suc (clauseNumber c))) n few (sym (sole-in c) ∙ e)
+
+  pub many-in : (c : Clause) → soleAt (classNumbers D a) clauses k (suc (clauseNumber c)) ≡ 255 → 2 ≤ length (inClass D a x m c)
+  many-in c e = let h = sole-many (isMember (suc (clauseNumber c))) n few (sym (sole-in c) ∙ e) in let g = count-in c in omega arith
+
+  module _ (c : Clause) (some : soleAt (classNumbers D a) clauses k (suc (clauseNumber c)) ≡ 0 → ⊥) (not-many : soleAt (classNumbers D a) clauses k (suc (clauseNumber c)) ≡ 255 → ⊥) where
+    counted-one : countBy (isMember (suc (clauseNumber c))) (below n) ≡ 1
+    counted-one = sole-one (isMember (suc (clauseNumber c))) n few (λ e. some (sole-in c ∙ e)) (λ e. not-many (sole-in c ∙ e))
+
+    pub one-in : length (inClass D a x m c) ≡ 1
+    one-in = sym (count-in c) ∙ counted-one
+
+    -- the place of the one
+    abbrev place : ℕ
+    place = soleAt (classNumbers D a) clauses k (suc (clauseNumber c)) - 1
+
+    place-is : place ≡ soleBy (isMember (suc (clauseNumber c))) n - 1
+    place-is = ap (λ (s : ℕ). s - 1) (sole-in c)
+
+    place-less : place < n
+    place-less = rw place-is (sole-less (isMember (suc (clauseNumber c))) n few (λ e. some (sole-in c ∙ e)) (λ e. not-many (sole-in c ∙ e)))
+
+    all-one : (q : Atom Variable → Bool) → all q (inClass D a x m c) ≡ q (atom place)
+    all-one q =
+        all-member c q
+        ∙ sole-all (isMember (suc (clauseNumber c))) (λ j. q (atom j)) n place counted-one place-less
+        (ap (isMember (suc (clauseNumber c))) place-is ∙ sole-passes (isMember (suc (clauseNumber c))) n few (λ e. some (sole-in c ∙ e)) (λ e. not-many (sole-in c ∙ e)))
+
+  module _ (some : soleAt (classNumbers D a) clauses k 1 ≡ 0 → ⊥) (not-many : soleAt (classNumbers D a) clauses k 1 ≡ 255 → ⊥) where
+    pub changed-in : changedAt rows (classNumbers D a) clauses k (soleAt (classNumbers D a) clauses k 1 - 1) ≡ all (changedBy (inClass D a x m Add) (inClass D a x m Delete)) (inClass D a x m Positive)
+    unfolding changedAt
+    changed-in =
+        ap₂ _||_ (same-in Add (place Positive some not-many) (place-less Positive some not-many)) (same-in Delete (place Positive some not-many) (place-less Positive some not-many))
+        ∙ sym (all-one Positive some not-many (changedBy (inClass D a x m Add) (inClass D a x m Delete)))
+
+    pub deleted-in : sameIn rows (classNumbers D a) clauses k 4 (soleAt (classNumbers D a) clauses k 1 - 1) ≡ all (deletedBy (inClass D a x m Delete)) (inClass D a x m Positive)
+    deleted-in = same-in Delete (place Positive some not-many) (place-less Positive some not-many) ∙ sym (all-one Positive some not-many (deletedBy (inClass D a x m Delete)))
+
+  -- a relation among the false conditions, adds and deletes
+  excludes-in : (r : ℕ) → any (excludesAt rows (classNumbers D a) clauses k r) (below (length (classNumbers D a))) ≡ any (λ (p : Atom Variable). eqb r (p .rel)) (excluding D a x m)
+  unfolding excludesAt excluding isAt
+  excludes-in r =
+      ap (λ (l : ℕ). any (excludesAt rows (classNumbers D a) clauses k r) (below l)) length-numbers
+      ∙ any-below (excludesAt rows (classNumbers D a) clauses k r) (λ j. with 2 j || (with 3 j || with 4 j)) n agree
+      ∙ sym (any-or (with 2) (λ j. with 3 j || with 4 j) (below n))
+      ∙ ap (λ (t : Bool). any (with 2) (below n) || t) (sym (any-or (with 3) (with 4) (below n)))
+      ∙ sym (any-append q (inClass D a x m Negative) (inClass D a x m Add ++ inClass D a x m Delete)
+      ∙ ap₂ _||_ (any-member Negative q) (any-append q (inClass D a x m Add) (inClass D a x m Delete) ∙ ap₂ _||_ (any-member Add q) (any-member Delete q)))
+    where
+      q : Atom Variable → Bool
+      q p = eqb r (p .rel)
+
+      with : ℕ → ℕ → Bool
+      with clause j = isMember clause j && q (atom j)
+
+      agree : (j : ℕ) → j < n → excludesAt rows (classNumbers D a) clauses k r j ≡ with 2 j || (with 3 j || with 4 j)
+      agree j g =
+          let s : getD clauses j 0 ≤ 4 = rw (pad-at 64 (clausesAt a m) j) (clauses-few a m j g) in
+          ap₂ (λ (e t : Bool). eqb (getD (classNumbers D a) j 0) k && (e && t)) (clause-excludes (getD clauses j 0) s) (ap (eqb r) (relation-at (a .lits) kept-in j g))
+          ∙ each-clause (eqb (getD (classNumbers D a) j 0) k) (eqb (getD clauses j 0) 2) (eqb (getD clauses j 0) 3) (eqb (getD clauses j 0) 4) (q (atom j))
+
+  module _ {parts arities : List ℕ} {components keys : ℕ} (T : TemplateIn D parts components keys arities) where
+    covered-in : (c : ℕ) → c < length (D .template) → coveredAt parts arities rows (classNumbers D a) clauses k c ≡ covered (excluding D a x m) (componentAt D c)
+    unfolding coveredAt
+    covered-in c g =
+        ap₂ (λ (s t : Bool). not s && t) (part-counted T c g)
+        (ap (λ (r : ℕ). any (excludesAt rows (classNumbers D a) clauses k r) (below (length (classNumbers D a)))) (part-relation T c g) ∙ excludes-in (componentAt D c .rel))
+
+    uncovered-in : position (λ c. not (coveredAt parts arities rows (classNumbers D a) clauses k c)) (below components) ≡ uncoveredAt D a x m
+    unfolding uncoveredAt
+    uncovered-in =
+        ap (λ (l : ℕ). position (λ c. not (coveredAt parts arities rows (classNumbers D a) clauses k c)) (below l)) (T .count)
+        ∙ position-below (λ c. not (coveredAt parts arities rows (classNumbers D a) clauses k c)) (λ c. not (covered (excluding D a x m) (componentAt D c))) (length (D .template))
+        (λ c g. ap not (covered-in c g))
+        ∙ sym (position-map (componentAt D) (λ c. not (covered (excluding D a x m) c)) (below (length (D .template))))
+        ∙ ap (position (λ c. not (covered (excluding D a x m) c))) (at-all noComponent (D .template))
+
+-- ---- the first uncovered component, of memories that hold a domain's template and an action
+
+pub uncovered-held : {D : Domain} {a : Action} (m : Moment) {parts arities : List ℕ} {components keys : ℕ} {rows of clauses : List ℕ} {k : ℕ} → TemplateIn D parts components keys arities
+    → In a (D .actions) → rows ≡ flatMap literalRow (a .lits) → of ≡ classNumbers D a → clauses ≡ pad 64 (clausesAt a m) → k < length (classes D a)
+    → position (λ c. not (coveredAt parts arities rows of clauses k c)) (below components) ≡ uncoveredAt D a (getD (classes D a) k []) m
+uncovered-held {D} {a} m {parts} {arities} {components} {keys} {rows} {of} {clauses} {k} T i e f g h =
+    ap (λ (r : List ℕ). position (λ c. not (coveredAt parts arities r of clauses k c)) (below components)) e
+    ∙ ap₂ (λ (o d : List ℕ). position (λ c. not (coveredAt parts arities (flatMap literalRow (a .lits)) o d k c)) (below components)) f g
+    ∙ uncovered-in D a (T .bounded) i m k h T
+
+-- ---- the first line that fits
+
+module _ {D : Domain} {a : Action} (B : BoundedDomain D) (i : In a (D .actions)) (m : Moment) {rows of clauses : List ℕ} {k : ℕ} {sole : Sole} (e : rows ≡ flatMap literalRow (a .lits)) (f : of ≡ classNumbers D a)
+    (g : clauses ≡ pad 64 (clausesAt a m)) (h : k < length (classes D a)) (s : sole ≡ soleOf of clauses k) where
+  conditions-are : sole .conditions ≡ soleAt (classNumbers D a) (pad 64 (clausesAt a m)) k 1
+  conditions-are = ap (λ (r : Sole). r .conditions) s ∙ ap₂ (λ (o c : List ℕ). soleAt o c k 1) f g
+
+  adds-are : sole .adds ≡ soleAt (classNumbers D a) (pad 64 (clausesAt a m)) k 3
+  adds-are = ap (λ (r : Sole). r .adds) s ∙ ap₂ (λ (o c : List ℕ). soleAt o c k 3) f g
+
+  pub no-conditions : sole .conditions ≡ 0 → length (inClass D a (getD (classes D a) k []) m Positive) ≡ 0
+  no-conditions z = none-in D a B i m k h Positive (sym conditions-are ∙ z)
+
+  pub many-conditions : sole .conditions ≡ 255 → 2 ≤ length (inClass D a (getD (classes D a) k []) m Positive)
+  many-conditions z = many-in D a B i m k h Positive (sym conditions-are ∙ z)
+
+  pub one-condition : (sole .conditions ≡ 0 → ⊥) → (sole .conditions ≡ 255 → ⊥) → length (inClass D a (getD (classes D a) k []) m Positive) ≡ 1
+  one-condition y z = one-in D a B i m k h Positive (λ w. y (conditions-are ∙ w)) (λ w. z (conditions-are ∙ w))
+
+  pub no-adds : sole .adds ≡ 0 → length (inClass D a (getD (classes D a) k []) m Add) ≡ 0
+  no-adds z = none-in D a B i m k h Add (sym adds-are ∙ z)
+
+  pub many-adds : sole .adds ≡ 255 → 2 ≤ length (inClass D a (getD (classes D a) k []) m Add)
+  many-adds z = many-in D a B i m k h Add (sym adds-are ∙ z)
+
+  pub one-add : (sole .adds ≡ 0 → ⊥) → (sole .adds ≡ 255 → ⊥) → length (inClass D a (getD (classes D a) k []) m Add) ≡ 1
+  one-add y z = one-in D a B i m k h Add (λ w. y (adds-are ∙ w)) (λ w. z (adds-are ∙ w))
+
+  pub some-conditions : (sole .conditions ≡ 0 → ⊥) → length (inClass D a (getD (classes D a) k []) m Positive) ≡ 0 → ⊥
+  some-conditions y z = go (bool-cases (eqb (sole .conditions) 255))
+    where
+      go : (eqb (sole .conditions) 255 ≡ true) ⊎ (eqb (sole .conditions) 255 ≡ false) → ⊥
+      go (inl t) = let n = many-conditions (eqb-true _ _ t) in omega arith
+      go (inr t) = let n = one-condition y (eqb-false _ _ t) in omega arith
+
+  pub some-adds : (sole .adds ≡ 0 → ⊥) → length (inClass D a (getD (classes D a) k []) m Add) ≡ 0 → ⊥
+  some-adds y z = go (bool-cases (eqb (sole .adds) 255))
+    where
+      go : (eqb (sole .adds) 255 ≡ true) ⊎ (eqb (sole .adds) 255 ≡ false) → ⊥
+      go (inl t) = let n = many-adds (eqb-true _ _ t) in omega arith
+      go (inr t) = let n = one-add y (eqb-false _ _ t) in omega arith
+
+  module _ (some : sole .conditions ≡ 0 → ⊥) (few : sole .conditions ≡ 255 → ⊥) where
+    pub changed-held : changedAt rows of clauses k (sole .conditions - 1)
+        ≡ all (changedBy (inClass D a (getD (classes D a) k []) m Add) (inClass D a (getD (classes D a) k []) m Delete)) (inClass D a (getD (classes D a) k []) m Positive)
+    changed-held =
+        (λ t. changedAt (e t) (f t) (g t) k (conditions-are t - 1))
+        ∙ changed-in D a B i m k h (λ w. some (conditions-are ∙ w)) (λ w. few (conditions-are ∙ w))
+
+    pub deleted-held : sameIn rows of clauses k 4 (sole .conditions - 1)
+        ≡ all (deletedBy (inClass D a (getD (classes D a) k []) m Delete)) (inClass D a (getD (classes D a) k []) m Positive)
+    deleted-held =
+        (λ t. sameIn (e t) (f t) (g t) k 4 (conditions-are t - 1))
+        ∙ deleted-in D a B i m k h (λ w. some (conditions-are ∙ w)) (λ w. few (conditions-are ∙ w))
+
+-- where the only condition stands, a loop may look
+pub sole-inside : (of clauses : List ℕ) (class : ℕ) {sole : Sole} → length of ≤ 64 → sole ≡ soleOf of clauses class → (sole .conditions ≡ 0 → ⊥) → (sole .conditions ≡ 255 → ⊥)
+    → sole .conditions - 1 < length of
+unfolding soleAt
+sole-inside of clauses class h e some few =
+    let c = ap (λ (r : Sole). r .conditions) e in
+    rw c (sole-less (isAt of clauses class 1) (length of) h (λ w. some (c ∙ w)) (λ w. few (c ∙ w)))
+
+-- ---- names, by how many true conditions and adds there are
+
+module _ (c n : ℕ) (ch v : Bool) where
+  by-unreachable : 2 ≤ c → nameBy c c n ch v ≡ Unreachable
+  unfolding nameBy
+  by-unreachable h = rw (le-leb 2 c h)
+
+  by-irrelevant : c ≤ 1 → n ≡ 0 → nameBy c c n ch v ≡ Irrelevant
+  unfolding nameBy
+  by-irrelevant h e = rw (lt-leb 2 c (omega arith), eq-eqb n 0 e)
+
+  by-heavy : c ≤ 1 → 2 ≤ n → nameBy c c n ch v ≡ Heavy
+  unfolding nameBy
+  by-heavy h g = rw (lt-leb 2 c (omega arith), ne-eqb n 0 (λ e. omega arith), le-leb 2 n g)
+
+  by-changed : c ≡ 1 → n ≡ 1 → nameBy c c n ch v ≡ cond ch Balanced Unbalanced
+  unfolding nameBy
+  by-changed h g = rw (lt-leb 2 c (omega arith), ne-eqb n 0 (λ e. omega arith), lt-leb 2 n (omega arith), eq-eqb c 1 h)
+
+  by-covered : c ≡ 0 → n ≡ 1 → nameBy c c n ch v ≡ cond v Bounded Unbounded
+  unfolding nameBy
+  by-covered h g = rw (lt-leb 2 c (omega arith), ne-eqb n 0 (λ e. omega arith), lt-leb 2 n (omega arith), ne-eqb c 1 (λ e. omega arith))
+
+name-is : (D : Domain) (a : Action) (x : List Variable) (m : Moment) → nameOf D a x m
+    ≡ nameBy (length (inClass D a x m Positive)) (length (inClass D a x m Positive)) (length (inClass D a x m Add))
+    (all (changedBy (inClass D a x m Add) (inClass D a x m Delete)) (inClass D a x m Positive)) (eqb (uncoveredAt D a x m) (length (D .template)))
+unfolding nameOf uncoveredAt inClass
+name-is D a x m =
+    ap (nameBy (length (inClass D a x m Positive)) (length (inClass D a x m Positive)) (length (inClass D a x m Add))
+    (all (changedBy (inClass D a x m Add) (inClass D a x m Delete)) (inClass D a x m Positive)))
+    (sym (position-none (covered (excluding D a x m)) (D .template)))
+
+-- ---- the name of a class, as the code finds it
+
+module _ {D : Domain} {a : Action} (B : BoundedDomain D) (i : In a (D .actions)) (m : Moment) {rows of clauses : List ℕ} {k : ℕ} {sole : Sole} (e : rows ≡ flatMap literalRow (a .lits)) (f : of ≡ classNumbers D a)
+    (g : clauses ≡ pad 64 (clausesAt a m)) (h : k < length (classes D a)) (s : sole ≡ soleOf of clauses k) where
+  pub unreachable-named : sole .conditions ≡ 255 → Unreachable ≡ nameOf D a (getD (classes D a) k []) m
+  unreachable-named z = sym (name-is D a (getD (classes D a) k []) m ∙ by-unreachable _ _ _ _ (many-conditions B i m e f g h s z))
+
+  module _ (few : sole .conditions ≡ 255 → ⊥) where
+    few-conditions : length (inClass D a (getD (classes D a) k []) m Positive) ≤ 1
+    few-conditions = go (bool-cases (eqb (sole .conditions) 0))
+      where
+        go : (eqb (sole .conditions) 0 ≡ true) ⊎ (eqb (sole .conditions) 0 ≡ false) → length (inClass D a (getD (classes D a) k []) m Positive) ≤ 1
+        go (inl t) = let n = no-conditions B i m e f g h s (eqb-true _ _ t) in omega arith
+        go (inr t) = let n = one-condition B i m e f g h s (eqb-false _ _ t) few in omega arith
+
+    pub irrelevant-named : sole .adds ≡ 0 → Irrelevant ≡ nameOf D a (getD (classes D a) k []) m
+    irrelevant-named z = sym (name-is D a (getD (classes D a) k []) m ∙ by-irrelevant _ _ _ _ few-conditions (no-adds B i m e f g h s z))
+
+    pub heavy-named : sole .adds ≡ 255 → Heavy ≡ nameOf D a (getD (classes D a) k []) m
+    heavy-named z = sym (name-is D a (getD (classes D a) k []) m ∙ by-heavy _ _ _ _ few-conditions (many-adds B i m e f g h s z))
+
+    module _ (added : sole .adds ≡ 0 → ⊥) (light : sole .adds ≡ 255 → ⊥) where
+      pub changed-named : (sole .conditions ≡ 0 → ⊥) → (t : Bool) → changedAt rows of clauses k (sole .conditions - 1) ≡ t → cond t Balanced Unbalanced ≡ nameOf D a (getD (classes D a) k []) m
+      changed-named some t c =
+          sym (name-is D a (getD (classes D a) k []) m
+          ∙ by-changed _ _ _ _ (one-condition B i m e f g h s some few) (one-add B i m e f g h s added light)
+          ∙ ap (λ (b : Bool). cond b Balanced Unbalanced) (sym (changed-held B i m e f g h s some few) ∙ c))
+
+      pub covered-named : sole .conditions ≡ 0 → (u n : ℕ) → u ≡ uncoveredAt D a (getD (classes D a) k []) m → n ≡ length (D .template) → (t : Bool) → eqb u n ≡ t
+          → cond t Bounded Unbounded ≡ nameOf D a (getD (classes D a) k []) m
+      covered-named none u n p q t c =
+          sym (name-is D a (getD (classes D a) k []) m
+          ∙ by-covered _ _ _ _ (no-conditions B i m e f g h s none) (one-add B i m e f g h s added light)
+          ∙ ap (λ (b : Bool). cond b Bounded Unbounded) (ap₂ eqb (sym p) (sym q) ∙ c))
+
+-- ---- whether it is a journey
+
+off-first : (l o d p q : Bool) → l && false && o && d && p && q ≡ false
+off-first true o d p q = refl
+off-first false o d p q = refl
+
+off-second : (x d p q : Bool) → x && false && d && p && q ≡ false
+off-second true d p q = refl
+off-second false d p q = refl
+
+off-fourth : (x q : Bool) → x && false && q ≡ false
+off-fourth true q = refl
+off-fourth false q = refl
+
+off-last : (x : Bool) → x && false ≡ false
+off-last true = refl
+off-last false = refl
+
+module _ (D : Domain) (a : Action) (x : List Variable) where
+  abbrev none-added : Bool
+  none-added = eqb (length (inClass D a x Start Add)) 0
+
+  abbrev one-required : Bool
+  one-required = eqb (length (inClass D a x Start Positive)) 1
+
+  abbrev one-deleted : Bool
+  one-deleted = all (deletedBy (inClass D a x Start Delete)) (inClass D a x Start Positive)
+
+  abbrev none-required : Bool
+  none-required = eqb (length (inClass D a x End Positive)) 0
+
+  abbrev one-added : Bool
+  one-added = eqb (length (inClass D a x End Add)) 1
+
+  pub adds-at-start : (length (inClass D a x Start Add) ≡ 0 → ⊥) → false ≡ journey D a x
+  unfolding journey
+  adds-at-start n =
+      sym (ap (λ (b : Bool). a .lasting && b && one-required && one-deleted && none-required && one-added) (ne-eqb _ _ n) ∙ off-first (a .lasting) one-required one-deleted none-required one-added)
+
+  pub not-one-condition : (length (inClass D a x Start Positive) ≡ 1 → ⊥) → false ≡ journey D a x
+  unfolding journey
+  not-one-condition n =
+      sym (ap (λ (b : Bool). a .lasting && none-added && b && one-deleted && none-required && one-added) (ne-eqb _ _ n) ∙ off-second (a .lasting && none-added) one-deleted none-required one-added)
+
+  pub condition-at-end : (length (inClass D a x End Positive) ≡ 0 → ⊥) → false ≡ journey D a x
+  unfolding journey
+  condition-at-end n =
+      sym (ap (λ (b : Bool). a .lasting && none-added && one-required && one-deleted && b && one-added) (ne-eqb _ _ n) ∙ off-fourth (a .lasting && none-added && one-required && one-deleted) one-added)
+
+  pub not-one-add : (length (inClass D a x End Add) ≡ 1 → ⊥) → false ≡ journey D a x
+  unfolding journey
+  not-one-add n =
+      sym (ap (λ (b : Bool). a .lasting && none-added && one-required && one-deleted && none-required && b) (ne-eqb _ _ n) ∙ off-last (a .lasting && none-added && one-required && one-deleted && none-required))
+
+  pub journey-deletes : a .lasting ≡ true → length (inClass D a x Start Add) ≡ 0 → length (inClass D a x Start Positive) ≡ 1 → length (inClass D a x End Positive) ≡ 0
+      → length (inClass D a x End Add) ≡ 1 → (t : Bool) → t ≡ all (deletedBy (inClass D a x Start Delete)) (inClass D a x Start Positive) → t ≡ journey D a x
+  unfolding journey
+  journey-deletes l n o p q t e = go (a .lasting) l _ (eq-eqb _ _ n) _ (eq-eqb _ _ o) _ (eq-eqb _ _ p) _ (eq-eqb _ _ q) t _ e
+    where
+      go : (l : Bool) → l ≡ true → (n : Bool) → n ≡ true → (o : Bool) → o ≡ true → (p : Bool) → p ≡ true → (q : Bool) → q ≡ true → (t d : Bool) → t ≡ d
+          → t ≡ l && n && o && d && p && q
+      go l el n en o eo p ep q eq t d e = e ∙ sym (rw (el, en, eo, ep, eq) (both d))
+        where
+          both : (d : Bool) → d && true && true ≡ d
+          both true = refl
+          both false = refl

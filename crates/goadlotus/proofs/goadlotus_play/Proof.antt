@@ -1,0 +1,53 @@
+-- `goadlotus_play` meets its contract: what `player::play::play_files` promises, with the answer's parts each in its place. Assumes nothing.
+use mathlib.Core.Path.{_∙_}
+use borrow.Author.Needs.{needs}
+use Rattle.player.proofs.PlayCalls.{number-is, place-is, steps-is, weight-is, file-is, offset-is, as-machine, never-59}
+use Rattle.goadlotus.proofs.goadlotus_play.Statement.{statement}
+use Rattle.goadlotus.proofs.goadlotus_play.Tie as tie
+
+play-files-requires : tie.Need-play-files-requires
+play-files-requires c κs = search needs
+
+file-of-requires : tie.Need-file-of-requires
+file-of-requires c κs = search needs
+
+offset-of-requires : tie.Need-offset-of-requires
+offset-of-requires c κs = search needs
+
+same-length : tie.Need-same-length
+same-length c = search needs
+
+returns : tie.Need-returns
+returns c =
+    let a = c .before .before .before .before .before .before .before .before .before .args in
+    let d = a .domain .now in
+    let r = a .run .now in
+    let w = a .work .now in
+    let f = c .before .before .before .before .play-files in
+    let e = f .ensures .0 in
+    let n = number-is d r w (f .result) e in
+    let s = steps-is d r w (f .result) e in
+    let h = weight-is d r w (f .result) e in (
+      n,
+      (
+        place-is d r w (f .result) e,
+        (
+          s,
+          (
+            h,
+            (
+              f .ensures .1,
+              (
+                c .before .file-of .ensures ∙ file-is d r w (f .result) e,
+                (c .offset-of .ensures ∙ offset-is d r w (f .result) e, (as-machine d r w _ _ _ _ n s h (f .ensures .1), never-59 d r w _ n)),
+              ),
+            ),
+          ),
+        ),
+      ),
+    )
+
+pub goadlotus-play-spec : {M : Type 1} → statement M
+goadlotus-play-spec =
+    tie.close
+    (tie.spec play-files-requires file-of-requires offset-of-requires same-length returns)

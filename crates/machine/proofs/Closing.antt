@@ -1,0 +1,170 @@
+-- The step's close: what forbids it, what is too large, and what it leaves. Assumes nothing.
+use mathlib.Core.Path.{_≡_, refl, sym, ap, ap₂, _∙_}
+use mathlib.Core.Bool.{Bool, true, false, _&&_, _||_, not, cond}
+use mathlib.Core.List.{List, [], _∷_, _++_, map}
+use Prim.Native.Nat.{ℕ, zero, suc, _+_, _-_, _*_, _≤_, _<_, max}
+use native.Mathlib.Omega.{arith}
+use lib.Dec.{eqb, ltb, leb}
+use lib.ListN.{length, getD}
+use lib.Seq.{paste}
+use borrow.Author.Tests.{eq-eqb, ne-eqb, lt-ltb, le-ltb, ltb-true, ltb-false, leb-true, leb-false}
+use Rattle.records.specs.Lists.{In, filterBy, all, elem}
+use Rattle.records.specs.Memory.{over}
+use Rattle.records.proofs.Lists.{or-l, or-r}
+use Rattle.literals.specs.declared.Clause.the-variants.{Delete}
+use Rattle.literals.specs.Domain.{Fact, sameFact, Domain}
+use Rattle.literals.specs.Table.{rowsIn, Bounded}
+use Rattle.verdict.specs.Machine.{GroundAction, Event, State, isOpen, conditionsHold, overAllHold, independent, stepFacts, factsAfter, closeAll, openedBy, next, topWeight}
+use Rattle.machine.specs.declared.Open.{Open}
+use Rattle.machine.specs.declared.Waiting.{Waiting}
+use Rattle.machine.specs.declared.State.{State as Holding}
+use Rattle.machine.specs.Play.{maxFacts, maxRunning, workBytes, forbidden, tooLarge, heldBytes}
+use Rattle.machine.specs.Coded.{factRow, openOf, waitingOf, atMost, topFrom, FactFits}
+use Rattle.machine.specs.Stepping.{holdingOf, Kept, closeStop, closeState, closeWaiting, closeWeight, Leaves}
+use Rattle.machine.proofs.HeldBytes.{fits-few, held-rows, held-anew}
+use Rattle.machine.proofs.TopWeights.{top-after}
+use Rattle.machine.proofs.NextKept.{kept-next}
+
+-- ---- what forbids a step
+
+module _ (D : Domain) (s : State) (es : List Event) where
+  -- by the tests in their order
+  tested : (a b c i : Bool) → all (isOpen (s .running)) es ≡ a → all (conditionsHold D (s .facts)) es ≡ b → all (overAllHold D (s .facts)) (s .running) ≡ c → independent D es ≡ i
+      → cond (not a) 57 (cond (not (b && c)) 55 (cond (not i) 56 0)) ≡ forbidden D s es
+  unfolding forbidden
+  tested a b c i p q r t = rw (p, q, r, t)
+
+  pub not-open : all (isOpen (s .running)) es ≡ false → 57 ≡ forbidden D s es
+  not-open p = tested false _ _ _ p refl refl refl
+
+  pub not-met : all (isOpen (s .running)) es ≡ true → all (conditionsHold D (s .facts)) es ≡ false → 55 ≡ forbidden D s es
+  not-met p q = tested true false _ _ p q refl refl
+
+  pub not-kept : all (isOpen (s .running)) es ≡ true → all (conditionsHold D (s .facts)) es ≡ true → all (overAllHold D (s .facts)) (s .running) ≡ false → 55 ≡ forbidden D s es
+  not-kept p q r = tested true true false _ p q r refl
+
+  pub not-apart : all (isOpen (s .running)) es ≡ true → all (conditionsHold D (s .facts)) es ≡ true → all (overAllHold D (s .facts)) (s .running) ≡ true → independent D es ≡ false → 56 ≡ forbidden D s es
+  not-apart p q r t = tested true true true false p q r t
+
+  pub nothing-forbids : all (isOpen (s .running)) es ≡ true → all (conditionsHold D (s .facts)) es ≡ true → all (overAllHold D (s .facts)) (s .running) ≡ true → independent D es ≡ true → 0 ≡ forbidden D s es
+  nothing-forbids p q r t = tested true true true true p q r t
+
+-- ---- what a close leaves
+
+module _ (D : Domain) (s : State) (es : List Event) (old : List ℕ) (w : ℕ) where
+  -- a step that is refused leaves all as it was
+  refused-by : (n : ℕ) → closeStop D s es ≡ n → (n ≡ 0 → ⊥) → (state : Holding) → state ≡ holdingOf s es → (work : List ℕ) → work ≡ over (heldBytes (s .facts)) old → Leaves D s es old w n state w work
+  unfolding closeState closeWaiting closeWeight
+  refused-by n e z state h work m =
+      let f : eqb (closeStop D s es) 0 ≡ false = rw e (ne-eqb n 0 z) in
+      record {
+        number-is = sym e;
+        state-is = rw f h;
+        weight-is = rw f;
+        work-is = rw f m;
+      }
+
+  pub leaves-forbidden : (n : ℕ) → n ≡ forbidden D s es → (n ≡ 0 → ⊥) → (state : Holding) → state ≡ holdingOf s es → (work : List ℕ) → work ≡ over (heldBytes (s .facts)) old → Leaves D s es old w n state w work
+  unfolding closeStop
+  leaves-forbidden n e z state h work m = let f : eqb (forbidden D s es) 0 ≡ false = rw (sym e) (ne-eqb n 0 z) in refused-by n (rw f (sym e)) z state h work m
+
+  module _ (free : forbidden D s es ≡ 0) where
+    stop-large : (b : Bool) → tooLarge (next D s es) ≡ b → closeStop D s es ≡ cond b 52 0
+    unfolding closeStop
+    stop-large b e = rw (free, e)
+
+    pub leaves-large : tooLarge (next D s es) ≡ true → (state : Holding) → state ≡ holdingOf s es → (work : List ℕ) → work ≡ over (heldBytes (s .facts)) old → Leaves D s es old w 52 state w work
+    leaves-large e state h work m = refused-by 52 (stop-large true e) (λ z. omega arith) state h work m
+
+    pub leaves-next : tooLarge (next D s es) ≡ false → (state : Holding) → state ≡ holdingOf (next D s es) [] → (weight : ℕ) → weight ≡ max w (topWeight D (next D s es .facts))
+        → (work : List ℕ) → work ≡ over (heldBytes (next D s es .facts)) old → Leaves D s es old w 0 state weight work
+    unfolding closeState closeWaiting closeWeight
+    leaves-next e state h weight g work m =
+        let f : eqb (closeStop D s es) 0 ≡ true = rw (stop-large false e) in
+        record {
+          number-is = sym (stop-large false e);
+          state-is = rw f h;
+          weight-is = rw f g;
+          work-is = rw f m;
+        }
+
+-- ---- how large the next state is
+
+module _ (D : Domain) (s : State) (es : List Event) where
+  pub many-facts : (n : ℕ) → n ≡ atMost 1024 (length (factsAfter D (s .facts) es)) → 1024 < n → tooLarge (next D s es) ≡ true
+  unfolding next
+  many-facts n e l = or-l _ (lt-ltb maxFacts (length (factsAfter D (s .facts) es)) (go (ltb 1024 (length (factsAfter D (s .facts) es))) refl e))
+    where
+      go : (b : Bool) → ltb 1024 (length (factsAfter D (s .facts) es)) ≡ b → n ≡ cond b 1025 (length (factsAfter D (s .facts) es)) → 1024 < length (factsAfter D (s .facts) es)
+      go true q k = ltb-true 1024 _ q
+      go false q k = omega arith
+
+  pub few-facts : (n : ℕ) → n ≡ atMost 1024 (length (factsAfter D (s .facts) es)) → n ≤ 1024 → n ≡ length (factsAfter D (s .facts) es)
+  few-facts n e l = go (ltb 1024 (length (factsAfter D (s .facts) es))) e
+    where
+      go : (b : Bool) → n ≡ cond b 1025 (length (factsAfter D (s .facts) es)) → n ≡ length (factsAfter D (s .facts) es)
+      go true k = absurd (omega arith)
+      go false k = k
+
+  pub many-open : false ≡ leb (length (closeAll es (s .running) ++ openedBy D es)) 32 → tooLarge (next D s es) ≡ true
+  unfolding next
+  many-open e = let l = leb-false (length (closeAll es (s .running) ++ openedBy D es)) 32 (sym e) in or-r (ltb maxFacts (length (factsAfter D (s .facts) es))) (lt-ltb maxRunning _ l)
+
+  pub not-large : length (factsAfter D (s .facts) es) ≤ 1024 → length (closeAll es (s .running) ++ openedBy D es) ≤ 32 → tooLarge (next D s es) ≡ false
+  unfolding next
+  not-large l k = rw (le-ltb maxFacts (length (factsAfter D (s .facts) es)) l, le-ltb maxRunning (length (closeAll es (s .running) ++ openedBy D es)) k)
+
+-- ---- a step that is taken, from what the calls promise
+
+module _ (D : Domain) (B : Bounded D) (s : State) (es : List Event) (old : List ℕ) (w : ℕ) (kept : Kept D s es) (free : forbidden D s es ≡ 0) where
+  abbrev after : List Fact
+  after = factsAfter D (s .facts) es
+
+  abbrev running : List GroundAction
+  running = closeAll es (s .running) ++ openedBy D es
+
+  holding-next : (n : ℕ) (o : Open) (v : Waiting) → n ≡ length after → o ≡ openOf running → v ≡ waitingOf [] → record { facts = n; running = o; waiting = v } ≡ holdingOf (next D s es) []
+  unfolding next
+  holding-next n o v e f g i = record { facts = e i; running = f i; waiting = g i }
+
+  facts-next : next D s es .facts ≡ after
+  unfolding next
+  facts-next = refl
+
+  pub after-fit : length after ≤ 1024 → length running ≤ 32 → (f : Fact) → In f after → FactFits D f
+  after-fit l k f m = kept-next D B s es kept (not-large D s es l k) .facts f (rw facts-next m)
+
+  module _ (n : ℕ) (c : n ≡ atMost 1024 (length after)) (l : n ≤ 1024) (fits : true ≡ leb (length running) 32) where
+    pub size-is : n ≡ length after
+    size-is = few-facts D s es n c l
+
+    pub after-few : length after ≤ 1024
+    after-few = let e = size-is in omega arith
+
+    pub running-short : length running ≤ 32
+    running-short = leb-true (length running) 32 (sym fits)
+
+    pub after-fits : (f : Fact) → In f after → FactFits D f
+    after-fits = after-fit after-few running-short
+
+    module _ (memory : List ℕ) (m : memory ≡ heldBytes after) where
+      pub memory-rows : rowsIn n memory ≡ map factRow after
+      memory-rows = ap (λ (k : ℕ). rowsIn k memory) size-is ∙ ap (rowsIn (length after)) m ∙ held-rows after (fits-few B after after-fits)
+
+      pub leaves-taken : (o : Open) → o ≡ openOf running → (v : Waiting) → v ≡ waitingOf [] → (weight k : ℕ)
+          → k ≡ length (filterBy (λ (f : Fact). not (elem sameFact f (stepFacts D es Delete))) (s .facts)) → topWeight D (s .facts) ≤ w → weight ≡ max w (topFrom D after k)
+          → (work work′ : List ℕ) → work ≡ over (heldBytes (s .facts)) old → work′ ≡ paste work 0 memory (length memory)
+          → Leaves D s es old w 0 (record { facts = n; running = o; waiting = v }) weight work′
+      leaves-taken o oe v ve weight k ke under we work work′ b be =
+          let few = fits-few B (s .facts) (kept .facts) in
+          leaves-next D s es old w free (not-large D s es after-few running-short)
+          (record { facts = n; running = o; waiting = v })
+          (holding-next n o v size-is oe ve)
+          weight
+          (we ∙ ap (λ (j : ℕ). max w (topFrom D after j)) ke ∙ sym (top-after D (s .facts) es w under) ∙ sym (ap (λ (fs : List Fact). max w (topWeight D fs)) facts-next))
+          work′
+          (be
+          ∙ ap (λ (x : List ℕ). paste x 0 memory (length memory)) b
+          ∙ ap (λ (x : List ℕ). paste (over (heldBytes (s .facts)) old) 0 x (length x)) m
+          ∙ held-anew (s .facts) after few (fits-few B after after-fits) (kept .facts-few) after-few old
+          ∙ sym (ap (λ (fs : List Fact). over (heldBytes fs) old) facts-next))

@@ -1,0 +1,78 @@
+-- The bytes of facts in work memory: rows of 8, zeros to 8,192, the rest untouched. Assumes nothing.
+use mathlib.Core.Path.{_≡_, refl, sym, ap, _∙_}
+use mathlib.Core.List.{List, [], _∷_, _++_, map, flatMap, append-assoc}
+use Prim.Native.Nat.{ℕ, zero, suc, _+_, _-_, _*_, _≤_}
+use native.Mathlib.Omega.{arith}
+use lib.ListN.{length, take, drop, replicate, length-append, length-replicate}
+use lib.Seq.{paste, take-all, drop-at}
+use Rattle.records.specs.Memory.{over}
+use Rattle.literals.specs.Domain.{Fact, Domain}
+use Rattle.literals.specs.Table.{rowsIn, Bounded}
+use Rattle.literals.proofs.Bounds.{arity-six}
+use Rattle.literals.proofs.Tables.{length-flat, rows-flat}
+use Rattle.verdict.specs.Judged.{objectNumbers, factBytes}
+use Rattle.records.specs.Lists.{In}
+use Rattle.verdict.specs.Machine.{Event, State}
+use Rattle.machine.specs.declared.State.{State as Holding}
+use Rattle.machine.specs.Play.{workBytes, maxFacts, heldBytes}
+use Rattle.machine.specs.Coded.{factRow, Few, FactFits}
+use Rattle.machine.specs.Stepping.{holdingOf, Kept}
+use Rattle.machine.proofs.FactRows.{length-fact-row}
+
+-- facts of the domain have room in a row
+pub fits-few : {D : Domain} → Bounded D → (fs : List Fact) → ((f : Fact) → In f fs → FactFits D f) → Few fs
+fits-few {D} B fs h f m = let e = h f m .sized in let k = arity-six D (B .arities) (f .rel) in omega arith
+
+pub bytes-flat : (fs : List Fact) → factBytes fs ≡ flatMap factRow fs
+unfolding factBytes flatMap
+bytes-flat [] = refl
+bytes-flat (f ∷ fs) =
+    let n : List ℕ = objectNumbers (f .args) in
+    let r : List ℕ = replicate (6 - length (f .args)) 255 in
+    ap {B = List ℕ} (λ l. f .rel ∷ length (f .args) ∷ l) (ap (λ (t : List ℕ). n ++ (r ++ t)) (bytes-flat fs) ∙ sym (append-assoc n r (flatMap factRow fs)))
+
+module _ (fs : List Fact) (h : Few fs) where
+  length-bytes : length (factBytes fs) ≡ 8 * length fs
+  length-bytes = ap length (bytes-flat fs) ∙ length-flat factRow fs (λ f m. length-fact-row f (h f m))
+
+  -- the rows in front of anything
+  pub bytes-rows : (rest : List ℕ) → rowsIn (length fs) (factBytes fs ++ rest) ≡ map factRow fs
+  bytes-rows rest = ap (λ (b : List ℕ). rowsIn (length fs) (b ++ rest)) (bytes-flat fs) ∙ rows-flat factRow fs rest (λ f m. length-fact-row f (h f m))
+
+  pub held-rows : rowsIn (length fs) (heldBytes fs) ≡ map factRow fs
+  unfolding heldBytes
+  held-rows = bytes-rows (replicate (workBytes - length (factBytes fs)) 0)
+
+  module _ (few : length fs ≤ maxFacts) where
+    pub length-held : length (heldBytes fs) ≡ workBytes
+    unfolding heldBytes
+    length-held =
+        let l = length-bytes in
+        let a = length-append (factBytes fs) (replicate (workBytes - length (factBytes fs)) 0) in
+        let r = length-replicate {A = ℕ} (workBytes - length (factBytes fs)) 0 in
+        omega arith
+
+    pub work-rows : (old : List ℕ) → rowsIn (length fs) (over (heldBytes fs) old) ≡ map factRow fs
+    unfolding over heldBytes
+    work-rows old =
+        ap (rowsIn (length fs)) (append-assoc (factBytes fs) (replicate (workBytes - length (factBytes fs)) 0) (drop (length (heldBytes fs)) old))
+        ∙ bytes-rows (replicate (workBytes - length (factBytes fs)) 0 ++ drop (length (heldBytes fs)) old)
+
+-- other facts in their place
+pub held-anew : (fs gs : List Fact) → Few fs → Few gs → length fs ≤ maxFacts → length gs ≤ maxFacts → (old : List ℕ)
+    → paste (over (heldBytes fs) old) 0 (heldBytes gs) (length (heldBytes gs)) ≡ over (heldBytes gs) old
+unfolding over
+held-anew fs gs hf hg kf kg old =
+    let n = length-held fs hf kf in
+    let m = length-held gs hg kg in
+    let t = take-all (length (heldBytes gs)) (heldBytes gs) (omega arith) in
+    let z : 0 + length (heldBytes gs) ≡ length (heldBytes fs) = omega arith in
+    let e : length (heldBytes fs) ≡ length (heldBytes gs) = omega arith in
+    ap (λ (b : List ℕ). b ++ drop (0 + length (heldBytes gs)) (heldBytes fs ++ drop (length (heldBytes fs)) old)) t
+    ∙ ap (λ (b : List ℕ). heldBytes gs ++ b) (ap (λ (k : ℕ). drop k (heldBytes fs ++ drop (length (heldBytes fs)) old)) z ∙ drop-at (heldBytes fs) (drop (length (heldBytes fs)) old) (length (heldBytes fs)) refl ∙ ap (λ (k : ℕ). drop k old) e)
+
+-- the rows of the facts that a state of the machine holds in work memory
+pub state-rows : (D : Domain) → Bounded D → (s : State) (es : List Event) → Kept D s es → (holding : Holding) → holding ≡ holdingOf s es → (work old : List ℕ) → work ≡ over (heldBytes (s .facts)) old
+    → rowsIn (holding .facts) work ≡ map factRow (s .facts)
+state-rows D B s es k holding is work old e =
+    ap (λ (h : Holding). rowsIn (h .facts) work) is ∙ ap (rowsIn (length (s .facts))) e ∙ work-rows (s .facts) (fits-few B (s .facts) (k .facts)) (k .facts-few) old

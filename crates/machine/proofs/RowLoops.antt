@@ -1,0 +1,134 @@
+-- Laws of loops over rows of 8 bytes, and of the fact that a literal's row is bound to. Assumes nothing.
+use mathlib.Core.Path.{_≡_, refl, sym, ap, ap₂, _∙_}
+use mathlib.Core.Bool.{Bool, true, false, _&&_, _||_, cond}
+use mathlib.Core.List.{List, [], _∷_, _++_, map, append-nil}
+use Prim.Native.Nat.{ℕ, zero, suc, _+_, _-_, _*_, _≤_, _<_}
+use native.Mathlib.Numerals.{add-one}
+use native.Mathlib.Nat.{sub-zero}
+use native.Mathlib.Omega.{arith}
+use lib.Dec.{ltb}
+use lib.ListN.{length, getD, set, take, drop, replicate, length-append, length-drop, length-map, length-replicate, getD-replicate, List·getD-append}
+use lib.Seq.{paste, take-all, length-take-le, getD-take, getD-drop, getD-append-add}
+use borrow.Author.Tests.{lt-ltb, le-ltb}
+use Rattle.records.specs.Lists.{any, all}
+use Rattle.records.proofs.Memory.{paste-more}
+use Rattle.literals.specs.declared.Counts.{Counts}
+use Rattle.literals.specs.Table.{rowsIn}
+use Rattle.literals.proofs.Rows.{length-part, part-at, rows-more, rows-end}
+use Rattle.machine.specs.Coded.{endRow, objectOf, boundBytes, boundRow}
+
+-- ---- a test on the rows of a memory, from row i on
+
+module _ (p : List ℕ → Bool) (t : List ℕ) (n i : ℕ) where
+  pub any-end : n ≤ i → any p (rowsIn (n - i) (drop (8 * i) t)) ≡ false
+  any-end h = rw (rows-end (drop (8 * i) t) n i h)
+
+  pub all-end : n ≤ i → all p (rowsIn (n - i) (drop (8 * i) t)) ≡ true
+  all-end h = rw (rows-end (drop (8 * i) t) n i h)
+
+  module _ (h : i < n) where
+    pub any-hit : p (take 8 (drop (8 * i) t)) ≡ true → any p (rowsIn (n - i) (drop (8 * i) t)) ≡ true
+    any-hit e = rw (rows-more t n i h, e)
+
+    pub any-miss : p (take 8 (drop (8 * i) t)) ≡ false → any p (rowsIn (n - i) (drop (8 * i) t)) ≡ any p (rowsIn (n - (i + 1)) (drop (8 * (i + 1)) t))
+    any-miss e = rw (rows-more t n i h, e)
+
+    pub all-miss : p (take 8 (drop (8 * i) t)) ≡ false → all p (rowsIn (n - i) (drop (8 * i) t)) ≡ false
+    all-miss e = rw (rows-more t n i h, e)
+
+    pub all-hit : p (take 8 (drop (8 * i) t)) ≡ true → all p (rowsIn (n - i) (drop (8 * i) t)) ≡ all p (rowsIn (n - (i + 1)) (drop (8 * (i + 1)) t))
+    all-hit e = rw (rows-more t n i h, e)
+
+pub any-first : (p : List ℕ → Bool) (t : List ℕ) (n : ℕ) → any p (rowsIn (n - 0) (drop (8 * 0) t)) ≡ any p (rowsIn n t)
+any-first p t n = ap (λ (k : ℕ). any p (rowsIn k t)) (sub-zero n)
+
+pub all-first : (p : List ℕ → Bool) (t : List ℕ) (n : ℕ) → all p (rowsIn (n - 0) (drop (8 * 0) t)) ≡ all p (rowsIn n t)
+all-first p t n = ap (λ (k : ℕ). all p (rowsIn k t)) (sub-zero n)
+
+-- ---- the fact that a literal's row is bound to
+
+pub object-in : (ground : List ℕ) (v : ℕ) → v < 16 → getD ground (v + 1) 0 ≡ objectOf ground v
+object-in ground v h = rw (lt-ltb v 16 h)
+
+pub object-out : (ground : List ℕ) (v : ℕ) → 16 ≤ v → 0 ≡ objectOf ground v
+object-out ground v h = rw (le-ltb v 16 h)
+
+map-at : (f : ℕ → ℕ) (l : List ℕ) (i : ℕ) → i < length l → getD (map f l) i 0 ≡ f (getD l i 0)
+map-at f [] i h = absurd (omega arith)
+map-at f (x ∷ xs) zero h = refl
+map-at f (x ∷ xs) (suc i) h = map-at f xs i (omega arith)
+
+module _ (arity : ℕ) (ground t : List ℕ) (at : ℕ) (h : at + 8 ≤ length t) (g : arity ≤ 6) where
+  abbrev row : List ℕ
+  row = take 8 (drop at t)
+
+  abbrev objects : List ℕ
+  objects = map (objectOf ground) (take arity (drop 2 row))
+
+  length-arguments : length (take arity (drop 2 row)) ≡ arity
+  length-arguments = let l = length-part t at h in length-take-le arity (drop 2 row) (simp length-drop (omega arith))
+
+  length-objects : length objects ≡ arity
+  length-objects = length-map (take arity (drop 2 row)) (objectOf ground) ∙ length-arguments
+
+  pub length-bound : length (boundBytes arity ground row) ≡ 8
+  length-bound =
+      let l = length-objects in
+      let a = length-append objects (replicate (6 - arity) 255) in
+      let r = length-replicate {A = ℕ} (6 - arity) 255 in
+      omega arith
+
+  pub bound-first : (i : ℕ) → i ≡ 0 → getD t (at + 1) 0 ≡ getD (boundBytes arity ground row) i 0
+  bound-first i e = sym (part-at t at h 1 (omega arith)) ∙ ap (λ (i : ℕ). getD (boundBytes arity ground row) i 0) (sym e)
+
+  pub bound-object : (i r : ℕ) → (i ≡ 0 → ⊥) → (i ≡ 1 → ⊥) → i < 2 + arity → r ≡ objectOf ground (getD t (at + i) 0) → r ≡ getD (boundBytes arity ground row) i 0
+  bound-object zero r n o l e = absurd (n refl)
+  bound-object (suc zero) r n o l e = absurd (o refl)
+  bound-object (suc (suc k)) r n o l e =
+      let m = length-arguments in
+      let q = length-objects in
+      let z : suc (suc k) ≡ 2 + k = omega arith in
+      e
+      ∙ ap (λ (i : ℕ). objectOf ground (getD t (at + i) 0)) z
+      ∙ sym
+      (List·getD-append objects (replicate (6 - arity) 255) 0 k (omega arith)
+      ∙ map-at (objectOf ground) (take arity (drop 2 row)) k (omega arith)
+      ∙ ap (objectOf ground) (getD-take arity (drop 2 row) k 0 (omega arith) ∙ getD-drop 2 row k 0 ∙ part-at t at h (2 + k) (omega arith)))
+
+  pub bound-fill : (i : ℕ) → i < 8 → (i ≡ 0 → ⊥) → (i ≡ 1 → ⊥) → 2 + arity ≤ i → 255 ≡ getD (boundBytes arity ground row) i 0
+  bound-fill zero l n o m = absurd (n refl)
+  bound-fill (suc zero) l n o m = absurd (o refl)
+  bound-fill (suc (suc k)) l n o m =
+      let q = length-objects in
+      let e : k ≡ length objects + (k - arity) = omega arith in
+      sym
+      (ap (λ (i : ℕ). getD (objects ++ replicate (6 - arity) 255) i 0) e
+      ∙ getD-append-add objects (replicate (6 - arity) 255) (k - arity) 0
+      ∙ getD-replicate (6 - arity) (k - arity) 255 0 (omega arith))
+
+-- the row that is filled, i bytes of it so far
+module _ (arity : ℕ) (ground t : List ℕ) (at : ℕ) (h : at + 8 ≤ length t) (g : arity ≤ 6) (fact : List ℕ) (i : ℕ)
+    (e : fact ≡ paste (replicate 8 255) 0 (boundBytes arity ground (take 8 (drop at t))) i) where
+  pub bound-more : (r : ℕ) → i < 8 → r ≡ getD (boundBytes arity ground (take 8 (drop at t))) i 0 → set fact i r ≡ paste (replicate 8 255) 0 (boundBytes arity ground (take 8 (drop at t))) (i + 1)
+  bound-more r l f =
+      let z : 0 + i ≡ i = omega arith in
+      ap (λ (k : ℕ). set fact k r) (sym z)
+      ∙ paste-more (boundBytes arity ground (take 8 (drop at t))) (replicate 8 255) fact 0 i 8 (omega arith) (length-bound arity ground t at h g) e r l f
+
+  pub bound-all : (arities : List ℕ) → arity ≡ getD arities (getD t (at + 1) 0) 0 → i ≡ 8 → fact ≡ boundRow arities ground (take 8 (drop at t))
+  unfolding boundRow
+  bound-all arities f z =
+      let row : List ℕ = take 8 (drop at t) in
+      e
+      ∙ ap (λ (k : ℕ). paste (replicate 8 255) 0 (boundBytes arity ground row) k) z
+      ∙ ap (λ (l : List ℕ). l ++ []) (take-all 8 (boundBytes arity ground row) (omega (arith, length-bound arity ground t at h g)))
+      ∙ append-nil (boundBytes arity ground row)
+      ∙ ap (λ (n : ℕ). boundBytes n ground row) (f ∙ sym (ap (λ (r : ℕ). getD arities r 0) (part-at t at h 1 (omega arith))))
+
+-- ---- the rows of an action
+
+pub span-inner : (n : Counts) (starts : List ℕ) (i : ℕ) → i + 1 < n .actions → getD starts (i + 1) 0 ≡ endRow n starts i
+span-inner n starts i h = rw (lt-ltb (i + 1) (n .actions) h)
+
+pub span-last : (n : Counts) (starts : List ℕ) (i : ℕ) → n .actions ≤ i + 1 → n .rows ≡ endRow n starts i
+span-last n starts i h = rw (le-ltb (i + 1) (n .actions) h)

@@ -1,0 +1,71 @@
+-- The step's close, as the code holds it. Assumes nothing.
+use mathlib.Core.Path.{_≡_}
+use mathlib.Core.Bool.{cond}
+use mathlib.Core.List.{List, []}
+use Prim.Native.Nat.{ℕ, _≤_, max}
+use lib.Dec.{eqb}
+use lib.ListN.{length}
+use Rattle.records.specs.Lists.{In}
+use Rattle.records.specs.Memory.{over}
+use Rattle.literals.specs.declared.Counts.{Counts}
+use Rattle.literals.specs.Domain.{Fact, Domain}
+use Rattle.verdict.specs.Machine.{Event, State, next, topWeight}
+use Rattle.machine.specs.declared.State.{State as Holding}
+use Rattle.machine.specs.Play.{maxFacts, maxRunning, maxEvents, workBytes, forbidden, tooLarge, heldBytes}
+use Rattle.machine.specs.Coded.{openOf, waitingOf, FactFits, GroundsFit, EventsFit, Ready}
+
+-- ---- what the code holds
+
+abbrev pub holdingOf : State → List Event → Holding
+holdingOf s es = record { facts = length (s .facts); running = openOf (s .running); waiting = waitingOf es }
+
+-- facts, entries and events of the domain, within the player's limits
+pub record Kept (D : Domain) (s : State) (es : List Event) : Type 0 where
+  pub facts : (f : Fact) → In f (s .facts) → FactFits D f
+  pub facts-few : length (s .facts) ≤ maxFacts
+  pub running : GroundsFit D (s .running)
+  pub running-few : length (s .running) ≤ maxRunning
+  pub waiting : EventsFit D es
+  pub waiting-few : length es ≤ maxEvents
+
+-- ---- what the code relies on
+
+-- to close a step, whatever is held
+pub record Closable (n : Counts) (arities sorts starts parts table : List ℕ) (state : Holding) (work : List ℕ) : Type 0 where
+  pub ready : Ready n arities starts table
+  pub sorts-length : length sorts ≡ 64
+  pub parts-length : length parts ≡ 128
+  pub components : n .components ≤ 16
+  pub keys : n .keys ≤ 6
+  pub facts : state .facts ≤ maxFacts
+  pub running : state .running .count ≤ maxRunning
+  pub waiting : state .waiting .count ≤ maxEvents
+  pub room : workBytes ≤ length work
+
+-- ---- the step's close
+
+-- the number that forbids a step, or that it is too large, or 0
+unfoldable pub closeStop : Domain → State → List Event → ℕ
+unfolding forbidden next
+closeStop D s es = cond (eqb (forbidden D s es) 0) (cond (tooLarge (next D s es)) 52 0) (forbidden D s es)
+
+-- the state afterwards, and the events that then wait
+unfoldable pub closeState : Domain → State → List Event → State
+unfolding closeStop next
+closeState D s es = cond (eqb (closeStop D s es) 0) (next D s es) s
+
+unfoldable pub closeWaiting : Domain → State → List Event → List Event
+unfolding closeStop
+closeWaiting D s es = cond (eqb (closeStop D s es) 0) [] es
+
+-- the highest weight then
+unfoldable pub closeWeight : Domain → State → List Event → ℕ → ℕ
+unfolding closeStop next topWeight
+closeWeight D s es w = cond (eqb (closeStop D s es) 0) (max w (topWeight D (next D s es .facts))) w
+
+-- all that a close leaves, of the highest weight w before it and of work memory that was `old` before the run
+pub record Leaves (D : Domain) (s : State) (es : List Event) (old : List ℕ) (w : ℕ) (number : ℕ) (state : Holding) (weight : ℕ) (work : List ℕ) : Type 0 where
+  pub number-is : number ≡ closeStop D s es
+  pub state-is : state ≡ holdingOf (closeState D s es) (closeWaiting D s es)
+  pub weight-is : weight ≡ closeWeight D s es w
+  pub work-is : work ≡ over (heldBytes (closeState D s es .facts)) old

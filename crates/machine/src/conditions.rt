@@ -1,0 +1,287 @@
+// Conditions: whether the facts meet what an action asks at the start, over all, or at the end.
+use super::Open;
+use super::Waiting;
+use super::facts::bound_row;
+use super::facts::has_row;
+use super::facts::span_of;
+use literals::Counts;
+use literals::Time;
+use literals::fields::wide;
+ghost use mathlib.Core.Path.{_≡_};
+ghost use mathlib.Core.List.{List, map};
+ghost use Prim.Native.Nat.{ℕ, _+_, _*_, _<_, _≤_};
+ghost use lib.ListN.{length, getD, take, drop};
+ghost use Rattle.records.specs.Lists.{all};
+ghost use Rattle.literals.specs.declared.Time.the-variants.{OverAll, AtEnd};
+ghost use Rattle.literals.specs.Domain.{Fact, Domain};
+ghost use Rattle.literals.specs.Table.{rowsIn};
+ghost use Rattle.classes.specs.Classes.{momentNumber};
+ghost use Rattle.verdict.specs.Machine.{GroundAction, Event, conditionsHold, overAllHold};
+ghost use Rattle.machine.specs.RunFile.{momentOf};
+ghost use Rattle.machine.specs.Coded.{factRow, groundRow, openOf, waitingOf, GroundFits, GroundsFit, EventsFit, Lent, Ready, clauseFor, timeOf, conditionMet, rowMet, asked};
+
+// The clause of a role byte over all.
+fn clause_over_all(role: u8) -> u8
+    ensures { λ r. ⌜ r ≡ clauseFor OverAll role ⌝ }
+{
+    if role < 4 {
+        return 0;
+    }
+    if role < 6 {
+        return role - 3;
+    }
+    0
+}
+
+// The clause of a role byte at the end, where the over-all conditions count too.
+fn clause_at_end(role: u8) -> u8
+    ensures { λ r. ⌜ r ≡ clauseFor AtEnd role ⌝ }
+{
+    if role < 4 {
+        return 0;
+    }
+    if role < 6 {
+        return role - 3;
+    }
+    if role < 10 {
+        return role - 5;
+    }
+    0
+}
+
+// 1 to 4 for a true condition, false condition, add or delete that counts then, 0 for none: of a role byte.
+pub fn clause_for(time: Time, role: u8) -> u8
+    ensures { λ r. ⌜ r ≡ clauseFor time role ⌝ }
+{
+    match time {
+        Time::AtStart => {
+            if role < 4 {
+                return role + 1;
+            }
+            0
+        },
+        Time::OverAll => clause_over_all(role),
+        Time::AtEnd => clause_at_end(role),
+    }
+}
+
+// The time of an event's literals, by the byte of its moment: 1 is an end.
+pub fn time_at(moment: u8) -> Time
+    ensures { λ r. ⌜ r ≡ timeOf (momentOf moment) ⌝ }
+{
+    if moment == 1 {
+        return Time::AtEnd;
+    }
+    Time::AtStart
+}
+
+// Whether the first n rows of the work memory meet a condition: clause 1 asks for its fact, clause 2 for its absence.
+fn condition_met(clause: u8, row: [u8; 8], work: &[u8], n: usize) -> bool
+    requires { ⌜ 8 * n ≤ length (now work) ⌝ }
+    ensures { λ r. ⌜ r ≡ conditionMet clause row (rowsIn n (now (work .entry))) ⌝ }
+{
+    if clause == 1 {
+        return has_row(work, n, row);
+    }
+    if clause == 2 {
+        return !has_row(work, n, row);
+    }
+    true
+}
+
+// Whether they meet the literal's row at an offset; only a condition is bound to its objects.
+fn row_met(
+    time: Time,
+    arities: &[u8],
+    ground: &[u8],
+    rows: &[u8],
+    row: usize,
+    work: &[u8],
+    n: usize,
+) -> bool
+    requires { ⌜ (length (now arities) ≡ 64) × ((i : ℕ) → getD (now arities) i 0 ≤ 6) × (length (now ground) ≡ 17) × (row + 8 ≤ length (now rows)) × (8 * n ≤ length (now work)) ⌝ }
+    ensures { λ r. ⌜ r ≡ rowMet time (now (arities .entry)) (now (ground .entry)) (rowsIn n (now (work .entry))) (take 8 (drop row (now (rows .entry)))) ⌝ }
+{
+    let clause = clause_for(time, rows[row]);
+    if clause == 0 {
+        return true;
+    }
+    if 2 < clause {
+        return true;
+    }
+    condition_met(clause, bound_row(arities, ground, rows, row), work, n)
+}
+
+// Whether they meet the first k rows of an action's literals.
+fn conditions_met(
+    time: Time,
+    arities: &[u8],
+    ground: &[u8],
+    rows: &[u8],
+    k: usize,
+    work: &[u8],
+    n: usize,
+) -> bool
+    requires { ⌜ (length (now arities) ≡ 64) × ((i : ℕ) → getD (now arities) i 0 ≤ 6) × (length (now ground) ≡ 17) × (8 * k ≤ length (now rows)) × (8 * n ≤ length (now work)) ⌝ }
+    ensures { λ r. ⌜ r ≡ all (rowMet time (now (arities .entry)) (now (ground .entry)) (rowsIn n (now (work .entry)))) (rowsIn k (now (rows .entry))) ⌝ }
+{
+    for i in 0..k {
+        if !row_met(time, arities, ground, rows, 8 * i, work, n) {
+            return false;
+        }
+    }
+    true
+}
+
+// Whether the facts in the work memory meet what an action with its objects asks at this time.
+pub fn ground_met(
+    counts: Counts,
+    arities: &[u8],
+    starts: &[usize],
+    table: &[u8],
+    time: Time,
+    ground: &[u8],
+    work: &[u8],
+    n: usize,
+) -> bool
+    requires { ⌜ Ready counts (now arities) (now starts) (now table) × (length (now ground) ≡ 17) × (8 * n ≤ length (now work)) ⌝ }
+    ensures { λ r. ⌜ ((D : Domain) (variables sorts parts : List ℕ) (g : GroundAction) (fs : List Fact)
+        → Lent D counts (now (arities .entry)) variables sorts (now (starts .entry)) parts (now (table .entry)) → GroundFits D g → now (ground .entry) ≡ groundRow g
+        → rowsIn n (now (work .entry)) ≡ map factRow fs → r ≡ asked D time g fs) ⌝ }
+{
+    let action = wide(ground[0]);
+    if counts.actions <= action {
+        return false;
+    }
+    let span = span_of(counts, starts, action);
+    let from = 8 * span.from;
+    let to = 8 * span.to;
+    conditions_met(
+        time,
+        arities,
+        ground,
+        &table[from..to],
+        span.to - span.from,
+        work,
+        n,
+    )
+}
+
+// Whether they meet the conditions of the waiting event i.
+fn event_met(
+    counts: Counts,
+    arities: &[u8],
+    starts: &[usize],
+    table: &[u8],
+    moments: &[u8],
+    rows: &[u8],
+    i: usize,
+    work: &[u8],
+    n: usize,
+) -> bool
+    requires { ⌜ Ready counts (now arities) (now starts) (now table) × (length (now moments) ≡ 16) × (length (now rows) ≡ 272) × (i < 16) × (8 * n ≤ length (now work)) ⌝ }
+    ensures { λ r. ⌜ ((D : Domain) (variables sorts parts : List ℕ) (e : Event) (fs : List Fact)
+        → Lent D counts (now (arities .entry)) variables sorts (now (starts .entry)) parts (now (table .entry)) → GroundFits D (e .ground)
+        → getD (now (moments .entry)) i 0 ≡ momentNumber (e .moment) → take 17 (drop (17 * i) (now (rows .entry))) ≡ groundRow (e .ground)
+        → rowsIn n (now (work .entry)) ≡ map factRow fs → r ≡ conditionsHold D fs e) ⌝ }
+{
+    let at = 17 * i;
+    let end = at + 17;
+    ground_met(
+        counts,
+        arities,
+        starts,
+        table,
+        time_at(moments[i]),
+        &rows[at..end],
+        work,
+        n,
+    )
+}
+
+// Whether they meet the conditions of every waiting event.
+pub fn events_met(
+    counts: Counts,
+    arities: &[u8],
+    starts: &[usize],
+    table: &[u8],
+    waiting: Waiting,
+    work: &[u8],
+    n: usize,
+) -> bool
+    requires { ⌜ Ready counts (now arities) (now starts) (now table) × (8 * n ≤ length (now work)) ⌝ }
+    ensures { λ r. ⌜ ((D : Domain) (variables sorts parts : List ℕ) (es : List Event) (fs : List Fact)
+        → Lent D counts (now (arities .entry)) variables sorts (now (starts .entry)) parts (now (table .entry)) → waiting ≡ waitingOf es → EventsFit D es → length es ≤ 16
+        → rowsIn n (now (work .entry)) ≡ map factRow fs → r ≡ all (conditionsHold D fs) es) ⌝ }
+{
+    let count = waiting.count;
+    if 16 < count {
+        return false;
+    }
+    let moments = waiting.moments;
+    let rows = waiting.rows;
+    for i in 0..count {
+        if !event_met(counts, arities, starts, table, &moments, &rows, i, work, n) {
+            return false;
+        }
+    }
+    true
+}
+
+// Whether they meet the over-all conditions of the open entry i.
+fn entry_met(
+    counts: Counts,
+    arities: &[u8],
+    starts: &[usize],
+    table: &[u8],
+    rows: &[u8],
+    i: usize,
+    work: &[u8],
+    n: usize,
+) -> bool
+    requires { ⌜ Ready counts (now arities) (now starts) (now table) × (length (now rows) ≡ 544) × (i < 32) × (8 * n ≤ length (now work)) ⌝ }
+    ensures { λ r. ⌜ ((D : Domain) (variables sorts parts : List ℕ) (g : GroundAction) (fs : List Fact)
+        → Lent D counts (now (arities .entry)) variables sorts (now (starts .entry)) parts (now (table .entry)) → GroundFits D g
+        → take 17 (drop (17 * i) (now (rows .entry))) ≡ groundRow g → rowsIn n (now (work .entry)) ≡ map factRow fs → r ≡ overAllHold D fs g) ⌝ }
+{
+    let at = 17 * i;
+    let end = at + 17;
+    ground_met(
+        counts,
+        arities,
+        starts,
+        table,
+        Time::OverAll,
+        &rows[at..end],
+        work,
+        n,
+    )
+}
+
+// Whether they meet the over-all conditions of everything open.
+pub fn open_met(
+    counts: Counts,
+    arities: &[u8],
+    starts: &[usize],
+    table: &[u8],
+    running: Open,
+    work: &[u8],
+    n: usize,
+) -> bool
+    requires { ⌜ Ready counts (now arities) (now starts) (now table) × (8 * n ≤ length (now work)) ⌝ }
+    ensures { λ r. ⌜ ((D : Domain) (variables sorts parts : List ℕ) (gs : List GroundAction) (fs : List Fact)
+        → Lent D counts (now (arities .entry)) variables sorts (now (starts .entry)) parts (now (table .entry)) → running ≡ openOf gs → GroundsFit D gs → length gs ≤ 32
+        → rowsIn n (now (work .entry)) ≡ map factRow fs → r ≡ all (overAllHold D fs) gs) ⌝ }
+{
+    let count = running.count;
+    if 32 < count {
+        return false;
+    }
+    let rows = running.rows;
+    for i in 0..count {
+        if !entry_met(counts, arities, starts, table, &rows, i, work, n) {
+            return false;
+        }
+    }
+    true
+}

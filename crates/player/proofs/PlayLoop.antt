@@ -1,0 +1,151 @@
+-- The loop over a run file: where it stands, and that it ends as the definition does. Assumes nothing.
+use mathlib.Core.Path.{_≡_, refl, sym, ap, _∙_}
+use mathlib.Core.Bool.{Bool}
+use mathlib.Core.List.{List, [], _++_}
+use Prim.Native.Nat.{ℕ, zero, suc, _+_, _-_, _≤_, _<_}
+use native.Mathlib.Omega.{arith}
+use lib.ListN.{length, drop, replicate, length-replicate}
+use lib.Seq.{paste, take-all, drop-at}
+use Rattle.records.specs.Memory.{over}
+use Rattle.literals.specs.declared.Counts.{Counts}
+use Rattle.literals.specs.Domain.{Domain}
+use Rattle.literals.specs.Table.{Bounded}
+use Rattle.verdict.specs.Judged.{factBytes}
+use Rattle.player.specs.declared.Player.{Player}
+use Rattle.player.specs.declared.Turn.{Turn}
+use Rattle.player.specs.declared.run.Ended.{Ended}
+use Rattle.machine.specs.Play.{workBytes, Playing, beforeRun, Outcome, PlayTurn, goOn, finish, accepted, heldBytes, playStep, playFrom, playRun}
+use Rattle.machine.specs.Coded.{Lent}
+use Rattle.player.specs.Player.{playerOf, Stands, GoesOn, Ends, LeadsTo, Playable, Runnable, endedOf}
+use Rattle.machine.proofs.Loop.{play-more, play-done, play-at}
+use Rattle.player.proofs.Sound.{sound-on, sound-new}
+use Rattle.player.proofs.PlayTurns.{at-is}
+
+-- where the loop stands: it has played a part of the file as `playRun` does, and the fuel that is left suffices
+pub record Loop (D : Domain) (r old : List ℕ) (player : Player) (work : List ℕ) : Type 0 where
+  pub reached : Playing
+  pub stands : Stands D reached player work old
+  pub within : reached .at ≤ length r
+  pub left : ℕ
+  pub enough : length r < reached .at + left
+  pub same : playFrom left D r reached ≡ playRun D r
+
+-- before the first record no fact is held
+pub begins : (D : Domain) (r old work : List ℕ) (player : Player) → player ≡ playerOf D beforeRun → work ≡ over (heldBytes []) old → Loop D r old player work
+unfolding playRun
+begins D r old work player is e =
+    record {
+      reached = beforeRun;
+      stands = record { is = is; memory = e; sound = sound-new D };
+      within = omega arith;
+      left = suc (length r);
+      enough = omega arith;
+      same = refl;
+    }
+
+-- the first bytes overwritten, once and again
+paste-over : (new old : List ℕ) (n : ℕ) → n ≡ length new → paste old 0 new n ≡ over new old
+unfolding over
+paste-over new old n e =
+    let z : 0 + n ≡ length new = omega arith in
+    ap (λ (t : List ℕ). t ++ drop (0 + n) old) (take-all n new (omega arith)) ∙ ap (λ (k : ℕ). new ++ drop k old) z
+
+over-again : (new old : List ℕ) → over new (over new old) ≡ over new old
+unfolding over
+over-again new old = ap (λ (t : List ℕ). new ++ t) (drop-at new (drop (length new) old) (length new) refl)
+
+held-none : replicate 8192 0 ≡ heldBytes []
+unfolding heldBytes factBytes
+held-none = refl
+
+pub cleared : (old work : List ℕ) → work ≡ paste old 0 (replicate 8192 0) 8192 → work ≡ over (heldBytes []) old
+cleared old work e = e ∙ paste-over (replicate 8192 0) old 8192 (sym (length-replicate {A = ℕ} 8192 0)) ∙ ap (λ (z : List ℕ). over z old) held-none
+
+pub cleared-again : (old work : List ℕ) → work ≡ over (heldBytes []) old → work ≡ over (heldBytes []) work
+cleared-again old work e = e ∙ sym (over-again (heldBytes []) old) ∙ ap (over (heldBytes [])) (sym e)
+
+-- the fuel is not used up
+fuel-left : (D : Domain) (r old : List ℕ) (player : Player) (work : List ℕ) (i : Loop D r old player work) → (f : ℕ) × (i .left ≡ suc f)
+fuel-left D r old player work i = go (i .left) refl
+  where
+    go : (n : ℕ) → i .left ≡ n → (f : ℕ) × (i .left ≡ suc f)
+    go zero e = let a = i .enough in let b = i .within in absurd (omega arith)
+    go (suc f) e = (f, e)
+
+-- one turn, from what `step` ensures
+module _ (D : Domain) (B : Bounded D) (r old : List ℕ) (player : Player) (work : List ℕ) (i : Loop D r old player work) (t : Turn) (work′ : List ℕ)
+    (step : (q : Playing) (old : List ℕ) → Stands D q player work old → LeadsTo D (playStep D r q) t work′ old) where
+  record Turned : Type 0 where
+    next : Loop D r old (t .player) work′
+    further : player .at < t .player .at
+    inside : t .player .at ≤ length r
+
+  turned : t .number ≡ 0 → Turned
+  turned z = go (playStep D r (i .reached)) refl (step (i .reached) old (i .stands))
+    where
+      q : Playing
+      q = i .reached
+
+      go : (u : PlayTurn) → playStep D r q ≡ u → LeadsTo D u t work′ old → Turned
+      go (goOn n) e h =
+          let g = play-at D r q n e in
+          let f = fuel-left D r old player work i in
+          let s : Stands D n (t .player) work′ old = record { is = h .is; memory = h .memory; sound = sound-on D B r q n (i .stands .sound) e } in
+          let a = at-is D r q player work old (i .stands) in
+          let b = at-is D r n (t .player) work′ old s in
+          let l = i .enough in
+          let k = f .1 in
+          record {
+            next =
+                record {
+                  reached = n;
+                  stands = s;
+                  within = g .1;
+                  left = f .0;
+                  enough = omega arith;
+                  same = sym (play-more (f .0) D r q n e) ∙ ap (λ (m : ℕ). playFrom m D r q) (sym (f .1)) ∙ i .same;
+                };
+            further = omega arith;
+            inside = omega arith;
+          }
+      go (finish o) e h = absurd (h .some (sym (h .number) ∙ z))
+
+  pub loop-on : t .number ≡ 0 → Loop D r old (t .player) work′
+  loop-on z = turned z .next
+
+  pub loop-falls : t .number ≡ 0 → length r - t .player .at < length r - player .at
+  loop-falls z = let f = turned z .further in let n = turned z .inside in omega arith
+
+  pub loop-ends : (t .number ≡ 0 → ⊥) → (ended : Ended) → (ended .number ≡ t .number) × (ended .place ≡ t .player .at) × (ended .steps ≡ t .player .tally .steps) × (ended .weight ≡ t .player .tally .weight)
+      → (ended ≡ endedOf (playRun D r)) × (work′ ≡ over (heldBytes (playRun D r .facts)) old)
+  loop-ends z ended is = go (playStep D r (i .reached)) refl (step (i .reached) old (i .stands))
+    where
+      q : Playing
+      q = i .reached
+
+      go : (u : PlayTurn) → playStep D r q ≡ u → LeadsTo D u t work′ old → (ended ≡ endedOf (playRun D r)) × (work′ ≡ over (heldBytes (playRun D r .facts)) old)
+      go (goOn n) e h = absurd (z (h .number))
+      go (finish o) e h =
+          let f = fuel-left D r old player work i in
+          let p : o ≡ playRun D r = sym (play-done (f .0) D r q o e) ∙ ap (λ (m : ℕ). playFrom m D r q) (sym (f .1)) ∙ i .same in
+          let k : ended ≡ endedOf o = λ j. record { number = (is .0 ∙ h .number) j; place = (is .1 ∙ h .place) j; steps = (is .2 ∙ h .steps) j; weight = (is .3 ∙ h .weight) j } in
+          (k ∙ ap endedOf p, h .memory ∙ ap (λ (x : Outcome). over (heldBytes (x .facts)) old) p)
+
+-- what a turn relies on
+pub playable : {n : Counts} {arities variables sorts starts parts table : List ℕ} {accepts : Bool} {old : List ℕ} (R : Runnable n arities variables sorts starts parts table accepts old)
+    (r : List ℕ) (player : Player) (work : List ℕ) → Loop (R .said) r old player work → Playable n arities variables sorts starts parts table accepts player work
+playable {old = old} R r player work i =
+    record {
+      said = R .said;
+      reached = i .reached;
+      old = old;
+      lent = R .lent;
+      decided = R .decided;
+      table-room = R .table-room;
+      stands = i .stands;
+      room = R .room;
+    }
+
+pub runnable-now : {n : Counts} {arities variables sorts starts parts table : List ℕ} {accepts : Bool} {old : List ℕ} (R : Runnable n arities variables sorts starts parts table accepts old)
+    (work : List ℕ) → length work ≡ length old → Runnable n arities variables sorts starts parts table accepts work
+runnable-now R work e = record { said = R .said; lent = R .lent; decided = R .decided; table-room = R .table-room; room = let r = R .room in omega arith }

@@ -1,0 +1,442 @@
+-- What each record leads to, from what the code's calls promise. Assumes nothing.
+use mathlib.Core.Path.{_≡_, refl, sym, ap, ap₂, _∙_}
+use mathlib.Core.Bool.{Bool, true, false, _&&_, _||_, not, cond, false≢true}
+use mathlib.Core.List.{List, [], _∷_, _++_, map}
+use Prim.Native.Nat.{ℕ, zero, suc, _+_, _-_, _*_, _≤_, _<_, max}
+use native.Mathlib.Numerals.{add-one}
+use native.Mathlib.Omega.{arith}
+use lib.Dec.{eqb, ltb, leb}
+use lib.ListN.{length, take, drop, length-append}
+use lib.Seq.{paste}
+use borrow.Author.Tests.{eqb-true, eqb-false, eq-eqb, ne-eqb, lt-ltb, le-ltb, ltb-true, ltb-false}
+use Rattle.records.specs.Lists.{In, elem}
+use Rattle.records.specs.Memory.{over}
+use Rattle.records.specs.declared.Record.{Record}
+use Rattle.records.specs.declared.Record.the-variants.{Whole, Cut, End}
+use Rattle.records.specs.Record.{recordAt, payload}
+use Rattle.records.proofs.Lists.{and-l, and-r, bool-cases, clash, off}
+use Rattle.literals.specs.Domain.{Fact, sameFact, Domain}
+use Rattle.literals.specs.Decode.{byte}
+use Rattle.literals.specs.Table.{rowsIn, Bounded}
+use Rattle.literals.proofs.Bounds.{arity-six}
+use Rattle.verdict.specs.Machine.{Event, State, next, topWeight}
+use Rattle.machine.specs.declared.State.{State as Holding}
+use Rattle.machine.specs.declared.Waiting.{Waiting}
+use Rattle.player.specs.declared.Player.{Player}
+use Rattle.player.specs.declared.Turn.{Turn}
+use Rattle.machine.specs.RunFile.{objectsRecord, factRecord, eventRecord, stepRecord, endRecord, otherRecord, runKindOf, factOf, eventOf}
+use Rattle.machine.specs.Play.{objectsStop, factStop, eventStop, stepStop, endStop, playRecord, playFound, playStep, Tally, Playing, onward, PlayTurn, goOn, finish, outcomeAt, stopAt, startTally, begin, withObjects, joined, withFact, withEvent, withClose, unless, forbidden, tooLarge, tallied, accepted, afterStep, closeStep, heldBytes}
+use Rattle.machine.specs.Coded.{factRow, hasRow, openOf, waitingOf, Few}
+use Rattle.machine.specs.Stepping.{holdingOf, Kept, closeStop, closeState, closeWaiting, closeWeight, Leaves}
+use Rattle.player.specs.Player.{playerOf, Sound, Stands, GoesOn, Ends, LeadsTo}
+use Rattle.machine.proofs.FactRows.{has-fact}
+use Rattle.machine.proofs.HeldBytes.{fits-few, state-rows}
+use Rattle.machine.proofs.RunRows.{held-more}
+use Rattle.player.proofs.Sound.{FactTaken, fact-taken}
+
+-- ---- a record that is refused, and one that passes
+
+module _ (D : Domain) (q : Playing) (player : Player) (work old : List ℕ) (st : Stands D q player work old) where
+  pub stops-at : (n m : ℕ) → m ≡ n → (m ≡ 0 → ⊥) → LeadsTo D (stopAt n q) (record { number = m; player = player }) work old
+  unfolding playerOf
+  stops-at n m e z =
+      record {
+        number = e;
+        some = λ k. z (e ∙ k);
+        place = ap (λ (x : Player). x .at) (st .is);
+        steps = ap (λ (x : Player). x .tally .steps) (st .is);
+        weight = ap (λ (x : Player). x .tally .weight) (st .is);
+        memory = st .memory;
+      }
+
+  pub stops : (n m : ℕ) (t : PlayTurn) → m ≡ n → (m ≡ 0 → ⊥) → LeadsTo D (unless n q t) (record { number = m; player = player }) work old
+  stops n m t e z = let f : eqb n 0 ≡ false = ne-eqb n 0 (λ k. z (e ∙ k)) in rw f (stops-at n m e z)
+
+pub passes : (D : Domain) (q : Playing) (n m : ℕ) (t : PlayTurn) (turn : Turn) (work old : List ℕ) → m ≡ n → m ≡ 0 → LeadsTo D t turn work old → LeadsTo D (unless n q t) turn work old
+passes D q n m t turn work old e z h = let f : eqb n 0 ≡ true = eq-eqb n 0 (sym e ∙ z) in rw f h
+
+-- what the player holds
+module _ (D : Domain) (q : Playing) {player : Player} {work old : List ℕ} (st : Stands D q player work old) where
+  pub objects-are : q .objects ≡ player .objects
+  unfolding playerOf
+  objects-are = sym (ap (λ (x : Player). x .objects) (st .is))
+
+  pub state-is : player .state ≡ holdingOf (q .state) (q .waiting)
+  unfolding playerOf
+  state-is = ap (λ (x : Player). x .state) (st .is)
+
+  pub waiting-are : length (q .waiting) ≡ player .state .waiting .count
+  unfolding waitingOf
+  waiting-are = sym (ap (λ (x : Holding). x .waiting .count) state-is)
+
+  pub waiting-is : player .state .waiting ≡ waitingOf (q .waiting)
+  waiting-is = ap (λ (x : Holding). x .waiting) state-is
+
+  pub begun-is : q .tally .begun ≡ player .tally .begun
+  unfolding playerOf
+  begun-is = sym (ap (λ (x : Player). x .tally .begun) (st .is))
+
+  pub objects-low : player .objects ≤ 64
+  objects-low = let e = objects-are in let l = st .sound .objects in omega arith
+
+  pub weight-under : q .tally .begun ≡ true → topWeight D (q .state .facts) ≤ player .tally .weight
+  unfolding playerOf
+  weight-under b = let e = ap (λ (x : Player). x .tally .weight) (st .is) in let k = st .sound .weight b in omega arith
+
+-- ---- the start counts
+
+module _ (D : Domain) (p : Playing) (player : Player) (work old : List ℕ) (st : Stands D p player work old) where
+  pub begun-already : player .tally .begun ≡ true → player ≡ playerOf D (begin D p)
+  unfolding playerOf begin
+  begun-already b =
+      let e : p .tally .begun ≡ true = sym (ap (λ (x : Player). x .tally .begun) (st .is)) ∙ b in
+      st .is ∙ ap (λ (t : Tally). playerOf D (record { at = p .at; closed = p .closed; objects = p .objects; state = p .state; waiting = p .waiting; tally = t })) (kept-tally e)
+    where
+      kept-tally : p .tally .begun ≡ true → p .tally ≡ startTally (p .tally) (topWeight D (p .state .facts))
+      kept-tally e = rw e
+
+  pub begun-now : player .tally .begun ≡ false → (watched : Bool) (top : ℕ) → top ≡ topWeight D (p .state .facts) → watched ≡ leb top 1 && accepted D
+      → record { at = player .at; closed = player .closed; objects = player .objects; state = player .state; tally = record { begun = true; watched = watched; steps = 0; weight = top } } ≡ playerOf D (begin D p)
+  unfolding playerOf begin
+  begun-now b watched top e w =
+      let z : p .tally .begun ≡ false = sym (ap (λ (x : Player). x .tally .begun) (st .is)) ∙ b in
+      (λ i. record { at = st .is i .at; closed = st .is i .closed; objects = st .is i .objects; state = st .is i .state; tally = record { begun = true; watched = (w ∙ ap (λ (k : ℕ). leb k 1 && accepted D) e) i; steps = 0; weight = e i } })
+      ∙ ap (λ (t : Tally). playerOf D (record { at = p .at; closed = p .closed; objects = p .objects; state = p .state; waiting = p .waiting; tally = t })) (new-tally z)
+    where
+      new-tally : p .tally .begun ≡ false
+          → record { begun = true; startSafe = leb (topWeight D (p .state .facts)) 1; steps = 0; weight = topWeight D (p .state .facts) } ≡ startTally (p .tally) (topWeight D (p .state .facts))
+      new-tally z = rw z
+
+  -- what work memory has for weighing
+  pub facts-rows : Bounded D → rowsIn (player .state .facts) work ≡ map factRow (p .state .facts)
+  facts-rows B = state-rows D B (p .state) (p .waiting) (st .sound .kept) (player .state) (state-is D p st) work old (st .memory)
+
+-- ---- kinds 16 and 20
+
+module _ (D : Domain) (q : Playing) (player : Player) (work old : List ℕ) (st : Stands D q player work old) (behind : ℕ) where
+  pub objects-on : (b n : ℕ) → b ≡ n
+      → LeadsTo D (goOn (withObjects q n behind)) (record { number = 0; player = record { at = behind; closed = false; objects = b; state = player .state; tally = player .tally } }) work old
+  unfolding playerOf
+  objects-on b n e =
+      record {
+        number = refl;
+        is = ap (λ (x : Player). record { at = behind; closed = false; objects = b; state = x .state; tally = x .tally }) (st .is)
+            ∙ ap {B = Player} (λ (k : ℕ). record { at = behind; closed = false; objects = k; state = playerOf D q .state; tally = playerOf D q .tally }) e;
+        memory = st .memory;
+      }
+
+  pub end-on : LeadsTo D (goOn (withClose q behind)) (record { number = 0; player = record { at = behind; closed = true; objects = player .objects; state = player .state; tally = player .tally } }) work old
+  unfolding playerOf
+  end-on =
+      record {
+        number = refl;
+        is = ap (λ (x : Player). record { at = behind; closed = true; objects = x .objects; state = x .state; tally = x .tally }) (st .is);
+        memory = st .memory;
+      }
+
+  -- ---- the same, with another state of the machine
+  module _ (s : State) (es : List Event) (new : Player) (work′ : List ℕ)
+      (is : (new .at ≡ behind) × (new .closed ≡ false) × (new .objects ≡ player .objects) × (new .state ≡ holdingOf s es) × (new .tally ≡ player .tally)) (m : work′ ≡ over (heldBytes (s .facts)) old) where
+    pub onward-on : LeadsTo D (goOn (onward q behind s es (q .tally))) (record { number = 0; player = new }) work′ old
+    unfolding playerOf
+    onward-on =
+        record {
+          number = refl;
+          is =
+              λ i.
+              record {
+                at = is .0 i;
+                closed = is .1 i;
+                objects = (is .2 ∙ ap (λ (x : Player). x .objects) (st .is)) i;
+                state = is .3 i;
+                tally = (is .4 ∙ ap (λ (x : Player). x .tally) (st .is)) i;
+              };
+          memory = m;
+        }
+
+-- ---- the step's close
+
+module _ (D : Domain) (q : Playing) (behind : ℕ) where
+  abbrev s : State
+  s = q .state
+
+  abbrev es : List Event
+  es = q .waiting
+
+  close-refused : (n : ℕ) → n ≡ closeStop D s es → (n ≡ 0 → ⊥) → closeStep D q behind ≡ stopAt n q
+  unfolding closeStep closeStop
+  close-refused n e z = go (eqb (forbidden D s es) 0) (tooLarge (next D s es)) e
+    where
+      go : (b c : Bool) → n ≡ cond b (cond c 52 0) (forbidden D s es)
+          → cond b (cond c (stopAt 52 q) (afterStep D q (next D s es) (topWeight D (next D s es .facts)) behind)) (stopAt (forbidden D s es) q) ≡ stopAt n q
+      go true true k = ap (λ (j : ℕ). stopAt j q) (sym k)
+      go true false k = absurd (z k)
+      go false c k = ap (λ (j : ℕ). stopAt j q) (sym k)
+
+  close-taken : 0 ≡ closeStop D s es → closeStep D q behind ≡ afterStep D q (next D s es) (topWeight D (next D s es .facts)) behind
+  unfolding closeStep closeStop
+  close-taken e = go (eqb (forbidden D s es) 0) refl (tooLarge (next D s es)) e
+    where
+      go : (b : Bool) → eqb (forbidden D s es) 0 ≡ b → (c : Bool) → 0 ≡ cond b (cond c 52 0) (forbidden D s es)
+          → cond b (cond c (stopAt 52 q) (afterStep D q (next D s es) (topWeight D (next D s es .facts)) behind)) (stopAt (forbidden D s es) q)
+          ≡ afterStep D q (next D s es) (topWeight D (next D s es .facts)) behind
+      go true f true k = absurd (omega arith)
+      go true f false k = refl
+      go false f c k = absurd (eqb-false (forbidden D s es) 0 f (sym k))
+
+  module _ (player : Player) (work old : List ℕ) (st : Stands D q player work old) (number : ℕ) (state : Holding) (weight : ℕ) (work′ : List ℕ) (l : Leaves D s es old (player .tally .weight) number state weight work′) where
+    weight-was : player .tally .weight ≡ q .tally .weight
+    unfolding playerOf
+    weight-was = ap (λ (x : Player). x .tally .weight) (st .is)
+
+    -- a step that is refused
+    pub close-stops : (number ≡ 0 → ⊥) → LeadsTo D (closeStep D q behind) (record { number = number; player = player }) work′ old
+    unfolding closeState playerOf
+    close-stops z =
+        let f : eqb (closeStop D s es) 0 ≡ false = ne-eqb (closeStop D s es) 0 (λ k. z (l .number-is ∙ k)) in
+        let m : work′ ≡ over (heldBytes (s .facts)) old = rw f at (l .work-is) in
+        rw (close-refused number (l .number-is) z)
+        (record {
+          number = refl;
+          some = z;
+          place = ap (λ (x : Player). x .at) (st .is);
+          steps = ap (λ (x : Player). x .tally .steps) (st .is);
+          weight = ap (λ (x : Player). x .tally .weight) (st .is);
+          memory = m;
+        })
+
+    module _ (z : number ≡ 0) where
+      taken : eqb (closeStop D s es) 0 ≡ true
+      taken = eq-eqb (closeStop D s es) 0 (sym (l .number-is) ∙ z)
+
+      abbrev top : ℕ
+      top = topWeight D (next D s es .facts)
+
+      weight-now : weight ≡ max (q .tally .weight) top
+      unfolding closeWeight
+      weight-now = (rw taken at (l .weight-is)) ∙ ap (λ (w : ℕ). max w top) weight-was
+
+      state-now : state ≡ holdingOf (next D s es) []
+      unfolding closeState closeWaiting
+      state-now = rw taken at (l .state-is)
+
+      work-now : work′ ≡ over (heldBytes (next D s es .facts)) old
+      unfolding closeState
+      work-now = rw taken at (l .work-is)
+
+      watched-was : player .tally .watched ≡ q .tally .startSafe && accepted D
+      unfolding playerOf
+      watched-was = ap (λ (x : Player). x .tally .watched) (st .is)
+
+      and-mid : (a b c : Bool) → a && c ≡ true → b ≡ true → a && b && c ≡ true
+      and-mid true true true e f = refl
+      and-mid true false c e f = f
+      and-mid true true false e f = e
+      and-mid false b c e f = e
+
+      mid-off : (a b c : Bool) → (a && c ≡ true → b ≡ true → ⊥) → a && b && c ≡ false
+      mid-off true true true h = absurd (h refl refl)
+      mid-off true true false h = refl
+      mid-off true false c h = refl
+      mid-off false b c h = refl
+
+      -- 59
+      pub close-alarms : player .tally .watched ≡ true → 1 < weight → (new : Player) → (new .at ≡ player .at) × (new .tally .steps ≡ player .tally .steps + 1) × (new .tally .weight ≡ weight)
+          → LeadsTo D (closeStep D q behind) (record { number = 59; player = new }) work′ old
+      unfolding playerOf
+      close-alarms w g new is =
+          let a : q .tally .startSafe && accepted D ≡ true = sym watched-was ∙ w in
+          let low = st .sound .watched a in
+          let e = weight-now in
+          let t : 1 < top = omega arith in
+          let n = and-mid (q .tally .startSafe) (ltb 1 top) (accepted D) a (lt-ltb 1 top t) in
+          let u : player .tally .steps ≡ q .tally .steps = ap (λ (x : Player). x .tally .steps) (st .is) in
+          rw (close-taken (sym z ∙ l .number-is), n)
+          (record {
+            number = refl;
+            some = λ k. omega arith;
+            place = is .0 ∙ ap (λ (x : Player). x .at) (st .is);
+            steps = is .1 ∙ add-one (player .tally .steps) ∙ ap suc u;
+            weight = is .2 ∙ e;
+            memory = work-now;
+          })
+
+      -- the step is counted
+      pub close-on : (player .tally .watched ≡ true → weight ≤ 1) → (counted : Player) → counted ≡ record { at = behind; closed = false; objects = player .objects; state = state; tally = record { begun = player .tally .begun; watched = player .tally .watched; steps = player .tally .steps + 1; weight = weight } }
+          → LeadsTo D (closeStep D q behind) (record { number = 0; player = counted }) work′ old
+      unfolding playerOf
+      close-on w counted is =
+          let n : q .tally .startSafe && ltb 1 top && accepted D ≡ false = mid-off (q .tally .startSafe) (ltb 1 top) (accepted D) (λ a b. let k = w (watched-was ∙ a) in let t = ltb-true 1 top b in let e = weight-now in omega arith) in
+          rw (close-taken (sym z ∙ l .number-is), n)
+          (record {
+            number = refl;
+            is =
+                is
+                ∙ (λ i.
+                record {
+                  at = behind;
+                  closed = false;
+                  objects = st .is i .objects;
+                  state = state-now i;
+                  tally = record { begun = st .is i .tally .begun; watched = st .is i .tally .watched; steps = (add-one (player .tally .steps) ∙ ap (λ (x : Player). suc (x .tally .steps)) (st .is)) i; weight = weight-now i };
+                });
+            memory = work-now;
+          })
+
+-- ---- records by their kind
+
+module _ (k : ℕ) where
+  pub kind-16 : k ≡ 16 → runKindOf k ≡ objectsRecord
+  kind-16 e = rw e
+
+  pub kind-17 : k ≡ 17 → runKindOf k ≡ factRecord
+  kind-17 e = rw e
+
+  pub kind-18 : k ≡ 18 → runKindOf k ≡ eventRecord
+  kind-18 e = rw e
+
+  pub kind-19 : k ≡ 19 → runKindOf k ≡ stepRecord
+  kind-19 e = rw e
+
+  pub kind-20 : k ≡ 20 → runKindOf k ≡ endRecord
+  kind-20 e = rw e
+
+  pub kind-other : (k ≡ 16 → ⊥) → (k ≡ 17 → ⊥) → (k ≡ 18 → ⊥) → (k ≡ 19 → ⊥) → (k ≡ 20 → ⊥) → runKindOf k ≡ otherRecord
+  kind-other a b c d e = rw (ne-eqb k 16 a, ne-eqb k 17 b, ne-eqb k 18 c, ne-eqb k 19 d, ne-eqb k 20 e)
+
+module _ (D : Domain) (q : Playing) (k : ℕ) (b : List ℕ) (behind : ℕ) (t : Turn) (work old : List ℕ) where
+  pub of-objects : runKindOf k ≡ objectsRecord → LeadsTo D (unless (objectsStop q b) q (goOn (withObjects q (byte b 0) behind))) t work old → LeadsTo D (playRecord D q (runKindOf k) b behind) t work old
+  unfolding playRecord
+  of-objects e h = rw e h
+
+  pub of-fact : runKindOf k ≡ factRecord → LeadsTo D (unless (factStop D q b) q (goOn (withFact q (factOf b) behind))) t work old → LeadsTo D (playRecord D q (runKindOf k) b behind) t work old
+  unfolding playRecord
+  of-fact e h = rw e h
+
+  pub of-event : runKindOf k ≡ eventRecord → LeadsTo D (unless (eventStop D (begin D q) b) (begin D q) (goOn (withEvent (begin D q) (eventOf b) behind))) t work old → LeadsTo D (playRecord D q (runKindOf k) b behind) t work old
+  unfolding playRecord
+  of-event e h = rw e h
+
+  pub of-step : runKindOf k ≡ stepRecord → LeadsTo D (unless (stepStop (begin D q) b) (begin D q) (closeStep D (begin D q) behind)) t work old → LeadsTo D (playRecord D q (runKindOf k) b behind) t work old
+  unfolding playRecord
+  of-step e h = rw e h
+
+  pub of-end : runKindOf k ≡ endRecord → LeadsTo D (unless (endStop (begin D q) b) (begin D q) (goOn (withClose (begin D q) behind))) t work old → LeadsTo D (playRecord D q (runKindOf k) b behind) t work old
+  unfolding playRecord
+  of-end e h = rw e h
+
+  pub of-other : runKindOf k ≡ otherRecord → LeadsTo D (stopAt 50 q) t work old → LeadsTo D (playRecord D q (runKindOf k) b behind) t work old
+  unfolding playRecord
+  of-other e h = rw e h
+
+-- ---- the next record
+
+module _ (D : Domain) (r : List ℕ) (q : Playing) (player : Player) (work old : List ℕ) (st : Stands D q player work old) where
+  closed-is : player .closed ≡ q .closed
+  unfolding playerOf
+  closed-is = ap (λ (x : Player). x .closed) (st .is)
+
+  pub at-is : player .at ≡ q .at
+  unfolding playerOf
+  at-is = ap (λ (x : Player). x .at) (st .is)
+
+  pub turn-behind : player .closed ≡ true → player .at < length r → LeadsTo D (playStep D r q) (record { number = 50; player = player }) work old
+  unfolding playStep
+  turn-behind c l =
+      let e = at-is in
+      rw (sym closed-is ∙ c, lt-ltb (q .at) (length r) (omega arith)) (stops-at D q player work old st 50 50 refl (λ z. omega arith))
+
+  pub turn-end : player .closed ≡ true → length r ≤ player .at → LeadsTo D (playStep D r q) (record { number = 2; player = player }) work old
+  unfolding playStep
+  turn-end c l =
+      let e = at-is in
+      rw (sym closed-is ∙ c, le-ltb (q .at) (length r) (omega arith)) (stops-at D q player work old st 2 2 refl (λ z. omega arith))
+
+  module _ (c : player .closed ≡ false) where
+    found : (f : Record) → recordAt r (player .at) ≡ f → playStep D r q ≡ playFound D r q f
+    unfolding playStep
+    found f e =
+        ap (λ (b : Bool). cond b (cond (ltb (q .at) (length r)) (stopAt 50 q) (stopAt 2 q)) (playFound D r q (recordAt r (q .at)))) (sym closed-is ∙ c)
+        ∙ ap (playFound D r q) (ap (recordAt r) (sym at-is) ∙ e)
+
+    pub turn-cut : recordAt r (player .at) ≡ Cut → LeadsTo D (playStep D r q) (record { number = 50; player = player }) work old
+    unfolding playFound
+    turn-cut e = rw (found Cut e) (stops-at D q player work old st 50 50 refl (λ z. omega arith))
+
+    pub turn-none : recordAt r (player .at) ≡ End → LeadsTo D (playStep D r q) (record { number = 50; player = player }) work old
+    unfolding playFound
+    turn-none e = rw (found End e) (stops-at D q player work old st 50 50 refl (λ z. omega arith))
+
+    pub turn-whole : (k start len : ℕ) → recordAt r (player .at) ≡ Whole k start len → (t : Turn) (work′ : List ℕ) (end : ℕ) → end ≡ start + len
+        → LeadsTo D (playRecord D q (runKindOf k) (take (end - start) (drop start r)) end) t work′ old → LeadsTo D (playStep D r q) t work′ old
+    unfolding playFound payload
+    turn-whole k start len e t work′ end z h =
+        let n : end - start ≡ len = omega arith in
+        let g : LeadsTo D (playRecord D q (runKindOf k) (take len (drop start r)) (start + len)) t work′ old = rw (n, z) at h in
+        rw (found (Whole k start len) e) g
+
+-- ---- kinds 17 and 18
+
+module _ (D : Domain) (B : Bounded D) (q : Playing) (player : Player) (work old : List ℕ) (st : Stands D q player work old) (b : List ℕ) (behind : ℕ) where
+  pub facts-count : player .state .facts ≡ length (q .state .facts)
+  facts-count = ap (λ (h : Holding). h .facts) (state-is D q st)
+
+  pub few-facts : Few (q .state .facts)
+  few-facts = fits-few B (q .state .facts) (st .sound .kept .facts)
+
+  module _ (z : factStop D q b ≡ 0) (row : List ℕ) (re : row ≡ factRow (factOf b)) (held : Bool) (he : held ≡ hasRow row (rowsIn (player .state .facts) work)) where
+    passed : FactTaken D q b
+    passed = fact-taken D q b (st .sound .kept .facts-few) z
+
+    held-is : held ≡ elem sameFact (factOf b) (q .state .facts)
+    held-is = he ∙ ap₂ (λ (x : List ℕ) (y : List (List ℕ)). hasRow x y) re (facts-rows D q player work old st B) ∙ has-fact (factOf b) (q .state .facts)
+
+    -- a fact that is held already
+    pub fact-again : held ≡ true → (new : Player)
+        → (new .at ≡ behind) × (new .closed ≡ false) × (new .objects ≡ player .objects) × (new .state ≡ player .state) × (new .tally ≡ player .tally)
+        → LeadsTo D (goOn (withFact q (factOf b) behind)) (record { number = 0; player = new }) work old
+    fact-again h new is =
+        let e : elem sameFact (factOf b) (q .state .facts) ≡ true = sym held-is ∙ h in
+        let j : q .state .facts ≡ joined (factOf b) (q .state .facts) = rw e in
+        onward-on D q player work old st behind (record { facts = joined (factOf b) (q .state .facts); running = q .state .running }) (q .waiting) new work
+        (is .0, is .1, is .2, is .3 ∙ state-is D q st ∙ ap (λ (fs : List Fact). holdingOf (record { facts = fs; running = q .state .running }) (q .waiting)) j, is .4)
+        (st .memory ∙ ap (λ (fs : List Fact). over (heldBytes fs) old) j)
+
+    joined-new : held ≡ false → joined (factOf b) (q .state .facts) ≡ q .state .facts ++ (factOf b ∷ [])
+    joined-new h = let e : elem sameFact (factOf b) (q .state .facts) ≡ false = sym held-is ∙ h in rw e
+
+    -- there is room for a new one
+    pub fact-room : held ≡ false → player .state .facts < 1024
+    fact-room h =
+        let l = passed .few in
+        let n = ap length (joined-new h) ∙ length-append (q .state .facts) (factOf b ∷ []) in
+        let c = facts-count in
+        omega arith
+
+    -- a new one
+    pub fact-new : held ≡ false → (new : Player) (next : Holding) → next ≡ record { facts = player .state .facts + 1; running = player .state .running; waiting = player .state .waiting }
+        → (new .at ≡ behind) × (new .closed ≡ false) × (new .objects ≡ player .objects) × (new .state ≡ next) × (new .tally ≡ player .tally)
+        → (work′ : List ℕ) → work′ ≡ paste work (8 * player .state .facts) row 8
+        → LeadsTo D (goOn (withFact q (factOf b) behind)) (record { number = 0; player = new }) work′ old
+    fact-new h new next ne is work′ we =
+        let fs : List Fact = q .state .facts ++ (factOf b ∷ []) in
+        let n : player .state .facts + 1 ≡ length fs = let c = facts-count in let a = length-append (q .state .facts) (factOf b ∷ []) in omega arith in
+        let m : work′ ≡ over (heldBytes fs) old =
+        we ∙ ap (λ (x : List ℕ). paste x (8 * player .state .facts) row 8) (st .memory)
+        ∙ held-more (q .state .facts) (factOf b) row old (player .state .facts) few-facts (let e = passed .fits .sized in let k = arity-six D (B .arities) (factOf b .rel) in omega arith) facts-count (fact-room h) re in
+        let s : next ≡ holdingOf (record { facts = fs; running = q .state .running }) (q .waiting) =
+        ne ∙ (λ i. record { facts = n i; running = state-is D q st i .running; waiting = state-is D q st i .waiting }) in
+        let j = sym (joined-new h) in
+        onward-on D q player work old st behind (record { facts = joined (factOf b) (q .state .facts); running = q .state .running }) (q .waiting) new work′
+        (is .0, is .1, is .2, is .3 ∙ s ∙ ap (λ (gs : List Fact). holdingOf (record { facts = gs; running = q .state .running }) (q .waiting)) j, is .4)
+        (m ∙ ap (λ (gs : List Fact). over (heldBytes gs) old) j)
+
+  -- an event
+  pub event-on : (more : Waiting) → more ≡ waitingOf (q .waiting ++ (eventOf b ∷ [])) → (new : Player)
+      → (new .at ≡ behind) × (new .closed ≡ false) × (new .objects ≡ player .objects)
+      × (new .state ≡ record { facts = player .state .facts; running = player .state .running; waiting = more }) × (new .tally ≡ player .tally)
+      → LeadsTo D (goOn (withEvent q (eventOf b) behind)) (record { number = 0; player = new }) work old
+  event-on more e new is =
+      let s : new .state ≡ holdingOf (q .state) (q .waiting ++ (eventOf b ∷ [])) =
+      is .3 ∙ (λ i. record { facts = state-is D q st i .facts; running = state-is D q st i .running; waiting = e i }) in
+      onward-on D q player work old st behind (q .state) (q .waiting ++ (eventOf b ∷ [])) new work (is .0, is .1, is .2, s, is .4) (st .memory)

@@ -1,0 +1,34 @@
+-- `Player::begin` meets its contract. Assumes nothing.
+use borrow.Author.Needs.{needs}
+use mathlib.Core.Path.{_≡_, refl, sym, ap, _∙_}
+use mathlib.Core.Bool.{Bool, _&&_}
+use Prim.Native.Nat.{ℕ, max}
+use native.Mathlib.Omega.{arith}
+use lib.Dec.{leb}
+use Rattle.literals.specs.Table.{indexWith}
+use Rattle.verdict.specs.Machine.{topWeight}
+use Rattle.machine.proofs.TopWeights.{top-all}
+use Rattle.player.proofs.PlayTurns.{begun-already, begun-now, facts-rows}
+use Rattle.player.proofs.Player.begin.Statement.{statement}
+use Rattle.player.proofs.Player.begin.Tie as tie
+
+returns : tie.Need-returns
+returns c D p counts arities variables sorts starts old held components keys said st = let a = c .before .before .before .before .before .args in begun-already D p (a .self) (a .work .now) old st (c .if1 .taken)
+
+top-from-requires : tie.Need-top-from-requires
+top-from-requires c κs = search needs
+
+is-watched-requires : tie.Need-is-watched-requires
+is-watched-requires c κs = search needs
+
+returns-2 : tie.Need-returns-2
+returns-2 c D p counts arities variables sorts starts old held components keys said st =
+    let a = c .before .before .before .before .before .before .before .args in
+    let t = c .before .top-from .ensures .1 D (indexWith counts arities variables sorts starts (a .parts .now)) (p .state .facts) held (sym components) (sym keys) refl (facts-rows D p (a .self) (a .work .now) old st (held .bounded)) (st .sound .kept .facts) in
+    let z : max 0 (topWeight D (p .state .facts)) ≡ topWeight D (p .state .facts) = omega arith in
+    begun-now D p (a .self) (a .work .now) old st (c .before .before .if1 .left) (c .is-watched .result) (c .before .top-from .result)
+    (t ∙ ap (max 0) (top-all D (p .state .facts)) ∙ z)
+    (c .is-watched .ensures ∙ ap (λ (b : Bool). leb (c .before .top-from .result) 1 && b) said)
+
+pub begin-spec : {M : Type 1} → statement M
+begin-spec = tie.close (tie.spec returns top-from-requires is-watched-requires returns-2)

@@ -1,0 +1,306 @@
+-- What holds wherever playing stands: each record keeps it. Assumes nothing.
+use mathlib.Core.Path.{_≡_, refl}
+use mathlib.Core.Bool.{Bool, true, false, _&&_, _||_, not, cond, false≢true}
+use mathlib.Core.List.{List, [], _∷_, _++_, List·Memᴰ·not-nil}
+use Prim.Native.Nat.{ℕ, zero, suc, _+_, _≤_, _<_, max}
+use native.Mathlib.Omega.{arith}
+use lib.Dec.{eqb, ltb, leb}
+use lib.ListN.{length, drop, length-map, length-append, length-drop}
+use borrow.Author.Tests.{eqb-true, ltb-false, leb-true, leb-false}
+use Rattle.records.specs.Lists.{In, elem}
+use Rattle.records.specs.declared.Record.{Record}
+use Rattle.records.specs.declared.Record.the-variants.{Whole, Cut, End}
+use Rattle.records.specs.Record.{recordAt, payload}
+use Rattle.records.proofs.Laws.{whole-within}
+use Rattle.records.proofs.Lists.{and-l, or-out, not-false, clash, off, any-out, in-snoc}
+use Rattle.records.proofs.Numbers.{none-passes}
+use Rattle.literals.specs.Domain.{object, Fact, sameFact, Domain, arity, action}
+use Rattle.literals.specs.Decode.{byte}
+use Rattle.literals.specs.Table.{Bounded}
+use Rattle.classes.specs.Classes.{momentNumber}
+use Rattle.verdict.specs.Machine.{Event, State, injective, sameEvent, next, topWeight}
+use Rattle.machine.specs.RunFile.{RunKind, objectsRecord, factRecord, eventRecord, stepRecord, endRecord, otherRecord, runKindOf, factOf, momentOf, eventOf}
+use Rattle.machine.specs.Play.{maxObjects, maxFacts, maxEvents, Tally, Playing, beforeRun, onward, PlayTurn, goOn, finish, outcomeAt, stopAt, begin, outside, objectsStop, withObjects, factStop, joined, withFact, eventStop, withEvent, forbidden, tooLarge, tallied, accepted, afterStep, closeStep, stepStop, endStop, withClose, unless, playRecord, playFound, playStep}
+use Rattle.machine.specs.Coded.{FactFits, GroundFits}
+use Rattle.machine.specs.Stepping.{Kept}
+use Rattle.player.specs.Player.{Sound}
+use Rattle.machine.proofs.NextKept.{map-in, kept-next}
+
+-- ---- the tests of each record, as far as they are needed here
+
+objects-few : (p : Playing) (b : List ℕ) → objectsStop p b ≡ 0 → byte b 0 ≤ maxObjects
+unfolding objectsStop
+objects-few p b z =
+    let g = none-passes ((not (eqb (p .objects) 0), 50) ∷ (not (eqb (length b) 1), 50) ∷ (eqb (byte b 0) 0 || ltb maxObjects (byte b 0), 51) ∷ []) 0 refl z in
+    ltb-false maxObjects (byte b 0) (or-out (eqb (byte b 0) 0) _ (g .0 2) .1)
+
+-- a start fact that passes
+pub record FactTaken (D : Domain) (p : Playing) (b : List ℕ) : Type 0 where
+  pub early : p .tally .begun ≡ false
+  pub fits : FactFits D (factOf b)
+  pub few : length (joined (factOf b) (p .state .facts)) ≤ maxFacts
+
+pub fact-taken : (D : Domain) (p : Playing) (b : List ℕ) → length (p .state .facts) ≤ maxFacts → factStop D p b ≡ 0 → FactTaken D p b
+unfolding factStop
+fact-taken D p b l z =
+    let g =
+    none-passes
+    ((eqb (p .objects) 0 || p .tally .begun, 50)
+    ∷ (ltb (length b) 1, 50)
+    ∷ (leb (length (D .arities)) (byte b 0), 51)
+    ∷ (not (eqb (length b) (1 + arity D (byte b 0))), 50)
+    ∷ (outside p (drop 1 b), 51)
+    ∷ (not (elem sameFact (factOf b) (p .state .facts)) && leb maxFacts (length (p .state .facts)), 52)
+    ∷ [])
+    0 refl z in
+    let e = eqb-true (length b) (1 + arity D (byte b 0)) (not-false _ (g .0 3)) in
+    let d = length-drop 1 b in
+    let m = length-map (drop 1 b) object in
+    record {
+      early = or-out (eqb (p .objects) 0) (p .tally .begun) (g .0 0) .1;
+      fits = record { sized = omega arith };
+      few = go (elem sameFact (factOf b) (p .state .facts)) (g .0 5);
+    }
+  where
+    go : (t : Bool) → not t && leb maxFacts (length (p .state .facts)) ≡ false → length (cond t (p .state .facts) (p .state .facts ++ (factOf b ∷ []))) ≤ maxFacts
+    go true e = l
+    go false e = let k = leb-false maxFacts (length (p .state .facts)) e in let a = length-append (p .state .facts) (factOf b ∷ []) in omega arith
+
+-- an event that passes
+pub record EventTaken (D : Domain) (p : Playing) (b : List ℕ) : Type 0 where
+  pub moment : byte b 0 ≡ momentNumber (momentOf (byte b 0))
+  pub fits : GroundFits D (eventOf b .ground)
+  pub few : length (p .waiting) < maxEvents
+
+pub event-taken : (D : Domain) (p : Playing) (b : List ℕ) → p .objects ≤ maxObjects → eventStop D p b ≡ 0 → EventTaken D p b
+unfolding eventStop
+event-taken D p b l z =
+    let a = action D (byte b 1) in
+    let g =
+    none-passes
+    ((eqb (p .objects) 0, 50)
+    ∷ (ltb (length b) 2, 50)
+    ∷ (ltb 1 (byte b 0), 51)
+    ∷ (leb (length (D .actions)) (byte b 1), 51)
+    ∷ (not (eqb (length b) (2 + a .vars)), 50)
+    ∷ (eqb (byte b 0) 1 && not (a .lasting), 51)
+    ∷ (outside p (drop 2 b), 51)
+    ∷ (not (injective (eventOf b)), 53)
+    ∷ (elem sameEvent (eventOf b) (p .waiting), 54)
+    ∷ (leb maxEvents (length (p .waiting)), 52)
+    ∷ [])
+    0 refl z in
+    let e = eqb-true (length b) (2 + a .vars) (not-false _ (g .0 4)) in
+    let d = length-drop 2 b in
+    let m = length-map (drop 2 b) object in
+    record {
+      moment = go (byte b 0) (ltb-false 1 (byte b 0) (g .0 2));
+      fits =
+          record {
+            listed = leb-false (length (D .actions)) (byte b 1) (g .0 3);
+            bound = omega arith;
+            objects = λ o i. let r = map-in object (drop 2 b) i in let q = leb-false (p .objects) (r .0) (any-out (leb (p .objects)) (g .0 6) (r .1)) in rw (r .2) (omega arith);
+          };
+      few = leb-false maxEvents (length (p .waiting)) (g .0 9);
+    }
+  where
+    go : (m : ℕ) → m ≤ 1 → m ≡ momentNumber (momentOf m)
+    go zero h = refl
+    go (suc zero) h = refl
+    go (suc (suc m)) h = absurd (omega arith)
+
+-- ---- each record
+
+module _ (D : Domain) where
+  kept-fact : (s : State) (es : List Event) (f : Fact) → Kept D s es → FactFits D f → length (joined f (s .facts)) ≤ maxFacts → Kept D (record { facts = joined f (s .facts); running = s .running }) es
+  kept-fact s es f k h l =
+      record {
+        facts = go (elem sameFact f (s .facts));
+        facts-few = l;
+        running = k .running;
+        running-few = k .running-few;
+        waiting = k .waiting;
+        waiting-few = k .waiting-few;
+      }
+    where
+      go : (t : Bool) (g : Fact) → In g (cond t (s .facts) (s .facts ++ (f ∷ []))) → FactFits D g
+      go true g m = k .facts g m
+      go false g m = in-snoc {P = FactFits D} (s .facts) f (k .facts) h g m
+
+  kept-event : (s : State) (es : List Event) (e : Event) → Kept D s es → GroundFits D (e .ground) → length es < maxEvents → Kept D s (es ++ (e ∷ []))
+  kept-event s es e k h l =
+      let a = length-append es (e ∷ []) in
+      record {
+        facts = k .facts;
+        facts-few = k .facts-few;
+        running = k .running;
+        running-few = k .running-few;
+        waiting = in-snoc {P = λ (d : Event). GroundFits D (d .ground)} es e (k .waiting) h;
+        waiting-few = omega arith;
+      }
+
+  pub sound-begin : (p : Playing) → Sound D p → Sound D (begin D p)
+  unfolding begin
+  sound-begin p h = go (p .tally .begun) refl
+    where
+      top : ℕ
+      top = topWeight D (p .state .facts)
+
+      with-tally : (t : Tally) → t .steps ≤ p .at → (t .begun ≡ false → (t .startSafe ≡ false) × (t .steps ≡ 0) × (t .weight ≡ 0))
+          → (t .begun ≡ true → top ≤ t .weight) → (t .startSafe && accepted D ≡ true → t .weight ≤ 1)
+          → Sound D (record { at = p .at; closed = p .closed; objects = p .objects; state = p .state; waiting = p .waiting; tally = t })
+      with-tally t a b c d = record { kept = h .kept; objects = h .objects; steps = a; early = b; weight = c; watched = d }
+
+      go : (b : Bool) → p .tally .begun ≡ b
+          → Sound D (record { at = p .at; closed = p .closed; objects = p .objects; state = p .state; waiting = p .waiting; tally = cond b (p .tally) (record { begun = true; startSafe = leb top 1; steps = 0; weight = top }) })
+      go true e = with-tally (p .tally) (h .steps) (h .early) (h .weight) (h .watched)
+      go false e = with-tally (record { begun = true; startSafe = leb top 1; steps = 0; weight = top }) (omega arith) (λ q. absurd (clash refl q)) (λ q. omega arith) (λ q. leb-true top 1 (and-l _ _ q))
+
+  -- a turn that goes on, goes on where it holds
+  abbrev SoundTurn : PlayTurn → Type 0
+  SoundTurn (goOn q) = Sound D q
+  SoundTurn (finish o) = Unit {0}
+
+  sound-unless : (n : ℕ) (p : Playing) (t : PlayTurn) → (n ≡ 0 → SoundTurn t) → SoundTurn (unless n p t)
+  sound-unless n p t h = go (eqb n 0) refl
+    where
+      go : (b : Bool) → eqb n 0 ≡ b → SoundTurn (cond b t (stopAt n p))
+      go true e = h (eqb-true n 0 e)
+      go false e = tt
+
+  module _ (B : Bounded D) (p : Playing) (h : Sound D p) (behind : ℕ) (l : p .at < behind) where
+    sound-after : (s : State) → Kept D s [] → p .tally .begun ≡ true → SoundTurn (afterStep D p s (topWeight D (s .facts)) behind)
+    sound-after s k b = go (p .tally .startSafe && ltb 1 top && accepted D) refl
+      where
+        top : ℕ
+        top = topWeight D (s .facts)
+
+        low : (x y : Bool) → (x && y ≡ true → p .tally .weight ≤ 1) → x && ltb 1 top && y ≡ false → x && y ≡ true → max (p .tally .weight) top ≤ 1
+        low true true w f e = let a = w refl in let c = ltb-false 1 top (off (ltb 1 top) (λ q. clash (rw q) f)) in omega arith
+        low true false w f e = absurd (false≢true e)
+        low false y w f e = absurd (false≢true e)
+
+        go : (t : Bool) → p .tally .startSafe && ltb 1 top && accepted D ≡ t
+            → SoundTurn (cond t (finish (outcomeAt 59 (p .at) s (tallied (p .tally) top))) (goOn (onward p behind s [] (tallied (p .tally) top))))
+        go true e = tt
+        go false e =
+            let a = h .steps in
+            record {
+              kept = k;
+              objects = h .objects;
+              steps = omega arith;
+              early = λ q. absurd (clash b q);
+              weight = λ q. omega arith;
+              watched = λ q. low (p .tally .startSafe) (accepted D) (h .watched) e q;
+            }
+
+    sound-close : p .tally .begun ≡ true → SoundTurn (closeStep D p behind)
+    unfolding closeStep
+    sound-close b = go (eqb (forbidden D (p .state) (p .waiting)) 0)
+      where
+        after : State
+        after = next D (p .state) (p .waiting)
+
+        fits : (t : Bool) → tooLarge after ≡ t → SoundTurn (cond t (stopAt 52 p) (afterStep D p after (topWeight D (after .facts)) behind))
+        fits true e = tt
+        fits false e = sound-after after (kept-next D B (p .state) (p .waiting) (h .kept) e) b
+
+        go : (t : Bool)
+            → SoundTurn (cond t (cond (tooLarge after) (stopAt 52 p) (afterStep D p after (topWeight D (after .facts)) behind)) (stopAt (forbidden D (p .state) (p .waiting)) p))
+        go true = fits (tooLarge after) refl
+        go false = tt
+
+  pub begun-tally : (p : Playing) → begin D p .tally .begun ≡ true
+  unfolding begin
+  begun-tally p = go (p .tally .begun) refl
+    where
+      go : (b : Bool) → p .tally .begun ≡ b
+          → cond b (p .tally) (record { begun = true; startSafe = leb (topWeight D (p .state .facts)) 1; steps = 0; weight = topWeight D (p .state .facts) }) .begun ≡ true
+      go true e = e
+      go false e = refl
+
+  begin-at : (p : Playing) → begin D p .at ≡ p .at
+  unfolding begin
+  begin-at p = refl
+
+  sound-record : Bounded D → (p : Playing) → Sound D p → (k : RunKind) (b : List ℕ) (behind : ℕ) → p .at < behind → SoundTurn (playRecord D p k b behind)
+  unfolding playRecord
+  sound-record B p h objectsRecord b behind l =
+      sound-unless (objectsStop p b) p (goOn (withObjects p (byte b 0) behind))
+      (λ z. let a = h .steps in record { kept = h .kept; objects = objects-few p b z; steps = omega arith; early = h .early; weight = h .weight; watched = h .watched })
+  sound-record B p h factRecord b behind l =
+      sound-unless (factStop D p b) p (goOn (withFact p (factOf b) behind))
+      (λ z.
+      let t = fact-taken D p b (h .kept .facts-few) z in
+      let a = h .steps in
+      record {
+        kept = kept-fact (p .state) (p .waiting) (factOf b) (h .kept) (t .fits) (t .few);
+        objects = h .objects;
+        steps = omega arith;
+        early = h .early;
+        weight = λ q. absurd (clash q (t .early));
+        watched = h .watched;
+      })
+  sound-record B p h eventRecord b behind l =
+      let q = begin D p in
+      let s = sound-begin p h in
+      let e = begin-at p in
+      sound-unless (eventStop D q b) q (goOn (withEvent q (eventOf b) behind))
+      (λ z.
+      let t = event-taken D q b (s .objects) z in
+      let a = s .steps in
+      record {
+        kept = kept-event (q .state) (q .waiting) (eventOf b) (s .kept) (t .fits) (t .few);
+        objects = s .objects;
+        steps = omega arith;
+        early = s .early;
+        weight = s .weight;
+        watched = s .watched;
+      })
+  sound-record B p h stepRecord b behind l =
+      let q = begin D p in
+      let e = begin-at p in
+      sound-unless (stepStop q b) q (closeStep D q behind) (λ z. sound-close B q (sound-begin p h) behind (omega arith) (begun-tally p))
+  sound-record B p h endRecord b behind l =
+      let q = begin D p in
+      let s = sound-begin p h in
+      let e = begin-at p in
+      sound-unless (endStop q b) q (goOn (withClose q behind))
+      (λ z. let a = s .steps in record { kept = s .kept; objects = s .objects; steps = omega arith; early = s .early; weight = s .weight; watched = s .watched })
+  sound-record B p h otherRecord b behind l = tt
+
+  sound-turn : Bounded D → (r : List ℕ) (p : Playing) → Sound D p → SoundTurn (playStep D r p)
+  unfolding playStep playFound
+  sound-turn B r p h = go (p .closed) (ltb (p .at) (length r)) (recordAt r (p .at)) refl
+    where
+      go : (b c : Bool) (f : Record) → recordAt r (p .at) ≡ f → SoundTurn (cond b (cond c (stopAt 50 p) (stopAt 2 p)) (playFound D r p f))
+      go true true f e = tt
+      go true false f e = tt
+      go false c (Whole k start len) e =
+          let w = whole-within r (p .at) e in
+          sound-record B p h (runKindOf k) (payload r start len) (start + len) (omega arith)
+      go false c Cut e = tt
+      go false c End e = tt
+
+  pub sound-on : Bounded D → (r : List ℕ) (p q : Playing) → Sound D p → playStep D r p ≡ goOn q → Sound D q
+  sound-on B r p q h e = rw e at (sound-turn B r p h)
+
+  -- before the run
+  pub sound-new : Sound D beforeRun
+  sound-new =
+      record {
+        kept =
+            record {
+              facts = λ f m. absurd (List·Memᴰ·not-nil m);
+              facts-few = omega arith;
+              running = λ g m. absurd (List·Memᴰ·not-nil m);
+              running-few = omega arith;
+              waiting = λ e m. absurd (List·Memᴰ·not-nil m);
+              waiting-few = omega arith;
+            };
+        objects = omega arith;
+        steps = omega arith;
+        early = λ q. (refl, refl, refl);
+        weight = λ q. absurd (false≢true q);
+        watched = λ q. absurd (false≢true q);
+      }

@@ -1,0 +1,36 @@
+-- `play_run` meets its contract. Assumes nothing.
+use borrow.Author.Needs.{needs}
+use mathlib.Core.Path.{_∙_}
+use native.Mathlib.Omega.{arith}
+use Rattle.player.proofs.PlayLoop.{cleared, cleared-again, runnable-now}
+use Rattle.player.proofs.run.play_run.Statement.{statement}
+use Rattle.player.proofs.run.play_run.Tie as tie
+
+slice-aggregate-put-bytes : tie.Need-slice-aggregate-put-bytes
+slice-aggregate-put-bytes c = search needs
+
+put-bytes-requires : tie.Need-put-bytes-requires
+put-bytes-requires c κs = search needs
+
+play-records-requires : tie.Need-play-records-requires
+play-records-requires c κs =
+    let old = c .before .before .before .before .before .before .before .before .before .before .before .before .before .before .args .work .now in
+    (runnable-now (c .before .before .before .before .before .before .before .before .before .before .before .before .before .before .pre) _ (c .before .before .before .put-bytes .kept .0), cleared-again old _ (cleared old _ (c .before .before .before .put-bytes .ensures)))
+
+same-length : tie.Need-same-length
+same-length c = search needs
+
+returns : tie.Need-returns
+returns c D lent said =
+    let old = c .before .before .before .before .before .before .before .before .before .before .before .before .before .before .before .before .before .args .work .now in
+    c .before .before .play-records .ensures D old lent said (cleared old _ (c .before .before .before .before .before .before .put-bytes .ensures))
+
+pub play-run-spec : {M : Type 1} → statement M
+play-run-spec =
+    tie.close
+    (tie.spec
+    slice-aggregate-put-bytes
+    put-bytes-requires
+    play-records-requires
+    same-length
+    returns)

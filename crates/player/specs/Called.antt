@@ -1,0 +1,56 @@
+-- How the code answers a call of playing. Assumes nothing.
+use mathlib.Core.Path.{_≡_}
+use mathlib.Core.Bool.{true}
+use mathlib.Core.List.{List}
+use Prim.Native.Nat.{ℕ}
+use lib.ListN.{length, drop}
+use Rattle.literals.specs.declared.Counts.{Counts}
+use Rattle.literals.specs.Domain.{Domain}
+use Rattle.verdict.specs.Claims.{wellFormed}
+use Rattle.player.specs.declared.play.Fault.{Fault}
+use Rattle.player.specs.declared.play.Fault.the-variants.{Domain as InDomain, Run as InRun}
+use Rattle.player.specs.declared.play.PlayAnswer.{PlayAnswer}
+use Rattle.machine.specs.Play.{Outcome, placeOf, Returned, ofDomain, ofRun, Call}
+use Rattle.machine.specs.Coded.{Lent}
+
+-- "a part of the domain file or of the run file, from that record to the end"
+abbrev pub faultOf : Returned → Fault
+faultOf (ofDomain at) = InDomain at
+faultOf (ofRun at) = InRun at
+
+-- of which file it is, 0 the domain file and 1 the run file, and its offset there
+abbrev pub fileOf : Returned → ℕ
+fileOf (ofDomain at) = 0
+fileOf (ofRun at) = 1
+
+abbrev pub offsetOf : Returned → ℕ
+offsetOf (ofDomain at) = at
+offsetOf (ofRun at) = at
+
+-- the same of the code's answer
+abbrev pub faultFile : Fault → ℕ
+faultFile (InDomain at) = 0
+faultFile (InRun at) = 1
+
+abbrev pub faultOffset : Fault → ℕ
+faultOffset (InDomain at) = at
+faultOffset (InRun at) = at
+
+-- its bytes
+abbrev pub partAt : List ℕ → List ℕ → Fault → List ℕ
+partAt d r (InDomain at) = drop at d
+partAt d r (InRun at) = drop at r
+
+abbrev pub answerOf : Call → PlayAnswer
+answerOf c = record { number = c .answer .number; place = c .answer .first; steps = c .answer .steps; weight = c .answer .weight; fault = faultOf (c .part) }
+
+-- of a run that was played to its end or to its fault
+abbrev pub answerBy : Outcome → PlayAnswer
+answerBy o = record { number = o .number; place = placeOf o; steps = o .steps; weight = o .weight; fault = InRun (o .place) }
+
+-- what the code relies on: some domain is lent
+pub record LentToPlay (n : Counts) (arities variables sorts starts parts table : List ℕ) : Type 0 where
+  pub said : Domain
+  pub well : wellFormed said ≡ true
+  pub lent : Lent said n arities variables sorts starts parts table
+  pub size : length table ≡ 32768

@@ -1,0 +1,4 @@
+-- Where the player stands, and how it answers.
+pub mod Fields
+pub mod Player
+pub mod Called

@@ -1,0 +1,102 @@
+-- Where the player stands, as the code holds it, and what a record leads to. Assumes nothing.
+use mathlib.Core.Path.{_≡_}
+use mathlib.Core.Bool.{Bool, true, false, _&&_}
+use mathlib.Core.List.{List}
+use Prim.Native.Nat.{ℕ, _*_, _≤_}
+use lib.ListN.{length}
+use Rattle.records.specs.Memory.{over}
+use Rattle.literals.specs.declared.Counts.{Counts}
+use Rattle.literals.specs.Domain.{Domain}
+use Rattle.verdict.specs.Machine.{topWeight}
+use Rattle.player.specs.declared.Player.{Player}
+use Rattle.player.specs.declared.Turn.{Turn}
+use Rattle.player.specs.declared.run.Ended.{Ended}
+use Rattle.machine.specs.Play.{maxObjects, workBytes, Playing, PlayTurn, goOn, finish, Outcome, accepted, heldBytes}
+use Rattle.machine.specs.Coded.{openOf, waitingOf, Lent}
+use Rattle.machine.specs.Stepping.{holdingOf, Kept}
+
+-- ---- what the code holds
+
+-- a weight above 1 is watched for where the template is accepted and the start weights are at most 1
+unfoldable pub playerOf : Domain → Playing → Player
+unfolding openOf waitingOf
+playerOf D p =
+    record {
+      at = p .at;
+      closed = p .closed;
+      objects = p .objects;
+      state = holdingOf (p .state) (p .waiting);
+      tally =
+          record {
+            begun = p .tally .begun;
+            watched = p .tally .startSafe && accepted D;
+            steps = p .tally .steps;
+            weight = p .tally .weight;
+          };
+    }
+
+-- ---- what holds wherever playing stands
+
+pub record Sound (D : Domain) (p : Playing) : Type 0 where
+  pub kept : Kept D (p .state) (p .waiting)
+  pub objects : p .objects ≤ maxObjects
+  -- each step has its record
+  pub steps : p .tally .steps ≤ p .at
+  pub early : p .tally .begun ≡ false → (p .tally .startSafe ≡ false) × (p .tally .steps ≡ 0) × (p .tally .weight ≡ 0)
+  -- no instance weighs more than the highest weight
+  pub weight : p .tally .begun ≡ true → topWeight D (p .state .facts) ≤ p .tally .weight
+  -- as long as it is watched, it is at most 1
+  pub watched : p .tally .startSafe && accepted D ≡ true → p .tally .weight ≤ 1
+
+-- the player and its work memory stand where playing stands
+pub record Stands (D : Domain) (p : Playing) (player : Player) (work old : List ℕ) : Type 0 where
+  pub is : player ≡ playerOf D p
+  pub memory : work ≡ over (heldBytes (p .state .facts)) old
+  pub sound : Sound D p
+
+-- ---- what a record leads to
+
+-- playing goes on
+pub record GoesOn (D : Domain) (q : Playing) (t : Turn) (work old : List ℕ) : Type 0 where
+  pub number : t .number ≡ 0
+  pub is : t .player ≡ playerOf D q
+  pub memory : work ≡ over (heldBytes (q .state .facts)) old
+
+-- playing ends
+pub record Ends (o : Outcome) (t : Turn) (work old : List ℕ) : Type 0 where
+  pub number : t .number ≡ o .number
+  pub some : o .number ≡ 0 → ⊥
+  pub place : t .player .at ≡ o .place
+  pub steps : t .player .tally .steps ≡ o .steps
+  pub weight : t .player .tally .weight ≡ o .weight
+  pub memory : work ≡ over (heldBytes (o .facts)) old
+
+abbrev pub LeadsTo : Domain → PlayTurn → Turn → List ℕ → List ℕ → Type 0
+LeadsTo D (goOn q) t work old = GoesOn D q t work old
+LeadsTo D (finish o) t work old = Ends o t work old
+
+-- ---- what the code relies on
+
+-- to play a record: a domain is lent, and the player stands somewhere in its run
+pub record Playable (n : Counts) (arities variables sorts starts parts table : List ℕ) (accepts : Bool) (player : Player) (work : List ℕ) : Type 0 where
+  pub said : Domain
+  pub reached : Playing
+  pub old : List ℕ
+  pub lent : Lent said n arities variables sorts starts parts table
+  pub decided : accepts ≡ accepted said
+  pub table-room : 8 * n .rows ≤ length table
+  pub stands : Stands said reached player work old
+  pub room : workBytes ≤ length old
+
+-- to play a whole run
+pub record Runnable (n : Counts) (arities variables sorts starts parts table : List ℕ) (accepts : Bool) (work : List ℕ) : Type 0 where
+  pub said : Domain
+  pub lent : Lent said n arities variables sorts starts parts table
+  pub decided : accepts ≡ accepted said
+  pub table-room : 8 * n .rows ≤ length table
+  pub room : workBytes ≤ length work
+
+-- ---- how a run ends
+
+abbrev pub endedOf : Outcome → Ended
+endedOf o = record { number = o .number; place = o .place; steps = o .steps; weight = o .weight }

@@ -1,0 +1,31 @@
+// The player: where it stands (here), the fields of a record (fields), a run file record by record (playing) and whole (run), and the call (play).
+pub mod fields;
+pub mod play;
+pub mod playing;
+pub mod run;
+
+use machine::State;
+
+// What is counted of a run: whether the start counts (a record of kind 18 to 20 is met), whether a weight above 1 is a fault (the template is accepted, the
+// start weights are at most 1), the steps made, the highest weight.
+pub struct Tally {
+    pub begun: bool,
+    pub watched: bool,
+    pub steps: usize,
+    pub weight: usize,
+}
+
+// Where playing stands: the next record's offset, whether the run's close is read, and the object count, 0 before its record.
+pub struct Player {
+    pub at: usize,
+    pub closed: bool,
+    pub objects: u8,
+    pub state: State,
+    pub tally: Tally,
+}
+
+// What a record led to: 0 where playing goes on, else the number that ends it.
+pub struct Turn {
+    pub number: u64,
+    pub player: Player,
+}

@@ -1,0 +1,243 @@
+// The call: a domain file, a run file, and lent work memory.
+use super::run::Ended;
+use super::run::play_run;
+use literals::Counts;
+use literals::read::read_into;
+use verdict::naming::name_all;
+ghost use mathlib.Core.Path.{_≡_};
+ghost use mathlib.Core.Bool.{true};
+ghost use Prim.Native.Nat.{_*_};
+ghost use Rattle.literals.specs.Domain.{Domain};
+ghost use Rattle.literals.specs.Decode.{domain as domainRead};
+ghost use Rattle.verdict.specs.Claims.{wellFormed};
+ghost use Rattle.machine.specs.Play.{accepted, Outcome, callBy, call, played, workAfter, returned, returnedBytes};
+ghost use Rattle.machine.specs.Coded.{Lent};
+ghost use Rattle.player.specs.Player.{endedOf};
+ghost use Rattle.machine.specs.Claims.{PlaysAsMachine};
+ghost use Rattle.player.specs.Called.{faultFile, faultOffset, partAt, answerOf, answerBy, LentToPlay};
+
+// Where the record at fault starts: an offset of the domain file, or of the run file.
+pub enum Fault {
+    Domain(usize),
+    Run(usize),
+}
+
+// The answer: the number (2 when the run was played), its place, the steps made, the highest weight, and the record at fault.
+pub struct PlayAnswer {
+    pub number: u64,
+    pub place: usize,
+    pub steps: usize,
+    pub weight: usize,
+    pub fault: Fault,
+}
+
+// The file of the record at fault: 0 the domain file, 1 the run file.
+pub fn file_of(fault: Fault) -> u64
+    ensures { λ r. ⌜ r ≡ faultFile fault ⌝ }
+{
+    match fault {
+        Fault::Domain(_) => 0,
+        Fault::Run(_) => 1,
+    }
+}
+
+// Its offset there.
+pub fn offset_of(fault: Fault) -> usize
+    ensures { λ r. ⌜ r ≡ faultOffset fault ⌝ }
+{
+    match fault {
+        Fault::Domain(at) => at,
+        Fault::Run(at) => at,
+    }
+}
+
+// The record at fault as a part of one of the two files, from there to the end. (Each offset is one of its file; the tests keep it in sight.)
+fn part<'a>(domain: &'a [u8], run: &'a [u8], fault: Fault) -> &'a [u8]
+    ensures { λ r. ⌜ now r ≡ partAt (now (domain .entry)) (now (run .entry)) fault ⌝ }
+{
+    match fault {
+        Fault::Domain(at) => {
+            if at <= domain.len() {
+                return &domain[at..];
+            }
+            let n = domain.len();
+            &domain[n..]
+        }
+        Fault::Run(at) => {
+            if at <= run.len() {
+                return &run[at..];
+            }
+            let n = run.len();
+            &run[n..]
+        }
+    }
+}
+
+// Whether the template is accepted.
+fn accepts(
+    counts: Counts,
+    arities: &[u8],
+    variables: &[u8],
+    sorts: &[u8],
+    starts: &[usize],
+    parts: &[u8],
+    table: &[u8],
+) -> bool
+    requires { ⌜ LentToPlay counts (now arities) (now variables) (now sorts) (now starts) (now parts) (now table) ⌝ }
+    ensures { λ r. ⌜ ((D : Domain) → Lent D counts (now (arities .entry)) (now (variables .entry)) (now (sorts .entry)) (now (starts .entry)) (now (parts .entry)) (now (table .entry))
+        → wellFormed D ≡ true → r ≡ accepted D) ⌝ }
+{
+    let mut names = [0u8; 8192];
+    let mut classes = [0u8; 64];
+    let naming = name_all(
+        counts,
+        arities,
+        sorts,
+        starts,
+        parts,
+        table,
+        &mut names,
+        &mut classes,
+    );
+    let notes = naming.notes;
+    let decided = notes.decide();
+    decided.number <= 1
+}
+
+// What the end of a run tells: with 2 no record is at fault, and the empty end of the run file comes back.
+fn answer_by(ended: Ended) -> PlayAnswer
+    ensures { λ r. ⌜ ((o : Outcome) → ended ≡ endedOf o → r ≡ answerBy o) ⌝ }
+{
+    let place = ended.place;
+    if ended.number == 2 {
+        return PlayAnswer {
+            number: 2,
+            place: 0,
+            steps: ended.steps,
+            weight: ended.weight,
+            fault: Fault::Run(place),
+        };
+    }
+    PlayAnswer {
+        number: ended.number,
+        place,
+        steps: ended.steps,
+        weight: ended.weight,
+        fault: Fault::Run(place),
+    }
+}
+
+// A domain that was read, and a run: 58 where the work memory is too small.
+fn play_domain(
+    counts: Counts,
+    arities: &[u8],
+    variables: &[u8],
+    sorts: &[u8],
+    starts: &[usize],
+    parts: &[u8],
+    table: &[u8],
+    run: &[u8],
+    work: &mut [u8],
+) -> PlayAnswer
+    requires { ⌜ LentToPlay counts (now arities) (now variables) (now sorts) (now starts) (now parts) (now table) ⌝ }
+    ensures { λ r. ⌜ ((D : Domain)
+        → Lent D counts (now (arities .entry)) (now (variables .entry)) (now (sorts .entry)) (now (starts .entry)) (now (parts .entry)) (now (table .entry)) → wellFormed D ≡ true
+        → (r ≡ answerOf (callBy (domainRead D) (now (run .entry)) (now (work .entry)))) × (now (work .exit) ≡ callBy (domainRead D) (now (run .entry)) (now (work .entry)) .memory)) ⌝ }
+{
+    if work.len() < 8192 {
+        return PlayAnswer {
+            number: 58,
+            place: 0,
+            steps: 0,
+            weight: 0,
+            fault: Fault::Run(run.len()),
+        };
+    }
+    let accepted = accepts(counts, arities, variables, sorts, starts, parts, table);
+    let ended = play_run(
+        counts,
+        arities,
+        variables,
+        sorts,
+        starts,
+        parts,
+        table,
+        accepted,
+        run,
+        work,
+    );
+    answer_by(ended)
+}
+
+// A domain file, read or refused 9 to 23, and a run file.
+pub fn play_files(domain: &[u8], run: &[u8], work: &mut [u8]) -> PlayAnswer
+    ensures answer { λ r. ⌜ r ≡ answerOf (call (now («domain» .entry)) (now (run .entry)) (now (work .entry))) ⌝ }
+    ensures work { λ _. ⌜ now (work .exit) ≡ workAfter (now («domain» .entry)) (now (run .entry)) (now (work .entry)) ⌝ }
+{
+    let mut arities = [0u8; 64];
+    let mut variables = [0u8; 64];
+    let mut sorts = [0u8; 64];
+    let mut starts = [0usize; 64];
+    let mut parts = [0u8; 128];
+    let mut table = [0u8; 32768];
+    let read = read_into(
+        domain,
+        &mut arities,
+        &mut variables,
+        &mut sorts,
+        &mut starts,
+        &mut parts,
+        &mut table,
+    );
+    let number = read.number;
+    let counts = read.counts;
+    if number != 0 {
+        return PlayAnswer {
+            number,
+            place: read.place,
+            steps: 0,
+            weight: 0,
+            fault: Fault::Domain(read.start),
+        };
+    }
+    play_domain(
+        counts,
+        &arities,
+        &variables,
+        &sorts,
+        &starts,
+        &parts,
+        &table,
+        run,
+        work,
+    )
+}
+
+// Plays a run file on a domain file: leaves the number, its place, the steps made and the highest weight, the facts in the work memory, and hands back the
+// record at fault as a part of its file. What it leaves is what the machine does on the start facts and steps of the run file, over the whole list; 59 never comes.
+pub fn play<'a>(
+    domain: &'a [u8],
+    run: &'a [u8],
+    work: &mut [u8],
+    number: &mut u64,
+    place: &mut u64,
+    steps: &mut u64,
+    weight: &mut u64,
+) -> &'a [u8]
+    ensures number { λ _. ⌜ now (number .exit) ≡ played (now («domain» .entry)) (now (run .entry)) (now (work .entry)) .number ⌝ }
+    ensures place { λ _. ⌜ now (place .exit) ≡ played (now («domain» .entry)) (now (run .entry)) (now (work .entry)) .first ⌝ }
+    ensures steps { λ _. ⌜ now (steps .exit) ≡ played (now («domain» .entry)) (now (run .entry)) (now (work .entry)) .steps ⌝ }
+    ensures weight { λ _. ⌜ now (weight .exit) ≡ played (now («domain» .entry)) (now (run .entry)) (now (work .entry)) .weight ⌝ }
+    ensures work { λ _. ⌜ now (work .exit) ≡ workAfter (now («domain» .entry)) (now (run .entry)) (now (work .entry)) ⌝ }
+    ensures machine { λ _. ⌜ PlaysAsMachine (now («domain» .entry)) (now (run .entry)) (now (work .entry)) (now (number .exit)) (now (steps .exit)) (now (weight .exit)) (now (work .exit)) ⌝ }
+    ensures never { λ _. ⌜ (now (number .exit) ≡ 59 → ⊥) ⌝ }
+    ensures part { λ r. ⌜ now r ≡ returnedBytes (now («domain» .entry)) (now (run .entry)) (returned (now («domain» .entry)) (now (run .entry)) (now (work .entry))) ⌝ }
+{
+    let answer = play_files(domain, run, work);
+    *number = answer.number;
+    *place = answer.place as u64;
+    *steps = answer.steps as u64;
+    *weight = answer.weight as u64;
+    let fault = answer.fault;
+    part(domain, run, fault)
+}

@@ -1,0 +1,112 @@
+// A whole run: its records in file order, up to its end or to the first that is at fault.
+use super::Player;
+use super::Turn;
+use literals::Counts;
+use machine::events::put_bytes;
+ghost use mathlib.Core.Path.{_≡_};
+ghost use mathlib.Core.List.{List, []};
+ghost use Prim.Native.Nat.{ℕ};
+ghost use Rattle.records.specs.Memory.{over};
+ghost use Rattle.literals.specs.Domain.{Domain};
+ghost use Rattle.machine.specs.Play.{accepted as acceptedTemplate, heldBytes, playRun};
+ghost use Rattle.machine.specs.Coded.{Lent};
+ghost use Rattle.player.specs.Player.{Runnable, endedOf};
+
+// How a run ended: the number (2 when it was played), the offset of the record at fault, the steps made, the highest weight.
+pub struct Ended {
+    pub number: u64,
+    pub place: usize,
+    pub steps: usize,
+    pub weight: usize,
+}
+
+// What a turn that ends the run tells of it.
+fn ended_by(turn: Turn) -> Ended
+    ensures { λ r. ⌜ (r .number ≡ turn .number) × (r .place ≡ turn .player .at) × (r .steps ≡ turn .player .tally .steps) × (r .weight ≡ turn .player .tally .weight) ⌝ }
+{
+    let player = turn.player;
+    let tally = player.tally;
+    Ended {
+        number: turn.number,
+        place: player.at,
+        steps: tally.steps,
+        weight: tally.weight,
+    }
+}
+
+// The records of a run file, where the work memory holds no fact yet.
+fn play_records(
+    counts: Counts,
+    arities: &[u8],
+    variables: &[u8],
+    sorts: &[u8],
+    starts: &[usize],
+    parts: &[u8],
+    table: &[u8],
+    accepted: bool,
+    run: &[u8],
+    work: &mut [u8],
+) -> Ended
+    requires { ⌜ Runnable counts (now arities) (now variables) (now sorts) (now starts) (now parts) (now table) «accepted» (now work) × (now work ≡ over (heldBytes []) (now work)) ⌝ }
+    ensures { λ r. ⌜ ((D : Domain) (old : List ℕ)
+        → Lent D counts (now (arities .entry)) (now (variables .entry)) (now (sorts .entry)) (now (starts .entry)) (now (parts .entry)) (now (table .entry))
+        → «accepted» ≡ acceptedTemplate D → now (work .entry) ≡ over (heldBytes []) old
+        → (r ≡ endedOf (playRun D (now (run .entry)))) × (now (work .exit) ≡ over (heldBytes (playRun D (now (run .entry)) .facts)) old)) ⌝ }
+{
+    let mut player = Player::new();
+    loop {
+        let turn = player.step(
+            counts,
+            arities,
+            variables,
+            sorts,
+            starts,
+            parts,
+            table,
+            accepted,
+            run,
+            work,
+        );
+        let number = turn.number;
+        if number == 0 {
+            player = turn.player;
+            continue;
+        }
+        return ended_by(turn);
+    }
+}
+
+// Plays a run file on a domain that was read. `accepted`: its template is accepted.
+pub fn play_run(
+    counts: Counts,
+    arities: &[u8],
+    variables: &[u8],
+    sorts: &[u8],
+    starts: &[usize],
+    parts: &[u8],
+    table: &[u8],
+    accepted: bool,
+    run: &[u8],
+    work: &mut [u8],
+) -> Ended
+    requires { ⌜ Runnable counts (now arities) (now variables) (now sorts) (now starts) (now parts) (now table) «accepted» (now work) ⌝ }
+    ensures { λ r. ⌜ ((D : Domain)
+        → Lent D counts (now (arities .entry)) (now (variables .entry)) (now (sorts .entry)) (now (starts .entry)) (now (parts .entry)) (now (table .entry))
+        → «accepted» ≡ acceptedTemplate D
+        → (r ≡ endedOf (playRun D (now (run .entry)))) × (now (work .exit) ≡ over (heldBytes (playRun D (now (run .entry)) .facts)) (now (work .entry)))) ⌝ }
+{
+    let zeros = [0u8; 8192];
+    put_bytes(work, 0, &zeros);
+    play_records(
+        counts,
+        arities,
+        variables,
+        sorts,
+        starts,
+        parts,
+        table,
+        accepted,
+        run,
+        work,
+    )
+}

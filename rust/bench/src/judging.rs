@@ -1,0 +1,113 @@
+//! Judging, timed.
+
+use crate::files::{self, Shape};
+use crate::timing::{take_turns, Timed};
+use std::hint::black_box;
+
+/// Memory that is enough for every file.
+const REPORT: usize = 64 * 64 * 2 * 4;
+const WITNESS: usize = 65 * 8;
+
+/// Answers with the number and its three places.
+type Judge = fn(&[u8], &mut [u8], &mut [u8]) -> [u64; 4];
+
+struct Side {
+    judge: Judge,
+    report: Vec<u8>,
+    witness: Vec<u8>,
+}
+
+impl Side {
+    fn new(judge: Judge) -> Side {
+        Side { judge, report: vec![0; REPORT], witness: vec![0; WITNESS] }
+    }
+
+    fn judge(&mut self, file: &[u8]) -> [u64; 4] {
+        (self.judge)(black_box(file), black_box(&mut self.report), black_box(&mut self.witness))
+    }
+}
+
+fn by_library(file: &[u8], report: &mut [u8], witness: &mut [u8]) -> [u64; 4] {
+    let answer = goadlotus::judge(file, report, witness);
+    [answer.number, answer.first, answer.second, answer.third]
+}
+
+fn by_model(file: &[u8], report: &mut [u8], witness: &mut [u8]) -> [u64; 4] {
+    let answer = model::judge(file, report, witness);
+    [answer.number.into(), answer.first as u64, answer.second as u64, answer.third as u64]
+}
+
+/// The times, and the number that is answered.
+fn time(name: &str, file: &[u8]) -> (Timed, u64) {
+    let (mut library, mut model) = (Side::new(by_library), Side::new(by_model));
+    let verdict = library.judge(file);
+    let same = verdict == model.judge(file) && library.report == model.report && library.witness == model.witness;
+    assert!(same, "{name}: library and model differ");
+    assert!(!(9..=31).contains(&verdict[0]), "{name}: judged {verdict:?}, so there is nothing to time");
+    let turns = take_turns(
+        || {
+            black_box(library.judge(file));
+        },
+        || {
+            black_box(model.judge(file));
+        },
+    );
+    (turns, verdict[0])
+}
+
+fn single_files() {
+    println!("judging, nanoseconds: median of interleaved rounds; ratio is library / model");
+    println!(
+        "{:24} {:>6} {:>7} {:>12} {:>12} {:>7} {:>9} {:>9} {:>7}",
+        "file", "bytes", "verdict", "library", "model", "ratio", "lib/byte", "mod/byte", "rounds"
+    );
+    for (name, file) in [
+        ("M1", files::m1()),
+        ("Rovers, 9 actions", files::rovers()),
+        ("dense, 64 classes", files::dense(64, Shape::Classes)),
+        ("dense, 21 journeys", files::dense(64, Shape::Journeys)),
+    ] {
+        let (timed, verdict) = time(name, &file);
+        let bytes = file.len() as f64;
+        println!(
+            "{name:24} {bytes:>6} {verdict:>7} {:>12.0} {:>12.0} {:>7.2} {:>9.2} {:>9.2} {:>7}",
+            timed.library,
+            timed.model,
+            timed.library / timed.model,
+            timed.library / bytes,
+            timed.model / bytes,
+            timed.rounds
+        );
+    }
+}
+
+fn growth() {
+    println!("\ngrowth with the number of actions of the same shape, nanoseconds an action");
+    println!(
+        "{:24} {:>7} {:>6} {:>12} {:>12} {:>7}   of 8 actions: library, model",
+        "actions", "number", "bytes", "library", "model", "ratio"
+    );
+    for (name, shape) in
+        [("Rovers' communicate", Shape::Communicate), ("64 classes", Shape::Classes), ("21 journeys", Shape::Journeys)]
+    {
+        let mut first = None;
+        for actions in [8, 16, 32, 64] {
+            let file = files::dense(actions, shape);
+            let (timed, _) = time(name, &file);
+            let (library, model) = (timed.library / actions as f64, timed.model / actions as f64);
+            let (first_library, first_model) = *first.get_or_insert((library, model));
+            println!(
+                "{name:24} {actions:>7} {:>6} {library:>12.1} {model:>12.1} {:>7.2}   x{:.2}, x{:.2}",
+                file.len(),
+                library / model,
+                library / first_library,
+                model / first_model
+            );
+        }
+    }
+}
+
+pub fn print() {
+    single_files();
+    growth();
+}

@@ -1,0 +1,77 @@
+//! Playing, timed.
+
+use crate::runs;
+use crate::timing::take_turns;
+use std::hint::black_box;
+
+/// Answers with number, place, steps, weight, and the length of the part.
+type Play = fn(&[u8], &[u8], &mut [u8]) -> [u64; 5];
+
+struct Side {
+    play: Play,
+    work: Vec<u8>,
+}
+
+impl Side {
+    fn new(play: Play) -> Side {
+        Side { play, work: vec![0; model::WORK] }
+    }
+
+    fn play(&mut self, domain: &[u8], run: &[u8]) -> [u64; 5] {
+        (self.play)(black_box(domain), black_box(run), black_box(&mut self.work))
+    }
+}
+
+fn by_library(domain: &[u8], run: &[u8], work: &mut [u8]) -> [u64; 5] {
+    let played = goadlotus::play(domain, run, work);
+    let (goadlotus::Part::Domain(part) | goadlotus::Part::Run(part)) = played.part;
+    [played.number, played.place, played.steps, played.weight, part.len() as u64]
+}
+
+fn by_model(domain: &[u8], run: &[u8], work: &mut [u8]) -> [u64; 5] {
+    let played = model::play(domain, run, work);
+    let file = if played.part.file == model::Source::Domain { domain } else { run };
+    let part = file.len() - played.part.at;
+    [played.number.into(), played.first as u64, played.steps as u64, played.weight.into(), part as u64]
+}
+
+pub fn print() {
+    println!("\nplaying, nanoseconds: median of interleaved rounds; ratio is library / model");
+    println!(
+        "{:24} {:>7} {:>6} {:>12} {:>12} {:>7} {:>9} {:>9} {:>9} {:>9} {:>7}",
+        "run", "bytes", "steps", "library", "model", "ratio", "lib/step", "mod/step", "lib/byte", "mod/byte", "rounds"
+    );
+    let domain = runs::archive();
+    for (name, run) in [
+        ("5,000 steps of 1 event", runs::single_events(5_000)),
+        ("1,000 steps of 16 events", runs::full_steps(1_000)),
+        ("10,000 empty, 32 open", runs::empty_steps(10_000)),
+        ("lending, 1 MB", runs::lending(1_000_000)),
+    ] {
+        let (mut library, mut model) = (Side::new(by_library), Side::new(by_model));
+        let played = library.play(&domain, &run);
+        let same = played == model.play(&domain, &run) && library.work == model.work;
+        assert!(same, "{name}: library and model differ");
+        assert_eq!(played[0], 2, "{name}: not played to the end");
+        let timed = take_turns(
+            || {
+                black_box(library.play(&domain, &run));
+            },
+            || {
+                black_box(model.play(&domain, &run));
+            },
+        );
+        let (bytes, steps) = (run.len() as f64, played[2] as f64);
+        println!(
+            "{name:24} {bytes:>7} {steps:>6} {:>12.0} {:>12.0} {:>7.2} {:>9.1} {:>9.1} {:>9.2} {:>9.2} {:>7}",
+            timed.library,
+            timed.model,
+            timed.library / timed.model,
+            timed.library / steps,
+            timed.model / steps,
+            timed.library / bytes,
+            timed.model / bytes,
+            timed.rounds
+        );
+    }
+}

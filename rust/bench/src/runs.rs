@@ -1,0 +1,177 @@
+//! The run files that are timed, over one archive. Its volumes are told by two objects each, so that 64 objects are
+//! enough for about a thousand of them.
+
+use generate::literature::Named;
+use generate::records::{encode, rec, Rec};
+
+const ARCHIVE: &str = "
+relation stands 3
+relation lent 3
+relation present 1
+relation closed 1
+
+at-once move left right from to
+    start true stands left right from
+    start add stands left right to
+    start delete stands left right from
+
+lasting lend left right from reader
+    start true stands left right from
+    start delete stands left right from
+    all true present reader
+    all false closed left
+    end add lent left right reader
+
+lasting give-back left right reader to
+    start true lent left right reader
+    start delete lent left right reader
+    all true present reader
+    end add stands left right to
+";
+
+const TEMPLATE: &str = "stands[0,1,FF], lent[0,1,FF]";
+
+const STANDS: u8 = 0;
+const PRESENT: u8 = 2;
+const MOVE: u8 = 0;
+const LEND: u8 = 1;
+const GIVE_BACK: u8 = 2;
+
+/// The events of a full step, and half the objects: the first half is shelves, the second readers.
+const FULL: usize = 16;
+const HALF: usize = 32;
+
+pub fn archive() -> Vec<u8> {
+    Named::read(ARCHIVE).with(TEMPLATE).file()
+}
+
+/// A volume's two objects.
+fn volume(number: usize) -> [u8; 2] {
+    [(number / HALF) as u8, (HALF + number % HALF) as u8]
+}
+
+/// Shelves that aren't the volume's first object, and a reader that isn't its second.
+fn shelf(number: usize, which: usize) -> u8 {
+    ((number / HALF + 1 + which) % HALF) as u8
+}
+
+fn reader(number: usize) -> u8 {
+    (HALF + (number + 1) % HALF) as u8
+}
+
+/// 64 objects, and so many volumes, each on its first shelf.
+fn start(volumes: usize) -> Vec<Rec> {
+    let mut records = vec![rec(16, [64])];
+    for number in 0..volumes {
+        let [left, right] = volume(number);
+        records.push(rec(17, [STANDS, left, right, shelf(number, 0)]));
+    }
+    records
+}
+
+fn event(moment: u8, action: u8, number: usize, first: u8, second: u8) -> Rec {
+    let [left, right] = volume(number);
+    rec(18, [moment, action, left, right, first, second])
+}
+
+fn close(mut records: Vec<Rec>) -> Vec<u8> {
+    records.push(rec(20, []));
+    encode(&records)
+}
+
+/// So many steps of so many events, each moving a volume to its next shelf.
+fn moves(steps: usize, events: usize) -> Vec<u8> {
+    const VOLUMES: usize = 1_000;
+    let mut records = start(VOLUMES);
+    for step in 0..steps {
+        for moved in step * events..(step + 1) * events {
+            let (number, times) = (moved % VOLUMES, moved / VOLUMES);
+            records.push(event(0, MOVE, number, shelf(number, times), shelf(number, times + 1)));
+        }
+        records.push(rec(19, []));
+    }
+    close(records)
+}
+
+/// Steps of one event over 1,000 facts.
+pub fn single_events(steps: usize) -> Vec<u8> {
+    moves(steps, 1)
+}
+
+/// Steps of 16 events over 1,000 facts.
+pub fn full_steps(steps: usize) -> Vec<u8> {
+    moves(steps, FULL)
+}
+
+/// 960 volumes, all readers present.
+const LENDING: usize = 960;
+
+fn lending_start() -> Vec<Rec> {
+    let mut records = start(LENDING);
+    records.extend((HALF..2 * HALF).map(|reader| rec(17, [PRESENT, reader as u8])));
+    records
+}
+
+/// A full step of starts or ends for 16 volumes from this one on.
+fn full_step(records: &mut Vec<Rec>, moment: u8, action: u8, first: usize) {
+    for number in first..first + FULL {
+        let (reader, shelf) = (reader(number), shelf(number, 0));
+        records.push(match action {
+            LEND => event(moment, LEND, number, shelf, reader),
+            _ => event(moment, action, number, reader, shelf),
+        });
+    }
+    records.push(rec(19, []));
+}
+
+/// Two steps that leave 32 lasting actions open, then so many without events.
+pub fn empty_steps(steps: usize) -> Vec<u8> {
+    let mut records = lending_start();
+    for first in [0, FULL] {
+        full_step(&mut records, 0, LEND, first);
+    }
+    records.extend((0..steps).map(|_| rec(19, [])));
+    close(records)
+}
+
+/// Full steps that lend volumes and give them back, until the file has so many bytes.
+pub fn lending(bytes: usize) -> Vec<u8> {
+    let mut records = lending_start();
+    let step = FULL * event(0, LEND, 0, 0, 0).payload.len() + FULL * 4 + 4;
+    let begun = encode(&records).len() + 4;
+    let rounds = bytes.saturating_sub(begun).div_ceil(4 * step);
+    for round in 0..rounds {
+        let first = round * FULL % LENDING;
+        for action in [LEND, GIVE_BACK] {
+            full_step(&mut records, 0, action, first);
+            full_step(&mut records, 1, action, first);
+        }
+    }
+    close(records)
+}
+
+#[cfg(test)]
+mod tests {
+    use super::*;
+    use model::{play, WORK};
+
+    /// All are played to their end over an accepted template, with the steps and facts that their names tell.
+    #[test]
+    fn all_are_played() {
+        let domain = archive();
+        assert_eq!(model::judge(&domain, &mut [0; 64], &mut []).number, 1);
+        for (run, steps, facts) in [
+            (single_events(5_000), 5_000, 1_000),
+            (full_steps(1_000), 1_000, 1_000),
+            (empty_steps(10_000), 10_002, 960 - 32 + 32),
+            (lending(1_000_000), 4 * 1_513, 960 + 32),
+        ] {
+            let mut work = [0; WORK];
+            let played = play(&domain, &run, &mut work);
+            assert_eq!((played.number, played.steps, played.weight), (2, steps, 1));
+            let held = work.chunks_exact(8).filter(|fact| fact[7] == 0xFF).count();
+            assert_eq!(held, facts);
+        }
+        assert!((1_000_000..1_001_000).contains(&lending(1_000_000).len()));
+    }
+}

@@ -1,0 +1,137 @@
+//! Domains of the planning literature, from the texts in cases/literature.
+//!
+//! A text has one thing a line: `relation NAME ARITY`; `lasting NAME VARIABLE ..` and `at-once NAME VARIABLE ..`,
+//! each followed by its literals; a literal is its time (`start`, `all`, `end`), its list (`true`, `false`, `add`,
+//! `delete`), its relation and its variables. A line that starts with # is a remark.
+
+use crate::domains::{Plan, PlanAction, FF};
+
+pub const DEPOTS: &str = include_str!("../../cases/literature/depots.txt");
+pub const DRIVERLOG: &str = include_str!("../../cases/literature/driverlog.txt");
+pub const FLOORTILE: &str = include_str!("../../cases/literature/floortile.txt");
+pub const ROVERS: &str = include_str!("../../cases/literature/rovers.txt");
+pub const SATELLITE: &str = include_str!("../../cases/literature/satellite.txt");
+
+/// A domain with its names, and no template yet.
+#[derive(Clone, Debug, Default)]
+pub struct Named {
+    relations: Vec<(String, u8)>,
+    actions: Vec<(String, PlanAction)>,
+}
+
+/// The place of a name in a list. Panics where it is missing: the texts are ours.
+fn place<T>(list: &[(String, T)], name: &str) -> usize {
+    list.iter().position(|(other, _)| other == name).unwrap_or_else(|| panic!("{name:?} is unknown"))
+}
+
+impl Named {
+    /// Reads a text. Panics where it doesn't have the form told above.
+    pub fn read(text: &str) -> Named {
+        let mut domain = Named::default();
+        let mut variables: Vec<&str> = Vec::new();
+        for line in text.lines().filter(|line| !line.starts_with('#') && !line.is_empty()) {
+            let words: Vec<&str> = line.split_whitespace().collect();
+            match words[..] {
+                ["relation", name, arity] => {
+                    let arity = arity.parse().unwrap_or_else(|_| panic!("no arity: {line:?}"));
+                    domain.relations.push((name.to_string(), arity));
+                }
+                [sort @ ("lasting" | "at-once"), name, ref of @ ..] => {
+                    variables = of.to_vec();
+                    let action = PlanAction::new(variables.len() as u8, sort == "lasting");
+                    domain.actions.push((name.to_string(), action));
+                }
+                [time, list, relation, ref of @ ..] => {
+                    let first = match time {
+                        "start" => 0,
+                        "all" => 4,
+                        "end" => 6,
+                        _ => panic!("no time: {line:?}"),
+                    };
+                    let lists = ["true", "false", "add", "delete"];
+                    let role = first + lists.iter().position(|&other| other == list).expect("a list") as u8;
+                    let relation = place(&domain.relations, relation) as u8;
+                    let of =
+                        of.iter().map(|name| variables.iter().position(|other| other == name).expect("a variable"));
+                    let of: Vec<u8> = of.map(|number| number as u8).collect();
+                    assert_eq!(of.len(), domain.relations[relation as usize].1 as usize, "{line:?}");
+                    let (_, action) = domain.actions.last_mut().expect("an action before its literals");
+                    action.literals.push((role, relation, of));
+                }
+                _ => panic!("not a line of a domain: {line:?}"),
+            }
+        }
+        domain
+    }
+
+    /// The same domain with every action at once: what is true or false at any time is a condition, all effects come
+    /// together. A literal that would stand twice stands once.
+    pub fn at_once(&self) -> Named {
+        let mut domain = self.clone();
+        for (_, action) in &mut domain.actions {
+            let mut once = PlanAction::new(action.variables, false);
+            for (role, relation, of) in action.literals.drain(..) {
+                let list = match role {
+                    0..=3 => role,
+                    4..=5 => role - 4,
+                    _ => role - 6,
+                };
+                once.push(list, relation, of);
+            }
+            *action = once;
+        }
+        domain
+    }
+
+    pub fn relation(&self, name: &str) -> u8 {
+        place(&self.relations, name) as u8
+    }
+
+    pub fn action(&self, name: &str) -> u8 {
+        place(&self.actions, name) as u8
+    }
+
+    pub fn variables(&self, action: u8) -> u8 {
+        self.actions[action as usize].1.variables
+    }
+
+    /// The number of moments of each class of an action: two if it lasts.
+    pub fn moments(&self, action: u8) -> usize {
+        1 + self.actions[action as usize].1.lasting as usize
+    }
+
+    /// The domain with a template as the paper writes one: `at[0,FF], out[0,FF]`.
+    pub fn with(&self, template: &str) -> Plan {
+        let component = |text: &str| {
+            let (relation, labels) = text.strip_suffix(']').and_then(|text| text.split_once('[')).expect("a component");
+            let label = |text: &str| if text == "FF" { FF } else { text.parse().expect("a key") };
+            let labels = labels.split(',').filter(|text| !text.is_empty()).map(label).collect();
+            (self.relation(relation), labels)
+        };
+        Plan {
+            relations: self.relations.iter().map(|relation| relation.1).collect(),
+            actions: self.actions.iter().map(|action| action.1.clone()).collect(),
+            components: template.split(", ").map(component).collect(),
+        }
+    }
+}
+
+#[cfg(test)]
+mod tests {
+    use super::*;
+
+    /// Every text is a domain file with any of its relations as template, as it stands and with all actions at once.
+    #[test]
+    fn all_are_well_formed() {
+        for text in [DEPOTS, DRIVERLOG, FLOORTILE, ROVERS, SATELLITE] {
+            let domain = Named::read(text);
+            for domain in [domain.at_once(), domain] {
+                for (name, arity) in &domain.relations {
+                    let labels: Vec<String> = (0..*arity).map(|key| key.to_string()).collect();
+                    let plan = domain.with(&format!("{name}[{}]", labels.join(",")));
+                    assert!(model::read(&plan.file()).is_ok(), "{name}");
+                }
+            }
+        }
+    }
+}

@@ -1,0 +1,296 @@
+//! What a run meets on its way, told by the model: for counts of what generated runs cover.
+
+use crate::records::split;
+use model::domain::{Atom, Domain, Fact, Literals, Moment, Object};
+use model::machine::{binding, Binding, Entry, Event, State};
+use model::player::{EVENTS, FACTS, OBJECTS, OPEN};
+use model::{play, WORK};
+
+#[derive(Clone, Copy, PartialEq, Eq, PartialOrd, Ord, Debug)]
+pub enum Met {
+    /// 57.
+    EndNotOpen,
+    /// 55: an event's true or false condition, at the start, at once or at the end.
+    TrueFails,
+    FalseFails,
+    /// 55: no event's condition fails, but an over-all one of something open.
+    OverAllTrueFails,
+    OverAllFalseFails,
+    /// 56: what of an earlier event meets what of a later one.
+    ConditionMeetsAdd,
+    ConditionMeetsDelete,
+    AddMeetsCondition,
+    DeleteMeetsCondition,
+    AddMeetsDelete,
+    DeleteMeetsAdd,
+    /// 56: by a false condition, or by an end's over-all condition.
+    FalseMeetsEffect,
+    OverAllMeetsEffect,
+    /// As many as may be, and 52 for one more.
+    StartFacts1024,
+    StartFact1025,
+    Facts1024,
+    Facts1025,
+    Events16,
+    Event17,
+    Open32,
+    Open33,
+    /// 64 objects, the last of them in a fact after a step.
+    Objects64,
+    Object63,
+    /// A fact of six different objects, new in a step.
+    SixArguments,
+    /// A start fact repeated.
+    StartFactRepeated,
+    /// A step without events, and one of several events while something is open.
+    EmptyStep,
+    ManyWhileOpen,
+    /// An entry open twice, and one of the two ended.
+    OpenTwice,
+    OneOfTwoEnded,
+    /// An entry's end in one step with a start of the same.
+    EndAndStart,
+    /// In one step: a fact held deleted and added again; a fact added, or one held deleted, by two events; a fact added
+    /// that is held.
+    DeletedAndAdded,
+    AddedByTwo,
+    DeletedByTwo,
+    AddedAlthoughHeld,
+    /// 1,024 facts come, or go, in one step.
+    Come1024,
+    Go1024,
+    /// A weight above what a byte holds; steps, and the place of a fault, above what two bytes hold.
+    WeightOver255,
+    StepsOver65535,
+    PlaceOver65535,
+    /// A step leaves a higher weight than any state before it, or a lower one than the state before it.
+    WeightRises,
+    WeightFalls,
+}
+
+pub const ALL: [Met; 41] = [
+    Met::EndNotOpen,
+    Met::TrueFails,
+    Met::FalseFails,
+    Met::OverAllTrueFails,
+    Met::OverAllFalseFails,
+    Met::ConditionMeetsAdd,
+    Met::ConditionMeetsDelete,
+    Met::AddMeetsCondition,
+    Met::DeleteMeetsCondition,
+    Met::AddMeetsDelete,
+    Met::DeleteMeetsAdd,
+    Met::FalseMeetsEffect,
+    Met::OverAllMeetsEffect,
+    Met::StartFacts1024,
+    Met::StartFact1025,
+    Met::Facts1024,
+    Met::Facts1025,
+    Met::Events16,
+    Met::Event17,
+    Met::Open32,
+    Met::Open33,
+    Met::Objects64,
+    Met::Object63,
+    Met::SixArguments,
+    Met::StartFactRepeated,
+    Met::EmptyStep,
+    Met::ManyWhileOpen,
+    Met::OpenTwice,
+    Met::OneOfTwoEnded,
+    Met::EndAndStart,
+    Met::DeletedAndAdded,
+    Met::AddedByTwo,
+    Met::DeletedByTwo,
+    Met::AddedAlthoughHeld,
+    Met::Come1024,
+    Met::Go1024,
+    Met::WeightOver255,
+    Met::StepsOver65535,
+    Met::PlaceOver65535,
+    Met::WeightRises,
+    Met::WeightFalls,
+];
+
+/// What this run meets, each once, in any order. Nothing if the domain file isn't well-formed.
+pub fn met(domain_file: &[u8], run: &[u8]) -> Vec<Met> {
+    let Ok(domain) = model::read(domain_file) else { return Vec::new() };
+    let played = play(domain_file, run, &mut [0; WORK]);
+    let mut watch = Watch { domain: &domain, state: State::default(), events: Vec::new(), weight: 0, met: Vec::new() };
+    watch.note(Met::WeightOver255, played.weight > 255);
+    watch.note(Met::StepsOver65535, played.steps > 65_535);
+    watch.note(Met::PlaceOver65535, played.first > 65_535);
+    let mut at = 0;
+    for record in split(run) {
+        let faulty = played.number != 2 && at == played.first;
+        watch.record(record.kind, &record.payload, if faulty { Some(played.number) } else { None });
+        if faulty {
+            break;
+        }
+        at += 4 + record.payload.len();
+    }
+    watch.met.sort();
+    watch.met.dedup();
+    watch.met
+}
+
+struct Watch<'d> {
+    domain: &'d Domain,
+    state: State,
+    events: Vec<Event>,
+    /// The highest weight so far.
+    weight: u32,
+    met: Vec<Met>,
+}
+
+impl Watch<'_> {
+    fn note(&mut self, met: Met, whether: bool) {
+        if whether {
+            self.met.push(met);
+        }
+    }
+
+    /// The facts of literals under a binding.
+    fn bound(&self, action: u8, binding: &Binding, set: Literals) -> Vec<Fact> {
+        let action = &self.domain.actions[action as usize];
+        set.map(|literal| action.atom(literal).bind(|variable| binding[variable.0 as usize])).collect()
+    }
+
+    fn moment(&self, event: &Event) -> &Moment {
+        &self.domain.actions[event.action as usize].moments[event.moment as usize]
+    }
+
+    fn facts(&self, event: &Event, set: impl Fn(&Moment) -> Literals) -> Vec<Fact> {
+        self.bound(event.action, &event.binding, set(self.moment(event)))
+    }
+
+    /// Takes in a record, with its number if it is the faulty one.
+    fn record(&mut self, kind: u16, payload: &[u8], fault: Option<u8>) {
+        if (18..=20).contains(&kind) && self.events.is_empty() {
+            self.weight = self.weight.max(self.state.highest_weight());
+        }
+        match (kind, fault) {
+            (16, None) => self.note(Met::Objects64, payload[0] == OBJECTS),
+            (17, None) => {
+                let fact = Atom::new(payload[0], payload[1..].iter().map(|&object| Object(object)));
+                let held = self.state.holds(&fact);
+                self.note(Met::StartFactRepeated, held);
+                if !held {
+                    self.state.insert(&self.domain.template, fact);
+                }
+                let facts = self.state.facts().len();
+                self.note(Met::StartFacts1024, facts == FACTS);
+            }
+            (17, Some(52)) => self.met.push(Met::StartFact1025),
+            (18, None) => {
+                let event = Event { moment: payload[0], action: payload[1], binding: binding(&payload[2..]) };
+                self.events.push(event);
+            }
+            (18, Some(52)) => self.met.push(Met::Event17),
+            (19, None) => self.step(),
+            (19, Some(52)) => {
+                let (facts, open) = self.state.sizes_after(&self.state.change(self.domain, &self.events));
+                self.note(Met::Facts1025, facts == FACTS + 1);
+                self.note(Met::Open33, open == OPEN + 1);
+            }
+            (19, Some(55)) => self.failing(),
+            (19, Some(56)) => self.interfering(),
+            (19, Some(57)) => self.met.push(Met::EndNotOpen),
+            _ => {}
+        }
+    }
+
+    /// Makes an allowed step.
+    fn step(&mut self) {
+        let events = std::mem::take(&mut self.events);
+        let open: Vec<Entry> = self.state.open().to_vec();
+        let times = |entry: &Entry| open.iter().filter(|other| *other == entry).count();
+        let entry = |event: &Event| Entry { action: event.action, binding: event.binding };
+        let ends: Vec<Entry> = events.iter().filter(|event| event.moment == 1).map(entry).collect();
+        let starts: Vec<Entry> = events.iter().filter(|event| event.moment == 0).map(entry).collect();
+        self.note(Met::EmptyStep, events.is_empty());
+        self.note(Met::Events16, events.len() == EVENTS);
+        self.note(Met::ManyWhileOpen, events.len() > 1 && !open.is_empty());
+        self.note(Met::OneOfTwoEnded, ends.iter().any(|end| times(end) > 1));
+        self.note(Met::EndAndStart, ends.iter().any(|end| starts.contains(end)));
+        self.note(Met::OpenTwice, open.iter().any(|entry| times(entry) > 1));
+        let mut adds: Vec<Fact> = Vec::new();
+        let mut deletes: Vec<Fact> = Vec::new();
+        for event in &events {
+            let (added, deleted) = (self.facts(event, |m| m.adds), self.facts(event, |m| m.deletes));
+            self.note(Met::AddedByTwo, added.iter().any(|fact| adds.contains(fact)));
+            self.note(Met::DeletedByTwo, deleted.iter().any(|f| deletes.contains(f) && self.state.holds(f)));
+            adds.extend(added);
+            deletes.extend(deleted);
+        }
+        let held = |fact: &Fact| self.state.holds(fact);
+        let (again, although): (Vec<Fact>, Vec<Fact>) =
+            adds.iter().filter(|fact| held(fact)).partition(|fact| deletes.contains(fact));
+        self.note(Met::DeletedAndAdded, !again.is_empty());
+        self.note(Met::AddedAlthoughHeld, !although.is_empty());
+        let different = |fact: &&Fact| (0..6).all(|i| fact.arity == 6 && !fact.args[..i].contains(&fact.args[i]));
+        self.note(Met::SixArguments, adds.iter().any(|fact| different(&fact)));
+        self.note(Met::Object63, adds.iter().any(|fact| fact.args().contains(&Object(OBJECTS - 1))));
+        let held_before = self.state.facts().len();
+        self.note(Met::Go1024, held_before == FACTS && deletes.len() == FACTS && adds.is_empty());
+        let before = self.state.highest_weight();
+        let change = self.state.change(self.domain, &events);
+        self.state.advance(&self.domain.template, &change);
+        let now = self.state.highest_weight();
+        self.note(Met::WeightRises, now > self.weight);
+        self.note(Met::WeightFalls, now < before);
+        self.weight = self.weight.max(now);
+        let (facts, open) = (self.state.facts().len(), self.state.open().len());
+        self.note(Met::Facts1024, facts == FACTS && !events.is_empty());
+        self.note(Met::Come1024, facts == FACTS && held_before == 0);
+        self.note(Met::Open32, open == OPEN);
+    }
+
+    fn failing(&mut self) {
+        let fails = |trues: Vec<Fact>, falses: Vec<Fact>, state: &State| {
+            (trues.iter().any(|fact| !state.holds(fact)), falses.iter().any(|fact| state.holds(fact)))
+        };
+        let (mut of_events, mut of_open) = ((false, false), (false, false));
+        for event in &self.events {
+            let now = fails(self.facts(event, |m| m.trues), self.facts(event, |m| m.falses), &self.state);
+            of_events = (of_events.0 | now.0, of_events.1 | now.1);
+        }
+        for entry in self.state.open() {
+            let over_all = self.domain.actions[entry.action as usize].over_all;
+            let bound = |set| self.bound(entry.action, &entry.binding, set);
+            let now = fails(bound(over_all.trues), bound(over_all.falses), &self.state);
+            of_open = (of_open.0 | now.0, of_open.1 | now.1);
+        }
+        let only_open = of_events == (false, false);
+        self.note(Met::TrueFails, of_events.0);
+        self.note(Met::FalseFails, of_events.1);
+        self.note(Met::OverAllTrueFails, only_open && of_open.0);
+        self.note(Met::OverAllFalseFails, only_open && of_open.1);
+    }
+
+    fn interfering(&mut self) {
+        let events = std::mem::take(&mut self.events);
+        let meet = |some: &[Fact], others: &[Fact]| some.iter().any(|fact| others.contains(fact));
+        for (number, later) in events.iter().enumerate() {
+            for earlier in &events[..number] {
+                let [a, b] = [earlier, later].map(|event| {
+                    let conditions = self.facts(event, |m| m.trues.or(m.falses));
+                    (conditions, self.facts(event, |m| m.adds), self.facts(event, |m| m.deletes))
+                });
+                self.note(Met::ConditionMeetsAdd, meet(&a.0, &b.1));
+                self.note(Met::ConditionMeetsDelete, meet(&a.0, &b.2));
+                self.note(Met::AddMeetsCondition, meet(&a.1, &b.0));
+                self.note(Met::DeleteMeetsCondition, meet(&a.2, &b.0));
+                self.note(Met::AddMeetsDelete, meet(&a.1, &b.2));
+                self.note(Met::DeleteMeetsAdd, meet(&a.2, &b.1));
+                for (event, other) in [(earlier, later), (later, earlier)] {
+                    let effects = self.facts(other, |m| m.adds.or(m.deletes));
+                    self.note(Met::FalseMeetsEffect, meet(&self.facts(event, |m| m.falses), &effects));
+                    let over_all = self.domain.actions[event.action as usize].over_all;
+                    let conditions = self.bound(event.action, &event.binding, over_all.trues.or(over_all.falses));
+                    self.note(Met::OverAllMeetsEffect, event.moment == 1 && meet(&conditions, &effects));
+                }
+            }
+        }
+    }
+}
