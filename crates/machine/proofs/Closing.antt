@@ -1,13 +1,13 @@
 -- The step's close: what forbids it, what is too large, and what it leaves. Assumes nothing.
-use mathlib.Core.Path.{_≡_, refl, sym, ap, ap₂, _∙_}
-use mathlib.Core.Bool.{Bool, true, false, _&&_, _||_, not, cond}
-use mathlib.Core.List.{List, [], _∷_, _++_, map}
-use Prim.Native.Nat.{ℕ, zero, suc, _+_, _-_, _*_, _≤_, _<_, max}
+use mathlib.Core.Path.{_≡_, refl, sym, ap, _∙_}
+use mathlib.Core.Bool.{Bool, true, false, _&&_, not, cond}
+use mathlib.Core.List.{List, [], _++_, map}
+use Prim.Native.Nat.{ℕ, _+_, _-_, _≤_, _<_, max}
 use native.Mathlib.Omega.{arith}
 use lib.Dec.{eqb, ltb, leb}
-use lib.ListN.{length, getD}
+use lib.ListN.{length}
 use lib.Seq.{paste}
-use borrow.Author.Tests.{eq-eqb, ne-eqb, lt-ltb, le-ltb, ltb-true, ltb-false, leb-true, leb-false}
+use borrow.Author.Tests.{ne-eqb, lt-ltb, le-ltb, ltb-true, leb-true, leb-false}
 use Rattle.records.specs.Lists.{In, filterBy, all, elem}
 use Rattle.records.specs.Memory.{over}
 use Rattle.records.proofs.Lists.{or-l, or-r}
@@ -15,10 +15,11 @@ use Rattle.literals.specs.declared.Clause.the-variants.{Delete}
 use Rattle.literals.specs.Domain.{Fact, sameFact, Domain}
 use Rattle.literals.specs.Table.{rowsIn, Bounded}
 use Rattle.verdict.specs.Machine.{GroundAction, Event, State, isOpen, conditionsHold, overAllHold, independent, stepFacts, factsAfter, closeAll, openedBy, next, topWeight}
+use Rattle.store.specs.Index.{Indexed}
 use Rattle.machine.specs.declared.Open.{Open}
 use Rattle.machine.specs.declared.Waiting.{Waiting}
 use Rattle.machine.specs.declared.State.{State as Holding}
-use Rattle.machine.specs.Play.{maxFacts, maxRunning, workBytes, forbidden, tooLarge, heldBytes}
+use Rattle.machine.specs.Play.{maxFacts, maxRunning, forbidden, tooLarge, heldBytes}
 use Rattle.machine.specs.Coded.{factRow, openOf, waitingOf, atMost, topFrom, FactFits}
 use Rattle.machine.specs.Stepping.{holdingOf, Kept, closeStop, closeState, closeWaiting, closeWeight, Leaves}
 use Rattle.machine.proofs.HeldBytes.{fits-few, held-rows, held-anew}
@@ -147,9 +148,19 @@ module _ (D : Domain) (B : Bounded D) (s : State) (es : List Event) (old : List 
     pub after-fits : (f : Fact) → In f after → FactFits D f
     after-fits = after-fit after-few running-short
 
+    facts-taken : closeState D s es .facts ≡ after
+    unfolding closeState
+    facts-taken = let f : eqb (closeStop D s es) 0 ≡ true = rw (stop-large D s es old w free false (not-large D s es after-few running-short)) in rw f facts-next
+
+    pub taken-indexed : (arities : List ℕ) (keys : ℕ) (parts : List (List ℕ)) (index : List ℕ) → Indexed arities keys parts index (map factRow after) → Indexed arities keys parts index (map factRow (closeState D s es .facts))
+    taken-indexed arities keys parts index h = rw facts-taken h
+
     module _ (memory : List ℕ) (m : memory ≡ heldBytes after) where
       pub memory-rows : rowsIn n memory ≡ map factRow after
       memory-rows = ap (λ (k : ℕ). rowsIn k memory) size-is ∙ ap (rowsIn (length after)) m ∙ held-rows after (fits-few B after after-fits)
+
+      pub memory-indexed : (arities : List ℕ) (keys : ℕ) (parts : List (List ℕ)) (index : List ℕ) → Indexed arities keys parts index (map factRow after) → Indexed arities keys parts index (rowsIn n memory)
+      memory-indexed arities keys parts index h = rw memory-rows h
 
       pub leaves-taken : (o : Open) → o ≡ openOf running → (v : Waiting) → v ≡ waitingOf [] → (weight k : ℕ)
           → k ≡ length (filterBy (λ (f : Fact). not (elem sameFact f (stepFacts D es Delete))) (s .facts)) → topWeight D (s .facts) ≤ w → weight ≡ max w (topFrom D after k)

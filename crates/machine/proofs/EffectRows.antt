@@ -1,7 +1,8 @@
 -- What the events of a step add or strike: the rows that the code collects are those of the machine's facts. Assumes nothing.
 use mathlib.Core.Path.{_≡_, refl, sym, ap, ap₂, _∙_, subst}
 use mathlib.Core.Bool.{Bool, true, false, _||_, _&&_}
-use mathlib.Core.List.{List, [], _∷_, _++_, map, flatMap, map-append, append-nil, append-assoc, List·Memᴰ·head, List·Memᴰ·tail, List·Memᴰ·not-nil}
+use mathlib.Core.Logic.{_⊎_, inl, inr}
+use mathlib.Core.List.{List, [], _∷_, _++_, map, flatMap, map-append, append-nil, append-assoc, List·Memᴰ·head, List·Memᴰ·tail, List·Memᴰ·not-nil, List·Memᴰ·append-cases}
 use Prim.Native.Nat.{ℕ, suc, _+_, _-_, _*_, _≤_, _<_}
 use native.Mathlib.Numerals.{add-one}
 use native.Mathlib.Omega.{arith}
@@ -25,12 +26,13 @@ use Rattle.classes.specs.declared.Moment.{Moment}
 use Rattle.classes.specs.declared.Moment.the-variants.{Start, End}
 use Rattle.classes.specs.Classes.{own, endsOverAll, overAll, withRole, literalsAt}
 use Rattle.classes.proofs.KeyRows.{length-rows}
-use Rattle.verdict.specs.Binding.{Binding, bind}
+use Rattle.verdict.specs.Binding.{Binding, valueOf, bind}
 use Rattle.verdict.specs.Machine.{Event, eventFacts, stepFacts}
+use Rattle.store.specs.Index.{Sized}
 use Rattle.machine.specs.declared.Waiting.{Waiting}
 use Rattle.machine.specs.Coded.{factRow, groundRow, waitingOf, GroundFits, EventsFit, Lent, endRow, boundRow, clauseFor, timeOf, effectRows, flat, eventEffects, stepEffects}
 use Rattle.machine.proofs.RowLoops.{length-bound}
-use Rattle.machine.proofs.FactRows.{length-fact-row, countsFor, effect-facts, lent-kept, lent-bound, ground-rows, noEvent}
+use Rattle.machine.proofs.FactRows.{length-fact-row, countsFor, effect-facts, lent-arity, lent-action, lent-kept, lent-bound, ground-rows, noEvent}
 use Rattle.machine.proofs.Joins.{dedup-map-dedup, same-append, same-elem}
 use Rattle.machine.proofs.FilledRows.{Whole, rows-snoc, rows-own, Filled, filled-rows, filled-more, filled-own}
 
@@ -156,6 +158,38 @@ module _ (D : Domain) (n : Counts) (arities variables sorts starts parts table :
       (lent-kept D n arities variables sorts starts parts table L (e .ground .action) (F .listed))
       (lent-bound D n arities variables sorts starts parts table L (e .ground) F)
       ∙ ap (map factRow) (sym (event-at D e c))
+
+-- each has the arity of its relation
+sized-facts : (arities : List ℕ) (b : Binding) (p : Role → Bool) (ls : List Literal) → ((l : Literal) → In l ls → length (l .atom .args) ≡ getD arities (l .atom .rel) 0)
+    → Sized arities (map factRow (map (bind b) (withRole p ls)))
+sized-facts arities b p [] h row m = absurd (List·Memᴰ·not-nil m)
+sized-facts arities b p (l ∷ ls) h row m = go (p (l .role)) (λ r k. sized-facts arities b p ls (λ k m. h k (List·Memᴰ·tail m)) r k) row m
+  where
+    go : (t : Bool) → Sized arities (map factRow (map (bind b) (withRole p ls))) → Sized arities (map factRow (map (bind b) (keepIf t (l .atom) (withRole p ls))))
+    go true w row (List·Memᴰ·head e) =
+        ap (λ (r : List ℕ). byte r 1) e ∙ length-map (l .atom .args) (valueOf b) ∙ h l (List·Memᴰ·head refl) ∙ sym (ap (λ (r : List ℕ). getD arities (byte r 0) 0) e)
+    go true w row (List·Memᴰ·tail m) = w row m
+    go false w row m = w row m
+
+module _ (D : Domain) (n : Counts) (arities variables sorts starts parts table : List ℕ) (L : Lent D n arities variables sorts starts parts table) (c : Clause) where
+  event-sized : (e : Event) → GroundFits D (e .ground) → Sized arities (map factRow (eventEffects D e c))
+  event-sized e F =
+      let i = e .ground .action in
+      subst (λ (l : List Fact). Sized arities (map factRow l)) (sym (event-at D e c))
+      (sized-facts arities (e .ground .binding) (countsFor (timeOf (e .moment)) c) (action D i .lits)
+      (λ l m. L .held .bounded .literalArity (action D i) (lent-action D n arities variables sorts starts parts table L i (F .listed)) l m
+      ∙ sym (lent-arity D n arities variables sorts starts parts table L (l .atom .rel))))
+
+  pub step-sized : (es : List Event) → EventsFit D es → Sized arities (map factRow (stepEffects D es c))
+  unfolding stepEffects flatMap
+  step-sized [] F row m = absurd (List·Memᴰ·not-nil m)
+  step-sized (e ∷ es) F row m =
+      by (event-sized e (F e (List·Memᴰ·head refl)) row) (λ k. step-sized es (λ e i. F e (List·Memᴰ·tail i)) row k)
+      (List·Memᴰ·append-cases (map factRow (eventEffects D e c)) (subst (In row) (map-append factRow (eventEffects D e c) (stepEffects D es c)) m))
+    where
+      by : {A B C : Type 0} → (A → C) → (B → C) → A ⊎ B → C
+      by f g (inl a) = f a
+      by f g (inr b) = g b
 
 -- what the code has written of them
 pub effects-given : (D : Domain) (e : Event) (c : Clause) {rows : List (List ℕ)} → rows ≡ map factRow (eventEffects D e c) → (n : ℕ) (out : List ℕ) {r : ℕ} {next : List ℕ}

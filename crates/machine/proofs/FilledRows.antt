@@ -6,15 +6,15 @@ use Prim.Native.Nat.{ℕ, zero, suc, _+_, _-_, _*_, _≤_, _<_}
 use native.Mathlib.Numerals.{add-one}
 use native.Mathlib.Omega.{arith}
 use lib.Dec.{eqb, ltb}
-use lib.ListN.{length, getD, set, take, drop, replicate, length-append, length-drop, take-append-drop}
+use lib.ListN.{length, take, drop, length-append, length-drop, take-append-drop}
 use lib.Seq.{take-all, take-add, take-append-le, take-append-add, take-at, drop-drop, drop-append-add, length-take-le, paste}
 use borrow.Author.Tests.{lt-ltb, le-ltb, ltb-true, ltb-false}
 use Rattle.records.specs.Lists.{In, keepIf, filterBy, sameList, dedup}
 use Rattle.records.specs.Memory.{over}
 use Rattle.records.proofs.Lists.{in-snoc, filter-append, filter-in, filter-few, dedup-in, flatMap-append, flatMap-snoc}
-use Rattle.records.proofs.Memory.{length-over, over-paste, paste-more}
+use Rattle.records.proofs.Memory.{length-over, over-paste}
 use Rattle.literals.specs.Table.{rowsIn}
-use Rattle.literals.proofs.Rows.{length-part, part-at}
+use Rattle.literals.proofs.Rows.{length-part}
 use Rattle.literals.proofs.Tables.{length-flat, rows-flat}
 use Rattle.classes.proofs.KeyRows.{length-rows}
 use Rattle.machine.specs.Coded.{hasRow, flat, joinRow, joinRows, atMost}
@@ -72,20 +72,6 @@ rows-own n t h =
     ∙ take-append-drop (8 * n) t)
 
 -- ---- a row read, and a row put behind others
-
-module _ (t : List ℕ) (at : ℕ) (h : at + 8 ≤ length t) (row : List ℕ) (i : ℕ) (e : row ≡ paste (replicate 8 0) 0 (take 8 (drop at t)) i) where
-  pub read-more : i < 8 → set row i (getD t (at + i) 0) ≡ paste (replicate 8 0) 0 (take 8 (drop at t)) (i + 1)
-  read-more l =
-      let z : 0 + i ≡ i = omega arith in
-      ap (λ (k : ℕ). set row k (getD t (at + i) 0)) (sym z)
-      ∙ paste-more (take 8 (drop at t)) (replicate 8 0) row 0 i 8 (omega arith) (length-part t at h) e (getD t (at + i) 0) l (sym (part-at t at h i l))
-
-  pub read-all : i ≡ 8 → row ≡ take 8 (drop at t)
-  read-all z =
-      e
-      ∙ ap (λ (k : ℕ). paste (replicate 8 0) 0 (take 8 (drop at t)) k) z
-      ∙ ap (λ (l : List ℕ). l ++ []) (take-all 8 (take 8 (drop at t)) (omega (arith, length-part t at h)))
-      ∙ append-nil (take 8 (drop at t))
 
 pub put-row : (n : ℕ) (out row : List ℕ) → 8 * n + 8 ≤ length out → length row ≡ 8 → paste out (8 * n) row 8 ≡ over (flat (rowsIn n out ++ (row ∷ []))) out
 put-row n out row h e =
@@ -159,36 +145,34 @@ module _ {rows : List (List ℕ)} {n : ℕ} {out old : List ℕ} (F : Filled row
 pub filled-own : (n : ℕ) (out : List ℕ) → 8 * n ≤ length out → Filled (rowsIn n out) n out out
 filled-own n out h = record { count = sym (length-rows n out); room = h; whole = rows-whole n out h; bytes = rows-own n out h }
 
-pub filled-none : (out : List ℕ) → Filled [] 0 out out
-filled-none out = filled-own 0 out (omega arith)
-
 -- ---- rows that are kept
 
 -- the row is not among these
 abbrev pub stays : List (List ℕ) → List ℕ → Bool
 stays struck row = not (hasRow row struck)
 
-module _ (struck : List (List ℕ)) {row at : List ℕ} (e : row ≡ at) (k : ℕ) (out : List ℕ) where
-  left-out : hasRow row struck ≡ true → filterBy (stays struck) (at ∷ []) ≡ []
-  left-out t = ap (λ (b : Bool). keepIf (not b) at []) (ap (λ (r : List ℕ). hasRow r struck) (sym e) ∙ t)
+module _ (struck : List (List ℕ)) (row : List ℕ) where
+  pub left-out : hasRow row struck ≡ true → filterBy (stays struck) (row ∷ []) ≡ []
+  left-out t = ap (λ (b : Bool). keepIf (not b) row []) t
 
-  kept-in : hasRow row struck ≡ false → filterBy (stays struck) (at ∷ []) ≡ at ∷ []
-  kept-in t = ap (λ (b : Bool). keepIf (not b) at []) (ap (λ (r : List ℕ). hasRow r struck) (sym e) ∙ t)
+  pub kept-in : hasRow row struck ≡ false → filterBy (stays struck) (row ∷ []) ≡ row ∷ []
+  kept-in t = ap (λ (b : Bool). keepIf (not b) row []) t
 
-  pub left-count : hasRow row struck ≡ true → k ≡ k + length (filterBy (stays struck) (at ∷ []))
-  left-count t = let l = ap length (left-out t) in omega arith
+  module _ (k : ℕ) (out : List ℕ) where
+    pub left-count : hasRow row struck ≡ true → k ≡ k + length (filterBy (stays struck) (row ∷ []))
+    left-count t = let l = ap length (left-out t) in omega arith
 
-  pub left-rows : hasRow row struck ≡ true → 8 * k ≤ length out → out ≡ over (flat (rowsIn k out ++ filterBy (stays struck) (at ∷ []))) out
-  left-rows t h =
-      rows-own k out h
-      ∙ ap (λ (l : List (List ℕ)). over (flat l) out) (sym (ap (λ (l : List (List ℕ)). rowsIn k out ++ l) (left-out t) ∙ append-nil (rowsIn k out)))
+    pub left-rows : hasRow row struck ≡ true → 8 * k ≤ length out → out ≡ over (flat (rowsIn k out ++ filterBy (stays struck) (row ∷ []))) out
+    left-rows t h =
+        rows-own k out h
+        ∙ ap (λ (l : List (List ℕ)). over (flat l) out) (sym (ap (λ (l : List (List ℕ)). rowsIn k out ++ l) (left-out t) ∙ append-nil (rowsIn k out)))
 
-  pub kept-count : hasRow row struck ≡ false → k + 1 ≡ k + length (filterBy (stays struck) (at ∷ []))
-  kept-count t = let l = ap length (kept-in t) in omega arith
+    pub kept-count : hasRow row struck ≡ false → k + 1 ≡ k + length (filterBy (stays struck) (row ∷ []))
+    kept-count t = let l = ap length (kept-in t) in omega arith
 
-  pub kept-rows : hasRow row struck ≡ false → {next : List ℕ} → next ≡ over (flat (rowsIn k out ++ (row ∷ []))) out
-      → next ≡ over (flat (rowsIn k out ++ filterBy (stays struck) (at ∷ []))) out
-  kept-rows t f = f ∙ ap (λ (l : List (List ℕ)). over (flat (rowsIn k out ++ l)) out) (ap {B = List (List ℕ)} (λ r. r ∷ []) e ∙ sym (kept-in t))
+    pub kept-rows : hasRow row struck ≡ false → {put next : List ℕ} → put ≡ row → next ≡ over (flat (rowsIn k out ++ (put ∷ []))) out
+        → next ≡ over (flat (rowsIn k out ++ filterBy (stays struck) (row ∷ []))) out
+    kept-rows t e f = f ∙ ap (λ (l : List (List ℕ)). over (flat (rowsIn k out ++ l)) out) (ap {B = List (List ℕ)} (λ r. r ∷ []) e ∙ sym (kept-in t))
 
 -- those kept of the first i rows
 abbrev pub keptOf : List (List ℕ) → List ℕ → ℕ → List (List ℕ)
@@ -208,6 +192,9 @@ one-few p x = go (p x)
     go false = omega arith
 
 -- one row more
+pub kept-next : (struck : List (List ℕ)) (work : List ℕ) (i : ℕ) → keptOf struck work (i + 1) ≡ keptOf struck work i ++ filterBy (stays struck) (take 8 (drop (8 * i) work) ∷ [])
+kept-next struck work i = ap (filterBy (stays struck)) (rows-snoc i work) ∙ filter-append (stays struck) (rowsIn i work) (take 8 (drop (8 * i) work) ∷ [])
+
 pub kept-more : (struck : List (List ℕ)) (work : List ℕ) (i k : ℕ) {out old : List ℕ} → 8 * i + 8 ≤ length work → k ≤ i → 8 * i + 8 ≤ length old → Filled (keptOf struck work i) k out old
     → {m : ℕ} {next : List ℕ} → m ≡ k + length (filterBy (stays struck) (take 8 (drop (8 * i) work) ∷ []))
     → next ≡ over (flat (rowsIn k out ++ filterBy (stays struck) (take 8 (drop (8 * i) work) ∷ []))) out
@@ -215,7 +202,7 @@ pub kept-more : (struck : List (List ℕ)) (work : List ℕ) (i k : ℕ) {out ol
 kept-more struck work i k {out} {old} h g r F {m} {next} e f =
     let o = one-few (stays struck) (take 8 (drop (8 * i) work)) in
     subst (λ (l : List (List ℕ)). Filled l m next old)
-    (sym (ap (filterBy (stays struck)) (rows-snoc i work) ∙ filter-append (stays struck) (rowsIn i work) (take 8 (drop (8 * i) work) ∷ [])))
+    (sym (kept-next struck work i))
     (filled-more F (filterBy (stays struck) (take 8 (drop (8 * i) work) ∷ [])) whole e (omega arith) f)
   where
     whole : Whole (filterBy (stays struck) (take 8 (drop (8 * i) work) ∷ []))
@@ -223,7 +210,7 @@ kept-more struck work i k {out} {old} h g r F {m} {next} e f =
 
 -- ---- rows that join
 
-most-inside : (n : ℕ) → n ≤ 1024 → n ≡ atMost 1024 n
+pub most-inside : (n : ℕ) → n ≤ 1024 → n ≡ atMost 1024 n
 most-inside n h = rw (le-ltb 1024 n h)
 
 most-beyond : (n : ℕ) → 1024 < n → 1025 ≡ atMost 1024 n
@@ -243,14 +230,6 @@ most-more r n e h = go (ltb 1024 n) refl e
     go : (b : Bool) → ltb 1024 n ≡ b → r ≡ cond b 1025 n → (1024 < n) × (r ≡ 1025)
     go true t f = (ltb-true 1024 n t, f)
     go false t f = let k = ltb-false 1024 n t in absurd (omega arith)
-
--- at least what is within both, and at most one more than the limit
-pub most-range : (r n : ℕ) → r ≡ atMost 1024 n → (k : ℕ) → k ≤ n → k ≤ 1024 → (k ≤ r) × (r ≤ 1025)
-most-range r n e k h g = go (ltb 1024 n) refl e
-  where
-    go : (b : Bool) → ltb 1024 n ≡ b → r ≡ cond b 1025 n → (k ≤ r) × (r ≤ 1025)
-    go true t f = (omega arith, omega arith)
-    go false t f = let l = ltb-false 1024 n t in (omega arith, omega arith)
 
 module _ (n : ℕ) (out : List ℕ) (g : n ≤ 1024) (h : length out ≡ 8192) {row at : List ℕ} (e : row ≡ at) where
   joined-there : hasRow row (rowsIn n out) ≡ true → joinRow (rowsIn n out) at ≡ rowsIn n out
@@ -300,7 +279,7 @@ joinedOf rows adds j = joinRows rows (rowsIn j adds)
 abbrev pub behind : List (List ℕ) → List (List ℕ) → List (List ℕ)
 behind rows more = filterBy (λ (row : List ℕ). not (hasRow row rows)) (dedup (sameList eqb) more)
 
-joined-next : (rows : List (List ℕ)) (adds : List ℕ) (j : ℕ) → joinedOf rows adds (j + 1) ≡ joinRow (joinedOf rows adds j) (take 8 (drop (8 * j) adds))
+pub joined-next : (rows : List (List ℕ)) (adds : List ℕ) (j : ℕ) → joinedOf rows adds (j + 1) ≡ joinRow (joinedOf rows adds j) (take 8 (drop (8 * j) adds))
 joined-next rows adds j = ap (joinRows rows) (rows-snoc j adds) ∙ join-snoc rows (rowsIn j adds) (take 8 (drop (8 * j) adds))
 
 joined-rest : (rows : List (List ℕ)) (adds : List ℕ) (m j : ℕ) → j ≤ m → joinedOf rows adds m ≡ joinRows (joinedOf rows adds j) (rowsIn (m - j) (drop (8 * j) adds))

@@ -2,17 +2,16 @@
 use mathlib.Core.Path.{_≡_, refl, sym, ap, ap₂, _∙_}
 use mathlib.Core.Bool.{Bool, true, false, _||_, cond}
 use mathlib.Core.Logic.{_⊎_, inl, inr}
-use mathlib.Core.List.{List, [], _∷_, _++_, append-nil}
+use mathlib.Core.List.{List, [], _∷_, _++_, append-nil, append-assoc}
 use Prim.Native.Nat.{ℕ, zero, suc, _+_, _-_, _*_, _≤_, _<_}
 use native.Mathlib.Nat.{sub-zero}
 use native.Mathlib.Omega.{arith}
 use lib.Dec.{eqb, ltb}
-use lib.ListN.{length, getD, set, take, drop, replicate, length-append, length-drop, length-replicate, drop-of-length-le}
-use lib.Seq.{paste, paste-zero, take-all, getD-take, getD-drop, drop-drop, length-take-le}
+use lib.ListN.{length, getD, take, drop, replicate, length-drop, drop-of-length-le}
+use lib.Seq.{paste, length-paste, take-paste, take-all, getD-take, getD-drop, drop-drop, length-take-le}
 use borrow.Author.Tests.{ltb-true, ltb-false, lt-ltb, le-ltb, eq-eqb, ne-eqb}
 use Rattle.records.specs.Lists.{any, all, sameList}
 use Rattle.records.proofs.Lists.{bool-cases}
-use Rattle.records.proofs.Memory.{getD-fill, paste-more}
 use Rattle.literals.proofs.Rows.{same-miss, same-hit, same-end}
 use Rattle.classes.specs.Coded.{position}
 use Rattle.classes.proofs.KeyRows.{place-le}
@@ -164,32 +163,37 @@ events-first moments rows n = ap (λ (k : ℕ). eventsIn k moments rows) (sub-ze
 
 -- ---- an entry taken out
 
-module _ (old : List ℕ) (k : ℕ) (size : length old ≡ 544) (few : k < 32) where
-  -- what stands from the entry on afterwards
-  abbrev rest : List ℕ
-  rest = drop (17 * k + 17) old ++ replicate 17 0
+-- a copy over all of a list as long
+pub whole-copy : (d s t : List ℕ) → length d ≡ length s → t ≡ paste d 0 s (length s) → t ≡ s
+whole-copy d s t h e = e ∙ ap₂ _++_ (take-all (length s) s (omega arith)) (drop-of-length-le d {i = 0 + length s} (omega arith)) ∙ append-nil s
 
-  length-rest : length rest ≡ 544 - 17 * k
-  length-rest = simp (length-append, length-drop, length-replicate) (omega arith)
+-- what stands behind the entry k
+abbrev pub behind : ℕ → List ℕ → List ℕ
+behind k t = take (544 - (17 * k + 17)) (drop (17 * k + 17) t)
 
-  module _ (rows : List ℕ) (i : ℕ) (e : rows ≡ paste old (17 * k) rest i) where
-    pub out-more : (r : ℕ) → i < 544 - 17 * k → r ≡ getD old (17 * k + 17 + i) 0 → set rows (17 * k + i) r ≡ paste old (17 * k) rest (i + 1)
-    out-more r l f =
-        paste-more rest old rows (17 * k) i (544 - 17 * k) (omega arith) length-rest e r l (f ∙ sym (getD-fill (drop (17 * k + 17) old) 17 i 0 ∙ getD-drop (17 * k + 17) old i 0))
+-- the later entries forward, then zeros behind
+module _ (old copy mid rows : List ℕ) (k : ℕ) (size : length old ≡ 544) (few : k < 32) (w : copy ≡ old) (e : mid ≡ paste old (17 * k) (behind k copy) (length (behind k copy))) where
+  later : behind k copy ≡ drop (17 * k + 17) old
+  later = ap (behind k) w ∙ take-all (544 - (17 * k + 17)) (drop (17 * k + 17) old) (simp length-drop (omega arith))
 
-    pub out-all : i ≡ 544 - 17 * k → rows ≡ take (17 * k) old ++ rest
-    out-all l =
-        e
-        ∙ ap₂ _++_ (ap (λ (t : List ℕ). take (17 * k) old ++ t) (take-all i rest (omega (arith, length-rest)))) (drop-of-length-le old {i = 17 * k + i} (omega arith))
-        ∙ append-nil (take (17 * k) old ++ rest)
+  length-later : 17 * k + length (behind k copy) ≡ 527
+  length-later = omega (arith, ap length later ∙ length-drop (17 * k + 17) old)
 
-pub out-first : (old : List ℕ) (k : ℕ) → old ≡ paste old (17 * k) (drop (17 * k + 17) old ++ replicate 17 0) 0
-out-first old k = paste-zero old (17 * k) (drop (17 * k + 17) old ++ replicate 17 0)
+  length-mid : length mid ≡ 544
+  length-mid = ap length e ∙ length-paste old (17 * k) (behind k copy) (length (behind k copy)) (omega (arith, length-later)) (omega arith) ∙ size
 
-pub without-is : (o : Open) (k n : ℕ) (rows : List ℕ) → n ≡ o .count - 1 → rows ≡ take (17 * k) (o .rows) ++ (drop (17 * k + 17) (o .rows) ++ replicate 17 0)
-    → record { count = n; rows = rows } ≡ withoutEntry k o
-unfolding withoutEntry
-without-is o k n rows e f = λ i. record { count = e i; rows = f i }
+  front : take 527 mid ≡ take (17 * k) old ++ drop (17 * k + 17) old
+  front =
+      ap₂ take (sym length-later) e
+      ∙ take-paste old (17 * k) (behind k copy) (length (behind k copy)) (omega arith) (omega arith)
+      ∙ ap (λ (t : List ℕ). take (17 * k) old ++ t) (take-all (length (behind k copy)) (behind k copy) (omega arith) ∙ later)
+
+  pub out-is : rows ≡ paste mid 527 (replicate 17 0) 17 → rows ≡ take (17 * k) old ++ (drop (17 * k + 17) old ++ replicate 17 0)
+  out-is f =
+      f
+      ∙ ap₂ _++_ (ap (λ (t : List ℕ). t ++ replicate 17 0) front) (drop-of-length-le mid {i = 544} (omega (arith, length-mid)))
+      ∙ append-nil ((take (17 * k) old ++ drop (17 * k + 17) old) ++ replicate 17 0)
+      ∙ append-assoc (take (17 * k) old) (drop (17 * k + 17) old) (replicate 17 0)
 
 -- the first equal entry out
 module _ (o : Open) (row : List ℕ) (k : ℕ) (e : k ≡ position (sameList eqb row) (groundsIn (o .count) (o .rows))) where
@@ -200,8 +204,11 @@ module _ (o : Open) (row : List ℕ) (k : ℕ) (e : k ≡ position (sameList eqb
   pub close-none : k ≡ o .count → o ≡ closeEntry row o
   close-none f = sym (by-place ∙ ap (λ (b : Bool). cond b o (withoutEntry k o)) (eq-eqb k (o .count) f))
 
-  pub close-some : (k ≡ o .count → ⊥) → (r : Open) → r ≡ withoutEntry k o → r ≡ closeEntry row o
-  close-some f r g = g ∙ sym (by-place ∙ ap (λ (b : Bool). cond b o (withoutEntry k o)) (ne-eqb k (o .count) f))
+  pub close-some : (k ≡ o .count → ⊥) → (rows : List ℕ) → rows ≡ take (17 * k) (o .rows) ++ (drop (17 * k + 17) (o .rows) ++ replicate 17 0)
+      → record { count = o .count - 1; rows = rows } ≡ closeEntry row o
+  unfolding withoutEntry
+  close-some f rows g =
+      ap {B = Open} (λ t. record { count = o .count - 1; rows = t }) g ∙ sym (by-place ∙ ap (λ (b : Bool). cond b o (withoutEntry k o)) (ne-eqb k (o .count) f))
 
 -- of an event
 module _ (o : Open) (e : EventRow) where
@@ -241,13 +248,9 @@ module _ (rows : List (List ℕ)) (e : EventRow) where
 
 -- ---- an entry more
 
-module _ (o : Open) (row rows : List ℕ) (size : length (o .rows) ≡ 544) (l : length row ≡ 17) (few : o .count < 32) (i : ℕ) (e : rows ≡ paste (o .rows) (17 * o .count) row i) where
-  pub in-more : (r : ℕ) → i < 17 → r ≡ getD row i 0 → set rows (17 * o .count + i) r ≡ paste (o .rows) (17 * o .count) row (i + 1)
-  in-more r h f = paste-more row (o .rows) rows (17 * o .count) i 17 (omega arith) l e r h f
-
-  pub in-all : i ≡ 17 → record { count = o .count + 1; rows = rows } ≡ joinEntry row o
-  unfolding joinEntry
-  in-all h = ap {B = Open} (λ t. record { count = o .count + 1; rows = t }) (e ∙ ap (paste (o .rows) (17 * o .count) row) h)
+pub join-is : (o : Open) (row rows : List ℕ) (k : ℕ) → k ≡ 17 → rows ≡ paste (o .rows) (17 * o .count) row k → record { count = o .count + 1; rows = rows } ≡ joinEntry row o
+unfolding joinEntry
+join-is o row rows k h e = ap {B = Open} (λ t. record { count = o .count + 1; rows = t }) (e ∙ ap (paste (o .rows) (17 * o .count) row) h)
 
 -- ---- of an event
 

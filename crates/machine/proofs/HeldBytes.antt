@@ -1,9 +1,9 @@
 -- The bytes of facts in work memory: rows of 8, zeros to 8,192, the rest untouched. Assumes nothing.
 use mathlib.Core.Path.{_≡_, refl, sym, ap, _∙_}
 use mathlib.Core.List.{List, [], _∷_, _++_, map, flatMap, append-assoc}
-use Prim.Native.Nat.{ℕ, zero, suc, _+_, _-_, _*_, _≤_}
+use Prim.Native.Nat.{ℕ, _+_, _-_, _*_, _≤_}
 use native.Mathlib.Omega.{arith}
-use lib.ListN.{length, take, drop, replicate, length-append, length-replicate}
+use lib.ListN.{length, drop, replicate, length-append, length-replicate}
 use lib.Seq.{paste, take-all, drop-at}
 use Rattle.records.specs.Memory.{over}
 use Rattle.literals.specs.Domain.{Fact, Domain}

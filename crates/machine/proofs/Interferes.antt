@@ -1,31 +1,37 @@
--- Interference: two events' rows have clashing clauses of one fact exactly where the events interfere. Assumes nothing.
-use mathlib.Core.Path.{_≡_, refl, sym, ap, ap₂, _∙_}
+-- Interference: the literals of two events have clashing clauses of one fact exactly where the events interfere; by clauses and words. Assumes nothing.
+use mathlib.Core.Path.{_≡_, refl, sym, ap, ap₂, _∙_, subst}
 use mathlib.Core.Bool.{Bool, true, false, _&&_, _||_, not}
-use mathlib.Core.List.{List, [], _∷_, _++_, map}
-use Prim.Native.Nat.{ℕ, suc, _≤_, _<_}
+use mathlib.Core.List.{List, [], _∷_, _++_, map, List·Memᴰ·head, List·Memᴰ·tail}
+use Prim.Native.Nat.{ℕ, suc, _+_, _-_, _*_, _≤_, _<_}
+use native.Mathlib.Numerals.{add-one}
 use native.Mathlib.Omega.{arith}
 use lib.Dec.{eqb, ltb, leb}
-use lib.ListN.{length, getD, take, drop}
-use lib.Seq.{take-all}
+use lib.ListN.{length, getD, set, take, drop, length-map}
+use lib.Seq.{take-all, take-suc, length-take-le}
 use borrow.Author.Tests.{ne-eqb, lt-ltb, le-ltb, ltb-true}
-use Rattle.records.specs.Lists.{In, all, any, sameList, elem}
-use Rattle.records.proofs.Lists.{eqb-comm, sameList-comm, any-append, any-map, allBelow, below-in}
+use Rattle.records.specs.Lists.{In, keepIf, filterBy, any, pairwise, elem}
+use Rattle.records.proofs.Lists.{eqb-comm, getD-in, sameList-comm, all-map, any-append, any-map, allBelow, below-in}
+use Rattle.literals.specs.declared.Object.{Object}
 use Rattle.literals.specs.declared.Counts.{Counts}
 use Rattle.literals.specs.declared.Time.{Time}
 use Rattle.literals.specs.declared.Time.the-variants.{AtStart, OverAll, AtEnd}
 use Rattle.literals.specs.declared.Clause.{Clause}
 use Rattle.literals.specs.declared.Clause.the-variants.{Positive, Negative, Add, Delete}
-use Rattle.literals.specs.Domain.{sameObject, Fact, sameFact, clauseNumber, roleNumber, Literal, Domain, action}
+use Rattle.literals.specs.Domain.{object, sameObject, Fact, sameFact, clauseNumber, roleNumber, Literal, Domain, arity, action}
 use Rattle.literals.specs.Decode.{byte}
-use Rattle.literals.specs.Table.{literalRow}
-use Rattle.literals.proofs.Rows.{part-first}
+use Rattle.literals.specs.Table.{literalRow, rowsIn}
 use Rattle.literals.proofs.Tables.{Kept}
-use Rattle.classes.proofs.Indices.{any-agree, any-or}
-use Rattle.verdict.specs.Binding.{bind}
-use Rattle.verdict.specs.Machine.{Event, eventFacts, meet, disturbs, interfere}
-use Rattle.machine.specs.Coded.{factRow, groundRow, GroundFits, Lent, boundRow, clauseFor, timeOf, clashing, meetsRow, interfereRows}
-use Rattle.machine.proofs.FactRows.{same-row, countsFor, clause-counts, lent-kept, lent-bound}
-use Rattle.machine.proofs.Asked.{any-event}
+use Rattle.classes.proofs.Indices.{any-agree, any-or, any-filter, getD-map}
+use Rattle.verdict.specs.Binding.{valueOf, bind}
+use Rattle.verdict.specs.Machine.{GroundAction, Event, eventFacts, meet, disturbs, interfere, independent}
+use Rattle.store.specs.Index.{wordOf}
+use Rattle.machine.specs.declared.Waiting.{Waiting}
+use Rattle.machine.specs.Coded.{factRow, groundRow, waitingOf, GroundFits, EventsFit, Lent, endRow, boundRow, clauseFor, timeOf, clashing, Mark, rowMarks, eventMarks, marksIn, clashes, marksClash, Laid}
+use Rattle.machine.proofs.NextKept.{map-in}
+use Rattle.machine.proofs.FactRows.{countsFor, clause-counts, lent-action, lent-kept, lent-bound, ground-rows, noEvent}
+use Rattle.machine.proofs.Asked.{all-agree, any-event}
+use Rattle.machine.proofs.Marks.{any-never, laid-more}
+use Rattle.machine.proofs.Words.{Worded, same-word}
 
 -- ---- clashing clauses, test by test
 
@@ -46,52 +52,6 @@ module _ (c d : ℕ) where
   unfolding clashing
   clash-effects h g = rw (le-ltb c 3 h, le-ltb d 3 g)
 
--- ---- a row against a row, and against some rows
-
-abbrev pub meetsOne : ℕ → List ℕ → Time → List ℕ → List ℕ → List ℕ → Bool
-meetsOne clause fact t arities ground row = clashing clause (clauseFor t (byte row 0)) && sameList eqb fact (boundRow arities ground row)
-
-pub meets-is : (clause : ℕ) (fact : List ℕ) (t : Time) (arities ground : List ℕ) (rows : List (List ℕ)) → any (meetsOne clause fact t arities ground) rows ≡ meetsRow clause fact t arities ground rows
-unfolding meetsRow
-meets-is clause fact t arities ground rows = refl
-
--- the row at an offset of a memory
-module _ (clause : ℕ) (fact : List ℕ) (t : Time) (arities ground rows : List ℕ) (at : ℕ) where
-  pub meets-same : (r : Bool) → r ≡ clashing clause (clauseFor t (getD rows at 0)) && sameList eqb fact (boundRow arities ground (take 8 (drop at rows))) → meetsOne clause fact t arities ground (take 8 (drop at rows)) ≡ r
-  meets-same r e =
-      ap (λ (k : ℕ). clashing clause (clauseFor t k) && sameList eqb fact (boundRow arities ground (take 8 (drop at rows)))) (part-first rows at) ∙ sym e
-
-  pub meets-bound : (k : ℕ) (other : List ℕ) (r : Bool) → k ≡ clauseFor t (getD rows at 0) → clashing clause k ≡ true → other ≡ boundRow arities ground (take 8 (drop at rows)) → length other ≡ 8
-      → r ≡ sameList eqb fact (take 8 (drop 0 other)) → r ≡ clashing clause (clauseFor t (getD rows at 0)) && sameList eqb fact (boundRow arities ground (take 8 (drop at rows)))
-  meets-bound k other r e h f l g =
-      g
-      ∙ ap (sameList eqb fact) (take-all 8 other (omega arith) ∙ f)
-      ∙ ap (λ (b : Bool). b && sameList eqb fact (boundRow arities ground (take 8 (drop at rows)))) (sym (ap (clashing clause) (sym e) ∙ h))
-
-  pub meets-other : (k : ℕ) → k ≡ clauseFor t (getD rows at 0) → clashing clause k ≡ false → false ≡ clashing clause (clauseFor t (getD rows at 0)) && sameList eqb fact (boundRow arities ground (take 8 (drop at rows)))
-  meets-other k e h = ap (λ (b : Bool). b && sameList eqb fact (boundRow arities ground (take 8 (drop at rows)))) (sym (ap (clashing clause) (sym e) ∙ h))
-
--- a literal that does not count then meets none
-pub meets-none : (clause : ℕ) → clause ≡ 0 → (fact : List ℕ) (t : Time) (arities ground : List ℕ) (rows : List (List ℕ)) → false ≡ meetsRow clause fact t arities ground rows
-unfolding meetsRow
-meets-none clause e fact t arities ground [] = refl
-meets-none clause e fact t arities ground (row ∷ rows) =
-    meets-none clause e fact t arities ground rows
-    ∙ ap (λ (b : Bool). (b && sameList eqb fact (boundRow arities ground row)) || any (meetsOne clause fact t arities ground) rows) (clash-none clause (clauseFor t (byte row 0)) e)
-
-abbrev pub crosses : List ℕ → Time → List ℕ → Time → List ℕ → List (List ℕ) → List ℕ → Bool
-crosses arities t ground u other others row = meetsRow (clauseFor t (byte row 0)) (boundRow arities ground row) u arities other others
-
-pub crosses-is : (arities : List ℕ) (t : Time) (ground : List ℕ) (rows : List (List ℕ)) (u : Time) (other : List ℕ) (others : List (List ℕ))
-    → any (crosses arities t ground u other others) rows ≡ interfereRows arities t ground rows u other others
-unfolding interfereRows
-crosses-is arities t ground rows u other others = refl
-
-pub crosses-at : (arities : List ℕ) (t : Time) (ground rows : List ℕ) (at : ℕ) (u : Time) (other : List ℕ) (others : List (List ℕ)) (r : Bool)
-    → r ≡ meetsRow (clauseFor t (getD rows at 0)) (boundRow arities ground (take 8 (drop at rows))) u arities other others → crosses arities t ground u other others (take 8 (drop at rows)) ≡ r
-crosses-at arities t ground rows at u other others r e =
-    ap (λ (k : ℕ). meetsRow (clauseFor t k) (boundRow arities ground (take 8 (drop at rows))) u arities other others) (part-first rows at) ∙ sym e
-
 -- ---- pairs of elements of two lists
 
 module _ {A B : Type 0} where
@@ -105,10 +65,6 @@ module _ {A B : Type 0} where
 
   pairs-agree : (f g : A → B → Bool) (xs : List A) (ys : List B) → ((a : A) → In a xs → (b : B) → In b ys → f a b ≡ g a b) → pairs f xs ys ≡ pairs g xs ys
   pairs-agree f g xs ys h = any-agree (λ a. any (f a) ys) (λ a. any (g a) ys) xs (λ a m. any-agree (f a) (g a) ys (λ b k. h a m b k))
-
-any-never : {A : Type 0} (l : List A) → false ≡ any (λ a. false) l
-any-never [] = refl
-any-never (x ∷ xs) = any-never xs
 
 pairs-swap : {A B : Type 0} (f : A → B → Bool) (xs : List A) (ys : List B) → pairs f xs ys ≡ pairs (λ b a. f a b) ys xs
 pairs-swap f [] ys = any-never ys
@@ -235,55 +191,153 @@ module _ (D : Domain) (e f : Event) (ke : (l : Literal) → In l (literalsOf D e
       ap (λ (s : Bool). againstIn e f l m || against (clauseIn f m) (clauseIn e l) s) (fact-comm (factIn f m) (factIn e l))
       ∙ sym (clash-either (clauseIn e l) (clauseIn f m) (clause-small (timeOf (e .moment)) l (ke l i)) (clause-small (timeOf (f .moment)) m (kf m j)) (sameFact (factIn e l) (factIn f m))))
 
-  -- by their rows, where these are bound to the events' facts
-  pub interfere-rows : (arities : List ℕ)
-      → ((l : Literal) → In l (literalsOf D e) → boundRow arities (groundRow (e .ground)) (literalRow l) ≡ factRow (factIn e l))
-      → ((l : Literal) → In l (literalsOf D f) → boundRow arities (groundRow (f .ground)) (literalRow l) ≡ factRow (factIn f l))
-      → interfereRows arities (timeOf (e .moment)) (groundRow (e .ground)) (map literalRow (literalsOf D e)) (timeOf (f .moment)) (groundRow (f .ground)) (map literalRow (literalsOf D f)) ≡ interfere D e f
-  unfolding interfereRows meetsRow
-  interfere-rows arities be bf =
-      any-map literalRow (crosses arities t (groundRow (e .ground)) u (groundRow (f .ground)) (map literalRow (literalsOf D f))) (literalsOf D e)
-      ∙ any-agree (λ (l : Literal). crosses arities t (groundRow (e .ground)) u (groundRow (f .ground)) (map literalRow (literalsOf D f)) (literalRow l))
+-- ---- by words
+
+-- a clause of 0 clashes with none
+abbrev countsAs : Bool → ℕ → ℕ → Bool
+countsAs s c d = same (not (eqb c 0) && (not (eqb d 0) && (s && clashing c d))) (clashing c d && s)
+
+all-count : (s : Bool) → allBelow 5 (λ c. allBelow 5 (countsAs s c)) ≡ true
+unfolding clashing
+all-count true = refl
+all-count false = refl
+
+clash-counts : (c d : ℕ) → c < 5 → d < 5 → (s : Bool) → not (eqb c 0) && (not (eqb d 0) && (s && clashing c d)) ≡ clashing c d && s
+clash-counts c d h g s = same-eq _ _ (below-in 5 (countsAs s c) (below-in 5 (λ c. allBelow 5 (countsAs s c)) (all-count s) c h) d g)
+
+-- an event whose facts their words tell apart
+record Facing (D : Domain) (e : Event) : Type 0 where
+  kept : (l : Literal) → In l (literalsOf D e) → Kept l
+  sized : (l : Literal) → In l (literalsOf D e) → length (l .atom .args) ≡ arity D (l .atom .rel)
+  objects : (l : Literal) → In l (literalsOf D e) → (o : Object) → In o (factIn e l .args) → o .0 < 256
+
+module _ (D : Domain) (e f : Event) (E : Facing D e) (F : Facing D f) where
+  abbrev mark : Event → Literal → Mark
+  mark e l = record { clause = clauseIn e l; word = wordOf (factRow (factIn e l)) }
+
+  abbrev counted : Event → Literal → Bool
+  counted e l = not (eqb (clauseIn e l) 0)
+
+  worded : (e : Event) → Facing D e → (l : Literal) → In l (literalsOf D e) → Worded (factIn e l)
+  worded e E l i = record { few = rw length-map (E .kept l i .fits); objects = E .objects l i }
+
+  mark-clash : (l m : Literal) → In l (literalsOf D e) → In m (literalsOf D f)
+      → counted e l && (counted f m && clashes (mark e l) (mark f m)) ≡ clashing (clauseIn e l) (clauseIn f m) && sameFact (factIn e l) (factIn f m)
+  unfolding clashes
+  mark-clash l m i j =
+      ap (λ (s : Bool). counted e l && (counted f m && (s && clashing (clauseIn e l) (clauseIn f m))))
+      (same-word (factIn e l) (factIn f m) (worded e E l i) (worded f F m j)
+      (λ q. length-map (l .atom .args) (valueOf (e .ground .binding)) ∙ E .sized l i ∙ ap (arity D) q ∙ sym (length-map (m .atom .args) (valueOf (f .ground .binding)) ∙ F .sized m j)))
+      ∙ clash-counts (clauseIn e l) (clauseIn f m) (clause-small (timeOf (e .moment)) l (E .kept l i)) (clause-small (timeOf (f .moment)) m (F .kept m j)) (sameFact (factIn e l) (factIn f m))
+
+  marks-interfere : marksClash (eventMarks D e) (eventMarks D f) ≡ interfere D e f
+  unfolding eventMarks
+  marks-interfere =
+      any-map (mark e) (λ (a : Mark). any (clashes a) (eventMarks D f)) (filterBy (counted e) (literalsOf D e))
+      ∙ any-filter (counted e) (λ (l : Literal). any (clashes (mark e l)) (eventMarks D f)) (literalsOf D e)
+      ∙ any-agree (λ (l : Literal). counted e l && any (clashes (mark e l)) (eventMarks D f))
       (λ (l : Literal). any (λ (m : Literal). clashing (clauseIn e l) (clauseIn f m) && sameFact (factIn e l) (factIn f m)) (literalsOf D f)) (literalsOf D e)
       (λ l i.
-      any-map literalRow (meetsOne (clauseIn e l) (boundRow arities (groundRow (e .ground)) (literalRow l)) u arities (groundRow (f .ground))) (literalsOf D f)
-      ∙ any-agree (λ (m : Literal). meetsOne (clauseIn e l) (boundRow arities (groundRow (e .ground)) (literalRow l)) u arities (groundRow (f .ground)) (literalRow m))
-      (λ (m : Literal). clashing (clauseIn e l) (clauseIn f m) && sameFact (factIn e l) (factIn f m)) (literalsOf D f)
-      (λ m j.
-      ap (λ (b : Bool). clashing (clauseIn e l) (clauseIn f m) && b)
-      (ap₂ (sameList eqb) (be l i) (bf m j) ∙ same-row (factIn e l) (factIn f m))))
-      ∙ sym interfere-pairs
-    where
-      t : Time
-      t = timeOf (e .moment)
+      ap (λ (b : Bool). counted e l && b)
+      (any-map (mark f) (clashes (mark e l)) (filterBy (counted f) (literalsOf D f)) ∙ any-filter (counted f) (λ (m : Literal). clashes (mark e l) (mark f m)) (literalsOf D f))
+      ∙ and-any (counted e l) (λ (m : Literal). counted f m && clashes (mark e l) (mark f m)) (literalsOf D f)
+      ∙ any-agree (λ (m : Literal). counted e l && (counted f m && clashes (mark e l) (mark f m)))
+      (λ (m : Literal). clashing (clauseIn e l) (clauseIn f m) && sameFact (factIn e l) (factIn f m)) (literalsOf D f) (λ m j. mark-clash l m i j))
+      ∙ sym (interfere-pairs D e f (E .kept) (F .kept))
 
-      u : Time
-      u = timeOf (f .moment)
+-- ---- the events of a domain
 
--- the events of a domain, as the code finds them
-pub events-interfere : (D : Domain) (n : Counts) (arities variables sorts starts parts table : List ℕ) → Lent D n arities variables sorts starts parts table → (e f : Event) → GroundFits D (e .ground) → GroundFits D (f .ground)
-    → interfereRows arities (timeOf (e .moment)) (groundRow (e .ground)) (map literalRow (action D (e .ground .action) .lits)) (timeOf (f .moment)) (groundRow (f .ground)) (map literalRow (action D (f .ground .action) .lits))
-    ≡ interfere D e f
-events-interfere D n arities variables sorts starts parts table L e f E F =
-    interfere-rows D e f (λ l m. lent-kept D n arities variables sorts starts parts table L (e .ground .action) (E .listed) l m)
-    (λ l m. lent-kept D n arities variables sorts starts parts table L (f .ground .action) (F .listed) l m) arities
-    (λ l m. lent-bound D n arities variables sorts starts parts table L (e .ground) E l m)
-    (λ l m. lent-bound D n arities variables sorts starts parts table L (f .ground) F l m)
-
--- with the times and rows that the code has for theirs
-pub by-times : (D : Domain) (arities : List ℕ) (e f : Event) (t u : Time) → t ≡ timeOf (e .moment) → u ≡ timeOf (f .moment) → (ground : List ℕ) → ground ≡ groundRow (e .ground)
-    → (rows : List (List ℕ)) → rows ≡ map literalRow (action D (e .ground .action) .lits)
-    → interfereRows arities t ground rows u (groundRow (f .ground)) (map literalRow (action D (f .ground .action) .lits))
-    ≡ interfereRows arities (timeOf (e .moment)) (groundRow (e .ground)) (map literalRow (action D (e .ground .action) .lits)) (timeOf (f .moment)) (groundRow (f .ground)) (map literalRow (action D (f .ground .action) .lits))
-by-times D arities e f t u p q ground g rows r =
-    ap₂ (λ (t u : Time). interfereRows arities t ground rows u (groundRow (f .ground)) (map literalRow (action D (f .ground .action) .lits))) p q
-    ∙ ap₂ (λ (x : List ℕ) (y : List (List ℕ)). interfereRows arities (timeOf (e .moment)) x y (timeOf (f .moment)) (groundRow (f .ground)) (map literalRow (action D (f .ground .action) .lits))) g r
-
--- no event of a list interferes with this one
-pub none-interferes : (D : Domain) (e : Event) (es : List Event) → all (λ (f : Event). not (interfere D e f)) es ≡ not (any (interfere D e) es)
-none-interferes D e [] = refl
-none-interferes D e (f ∷ fs) = go (interfere D e f) (none-interferes D e fs)
+-- the marks of an action's rows are those of its literals
+mark-facts : (t : Time) (arities : List ℕ) (g : GroundAction) (ls : List Literal)
+    → ((l : Literal) → In l ls → boundRow arities (groundRow g) (literalRow l) ≡ factRow (bind (g .binding) (l .atom)))
+    → rowMarks t arities (groundRow g) (map literalRow ls)
+    ≡ map (λ (l : Literal). record { clause = clauseFor t (roleNumber (l .role)); word = wordOf (factRow (bind (g .binding) (l .atom))) }) (filterBy (λ (l : Literal). not (eqb (clauseFor t (roleNumber (l .role))) 0)) ls)
+unfolding rowMarks
+mark-facts t arities g [] h = refl
+mark-facts t arities g (l ∷ ls) h = go (not (eqb (clauseFor t (roleNumber (l .role))) 0)) (mark-facts t arities g ls (λ l m. h l (List·Memᴰ·tail m)))
   where
-    go : (b : Bool) → all (λ (f : Event). not (interfere D e f)) fs ≡ not (any (interfere D e) fs) → not b && all (λ (f : Event). not (interfere D e f)) fs ≡ not (b || any (interfere D e) fs)
-    go true h = refl
-    go false h = h
+    byRow : List ℕ → Mark
+    byRow row = record { clause = clauseFor t (byte row 0); word = wordOf (boundRow arities (groundRow g) row) }
+
+    byLiteral : Literal → Mark
+    byLiteral l = record { clause = clauseFor t (roleNumber (l .role)); word = wordOf (factRow (bind (g .binding) (l .atom))) }
+
+    rows : List (List ℕ)
+    rows = filterBy (λ row. not (eqb (clauseFor t (byte row 0)) 0)) (map literalRow ls)
+
+    literals : List Literal
+    literals = filterBy (λ (l : Literal). not (eqb (clauseFor t (roleNumber (l .role))) 0)) ls
+
+    go : (b : Bool) → map byRow rows ≡ map byLiteral literals → map byRow (keepIf b (literalRow l) rows) ≡ map byLiteral (keepIf b l literals)
+    go true e = ap₂ (λ (w : ℕ) (ms : List Mark). record { clause = clauseFor t (roleNumber (l .role)); word = w } ∷ ms) (ap wordOf (h l (List·Memᴰ·head refl))) e
+    go false e = e
+
+module _ (D : Domain) (n : Counts) (arities variables sorts starts parts table : List ℕ) (L : Lent D n arities variables sorts starts parts table) where
+  facing : (e : Event) → GroundFits D (e .ground) → Facing D e
+  facing e F =
+      record {
+        kept = lent-kept D n arities variables sorts starts parts table L (e .ground .action) (F .listed);
+        sized = L .held .bounded .literalArity (action D (e .ground .action)) (lent-action D n arities variables sorts starts parts table L (e .ground .action) (F .listed));
+        objects =
+            λ l m o k.
+            let r = map-in (valueOf (e .ground .binding)) (l .atom .args) k in
+            let c = L .held .bounded .below (action D (e .ground .action)) (lent-action D n arities variables sorts starts parts table L (e .ground .action) (F .listed)) l m (r .0) (r .1) in
+            let b = F .bound in
+            let h = F .objects (valueOf (e .ground .binding) (r .0)) (getD-in (e .ground .binding) (r .0 .0) (object 0) (omega arith)) in
+            let z = ap (λ (o : Object). o .0) (r .2) in
+            omega arith;
+      }
+
+  -- the rows of its action, as the code finds them
+  pub lent-marks : (e : Event) → GroundFits D (e .ground) → (t : Time) (ground : List ℕ) → t ≡ timeOf (e .moment) → ground ≡ groundRow (e .ground)
+      → (from to : ℕ) → from ≡ getD starts (getD ground 0 0) 0 → to ≡ endRow n starts (getD ground 0 0)
+      → rowMarks t arities ground (rowsIn (to - from) (take (8 * to - 8 * from) (drop (8 * from) table))) ≡ eventMarks D e
+  unfolding eventMarks
+  lent-marks e F t ground s f from to p q =
+      ap₂ (λ (u : Time) (x : List ℕ). rowMarks u arities x (rowsIn (to - from) (take (8 * to - 8 * from) (drop (8 * from) table)))) s f
+      ∙ ap (rowMarks (timeOf (e .moment)) arities (groundRow (e .ground))) (ground-rows D n arities variables sorts starts parts table L (e .ground) F ground f from to p q)
+      ∙ mark-facts (timeOf (e .moment)) arities (e .ground) (action D (e .ground .action) .lits) (lent-bound D n arities variables sorts starts parts table L (e .ground) F)
+
+  -- no two interfere, by their marks
+  pub apart-independent : (es : List Event) → EventsFit D es → pairwise (λ first later. not (marksClash first later)) (map (eventMarks D) es) ≡ independent D es
+  apart-independent [] F = refl
+  apart-independent (e ∷ es) F =
+      ap₂ _&&_
+      (all-map (eventMarks D) (λ (later : List Mark). not (marksClash (eventMarks D e) later)) es
+      ∙ all-agree (λ (f : Event). not (marksClash (eventMarks D e) (eventMarks D f))) (λ (f : Event). not (interfere D e f)) es
+      (λ f m. ap not (marks-interfere D e f (facing e (F e (List·Memᴰ·head refl))) (facing f (F f (List·Memᴰ·tail m))))))
+      (apart-independent es (λ f m. F f (List·Memᴰ·tail m)))
+
+-- nor do fewer than two
+pub few-independent : (D : Domain) (es : List Event) → length es < 2 → true ≡ independent D es
+few-independent D [] h = refl
+few-independent D (e ∷ []) h = refl
+few-independent D (e ∷ f ∷ es) h = absurd (omega arith)
+
+-- ---- in memory, event by event
+
+module _ (D : Domain) (es : List Event) (i : ℕ) {words clauses ends : List ℕ} {k : ℕ} where
+  pub laid-event : i < length es → Laid (take i (map (eventMarks D) es)) words clauses ends k → i < length ends → {words′ clauses′ : List ℕ} {m : ℕ}
+      → marksIn m words′ clauses′ ≡ marksIn k words clauses ++ eventMarks D (getD es i noEvent) → Laid (take (i + 1) (map (eventMarks D) es)) words′ clauses′ (set ends i m) m
+  laid-event h L g {words′} {clauses′} {m} e =
+      let l = length-map es (eventMarks D) in
+      subst (λ (parts : List (List Mark)). Laid parts words′ clauses′ (set ends i m) m)
+      (ap (λ (part : List Mark). take i (map (eventMarks D) es) ++ (part ∷ [])) (sym (getD-map (eventMarks D) es i noEvent [] h))
+      ∙ sym (ap (λ (k : ℕ). take k (map (eventMarks D) es)) (add-one i) ∙ take-suc (map (eventMarks D) es) i [] (omega arith)))
+      (laid-more L (eventMarks D (getD es i noEvent)) i (length-take-le i (map (eventMarks D) es) (omega arith)) g e)
+
+  pub laid-all : length es ≤ i → Laid (take i (map (eventMarks D) es)) words clauses ends k → Laid (map (eventMarks D) es) words clauses ends k
+  laid-all h L =
+      let l = length-map es (eventMarks D) in
+      subst (λ (parts : List (List Mark)). Laid parts words clauses ends k) (take-all i (map (eventMarks D) es) (omega arith)) L
+
+-- where the loop over the waiting events stands
+pub record InWords (n : Counts) (arities starts table : List ℕ) (w : Waiting) (words₀ clauses₀ ends₀ words clauses ends : List ℕ) (k i : ℕ) : Type 0 where
+  pub reach : i ≤ w .count
+  pub few : k ≤ 64 * i
+  pub wordsKept : length words ≡ length words₀
+  pub clausesKept : length clauses ≡ length clauses₀
+  pub endsKept : length ends ≡ length ends₀
+  pub within : (j : ℕ) → j < i → getD ends j 0 ≤ 1024
+  pub laid : (D : Domain) (variables sorts parts : List ℕ) (es : List Event) → Lent D n arities variables sorts starts parts table → w ≡ waitingOf es → EventsFit D es
+      → Laid (take i (map (eventMarks D) es)) words clauses ends k

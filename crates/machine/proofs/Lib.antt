@@ -5,9 +5,7 @@ pub mod Entries
 pub mod Runs
 pub mod Stops
 pub mod Traced
-pub mod Weights
 pub mod TopWeights
-pub mod InstanceRows
 pub mod GroundRows
 pub mod OpenRows
 pub mod Never
@@ -16,11 +14,15 @@ pub mod NextKept
 pub mod FactRows
 pub mod HeldBytes
 pub mod Closing
+pub mod Resting
 pub mod Asked
 pub mod RunRows
 pub mod Joins
 pub mod FilledRows
+pub mod IndexedRows
 pub mod EffectRows
 pub mod StepFacts
 pub mod Listed
+pub mod Words
+pub mod Marks
 pub mod Interferes

@@ -5,8 +5,8 @@ use mathlib.Core.List.{List}
 use Prim.Native.Nat.{ℕ, _+_, _-_, _*_, _≤_, _<_}
 use native.Mathlib.Numerals.{add-one}
 use native.Mathlib.Omega.{arith}
-use lib.ListN.{length, getD, take, drop, drop-of-length-le, length-drop}
-use lib.Seq.{drop-cons, length-take-le}
+use lib.ListN.{length, getD, take, drop, drop-of-length-le}
+use lib.Seq.{drop-cons}
 use Rattle.records.specs.Lists.{all, any, pairwise}
 use Rattle.records.proofs.Lists.{getD-in}
 use Rattle.literals.specs.declared.Counts.{Counts}
@@ -52,11 +52,6 @@ module _ {A : Type 0} (l : List A) (i : ℕ) (d : A) where
 
 pub part-of-17 : (t : List ℕ) (at end : ℕ) → end ≡ at + 17 → take (end - at) (drop at t) ≡ take 17 (drop at t)
 part-of-17 t at end e = let z : end - at ≡ 17 = omega arith in ap (λ (k : ℕ). take k (drop at t)) z
-
-pub length-of-17 : (t : List ℕ) (at end : ℕ) → end ≡ at + 17 → at + 17 ≤ length t → length (take (end - at) (drop at t)) ≡ 17
-length-of-17 t at end e h =
-    let d = length-drop at t in
-    length-take-le (end - at) (drop at t) (omega arith) ∙ omega arith
 
 -- ---- the events and entries of a domain
 

@@ -26,7 +26,7 @@ use Rattle.machine.specs.RunFile.{entriesBefore, entriesUpTo, startFacts
 use Rattle.machine.specs.Play.{workBytes, accepted, playRun, Played, ofRun, Call, playedAt, outcomeCall, callBy, call, played}
 use Rattle.machine.specs.Claims.{statesOf, peakOf, AsMachine, PlayedAsMachine, NoAlarm, WeightStaysLow}
 use Rattle.machine.proofs.Traced.{Alarm, Ended, ended}
-use Rattle.machine.proofs.Weights.{largest-below, below-top, top-below, instance-size}
+use Rattle.store.proofs.Weights.{largest-below, below-top, top-below, instance-size}
 
 -- ---- demand 3, of the highest weight
 

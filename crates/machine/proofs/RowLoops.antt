@@ -1,49 +1,16 @@
--- Laws of loops over rows of 8 bytes, and of the fact that a literal's row is bound to. Assumes nothing.
-use mathlib.Core.Path.{_≡_, refl, sym, ap, ap₂, _∙_}
-use mathlib.Core.Bool.{Bool, true, false, _&&_, _||_, cond}
+-- Laws of the fact that a literal's row is bound to, and of the rows of an action. Assumes nothing.
+use mathlib.Core.Path.{_≡_, refl, sym, ap, _∙_}
 use mathlib.Core.List.{List, [], _∷_, _++_, map, append-nil}
-use Prim.Native.Nat.{ℕ, zero, suc, _+_, _-_, _*_, _≤_, _<_}
-use native.Mathlib.Numerals.{add-one}
-use native.Mathlib.Nat.{sub-zero}
+use Prim.Native.Nat.{ℕ, zero, suc, _+_, _-_, _≤_, _<_}
 use native.Mathlib.Omega.{arith}
-use lib.Dec.{ltb}
 use lib.ListN.{length, getD, set, take, drop, replicate, length-append, length-drop, length-map, length-replicate, getD-replicate, List·getD-append}
 use lib.Seq.{paste, take-all, length-take-le, getD-take, getD-drop, getD-append-add}
 use borrow.Author.Tests.{lt-ltb, le-ltb}
-use Rattle.records.specs.Lists.{any, all}
 use Rattle.records.proofs.Memory.{paste-more}
 use Rattle.literals.specs.declared.Counts.{Counts}
-use Rattle.literals.specs.Table.{rowsIn}
-use Rattle.literals.proofs.Rows.{length-part, part-at, rows-more, rows-end}
+use Rattle.literals.specs.Decode.{byte}
+use Rattle.literals.proofs.Rows.{length-part, part-at}
 use Rattle.machine.specs.Coded.{endRow, objectOf, boundBytes, boundRow}
-
--- ---- a test on the rows of a memory, from row i on
-
-module _ (p : List ℕ → Bool) (t : List ℕ) (n i : ℕ) where
-  pub any-end : n ≤ i → any p (rowsIn (n - i) (drop (8 * i) t)) ≡ false
-  any-end h = rw (rows-end (drop (8 * i) t) n i h)
-
-  pub all-end : n ≤ i → all p (rowsIn (n - i) (drop (8 * i) t)) ≡ true
-  all-end h = rw (rows-end (drop (8 * i) t) n i h)
-
-  module _ (h : i < n) where
-    pub any-hit : p (take 8 (drop (8 * i) t)) ≡ true → any p (rowsIn (n - i) (drop (8 * i) t)) ≡ true
-    any-hit e = rw (rows-more t n i h, e)
-
-    pub any-miss : p (take 8 (drop (8 * i) t)) ≡ false → any p (rowsIn (n - i) (drop (8 * i) t)) ≡ any p (rowsIn (n - (i + 1)) (drop (8 * (i + 1)) t))
-    any-miss e = rw (rows-more t n i h, e)
-
-    pub all-miss : p (take 8 (drop (8 * i) t)) ≡ false → all p (rowsIn (n - i) (drop (8 * i) t)) ≡ false
-    all-miss e = rw (rows-more t n i h, e)
-
-    pub all-hit : p (take 8 (drop (8 * i) t)) ≡ true → all p (rowsIn (n - i) (drop (8 * i) t)) ≡ all p (rowsIn (n - (i + 1)) (drop (8 * (i + 1)) t))
-    all-hit e = rw (rows-more t n i h, e)
-
-pub any-first : (p : List ℕ → Bool) (t : List ℕ) (n : ℕ) → any p (rowsIn (n - 0) (drop (8 * 0) t)) ≡ any p (rowsIn n t)
-any-first p t n = ap (λ (k : ℕ). any p (rowsIn k t)) (sub-zero n)
-
-pub all-first : (p : List ℕ → Bool) (t : List ℕ) (n : ℕ) → all p (rowsIn (n - 0) (drop (8 * 0) t)) ≡ all p (rowsIn n t)
-all-first p t n = ap (λ (k : ℕ). all p (rowsIn k t)) (sub-zero n)
 
 -- ---- the fact that a literal's row is bound to
 
@@ -124,6 +91,11 @@ module _ (arity : ℕ) (ground t : List ℕ) (at : ℕ) (h : at + 8 ≤ length t
       ∙ ap (λ (l : List ℕ). l ++ []) (take-all 8 (boundBytes arity ground row) (omega (arith, length-bound arity ground t at h g)))
       ∙ append-nil (boundBytes arity ground row)
       ∙ ap (λ (n : ℕ). boundBytes n ground row) (f ∙ sym (ap (λ (r : ℕ). getD arities r 0) (part-at t at h 1 (omega arith))))
+
+-- its second byte is the arity of its relation
+pub bound-sized : (arities ground row fact : List ℕ) → fact ≡ boundRow arities ground row → byte fact 1 ≡ getD arities (byte fact 0) 0
+unfolding boundRow
+bound-sized arities ground row fact e = ap (λ (t : List ℕ). byte t 1) e ∙ sym (ap (λ (t : List ℕ). getD arities (byte t 0) 0) e)
 
 -- ---- the rows of an action
 

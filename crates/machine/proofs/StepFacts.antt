@@ -1,11 +1,11 @@
 -- The facts after a step: the rows that are kept and then joined are those of the machine's `factsAfter`. Assumes nothing.
-use mathlib.Core.Path.{_≡_, refl, sym, ap, ap₂, _∙_}
+use mathlib.Core.Path.{_≡_, refl, sym, ap, ap₂, _∙_, subst}
 use mathlib.Core.Bool.{not}
 use mathlib.Core.List.{List, [], _∷_, _++_, map, flatMap, map-append, append-assoc}
 use Prim.Native.Nat.{ℕ, zero, suc, _+_, _-_, _*_, _≤_}
 use native.Mathlib.Omega.{arith}
 use lib.Dec.{eqb}
-use lib.ListN.{length, take, replicate, length-append, length-map}
+use lib.ListN.{length, take, replicate, length-map}
 use lib.Seq.{take-all, take-append-add}
 use Rattle.records.specs.Lists.{filterBy, sameList, elem, dedup}
 use Rattle.records.specs.Memory.{over}
@@ -16,11 +16,12 @@ use Rattle.literals.specs.Domain.{Fact, sameFact, Domain}
 use Rattle.literals.specs.Table.{rowsIn}
 use Rattle.verdict.specs.Judged.{objectNumbers, factBytes}
 use Rattle.verdict.specs.Machine.{Event, stepFacts, factsAfter}
+use Rattle.store.specs.Index.{Sized, Indexed}
 use Rattle.machine.specs.Play.{heldBytes}
 use Rattle.machine.specs.Coded.{factRow, joinRows, atMost, flat, stepEffects}
 use Rattle.machine.proofs.FactRows.{same-row}
 use Rattle.machine.proofs.Joins.{filter-agree, outside-map, dedup-map, joined-rows}
-use Rattle.machine.proofs.FilledRows.{rows-whole, fill-again, Filled, filled-rows, stays, keptOf, kept-few, behind, most-range}
+use Rattle.machine.proofs.FilledRows.{rows-whole, fill-again, Filled, filled-rows, stays, keptOf, kept-few, behind, most-inside}
 use Rattle.machine.proofs.EffectRows.{step-once, step-elem}
 
 -- ---- the rows of facts
@@ -75,17 +76,23 @@ module _ (D : Domain) (fs : List Fact) (es : List Event) where
 
 -- ---- as the code leaves it
 
--- the rows that are struck and those that are added, the work memory, and out before, after what is kept and after what joins
-pub record Done (struck work adds : List ℕ) (m n k : ℕ) (out₀ out₁ out₂ : List ℕ) (kept facts : ℕ) : Type 0 where
+-- the rows that are struck and those that are added, the work memory, and out and the index before, after what is kept and after what joins
+pub record Done (keys : ℕ) (parts : List (List ℕ)) (struck work adds : List ℕ) (m n k : ℕ) (out₀ out₁ out₂ index₀ index₁ index₂ : List ℕ) (kept facts : ℕ) : Type 0 where
   pub small : n ≤ 1024
   pub within : 8 * n ≤ length work
   pub room : length out₀ ≡ 8192
   pub keptCount : kept ≡ length (keptOf (rowsIn m struck) work n)
   pub keptBytes : out₁ ≡ over (flat (keptOf (rowsIn m struck) work n)) out₀
-  pub joinedCount : facts ≡ atMost 1024 (length (joinRows (rowsIn kept out₁) (rowsIn k adds)))
-  pub joinedBytes : out₂ ≡ over (flat (take 1024 (joinRows (rowsIn kept out₁) (rowsIn k adds)))) out₁
+  pub keptIndexed : (arities : List ℕ) → Indexed arities keys parts index₀ (rowsIn n work) → Indexed arities keys parts index₁ (keptOf (rowsIn m struck) work n)
+  pub joinedFew : (kept ≤ facts) × (facts ≤ 1025)
+  pub joinedCount : (arities : List ℕ) → Indexed arities keys parts index₁ (rowsIn kept out₁) → Sized arities (rowsIn k adds) → facts ≡ atMost 1024 (length (joinRows (rowsIn kept out₁) (rowsIn k adds)))
+  pub joinedBytes : (arities : List ℕ) → Indexed arities keys parts index₁ (rowsIn kept out₁) → Sized arities (rowsIn k adds)
+      → out₂ ≡ over (flat (take 1024 (joinRows (rowsIn kept out₁) (rowsIn k adds)))) out₁
+  pub joinedIndexed : (arities : List ℕ) → Indexed arities keys parts index₁ (rowsIn kept out₁) → Sized arities (rowsIn k adds) → facts ≤ 1024
+      → Indexed arities keys parts index₂ (joinRows (rowsIn kept out₁) (rowsIn k adds))
 
-module _ {struck work adds : List ℕ} {m n k : ℕ} {out₀ out₁ out₂ : List ℕ} {kept facts : ℕ} (X : Done struck work adds m n k out₀ out₁ out₂ kept facts) where
+module _ {keys : ℕ} {parts : List (List ℕ)} {struck work adds : List ℕ} {m n k : ℕ} {out₀ out₁ out₂ index₀ index₁ index₂ : List ℕ} {kept facts : ℕ}
+    (X : Done keys parts struck work adds m n k out₀ out₁ out₂ index₀ index₁ index₂ kept facts) where
   abbrev keptRows : List (List ℕ)
   keptRows = keptOf (rowsIn m struck) work n
 
@@ -106,11 +113,8 @@ module _ {struck work adds : List ℕ} {m n k : ℕ} {out₀ out₁ out₂ : Lis
   pub after-few : (kept ≤ n) × (kept ≤ facts) × (facts ≤ 1025)
   after-few =
       let q = kept-few (rowsIn m struck) work n in
-      let l = ap length all-joined ∙ length-append keptRows newRows in
       let c = X .keptCount in
-      let a = X .small in
-      let r = most-range facts (length (joinRows (rowsIn kept out₁) (rowsIn k adds))) (X .joinedCount) kept (omega arith) (omega arith) in
-      (omega arith, r .0, r .1)
+      (omega arith, X .joinedFew .0, X .joinedFew .1)
 
   module _ (D : Domain) (es : List Event) (fs : List Fact) (s : rowsIn m struck ≡ map factRow (stepEffects D es Delete)) (t : rowsIn k adds ≡ map factRow (stepEffects D es Add))
       (u : rowsIn n work ≡ map factRow fs) where
@@ -123,24 +127,36 @@ module _ {struck work adds : List ℕ} {m n k : ℕ} {out₀ out₁ out₂ : Lis
     pub after-kept : kept ≡ length (filterBy (λ (f : Fact). not (elem sameFact f (stepFacts D es Delete))) fs)
     after-kept = X .keptCount ∙ ap length kept-rows ∙ length-map (keptFacts D fs es) factRow
 
-    pub after-count : facts ≡ atMost 1024 (length (factsAfter D fs es))
-    after-count = X .joinedCount ∙ ap (atMost 1024) (ap length after-rows ∙ length-map (factsAfter D fs es) factRow)
+    module _ (arities : List ℕ) (I : Indexed arities keys parts index₀ (map factRow fs)) (S : Sized arities (map factRow (stepEffects D es Add))) where
+      kept-held : Indexed arities keys parts index₁ (rowsIn kept out₁)
+      kept-held = subst (Indexed arities keys parts index₁) (sym (filled-rows filled)) (X .keptIndexed arities (subst (Indexed arities keys parts index₀) (sym u) I))
 
-    pub after-written : out₂ ≡ over (factBytes (take 1024 (factsAfter D fs es))) out₀
-    after-written =
-        let q = kept-few (rowsIn m struck) work n in
-        let a = X .small in
-        let z : 1024 ≡ length keptRows + (1024 - length keptRows) = omega arith in
-        let first = ap (take 1024) all-joined ∙ ap (λ (i : ℕ). take i (keptRows ++ newRows)) z ∙ take-append-add keptRows newRows (1024 - length keptRows) in
-        X .joinedBytes
-        ∙ ap₂ (λ (l : List (List ℕ)) (x : List ℕ). over (flat l) x) first (X .keptBytes)
-        ∙ fill-again keptRows (take (1024 - length keptRows) newRows) out₀
-        ∙ ap (λ (l : List (List ℕ)). over (flat l) out₀) (sym first ∙ ap (take 1024) after-rows ∙ take-map factRow 1024 (factsAfter D fs es))
-        ∙ ap (λ (l : List ℕ). over l out₀) (fact-bytes (take 1024 (factsAfter D fs es)))
+      added-sized : Sized arities (rowsIn k adds)
+      added-sized = subst (Sized arities) (sym t) S
 
-    pub after-held : out₀ ≡ replicate 8192 0 → length (factsAfter D fs es) ≤ 1024 → out₂ ≡ heldBytes (factsAfter D fs es)
-    unfolding heldBytes
-    after-held x y =
-        after-written
-        ∙ ap₂ (λ (l : List Fact) (x : List ℕ). over (factBytes l) x) (take-all 1024 (factsAfter D fs es) y) x
-        ∙ over-zeros 8192 (factBytes (factsAfter D fs es))
+      pub after-count : facts ≡ atMost 1024 (length (factsAfter D fs es))
+      after-count = X .joinedCount arities kept-held added-sized ∙ ap (atMost 1024) (ap length after-rows ∙ length-map (factsAfter D fs es) factRow)
+
+      pub after-written : out₂ ≡ over (factBytes (take 1024 (factsAfter D fs es))) out₀
+      after-written =
+          let q = kept-few (rowsIn m struck) work n in
+          let a = X .small in
+          let z : 1024 ≡ length keptRows + (1024 - length keptRows) = omega arith in
+          let first = ap (take 1024) all-joined ∙ ap (λ (i : ℕ). take i (keptRows ++ newRows)) z ∙ take-append-add keptRows newRows (1024 - length keptRows) in
+          X .joinedBytes arities kept-held added-sized
+          ∙ ap₂ (λ (l : List (List ℕ)) (x : List ℕ). over (flat l) x) first (X .keptBytes)
+          ∙ fill-again keptRows (take (1024 - length keptRows) newRows) out₀
+          ∙ ap (λ (l : List (List ℕ)). over (flat l) out₀) (sym first ∙ ap (take 1024) after-rows ∙ take-map factRow 1024 (factsAfter D fs es))
+          ∙ ap (λ (l : List ℕ). over l out₀) (fact-bytes (take 1024 (factsAfter D fs es)))
+
+      pub after-held : out₀ ≡ replicate 8192 0 → length (factsAfter D fs es) ≤ 1024 → out₂ ≡ heldBytes (factsAfter D fs es)
+      unfolding heldBytes
+      after-held x y =
+          after-written
+          ∙ ap₂ (λ (l : List Fact) (x : List ℕ). over (factBytes l) x) (take-all 1024 (factsAfter D fs es) y) x
+          ∙ over-zeros 8192 (factBytes (factsAfter D fs es))
+
+      pub after-indexed : length (factsAfter D fs es) ≤ 1024 → Indexed arities keys parts index₂ (map factRow (factsAfter D fs es))
+      after-indexed y =
+          let c : facts ≡ length (factsAfter D fs es) = after-count ∙ sym (most-inside (length (factsAfter D fs es)) y) in
+          subst (Indexed arities keys parts index₂) after-rows (X .joinedIndexed arities kept-held added-sized (omega arith))

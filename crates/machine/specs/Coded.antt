@@ -6,33 +6,31 @@ use Prim.Native.Nat.{ℕ, zero, suc, _+_, _-_, _*_, _≤_, _<_}
 use lib.Dec.{eqb, ltb, leb}
 use lib.ListN.{length, getD, take, drop, replicate}
 use lib.Seq.{paste}
-use Rattle.records.specs.Lists.{In, filterBy, countBy, any, all, sameList, elem}
+use Rattle.records.specs.Lists.{In, filterBy, any, sameList}
 use Rattle.records.specs.Memory.{over}
 use Rattle.literals.specs.declared.Object.{Object}
 use Rattle.literals.specs.declared.Counts.{Counts}
 use Rattle.literals.specs.declared.Time.{Time}
 use Rattle.literals.specs.declared.Time.the-variants.{AtStart, OverAll, AtEnd}
 use Rattle.literals.specs.declared.Clause.{Clause}
-use Rattle.literals.specs.Domain.{Fact, Domain, arity, action}
+use Rattle.literals.specs.Domain.{Fact, roleNumber, Literal, Domain, action}
 use Rattle.literals.specs.Decode.{byte}
 use Rattle.literals.specs.Table.{pad, tableBytes, indexWith, Holds}
 use Rattle.classes.specs.declared.Moment.{Moment}
 use Rattle.classes.specs.declared.Moment.the-variants.{Start, End}
 use Rattle.classes.specs.Classes.{momentNumber, own, endsOverAll, overAll, withRole}
-use Rattle.classes.specs.Coded.{position, keyRow}
+use Rattle.classes.specs.Coded.{position}
 use Rattle.verdict.specs.Binding.{bind}
 use Rattle.verdict.specs.Judged.{objectNumbers}
-use Rattle.verdict.specs.Machine.{GroundAction, Event, conditionsHold, overAllHold, weight, instancesIn, largest}
+use Rattle.verdict.specs.Machine.{GroundAction, Event, conditionsHold, overAllHold}
+pub use Rattle.store.specs.Rows.{factRow, hasRow, Few, FactFits}
+unfoldable pub use Rattle.store.specs.Rows.{topFrom}
+use Rattle.store.specs.Index.{wordOf}
 use Rattle.machine.specs.declared.Open.{Open}
 use Rattle.machine.specs.declared.Waiting.{Waiting}
-use Rattle.machine.specs.declared.weighing.Keyed.{Keyed}
 use Rattle.machine.specs.declared.openings.Opened.{Opened}
 
 -- ---- rows
-
--- a fact: "8 bytes each in the witness's form"
-abbrev pub factRow : Fact → List ℕ
-factRow f = f .rel ∷ length (f .args) ∷ (objectNumbers (f .args) ++ replicate (6 - length (f .args)) 255)
 
 -- an action with its objects: 17 bytes, FF to fill
 abbrev pub groundRow : GroundAction → List ℕ
@@ -42,10 +40,6 @@ groundRow g = g .action ∷ (objectNumbers (g .binding) ++ replicate (16 - lengt
 abbrev pub groundsIn : ℕ → List ℕ → List (List ℕ)
 groundsIn zero t = []
 groundsIn (suc n) t = take 17 t ∷ groundsIn n (drop 17 t)
-
--- a row is one of these
-abbrev pub hasRow : List ℕ → List (List ℕ) → Bool
-hasRow row rows = elem (sameList eqb) row rows
 
 -- ---- what the code holds
 
@@ -65,14 +59,6 @@ waitingOf es =
     }
 
 -- ---- what fits it
-
--- facts whose arguments have room in a row
-abbrev pub Few : List Fact → Type 0
-Few fs = (f : Fact) → In f fs → length (f .args) ≤ 6
-
--- a fact with the arity of its relation
-pub record FactFits (D : Domain) (f : Fact) : Type 0 where
-  pub sized : length (f .args) ≡ arity D (f .rel)
 
 -- an action of the domain with an object for each variable, none of them FF
 pub record GroundFits (D : Domain) (g : GroundAction) : Type 0 where
@@ -150,20 +136,54 @@ asked D AtStart g fs = conditionsHold D fs (record { moment = Start; ground = g 
 asked D OverAll g fs = overAllHold D fs g
 asked D AtEnd g fs = conditionsHold D fs (record { moment = End; ground = g })
 
--- ---- interference, by rows
+-- ---- interference, by words
 
 -- two clauses of one fact that two events may not have: a condition with an add or delete, an add with a delete
 unfoldable pub clashing : ℕ → ℕ → Bool
 clashing c d = cond (ltb c 3) (not (eqb c 0) && leb 3 d) (cond (ltb d 3) (not (eqb d 0)) (not (eqb c d)))
 
--- a literal of this clause and fact meets one of these rows
-unfoldable pub meetsRow : ℕ → List ℕ → Time → List ℕ → List ℕ → List (List ℕ) → Bool
-unfolding clashing clauseFor boundRow
-meetsRow clause fact t arities ground rows = any (λ row. clashing clause (clauseFor t (byte row 0)) && sameList eqb fact (boundRow arities ground row)) rows
+-- a literal that counts at its event's time: its clause, and its fact as one number
+pub record Mark : Type 0 where
+  pub clause : ℕ
+  pub word : ℕ
 
-unfoldable pub interfereRows : List ℕ → Time → List ℕ → List (List ℕ) → Time → List ℕ → List (List ℕ) → Bool
-unfolding clauseFor boundRow meetsRow
-interfereRows arities t ground rows u other others = any (λ row. meetsRow (clauseFor t (byte row 0)) (boundRow arities ground row) u arities other others) rows
+-- those of an action's rows
+unfoldable pub rowMarks : Time → List ℕ → List ℕ → List (List ℕ) → List Mark
+unfolding clauseFor boundRow wordOf
+rowMarks t arities ground rows =
+    map (λ row. record { clause = clauseFor t (byte row 0); word = wordOf (boundRow arities ground row) }) (filterBy (λ row. not (eqb (clauseFor t (byte row 0)) 0)) rows)
+
+-- those of an event
+unfoldable pub eventMarks : Domain → Event → List Mark
+unfolding clauseFor wordOf action
+eventMarks D e =
+    map (λ l. record { clause = clauseFor (timeOf (e .moment)) (roleNumber (l .role)); word = wordOf (factRow (bind (e .ground .binding) (l .atom))) })
+    (filterBy (λ (l : Literal). not (eqb (clauseFor (timeOf (e .moment)) (roleNumber (l .role))) 0)) (action D (e .ground .action) .lits))
+
+-- that at a place of the memories, and the first n
+abbrev pub markAt : List ℕ → List ℕ → ℕ → Mark
+markAt words clauses i = record { clause = getD clauses i 0; word = getD words i 0 }
+
+abbrev pub marksIn : ℕ → List ℕ → List ℕ → List Mark
+marksIn zero words clauses = []
+marksIn (suc n) words clauses = marksIn n words clauses ++ (markAt words clauses n ∷ [])
+
+-- two of one fact whose clauses clash; one of some with one of others
+unfoldable pub clashes : Mark → Mark → Bool
+unfolding clashing
+clashes a b = eqb (b .word) (a .word) && clashing (a .clause) (b .clause)
+
+abbrev pub marksClash : List Mark → List Mark → Bool
+marksClash first later = any (λ a. any (clashes a) later) first
+
+-- several lists of them, one behind the other
+abbrev pub inOne : List (List Mark) → List Mark
+inOne parts = flatMap (λ (part : List Mark). part) parts
+
+-- the memories hold these lists, each up to its end
+pub record Laid (parts : List (List Mark)) (words clauses ends : List ℕ) (total : ℕ) : Type 0 where
+  pub filled : marksIn total words clauses ≡ inOne parts
+  pub ended : (i : ℕ) → i < length parts → getD ends i 0 ≡ length (inOne (take (i + 1) parts))
 
 -- ---- effects, by rows
 
@@ -180,39 +200,13 @@ abbrev pub joinRows : List (List ℕ) → List (List ℕ) → List (List ℕ)
 joinRows rows [] = rows
 joinRows rows (row ∷ more) = joinRows (joinRow rows row) more
 
+-- the third bytes of these rows are marked
+abbrev pub Marked : List ℕ → List (List ℕ) → Type 0
+Marked marks rows = (row : List ℕ) → In row rows → getD marks (byte row 2) 0 ≡ 1
+
 -- a count, or one more than the limit where it is above it
 abbrev pub atMost : ℕ → ℕ → ℕ
 atMost limit n = cond (ltb limit n) (suc limit) n
-
--- ---- weights, by rows
-
--- the key tuple of a fact's row, as a row: none or one
-unfoldable pub instanceRows : ℕ → List (List ℕ) → List ℕ → List (List ℕ)
-unfolding keyRow
-instanceRows n [] row = []
-instanceRows n (part ∷ parts) row = cond (eqb (byte row 0) (byte part 0)) (keyRow n part row ∷ []) (instanceRows n parts row)
-
--- the highest weight of the instances of the facts from one place on, among all facts
-unfoldable pub topFrom : Domain → List Fact → ℕ → ℕ
-unfolding instancesIn weight
-topFrom D fs from = largest (map (λ y. weight D y fs) (instancesIn D (drop from fs)))
-
--- ---- weighing
-
--- of the key tuples of a fact's row, none or one
-unfoldable pub keyedBy : List (List ℕ) → Keyed
-keyedBy [] = record { matched = false; row = replicate 8 255 }
-keyedBy (t ∷ ts) = record { matched = true; row = t }
-
--- the weight of the instance whose key tuple has this row
-unfoldable pub rowWeight : ℕ → List (List ℕ) → List (List ℕ) → List ℕ → ℕ
-unfolding instanceRows
-rowWeight n parts facts row = countBy (λ fact. any (sameList eqb row) (instanceRows n parts fact)) facts
-
--- the highest weight of the instances of the facts from one place on, among all facts
-unfoldable pub topRows : ℕ → List (List ℕ) → List (List ℕ) → ℕ → ℕ
-unfolding instanceRows rowWeight flatMap
-topRows n parts facts from = largest (map (rowWeight n parts facts) (flatMap (instanceRows n parts) (drop from facts)))
 
 -- ---- effects
 

@@ -1,18 +1,19 @@
 -- The step's close, as the code holds it. Assumes nothing.
 use mathlib.Core.Path.{_≡_}
-use mathlib.Core.Bool.{cond}
-use mathlib.Core.List.{List, []}
+use mathlib.Core.Bool.{true, cond}
+use mathlib.Core.List.{List, [], map}
 use Prim.Native.Nat.{ℕ, _≤_, max}
 use lib.Dec.{eqb}
-use lib.ListN.{length}
-use Rattle.records.specs.Lists.{In}
+use lib.ListN.{length, getD}
+use Rattle.records.specs.Lists.{In, all}
 use Rattle.records.specs.Memory.{over}
 use Rattle.literals.specs.declared.Counts.{Counts}
 use Rattle.literals.specs.Domain.{Fact, Domain}
-use Rattle.verdict.specs.Machine.{Event, State, next, topWeight}
+use Rattle.verdict.specs.Machine.{Event, State, next, topWeight, overAllHold}
+use Rattle.store.specs.Index.{Indexed}
 use Rattle.machine.specs.declared.State.{State as Holding}
 use Rattle.machine.specs.Play.{maxFacts, maxRunning, maxEvents, workBytes, forbidden, tooLarge, heldBytes}
-use Rattle.machine.specs.Coded.{openOf, waitingOf, FactFits, GroundsFit, EventsFit, Ready}
+use Rattle.machine.specs.Coded.{factRow, openOf, waitingOf, FactFits, GroundsFit, EventsFit, Ready}
 
 -- ---- what the code holds
 
@@ -27,6 +28,11 @@ pub record Kept (D : Domain) (s : State) (es : List Event) : Type 0 where
   pub running-few : length (s .running) ≤ maxRunning
   pub waiting : EventsFit D es
   pub waiting-few : length es ≤ maxEvents
+
+-- what stands beside the facts: their index, whose last number is 1 only where the over-all conditions of everything open are known to hold
+pub record Noted (D : Domain) (arities : List ℕ) (keys : ℕ) (parts : List (List ℕ)) (index : List ℕ) (s : State) : Type 0 where
+  pub indexed : Indexed arities keys parts index (map factRow (s .facts))
+  pub settled : getD index 12288 0 ≡ 1 → all (overAllHold D (s .facts)) (s .running) ≡ true
 
 -- ---- what the code relies on
 

@@ -12,8 +12,6 @@ ghost use Rattle.classes.specs.Classes.{momentNumber};
 ghost use Rattle.verdict.specs.Machine.{Event};
 ghost use Rattle.machine.specs.Coded.{openOf, groundRow, waitingOf, EventsFit};
 
-// ---- the object count, the close of a step and the close of the run
-
 // The bytes of a slice, written at an offset.
 pub fn put_bytes(out: &mut [u8], at: usize, p: &[u8])
     requires { ⌜ at + length (now p) ≤ length (now out) ⌝ }

@@ -1,40 +1,9 @@
-// Rows of facts: 8 bytes each (relation, arity, arguments, FF to fill); and the rows of an action's literals, which become facts by its objects.
+// The rows of an action's literals, which become facts by its objects.
 use literals::Counts;
 ghost use mathlib.Core.Path.{_≡_};
-ghost use Prim.Native.Nat.{ℕ, _+_, _*_, _<_, _≤_};
-ghost use lib.Dec.{eqb};
+ghost use Prim.Native.Nat.{ℕ, _+_, _<_, _≤_};
 ghost use lib.ListN.{length, getD, take, drop};
-ghost use Rattle.records.specs.Lists.{sameList};
-ghost use Rattle.literals.specs.Table.{rowsIn};
-ghost use Rattle.machine.specs.Coded.{hasRow, endRow, objectOf, boundBytes, boundRow};
-
-// Whether the row at an offset is this one.
-pub fn same_row(memory: &[u8], at: usize, row: [u8; 8]) -> bool
-    requires { ⌜ at + 8 ≤ length (now memory) ⌝ }
-    ensures { λ r. ⌜ r ≡ sameList eqb row (take 8 (drop at (now (memory .entry)))) ⌝ }
-{
-    for i in 0..8 {
-        if row[i] != memory[at + i] {
-            return false;
-        }
-    }
-    true
-}
-
-// Whether one of the first n rows is this one.
-pub fn has_row(memory: &[u8], n: usize, row: [u8; 8]) -> bool
-    requires { ⌜ 8 * n ≤ length (now memory) ⌝ }
-    ensures { λ r. ⌜ r ≡ hasRow row (rowsIn n (now (memory .entry))) ⌝ }
-{
-    let mut i = 0;
-    while i < n {
-        if same_row(memory, 8 * i, row) {
-            return true;
-        }
-        i += 1;
-    }
-    false
-}
+ghost use Rattle.machine.specs.Coded.{endRow, objectOf, boundBytes, boundRow};
 
 // The object that an action's row has for a variable.
 fn object_of(ground: &[u8], v: u8) -> u8

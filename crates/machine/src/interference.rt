@@ -3,23 +3,22 @@ use super::Waiting;
 use super::conditions::clause_for;
 use super::conditions::time_at;
 use super::facts::bound_row;
-use super::facts::same_row;
 use super::facts::span_of;
 use literals::Counts;
 use literals::Time;
 use literals::fields::wide;
+use store::index::word_of;
 ghost use mathlib.Core.Path.{_≡_};
-ghost use mathlib.Core.Bool.{_&&_};
-ghost use mathlib.Core.List.{List, map};
+ghost use mathlib.Core.Bool.{not};
+ghost use mathlib.Core.List.{List, [], _∷_, _++_, map};
 ghost use Prim.Native.Nat.{ℕ, _+_, _*_, _<_, _≤_};
-ghost use lib.Dec.{eqb};
 ghost use lib.ListN.{length, getD, take, drop};
-ghost use Rattle.records.specs.Lists.{any, sameList};
-ghost use Rattle.literals.specs.Domain.{Domain, action};
-ghost use Rattle.literals.specs.Table.{literalRow, rowsIn};
+ghost use Rattle.records.specs.Lists.{any, pairwise};
+ghost use Rattle.literals.specs.Domain.{Domain};
+ghost use Rattle.literals.specs.Table.{rowsIn};
 ghost use Rattle.classes.specs.Classes.{momentNumber};
-ghost use Rattle.verdict.specs.Machine.{GroundAction, Event, interfere, independent};
-ghost use Rattle.machine.specs.Coded.{groundRow, waitingOf, GroundFits, EventsFit, Lent, Ready, boundRow, clauseFor, timeOf, clashing, meetsRow, interfereRows};
+ghost use Rattle.verdict.specs.Machine.{Event, independent};
+ghost use Rattle.machine.specs.Coded.{groundRow, waitingOf, GroundFits, EventsFit, Lent, Ready, timeOf, clashing, Mark, rowMarks, eventMarks, marksIn, clashes, marksClash, Laid};
 
 // Whether two clauses of one fact may not stand in two events: a condition with an add or delete, an add with a delete.
 fn clashing(c: u8, d: u8) -> bool
@@ -37,175 +36,90 @@ fn clashing(c: u8, d: u8) -> bool
     c != d
 }
 
-// Whether a literal of this clause and fact meets the literal's row at an offset; clauses are compared before that row is bound to its objects.
-fn meets_at(
-    clause: u8,
-    fact: [u8; 8],
+// The literal's row at an offset, where it counts at this time: its fact's word and its clause, behind the first n; the count then.
+fn put_word(
+    words: &mut [u64],
+    clauses: &mut [u8],
+    n: usize,
     time: Time,
     arities: &[u8],
     ground: &[u8],
     rows: &[u8],
     row: usize,
-) -> bool
-    requires { ⌜ (length (now arities) ≡ 64) × ((i : ℕ) → getD (now arities) i 0 ≤ 6) × (length (now ground) ≡ 17) × (row + 8 ≤ length (now rows)) ⌝ }
-    ensures { λ r. ⌜ r ≡ (clashing clause (clauseFor time (getD (now (rows .entry)) row 0))
-        && sameList eqb fact (boundRow (now (arities .entry)) (now (ground .entry)) (take 8 (drop row (now (rows .entry)))))) ⌝ }
-{
-    if clashing(clause, clause_for(time, rows[row])) {
-        let other = bound_row(arities, ground, rows, row);
-        return same_row(&other, 0, fact);
-    }
-    false
-}
-
-// Whether it meets one of the first k rows of an action's literals.
-fn meets_row(
-    clause: u8,
-    fact: [u8; 8],
-    time: Time,
-    arities: &[u8],
-    ground: &[u8],
-    rows: &[u8],
-    k: usize,
-) -> bool
-    requires { ⌜ (length (now arities) ≡ 64) × ((i : ℕ) → getD (now arities) i 0 ≤ 6) × (length (now ground) ≡ 17) × (8 * k ≤ length (now rows)) ⌝ }
-    ensures { λ r. ⌜ r ≡ meetsRow clause fact time (now (arities .entry)) (now (ground .entry)) (rowsIn k (now (rows .entry))) ⌝ }
-{
-    for i in 0..k {
-        if meets_at(clause, fact, time, arities, ground, rows, 8 * i) {
-            return true;
-        }
-    }
-    false
-}
-
-// Whether the literal's row at an offset meets one of the first l rows of the other action's literals, which count at the time `later`: that event stands later in the step.
-fn row_interferes(
-    arities: &[u8],
-    time: Time,
-    ground: &[u8],
-    rows: &[u8],
-    row: usize,
-    later: Time,
-    other: &[u8],
-    others: &[u8],
-    l: usize,
-) -> bool
-    requires { ⌜ (length (now arities) ≡ 64) × ((i : ℕ) → getD (now arities) i 0 ≤ 6) × (length (now ground) ≡ 17) × (row + 8 ≤ length (now rows))
-        × (length (now other) ≡ 17) × (8 * l ≤ length (now others)) ⌝ }
-    ensures { λ r. ⌜ r ≡ meetsRow (clauseFor time (getD (now (rows .entry)) row 0)) (boundRow (now (arities .entry)) (now (ground .entry)) (take 8 (drop row (now (rows .entry)))))
-        later (now (arities .entry)) (now (other .entry)) (rowsIn l (now (others .entry))) ⌝ }
+) -> usize
+    requires { ⌜ (length (now arities) ≡ 64) × ((i : ℕ) → getD (now arities) i 0 ≤ 6) × (length (now ground) ≡ 17) × (row + 8 ≤ length (now rows)) × (n < length (now words)) × (n < length (now clauses)) ⌝ }
+    ensures { λ r. ⌜ marksIn r (now (words .exit)) (now (clauses .exit)) ≡ marksIn n (now (words .entry)) (now (clauses .entry)) ++ rowMarks time (now (arities .entry)) (now (ground .entry)) (take 8 (drop row (now (rows .entry))) ∷ []) ⌝ }
 {
     let clause = clause_for(time, rows[row]);
     if clause == 0 {
-        return false;
+        return n;
     }
-    let fact = bound_row(arities, ground, rows, row);
-    meets_row(clause, fact, later, arities, other, others, l)
+    words[n] = word_of(bound_row(arities, ground, rows, row));
+    clauses[n] = clause;
+    n + 1
 }
 
-// Whether one of the first k rows of an action's literals meets one of the other action's.
-fn interfere_rows(
-    arities: &[u8],
+// Those of the first k rows of an action's literals, behind the first `at`; the count then.
+fn put_words(
+    words: &mut [u64],
+    clauses: &mut [u8],
+    at: usize,
     time: Time,
+    arities: &[u8],
     ground: &[u8],
     rows: &[u8],
     k: usize,
-    later: Time,
-    other: &[u8],
-    others: &[u8],
-    l: usize,
-) -> bool
-    requires { ⌜ (length (now arities) ≡ 64) × ((i : ℕ) → getD (now arities) i 0 ≤ 6) × (length (now ground) ≡ 17) × (8 * k ≤ length (now rows))
-        × (length (now other) ≡ 17) × (8 * l ≤ length (now others)) ⌝ }
-    ensures { λ r. ⌜ r ≡ interfereRows (now (arities .entry)) time (now (ground .entry)) (rowsIn k (now (rows .entry))) later (now (other .entry)) (rowsIn l (now (others .entry))) ⌝ }
+) -> usize
+    requires { ⌜ (length (now arities) ≡ 64) × ((i : ℕ) → getD (now arities) i 0 ≤ 6) × (length (now ground) ≡ 17) × (8 * k ≤ length (now rows)) × (at + k ≤ length (now words)) × (at + k ≤ length (now clauses)) ⌝ }
+    ensures { λ r. ⌜ marksIn r (now (words .exit)) (now (clauses .exit)) ≡ marksIn at (now (words .entry)) (now (clauses .entry)) ++ rowMarks time (now (arities .entry)) (now (ground .entry)) (rowsIn k (now (rows .entry))) ⌝ }
 {
+    let mut n = at;
     for i in 0..k {
-        if row_interferes(arities, time, ground, rows, 8 * i, later, other, others, l) {
-            return true;
-        }
+        n = put_word(words, clauses, n, time, arities, ground, rows, 8 * i);
     }
-    false
+    n
 }
 
-// Whether one of them meets a literal of the action with the objects `other`.
-fn meets_ground(
+// Those of an action with its objects.
+fn ground_words(
     counts: Counts,
     arities: &[u8],
     starts: &[usize],
     table: &[u8],
     time: Time,
     ground: &[u8],
-    rows: &[u8],
-    k: usize,
-    later: Time,
-    other: &[u8],
-) -> bool
-    requires { ⌜ Ready counts (now arities) (now starts) (now table) × (length (now ground) ≡ 17) × (8 * k ≤ length (now rows)) × (length (now other) ≡ 17) ⌝ }
-    ensures { λ r. ⌜ ((D : Domain) (variables sorts parts : List ℕ) (g : GroundAction)
-        → Lent D counts (now (arities .entry)) variables sorts (now (starts .entry)) parts (now (table .entry)) → GroundFits D g → now (other .entry) ≡ groundRow g
-        → r ≡ interfereRows (now (arities .entry)) time (now (ground .entry)) (rowsIn k (now (rows .entry))) later (groundRow g) (map literalRow (action D (g .action) .lits))) ⌝ }
-{
-    let action = wide(other[0]);
-    if counts.actions <= action {
-        return false;
-    }
-    let span = span_of(counts, starts, action);
-    let from = 8 * span.from;
-    let to = 8 * span.to;
-    interfere_rows(
-        arities,
-        time,
-        ground,
-        rows,
-        k,
-        later,
-        other,
-        &table[from..to],
-        span.to - span.from,
-    )
-}
-
-// Whether two actions with their objects interfere, each at its time.
-fn grounds_interfere(
-    counts: Counts,
-    arities: &[u8],
-    starts: &[usize],
-    table: &[u8],
-    time: Time,
-    ground: &[u8],
-    later: Time,
-    other: &[u8],
-) -> bool
-    requires { ⌜ Ready counts (now arities) (now starts) (now table) × (length (now ground) ≡ 17) × (length (now other) ≡ 17) ⌝ }
-    ensures { λ r. ⌜ ((D : Domain) (variables sorts parts : List ℕ) (e f : Event)
-        → Lent D counts (now (arities .entry)) variables sorts (now (starts .entry)) parts (now (table .entry)) → GroundFits D (e .ground) → GroundFits D (f .ground)
-        → time ≡ timeOf (e .moment) → later ≡ timeOf (f .moment) → now (ground .entry) ≡ groundRow (e .ground) → now (other .entry) ≡ groundRow (f .ground)
-        → r ≡ interfere D e f) ⌝ }
+    words: &mut [u64],
+    clauses: &mut [u8],
+    n: usize,
+) -> usize
+    requires { ⌜ Ready counts (now arities) (now starts) (now table) × (length (now ground) ≡ 17) × (n + 64 ≤ length (now words)) × (n + 64 ≤ length (now clauses)) ⌝ }
+    ensures few { λ r. ⌜ r ≤ n + 64 ⌝ }
+    ensures marks { λ r. ⌜ ((D : Domain) (variables sorts parts : List ℕ) (e : Event)
+        → Lent D counts (now (arities .entry)) variables sorts (now (starts .entry)) parts (now (table .entry)) → GroundFits D (e .ground)
+        → time ≡ timeOf (e .moment) → now (ground .entry) ≡ groundRow (e .ground)
+        → marksIn r (now (words .exit)) (now (clauses .exit)) ≡ marksIn n (now (words .entry)) (now (clauses .entry)) ++ eventMarks D e) ⌝ }
 {
     let action = wide(ground[0]);
     if counts.actions <= action {
-        return false;
+        return n;
     }
     let span = span_of(counts, starts, action);
     let from = 8 * span.from;
     let to = 8 * span.to;
-    meets_ground(
-        counts,
-        arities,
-        starts,
-        table,
+    put_words(
+        words,
+        clauses,
+        n,
         time,
+        arities,
         ground,
         &table[from..to],
         span.to - span.from,
-        later,
-        other,
     )
 }
 
-// Whether the waiting events i and j interfere.
-fn interferes(
+// Those of the waiting event i.
+fn event_words(
     counts: Counts,
     arities: &[u8],
     starts: &[usize],
@@ -213,60 +127,129 @@ fn interferes(
     moments: &[u8],
     rows: &[u8],
     i: usize,
-    j: usize,
-) -> bool
-    requires { ⌜ Ready counts (now arities) (now starts) (now table) × (length (now moments) ≡ 16) × (length (now rows) ≡ 272) × (i < 16) × (j < 16) ⌝ }
-    ensures { λ r. ⌜ ((D : Domain) (variables sorts parts : List ℕ) (e f : Event)
-        → Lent D counts (now (arities .entry)) variables sorts (now (starts .entry)) parts (now (table .entry)) → GroundFits D (e .ground) → GroundFits D (f .ground)
+    words: &mut [u64],
+    clauses: &mut [u8],
+    n: usize,
+) -> usize
+    requires { ⌜ Ready counts (now arities) (now starts) (now table) × (length (now moments) ≡ 16) × (length (now rows) ≡ 272) × (i < 16)
+        × (n + 64 ≤ length (now words)) × (n + 64 ≤ length (now clauses)) ⌝ }
+    ensures few { λ r. ⌜ r ≤ n + 64 ⌝ }
+    ensures marks { λ r. ⌜ ((D : Domain) (variables sorts parts : List ℕ) (e : Event)
+        → Lent D counts (now (arities .entry)) variables sorts (now (starts .entry)) parts (now (table .entry)) → GroundFits D (e .ground)
         → getD (now (moments .entry)) i 0 ≡ momentNumber (e .moment) → take 17 (drop (17 * i) (now (rows .entry))) ≡ groundRow (e .ground)
-        → getD (now (moments .entry)) j 0 ≡ momentNumber (f .moment) → take 17 (drop (17 * j) (now (rows .entry))) ≡ groundRow (f .ground)
-        → r ≡ interfere D e f) ⌝ }
+        → marksIn r (now (words .exit)) (now (clauses .exit)) ≡ marksIn n (now (words .entry)) (now (clauses .entry)) ++ eventMarks D e) ⌝ }
 {
-    let first = 17 * i;
-    let first_end = first + 17;
-    let second = 17 * j;
-    let second_end = second + 17;
-    grounds_interfere(
+    let at = 17 * i;
+    let end = at + 17;
+    ground_words(
         counts,
         arities,
         starts,
         table,
         time_at(moments[i]),
-        &rows[first..first_end],
-        time_at(moments[j]),
-        &rows[second..second_end],
+        &rows[at..end],
+        words,
+        clauses,
+        n,
     )
 }
 
-// Whether a later waiting event interferes with the event i.
-fn later_interferes(
+// Those of every waiting event, in order; `ends` gets the count behind each. The count of all.
+fn step_words(
     counts: Counts,
     arities: &[u8],
     starts: &[usize],
     table: &[u8],
     waiting: Waiting,
-    i: usize,
-) -> bool
-    requires { ⌜ Ready counts (now arities) (now starts) (now table) × (waiting .count ≤ 16) × (i < 16) ⌝ }
-    ensures { λ r. ⌜ ((D : Domain) (variables sorts parts : List ℕ) (es : List Event) (e : Event)
+    words: &mut [u64],
+    clauses: &mut [u8],
+    ends: &mut [usize],
+) -> usize
+    requires { ⌜ Ready counts (now arities) (now starts) (now table) × (waiting .count ≤ 16) × (length (now words) ≡ 1024) × (length (now clauses) ≡ 1024) × (length (now ends) ≡ 16) ⌝ }
+    ensures few { λ r. ⌜ (r ≤ 1024) × ((i : ℕ) → i < waiting .count → getD (now (ends .exit)) i 0 ≤ 1024) ⌝ }
+    ensures laid { λ r. ⌜ ((D : Domain) (variables sorts parts : List ℕ) (es : List Event)
         → Lent D counts (now (arities .entry)) variables sorts (now (starts .entry)) parts (now (table .entry)) → waiting ≡ waitingOf es → EventsFit D es
-        → GroundFits D (e .ground) → getD (waiting .moments) i 0 ≡ momentNumber (e .moment) → take 17 (drop (17 * i) (waiting .rows)) ≡ groundRow (e .ground)
-        → r ≡ any (interfere D e) (drop (i + 1) es)) ⌝ }
+        → Laid (map (eventMarks D) es) (now (words .exit)) (now (clauses .exit)) (now (ends .exit)) r) ⌝ }
 {
     let count = waiting.count;
     let moments = waiting.moments;
     let rows = waiting.rows;
-    let mut j = i + 1;
-    while j < count {
-        if interferes(counts, arities, starts, table, &moments, &rows, i, j) {
-            return true;
+    let mut n = 0;
+    for i in 0..count {
+        n = event_words(
+            counts,
+            arities,
+            starts,
+            table,
+            &moments,
+            &rows,
+            i,
+            words,
+            clauses,
+            n,
+        );
+        ends[i] = n;
+    }
+    n
+}
+
+// Whether a literal with this word and clause clashes with one of those from `from` up to `to`.
+fn word_clashes(
+    words: &[u64],
+    clauses: &[u8],
+    word: u64,
+    clause: u8,
+    from: usize,
+    to: usize,
+) -> bool
+    requires { ⌜ (to ≤ length (now words)) × (to ≤ length (now clauses)) ⌝ }
+    ensures { λ r. ⌜ r ≡ any (clashes record { clause = clause; word = word }) (drop from (marksIn to (now (words .entry)) (now (clauses .entry)))) ⌝ }
+{
+    let mut j = from;
+    while j < to {
+        if words[j] == word {
+            if clashing(clause, clauses[j]) {
+                return true;
+            }
         }
         j += 1;
     }
     false
 }
 
-// Whether no two waiting events interfere.
+// Whether one of the literals from `from` up to `to` clashes with one of those behind, up to `total`.
+fn words_clash(words: &[u64], clauses: &[u8], from: usize, to: usize, total: usize) -> bool
+    requires { ⌜ (to ≤ length (now words)) × (to ≤ length (now clauses)) × (total ≤ length (now words)) × (total ≤ length (now clauses)) ⌝ }
+    ensures { λ r. ⌜ r ≡ marksClash (drop from (marksIn to (now (words .entry)) (now (clauses .entry)))) (drop to (marksIn total (now (words .entry)) (now (clauses .entry)))) ⌝ }
+{
+    let mut i = from;
+    while i < to {
+        if word_clashes(words, clauses, words[i], clauses[i], to, total) {
+            return true;
+        }
+        i += 1;
+    }
+    false
+}
+
+// Whether no literal clashes with one of a later event: the literals of event i end at ends[i].
+fn all_apart(words: &[u64], clauses: &[u8], ends: &[usize], count: usize, total: usize) -> bool
+    requires { ⌜ (length (now words) ≡ 1024) × (length (now clauses) ≡ 1024) × (length (now ends) ≡ 16) × (count ≤ 16) × (total ≤ 1024) × ((i : ℕ) → i < count → getD (now ends) i 0 ≤ 1024) ⌝ }
+    ensures { λ r. ⌜ ((parts : List (List Mark)) → length parts ≡ count → Laid parts (now (words .entry)) (now (clauses .entry)) (now (ends .entry)) total
+        → r ≡ pairwise (λ first later. not (marksClash first later)) parts) ⌝ }
+{
+    let mut from = 0;
+    for i in 0..count {
+        let to = ends[i];
+        if words_clash(words, clauses, from, to, total) {
+            return false;
+        }
+        from = to;
+    }
+    true
+}
+
+// Whether no two waiting events interfere: the literals of all are bound to their objects once, then compared by words.
 pub fn independent(
     counts: Counts,
     arities: &[u8],
@@ -283,10 +266,21 @@ pub fn independent(
     if 16 < count {
         return false;
     }
-    for i in 0..count {
-        if later_interferes(counts, arities, starts, table, waiting, i) {
-            return false;
-        }
+    if count < 2 {
+        return true;
     }
-    true
+    let mut words = [0u64; 1024];
+    let mut clauses = [0u8; 1024];
+    let mut ends = [0usize; 16];
+    let total = step_words(
+        counts,
+        arities,
+        starts,
+        table,
+        waiting,
+        &mut words,
+        &mut clauses,
+        &mut ends,
+    );
+    all_apart(&words, &clauses, &ends, count, total)
 }

@@ -1,5 +1,5 @@
-// The machine: its state as the code holds it (here); rows of facts (facts), what a step asks (conditions, interference), what it leaves (effects, openings),
-// weights of instances (weighing), events that wait (events), and the step's close (step).
+// The machine: its state as the code holds it (here); facts of literals (facts), what a step asks (conditions, interference), what it leaves (effects, openings),
+// events that wait (events), and the step's close (step). Facts are held by the crate store.
 pub mod conditions;
 pub mod effects;
 pub mod events;
@@ -7,7 +7,6 @@ pub mod facts;
 pub mod interference;
 pub mod openings;
 pub mod step;
-pub mod weighing;
 
 use classes::Moment;
 ghost use mathlib.Core.Path.{_≡_};

@@ -1,24 +1,31 @@
 // The list of open lasting actions: which ends are open, and what a step leaves of it. An entry is a row of 17 bytes: action, objects, FF to fill.
 use super::Open;
 use super::Waiting;
+use super::events::put_bytes;
 ghost use mathlib.Core.Path.{_≡_};
 ghost use mathlib.Core.Bool.{true};
 ghost use mathlib.Core.List.{List, _++_};
 ghost use Prim.Native.Nat.{_+_, _*_, _≤_, _<_};
 ghost use lib.Dec.{eqb, leb};
-ghost use lib.ListN.{length, getD, take, drop};
+ghost use lib.ListN.{length, getD, take, drop, replicate};
 ghost use Rattle.records.specs.Lists.{all, sameList};
 ghost use Rattle.literals.specs.declared.Index.{Index};
 ghost use Rattle.literals.specs.Domain.{Domain};
 ghost use Rattle.literals.specs.Table.{Bounded, Holds};
 ghost use Rattle.classes.specs.Coded.{position};
 ghost use Rattle.verdict.specs.Machine.{GroundAction, Event, isOpen, closeAll, openedBy};
-ghost use Rattle.machine.specs.Coded.{groundsIn, hasRow, openOf, waitingOf, GroundsFit, EventsFit, eventsIn, endOpen, withoutEntry, closeEntry, closeEvent, closeEvents, joinEntry, opensBy, joinEvent, joinEvents};
+ghost use Rattle.machine.specs.Coded.{groundsIn, hasRow, openOf, waitingOf, GroundsFit, EventsFit, eventsIn, endOpen, closeEntry, closeEvent, closeEvents, joinEntry, opensBy, joinEvent, joinEvents};
 
 // What a step leaves open, where it fits.
 pub struct Opened {
     pub fits: bool,
     pub running: Open,
+}
+
+// How many entries there are after starts joined, where they fit.
+struct Joined {
+    fits: bool,
+    count: usize,
 }
 
 // Whether the entry at an offset is this one.
@@ -107,16 +114,6 @@ pub fn ends_open(running: Open, waiting: Waiting) -> bool
     all_open(&rows, n, &moments, &events, count)
 }
 
-// The byte at an offset, 0 behind the end.
-fn byte_or_zero(rows: &[u8], at: usize) -> u8
-    ensures { λ r. ⌜ r ≡ getD (now (rows .entry)) at 0 ⌝ }
-{
-    if at < rows.len() {
-        return rows[at];
-    }
-    0
-}
-
 // Whether an event of this moment and action is the start of a lasting action.
 fn opens_entry(sorts: &[u8], actions: usize, moment: u8, action: u8) -> bool
     requires { ⌜ actions ≤ length (now sorts) ⌝ }
@@ -132,147 +129,132 @@ fn opens_entry(sorts: &[u8], actions: usize, moment: u8, action: u8) -> bool
     sorts[i] == 1
 }
 
+// The rows without the entry k: the later ones forward, zeros behind.
+fn without(rows: &mut [u8], k: usize)
+    requires { ⌜ (length (now rows) ≡ 544) × (k < 32) ⌝ }
+    ensures { λ _. ⌜ now (rows .exit) ≡ take (17 * k) (now (rows .entry)) ++ (drop (17 * k + 17) (now (rows .entry)) ++ replicate 17 0) ⌝ }
+{
+    let mut old = [0u8; 544];
+    put_bytes(&mut old, 0, rows);
+    let at = 17 * k;
+    let behind = at + 17;
+    put_bytes(rows, at, &old[behind..]);
+    let zeros = [0u8; 17];
+    put_bytes(rows, 527, &zeros);
+}
+
+// Takes the first of n entries that is this one out; the count afterwards.
+fn close(rows: &mut [u8], n: usize, ground: &[u8]) -> usize
+    requires { ⌜ (length (now rows) ≡ 544) × (n ≤ 32) × (length (now ground) ≡ 17) ⌝ }
+    ensures { λ r. ⌜ record { count = r; rows = now (rows .exit) } ≡ closeEntry (now (ground .entry)) (record { count = n; rows = now (rows .entry) }) ⌝ }
+{
+    let k = entry_of(rows, n, ground);
+    if k == n {
+        return n;
+    }
+    without(rows, k);
+    n - 1
+}
+
+// Takes the entry of the event i out, where it is an end; the count afterwards.
+fn close_event(rows: &mut [u8], n: usize, moments: &[u8], events: &[u8], i: usize) -> usize
+    requires { ⌜ (length (now rows) ≡ 544) × (n ≤ 32) × (i < length (now moments)) × (17 * i + 17 ≤ length (now events)) ⌝ }
+    ensures { λ r. ⌜ record { count = r; rows = now (rows .exit) }
+        ≡ closeEvent (record { moment = getD (now (moments .entry)) i 0; row = take 17 (drop (17 * i) (now (events .entry))) }) (record { count = n; rows = now (rows .entry) }) ⌝ }
+{
+    if moments[i] != 1 {
+        return n;
+    }
+    let at = 17 * i;
+    let end = at + 17;
+    close(rows, n, &events[at..end])
+}
+
+// Takes the entries of the ends among the first `count` events out; the count of entries afterwards.
+fn close_all(rows: &mut [u8], n: usize, moments: &[u8], events: &[u8], count: usize) -> usize
+    requires { ⌜ (length (now rows) ≡ 544) × (n ≤ 32) × (count ≤ length (now moments)) × (17 * count ≤ length (now events)) ⌝ }
+    ensures { λ r. ⌜ record { count = r; rows = now (rows .exit) }
+        ≡ closeEvents (eventsIn count (now (moments .entry)) (now (events .entry))) (record { count = n; rows = now (rows .entry) }) ⌝ }
+{
+    let mut left = n;
+    for i in 0..count {
+        left = close_event(rows, left, moments, events, i);
+    }
+    left
+}
+
+// Puts an entry behind the first n.
+fn join(rows: &mut [u8], n: usize, ground: &[u8])
+    requires { ⌜ (length (now rows) ≡ 544) × (n < 32) × (length (now ground) ≡ 17) ⌝ }
+    ensures { λ _. ⌜ record { count = n + 1; rows = now (rows .exit) } ≡ joinEntry (now (ground .entry)) (record { count = n; rows = now (rows .entry) }) ⌝ }
+{
+    put_bytes(rows, 17 * n, ground);
+}
+
+// Puts the entry of the event i behind the first n, where it is the start of a lasting action.
+fn join_event(
+    rows: &mut [u8],
+    n: usize,
+    sorts: &[u8],
+    actions: usize,
+    moments: &[u8],
+    events: &[u8],
+    i: usize,
+) -> Joined
+    requires { ⌜ (length (now rows) ≡ 544) × (n ≤ 32) × (actions ≤ length (now sorts)) × (i < length (now moments)) × (17 * i + 17 ≤ length (now events)) ⌝ }
+    ensures { λ r. ⌜ record { fits = r .fits; running = record { count = r .count; rows = now (rows .exit) } } ≡ joinEvent (now (sorts .entry)) actions
+        (record { moment = getD (now (moments .entry)) i 0; row = take 17 (drop (17 * i) (now (events .entry))) }) (record { count = n; rows = now (rows .entry) }) ⌝ }
+{
+    let at = 17 * i;
+    if !opens_entry(sorts, actions, moments[i], events[at]) {
+        return Joined {
+            fits: true,
+            count: n,
+        };
+    }
+    if 32 <= n {
+        return Joined {
+            fits: false,
+            count: n,
+        };
+    }
+    let end = at + 17;
+    join(rows, n, &events[at..end]);
+    Joined {
+        fits: true,
+        count: n + 1,
+    }
+}
+
+// Puts the entries of the starts of lasting actions among the first `count` events behind the first n, up to the first for which there is no room.
+fn join_all(
+    rows: &mut [u8],
+    n: usize,
+    sorts: &[u8],
+    actions: usize,
+    moments: &[u8],
+    events: &[u8],
+    count: usize,
+) -> Joined
+    requires { ⌜ (length (now rows) ≡ 544) × (n ≤ 32) × (actions ≤ length (now sorts)) × (count ≤ length (now moments)) × (17 * count ≤ length (now events)) ⌝ }
+    ensures { λ r. ⌜ record { fits = r .fits; running = record { count = r .count; rows = now (rows .exit) } }
+        ≡ joinEvents (now (sorts .entry)) actions (eventsIn count (now (moments .entry)) (now (events .entry))) (record { count = n; rows = now (rows .entry) }) ⌝ }
+{
+    let mut held = n;
+    for i in 0..count {
+        let joined = join_event(rows, held, sorts, actions, moments, events, i);
+        if !joined.fits {
+            return joined;
+        }
+        held = joined.count;
+    }
+    Joined {
+        fits: true,
+        count: held,
+    }
+}
+
 impl Open {
-    // The list without the entry k: the later ones forward, zeros behind.
-    fn without(self, k: usize) -> Open
-        requires { ⌜ (k < self .count) × (self .count ≤ 32) ⌝ }
-        ensures { λ r. ⌜ r ≡ withoutEntry k self ⌝ }
-    {
-        let old = self.rows;
-        let mut rows = self.rows;
-        let at = 17 * k;
-        let left = 544 - at;
-        let mut i = 0;
-        while i < left {
-            rows[at + i] = byte_or_zero(&old, at + 17 + i);
-            i += 1;
-        }
-        Open {
-            count: self.count - 1,
-            rows,
-        }
-    }
-
-    // The list without the first entry that is this one.
-    fn close(self, ground: &[u8]) -> Open
-        requires { ⌜ (self .count ≤ 32) × (length (now ground) ≡ 17) ⌝ }
-        ensures { λ r. ⌜ r ≡ closeEntry (now (ground .entry)) self ⌝ }
-    {
-        let rows = self.rows;
-        let n = self.count;
-        let k = entry_of(&rows, n, ground);
-        if k == n {
-            return self;
-        }
-        self.without(k)
-    }
-
-    // The list after the event i, where it is an end.
-    fn close_event(self, moments: &[u8], events: &[u8], i: usize) -> Open
-        requires { ⌜ (self .count ≤ 32) × (i < length (now moments)) × (17 * i + 17 ≤ length (now events)) ⌝ }
-        ensures { λ r. ⌜ r ≡ closeEvent (record { moment = getD (now (moments .entry)) i 0; row = take 17 (drop (17 * i) (now (events .entry))) }) self ⌝ }
-    {
-        if moments[i] != 1 {
-            return self;
-        }
-        let at = 17 * i;
-        let end = at + 17;
-        self.close(&events[at..end])
-    }
-
-    // The list after the ends of the first `count` events.
-    fn close_all(self, moments: &[u8], events: &[u8], count: usize) -> Open
-        requires { ⌜ (self .count ≤ 32) × (count ≤ length (now moments)) × (17 * count ≤ length (now events)) ⌝ }
-        ensures { λ r. ⌜ r ≡ closeEvents (eventsIn count (now (moments .entry)) (now (events .entry))) self ⌝ }
-    {
-        let mut running = self;
-        let mut i = 0;
-        while i < count {
-            running = running.close_event(moments, events, i);
-            i += 1;
-        }
-        running
-    }
-
-    // The list with one entry more.
-    fn join(self, ground: &[u8]) -> Open
-        requires { ⌜ (self .count < 32) × (length (now ground) ≡ 17) ⌝ }
-        ensures { λ r. ⌜ r ≡ joinEntry (now (ground .entry)) self ⌝ }
-    {
-        let mut rows = self.rows;
-        let at = 17 * self.count;
-        let mut i = 0;
-        while i < 17 {
-            rows[at + i] = ground[i];
-            i += 1;
-        }
-        Open {
-            count: self.count + 1,
-            rows,
-        }
-    }
-
-    // The list after the event i, where it is the start of a lasting action.
-    fn join_event(
-        self,
-        sorts: &[u8],
-        actions: usize,
-        moments: &[u8],
-        events: &[u8],
-        i: usize,
-    ) -> Opened
-        requires { ⌜ (self .count ≤ 32) × (actions ≤ length (now sorts)) × (i < length (now moments)) × (17 * i + 17 ≤ length (now events)) ⌝ }
-        ensures { λ r. ⌜ r ≡ joinEvent (now (sorts .entry)) actions
-            (record { moment = getD (now (moments .entry)) i 0; row = take 17 (drop (17 * i) (now (events .entry))) }) self ⌝ }
-    {
-        let at = 17 * i;
-        if !opens_entry(sorts, actions, moments[i], events[at]) {
-            return Opened {
-                fits: true,
-                running: self,
-            };
-        }
-        if 32 <= self.count {
-            return Opened {
-                fits: false,
-                running: self,
-            };
-        }
-        let end = at + 17;
-        Opened {
-            fits: true,
-            running: self.join(&events[at..end]),
-        }
-    }
-
-    // The list after the starts of lasting actions among the first `count` events.
-    fn join_all(
-        self,
-        sorts: &[u8],
-        actions: usize,
-        moments: &[u8],
-        events: &[u8],
-        count: usize,
-    ) -> Opened
-        requires { ⌜ (self .count ≤ 32) × (actions ≤ length (now sorts)) × (count ≤ length (now moments)) × (17 * count ≤ length (now events)) ⌝ }
-        ensures { λ r. ⌜ r ≡ joinEvents (now (sorts .entry)) actions (eventsIn count (now (moments .entry)) (now (events .entry))) self ⌝ }
-    {
-        let mut running = self;
-        let mut i = 0;
-        while i < count {
-            let joined = running.join_event(sorts, actions, moments, events, i);
-            if !joined.fits {
-                return joined;
-            }
-            running = joined.running;
-            i += 1;
-        }
-        Opened {
-            fits: true,
-            running,
-        }
-    }
-
     // The list after a step: ends leave it, starts of lasting actions join it.
     pub fn after(self, waiting: Waiting, sorts: &[u8], actions: usize) -> Opened
         requires { ⌜ actions ≤ length (now sorts) ⌝ }
@@ -288,7 +270,8 @@ impl Open {
                 running: self,
             };
         }
-        if 32 < self.count {
+        let n = self.count;
+        if 32 < n {
             return Opened {
                 fits: false,
                 running: self,
@@ -296,7 +279,16 @@ impl Open {
         }
         let moments = waiting.moments;
         let events = waiting.rows;
-        let closed = self.close_all(&moments, &events, count);
-        closed.join_all(sorts, actions, &moments, &events, count)
+        let mut rows = self.rows;
+        let left = close_all(&mut rows, n, &moments, &events, count);
+        let joined = join_all(&mut rows, left, sorts, actions, &moments, &events, count);
+        let running = Open {
+            count: joined.count,
+            rows,
+        };
+        Opened {
+            fits: joined.fits,
+            running,
+        }
     }
 }

@@ -6,3 +6,4 @@ pub mod PlayTurns
 pub mod Readied
 pub mod PlayLoop
 pub mod PlayCalls
+pub mod NotedTurns

@@ -3,22 +3,21 @@ use mathlib.Core.Path.{_≡_, refl, sym, ap, _∙_}
 use mathlib.Core.Bool.{Bool, true, false, cond}
 use mathlib.Core.Option.{Option, none, some}
 use mathlib.Core.List.{List}
-use Prim.Native.Nat.{ℕ, _-_, _*_, _≤_, _<_}
+use Prim.Native.Nat.{ℕ, _-_, _≤_, _<_}
 use native.Mathlib.Omega.{arith}
-use lib.Dec.{eqb, ltb, leb}
+use lib.Dec.{eqb, leb}
 use lib.ListN.{length, take, drop, length-drop, drop-of-length-le}
 use lib.Seq.{take-all}
 use borrow.Author.Tests.{eq-eqb, ne-eqb, lt-ltb, le-ltb}
 use Rattle.records.specs.Memory.{over}
-use Rattle.literals.specs.declared.Index.{Index}
 use Rattle.literals.specs.declared.Counts.{Counts}
 use Rattle.literals.specs.Domain.{Domain}
-use Rattle.literals.specs.Decode.{Refusal, Decoded, refused, domain, readFile, decode}
+use Rattle.literals.specs.Decode.{Decoded, refused, domain, readFile, decode}
 use Rattle.literals.specs.Table.{indexOf, indexWith, ReadAnswer, readBy, readOf, tableAfter, Shaped}
 use Rattle.literals.proofs.Held.{shaped}
 use Rattle.verdict.specs.declared.Judgement.{Judgement}
 use Rattle.verdict.specs.Decision.{Row, decision}
-use Rattle.verdict.specs.Judged.{answerAt, answerRow, decided}
+use Rattle.verdict.specs.Judged.{answerRow, decided}
 use Rattle.verdict.specs.Coded.{judgementOf}
 use Rattle.verdict.specs.Claims.{wellFormed}
 use Rattle.verdict.proofs.Decodes.{decoded-well-formed}
@@ -27,7 +26,7 @@ use Rattle.player.specs.declared.run.Ended.{Ended}
 use Rattle.player.specs.declared.play.Fault.{Fault}
 use Rattle.player.specs.declared.play.Fault.the-variants.{Domain as InDomain, Run as InRun}
 use Rattle.player.specs.declared.play.PlayAnswer.{PlayAnswer}
-use Rattle.machine.specs.Play.{workBytes, Outcome, accepted, heldBytes, playRun, Returned, ofDomain, ofRun, Call, refusedCall, outcomeCall, callBy, call, played, workAfter, returned, returnedBytes}
+use Rattle.machine.specs.Play.{workBytes, Outcome, accepted, heldBytes, playRun, Returned, ofDomain, ofRun, Call, outcomeCall, callBy, call, played, workAfter, returned, returnedBytes}
 use Rattle.machine.specs.Coded.{Lent}
 use Rattle.player.specs.Player.{Runnable, endedOf}
 use Rattle.machine.specs.Claims.{PlaysAsMachine}

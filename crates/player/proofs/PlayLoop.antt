@@ -9,31 +9,34 @@ use lib.Seq.{paste, take-all, drop-at}
 use Rattle.records.specs.Memory.{over}
 use Rattle.literals.specs.declared.Counts.{Counts}
 use Rattle.literals.specs.Domain.{Domain}
-use Rattle.literals.specs.Table.{Bounded}
+use Rattle.literals.specs.Table.{Bounded, rowsIn}
 use Rattle.verdict.specs.Judged.{factBytes}
 use Rattle.player.specs.declared.Player.{Player}
 use Rattle.player.specs.declared.Turn.{Turn}
 use Rattle.player.specs.declared.run.Ended.{Ended}
-use Rattle.machine.specs.Play.{workBytes, Playing, beforeRun, Outcome, PlayTurn, goOn, finish, accepted, heldBytes, playStep, playFrom, playRun}
-use Rattle.machine.specs.Coded.{Lent}
-use Rattle.player.specs.Player.{playerOf, Stands, GoesOn, Ends, LeadsTo, Playable, Runnable, endedOf}
+use Rattle.machine.specs.Play.{Playing, beforeRun, Outcome, PlayTurn, goOn, finish, heldBytes, playStep, playFrom, playRun}
+use Rattle.machine.specs.Stepping.{Noted}
+use Rattle.player.specs.Player.{playerOf, Stands, LeadsTo, NotedAfter, Playable, Runnable, endedOf}
 use Rattle.machine.proofs.Loop.{play-more, play-done, play-at}
 use Rattle.player.proofs.Sound.{sound-on, sound-new}
 use Rattle.player.proofs.PlayTurns.{at-is}
+use Rattle.player.proofs.NotedTurns.{noted-none}
 
 -- where the loop stands: it has played a part of the file as `playRun` does, and the fuel that is left suffices
-pub record Loop (D : Domain) (r old : List ℕ) (player : Player) (work : List ℕ) : Type 0 where
+pub record Loop (D : Domain) (arities : List ℕ) (keys : ℕ) (parts : List (List ℕ)) (r old : List ℕ) (player : Player) (work index : List ℕ) : Type 0 where
   pub reached : Playing
   pub stands : Stands D reached player work old
   pub within : reached .at ≤ length r
   pub left : ℕ
   pub enough : length r < reached .at + left
   pub same : playFrom left D r reached ≡ playRun D r
+  pub noted : Noted D arities keys parts index (reached .state)
 
 -- before the first record no fact is held
-pub begins : (D : Domain) (r old work : List ℕ) (player : Player) → player ≡ playerOf D beforeRun → work ≡ over (heldBytes []) old → Loop D r old player work
+pub begins : (D : Domain) (arities : List ℕ) (keys : ℕ) (parts : List (List ℕ)) (r old work index : List ℕ) (player : Player) → player ≡ playerOf D beforeRun → work ≡ over (heldBytes []) old → index ≡ replicate 12289 0
+    → Loop D arities keys parts r old player work index
 unfolding playRun
-begins D r old work player is e =
+begins D arities keys parts r old work index player is e z =
     record {
       reached = beforeRun;
       stands = record { is = is; memory = e; sound = sound-new D };
@@ -41,6 +44,7 @@ begins D r old work player is e =
       left = suc (length r);
       enough = omega arith;
       same = refl;
+      noted = noted-none D arities keys parts index z;
     }
 
 -- the first bytes overwritten, once and again
@@ -65,31 +69,32 @@ pub cleared-again : (old work : List ℕ) → work ≡ over (heldBytes []) old �
 cleared-again old work e = e ∙ sym (over-again (heldBytes []) old) ∙ ap (over (heldBytes [])) (sym e)
 
 -- the fuel is not used up
-fuel-left : (D : Domain) (r old : List ℕ) (player : Player) (work : List ℕ) (i : Loop D r old player work) → (f : ℕ) × (i .left ≡ suc f)
-fuel-left D r old player work i = go (i .left) refl
+fuel-left : {D : Domain} {arities : List ℕ} {keys : ℕ} {parts : List (List ℕ)} {r old : List ℕ} {player : Player} {work index : List ℕ} (i : Loop D arities keys parts r old player work index) → (f : ℕ) × (i .left ≡ suc f)
+fuel-left i = go (i .left) refl
   where
     go : (n : ℕ) → i .left ≡ n → (f : ℕ) × (i .left ≡ suc f)
     go zero e = let a = i .enough in let b = i .within in absurd (omega arith)
     go (suc f) e = (f, e)
 
 -- one turn, from what `step` ensures
-module _ (D : Domain) (B : Bounded D) (r old : List ℕ) (player : Player) (work : List ℕ) (i : Loop D r old player work) (t : Turn) (work′ : List ℕ)
-    (step : (q : Playing) (old : List ℕ) → Stands D q player work old → LeadsTo D (playStep D r q) t work′ old) where
+module _ (D : Domain) (B : Bounded D) {arities : List ℕ} {keys : ℕ} {parts : List (List ℕ)} (r old : List ℕ) (player : Player) (work : List ℕ) {index : List ℕ} (i : Loop D arities keys parts r old player work index) (t : Turn) (work′ index′ : List ℕ)
+    (step : (q : Playing) (old : List ℕ) → Stands D q player work old → Noted D arities keys parts index (q .state) → LeadsTo D (playStep D r q) t work′ old)
+    (notes : (q : Playing) (old : List ℕ) → Stands D q player work old → Noted D arities keys parts index (q .state) → NotedAfter D arities keys parts index′ (playStep D r q)) where
   record Turned : Type 0 where
-    next : Loop D r old (t .player) work′
+    next : Loop D arities keys parts r old (t .player) work′ index′
     further : player .at < t .player .at
     inside : t .player .at ≤ length r
 
   turned : t .number ≡ 0 → Turned
-  turned z = go (playStep D r (i .reached)) refl (step (i .reached) old (i .stands))
+  turned z = go (playStep D r (i .reached)) refl (step (i .reached) old (i .stands) (i .noted)) (notes (i .reached) old (i .stands) (i .noted))
     where
       q : Playing
       q = i .reached
 
-      go : (u : PlayTurn) → playStep D r q ≡ u → LeadsTo D u t work′ old → Turned
-      go (goOn n) e h =
+      go : (u : PlayTurn) → playStep D r q ≡ u → LeadsTo D u t work′ old → NotedAfter D arities keys parts index′ u → Turned
+      go (goOn n) e h m =
           let g = play-at D r q n e in
-          let f = fuel-left D r old player work i in
+          let f = fuel-left i in
           let s : Stands D n (t .player) work′ old = record { is = h .is; memory = h .memory; sound = sound-on D B r q n (i .stands .sound) e } in
           let a = at-is D r q player work old (i .stands) in
           let b = at-is D r n (t .player) work′ old s in
@@ -104,13 +109,14 @@ module _ (D : Domain) (B : Bounded D) (r old : List ℕ) (player : Player) (work
                   left = f .0;
                   enough = omega arith;
                   same = sym (play-more (f .0) D r q n e) ∙ ap (λ (m : ℕ). playFrom m D r q) (sym (f .1)) ∙ i .same;
+                  noted = m;
                 };
             further = omega arith;
             inside = omega arith;
           }
-      go (finish o) e h = absurd (h .some (sym (h .number) ∙ z))
+      go (finish o) e h m = absurd (h .some (sym (h .number) ∙ z))
 
-  pub loop-on : t .number ≡ 0 → Loop D r old (t .player) work′
+  pub loop-on : t .number ≡ 0 → Loop D arities keys parts r old (t .player) work′ index′
   loop-on z = turned z .next
 
   pub loop-falls : t .number ≡ 0 → length r - t .player .at < length r - player .at
@@ -118,7 +124,7 @@ module _ (D : Domain) (B : Bounded D) (r old : List ℕ) (player : Player) (work
 
   pub loop-ends : (t .number ≡ 0 → ⊥) → (ended : Ended) → (ended .number ≡ t .number) × (ended .place ≡ t .player .at) × (ended .steps ≡ t .player .tally .steps) × (ended .weight ≡ t .player .tally .weight)
       → (ended ≡ endedOf (playRun D r)) × (work′ ≡ over (heldBytes (playRun D r .facts)) old)
-  loop-ends z ended is = go (playStep D r (i .reached)) refl (step (i .reached) old (i .stands))
+  loop-ends z ended is = go (playStep D r (i .reached)) refl (step (i .reached) old (i .stands) (i .noted))
     where
       q : Playing
       q = i .reached
@@ -126,15 +132,16 @@ module _ (D : Domain) (B : Bounded D) (r old : List ℕ) (player : Player) (work
       go : (u : PlayTurn) → playStep D r q ≡ u → LeadsTo D u t work′ old → (ended ≡ endedOf (playRun D r)) × (work′ ≡ over (heldBytes (playRun D r .facts)) old)
       go (goOn n) e h = absurd (z (h .number))
       go (finish o) e h =
-          let f = fuel-left D r old player work i in
+          let f = fuel-left i in
           let p : o ≡ playRun D r = sym (play-done (f .0) D r q o e) ∙ ap (λ (m : ℕ). playFrom m D r q) (sym (f .1)) ∙ i .same in
           let k : ended ≡ endedOf o = λ j. record { number = (is .0 ∙ h .number) j; place = (is .1 ∙ h .place) j; steps = (is .2 ∙ h .steps) j; weight = (is .3 ∙ h .weight) j } in
           (k ∙ ap endedOf p, h .memory ∙ ap (λ (x : Outcome). over (heldBytes (x .facts)) old) p)
 
 -- what a turn relies on
 pub playable : {n : Counts} {arities variables sorts starts parts table : List ℕ} {accepts : Bool} {old : List ℕ} (R : Runnable n arities variables sorts starts parts table accepts old)
-    (r : List ℕ) (player : Player) (work : List ℕ) → Loop (R .said) r old player work → Playable n arities variables sorts starts parts table accepts player work
-playable {old = old} R r player work i =
+    (r : List ℕ) (player : Player) (work index : List ℕ) → Loop (R .said) arities (n .keys) (rowsIn (n .components) parts) r old player work index → length index ≡ 12289
+    → Playable n arities variables sorts starts parts table accepts player work index
+playable {old = old} R r player work index i l =
     record {
       said = R .said;
       reached = i .reached;
@@ -144,6 +151,8 @@ playable {old = old} R r player work i =
       table-room = R .table-room;
       stands = i .stands;
       room = R .room;
+      noted = i .noted;
+      index-length = l;
     }
 
 pub runnable-now : {n : Counts} {arities variables sorts starts parts table : List ℕ} {accepts : Bool} {old : List ℕ} (R : Runnable n arities variables sorts starts parts table accepts old)

@@ -1,20 +1,19 @@
 -- What each record leads to, from what the code's calls promise. Assumes nothing.
 use mathlib.Core.Path.{_≡_, refl, sym, ap, ap₂, _∙_}
-use mathlib.Core.Bool.{Bool, true, false, _&&_, _||_, not, cond, false≢true}
+use mathlib.Core.Bool.{Bool, true, false, _&&_, cond}
 use mathlib.Core.List.{List, [], _∷_, _++_, map}
-use Prim.Native.Nat.{ℕ, zero, suc, _+_, _-_, _*_, _≤_, _<_, max}
+use Prim.Native.Nat.{ℕ, suc, _+_, _-_, _*_, _≤_, _<_, max}
 use native.Mathlib.Numerals.{add-one}
 use native.Mathlib.Omega.{arith}
 use lib.Dec.{eqb, ltb, leb}
 use lib.ListN.{length, take, drop, length-append}
 use lib.Seq.{paste}
-use borrow.Author.Tests.{eqb-true, eqb-false, eq-eqb, ne-eqb, lt-ltb, le-ltb, ltb-true, ltb-false}
-use Rattle.records.specs.Lists.{In, elem}
+use borrow.Author.Tests.{eqb-false, eq-eqb, ne-eqb, lt-ltb, le-ltb, ltb-true}
+use Rattle.records.specs.Lists.{elem}
 use Rattle.records.specs.Memory.{over}
 use Rattle.records.specs.declared.Record.{Record}
 use Rattle.records.specs.declared.Record.the-variants.{Whole, Cut, End}
 use Rattle.records.specs.Record.{recordAt, payload}
-use Rattle.records.proofs.Lists.{and-l, and-r, bool-cases, clash, off}
 use Rattle.literals.specs.Domain.{Fact, sameFact, Domain}
 use Rattle.literals.specs.Decode.{byte}
 use Rattle.literals.specs.Table.{rowsIn, Bounded}
@@ -25,10 +24,10 @@ use Rattle.machine.specs.declared.Waiting.{Waiting}
 use Rattle.player.specs.declared.Player.{Player}
 use Rattle.player.specs.declared.Turn.{Turn}
 use Rattle.machine.specs.RunFile.{objectsRecord, factRecord, eventRecord, stepRecord, endRecord, otherRecord, runKindOf, factOf, eventOf}
-use Rattle.machine.specs.Play.{objectsStop, factStop, eventStop, stepStop, endStop, playRecord, playFound, playStep, Tally, Playing, onward, PlayTurn, goOn, finish, outcomeAt, stopAt, startTally, begin, withObjects, joined, withFact, withEvent, withClose, unless, forbidden, tooLarge, tallied, accepted, afterStep, closeStep, heldBytes}
-use Rattle.machine.specs.Coded.{factRow, hasRow, openOf, waitingOf, Few}
-use Rattle.machine.specs.Stepping.{holdingOf, Kept, closeStop, closeState, closeWaiting, closeWeight, Leaves}
-use Rattle.player.specs.Player.{playerOf, Sound, Stands, GoesOn, Ends, LeadsTo}
+use Rattle.machine.specs.Play.{objectsStop, factStop, eventStop, stepStop, endStop, playRecord, playFound, playStep, Tally, Playing, onward, PlayTurn, goOn, stopAt, startTally, begin, withObjects, joined, withFact, withEvent, withClose, unless, forbidden, tooLarge, accepted, afterStep, closeStep, heldBytes}
+use Rattle.machine.specs.Coded.{factRow, hasRow, waitingOf, Few}
+use Rattle.machine.specs.Stepping.{holdingOf, closeStop, closeState, closeWaiting, closeWeight, Leaves}
+use Rattle.player.specs.Player.{playerOf, Stands, LeadsTo, NotedAfter}
 use Rattle.machine.proofs.FactRows.{has-fact}
 use Rattle.machine.proofs.HeldBytes.{fits-few, state-rows}
 use Rattle.machine.proofs.RunRows.{held-more}
@@ -373,6 +372,14 @@ module _ (D : Domain) (r : List ℕ) (q : Playing) (player : Player) (work old :
     turn-whole k start len e t work′ end z h =
         let n : end - start ≡ len = omega arith in
         let g : LeadsTo D (playRecord D q (runKindOf k) (take len (drop start r)) (start + len)) t work′ old = rw (n, z) at h in
+        rw (found (Whole k start len) e) g
+
+    pub turn-noted : (k start len : ℕ) → recordAt r (player .at) ≡ Whole k start len → (end : ℕ) → end ≡ start + len → (arities : List ℕ) (keys : ℕ) (parts : List (List ℕ)) (index : List ℕ)
+        → NotedAfter D arities keys parts index (playRecord D q (runKindOf k) (take (end - start) (drop start r)) end) → NotedAfter D arities keys parts index (playStep D r q)
+    unfolding playFound payload
+    turn-noted k start len e end z arities keys parts index h =
+        let n : end - start ≡ len = omega arith in
+        let g : NotedAfter D arities keys parts index (playRecord D q (runKindOf k) (take len (drop start r)) (start + len)) = rw (n, z) at h in
         rw (found (Whole k start len) e) g
 
 -- ---- kinds 17 and 18

@@ -1,30 +1,27 @@
 -- A domain that is lent, and a player that stands in its run, give the code all that it relies on. Assumes nothing.
-use mathlib.Core.Path.{_≡_, refl, sym, ap, _∙_}
+use mathlib.Core.Path.{_≡_, refl, ap, _∙_}
 use mathlib.Core.Bool.{Bool, true, false}
 use mathlib.Core.List.{List, map}
-use Prim.Native.Nat.{ℕ, _+_, _*_, _≤_, _<_}
+use Prim.Native.Nat.{ℕ, _*_, _≤_, _<_}
 use native.Mathlib.Omega.{arith}
 use lib.Dec.{ltb}
 use lib.ListN.{length, getD, length-map, List·getD-eq-default}
 use borrow.Author.Tests.{ltb-true, ltb-false}
 use Rattle.records.proofs.Lists.{getD-in}
-use Rattle.records.specs.Memory.{over}
 use Rattle.records.proofs.Memory.{length-over}
 use Rattle.literals.specs.declared.Counts.{Counts}
 use Rattle.literals.specs.declared.Index.{Index}
 use Rattle.literals.specs.Domain.{Action, Domain, noAction, action}
-use Rattle.literals.specs.Table.{Bounded, indexOf, indexWith, startsFrom, sortNumber, Holds, Shaped}
+use Rattle.literals.specs.Table.{Bounded, indexOf, indexWith, startsFrom, sortNumber, Holds, Shaped, rowsIn}
 use Rattle.literals.proofs.Tables.{length-pad}
 use Rattle.literals.proofs.Held.{starts-length, shaped}
 use Rattle.literals.proofs.Spans.{vars-at}
 use Rattle.verdict.specs.Machine.{Event, State}
-use Rattle.machine.specs.declared.Open.{Open}
-use Rattle.machine.specs.declared.Waiting.{Waiting}
 use Rattle.machine.specs.declared.State.{State as Holding}
 use Rattle.player.specs.declared.Player.{Player}
 use Rattle.machine.specs.Play.{workBytes, maxFacts, Playing, begin, accepted, heldBytes}
 use Rattle.machine.specs.Coded.{openOf, waitingOf, Lent, Ready}
-use Rattle.machine.specs.Stepping.{holdingOf, Kept, Closable}
+use Rattle.machine.specs.Stepping.{holdingOf, Kept, Closable, Noted}
 use Rattle.player.specs.Player.{playerOf, Stands, Playable}
 use Rattle.machine.proofs.HeldBytes.{fits-few, length-held}
 use Rattle.player.proofs.Sound.{sound-begin}
@@ -109,7 +106,7 @@ work-length {D} B {q} {player} {work} {old} st l =
 
 -- ---- what playing a record relies on
 
-module _ {n : Counts} {arities variables sorts starts parts table : List ℕ} {accepts : Bool} {player : Player} {work : List ℕ} (P : Playable n arities variables sorts starts parts table accepts player work) where
+module _ {n : Counts} {arities variables sorts starts parts table : List ℕ} {accepts : Bool} {player : Player} {work index : List ℕ} (P : Playable n arities variables sorts starts parts table accepts player work index) where
   abbrev lent : Lent (P .said) n arities variables sorts starts parts table
   lent = P .lent
 
@@ -119,33 +116,35 @@ module _ {n : Counts} {arities variables sorts starts parts table : List ℕ} {a
   facts-held : player .state .facts ≤ maxFacts
   facts-held = let e = ap (λ (h : Holding). h .facts) (state-is (P .said) (P .reached) (P .stands)) in let k = P .stands .sound .kept .facts-few in omega arith
 
-  pub fact-shape : (length arities ≡ 64) × ((i : ℕ) → getD arities i 0 ≤ 6) × (n .relations ≤ 64) × (player .state .facts ≤ 1024) × (8192 ≤ length work)
-  fact-shape = (arities-size lent, shape lent .arities, relations-few lent, facts-held, room-now)
-
-  pub begin-shape : (8 * n .components ≤ length parts) × (n .keys ≤ 6) × (8 * player .state .facts ≤ length work)
+  pub begin-shape : (8 * n .components ≤ length parts) × (n .keys ≤ 6) × (player .state .facts ≤ 1024) × (8 * player .state .facts ≤ length work) × (length index ≡ 12289)
   begin-shape =
       let a = shape lent .parts in
       let b = shape lent .components in
       let f = facts-held in
       let r = room-now in
-      (omega arith, shape lent .keys, omega arith)
+      (omega arith, shape lent .keys, f, omega arith, P .index-length)
+
+  pub fact-shape : (length arities ≡ 64) × ((i : ℕ) → getD arities i 0 ≤ 6) × (n .relations ≤ 64) × (player .state .facts ≤ 1024) × (8192 ≤ length work)
+      × (8 * n .components ≤ length parts) × (n .keys ≤ 6) × (length index ≡ 12289)
+  fact-shape = let b = begin-shape in (arities-size lent, shape lent .arities, relations-few lent, facts-held, room-now, b .0, b .1, P .index-length)
 
   -- of the player once the start counts
   module _ (begun : Player)
       (is : (D : Domain) (p : Playing) (m : Counts) (as′ vs ss ts old : List ℕ) → Holds D (indexWith m as′ vs ss ts parts) → n .components ≡ m .components → n .keys ≡ m .keys → accepts ≡ accepted D
-      → Stands D p player work old → begun ≡ playerOf D (begin D p)) where
+      → Stands D p player work old → Noted D as′ (n .keys) (rowsIn (n .components) parts) index (p .state) → begun ≡ playerOf D (begin D p)) where
     -- it stands there, for every domain that is lent
-    pub stands-begun : (D : Domain) → Lent D n arities variables sorts starts parts table → accepts ≡ accepted D → (q : Playing) (old : List ℕ) → Stands D q player work old → Stands D (begin D q) begun work old
+    pub stands-begun : (D : Domain) → Lent D n arities variables sorts starts parts table → accepts ≡ accepted D → (q : Playing) (old : List ℕ) → Stands D q player work old
+        → Noted D arities (n .keys) (rowsIn (n .components) parts) index (q .state) → Stands D (begin D q) begun work old
     unfolding begin
-    stands-begun D L e q old st =
+    stands-begun D L e q old st noted =
         record {
-          is = is D q n arities variables sorts starts old (L .held) refl refl e st;
+          is = is D q n arities variables sorts starts old (L .held) refl refl e st noted;
           memory = st .memory;
           sound = sound-begin D q (st .sound);
         }
 
     abbrev here : Stands (P .said) (begin (P .said) (P .reached)) begun work (P .old)
-    here = stands-begun (P .said) lent (P .decided) (P .reached) (P .old) (P .stands)
+    here = stands-begun (P .said) lent (P .decided) (P .reached) (P .old) (P .stands) (P .noted)
 
     pub event-shape : (length variables ≡ 64) × ((i : ℕ) → getD variables i 0 ≤ 16) × (length sorts ≡ 64) × (n .actions ≤ 64) × (begun .state .waiting .count ≤ 16)
     event-shape =
@@ -153,7 +152,7 @@ module _ {n : Counts} {arities variables sorts starts parts table : List ℕ} {a
         let k = here .sound .kept .waiting-few in
         (variables-size lent, variables-few lent, sorts-size lent, actions-few lent, omega arith)
 
-    pub step-shape : (behind : ℕ) → player .at < behind → Closable n arities sorts starts parts table (begun .state) work × (begun .tally .steps ≤ begun .at) × (begun .at < behind)
+    pub step-shape : (behind : ℕ) → player .at < behind → Closable n arities sorts starts parts table (begun .state) work × (begun .tally .steps ≤ begun .at) × (begun .at < behind) × (length index ≡ 12289)
     unfolding playerOf begin
     step-shape behind l =
         let a : begun .at ≡ P .reached .at = ap (λ (x : Player). x .at) (here .is) in
@@ -163,4 +162,5 @@ module _ {n : Counts} {arities variables sorts starts parts table : List ℕ} {a
           closable lent (P .table-room) (P .reached .state) (P .reached .waiting) (here .sound .kept) (begun .state) (state-is (P .said) (begin (P .said) (P .reached)) here) work room-now,
           omega arith,
           omega arith,
+          P .index-length,
         )

@@ -1,13 +1,11 @@
 -- The fields of a run file's records, by the bytes that the code compares. Assumes nothing.
 use mathlib.Core.Bool.{Bool, _&&_, _||_, not, cond}
 use mathlib.Core.List.{List}
-use Prim.Native.Nat.{ℕ, _+_, _-_, _*_}
+use Prim.Native.Nat.{ℕ, _+_, _*_}
 use lib.Dec.{eqb, ltb, leb}
 use lib.ListN.{length, getD, take, drop}
 use Rattle.records.specs.Lists.{any, sameList}
-use Rattle.records.specs.Memory.{over}
 use Rattle.literals.specs.declared.Counts.{Counts}
-use Rattle.literals.specs.Domain.{action}
 use Rattle.literals.specs.Decode.{byte}
 
 -- a start fact, up to 51: of the number of objects, and whether the start is over

@@ -1,4 +1,5 @@
 -- Where the player stands, as the code holds it, and what a record leads to. Assumes nothing.
+use Prim.{Unit}
 use mathlib.Core.Path.{_≡_}
 use mathlib.Core.Bool.{Bool, true, false, _&&_}
 use mathlib.Core.List.{List}
@@ -7,13 +8,14 @@ use lib.ListN.{length}
 use Rattle.records.specs.Memory.{over}
 use Rattle.literals.specs.declared.Counts.{Counts}
 use Rattle.literals.specs.Domain.{Domain}
+use Rattle.literals.specs.Table.{rowsIn}
 use Rattle.verdict.specs.Machine.{topWeight}
 use Rattle.player.specs.declared.Player.{Player}
 use Rattle.player.specs.declared.Turn.{Turn}
 use Rattle.player.specs.declared.run.Ended.{Ended}
 use Rattle.machine.specs.Play.{maxObjects, workBytes, Playing, PlayTurn, goOn, finish, Outcome, accepted, heldBytes}
 use Rattle.machine.specs.Coded.{openOf, waitingOf, Lent}
-use Rattle.machine.specs.Stepping.{holdingOf, Kept}
+use Rattle.machine.specs.Stepping.{holdingOf, Kept, Noted}
 
 -- ---- what the code holds
 
@@ -75,10 +77,15 @@ abbrev pub LeadsTo : Domain → PlayTurn → Turn → List ℕ → List ℕ → 
 LeadsTo D (goOn q) t work old = GoesOn D q t work old
 LeadsTo D (finish o) t work old = Ends o t work old
 
+-- what stands beside the facts then, where playing goes on
+abbrev pub NotedAfter : Domain → List ℕ → ℕ → List (List ℕ) → List ℕ → PlayTurn → Type 0
+NotedAfter D arities keys parts index (goOn q) = Noted D arities keys parts index (q .state)
+NotedAfter D arities keys parts index (finish o) = Unit {0}
+
 -- ---- what the code relies on
 
 -- to play a record: a domain is lent, and the player stands somewhere in its run
-pub record Playable (n : Counts) (arities variables sorts starts parts table : List ℕ) (accepts : Bool) (player : Player) (work : List ℕ) : Type 0 where
+pub record Playable (n : Counts) (arities variables sorts starts parts table : List ℕ) (accepts : Bool) (player : Player) (work index : List ℕ) : Type 0 where
   pub said : Domain
   pub reached : Playing
   pub old : List ℕ
@@ -87,6 +94,8 @@ pub record Playable (n : Counts) (arities variables sorts starts parts table : L
   pub table-room : 8 * n .rows ≤ length table
   pub stands : Stands said reached player work old
   pub room : workBytes ≤ length old
+  pub noted : Noted said arities (n .keys) (rowsIn (n .components) parts) index (reached .state)
+  pub index-length : length index ≡ 12289
 
 -- to play a whole run
 pub record Runnable (n : Counts) (arities variables sorts starts parts table : List ℕ) (accepts : Bool) (work : List ℕ) : Type 0 where

@@ -14,10 +14,11 @@ use literals::Counts;
 use machine::Open;
 use machine::State;
 use machine::Waiting;
-use machine::facts::has_row;
-use machine::weighing::top_from;
 use records::Record;
 use records::record_at;
+use store::index::enter;
+use store::index::is_held;
+use store::weighing::top_from;
 ghost use mathlib.Core.Path.{_≡_};
 ghost use mathlib.Core.Bool.{true, false, _&&_};
 ghost use mathlib.Core.List.{List};
@@ -26,12 +27,12 @@ ghost use lib.Dec.{leb};
 ghost use lib.ListN.{length, getD};
 ghost use Rattle.literals.specs.Domain.{Domain};
 ghost use Rattle.literals.specs.Decode.{byte};
-ghost use Rattle.literals.specs.Table.{indexWith, Holds};
+ghost use Rattle.literals.specs.Table.{rowsIn, indexWith, Holds};
 ghost use Rattle.machine.specs.RunFile.{runKindOf, factOf, eventOf};
 ghost use Rattle.machine.specs.Play.{Playing, beforeRun, goOn, unless, begin, objectsStop, withObjects, factStop, withFact, eventStop, withEvent, stepStop, closeStep, endStop, withClose, accepted as acceptedTemplate, playRecord, playStep};
 ghost use Rattle.machine.specs.Coded.{Lent};
-ghost use Rattle.machine.specs.Stepping.{Closable};
-ghost use Rattle.player.specs.Player.{playerOf, Stands, Playable, LeadsTo};
+ghost use Rattle.machine.specs.Stepping.{Noted, Closable};
+ghost use Rattle.player.specs.Player.{playerOf, Stands, Playable, LeadsTo, NotedAfter};
 
 // Whether a weight above 1 is a fault from now on: the template is accepted, and the start weights are at most 1.
 fn is_watched(top: usize, accepted: bool) -> bool
@@ -74,17 +75,19 @@ impl Player {
         parts: &[u8],
         accepted: bool,
         work: &[u8],
+        index: &[u64],
     ) -> Player
-        requires { ⌜ (8 * components ≤ length (now parts)) × (keys ≤ 6) × (8 * self .state .facts ≤ length (now work)) ⌝ }
+        requires { ⌜ (8 * components ≤ length (now parts)) × (keys ≤ 6) × (self .state .facts ≤ 1024) × (8 * self .state .facts ≤ length (now work)) × (length (now index) ≡ 12289) ⌝ }
         ensures { λ r. ⌜ ((D : Domain) (p : Playing) (counts : Counts) (arities variables sorts starts old : List ℕ) → Holds D (indexWith counts arities variables sorts starts (now (parts .entry)))
-            → components ≡ counts .components → keys ≡ counts .keys → «accepted» ≡ acceptedTemplate D → Stands D p self (now (work .entry)) old → r ≡ playerOf D (begin D p)) ⌝ }
+            → components ≡ counts .components → keys ≡ counts .keys → «accepted» ≡ acceptedTemplate D → Stands D p self (now (work .entry)) old
+            → Noted D arities keys (rowsIn components (now (parts .entry))) (now (index .entry)) (p .state) → r ≡ playerOf D (begin D p)) ⌝ }
     {
         let tally = self.tally;
         let state = self.state;
         if tally.begun {
             return self;
         }
-        let top = top_from(parts, components, keys, work, state.facts, 0, 0);
+        let top = top_from(parts, components, keys, work, state.facts, 0, 0, index);
         let watched = is_watched(top, accepted);
         Player {
             at: self.at,
@@ -145,14 +148,19 @@ impl Player {
         self,
         counts: Counts,
         arities: &[u8],
+        parts: &[u8],
         work: &mut [u8],
+        index: &mut [u64],
         p: &[u8],
         behind: usize,
     ) -> Turn
-        requires { ⌜ (length (now arities) ≡ 64) × ((i : ℕ) → getD (now arities) i 0 ≤ 6) × (counts .relations ≤ 64) × (self .state .facts ≤ 1024) × (8192 ≤ length (now work)) ⌝ }
-        ensures { λ r. ⌜ ((D : Domain) (q : Playing) (variables sorts starts parts old : List ℕ) → Holds D (indexWith counts (now (arities .entry)) variables sorts starts parts)
+        requires { ⌜ (length (now arities) ≡ 64) × ((i : ℕ) → getD (now arities) i 0 ≤ 6) × (counts .relations ≤ 64) × (self .state .facts ≤ 1024) × (8192 ≤ length (now work))
+            × (8 * counts .components ≤ length (now parts)) × (counts .keys ≤ 6) × (length (now index) ≡ 12289) ⌝ }
+        ensures { λ r. ⌜ ((D : Domain) (q : Playing) (variables sorts starts old : List ℕ) → Holds D (indexWith counts (now (arities .entry)) variables sorts starts (now (parts .entry)))
             → Stands D q self (now (work .entry)) old
-            → LeadsTo D (unless (factStop D q (now (p .entry))) q (goOn (withFact q (factOf (now (p .entry))) behind))) r (now (work .exit)) old) ⌝ }
+            → Noted D (now (arities .entry)) (counts .keys) (rowsIn (counts .components) (now (parts .entry))) (now (index .entry)) (q .state)
+            → LeadsTo D (unless (factStop D q (now (p .entry))) q (goOn (withFact q (factOf (now (p .entry))) behind))) r (now (work .exit)) old
+            × NotedAfter D (now (arities .entry)) (counts .keys) (rowsIn (counts .components) (now (parts .entry))) (now (index .exit)) (unless (factStop D q (now (p .entry))) q (goOn (withFact q (factOf (now (p .entry))) behind)))) ⌝ }
     {
         let tally = self.tally;
         let state = self.state;
@@ -165,7 +173,7 @@ impl Player {
             };
         }
         let row = fact_row(p);
-        if has_row(work, n, row) {
+        if is_held(index, work, n, row) {
             return Turn {
                 number: 0,
                 player: self.onward(behind, state),
@@ -178,6 +186,8 @@ impl Player {
             };
         }
         put_fact(work, n, row);
+        enter(index, parts, counts.components, counts.keys, &row, 0);
+        index[12288] = 0;
         let mut next = state;
         next.facts = n + 1;
         Turn {
@@ -233,14 +243,17 @@ impl Player {
         parts: &[u8],
         table: &[u8],
         work: &mut [u8],
+        index: &mut [u64],
         p: &[u8],
         behind: usize,
     ) -> Turn
-        requires { ⌜ Closable counts (now arities) (now sorts) (now starts) (now parts) (now table) (self .state) (now work) × (self .tally .steps ≤ self .at) × (self .at < behind) ⌝ }
+        requires { ⌜ Closable counts (now arities) (now sorts) (now starts) (now parts) (now table) (self .state) (now work) × (self .tally .steps ≤ self .at) × (self .at < behind) × (length (now index) ≡ 12289) ⌝ }
         ensures { λ r. ⌜ ((D : Domain) (q : Playing) (variables old : List ℕ)
             → Lent D counts (now (arities .entry)) variables (now (sorts .entry)) (now (starts .entry)) (now (parts .entry)) (now (table .entry))
             → Stands D q self (now (work .entry)) old → q .tally .begun ≡ true
-            → LeadsTo D (unless (stepStop q (now (p .entry))) q (closeStep D q behind)) r (now (work .exit)) old) ⌝ }
+            → Noted D (now (arities .entry)) (counts .keys) (rowsIn (counts .components) (now (parts .entry))) (now (index .entry)) (q .state)
+            → LeadsTo D (unless (stepStop q (now (p .entry))) q (closeStep D q behind)) r (now (work .exit)) old
+            × NotedAfter D (now (arities .entry)) (counts .keys) (rowsIn (counts .components) (now (parts .entry))) (now (index .exit)) (unless (stepStop q (now (p .entry))) q (closeStep D q behind))) ⌝ }
     {
         let tally = self.tally;
         let state = self.state;
@@ -260,6 +273,7 @@ impl Player {
             table,
             work,
             tally.weight,
+            index,
         );
         let stop = closed.number;
         let next = closed.state;
@@ -340,25 +354,42 @@ impl Player {
         table: &[u8],
         accepted: bool,
         work: &mut [u8],
+        index: &mut [u64],
         kind: u16,
         p: &[u8],
         behind: usize,
     ) -> Turn
-        requires { ⌜ Playable counts (now arities) (now variables) (now sorts) (now starts) (now parts) (now table) «accepted» self (now work) × (self .at < behind) ⌝ }
+        requires { ⌜ Playable counts (now arities) (now variables) (now sorts) (now starts) (now parts) (now table) «accepted» self (now work) (now index) × (self .at < behind) ⌝ }
         ensures { λ r. ⌜ ((D : Domain) (q : Playing) (old : List ℕ)
             → Lent D counts (now (arities .entry)) (now (variables .entry)) (now (sorts .entry)) (now (starts .entry)) (now (parts .entry)) (now (table .entry))
             → «accepted» ≡ acceptedTemplate D → Stands D q self (now (work .entry)) old
-            → LeadsTo D (playRecord D q (runKindOf kind) (now (p .entry)) behind) r (now (work .exit)) old) ⌝ }
+            → Noted D (now (arities .entry)) (counts .keys) (rowsIn (counts .components) (now (parts .entry))) (now (index .entry)) (q .state)
+            → LeadsTo D (playRecord D q (runKindOf kind) (now (p .entry)) behind) r (now (work .exit)) old
+            × NotedAfter D (now (arities .entry)) (counts .keys) (rowsIn (counts .components) (now (parts .entry))) (now (index .exit)) (playRecord D q (runKindOf kind) (now (p .entry)) behind)) ⌝ }
     {
         match kind {
             16 => self.take_objects(p, behind),
-            17 => self.take_fact(counts, arities, work, p, behind),
+            17 => self.take_fact(counts, arities, parts, work, index, p, behind),
             18 => {
-                let begun = self.begin(counts.components, counts.keys, parts, accepted, work);
+                let begun = self.begin(
+                    counts.components,
+                    counts.keys,
+                    parts,
+                    accepted,
+                    work,
+                    index,
+                );
                 begun.take_event(counts, variables, sorts, p, behind)
             }
             19 => {
-                let begun = self.begin(counts.components, counts.keys, parts, accepted, work);
+                let begun = self.begin(
+                    counts.components,
+                    counts.keys,
+                    parts,
+                    accepted,
+                    work,
+                    index,
+                );
                 begun.take_step(
                     counts,
                     arities,
@@ -367,12 +398,20 @@ impl Player {
                     parts,
                     table,
                     work,
+                    index,
                     p,
                     behind,
                 )
             }
             20 => {
-                let begun = self.begin(counts.components, counts.keys, parts, accepted, work);
+                let begun = self.begin(
+                    counts.components,
+                    counts.keys,
+                    parts,
+                    accepted,
+                    work,
+                    index,
+                );
                 begun.take_end(p, behind)
             }
             _ => Turn {
@@ -395,12 +434,15 @@ impl Player {
         accepted: bool,
         run: &[u8],
         work: &mut [u8],
+        index: &mut [u64],
     ) -> Turn
-        requires { ⌜ Playable counts (now arities) (now variables) (now sorts) (now starts) (now parts) (now table) «accepted» self (now work) ⌝ }
+        requires { ⌜ Playable counts (now arities) (now variables) (now sorts) (now starts) (now parts) (now table) «accepted» self (now work) (now index) ⌝ }
         ensures { λ r. ⌜ ((D : Domain) (q : Playing) (old : List ℕ)
             → Lent D counts (now (arities .entry)) (now (variables .entry)) (now (sorts .entry)) (now (starts .entry)) (now (parts .entry)) (now (table .entry))
             → «accepted» ≡ acceptedTemplate D → Stands D q self (now (work .entry)) old
-            → LeadsTo D (playStep D (now (run .entry)) q) r (now (work .exit)) old) ⌝ }
+            → Noted D (now (arities .entry)) (counts .keys) (rowsIn (counts .components) (now (parts .entry))) (now (index .entry)) (q .state)
+            → LeadsTo D (playStep D (now (run .entry)) q) r (now (work .exit)) old
+            × NotedAfter D (now (arities .entry)) (counts .keys) (rowsIn (counts .components) (now (parts .entry))) (now (index .exit)) (playStep D (now (run .entry)) q)) ⌝ }
     {
         let at = self.at;
         if self.closed {
@@ -428,6 +470,7 @@ impl Player {
                     table,
                     accepted,
                     work,
+                    index,
                     kind,
                     &run[start..end],
                     end,

@@ -6,6 +6,7 @@ use machine::events::put_bytes;
 ghost use mathlib.Core.Path.{_≡_};
 ghost use mathlib.Core.List.{List, []};
 ghost use Prim.Native.Nat.{ℕ};
+ghost use lib.ListN.{replicate};
 ghost use Rattle.records.specs.Memory.{over};
 ghost use Rattle.literals.specs.Domain.{Domain};
 ghost use Rattle.machine.specs.Play.{accepted as acceptedTemplate, heldBytes, playRun};
@@ -46,8 +47,9 @@ fn play_records(
     accepted: bool,
     run: &[u8],
     work: &mut [u8],
+    index: &mut [u64],
 ) -> Ended
-    requires { ⌜ Runnable counts (now arities) (now variables) (now sorts) (now starts) (now parts) (now table) «accepted» (now work) × (now work ≡ over (heldBytes []) (now work)) ⌝ }
+    requires { ⌜ Runnable counts (now arities) (now variables) (now sorts) (now starts) (now parts) (now table) «accepted» (now work) × (now work ≡ over (heldBytes []) (now work)) × (now index ≡ replicate 12289 0) ⌝ }
     ensures { λ r. ⌜ ((D : Domain) (old : List ℕ)
         → Lent D counts (now (arities .entry)) (now (variables .entry)) (now (sorts .entry)) (now (starts .entry)) (now (parts .entry)) (now (table .entry))
         → «accepted» ≡ acceptedTemplate D → now (work .entry) ≡ over (heldBytes []) old
@@ -66,6 +68,7 @@ fn play_records(
             accepted,
             run,
             work,
+            index,
         );
         let number = turn.number;
         if number == 0 {
@@ -97,6 +100,7 @@ pub fn play_run(
 {
     let zeros = [0u8; 8192];
     put_bytes(work, 0, &zeros);
+    let mut index = [0u64; 12289];
     play_records(
         counts,
         arities,
@@ -108,5 +112,6 @@ pub fn play_run(
         accepted,
         run,
         work,
+        &mut index,
     )
 }

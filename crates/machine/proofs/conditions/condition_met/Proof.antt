@@ -5,24 +5,24 @@ use borrow.Author.Needs.{needs}
 use Rattle.machine.proofs.conditions.condition_met.Statement.{statement}
 use Rattle.machine.proofs.conditions.condition_met.Tie as tie
 
-has-row-requires : tie.Need-has-row-requires
-has-row-requires c κs = search needs
+is-held-requires : tie.Need-is-held-requires
+is-held-requires c κs = search needs
 
 returns : tie.Need-returns
 unfolding conditionMet
-returns c = rw (eq-eqb _ _ (c .before .if1 .taken)) (c .has-row .ensures)
+returns c arities keys parts I s = rw (eq-eqb _ _ (c .before .if1 .taken)) (c .is-held .ensures arities keys parts I s)
 
-has-row-requires-2 : tie.Need-has-row-requires-2
-has-row-requires-2 c κs = search needs
+is-held-requires-2 : tie.Need-is-held-requires-2
+is-held-requires-2 c κs = search needs
 
 returns-2 : tie.Need-returns-2
 unfolding conditionMet
-returns-2 c = rw (ne-eqb _ _ (c .before .before .if1 .left), eq-eqb _ _ (c .before .if2 .taken), c .has-row2 .ensures)
+returns-2 c arities keys parts I s = rw (ne-eqb _ _ (c .before .before .if1 .left), eq-eqb _ _ (c .before .if2 .taken), c .is-held2 .ensures arities keys parts I s)
 
 returns-3 : tie.Need-returns-3
 unfolding conditionMet
-returns-3 c = rw (ne-eqb _ _ (c .before .if1 .left), ne-eqb _ _ (c .if2 .left))
+returns-3 c arities keys parts I s = rw (ne-eqb _ _ (c .before .if1 .left), ne-eqb _ _ (c .if2 .left))
 
 pub condition-met-spec : {M : Type 1} → statement M
 condition-met-spec =
-    tie.close (tie.spec has-row-requires returns has-row-requires-2 returns-2 returns-3)
+    tie.close (tie.spec is-held-requires returns is-held-requires-2 returns-2 returns-3)

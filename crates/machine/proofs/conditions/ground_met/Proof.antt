@@ -1,9 +1,10 @@
 -- `ground_met` meets its contract: the rows of the action's literals are a part of the table. Assumes nothing.
-use mathlib.Core.Path.{ap, _∙_}
+use mathlib.Core.Path.{sym, ap, subst, _∙_}
 use Prim.Native.Nat.{ℕ}
 use native.Mathlib.Omega.{arith}
 use lib.ListN.{getD}
 use Rattle.literals.specs.Table.{rowsIn}
+use Rattle.store.specs.Index.{Indexed}
 use Rattle.machine.specs.Coded.{endRow}
 use Rattle.machine.proofs.FactRows.{PartFits, part-fits, ground-listed}
 use Rattle.machine.proofs.Asked.{ground-asks}
@@ -18,8 +19,8 @@ wide-requires : tie.Need-wide-requires
 wide-requires c κs = search needs
 
 returns : tie.Need-returns
-returns c D variables sorts parts g fs L F e f =
-    let a = c .before .before .before .before .before .before .before .before .before .args in
+returns c D variables sorts parts g fs L F e f keys rows I =
+    let a = c .before .before .before .before .before .before .before .before .before .before .args in
     let w = c .before .before .wide .ensures .0 in
     let t = c .if1 .taken in
     absurd (ground-listed D (a .counts) (a .arities .now) variables sorts (a .starts .now) parts (a .table .now) L g F (a .ground .now) e (omega arith))
@@ -27,9 +28,9 @@ returns c D variables sorts parts g fs L F e f =
 span-of-requires : tie.Need-span-of-requires
 span-of-requires c κs = search needs
 
-bounds : (b : tie.After-span-of) → PartFits (b .before .before .before .before .before .before .before .before .before .before .args .table .now) (b .span-of .result .from) (b .span-of .result .to)
+bounds : (b : tie.After-span-of) → PartFits (b .before .before .before .before .before .before .before .before .before .before .before .args .table .now) (b .span-of .result .from) (b .span-of .result .to)
 bounds b =
-    let s = b .before .before .before .before .before .before .before .before .before .before in
+    let s = b .before .before .before .before .before .before .before .before .before .before .before in
     part-fits (s .args .counts) (s .args .arities .now) (s .args .starts .now) (s .args .table .now) (s .pre .0) (b .before .before .before .wide .result) (b .before .if1 .left)
     (b .span-of .result .from) (b .span-of .result .to) (b .span-of .ensures .0) (b .span-of .ensures .1)
 
@@ -53,15 +54,15 @@ sub-conditions-met-2 c = let g = bounds (c .before .before .before .before) in o
 
 conditions-met-requires : tie.Need-conditions-met-requires
 conditions-met-requires c κs =
-    let p = c .before .before .before .before .before .before .before .before .before .before .before .before .before .before .pre in
-    (p .0 .arities-length, p .0 .arities-few, p .1, bounds (c .before .before .before .before) .size, p .2)
+    let p = c .before .before .before .before .before .before .before .before .before .before .before .before .before .before .before .pre in
+    (p .0 .arities-length, p .0 .arities-few, p .1, bounds (c .before .before .before .before) .size, p .2, p .3, p .4)
 
 returns-2 : tie.Need-returns-2
-returns-2 c D variables sorts parts g fs L F e f =
-    let a = c .before .before .before .before .before .before .before .before .before .before .before .before .before .before .before .args in
+returns-2 c D variables sorts parts g fs L F e f keys rows I =
+    let a = c .before .before .before .before .before .before .before .before .before .before .before .before .before .before .before .before .args in
     let s = c .before .before .before .before .before .span-of in
     let w = c .before .before .before .before .before .before .before .before .wide .ensures .0 in
-    c .conditions-met .ensures
+    c .conditions-met .ensures keys rows (subst (Indexed (a .arities .now) keys rows (a .index .now)) (sym f) I)
     ∙ ground-asks D (a .counts) (a .arities .now) variables sorts (a .starts .now) parts (a .table .now) L g F (a .ground .now) e (a .time) fs (rowsIn (a .n) (a .work .now)) f (s .result .from) (s .result .to)
     (s .ensures .0 ∙ ap (λ (i : ℕ). getD (a .starts .now) i 0) w) (s .ensures .1 ∙ ap (endRow (a .counts) (a .starts .now)) w)
 

@@ -2,7 +2,7 @@
 use borrow.Author.Needs.{needs}
 use mathlib.Core.Path.{_≡_, refl, sym, ap, _∙_}
 use mathlib.Core.Bool.{Bool, _&&_}
-use Prim.Native.Nat.{ℕ, max}
+use Prim.Native.Nat.{max}
 use native.Mathlib.Omega.{arith}
 use lib.Dec.{leb}
 use Rattle.literals.specs.Table.{indexWith}
@@ -13,7 +13,7 @@ use Rattle.player.proofs.Player.begin.Statement.{statement}
 use Rattle.player.proofs.Player.begin.Tie as tie
 
 returns : tie.Need-returns
-returns c D p counts arities variables sorts starts old held components keys said st = let a = c .before .before .before .before .before .args in begun-already D p (a .self) (a .work .now) old st (c .if1 .taken)
+returns c D p counts arities variables sorts starts old held components keys said st noted = let a = c .before .before .before .before .before .before .args in begun-already D p (a .self) (a .work .now) old st (c .if1 .taken)
 
 top-from-requires : tie.Need-top-from-requires
 top-from-requires c κs = search needs
@@ -22,9 +22,9 @@ is-watched-requires : tie.Need-is-watched-requires
 is-watched-requires c κs = search needs
 
 returns-2 : tie.Need-returns-2
-returns-2 c D p counts arities variables sorts starts old held components keys said st =
-    let a = c .before .before .before .before .before .before .before .args in
-    let t = c .before .top-from .ensures .1 D (indexWith counts arities variables sorts starts (a .parts .now)) (p .state .facts) held (sym components) (sym keys) refl (facts-rows D p (a .self) (a .work .now) old st (held .bounded)) (st .sound .kept .facts) in
+returns-2 c D p counts arities variables sorts starts old held components keys said st noted =
+    let a = c .before .before .before .before .before .before .before .before .args in
+    let t = c .before .top-from .ensures .1 D (indexWith counts arities variables sorts starts (a .parts .now)) (p .state .facts) arities held (sym components) (sym keys) refl (rw (facts-rows D p (a .self) (a .work .now) old st (held .bounded)) (noted .indexed)) (facts-rows D p (a .self) (a .work .now) old st (held .bounded)) (st .sound .kept .facts) in
     let z : max 0 (topWeight D (p .state .facts)) ≡ topWeight D (p .state .facts) = omega arith in
     begun-now D p (a .self) (a .work .now) old st (c .before .before .if1 .left) (c .is-watched .result) (c .before .top-from .result)
     (t ∙ ap (max 0) (top-all D (p .state .facts)) ∙ z)

@@ -1,6 +1,6 @@
 -- `Player::take_event` meets its contract: refused, or one event more. Assumes nothing.
 use borrow.Author.Needs.{needs}
-use mathlib.Core.Path.{refl, sym, _∙_}
+use mathlib.Core.Path.{sym, _∙_}
 use native.Mathlib.Omega.{arith}
 use Rattle.machine.specs.RunFile.{eventOf}
 use Rattle.machine.specs.Play.{goOn, withEvent, eventStop}

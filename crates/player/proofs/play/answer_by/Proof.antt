@@ -1,5 +1,4 @@
 -- `answer_by` meets its contract. Assumes nothing.
-use borrow.Author.Needs.{needs}
 use Rattle.player.proofs.PlayCalls.{answer-played, answer-stopped}
 use Rattle.player.proofs.play.answer_by.Statement.{statement}
 use Rattle.player.proofs.play.answer_by.Tie as tie

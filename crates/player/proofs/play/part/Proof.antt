@@ -1,6 +1,5 @@
 -- `part` meets its contract. Assumes nothing.
 use borrow.Author.Needs.{needs}
-use native.Mathlib.Omega.{arith}
 use Rattle.player.proofs.PlayCalls.{domain-part, domain-past, run-part, run-past}
 use Rattle.player.proofs.play.part.Statement.{statement}
 use Rattle.player.proofs.play.part.Tie as tie

@@ -1,6 +1,6 @@
 -- `play_files` meets its contract. Assumes nothing.
 use borrow.Author.Needs.{needs}
-use mathlib.Core.Path.{refl, _∙_}
+use mathlib.Core.Path.{refl}
 use mathlib.Core.Logic.{inl}
 use native.Mathlib.Omega.{arith}
 use Rattle.player.proofs.PlayCalls.{call-refused, call-read, read-well, read-lent, read-to-play, read-decoded}

@@ -1,5 +1,4 @@
 -- `is_watched` meets its contract. Assumes nothing.
-use borrow.Author.Needs.{needs}
 use borrow.Author.Tests.{le-leb, lt-leb}
 use Rattle.player.proofs.playing.is_watched.Statement.{statement}
 use Rattle.player.proofs.playing.is_watched.Tie as tie

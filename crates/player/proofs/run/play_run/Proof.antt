@@ -1,7 +1,6 @@
 -- `play_run` meets its contract. Assumes nothing.
 use borrow.Author.Needs.{needs}
-use mathlib.Core.Path.{_∙_}
-use native.Mathlib.Omega.{arith}
+use mathlib.Core.Path.{refl}
 use Rattle.player.proofs.PlayLoop.{cleared, cleared-again, runnable-now}
 use Rattle.player.proofs.run.play_run.Statement.{statement}
 use Rattle.player.proofs.run.play_run.Tie as tie
@@ -12,18 +11,21 @@ slice-aggregate-put-bytes c = search needs
 put-bytes-requires : tie.Need-put-bytes-requires
 put-bytes-requires c κs = search needs
 
+slice-aggregate-play-records : tie.Need-slice-aggregate-play-records
+slice-aggregate-play-records c = search needs
+
 play-records-requires : tie.Need-play-records-requires
 play-records-requires c κs =
-    let old = c .before .before .before .before .before .before .before .before .before .before .before .before .before .before .args .work .now in
-    (runnable-now (c .before .before .before .before .before .before .before .before .before .before .before .before .before .before .pre) _ (c .before .before .before .put-bytes .kept .0), cleared-again old _ (cleared old _ (c .before .before .before .put-bytes .ensures)))
+    let old = c .before .before .before .before .before .before .before .before .before .before .before .before .before .before .before .args .work .now in
+    (runnable-now (c .before .before .before .before .before .before .before .before .before .before .before .before .before .before .before .pre) _ (c .before .before .before .before .put-bytes .kept .0), cleared-again old _ (cleared old _ (c .before .before .before .before .put-bytes .ensures)), refl)
 
 same-length : tie.Need-same-length
 same-length c = search needs
 
 returns : tie.Need-returns
 returns c D lent said =
-    let old = c .before .before .before .before .before .before .before .before .before .before .before .before .before .before .before .before .before .args .work .now in
-    c .before .before .play-records .ensures D old lent said (cleared old _ (c .before .before .before .before .before .before .put-bytes .ensures))
+    let old = c .before .before .before .before .before .before .before .before .before .before .before .before .before .before .before .before .before .before .before .args .work .now in
+    c .before .before .before .play-records .ensures D old lent said (cleared old _ (c .before .before .before .before .before .before .before .before .put-bytes .ensures))
 
 pub play-run-spec : {M : Type 1} → statement M
 play-run-spec =
@@ -31,6 +33,7 @@ play-run-spec =
     (tie.spec
     slice-aggregate-put-bytes
     put-bytes-requires
+    slice-aggregate-play-records
     play-records-requires
     same-length
     returns)

@@ -1,0 +1,108 @@
+-- A step without events changes nothing; what stands beside the facts, kept or made anew. Assumes nothing.
+use mathlib.Core.Path.{_≡_, refl, sym, ap, _∙_}
+use mathlib.Core.Bool.{Bool, true, false, not, cond}
+use mathlib.Core.List.{List, [], _∷_, _++_, map, flatMap, append-nil, List·Memᴰ·not-nil}
+use Prim.Native.Nat.{ℕ, _≤_, max}
+use native.Mathlib.Omega.{arith}
+use lib.Dec.{eqb}
+use lib.ListN.{length, getD, set}
+use lib.Seq.{getD-set-same, getD-set-other}
+use borrow.Author.Tests.{le-ltb}
+use Rattle.records.specs.Lists.{all, elem}
+use Rattle.records.specs.Memory.{over}
+use Rattle.records.proofs.Lists.{filter-all}
+use Rattle.literals.specs.Domain.{Fact, sameFact, Domain}
+use Rattle.verdict.specs.Machine.{Event, State, overAllHold, stepFacts, factsAfter, next, topWeight}
+use Rattle.store.specs.Index.{Indexed}
+use Rattle.machine.specs.declared.State.{State as Holding}
+use Rattle.machine.specs.Play.{maxFacts, maxRunning, tooLarge, heldBytes}
+use Rattle.machine.specs.Coded.{factRow, waitingOf}
+use Rattle.machine.specs.Stepping.{holdingOf, Kept, Noted, closeStop, closeState, Leaves}
+use Rattle.machine.proofs.Closing.{not-kept, nothing-forbids, leaves-forbidden, leaves-next}
+
+none-struck : (fs : List Fact) → all (λ (f : Fact). not (elem sameFact f [])) fs ≡ true
+none-struck [] = refl
+none-struck (f ∷ fs) = none-struck fs
+
+pub no-events : (s : State) (es : List Event) (holding : Holding) → holding ≡ holdingOf s es → holding .waiting .count ≡ 0 → es ≡ []
+unfolding waitingOf
+no-events s es holding is z = go es (sym (ap (λ (x : Holding). x .waiting .count) is) ∙ z)
+  where
+    go : (l : List Event) → length l ≡ 0 → l ≡ []
+    go [] e = refl
+    go (x ∷ l) e = absurd (omega arith)
+
+pub kept-none : {D : Domain} {s : State} {es : List Event} → Kept D s es → Kept D s []
+kept-none kept =
+    record {
+      facts = kept .facts;
+      facts-few = kept .facts-few;
+      running = kept .running;
+      running-few = kept .running-few;
+      waiting = λ e m. absurd (List·Memᴰ·not-nil m);
+      waiting-few = omega arith;
+    }
+
+module _ (D : Domain) (s : State) where
+  pub next-none : next D s [] ≡ s
+  unfolding next factsAfter stepFacts flatMap
+  next-none i =
+      record {
+        facts = (ap {B = List Fact} (λ (fs : List Fact). fs ++ []) (filter-all (λ (f : Fact). not (elem sameFact f [])) (s .facts) (none-struck (s .facts))) ∙ append-nil (s .facts)) i;
+        running = append-nil (s .running) i;
+      }
+
+  pub rest-state : closeState D s [] ≡ s
+  unfolding closeState
+  rest-state = go (eqb (closeStop D s []) 0)
+    where
+      go : (b : Bool) → cond b (next D s []) s ≡ s
+      go true = next-none
+      go false = refl
+
+  module _ (old : List ℕ) (w : ℕ) (state : Holding) (is : state ≡ holdingOf s []) (work : List ℕ) (m : work ≡ over (heldBytes (s .facts)) old) where
+    -- an over-all condition fails
+    pub unrest : all (overAllHold D (s .facts)) (s .running) ≡ false → Leaves D s [] old w 55 state w work
+    unrest h = leaves-forbidden D s [] old w 55 (not-kept D s [] refl refl h) (λ z. omega arith) state is work m
+
+    -- all of them hold
+    pub rests : Kept D s [] → topWeight D (s .facts) ≤ w → all (overAllHold D (s .facts)) (s .running) ≡ true → Leaves D s [] old w 0 state w work
+    rests kept under h =
+        let e = next-none in
+        let small : tooLarge s ≡ false = rw (le-ltb maxFacts (length (s .facts)) (kept .facts-few), le-ltb maxRunning (length (s .running)) (kept .running-few)) in
+        let top : w ≡ max w (topWeight D (s .facts)) = omega arith in
+        leaves-next D s [] old w
+        (sym (nothing-forbids D s [] refl refl h refl))
+        (ap tooLarge e ∙ small)
+        state
+        (is ∙ sym (ap (λ (t : State). holdingOf t []) e))
+        w
+        (top ∙ sym (ap (λ (t : State). max w (topWeight D (t .facts))) e))
+        work
+        (m ∙ sym (ap (λ (t : State). over (heldBytes (t .facts)) old) e))
+
+-- ---- what stands beside the facts
+
+module _ (arities : List ℕ) (keys : ℕ) (parts : List (List ℕ)) where
+  -- the index says nothing of the number behind it
+  pub indexed-set : (index : List ℕ) (v : ℕ) (rows : List (List ℕ)) → Indexed arities keys parts index rows → Indexed arities keys parts (set index 12288 v) rows
+  indexed-set index v rows h =
+      record {
+        totals = λ place l. getD-set-other index 12288 place v 0 (λ e. omega arith) ∙ h .totals place l;
+        sized = h .sized;
+      }
+
+  module _ (D : Domain) where
+    pub noted-rest : (index : List ℕ) (s : State) → Noted D arities keys parts index s → Noted D arities keys parts index (closeState D s [])
+    noted-rest index s h = rw (rest-state D s) h
+
+    -- noted that the over-all conditions hold
+    pub noted-set : (index : List ℕ) (s : State) → Noted D arities keys parts index s → all (overAllHold D (s .facts)) (s .running) ≡ true → Noted D arities keys parts (set index 12288 1) (closeState D s [])
+    noted-set index s n h = noted-rest (set index 12288 1) s (record { indexed = indexed-set index 1 (map factRow (s .facts)) (n .indexed); settled = λ e. h })
+
+    -- nothing is noted yet
+    pub noted-anew : (index : List ℕ) (s : State) → Indexed arities keys parts index (map factRow (s .facts)) → getD index 12288 0 ≡ 0 → Noted D arities keys parts index s
+    noted-anew index s h z = record { indexed = h; settled = λ e. absurd (omega arith) }
+
+pub unset : (index : List ℕ) → length index ≡ 12289 → getD (set index 12288 0) 12288 0 ≡ 0
+unset index l = getD-set-same index 12288 0 0 (omega arith)

@@ -1,0 +1,5 @@
+-- Facts as they are held.
+pub mod RowLoops
+pub mod Weights
+pub mod InstanceRows
+pub mod Totals

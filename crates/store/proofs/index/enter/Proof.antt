@@ -1,0 +1,121 @@
+-- `enter` meets its contract: at three places the number is what the fact adds. Assumes nothing.
+use mathlib.Core.Path.{_≡_, ap, _∙_}
+use Prim.Native.Nat.{_+_}
+use native.Mathlib.Omega.{arith}
+use borrow.Author.Needs.{needs}
+use lib.ListN.{take, drop}
+use Rattle.literals.specs.Table.{rowsIn}
+use Rattle.store.specs.Index.{wordOf, slotOf}
+use Rattle.store.proofs.InstanceRows.{keyed-none, keyed-one}
+use Rattle.store.proofs.Totals.{enter-none, enter-one, beside-at}
+use Rattle.store.proofs.index.enter.Statement.{statement}
+use Rattle.store.proofs.index.enter.Tie as tie
+
+row-at-requires : tie.Need-row-at-requires
+row-at-requires c κs = search needs
+
+slot-of-requires : tie.Need-slot-of-requires
+slot-of-requires c κs = search needs
+
+add-at-requires : tie.Need-add-at-requires
+add-at-requires c κs = search needs
+
+add-add-at : tie.Need-add-add-at
+add-add-at c = search needs
+
+word-of-requires : tie.Need-word-of-requires
+word-of-requires c κs = search needs
+
+add-at-requires-2 : tie.Need-add-at-requires-2
+add-at-requires-2 c κs = search needs
+
+key-of-requires : tie.Need-key-of-requires
+key-of-requires c κs = search needs
+
+key-slot-requires : tie.Need-key-slot-requires
+key-slot-requires c κs = search needs
+
+add-add-at-2 : tie.Need-add-add-at-2
+add-add-at-2 c = search needs
+
+add-at-requires-3 : tie.Need-add-at-requires-3
+add-at-requires-3 c κs = search needs
+
+same-length : tie.Need-same-length
+same-length c = search needs
+
+returns : tie.Need-returns
+returns c = let keyed = c .before .before .before .before .before .before .before in
+    let second = keyed .before .before .before in
+    let worded = second .before in
+    let first = worded .before .before .before .before in
+    let slotted = first .before .before in
+    let read = slotted .before in
+    let start = read .before .before .before .before in
+    let a = start .args in
+    let k = keyed .key-of in
+    let o = slotted .slot-of in
+    let w = worded .word-of in
+    let x = first .add-at in
+    let y = second .add-at2 in
+    let row = take 8 (drop (a .at) (a .memory .now)) in
+    let e : o .result ≡ slotOf row = o .ensures .0 ∙ ap slotOf (read .row-at .ensures) in
+    let f : w .result ≡ wordOf row = w .ensures .0 ∙ ap wordOf (read .row-at .ensures) in
+    let b =
+    beside-at (x .last .0) (y .last .0) (4096 + o .result) _ 12288 (y .ensures) (omega (arith, o .ensures .1))
+    ∙ beside-at (a .index .now) (x .last .0) (o .result) _ 12288 (x .ensures) (omega (arith, o .ensures .1)) in
+    let g = c .before .before .before .key-slot in
+    let v = c .before .before .add-at3 in (
+      λ arities rows i z. enter-one i row z (x .last .0) (y .last .0) (o .result) (w .result)
+          (start .pre .0) e f (x .ensures) (y .ensures) (k .result .row) (v .last .0) (g .result)
+          (keyed-one (k .result) (a .keys) (rowsIn (a .components) (a .parts .now)) row (k .ensures) (c .before .before .before .before .before .before .if1 .taken)) (g .ensures .0) (v .ensures),
+      beside-at (y .last .0) (v .last .0) (8192 + g .result) _ 12288 (v .ensures) (omega (arith, g .ensures .1)) ∙ b,
+    )
+
+same-length-2 : tie.Need-same-length-2
+same-length-2 c = search needs
+
+returns-2 : tie.Need-returns-2
+returns-2 c = let keyed = c .before in
+    let second = keyed .before .before .before in
+    let worded = second .before in
+    let first = worded .before .before .before .before in
+    let slotted = first .before .before in
+    let read = slotted .before in
+    let start = read .before .before .before .before in
+    let a = start .args in
+    let k = keyed .key-of in
+    let o = slotted .slot-of in
+    let w = worded .word-of in
+    let x = first .add-at in
+    let y = second .add-at2 in
+    let row = take 8 (drop (a .at) (a .memory .now)) in
+    let e : o .result ≡ slotOf row = o .ensures .0 ∙ ap slotOf (read .row-at .ensures) in
+    let f : w .result ≡ wordOf row = w .ensures .0 ∙ ap wordOf (read .row-at .ensures) in
+    let b =
+    beside-at (x .last .0) (y .last .0) (4096 + o .result) _ 12288 (y .ensures) (omega (arith, o .ensures .1))
+    ∙ beside-at (a .index .now) (x .last .0) (o .result) _ 12288 (x .ensures) (omega (arith, o .ensures .1)) in (
+      λ arities rows i z. enter-none i row z (x .last .0) (y .last .0) (o .result) (w .result)
+          (start .pre .0) e f (x .ensures) (y .ensures)
+          (keyed-none (k .result) (a .keys) (rowsIn (a .components) (a .parts .now)) row (k .ensures) (c .if1 .left)),
+      b,
+    )
+
+pub enter-spec : {M : Type 1} → statement M
+enter-spec =
+    tie.close
+    (tie.spec
+    row-at-requires
+    slot-of-requires
+    add-at-requires
+    add-add-at
+    word-of-requires
+    add-at-requires-2
+    key-of-requires
+    key-slot-requires
+    add-add-at-2
+    add-at-requires-3
+    same-length
+    returns
+    same-length-2
+    returns-2)

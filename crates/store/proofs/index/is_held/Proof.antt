@@ -1,0 +1,71 @@
+-- `is_held` meets its contract: by the number of facts in the slot, and the word of the only one. Assumes nothing.
+use mathlib.Core.Path.{_≡_}
+use native.Mathlib.Omega.{arith}
+use mir.Syntax.{w8}
+use mir.Val.{Fits}
+use borrow.Author.Needs.{needs}
+use lib.ListN.{length, getD}
+use Rattle.literals.specs.Table.{rowsIn}
+use Rattle.classes.proofs.KeyRows.{length-rows}
+use Rattle.store.proofs.Totals.{Bytes, rows-eight, held-none, held-one}
+use Rattle.store.proofs.index.is_held.Statement.{statement}
+use Rattle.store.proofs.index.is_held.Tie as tie
+
+slot-of-requires : tie.Need-slot-of-requires
+slot-of-requires c κs = search needs
+
+mul-count : tie.Need-mul-count
+mul-count c = search needs
+
+shared-slice-read-count : tie.Need-shared-slice-read-count
+shared-slice-read-count c = search needs
+
+returns : tie.Need-returns
+returns c = let a = c .before .before .before .before .before .args in
+    let o = c .before .before .slot-of in
+    λ arities keys parts i z.
+    held-none (a .index .now) (rowsIn (a .n) (a .memory .now)) i (omega (arith, length-rows (a .n) (a .memory .now))) (a .row) (o .result) (o .ensures .0) (c .if1 .taken)
+
+add-result : tie.Need-add-result
+add-result c = search needs
+
+mul-result : tie.Need-mul-result
+mul-result c = search needs
+
+shared-slice-read-result : tie.Need-shared-slice-read-result
+shared-slice-read-result c = search needs
+
+word-of-requires : tie.Need-word-of-requires
+word-of-requires c κs = search needs
+
+returns-2 : tie.Need-returns-2
+returns-2 c = let a = c .before .before .before .before .before .before .before .before .args in
+    let o = c .before .before .before .before .before .slot-of in
+    let l : length (a .row) ≡ 8 = search needs in
+    let b : Bytes (a .row) = λ k. let z : Fits w8 (getD (a .row) k 0) = search needs in omega arith in
+    let m : Bytes (a .memory .now) = λ k. omega (arith, c .before .before .before .before .before .before .shared-slice-known2 .given k) in
+    λ arities keys parts i z.
+    held-one (a .index .now) (rowsIn (a .n) (a .memory .now)) i (omega (arith, length-rows (a .n) (a .memory .now))) (a .row) (o .result) (o .ensures .0)
+    (c .before .before .if2 .taken) (c .word-of .result) (c .word-of .ensures .0) (l, b) (rows-eight (a .n) (a .memory .now) (omega arith) m) z
+
+has-row-requires : tie.Need-has-row-requires
+has-row-requires c κs = search needs
+
+returns-3 : tie.Need-returns-3
+returns-3 c = search needs
+
+pub is-held-spec : {M : Type 1} → statement M
+is-held-spec =
+    tie.close
+    (tie.spec
+    slot-of-requires
+    mul-count
+    shared-slice-read-count
+    returns
+    add-result
+    mul-result
+    shared-slice-read-result
+    word-of-requires
+    returns-2
+    has-row-requires
+    returns-3)

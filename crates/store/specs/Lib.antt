@@ -1,0 +1,3 @@
+-- Facts as they are held: rows, and the index by which they are found.
+pub mod Rows
+pub mod Index
