@@ -28,8 +28,8 @@ fn word_at(s: &[u8], at: usize) -> u16
     wide(s[at]) + wide(s[at + 1]) * 256
 }
 
-// The record at an offset.
-pub fn record_at(s: &[u8], at: usize) -> Record
+// The record at an offset: the work beneath the reader.
+fn found_at(s: &[u8], at: usize) -> Record
     ensures { λ r. ⌜ r ≡ recordAt (now (s .entry)) at ⌝ }
 {
     if s.len() <= at {
@@ -49,4 +49,33 @@ pub fn record_at(s: &[u8], at: usize) -> Record
     } else {
         Record::Cut
     }
+}
+
+// A file and a position in it. The borrow checker covers no function over such a struct, so they are few and thin, and proved by hand.
+pub struct Reader<'a> {
+    pub file: &'a [u8],
+    pub at: usize,
+}
+
+impl<'a> Reader<'a> {
+    // The reader at a position.
+    pub fn new(file: &'a [u8], at: usize) -> Reader<'a>
+        ensures { λ r. ⌜ (r .file ≡ file .entry) × (r .at ≡ at) ⌝ }
+    {
+        Reader { file, at }
+    }
+
+    // The record at its position.
+    pub fn record(self) -> Record
+        ensures { λ r. ⌜ r ≡ recordAt (now (self .entry .file)) (self .entry .at) ⌝ }
+    {
+        found_at(self.file, self.at)
+    }
+}
+
+// The record at an offset, by a reader there: every caller reads a file through this.
+pub fn record_at(s: &[u8], at: usize) -> Record
+    ensures { λ r. ⌜ r ≡ recordAt (now (s .entry)) at ⌝ }
+{
+    Reader::new(s, at).record()
 }
