@@ -11,7 +11,8 @@ pub fn put_byte(word: &[u8], n: u8) {
     put(word, n as u64);
 }
 
-fn name(n: u8) {
+// The name of a number, the end of a line.
+pub fn name(n: u8) {
     match n {
         1 => {
             io::write_all(STDOUT_FILENO, b" unreachable\n");
