@@ -14,6 +14,6 @@ use std::time::Instant;
 fn main() {
     let begin = Instant::now();
     judging::print();
-        playing::print();
+    playing::print();
     println!("\n{:.1} s in all", begin.elapsed().as_secs_f64());
 }

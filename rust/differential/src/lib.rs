@@ -3,12 +3,18 @@
 //!
 //! - [`judging`]: a judge against the model, and against what is written down
 //! - [`playing`]: the same for a player
+//! - [`both`]: judging and playing of the same seeds, as many as it takes
+//! - [`exact`]: the library in memory of just the lengths lent, for valgrind
 //! - [`memory`]: memory and files to lend, with guards around them
-//! - [`seeds`]: all cases of many seeds, on all cores
+//! - [`seeds`]: all cases of many seeds, on several cores
 //! - [`edges`]: the lines of cases/edges.txt
+//! - [`samples`]: the folder samples/ at the repository's root
 
+pub mod both;
 pub mod edges;
+pub mod exact;
 pub mod judging;
 pub mod memory;
 pub mod playing;
+pub mod samples;
 pub mod seeds;

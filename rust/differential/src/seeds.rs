@@ -1,4 +1,4 @@
-//! All cases of many seeds, on all cores.
+//! All cases of many seeds, on several cores.
 
 use std::collections::BTreeMap;
 use std::env;
@@ -14,8 +14,23 @@ pub trait Counted: Default + Send {
     fn cases(&self) -> u64;
 }
 
-/// The counts of so many seeds from the first on. Stops soon after a seed that fails, and tells its text.
+/// The counts of so many seeds from the first on, on all cores. Stops soon after a seed that fails, and tells its text.
 pub fn run<C: Counted>(of_seed: impl Fn(u64) -> Result<C, String> + Sync, first: u64, seeds: u64) -> Result<C, String> {
+    let threads = thread::available_parallelism().map_or(2, |count| count.get());
+    match run_on(threads, of_seed, first, seeds) {
+        (counts, Some(text)) => Err(format!("{text}({} cases agreed before)", counts.cases())),
+        (counts, None) => Ok(counts),
+    }
+}
+
+/// The same on so many threads: the counts of the seeds that passed, and the text of the first that fails. Threads take
+/// blocks of seeds in order and finish the block that they have, so that no seed before that one is left out.
+pub fn run_on<C: Counted>(
+    threads: usize,
+    of_seed: impl Fn(u64) -> Result<C, String> + Sync,
+    first: u64,
+    seeds: u64,
+) -> (C, Option<String>) {
     const BLOCK: u64 = 64;
     let next = AtomicU64::new(0);
     let stop = AtomicBool::new(false);
@@ -43,17 +58,13 @@ pub fn run<C: Counted>(of_seed: impl Fn(u64) -> Result<C, String> + Sync, first:
         all.0.add(&counts);
         all.1.extend(failure);
     };
-    let threads = thread::available_parallelism().map_or(2, |count| count.get());
     thread::scope(|scope| {
         for _ in 0..threads {
             scope.spawn(work);
         }
     });
     let (counts, failures) = all.into_inner().unwrap_or_else(|broken| broken.into_inner());
-    match failures.into_values().next() {
-        Some(text) => Err(format!("{text}({} cases agreed before)", counts.cases())),
-        None => Ok(counts),
-    }
+    (counts, failures.into_values().next())
 }
 
 /// A number that the environment tells, or this one.

@@ -1,19 +1,24 @@
 //! Every line of cases/edges.txt against the library, as the file tells it and not as the model does; then each of its
-//! files at every length and every cut against the model.
+//! files at every length and every cut against the model. Each call is made twice, the second time in memory of just the
+//! lengths lent, for valgrind.
 
-use differential::edges;
-use differential::judging::{compare, expect, expect_at_all_lengths};
-use differential::playing::{self, library as player, Played, WORK};
-use goadlotus::judge;
+use differential::judging::{compare, expect, expect_at_all_lengths, Judgement};
+use differential::playing::{self, Played, WORK};
+use differential::{edges, exact};
+
+const JUDGES: [fn(&[u8], &mut [u8], &mut [u8]) -> Judgement; 2] = [goadlotus::judge, exact::judge];
+const PLAYERS: [fn(&[u8], &[u8], &mut [u8]) -> Played; 2] = [playing::library, exact::play];
 
 #[test]
 fn every_judge_line() {
     let lines = edges::judge_lines();
     for edge in &lines {
         let name = format!("line {}, {}", edge.line, edge.name);
-        expect(judge, &name, &edge.file, (edge.report_lent, edge.witness_lent), &edge.told);
-        if ![30, 31].contains(&edge.told.answer[0]) {
-            expect_at_all_lengths(judge, &name, &edge.file, &edge.told);
+        for judge in JUDGES {
+            expect(judge, &name, &edge.file, (edge.report_lent, edge.witness_lent), &edge.told);
+            if ![30, 31].contains(&edge.told.answer[0]) {
+                expect_at_all_lengths(judge, &name, &edge.file, &edge.told);
+            }
         }
     }
     println!("edges.txt: {} judge lines run", lines.len());
@@ -26,8 +31,10 @@ fn every_length_and_every_cut() {
     for edge in edges::judge_lines() {
         let (report, witness) = generate::room(&edge.file);
         let mut run = |file: &[u8], lent: (usize, usize)| {
-            if let Err(text) = compare(judge, file, lent, cases) {
-                panic!("line {}, {}\n{text}", edge.line, edge.name);
+            for judge in JUDGES {
+                if let Err(text) = compare(judge, file, lent, cases) {
+                    panic!("line {}, {}\n{text}", edge.line, edge.name);
+                }
             }
             cases += 1;
         };
@@ -55,7 +62,9 @@ fn every_play_line() {
         // As told, and where work memory suffices with more of it, which stays untouched.
         let more = if edge.work_lent >= WORK { edge.work_lent + 1_000 } else { edge.work_lent };
         for lent in [edge.work_lent, more] {
-            playing::expect(player, &name, &edge.domain, &edge.run, lent, &edge.told);
+            for player in PLAYERS {
+                playing::expect(player, &name, &edge.domain, &edge.run, lent, &edge.told);
+            }
         }
     }
     println!("edges.txt: {} play lines run", lines.len());
@@ -73,7 +82,9 @@ fn the_papers_m12() {
     let [m1, run] = [m1, run].map(|text| edges::bytes(&text.replace(' ', "")).expect("hexadecimal"));
     let (file, at) = (model::Source::Run, 34);
     let played = Played { number: 55, place: 34, steps: 1, weight: 1, file, at, length: run.len() - at };
-    playing::expect(player, "M12", &m1, &run, WORK, &playing::Told { played, work: vec![0; WORK] });
+    for player in PLAYERS {
+        playing::expect(player, "M12", &m1, &run, WORK, &playing::Told { played, work: vec![0; WORK] });
+    }
 }
 
 #[test]
@@ -81,8 +92,10 @@ fn every_work_length_every_cut_and_every_flip_of_a_run() {
     let mut cases = 0;
     for edge in edges::play_lines() {
         let mut run = |domain: &[u8], run: &[u8], work: usize| {
-            if let Err(text) = playing::compare(player, domain, run, work, cases) {
-                panic!("line {}, {}\n{text}", edge.line, edge.name);
+            for player in PLAYERS {
+                if let Err(text) = playing::compare(player, domain, run, work, cases) {
+                    panic!("line {}, {}\n{text}", edge.line, edge.name);
+                }
             }
             cases += 1;
         };

@@ -643,27 +643,6 @@ fn rovers_mended() {
     check("rovers mended", &mended, 0, &[case]);
 }
 
-/// A run of single events over Rovers: `start drop 0 1`.
-fn run_of(domain: &Named, objects: u8, facts: &[&str], events: &[&str]) -> Vec<Rec> {
-    let objects_of = |words: &[&str]| words.iter().map(|word| number(word)).collect::<Vec<u8>>();
-    let mut records = vec![rec(16, [objects])];
-    for fact in facts {
-        let words: Vec<&str> = fact.split(' ').collect();
-        let mut payload = vec![domain.relation(words[0])];
-        payload.extend(objects_of(&words[1..]));
-        records.push(rec(17, payload));
-    }
-    for event in events {
-        let words: Vec<&str> = event.split(' ').collect();
-        let moment = ["start", "end"].iter().position(|other| *other == words[0]).expect("a moment") as u8;
-        let mut payload = vec![moment, domain.action(words[1])];
-        payload.extend(objects_of(&words[2..]));
-        records.extend([rec(18, payload), rec(19, [])]);
-    }
-    records.push(rec(20, []));
-    records
-}
-
 /// Runs of Rovers that start with weight 1 and reach 2, for the templates that the paper refuses although they are
 /// published, and for the one of Example 19.
 #[test]
@@ -703,7 +682,7 @@ fn published_and_yet_no_invariants() {
         let facts: Vec<&str> = facts.iter().map(String::as_str).collect();
         let events: Vec<&str> = events.iter().map(String::as_str).collect();
         for (events, weight) in [(&[][..], 1), (&events[..], 2)] {
-            let played = played(template, &file, &run_of(&rovers, 5, &facts, events));
+            let played = played(template, &file, &rovers.run(5, &facts, events));
             assert_eq!((played.steps, played.weight), (events.len() as u64, weight), "{template}");
         }
     }

@@ -11,6 +11,7 @@ pub mod plain;
 pub mod records;
 pub mod rng;
 pub mod runs;
+pub mod samples;
 
 use rng::Rng;
 

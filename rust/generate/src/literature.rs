@@ -5,6 +5,7 @@
 //! `delete`), its relation and its variables. A line that starts with # is a remark.
 
 use crate::domains::{Plan, PlanAction, FF};
+use crate::records::{rec, Rec};
 
 pub const DEPOTS: &str = include_str!("../../cases/literature/depots.txt");
 pub const DRIVERLOG: &str = include_str!("../../cases/literature/driverlog.txt");
@@ -113,6 +114,35 @@ impl Named {
             actions: self.actions.iter().map(|action| action.1.clone()).collect(),
             components: template.split(", ").map(component).collect(),
         }
+    }
+
+    /// A run over the domain. A fact is its relation and objects, `at 0 2`; an event its moment (`start` or `once`,
+    /// `end`), its action and its objects, `start drop 0 1`; a step is its events with `, ` between them.
+    pub fn run(&self, objects: u8, facts: &[&str], steps: &[&str]) -> Vec<Rec> {
+        let number = |word: &&str| word.parse::<u8>().unwrap_or_else(|_| panic!("not an object: {word:?}"));
+        let mut records = vec![rec(16, [objects])];
+        for fact in facts {
+            let words: Vec<&str> = fact.split(' ').collect();
+            let mut payload = vec![self.relation(words[0])];
+            payload.extend(words[1..].iter().map(number));
+            records.push(rec(17, payload));
+        }
+        for step in steps {
+            for event in step.split(", ") {
+                let words: Vec<&str> = event.split(' ').collect();
+                let moment = match words[0] {
+                    "start" | "once" => 0,
+                    "end" => 1,
+                    other => panic!("not a moment: {other:?}"),
+                };
+                let mut payload = vec![moment, self.action(words[1])];
+                payload.extend(words[2..].iter().map(number));
+                records.push(rec(18, payload));
+            }
+            records.push(rec(19, []));
+        }
+        records.push(rec(20, []));
+        records
     }
 }
 

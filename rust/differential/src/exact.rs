@@ -1,0 +1,29 @@
+//! The library, each slice lent as an allocation of just its length, so that valgrind tells of every byte beside it that
+//! is read or written. Guards would hide that, since they are memory like any other.
+
+use crate::judging::Judgement;
+use crate::playing::{self, Played};
+
+/// `goadlotus::judge` in such memory.
+pub fn judge(file: &[u8], report: &mut [u8], witness: &mut [u8]) -> Judgement {
+    let file = alone(file);
+    let (mut own_report, mut own_witness) = (alone(report), alone(witness));
+    let judgement = goadlotus::judge(&file, &mut own_report, &mut own_witness);
+    report.copy_from_slice(&own_report);
+    witness.copy_from_slice(&own_witness);
+    judgement
+}
+
+/// `playing::library` in such memory.
+pub fn play(domain: &[u8], run: &[u8], work: &mut [u8]) -> Played {
+    let (domain, run) = (alone(domain), alone(run));
+    let mut own_work = alone(work);
+    let played = playing::library(&domain, &run, &mut own_work);
+    work.copy_from_slice(&own_work);
+    played
+}
+
+/// A copy with nothing of its allocation before or behind it.
+fn alone(bytes: &[u8]) -> Box<[u8]> {
+    bytes.into()
+}
