@@ -6,7 +6,7 @@
 
 use differential::judging::{compare, expect_at_all_lengths, model, Told};
 use differential::playing;
-use generate::literature::{Named, DEPOTS, DRIVERLOG, FLOORTILE, ROVERS, SATELLITE};
+use generate::literature::{rovers_dropping, rovers_sampling, Named, DEPOTS, DRIVERLOG, FLOORTILE, ROVERS, SATELLITE};
 use generate::records::{encode, rec, Rec};
 use goadlotus::judge;
 
@@ -648,39 +648,14 @@ fn rovers_mended() {
 #[test]
 fn published_and_yet_no_invariants() {
     let rovers = Named::read(ROVERS);
-    // Two rovers, 0 and 1, with stores 2 and 3, sample at waypoint 4.
-    let sampling = |what: &str| {
-        let mut facts = vec![format!("at_{what}_sample 4")];
-        for (rover, store) in [(0, 2), (1, 3)] {
-            facts.extend([format!("at {rover} 4"), format!("equipped_for_{what}_analysis {rover}")]);
-            facts.extend([format!("store_of {store} {rover}"), format!("empty {store}")]);
-        }
-        let mut events = Vec::new();
-        for moment in ["start", "end"] {
-            events.extend([format!("{moment} sample_{what} 0 2 4"), format!("{moment} sample_{what} 1 3 4")]);
-        }
-        (facts, events)
-    };
-    // Rover 0 drops twice what store 1 has, and samples in between at waypoint 2.
-    let drop_facts = ["full 1", "store_of 1 0", "at 0 2", "at_soil_sample 2", "equipped_for_soil_analysis 0"];
-    let drop_events = [
-        "start drop 0 1",
-        "start drop 0 1",
-        "end drop 0 1",
-        "start sample_soil 0 1 2",
-        "end drop 0 1",
-        "end sample_soil 0 1 2",
-    ];
-    let dropping = (drop_facts.map(String::from).to_vec(), drop_events.map(String::from).to_vec());
-    for (template, (facts, events)) in [
-        ("at_soil_sample[0], have_soil_analysis[FF,0]", sampling("soil")),
-        ("at_rock_sample[0], have_rock_analysis[FF,0]", sampling("rock")),
-        ("at_rock_sample[FF], at_soil_sample[FF], full[FF]", sampling("soil")),
-        ("full[0], empty[0]", dropping),
+    for (template, told) in [
+        ("at_soil_sample[0], have_soil_analysis[FF,0]", rovers_sampling("soil")),
+        ("at_rock_sample[0], have_rock_analysis[FF,0]", rovers_sampling("rock")),
+        ("at_rock_sample[FF], at_soil_sample[FF], full[FF]", rovers_sampling("soil")),
+        ("full[0], empty[0]", rovers_dropping()),
     ] {
         let file = rovers.with(template).file();
-        let facts: Vec<&str> = facts.iter().map(String::as_str).collect();
-        let events: Vec<&str> = events.iter().map(String::as_str).collect();
+        let (facts, events) = (told.facts(), told.events());
         for (events, weight) in [(&[][..], 1), (&events[..], 2)] {
             let played = played(template, &file, &rovers.run(5, &facts, events));
             assert_eq!((played.steps, played.weight), (events.len() as u64, weight), "{template}");

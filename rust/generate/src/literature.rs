@@ -165,3 +165,47 @@ mod tests {
         }
     }
 }
+
+/// Start facts and events of a run, in words.
+pub struct Told {
+    pub facts: Vec<String>,
+    pub events: Vec<String>,
+}
+
+impl Told {
+    pub fn facts(&self) -> Vec<&str> {
+        self.facts.iter().map(String::as_str).collect()
+    }
+
+    pub fn events(&self) -> Vec<&str> {
+        self.events.iter().map(String::as_str).collect()
+    }
+}
+
+/// Two rovers, 0 and 1, with stores 2 and 3, sample soil or rock at waypoint 4.
+pub fn rovers_sampling(what: &str) -> Told {
+    let mut facts = vec![format!("at_{what}_sample 4")];
+    for (rover, store) in [(0, 2), (1, 3)] {
+        facts.extend([format!("at {rover} 4"), format!("equipped_for_{what}_analysis {rover}")]);
+        facts.extend([format!("store_of {store} {rover}"), format!("empty {store}")]);
+    }
+    let mut events = Vec::new();
+    for moment in ["start", "end"] {
+        events.extend([format!("{moment} sample_{what} 0 2 4"), format!("{moment} sample_{what} 1 3 4")]);
+    }
+    Told { facts, events }
+}
+
+/// Rover 0 drops twice what store 1 has, and samples in between at waypoint 2.
+pub fn rovers_dropping() -> Told {
+    let facts = ["full 1", "store_of 1 0", "at 0 2", "at_soil_sample 2", "equipped_for_soil_analysis 0"];
+    let events = [
+        "start drop 0 1",
+        "start drop 0 1",
+        "end drop 0 1",
+        "start sample_soil 0 1 2",
+        "end drop 0 1",
+        "end sample_soil 0 1 2",
+    ];
+    Told { facts: facts.map(String::from).to_vec(), events: events.map(String::from).to_vec() }
+}

@@ -1,7 +1,7 @@
 //! The domain files and run files of the folder samples/ at the repository's root. Its page, samples/README.md, says
 //! what each of them teaches; `write_samples` of the package `differential` writes them.
 
-use crate::literature::{Named, DEPOTS, DRIVERLOG, FLOORTILE, ROVERS, SATELLITE};
+use crate::literature::{rovers_dropping, rovers_sampling, Named, DEPOTS, DRIVERLOG, FLOORTILE, ROVERS, SATELLITE};
 use crate::records::encode;
 
 /// A domain file, NAME.domain.
@@ -243,40 +243,16 @@ fn rovers(samples: &mut Samples) {
     let mended = Named::read(&ROVERS.replace(drop, &format!("{drop}    all true full store\n")));
     samples.domain("rovers-store-mended", &mended, "full[0], empty[0]");
 
-    // Rovers 0 and 1 with stores 2 and 3 sample at waypoint 4.
-    let soil_facts = [
-        "at_soil_sample 4",
-        "at 0 4",
-        "equipped_for_soil_analysis 0",
-        "store_of 2 0",
-        "empty 2",
-        "at 1 4",
-        "equipped_for_soil_analysis 1",
-        "store_of 3 1",
-        "empty 3",
-    ];
-    let soil_steps =
-        ["start sample_soil 0 2 4", "start sample_soil 1 3 4", "end sample_soil 0 2 4", "end sample_soil 1 3 4"];
-    let rock_facts = soil_facts.map(|fact| fact.replace("soil", "rock"));
-    let rock_steps = soil_steps.map(|step| step.replace("soil", "rock"));
-    let rock_facts: Vec<&str> = rock_facts.iter().map(String::as_str).collect();
-    let rock_steps: Vec<&str> = rock_steps.iter().map(String::as_str).collect();
-    samples.run("rovers-soil", ("rovers-soil", &domain), 5, &soil_facts, &soil_steps);
-    samples.run("rovers-rock", ("rovers-rock", &domain), 5, &rock_facts, &rock_steps);
-    samples.run("rovers-sample-or-store", ("rovers-sample-or-store", &domain), 5, &soil_facts, &soil_steps);
-
-    // Rover 0 drops twice what store 1 has, and samples in between at waypoint 2.
-    let facts = ["full 1", "store_of 1 0", "at 0 2", "at_soil_sample 2", "equipped_for_soil_analysis 0"];
-    let steps = [
-        "start drop 0 1",
-        "start drop 0 1",
-        "end drop 0 1",
-        "start sample_soil 0 1 2",
-        "end drop 0 1",
-        "end sample_soil 0 1 2",
-    ];
-    samples.run("rovers-store", ("rovers-store", &domain), 3, &facts, &steps);
-    samples.run("rovers-store-mended", ("rovers-store-mended", &mended), 3, &facts, &steps);
+    let (soil, rock, dropping) = (rovers_sampling("soil"), rovers_sampling("rock"), rovers_dropping());
+    for (name, of, objects, told) in [
+        ("rovers-soil", &domain, 5, &soil),
+        ("rovers-rock", &domain, 5, &rock),
+        ("rovers-sample-or-store", &domain, 5, &soil),
+        ("rovers-store", &domain, 3, &dropping),
+        ("rovers-store-mended", &mended, 3, &dropping),
+    ] {
+        samples.run(name, (name, of), objects, &told.facts(), &told.events());
+    }
 }
 
 fn satellite(samples: &mut Samples) {
