@@ -54,7 +54,7 @@ fn judged(file: &[u8], v: Judgement, report: &[u8], facts: &[u8]) {
 pub fn explain(file: &[u8]) {
     let mut report = [255u8; 32768];
     let mut facts = [255u8; 1024];
-    let v = verdict::judging::judge(file, &mut report, &mut facts);
+    let v = judging::judge(file, &mut report, &mut facts);
     if broken::is_broken(v.number) {
         broken::print(v.number, v.first, file.len() as u64);
         return;

@@ -1,14 +1,14 @@
 // The library for C and Rust: no call asks anything of its caller beyond memory that it may read and write.
+use judging::judge;
 use player::play::file_of;
 use player::play::offset_of;
 use player::play::play_files;
-use verdict::judging::judge;
 ghost use mathlib.Core.Path.{_≡_};
 ghost use Rattle.verdict.specs.Judged.{judged, reportAfter, witnessAfter};
 ghost use Rattle.verdict.specs.Claims.{AcceptedSafe, RefusedHarmful, WitnessHarms};
-ghost use Rattle.machine.specs.Play.{played, workAfter, returned};
+ghost use Rattle.runs.specs.Play.{played, workAfter, returned};
 ghost use Rattle.player.specs.Called.{fileOf, offsetOf};
-ghost use Rattle.machine.specs.Claims.{PlaysAsMachine};
+ghost use Rattle.runs.specs.Claims.{PlaysAsMachine};
 
 // Judges a domain file: answers the number, and leaves its three places, the report and the witness.
 #[no_mangle]

@@ -57,7 +57,7 @@ fn rows(report: &[u8]) {
 pub fn list(file: &[u8]) {
     let mut report = [255u8; 32768];
     let mut witness = [255u8; 1024];
-    let v = verdict::judging::judge(file, &mut report, &mut witness);
+    let v = judging::judge(file, &mut report, &mut witness);
     put(b"verdict ", v.number);
     put(b" ", v.first);
     put(b" ", v.second);

@@ -9,7 +9,7 @@ use native.Mathlib.Omega.{arith}
 use lib.Dec.{ltb}
 use lib.ListN.{length, take, drop, getD, length-append, length-drop, List·getD-map}
 use lib.Seq.{take-all, take-at, drop-at, split-at, length-take-le}
-use borrow.Author.Tests.{ltb-true, ltb-false}
+use borrow.Author.Tests.{ltb-true, ltb-false, lt-ltb, le-ltb}
 use Rattle.records.specs.Lists.{In}
 use Rattle.records.specs.Memory.{over}
 use Rattle.records.proofs.Lists.{getD-in, flatMap-in, flatMap-append}
@@ -193,3 +193,12 @@ part-length table start behind h g =
     let d = length-drop (8 * start) table in
     let z : 8 * behind - 8 * start ≡ 8 * (behind - start) = omega arith in
     length-take-le (8 * behind - 8 * start) (drop (8 * start) table) (omega arith) ∙ z
+
+-- ---- from the first row of an action to the one behind its last
+
+module _ (starts : List ℕ) (actions rows i : ℕ) where
+  pub span-inner : i + 1 < actions → getD starts (i + 1) 0 ≡ cond (ltb (i + 1) actions) (getD starts (i + 1) 0) rows
+  span-inner h = rw (lt-ltb (i + 1) actions h)
+
+  pub span-last : actions ≤ i + 1 → rows ≡ cond (ltb (i + 1) actions) (getD starts (i + 1) 0) rows
+  span-last h = rw (le-ltb (i + 1) actions h)

@@ -1,9 +1,7 @@
-// Reading a domain file: numberings, roles and labels, and how the code holds a domain (here); the fields of a record (fields); the rows of the
-// literal table (row); what one record adds to the domain (take); the file (read).
+// A domain: numberings, roles and labels, and how the code holds it (here); the fields of a record (fields); the rows of the literal table (row), and those of one action (span).
 pub mod fields;
-pub mod read;
 pub mod row;
-pub mod take;
+pub mod span;
 
 ghost use mathlib.Core.Path.{_≡_};
 ghost use Rattle.literals.specs.Domain.{clauseOf, roleOf};
@@ -68,27 +66,6 @@ pub struct Counts {
     pub rows: usize,
     pub components: usize,
     pub keys: usize,
-}
-
-// What one record led to: 0 and the counts with it, or the number that stopped it and the counts before it.
-pub struct Took {
-    pub number: u64,
-    pub counts: Counts,
-}
-
-// Where reading stands: the next record's offset, whether the closing record is read, and the counts of the domain so far.
-pub struct Progress {
-    pub at: usize,
-    pub closed: bool,
-    pub counts: Counts,
-}
-
-// What a file led to: 0 and the counts of its domain, or the number that refused it with its place, where the record at fault starts, and the counts until then.
-pub struct ReadEnd {
-    pub number: u64,
-    pub place: usize,
-    pub start: usize,
-    pub counts: Counts,
 }
 
 fn clause_of(n: u8) -> Clause

@@ -2,7 +2,7 @@
 use mathlib.Core.Path.{_≡_, refl, sym, ap, _∙_}
 use mathlib.Core.Bool.{Bool, true, false, _&&_, not, cond}
 use mathlib.Core.List.{List, [], _++_, map}
-use Prim.Native.Nat.{ℕ, _+_, _-_, _≤_, _<_, max}
+use Prim.Native.Nat.{ℕ, _≤_, _<_, max}
 use native.Mathlib.Omega.{arith}
 use lib.Dec.{eqb, ltb, leb}
 use lib.ListN.{length}
@@ -16,11 +16,13 @@ use Rattle.literals.specs.Domain.{Fact, sameFact, Domain}
 use Rattle.literals.specs.Table.{rowsIn, Bounded}
 use Rattle.verdict.specs.Machine.{GroundAction, Event, State, isOpen, conditionsHold, overAllHold, independent, stepFacts, factsAfter, closeAll, openedBy, next, topWeight}
 use Rattle.store.specs.Index.{Indexed}
-use Rattle.machine.specs.declared.Open.{Open}
-use Rattle.machine.specs.declared.Waiting.{Waiting}
+use Rattle.events.specs.declared.Open.{Open}
+use Rattle.events.specs.declared.Waiting.{Waiting}
 use Rattle.machine.specs.declared.State.{State as Holding}
-use Rattle.machine.specs.Play.{maxFacts, maxRunning, forbidden, tooLarge, heldBytes}
-use Rattle.machine.specs.Coded.{factRow, openOf, waitingOf, atMost, topFrom, FactFits}
+use Rattle.runs.specs.Play.{maxFacts, maxRunning, forbidden, tooLarge, heldBytes}
+use Rattle.store.specs.Rows.{factRow, topFrom, FactFits}
+use Rattle.events.specs.Coded.{openOf, waitingOf}
+use Rattle.effects.specs.Effects.{atMost}
 use Rattle.machine.specs.Stepping.{holdingOf, Kept, closeStop, closeState, closeWaiting, closeWeight, Leaves}
 use Rattle.machine.proofs.HeldBytes.{fits-few, held-rows, held-anew}
 use Rattle.machine.proofs.TopWeights.{top-after}

@@ -14,10 +14,10 @@ use Rattle.verdict.specs.Judged.{objectNumbers, factBytes}
 use Rattle.records.specs.Lists.{In}
 use Rattle.verdict.specs.Machine.{Event, State}
 use Rattle.machine.specs.declared.State.{State as Holding}
-use Rattle.machine.specs.Play.{workBytes, maxFacts, heldBytes}
-use Rattle.machine.specs.Coded.{factRow, Few, FactFits}
+use Rattle.runs.specs.Play.{workBytes, maxFacts, heldBytes}
+use Rattle.store.specs.Rows.{factRow, Few, FactFits}
 use Rattle.machine.specs.Stepping.{holdingOf, Kept}
-use Rattle.machine.proofs.FactRows.{length-fact-row}
+use Rattle.events.proofs.FactRows.{length-fact-row}
 
 -- facts of the domain have room in a row
 pub fits-few : {D : Domain} → Bounded D → (fs : List Fact) → ((f : Fact) → In f fs → FactFits D f) → Few fs

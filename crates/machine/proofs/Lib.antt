@@ -1,28 +1,7 @@
--- What playing a run file means for the machine.
-pub mod Allowed
-pub mod Loop
-pub mod Entries
-pub mod Runs
-pub mod Stops
-pub mod Traced
-pub mod TopWeights
-pub mod GroundRows
-pub mod OpenRows
-pub mod Never
-pub mod RowLoops
+-- Laws of the step's close.
 pub mod NextKept
-pub mod FactRows
 pub mod HeldBytes
+pub mod RunRows
+pub mod TopWeights
 pub mod Closing
 pub mod Resting
-pub mod Asked
-pub mod RunRows
-pub mod Joins
-pub mod FilledRows
-pub mod IndexedRows
-pub mod EffectRows
-pub mod StepFacts
-pub mod Listed
-pub mod Words
-pub mod Marks
-pub mod Interferes

@@ -1,37 +1,30 @@
 -- What fits a domain fits it after a step too. Assumes nothing.
 use mathlib.Core.Path.{_≡_, refl, _∙_}
-use mathlib.Core.Bool.{Bool, true, false, cond}
+use mathlib.Core.Bool.{true, false}
 use mathlib.Core.Logic.{_⊎_, inl, inr}
-use mathlib.Core.List.{List, [], _∷_, _++_, map, List·Memᴰ·head, List·Memᴰ·tail, List·Memᴰ·not-nil, List·Memᴰ·append-cases}
-use Prim.Native.Nat.{_+_}
+use mathlib.Core.List.{List, [], _∷_, _++_, List·Memᴰ·head, List·Memᴰ·tail, List·Memᴰ·not-nil, List·Memᴰ·append-cases}
 use native.Mathlib.Omega.{arith}
 use lib.Dec.{ltb}
 use lib.ListN.{length, length-map}
 use borrow.Author.Tests.{ltb-false}
 use Rattle.records.specs.Lists.{In}
-use Rattle.records.proofs.Lists.{or-out, in-keepIf}
+use Rattle.records.proofs.Lists.{or-out, in-keepIf, getD-in}
 use Rattle.literals.specs.declared.Clause.the-variants.{Add}
 use Rattle.literals.specs.Domain.{Fact, Domain, noAction, action}
 use Rattle.literals.specs.Table.{Bounded}
-use Rattle.classes.specs.declared.Moment.{Moment}
-use Rattle.classes.specs.declared.Moment.the-variants.{Start, End as Ending}
 use Rattle.classes.specs.Classes.{literalsAt}
 use Rattle.verdict.specs.Binding.{valueOf, bind}
-use Rattle.verdict.specs.Machine.{GroundAction, Event, State, sameGround, eventFacts, factsAfter, closeOne, closeAt, closeAll, opens, openedBy, next}
+use Rattle.verdict.specs.Machine.{GroundAction, Event, State, eventFacts, factsAfter, closeAll, opens, openedBy, next}
 use Rattle.verdict.proofs.Acts.{literalsAt-in}
 use Rattle.verdict.proofs.Steps.{After}
 use Rattle.verdict.proofs.Events.{after-in}
-use Rattle.records.proofs.Lists.{getD-in}
-use Rattle.machine.specs.Play.{maxFacts, maxRunning, tooLarge}
-use Rattle.machine.specs.Coded.{FactFits, GroundFits, GroundsFit, EventsFit}
+use Rattle.runs.specs.Play.{maxFacts, maxRunning, tooLarge}
+use Rattle.store.specs.Rows.{FactFits}
+use Rattle.events.specs.Coded.{GroundFits, GroundsFit, EventsFit}
 use Rattle.machine.specs.Stepping.{Kept}
+use Rattle.events.proofs.Members.{map-in, closed-in}
 
 -- ---- the machine's next state is of the domain too
-
-pub map-in : {A B : Type 0} (f : A → B) (l : List A) {b : B} → In b (map f l) → (a : A) × In a l × (b ≡ f a)
-map-in f [] m = absurd (List·Memᴰ·not-nil m)
-map-in f (x ∷ xs) (List·Memᴰ·head e) = (x, List·Memᴰ·head refl, e)
-map-in f (x ∷ xs) (List·Memᴰ·tail m) = let r = map-in f xs m in (r .0, List·Memᴰ·tail (r .1), r .2)
 
 module _ (D : Domain) (B : Bounded D) where
   -- a fact that an event adds
@@ -51,23 +44,6 @@ module _ (D : Domain) (B : Bounded D) where
       go : After (eventFacts D) (λ g. In g fs) es f → FactFits D f
       go (inl s) = h f (s .0)
       go (inr s) = added-fits (s .0) (k (s .0) (s .1)) f (s .2)
-
-pub close-in : (g : GroundAction) (gs : List GroundAction) {h : GroundAction} → In h (closeOne g gs) → In h gs
-close-in g [] m = m
-close-in g (k ∷ ks) {h} m = go (λ n. close-in g ks n) (sameGround g k) m
-  where
-    go : (In h (closeOne g ks) → In h ks) → (b : Bool) → In h (cond b ks (k ∷ closeOne g ks)) → In h (k ∷ ks)
-    go ih true n = List·Memᴰ·tail n
-    go ih false (List·Memᴰ·head e) = List·Memᴰ·head e
-    go ih false (List·Memᴰ·tail n) = List·Memᴰ·tail (ih n)
-
-pub closed-in : (es : List Event) (gs : List GroundAction) {h : GroundAction} → In h (closeAll es gs) → In h gs
-closed-in [] gs m = m
-closed-in (e ∷ es) gs {h} m = go (e .moment) (closed-in es (closeAt (e .moment) (e .ground) gs) m)
-  where
-    go : (m : Moment) → In h (closeAt m (e .ground) gs) → In h gs
-    go Start n = n
-    go Ending n = close-in (e .ground) gs n
 
 opened-in : (D : Domain) (es : List Event) {h : GroundAction} → In h (openedBy D es) → (e : Event) × In e es × (h ≡ e .ground)
 opened-in D [] m = absurd (List·Memᴰ·not-nil m)

@@ -15,8 +15,9 @@ use Rattle.literals.specs.Domain.{Fact, sameFact, Domain}
 use Rattle.verdict.specs.Machine.{Event, State, overAllHold, stepFacts, factsAfter, next, topWeight}
 use Rattle.store.specs.Index.{Indexed}
 use Rattle.machine.specs.declared.State.{State as Holding}
-use Rattle.machine.specs.Play.{maxFacts, maxRunning, tooLarge, heldBytes}
-use Rattle.machine.specs.Coded.{factRow, waitingOf}
+use Rattle.runs.specs.Play.{maxFacts, maxRunning, tooLarge, heldBytes}
+use Rattle.store.specs.Rows.{factRow}
+use Rattle.events.specs.Coded.{waitingOf}
 use Rattle.machine.specs.Stepping.{holdingOf, Kept, Noted, closeStop, closeState, Leaves}
 use Rattle.machine.proofs.Closing.{not-kept, nothing-forbids, leaves-forbidden, leaves-next}
 

@@ -14,8 +14,8 @@ use Rattle.literals.specs.Domain.{Fact, sameFact, Domain}
 use Rattle.classes.specs.Classes.{tuplesOf, matches}
 use Rattle.verdict.specs.Machine.{Event, stepFacts, factsAfter, weight, instancesIn, largest, topWeight}
 use Rattle.verdict.proofs.Tuples.{matches-tuple}
-use Rattle.machine.specs.Coded.{topFrom}
-use Rattle.store.proofs.Weights.{largest-in, largest-below, below-top, top-below}
+use Rattle.store.specs.Rows.{topFrom}
+use Rattle.verdict.proofs.TopWeight.{largest-in, largest-below, below-top, top-below}
 
 pub top-all : (D : Domain) (fs : List Fact) → topFrom D fs 0 ≡ topWeight D fs
 unfolding topFrom topWeight

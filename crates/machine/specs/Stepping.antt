@@ -12,8 +12,9 @@ use Rattle.literals.specs.Domain.{Fact, Domain}
 use Rattle.verdict.specs.Machine.{Event, State, next, topWeight, overAllHold}
 use Rattle.store.specs.Index.{Indexed}
 use Rattle.machine.specs.declared.State.{State as Holding}
-use Rattle.machine.specs.Play.{maxFacts, maxRunning, maxEvents, workBytes, forbidden, tooLarge, heldBytes}
-use Rattle.machine.specs.Coded.{factRow, openOf, waitingOf, FactFits, GroundsFit, EventsFit, Ready}
+use Rattle.runs.specs.Play.{maxFacts, maxRunning, maxEvents, workBytes, forbidden, tooLarge, heldBytes}
+use Rattle.store.specs.Rows.{factRow, FactFits}
+use Rattle.events.specs.Coded.{openOf, waitingOf, GroundsFit, EventsFit, Ready}
 
 -- ---- what the code holds
 

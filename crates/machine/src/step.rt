@@ -1,12 +1,12 @@
 // The step's close: what forbids it, and the state after it.
 use super::State;
-use super::Waiting;
-use super::conditions::events_met;
-use super::conditions::open_met;
-use super::effects::facts_after;
-use super::events::put_bytes;
-use super::interference::independent;
-use super::openings::ends_open;
+use applicability::conditions::events_met;
+use applicability::conditions::open_met;
+use applicability::interference::independent;
+use effects::facts_after;
+use events::Waiting;
+use events::openings::ends_open;
+use events::waits::put_bytes;
 use literals::Counts;
 use store::weighing::top_from;
 ghost use mathlib.Core.Path.{_≡_};
@@ -18,8 +18,9 @@ ghost use Rattle.literals.specs.Domain.{Domain};
 ghost use Rattle.literals.specs.Table.{rowsIn};
 ghost use Rattle.verdict.specs.Machine.{Event, State as MachineState, topWeight};
 ghost use Rattle.store.specs.Index.{Indexed};
-ghost use Rattle.machine.specs.Play.{forbidden, heldBytes};
-ghost use Rattle.machine.specs.Coded.{factRow, Lent, Ready};
+ghost use Rattle.runs.specs.Play.{forbidden, heldBytes};
+ghost use Rattle.store.specs.Rows.{factRow};
+ghost use Rattle.events.specs.Coded.{Lent, Ready};
 ghost use Rattle.machine.specs.Stepping.{holdingOf, Kept, Noted, Closable, closeState, Leaves};
 
 // What closing a step led to: 0 and the state after it, or the number that refuses it and the state as it was; and the highest weight.

@@ -1,7 +1,5 @@
 -- What the player does is what its definitions say.
 pub mod Sound
-pub mod WaitingRows
-pub mod RunFields
 pub mod PlayTurns
 pub mod Readied
 pub mod PlayLoop

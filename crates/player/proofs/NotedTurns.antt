@@ -3,7 +3,7 @@ use Prim.{tt}
 use mathlib.Core.Path.{_≡_, refl, sym, ap, _∙_}
 use mathlib.Core.Bool.{Bool, true, false, _&&_, cond}
 use mathlib.Core.List.{List, [], _∷_, _++_, map, map-append, List·Memᴰ·not-nil}
-use Prim.Native.Nat.{ℕ, _+_, _≤_}
+use Prim.Native.Nat.{ℕ, _≤_}
 use native.Mathlib.Omega.{arith}
 use lib.Dec.{eqb, ltb}
 use lib.ListN.{length, getD, set, replicate, getD-replicate}
@@ -17,9 +17,9 @@ use Rattle.literals.proofs.Held.{arities-is}
 use Rattle.verdict.specs.Machine.{Event, State, next, topWeight}
 use Rattle.store.specs.Index.{totalAt, Indexed}
 use Rattle.player.specs.declared.Turn.{Turn}
-use Rattle.machine.specs.RunFile.{RunKind, objectsRecord, factRecord, eventRecord, stepRecord, endRecord, otherRecord, runKindOf, factOf, eventOf}
-use Rattle.machine.specs.Play.{maxFacts, objectsStop, factStop, eventStop, stepStop, endStop, Playing, PlayTurn, goOn, finish, outcomeAt, stopAt, tallied, onward, unless, begin, withObjects, withFact, withEvent, withClose, beforeRun, tooLarge, forbidden, accepted, afterStep, closeStep, playRecord}
-use Rattle.machine.specs.Coded.{factRow}
+use Rattle.runs.specs.RunFile.{RunKind, objectsRecord, factRecord, eventRecord, stepRecord, endRecord, otherRecord, runKindOf, factOf, eventOf}
+use Rattle.runs.specs.Play.{maxFacts, objectsStop, factStop, eventStop, stepStop, endStop, Playing, PlayTurn, goOn, finish, outcomeAt, stopAt, tallied, onward, unless, begin, withObjects, withFact, withEvent, withClose, beforeRun, tooLarge, forbidden, accepted, afterStep, closeStep, playRecord}
+use Rattle.store.specs.Rows.{factRow}
 use Rattle.machine.specs.Stepping.{Noted, closeStop, closeState}
 use Rattle.machine.proofs.Resting.{indexed-set, noted-anew, unset}
 use Rattle.player.specs.Player.{LeadsTo, NotedAfter}

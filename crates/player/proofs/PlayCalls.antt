@@ -13,7 +13,8 @@ use Rattle.records.specs.Memory.{over}
 use Rattle.literals.specs.declared.Counts.{Counts}
 use Rattle.literals.specs.Domain.{Domain}
 use Rattle.literals.specs.Decode.{Decoded, refused, domain, readFile, decode}
-use Rattle.literals.specs.Table.{indexOf, indexWith, ReadAnswer, readBy, readOf, tableAfter, Shaped}
+use Rattle.literals.specs.Table.{indexOf, indexWith, Shaped}
+use Rattle.reading.specs.Reading.{ReadAnswer, readBy, readOf, tableAfter}
 use Rattle.literals.proofs.Held.{shaped}
 use Rattle.verdict.specs.declared.Judgement.{Judgement}
 use Rattle.verdict.specs.Decision.{Row, decision}
@@ -21,17 +22,17 @@ use Rattle.verdict.specs.Judged.{answerRow, decided}
 use Rattle.verdict.specs.Coded.{judgementOf}
 use Rattle.verdict.specs.Claims.{wellFormed}
 use Rattle.verdict.proofs.Decodes.{decoded-well-formed}
-use Rattle.verdict.proofs.FileCalls.{WasRead, was-read, read-by}
+use Rattle.judging.proofs.FileCalls.{WasRead, was-read, read-by}
 use Rattle.player.specs.declared.run.Ended.{Ended}
 use Rattle.player.specs.declared.play.Fault.{Fault}
 use Rattle.player.specs.declared.play.Fault.the-variants.{Domain as InDomain, Run as InRun}
 use Rattle.player.specs.declared.play.PlayAnswer.{PlayAnswer}
-use Rattle.machine.specs.Play.{workBytes, Outcome, accepted, heldBytes, playRun, Returned, ofDomain, ofRun, Call, outcomeCall, callBy, call, played, workAfter, returned, returnedBytes}
-use Rattle.machine.specs.Coded.{Lent}
+use Rattle.runs.specs.Play.{workBytes, Outcome, accepted, heldBytes, playRun, Returned, ofDomain, ofRun, Call, outcomeCall, callBy, call, played, workAfter, returned, returnedBytes}
+use Rattle.events.specs.Coded.{Lent}
 use Rattle.player.specs.Player.{Runnable, endedOf}
-use Rattle.machine.specs.Claims.{PlaysAsMachine}
+use Rattle.runs.specs.Claims.{PlaysAsMachine}
 use Rattle.player.specs.Called.{faultOf, fileOf, offsetOf, faultFile, faultOffset, partAt, answerOf, answerBy, LentToPlay}
-use Rattle.machine.proofs.Never.{played-as-machine, no-alarm}
+use Rattle.runs.proofs.Never.{played-as-machine, no-alarm}
 
 -- ---- the answer of a run
 

@@ -14,10 +14,10 @@ use Rattle.verdict.specs.Judged.{factBytes}
 use Rattle.player.specs.declared.Player.{Player}
 use Rattle.player.specs.declared.Turn.{Turn}
 use Rattle.player.specs.declared.run.Ended.{Ended}
-use Rattle.machine.specs.Play.{Playing, beforeRun, Outcome, PlayTurn, goOn, finish, heldBytes, playStep, playFrom, playRun}
+use Rattle.runs.specs.Play.{Playing, beforeRun, Outcome, PlayTurn, goOn, finish, heldBytes, playStep, playFrom, playRun}
 use Rattle.machine.specs.Stepping.{Noted}
 use Rattle.player.specs.Player.{playerOf, Stands, LeadsTo, NotedAfter, Playable, Runnable, endedOf}
-use Rattle.machine.proofs.Loop.{play-more, play-done, play-at}
+use Rattle.runs.proofs.Loop.{play-more, play-done, play-at}
 use Rattle.player.proofs.Sound.{sound-on, sound-new}
 use Rattle.player.proofs.PlayTurns.{at-is}
 use Rattle.player.proofs.NotedTurns.{noted-none}

@@ -20,15 +20,16 @@ use Rattle.literals.specs.Table.{rowsIn, Bounded}
 use Rattle.literals.proofs.Bounds.{arity-six}
 use Rattle.verdict.specs.Machine.{Event, State, next, topWeight}
 use Rattle.machine.specs.declared.State.{State as Holding}
-use Rattle.machine.specs.declared.Waiting.{Waiting}
+use Rattle.events.specs.declared.Waiting.{Waiting}
 use Rattle.player.specs.declared.Player.{Player}
 use Rattle.player.specs.declared.Turn.{Turn}
-use Rattle.machine.specs.RunFile.{objectsRecord, factRecord, eventRecord, stepRecord, endRecord, otherRecord, runKindOf, factOf, eventOf}
-use Rattle.machine.specs.Play.{objectsStop, factStop, eventStop, stepStop, endStop, playRecord, playFound, playStep, Tally, Playing, onward, PlayTurn, goOn, stopAt, startTally, begin, withObjects, joined, withFact, withEvent, withClose, unless, forbidden, tooLarge, accepted, afterStep, closeStep, heldBytes}
-use Rattle.machine.specs.Coded.{factRow, hasRow, waitingOf, Few}
+use Rattle.runs.specs.RunFile.{objectsRecord, factRecord, eventRecord, stepRecord, endRecord, otherRecord, runKindOf, factOf, eventOf}
+use Rattle.runs.specs.Play.{objectsStop, factStop, eventStop, stepStop, endStop, playRecord, playFound, playStep, Tally, Playing, onward, PlayTurn, goOn, stopAt, startTally, begin, withObjects, joined, withFact, withEvent, withClose, unless, forbidden, tooLarge, accepted, afterStep, closeStep, heldBytes}
+use Rattle.store.specs.Rows.{factRow, hasRow, Few}
+use Rattle.events.specs.Coded.{waitingOf}
 use Rattle.machine.specs.Stepping.{holdingOf, closeStop, closeState, closeWaiting, closeWeight, Leaves}
 use Rattle.player.specs.Player.{playerOf, Stands, LeadsTo, NotedAfter}
-use Rattle.machine.proofs.FactRows.{has-fact}
+use Rattle.events.proofs.FactRows.{has-fact}
 use Rattle.machine.proofs.HeldBytes.{fits-few, state-rows}
 use Rattle.machine.proofs.RunRows.{held-more}
 use Rattle.player.proofs.Sound.{FactTaken, fact-taken}

@@ -19,8 +19,8 @@ use Rattle.literals.proofs.Spans.{vars-at}
 use Rattle.verdict.specs.Machine.{Event, State}
 use Rattle.machine.specs.declared.State.{State as Holding}
 use Rattle.player.specs.declared.Player.{Player}
-use Rattle.machine.specs.Play.{workBytes, maxFacts, Playing, begin, accepted, heldBytes}
-use Rattle.machine.specs.Coded.{openOf, waitingOf, Lent, Ready}
+use Rattle.runs.specs.Play.{workBytes, maxFacts, Playing, begin, accepted, heldBytes}
+use Rattle.events.specs.Coded.{openOf, waitingOf, Lent, Ready}
 use Rattle.machine.specs.Stepping.{holdingOf, Kept, Closable, Noted}
 use Rattle.player.specs.Player.{playerOf, Stands, Playable}
 use Rattle.machine.proofs.HeldBytes.{fits-few, length-held}

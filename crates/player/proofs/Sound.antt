@@ -19,12 +19,14 @@ use Rattle.literals.specs.Decode.{byte}
 use Rattle.literals.specs.Table.{Bounded}
 use Rattle.classes.specs.Classes.{momentNumber}
 use Rattle.verdict.specs.Machine.{Event, State, injective, sameEvent, next, topWeight}
-use Rattle.machine.specs.RunFile.{RunKind, objectsRecord, factRecord, eventRecord, stepRecord, endRecord, otherRecord, runKindOf, factOf, momentOf, eventOf}
-use Rattle.machine.specs.Play.{maxObjects, maxFacts, maxEvents, Tally, Playing, beforeRun, onward, PlayTurn, goOn, finish, outcomeAt, stopAt, begin, outside, objectsStop, withObjects, factStop, joined, withFact, eventStop, withEvent, forbidden, tooLarge, tallied, accepted, afterStep, closeStep, stepStop, endStop, withClose, unless, playRecord, playFound, playStep}
-use Rattle.machine.specs.Coded.{FactFits, GroundFits}
+use Rattle.runs.specs.RunFile.{RunKind, objectsRecord, factRecord, eventRecord, stepRecord, endRecord, otherRecord, runKindOf, factOf, momentOf, eventOf}
+use Rattle.runs.specs.Play.{maxObjects, maxFacts, maxEvents, Tally, Playing, beforeRun, onward, PlayTurn, goOn, finish, outcomeAt, stopAt, begin, outside, objectsStop, withObjects, factStop, joined, withFact, eventStop, withEvent, forbidden, tooLarge, tallied, accepted, afterStep, closeStep, stepStop, endStop, withClose, unless, playRecord, playFound, playStep}
+use Rattle.store.specs.Rows.{FactFits}
+use Rattle.events.specs.Coded.{GroundFits}
 use Rattle.machine.specs.Stepping.{Kept}
 use Rattle.player.specs.Player.{Sound}
-use Rattle.machine.proofs.NextKept.{map-in, kept-next}
+use Rattle.events.proofs.Members.{map-in}
+use Rattle.machine.proofs.NextKept.{kept-next}
 
 -- ---- the tests of each record, as far as they are needed here
 

@@ -10,8 +10,8 @@ use Rattle.verdict.specs.Claims.{wellFormed}
 use Rattle.player.specs.declared.play.Fault.{Fault}
 use Rattle.player.specs.declared.play.Fault.the-variants.{Domain as InDomain, Run as InRun}
 use Rattle.player.specs.declared.play.PlayAnswer.{PlayAnswer}
-use Rattle.machine.specs.Play.{Outcome, placeOf, Returned, ofDomain, ofRun, Call}
-use Rattle.machine.specs.Coded.{Lent}
+use Rattle.runs.specs.Play.{Outcome, placeOf, Returned, ofDomain, ofRun, Call}
+use Rattle.events.specs.Coded.{Lent}
 
 -- "a part of the domain file or of the run file, from that record to the end"
 abbrev pub faultOf : Returned → Fault

@@ -1,4 +1,3 @@
 -- Where the player stands, and how it answers.
-pub mod Fields
 pub mod Player
 pub mod Called

@@ -13,8 +13,8 @@ use Rattle.verdict.specs.Machine.{topWeight}
 use Rattle.player.specs.declared.Player.{Player}
 use Rattle.player.specs.declared.Turn.{Turn}
 use Rattle.player.specs.declared.run.Ended.{Ended}
-use Rattle.machine.specs.Play.{maxObjects, workBytes, Playing, PlayTurn, goOn, finish, Outcome, accepted, heldBytes}
-use Rattle.machine.specs.Coded.{openOf, waitingOf, Lent}
+use Rattle.runs.specs.Play.{maxObjects, workBytes, Playing, PlayTurn, goOn, finish, Outcome, accepted, heldBytes}
+use Rattle.events.specs.Coded.{openOf, waitingOf, Lent}
 use Rattle.machine.specs.Stepping.{holdingOf, Kept, Noted}
 
 -- ---- what the code holds

@@ -1,5 +1,4 @@
-// The player: where it stands (here), the fields of a record (fields), a run file record by record (playing) and whole (run), and the call (play).
-pub mod fields;
+// The player: where it stands (here), a run file record by record (playing) and whole (run), and the call (play).
 pub mod play;
 pub mod playing;
 pub mod run;

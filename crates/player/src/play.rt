@@ -2,18 +2,17 @@
 use super::run::Ended;
 use super::run::play_run;
 use literals::Counts;
-use literals::read::read_into;
-use verdict::naming::name_all;
+use naming::name_all;
+use reading::read::read_into;
 ghost use mathlib.Core.Path.{_≡_};
 ghost use mathlib.Core.Bool.{true};
-ghost use Prim.Native.Nat.{_*_};
 ghost use Rattle.literals.specs.Domain.{Domain};
 ghost use Rattle.literals.specs.Decode.{domain as domainRead};
 ghost use Rattle.verdict.specs.Claims.{wellFormed};
-ghost use Rattle.machine.specs.Play.{accepted, Outcome, callBy, call, played, workAfter, returned, returnedBytes};
-ghost use Rattle.machine.specs.Coded.{Lent};
+ghost use Rattle.runs.specs.Play.{accepted, Outcome, callBy, call, played, workAfter, returned, returnedBytes};
+ghost use Rattle.events.specs.Coded.{Lent};
 ghost use Rattle.player.specs.Player.{endedOf};
-ghost use Rattle.machine.specs.Claims.{PlaysAsMachine};
+ghost use Rattle.runs.specs.Claims.{PlaysAsMachine};
 ghost use Rattle.player.specs.Called.{faultFile, faultOffset, partAt, answerOf, answerBy, LentToPlay};
 
 // Where the record at fault starts: an offset of the domain file, or of the run file.

@@ -1,16 +1,16 @@
 // A whole run: its records in file order, up to its end or to the first that is at fault.
 use super::Player;
 use super::Turn;
+use events::waits::put_bytes;
 use literals::Counts;
-use machine::events::put_bytes;
 ghost use mathlib.Core.Path.{_≡_};
 ghost use mathlib.Core.List.{List, []};
 ghost use Prim.Native.Nat.{ℕ};
 ghost use lib.ListN.{replicate};
 ghost use Rattle.records.specs.Memory.{over};
 ghost use Rattle.literals.specs.Domain.{Domain};
-ghost use Rattle.machine.specs.Play.{accepted as acceptedTemplate, heldBytes, playRun};
-ghost use Rattle.machine.specs.Coded.{Lent};
+ghost use Rattle.runs.specs.Play.{accepted as acceptedTemplate, heldBytes, playRun};
+ghost use Rattle.events.specs.Coded.{Lent};
 ghost use Rattle.player.specs.Player.{Runnable, endedOf};
 
 // How a run ended: the number (2 when it was played), the offset of the record at fault, the steps made, the highest weight.

@@ -30,7 +30,7 @@ use Rattle.verdict.specs.Machine.{weight, instancesIn, largest}
 use Rattle.verdict.proofs.Tuples.{keyTuple-map, component-of}
 use Rattle.store.specs.declared.keys.Keyed.{Keyed}
 use Rattle.store.specs.Rows.{factRow, FactFits, instanceRows, topFrom, keyedBy, rowWeight, topRows}
-use Rattle.store.proofs.Weights.{tuple-size}
+use Rattle.verdict.proofs.TopWeight.{tuple-size}
 use borrow.Author.Tests.{eqb-true}
 
 -- ---- the key tuple of a row, by the place of its component

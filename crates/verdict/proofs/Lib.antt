@@ -15,14 +15,10 @@ pub mod Exact
 pub mod Open
 pub mod Rows
 pub mod Noted
-pub mod NamedRows
-pub mod Reported
 pub mod Safety
 pub mod Harm
 pub mod Demand
 pub mod Files
 pub mod Judges
-pub mod Calls
-pub mod FileCalls
-pub mod Facts
-pub mod Shown
+pub mod ReadActions
+pub mod TopWeight

@@ -1,9 +1,4 @@
-// Judging a template: the decision (here), the names of all moments (naming), the report (report), the witness (showing), the call (judging).
-pub mod judging;
-pub mod naming;
-pub mod report;
-pub mod showing;
-
+// The decision of a template, from the names of all moments.
 use classes::Name;
 ghost use mathlib.Core.Path.{_≡_};
 ghost use mathlib.Core.List.{List, [], _∷_, _++_};

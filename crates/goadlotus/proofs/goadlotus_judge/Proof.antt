@@ -1,4 +1,4 @@
--- `goadlotus_judge` meets its contract: what `verdict::judging::judge` promises, with the answer's parts each in its place. Assumes nothing.
+-- `goadlotus_judge` meets its contract: what `judging::judge` promises, with the answer's parts each in its place. Assumes nothing.
 use mathlib.Core.Path.{ap}
 use borrow.Author.Needs.{needs}
 use Rattle.verdict.specs.declared.Judgement.{Judgement}
@@ -6,7 +6,7 @@ use Rattle.goadlotus.proofs.goadlotus_judge.Statement.{statement}
 use Rattle.goadlotus.proofs.goadlotus_judge.Tie as tie
 use Rattle.goadlotus.proofs.goadlotus_judge.Reads as reads
 use Rattle.goadlotus.proofs.goadlotus_judge.Lts as lts
-use Rattle.verdict.proofs.judging.judge.Reads as judge-reads
+use Rattle.judging.proofs.judge.Reads as judge-reads
 
 judge-requires : tie.Need-judge-requires
 judge-requires c κs = search needs

@@ -9,7 +9,7 @@ use Rattle.explaining.proofs.instance.print.Reads as reads
 use Rattle.explaining.proofs.instance.print.Lts as lts
 use Rattle.explaining.proofs.instance.print_action.Reads as print-action-reads
 use Rattle.explaining.proofs.say.Reads as say-reads
-use Rattle.literals.proofs.read.read_into.Reads as read-into-reads
+use Rattle.reading.proofs.read.read_into.Reads as read-into-reads
 
 slice-aggregate-read-into : tie.Need-slice-aggregate-read-into
 slice-aggregate-read-into c = search needs

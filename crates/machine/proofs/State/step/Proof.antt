@@ -4,7 +4,7 @@ use mathlib.Core.Path.{sym, ap, _∙_}
 use mathlib.Core.List.{map}
 use lib.ListN.{length-set}
 use Rattle.literals.specs.Table.{rowsIn}
-use Rattle.machine.specs.Coded.{factRow}
+use Rattle.store.specs.Rows.{factRow}
 use Rattle.machine.specs.Stepping.{holdingOf, closeState}
 use Rattle.machine.proofs.HeldBytes.{state-rows}
 use Rattle.machine.proofs.Closing.{leaves-forbidden}

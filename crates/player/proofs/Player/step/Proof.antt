@@ -4,7 +4,7 @@ use mathlib.Core.Path.{refl, sym, _∙_}
 use native.Mathlib.Omega.{arith}
 use Rattle.records.proofs.Laws.{whole-within}
 use Rattle.literals.specs.Table.{rowsIn}
-use Rattle.machine.specs.Play.{playStep}
+use Rattle.runs.specs.Play.{playStep}
 use Rattle.player.proofs.PlayTurns.{turn-behind, turn-end, turn-cut, turn-none, turn-whole, turn-noted}
 use Rattle.player.proofs.NotedTurns.{noted-ended}
 use Rattle.player.proofs.Player.step.Statement.{statement}

@@ -1,7 +1,7 @@
 -- `take_end` meets its contract. Assumes nothing.
 use borrow.Author.Needs.{needs}
 use Rattle.player.proofs.PlayTurns.{stops, passes, end-on, objects-are, waiting-are}
-use Rattle.machine.specs.Play.{goOn, withClose, endStop}
+use Rattle.runs.specs.Play.{goOn, withClose, endStop}
 use Rattle.player.proofs.Player.take_end.Statement.{statement}
 use Rattle.player.proofs.Player.take_end.Tie as tie
 

@@ -2,8 +2,8 @@
 use borrow.Author.Needs.{needs}
 use mathlib.Core.Path.{sym, _∙_}
 use native.Mathlib.Omega.{arith}
-use Rattle.machine.specs.RunFile.{eventOf}
-use Rattle.machine.specs.Play.{goOn, withEvent, eventStop}
+use Rattle.runs.specs.RunFile.{eventOf}
+use Rattle.runs.specs.Play.{goOn, withEvent, eventStop}
 use Rattle.player.proofs.Sound.{event-taken}
 use Rattle.player.proofs.PlayTurns.{stops, passes, objects-are, objects-low, waiting-is, event-on}
 use Rattle.player.proofs.Player.take_event.Statement.{statement}

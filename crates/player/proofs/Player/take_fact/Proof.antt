@@ -6,10 +6,10 @@ use native.Mathlib.Omega.{arith}
 use lib.ListN.{length, take, drop}
 use lib.Seq.{take-all}
 use Rattle.literals.specs.Table.{rowsIn}
-use Rattle.machine.specs.RunFile.{factOf}
-use Rattle.machine.specs.Play.{goOn, unless, withFact, factStop}
-use Rattle.machine.specs.Coded.{factRow}
-use Rattle.player.proofs.RunFields.{fact-found}
+use Rattle.runs.specs.RunFile.{factOf}
+use Rattle.runs.specs.Play.{goOn, unless, withFact, factStop}
+use Rattle.store.specs.Rows.{factRow}
+use Rattle.run_fields.proofs.RunFields.{fact-found}
 use Rattle.player.proofs.PlayTurns.{stops, passes, objects-are, begun-is, facts-rows, facts-count, few-facts, fact-again, fact-room, fact-new}
 use Rattle.player.proofs.NotedTurns.{noted-ended, noted-unless, fact-sized, noted-again, noted-fact}
 use Rattle.player.proofs.Player.take_fact.Statement.{statement}

@@ -4,7 +4,7 @@ use native.Mathlib.Omega.{arith}
 use borrow.Author.Needs.{needs}
 use Rattle.player.proofs.PlayTurns.{stops, passes, objects-on, objects-are}
 use Rattle.literals.specs.Decode.{byte}
-use Rattle.machine.specs.Play.{goOn, withObjects, objectsStop}
+use Rattle.runs.specs.Play.{goOn, withObjects, objectsStop}
 use Rattle.player.proofs.Player.take_objects.Statement.{statement}
 use Rattle.player.proofs.Player.take_objects.Tie as tie
 

@@ -2,8 +2,8 @@
 use borrow.Author.Needs.{needs}
 use mathlib.Core.Path.{refl}
 use native.Mathlib.Omega.{arith}
-use Rattle.machine.specs.RunFile.{objectsRecord, factRecord, eventRecord, stepRecord, endRecord, otherRecord}
-use Rattle.machine.specs.Play.{begin}
+use Rattle.runs.specs.RunFile.{objectsRecord, factRecord, eventRecord, stepRecord, endRecord, otherRecord}
+use Rattle.runs.specs.Play.{begin}
 use Rattle.player.proofs.Sound.{begun-tally}
 use Rattle.player.proofs.PlayTurns.{stops-at, kind-16, kind-17, kind-18, kind-19, kind-20, kind-other, of-objects, of-fact, of-event, of-step, of-end, of-other}
 use Rattle.player.proofs.NotedTurns.{noted-of, noted-begun, noted-objects, noted-fact-record, noted-event, noted-step-record, noted-end, noted-other}

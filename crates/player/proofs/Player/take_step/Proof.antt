@@ -4,7 +4,7 @@ use mathlib.Core.Path.{refl}
 use native.Mathlib.Omega.{arith}
 use Rattle.records.proofs.Lists.{clash}
 use Rattle.literals.specs.Table.{rowsIn}
-use Rattle.machine.specs.Play.{unless, stepStop, closeStep}
+use Rattle.runs.specs.Play.{unless, stepStop, closeStep}
 use Rattle.player.proofs.PlayTurns.{stops, passes, close-stops, close-alarms, close-on, objects-are, state-is, weight-under}
 use Rattle.player.proofs.NotedTurns.{noted-ended, noted-unless, noted-closed}
 use Rattle.player.proofs.Player.take_step.Statement.{statement}

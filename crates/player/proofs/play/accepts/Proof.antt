@@ -2,7 +2,7 @@
 use borrow.Author.Needs.{needs}
 use mathlib.Core.Path.{refl}
 use native.Mathlib.Omega.{arith}
-use Rattle.verdict.proofs.Calls.{decision-of}
+use Rattle.judging.proofs.Calls.{decision-of}
 use Rattle.player.proofs.Readied.{sorts-size, starts-size}
 use Rattle.player.proofs.PlayCalls.{shape-any, rows-few, accepted-by}
 use Rattle.player.proofs.play.accepts.Statement.{statement}

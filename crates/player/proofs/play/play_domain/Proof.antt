@@ -1,6 +1,6 @@
 -- `play_domain` meets its contract. Assumes nothing.
 use borrow.Author.Needs.{needs}
-use Rattle.machine.specs.Play.{playRun}
+use Rattle.runs.specs.Play.{playRun}
 use Rattle.player.proofs.PlayCalls.{call-small, call-run, runnable}
 use Rattle.player.proofs.play.play_domain.Statement.{statement}
 use Rattle.player.proofs.play.play_domain.Tie as tie

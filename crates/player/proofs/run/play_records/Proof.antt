@@ -7,8 +7,8 @@ use lib.ListN.{length, replicate, length-replicate}
 use Rattle.records.specs.Memory.{over}
 use Rattle.literals.specs.Domain.{Domain}
 use Rattle.literals.specs.Table.{rowsIn}
-use Rattle.machine.specs.Play.{accepted, heldBytes}
-use Rattle.machine.specs.Coded.{Lent}
+use Rattle.runs.specs.Play.{accepted, heldBytes}
+use Rattle.events.specs.Coded.{Lent}
 use Rattle.player.proofs.PlayLoop.{Loop, begins, playable, loop-on, loop-falls, loop-ends}
 use Rattle.player.proofs.run.play_records.Statement.{statement}
 use Rattle.player.proofs.run.play_records.Tie as tie

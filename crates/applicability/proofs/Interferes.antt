@@ -1,0 +1,345 @@
+-- Interference: the literals of two events have clashing clauses of one fact exactly where the events interfere; by clauses and words. Assumes nothing.
+use mathlib.Core.Path.{_≡_, refl, sym, ap, ap₂, _∙_, subst}
+use mathlib.Core.Bool.{Bool, true, false, _&&_, _||_, not}
+use mathlib.Core.List.{List, [], _∷_, _++_, map, List·Memᴰ·head, List·Memᴰ·tail}
+use Prim.Native.Nat.{ℕ, suc, _+_, _-_, _*_, _≤_, _<_}
+use native.Mathlib.Numerals.{add-one}
+use native.Mathlib.Omega.{arith}
+use lib.Dec.{eqb, ltb, leb}
+use lib.ListN.{length, getD, set, take, drop, length-map}
+use lib.Seq.{take-all, take-suc, length-take-le}
+use borrow.Author.Tests.{ne-eqb, lt-ltb, le-ltb, ltb-true}
+use Rattle.records.specs.Lists.{In, keepIf, filterBy, any, pairwise, elem}
+use Rattle.records.proofs.Lists.{eqb-comm, getD-in, sameList-comm, all-map, any-append, any-map, allBelow, below-in}
+use Rattle.literals.specs.declared.Object.{Object}
+use Rattle.literals.specs.declared.Counts.{Counts}
+use Rattle.literals.specs.declared.Time.{Time}
+use Rattle.literals.specs.declared.Time.the-variants.{AtStart, OverAll, AtEnd}
+use Rattle.literals.specs.declared.Clause.{Clause}
+use Rattle.literals.specs.declared.Clause.the-variants.{Positive, Negative, Add, Delete}
+use Rattle.literals.specs.Domain.{object, sameObject, Fact, sameFact, clauseNumber, roleNumber, Literal, Domain, arity, action}
+use Rattle.literals.specs.Decode.{byte}
+use Rattle.literals.specs.Table.{literalRow, rowsIn}
+use Rattle.literals.proofs.Tables.{Kept}
+use Rattle.classes.proofs.Indices.{any-agree, any-or, any-filter, getD-map}
+use Rattle.verdict.specs.Binding.{valueOf, bind}
+use Rattle.verdict.specs.Machine.{GroundAction, Event, eventFacts, meet, disturbs, interfere, independent}
+use Rattle.store.specs.Index.{wordOf}
+use Rattle.events.specs.declared.Waiting.{Waiting}
+use Rattle.store.specs.Rows.{factRow}
+use Rattle.events.specs.Coded.{groundRow, waitingOf, GroundFits, EventsFit, Lent, endRow, boundRow, clauseFor, timeOf}
+use Rattle.applicability.specs.Interference.{clashing, Mark, rowMarks, eventMarks, marksIn, clashes, marksClash, Laid}
+use Rattle.events.proofs.Members.{map-in}
+use Rattle.events.proofs.FactRows.{countsFor, clause-counts, lent-action, lent-kept, lent-bound, ground-rows, noEvent}
+use Rattle.applicability.proofs.Asked.{all-agree, any-event}
+use Rattle.applicability.proofs.Marks.{any-never, laid-more}
+use Rattle.applicability.proofs.Words.{Worded, same-word}
+
+-- ---- clashing clauses, test by test
+
+module _ (c d : ℕ) where
+  pub clash-none : c ≡ 0 → false ≡ clashing c d
+  unfolding clashing
+  clash-none e = rw e
+
+  pub clash-condition : (c ≡ 0 → ⊥) → c < 3 → leb 3 d ≡ clashing c d
+  unfolding clashing
+  clash-condition n h = rw (lt-ltb c 3 h, ne-eqb c 0 n)
+
+  pub clash-effect : 3 ≤ c → d < 3 → not (eqb d 0) ≡ clashing c d
+  unfolding clashing
+  clash-effect h g = rw (le-ltb c 3 h, lt-ltb d 3 g)
+
+  pub clash-effects : 3 ≤ c → 3 ≤ d → not (eqb c d) ≡ clashing c d
+  unfolding clashing
+  clash-effects h g = rw (le-ltb c 3 h, le-ltb d 3 g)
+
+-- ---- pairs of elements of two lists
+
+module _ {A B : Type 0} where
+  abbrev pairs : (A → B → Bool) → List A → List B → Bool
+  pairs f xs ys = any (λ a. any (f a) ys) xs
+
+  pairs-or : (f g : A → B → Bool) (xs : List A) (ys : List B) → pairs f xs ys || pairs g xs ys ≡ pairs (λ a b. f a b || g a b) xs ys
+  pairs-or f g xs ys =
+      any-or (λ a. any (f a) ys) (λ a. any (g a) ys) xs
+      ∙ any-agree (λ a. any (f a) ys || any (g a) ys) (λ a. any (λ b. f a b || g a b) ys) xs (λ a m. any-or (f a) (g a) ys)
+
+  pairs-agree : (f g : A → B → Bool) (xs : List A) (ys : List B) → ((a : A) → In a xs → (b : B) → In b ys → f a b ≡ g a b) → pairs f xs ys ≡ pairs g xs ys
+  pairs-agree f g xs ys h = any-agree (λ a. any (f a) ys) (λ a. any (g a) ys) xs (λ a m. any-agree (f a) (g a) ys (λ b k. h a m b k))
+
+pairs-swap : {A B : Type 0} (f : A → B → Bool) (xs : List A) (ys : List B) → pairs f xs ys ≡ pairs (λ b a. f a b) ys xs
+pairs-swap f [] ys = any-never ys
+pairs-swap f (x ∷ xs) ys = ap (λ (t : Bool). any (f x) ys || t) (pairs-swap f xs ys) ∙ any-or (f x) (λ b. any (λ a. f a b) xs) ys
+
+and-any : {A : Type 0} (t : Bool) (p : A → Bool) (l : List A) → t && any p l ≡ any (λ a. t && p a) l
+and-any true p l = refl
+and-any false p l = any-never l
+
+-- ---- facts in common, by the clauses of literals
+
+-- the clause of a literal at the time of an event
+abbrev clauseIn : Event → Literal → ℕ
+clauseIn e l = clauseFor (timeOf (e .moment)) (roleNumber (l .role))
+
+-- the literal's fact there
+abbrev factIn : Event → Literal → Fact
+factIn e l = bind (e .ground .binding) (l .atom)
+
+abbrev literalsOf : Domain → Event → List Literal
+literalsOf D e = action D (e .ground .action) .lits
+
+-- two literals of these clauses with one fact
+abbrev shared : ℕ → ℕ → Event → Event → Literal → Literal → Bool
+shared c d e f l m = eqb (clauseIn e l) c && (eqb (clauseIn f m) d && sameFact (factIn e l) (factIn f m))
+
+module _ (D : Domain) (e f : Event) (ke : (l : Literal) → In l (literalsOf D e) → Kept l) (kf : (l : Literal) → In l (literalsOf D f) → Kept l) where
+  meet-shared : (c d : Clause) → meet (eventFacts D e c) (eventFacts D f d) ≡ pairs (shared (suc (clauseNumber c)) (suc (clauseNumber d)) e f) (literalsOf D e) (literalsOf D f)
+  meet-shared c d =
+      any-event D e c (λ x. elem sameFact x (eventFacts D f d))
+      ∙ any-agree (λ (l : Literal). countsFor (timeOf (e .moment)) c (l .role) && elem sameFact (factIn e l) (eventFacts D f d))
+      (λ (l : Literal). any (shared (suc (clauseNumber c)) (suc (clauseNumber d)) e f l) (literalsOf D f)) (literalsOf D e)
+      (λ l i.
+      ap₂ _&&_ (sym (clause-counts (timeOf (e .moment)) c l (ke l i)))
+      (any-event D f d (sameFact (factIn e l))
+      ∙ any-agree (λ (m : Literal). countsFor (timeOf (f .moment)) d (m .role) && sameFact (factIn e l) (factIn f m))
+      (λ (m : Literal). eqb (clauseIn f m) (suc (clauseNumber d)) && sameFact (factIn e l) (factIn f m)) (literalsOf D f)
+      (λ m j. ap (λ (b : Bool). b && sameFact (factIn e l) (factIn f m)) (sym (clause-counts (timeOf (f .moment)) d m (kf m j)))))
+      ∙ and-any (eqb (clauseIn e l) (suc (clauseNumber c))) (λ (m : Literal). eqb (clauseIn f m) (suc (clauseNumber d)) && sameFact (factIn e l) (factIn f m)) (literalsOf D f))
+
+meet-left : (xs ys gs : List Fact) → meet (xs ++ ys) gs ≡ meet xs gs || meet ys gs
+meet-left xs ys gs = any-append (λ f. elem sameFact f gs) xs ys
+
+meet-right : (xs gs hs : List Fact) → meet xs (gs ++ hs) ≡ meet xs gs || meet xs hs
+meet-right xs gs hs =
+    any-agree (λ f. elem sameFact f (gs ++ hs)) (λ f. elem sameFact f gs || elem sameFact f hs) xs (λ f m. any-append (sameFact f) gs hs)
+    ∙ sym (any-or (λ f. elem sameFact f gs) (λ f. elem sameFact f hs) xs)
+
+-- a condition of one with an add or delete of the other, or an add of one with a delete of the other: by the clauses, and whether the facts are the same
+abbrev against : ℕ → ℕ → Bool → Bool
+against c d s =
+    (((eqb c 1 && (eqb d 3 && s)) || (eqb c 1 && (eqb d 4 && s))) || ((eqb c 2 && (eqb d 3 && s)) || (eqb c 2 && (eqb d 4 && s))))
+    || (eqb c 3 && (eqb d 4 && s))
+
+abbrev againstIn : Event → Event → Literal → Literal → Bool
+againstIn e f l m = against (clauseIn e l) (clauseIn f m) (sameFact (factIn e l) (factIn f m))
+
+module _ (D : Domain) (e f : Event) (ke : (l : Literal) → In l (literalsOf D e) → Kept l) (kf : (l : Literal) → In l (literalsOf D f) → Kept l) where
+  disturbs-pairs : disturbs D e f ≡ pairs (againstIn e f) (literalsOf D e) (literalsOf D f)
+  unfolding disturbs
+  disturbs-pairs =
+      ap₂ _||_
+      (meet-left (eventFacts D e Positive) (eventFacts D e Negative) (eventFacts D f Add ++ eventFacts D f Delete)
+      ∙ ap₂ _||_ (both Positive) (both Negative)
+      ∙ pairs-or (λ l m. shared 1 3 e f l m || shared 1 4 e f l m) (λ l m. shared 2 3 e f l m || shared 2 4 e f l m) E F)
+      (meet-shared D e f ke kf Add Delete)
+      ∙ pairs-or (λ l m. (shared 1 3 e f l m || shared 1 4 e f l m) || (shared 2 3 e f l m || shared 2 4 e f l m)) (shared 3 4 e f) E F
+    where
+      E : List Literal
+      E = literalsOf D e
+
+      F : List Literal
+      F = literalsOf D f
+
+      both : (c : Clause) → meet (eventFacts D e c) (eventFacts D f Add ++ eventFacts D f Delete) ≡ pairs (λ l m. shared (suc (clauseNumber c)) 3 e f l m || shared (suc (clauseNumber c)) 4 e f l m) E F
+      both c =
+          meet-right (eventFacts D e c) (eventFacts D f Add) (eventFacts D f Delete)
+          ∙ ap₂ _||_ (meet-shared D e f ke kf c Add) (meet-shared D e f ke kf c Delete)
+          ∙ pairs-or (shared (suc (clauseNumber c)) 3 e f) (shared (suc (clauseNumber c)) 4 e f) E F
+
+-- ---- the two ways round together
+
+fact-comm : (x y : Fact) → sameFact x y ≡ sameFact y x
+fact-comm x y = ap₂ _&&_ (eqb-comm (x .rel) (y .rel)) (sameList-comm sameObject (λ o p. eqb-comm (o .0) (p .0)) (x .args) (y .args))
+
+abbrev same : Bool → Bool → Bool
+same true b = b
+same false b = not b
+
+same-eq : (a b : Bool) → same a b ≡ true → a ≡ b
+same-eq true b t = sym t
+same-eq false true t = t
+same-eq false false t = refl
+
+abbrev clashesAs : Bool → ℕ → ℕ → Bool
+clashesAs s c d = same (clashing c d && s) (against c d s || against d c s)
+
+all-clash : (s : Bool) → allBelow 5 (λ c. allBelow 5 (clashesAs s c)) ≡ true
+unfolding clashing
+all-clash true = refl
+all-clash false = refl
+
+clash-either : (c d : ℕ) → c < 5 → d < 5 → (s : Bool) → clashing c d && s ≡ against c d s || against d c s
+clash-either c d h g s = same-eq _ _ (below-in 5 (clashesAs s c) (below-in 5 (λ c. allBelow 5 (clashesAs s c)) (all-clash s) c h) d g)
+
+-- no role has a clause above 4
+all-small : (t : Time) → allBelow 10 (λ b. ltb (clauseFor t b) 5) ≡ true
+unfolding clauseFor
+all-small AtStart = refl
+all-small OverAll = refl
+all-small AtEnd = refl
+
+clause-small : (t : Time) (l : Literal) → Kept l → clauseFor t (roleNumber (l .role)) < 5
+clause-small t l k = let h = k .small in ltb-true _ _ (below-in 10 (λ b. ltb (clauseFor t b) 5) (all-small t) (roleNumber (l .role)) (omega arith))
+
+module _ (D : Domain) (e f : Event) (ke : (l : Literal) → In l (literalsOf D e) → Kept l) (kf : (l : Literal) → In l (literalsOf D f) → Kept l) where
+  interfere-pairs : interfere D e f ≡ pairs (λ (l m : Literal). clashing (clauseIn e l) (clauseIn f m) && sameFact (factIn e l) (factIn f m)) (literalsOf D e) (literalsOf D f)
+  unfolding interfere
+  interfere-pairs =
+      ap₂ _||_ (disturbs-pairs D e f ke kf) (disturbs-pairs D f e kf ke ∙ pairs-swap (againstIn f e) (literalsOf D f) (literalsOf D e))
+      ∙ pairs-or (againstIn e f) (λ l m. againstIn f e m l) (literalsOf D e) (literalsOf D f)
+      ∙ pairs-agree (λ l m. againstIn e f l m || againstIn f e m l) (λ l m. clashing (clauseIn e l) (clauseIn f m) && sameFact (factIn e l) (factIn f m)) (literalsOf D e) (literalsOf D f)
+      (λ l i m j.
+      ap (λ (s : Bool). againstIn e f l m || against (clauseIn f m) (clauseIn e l) s) (fact-comm (factIn f m) (factIn e l))
+      ∙ sym (clash-either (clauseIn e l) (clauseIn f m) (clause-small (timeOf (e .moment)) l (ke l i)) (clause-small (timeOf (f .moment)) m (kf m j)) (sameFact (factIn e l) (factIn f m))))
+
+-- ---- by words
+
+-- a clause of 0 clashes with none
+abbrev countsAs : Bool → ℕ → ℕ → Bool
+countsAs s c d = same (not (eqb c 0) && (not (eqb d 0) && (s && clashing c d))) (clashing c d && s)
+
+all-count : (s : Bool) → allBelow 5 (λ c. allBelow 5 (countsAs s c)) ≡ true
+unfolding clashing
+all-count true = refl
+all-count false = refl
+
+clash-counts : (c d : ℕ) → c < 5 → d < 5 → (s : Bool) → not (eqb c 0) && (not (eqb d 0) && (s && clashing c d)) ≡ clashing c d && s
+clash-counts c d h g s = same-eq _ _ (below-in 5 (countsAs s c) (below-in 5 (λ c. allBelow 5 (countsAs s c)) (all-count s) c h) d g)
+
+-- an event whose facts their words tell apart
+record Facing (D : Domain) (e : Event) : Type 0 where
+  kept : (l : Literal) → In l (literalsOf D e) → Kept l
+  sized : (l : Literal) → In l (literalsOf D e) → length (l .atom .args) ≡ arity D (l .atom .rel)
+  objects : (l : Literal) → In l (literalsOf D e) → (o : Object) → In o (factIn e l .args) → o .0 < 256
+
+module _ (D : Domain) (e f : Event) (E : Facing D e) (F : Facing D f) where
+  abbrev mark : Event → Literal → Mark
+  mark e l = record { clause = clauseIn e l; word = wordOf (factRow (factIn e l)) }
+
+  abbrev counted : Event → Literal → Bool
+  counted e l = not (eqb (clauseIn e l) 0)
+
+  worded : (e : Event) → Facing D e → (l : Literal) → In l (literalsOf D e) → Worded (factIn e l)
+  worded e E l i = record { few = rw length-map (E .kept l i .fits); objects = E .objects l i }
+
+  mark-clash : (l m : Literal) → In l (literalsOf D e) → In m (literalsOf D f)
+      → counted e l && (counted f m && clashes (mark e l) (mark f m)) ≡ clashing (clauseIn e l) (clauseIn f m) && sameFact (factIn e l) (factIn f m)
+  unfolding clashes
+  mark-clash l m i j =
+      ap (λ (s : Bool). counted e l && (counted f m && (s && clashing (clauseIn e l) (clauseIn f m))))
+      (same-word (factIn e l) (factIn f m) (worded e E l i) (worded f F m j)
+      (λ q. length-map (l .atom .args) (valueOf (e .ground .binding)) ∙ E .sized l i ∙ ap (arity D) q ∙ sym (length-map (m .atom .args) (valueOf (f .ground .binding)) ∙ F .sized m j)))
+      ∙ clash-counts (clauseIn e l) (clauseIn f m) (clause-small (timeOf (e .moment)) l (E .kept l i)) (clause-small (timeOf (f .moment)) m (F .kept m j)) (sameFact (factIn e l) (factIn f m))
+
+  marks-interfere : marksClash (eventMarks D e) (eventMarks D f) ≡ interfere D e f
+  unfolding eventMarks
+  marks-interfere =
+      any-map (mark e) (λ (a : Mark). any (clashes a) (eventMarks D f)) (filterBy (counted e) (literalsOf D e))
+      ∙ any-filter (counted e) (λ (l : Literal). any (clashes (mark e l)) (eventMarks D f)) (literalsOf D e)
+      ∙ any-agree (λ (l : Literal). counted e l && any (clashes (mark e l)) (eventMarks D f))
+      (λ (l : Literal). any (λ (m : Literal). clashing (clauseIn e l) (clauseIn f m) && sameFact (factIn e l) (factIn f m)) (literalsOf D f)) (literalsOf D e)
+      (λ l i.
+      ap (λ (b : Bool). counted e l && b)
+      (any-map (mark f) (clashes (mark e l)) (filterBy (counted f) (literalsOf D f)) ∙ any-filter (counted f) (λ (m : Literal). clashes (mark e l) (mark f m)) (literalsOf D f))
+      ∙ and-any (counted e l) (λ (m : Literal). counted f m && clashes (mark e l) (mark f m)) (literalsOf D f)
+      ∙ any-agree (λ (m : Literal). counted e l && (counted f m && clashes (mark e l) (mark f m)))
+      (λ (m : Literal). clashing (clauseIn e l) (clauseIn f m) && sameFact (factIn e l) (factIn f m)) (literalsOf D f) (λ m j. mark-clash l m i j))
+      ∙ sym (interfere-pairs D e f (E .kept) (F .kept))
+
+-- ---- the events of a domain
+
+-- the marks of an action's rows are those of its literals
+mark-facts : (t : Time) (arities : List ℕ) (g : GroundAction) (ls : List Literal)
+    → ((l : Literal) → In l ls → boundRow arities (groundRow g) (literalRow l) ≡ factRow (bind (g .binding) (l .atom)))
+    → rowMarks t arities (groundRow g) (map literalRow ls)
+    ≡ map (λ (l : Literal). record { clause = clauseFor t (roleNumber (l .role)); word = wordOf (factRow (bind (g .binding) (l .atom))) }) (filterBy (λ (l : Literal). not (eqb (clauseFor t (roleNumber (l .role))) 0)) ls)
+unfolding rowMarks
+mark-facts t arities g [] h = refl
+mark-facts t arities g (l ∷ ls) h = go (not (eqb (clauseFor t (roleNumber (l .role))) 0)) (mark-facts t arities g ls (λ l m. h l (List·Memᴰ·tail m)))
+  where
+    byRow : List ℕ → Mark
+    byRow row = record { clause = clauseFor t (byte row 0); word = wordOf (boundRow arities (groundRow g) row) }
+
+    byLiteral : Literal → Mark
+    byLiteral l = record { clause = clauseFor t (roleNumber (l .role)); word = wordOf (factRow (bind (g .binding) (l .atom))) }
+
+    rows : List (List ℕ)
+    rows = filterBy (λ row. not (eqb (clauseFor t (byte row 0)) 0)) (map literalRow ls)
+
+    literals : List Literal
+    literals = filterBy (λ (l : Literal). not (eqb (clauseFor t (roleNumber (l .role))) 0)) ls
+
+    go : (b : Bool) → map byRow rows ≡ map byLiteral literals → map byRow (keepIf b (literalRow l) rows) ≡ map byLiteral (keepIf b l literals)
+    go true e = ap₂ (λ (w : ℕ) (ms : List Mark). record { clause = clauseFor t (roleNumber (l .role)); word = w } ∷ ms) (ap wordOf (h l (List·Memᴰ·head refl))) e
+    go false e = e
+
+module _ (D : Domain) (n : Counts) (arities variables sorts starts parts table : List ℕ) (L : Lent D n arities variables sorts starts parts table) where
+  facing : (e : Event) → GroundFits D (e .ground) → Facing D e
+  facing e F =
+      record {
+        kept = lent-kept D n arities variables sorts starts parts table L (e .ground .action) (F .listed);
+        sized = L .held .bounded .literalArity (action D (e .ground .action)) (lent-action D n arities variables sorts starts parts table L (e .ground .action) (F .listed));
+        objects =
+            λ l m o k.
+            let r = map-in (valueOf (e .ground .binding)) (l .atom .args) k in
+            let c = L .held .bounded .below (action D (e .ground .action)) (lent-action D n arities variables sorts starts parts table L (e .ground .action) (F .listed)) l m (r .0) (r .1) in
+            let b = F .bound in
+            let h = F .objects (valueOf (e .ground .binding) (r .0)) (getD-in (e .ground .binding) (r .0 .0) (object 0) (omega arith)) in
+            let z = ap (λ (o : Object). o .0) (r .2) in
+            omega arith;
+      }
+
+  -- the rows of its action, as the code finds them
+  pub lent-marks : (e : Event) → GroundFits D (e .ground) → (t : Time) (ground : List ℕ) → t ≡ timeOf (e .moment) → ground ≡ groundRow (e .ground)
+      → (from to : ℕ) → from ≡ getD starts (getD ground 0 0) 0 → to ≡ endRow n starts (getD ground 0 0)
+      → rowMarks t arities ground (rowsIn (to - from) (take (8 * to - 8 * from) (drop (8 * from) table))) ≡ eventMarks D e
+  unfolding eventMarks
+  lent-marks e F t ground s f from to p q =
+      ap₂ (λ (u : Time) (x : List ℕ). rowMarks u arities x (rowsIn (to - from) (take (8 * to - 8 * from) (drop (8 * from) table)))) s f
+      ∙ ap (rowMarks (timeOf (e .moment)) arities (groundRow (e .ground))) (ground-rows D n arities variables sorts starts parts table L (e .ground) F ground f from to p q)
+      ∙ mark-facts (timeOf (e .moment)) arities (e .ground) (action D (e .ground .action) .lits) (lent-bound D n arities variables sorts starts parts table L (e .ground) F)
+
+  -- no two interfere, by their marks
+  pub apart-independent : (es : List Event) → EventsFit D es → pairwise (λ first later. not (marksClash first later)) (map (eventMarks D) es) ≡ independent D es
+  apart-independent [] F = refl
+  apart-independent (e ∷ es) F =
+      ap₂ _&&_
+      (all-map (eventMarks D) (λ (later : List Mark). not (marksClash (eventMarks D e) later)) es
+      ∙ all-agree (λ (f : Event). not (marksClash (eventMarks D e) (eventMarks D f))) (λ (f : Event). not (interfere D e f)) es
+      (λ f m. ap not (marks-interfere D e f (facing e (F e (List·Memᴰ·head refl))) (facing f (F f (List·Memᴰ·tail m))))))
+      (apart-independent es (λ f m. F f (List·Memᴰ·tail m)))
+
+-- nor do fewer than two
+pub few-independent : (D : Domain) (es : List Event) → length es < 2 → true ≡ independent D es
+few-independent D [] h = refl
+few-independent D (e ∷ []) h = refl
+few-independent D (e ∷ f ∷ es) h = absurd (omega arith)
+
+-- ---- in memory, event by event
+
+module _ (D : Domain) (es : List Event) (i : ℕ) {words clauses ends : List ℕ} {k : ℕ} where
+  pub laid-event : i < length es → Laid (take i (map (eventMarks D) es)) words clauses ends k → i < length ends → {words′ clauses′ : List ℕ} {m : ℕ}
+      → marksIn m words′ clauses′ ≡ marksIn k words clauses ++ eventMarks D (getD es i noEvent) → Laid (take (i + 1) (map (eventMarks D) es)) words′ clauses′ (set ends i m) m
+  laid-event h L g {words′} {clauses′} {m} e =
+      let l = length-map es (eventMarks D) in
+      subst (λ (parts : List (List Mark)). Laid parts words′ clauses′ (set ends i m) m)
+      (ap (λ (part : List Mark). take i (map (eventMarks D) es) ++ (part ∷ [])) (sym (getD-map (eventMarks D) es i noEvent [] h))
+      ∙ sym (ap (λ (k : ℕ). take k (map (eventMarks D) es)) (add-one i) ∙ take-suc (map (eventMarks D) es) i [] (omega arith)))
+      (laid-more L (eventMarks D (getD es i noEvent)) i (length-take-le i (map (eventMarks D) es) (omega arith)) g e)
+
+  pub laid-all : length es ≤ i → Laid (take i (map (eventMarks D) es)) words clauses ends k → Laid (map (eventMarks D) es) words clauses ends k
+  laid-all h L =
+      let l = length-map es (eventMarks D) in
+      subst (λ (parts : List (List Mark)). Laid parts words clauses ends k) (take-all i (map (eventMarks D) es) (omega arith)) L
+
+-- where the loop over the waiting events stands
+pub record InWords (n : Counts) (arities starts table : List ℕ) (w : Waiting) (words₀ clauses₀ ends₀ words clauses ends : List ℕ) (k i : ℕ) : Type 0 where
+  pub reach : i ≤ w .count
+  pub few : k ≤ 64 * i
+  pub wordsKept : length words ≡ length words₀
+  pub clausesKept : length clauses ≡ length clauses₀
+  pub endsKept : length ends ≡ length ends₀
+  pub within : (j : ℕ) → j < i → getD ends j 0 ≤ 1024
+  pub laid : (D : Domain) (variables sorts parts : List ℕ) (es : List Event) → Lent D n arities variables sorts starts parts table → w ≡ waitingOf es → EventsFit D es
+      → Laid (take i (map (eventMarks D) es)) words clauses ends k

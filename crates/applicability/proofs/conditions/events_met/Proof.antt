@@ -1,0 +1,113 @@
+-- `events_met` meets its contract: each event before i is met, so the test is that of the events from i on. Assumes nothing.
+use borrow.Author.Needs.{needs}
+use borrow.Author.Tests.{not-true, not-false}
+use mathlib.Core.Path.{_≡_, refl, sym, _∙_}
+use mathlib.Core.List.{List, map}
+use Prim.Native.Nat.{ℕ, _-_, _≤_, _<_}
+use native.Mathlib.Omega.{arith}
+use lib.ListN.{length, getD, drop}
+use Rattle.records.specs.Lists.{all}
+use Rattle.literals.specs.Domain.{Fact, Domain}
+use Rattle.literals.specs.Table.{rowsIn}
+use Rattle.verdict.specs.Machine.{Event, conditionsHold}
+use Rattle.store.specs.Index.{Indexed}
+use Rattle.events.specs.declared.Waiting.{Waiting}
+use Rattle.store.specs.Rows.{factRow}
+use Rattle.events.specs.Coded.{waitingOf, EventsFit, Lent}
+use Rattle.events.proofs.FactRows.{noEvent, waiting-count, waiting-moment-at}
+use Rattle.events.proofs.Listed.{all-hit, all-miss, all-end, event-fits, event-row}
+use Rattle.applicability.proofs.conditions.events_met.Statement.{statement}
+use Rattle.applicability.proofs.conditions.events_met.Tie as tie
+
+abbrev Inv-loop : tie.InvT-loop
+Inv-loop counts arities starts table index work n count moments rows i₀ i =
+    (i ≤ count) × ((D : Domain) (variables sorts parts : List ℕ) (es : List Event) (fs : List Fact) → Lent D counts arities variables sorts starts parts table
+    → _≡_ {A = Waiting} (record { count = count; moments = moments; rows = rows }) (waitingOf es) → EventsFit D es → rowsIn n work ≡ map factRow fs
+    → (keys : ℕ) (held : List (List ℕ)) → Indexed arities keys held index (map factRow fs) → all (conditionsHold D fs) (drop i es) ≡ all (conditionsHold D fs) es)
+
+abbrev μ-loop : tie.MeasureT-loop
+μ-loop counts arities starts table index work n count moments rows i₀ i = count - i
+
+returns : tie.Need-returns Inv-loop μ-loop
+returns c D variables sorts parts es fs L w F h f keys held I =
+    let k = waiting-count es (c .before .before .before .before .before .before .args .waiting) w in
+    let t = c .if1 .taken in
+    absurd (omega arith)
+
+loop-holds : tie.Need-loop-holds Inv-loop μ-loop
+loop-holds c = (omega arith, λ D variables sorts parts es fs L w F f keys held I. refl)
+
+slice-aggregate-event-met : tie.Need-slice-aggregate-event-met Inv-loop μ-loop
+slice-aggregate-event-met c = search needs
+
+slice-aggregate-event-met-2 : tie.Need-slice-aggregate-event-met-2 Inv-loop μ-loop
+slice-aggregate-event-met-2 c = search needs
+
+event-met-requires : tie.Need-event-met-requires Inv-loop μ-loop
+event-met-requires c κs =
+    let p = c .before .before .before .before .before .before .before .before .before .before .before .before .pre in
+    let m : 16 ≡ length (c .before .before .before .before .before .before .before .before .before .before .before .before .args .waiting .moments) = slice-aggregate-event-met (c .before) in
+    let r : 272 ≡ length (c .before .before .before .before .before .before .before .before .before .before .before .before .args .waiting .rows) = slice-aggregate-event-met-2 c in
+    (p .0, sym m, sym r, omega arith, p .1, p .2, p .3)
+
+-- the event of this turn
+event-at : (b : tie.After-event-met Inv-loop μ-loop) (D : Domain) (variables sorts parts : List ℕ) (es : List Event) (fs : List Fact)
+    → Lent D (b .before .before .before .before .before .before .before .before .before .before .before .before .before .args .counts) (b .before .before .before .before .before .before .before .before .before .before .before .before .before .args .arities .now) variables sorts (b .before .before .before .before .before .before .before .before .before .before .before .before .before .args .starts .now) parts (b .before .before .before .before .before .before .before .before .before .before .before .before .before .args .table .now)
+    → b .before .before .before .before .before .before .before .before .before .before .before .before .before .args .waiting ≡ waitingOf es → EventsFit D es → rowsIn (b .before .before .before .before .before .before .before .before .before .before .before .before .before .args .n) (b .before .before .before .before .before .before .before .before .before .before .before .before .before .args .work .now) ≡ map factRow fs
+    → (keys : ℕ) (held : List (List ℕ)) → Indexed (b .before .before .before .before .before .before .before .before .before .before .before .before .before .args .arities .now) keys held (b .before .before .before .before .before .before .before .before .before .before .before .before .before .args .index .now) (map factRow fs)
+    → (b .before .before .before .before .loop .i < length es) × (b .event-met .result ≡ conditionsHold D fs (getD es (b .before .before .before .before .loop .i) noEvent))
+event-at b D variables sorts parts es fs L w F f keys held I =
+    let a = b .before .before .before .before .before .before .before .before .before .before .before .before .before .args in
+    let i = b .before .before .before .before .loop .i in
+    let k = waiting-count es (a .waiting) w in
+    let h : i < length es = omega arith in (
+      h,
+      b .event-met .ensures D variables sorts parts (getD es i noEvent) fs L
+          (event-fits D (a .counts) (a .arities .now) variables sorts (a .starts .now) parts (a .table .now) L i es F h)
+          (waiting-moment-at es (a .waiting) w i)
+          (event-row D (a .counts) (a .arities .now) variables sorts (a .starts .now) parts (a .table .now) L i es F h (a .waiting) w) f keys held I,
+    )
+
+returns-2 : tie.Need-returns-2 Inv-loop μ-loop
+returns-2 c D variables sorts parts es fs L w F h f keys held I =
+    let l = c .before .before .before .before .before .loop in
+    let e = event-at (c .before) D variables sorts parts es fs L w F f keys held I in
+    sym (all-miss es (l .i) noEvent (e .0) (conditionsHold D fs) (sym (e .1) ∙ not-true _ (c .if2 .taken))) ∙ l .inv .1 D variables sorts parts es fs L w F f keys held I
+
+add-i : tie.Need-add-i Inv-loop μ-loop
+add-i c = omega arith
+
+loop-less : tie.Need-loop-less Inv-loop μ-loop
+loop-less c = omega arith
+
+loop-again : tie.Need-loop-again Inv-loop μ-loop
+loop-again c =
+    let l = c .before .before .before .before .before .loop in (
+      omega arith,
+      λ D variables sorts parts es fs L w F f keys held I.
+          let e = event-at (c .before) D variables sorts parts es fs L w F f keys held I in
+          sym (all-hit es (l .i) noEvent (e .0) (conditionsHold D fs) (sym (e .1) ∙ not-false _ (c .if2 .left))) ∙ l .inv .1 D variables sorts parts es fs L w F f keys held I,
+    )
+
+returns-3 : tie.Need-returns-3 Inv-loop μ-loop
+returns-3 c D variables sorts parts es fs L w F h f keys held I =
+    let l = c .before .loop in
+    let k = waiting-count es (c .before .before .before .before .before .before .before .before .before .before .args .waiting) w in
+    sym (all-end es (l .i) noEvent (conditionsHold D fs) (omega arith)) ∙ l .inv .1 D variables sorts parts es fs L w F f keys held I
+
+pub events-met-spec : {M : Type 1} → statement M
+events-met-spec =
+    tie.close
+    (tie.spec
+    Inv-loop
+    μ-loop
+    returns
+    loop-holds
+    slice-aggregate-event-met
+    slice-aggregate-event-met-2
+    event-met-requires
+    returns-2
+    add-i
+    loop-less
+    loop-again
+    returns-3)

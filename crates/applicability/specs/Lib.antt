@@ -1,0 +1,3 @@
+-- What a step asks, as the code tells it.
+pub mod Conditions
+pub mod Interference

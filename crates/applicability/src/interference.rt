@@ -1,0 +1,287 @@
+// Interference: whether two events of a step have literals of one fact that may not stand together.
+use events::Waiting;
+use events::facts::bound_row;
+use events::facts::clause_for;
+use events::facts::time_at;
+use literals::Counts;
+use literals::Time;
+use literals::fields::wide;
+use literals::span::span_of;
+use store::index::word_of;
+ghost use mathlib.Core.Path.{_≡_};
+ghost use mathlib.Core.Bool.{not};
+ghost use mathlib.Core.List.{List, [], _∷_, _++_, map};
+ghost use Prim.Native.Nat.{ℕ, _+_, _*_, _<_, _≤_};
+ghost use lib.ListN.{length, getD, take, drop};
+ghost use Rattle.records.specs.Lists.{any, pairwise};
+ghost use Rattle.literals.specs.Domain.{Domain};
+ghost use Rattle.literals.specs.Table.{rowsIn};
+ghost use Rattle.classes.specs.Classes.{momentNumber};
+ghost use Rattle.verdict.specs.Machine.{Event, independent};
+ghost use Rattle.events.specs.Coded.{groundRow, waitingOf, GroundFits, EventsFit, Lent, Ready, timeOf};
+ghost use Rattle.applicability.specs.Interference.{clashing, Mark, rowMarks, eventMarks, marksIn, clashes, marksClash, Laid};
+
+// Whether two clauses of one fact may not stand in two events: a condition with an add or delete, an add with a delete.
+fn clashing(c: u8, d: u8) -> bool
+    ensures { λ r. ⌜ r ≡ clashing c d ⌝ }
+{
+    if c == 0 {
+        return false;
+    }
+    if c < 3 {
+        return 3 <= d;
+    }
+    if d < 3 {
+        return d != 0;
+    }
+    c != d
+}
+
+// The literal's row at an offset, where it counts at this time: its fact's word and its clause, behind the first n; the count then.
+fn put_word(
+    words: &mut [u64],
+    clauses: &mut [u8],
+    n: usize,
+    time: Time,
+    arities: &[u8],
+    ground: &[u8],
+    rows: &[u8],
+    row: usize,
+) -> usize
+    requires { ⌜ (length (now arities) ≡ 64) × ((i : ℕ) → getD (now arities) i 0 ≤ 6) × (length (now ground) ≡ 17) × (row + 8 ≤ length (now rows)) × (n < length (now words)) × (n < length (now clauses)) ⌝ }
+    ensures { λ r. ⌜ marksIn r (now (words .exit)) (now (clauses .exit)) ≡ marksIn n (now (words .entry)) (now (clauses .entry)) ++ rowMarks time (now (arities .entry)) (now (ground .entry)) (take 8 (drop row (now (rows .entry))) ∷ []) ⌝ }
+{
+    let clause = clause_for(time, rows[row]);
+    if clause == 0 {
+        return n;
+    }
+    words[n] = word_of(bound_row(arities, ground, rows, row));
+    clauses[n] = clause;
+    n + 1
+}
+
+// Those of the first k rows of an action's literals, behind the first `at`; the count then.
+fn put_words(
+    words: &mut [u64],
+    clauses: &mut [u8],
+    at: usize,
+    time: Time,
+    arities: &[u8],
+    ground: &[u8],
+    rows: &[u8],
+    k: usize,
+) -> usize
+    requires { ⌜ (length (now arities) ≡ 64) × ((i : ℕ) → getD (now arities) i 0 ≤ 6) × (length (now ground) ≡ 17) × (8 * k ≤ length (now rows)) × (at + k ≤ length (now words)) × (at + k ≤ length (now clauses)) ⌝ }
+    ensures { λ r. ⌜ marksIn r (now (words .exit)) (now (clauses .exit)) ≡ marksIn at (now (words .entry)) (now (clauses .entry)) ++ rowMarks time (now (arities .entry)) (now (ground .entry)) (rowsIn k (now (rows .entry))) ⌝ }
+{
+    let mut n = at;
+    for i in 0..k {
+        n = put_word(words, clauses, n, time, arities, ground, rows, 8 * i);
+    }
+    n
+}
+
+// Those of an action with its objects.
+fn ground_words(
+    counts: Counts,
+    arities: &[u8],
+    starts: &[usize],
+    table: &[u8],
+    time: Time,
+    ground: &[u8],
+    words: &mut [u64],
+    clauses: &mut [u8],
+    n: usize,
+) -> usize
+    requires { ⌜ Ready counts (now arities) (now starts) (now table) × (length (now ground) ≡ 17) × (n + 64 ≤ length (now words)) × (n + 64 ≤ length (now clauses)) ⌝ }
+    ensures few { λ r. ⌜ r ≤ n + 64 ⌝ }
+    ensures marks { λ r. ⌜ ((D : Domain) (variables sorts parts : List ℕ) (e : Event)
+        → Lent D counts (now (arities .entry)) variables sorts (now (starts .entry)) parts (now (table .entry)) → GroundFits D (e .ground)
+        → time ≡ timeOf (e .moment) → now (ground .entry) ≡ groundRow (e .ground)
+        → marksIn r (now (words .exit)) (now (clauses .exit)) ≡ marksIn n (now (words .entry)) (now (clauses .entry)) ++ eventMarks D e) ⌝ }
+{
+    let action = wide(ground[0]);
+    if counts.actions <= action {
+        return n;
+    }
+    let span = span_of(starts, counts.actions, counts.rows, action);
+    let from = 8 * span.from;
+    let to = 8 * span.to;
+    put_words(
+        words,
+        clauses,
+        n,
+        time,
+        arities,
+        ground,
+        &table[from..to],
+        span.to - span.from,
+    )
+}
+
+// Those of the waiting event i.
+fn event_words(
+    counts: Counts,
+    arities: &[u8],
+    starts: &[usize],
+    table: &[u8],
+    moments: &[u8],
+    rows: &[u8],
+    i: usize,
+    words: &mut [u64],
+    clauses: &mut [u8],
+    n: usize,
+) -> usize
+    requires { ⌜ Ready counts (now arities) (now starts) (now table) × (length (now moments) ≡ 16) × (length (now rows) ≡ 272) × (i < 16)
+        × (n + 64 ≤ length (now words)) × (n + 64 ≤ length (now clauses)) ⌝ }
+    ensures few { λ r. ⌜ r ≤ n + 64 ⌝ }
+    ensures marks { λ r. ⌜ ((D : Domain) (variables sorts parts : List ℕ) (e : Event)
+        → Lent D counts (now (arities .entry)) variables sorts (now (starts .entry)) parts (now (table .entry)) → GroundFits D (e .ground)
+        → getD (now (moments .entry)) i 0 ≡ momentNumber (e .moment) → take 17 (drop (17 * i) (now (rows .entry))) ≡ groundRow (e .ground)
+        → marksIn r (now (words .exit)) (now (clauses .exit)) ≡ marksIn n (now (words .entry)) (now (clauses .entry)) ++ eventMarks D e) ⌝ }
+{
+    let at = 17 * i;
+    let end = at + 17;
+    ground_words(
+        counts,
+        arities,
+        starts,
+        table,
+        time_at(moments[i]),
+        &rows[at..end],
+        words,
+        clauses,
+        n,
+    )
+}
+
+// Those of every waiting event, in order; `ends` gets the count behind each. The count of all.
+fn step_words(
+    counts: Counts,
+    arities: &[u8],
+    starts: &[usize],
+    table: &[u8],
+    waiting: Waiting,
+    words: &mut [u64],
+    clauses: &mut [u8],
+    ends: &mut [usize],
+) -> usize
+    requires { ⌜ Ready counts (now arities) (now starts) (now table) × (waiting .count ≤ 16) × (length (now words) ≡ 1024) × (length (now clauses) ≡ 1024) × (length (now ends) ≡ 16) ⌝ }
+    ensures few { λ r. ⌜ (r ≤ 1024) × ((i : ℕ) → i < waiting .count → getD (now (ends .exit)) i 0 ≤ 1024) ⌝ }
+    ensures laid { λ r. ⌜ ((D : Domain) (variables sorts parts : List ℕ) (es : List Event)
+        → Lent D counts (now (arities .entry)) variables sorts (now (starts .entry)) parts (now (table .entry)) → waiting ≡ waitingOf es → EventsFit D es
+        → Laid (map (eventMarks D) es) (now (words .exit)) (now (clauses .exit)) (now (ends .exit)) r) ⌝ }
+{
+    let count = waiting.count;
+    let moments = waiting.moments;
+    let rows = waiting.rows;
+    let mut n = 0;
+    for i in 0..count {
+        n = event_words(
+            counts,
+            arities,
+            starts,
+            table,
+            &moments,
+            &rows,
+            i,
+            words,
+            clauses,
+            n,
+        );
+        ends[i] = n;
+    }
+    n
+}
+
+// Whether a literal with this word and clause clashes with one of those from `from` up to `to`.
+fn word_clashes(
+    words: &[u64],
+    clauses: &[u8],
+    word: u64,
+    clause: u8,
+    from: usize,
+    to: usize,
+) -> bool
+    requires { ⌜ (to ≤ length (now words)) × (to ≤ length (now clauses)) ⌝ }
+    ensures { λ r. ⌜ r ≡ any (clashes record { clause = clause; word = word }) (drop from (marksIn to (now (words .entry)) (now (clauses .entry)))) ⌝ }
+{
+    let mut j = from;
+    while j < to {
+        if words[j] == word {
+            if clashing(clause, clauses[j]) {
+                return true;
+            }
+        }
+        j += 1;
+    }
+    false
+}
+
+// Whether one of the literals from `from` up to `to` clashes with one of those behind, up to `total`.
+fn words_clash(words: &[u64], clauses: &[u8], from: usize, to: usize, total: usize) -> bool
+    requires { ⌜ (to ≤ length (now words)) × (to ≤ length (now clauses)) × (total ≤ length (now words)) × (total ≤ length (now clauses)) ⌝ }
+    ensures { λ r. ⌜ r ≡ marksClash (drop from (marksIn to (now (words .entry)) (now (clauses .entry)))) (drop to (marksIn total (now (words .entry)) (now (clauses .entry)))) ⌝ }
+{
+    let mut i = from;
+    while i < to {
+        if word_clashes(words, clauses, words[i], clauses[i], to, total) {
+            return true;
+        }
+        i += 1;
+    }
+    false
+}
+
+// Whether no literal clashes with one of a later event: the literals of event i end at ends[i].
+fn all_apart(words: &[u64], clauses: &[u8], ends: &[usize], count: usize, total: usize) -> bool
+    requires { ⌜ (length (now words) ≡ 1024) × (length (now clauses) ≡ 1024) × (length (now ends) ≡ 16) × (count ≤ 16) × (total ≤ 1024) × ((i : ℕ) → i < count → getD (now ends) i 0 ≤ 1024) ⌝ }
+    ensures { λ r. ⌜ ((parts : List (List Mark)) → length parts ≡ count → Laid parts (now (words .entry)) (now (clauses .entry)) (now (ends .entry)) total
+        → r ≡ pairwise (λ first later. not (marksClash first later)) parts) ⌝ }
+{
+    let mut from = 0;
+    for i in 0..count {
+        let to = ends[i];
+        if words_clash(words, clauses, from, to, total) {
+            return false;
+        }
+        from = to;
+    }
+    true
+}
+
+// Whether no two waiting events interfere: the literals of all are bound to their objects once, then compared by words.
+pub fn independent(
+    counts: Counts,
+    arities: &[u8],
+    starts: &[usize],
+    table: &[u8],
+    waiting: Waiting,
+) -> bool
+    requires { ⌜ Ready counts (now arities) (now starts) (now table) ⌝ }
+    ensures { λ r. ⌜ ((D : Domain) (variables sorts parts : List ℕ) (es : List Event)
+        → Lent D counts (now (arities .entry)) variables sorts (now (starts .entry)) parts (now (table .entry)) → waiting ≡ waitingOf es → EventsFit D es → length es ≤ 16
+        → r ≡ independent D es) ⌝ }
+{
+    let count = waiting.count;
+    if 16 < count {
+        return false;
+    }
+    if count < 2 {
+        return true;
+    }
+    let mut words = [0u64; 1024];
+    let mut clauses = [0u8; 1024];
+    let mut ends = [0usize; 16];
+    let total = step_words(
+        counts,
+        arities,
+        starts,
+        table,
+        waiting,
+        &mut words,
+        &mut clauses,
+        &mut ends,
+    );
+    all_apart(&words, &clauses, &ends, count, total)
+}

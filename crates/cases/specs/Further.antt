@@ -1,0 +1,340 @@
+-- Judging, beside M1 to M12: what those and the theorems leave open, each case with what it pins. Assumes nothing.
+use mathlib.Core.Path.{_≡_, refl}
+use mathlib.Core.List.{List, [], _∷_, _++_, map}
+use Prim.Native.Nat.{ℕ}
+use Rattle.literals.specs.declared.Role.{Role}
+use Rattle.literals.specs.declared.Time.{Time}
+use Rattle.literals.specs.declared.Time.the-variants.{AtStart, OverAll, AtEnd}
+use Rattle.literals.specs.declared.Clause.{Clause}
+use Rattle.literals.specs.declared.Clause.the-variants.{Positive, Negative, Add, Delete}
+use Rattle.literals.specs.Domain.{roleOf}
+use Rattle.verdict.specs.Judged.{judged, reportAfter, witnessAfter}
+use Rattle.cases.specs.Written.{FF, rec, each, relation, atOnce, lasting, literal, component, closing, holds, lacks, adds, deletes, holdsOverAll, lacksOverAll, holdsAtEnd, lacksAtEnd, addsAtEnd, deletesAtEnd, lent, row, unreachable, irrelevant, heavy, balanced, unbalanced, bounded, unbounded, held, judging, leaves, judge, answers, refuses}
+use Rattle.cases.specs.Samples.{at, out, relations, template, full, empty, pour, m4, m10}
+
+-- ---- vocabulary
+
+abbrev role : Time → Clause → Role
+role t c = record { time = t; clause = c }
+
+-- a third relation, of one argument and without a component
+abbrev lit : ℕ → List ℕ
+lit x = 2 ∷ x ∷ []
+
+-- the domains of full/1 and empty/1, both labelled 0, with these actions
+abbrev vessels : List ℕ → List ℕ
+vessels actions = relation 1 ++ relation 1 ++ actions ++ component (full 0) ++ component (empty 0) ++ closing
+
+-- the domains of at/2, out/2 and lit/1, with M1's template and these actions
+abbrev library : List ℕ → List ℕ
+library actions = relations ++ relation 1 ++ actions ++ template ++ closing
+
+-- two classes: that of variable 1 comes first in the file, that of variable 0 is heavy
+abbrev secondClass : List ℕ
+secondClass = library (atOnce 3 ++ deletes (at 1 2) ++ holds (lit 2) ++ adds (at 0 1) ++ adds (at 0 2))
+
+-- ---- roles, classes, names, journeys and witnesses
+
+pub record Names : Type 0 where
+  -- the ten role bytes, sorted by ranges
+  pub roles : map roleOf (0 ∷ 1 ∷ 2 ∷ 3 ∷ 4 ∷ 5 ∷ 6 ∷ 7 ∷ 8 ∷ 9 ∷ [])
+      ≡ role AtStart Positive ∷ role AtStart Negative ∷ role AtStart Add ∷ role AtStart Delete
+      ∷ role OverAll Positive ∷ role OverAll Negative
+      ∷ role AtEnd Positive ∷ role AtEnd Negative ∷ role AtEnd Add ∷ role AtEnd Delete ∷ []
+  -- an over-all true condition counts at the end: without it this end would be unbounded
+  pub over-all-at-end : judge (library (lasting 3 ++ holdsOverAll (at 0 1) ++ addsAtEnd (at 0 2) ++ deletesAtEnd (at 0 1)))
+      ≡ answers 0 0 0 0 (row 0 0 0 irrelevant ++ row 0 0 1 balanced) []
+  -- it doesn't count at the start, which would be balanced by it, nor is it in the start's witness
+  pub over-all-not-at-start : judge (library (lasting 2 ++ adds (at 0 1) ++ holdsOverAll (at 0 1)))
+      ≡ answers 42 0 0 0 (row 0 0 0 unbounded ++ row 0 0 1 irrelevant) (held (at 0 2))
+  -- a literal in roles 4 and 6 counts once: twice would make the end unreachable; its fact is in the witness once
+  pub over-all-and-end-once : judge (library (lasting 3 ++ holdsOverAll (at 0 1) ++ holdsAtEnd (at 0 1) ++ addsAtEnd (at 0 2)))
+      ≡ answers 41 0 0 1 (row 0 0 0 irrelevant ++ row 0 0 1 unbalanced) (held (at 0 1))
+  -- two over-all true conditions of the class make its end unreachable
+  pub over-all-unreachable : judge (library (lasting 3 ++ holdsOverAll (at 0 1) ++ holdsOverAll (at 0 2) ++ addsAtEnd (at 0 2)))
+      ≡ answers 0 0 0 0 (row 0 0 0 irrelevant ++ row 0 0 1 unreachable) []
+  -- a false condition covers its component
+  pub false-covers : judge (vessels (atOnce 1 ++ adds (full 0) ++ lacks (empty 0))) ≡ answers 0 0 0 0 (row 0 0 0 bounded) []
+  -- at the end an over-all one does
+  pub over-all-false-covers : judge (vessels (lasting 1 ++ lacksOverAll (empty 0) ++ addsAtEnd (full 0)))
+      ≡ answers 0 0 0 0 (row 0 0 0 irrelevant ++ row 0 0 1 bounded) []
+  -- "a name that stands only at the other moment doesn't exclude its fact"
+  pub other-moment-covers-not : judge (vessels (lasting 1 ++ deletes (empty 0) ++ addsAtEnd (full 0)))
+      ≡ answers 42 0 0 1 (row 0 0 0 irrelevant ++ row 0 0 1 unbounded) (held (empty 0))
+  -- nor does one of another class
+  pub other-class-covers-not : judge (vessels (atOnce 2 ++ adds (full 0) ++ deletes (empty 1)))
+      ≡ answers 42 0 0 0 (row 0 0 0 unbounded ++ row 0 1 0 irrelevant) (held (empty 0))
+  -- "at(0,1) and at(2,3) belong to two volumes": the second class is named in the place; the witness has all true conditions, then the spare object 4
+  pub two-volumes : judge (library (atOnce 4 ++ holds (at 0 1) ++ deletes (at 0 1) ++ adds (at 2 3)))
+      ≡ answers 42 0 1 0 (row 0 0 0 irrelevant ++ row 0 1 0 unbounded) (held (at 0 1) ++ held (at 2 4))
+  -- classes are numbered by first literal, not by variable; the condition without a component is in the witness
+  pub second-class : judge secondClass ≡ answers 40 0 1 0 (row 0 0 0 irrelevant ++ row 0 1 0 heavy) (held (lit 2))
+  -- true conditions of an end in file order, own and over-all, once each, then the instance fact
+  pub witness-order : judge (library (lasting 3 ++ addsAtEnd (at 0 1) ++ holdsAtEnd (lit 1) ++ holdsOverAll (lit 0) ++ holdsOverAll (lit 1) ++ holds (lit 2)))
+      ≡ answers 42 0 0 1 (row 0 0 0 irrelevant ++ row 0 0 1 unbounded) (held (lit 1) ++ held (lit 0) ++ held (at 0 3))
+  -- unreachable is tested before irrelevant and heavy
+  pub unreachable-first : judge (library (atOnce 3 ++ holds (at 0 1) ++ holds (at 0 2) ++ atOnce 3 ++ holds (at 0 1) ++ holds (at 0 2) ++ adds (at 0 1) ++ adds (at 0 2)))
+      ≡ answers 0 0 0 0 (row 0 0 0 unreachable ++ row 1 0 0 unreachable) []
+  -- heavy before balanced
+  pub heavy-before-balanced : judge (library (atOnce 4 ++ holds (at 0 1) ++ deletes (at 0 1) ++ adds (at 0 2) ++ adds (at 0 3)))
+      ≡ answers 40 0 0 0 (row 0 0 0 heavy) (held (at 0 1))
+  -- n = 0: all matching literals form one class
+  pub no-keys : judge (relation 1 ++ atOnce 2 ++ adds (full 0) ++ adds (full 1) ++ component (full FF) ++ closing)
+      ≡ answers 40 0 0 0 (row 0 0 0 heavy) []
+  -- no arguments at all: a witness fact is filled with six FF
+  pub no-arguments : judge (relation 0 ++ relation 0 ++ atOnce 0 ++ adds (0 ∷ []) ++ component (0 ∷ []) ++ component (1 ∷ []) ++ closing)
+      ≡ answers 42 0 0 0 (row 0 0 0 unbounded) (1 ∷ 0 ∷ FF ∷ FF ∷ FF ∷ FF ∷ FF ∷ FF ∷ [])
+  -- six arguments, the most: with no fill
+  pub six-arguments : judge (relation 6 ++ atOnce 7 ++ holds (0 ∷ 0 ∷ 1 ∷ 2 ∷ 3 ∷ 4 ∷ 5 ∷ []) ++ adds (0 ∷ 0 ∷ 1 ∷ 2 ∷ 3 ∷ 4 ∷ 6 ∷ [])
+      ++ component (0 ∷ 0 ∷ 1 ∷ 2 ∷ 3 ∷ 4 ∷ FF ∷ []) ++ closing)
+      ≡ answers 41 0 0 0 (row 0 0 0 unbalanced) (0 ∷ 6 ∷ 0 ∷ 1 ∷ 2 ∷ 3 ∷ 4 ∷ 5 ∷ [])
+  -- keys in another order: at(0,1) and out(1,0) have one tuple
+  pub keys-swapped-class : judge (relations ++ atOnce 2 ++ holds (out 1 0) ++ deletes (out 1 0) ++ adds (at 0 1) ++ component (at 0 1) ++ component (out 1 0) ++ closing)
+      ≡ answers 0 0 0 0 (row 0 0 0 balanced) []
+  -- and the instance fact puts each key's object in its place
+  pub keys-swapped-witness : judge (relations ++ atOnce 2 ++ adds (at 0 1) ++ component (at 0 1) ++ component (out 1 0) ++ closing)
+      ≡ answers 42 0 0 0 (row 0 0 0 unbounded) (held (out 1 0))
+  -- no journey: the start doesn't delete its true condition
+  pub start-keeps : judge (library (lasting 3 ++ holds (at 0 1) ++ addsAtEnd (out 0 2)))
+      ≡ answers 42 0 0 1 (row 0 0 0 irrelevant ++ row 0 0 1 unbounded) (held (at 0 3))
+  -- no journey: the start adds
+  pub start-adds : judge (library (lasting 3 ++ holds (at 0 1) ++ deletes (at 0 1) ++ adds (at 0 2) ++ addsAtEnd (out 0 2)))
+      ≡ answers 42 0 0 1 (row 0 0 0 balanced ++ row 0 0 1 unbounded) (held (at 0 3))
+  -- no journey: the start has two true conditions
+  pub start-holds-two : judge (library (lasting 3 ++ holds (at 0 1) ++ holds (at 0 2) ++ deletes (at 0 1) ++ addsAtEnd (out 0 2)))
+      ≡ answers 42 0 0 1 (row 0 0 0 unreachable ++ row 0 0 1 unbounded) (held (at 0 3))
+  -- a bounded journey's end beside an unbounded one: accepted, 1
+  pub bounded-journey : judge (vessels (lasting 1 ++ holds (full 0) ++ deletes (full 0) ++ addsAtEnd (empty 0) ++ deletesAtEnd (full 0) ++ pour))
+      ≡ answers 1 0 0 0 (row 0 0 0 irrelevant ++ row 0 0 1 bounded ++ row 1 0 0 irrelevant ++ row 1 0 1 unbounded) []
+  -- 43 at a later action and its second class
+  pub bounded-later : judge (vessels (pour ++ atOnce 2 ++ deletes (full 1) ++ adds (full 0) ++ deletes (empty 0)))
+      ≡ answers 43 1 1 0 (row 0 0 0 irrelevant ++ row 0 0 1 unbounded ++ row 1 0 0 irrelevant ++ row 1 1 0 bounded) []
+  -- 40 to 42 come before 43, even behind it in the file
+  pub refused-before-bounded : judge (vessels (atOnce 1 ++ adds (full 0) ++ deletes (empty 0) ++ atOnce 1 ++ adds (full 0)))
+      ≡ answers 42 1 0 0 (row 0 0 0 bounded ++ row 1 0 0 unbounded) (held (empty 0))
+  -- an action without matching literals has no row
+  pub no-row : judge (library (atOnce 1 ++ adds (lit 0) ++ atOnce 3 ++ holds (at 0 1) ++ adds (at 0 2)))
+      ≡ answers 41 1 0 0 (row 1 0 0 unbalanced) (held (at 0 1))
+
+pub names : Names
+unfolding roleOf judged reportAfter witnessAfter
+names =
+    record {
+      roles = refl;
+      over-all-at-end = refl;
+      over-all-not-at-start = refl;
+      over-all-and-end-once = refl;
+      over-all-unreachable = refl;
+      false-covers = refl;
+      over-all-false-covers = refl;
+      other-moment-covers-not = refl;
+      other-class-covers-not = refl;
+      two-volumes = refl;
+      second-class = refl;
+      witness-order = refl;
+      unreachable-first = refl;
+      heavy-before-balanced = refl;
+      no-keys = refl;
+      no-arguments = refl;
+      six-arguments = refl;
+      keys-swapped-class = refl;
+      keys-swapped-witness = refl;
+      start-keeps = refl;
+      start-adds = refl;
+      start-holds-two = refl;
+      bounded-journey = refl;
+      bounded-later = refl;
+      refused-before-bounded = refl;
+      no-row = refl;
+    }
+
+-- ---- room: "30 report under 4 bytes a moment; then 40 to 43 decided; 31 witness under 8 bytes a fact"
+
+-- `secondClass` has two rows, 8 bytes, and a witness of one fact, 8 bytes
+pub record Room : Type 0 where
+  -- one byte short in both: 30, and both are untouched
+  pub both-short : judging secondClass (lent 7) (lent 7) ≡ leaves 30 0 0 0 (lent 7) (lent 7)
+  pub report-short : judging secondClass (lent 7) (lent 8) ≡ leaves 30 0 0 0 (lent 7) (lent 8)
+  -- 31: the report is untouched too
+  pub witness-short : judging secondClass (lent 8) (lent 7) ≡ leaves 31 0 0 0 (lent 8) (lent 7)
+  pub just-enough : judging secondClass (lent 8) (lent 8) ≡ leaves 40 0 1 0 (row 0 0 0 irrelevant ++ row 0 1 0 heavy) (held (lit 2))
+  -- a witness without facts, and 43, which writes none, need no room for it
+  pub no-fact : judging m4 (lent 4) [] ≡ leaves 40 0 0 0 (row 0 0 0 heavy) []
+  pub no-witness : judging m10 (lent 12) [] ≡ leaves 43 0 0 0 (row 0 0 0 bounded ++ row 1 0 0 irrelevant ++ row 1 0 1 unbounded) []
+  -- 43 is decided after 30
+  pub bounded-short : judging m10 (lent 11) [] ≡ leaves 30 0 0 0 (lent 11) []
+  -- a file that isn't well-formed is refused whatever is lent
+  pub refused-first : judging (relation 7) [] [] ≡ leaves 15 0 0 0 [] []
+  -- no action: no row
+  pub nothing-lent : judging (relation 0 ++ component (0 ∷ []) ++ closing) [] [] ≡ leaves 0 0 0 0 [] []
+
+pub room : Room
+unfolding judged reportAfter witnessAfter
+room =
+    record {
+      both-short = refl;
+      report-short = refl;
+      witness-short = refl;
+      just-enough = refl;
+      no-fact = refl;
+      no-witness = refl;
+      bounded-short = refl;
+      refused-first = refl;
+      nothing-lent = refl;
+    }
+
+-- ---- refusals, 9 to 23
+
+-- full/1 and an action of one variable, 11 bytes; a literal of full has 7, a component 6
+abbrev startAtOnce : List ℕ
+startAtOnce = relation 1 ++ atOnce 1
+
+abbrev startLasting : List ℕ
+startLasting = relation 1 ++ lasting 1
+
+-- a whole file, 14 bytes
+abbrev whole : List ℕ
+whole = relation 0 ++ component (0 ∷ []) ++ closing
+
+pub record Refusals : Type 0 where
+  -- 9: 65,536 bytes; one fewer is read, and its first record is of no kind
+  pub too-long : judge (lent 65536) ≡ refuses 9 0
+  pub longest : judge (lent 65535) ≡ refuses 11 0
+  -- 10: a head, or a payload, that runs past the end; no closing record is told at the file's length
+  pub head-cut : judge (0 ∷ 0 ∷ 5 ∷ []) ≡ refuses 10 0
+  pub payload-cut : judge (relation 1 ++ (1 ∷ 0 ∷ 1 ∷ 0 ∷ [])) ≡ refuses 10 5
+  pub not-closed : judge startAtOnce ≡ refuses 10 11
+  -- the length's second byte counts 256
+  pub length-high : judge (0 ∷ 1 ∷ 5 ∷ 0 ∷ []) ≡ refuses 10 0
+  -- 10 before 11
+  pub cut-before-unknown : judge (1 ∷ 0 ∷ 6 ∷ 0 ∷ []) ≡ refuses 10 0
+  -- 11: below 1 and above 5; the kind's second byte counts 256
+  pub kind-0 : judge (relation 1 ++ rec 0 []) ≡ refuses 11 5
+  pub kind-6 : judge (relation 1 ++ rec 6 []) ≡ refuses 11 5
+  pub kind-257 : judge (1 ∷ 0 ∷ 1 ∷ 1 ∷ 1 ∷ []) ≡ refuses 11 0
+  -- 12: before 15, and before 23
+  pub action-short : judge (rec 2 (17 ∷ [])) ≡ refuses 12 0
+  pub closing-long : judge (rec 5 (0 ∷ [])) ≡ refuses 12 0
+  -- before 16 where the payload is too short for any relation
+  pub literal-short : judge (startAtOnce ++ rec 3 (10 ∷ [])) ≡ refuses 12 11
+  -- before 18 once the relation is known, and before 21 and 22
+  pub literal-long : judge (startAtOnce ++ holds (0 ∷ 9 ∷ 9 ∷ [])) ≡ refuses 12 11
+  pub component-long : judge (startAtOnce ++ component (full 0) ++ component (0 ∷ 9 ∷ 9 ∷ [])) ≡ refuses 12 17
+  pub component-empty : judge (startAtOnce ++ component []) ≡ refuses 12 11
+  -- 13: each kind behind its place, and a literal before any action
+  pub relation-late : judge (startAtOnce ++ relation 1) ≡ refuses 13 11
+  pub action-late : judge (startAtOnce ++ component (full 0) ++ atOnce 1) ≡ refuses 13 17
+  pub literal-late : judge (startAtOnce ++ component (full 0) ++ adds (full 0)) ≡ refuses 13 17
+  pub literal-early : judge (relation 1 ++ adds (full 0)) ≡ refuses 13 5
+  -- before 12
+  pub order-before-length : judge (startAtOnce ++ rec 1 []) ≡ refuses 13 11
+  -- before 14: a 65th relation that comes late
+  pub order-before-limit : judge (each 64 (λ i. relation 0) ++ atOnce 0 ++ relation 0) ≡ refuses 13 326
+  -- behind the closing record before all else: a byte that is no head, a second closing record, an unknown kind
+  pub byte-behind : judge (whole ++ (7 ∷ [])) ≡ refuses 13 14
+  pub closing-behind : judge (whole ++ closing) ≡ refuses 13 14
+  pub unknown-behind : judge (whole ++ rec 6 []) ≡ refuses 13 14
+  -- 14: one relation, action, literal, component too many
+  pub relation-65 : judge (each 65 (λ i. relation 0)) ≡ refuses 14 320
+  pub action-65 : judge (each 65 (λ i. atOnce 0)) ≡ refuses 14 384
+  pub literal-65 : judge (relation 1 ++ lasting 16 ++ each 16 (λ v. adds (full v)) ++ each 16 (λ v. deletes (full v)) ++ each 16 (λ v. addsAtEnd (full v))
+      ++ each 16 (λ v. deletesAtEnd (full v)) ++ holds (full 0)) ≡ refuses 14 459
+  pub component-17 : judge (each 17 (λ i. relation 0) ++ each 17 (λ i. component (i ∷ []))) ≡ refuses 14 165
+  pub component-16 : judge (each 17 (λ i. relation 0) ++ each 16 (λ i. component (i ∷ [])) ++ closing) ≡ answers 0 0 0 0 [] []
+  -- 15
+  pub arity-7 : judge (relation 7) ≡ refuses 15 0
+  pub variables-17 : judge (atOnce 17) ≡ refuses 15 0
+  pub sort-2 : judge (rec 2 (1 ∷ 2 ∷ [])) ≡ refuses 15 0
+  -- 16: no such role, or one of a lasting action
+  pub role-10 : judge (startLasting ++ literal 10 (full 0)) ≡ refuses 16 11
+  pub role-4-at-once : judge (startAtOnce ++ holdsOverAll (full 0)) ≡ refuses 16 11
+  -- before 17, and before a length that only the relation tells
+  pub role-before-relation : judge (startAtOnce ++ literal 10 (9 ∷ 0 ∷ [])) ≡ refuses 16 11
+  pub role-before-length : judge (startAtOnce ++ literal 10 (0 ∷ 0 ∷ 0 ∷ [])) ≡ refuses 16 11
+  -- 17: before that length
+  pub literal-relation : judge (startAtOnce ++ holds (1 ∷ 0 ∷ [])) ≡ refuses 17 11
+  pub relation-before-length : judge (startAtOnce ++ holds (1 ∷ [])) ≡ refuses 17 11
+  pub component-relation : judge (startAtOnce ++ component (1 ∷ 0 ∷ [])) ≡ refuses 17 11
+  -- 18
+  pub variable-1 : judge (startAtOnce ++ holds (full 1)) ≡ refuses 18 11
+  -- 19: in its role; true, added and deleted at once is no repeat
+  pub repeated : judge (startAtOnce ++ holds (full 0) ++ adds (full 0) ++ deletes (full 0) ++ adds (full 0)) ≡ refuses 19 32
+  -- 20: among roles 0 and 1, and among 4 to 7, in either order
+  pub false-and-true : judge (startAtOnce ++ lacks (full 0) ++ holds (full 0)) ≡ refuses 20 18
+  pub over-all-and-end : judge (startLasting ++ holdsOverAll (full 0) ++ lacksAtEnd (full 0)) ≡ refuses 20 18
+  pub end-and-over-all : judge (startLasting ++ holdsAtEnd (full 0) ++ lacksOverAll (full 0)) ≡ refuses 20 18
+  -- not across: true at the start and false at the end, false at the start and true over all
+  pub start-and-end : judge (startLasting ++ holds (full 0) ++ lacksAtEnd (full 0) ++ component (full 0) ++ closing)
+      ≡ answers 0 0 0 0 (row 0 0 0 irrelevant ++ row 0 0 1 irrelevant) []
+  pub start-and-over-all : judge (startLasting ++ lacks (full 0) ++ holdsOverAll (full 0) ++ component (full 0) ++ closing)
+      ≡ answers 0 0 0 0 (row 0 0 0 irrelevant ++ row 0 0 1 irrelevant) []
+  -- 21: two FF; a key twice; a key that isn't below n; another n than the first component's, more and fewer
+  pub two-counted : judge (relation 3 ++ component (0 ∷ 0 ∷ FF ∷ FF ∷ [])) ≡ refuses 21 5
+  pub key-twice : judge (relation 2 ++ component (at 0 0)) ≡ refuses 21 5
+  pub key-missing : judge (relation 1 ++ component (full 1)) ≡ refuses 21 5
+  pub more-keys : judge (relation 1 ++ relation 2 ++ component (full 0) ++ component (out 0 1)) ≡ refuses 21 16
+  pub fewer-keys : judge (relation 1 ++ relation 1 ++ component (full 0) ++ component (empty FF)) ≡ refuses 21 16
+  -- 22: before 21
+  pub used-before : judge (startAtOnce ++ component (full 0) ++ component (full 9)) ≡ refuses 22 17
+  -- 23
+  pub no-component : judge (startAtOnce ++ closing) ≡ refuses 23 11
+
+pub refusals : Refusals
+unfolding judged reportAfter witnessAfter
+refusals =
+    record {
+      too-long = refl;
+      longest = refl;
+      head-cut = refl;
+      payload-cut = refl;
+      not-closed = refl;
+      length-high = refl;
+      cut-before-unknown = refl;
+      kind-0 = refl;
+      kind-6 = refl;
+      kind-257 = refl;
+      action-short = refl;
+      closing-long = refl;
+      literal-short = refl;
+      literal-long = refl;
+      component-long = refl;
+      component-empty = refl;
+      relation-late = refl;
+      action-late = refl;
+      literal-late = refl;
+      literal-early = refl;
+      order-before-length = refl;
+      order-before-limit = refl;
+      byte-behind = refl;
+      closing-behind = refl;
+      unknown-behind = refl;
+      relation-65 = refl;
+      action-65 = refl;
+      literal-65 = refl;
+      component-17 = refl;
+      component-16 = refl;
+      arity-7 = refl;
+      variables-17 = refl;
+      sort-2 = refl;
+      role-10 = refl;
+      role-4-at-once = refl;
+      role-before-relation = refl;
+      role-before-length = refl;
+      literal-relation = refl;
+      relation-before-length = refl;
+      component-relation = refl;
+      variable-1 = refl;
+      repeated = refl;
+      false-and-true = refl;
+      over-all-and-end = refl;
+      end-and-over-all = refl;
+      start-and-end = refl;
+      start-and-over-all = refl;
+      two-counted = refl;
+      key-twice = refl;
+      key-missing = refl;
+      more-keys = refl;
+      fewer-keys = refl;
+      used-before = refl;
+      no-component = refl;
+    }

@@ -1,0 +1,347 @@
+-- Playing, beside M12: what it and the theorems leave open, each case with what it pins. Assumes nothing.
+use mathlib.Core.Path.{_≡_, refl}
+use mathlib.Core.List.{List, [], _∷_, _++_}
+use Prim.Native.Nat.{ℕ}
+use Rattle.verdict.specs.Judged.{decidedFile}
+use Rattle.runs.specs.Play.{ofDomain, ofRun, played, workAfter, returned, returnedBytes}
+use Rattle.cases.specs.Written.{FF, rec, each, relation, atOnce, lasting, component, closing, objects, fact, event, closeStep, closeRun, holds, lacks, adds, deletes, holdsOverAll, lacksOverAll, lent, zeroed, held, playing, play, reply, plays, stops}
+use Rattle.cases.specs.Samples.{at, out, m1, m3}
+
+-- ---- the domain of most cases: lit/1, labelled 0, so that an instance is an object and weighs at most 1; its template is accepted, 0
+
+abbrev lit : ℕ → List ℕ
+lit x = 0 ∷ x ∷ []
+
+-- with the actions 0 to 7
+abbrev lamps : List ℕ
+lamps =
+    relation 1
+    ++ (atOnce 1 ++ adds (lit 0))
+    ++ (atOnce 1 ++ deletes (lit 0))
+    ++ (atOnce 1 ++ holds (lit 0))
+    ++ (atOnce 1 ++ lacks (lit 0))
+    ++ (atOnce 1 ++ deletes (lit 0) ++ adds (lit 0))
+    ++ (atOnce 2 ++ adds (lit 1) ++ adds (lit 0))
+    ++ (lasting 1 ++ holdsOverAll (lit 0))
+    ++ (lasting 1 ++ lacksOverAll (lit 0))
+    ++ component (lit 0)
+    ++ closing
+
+-- their events, 7 bytes each; a start fact has 6 bytes, the object count 5, a close 4
+
+-- adds lit(x)
+abbrev light : ℕ → List ℕ
+light x = event 0 0 (x ∷ [])
+
+-- deletes it
+abbrev snuff : ℕ → List ℕ
+snuff x = event 0 1 (x ∷ [])
+
+-- has it as true condition
+abbrev see : ℕ → List ℕ
+see x = event 0 2 (x ∷ [])
+
+-- as false condition
+abbrev hide : ℕ → List ℕ
+hide x = event 0 3 (x ∷ [])
+
+-- deletes and adds it
+abbrev renew : ℕ → List ℕ
+renew x = event 0 4 (x ∷ [])
+
+-- adds lit(y), then lit(x): 8 bytes
+abbrev both : ℕ → ℕ → List ℕ
+both x y = event 0 5 (x ∷ y ∷ [])
+
+-- lasts, with lit(x) true over all
+abbrev watch : ℕ → List ℕ
+watch x = event 0 6 (x ∷ [])
+
+abbrev watched : ℕ → List ℕ
+watched x = event 1 6 (x ∷ [])
+
+-- lasts, with lit(x) false over all
+abbrev sleep : ℕ → List ℕ
+sleep x = event 0 7 (x ∷ [])
+
+-- one step of these events, from these start facts, with three objects
+abbrev step : List ℕ → List ℕ → List ℕ
+step facts events = objects 3 ++ facts ++ events ++ closeStep ++ closeRun
+
+-- what follows a step's close that is at fault, where the run closes next
+abbrev rest : List ℕ
+rest = closeStep ++ closeRun
+
+-- ---- steps: what is allowed, and the state afterwards
+
+pub record Steps : Type 0 where
+  pub lamps-accepted : decidedFile lamps ≡ record { number = 0; first = 0; second = 0; third = 0 }
+  -- 56: a true condition of one is a delete of the other, either way round
+  pub true-deleted : play lamps (step (fact (lit 0)) (see 0 ++ snuff 0)) ≡ stops 56 25 0 1 (held (lit 0)) rest
+  pub deleted-true : play lamps (step (fact (lit 0)) (snuff 0 ++ see 0)) ≡ stops 56 25 0 1 (held (lit 0)) rest
+  -- a true condition is an add
+  pub true-added : play lamps (step (fact (lit 0)) (see 0 ++ light 0)) ≡ stops 56 25 0 1 (held (lit 0)) rest
+  pub added-true : play lamps (step (fact (lit 0)) (light 0 ++ see 0)) ≡ stops 56 25 0 1 (held (lit 0)) rest
+  -- a false condition is a delete
+  pub false-deleted : play lamps (step [] (hide 0 ++ snuff 0)) ≡ stops 56 19 0 0 [] rest
+  pub deleted-false : play lamps (step [] (snuff 0 ++ hide 0)) ≡ stops 56 19 0 0 [] rest
+  -- a false condition is an add
+  pub false-added : play lamps (step [] (hide 0 ++ light 0)) ≡ stops 56 19 0 0 [] rest
+  pub added-false : play lamps (step [] (light 0 ++ hide 0)) ≡ stops 56 19 0 0 [] rest
+  -- an add of one is a delete of the other
+  pub added-deleted : play lamps (step [] (light 0 ++ snuff 0)) ≡ stops 56 19 0 0 [] rest
+  pub deleted-added : play lamps (step [] (snuff 0 ++ light 0)) ≡ stops 56 19 0 0 [] rest
+  -- no interference: other objects; two conditions, one true and one false; two adds of one fact, which is held once
+  pub other-objects : play lamps (step (fact (lit 1)) (light 0 ++ snuff 1)) ≡ plays 1 1 (held (lit 0)) 33
+  pub conditions-alone : play lamps (step (fact (lit 1)) (hide 0 ++ see 1)) ≡ plays 1 1 (held (lit 1)) 33
+  pub added-twice : play lamps (step [] (both 0 1 ++ light 0)) ≡ plays 1 1 (held (lit 1) ++ held (lit 0)) 28
+  -- an end's over-all conditions interfere; a start's don't, nor need they hold
+  pub end-interferes : play lamps (objects 3 ++ fact (lit 0) ++ watch 0 ++ closeStep ++ watched 0 ++ snuff 0 ++ closeStep ++ closeRun)
+      ≡ stops 56 36 1 1 (held (lit 0)) rest
+  pub start-free : play lamps (step [] (watch 0 ++ light 0)) ≡ plays 1 1 (held (lit 0)) 27
+  -- 55: a true condition, a false condition
+  pub true-fails : play lamps (step [] (see 0)) ≡ stops 55 12 0 0 [] rest
+  pub false-fails : play lamps (step (fact (lit 0)) (hide 0)) ≡ stops 55 18 0 1 (held (lit 0)) rest
+  -- 55: the over-all condition of an open entry, in a step without events; the step before, which breaks it, is allowed
+  pub over-all-true-fails : play lamps (objects 3 ++ fact (lit 0) ++ watch 0 ++ closeStep ++ snuff 0 ++ closeStep ++ closeStep ++ closeRun)
+      ≡ stops 55 33 2 1 [] rest
+  pub over-all-false-fails : play lamps (objects 3 ++ sleep 0 ++ closeStep ++ light 0 ++ closeStep ++ closeStep ++ closeRun)
+      ≡ stops 55 27 2 1 (held (lit 0)) rest
+  -- that of an entry that has ended is no matter
+  pub ended : play lamps (objects 3 ++ fact (lit 0) ++ watch 0 ++ closeStep ++ watched 0 ++ closeStep ++ snuff 0 ++ closeStep ++ closeStep ++ closeRun)
+      ≡ plays 4 1 [] 52
+  -- 57 before 55, 55 before 56
+  pub open-before-condition : play lamps (step [] (see 0 ++ watched 0)) ≡ stops 57 19 0 0 [] rest
+  pub condition-before-interference : play lamps (step [] (see 0 ++ light 0)) ≡ stops 55 19 0 0 [] rest
+  -- two equal entries are open: one end takes one, a second the other, and the third finds none
+  pub open-twice : play lamps (objects 3 ++ fact (lit 0) ++ each 2 (λ i. watch 0 ++ closeStep) ++ each 3 (λ i. watched 0 ++ closeStep) ++ closeRun)
+      ≡ stops 57 62 4 1 (held (lit 0)) rest
+  -- start and end of one entry in a step: the end is of an entry open before, and the start's stays open
+  pub restarted : play lamps (objects 3 ++ fact (lit 0) ++ watch 0 ++ closeStep ++ watch 0 ++ watched 0 ++ closeStep ++ watched 0 ++ closeStep ++ closeRun)
+      ≡ plays 3 1 (held (lit 0)) 55
+  pub not-yet-open : play lamps (step (fact (lit 0)) (watch 0 ++ watched 0)) ≡ stops 57 25 0 1 (held (lit 0)) rest
+  -- an end of the same action with another object is not open
+  pub other-entry : play lamps (objects 3 ++ fact (lit 0) ++ watch 0 ++ closeStep ++ watched 1 ++ closeStep ++ closeRun)
+      ≡ stops 57 29 1 1 (held (lit 0)) rest
+  -- repeats among start facts are held once; a fact deleted and added again is new; new facts stand by event
+  pub order-of-facts : play lamps (step (fact (lit 0) ++ fact (lit 1) ++ fact (lit 0)) (renew 0 ++ light 2))
+      ≡ plays 1 1 (held (lit 1) ++ held (lit 0) ++ held (lit 2)) 45
+  pub order-of-events : play lamps (step (fact (lit 0) ++ fact (lit 1)) (light 2 ++ renew 0))
+      ≡ plays 1 1 (held (lit 1) ++ held (lit 2) ++ held (lit 0)) 39
+  -- a fact that is held and added keeps its place
+  pub added-again : play lamps (step (fact (lit 0) ++ fact (lit 1)) (light 0)) ≡ plays 1 1 (held (lit 0) ++ held (lit 1)) 32
+  -- the weight of an instance: facts of all components, of one object under the key
+  pub weight-of-two : play m1 (objects 3 ++ fact (at 1 0) ++ fact (out 0 0) ++ fact (at 0 1) ++ closeRun)
+      ≡ plays 0 2 (held (at 1 0) ++ held (out 0 0) ++ held (at 0 1)) 30
+  -- the highest, not the last: 2 at the start, 1 after lend's start
+  pub weight-highest : play m1 (objects 4 ++ fact (at 0 1) ++ fact (at 0 2) ++ event 0 1 (0 ∷ 1 ∷ 3 ∷ []) ++ closeStep ++ closeRun)
+      ≡ plays 1 2 (held (at 0 2)) 36
+  -- no 59 where a start weight is above 1, though the template is accepted
+  pub start-above-one : play m1 (objects 4 ++ fact (at 0 1) ++ fact (at 0 2) ++ event 0 0 (0 ∷ 1 ∷ 3 ∷ []) ++ closeStep ++ closeRun)
+      ≡ plays 1 2 (held (at 0 2) ++ held (at 0 3)) 36
+  -- nor where the template is refused: it is played too
+  pub refused-template : play m3 (objects 3 ++ fact (at 0 1) ++ event 0 0 (0 ∷ 1 ∷ 2 ∷ []) ++ closeStep ++ closeRun)
+      ≡ plays 1 2 (held (at 0 1) ++ held (at 0 2)) 29
+  -- an empty step is a step
+  pub empty-step : play lamps (objects 1 ++ closeStep ++ closeRun) ≡ plays 1 0 [] 13
+
+pub steps : Steps
+unfolding decidedFile played workAfter returned returnedBytes
+steps =
+    record {
+      lamps-accepted = refl;
+      true-deleted = refl;
+      deleted-true = refl;
+      true-added = refl;
+      added-true = refl;
+      false-deleted = refl;
+      deleted-false = refl;
+      false-added = refl;
+      added-false = refl;
+      added-deleted = refl;
+      deleted-added = refl;
+      other-objects = refl;
+      conditions-alone = refl;
+      added-twice = refl;
+      end-interferes = refl;
+      start-free = refl;
+      true-fails = refl;
+      false-fails = refl;
+      over-all-true-fails = refl;
+      over-all-false-fails = refl;
+      ended = refl;
+      open-before-condition = refl;
+      condition-before-interference = refl;
+      open-twice = refl;
+      restarted = refl;
+      not-yet-open = refl;
+      other-entry = refl;
+      order-of-facts = refl;
+      order-of-events = refl;
+      added-again = refl;
+      weight-of-two = refl;
+      weight-highest = refl;
+      start-above-one = refl;
+      refused-template = refl;
+      empty-step = refl;
+    }
+
+-- ---- limits of the player, and which record is at fault: 50 to 54
+
+-- an action of one variable at once and a lasting one without variables, neither with a literal, and one at once that adds a fact without arguments
+abbrev calm : List ℕ
+calm = relation 0 ++ atOnce 1 ++ lasting 0 ++ (atOnce 0 ++ adds (0 ∷ [])) ++ component (0 ∷ []) ++ closing
+
+-- 7 bytes
+abbrev nod : ℕ → List ℕ
+nod x = event 0 0 (x ∷ [])
+
+-- 6 bytes
+abbrev wait : List ℕ
+wait = event 0 1 []
+
+abbrev mark : List ℕ
+mark = event 0 2 []
+
+-- three objects, and the start fact lit(0): 11 bytes
+abbrev begun : List ℕ
+begun = objects 3 ++ fact (lit 0)
+
+pub record RunFiles : Type 0 where
+  -- 52: 32 equal entries are open, a 33rd is too many, and nothing of its step is done
+  pub open-32 : play calm (objects 1 ++ each 32 (λ i. wait ++ closeStep) ++ closeRun) ≡ plays 32 0 [] 329
+  pub open-33 : play calm (objects 1 ++ each 32 (λ i. wait ++ closeStep) ++ mark ++ wait ++ closeStep ++ closeRun) ≡ stops 52 337 32 0 [] rest
+  -- events at once open nothing
+  pub at-once-33 : play calm (objects 1 ++ each 33 (λ i. nod 0 ++ closeStep) ++ closeRun) ≡ plays 33 0 [] 372
+  -- 52: 16 events make a step, a 17th is too many; 54 comes first
+  pub event-16 : play calm (objects 17 ++ each 16 nod ++ closeStep ++ closeRun) ≡ plays 1 0 [] 125
+  pub event-17 : play calm (objects 17 ++ each 17 nod ++ closeStep ++ closeRun) ≡ stops 52 117 0 0 [] (nod 16 ++ rest)
+  pub event-17-repeated : play calm (objects 17 ++ each 16 nod ++ nod 0 ++ closeStep ++ closeRun) ≡ stops 54 117 0 0 [] (nod 0 ++ rest)
+  -- 54: in its step, not in the next
+  pub event-repeated : play calm (objects 1 ++ nod 0 ++ nod 0 ++ closeStep ++ closeRun) ≡ stops 54 12 0 0 [] (nod 0 ++ rest)
+  pub event-in-two-steps : play calm (objects 1 ++ nod 0 ++ closeStep ++ nod 0 ++ closeStep ++ closeRun) ≡ plays 2 0 [] 31
+  -- 50: nothing stands before the record of kind 16, which stands once; no start fact stands behind an event or a step's close
+  pub empty-run : play lamps [] ≡ stops 50 0 0 0 [] []
+  pub fact-early : play lamps (fact (lit 0)) ≡ stops 50 0 0 0 [] (fact (lit 0))
+  pub event-early : play lamps (light 0) ≡ stops 50 0 0 0 [] (light 0)
+  pub step-early : play lamps closeStep ≡ stops 50 0 0 0 [] closeStep
+  pub close-early : play lamps closeRun ≡ stops 50 0 0 0 [] closeRun
+  pub objects-twice : play lamps (objects 3 ++ objects 3) ≡ stops 50 5 0 0 [] (objects 3)
+  pub fact-late : play lamps (begun ++ light 1 ++ fact (lit 2)) ≡ stops 50 18 0 1 (held (lit 0)) (fact (lit 2))
+  pub fact-after-step : play lamps (begun ++ closeStep ++ fact (lit 2)) ≡ stops 50 15 1 1 (held (lit 0)) (fact (lit 2))
+  -- 51: 1 to 64 objects
+  pub objects-0 : play lamps (objects 0) ≡ stops 51 0 0 0 [] (objects 0)
+  pub objects-65 : play lamps (objects 65) ≡ stops 51 0 0 0 [] (objects 65)
+  pub objects-64 : play lamps (objects 64 ++ fact (lit 63) ++ closeRun) ≡ plays 0 1 (held (lit 63)) 15
+  -- a start fact: too short 50; relation 51, before a length that it tells; that length 50, before objects; objects 51
+  pub fact-empty : play lamps (objects 3 ++ fact []) ≡ stops 50 5 0 0 [] (fact [])
+  pub fact-relation : play lamps (objects 3 ++ fact (1 ∷ [])) ≡ stops 51 5 0 0 [] (fact (1 ∷ []))
+  pub fact-length : play lamps (objects 3 ++ fact (0 ∷ 9 ∷ 9 ∷ [])) ≡ stops 50 5 0 0 [] (fact (0 ∷ 9 ∷ 9 ∷ []))
+  pub fact-object : play lamps (begun ++ fact (lit 3)) ≡ stops 51 11 0 0 (held (lit 0)) (fact (lit 3))
+  -- an event: too short 50; moment and action 51, before a length that they tell; that length 50, before an end of an action at once and objects, 51
+  pub event-short : play lamps (begun ++ rec 18 (9 ∷ [])) ≡ stops 50 11 0 1 (held (lit 0)) (rec 18 (9 ∷ []))
+  pub event-moment : play lamps (begun ++ event 2 0 []) ≡ stops 51 11 0 1 (held (lit 0)) (event 2 0 [])
+  pub event-action : play lamps (begun ++ event 0 8 []) ≡ stops 51 11 0 1 (held (lit 0)) (event 0 8 [])
+  pub event-length : play lamps (begun ++ event 1 0 (9 ∷ 9 ∷ [])) ≡ stops 50 11 0 1 (held (lit 0)) (event 1 0 (9 ∷ 9 ∷ []))
+  pub end-at-once : play lamps (begun ++ event 1 0 (0 ∷ [])) ≡ stops 51 11 0 1 (held (lit 0)) (event 1 0 (0 ∷ []))
+  pub event-object : play lamps (begun ++ light 3) ≡ stops 51 11 0 1 (held (lit 0)) (light 3)
+  -- 53: behind 51
+  pub bound-twice : play lamps (begun ++ both 1 1) ≡ stops 53 11 0 1 (held (lit 0)) (both 1 1)
+  pub object-before-twice : play lamps (begun ++ both 3 3) ≡ stops 51 11 0 1 (held (lit 0)) (both 3 3)
+  -- a close with a payload; an event that waits at the run's close
+  pub step-long : play lamps (begun ++ rec 19 (0 ∷ [])) ≡ stops 50 11 0 1 (held (lit 0)) (rec 19 (0 ∷ []))
+  pub close-long : play lamps (begun ++ rec 20 (0 ∷ [])) ≡ stops 50 11 0 1 (held (lit 0)) (rec 20 (0 ∷ []))
+  pub event-waits : play lamps (begun ++ light 1 ++ closeRun) ≡ stops 50 18 0 1 (held (lit 0)) closeRun
+  -- the start counts from the first uncut record of kind 18 to 20 on, refused (above) or not; before it the weight is 0
+  pub kind-15 : play lamps (begun ++ rec 15 []) ≡ stops 50 11 0 0 (held (lit 0)) (rec 15 [])
+  pub kind-21 : play lamps (begun ++ rec 21 []) ≡ stops 50 11 0 0 (held (lit 0)) (rec 21 [])
+  pub kind-275 : play lamps (begun ++ (0 ∷ 0 ∷ 19 ∷ 1 ∷ [])) ≡ stops 50 11 0 0 (held (lit 0)) (0 ∷ 0 ∷ 19 ∷ 1 ∷ [])
+  pub event-cut : play lamps (begun ++ (3 ∷ 0 ∷ 18 ∷ 0 ∷ 0 ∷ 0 ∷ [])) ≡ stops 50 11 0 0 (held (lit 0)) (3 ∷ 0 ∷ 18 ∷ 0 ∷ 0 ∷ 0 ∷ [])
+  pub start-alone : play lamps (begun ++ closeRun) ≡ plays 0 1 (held (lit 0)) 15
+  -- a run that is not closed, at its length; bytes behind its close, from the first of them
+  pub not-closed : play lamps (begun ++ closeStep) ≡ stops 50 15 1 1 (held (lit 0)) []
+  pub bytes-behind : play lamps (begun ++ closeRun ++ (0 ∷ 0 ∷ [])) ≡ stops 50 15 0 1 (held (lit 0)) (0 ∷ 0 ∷ [])
+  pub close-behind : play lamps (begun ++ closeRun ++ closeRun) ≡ stops 50 15 0 1 (held (lit 0)) closeRun
+
+pub runFiles : RunFiles
+unfolding played workAfter returned returnedBytes
+runFiles =
+    record {
+      open-32 = refl;
+      open-33 = refl;
+      at-once-33 = refl;
+      event-16 = refl;
+      event-17 = refl;
+      event-17-repeated = refl;
+      event-repeated = refl;
+      event-in-two-steps = refl;
+      empty-run = refl;
+      fact-early = refl;
+      event-early = refl;
+      step-early = refl;
+      close-early = refl;
+      objects-twice = refl;
+      fact-late = refl;
+      fact-after-step = refl;
+      objects-0 = refl;
+      objects-65 = refl;
+      objects-64 = refl;
+      fact-empty = refl;
+      fact-relation = refl;
+      fact-length = refl;
+      fact-object = refl;
+      event-short = refl;
+      event-moment = refl;
+      event-action = refl;
+      event-length = refl;
+      end-at-once = refl;
+      event-object = refl;
+      bound-twice = refl;
+      object-before-twice = refl;
+      step-long = refl;
+      close-long = refl;
+      event-waits = refl;
+      kind-15 = refl;
+      kind-21 = refl;
+      kind-275 = refl;
+      event-cut = refl;
+      start-alone = refl;
+      not-closed = refl;
+      bytes-behind = refl;
+      close-behind = refl;
+    }
+
+-- ---- the part that comes back, and 58
+
+-- a domain file with a fault at 5
+abbrev faulty : List ℕ
+faulty = relation 1 ++ relation 7 ++ closing
+
+pub record Parts : Type 0 where
+  -- a fault of the domain file: the rest of that file, and the work memory is untouched; the run file is not looked at
+  pub domain-fault : playing faulty (step [] (light 0)) (lent 8200)
+      ≡ record { answer = reply 15 5 0 0; memory = lent 8200; part = ofDomain 5; bytes = relation 7 ++ closing }
+  -- it comes before 58
+  pub domain-fault-short : playing faulty [] (lent 8191)
+      ≡ record { answer = reply 15 5 0 0; memory = lent 8191; part = ofDomain 5; bytes = relation 7 ++ closing }
+  -- no closing record: the domain file's empty end
+  pub domain-not-closed : playing (relation 1) [] (lent 8200) ≡ record { answer = reply 10 5 0 0; memory = lent 8200; part = ofDomain 5; bytes = [] }
+  -- 58: one byte too few; it comes before 50 of the first record, and the run file's empty end comes back
+  pub memory-short : playing lamps (light 0) (lent 8191) ≡ record { answer = reply 58 0 0 0; memory = lent 8191; part = ofRun 7; bytes = [] }
+  -- 8,192 bytes are enough; the fact's bytes written out
+  pub memory-enough : playing lamps (begun ++ closeRun) (lent 8192)
+      ≡ record { answer = reply 2 0 0 1; memory = zeroed 8192 (0 ∷ 1 ∷ 0 ∷ FF ∷ FF ∷ FF ∷ FF ∷ FF ∷ []); part = ofRun 15; bytes = [] }
+  -- 9: the whole domain file
+  pub too-long : playing (lent 65536) [] [] ≡ record { answer = reply 9 0 0 0; memory = []; part = ofDomain 0; bytes = lent 65536 }
+
+pub parts : Parts
+unfolding played workAfter returned returnedBytes
+parts =
+    record {
+      domain-fault = refl;
+      domain-fault-short = refl;
+      domain-not-closed = refl;
+      memory-short = refl;
+      memory-enough = refl;
+      too-long = refl;
+    }

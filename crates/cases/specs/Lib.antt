@@ -1,0 +1,5 @@
+-- Worked cases: M1 to M12, and further ones.
+pub mod Written
+pub mod Samples
+pub mod Further
+pub mod FurtherRuns

@@ -1,0 +1,1 @@
+// Worked cases about the definitions, proved as equations. There is no code here.

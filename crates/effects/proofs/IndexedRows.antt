@@ -1,0 +1,228 @@
+-- Rows that are marked by a byte, and the index beside rows that are kept or joined. Assumes nothing.
+use mathlib.Core.Path.{_≡_, refl, sym, ap, _∙_, subst}
+use mathlib.Core.Bool.{Bool, true, false, cond}
+use mathlib.Core.Logic.{_⊎_, inl, inr}
+use mathlib.Core.List.{List, [], _∷_, _++_, append-nil, append-assoc}
+use Prim.Native.Nat.{ℕ, _+_, _-_, _*_, _≤_, _<_}
+use native.Mathlib.Omega.{arith}
+use lib.Dec.{eqb}
+use lib.ListN.{length, getD, set, take, drop}
+use lib.Seq.{getD-set-same, getD-set-other}
+use borrow.Author.Tests.{eqb-true, eqb-false}
+use Rattle.records.specs.Lists.{In, filterBy, sameList}
+use Rattle.records.specs.Memory.{over}
+use Rattle.records.proofs.Lists.{bool-cases, off, sameList-eq, elem-in, in-snoc, getD-in}
+use Rattle.literals.specs.Decode.{byte}
+use Rattle.literals.specs.Table.{rowsIn}
+use Rattle.literals.proofs.Rows.{part-at, rows-more, rows-end}
+use Rattle.classes.proofs.KeyRows.{length-rows, rows-at}
+use Rattle.store.specs.Index.{Sized, Indexed}
+use Rattle.store.specs.Rows.{hasRow}
+use Rattle.effects.specs.Effects.{Marked, flat, joinRow, atMost}
+use Rattle.events.proofs.RowLoops.{rows-snoc}
+use Rattle.effects.proofs.FilledRows.{Filled, filled-rows, filled-own, stays, left-out, kept-in, keptOf, kept-few, kept-next, kept-more, joinedOf, joined-next, joined-on, stopped-count, stopped-rows, joined-all, joined-out}
+
+-- ---- marks
+
+-- one row more
+pub marks-more : (rows marks : List ℕ) (j first : ℕ) → 8 * j + 8 ≤ length rows → first < length marks → first ≡ getD rows (8 * j + 2) 0 → Marked marks (rowsIn j rows)
+    → Marked (set marks first 1) (rowsIn (j + 1) rows)
+marks-more rows marks j first h b e M =
+    subst (Marked (set marks first 1)) (sym (rows-snoc j rows))
+    (in-snoc {P = λ (row : List ℕ). getD (set marks first 1) (byte row 2) 0 ≡ 1} (rowsIn j rows) (take 8 (drop (8 * j) rows))
+    (λ row m. still (byte row 2) (bool-cases (eqb (byte row 2) first)) (M row m))
+    (ap (λ (i : ℕ). getD (set marks first 1) i 0) (part-at rows (8 * j) h 2 (omega arith) ∙ sym e) ∙ getD-set-same marks first 1 0 b))
+  where
+    still : (i : ℕ) → (eqb i first ≡ true) ⊎ (eqb i first ≡ false) → getD marks i 0 ≡ 1 → getD (set marks first 1) i 0 ≡ 1
+    still i (inl t) m = ap (λ (k : ℕ). getD (set marks first 1) k 0) (eqb-true i first t) ∙ getD-set-same marks first 1 0 b
+    still i (inr f) m = getD-set-other marks first i 1 0 (eqb-false i first f) ∙ m
+
+-- a row whose third byte is not marked is none of them
+pub unmarked : (marks : List ℕ) (rows : List (List ℕ)) (row : List ℕ) → Marked marks rows → getD marks (byte row 2) 0 ≡ 0 → false ≡ hasRow row rows
+unmarked marks rows row M z = sym (off (hasRow row rows) (λ t. let e = M row (elem-in (sameList eqb) (sameList-eq eqb eqb-true) row rows t) in absurd (omega arith)))
+
+-- ---- the index beside rows that are kept
+
+module _ {arities : List ℕ} {keys : ℕ} {parts : List (List ℕ)} {index : List ℕ} (struck : List (List ℕ)) (row : List ℕ) (before after : List (List ℕ)) where
+  pub left-indexed : hasRow row struck ≡ true → Indexed arities keys parts index (before ++ after)
+      → Indexed arities keys parts index ((before ++ filterBy (stays struck) (row ∷ [])) ++ after)
+  left-indexed t I =
+      subst (λ (l : List (List ℕ)). Indexed arities keys parts index (l ++ after))
+      (sym (ap (λ (l : List (List ℕ)). before ++ l) (left-out struck row t) ∙ append-nil before)) I
+
+  pub kept-indexed : hasRow row struck ≡ false → Indexed arities keys parts index (before ++ (row ∷ after))
+      → Indexed arities keys parts index ((before ++ filterBy (stays struck) (row ∷ [])) ++ after)
+  kept-indexed t I =
+      subst (Indexed arities keys parts index)
+      (sym (ap (λ (l : List (List ℕ)). (before ++ l) ++ after) (kept-in struck row t) ∙ append-assoc before (row ∷ []) after)) I
+
+-- where the loop over the rows of the work memory stands
+pub record Keeping (struck : List (List ℕ)) (work : List ℕ) (n keys : ℕ) (parts : List (List ℕ)) (out₀ index₀ out index : List ℕ) (k i : ℕ) : Type 0 where
+  pub reach : i ≤ n
+  pub few : k ≤ i
+  pub filled : Filled (keptOf struck work i) k out out₀
+  pub same : length index ≡ length index₀
+  pub indexed : (arities : List ℕ) → Indexed arities keys parts index₀ (rowsIn n work) → Indexed arities keys parts index (keptOf struck work i ++ rowsIn (n - i) (drop (8 * i) work))
+  pub beside : getD index 12288 0 ≡ getD index₀ 12288 0
+
+pub keeping-begin : (struck : List (List ℕ)) (work : List ℕ) (n keys : ℕ) (parts : List (List ℕ)) (out index : List ℕ) → Keeping struck work n keys parts out index out index 0 0
+keeping-begin struck work n keys parts out index =
+    record {
+      reach = omega arith;
+      few = omega arith;
+      filled = filled-own 0 out (omega arith);
+      same = refl;
+      indexed = λ arities I. let e : n ≡ n - 0 = omega arith in subst (λ (k : ℕ). Indexed arities keys parts index (rowsIn k work)) e I;
+      beside = refl;
+    }
+
+module _ {struck : List (List ℕ)} {work : List ℕ} {n keys : ℕ} {parts : List (List ℕ)} {out₀ index₀ out index : List ℕ} {k i : ℕ} (K : Keeping struck work n keys parts out₀ index₀ out index k i) where
+  abbrev read : List ℕ
+  read = take 8 (drop (8 * i) work)
+
+  -- one row more
+  pub keeping-more : i < n → 8 * n ≤ length work → 8 * n ≤ length out₀ → {m : ℕ} {next index′ : List ℕ} → m ≡ k + length (filterBy (stays struck) (read ∷ []))
+      → next ≡ over (flat (rowsIn k out ++ filterBy (stays struck) (read ∷ []))) out
+      → ((arities : List ℕ) (before after : List (List ℕ)) → Indexed arities keys parts index (before ++ (read ∷ after))
+      → Indexed arities keys parts index′ ((before ++ filterBy (stays struck) (read ∷ [])) ++ after))
+      → length index′ ≡ length index → getD index′ 12288 0 ≡ getD index 12288 0 → Keeping struck work n keys parts out₀ index₀ next index′ m (i + 1)
+  keeping-more h w o {m} {next} {index′} e f x s b =
+      let q = K .few in
+      let F = kept-more struck work i k (omega arith) q (omega arith) (K .filled) e f in
+      let c = F .count in
+      let l = kept-few struck work (i + 1) in
+      record {
+        reach = omega arith;
+        few = omega arith;
+        filled = F;
+        same = s ∙ K .same;
+        indexed =
+            λ arities I.
+            subst (λ (l : List (List ℕ)). Indexed arities keys parts index′ (l ++ rowsIn (n - (i + 1)) (drop (8 * (i + 1)) work))) (sym (kept-next struck work i))
+            (x arities (keptOf struck work i) (rowsIn (n - (i + 1)) (drop (8 * (i + 1)) work))
+            (subst (λ (l : List (List ℕ)). Indexed arities keys parts index (keptOf struck work i ++ l)) (rows-more work n i h) (K .indexed arities I)));
+        beside = b ∙ K .beside;
+      }
+
+  module _ (e : i ≡ n) where
+    pub keeping-count : k ≡ length (keptOf struck work n)
+    keeping-count = K .filled .count ∙ ap (λ (i : ℕ). length (keptOf struck work i)) e
+
+    pub keeping-rows : out ≡ over (flat (keptOf struck work n)) out₀
+    keeping-rows = K .filled .bytes ∙ ap (λ (i : ℕ). over (flat (keptOf struck work i)) out₀) e
+
+    pub keeping-indexed : (arities : List ℕ) → Indexed arities keys parts index₀ (rowsIn n work) → Indexed arities keys parts index (keptOf struck work n)
+    keeping-indexed arities I =
+        subst (Indexed arities keys parts index)
+        (ap (λ (l : List (List ℕ)). keptOf struck work i ++ l) (rows-end (drop (8 * i) work) n i (omega arith)) ∙ append-nil (keptOf struck work i) ∙ ap (keptOf struck work) e)
+        (K .indexed arities I)
+
+-- ---- the index beside rows that join
+
+-- a row with the arity of its relation, by another name
+pub sized-as : (arities : List ℕ) {row at : List ℕ} → row ≡ at → byte at 1 ≡ getD arities (byte at 0) 0 → byte row 1 ≡ getD arities (byte row 0) 0
+sized-as arities e b = ap (λ (r : List ℕ). byte r 1) e ∙ b ∙ sym (ap (λ (r : List ℕ). getD arities (byte r 0) 0) e)
+
+module _ {arities : List ℕ} {keys : ℕ} {parts : List (List ℕ)} {index : List ℕ} (rows : List (List ℕ)) {row at : List ℕ} (e : row ≡ at) where
+  pub there-indexed : hasRow row rows ≡ true → Indexed arities keys parts index rows → Indexed arities keys parts index (joinRow rows at)
+  there-indexed t I = subst (λ (b : Bool). Indexed arities keys parts index (cond b rows (rows ++ (at ∷ [])))) (sym (ap (λ (r : List ℕ). hasRow r rows) (sym e) ∙ t)) I
+
+  pub new-indexed : hasRow row rows ≡ false → Indexed arities keys parts index (rows ++ (at ∷ [])) → Indexed arities keys parts index (joinRow rows at)
+  new-indexed t I = subst (λ (b : Bool). Indexed arities keys parts index (cond b rows (rows ++ (at ∷ [])))) (sym (ap (λ (r : List ℕ). hasRow r rows) (sym e) ∙ t)) I
+
+-- what is told of a row that joins
+pub record Joined (row : List ℕ) (keys : ℕ) (parts : List (List ℕ)) (out index next index′ : List ℕ) (n r : ℕ) : Type 0 where
+  pub few : (n ≤ r) × (r ≤ 1025)
+  pub count : (arities : List ℕ) → Indexed arities keys parts index (rowsIn n out) → byte row 1 ≡ getD arities (byte row 0) 0 → r ≡ atMost 1024 (length (joinRow (rowsIn n out) row))
+  pub bytes : (arities : List ℕ) → Indexed arities keys parts index (rowsIn n out) → byte row 1 ≡ getD arities (byte row 0) 0 → next ≡ over (flat (take 1024 (joinRow (rowsIn n out) row))) out
+  pub indexed : (arities : List ℕ) → Indexed arities keys parts index (rowsIn n out) → byte row 1 ≡ getD arities (byte row 0) 0 → r ≤ 1024
+      → Indexed arities keys parts index′ (joinRow (rowsIn n out) row)
+  pub beside : getD index′ 12288 0 ≡ getD index 12288 0
+  pub room : length next ≡ length out
+  pub same : length index′ ≡ length index
+
+-- where the loop over the rows that join stands
+pub record Joining (adds : List ℕ) (m count keys : ℕ) (parts : List (List ℕ)) (out₀ index₀ out index : List ℕ) (n j : ℕ) : Type 0 where
+  pub reach : j ≤ m
+  pub least : count ≤ n
+  pub most : n ≤ 1024
+  pub room : length out ≡ length out₀
+  pub same : length index ≡ length index₀
+  pub filled : (arities : List ℕ) → Indexed arities keys parts index₀ (rowsIn count out₀) → Sized arities (rowsIn m adds) → Filled (joinedOf (rowsIn count out₀) adds j) n out out₀
+  pub indexed : (arities : List ℕ) → Indexed arities keys parts index₀ (rowsIn count out₀) → Sized arities (rowsIn m adds)
+      → Indexed arities keys parts index (joinedOf (rowsIn count out₀) adds j)
+  pub beside : getD index 12288 0 ≡ getD index₀ 12288 0
+
+pub joining-begin : (adds : List ℕ) (m count keys : ℕ) (parts : List (List ℕ)) (out index : List ℕ) → count ≤ 1024 → length out ≡ 8192
+    → Joining adds m count keys parts out index out index count 0
+joining-begin adds m count keys parts out index h w =
+    record {
+      reach = omega arith;
+      least = omega arith;
+      most = h;
+      room = refl;
+      same = refl;
+      filled = λ arities I S. filled-own count out (omega arith);
+      indexed = λ arities I S. I;
+      beside = refl;
+    }
+
+module _ {adds : List ℕ} {m count keys : ℕ} {parts : List (List ℕ)} {out₀ index₀ out index : List ℕ} {n j : ℕ} (K : Joining adds m count keys parts out₀ index₀ out index n j) where
+  abbrev first : List (List ℕ)
+  first = rowsIn count out₀
+
+  module _ (h : j < m) (g : 8 * m ≤ length adds) (w : length out₀ ≡ 8192) {r : ℕ} {next index′ : List ℕ} (J : Joined (take 8 (drop (8 * j) adds)) keys parts out index next index′ n r) where
+    module _ (arities : List ℕ) (I : Indexed arities keys parts index₀ first) (S : Sized arities (rowsIn m adds)) where
+      F : Filled (joinedOf first adds j) n out out₀
+      F = K .filled arities I S
+
+      held : Indexed arities keys parts index (rowsIn n out)
+      held = subst (Indexed arities keys parts index) (sym (filled-rows F)) (K .indexed arities I S)
+
+      row-sized : byte (take 8 (drop (8 * j) adds)) 1 ≡ getD arities (byte (take 8 (drop (8 * j) adds)) 0) 0
+      row-sized =
+          S (take 8 (drop (8 * j) adds))
+          (subst (λ (row : List ℕ). In row (rowsIn m adds)) (rows-at m adds j [] h) (let l = length-rows m adds in getD-in (rowsIn m adds) j [] (omega arith)))
+
+      -- without room: whatever comes later does not change the answer
+      pub joining-stop-count : 1024 < r → r ≡ atMost 1024 (length (joinedOf first adds m))
+      joining-stop-count k = stopped-count first adds j n (omega arith) (K .most) w F (J .count arities held row-sized) (J .bytes arities held row-sized) m (omega arith) k
+
+      pub joining-stop-rows : 1024 < r → next ≡ over (flat (take 1024 (joinedOf first adds m))) out₀
+      joining-stop-rows k = stopped-rows first adds j n (omega arith) (K .most) w F (J .count arities held row-sized) (J .bytes arities held row-sized) m (omega arith) k
+
+      filled-on : r ≤ 1024 → Filled (joinedOf first adds (j + 1)) r next out₀
+      filled-on k = joined-on first adds j n (omega arith) (K .most) w F (J .count arities held row-sized) (J .bytes arities held row-sized) k
+
+      indexed-on : r ≤ 1024 → Indexed arities keys parts index′ (joinedOf first adds (j + 1))
+      indexed-on k =
+          subst (Indexed arities keys parts index′)
+          (ap (λ (l : List (List ℕ)). joinRow l (take 8 (drop (8 * j) adds))) (filled-rows F) ∙ sym (joined-next first adds j))
+          (J .indexed arities held row-sized k)
+
+    -- with room for it
+    pub joining-more : r ≤ 1024 → Joining adds m count keys parts out₀ index₀ next index′ r (j + 1)
+    joining-more k =
+        let l = K .least in
+        let f = J .few .0 in
+        record {
+          reach = omega arith;
+          least = omega arith;
+          most = k;
+          room = J .room ∙ K .room;
+          same = J .same ∙ K .same;
+          filled = λ arities I S. filled-on arities I S k;
+          indexed = λ arities I S. indexed-on arities I S k;
+          beside = J .beside ∙ K .beside;
+        }
+
+  -- all have joined
+  module _ (e : j ≡ m) (arities : List ℕ) (I : Indexed arities keys parts index₀ first) (S : Sized arities (rowsIn m adds)) where
+    pub joining-count : n ≡ atMost 1024 (length (joinedOf first adds m))
+    joining-count = joined-all (K .most) (K .filled arities I S) ∙ ap (λ (k : ℕ). atMost 1024 (length (joinedOf first adds k))) e
+
+    pub joining-rows : out ≡ over (flat (take 1024 (joinedOf first adds m))) out₀
+    joining-rows = joined-out (K .most) (K .filled arities I S) ∙ ap (λ (k : ℕ). over (flat (take 1024 (joinedOf first adds k))) out₀) e
+
+    pub joining-indexed : Indexed arities keys parts index (joinedOf first adds m)
+    joining-indexed = subst (λ (k : ℕ). Indexed arities keys parts index (joinedOf first adds k)) e (K .indexed arities I S)

@@ -1,0 +1,163 @@
+-- The facts after a step: the rows that are kept and then joined are those of the machine's `factsAfter`. Assumes nothing.
+use mathlib.Core.Path.{_≡_, refl, sym, ap, ap₂, _∙_, subst}
+use mathlib.Core.Bool.{not}
+use mathlib.Core.List.{List, [], _∷_, _++_, map, flatMap, map-append, append-assoc}
+use Prim.Native.Nat.{ℕ, zero, suc, _+_, _-_, _*_, _≤_}
+use native.Mathlib.Omega.{arith}
+use lib.Dec.{eqb}
+use lib.ListN.{length, take, replicate, length-map}
+use lib.Seq.{take-all, take-append-add}
+use Rattle.records.specs.Lists.{filterBy, sameList, elem, dedup}
+use Rattle.records.specs.Memory.{over}
+use Rattle.records.proofs.Lists.{filter-in}
+use Rattle.records.proofs.Memory.{drop-replicate}
+use Rattle.literals.specs.declared.Clause.the-variants.{Add, Delete}
+use Rattle.literals.specs.Domain.{Fact, sameFact, Domain}
+use Rattle.literals.specs.Table.{rowsIn}
+use Rattle.verdict.specs.Judged.{objectNumbers, factBytes}
+use Rattle.verdict.specs.Machine.{Event, stepFacts, factsAfter}
+use Rattle.store.specs.Index.{Sized, Indexed}
+use Rattle.runs.specs.Play.{heldBytes}
+use Rattle.store.specs.Rows.{factRow}
+use Rattle.effects.specs.Effects.{joinRows, atMost, flat, stepEffects}
+use Rattle.events.proofs.FactRows.{same-row}
+use Rattle.effects.proofs.Joins.{filter-agree, outside-map, dedup-map, joined-rows}
+use Rattle.effects.proofs.FilledRows.{rows-whole, fill-again, Filled, filled-rows, stays, keptOf, kept-few, behind, most-inside}
+use Rattle.effects.proofs.EffectRows.{step-once, step-elem}
+
+-- ---- the rows of facts
+
+-- those not among some others
+outside : (fs gs : List Fact) → filterBy (stays (map factRow gs)) (map factRow fs) ≡ map factRow (filterBy (λ (f : Fact). not (elem sameFact f gs)) fs)
+outside fs gs = outside-map factRow sameFact (sameList eqb) fs gs (λ f g m k. same-row f g)
+
+-- facts that join others
+joined-facts : (fs gs : List Fact) → joinRows (map factRow fs) (map factRow gs) ≡ map factRow (fs ++ filterBy (λ (f : Fact). not (elem sameFact f fs)) (dedup sameFact gs))
+joined-facts fs gs =
+    joined-rows (map factRow fs) (map factRow gs)
+    ∙ ap (λ (l : List (List ℕ)). map factRow fs ++ l)
+    (ap (filterBy (stays (map factRow fs))) (dedup-map factRow sameFact (sameList eqb) gs (λ f g m k. same-row f g)) ∙ outside (dedup sameFact gs) fs)
+    ∙ sym (map-append factRow fs (filterBy (λ (f : Fact). not (elem sameFact f fs)) (dedup sameFact gs)))
+
+fact-bytes : (fs : List Fact) → flat (map factRow fs) ≡ factBytes fs
+unfolding flatMap factBytes
+fact-bytes [] = refl
+fact-bytes (f ∷ fs) =
+    ap (λ (l : List ℕ). f .rel ∷ length (f .args) ∷ l)
+    (append-assoc (objectNumbers (f .args)) (replicate (6 - length (f .args)) 255) (flat (map factRow fs))
+    ∙ ap (λ (l : List ℕ). objectNumbers (f .args) ++ (replicate (6 - length (f .args)) 255 ++ l)) (fact-bytes fs))
+
+take-map : {A B : Type 0} (g : A → B) (n : ℕ) (l : List A) → take n (map g l) ≡ map g (take n l)
+take-map g zero l = refl
+take-map g (suc n) [] = refl
+take-map {A} {B} g (suc n) (x ∷ xs) = ap {B = List B} (λ l. g x ∷ l) (take-map g n xs)
+
+over-zeros : (n : ℕ) (b : List ℕ) → over b (replicate n 0) ≡ b ++ replicate (n - length b) 0
+unfolding over
+over-zeros n b = ap (λ (l : List ℕ). b ++ l) (drop-replicate (length b) n 0)
+
+-- ---- what the step keeps, and what it leaves
+
+module _ (D : Domain) (fs : List Fact) (es : List Event) where
+  abbrev keptFacts : List Fact
+  keptFacts = filterBy (λ (f : Fact). not (elem sameFact f (stepFacts D es Delete))) fs
+
+  kept-facts : filterBy (stays (map factRow (stepEffects D es Delete))) (map factRow fs) ≡ map factRow keptFacts
+  kept-facts =
+      outside fs (stepEffects D es Delete)
+      ∙ ap (map factRow)
+      (filter-agree (λ (f : Fact). not (elem sameFact f (stepEffects D es Delete))) (λ (f : Fact). not (elem sameFact f (stepFacts D es Delete))) fs
+      (λ f m. ap not (sym (step-elem D es Delete f))))
+
+  after-facts : joinRows (map factRow keptFacts) (map factRow (stepEffects D es Add)) ≡ map factRow (factsAfter D fs es)
+  unfolding factsAfter
+  after-facts =
+      joined-facts keptFacts (stepEffects D es Add)
+      ∙ ap (λ (l : List Fact). map factRow (keptFacts ++ filterBy (λ (f : Fact). not (elem sameFact f keptFacts)) l)) (sym (step-once D es Add))
+
+-- ---- as the code leaves it
+
+-- the rows that are struck and those that are added, the work memory, and out and the index before, after what is kept and after what joins
+pub record Done (keys : ℕ) (parts : List (List ℕ)) (struck work adds : List ℕ) (m n k : ℕ) (out₀ out₁ out₂ index₀ index₁ index₂ : List ℕ) (kept facts : ℕ) : Type 0 where
+  pub small : n ≤ 1024
+  pub within : 8 * n ≤ length work
+  pub room : length out₀ ≡ 8192
+  pub keptCount : kept ≡ length (keptOf (rowsIn m struck) work n)
+  pub keptBytes : out₁ ≡ over (flat (keptOf (rowsIn m struck) work n)) out₀
+  pub keptIndexed : (arities : List ℕ) → Indexed arities keys parts index₀ (rowsIn n work) → Indexed arities keys parts index₁ (keptOf (rowsIn m struck) work n)
+  pub joinedFew : (kept ≤ facts) × (facts ≤ 1025)
+  pub joinedCount : (arities : List ℕ) → Indexed arities keys parts index₁ (rowsIn kept out₁) → Sized arities (rowsIn k adds) → facts ≡ atMost 1024 (length (joinRows (rowsIn kept out₁) (rowsIn k adds)))
+  pub joinedBytes : (arities : List ℕ) → Indexed arities keys parts index₁ (rowsIn kept out₁) → Sized arities (rowsIn k adds)
+      → out₂ ≡ over (flat (take 1024 (joinRows (rowsIn kept out₁) (rowsIn k adds)))) out₁
+  pub joinedIndexed : (arities : List ℕ) → Indexed arities keys parts index₁ (rowsIn kept out₁) → Sized arities (rowsIn k adds) → facts ≤ 1024
+      → Indexed arities keys parts index₂ (joinRows (rowsIn kept out₁) (rowsIn k adds))
+
+module _ {keys : ℕ} {parts : List (List ℕ)} {struck work adds : List ℕ} {m n k : ℕ} {out₀ out₁ out₂ index₀ index₁ index₂ : List ℕ} {kept facts : ℕ}
+    (X : Done keys parts struck work adds m n k out₀ out₁ out₂ index₀ index₁ index₂ kept facts) where
+  abbrev keptRows : List (List ℕ)
+  keptRows = keptOf (rowsIn m struck) work n
+
+  abbrev newRows : List (List ℕ)
+  newRows = behind keptRows (rowsIn k adds)
+
+  filled : Filled keptRows kept out₁ out₀
+  filled =
+      let q = kept-few (rowsIn m struck) work n in
+      let c = X .keptCount in
+      let a = X .small in
+      let r = X .room in
+      record { count = c; room = omega arith; whole = λ row i. rows-whole n work (X .within) row (filter-in (stays (rowsIn m struck)) (rowsIn n work) i .0); bytes = X .keptBytes }
+
+  all-joined : joinRows (rowsIn kept out₁) (rowsIn k adds) ≡ keptRows ++ newRows
+  all-joined = ap (λ (l : List (List ℕ)). joinRows l (rowsIn k adds)) (filled-rows filled) ∙ joined-rows keptRows (rowsIn k adds)
+
+  pub after-few : (kept ≤ n) × (kept ≤ facts) × (facts ≤ 1025)
+  after-few =
+      let q = kept-few (rowsIn m struck) work n in
+      let c = X .keptCount in
+      (omega arith, X .joinedFew .0, X .joinedFew .1)
+
+  module _ (D : Domain) (es : List Event) (fs : List Fact) (s : rowsIn m struck ≡ map factRow (stepEffects D es Delete)) (t : rowsIn k adds ≡ map factRow (stepEffects D es Add))
+      (u : rowsIn n work ≡ map factRow fs) where
+    kept-rows : keptRows ≡ map factRow (keptFacts D fs es)
+    kept-rows = ap₂ (λ (x y : List (List ℕ)). filterBy (stays x) y) s u ∙ kept-facts D fs es
+
+    after-rows : joinRows (rowsIn kept out₁) (rowsIn k adds) ≡ map factRow (factsAfter D fs es)
+    after-rows = ap₂ joinRows (filled-rows filled ∙ kept-rows) t ∙ after-facts D fs es
+
+    pub after-kept : kept ≡ length (filterBy (λ (f : Fact). not (elem sameFact f (stepFacts D es Delete))) fs)
+    after-kept = X .keptCount ∙ ap length kept-rows ∙ length-map (keptFacts D fs es) factRow
+
+    module _ (arities : List ℕ) (I : Indexed arities keys parts index₀ (map factRow fs)) (S : Sized arities (map factRow (stepEffects D es Add))) where
+      kept-held : Indexed arities keys parts index₁ (rowsIn kept out₁)
+      kept-held = subst (Indexed arities keys parts index₁) (sym (filled-rows filled)) (X .keptIndexed arities (subst (Indexed arities keys parts index₀) (sym u) I))
+
+      added-sized : Sized arities (rowsIn k adds)
+      added-sized = subst (Sized arities) (sym t) S
+
+      pub after-count : facts ≡ atMost 1024 (length (factsAfter D fs es))
+      after-count = X .joinedCount arities kept-held added-sized ∙ ap (atMost 1024) (ap length after-rows ∙ length-map (factsAfter D fs es) factRow)
+
+      pub after-written : out₂ ≡ over (factBytes (take 1024 (factsAfter D fs es))) out₀
+      after-written =
+          let q = kept-few (rowsIn m struck) work n in
+          let a = X .small in
+          let z : 1024 ≡ length keptRows + (1024 - length keptRows) = omega arith in
+          let first = ap (take 1024) all-joined ∙ ap (λ (i : ℕ). take i (keptRows ++ newRows)) z ∙ take-append-add keptRows newRows (1024 - length keptRows) in
+          X .joinedBytes arities kept-held added-sized
+          ∙ ap₂ (λ (l : List (List ℕ)) (x : List ℕ). over (flat l) x) first (X .keptBytes)
+          ∙ fill-again keptRows (take (1024 - length keptRows) newRows) out₀
+          ∙ ap (λ (l : List (List ℕ)). over (flat l) out₀) (sym first ∙ ap (take 1024) after-rows ∙ take-map factRow 1024 (factsAfter D fs es))
+          ∙ ap (λ (l : List ℕ). over l out₀) (fact-bytes (take 1024 (factsAfter D fs es)))
+
+      pub after-held : out₀ ≡ replicate 8192 0 → length (factsAfter D fs es) ≤ 1024 → out₂ ≡ heldBytes (factsAfter D fs es)
+      unfolding heldBytes
+      after-held x y =
+          after-written
+          ∙ ap₂ (λ (l : List Fact) (x : List ℕ). over (factBytes l) x) (take-all 1024 (factsAfter D fs es) y) x
+          ∙ over-zeros 8192 (factBytes (factsAfter D fs es))
+
+      pub after-indexed : length (factsAfter D fs es) ≤ 1024 → Indexed arities keys parts index₂ (map factRow (factsAfter D fs es))
+      after-indexed y =
+          let c : facts ≡ length (factsAfter D fs es) = after-count ∙ sym (most-inside (length (factsAfter D fs es)) y) in
+          subst (Indexed arities keys parts index₂) after-rows (X .joinedIndexed arities kept-held added-sized (omega arith))

@@ -1,0 +1,55 @@
+-- `is_struck` meets its contract: an unmarked row is none of those struck. Assumes nothing.
+use mathlib.Core.Path.{sym, ap, _∙_}
+use mathlib.Core.List.{List}
+use Prim.Native.Nat.{ℕ}
+use native.Mathlib.Omega.{arith}
+use lib.ListN.{getD, take, drop}
+use borrow.Author.Needs.{needs}
+use Rattle.literals.specs.Table.{rowsIn}
+use Rattle.literals.proofs.Rows.{part-at}
+use Rattle.store.specs.Rows.{hasRow}
+use Rattle.effects.proofs.IndexedRows.{unmarked}
+use Rattle.effects.proofs.is_struck.Statement.{statement}
+use Rattle.effects.proofs.is_struck.Tie as tie
+
+add-wide : tie.Need-add-wide
+add-wide c = search needs
+
+shared-slice-read-wide : tie.Need-shared-slice-read-wide
+shared-slice-read-wide c = search needs
+
+wide-requires : tie.Need-wide-requires
+wide-requires c κs = search needs
+
+shared-slice-read-if1 : tie.Need-shared-slice-read-if1
+shared-slice-read-if1 c = let w = c .before .wide .ensures .1 in let p = c .before .before .before .before .before .before .pre .1 in omega arith
+
+returns : tie.Need-returns
+returns c =
+    let a = c .before .before .before .before .before .before .before .args in
+    let p = c .before .before .before .before .before .before .before .pre in
+    let w = c .before .before .wide .ensures .0 in
+    unmarked (a .marks .now) (rowsIn (a .m) (a .struck .now)) (take 8 (drop (a .at) (a .work .now))) (p .3)
+    (ap (λ (i : ℕ). getD (a .marks .now) i 0) (part-at (a .work .now) (a .at) (p .0) 2 (omega arith) ∙ sym w) ∙ c .if1 .taken)
+
+row-at-requires : tie.Need-row-at-requires
+row-at-requires c κs = search needs
+
+has-row-requires : tie.Need-has-row-requires
+has-row-requires c κs = search needs
+
+returns-2 : tie.Need-returns-2
+returns-2 c = let a = c .before .before .before .before .before .before .before .before .before .args in c .has-row .ensures ∙ ap (λ (r : List ℕ). hasRow r (rowsIn (a .m) (a .struck .now))) (c .before .row-at .ensures)
+
+pub is-struck-spec : {M : Type 1} → statement M
+is-struck-spec =
+    tie.close
+    (tie.spec
+    add-wide
+    shared-slice-read-wide
+    wide-requires
+    shared-slice-read-if1
+    returns
+    row-at-requires
+    has-row-requires
+    returns-2)

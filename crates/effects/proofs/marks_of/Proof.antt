@@ -1,0 +1,73 @@
+-- `marks_of` meets its contract: after j turns the first j rows are marked. Assumes nothing.
+use mathlib.Core.Path.{_≡_, _∙_, subst}
+use mathlib.Core.List.{List·Memᴰ·not-nil}
+use Prim.Native.Nat.{ℕ, _-_, _≤_}
+use native.Mathlib.Omega.{arith}
+use lib.ListN.{length, length-set, length-replicate}
+use borrow.Author.Needs.{needs}
+use Rattle.literals.specs.Table.{rowsIn}
+use Rattle.effects.specs.Effects.{Marked}
+use Rattle.effects.proofs.IndexedRows.{marks-more}
+use Rattle.effects.proofs.marks_of.Statement.{statement}
+use Rattle.effects.proofs.marks_of.Tie as tie
+
+abbrev Inv-loop : tie.InvT-loop
+Inv-loop rows m marks₀ j₀ marks j = (j ≤ m) × (length marks ≡ 256) × Marked marks (rowsIn j rows)
+
+abbrev μ-loop : tie.MeasureT-loop
+μ-loop rows m marks₀ j₀ marks j = m - j
+
+loop-holds : tie.Need-loop-holds Inv-loop μ-loop
+loop-holds c = (omega arith, length-replicate {A = ℕ} 256 0, λ row m. absurd (List·Memᴰ·not-nil m))
+
+mul-wide : tie.Need-mul-wide Inv-loop μ-loop
+mul-wide c = omega arith
+
+add-wide : tie.Need-add-wide Inv-loop μ-loop
+add-wide c = omega arith
+
+shared-slice-read-wide : tie.Need-shared-slice-read-wide Inv-loop μ-loop
+shared-slice-read-wide c = omega arith
+
+wide-requires : tie.Need-wide-requires Inv-loop μ-loop
+wide-requires c κs = search needs
+
+array-write-marks : tie.Need-array-write-marks Inv-loop μ-loop
+array-write-marks c = let w = c .wide .ensures .1 in omega arith
+
+add-j : tie.Need-add-j Inv-loop μ-loop
+add-j c = omega arith
+
+loop-less : tie.Need-loop-less Inv-loop μ-loop
+loop-less c = omega arith
+
+loop-again : tie.Need-loop-again Inv-loop μ-loop
+loop-again c =
+    let l = c .before .before .before .loop in
+    let w = c .wide .ensures in
+    let s = l .inv .1 in
+    (omega arith, length-set (l .marks) (c .wide .result) 1 ∙ s, marks-more (c .before .before .before .before .before .args .rows .now) (l .marks) (l .j) (c .wide .result) (omega arith) (omega arith) (w .0) (l .inv .2))
+
+returns : tie.Need-returns Inv-loop μ-loop
+returns c =
+    let a = c .before .before .before .args in
+    let l = c .before .loop in
+    let e : l .j ≡ a .m = omega arith in
+    subst (λ (k : ℕ). Marked (l .marks) (rowsIn k (a .rows .now))) e (l .inv .2)
+
+pub marks-of-spec : {M : Type 1} → statement M
+marks-of-spec =
+    tie.close
+    (tie.spec
+    Inv-loop
+    μ-loop
+    loop-holds
+    mul-wide
+    add-wide
+    shared-slice-read-wide
+    wide-requires
+    array-write-marks
+    add-j
+    loop-less
+    loop-again
+    returns)

@@ -1,0 +1,105 @@
+-- `step_effects` meets its contract: after i turns what the first i events add or strike is written. Assumes nothing.
+use mathlib.Core.Path.{_≡_, refl, sym}
+use Prim.Native.Nat.{_-_, _<_}
+use native.Mathlib.Omega.{arith}
+use lib.ListN.{length, getD}
+use borrow.Author.Needs.{needs}
+use Rattle.events.proofs.FactRows.{noEvent, waiting-count, waiting-moment-at}
+use Rattle.events.proofs.Listed.{event-fits, event-row}
+use Rattle.effects.proofs.EffectRows.{whole-event, step-begin, step-more, step-end, InEvents}
+use Rattle.effects.proofs.step_effects.Statement.{statement}
+use Rattle.effects.proofs.step_effects.Tie as tie
+
+abbrev Inv-loop : tie.InvT-loop
+Inv-loop counts arities starts table clause out₀ count moments rows n₀ i₀ out n i = InEvents counts arities starts table clause record { count = count; moments = moments; rows = rows } out₀ out n i
+
+abbrev μ-loop : tie.MeasureT-loop
+μ-loop counts arities starts table clause out₀ count moments rows n₀ i₀ out n i = count - i
+
+returns : tie.Need-returns Inv-loop μ-loop
+returns c = (
+  omega arith,
+  λ D variables sorts parts es k L w F h f.
+      let q = waiting-count es (c .before .before .before .before .before .args .waiting) w in
+      let t = c .if1 .taken in
+      absurd (omega arith),
+)
+
+loop-holds : tie.Need-loop-holds Inv-loop μ-loop
+loop-holds c = record { reach = omega arith; few = omega arith; sized = refl; filled = λ D variables sorts parts es k L w F f. step-begin D es k (c .before .before .before .before .before .before .before .args .out .now) }
+
+slice-aggregate-event-effects : tie.Need-slice-aggregate-event-effects Inv-loop μ-loop
+slice-aggregate-event-effects c = search needs
+
+slice-aggregate-event-effects-2 : tie.Need-slice-aggregate-event-effects-2 Inv-loop μ-loop
+slice-aggregate-event-effects-2 c = search needs
+
+event-effects-requires : tie.Need-event-effects-requires Inv-loop μ-loop
+event-effects-requires c κs =
+    let p = c .before .before .before .before .before .before .before .before .before .before .before .before .pre in
+    let v = c .before .before .before .before .loop .inv in
+    let m : 16 ≡ length (c .before .before .before .before .before .before .before .before .before .before .before .before .args .waiting .moments) = slice-aggregate-event-effects (c .before .before) in
+    let r : 272 ≡ length (c .before .before .before .before .before .before .before .before .before .before .before .before .args .waiting .rows) = slice-aggregate-event-effects-2 (c .before) in
+    let k = v .few in
+    let z = v .sized in
+    (p .0, sym m, sym r, omega arith, omega arith)
+
+add-i : tie.Need-add-i Inv-loop μ-loop
+add-i c = omega arith
+
+loop-less : tie.Need-loop-less Inv-loop μ-loop
+loop-less c = omega arith
+
+loop-again : tie.Need-loop-again Inv-loop μ-loop
+loop-again c =
+    let a = c .before .before .before .before .before .before .before .before .before .before .before .before .before .before .before .args in
+    let l = c .before .before .before .before .before .before .before .loop in
+    let r = c .before .before .event-effects .ensures in
+    let k = l .inv .few in
+    let z = l .inv .sized in
+    let g = r .0 in
+    record {
+      reach = omega arith;
+      few = omega arith;
+      sized = omega arith;
+      filled =
+          λ D variables sorts parts es k L w F f.
+          let q = waiting-count es (a .waiting) w in
+          let h : l .i < length es = omega arith in
+          let e = getD es (l .i) noEvent in
+          let G = event-fits D (a .counts) (a .arities .now) variables sorts (a .starts .now) parts (a .table .now) L (l .i) es F h in
+          let x = r .1 D variables sorts parts e k L G (waiting-moment-at es (a .waiting) w (l .i))
+          (event-row D (a .counts) (a .arities .now) variables sorts (a .starts .now) parts (a .table .now) L (l .i) es F h (a .waiting) w) f in
+          step-more D es k (l .i) (l .n) h (l .inv .filled D variables sorts parts es k L w F f)
+          (whole-event D (a .counts) (a .arities .now) variables sorts (a .starts .now) parts (a .table .now) L e G k) (omega arith) (x .0) (x .1);
+    }
+
+same-length : tie.Need-same-length Inv-loop μ-loop
+same-length c = c .before .loop .inv .sized
+
+returns-2 : tie.Need-returns-2 Inv-loop μ-loop
+returns-2 c =
+    let l = c .before .loop in
+    let k = l .inv .few in (
+      omega arith,
+      λ D variables sorts parts es k L w F h f.
+          let q = waiting-count es (c .before .before .before .before .before .before .before .before .before .args .waiting) w in
+          step-end D es k (l .i) (l .n) (omega arith) (l .inv .filled D variables sorts parts es k L w F f),
+    )
+
+pub step-effects-spec : {M : Type 1} → statement M
+step-effects-spec =
+    tie.close
+    (tie.spec
+    Inv-loop
+    μ-loop
+    returns
+    loop-holds
+    slice-aggregate-event-effects
+    slice-aggregate-event-effects-2
+    event-effects-requires
+    add-i
+    loop-less
+    loop-again
+    same-length
+    returns-2)

@@ -1,0 +1,56 @@
+-- What a step adds and strikes, by the rows of its events' literals. Assumes nothing.
+use mathlib.Core.Path.{_≡_}
+use mathlib.Core.Bool.{_&&_, _||_, cond}
+use mathlib.Core.List.{List, [], _∷_, _++_, map, flatMap}
+use Prim.Native.Nat.{ℕ, suc}
+use lib.Dec.{eqb, ltb}
+use lib.ListN.{getD}
+use Rattle.records.specs.Lists.{In, filterBy}
+use Rattle.literals.specs.declared.Time.{Time}
+use Rattle.literals.specs.declared.Clause.{Clause}
+use Rattle.literals.specs.Domain.{Fact, Domain, action}
+use Rattle.literals.specs.Decode.{byte}
+use Rattle.classes.specs.Classes.{own, endsOverAll, overAll, withRole}
+use Rattle.verdict.specs.Binding.{bind}
+use Rattle.verdict.specs.Machine.{Event}
+use Rattle.store.specs.Rows.{hasRow}
+use Rattle.events.specs.Coded.{boundRow, clauseFor}
+
+-- ---- effects, by rows
+
+-- the facts of an event's literals of one clause
+unfoldable pub effectRows : Time → ℕ → List ℕ → List ℕ → List (List ℕ) → List (List ℕ)
+unfolding clauseFor boundRow
+effectRows t clause arities ground rows = map (boundRow arities ground) (filterBy (λ row. eqb (clauseFor t (byte row 0)) clause) rows)
+
+-- a row more, where it is not there yet; several
+abbrev pub joinRow : List (List ℕ) → List ℕ → List (List ℕ)
+joinRow rows row = cond (hasRow row rows) rows (rows ++ (row ∷ []))
+
+abbrev pub joinRows : List (List ℕ) → List (List ℕ) → List (List ℕ)
+joinRows rows [] = rows
+joinRows rows (row ∷ more) = joinRows (joinRow rows row) more
+
+-- the third bytes of these rows are marked
+abbrev pub Marked : List ℕ → List (List ℕ) → Type 0
+Marked marks rows = (row : List ℕ) → In row rows → getD marks (byte row 2) 0 ≡ 1
+
+-- a count, or one more than the limit where it is above it
+abbrev pub atMost : ℕ → ℕ → ℕ
+atMost limit n = cond (ltb limit n) (suc limit) n
+
+-- ---- effects
+
+-- the bytes of rows, one row behind the other
+abbrev pub flat : List (List ℕ) → List ℕ
+flat rows = flatMap (λ (row : List ℕ). row) rows
+
+-- the facts of an event's literals of one clause, one for each literal: those of `eventFacts`, where a literal that stands twice counts twice
+unfoldable pub eventEffects : Domain → Event → Clause → List Fact
+unfolding action
+eventEffects D e c = map (bind (e .ground .binding)) (withRole (λ r. own (e .moment) c r || (endsOverAll (e .moment) && overAll c r)) (action D (e .ground .action) .lits))
+
+-- those of the events of a step
+unfoldable pub stepEffects : Domain → List Event → Clause → List Fact
+unfolding eventEffects flatMap
+stepEffects D es c = flatMap (λ e. eventEffects D e c) es

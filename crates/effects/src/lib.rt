@@ -1,0 +1,440 @@
+// The facts after a step: what it strikes goes out, then what it adds joins, each fact once.
+use events::Waiting;
+use events::facts::bound_row;
+use events::facts::clause_for;
+use events::facts::time_at;
+use literals::Counts;
+use literals::Time;
+use literals::fields::wide;
+use literals::span::span_of;
+use store::index::enter;
+use store::index::is_held;
+use store::index::leave;
+use store::rows::has_row;
+use store::rows::row_at;
+ghost use mathlib.Core.Path.{_≡_};
+ghost use mathlib.Core.Bool.{not};
+ghost use mathlib.Core.List.{List, [], _∷_, _++_, map};
+ghost use Prim.Native.Nat.{ℕ, suc, _+_, _*_, _<_, _≤_};
+ghost use lib.ListN.{length, getD, take, drop, replicate};
+ghost use Rattle.records.specs.Lists.{filterBy, elem};
+ghost use Rattle.records.specs.Memory.{over};
+ghost use Rattle.literals.specs.declared.Clause.{Clause};
+ghost use Rattle.literals.specs.declared.Clause.the-variants.{Delete};
+ghost use Rattle.literals.specs.Domain.{Fact, sameFact, clauseNumber, Domain};
+ghost use Rattle.literals.specs.Decode.{byte};
+ghost use Rattle.literals.specs.Table.{rowsIn};
+ghost use Rattle.classes.specs.Classes.{momentNumber};
+ghost use Rattle.verdict.specs.Judged.{factBytes};
+ghost use Rattle.verdict.specs.Machine.{Event, stepFacts, factsAfter};
+ghost use Rattle.store.specs.Index.{Sized, Indexed};
+ghost use Rattle.runs.specs.Play.{heldBytes};
+ghost use Rattle.store.specs.Rows.{factRow, hasRow};
+ghost use Rattle.events.specs.Coded.{groundRow, waitingOf, GroundFits, EventsFit, Lent, Ready, timeOf};
+ghost use Rattle.effects.specs.Effects.{Marked, effectRows, joinRow, joinRows, atMost, flat, eventEffects, stepEffects};
+
+// A row behind the first n.
+fn put_row(out: &mut [u8], n: usize, row: [u8; 8])
+    requires { ⌜ 8 * n + 8 ≤ length (now out) ⌝ }
+    ensures { λ _. ⌜ now (out .exit) ≡ over (flat (rowsIn n (now (out .entry)) ++ (row ∷ []))) (now (out .entry)) ⌝ }
+{
+    for i in 0..8 {
+        out[8 * n + i] = row[i];
+    }
+}
+
+// Which third bytes the first m rows have: 1 for each that one of them has.
+fn marks_of(rows: &[u8], m: usize) -> [u8; 256]
+    requires { ⌜ 8 * m ≤ length (now rows) ⌝ }
+    ensures { λ r. ⌜ Marked r (rowsIn m (now (rows .entry))) ⌝ }
+{
+    let mut marks = [0u8; 256];
+    for j in 0..m {
+        let first = wide(rows[8 * j + 2]);
+        marks[first] = 1;
+    }
+    marks
+}
+
+// Whether the row at an offset of the work memory is struck; most are told by their third byte, the first argument.
+fn is_struck(work: &[u8], at: usize, marks: &[u8], struck: &[u8], m: usize) -> bool
+    requires { ⌜ (at + 8 ≤ length (now work)) × (length (now marks) ≡ 256) × (8 * m ≤ length (now struck)) × Marked (now marks) (rowsIn m (now struck)) ⌝ }
+    ensures { λ r. ⌜ r ≡ hasRow (take 8 (drop at (now (work .entry)))) (rowsIn m (now (struck .entry))) ⌝ }
+{
+    let first = wide(work[at + 2]);
+    if marks[first] == 0 {
+        return false;
+    }
+    has_row(struck, m, row_at(work, at))
+}
+
+// The row at an offset of the work memory, behind the first k rows of out, unless it is among those that are struck: then it leaves the index. The count then.
+fn keep_row(
+    work: &[u8],
+    at: usize,
+    marks: &[u8],
+    struck: &[u8],
+    m: usize,
+    out: &mut [u8],
+    k: usize,
+    index: &mut [u64],
+    parts: &[u8],
+    components: usize,
+    keys: usize,
+) -> usize
+    requires { ⌜ (at + 8 ≤ length (now work)) × (length (now marks) ≡ 256) × (8 * m ≤ length (now struck)) × Marked (now marks) (rowsIn m (now struck)) × (8 * k + 8 ≤ length (now out))
+        × (length (now index) ≡ 12289) × (8 * components ≤ length (now parts)) × (keys ≤ 6) ⌝ }
+    ensures count { λ r. ⌜ r ≡ k + length (filterBy (λ (row : List ℕ). not (hasRow row (rowsIn m (now (struck .entry))))) (take 8 (drop at (now (work .entry))) ∷ [])) ⌝ }
+    ensures rows { λ _. ⌜ now (out .exit) ≡ over (flat (rowsIn k (now (out .entry)) ++ filterBy (λ (row : List ℕ). not (hasRow row (rowsIn m (now (struck .entry))))) (take 8 (drop at (now (work .entry))) ∷ []))) (now (out .entry)) ⌝ }
+    ensures indexed { λ _. ⌜ ((arities : List ℕ) (before after : List (List ℕ))
+        → Indexed arities keys (rowsIn components (now (parts .entry))) (now (index .entry)) (before ++ (take 8 (drop at (now (work .entry))) ∷ after))
+        → Indexed arities keys (rowsIn components (now (parts .entry))) (now (index .exit)) ((before ++ filterBy (λ (row : List ℕ). not (hasRow row (rowsIn m (now (struck .entry))))) (take 8 (drop at (now (work .entry))) ∷ [])) ++ after)) ⌝ }
+    ensures beside { λ _. ⌜ getD (now (index .exit)) 12288 0 ≡ getD (now (index .entry)) 12288 0 ⌝ }
+{
+    if is_struck(work, at, marks, struck, m) {
+        leave(index, parts, components, keys, work, at);
+        return k;
+    }
+    put_row(out, k, row_at(work, at));
+    k + 1
+}
+
+// The rows of the work memory that are not struck, in order, to the front of out; how many they are. The others leave the index.
+fn keep_rows(
+    work: &[u8],
+    n: usize,
+    struck: &[u8],
+    m: usize,
+    out: &mut [u8],
+    index: &mut [u64],
+    parts: &[u8],
+    components: usize,
+    keys: usize,
+) -> usize
+    requires { ⌜ (n ≤ 1024) × (8 * n ≤ length (now work)) × (8 * m ≤ length (now struck)) × (8 * n ≤ length (now out))
+        × (length (now index) ≡ 12289) × (8 * components ≤ length (now parts)) × (keys ≤ 6) ⌝ }
+    ensures count { λ r. ⌜ r ≡ length (filterBy (λ (row : List ℕ). not (hasRow row (rowsIn m (now (struck .entry))))) (rowsIn n (now (work .entry)))) ⌝ }
+    ensures rows { λ _. ⌜ now (out .exit) ≡ over (flat (filterBy (λ (row : List ℕ). not (hasRow row (rowsIn m (now (struck .entry))))) (rowsIn n (now (work .entry))))) (now (out .entry)) ⌝ }
+    ensures indexed { λ _. ⌜ ((arities : List ℕ)
+        → Indexed arities keys (rowsIn components (now (parts .entry))) (now (index .entry)) (rowsIn n (now (work .entry)))
+        → Indexed arities keys (rowsIn components (now (parts .entry))) (now (index .exit)) (filterBy (λ (row : List ℕ). not (hasRow row (rowsIn m (now (struck .entry))))) (rowsIn n (now (work .entry))))) ⌝ }
+    ensures beside { λ _. ⌜ getD (now (index .exit)) 12288 0 ≡ getD (now (index .entry)) 12288 0 ⌝ }
+{
+    let marks = marks_of(struck, m);
+    let mut k = 0;
+    for i in 0..n {
+        k = keep_row(
+            work,
+            8 * i,
+            &marks,
+            struck,
+            m,
+            out,
+            k,
+            index,
+            parts,
+            components,
+            keys,
+        );
+    }
+    k
+}
+
+// The row at an offset of what is added, behind the first n rows of out and into the index, where it is not there yet; the count then, or 1,025 where there is no room.
+fn join_row(
+    adds: &[u8],
+    at: usize,
+    out: &mut [u8],
+    n: usize,
+    index: &mut [u64],
+    parts: &[u8],
+    components: usize,
+    keys: usize,
+) -> usize
+    requires { ⌜ (at + 8 ≤ length (now adds)) × (n ≤ 1024) × (length (now out) ≡ 8192) × (length (now index) ≡ 12289) × (8 * components ≤ length (now parts)) × (keys ≤ 6) ⌝ }
+    ensures few { λ r. ⌜ (n ≤ r) × (r ≤ 1025) ⌝ }
+    ensures count { λ r. ⌜ ((arities : List ℕ) → Indexed arities keys (rowsIn components (now (parts .entry))) (now (index .entry)) (rowsIn n (now (out .entry)))
+        → byte (take 8 (drop at (now (adds .entry)))) 1 ≡ getD arities (byte (take 8 (drop at (now (adds .entry)))) 0) 0
+        → r ≡ atMost 1024 (length (joinRow (rowsIn n (now (out .entry))) (take 8 (drop at (now (adds .entry))))))) ⌝ }
+    ensures rows { λ _. ⌜ ((arities : List ℕ) → Indexed arities keys (rowsIn components (now (parts .entry))) (now (index .entry)) (rowsIn n (now (out .entry)))
+        → byte (take 8 (drop at (now (adds .entry)))) 1 ≡ getD arities (byte (take 8 (drop at (now (adds .entry)))) 0) 0
+        → now (out .exit) ≡ over (flat (take 1024 (joinRow (rowsIn n (now (out .entry))) (take 8 (drop at (now (adds .entry))))))) (now (out .entry))) ⌝ }
+    ensures indexed { λ r. ⌜ ((arities : List ℕ) → Indexed arities keys (rowsIn components (now (parts .entry))) (now (index .entry)) (rowsIn n (now (out .entry)))
+        → byte (take 8 (drop at (now (adds .entry)))) 1 ≡ getD arities (byte (take 8 (drop at (now (adds .entry)))) 0) 0 → r ≤ 1024
+        → Indexed arities keys (rowsIn components (now (parts .entry))) (now (index .exit)) (joinRow (rowsIn n (now (out .entry))) (take 8 (drop at (now (adds .entry)))))) ⌝ }
+    ensures beside { λ _. ⌜ getD (now (index .exit)) 12288 0 ≡ getD (now (index .entry)) 12288 0 ⌝ }
+{
+    let row = row_at(adds, at);
+    if is_held(index, out, n, row) {
+        return n;
+    }
+    if 1024 <= n {
+        return 1025;
+    }
+    put_row(out, n, row);
+    enter(index, parts, components, keys, adds, at);
+    n + 1
+}
+
+// Each of the first m rows of what is added, behind the first `count` rows of out, where it is not there yet; the count then, or 1,025 where there is no room.
+fn join_rows(
+    adds: &[u8],
+    m: usize,
+    out: &mut [u8],
+    count: usize,
+    index: &mut [u64],
+    parts: &[u8],
+    components: usize,
+    keys: usize,
+) -> usize
+    requires { ⌜ (m ≤ 1024) × (8 * m ≤ length (now adds)) × (count ≤ 1024) × (length (now out) ≡ 8192) × (length (now index) ≡ 12289) × (8 * components ≤ length (now parts)) × (keys ≤ 6) ⌝ }
+    ensures few { λ r. ⌜ (count ≤ r) × (r ≤ 1025) ⌝ }
+    ensures count { λ r. ⌜ ((arities : List ℕ) → Indexed arities keys (rowsIn components (now (parts .entry))) (now (index .entry)) (rowsIn count (now (out .entry))) → Sized arities (rowsIn m (now (adds .entry)))
+        → r ≡ atMost 1024 (length (joinRows (rowsIn count (now (out .entry))) (rowsIn m (now (adds .entry)))))) ⌝ }
+    ensures rows { λ _. ⌜ ((arities : List ℕ) → Indexed arities keys (rowsIn components (now (parts .entry))) (now (index .entry)) (rowsIn count (now (out .entry))) → Sized arities (rowsIn m (now (adds .entry)))
+        → now (out .exit) ≡ over (flat (take 1024 (joinRows (rowsIn count (now (out .entry))) (rowsIn m (now (adds .entry)))))) (now (out .entry))) ⌝ }
+    ensures indexed { λ r. ⌜ ((arities : List ℕ) → Indexed arities keys (rowsIn components (now (parts .entry))) (now (index .entry)) (rowsIn count (now (out .entry))) → Sized arities (rowsIn m (now (adds .entry))) → r ≤ 1024
+        → Indexed arities keys (rowsIn components (now (parts .entry))) (now (index .exit)) (joinRows (rowsIn count (now (out .entry))) (rowsIn m (now (adds .entry))))) ⌝ }
+    ensures beside { λ _. ⌜ getD (now (index .exit)) 12288 0 ≡ getD (now (index .entry)) 12288 0 ⌝ }
+{
+    let mut n = count;
+    for j in 0..m {
+        n = join_row(adds, 8 * j, out, n, index, parts, components, keys);
+        if 1024 < n {
+            return n;
+        }
+    }
+    n
+}
+
+// The fact of the literal's row at an offset, behind the first n rows of out, where the literal is of this clause at this time; the count then.
+fn put_effect(
+    out: &mut [u8],
+    n: usize,
+    time: Time,
+    clause: u8,
+    arities: &[u8],
+    ground: &[u8],
+    rows: &[u8],
+    row: usize,
+) -> usize
+    requires { ⌜ (length (now arities) ≡ 64) × ((i : ℕ) → getD (now arities) i 0 ≤ 6) × (length (now ground) ≡ 17) × (row + 8 ≤ length (now rows)) × (8 * n + 8 ≤ length (now out)) ⌝ }
+    ensures count { λ r. ⌜ r ≡ n + length (effectRows time clause (now (arities .entry)) (now (ground .entry)) (take 8 (drop row (now (rows .entry))) ∷ [])) ⌝ }
+    ensures rows { λ _. ⌜ now (out .exit) ≡ over (flat (rowsIn n (now (out .entry)) ++ effectRows time clause (now (arities .entry)) (now (ground .entry)) (take 8 (drop row (now (rows .entry))) ∷ []))) (now (out .entry)) ⌝ }
+{
+    if clause_for(time, rows[row]) == clause {
+        put_row(out, n, bound_row(arities, ground, rows, row));
+        return n + 1;
+    }
+    n
+}
+
+// Those of the first k rows of an action's literals, behind the first `at` rows of out; the count then.
+fn put_effects(
+    out: &mut [u8],
+    at: usize,
+    time: Time,
+    clause: u8,
+    arities: &[u8],
+    ground: &[u8],
+    rows: &[u8],
+    k: usize,
+) -> usize
+    requires { ⌜ (length (now arities) ≡ 64) × ((i : ℕ) → getD (now arities) i 0 ≤ 6) × (length (now ground) ≡ 17) × (8 * k ≤ length (now rows)) × (8 * (at + k) ≤ length (now out)) ⌝ }
+    ensures count { λ r. ⌜ r ≡ at + length (effectRows time clause (now (arities .entry)) (now (ground .entry)) (rowsIn k (now (rows .entry)))) ⌝ }
+    ensures rows { λ _. ⌜ now (out .exit) ≡ over (flat (rowsIn at (now (out .entry)) ++ effectRows time clause (now (arities .entry)) (now (ground .entry)) (rowsIn k (now (rows .entry))))) (now (out .entry)) ⌝ }
+{
+    let mut n = at;
+    for j in 0..k {
+        n = put_effect(out, n, time, clause, arities, ground, rows, 8 * j);
+    }
+    n
+}
+
+// Those of an action with its objects.
+fn ground_effects(
+    counts: Counts,
+    arities: &[u8],
+    starts: &[usize],
+    table: &[u8],
+    time: Time,
+    ground: &[u8],
+    clause: u8,
+    out: &mut [u8],
+    n: usize,
+) -> usize
+    requires { ⌜ Ready counts (now arities) (now starts) (now table) × (length (now ground) ≡ 17) × (8 * (n + 64) ≤ length (now out)) ⌝ }
+    ensures few { λ r. ⌜ r ≤ n + 64 ⌝ }
+    ensures effects { λ r. ⌜ ((D : Domain) (variables sorts parts : List ℕ) (e : Event) (c : Clause)
+        → Lent D counts (now (arities .entry)) variables sorts (now (starts .entry)) parts (now (table .entry)) → GroundFits D (e .ground)
+        → time ≡ timeOf (e .moment) → now (ground .entry) ≡ groundRow (e .ground) → clause ≡ suc (clauseNumber c)
+        → (r ≡ n + length (eventEffects D e c)) × (now (out .exit) ≡ over (flat (rowsIn n (now (out .entry)) ++ map factRow (eventEffects D e c))) (now (out .entry)))) ⌝ }
+{
+    let action = wide(ground[0]);
+    if counts.actions <= action {
+        return n;
+    }
+    let span = span_of(starts, counts.actions, counts.rows, action);
+    let from = 8 * span.from;
+    let to = 8 * span.to;
+    put_effects(
+        out,
+        n,
+        time,
+        clause,
+        arities,
+        ground,
+        &table[from..to],
+        span.to - span.from,
+    )
+}
+
+// Those of the waiting event i.
+fn event_effects(
+    counts: Counts,
+    arities: &[u8],
+    starts: &[usize],
+    table: &[u8],
+    moments: &[u8],
+    rows: &[u8],
+    i: usize,
+    clause: u8,
+    out: &mut [u8],
+    n: usize,
+) -> usize
+    requires { ⌜ Ready counts (now arities) (now starts) (now table) × (length (now moments) ≡ 16) × (length (now rows) ≡ 272) × (i < 16) × (8 * (n + 64) ≤ length (now out)) ⌝ }
+    ensures few { λ r. ⌜ r ≤ n + 64 ⌝ }
+    ensures effects { λ r. ⌜ ((D : Domain) (variables sorts parts : List ℕ) (e : Event) (c : Clause)
+        → Lent D counts (now (arities .entry)) variables sorts (now (starts .entry)) parts (now (table .entry)) → GroundFits D (e .ground)
+        → getD (now (moments .entry)) i 0 ≡ momentNumber (e .moment) → take 17 (drop (17 * i) (now (rows .entry))) ≡ groundRow (e .ground) → clause ≡ suc (clauseNumber c)
+        → (r ≡ n + length (eventEffects D e c)) × (now (out .exit) ≡ over (flat (rowsIn n (now (out .entry)) ++ map factRow (eventEffects D e c))) (now (out .entry)))) ⌝ }
+{
+    let at = 17 * i;
+    let end = at + 17;
+    ground_effects(
+        counts,
+        arities,
+        starts,
+        table,
+        time_at(moments[i]),
+        &rows[at..end],
+        clause,
+        out,
+        n,
+    )
+}
+
+// Those of every waiting event, in order, at the front of out: what the step adds (clause 3) or strikes (clause 4).
+fn step_effects(
+    counts: Counts,
+    arities: &[u8],
+    starts: &[usize],
+    table: &[u8],
+    waiting: Waiting,
+    clause: u8,
+    out: &mut [u8],
+) -> usize
+    requires { ⌜ Ready counts (now arities) (now starts) (now table) × (length (now out) ≡ 8192) ⌝ }
+    ensures few { λ r. ⌜ r ≤ 1024 ⌝ }
+    ensures effects { λ r. ⌜ ((D : Domain) (variables sorts parts : List ℕ) (es : List Event) (c : Clause)
+        → Lent D counts (now (arities .entry)) variables sorts (now (starts .entry)) parts (now (table .entry)) → waiting ≡ waitingOf es → EventsFit D es → length es ≤ 16
+        → clause ≡ suc (clauseNumber c)
+        → (r ≡ length (stepEffects D es c)) × (rowsIn r (now (out .exit)) ≡ map factRow (stepEffects D es c))) ⌝ }
+{
+    let count = waiting.count;
+    if 16 < count {
+        return 0;
+    }
+    let moments = waiting.moments;
+    let rows = waiting.rows;
+    let mut n = 0;
+    for i in 0..count {
+        n = event_effects(
+            counts,
+            arities,
+            starts,
+            table,
+            &moments,
+            &rows,
+            i,
+            clause,
+            out,
+            n,
+        );
+    }
+    n
+}
+
+// What a step leaves: how many of the facts before it are kept, and how many facts there are, 1,025 where they are too many.
+pub struct After {
+    pub kept: usize,
+    pub facts: usize,
+}
+
+// The facts after the waiting events, at the front of out: the first n rows of the work memory without those that a delete strikes, then what is added, each fact once; not beyond 1,024 facts.
+pub fn facts_after(
+    counts: Counts,
+    arities: &[u8],
+    starts: &[usize],
+    table: &[u8],
+    waiting: Waiting,
+    work: &[u8],
+    n: usize,
+    out: &mut [u8],
+    parts: &[u8],
+    index: &mut [u64],
+) -> After
+    requires { ⌜ Ready counts (now arities) (now starts) (now table) × (n ≤ 1024) × (8 * n ≤ length (now work)) × (length (now out) ≡ 8192)
+        × (length (now parts) ≡ 128) × (counts .components ≤ 16) × (counts .keys ≤ 6) × (length (now index) ≡ 12289) ⌝ }
+    ensures few { λ r. ⌜ (r .kept ≤ n) × (r .kept ≤ r .facts) × (r .facts ≤ 1025) ⌝ }
+    ensures counted { λ r. ⌜ ((D : Domain) (variables sorts components : List ℕ) (es : List Event) (fs : List Fact)
+        → Lent D counts (now (arities .entry)) variables sorts (now (starts .entry)) components (now (table .entry)) → waiting ≡ waitingOf es → EventsFit D es → length es ≤ 16
+        → rowsIn n (now (work .entry)) ≡ map factRow fs
+        → Indexed (now (arities .entry)) (counts .keys) (rowsIn (counts .components) (now (parts .entry))) (now (index .entry)) (map factRow fs)
+        → (r .kept ≡ length (filterBy (λ (f : Fact). not (elem sameFact f (stepFacts D es Delete))) fs)) × (r .facts ≡ atMost 1024 (length (factsAfter D fs es)))) ⌝ }
+    ensures written { λ r. ⌜ ((D : Domain) (variables sorts components : List ℕ) (es : List Event) (fs : List Fact)
+        → Lent D counts (now (arities .entry)) variables sorts (now (starts .entry)) components (now (table .entry)) → waiting ≡ waitingOf es → EventsFit D es → length es ≤ 16
+        → rowsIn n (now (work .entry)) ≡ map factRow fs
+        → Indexed (now (arities .entry)) (counts .keys) (rowsIn (counts .components) (now (parts .entry))) (now (index .entry)) (map factRow fs)
+        → now (out .exit) ≡ over (factBytes (take 1024 (factsAfter D fs es))) (now (out .entry))) ⌝ }
+    ensures held { λ r. ⌜ ((D : Domain) (variables sorts components : List ℕ) (es : List Event) (fs : List Fact)
+        → Lent D counts (now (arities .entry)) variables sorts (now (starts .entry)) components (now (table .entry)) → waiting ≡ waitingOf es → EventsFit D es → length es ≤ 16
+        → rowsIn n (now (work .entry)) ≡ map factRow fs
+        → Indexed (now (arities .entry)) (counts .keys) (rowsIn (counts .components) (now (parts .entry))) (now (index .entry)) (map factRow fs)
+        → now (out .entry) ≡ replicate 8192 0 → length (factsAfter D fs es) ≤ 1024
+        → now (out .exit) ≡ heldBytes (factsAfter D fs es)) ⌝ }
+    ensures indexed { λ r. ⌜ ((D : Domain) (variables sorts components : List ℕ) (es : List Event) (fs : List Fact)
+        → Lent D counts (now (arities .entry)) variables sorts (now (starts .entry)) components (now (table .entry)) → waiting ≡ waitingOf es → EventsFit D es → length es ≤ 16
+        → rowsIn n (now (work .entry)) ≡ map factRow fs
+        → Indexed (now (arities .entry)) (counts .keys) (rowsIn (counts .components) (now (parts .entry))) (now (index .entry)) (map factRow fs)
+        → length (factsAfter D fs es) ≤ 1024
+        → Indexed (now (arities .entry)) (counts .keys) (rowsIn (counts .components) (now (parts .entry))) (now (index .exit)) (map factRow (factsAfter D fs es))) ⌝ }
+    ensures beside { λ _. ⌜ getD (now (index .exit)) 12288 0 ≡ getD (now (index .entry)) 12288 0 ⌝ }
+{
+    let mut struck = [0u8; 8192];
+    let m = step_effects(counts, arities, starts, table, waiting, 4, &mut struck);
+    let mut adds = [0u8; 8192];
+    let k = step_effects(counts, arities, starts, table, waiting, 3, &mut adds);
+    let kept = keep_rows(
+        work,
+        n,
+        &struck,
+        m,
+        out,
+        index,
+        parts,
+        counts.components,
+        counts.keys,
+    );
+    let facts = join_rows(
+        &adds,
+        k,
+        out,
+        kept,
+        index,
+        parts,
+        counts.components,
+        counts.keys,
+    );
+    After { kept, facts }
+}

@@ -1,0 +1,340 @@
+-- Rows of facts, of actions with their objects, and of an action's literals: what their bytes say of the facts. Assumes nothing.
+use mathlib.Core.Path.{_≡_, refl, sym, ap, ap₂, _∙_}
+use mathlib.Core.Bool.{Bool, true, false, _&&_, not, cond}
+use mathlib.Core.Logic.{_⊎_, inl, inr}
+use mathlib.Core.List.{List, [], _∷_, _++_, map, flatMap, append-assoc, append-nil, List·Memᴰ·head, List·Memᴰ·tail}
+use Prim.Native.Nat.{ℕ, zero, suc, _+_, _-_, _*_, _≤_, _<_}
+use native.Mathlib.Numerals.{add-one}
+use native.Mathlib.Omega.{arith}
+use lib.Dec.{eqb}
+use lib.ListN.{length, getD, take, drop, replicate, length-append, length-map, length-replicate, length-drop, List·getD-append, List·getD-map}
+use lib.Seq.{take-at, drop-at, drop-drop, length-take-le}
+use borrow.Author.Tests.{eqb-true, eqb-false, lt-ltb}
+use Rattle.records.specs.Lists.{In, all, any, sameList, elem, dedup}
+use Rattle.records.proofs.Lists.{bool-cases, off, clash, eqb-same, any-map, any-in, in-any, all-in, all-of, allBelow, below-in, sameList-self, in-dedup, dedup-in}
+use Rattle.literals.specs.declared.Variable.{Variable}
+use Rattle.literals.specs.declared.Object.{Object}
+use Rattle.literals.specs.declared.Index.{Index}
+use Rattle.literals.specs.declared.Counts.{Counts}
+use Rattle.literals.specs.declared.Time.{Time}
+use Rattle.literals.specs.declared.Time.the-variants.{AtStart, OverAll, AtEnd}
+use Rattle.literals.specs.declared.Clause.{Clause}
+use Rattle.literals.specs.declared.Clause.the-variants.{Positive, Negative, Add, Delete}
+use Rattle.literals.specs.declared.Role.{Role}
+use Rattle.literals.specs.Domain.{object, sameObject, Atom, Fact, sameLiteral, sameFact, clauseNumber, roleNumber, roleOf, Literal, Action, Domain, arity, action}
+use Rattle.literals.specs.Table.{literalRow, rowsIn, indexOf}
+use Rattle.literals.proofs.Equality.{literal-eq}
+use Rattle.literals.proofs.Tables.{Kept, kept, length-literal-row, rows-flat, pad-at}
+use Rattle.literals.proofs.Spans.{action-listed, span-size, part-literals}
+use Rattle.classes.specs.declared.Moment.{Moment}
+use Rattle.classes.specs.declared.Moment.the-variants.{Start, End}
+use Rattle.classes.specs.Classes.{momentNumber, overAll, withRole, literalsAt}
+use Rattle.classes.proofs.Clauses.{counts}
+use Rattle.classes.proofs.Indices.{any-agree}
+use Rattle.verdict.specs.Binding.{Binding, valueOf, bind}
+use Rattle.verdict.specs.Judged.{objectNumbers}
+use Rattle.verdict.specs.Machine.{GroundAction, Event}
+use Rattle.events.specs.declared.Open.{Open}
+use Rattle.events.specs.declared.Waiting.{Waiting}
+use Rattle.runs.specs.RunFile.{momentOf}
+use Rattle.store.specs.Rows.{factRow, hasRow}
+use Rattle.events.specs.Coded.{groundRow, GroundFits, Lent, Ready, endRow, objectOf, boundRow, clauseFor, timeOf, openOf, waitingOf}
+
+-- ---- equal rows are rows of equal facts
+
+same-size : (x y : List Object) → (length x ≡ length y → ⊥) → sameList sameObject x y ≡ false
+same-size [] [] n = absurd (n refl)
+same-size [] (y ∷ ys) n = refl
+same-size (x ∷ xs) [] n = refl
+same-size (x ∷ xs) (y ∷ ys) n = go (sameObject x y) (same-size xs ys (λ e. n (ap suc e)))
+  where
+    go : (b : Bool) → sameList sameObject xs ys ≡ false → b && sameList sameObject xs ys ≡ false
+    go true h = h
+    go false h = refl
+
+same-numbers : (x y : List Object) (fill : List ℕ) → length x ≡ length y → sameList eqb (objectNumbers x ++ fill) (objectNumbers y ++ fill) ≡ sameList sameObject x y
+same-numbers [] [] fill e = sameList-self eqb eqb-same fill
+same-numbers [] (y ∷ ys) fill e = absurd (omega arith)
+same-numbers (x ∷ xs) [] fill e = absurd (omega arith)
+same-numbers (x ∷ xs) (y ∷ ys) fill e = ap (λ (b : Bool). sameObject x y && b) (same-numbers xs ys fill (omega arith))
+
+same-arguments : (x y : List Object)
+    → eqb (length x) (length y) && sameList eqb (objectNumbers x ++ replicate (6 - length x) 255) (objectNumbers y ++ replicate (6 - length y) 255) ≡ sameList sameObject x y
+same-arguments x y = go (eqb (length x) (length y)) refl
+  where
+    go : (b : Bool) → eqb (length x) (length y) ≡ b
+        → b && sameList eqb (objectNumbers x ++ replicate (6 - length x) 255) (objectNumbers y ++ replicate (6 - length y) 255) ≡ sameList sameObject x y
+    go true t =
+        let e = eqb-true (length x) (length y) t in
+        ap (λ (n : ℕ). sameList eqb (objectNumbers x ++ replicate (6 - length x) 255) (objectNumbers y ++ replicate (6 - n) 255)) (sym e)
+        ∙ same-numbers x y (replicate (6 - length x) 255) e
+    go false t = sym (same-size x y (eqb-false (length x) (length y) t))
+
+-- the arity byte tells arguments from what fills the row
+pub same-row : (f g : Fact) → sameList eqb (factRow f) (factRow g) ≡ sameFact f g
+same-row f g = ap (λ (b : Bool). eqb (f .rel) (g .rel) && b) (same-arguments (f .args) (g .args))
+
+pub has-fact : (f : Fact) (fs : List Fact) → hasRow (factRow f) (map factRow fs) ≡ elem sameFact f fs
+has-fact f fs =
+    any-map factRow (sameList eqb (factRow f)) fs
+    ∙ any-agree (λ (g : Fact). sameList eqb (factRow f) (factRow g)) (sameFact f) fs (λ g m. same-row f g)
+
+pub length-fact-row : (f : Fact) → length (f .args) ≤ 6 → length (factRow f) ≡ 8
+length-fact-row f h = simp (length-append, length-map, length-replicate) (omega arith)
+
+-- ---- an action with its objects
+
+pub length-ground-row : (g : GroundAction) → length (g .binding) ≤ 16 → length (groundRow g) ≡ 17
+length-ground-row g h = simp (length-append, length-map, length-replicate) (omega arith)
+
+getD-number : (b : Binding) (i : ℕ) → getD (objectNumbers b) i 0 ≡ getD b i (object 0) .0
+getD-number [] i = refl
+getD-number (o ∷ os) zero = refl
+getD-number (o ∷ os) (suc i) = getD-number os i
+
+pub object-at : (g : GroundAction) (v : Variable) → v .0 < length (g .binding) → length (g .binding) ≤ 16 → objectOf (groundRow g) (v .0) ≡ valueOf (g .binding) v .0
+object-at g v h k =
+    let b : v .0 < 16 = omega arith in
+    ap (λ (t : Bool). cond t (getD (groundRow g) (v .0 + 1) 0) 0) (lt-ltb (v .0) 16 b)
+    ∙ ap (λ (i : ℕ). getD (groundRow g) i 0) (add-one (v .0))
+    ∙ List·getD-append (objectNumbers (g .binding)) (replicate (16 - length (g .binding)) 255) 0 (v .0) (rw length-map h)
+    ∙ getD-number (g .binding) (v .0)
+
+-- ---- a literal's row, bound
+
+objects-at : (g : GroundAction) (vs : List Variable) → length (g .binding) ≤ 16 → ((v : Variable) → In v vs → v .0 < length (g .binding))
+    → map (objectOf (groundRow g)) (map (λ (v : Variable). v .0) vs) ≡ objectNumbers (map (valueOf (g .binding)) vs)
+objects-at g [] k h = refl
+objects-at g (v ∷ vs) k h =
+    ap₂ (λ (n : ℕ) (l : List ℕ). n ∷ l) (object-at g v (h v (List·Memᴰ·head refl)) k) (objects-at g vs k (λ w m. h w (List·Memᴰ·tail m)))
+
+-- the fact of a literal whose relation has this arity, by an action's objects
+pub bound-fact : (arities : List ℕ) (g : GroundAction) (l : Literal) → length (l .atom .args) ≡ getD arities (l .atom .rel) 0 → length (g .binding) ≤ 16
+    → ((v : Variable) → In v (l .atom .args) → v .0 < length (g .binding)) → boundRow arities (groundRow g) (literalRow l) ≡ factRow (bind (g .binding) (l .atom))
+unfolding boundRow
+bound-fact arities g l e k h =
+    ap (λ (n : ℕ). l .atom .rel ∷ n ∷ (map (objectOf (groundRow g)) (take n (numbers ++ fill)) ++ replicate (6 - n) 255)) (sym e)
+    ∙ ap (λ (x : List ℕ). l .atom .rel ∷ length (l .atom .args) ∷ (map (objectOf (groundRow g)) x ++ replicate (6 - length (l .atom .args)) 255))
+    (take-at numbers fill (length (l .atom .args)) (length-map (l .atom .args) (λ (v : Variable). v .0)))
+    ∙ ap (λ (x : List ℕ). l .atom .rel ∷ length (l .atom .args) ∷ (x ++ replicate (6 - length (l .atom .args)) 255)) (objects-at g (l .atom .args) k h)
+    ∙ ap (λ (n : ℕ). l .atom .rel ∷ n ∷ (objectNumbers (map (valueOf (g .binding)) (l .atom .args)) ++ replicate (6 - n) 255))
+    (sym (length-map (l .atom .args) (valueOf (g .binding))))
+  where
+    numbers : List ℕ
+    numbers = map (λ (v : Variable). v .0) (l .atom .args)
+
+    fill : List ℕ
+    fill = replicate (8 - suc (suc (length numbers))) 255
+
+-- ---- the clause of a role
+
+-- the roles that count with a clause at the start, over all, or at the end
+abbrev pub countsFor : Time → Clause → Role → Bool
+countsFor AtStart c r = counts Start c r
+countsFor OverAll c r = overAll c r
+countsFor AtEnd c r = counts End c r
+
+abbrev agree : Bool → Bool → Bool
+agree true b = b
+agree false b = not b
+
+agree-same : (a b : Bool) → agree a b ≡ true → a ≡ b
+agree-same true b t = sym t
+agree-same false true t = t
+agree-same false false t = refl
+
+abbrev agrees : Time → Clause → ℕ → Bool
+agrees t c b = agree (eqb (clauseFor t b) (suc (clauseNumber c))) (countsFor t c (roleOf b))
+
+all-agree : (t : Time) (c : Clause) → allBelow 10 (agrees t c) ≡ true
+unfolding clauseFor roleOf
+all-agree AtStart Positive = refl
+all-agree AtStart Negative = refl
+all-agree AtStart Add = refl
+all-agree AtStart Delete = refl
+all-agree OverAll Positive = refl
+all-agree OverAll Negative = refl
+all-agree OverAll Add = refl
+all-agree OverAll Delete = refl
+all-agree AtEnd Positive = refl
+all-agree AtEnd Negative = refl
+all-agree AtEnd Add = refl
+all-agree AtEnd Delete = refl
+
+pub clause-counts : (t : Time) (c : Clause) (l : Literal) → Kept l → eqb (clauseFor t (roleNumber (l .role))) (suc (clauseNumber c)) ≡ countsFor t c (l .role)
+clause-counts t c l k =
+    let h = k .small in
+    agree-same _ _ (below-in 10 (agrees t c) (all-agree t c) (roleNumber (l .role)) (omega arith)) ∙ ap (countsFor t c) (k .back)
+
+-- ---- what counts once
+
+pub any-once : (q : Atom Variable → Bool) (l : List (Atom Variable)) → any q (dedup sameLiteral l) ≡ any q l
+any-once q l = go (bool-cases (any q l))
+  where
+    go : (any q l ≡ true) ⊎ (any q l ≡ false) → any q (dedup sameLiteral l) ≡ any q l
+    go (inl t) = let r = any-in q l t in in-any q (in-dedup sameLiteral literal-eq (r .1)) (r .2) ∙ sym t
+    go (inr f) = off _ (λ t. let r = any-in q (dedup sameLiteral l) t in clash (in-any q (dedup-in sameLiteral l (r .1)) (r .2)) f) ∙ sym f
+
+pub all-once : (q : Atom Variable → Bool) (l : List (Atom Variable)) → all q (dedup sameLiteral l) ≡ all q l
+all-once q l = go (bool-cases (all q l))
+  where
+    go : (all q l ≡ true) ⊎ (all q l ≡ false) → all q (dedup sameLiteral l) ≡ all q l
+    go (inl t) = all-of q (dedup sameLiteral l) (λ a m. all-in q l t (dedup-in sameLiteral l m)) ∙ sym t
+    go (inr f) = off _ (λ t. clash (all-of q l (λ a m. all-in q (dedup sameLiteral l) t (in-dedup sameLiteral literal-eq m))) f) ∙ sym f
+
+-- the literals of a moment, as a test of them sees them
+pub any-literals : (a : Action) (m : Moment) (c : Clause) (q : Atom Variable → Bool) → any q (literalsAt a m c) ≡ any q (withRole (countsFor (timeOf m) c) (a .lits))
+unfolding literalsAt
+any-literals a Start c q = any-once q (withRole (counts Start c) (a .lits))
+any-literals a End c q = any-once q (withRole (counts End c) (a .lits))
+
+pub all-literals : (a : Action) (m : Moment) (c : Clause) (q : Atom Variable → Bool) → all q (literalsAt a m c) ≡ all q (withRole (countsFor (timeOf m) c) (a .lits))
+unfolding literalsAt
+all-literals a Start c q = all-once q (withRole (counts Start c) (a .lits))
+all-literals a End c q = all-once q (withRole (counts End c) (a .lits))
+
+-- ---- the memories of a domain
+
+module _ (D : Domain) (n : Counts) (arities variables sorts starts parts table : List ℕ) (L : Lent D n arities variables sorts starts parts table) where
+  pub lent-actions : n .actions ≡ length (D .actions)
+  unfolding indexOf
+  lent-actions = ap (λ (x : Index). x .actions) (L .held .is)
+
+  pub lent-arity : (r : ℕ) → getD arities r 0 ≡ arity D r
+  unfolding indexOf
+  lent-arity r = ap (λ (x : Index). getD (x .arities) r 0) (L .held .is) ∙ pad-at 64 (D .arities) r
+
+  module _ (i : ℕ) (b : i < length (D .actions)) where
+    pub lent-action : In (action D i) (D .actions)
+    lent-action = action-listed (L .held) i b
+
+    pub lent-kept : (l : Literal) → In l (action D i .lits) → Kept l
+    lent-kept l m = kept (L .held .bounded) lent-action m
+
+    pub lent-size : endRow n starts i - getD starts i 0 ≡ length (action D i .lits)
+    lent-size = span-size (L .held) i b
+
+    -- the rows of the part of the table from the first row of the action to the one behind its last
+    pub lent-rows : (from to : ℕ) → from ≡ getD starts i 0 → to ≡ endRow n starts i
+        → rowsIn (to - from) (take (8 * to - 8 * from) (drop (8 * from) table)) ≡ map literalRow (action D i .lits)
+    lent-rows from to p q =
+        ap₂ rowsIn (ap₂ (λ (x y : ℕ). x - y) q p ∙ lent-size)
+        (part-literals (L .held) i b table (L .old) (L .rows) from to p q ∙ sym (append-nil (flatMap literalRow (action D i .lits))))
+        ∙ rows-flat literalRow (action D i .lits) [] (λ l m. length-literal-row l (lent-kept l m .fits))
+
+  pub ground-few : (g : GroundAction) → GroundFits D g → length (g .binding) ≤ 16
+  ground-few g F =
+      let e = F .bound in
+      let c = L .held .bounded .counts (action D (g .action)) (lent-action (g .action) (F .listed)) in
+      omega arith
+
+  -- a literal's row of an action, by the action's objects
+  pub lent-bound : (g : GroundAction) → GroundFits D g → (l : Literal) → In l (action D (g .action) .lits)
+      → boundRow arities (groundRow g) (literalRow l) ≡ factRow (bind (g .binding) (l .atom))
+  lent-bound g F l m =
+      let i = lent-action (g .action) (F .listed) in
+      let e = F .bound in
+      bound-fact arities g l (L .held .bounded .literalArity (action D (g .action)) i l m ∙ sym (lent-arity (l .atom .rel))) (ground-few g F)
+      (λ v w. let b = L .held .bounded .below (action D (g .action)) i l m v w in omega arith)
+
+-- an action with its objects, found by its row
+module _ (D : Domain) (n : Counts) (arities variables sorts starts parts table : List ℕ) (L : Lent D n arities variables sorts starts parts table) (g : GroundAction) (F : GroundFits D g)
+    (ground : List ℕ) (e : ground ≡ groundRow g) where
+  ground-action : getD ground 0 0 ≡ g .action
+  ground-action = ap (λ (x : List ℕ). getD x 0 0) e
+
+  -- its action is one of the domain's
+  pub ground-listed : n .actions ≤ getD ground 0 0 → ⊥
+  ground-listed h =
+      let a = ground-action in
+      let c = lent-actions D n arities variables sorts starts parts table L in
+      let l = F .listed in
+      omega arith
+
+  -- and the rows of its literals
+  pub ground-rows : (from to : ℕ) → from ≡ getD starts (getD ground 0 0) 0 → to ≡ endRow n starts (getD ground 0 0)
+      → rowsIn (to - from) (take (8 * to - 8 * from) (drop (8 * from) table)) ≡ map literalRow (action D (g .action) .lits)
+  ground-rows from to p q =
+      lent-rows D n arities variables sorts starts parts table L (g .action) (F .listed) from to (p ∙ ap (λ (i : ℕ). getD starts i 0) ground-action) (q ∙ ap (endRow n starts) ground-action)
+
+-- ---- the part of the table that has an action's rows, whatever the memories hold
+
+pub record PartFits (table : List ℕ) (from to : ℕ) : Type 0 where
+  pub order : from ≤ to
+  pub few : to ≤ from + 64
+  pub room : 8 * to ≤ length table
+  pub size : 8 * (to - from) ≤ length (take (8 * to - 8 * from) (drop (8 * from) table))
+
+pub part-fits : (n : Counts) (arities starts table : List ℕ) → Ready n arities starts table → (i : ℕ) → i < n .actions → (from to : ℕ) → from ≡ getD starts i 0 → to ≡ endRow n starts i
+    → PartFits table from to
+part-fits n arities starts table R i h from to p q =
+    let o = R .order i h in
+    let w = R .within i h in
+    let f = R .few i h in
+    let r = R .room in
+    let d = length-drop (8 * from) table in
+    let t = length-take-le (8 * to - 8 * from) (drop (8 * from) table) (omega arith) in
+    record { order = omega arith; few = omega arith; room = omega arith; size = omega arith }
+
+-- ---- rows of 17 bytes
+
+module _ {A : Type 0} (f : A → List ℕ) where
+  pub ground-row-at : (l : List A) (rest : List ℕ) (d : A) → ((a : A) → In a l → length (f a) ≡ 17) → (i : ℕ) → i < length l
+      → take 17 (drop (17 * i) (flatMap f l ++ rest)) ≡ f (getD l i d)
+  unfolding flatMap
+  ground-row-at [] rest d h i b = absurd (omega arith)
+  ground-row-at (x ∷ xs) rest d h zero b =
+      ap (take 17) (append-assoc (f x) (flatMap f xs) rest) ∙ take-at (f x) (flatMap f xs ++ rest) 17 (h x (List·Memᴰ·head refl))
+  ground-row-at (x ∷ xs) rest d h (suc i) b =
+      let e : 17 * suc i ≡ 17 + 17 * i = omega arith in
+      ap₂ (λ (n : ℕ) (t : List ℕ). take 17 (drop n t)) e (append-assoc (f x) (flatMap f xs) rest)
+      ∙ ap (take 17) (sym (drop-drop (17 * i) 17 (f x ++ (flatMap f xs ++ rest))))
+      ∙ ap (λ (t : List ℕ). take 17 (drop (17 * i) t)) (drop-at (f x) (flatMap f xs ++ rest) 17 (h x (List·Memᴰ·head refl)))
+      ∙ ground-row-at xs rest d (λ a m. h a (List·Memᴰ·tail m)) i (omega arith)
+
+-- what an index beyond the last reads
+abbrev pub noGround : GroundAction
+noGround = record { action = 0; binding = [] }
+
+abbrev pub noEvent : Event
+noEvent = record { moment = Start; ground = noGround }
+
+-- the row of an open entry, by its index
+pub open-row-at : (gs : List GroundAction) → ((g : GroundAction) → In g gs → length (g .binding) ≤ 16) → (o : Open) → o ≡ openOf gs → (i : ℕ) → i < length gs
+    → take 17 (drop (17 * i) (o .rows)) ≡ groundRow (getD gs i noGround)
+unfolding openOf
+open-row-at gs h o e i b =
+    ap (λ (x : Open). take 17 (drop (17 * i) (x .rows))) e
+    ∙ ground-row-at groundRow gs (replicate (544 - length (flatMap groundRow gs)) 0) noGround (λ g m. length-ground-row g (h g m)) i b
+
+pub open-count : (gs : List GroundAction) (o : Open) → o ≡ openOf gs → o .count ≡ length gs
+unfolding openOf
+open-count gs o e = ap (λ (x : Open). x .count) e
+
+-- the row of a waiting event's action, and its moment
+pub waiting-row-at : (es : List Event) → ((e : Event) → In e es → length (e .ground .binding) ≤ 16) → (w : Waiting) → w ≡ waitingOf es → (i : ℕ) → i < length es
+    → take 17 (drop (17 * i) (w .rows)) ≡ groundRow (getD es i noEvent .ground)
+unfolding waitingOf
+waiting-row-at es h w p i b =
+    ap (λ (x : Waiting). take 17 (drop (17 * i) (x .rows))) p
+    ∙ ground-row-at (λ (e : Event). groundRow (e .ground)) es (replicate (272 - length (flatMap (λ (e : Event). groundRow (e .ground)) es)) 0) noEvent (λ e m. length-ground-row (e .ground) (h e m)) i b
+
+pub waiting-moment-at : (es : List Event) (w : Waiting) → w ≡ waitingOf es → (i : ℕ) → getD (w .moments) i 0 ≡ momentNumber (getD es i noEvent .moment)
+unfolding waitingOf
+waiting-moment-at es w p i =
+    ap (λ (x : Waiting). getD (x .moments) i 0) p
+    ∙ pad-at 16 (map (λ (e : Event). momentNumber (e .moment)) es) i
+    ∙ List·getD-map (λ (e : Event). momentNumber (e .moment)) es i noEvent
+
+pub waiting-count : (es : List Event) (w : Waiting) → w ≡ waitingOf es → w .count ≡ length es
+unfolding waitingOf
+waiting-count es w p = ap (λ (x : Waiting). x .count) p
+
+-- the moment of a byte that is a moment's
+pub moment-back : (m : Moment) → momentOf (momentNumber m) ≡ m
+moment-back Start = refl
+moment-back End = refl
+
+-- the time that the code has for an event's moment
+pub time-back : (t : Time) (k : ℕ) (m : Moment) → t ≡ timeOf (momentOf k) → k ≡ momentNumber m → t ≡ timeOf m
+time-back t k m e f = e ∙ ap (λ (k : ℕ). timeOf (momentOf k)) f ∙ ap timeOf (moment-back m)

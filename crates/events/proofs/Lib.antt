@@ -1,0 +1,8 @@
+-- Laws of rows: facts, actions with their objects, open entries, events that wait.
+pub mod Members
+pub mod RowLoops
+pub mod FactRows
+pub mod Listed
+pub mod GroundRows
+pub mod OpenRows
+pub mod MoreWaiting

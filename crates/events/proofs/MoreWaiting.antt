@@ -1,0 +1,68 @@
+-- One more event that waits. Assumes nothing.
+use mathlib.Core.Path.{_≡_, refl, sym, ap, ap₂, _∙_}
+use mathlib.Core.List.{List, [], _∷_, _++_, map, flatMap, map-append}
+use Prim.Native.Nat.{ℕ, _+_, _*_, _<_}
+use native.Mathlib.Omega.{arith}
+use lib.ListN.{length, set, replicate, length-append, length-map}
+use lib.Seq.{paste}
+use Rattle.records.specs.Memory.{over}
+use Rattle.records.proofs.Lists.{flatMap-snoc}
+use Rattle.records.proofs.Memory.{over-paste, drop-replicate}
+use Rattle.literals.specs.Domain.{Domain}
+use Rattle.literals.specs.Table.{pad, Bounded}
+use Rattle.literals.proofs.Tables.{pad-more}
+use Rattle.classes.specs.Classes.{momentNumber}
+use Rattle.verdict.specs.Machine.{Event}
+use Rattle.events.specs.declared.Waiting.{Waiting}
+use Rattle.events.specs.Coded.{groundRow, waitingOf, EventsFit}
+use Rattle.events.proofs.FactRows.{waiting-count}
+use Rattle.events.proofs.OpenRows.{length-flat, length-ground}
+
+-- ---- an event more that waits
+
+-- a list in an array of zeros, and more of it
+pad-paste : (n : ℕ) (l s : List ℕ) (at : ℕ) → length l ≡ at → paste (pad n l) at s (length s) ≡ pad n (l ++ s)
+unfolding over
+pad-paste n l s at e =
+    ap (λ (t : List ℕ). paste (l ++ t) at s (length s)) (sym (drop-replicate (length l) n 0))
+    ∙ over-paste l (replicate n 0) s at (length s) e refl
+    ∙ ap (λ (t : List ℕ). (l ++ s) ++ t) (drop-replicate (length (l ++ s)) n 0)
+
+-- what waits, with the byte of a moment and a row behind the others
+pub waiting-more : {D : Domain} → Bounded D → (es : List Event) → EventsFit D es → (w : Waiting) → w ≡ waitingOf es → w .count < 16
+    → (e : Event) (moment : ℕ) (ground rows : List ℕ) → moment ≡ momentNumber (e .moment) → ground ≡ groundRow (e .ground)
+    → rows ≡ paste (w .rows) (17 * w .count) ground (length ground)
+    → record { count = w .count + 1; moments = set (w .moments) (w .count) moment; rows = rows } ≡ waitingOf (es ++ (e ∷ []))
+unfolding waitingOf
+waiting-more {D} B es F w p l e moment ground rows q r s = λ i. record { count = count i; moments = moments i; rows = all i }
+  where
+    moments-of : List ℕ
+    moments-of = map (λ (e : Event). momentNumber (e .moment)) es
+
+    rows-of : List ℕ
+    rows-of = flatMap (λ (e : Event). groundRow (e .ground)) es
+
+    size : w .count ≡ length es
+    size = waiting-count es w p
+
+    many : length moments-of ≡ length es
+    many = length-map es (λ (e : Event). momentNumber (e .moment))
+
+    count : w .count + 1 ≡ length (es ++ (e ∷ []))
+    count = let a = length-append es (e ∷ []) in let b = size in omega arith
+
+    moments : set (w .moments) (w .count) moment ≡ pad 16 (map (λ (e : Event). momentNumber (e .moment)) (es ++ (e ∷ [])))
+    moments =
+        let a = size in
+        let b = many in
+        ap₂ (λ (t : List ℕ) (n : ℕ). set t n moment) (ap (λ (x : Waiting). x .moments) p) (size ∙ sym many)
+        ∙ pad-more 16 moments-of moment (omega arith)
+        ∙ ap (pad 16) (ap (λ (m : ℕ). moments-of ++ (m ∷ [])) q ∙ sym (map-append (λ (e : Event). momentNumber (e .moment)) es (e ∷ [])))
+
+    all : rows ≡ pad 272 (flatMap (λ (e : Event). groundRow (e .ground)) (es ++ (e ∷ [])))
+    all =
+        let k = length-flat (λ (e : Event). groundRow (e .ground)) es (λ f m. length-ground B (f .ground) (F f m)) in
+        s
+        ∙ ap₂ (λ (t : List ℕ) (n : ℕ). paste t (17 * n) ground (length ground)) (ap (λ (x : Waiting). x .rows) p) size
+        ∙ pad-paste 272 rows-of ground (17 * length es) k
+        ∙ ap (pad 272) (ap (λ (g : List ℕ). rows-of ++ g) r ∙ sym (flatMap-snoc (λ (e : Event). groundRow (e .ground)) es e))

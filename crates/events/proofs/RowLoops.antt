@@ -1,0 +1,112 @@
+-- Laws of the fact that a literal's row is bound to, and of the rows of an action. Assumes nothing.
+use mathlib.Core.Path.{_≡_, refl, sym, ap, _∙_}
+use mathlib.Core.List.{List, [], _∷_, _++_, map, append-nil}
+use Prim.Native.Nat.{ℕ, zero, suc, _+_, _-_, _≤_, _<_, _*_}
+use native.Mathlib.Omega.{arith}
+use lib.ListN.{length, getD, set, take, drop, replicate, length-append, length-drop, length-map, length-replicate, getD-replicate, List·getD-append}
+use lib.Seq.{paste, take-all, length-take-le, getD-take, getD-drop, getD-append-add, drop-drop}
+use borrow.Author.Tests.{lt-ltb, le-ltb}
+use Rattle.records.proofs.Memory.{paste-more}
+use Rattle.literals.specs.Decode.{byte}
+use Rattle.literals.proofs.Rows.{length-part, part-at}
+use Rattle.events.specs.Coded.{objectOf, boundBytes, boundRow}
+use native.Mathlib.Numerals.{add-one}
+use Rattle.literals.specs.Table.{rowsIn}
+
+-- ---- the fact that a literal's row is bound to
+
+pub object-in : (ground : List ℕ) (v : ℕ) → v < 16 → getD ground (v + 1) 0 ≡ objectOf ground v
+object-in ground v h = rw (lt-ltb v 16 h)
+
+pub object-out : (ground : List ℕ) (v : ℕ) → 16 ≤ v → 0 ≡ objectOf ground v
+object-out ground v h = rw (le-ltb v 16 h)
+
+map-at : (f : ℕ → ℕ) (l : List ℕ) (i : ℕ) → i < length l → getD (map f l) i 0 ≡ f (getD l i 0)
+map-at f [] i h = absurd (omega arith)
+map-at f (x ∷ xs) zero h = refl
+map-at f (x ∷ xs) (suc i) h = map-at f xs i (omega arith)
+
+module _ (arity : ℕ) (ground t : List ℕ) (at : ℕ) (h : at + 8 ≤ length t) (g : arity ≤ 6) where
+  abbrev row : List ℕ
+  row = take 8 (drop at t)
+
+  abbrev objects : List ℕ
+  objects = map (objectOf ground) (take arity (drop 2 row))
+
+  length-arguments : length (take arity (drop 2 row)) ≡ arity
+  length-arguments = let l = length-part t at h in length-take-le arity (drop 2 row) (simp length-drop (omega arith))
+
+  length-objects : length objects ≡ arity
+  length-objects = length-map (take arity (drop 2 row)) (objectOf ground) ∙ length-arguments
+
+  pub length-bound : length (boundBytes arity ground row) ≡ 8
+  length-bound =
+      let l = length-objects in
+      let a = length-append objects (replicate (6 - arity) 255) in
+      let r = length-replicate {A = ℕ} (6 - arity) 255 in
+      omega arith
+
+  pub bound-first : (i : ℕ) → i ≡ 0 → getD t (at + 1) 0 ≡ getD (boundBytes arity ground row) i 0
+  bound-first i e = sym (part-at t at h 1 (omega arith)) ∙ ap (λ (i : ℕ). getD (boundBytes arity ground row) i 0) (sym e)
+
+  pub bound-object : (i r : ℕ) → (i ≡ 0 → ⊥) → (i ≡ 1 → ⊥) → i < 2 + arity → r ≡ objectOf ground (getD t (at + i) 0) → r ≡ getD (boundBytes arity ground row) i 0
+  bound-object zero r n o l e = absurd (n refl)
+  bound-object (suc zero) r n o l e = absurd (o refl)
+  bound-object (suc (suc k)) r n o l e =
+      let m = length-arguments in
+      let q = length-objects in
+      let z : suc (suc k) ≡ 2 + k = omega arith in
+      e
+      ∙ ap (λ (i : ℕ). objectOf ground (getD t (at + i) 0)) z
+      ∙ sym
+      (List·getD-append objects (replicate (6 - arity) 255) 0 k (omega arith)
+      ∙ map-at (objectOf ground) (take arity (drop 2 row)) k (omega arith)
+      ∙ ap (objectOf ground) (getD-take arity (drop 2 row) k 0 (omega arith) ∙ getD-drop 2 row k 0 ∙ part-at t at h (2 + k) (omega arith)))
+
+  pub bound-fill : (i : ℕ) → i < 8 → (i ≡ 0 → ⊥) → (i ≡ 1 → ⊥) → 2 + arity ≤ i → 255 ≡ getD (boundBytes arity ground row) i 0
+  bound-fill zero l n o m = absurd (n refl)
+  bound-fill (suc zero) l n o m = absurd (o refl)
+  bound-fill (suc (suc k)) l n o m =
+      let q = length-objects in
+      let e : k ≡ length objects + (k - arity) = omega arith in
+      sym
+      (ap (λ (i : ℕ). getD (objects ++ replicate (6 - arity) 255) i 0) e
+      ∙ getD-append-add objects (replicate (6 - arity) 255) (k - arity) 0
+      ∙ getD-replicate (6 - arity) (k - arity) 255 0 (omega arith))
+
+-- the row that is filled, i bytes of it so far
+module _ (arity : ℕ) (ground t : List ℕ) (at : ℕ) (h : at + 8 ≤ length t) (g : arity ≤ 6) (fact : List ℕ) (i : ℕ)
+    (e : fact ≡ paste (replicate 8 255) 0 (boundBytes arity ground (take 8 (drop at t))) i) where
+  pub bound-more : (r : ℕ) → i < 8 → r ≡ getD (boundBytes arity ground (take 8 (drop at t))) i 0 → set fact i r ≡ paste (replicate 8 255) 0 (boundBytes arity ground (take 8 (drop at t))) (i + 1)
+  bound-more r l f =
+      let z : 0 + i ≡ i = omega arith in
+      ap (λ (k : ℕ). set fact k r) (sym z)
+      ∙ paste-more (boundBytes arity ground (take 8 (drop at t))) (replicate 8 255) fact 0 i 8 (omega arith) (length-bound arity ground t at h g) e r l f
+
+  pub bound-all : (arities : List ℕ) → arity ≡ getD arities (getD t (at + 1) 0) 0 → i ≡ 8 → fact ≡ boundRow arities ground (take 8 (drop at t))
+  unfolding boundRow
+  bound-all arities f z =
+      let row : List ℕ = take 8 (drop at t) in
+      e
+      ∙ ap (λ (k : ℕ). paste (replicate 8 255) 0 (boundBytes arity ground row) k) z
+      ∙ ap (λ (l : List ℕ). l ++ []) (take-all 8 (boundBytes arity ground row) (omega (arith, length-bound arity ground t at h g)))
+      ∙ append-nil (boundBytes arity ground row)
+      ∙ ap (λ (n : ℕ). boundBytes n ground row) (f ∙ sym (ap (λ (r : ℕ). getD arities r 0) (part-at t at h 1 (omega arith))))
+
+-- its second byte is the arity of its relation
+pub bound-sized : (arities ground row fact : List ℕ) → fact ≡ boundRow arities ground row → byte fact 1 ≡ getD arities (byte fact 0) 0
+unfolding boundRow
+bound-sized arities ground row fact e = ap (λ (t : List ℕ). byte t 1) e ∙ sym (ap (λ (t : List ℕ). getD arities (byte t 0) 0) e)
+
+-- ---- the first rows of a memory
+
+rows-last : (j : ℕ) (t : List ℕ) → rowsIn (suc j) t ≡ rowsIn j t ++ (take 8 (drop (8 * j) t) ∷ [])
+rows-last zero t = refl
+rows-last (suc j) t =
+    let e : 8 + 8 * j ≡ 8 * suc j = omega arith in
+    ap {B = List (List ℕ)} (λ l. take 8 t ∷ l)
+    (rows-last j (drop 8 t) ∙ ap (λ (r : List ℕ). rowsIn j (drop 8 t) ++ (take 8 r ∷ [])) (drop-drop (8 * j) 8 t ∙ ap (λ (n : ℕ). drop n t) e))
+
+-- one row more
+pub rows-snoc : (j : ℕ) (t : List ℕ) → rowsIn (j + 1) t ≡ rowsIn j t ++ (take 8 (drop (8 * j) t) ∷ [])
+rows-snoc j t = ap (λ (n : ℕ). rowsIn n t) (add-one j) ∙ rows-last j t

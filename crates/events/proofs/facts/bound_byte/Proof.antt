@@ -1,0 +1,51 @@
+-- `bound_byte` meets its contract. Assumes nothing.
+use borrow.Author.Needs.{needs}
+use native.Mathlib.Omega.{arith}
+use Rattle.events.proofs.RowLoops.{bound-first, bound-object, bound-fill}
+use Rattle.events.proofs.facts.bound_byte.Statement.{statement}
+use Rattle.events.proofs.facts.bound_byte.Tie as tie
+
+add-result : tie.Need-add-result
+add-result c = search needs
+
+shared-slice-read-result : tie.Need-shared-slice-read-result
+shared-slice-read-result c = search needs
+
+returns : tie.Need-returns
+returns c = let a = c .before .before .before .before .args in bound-first (a .arity) (a .ground .now) (a .rows .now) (a .row) (omega arith) (omega arith) (a .i) (omega arith)
+
+returns-2 : tie.Need-returns-2
+returns-2 c = search needs
+
+add-if3 : tie.Need-add-if3
+add-if3 c = search needs
+
+add-object-of : tie.Need-add-object-of
+add-object-of c = search needs
+
+shared-slice-read-object-of : tie.Need-shared-slice-read-object-of
+shared-slice-read-object-of c = search needs
+
+object-of-requires : tie.Need-object-of-requires
+object-of-requires c κs = search needs
+
+returns-3 : tie.Need-returns-3
+returns-3 c = let a = c .before .before .before .before .before .before .before .args in bound-object (a .arity) (a .ground .now) (a .rows .now) (a .row) (omega arith) (omega arith) (a .i) (c .object-of .result) (λ e. omega arith) (λ e. omega arith) (omega arith) (c .object-of .ensures)
+
+returns-4 : tie.Need-returns-4
+returns-4 c = let a = c .before .before .before .before .before .args in bound-fill (a .arity) (a .ground .now) (a .rows .now) (a .row) (omega arith) (omega arith) (a .i) (omega arith) (λ e. omega arith) (λ e. omega arith) (omega arith)
+
+pub bound-byte-spec : {M : Type 1} → statement M
+bound-byte-spec =
+    tie.close
+    (tie.spec
+    add-result
+    shared-slice-read-result
+    returns
+    returns-2
+    add-if3
+    add-object-of
+    shared-slice-read-object-of
+    object-of-requires
+    returns-3
+    returns-4)

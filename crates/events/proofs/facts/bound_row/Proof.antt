@@ -1,0 +1,72 @@
+-- `bound_row` meets its contract: after i turns the first i bytes of the fact are written. Assumes nothing.
+use borrow.Author.Needs.{needs}
+use mathlib.Core.Path.{_≡_}
+use Prim.Native.Nat.{_+_, _-_, _≤_}
+use native.Mathlib.Omega.{arith}
+use lib.ListN.{getD, take, drop, replicate}
+use lib.Seq.{paste, paste-zero}
+use Rattle.events.specs.Coded.{boundBytes}
+use Rattle.events.proofs.RowLoops.{bound-more, bound-all}
+use Rattle.events.proofs.facts.bound_row.Statement.{statement}
+use Rattle.events.proofs.facts.bound_row.Tie as tie
+
+abbrev Inv-loop : tie.InvT-loop
+Inv-loop arities ground rows row arity fact₀ i₀ fact i = (i ≤ 8) × (fact ≡ paste (replicate 8 255) 0 (boundBytes arity ground (take 8 (drop row rows))) i)
+
+abbrev μ-loop : tie.MeasureT-loop
+μ-loop arities ground rows row arity fact₀ i₀ fact i = 8 - i
+
+-- the arity that was looked up
+few : (b : tie.After-arity-of Inv-loop μ-loop) → b .arity-of .result ≤ 6
+few b = rw (b .arity-of .ensures) (b .before .before .before .before .before .pre .1 (getD (b .before .before .before .before .before .args .rows .now) (b .before .before .before .before .before .args .row + 1) 0))
+
+add-arity-of : tie.Need-add-arity-of Inv-loop μ-loop
+add-arity-of c = search needs
+
+shared-slice-read-arity-of : tie.Need-shared-slice-read-arity-of Inv-loop μ-loop
+shared-slice-read-arity-of c = search needs
+
+arity-of-requires : tie.Need-arity-of-requires Inv-loop μ-loop
+arity-of-requires c κs = search needs
+
+loop-holds : tie.Need-loop-holds Inv-loop μ-loop
+loop-holds c = let a = c .before .before .before .before .before .args in (omega arith, paste-zero (replicate 8 255) 0 (boundBytes (c .arity-of .result) (a .ground .now) (take 8 (drop (a .row) (a .rows .now)))))
+
+bound-byte-requires : tie.Need-bound-byte-requires Inv-loop μ-loop
+bound-byte-requires c κs = let f = few (c .before .before) in omega arith
+
+array-write-fact : tie.Need-array-write-fact Inv-loop μ-loop
+array-write-fact c = omega arith
+
+add-i : tie.Need-add-i Inv-loop μ-loop
+add-i c = omega arith
+
+loop-less : tie.Need-loop-less Inv-loop μ-loop
+loop-less c = omega arith
+
+loop-again : tie.Need-loop-again Inv-loop μ-loop
+loop-again c = let a = c .before .before .before .before .before .before .before .before .args in
+    let l = c .before .before .loop in
+    (omega arith, bound-more (c .before .before .before .arity-of .result) (a .ground .now) (a .rows .now) (a .row) (omega arith) (few (c .before .before .before)) (l .fact) (l .i) (l .inv .1) (c .bound-byte .result) (omega arith) (c .bound-byte .ensures))
+
+returns : tie.Need-returns Inv-loop μ-loop
+returns c = let a = c .before .before .before .before .before .before .before .args in
+    let l = c .before .loop in
+    bound-all (c .before .before .arity-of .result) (a .ground .now) (a .rows .now) (a .row) (omega arith) (few (c .before .before)) (l .fact) (l .i) (l .inv .1) (a .arities .now) (c .before .before .arity-of .ensures) (omega arith)
+
+pub bound-row-spec : {M : Type 1} → statement M
+bound-row-spec =
+    tie.close
+    (tie.spec
+    Inv-loop
+    μ-loop
+    add-arity-of
+    shared-slice-read-arity-of
+    arity-of-requires
+    loop-holds
+    bound-byte-requires
+    array-write-fact
+    add-i
+    loop-less
+    loop-again
+    returns)

@@ -1,0 +1,24 @@
+-- `clause_over_all` meets its contract, test by test. Assumes nothing.
+use borrow.Author.Tests.{lt-ltb, le-ltb}
+use Rattle.events.specs.Coded.{clauseFor}
+use borrow.Author.Needs.{needs}
+use Rattle.events.proofs.facts.clause_over_all.Statement.{statement}
+use Rattle.events.proofs.facts.clause_over_all.Tie as tie
+
+returns : tie.Need-returns
+unfolding clauseFor
+returns c = simp (lt-ltb _ _ (c .if1 .taken))
+
+sub-result : tie.Need-sub-result
+sub-result c = search needs
+
+returns-2 : tie.Need-returns-2
+unfolding clauseFor
+returns-2 c = simp (le-ltb _ _ (c .before .if1 .left), lt-ltb _ _ (c .if2 .taken))
+
+returns-3 : tie.Need-returns-3
+unfolding clauseFor
+returns-3 c = simp (le-ltb _ _ (c .before .if1 .left), le-ltb _ _ (c .if2 .left))
+
+pub clause-over-all-spec : {M : Type 1} → statement M
+clause-over-all-spec = tie.close (tie.spec returns sub-result returns-2 returns-3)

@@ -1,0 +1,54 @@
+-- `end_open` meets its contract: by its moment. Assumes nothing.
+use mathlib.Core.Path.{ap, _∙_}
+use mathlib.Core.List.{List}
+use Prim.Native.Nat.{ℕ, _*_}
+use Rattle.events.specs.Coded.{groundsIn}
+use Rattle.store.specs.Rows.{hasRow}
+use Rattle.events.proofs.GroundRows.{eventAt, part-ground, open-start, open-end}
+use borrow.Author.Needs.{needs}
+use Rattle.events.proofs.openings.end_open.Statement.{statement}
+use Rattle.events.proofs.openings.end_open.Tie as tie
+
+shared-slice-read-if1 : tie.Need-shared-slice-read-if1
+shared-slice-read-if1 c = search needs
+
+returns : tie.Need-returns
+returns c = let a = c .before .before .before .before .before .args in
+    open-start (groundsIn (a .n) (a .rows .now)) (eventAt (a .moments .now) (a .events .now) (a .i)) (c .if1 .taken)
+
+mul-at : tie.Need-mul-at
+mul-at c = search needs
+
+add-end : tie.Need-add-end
+add-end c = search needs
+
+sub-is-open : tie.Need-sub-is-open
+sub-is-open c = search needs
+
+part-is-open-start : tie.Need-part-is-open-start
+part-is-open-start c = search needs
+
+part-is-open-end : tie.Need-part-is-open-end
+part-is-open-end c = search needs
+
+is-open-requires : tie.Need-is-open-requires
+is-open-requires c κs = search needs
+
+returns-2 : tie.Need-returns-2
+returns-2 c = let a = c .before .before .before .before .before .before .before .args in
+    open-end (groundsIn (a .n) (a .rows .now)) (eventAt (a .moments .now) (a .events .now) (a .i)) (c .before .before .if1 .left) (c .is-open .result)
+    (c .is-open .ensures ∙ ap (λ (t : List ℕ). hasRow t (groundsIn (a .n) (a .rows .now))) (part-ground (a .events .now) (17 * a .i)))
+
+pub end-open-spec : {M : Type 1} → statement M
+end-open-spec =
+    tie.close
+    (tie.spec
+    shared-slice-read-if1
+    returns
+    mul-at
+    add-end
+    sub-is-open
+    part-is-open-start
+    part-is-open-end
+    is-open-requires
+    returns-2)

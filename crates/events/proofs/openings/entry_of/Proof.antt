@@ -1,0 +1,64 @@
+-- `entry_of` meets its contract: no entry before k is this one, so the place is k and that from entry k on. Assumes nothing.
+use mathlib.Core.Path.{_≡_, sym, _∙_}
+use Prim.Native.Nat.{_+_, _-_, _*_, _≤_}
+use native.Mathlib.Omega.{arith}
+use lib.Dec.{eqb}
+use lib.ListN.{drop}
+use Rattle.records.specs.Lists.{sameList}
+use Rattle.classes.specs.Coded.{position}
+use Rattle.events.specs.Coded.{groundsIn}
+use Rattle.events.proofs.GroundRows.{entry-first, entry-hit, entry-miss, entry-end}
+use Rattle.events.proofs.openings.entry_of.Statement.{statement}
+use Rattle.events.proofs.openings.entry_of.Tie as tie
+
+abbrev Inv-loop : tie.InvT-loop
+Inv-loop rows n ground k₀ k = (k ≤ n) × (k + position (sameList eqb ground) (groundsIn (n - k) (drop (17 * k) rows)) ≡ position (sameList eqb ground) (groundsIn n rows))
+
+abbrev μ-loop : tie.MeasureT-loop
+μ-loop rows n ground k₀ k = n - k
+
+loop-holds : tie.Need-loop-holds Inv-loop μ-loop
+loop-holds c = let a = c .before .before .args in (omega arith, entry-first (sameList eqb (a .ground .now)) (a .rows .now) (a .n))
+
+mul-same-ground : tie.Need-mul-same-ground Inv-loop μ-loop
+mul-same-ground c = omega arith
+
+same-ground-requires : tie.Need-same-ground-requires Inv-loop μ-loop
+same-ground-requires c κs = (omega arith, omega arith)
+
+returns : tie.Need-returns Inv-loop μ-loop
+returns c = let a = c .before .before .before .before .before .before .args in
+    let l = c .before .before .before .loop in
+    sym (entry-hit (sameList eqb (a .ground .now)) (a .rows .now) (a .n) (l .k) (omega arith) (sym (c .before .same-ground .ensures) ∙ c .if1 .taken)) ∙ l .inv .1
+
+add-k : tie.Need-add-k Inv-loop μ-loop
+add-k c = omega arith
+
+loop-less : tie.Need-loop-less Inv-loop μ-loop
+loop-less c = omega arith
+
+loop-again : tie.Need-loop-again Inv-loop μ-loop
+loop-again c = let a = c .before .before .before .before .before .before .args in
+    let l = c .before .before .before .loop in
+    (omega arith, entry-miss (sameList eqb (a .ground .now)) (a .rows .now) (a .n) (l .k) (omega arith) (sym (c .before .same-ground .ensures) ∙ c .if1 .left) ∙ l .inv .1)
+
+returns-2 : tie.Need-returns-2 Inv-loop μ-loop
+returns-2 c = let a = c .before .before .before .before .args in
+    let l = c .before .loop in
+    let e : l .k ≡ a .n = omega arith in
+    sym e ∙ sym (entry-end (sameList eqb (a .ground .now)) (a .rows .now) (a .n) (l .k) (omega arith)) ∙ l .inv .1
+
+pub entry-of-spec : {M : Type 1} → statement M
+entry-of-spec =
+    tie.close
+    (tie.spec
+    Inv-loop
+    μ-loop
+    loop-holds
+    mul-same-ground
+    same-ground-requires
+    returns
+    add-k
+    loop-less
+    loop-again
+    returns-2)

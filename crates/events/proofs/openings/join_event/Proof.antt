@@ -1,0 +1,83 @@
+-- `join_event` meets its contract: by whether it is the start of a lasting action, and whether there is room. Assumes nothing.
+use mathlib.Core.Path.{ap, _∙_}
+use mathlib.Core.List.{List}
+use Prim.Native.Nat.{ℕ, _+_, _*_}
+use native.Mathlib.Omega.{arith}
+use Rattle.records.proofs.Lists.{not-true, not-false}
+use Rattle.events.specs.Coded.{joinEntry}
+use Rattle.events.proofs.GroundRows.{part-ground, joins-not, joins-no-room, joins-one}
+use borrow.Author.Needs.{needs}
+use Rattle.events.proofs.openings.join_event.Statement.{statement}
+use Rattle.events.proofs.openings.join_event.Tie as tie
+
+mul-at : tie.Need-mul-at
+mul-at c = search needs
+
+shared-slice-read-opens-entry : tie.Need-shared-slice-read-opens-entry
+shared-slice-read-opens-entry c = search needs
+
+shared-slice-read-opens-entry-2 : tie.Need-shared-slice-read-opens-entry-2
+shared-slice-read-opens-entry-2 c = search needs
+
+opens-entry-requires : tie.Need-opens-entry-requires
+opens-entry-requires c κs = search needs
+
+returns : tie.Need-returns
+returns c =
+    let a = c .before .before .before .before .before .before .before .before .args in
+    let o = c .before .opens-entry in
+    joins-not (a .sorts .now) (a .actions) (a .moments .now) (a .events .now) (a .i) (record { count = a .n; rows = a .rows .now }) (o .result) (o .ensures) (not-true (o .result) (c .if1 .taken))
+
+returns-2 : tie.Need-returns-2
+returns-2 c =
+    let a = c .before .before .before .before .before .before .before .before .before .args in
+    let o = c .before .before .opens-entry in
+    joins-no-room (a .sorts .now) (a .actions) (a .moments .now) (a .events .now) (a .i) (record { count = a .n; rows = a .rows .now }) (o .result) (o .ensures) (not-false (o .result) (c .before .if1 .left)) (omega arith)
+
+add-end : tie.Need-add-end
+add-end c = search needs
+
+sub-join : tie.Need-sub-join
+sub-join c = search needs
+
+part-join-start : tie.Need-part-join-start
+part-join-start c = search needs
+
+part-join-end : tie.Need-part-join-end
+part-join-end c = search needs
+
+join-requires : tie.Need-join-requires
+join-requires c κs = search needs
+
+add-t20 : tie.Need-add-t20
+add-t20 c = search needs
+
+same-length : tie.Need-same-length
+same-length c = search needs
+
+returns-3 : tie.Need-returns-3
+returns-3 c =
+    let a = c .before .before .before .before .before .before .before .before .before .before .before .before .before .before .args in
+    let o = c .before .before .before .before .before .before .before .opens-entry in
+    let s = c .before .before .join in
+    joins-one (a .sorts .now) (a .actions) (a .moments .now) (a .events .now) (a .i) (record { count = a .n; rows = a .rows .now }) (o .result) (o .ensures) (not-false (o .result) (c .before .before .before .before .before .before .if1 .left)) (omega arith) (record { count = a .n + 1; rows = s .last .0 })
+    (s .ensures ∙ ap (λ (t : List ℕ). joinEntry t (record { count = a .n; rows = a .rows .now })) (part-ground (a .events .now) (17 * a .i)))
+
+pub join-event-spec : {M : Type 1} → statement M
+join-event-spec =
+    tie.close
+    (tie.spec
+    mul-at
+    shared-slice-read-opens-entry
+    shared-slice-read-opens-entry-2
+    opens-entry-requires
+    returns
+    returns-2
+    add-end
+    sub-join
+    part-join-start
+    part-join-end
+    join-requires
+    add-t20
+    same-length
+    returns-3)

@@ -1,0 +1,65 @@
+-- `same_ground` meets its contract: the bytes before i agree, so the test is that from i on. Assumes nothing.
+use mathlib.Core.Path.{_≡_, refl, sym, _∙_}
+use Prim.Native.Nat.{_-_, _≤_}
+use native.Mathlib.Omega.{arith}
+use lib.Dec.{eqb}
+use lib.ListN.{take, drop}
+use Rattle.records.specs.Lists.{sameList}
+use Rattle.events.proofs.GroundRows.{ground-miss, ground-hit, ground-end}
+use Rattle.events.proofs.openings.same_ground.Statement.{statement}
+use Rattle.events.proofs.openings.same_ground.Tie as tie
+
+abbrev Inv-loop : tie.InvT-loop
+Inv-loop memory at ground i₀ i = (i ≤ 17) × (sameList eqb (drop i ground) (drop i (take 17 (drop at memory))) ≡ sameList eqb ground (take 17 (drop at memory)))
+
+abbrev μ-loop : tie.MeasureT-loop
+μ-loop memory at ground i₀ i = 17 - i
+
+loop-holds : tie.Need-loop-holds Inv-loop μ-loop
+loop-holds c = (omega arith, refl)
+
+shared-slice-read-if1 : tie.Need-shared-slice-read-if1 Inv-loop μ-loop
+shared-slice-read-if1 c = omega arith
+
+add-if1 : tie.Need-add-if1 Inv-loop μ-loop
+add-if1 c = omega arith
+
+shared-slice-read-if1-2 : tie.Need-shared-slice-read-if1-2 Inv-loop μ-loop
+shared-slice-read-if1-2 c = omega arith
+
+returns : tie.Need-returns Inv-loop μ-loop
+returns c = let a = c .before .before .before .before .before .args in
+    let l = c .before .before .before .before .loop in
+    sym (ground-miss (a .ground .now) (a .memory .now) (a .at) (l .i) (omega arith) (omega arith) (omega arith) (c .if1 .taken)) ∙ l .inv .1
+
+add-i : tie.Need-add-i Inv-loop μ-loop
+add-i c = omega arith
+
+loop-less : tie.Need-loop-less Inv-loop μ-loop
+loop-less c = omega arith
+
+loop-again : tie.Need-loop-again Inv-loop μ-loop
+loop-again c = let a = c .before .before .before .before .before .args in
+    let l = c .before .before .before .before .loop in
+    (omega arith, sym (ground-hit (a .ground .now) (a .memory .now) (a .at) (l .i) (omega arith) (omega arith) (omega arith) (c .if1 .left)) ∙ l .inv .1)
+
+returns-2 : tie.Need-returns-2 Inv-loop μ-loop
+returns-2 c = let a = c .before .before .args in
+    let l = c .before .loop in
+    sym (ground-end (a .ground .now) (a .memory .now) (a .at) (l .i) (omega arith) (omega arith) (omega arith)) ∙ l .inv .1
+
+pub same-ground-spec : {M : Type 1} → statement M
+same-ground-spec =
+    tie.close
+    (tie.spec
+    Inv-loop
+    μ-loop
+    loop-holds
+    shared-slice-read-if1
+    add-if1
+    shared-slice-read-if1-2
+    returns
+    add-i
+    loop-less
+    loop-again
+    returns-2)

@@ -1,0 +1,175 @@
+-- How the code holds a run: facts, open entries and waiting events as rows of bytes, beside the memories of a domain that was read. Assumes nothing.
+use mathlib.Core.Path.{_≡_}
+use mathlib.Core.Bool.{Bool, true, false, _&&_, not, cond}
+use mathlib.Core.List.{List, [], _∷_, _++_, map, flatMap}
+use Prim.Native.Nat.{ℕ, zero, suc, _+_, _-_, _*_, _≤_, _<_}
+use lib.Dec.{eqb, ltb}
+use lib.ListN.{length, getD, take, drop, replicate}
+use lib.Seq.{paste}
+use Rattle.records.specs.Lists.{In, sameList}
+use Rattle.records.specs.Memory.{over}
+use Rattle.literals.specs.declared.Object.{Object}
+use Rattle.literals.specs.declared.Counts.{Counts}
+use Rattle.literals.specs.declared.Time.{Time}
+use Rattle.literals.specs.declared.Time.the-variants.{AtStart, OverAll, AtEnd}
+use Rattle.literals.specs.Domain.{Domain, action}
+use Rattle.literals.specs.Decode.{byte}
+use Rattle.literals.specs.Table.{pad, tableBytes, indexWith, Holds}
+use Rattle.classes.specs.declared.Moment.{Moment}
+use Rattle.classes.specs.declared.Moment.the-variants.{Start, End}
+use Rattle.classes.specs.Classes.{momentNumber}
+use Rattle.classes.specs.Coded.{position}
+use Rattle.verdict.specs.Judged.{objectNumbers}
+use Rattle.verdict.specs.Machine.{GroundAction, Event}
+use Rattle.store.specs.Rows.{hasRow}
+use Rattle.events.specs.declared.Open.{Open}
+use Rattle.events.specs.declared.Waiting.{Waiting}
+use Rattle.events.specs.declared.openings.Opened.{Opened}
+
+-- ---- rows
+
+-- an action with its objects: 17 bytes, FF to fill
+abbrev pub groundRow : GroundAction → List ℕ
+groundRow g = g .action ∷ (objectNumbers (g .binding) ++ replicate (16 - length (g .binding)) 255)
+
+-- the first n rows of 17 bytes of a memory
+abbrev pub groundsIn : ℕ → List ℕ → List (List ℕ)
+groundsIn zero t = []
+groundsIn (suc n) t = take 17 t ∷ groundsIn n (drop 17 t)
+
+-- ---- what the code holds
+
+-- the open entries, in order
+unfoldable pub openOf : List GroundAction → Open
+unfolding flatMap
+openOf gs = record { count = length gs; rows = pad 544 (flatMap groundRow gs) }
+
+-- the events of the step that is read, in order
+unfoldable pub waitingOf : List Event → Waiting
+unfolding flatMap
+waitingOf es =
+    record {
+      count = length es;
+      moments = pad 16 (map (λ (e : Event). momentNumber (e .moment)) es);
+      rows = pad 272 (flatMap (λ (e : Event). groundRow (e .ground)) es);
+    }
+
+-- ---- what fits it
+
+-- an action of the domain with an object for each variable, none of them FF
+pub record GroundFits (D : Domain) (g : GroundAction) : Type 0 where
+  pub listed : g .action < length (D .actions)
+  pub bound : length (g .binding) ≡ action D (g .action) .vars
+  pub objects : (o : Object) → In o (g .binding) → o .0 < 255
+
+abbrev pub GroundsFit : Domain → List GroundAction → Type 0
+GroundsFit D gs = (g : GroundAction) → In g gs → GroundFits D g
+
+abbrev pub EventsFit : Domain → List Event → Type 0
+EventsFit D es = (e : Event) → In e es → GroundFits D (e .ground)
+
+-- ---- the memories of a domain that was read
+
+-- they hold this domain
+pub record Lent (D : Domain) (n : Counts) (arities variables sorts starts parts table : List ℕ) : Type 0 where
+  pub held : Holds D (indexWith n arities variables sorts starts parts)
+  pub old : List ℕ
+  pub rows : table ≡ over (tableBytes D) old
+
+-- the row behind the last literal of an action
+abbrev pub endRow : Counts → List ℕ → ℕ → ℕ
+endRow n starts i = cond (ltb (i + 1) (n .actions)) (getD starts (i + 1) 0) (n .rows)
+
+-- what the code relies on, whatever they hold
+pub record Ready (n : Counts) (arities starts table : List ℕ) : Type 0 where
+  pub arities-length : length arities ≡ 64
+  pub arities-few : (i : ℕ) → getD arities i 0 ≤ 6
+  pub starts-length : length starts ≡ 64
+  pub actions : n .actions ≤ 64
+  pub order : (i : ℕ) → i < n .actions → getD starts i 0 ≤ endRow n starts i
+  pub within : (i : ℕ) → i < n .actions → endRow n starts i ≤ n .rows
+  pub few : (i : ℕ) → i < n .actions → endRow n starts i ≤ getD starts i 0 + 64
+  pub room : 8 * n .rows ≤ length table
+
+-- ---- a literal's row, bound
+
+-- the object of a variable: an action's row has its objects behind the action
+abbrev pub objectOf : List ℕ → ℕ → ℕ
+objectOf ground v = cond (ltb v 16) (getD ground (v + 1) 0) 0
+
+-- the fact of a literal's row, by the arity of its relation
+abbrev pub boundBytes : ℕ → List ℕ → List ℕ → List ℕ
+boundBytes n ground row = byte row 1 ∷ n ∷ (map (objectOf ground) (take n (drop 2 row)) ++ replicate (6 - n) 255)
+
+unfoldable pub boundRow : List ℕ → List ℕ → List ℕ → List ℕ
+boundRow arities ground row = boundBytes (getD arities (byte row 1) 0) ground row
+
+-- 1 to 4 for a true condition, false condition, add or delete that counts at the start, over all, or at the end; 0 for none
+unfoldable pub clauseFor : Time → ℕ → ℕ
+clauseFor AtStart r = cond (ltb r 4) (r + 1) 0
+clauseFor OverAll r = cond (ltb r 4) 0 (cond (ltb r 6) (r - 3) 0)
+clauseFor AtEnd r = cond (ltb r 4) 0 (cond (ltb r 6) (r - 3) (cond (ltb r 10) (r - 5) 0))
+
+-- the time of an event's literals, by the byte of its moment
+abbrev pub timeOf : Moment → Time
+timeOf Start = AtStart
+timeOf End = AtEnd
+
+-- ---- openings
+
+-- an event that waits: the byte of its moment, and the row of its action with objects
+pub record EventRow : Type 0 where
+  pub moment : ℕ
+  pub row : List ℕ
+
+-- the first n events of these memories
+abbrev pub eventsIn : ℕ → List ℕ → List ℕ → List EventRow
+eventsIn zero moments rows = []
+eventsIn (suc n) moments rows = record { moment = getD moments 0 0; row = take 17 rows } ∷ eventsIn n (drop 1 moments) (drop 17 rows)
+
+-- where it is an end, its entry is one of these
+unfoldable pub endOpen : List (List ℕ) → EventRow → Bool
+endOpen rows e = cond (eqb (e .moment) 1) (hasRow (e .row) rows) true
+
+-- the entry k out, the later ones forward, zeros behind
+unfoldable pub withoutEntry : ℕ → Open → Open
+withoutEntry k o = record { count = o .count - 1; rows = take (17 * k) (o .rows) ++ (drop (17 * k + 17) (o .rows) ++ replicate 17 0) }
+
+-- the first equal entry out
+unfoldable pub closeEntry : List ℕ → Open → Open
+unfolding withoutEntry
+closeEntry row o =
+    let k = position (sameList eqb row) (groundsIn (o .count) (o .rows)) in
+    cond (eqb k (o .count)) o (withoutEntry k o)
+
+-- that of an end
+unfoldable pub closeEvent : EventRow → Open → Open
+unfolding closeEntry
+closeEvent e o = cond (eqb (e .moment) 1) (closeEntry (e .row) o) o
+
+abbrev pub closeEvents : List EventRow → Open → Open
+closeEvents [] o = o
+closeEvents (e ∷ es) o = closeEvents es (closeEvent e o)
+
+-- one entry more
+unfoldable pub joinEntry : List ℕ → Open → Open
+joinEntry row o = record { count = o .count + 1; rows = paste (o .rows) (17 * o .count) row 17 }
+
+-- an event of this moment and action is the start of a lasting action
+unfoldable pub opensBy : List ℕ → ℕ → ℕ → ℕ → Bool
+opensBy sorts actions moment action = not (eqb moment 1) && ltb action actions && eqb (getD sorts action 0) 1
+
+-- the entry of such a start joins, where there is room for it
+unfoldable pub joinEvent : List ℕ → ℕ → EventRow → Open → Opened
+unfolding opensBy joinEntry
+joinEvent sorts actions e o =
+    cond (opensBy sorts actions (e .moment) (byte (e .row) 0))
+    (cond (ltb (o .count) 32) (record { fits = true; running = joinEntry (e .row) o }) (record { fits = false; running = o }))
+    (record { fits = true; running = o })
+
+-- those of several events, up to the first for which there is no room
+abbrev pub joinEvents : List ℕ → ℕ → List EventRow → Open → Opened
+joinEvents sorts actions [] o = record { fits = true; running = o }
+joinEvents sorts actions (e ∷ es) o =
+    let joined = joinEvent sorts actions e o in
+    cond (joined .fits) (joinEvents sorts actions es (joined .running)) joined

@@ -1,0 +1,2 @@
+-- How the code holds events and open entries.
+pub mod Coded

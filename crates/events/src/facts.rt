@@ -1,0 +1,105 @@
+// The literals of an action as rows: the facts that its objects make of them, and what each is at the start, over all, or at the end.
+use classes::counts::arity_of;
+use literals::Time;
+ghost use mathlib.Core.Path.{_≡_};
+ghost use Prim.Native.Nat.{ℕ, _+_, _<_, _≤_};
+ghost use lib.ListN.{length, getD, take, drop};
+ghost use Rattle.literals.specs.declared.Time.the-variants.{OverAll, AtEnd};
+ghost use Rattle.runs.specs.RunFile.{momentOf};
+ghost use Rattle.events.specs.Coded.{objectOf, boundBytes, boundRow, clauseFor, timeOf};
+
+// The object that an action's row has for a variable.
+fn object_of(ground: &[u8], v: u8) -> u8
+    requires { ⌜ length (now ground) ≡ 17 ⌝ }
+    ensures { λ r. ⌜ r ≡ objectOf (now (ground .entry)) v ⌝ }
+{
+    if v < 16 {
+        return ground[v as usize + 1];
+    }
+    0
+}
+
+// A byte of the fact of the literal's row at an offset; `arity` is its relation's.
+fn bound_byte(arity: u8, ground: &[u8], rows: &[u8], row: usize, i: usize) -> u8
+    requires { ⌜ (length (now ground) ≡ 17) × (row + 8 ≤ length (now rows)) × (i < 8) × (arity ≤ 6) ⌝ }
+    ensures { λ r. ⌜ r ≡ getD (boundBytes arity (now (ground .entry)) (take 8 (drop row (now (rows .entry))))) i 0 ⌝ }
+{
+    if i == 0 {
+        return rows[row + 1];
+    }
+    if i == 1 {
+        return arity;
+    }
+    if i < 2 + arity as usize {
+        return object_of(ground, rows[row + i]);
+    }
+    255
+}
+
+// The fact of the literal's row at an offset.
+pub fn bound_row(arities: &[u8], ground: &[u8], rows: &[u8], row: usize) -> [u8; 8]
+    requires { ⌜ (length (now arities) ≡ 64) × ((i : ℕ) → getD (now arities) i 0 ≤ 6) × (length (now ground) ≡ 17) × (row + 8 ≤ length (now rows)) ⌝ }
+    ensures { λ r. ⌜ r ≡ boundRow (now (arities .entry)) (now (ground .entry)) (take 8 (drop row (now (rows .entry)))) ⌝ }
+{
+    let arity = arity_of(arities, rows[row + 1]);
+    let mut fact = [255u8; 8];
+    for i in 0..8 {
+        fact[i] = bound_byte(arity, ground, rows, row, i);
+    }
+    fact
+}
+
+// The clause of a role byte over all.
+fn clause_over_all(role: u8) -> u8
+    ensures { λ r. ⌜ r ≡ clauseFor OverAll role ⌝ }
+{
+    if role < 4 {
+        return 0;
+    }
+    if role < 6 {
+        return role - 3;
+    }
+    0
+}
+
+// The clause of a role byte at the end, where the over-all conditions count too.
+fn clause_at_end(role: u8) -> u8
+    ensures { λ r. ⌜ r ≡ clauseFor AtEnd role ⌝ }
+{
+    if role < 4 {
+        return 0;
+    }
+    if role < 6 {
+        return role - 3;
+    }
+    if role < 10 {
+        return role - 5;
+    }
+    0
+}
+
+// 1 to 4 for a true condition, false condition, add or delete that counts then, 0 for none: of a role byte.
+pub fn clause_for(time: Time, role: u8) -> u8
+    ensures { λ r. ⌜ r ≡ clauseFor time role ⌝ }
+{
+    match time {
+        Time::AtStart => {
+            if role < 4 {
+                return role + 1;
+            }
+            0
+        },
+        Time::OverAll => clause_over_all(role),
+        Time::AtEnd => clause_at_end(role),
+    }
+}
+
+// The time of an event's literals, by the byte of its moment: 1 is an end.
+pub fn time_at(moment: u8) -> Time
+    ensures { λ r. ⌜ r ≡ timeOf (momentOf moment) ⌝ }
+{
+    if moment == 1 {
+        return Time::AtEnd;
+    }
+    Time::AtStart
+}

@@ -1,0 +1,295 @@
+// The list of open lasting actions: which ends are open, and what a step leaves of it. An entry is a row of 17 bytes: action, objects, FF to fill.
+use super::Open;
+use super::Waiting;
+use super::waits::put_bytes;
+ghost use mathlib.Core.Path.{_≡_};
+ghost use mathlib.Core.Bool.{true};
+ghost use mathlib.Core.List.{List, _++_};
+ghost use Prim.Native.Nat.{_+_, _*_, _≤_, _<_};
+ghost use lib.Dec.{eqb, leb};
+ghost use lib.ListN.{length, getD, take, drop, replicate};
+ghost use Rattle.records.specs.Lists.{all, sameList};
+ghost use Rattle.literals.specs.declared.Index.{Index};
+ghost use Rattle.literals.specs.Domain.{Domain};
+ghost use Rattle.literals.specs.Table.{Bounded, Holds};
+ghost use Rattle.classes.specs.Coded.{position};
+ghost use Rattle.verdict.specs.Machine.{GroundAction, Event, isOpen, closeAll, openedBy};
+ghost use Rattle.events.specs.Coded.{groundsIn, openOf, waitingOf, GroundsFit, EventsFit, eventsIn, endOpen, closeEntry, closeEvent, closeEvents, joinEntry, opensBy, joinEvent, joinEvents};
+ghost use Rattle.store.specs.Rows.{hasRow};
+
+// What a step leaves open, where it fits.
+pub struct Opened {
+    pub fits: bool,
+    pub running: Open,
+}
+
+// How many entries there are after starts joined, where they fit.
+struct Joined {
+    fits: bool,
+    count: usize,
+}
+
+// Whether the entry at an offset is this one.
+pub fn same_ground(memory: &[u8], at: usize, ground: &[u8]) -> bool
+    requires { ⌜ (at + 17 ≤ length (now memory)) × (length (now ground) ≡ 17) ⌝ }
+    ensures { λ r. ⌜ r ≡ sameList eqb (now (ground .entry)) (take 17 (drop at (now (memory .entry)))) ⌝ }
+{
+    let mut i = 0;
+    while i < 17 {
+        if ground[i] != memory[at + i] {
+            return false;
+        }
+        i += 1;
+    }
+    true
+}
+
+// The number of the first of n entries that is this one, or n.
+fn entry_of(rows: &[u8], n: usize, ground: &[u8]) -> usize
+    requires { ⌜ (17 * n ≤ length (now rows)) × (length (now ground) ≡ 17) ⌝ }
+    ensures { λ r. ⌜ r ≡ position (sameList eqb (now (ground .entry))) (groundsIn n (now (rows .entry))) ⌝ }
+{
+    let mut k = 0;
+    while k < n {
+        if same_ground(rows, 17 * k, ground) {
+            return k;
+        }
+        k += 1;
+    }
+    n
+}
+
+// Whether one of n entries is this one.
+fn is_open(rows: &[u8], n: usize, ground: &[u8]) -> bool
+    requires { ⌜ (17 * n ≤ length (now rows)) × (length (now ground) ≡ 17) ⌝ }
+    ensures { λ r. ⌜ r ≡ hasRow (now (ground .entry)) (groundsIn n (now (rows .entry))) ⌝ }
+{
+    entry_of(rows, n, ground) < n
+}
+
+// Whether the waiting event i, where it is an end, is open.
+fn end_open(rows: &[u8], n: usize, moments: &[u8], events: &[u8], i: usize) -> bool
+    requires { ⌜ (17 * n ≤ length (now rows)) × (i < length (now moments)) × (17 * i + 17 ≤ length (now events)) ⌝ }
+    ensures { λ r. ⌜ r ≡ endOpen (groundsIn n (now (rows .entry)))
+        (record { moment = getD (now (moments .entry)) i 0; row = take 17 (drop (17 * i) (now (events .entry))) }) ⌝ }
+{
+    if moments[i] != 1 {
+        return true;
+    }
+    let at = 17 * i;
+    let end = at + 17;
+    is_open(rows, n, &events[at..end])
+}
+
+// Whether every end of the first `count` waiting events is open.
+fn all_open(rows: &[u8], n: usize, moments: &[u8], events: &[u8], count: usize) -> bool
+    requires { ⌜ (17 * n ≤ length (now rows)) × (count ≤ length (now moments)) × (17 * count ≤ length (now events)) ⌝ }
+    ensures { λ r. ⌜ r ≡ all (endOpen (groundsIn n (now (rows .entry)))) (eventsIn count (now (moments .entry)) (now (events .entry))) ⌝ }
+{
+    let mut i = 0;
+    while i < count {
+        if !end_open(rows, n, moments, events, i) {
+            return false;
+        }
+        i += 1;
+    }
+    true
+}
+
+// Whether every end of the step is open.
+pub fn ends_open(running: Open, waiting: Waiting) -> bool
+    ensures { λ r. ⌜ ((D : Domain) (gs : List GroundAction) (es : List Event) → Bounded D → GroundsFit D gs → EventsFit D es → length gs ≤ 32 → length es ≤ 16
+        → running ≡ openOf gs → waiting ≡ waitingOf es → r ≡ all (isOpen gs) es) ⌝ }
+{
+    let n = running.count;
+    if 32 < n {
+        return false;
+    }
+    let count = waiting.count;
+    if 16 < count {
+        return false;
+    }
+    let rows = running.rows;
+    let moments = waiting.moments;
+    let events = waiting.rows;
+    all_open(&rows, n, &moments, &events, count)
+}
+
+// Whether an event of this moment and action is the start of a lasting action.
+fn opens_entry(sorts: &[u8], actions: usize, moment: u8, action: u8) -> bool
+    requires { ⌜ actions ≤ length (now sorts) ⌝ }
+    ensures { λ r. ⌜ r ≡ opensBy (now (sorts .entry)) actions moment action ⌝ }
+{
+    if moment == 1 {
+        return false;
+    }
+    let i = action as usize;
+    if actions <= i {
+        return false;
+    }
+    sorts[i] == 1
+}
+
+// The rows without the entry k: the later ones forward, zeros behind.
+fn without(rows: &mut [u8], k: usize)
+    requires { ⌜ (length (now rows) ≡ 544) × (k < 32) ⌝ }
+    ensures { λ _. ⌜ now (rows .exit) ≡ take (17 * k) (now (rows .entry)) ++ (drop (17 * k + 17) (now (rows .entry)) ++ replicate 17 0) ⌝ }
+{
+    let mut old = [0u8; 544];
+    put_bytes(&mut old, 0, rows);
+    let at = 17 * k;
+    let behind = at + 17;
+    put_bytes(rows, at, &old[behind..]);
+    let zeros = [0u8; 17];
+    put_bytes(rows, 527, &zeros);
+}
+
+// Takes the first of n entries that is this one out; the count afterwards.
+fn close(rows: &mut [u8], n: usize, ground: &[u8]) -> usize
+    requires { ⌜ (length (now rows) ≡ 544) × (n ≤ 32) × (length (now ground) ≡ 17) ⌝ }
+    ensures { λ r. ⌜ record { count = r; rows = now (rows .exit) } ≡ closeEntry (now (ground .entry)) (record { count = n; rows = now (rows .entry) }) ⌝ }
+{
+    let k = entry_of(rows, n, ground);
+    if k == n {
+        return n;
+    }
+    without(rows, k);
+    n - 1
+}
+
+// Takes the entry of the event i out, where it is an end; the count afterwards.
+fn close_event(rows: &mut [u8], n: usize, moments: &[u8], events: &[u8], i: usize) -> usize
+    requires { ⌜ (length (now rows) ≡ 544) × (n ≤ 32) × (i < length (now moments)) × (17 * i + 17 ≤ length (now events)) ⌝ }
+    ensures { λ r. ⌜ record { count = r; rows = now (rows .exit) }
+        ≡ closeEvent (record { moment = getD (now (moments .entry)) i 0; row = take 17 (drop (17 * i) (now (events .entry))) }) (record { count = n; rows = now (rows .entry) }) ⌝ }
+{
+    if moments[i] != 1 {
+        return n;
+    }
+    let at = 17 * i;
+    let end = at + 17;
+    close(rows, n, &events[at..end])
+}
+
+// Takes the entries of the ends among the first `count` events out; the count of entries afterwards.
+fn close_all(rows: &mut [u8], n: usize, moments: &[u8], events: &[u8], count: usize) -> usize
+    requires { ⌜ (length (now rows) ≡ 544) × (n ≤ 32) × (count ≤ length (now moments)) × (17 * count ≤ length (now events)) ⌝ }
+    ensures { λ r. ⌜ record { count = r; rows = now (rows .exit) }
+        ≡ closeEvents (eventsIn count (now (moments .entry)) (now (events .entry))) (record { count = n; rows = now (rows .entry) }) ⌝ }
+{
+    let mut left = n;
+    for i in 0..count {
+        left = close_event(rows, left, moments, events, i);
+    }
+    left
+}
+
+// Puts an entry behind the first n.
+fn join(rows: &mut [u8], n: usize, ground: &[u8])
+    requires { ⌜ (length (now rows) ≡ 544) × (n < 32) × (length (now ground) ≡ 17) ⌝ }
+    ensures { λ _. ⌜ record { count = n + 1; rows = now (rows .exit) } ≡ joinEntry (now (ground .entry)) (record { count = n; rows = now (rows .entry) }) ⌝ }
+{
+    put_bytes(rows, 17 * n, ground);
+}
+
+// Puts the entry of the event i behind the first n, where it is the start of a lasting action.
+fn join_event(
+    rows: &mut [u8],
+    n: usize,
+    sorts: &[u8],
+    actions: usize,
+    moments: &[u8],
+    events: &[u8],
+    i: usize,
+) -> Joined
+    requires { ⌜ (length (now rows) ≡ 544) × (n ≤ 32) × (actions ≤ length (now sorts)) × (i < length (now moments)) × (17 * i + 17 ≤ length (now events)) ⌝ }
+    ensures { λ r. ⌜ record { fits = r .fits; running = record { count = r .count; rows = now (rows .exit) } } ≡ joinEvent (now (sorts .entry)) actions
+        (record { moment = getD (now (moments .entry)) i 0; row = take 17 (drop (17 * i) (now (events .entry))) }) (record { count = n; rows = now (rows .entry) }) ⌝ }
+{
+    let at = 17 * i;
+    if !opens_entry(sorts, actions, moments[i], events[at]) {
+        return Joined {
+            fits: true,
+            count: n,
+        };
+    }
+    if 32 <= n {
+        return Joined {
+            fits: false,
+            count: n,
+        };
+    }
+    let end = at + 17;
+    join(rows, n, &events[at..end]);
+    Joined {
+        fits: true,
+        count: n + 1,
+    }
+}
+
+// Puts the entries of the starts of lasting actions among the first `count` events behind the first n, up to the first for which there is no room.
+fn join_all(
+    rows: &mut [u8],
+    n: usize,
+    sorts: &[u8],
+    actions: usize,
+    moments: &[u8],
+    events: &[u8],
+    count: usize,
+) -> Joined
+    requires { ⌜ (length (now rows) ≡ 544) × (n ≤ 32) × (actions ≤ length (now sorts)) × (count ≤ length (now moments)) × (17 * count ≤ length (now events)) ⌝ }
+    ensures { λ r. ⌜ record { fits = r .fits; running = record { count = r .count; rows = now (rows .exit) } }
+        ≡ joinEvents (now (sorts .entry)) actions (eventsIn count (now (moments .entry)) (now (events .entry))) (record { count = n; rows = now (rows .entry) }) ⌝ }
+{
+    let mut held = n;
+    for i in 0..count {
+        let joined = join_event(rows, held, sorts, actions, moments, events, i);
+        if !joined.fits {
+            return joined;
+        }
+        held = joined.count;
+    }
+    Joined {
+        fits: true,
+        count: held,
+    }
+}
+
+impl Open {
+    // The list after a step: ends leave it, starts of lasting actions join it.
+    pub fn after(self, waiting: Waiting, sorts: &[u8], actions: usize) -> Opened
+        requires { ⌜ actions ≤ length (now sorts) ⌝ }
+        ensures { λ r. ⌜ ((D : Domain) (index : Index) (gs : List GroundAction) (es : List Event) → Holds D index
+            → index .sorts ≡ now (sorts .entry) → index .actions ≡ actions → GroundsFit D gs → EventsFit D es → length gs ≤ 32 → length es ≤ 16
+            → self ≡ openOf gs → waiting ≡ waitingOf es
+            → (r .fits ≡ leb (length (closeAll es gs ++ openedBy D es)) 32) × (r .fits ≡ true → r .running ≡ openOf (closeAll es gs ++ openedBy D es))) ⌝ }
+    {
+        let count = waiting.count;
+        if 16 < count {
+            return Opened {
+                fits: false,
+                running: self,
+            };
+        }
+        let n = self.count;
+        if 32 < n {
+            return Opened {
+                fits: false,
+                running: self,
+            };
+        }
+        let moments = waiting.moments;
+        let events = waiting.rows;
+        let mut rows = self.rows;
+        let left = close_all(&mut rows, n, &moments, &events, count);
+        let joined = join_all(&mut rows, left, sorts, actions, &moments, &events, count);
+        let running = Open {
+            count: joined.count,
+            rows,
+        };
+        Opened {
+            fits: joined.fits,
+            running,
+        }
+    }
+}

@@ -1,0 +1,4 @@
+-- Laws of judging a file: the report, a domain, a file.
+pub mod Reported
+pub mod Calls
+pub mod FileCalls

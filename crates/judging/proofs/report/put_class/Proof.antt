@@ -1,0 +1,70 @@
+-- `verdict::report::put_class` meets its contract: a row for each moment. Assumes nothing.
+use mathlib.Core.Path.{_∙_, refl}
+use mathlib.Core.List.{[], _∷_, _++_}
+use native.Mathlib.Omega.{arith}
+use borrow.Author.Needs.{needs}
+use Rattle.classes.specs.declared.Moment.the-variants.{Start, End}
+use Rattle.verdict.specs.Decision.{rowAt}
+use Rattle.judging.proofs.Reported.{once-first, once-all, lasting-first, lasting-all}
+use Rattle.judging.proofs.report.put_class.Statement.{statement}
+use Rattle.judging.proofs.report.put_class.Tie as tie
+
+put-row-requires : tie.Need-put-row-requires
+put-row-requires c κs = search needs
+
+add-put-row : tie.Need-add-put-row
+add-put-row c = search needs
+
+put-row-requires-2 : tie.Need-put-row-requires-2
+put-row-requires-2 c κs = search needs
+
+add-result : tie.Need-add-result
+add-result c = search needs
+
+same-length : tie.Need-same-length
+same-length c = search needs
+
+returns : tie.Need-returns
+returns c =
+    let start = c .before .before .before .before .before .before .before .before .before .before .before .args in (
+      omega arith,
+      λ D a x rs rest old given l R.
+          let t = l ∙ c .before .before .before .before .if1 .taken in
+          let first = rowAt D a (start .action) (start .class) x Start in
+          let second = rowAt D a (start .action) (start .class) x End in
+          lasting-all D a (start .action) (start .class) x rs t (omega arith)
+          (c .before .before .put-row2 .ensures (rs ++ (first ∷ [])) rest second old given
+          (c .before .before .before .before .before .before .before .put-row .ensures rs (second ∷ rest) first old given (lasting-first D a (start .action) (start .class) x rs t R) refl refl refl)
+          refl refl refl),
+    )
+
+add-result-2 : tie.Need-add-result-2
+add-result-2 c = search needs
+
+same-length-2 : tie.Need-same-length-2
+same-length-2 c = search needs
+
+returns-2 : tie.Need-returns-2
+returns-2 c =
+    let start = c .before .before .before .before .before .before .before .args in (
+      omega arith,
+      λ D a x rs rest old given l R.
+          let t = l ∙ c .if1 .left in
+          let first = rowAt D a (start .action) (start .class) x Start in
+          once-all D a (start .action) (start .class) x rs t
+          (c .before .before .before .put-row .ensures rs rest first old given (once-first D a (start .action) (start .class) x rs t R) refl refl refl),
+    )
+
+pub put-class-spec : {M : Type 1} → statement M
+put-class-spec =
+    tie.close
+    (tie.spec
+    put-row-requires
+    add-put-row
+    put-row-requires-2
+    add-result
+    same-length
+    returns
+    add-result-2
+    same-length-2
+    returns-2)

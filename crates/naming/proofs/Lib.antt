@@ -1,0 +1,2 @@
+-- Laws of naming.
+pub mod NamedRows

@@ -1,0 +1,271 @@
+-- Laws of the rows of a domain, one class or one action more at a time, and naming them. Assumes nothing.
+use mathlib.Core.Path.{_≡_, refl, sym, ap, ap₂, _∙_, subst}
+use mathlib.Core.Bool.{Bool, true, false, cond}
+use mathlib.Core.List.{List, [], _∷_, _++_, map, map-append, append-nil, append-assoc}
+use Prim.Native.Nat.{ℕ, suc, _+_, _-_, _*_, _≤_, _<_}
+use native.Mathlib.Numerals.{add-one}
+use native.Mathlib.Omega.{arith}
+use lib.Dec.{eqb, ltb}
+use lib.ListN.{length, getD, set, take, drop, length-append, length-map}
+use lib.Seq.{take-suc, take-all, take-at, drop-cons, length-take-le}
+use borrow.Author.Tests.{lt-ltb, le-ltb}
+use Rattle.records.specs.Memory.{over}
+use Rattle.records.proofs.Memory.{length-over, over-more}
+use Rattle.literals.specs.declared.Variable.{Variable}
+use Rattle.literals.specs.Domain.{Action, Domain, noAction, action}
+use Rattle.literals.specs.declared.Index.{Index}
+use Rattle.literals.specs.declared.Counts.{Counts}
+use Rattle.literals.specs.Table.{tableBytes, pad, indexWith, Holds, Shaped}
+use Rattle.literals.proofs.Tables.{pad-more}
+use Rattle.literals.proofs.Spans.{sort-at}
+use Rattle.classes.specs.declared.Moment.the-variants.{Start, End}
+use Rattle.classes.specs.declared.Name.{Name}
+use Rattle.classes.specs.Classes.{momentsOf, nameNumber, classes, nameOf, journey}
+use Rattle.classes.specs.Coded.{classNumbers, clausesAt, soleOf}
+use Rattle.naming.specs.declared.Naming.{Naming}
+use Rattle.verdict.specs.Decision.{Row, rowAt, rowsOfClasses, rowsFrom, rows}
+use Rattle.verdict.specs.Claims.{wellFormed}
+use Rattle.verdict.specs.Coded.{rowFor, notesOf, ActionIn}
+use Rattle.naming.specs.Named.{nameBytes, classCounts, SolesIn, Named, namingOf}
+
+-- ---- one class or one action more
+
+-- the rows of the class j with the key tuple x
+abbrev pub classRows : Domain → Action → ℕ → ℕ → List Variable → List Row
+classRows D a i j x = map (rowAt D a i j x) (momentsOf a)
+
+module _ (D : Domain) (a : Action) (i : ℕ) where
+  pub classes-more : (j : ℕ) (xs : List (List Variable)) (x : List Variable)
+      → rowsOfClasses D a i j (xs ++ (x ∷ [])) ≡ rowsOfClasses D a i j xs ++ classRows D a i (j + length xs) x
+  classes-more j [] x =
+      let z : j ≡ j + 0 = omega arith in
+      append-nil (classRows D a i j x) ∙ ap (λ (k : ℕ). classRows D a i k x) z
+  classes-more j (y ∷ ys) x =
+      let z : suc j + length ys ≡ j + suc (length ys) = omega arith in
+      ap (λ (r : List Row). classRows D a i j y ++ r) (classes-more (suc j) ys x ∙ ap (λ (k : ℕ). rowsOfClasses D a i (suc j) ys ++ classRows D a i k x) z)
+      ∙ sym (append-assoc (classRows D a i j y) (rowsOfClasses D a i (suc j) ys) (classRows D a i (j + suc (length ys)) x))
+
+  -- the first k + 1 classes
+  pub classes-next : (xs : List (List Variable)) (k : ℕ) → k < length xs
+      → rowsOfClasses D a i 0 (take (k + 1) xs) ≡ rowsOfClasses D a i 0 (take k xs) ++ classRows D a i k (getD xs k [])
+  classes-next xs k h =
+      let l = length-take-le k xs (omega arith) in
+      let z : 0 + length (take k xs) ≡ k = omega arith in
+      ap (λ (n : ℕ). rowsOfClasses D a i 0 (take n xs)) (add-one k)
+      ∙ ap (rowsOfClasses D a i 0) (take-suc xs k [] h)
+      ∙ classes-more 0 (take k xs) (getD xs k [])
+      ∙ ap (λ (n : ℕ). rowsOfClasses D a i 0 (take k xs) ++ classRows D a i n (getD xs k [])) z
+
+  -- and those from k on
+  pub classes-left : (xs : List (List Variable)) (k : ℕ) → k < length xs
+      → rowsOfClasses D a i k (drop k xs) ≡ classRows D a i k (getD xs k []) ++ rowsOfClasses D a i (k + 1) (drop (k + 1) xs)
+  classes-left xs k h =
+      ap (rowsOfClasses D a i k) (drop-cons xs k [] h)
+      ∙ ap (λ (n : ℕ). classRows D a i k (getD xs k []) ++ rowsOfClasses D a i n (drop n xs)) (sym (add-one k))
+
+-- the rows of the action a of the number i
+abbrev pub actionRows : Domain → Action → ℕ → List Row
+actionRows D a i = rowsOfClasses D a i 0 (classes D a)
+
+module _ (D : Domain) where
+  pub actions-more : (i : ℕ) (as′ : List Action) (a : Action) → rowsFrom D i (as′ ++ (a ∷ [])) ≡ rowsFrom D i as′ ++ actionRows D a (i + length as′)
+  actions-more i [] a =
+      let z : i ≡ i + 0 = omega arith in
+      append-nil (actionRows D a i) ∙ ap (actionRows D a) z
+  actions-more i (b ∷ bs) a =
+      let z : suc i + length bs ≡ i + suc (length bs) = omega arith in
+      ap (λ (r : List Row). actionRows D b i ++ r) (actions-more (suc i) bs a ∙ ap (λ (k : ℕ). rowsFrom D (suc i) bs ++ actionRows D a k) z)
+      ∙ sym (append-assoc (actionRows D b i) (rowsFrom D (suc i) bs) (actionRows D a (i + suc (length bs))))
+
+  -- the first k + 1 actions
+  pub actions-next : (as′ : List Action) (k : ℕ) → k < length as′
+      → rowsFrom D 0 (take (k + 1) as′) ≡ rowsFrom D 0 (take k as′) ++ actionRows D (getD as′ k noAction) k
+  actions-next as′ k h =
+      let l = length-take-le k as′ (omega arith) in
+      let z : 0 + length (take k as′) ≡ k = omega arith in
+      ap (λ (n : ℕ). rowsFrom D 0 (take n as′)) (add-one k)
+      ∙ ap (rowsFrom D 0) (take-suc as′ k noAction h)
+      ∙ actions-more 0 (take k as′) (getD as′ k noAction)
+      ∙ ap (λ (n : ℕ). rowsFrom D 0 (take k as′) ++ actionRows D (getD as′ k noAction) n) z
+
+  -- and those from k on
+  pub actions-left : (as′ : List Action) (k : ℕ) → k < length as′
+      → rowsFrom D k (drop k as′) ≡ actionRows D (getD as′ k noAction) k ++ rowsFrom D (k + 1) (drop (k + 1) as′)
+  actions-left as′ k h =
+      ap (rowsFrom D k) (drop-cons as′ k noAction h)
+      ∙ ap (λ (n : ℕ). actionRows D (getD as′ k noAction) k ++ rowsFrom D n (drop n as′)) (sym (add-one k))
+
+-- the rows of a class, by its moments
+module _ (D : Domain) (a : Action) (i j : ℕ) (x : List Variable) where
+  pub once-rows : a .lasting ≡ false → classRows D a i j x ≡ rowAt D a i j x Start ∷ []
+  once-rows l = ap (λ (b : Bool). map (rowAt D a i j x) (cond b (Start ∷ End ∷ []) (Start ∷ []))) l
+
+  pub lasting-rows : a .lasting ≡ true → classRows D a i j x ≡ rowAt D a i j x Start ∷ rowAt D a i j x End ∷ []
+  lasting-rows l = ap (λ (b : Bool). map (rowAt D a i j x) (cond b (Start ∷ End ∷ []) (Start ∷ []))) l
+
+-- ---- naming
+
+-- one row more
+pub named-more : (rs : List Row) (r : Row) (n : Naming) {m : Naming} (names old : List ℕ) (v : ℕ) → n .rows < length names → Named rs n names old
+    → m .rows ≡ n .rows + 1 → m .notes ≡ notesOf (rs ++ (r ∷ [])) → v ≡ nameNumber (r .name) → Named (rs ++ (r ∷ [])) m (set names (n .rows) v) old
+named-more rs r n {m} names old v h N e f g =
+    let k = N .rows-named in
+    let w = N .room in
+    let l = length-append rs (r ∷ []) in
+    let b = length-map rs (λ (r : Row). nameNumber (r .name)) in
+    let u = ap length (N .bytes) ∙ length-over (nameBytes rs) old (omega arith) in
+    record {
+      room = omega arith;
+      rows-named = omega arith;
+      noted = f;
+      bytes =
+          ap₂ (λ (l : List ℕ) (a : ℕ). set l (n .rows) a) (N .bytes) g
+          ∙ over-more (nameBytes rs) old (n .rows) (nameNumber (r .name)) (b ∙ sym k) (omega arith)
+          ∙ ap (λ (l : List ℕ). over l old) (sym (map-append (λ (r : Row). nameNumber (r .name)) rs (r ∷ [])));
+    }
+
+-- the rows of a class, by their names
+module _ (D : Domain) (a : Action) (i j : ℕ) (x : List Variable) (rs : List Row) {n : Naming} {names old : List ℕ} where
+  pub named-once : (s : Name) → a .lasting ≡ false → s ≡ nameOf D a x Start
+      → Named (rs ++ (rowFor s false record { action = i; class = j; moment = 0 } ∷ [])) n names old → Named (rs ++ classRows D a i j x) n names old
+  named-once s l e N = subst (λ (k : List Row). Named (rs ++ k) n names old) (sym same) N
+    where
+      same : classRows D a i j x ≡ rowFor s false record { action = i; class = j; moment = 0 } ∷ []
+      same =
+          once-rows D a i j x l
+          ∙ (λ k. record { action = i; class = j; moment = Start; name = sym e k; journeyEnd = false } ∷ [])
+
+  pub named-lasting : (s e : Name) (t : Bool) → a .lasting ≡ true → s ≡ nameOf D a x Start → e ≡ nameOf D a x End → t ≡ journey D a x
+      → Named ((rs ++ (rowFor s false record { action = i; class = j; moment = 0 } ∷ [])) ++ (rowFor e t record { action = i; class = j; moment = 1 } ∷ [])) n names old
+      → Named (rs ++ classRows D a i j x) n names old
+  named-lasting s e t l p q o N = subst (λ (k : List Row). Named k n names old) (append-assoc rs (_ ∷ []) (_ ∷ []) ∙ ap (λ (k : List Row). rs ++ k) (sym same)) N
+    where
+      same : classRows D a i j x ≡ rowFor s false record { action = i; class = j; moment = 0 } ∷ rowFor e t record { action = i; class = j; moment = 1 } ∷ []
+      same =
+          lasting-rows D a i j x l
+          ∙ (λ k. record { action = i; class = j; moment = Start; name = sym p k; journeyEnd = false } ∷ record { action = i; class = j; moment = End; name = sym q k; journeyEnd = sym o k } ∷ [])
+
+-- the classes of an action, after k of them
+module _ (D : Domain) (a : Action) (i : ℕ) (xs : List (List Variable)) (rs : List Row) {n : Naming} {names old : List ℕ} where
+  pub named-begin : Named rs n names old → Named (rs ++ rowsOfClasses D a i 0 (take 0 xs)) n names old
+  named-begin N = subst (λ (l : List Row). Named l n names old) (sym (append-nil rs)) N
+
+  pub named-next : (k : ℕ) → k < length xs → Named ((rs ++ rowsOfClasses D a i 0 (take k xs)) ++ classRows D a i k (getD xs k [])) n names old
+      → Named (rs ++ rowsOfClasses D a i 0 (take (k + 1) xs)) n names old
+  named-next k h N =
+      subst (λ (l : List Row). Named l n names old)
+      (append-assoc rs (rowsOfClasses D a i 0 (take k xs)) (classRows D a i k (getD xs k [])) ∙ ap (λ (l : List Row). rs ++ l) (sym (classes-next D a i xs k h)))
+      N
+
+  pub named-end : (k : ℕ) → length xs ≤ k → Named (rs ++ rowsOfClasses D a i 0 (take k xs)) n names old → Named (rs ++ rowsOfClasses D a i 0 xs) n names old
+  named-end k h N = subst (λ (l : List (List Variable)). Named (rs ++ rowsOfClasses D a i 0 l) n names old) (take-all k xs h) N
+
+-- the actions of a domain, after k of them
+module _ (D : Domain) where
+  pub named-action : (k : ℕ) {n : Naming} {names old : List ℕ} → k < length (D .actions)
+      → Named (rowsFrom D 0 (take k (D .actions)) ++ actionRows D (action D k) k) n names old → Named (rowsFrom D 0 (take (k + 1) (D .actions))) n names old
+  unfolding action
+  named-action k {n} {names} {old} h N = subst (λ (l : List Row). Named l n names old) (sym (actions-next D (D .actions) k h)) N
+
+  pub counted-action : (k : ℕ) (counts : List ℕ) → k < length (D .actions) → length (D .actions) ≤ 64 → counts ≡ pad 64 (classCounts D (take k (D .actions)))
+      → set counts k (length (classes D (action D k))) ≡ pad 64 (classCounts D (take (k + 1) (D .actions)))
+  unfolding action
+  counted-action k counts h w e =
+      let before = classCounts D (take k (D .actions)) in
+      let now = length (classes D (getD (D .actions) k noAction)) in
+      let l : length before ≡ k = length-map (take k (D .actions)) (λ (a : Action). length (classes D a)) ∙ length-take-le k (D .actions) (omega arith) in
+      ap₂ (λ (c : List ℕ) (m : ℕ). set c m now) e (sym l)
+      ∙ pad-more 64 before now (omega arith)
+      ∙ ap (pad 64)
+      (sym (ap (λ (m : ℕ). classCounts D (take m (D .actions))) (add-one k)
+      ∙ ap (classCounts D) (take-suc (D .actions) k noAction h)
+      ∙ map-append (λ (a : Action). length (classes D a)) (take k (D .actions)) (getD (D .actions) k noAction ∷ [])))
+
+  pub naming-done : (k : ℕ) (n : Naming) {names old counts : List ℕ} → length (D .actions) ≤ k → Named (rowsFrom D 0 (take k (D .actions))) n names old
+      → counts ≡ pad 64 (classCounts D (take k (D .actions))) → (n ≡ namingOf D) × (counts ≡ pad 64 (classCounts D (D .actions))) × (names ≡ over (nameBytes (rows D)) old)
+  unfolding rows namingOf
+  naming-done k n {names} {old} {counts} h N e =
+      let all = take-all k (D .actions) h in (
+        λ i. record {
+          rows = (N .rows-named ∙ ap (λ (l : List Action). length (rowsFrom D 0 l)) all) i;
+          notes = (N .noted ∙ ap (λ (l : List Action). notesOf (rowsFrom D 0 l)) all) i;
+        },
+        e ∙ ap (λ (l : List Action). pad 64 (classCounts D l)) all,
+        N .bytes ∙ ap (λ (l : List Action). over (nameBytes (rowsFrom D 0 l)) old) all,
+      )
+
+-- ---- where the loops of naming stand
+
+-- the sort byte of an action tells whether it lasts
+pub lasting-byte : {D : Domain} {index : Index} → Holds D index → (i : ℕ) → action D i .lasting ≡ eqb (getD (index .sorts) i 0) 1
+lasting-byte {D} H i = sym (ap (λ (s : ℕ). eqb s 1) (sort-at H i) ∙ go (action D i .lasting))
+  where
+    go : (b : Bool) → eqb (cond b 1 0) 1 ≡ b
+    go true = refl
+    go false = refl
+
+-- a class by its number, of the true conditions and adds of all of them
+pub sole-at : {of clauses conditions adds : List ℕ} → SolesIn of clauses conditions adds → (k : ℕ) → k < 64 → record { conditions = getD conditions k 0; adds = getD adds k 0 } ≡ soleOf of clauses k
+sole-at S k h = λ i. record { conditions = S .conditions-are k h i; adds = S .adds-are k h i }
+
+-- in an action, after k of its classes
+pub record InClasses (parts : List ℕ) (components : ℕ) (arities rows of at-start at-end : List ℕ) (count i : ℕ) (lasting : Bool) (names₀ : List ℕ) (next₀ : Naming) (names : List ℕ) (next : Naming) (k : ℕ) : Type 0 where
+  pub reach : k ≤ count
+  pub few : next .rows ≤ next₀ .rows + 2 * k
+  pub room : length names ≡ length names₀
+  pub named : (rs : List Row) (old : List ℕ) (D : Domain) (a : Action) (keys : ℕ) → Named rs next₀ names₀ old → ActionIn D a parts components keys arities rows → a .lasting ≡ lasting
+      → of ≡ classNumbers D a → at-start ≡ pad 64 (clausesAt a Start) → (lasting ≡ true → at-end ≡ pad 64 (clausesAt a End)) → count ≡ length (classes D a)
+      → Named (rs ++ rowsOfClasses D a i 0 (take k (classes D a))) next names old
+
+-- the first n of an array, where a call has put xs there
+module _ (xs ys : List ℕ) (n : ℕ) (e : length xs ≡ n) where
+  pub part-within : n ≤ length (xs ++ ys)
+  part-within = let l = length-append xs ys in omega arith
+
+  pub part-again : take (n - 0) (xs ++ ys) ≡ xs
+  part-again = let z : length xs ≡ n - 0 = omega arith in take-at xs ys (n - 0) z
+
+-- the first row of an action, or the one behind all of them
+abbrev pub beginOf : Counts → List ℕ → ℕ → ℕ
+beginOf domain starts k = cond (ltb k (domain .actions)) (getD starts k 0) (domain .rows)
+
+pub begin-inside : (domain : Counts) (starts : List ℕ) (k : ℕ) → k < domain .actions → beginOf domain starts k ≡ getD starts k 0
+begin-inside domain starts k h = rw (lt-ltb k (domain .actions) h)
+
+pub begin-last : (domain : Counts) (starts : List ℕ) (k : ℕ) → domain .actions ≤ k → beginOf domain starts k ≡ domain .rows
+begin-last domain starts k h = rw (le-ltb k (domain .actions) h)
+
+-- at most two rows for each literal
+module _ {domain : Counts} {arities variables sorts starts parts : List ℕ} (S : Shaped (indexWith domain arities variables sorts starts parts)) (i : ℕ) (h : i < domain .actions) (from to : ℕ)
+    (e : from ≡ getD starts i 0) (f : to ≡ beginOf domain starts (i + 1)) (r : ℕ) (g : r ≤ 2 * beginOf domain starts i) where
+  pub names-room : (n : ℕ) → 2 * domain .rows ≤ n → r + 2 * (to - from) ≤ n
+  names-room n l = let b = begin-inside domain starts i h in let s = S .spans i h in let o = s .order in let w = s .within in omega arith
+
+  pub names-next : (q : ℕ) → q ≤ r + 2 * (to - from) → q ≤ 2 * beginOf domain starts (i + 1)
+  names-next q l = let b = begin-inside domain starts i h in let s = S .spans i h in let o = s .order in omega arith
+
+-- in a domain, after k of its actions
+pub record InActions (domain : Counts) (arities sorts starts parts table names₀ counts₀ names counts : List ℕ) (naming : Naming) (k : ℕ) : Type 0 where
+  pub reach : k ≤ domain .actions
+  pub few : naming .rows ≤ 2 * beginOf domain starts k
+  pub room : length names ≡ length names₀
+  pub counted : length counts ≡ 64
+  pub named : (D : Domain) (old variables : List ℕ) → Holds D (indexWith domain arities variables sorts starts parts) → wellFormed D ≡ true → table ≡ over (tableBytes D) old → counts₀ ≡ pad 64 []
+      → Named (rowsFrom D 0 (take k (D .actions))) naming names names₀ × (counts ≡ pad 64 (classCounts D (take k (D .actions))))
+
+-- the bounds of an index do not speak of its variables, nor of its sorts
+pub shaped-with : {domain : Counts} {arities variables sorts starts parts : List ℕ} (variables′ sorts′ : List ℕ) → Shaped (indexWith domain arities variables sorts starts parts)
+    → Shaped (indexWith domain arities variables′ sorts′ starts parts)
+shaped-with variables′ sorts′ S =
+    record {
+      relations = S .relations;
+      arities = S .arities;
+      actions = S .actions;
+      rows = S .rows;
+      order = S .order;
+      last = S .last;
+      spans = λ i h. let s = S .spans i h in record { order = s .order; within = s .within; few = s .few };
+      components = S .components;
+      parts = S .parts;
+      keys = S .keys;
+    }

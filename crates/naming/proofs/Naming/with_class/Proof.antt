@@ -1,0 +1,37 @@
+-- `verdict::naming::Naming::with_class` meets its contract: a row for each moment. Assumes nothing.
+use mathlib.Core.Path.{_∙_}
+use native.Mathlib.Omega.{arith}
+use borrow.Author.Needs.{needs}
+use Rattle.naming.proofs.NamedRows.{named-once, named-lasting}
+use Rattle.naming.proofs.Naming.with_class.Statement.{statement}
+use Rattle.naming.proofs.Naming.with_class.Tie as tie
+
+with-row-requires : tie.Need-with-row-requires
+with-row-requires c κs = search needs
+
+with-row-requires-2 : tie.Need-with-row-requires-2
+with-row-requires-2 c κs = search needs
+
+same-length : tie.Need-same-length
+same-length c = search needs
+
+returns : tie.Need-returns
+returns c =
+    let t = c .before .before .before .before .if1 .taken in (
+      omega arith,
+      λ rs old D a N l s e. named-lasting D a _ _ _ rs _ _ _ (l ∙ t) s (e t .0) (e t .1) (c .before .before .with-row2 .ensures .1 _ old (omega arith) (c .before .before .before .before .before .before .before .with-row .ensures .1 rs old (omega arith) N)),
+    )
+
+same-length-2 : tie.Need-same-length-2
+same-length-2 c = search needs
+
+returns-2 : tie.Need-returns-2
+returns-2 c = (
+  omega arith,
+  λ rs old D a N l s e. named-once D a _ _ _ rs _ (l ∙ c .if1 .left) s (c .before .before .before .with-row .ensures .1 rs old (omega arith) N),
+)
+
+pub with-class-spec : {M : Type 1} → statement M
+with-class-spec =
+    tie.close
+    (tie.spec with-row-requires with-row-requires-2 same-length returns same-length-2 returns-2)

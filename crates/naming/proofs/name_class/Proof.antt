@@ -1,0 +1,36 @@
+-- `verdict::naming::name_class` meets its contract: the names at both moments, and whether it is a journey. Assumes nothing.
+use borrow.Author.Needs.{needs}
+use Rattle.records.proofs.Lists.{clash}
+use mathlib.Core.Path.{_∙_, ap₂}
+use mathlib.Core.List.{List}
+use Prim.Native.Nat.{ℕ}
+use Rattle.classes.specs.declared.Moment.the-variants.{Start, End}
+use Rattle.classes.specs.Coded.{soleOf}
+use Rattle.naming.proofs.name_class.Statement.{statement}
+use Rattle.naming.proofs.name_class.Tie as tie
+
+name-at-requires : tie.Need-name-at-requires
+name-at-requires c κs = search needs
+
+name-at-requires-2 : tie.Need-name-at-requires-2
+name-at-requires-2 c κs = search needs
+
+is-journey-requires : tie.Need-is-journey-requires
+is-journey-requires c κs = search needs
+
+returns : tie.Need-returns
+returns c = (
+  λ D a keys T i e f g h. c .before .before .before .name-at .ensures D a Start keys T i e f g h,
+  λ D a keys T i e f g k h t l.
+      (c .before .name-at2 .ensures D a End keys T i e f k h, c .is-journey .ensures D a (T .bounded) i l e f g (c .before .before .before .before .before .before .before .before .before .before .pre .7 ∙ ap₂ (λ (o d : List ℕ). soleOf o d (c .before .before .before .before .before .before .before .before .before .before .args .class)) f k) h),
+)
+
+returns-2 : tie.Need-returns-2
+returns-2 c = (
+  λ D a keys T i e f g h. c .before .name-at .ensures D a Start keys T i e f g h,
+  λ D a keys T i e f g k h t l. absurd (clash t (c .if1 .left)),
+)
+
+pub name-class-spec : {M : Type 1} → statement M
+name-class-spec =
+    tie.close (tie.spec name-at-requires name-at-requires-2 is-journey-requires returns returns-2)

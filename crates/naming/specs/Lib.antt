@@ -1,0 +1,2 @@
+-- How the code holds the names of all moments.
+pub mod Named

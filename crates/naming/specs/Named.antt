@@ -1,0 +1,41 @@
+-- How the code holds the names of all moments, and where naming stands. Assumes nothing.
+use mathlib.Core.Path.{_≡_}
+use mathlib.Core.List.{List, map}
+use Prim.Native.Nat.{ℕ, _≤_, _<_}
+use lib.ListN.{length, getD}
+use Rattle.records.specs.Memory.{over}
+use Rattle.literals.specs.Domain.{Action, Domain}
+use Rattle.classes.specs.Classes.{nameNumber, classes}
+use Rattle.classes.specs.Coded.{soleAt}
+use Rattle.naming.specs.declared.Naming.{Naming}
+use Rattle.verdict.specs.Decision.{Row, rows}
+use Rattle.verdict.specs.Coded.{notesOf}
+
+-- ---- names
+
+-- a byte a row: the name's number
+abbrev pub nameBytes : List Row → List ℕ
+nameBytes rs = map (λ (r : Row). nameNumber (r .name)) rs
+
+-- how many classes each action has
+abbrev pub classCounts : Domain → List Action → List ℕ
+classCounts D as′ = map (λ (a : Action). length (classes D a)) as′
+
+-- the true conditions and the adds of each class at the moment of these clauses
+pub record SolesIn (of clauses conditions adds : List ℕ) : Type 0 where
+  pub conditions-room : length conditions ≡ 64
+  pub adds-room : length adds ≡ 64
+  pub conditions-are : (k : ℕ) → k < 64 → getD conditions k 0 ≡ soleAt of clauses k 1
+  pub adds-are : (k : ℕ) → k < 64 → getD adds k 0 ≡ soleAt of clauses k 3
+
+-- where naming stands: rs are the rows named so far, their names in a memory that has room for them
+pub record Named (rs : List Row) (naming : Naming) (names old : List ℕ) : Type 0 where
+  pub room : length rs ≤ length old
+  pub rows-named : naming .rows ≡ length rs
+  pub noted : naming .notes ≡ notesOf rs
+  pub bytes : names ≡ over (nameBytes rs) old
+
+-- what naming all actions leads to
+unfoldable pub namingOf : Domain → Naming
+unfolding rows notesOf
+namingOf D = record { rows = length (rows D); notes = notesOf (rows D) }

@@ -1,0 +1,16 @@
+-- `literals::read::end_of` meets its contract. Assumes nothing.
+use borrow.Author.Tests.{eq-eqb, ne-eqb}
+use Rattle.reading.specs.Reading.{finishedOf}
+use Rattle.reading.proofs.read.end_of.Statement.{statement}
+use Rattle.reading.proofs.read.end_of.Tie as tie
+
+returns : tie.Need-returns
+unfolding finishedOf
+returns c arities variables sorts starts parts = simp (eq-eqb _ 1 (c .if1 .taken))
+
+returns-2 : tie.Need-returns-2
+unfolding finishedOf
+returns-2 c arities variables sorts starts parts = simp (ne-eqb _ 1 (c .if1 .left))
+
+pub end-of-spec : {M : Type 1} → statement M
+end-of-spec = tie.close (tie.spec returns returns-2)

@@ -1,0 +1,2 @@
+-- How the code reads a domain file.
+pub mod Reading

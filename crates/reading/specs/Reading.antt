@@ -1,0 +1,133 @@
+-- How the code reads a domain file: what one record leads to, where reading stands, the answer. Assumes nothing.
+use mathlib.Core.Path.{_≡_}
+use mathlib.Core.Bool.{Bool, false, cond}
+use mathlib.Core.Logic.{_⊎_}
+use mathlib.Core.List.{List}
+use Prim.Native.Nat.{ℕ, _+_, _-_, _*_, _≤_, _<_}
+use lib.Dec.{eqb}
+use lib.ListN.{length, getD, replicate}
+use Rattle.records.specs.Memory.{over}
+use Rattle.literals.specs.declared.Index.{Index}
+use Rattle.literals.specs.declared.Counts.{Counts}
+use Rattle.reading.specs.declared.Took.{Took}
+use Rattle.reading.specs.declared.Progress.{Progress}
+use Rattle.reading.specs.declared.ReadEnd.{ReadEnd}
+use Rattle.reading.specs.declared.read.Stepped.{Stepped}
+use Rattle.literals.specs.Domain.{Domain}
+use Rattle.literals.specs.Decode.{Decoded, refused, domain, Reading, ReadTurn, goOn, finish, readFile}
+use Rattle.literals.specs.Table.{indexOf, indexWith, Taken, Shaped, Sized, tableBytes}
+
+-- ---- what one record leads to
+
+-- what the code answers, with the memories of the lists
+abbrev pub takenWith : Took → List ℕ → List ℕ → List ℕ → List ℕ → List ℕ → Taken
+takenWith r arities variables sorts starts parts = record { number = r .number; index = indexWith (r .counts) arities variables sorts starts parts }
+
+-- what taking a literal asks of the counts and of the arities, variables, sorts and starts
+pub record LiteralReady (n : Counts) (as′ vs ss bs : List ℕ) : Type 0 where
+  pub relations : n .relations ≤ length as′
+  pub arities : (i : ℕ) → getD as′ i 0 ≤ 6
+  pub variables : n .actions ≤ length vs
+  pub sorts : n .actions ≤ length ss
+  pub starts : n .actions ≤ length bs
+  pub order : getD bs (n .actions - 1) 0 ≤ n .rows
+
+-- and of the table: where the literal is long enough and its action not full, there is room for its row
+abbrev pub RowRoom : Counts → List ℕ → List ℕ → List ℕ → Type 0
+RowRoom n starts table p = 2 ≤ length p → n .rows < getD starts (n .actions - 1) 0 + 64 → 8 * (n .rows + 1) ≤ length table
+
+-- what taking a component asks of the counts and of the arities and parts
+pub record ComponentReady (n : Counts) (as′ ps : List ℕ) : Type 0 where
+  pub relations : n .relations ≤ length as′
+  pub arities : (i : ℕ) → getD as′ i 0 ≤ 6
+  pub components : n .components ≤ 16
+  pub parts : length ps ≡ 128
+  pub keys : n .keys ≤ 6
+
+-- ---- where reading stands
+
+-- the next record's offset, whether the closing record is read, and the index so far
+pub record Standing : Type 0 where
+  pub at : ℕ
+  pub closed : Bool
+  pub index : Index
+
+abbrev pub standingOf : Reading → Standing
+standingOf r = record { at = r .at; closed = r .closed; index = indexOf (r .sofar) }
+
+-- the progress of the code, with the memories of the lists
+abbrev pub standingWith : Progress → List ℕ → List ℕ → List ℕ → List ℕ → List ℕ → Standing
+standingWith p arities variables sorts starts parts = record { at = p .at; closed = p .closed; index = indexWith (p .counts) arities variables sorts starts parts }
+
+abbrev pub atStart : Progress
+atStart = record { at = 0; closed = false; counts = record { relations = 0; actions = 0; rows = 0; components = 0; keys = 0 } }
+
+-- what a turn of reading leads to: 0 where it goes on, 1 where the file is read, else the number that refuses it
+pub record Turn : Type 0 where
+  pub number : ℕ
+  pub standing : Standing
+
+abbrev pub turnOf : Reading → ReadTurn → Turn
+turnOf q (goOn r) = record { number = 0; standing = standingOf r }
+turnOf q (finish (refused r)) = record { number = r .number; standing = standingOf q }
+turnOf q (finish (domain D)) = record { number = 1; standing = standingOf q }
+
+abbrev pub turnWith : Stepped → List ℕ → List ℕ → List ℕ → List ℕ → List ℕ → Turn
+turnWith o arities variables sorts starts parts = record { number = o .number; standing = standingWith (o .progress) arities variables sorts starts parts }
+
+-- the domain that is then read
+abbrev pub soFar : Reading → ReadTurn → Domain
+soFar q (goOn r) = r .sofar
+soFar q (finish d) = q .sofar
+
+-- a table that is enough for a file: 64 actions have at most 64 literals each, and a literal takes at least 6 bytes of the file and 8 of the table
+abbrev pub EnoughTable : List ℕ → List ℕ → Type 0
+EnoughTable file table = (32768 ≤ length table) ⊎ (4 * length file ≤ 3 * length table)
+
+-- what a turn asks of where reading stands and of the table
+pub record StepReady (file table : List ℕ) (p : Standing) : Type 0 where
+  pub shaped : Shaped (p .index)
+  pub sized : Sized (p .index)
+  pub enough : EnoughTable file table
+  pub read : 6 * p .index .rows ≤ p .at
+
+-- the memories of arities, variables, sorts, starts and parts, all 0
+pub record Cleared (as′ vs ss bs ps : List ℕ) : Type 0 where
+  pub arities : as′ ≡ replicate 64 0
+  pub variables : vs ≡ replicate 64 0
+  pub sorts : ss ≡ replicate 64 0
+  pub starts : bs ≡ replicate 64 0
+  pub parts : ps ≡ replicate 128 0
+
+-- ---- the answer
+
+-- what a file leads to: 0 and the index of its domain, or the number that refused it with its place, where the record at fault starts, and the index until then
+pub record ReadAnswer : Type 0 where
+  pub number : ℕ
+  pub place : ℕ
+  pub start : ℕ
+  pub index : Index
+
+-- 0 and the index of the domain, or the refusal with the index of what was read until then
+abbrev pub readBy : Decoded → Index → ReadAnswer
+readBy (refused r) i = record { number = r .number; place = r .place; start = r .start; index = i }
+readBy (domain D) i = record { number = 0; place = 0; start = 0; index = i }
+
+-- where a record ends reading: its number with the offset of the record, or 0 where the file is read
+unfoldable pub finishedOf : Turn → ReadAnswer
+finishedOf o =
+    cond (eqb (o .number) 1) (record { number = 0; place = 0; start = 0; index = o .standing .index })
+    (record { number = o .number; place = o .standing .at; start = o .standing .at; index = o .standing .index })
+
+unfoldable pub readOf : List ℕ → ReadAnswer
+unfolding readFile indexOf
+readOf f = readBy (readFile f .result) (indexOf (readFile f .read))
+
+-- what the code answers, with the memories of the lists
+abbrev pub answerWith : ReadEnd → List ℕ → List ℕ → List ℕ → List ℕ → List ℕ → ReadAnswer
+answerWith e arities variables sorts starts parts = record { number = e .number; place = e .place; start = e .start; index = indexWith (e .counts) arities variables sorts starts parts }
+
+-- the table afterwards: the literals that were read, the rest untouched
+unfoldable pub tableAfter : List ℕ → List ℕ → List ℕ
+unfolding readFile tableBytes over
+tableAfter f table = over (tableBytes (readFile f .read)) table

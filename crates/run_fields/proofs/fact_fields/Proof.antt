@@ -1,0 +1,72 @@
+-- `fields::fact_fields` meets its contract. Assumes nothing.
+use mathlib.Core.Path.{sym, ap, _∙_}
+use mathlib.Core.Bool.{cond}
+use borrow.Author.Needs.{needs}
+use Rattle.run_fields.proofs.RunFields.{fact-early, fact-late, fact-short, fact-unknown, fact-length, fact-objects}
+use Rattle.run_fields.proofs.fact_fields.Statement.{statement}
+use Rattle.run_fields.proofs.fact_fields.Tie as tie
+
+returns : tie.Need-returns
+returns c = fact-early _ _ _ _ _ (c .if1 .taken)
+
+returns-2 : tie.Need-returns-2
+returns-2 c = fact-late _ _ _ _ _ (c .before .if1 .left) (c .if2 .taken)
+
+returns-3 : tie.Need-returns-3
+returns-3 c = fact-short _ _ _ _ _ (c .before .before .if1 .left) (c .before .if2 .left) (c .if3 .taken)
+
+shared-slice-read-wide : tie.Need-shared-slice-read-wide
+shared-slice-read-wide c = search needs
+
+wide-requires : tie.Need-wide-requires
+wide-requires c κs = search needs
+
+returns-4 : tie.Need-returns-4
+returns-4 c = fact-unknown _ _ _ _ _ (c .before .before .before .before .before .before .if1 .left) (c .before .before .before .before .before .if2 .left) (c .before .before .before .before .if3 .left) _ (c .before .before .wide .ensures .0) (c .if4 .taken)
+
+shared-slice-read-wide-2 : tie.Need-shared-slice-read-wide-2
+shared-slice-read-wide-2 c = search needs
+
+wide-requires-2 : tie.Need-wide-requires-2
+wide-requires-2 c κs = search needs
+
+add-if5 : tie.Need-add-if5
+add-if5 c = search needs
+
+returns-5 : tie.Need-returns-5
+returns-5 c =
+    let r = c .before .before .before in
+    fact-length _ _ _ _ _ (r .before .before .before .before .before .before .if1 .left) (r .before .before .before .before .before .if2 .left) (r .before .before .before .before .if3 .left) _ (r .before .before .wide .ensures .0) (r .if4 .left) _ (c .before .wide2 .ensures .0) (c .if5 .taken)
+
+any-from-requires : tie.Need-any-from-requires
+any-from-requires c κs = search needs
+
+returns-6 : tie.Need-returns-6
+returns-6 c =
+    let r = c .before .before .before .before .before in
+    sym (ap (λ out. cond out 51 0) (c .if6 .taken))
+    ∙ fact-objects _ _ _ _ _ (r .before .before .before .before .before .before .if1 .left) (r .before .before .before .before .before .if2 .left) (r .before .before .before .before .if3 .left) _ (r .before .before .wide .ensures .0) (r .if4 .left) _ (c .before .before .before .wide2 .ensures .0) (c .before .before .if5 .left) _ (c .before .any-from .ensures)
+
+returns-7 : tie.Need-returns-7
+returns-7 c =
+    let r = c .before .before .before .before .before in
+    sym (ap (λ out. cond out 51 0) (c .if6 .left))
+    ∙ fact-objects _ _ _ _ _ (r .before .before .before .before .before .before .if1 .left) (r .before .before .before .before .before .if2 .left) (r .before .before .before .before .if3 .left) _ (r .before .before .wide .ensures .0) (r .if4 .left) _ (c .before .before .before .wide2 .ensures .0) (c .before .before .if5 .left) _ (c .before .any-from .ensures)
+
+pub fact-fields-spec : {M : Type 1} → statement M
+fact-fields-spec =
+    tie.close
+    (tie.spec
+    returns
+    returns-2
+    returns-3
+    shared-slice-read-wide
+    wide-requires
+    returns-4
+    shared-slice-read-wide-2
+    wide-requires-2
+    add-if5
+    returns-5
+    any-from-requires
+    returns-6
+    returns-7)

@@ -1,0 +1,268 @@
+// The fields of a run file's records: each check answers the number that stops its record, or 0. And what a record that passes adds: a row of a fact, an event that waits.
+use events::Waiting;
+use events::openings::same_ground;
+use events::waits::put_bytes;
+use literals::Counts;
+use literals::fields::any_from;
+use literals::fields::count_from;
+use literals::fields::wide;
+use store::rows::has_row;
+ghost use mathlib.Core.Path.{_≡_};
+ghost use mathlib.Core.Bool.{not};
+ghost use mathlib.Core.List.{List, map};
+ghost use Prim.Native.Nat.{ℕ, _+_, _*_, _<_, _≤_};
+ghost use lib.Dec.{eqb};
+ghost use lib.ListN.{length, getD, drop};
+ghost use lib.Seq.{paste};
+ghost use Rattle.records.specs.Lists.{any, distinct};
+ghost use Rattle.literals.specs.Domain.{Domain};
+ghost use Rattle.literals.specs.Table.{rowsIn, indexWith, Holds};
+ghost use Rattle.classes.specs.Coded.{below};
+ghost use Rattle.runs.specs.RunFile.{factOf, eventOf};
+ghost use Rattle.runs.specs.Play.{Playing, objectsStop, factStop, eventStop, stepStop, endStop};
+ghost use Rattle.store.specs.Rows.{factRow, Few};
+ghost use Rattle.events.specs.Coded.{groundRow, waitingOf, EventsFit};
+ghost use Rattle.run_fields.specs.Fields.{factFields, eventFields, waitsAt};
+
+// ---- the object count, the close of a step and the close of the run
+
+// Kind 16: the object count. `objects` is the count so far, 0 before its record.
+pub fn objects_stop(objects: u8, p: &[u8]) -> u64
+    ensures is { λ r. ⌜ ((q : Playing) → q .objects ≡ objects → r ≡ objectsStop q (now (p .entry))) ⌝ }
+    ensures fits { λ r. ⌜ (r ≡ 0 → (length (now (p .entry)) ≡ 1) × (getD (now (p .entry)) 0 0 ≤ 64)) ⌝ }
+{
+    if objects != 0 {
+        return 50;
+    }
+    if p.len() != 1 {
+        return 50;
+    }
+    if p[0] == 0 {
+        return 51;
+    }
+    if 64 < p[0] {
+        return 51;
+    }
+    0
+}
+
+// Kind 19: the close of a step has no fields.
+pub fn step_stop(objects: u8, p: &[u8]) -> u64
+    ensures { λ r. ⌜ ((q : Playing) → q .objects ≡ objects → r ≡ stepStop q (now (p .entry))) ⌝ }
+{
+    if objects == 0 {
+        return 50;
+    }
+    if p.len() != 0 {
+        return 50;
+    }
+    0
+}
+
+// Kind 20: the close of the run has no fields either, and no event waits.
+pub fn end_stop(objects: u8, waiting: usize, p: &[u8]) -> u64
+    ensures { λ r. ⌜ ((q : Playing) → q .objects ≡ objects → length (q .waiting) ≡ waiting → r ≡ endStop q (now (p .entry))) ⌝ }
+{
+    let stop = step_stop(objects, p);
+    if stop != 0 {
+        return stop;
+    }
+    if waiting != 0 {
+        return 50;
+    }
+    0
+}
+
+// ---- rows
+
+// The row of a start fact: relation, how many objects, objects, FF to fill.
+pub fn fact_row(p: &[u8]) -> [u8; 8]
+    requires { ⌜ (1 ≤ length (now p)) × (length (now p) ≤ 7) ⌝ }
+    ensures { λ r. ⌜ r ≡ factRow (factOf (now (p .entry))) ⌝ }
+{
+    let mut row = [255u8; 8];
+    row[0] = p[0];
+    row[1] = (p.len() - 1) as u8;
+    put_bytes(&mut row, 2, &p[1..]);
+    row
+}
+
+// The row of an event's action: action, objects, FF to fill.
+pub fn ground_row(p: &[u8]) -> [u8; 17]
+    requires { ⌜ (2 ≤ length (now p)) × (length (now p) ≤ 18) ⌝ }
+    ensures { λ r. ⌜ r ≡ groundRow (eventOf (now (p .entry)) .ground) ⌝ }
+{
+    let mut row = [255u8; 17];
+    put_bytes(&mut row, 0, &p[1..]);
+    row
+}
+
+// A fact's row behind the first n.
+pub fn put_fact(work: &mut [u8], n: usize, row: [u8; 8])
+    requires { ⌜ 8 * n + 8 ≤ length (now work) ⌝ }
+    ensures { λ _. ⌜ now (work .exit) ≡ paste (now (work .entry)) (8 * n) row 8 ⌝ }
+{
+    put_bytes(work, 8 * n, &row);
+}
+
+// ---- a start fact
+
+// Kind 17, up to 51: relation, objects. `begun` where a record of kind 18 to 20 came before.
+fn fact_fields(counts: Counts, arities: &[u8], objects: u8, begun: bool, p: &[u8]) -> u64
+    requires { ⌜ (length (now arities) ≡ 64) × (counts .relations ≤ 64) ⌝ }
+    ensures { λ r. ⌜ r ≡ factFields counts (now (arities .entry)) objects begun (now (p .entry)) ⌝ }
+{
+    if objects == 0 {
+        return 50;
+    }
+    if begun {
+        return 50;
+    }
+    if p.len() < 1 {
+        return 50;
+    }
+    let relation = wide(p[0]);
+    if counts.relations <= relation {
+        return 51;
+    }
+    if p.len() != 1 + wide(arities[relation]) {
+        return 50;
+    }
+    if any_from(p, 1, objects) {
+        return 51;
+    }
+    0
+}
+
+// Kind 17: a start fact, where the first n rows of the work memory are the facts so far; 52 is the 1,025th different one.
+pub fn fact_stop(
+    counts: Counts,
+    arities: &[u8],
+    objects: u8,
+    begun: bool,
+    work: &[u8],
+    n: usize,
+    p: &[u8],
+) -> u64
+    requires { ⌜ (length (now arities) ≡ 64) × ((i : ℕ) → getD (now arities) i 0 ≤ 6) × (counts .relations ≤ 64) × (8 * n ≤ length (now work)) ⌝ }
+    ensures is { λ r. ⌜ ((D : Domain) (q : Playing) (variables sorts starts parts : List ℕ) → Holds D (indexWith counts (now (arities .entry)) variables sorts starts parts)
+        → q .objects ≡ objects → q .tally .begun ≡ begun → rowsIn n (now (work .entry)) ≡ map factRow (q .state .facts) → n ≡ length (q .state .facts) → Few (q .state .facts)
+        → r ≡ factStop D q (now (p .entry))) ⌝ }
+    ensures fits { λ r. ⌜ (r ≡ 0 → (1 ≤ length (now (p .entry))) × (length (now (p .entry)) ≤ 7)) ⌝ }
+{
+    let stop = fact_fields(counts, arities, objects, begun, p);
+    if stop != 0 {
+        return stop;
+    }
+    if n < 1024 {
+        return 0;
+    }
+    if has_row(work, n, fact_row(p)) {
+        return 0;
+    }
+    52
+}
+
+// ---- an event
+
+// Kind 18, up to 51: moment, action, objects. Moment 1 is the end of a lasting action.
+fn event_fields(counts: Counts, variables: &[u8], sorts: &[u8], objects: u8, p: &[u8]) -> u64
+    requires { ⌜ (length (now variables) ≡ 64) × (length (now sorts) ≡ 64) × (counts .actions ≤ 64) ⌝ }
+    ensures { λ r. ⌜ r ≡ eventFields counts (now (variables .entry)) (now (sorts .entry)) objects (now (p .entry)) ⌝ }
+{
+    if objects == 0 {
+        return 50;
+    }
+    if p.len() < 2 {
+        return 50;
+    }
+    if 1 < p[0] {
+        return 51;
+    }
+    let action = wide(p[1]);
+    if counts.actions <= action {
+        return 51;
+    }
+    if p.len() != 2 + wide(variables[action]) {
+        return 50;
+    }
+    if sorts[action] < p[0] {
+        return 51;
+    }
+    if any_from(p, 2, objects) {
+        return 51;
+    }
+    0
+}
+
+// Whether a byte from `from` on stands twice.
+fn twice_from(p: &[u8], from: usize) -> bool
+    ensures { λ r. ⌜ r ≡ not (distinct eqb (drop from (now (p .entry)))) ⌝ }
+{
+    let mut i = from;
+    while i < p.len() {
+        if count_from(p, i + 1, p[i]) != 0 {
+            return true;
+        }
+        i += 1;
+    }
+    false
+}
+
+// Whether the event at a place of those that wait is this one.
+fn waits_at(moments: &[u8], rows: &[u8], moment: u8, ground: &[u8], i: usize) -> bool
+    requires { ⌜ (i < length (now moments)) × (17 * i + 17 ≤ length (now rows)) × (length (now ground) ≡ 17) ⌝ }
+    ensures { λ r. ⌜ r ≡ waitsAt (now (moments .entry)) (now (rows .entry)) moment (now (ground .entry)) i ⌝ }
+{
+    if moment == moments[i] {
+        return same_ground(rows, 17 * i, ground);
+    }
+    false
+}
+
+// Whether this event waits: an action with objects, at the moment of this byte.
+fn is_waiting(waiting: Waiting, moment: u8, ground: [u8; 17]) -> bool
+    requires { ⌜ waiting .count ≤ 16 ⌝ }
+    ensures { λ r. ⌜ r ≡ any (waitsAt (waiting .moments) (waiting .rows) moment ground) (below (waiting .count)) ⌝ }
+{
+    let n = waiting.count;
+    let moments = waiting.moments;
+    let rows = waiting.rows;
+    for i in 0..n {
+        if waits_at(&moments, &rows, moment, &ground, i) {
+            return true;
+        }
+    }
+    false
+}
+
+// Kind 18: an event, where these wait already.
+pub fn event_stop(
+    counts: Counts,
+    variables: &[u8],
+    sorts: &[u8],
+    objects: u8,
+    waiting: Waiting,
+    p: &[u8],
+) -> u64
+    requires { ⌜ (length (now variables) ≡ 64) × ((i : ℕ) → getD (now variables) i 0 ≤ 16) × (length (now sorts) ≡ 64) × (counts .actions ≤ 64) × (waiting .count ≤ 16) ⌝ }
+    ensures is { λ r. ⌜ ((D : Domain) (q : Playing) (arities starts parts : List ℕ) → Holds D (indexWith counts arities (now (variables .entry)) (now (sorts .entry)) starts parts)
+        → q .objects ≡ objects → objects ≤ 64 → waiting ≡ waitingOf (q .waiting) → EventsFit D (q .waiting)
+        → r ≡ eventStop D q (now (p .entry))) ⌝ }
+    ensures fits { λ r. ⌜ (r ≡ 0 → (2 ≤ length (now (p .entry))) × (length (now (p .entry)) ≤ 18) × (waiting .count < 16)) ⌝ }
+{
+    let stop = event_fields(counts, variables, sorts, objects, p);
+    if stop != 0 {
+        return stop;
+    }
+    if twice_from(p, 2) {
+        return 53;
+    }
+    if is_waiting(waiting, p[0], ground_row(p)) {
+        return 54;
+    }
+    if 16 <= waiting.count {
+        return 52;
+    }
+    0
+}

@@ -1,0 +1,272 @@
+-- The bytes of the witness's facts, by the rows that they are taken from: laws of the functions that write them. Assumes nothing.
+use mathlib.Core.Path.{_≡_, refl, sym, ap, ap₂, _∙_}
+use mathlib.Core.Bool.{Bool, true, false, cond}
+use mathlib.Core.Logic.{_⊎_, inl, inr}
+use mathlib.Core.List.{List, [], _∷_, _++_, map, flatMap, append-nil, List·Memᴰ·head, List·Memᴰ·tail, List·Memᴰ·not-nil}
+use Prim.Native.Nat.{ℕ, zero, suc, _+_, _-_, _*_, _≤_, _<_}
+use native.Mathlib.Numerals.{add-one}
+use native.Mathlib.Omega.{arith}
+use lib.ListN.{length, getD, take, drop, replicate, length-append, length-map, length-drop, length-replicate, getD-replicate, List·getD-append}
+use lib.Seq.{take-suc, drop-drop, getD-take, getD-drop, getD-append-add, length-take-le, paste, paste-zero}
+use borrow.Author.Tests.{lt-ltb, le-ltb, eq-eqb, ne-eqb}
+use Rattle.records.specs.Lists.{In, addIf, keepIf, countBy}
+use Rattle.records.specs.Memory.{over}
+use Rattle.records.proofs.Lists.{in-keepIf, count-append, flatMap-append}
+use Rattle.records.proofs.Memory.{length-over, over-paste}
+use Rattle.literals.specs.Table.{rowsIn}
+use Rattle.literals.proofs.Rows.{part-first, length-part, part-at}
+use Rattle.literals.proofs.Tables.{length-flat}
+use Rattle.classes.proofs.KeyRows.{length-rows}
+use Rattle.showing.specs.Bytes.{selectBy, isCondition, conditionBytes, conditionOf, conditionIf, conditionsOf, objectByte, instanceBytes}
+
+-- ---- how many of the first pass
+
+module _ (p : ℕ → Bool) where
+  pub count-take-hit : (l : List ℕ) (j : ℕ) → j < length l → p (getD l j 0) ≡ true → countBy p (take (j + 1) l) ≡ countBy p (take j l) + 1
+  count-take-hit l j h t =
+      ap (λ (n : ℕ). countBy p (take n l)) (add-one j)
+      ∙ ap (countBy p) (take-suc l j 0 h)
+      ∙ count-append p (take j l) (getD l j 0 ∷ [])
+      ∙ ap (λ (b : Bool). countBy p (take j l) + addIf b 0) t
+
+  pub count-take-miss : (l : List ℕ) (j : ℕ) → j < length l → p (getD l j 0) ≡ false → countBy p (take (j + 1) l) ≡ countBy p (take j l)
+  count-take-miss l j h t =
+      let z : countBy p (take j l) + 0 ≡ countBy p (take j l) = omega arith in
+      ap (λ (n : ℕ). countBy p (take n l)) (add-one j)
+      ∙ ap (countBy p) (take-suc l j 0 h)
+      ∙ count-append p (take j l) (getD l j 0 ∷ [])
+      ∙ ap (λ (b : Bool). countBy p (take j l) + addIf b 0) t
+      ∙ z
+
+  pub count-take-le : (l : List ℕ) (j n : ℕ) → j ≤ n → countBy p (take j l) ≤ countBy p (take n l)
+  count-take-le l zero n h = omega arith
+  count-take-le l (suc j) zero h = absurd (omega arith)
+  count-take-le [] (suc j) (suc n) h = omega arith
+  count-take-le (x ∷ xs) (suc j) (suc n) h = go (p x) (count-take-le xs j n (omega arith))
+    where
+      go : (b : Bool) → countBy p (take j xs) ≤ countBy p (take n xs) → addIf b (countBy p (take j xs)) ≤ addIf b (countBy p (take n xs))
+      go true e = omega arith
+      go false e = e
+
+-- ---- elements whose numbers pass
+
+module _ {A B : Type 0} (p : A → Bool) where
+  select-snoc : (xs : List A) (ys : List B) (x : A) (y : B) → length xs ≡ length ys
+      → selectBy p (xs ++ (x ∷ [])) (ys ++ (y ∷ [])) ≡ selectBy p xs ys ++ keepIf (p x) y []
+  select-snoc [] [] x y e = refl
+  select-snoc [] (w ∷ ws) x y e = absurd (omega arith)
+  select-snoc (v ∷ vs) [] x y e = absurd (omega arith)
+  select-snoc (v ∷ vs) (w ∷ ws) x y e = go (p v) (select-snoc vs ws x y (omega arith))
+    where
+      go : (b : Bool) → selectBy p (vs ++ (x ∷ [])) (ws ++ (y ∷ [])) ≡ selectBy p vs ws ++ keepIf (p x) y []
+          → keepIf b w (selectBy p (vs ++ (x ∷ [])) (ws ++ (y ∷ []))) ≡ keepIf b w (selectBy p vs ws) ++ keepIf (p x) y []
+      go true h = ap {B = List B} (λ l. w ∷ l) h
+      go false h = h
+
+  pub select-in : (xs : List A) (ys : List B) {y : B} → In y (selectBy p xs ys) → In y ys
+  select-in [] ys m = absurd (List·Memᴰ·not-nil m)
+  select-in (x ∷ xs) [] m = m
+  select-in (x ∷ xs) (w ∷ ws) {y} m = go (λ k. select-in xs ws k) (in-keepIf (p x) w (selectBy p xs ws) m)
+    where
+      go : (In y (selectBy p xs ws) → In y ws) → ((p x ≡ true) × (y ≡ w)) ⊎ In y (selectBy p xs ws) → In y (w ∷ ws)
+      go ih (inl h) = List·Memᴰ·head (h .1)
+      go ih (inr k) = List·Memᴰ·tail (ih k)
+
+  pub length-select : (xs : List A) (ys : List B) → length xs ≡ length ys → length (selectBy p xs ys) ≡ countBy p xs
+  length-select [] ys e = refl
+  length-select (x ∷ xs) [] e = absurd (omega arith)
+  length-select (x ∷ xs) (w ∷ ws) e = go (p x) (length-select xs ws (omega arith))
+    where
+      go : (b : Bool) → length (selectBy p xs ws) ≡ countBy p xs → length (keepIf b w (selectBy p xs ws)) ≡ addIf b (countBy p xs)
+      go true h = ap suc h
+      go false h = h
+
+-- ---- the first rows of a memory
+
+rows-last : (j : ℕ) (t : List ℕ) → rowsIn (suc j) t ≡ rowsIn j t ++ (take 8 (drop (8 * j) t) ∷ [])
+rows-last zero t = refl
+rows-last (suc j) t =
+    let e : 8 + 8 * j ≡ 8 * suc j = omega arith in
+    ap {B = List (List ℕ)} (λ l. take 8 t ∷ l)
+    (rows-last j (drop 8 t) ∙ ap (λ (r : List ℕ). rowsIn j (drop 8 t) ++ (take 8 r ∷ [])) (drop-drop (8 * j) 8 t ∙ ap (λ (n : ℕ). drop n t) e))
+
+rows-whole : (j : ℕ) (t : List ℕ) → 8 * j ≤ length t → (row : List ℕ) → In row (rowsIn j t) → length row ≡ 8
+rows-whole zero t h row m = absurd (List·Memᴰ·not-nil m)
+rows-whole (suc j) t h row (List·Memᴰ·head e) = ap length e ∙ length-take-le 8 t (omega arith)
+rows-whole (suc j) t h row (List·Memᴰ·tail m) = rows-whole j (drop 8 t) (simp length-drop (omega arith)) row m
+
+-- ---- a condition's fact
+
+module _ (arity : ℕ) (t : List ℕ) (at : ℕ) (h : at + 8 ≤ length t) where
+  pub condition-first : (i : ℕ) → i ≡ 0 → getD t (at + 1) 0 ≡ getD (conditionBytes arity (take 8 (drop at t))) i 0
+  condition-first i e = sym (part-at t at h 1 (omega arith)) ∙ ap (λ (i : ℕ). getD (conditionBytes arity (take 8 (drop at t))) i 0) (sym e)
+
+  pub condition-behind : (i : ℕ) → i < 8 → (i ≡ 0 → ⊥) → (i ≡ 1 → ⊥) → getD t (at + i) 0 ≡ getD (conditionBytes arity (take 8 (drop at t))) i 0
+  condition-behind zero l n o = absurd (n refl)
+  condition-behind (suc zero) l n o = absurd (o refl)
+  condition-behind (suc (suc k)) l n o =
+      let e : suc (suc k) ≡ 2 + k = omega arith in
+      ap (λ (i : ℕ). getD t (at + i) 0) e ∙ sym (getD-drop 2 (take 8 (drop at t)) k 0 ∙ part-at t at h (2 + k) (omega arith))
+
+length-condition : (arity : ℕ) (row : List ℕ) → length row ≡ 8 → length (conditionBytes arity row) ≡ 8
+length-condition arity row e = let d = length-drop 2 row in omega arith
+
+pub length-condition-at : (arity : ℕ) (t : List ℕ) (at : ℕ) → at + 8 ≤ length t → length (conditionBytes arity (take 8 (drop at t))) ≡ 8
+length-condition-at arity t at h = length-condition arity (take 8 (drop at t)) (length-part t at h)
+
+-- ---- it where the literal is a true condition
+
+module _ (arities t d : List ℕ) (at row k : ℕ) where
+  if-not : (k ≡ 1 → ⊥) → conditionIf arities k (take 8 (drop row t)) ≡ []
+  if-not n = rw (ne-eqb k 1 n)
+
+  pub left-out : (k ≡ 1 → ⊥) → d ≡ paste d at (conditionIf arities k (take 8 (drop row t))) (length (conditionIf arities k (take 8 (drop row t))))
+  left-out n = paste-zero d at [] ∙ sym (ap (λ (s : List ℕ). paste d at s (length s)) (if-not n))
+
+  pub left-behind : (k ≡ 1 → ⊥) → at ≡ at + length (conditionIf arities k (take 8 (drop row t)))
+  left-behind n = let e = ap length (if-not n) in omega arith
+
+  module _ (arity : ℕ) (h : row + 8 ≤ length t) (e : k ≡ 1) (f : arity ≡ getD arities (getD t (row + 1) 0) 0) where
+    if-so : conditionIf arities k (take 8 (drop row t)) ≡ conditionBytes arity (take 8 (drop row t))
+    if-so =
+        rw (eq-eqb k 1 e)
+        (ap (λ (n : ℕ). conditionBytes n (take 8 (drop row t)))
+        (ap (λ (r : ℕ). getD arities r 0) (part-at t row h 1 (omega arith)) ∙ sym f))
+
+    pub put-in : (out : List ℕ) → out ≡ paste d at (conditionBytes arity (take 8 (drop row t))) 8
+        → out ≡ paste d at (conditionIf arities k (take 8 (drop row t))) (length (conditionIf arities k (take 8 (drop row t))))
+    put-in out o =
+        o
+        ∙ ap (paste d at (conditionBytes arity (take 8 (drop row t)))) (sym (length-condition-at arity t row h))
+        ∙ sym (ap (λ (s : List ℕ). paste d at s (length s)) if-so)
+
+    pub put-behind : at + 8 ≡ at + length (conditionIf arities k (take 8 (drop row t)))
+    put-behind = let g = ap length if-so in let l = length-condition-at arity t row h in omega arith
+
+-- ---- those of all true conditions
+
+module _ (arities ks t : List ℕ) where
+  conditions-more : (j : ℕ) → j < length ks
+      → conditionsOf arities (take (j + 1) ks) (rowsIn (j + 1) t) ≡ conditionsOf arities (take j ks) (rowsIn j t) ++ conditionIf arities (getD ks j 0) (take 8 (drop (8 * j) t))
+  unfolding conditionsOf flatMap
+  conditions-more j h =
+      let l = length-take-le j ks (omega arith) in
+      let r = length-rows j t in
+      ap (λ (n : ℕ). conditionsOf arities (take n ks) (rowsIn n t)) (add-one j)
+      ∙ ap₂ (conditionsOf arities) (take-suc ks j 0 h) (rows-last j t)
+      ∙ ap (flatMap (conditionOf arities)) (select-snoc isCondition (take j ks) (rowsIn j t) (getD ks j 0) (take 8 (drop (8 * j) t)) (omega arith))
+      ∙ flatMap-append (conditionOf arities) (selectBy isCondition (take j ks) (rowsIn j t)) (keepIf (isCondition (getD ks j 0)) (take 8 (drop (8 * j) t)) [])
+      ∙ ap (λ (b : List ℕ). conditionsOf arities (take j ks) (rowsIn j t) ++ b) (one (isCondition (getD ks j 0)) (take 8 (drop (8 * j) t)))
+    where
+      one : (b : Bool) (row : List ℕ) → flatMap (conditionOf arities) (keepIf b row []) ≡ cond b (conditionOf arities row) []
+      one true row = append-nil (conditionOf arities row)
+      one false row = refl
+
+  pub length-conditions : (j : ℕ) → j ≤ length ks → 8 * j ≤ length t → length (conditionsOf arities (take j ks) (rowsIn j t)) ≡ 8 * countBy isCondition (take j ks)
+  unfolding conditionsOf
+  length-conditions j h g =
+      let l = length-take-le j ks h in
+      let r = length-rows j t in
+      let n = length-select isCondition (take j ks) (rowsIn j t) (omega arith) in
+      let f = length-flat (conditionOf arities) (selectBy isCondition (take j ks) (rowsIn j t)) (λ row m. length-condition (getD arities (getD row 1 0) 0) row (rows-whole j t g row (select-in isCondition (take j ks) (rowsIn j t) m))) in
+      omega arith
+
+  -- the loop that writes them: j rows are behind it
+  module _ (n : ℕ) (old : List ℕ) (h : n ≤ length ks) (g : 8 * n ≤ length t) (f : 8 * countBy isCondition (take n ks) ≤ length old) (j at : ℕ) (out : List ℕ)
+      (i : j ≤ n) (a : at ≡ length (conditionsOf arities (take j ks) (rowsIn j t))) (o : out ≡ over (conditionsOf arities (take j ks) (rowsIn j t)) old) where
+    pub conditions-length : length out ≡ length old
+    conditions-length =
+        let l = length-conditions j (omega arith) (omega arith) in
+        let c = count-take-le isCondition ks j n i in
+        ap length o ∙ length-over (conditionsOf arities (take j ks) (rowsIn j t)) old (omega arith)
+
+    module _ (s : j < n) where
+      pub conditions-room : getD ks j 0 ≡ 1 → at + 8 ≤ length out
+      conditions-room e =
+          let l = length-conditions j (omega arith) (omega arith) in
+          let k = count-take-hit isCondition ks j (omega arith) (eq-eqb (getD ks j 0) 1 e) in
+          let c = count-take-le isCondition ks (j + 1) n (omega arith) in
+          let d = conditions-length in
+          omega arith
+
+      pub conditions-at : (r : ℕ) → r ≡ at + length (conditionIf arities (getD ks j 0) (take 8 (drop (8 * j) t))) → r ≡ length (conditionsOf arities (take (j + 1) ks) (rowsIn (j + 1) t))
+      conditions-at r e =
+          let k = ap length (conditions-more j (omega arith)) ∙ length-append (conditionsOf arities (take j ks) (rowsIn j t)) (conditionIf arities (getD ks j 0) (take 8 (drop (8 * j) t))) in
+          omega arith
+
+      pub conditions-out : (out′ : List ℕ)
+          → out′ ≡ paste out at (conditionIf arities (getD ks j 0) (take 8 (drop (8 * j) t))) (length (conditionIf arities (getD ks j 0) (take 8 (drop (8 * j) t))))
+          → out′ ≡ over (conditionsOf arities (take (j + 1) ks) (rowsIn (j + 1) t)) old
+      conditions-out out′ e =
+          let b : List ℕ = conditionIf arities (getD ks j 0) (take 8 (drop (8 * j) t)) in
+          e
+          ∙ ap (λ (x : List ℕ). paste x at b (length b)) o
+          ∙ over-paste (conditionsOf arities (take j ks) (rowsIn j t)) old b at (length b) (sym a) refl
+          ∙ sym (ap (λ (x : List ℕ). over x old) (conditions-more j (omega arith)))
+
+-- ---- an instance fact
+
+pub object-key : (spare label class : ℕ) (t : List ℕ) → 8 * class + 8 ≤ length t → label < 8 → getD t (8 * class + label) 0 ≡ objectByte spare (take 8 (drop (8 * class) t)) label
+object-key spare label class t h l = rw (lt-ltb label 8 l) (sym (part-at t (8 * class) h label l))
+
+pub object-spare : (spare label : ℕ) (tuple : List ℕ) → 8 ≤ label → spare ≡ objectByte spare tuple label
+object-spare spare label tuple l = rw (le-ltb label 8 l)
+
+map-at : (f : ℕ → ℕ) (l : List ℕ) (i : ℕ) → i < length l → getD (map f l) i 0 ≡ f (getD l i 0)
+map-at f [] i h = absurd (omega arith)
+map-at f (x ∷ xs) zero h = refl
+map-at f (x ∷ xs) (suc i) h = map-at f xs i (omega arith)
+
+module _ (arity spare : ℕ) (tuple row : List ℕ) (h : length row ≡ 8) (g : arity ≤ 6) where
+  abbrev labels : List ℕ
+  labels = take arity (drop 1 row)
+
+  length-labels : length labels ≡ arity
+  length-labels = length-take-le arity (drop 1 row) (simp length-drop (omega arith))
+
+  length-objects : length (map (objectByte spare tuple) labels) ≡ arity
+  length-objects = length-map labels (objectByte spare tuple) ∙ length-labels
+
+  length-instance : length (instanceBytes arity spare tuple row) ≡ 8
+  length-instance =
+      let l = length-objects in
+      let a = length-append (map (objectByte spare tuple) labels) (replicate (6 - arity) 255) in
+      let r = length-replicate {A = ℕ} (6 - arity) 255 in
+      omega arith
+
+  object-at : (k : ℕ) → k < arity → getD (map (objectByte spare tuple) labels ++ replicate (6 - arity) 255) k 0 ≡ objectByte spare tuple (getD row (1 + k) 0)
+  object-at k l =
+      let n = length-objects in
+      let m = length-labels in
+      List·getD-append (map (objectByte spare tuple) labels) (replicate (6 - arity) 255) 0 k (omega arith)
+      ∙ map-at (objectByte spare tuple) labels k (omega arith)
+      ∙ ap (objectByte spare tuple) (getD-take arity (drop 1 row) k 0 l ∙ getD-drop 1 row k 0)
+
+  fill-at : (k : ℕ) → k < 6 → arity ≤ k → getD (map (objectByte spare tuple) labels ++ replicate (6 - arity) 255) k 0 ≡ 255
+  fill-at k l n =
+      let m = length-objects in
+      let e : k ≡ length (map (objectByte spare tuple) labels) + (k - arity) = omega arith in
+      ap (λ (i : ℕ). getD (map (objectByte spare tuple) labels ++ replicate (6 - arity) 255) i 0) e
+      ∙ getD-append-add (map (objectByte spare tuple) labels) (replicate (6 - arity) 255) (k - arity) 0
+      ∙ getD-replicate (6 - arity) (k - arity) 255 0 (omega arith)
+
+module _ (arity spare : ℕ) (tuple t : List ℕ) (at : ℕ) (h : at + 8 ≤ length t) (g : arity ≤ 6) where
+  pub instance-first : (i : ℕ) → i ≡ 0 → getD t at 0 ≡ getD (instanceBytes arity spare tuple (take 8 (drop at t))) i 0
+  instance-first i e = sym (part-first t at) ∙ ap (λ (i : ℕ). getD (instanceBytes arity spare tuple (take 8 (drop at t))) i 0) (sym e)
+
+  pub instance-object : (i r : ℕ) → (i ≡ 0 → ⊥) → (i ≡ 1 → ⊥) → i < 2 + arity → r ≡ objectByte spare tuple (getD t (at + (i - 1)) 0) → r ≡ getD (instanceBytes arity spare tuple (take 8 (drop at t))) i 0
+  instance-object zero r n o l e = absurd (n refl)
+  instance-object (suc zero) r n o l e = absurd (o refl)
+  instance-object (suc (suc k)) r n o l e =
+      let z : suc (suc k) - 1 ≡ 1 + k = omega arith in
+      e
+      ∙ ap (λ (i : ℕ). objectByte spare tuple (getD t (at + i) 0)) z
+      ∙ sym (object-at arity spare tuple (take 8 (drop at t)) (length-part t at h) g k (omega arith) ∙ ap (objectByte spare tuple) (part-at t at h (1 + k) (omega arith)))
+
+  pub instance-fill : (i : ℕ) → i < 8 → (i ≡ 0 → ⊥) → (i ≡ 1 → ⊥) → 2 + arity ≤ i → 255 ≡ getD (instanceBytes arity spare tuple (take 8 (drop at t))) i 0
+  instance-fill zero l n o m = absurd (n refl)
+  instance-fill (suc zero) l n o m = absurd (o refl)
+  instance-fill (suc (suc k)) l n o m = sym (fill-at arity spare tuple (take 8 (drop at t)) (length-part t at h) g k (omega arith) (omega arith))
+
+  pub length-instance-at : length (instanceBytes arity spare tuple (take 8 (drop at t))) ≡ 8
+  length-instance-at = length-instance arity spare tuple (take 8 (drop at t)) (length-part t at h) g

@@ -1,0 +1,3 @@
+-- Laws of the bytes of a witness.
+pub mod Facts
+pub mod Shown

@@ -1,0 +1,63 @@
+-- The bytes of a witness: the witness of a place, where it fits, and the rows that it is taken from. Assumes nothing.
+use mathlib.Core.Bool.{Bool, cond}
+use mathlib.Core.List.{List, [], _∷_, _++_, map, flatMap}
+use Prim.Native.Nat.{ℕ, _-_, _*_}
+use lib.Dec.{eqb, ltb, leb}
+use lib.ListN.{length, getD, take, drop, replicate}
+use Rattle.records.specs.Lists.{keepIf}
+use Rattle.records.specs.Memory.{over}
+use Rattle.literals.specs.declared.Clause.the-variants.{Positive}
+use Rattle.literals.specs.Domain.{Fact, Action}
+use Rattle.classes.specs.declared.Moment.{Moment}
+use Rattle.classes.specs.Classes.{required}
+use Rattle.verdict.specs.Binding.{bind, sameNumbers}
+use Rattle.verdict.specs.Decision.{rows}
+use Rattle.verdict.specs.Judged.{factBytes}
+
+-- ---- the witness of a place, where it fits
+
+-- "all true conditions of the action at that moment", bound
+abbrev pub conditionFacts : Action → Moment → List Fact
+conditionFacts a m = map (bind (sameNumbers a)) (required a m Positive)
+
+abbrev pub fitsIn : List Fact → List ℕ → Bool
+fitsIn fs out = leb (8 * length fs) (length out)
+
+abbrev pub shownIn : List Fact → List ℕ → List ℕ
+shownIn fs out = cond (fitsIn fs out) (over (factBytes fs) out) out
+
+-- ---- the bytes of a witness, by the rows that they are taken from
+
+-- the elements whose numbers, in the first list, pass
+abbrev pub selectBy : {A B : Type 0} → (A → Bool) → List A → List B → List B
+selectBy p [] ys = []
+selectBy p (x ∷ xs) [] = []
+selectBy p (x ∷ xs) (y ∷ ys) = keepIf (p x) y (selectBy p xs ys)
+
+-- what a literal is at a moment: a true condition
+abbrev pub isCondition : ℕ → Bool
+isCondition k = eqb k 1
+
+-- the fact of a literal's row: relation, arity, arguments
+abbrev pub conditionBytes : ℕ → List ℕ → List ℕ
+conditionBytes arity row = getD row 1 0 ∷ arity ∷ drop 2 row
+
+abbrev pub conditionOf : List ℕ → List ℕ → List ℕ
+conditionOf arities row = conditionBytes (getD arities (getD row 1 0) 0) row
+
+-- it, where the literal is a true condition
+abbrev pub conditionIf : List ℕ → ℕ → List ℕ → List ℕ
+conditionIf arities k row = cond (isCondition k) (conditionOf arities row) []
+
+-- those of all true conditions, by what each literal is and its row
+unfoldable pub conditionsOf : List ℕ → List ℕ → List (List ℕ) → List ℕ
+unfolding flatMap
+conditionsOf arities ks rows = flatMap (conditionOf arities) (selectBy isCondition ks rows)
+
+-- the object under a label, of the instance of a class by its row: FF is the spare one
+abbrev pub objectByte : ℕ → List ℕ → ℕ → ℕ
+objectByte spare tuple label = cond (ltb label 8) (getD tuple label 0) spare
+
+-- the instance fact of a component by its row
+abbrev pub instanceBytes : ℕ → ℕ → List ℕ → List ℕ → List ℕ
+instanceBytes arity spare tuple row = getD row 0 0 ∷ arity ∷ (map (objectByte spare tuple) (take arity (drop 1 row)) ++ replicate (6 - arity) 255)
