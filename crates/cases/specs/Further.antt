@@ -10,7 +10,7 @@ use Rattle.literals.specs.declared.Clause.the-variants.{Positive, Negative, Add
 use Rattle.literals.specs.Domain.{roleOf}
 use Rattle.verdict.specs.Judged.{judged, reportAfter, witnessAfter}
 use Rattle.cases.specs.Written.{FF, rec, each, relation, atOnce, lasting, literal, component, closing, holds, lacks, adds, deletes, holdsOverAll, lacksOverAll, holdsAtEnd, lacksAtEnd, addsAtEnd, deletesAtEnd, lent, row, unreachable, irrelevant, heavy, balanced, unbalanced, bounded, unbounded, held, judging, leaves, judge, answers, refuses}
-use Rattle.cases.specs.Samples.{at, out, relations, template, full, empty, pour, m4, m10}
+use Rattle.cases.specs.Samples.{at, out, relations, template, full, empty, fill, pour, m4, m10}
 
 -- ---- vocabulary
 
@@ -100,7 +100,7 @@ pub record Names : Type 0 where
   -- no journey: the start adds
   pub start-adds : judge (library (lasting 3 ++ holds (at 0 1) ++ deletes (at 0 1) ++ adds (at 0 2) ++ addsAtEnd (out 0 2)))
       ≡ answers 42 0 0 1 (row 0 0 0 balanced ++ row 0 0 1 unbounded) (held (at 0 3))
-  -- no journey: the start has two true conditions
+  -- no journey: the start has two true conditions, and keeps one of them
   pub start-holds-two : judge (library (lasting 3 ++ holds (at 0 1) ++ holds (at 0 2) ++ deletes (at 0 1) ++ addsAtEnd (out 0 2)))
       ≡ answers 42 0 0 1 (row 0 0 0 unreachable ++ row 0 0 1 unbounded) (held (at 0 3))
   -- a bounded journey's end beside an unbounded one: accepted, 1
@@ -115,6 +115,42 @@ pub record Names : Type 0 where
   -- an action without matching literals has no row
   pub no-row : judge (library (atOnce 1 ++ adds (lit 0) ++ atOnce 3 ++ holds (at 0 1) ++ adds (at 0 2)))
       ≡ answers 41 1 0 0 (row 1 0 0 unbalanced) (held (at 0 1))
+  -- an end's own true condition counts: without it this end would be unbounded
+  pub end-own-true : judge (library (lasting 3 ++ holdsAtEnd (at 0 1) ++ addsAtEnd (at 0 2) ++ deletesAtEnd (at 0 1)))
+      ≡ answers 0 0 0 0 (row 0 0 0 irrelevant ++ row 0 0 1 balanced) []
+  -- and its own false condition covers
+  pub end-own-false-covers : judge (vessels (lasting 1 ++ lacksAtEnd (empty 0) ++ addsAtEnd (full 0)))
+      ≡ answers 0 0 0 0 (row 0 0 0 irrelevant ++ row 0 0 1 bounded) []
+  -- rows are sorted by class before moment: a lasting action with two classes
+  pub class-before-moment : judge (vessels (lasting 2 ++ deletes (full 0) ++ deletesAtEnd (full 0) ++ adds (empty 1) ++ deletes (full 1)))
+      ≡ answers 0 0 0 0 (row 0 0 0 irrelevant ++ row 0 0 1 irrelevant ++ row 0 1 0 bounded ++ row 0 1 1 irrelevant) []
+  -- n = 0: literals of two relations form one class too
+  pub no-keys-two-relations : judge (relation 1 ++ relation 1 ++ atOnce 2 ++ holds (full 0) ++ deletes (full 0) ++ adds (empty 1) ++ component (full FF) ++ component (empty FF) ++ closing)
+      ≡ answers 0 0 0 0 (row 0 0 0 balanced) []
+  -- no journey: two true conditions at the start, both deleted
+  pub start-deletes-two : judge (library (lasting 3 ++ holds (at 0 1) ++ holds (at 0 2) ++ deletes (at 0 1) ++ deletes (at 0 2) ++ addsAtEnd (out 0 2)))
+      ≡ answers 42 0 0 1 (row 0 0 0 unreachable ++ row 0 0 1 unbounded) (held (at 0 3))
+  -- no journey: the start deletes another literal of the class
+  pub start-deletes-other : judge (library (lasting 3 ++ holds (at 0 1) ++ deletes (at 0 2) ++ addsAtEnd (out 0 2)))
+      ≡ answers 42 0 0 1 (row 0 0 0 irrelevant ++ row 0 0 1 unbounded) (held (at 0 3))
+  -- no journey: the end deletes it, not the start
+  pub end-deletes : judge (library (lasting 3 ++ holds (at 0 1) ++ deletesAtEnd (at 0 1) ++ addsAtEnd (out 0 2)))
+      ≡ answers 42 0 0 1 (row 0 0 0 irrelevant ++ row 0 0 1 unbounded) (held (at 0 3))
+  -- a journey's start and end are of one class: here the start takes at(0,1), the end adds out(2,3)
+  pub journey-of-another-class : judge (library (lasting 4 ++ holds (at 0 1) ++ deletes (at 0 1) ++ addsAtEnd (out 2 3)))
+      ≡ answers 42 0 1 1 (row 0 0 0 irrelevant ++ row 0 0 1 irrelevant ++ row 0 1 0 irrelevant ++ row 0 1 1 unbounded) (held (at 2 4))
+  -- the first moment at fault, whatever the numbers: 42 before 41 before 40 in the file
+  pub first-of-three : judge (library (atOnce 2 ++ adds (at 0 1) ++ atOnce 3 ++ holds (at 0 1) ++ adds (at 0 2) ++ atOnce 3 ++ adds (at 0 1) ++ adds (at 0 2)))
+      ≡ answers 42 0 0 0 (row 0 0 0 unbounded ++ row 1 0 0 unbalanced ++ row 2 0 0 heavy) (held (at 0 2))
+  -- of two bounded moments the first
+  pub first-bounded : judge (vessels (fill ++ fill ++ pour))
+      ≡ answers 43 0 0 0 (row 0 0 0 bounded ++ row 1 0 0 bounded ++ row 2 0 0 irrelevant ++ row 2 0 1 unbounded) []
+  -- a false condition is not in the witness
+  pub no-false-in-witness : judge (library (atOnce 2 ++ lacks (lit 0) ++ holds (lit 1) ++ adds (at 0 1)))
+      ≡ answers 42 0 0 0 (row 0 0 0 unbounded) (held (lit 1) ++ held (at 0 2))
+  -- file order, not own ones before over-all ones
+  pub witness-over-all-first : judge (library (lasting 2 ++ addsAtEnd (at 0 1) ++ holdsOverAll (lit 0) ++ holdsAtEnd (lit 1)))
+      ≡ answers 42 0 0 1 (row 0 0 0 irrelevant ++ row 0 0 1 unbounded) (held (lit 0) ++ held (lit 1) ++ held (at 0 2))
 
 pub names : Names
 unfolding roleOf judged reportAfter witnessAfter
@@ -146,6 +182,18 @@ names =
       bounded-later = refl;
       refused-before-bounded = refl;
       no-row = refl;
+      end-own-true = refl;
+      end-own-false-covers = refl;
+      class-before-moment = refl;
+      no-keys-two-relations = refl;
+      start-deletes-two = refl;
+      start-deletes-other = refl;
+      end-deletes = refl;
+      journey-of-another-class = refl;
+      first-of-three = refl;
+      first-bounded = refl;
+      no-false-in-witness = refl;
+      witness-over-all-first = refl;
     }
 
 -- ---- room: "30 report under 4 bytes a moment; then 40 to 43 decided; 31 witness under 8 bytes a fact"
@@ -221,7 +269,7 @@ pub record Refusals : Type 0 where
   pub literal-long : judge (startAtOnce ++ holds (0 ∷ 9 ∷ 9 ∷ [])) ≡ refuses 12 11
   pub component-long : judge (startAtOnce ++ component (full 0) ++ component (0 ∷ 9 ∷ 9 ∷ [])) ≡ refuses 12 17
   pub component-empty : judge (startAtOnce ++ component []) ≡ refuses 12 11
-  -- 13: each kind behind its place, and a literal before any action
+  -- 13: a kind behind its place, and a literal before any action
   pub relation-late : judge (startAtOnce ++ relation 1) ≡ refuses 13 11
   pub action-late : judge (startAtOnce ++ component (full 0) ++ atOnce 1) ≡ refuses 13 17
   pub literal-late : judge (startAtOnce ++ component (full 0) ++ adds (full 0)) ≡ refuses 13 17
@@ -253,7 +301,7 @@ pub record Refusals : Type 0 where
   pub role-before-length : judge (startAtOnce ++ literal 10 (0 ∷ 0 ∷ 0 ∷ [])) ≡ refuses 16 11
   -- 17: before that length
   pub literal-relation : judge (startAtOnce ++ holds (1 ∷ 0 ∷ [])) ≡ refuses 17 11
-  pub relation-before-length : judge (startAtOnce ++ holds (1 ∷ [])) ≡ refuses 17 11
+  pub relation-before-length : judge (startAtOnce ++ holds (1 ∷ 0 ∷ 0 ∷ [])) ≡ refuses 17 11
   pub component-relation : judge (startAtOnce ++ component (1 ∷ 0 ∷ [])) ≡ refuses 17 11
   -- 18
   pub variable-1 : judge (startAtOnce ++ holds (full 1)) ≡ refuses 18 11
@@ -268,7 +316,7 @@ pub record Refusals : Type 0 where
       ≡ answers 0 0 0 0 (row 0 0 0 irrelevant ++ row 0 0 1 irrelevant) []
   pub start-and-over-all : judge (startLasting ++ lacks (full 0) ++ holdsOverAll (full 0) ++ component (full 0) ++ closing)
       ≡ answers 0 0 0 0 (row 0 0 0 irrelevant ++ row 0 0 1 irrelevant) []
-  -- 21: two FF; a key twice; a key that isn't below n; another n than the first component's, more and fewer
+  -- 21: two FF; a key twice, another missing; a key that isn't below n; another n than the first component's, more and fewer
   pub two-counted : judge (relation 3 ++ component (0 ∷ 0 ∷ FF ∷ FF ∷ [])) ≡ refuses 21 5
   pub key-twice : judge (relation 2 ++ component (at 0 0)) ≡ refuses 21 5
   pub key-missing : judge (relation 1 ++ component (full 1)) ≡ refuses 21 5
@@ -278,6 +326,26 @@ pub record Refusals : Type 0 where
   pub used-before : judge (startAtOnce ++ component (full 0) ++ component (full 9)) ≡ refuses 22 17
   -- 23
   pub no-component : judge (startAtOnce ++ closing) ≡ refuses 23 11
+  -- 12: a relation's length, before 15
+  pub relation-long : judge (rec 1 (7 ∷ 0 ∷ [])) ≡ refuses 12 0
+  pub relation-empty : judge (rec 1 []) ≡ refuses 12 0
+  -- an action's, before 15
+  pub action-long : judge (rec 2 (17 ∷ 2 ∷ 0 ∷ [])) ≡ refuses 12 0
+  -- a variable too few, a label too few
+  pub literal-lacks-variable : judge (startAtOnce ++ holds (0 ∷ [])) ≡ refuses 12 11
+  pub component-lacks-label : judge (startAtOnce ++ component (0 ∷ [])) ≡ refuses 12 11
+  -- 13: a relation behind a component, where there is no action
+  pub relation-after-component : judge (relation 1 ++ component (full 0) ++ relation 1) ≡ refuses 13 11
+  -- 14 counts the literals of an action, not of the file: 96 in three actions
+  pub literals-of-three-actions : judge (relation 1 ++ each 3 (λ i. atOnce 16 ++ each 16 (λ v. adds (full v)) ++ each 16 (λ v. deletes (full v))) ++ closing)
+      ≡ refuses 23 695
+  -- 16: the roles of an end
+  pub role-6-at-once : judge (startAtOnce ++ holdsAtEnd (full 0)) ≡ refuses 16 11
+  -- no 20: the same relation with other variables
+  pub other-variables : judge (relation 1 ++ atOnce 2 ++ holds (full 0) ++ lacks (full 1) ++ component (full 0) ++ closing)
+      ≡ answers 0 0 0 0 (row 0 0 0 irrelevant ++ row 0 1 0 irrelevant) []
+  -- 21: a key twice, with none missing and none too high
+  pub key-twice-later : judge (relation 1 ++ relation 2 ++ component (full 0) ++ component (out 0 0)) ≡ refuses 21 16
 
 pub refusals : Refusals
 unfolding judged reportAfter witnessAfter
@@ -337,4 +405,14 @@ refusals =
       fewer-keys = refl;
       used-before = refl;
       no-component = refl;
+      relation-long = refl;
+      relation-empty = refl;
+      action-long = refl;
+      literal-lacks-variable = refl;
+      component-lacks-label = refl;
+      relation-after-component = refl;
+      literals-of-three-actions = refl;
+      role-6-at-once = refl;
+      other-variables = refl;
+      key-twice-later = refl;
     }

@@ -1,10 +1,14 @@
 -- Playing, beside M12: what it and the theorems leave open, each case with what it pins. Assumes nothing.
 use mathlib.Core.Path.{_≡_, refl}
+use mathlib.Core.Bool.{true, false}
 use mathlib.Core.List.{List, [], _∷_, _++_}
 use Prim.Native.Nat.{ℕ}
+use lib.ListN.{replicate}
+use Rattle.literals.specs.Domain.{object, Domain}
 use Rattle.verdict.specs.Judged.{decidedFile}
-use Rattle.runs.specs.Play.{ofDomain, ofRun, played, workAfter, returned, returnedBytes}
-use Rattle.cases.specs.Written.{FF, rec, each, relation, atOnce, lasting, component, closing, objects, fact, event, closeStep, closeRun, holds, lacks, adds, deletes, holdsOverAll, lacksOverAll, lent, zeroed, held, playing, play, reply, plays, stops}
+use Rattle.verdict.specs.Machine.{State}
+use Rattle.runs.specs.Play.{Playing, factStop, tooLarge, ofDomain, ofRun, played, workAfter, returned, returnedBytes}
+use Rattle.cases.specs.Written.{FF, rec, each, relation, atOnce, lasting, component, closing, objects, fact, event, closeStep, closeRun, holds, lacks, adds, deletes, holdsOverAll, lacksOverAll, holdsAtEnd, lacksAtEnd, addsAtEnd, deletesAtEnd, lent, zeroed, held, playing, play, reply, plays, stops}
 use Rattle.cases.specs.Samples.{at, out, m1, m3}
 
 -- ---- the domain of most cases: lit/1, labelled 0, so that an instance is an object and weighs at most 1; its template is accepted, 0
@@ -71,6 +75,52 @@ step facts events = objects 3 ++ facts ++ events ++ closeStep ++ closeRun
 -- what follows a step's close that is at fault, where the run closes next
 abbrev rest : List ℕ
 rest = closeStep ++ closeRun
+
+-- four relations of one argument, gate labelled 0: a lasting action that adds bell at its start, and at its end asks for gate and no door, deletes bell and adds hush;
+-- two that delete gate, one that adds door
+abbrev gate : ℕ → List ℕ
+gate x = 0 ∷ x ∷ []
+
+abbrev door : ℕ → List ℕ
+door x = 1 ∷ x ∷ []
+
+abbrev bell : ℕ → List ℕ
+bell x = 2 ∷ x ∷ []
+
+abbrev hush : ℕ → List ℕ
+hush x = 3 ∷ x ∷ []
+
+abbrev gates : List ℕ
+gates =
+    each 4 (λ i. relation 1)
+    ++ (lasting 1 ++ adds (bell 0) ++ holdsAtEnd (gate 0) ++ lacksAtEnd (door 0) ++ deletesAtEnd (bell 0) ++ addsAtEnd (hush 0))
+    ++ (atOnce 1 ++ deletes (gate 0))
+    ++ (atOnce 1 ++ deletes (gate 0))
+    ++ (atOnce 1 ++ adds (door 0))
+    ++ component (gate 0)
+    ++ closing
+
+-- the start or the end of the first, by its moment; then the others
+abbrev enter : ℕ → ℕ → List ℕ
+enter m x = event m 0 (x ∷ [])
+
+abbrev shut : ℕ → List ℕ
+shut x = event 0 1 (x ∷ [])
+
+abbrev slam : ℕ → List ℕ
+slam x = event 0 2 (x ∷ [])
+
+abbrev unlock : ℕ → List ℕ
+unlock x = event 0 3 (x ∷ [])
+
+-- actions without variables: a lasting one, one that adds the fact, one that deletes it, one that asks for it, and another lasting one
+abbrev crowd : List ℕ
+crowd =
+    relation 0 ++ lasting 0 ++ (atOnce 0 ++ adds (0 ∷ [])) ++ (atOnce 0 ++ deletes (0 ∷ [])) ++ (atOnce 0 ++ holds (0 ∷ [])) ++ lasting 0
+    ++ component (0 ∷ []) ++ closing
+
+abbrev linger : List ℕ
+linger = event 0 0 []
 
 -- ---- steps: what is allowed, and the state afterwards
 
@@ -144,6 +194,44 @@ pub record Steps : Type 0 where
       ≡ plays 1 2 (held (at 0 1) ++ held (at 0 2)) 29
   -- an empty step is a step
   pub empty-step : play lamps (objects 1 ++ closeStep ++ closeRun) ≡ plays 1 0 [] 13
+  -- 56: events that are not neighbours
+  pub third-event-interferes : play lamps (step [] (light 0 ++ light 1 ++ snuff 0)) ≡ stops 56 26 0 0 [] rest
+  -- new facts by event first, then by literal
+  pub order-of-literals : play lamps (step [] (both 0 1 ++ light 2)) ≡ plays 1 1 (held (lit 1) ++ held (lit 0) ++ held (lit 2)) 28
+  -- a fact that two events add stands at its first place
+  pub added-twice-first : play lamps (step [] (light 0 ++ both 0 1)) ≡ plays 1 1 (held (lit 0) ++ held (lit 1)) 28
+  -- a repeated start fact keeps its first place
+  pub repeat-keeps-place : play lamps (objects 3 ++ fact (lit 0) ++ fact (lit 1) ++ fact (lit 0) ++ closeRun)
+      ≡ plays 0 1 (held (lit 0) ++ held (lit 1)) 27
+  -- an end is played with the effects of the end alone
+  pub end-adds : play m1 (objects 4 ++ fact (at 0 1) ++ event 0 1 (0 ∷ 1 ∷ 2 ∷ []) ++ closeStep ++ event 1 1 (0 ∷ 1 ∷ 2 ∷ []) ++ closeStep ++ closeRun)
+      ≡ plays 2 1 (held (out 0 2)) 42
+  -- the highest weight is that of an instance in the middle
+  pub middle-weight : play m1 (objects 3 ++ fact (at 1 0) ++ fact (out 0 0) ++ fact (at 0 1) ++ fact (at 2 0) ++ closeRun)
+      ≡ plays 0 2 (held (at 1 0) ++ held (out 0 0) ++ held (at 0 1) ++ held (at 2 0)) 37
+  -- 55: of a later event, of either open entry
+  pub second-condition-fails : play lamps (step (fact (lit 0)) (see 0 ++ see 1)) ≡ stops 55 25 0 1 (held (lit 0)) rest
+  pub both-open-asked : play lamps (objects 3 ++ fact (lit 0) ++ watch 0 ++ watch 1 ++ closeStep ++ closeStep ++ closeRun)
+      ≡ stops 55 29 1 1 (held (lit 0)) rest
+  pub first-open-asked : play lamps (objects 3 ++ fact (lit 1) ++ watch 0 ++ watch 1 ++ closeStep ++ closeStep ++ closeRun)
+      ≡ stops 55 29 1 1 (held (lit 1)) rest
+  -- 55: an end's own conditions, which its start isn't asked for
+  pub end-true-fails : play gates (objects 1 ++ enter 0 0 ++ closeStep ++ enter 1 0 ++ closeStep ++ closeRun) ≡ stops 55 23 1 0 (held (bell 0)) rest
+  pub end-false-fails : play gates (objects 1 ++ fact (gate 0) ++ fact (door 0) ++ enter 0 0 ++ closeStep ++ enter 1 0 ++ closeStep ++ closeRun)
+      ≡ stops 55 35 1 1 (held (gate 0) ++ held (door 0) ++ held (bell 0)) rest
+  -- an end deletes and adds; the start's add is not done again
+  pub end-effects : play gates (objects 1 ++ fact (gate 0) ++ enter 0 0 ++ closeStep ++ enter 1 0 ++ closeStep ++ closeRun)
+      ≡ plays 2 1 (held (gate 0) ++ held (hush 0)) 37
+  -- 56: an end's own conditions
+  pub end-true-interferes : play gates (objects 1 ++ fact (gate 0) ++ enter 0 0 ++ closeStep ++ enter 1 0 ++ shut 0 ++ closeStep ++ closeRun)
+      ≡ stops 56 36 1 1 (held (gate 0) ++ held (bell 0)) rest
+  pub end-false-interferes : play gates (objects 1 ++ fact (gate 0) ++ enter 0 0 ++ closeStep ++ enter 1 0 ++ unlock 0 ++ closeStep ++ closeRun)
+      ≡ stops 56 36 1 1 (held (gate 0) ++ held (bell 0)) rest
+  -- no interference: two deletes of one fact
+  pub deleted-twice : play gates (objects 1 ++ fact (gate 0) ++ shut 0 ++ slam 0 ++ closeStep ++ closeRun) ≡ plays 1 1 [] 33
+  -- 57: of an earlier end
+  pub first-end-asked : play lamps (objects 3 ++ fact (lit 0) ++ watch 0 ++ closeStep ++ watched 1 ++ watched 0 ++ closeStep ++ closeRun)
+      ≡ stops 57 36 1 1 (held (lit 0)) rest
 
 pub steps : Steps
 unfolding decidedFile played workAfter returned returnedBytes
@@ -184,6 +272,22 @@ steps =
       start-above-one = refl;
       refused-template = refl;
       empty-step = refl;
+      third-event-interferes = refl;
+      order-of-literals = refl;
+      added-twice-first = refl;
+      repeat-keeps-place = refl;
+      end-adds = refl;
+      middle-weight = refl;
+      second-condition-fails = refl;
+      both-open-asked = refl;
+      first-open-asked = refl;
+      end-true-fails = refl;
+      end-false-fails = refl;
+      end-effects = refl;
+      end-true-interferes = refl;
+      end-false-interferes = refl;
+      deleted-twice = refl;
+      first-end-asked = refl;
     }
 
 -- ---- limits of the player, and which record is at fault: 50 to 54
@@ -233,12 +337,12 @@ pub record RunFiles : Type 0 where
   pub objects-0 : play lamps (objects 0) ≡ stops 51 0 0 0 [] (objects 0)
   pub objects-65 : play lamps (objects 65) ≡ stops 51 0 0 0 [] (objects 65)
   pub objects-64 : play lamps (objects 64 ++ fact (lit 63) ++ closeRun) ≡ plays 0 1 (held (lit 63)) 15
-  -- a start fact: too short 50; relation 51, before a length that it tells; that length 50, before objects; objects 51
+  -- a start fact: too short 50; relation 51; the length that it tells 50, before objects; objects 51
   pub fact-empty : play lamps (objects 3 ++ fact []) ≡ stops 50 5 0 0 [] (fact [])
   pub fact-relation : play lamps (objects 3 ++ fact (1 ∷ [])) ≡ stops 51 5 0 0 [] (fact (1 ∷ []))
   pub fact-length : play lamps (objects 3 ++ fact (0 ∷ 9 ∷ 9 ∷ [])) ≡ stops 50 5 0 0 [] (fact (0 ∷ 9 ∷ 9 ∷ []))
   pub fact-object : play lamps (begun ++ fact (lit 3)) ≡ stops 51 11 0 0 (held (lit 0)) (fact (lit 3))
-  -- an event: too short 50; moment and action 51, before a length that they tell; that length 50, before an end of an action at once and objects, 51
+  -- an event: too short 50; moment and action 51; that length 50, before an end of an action at once and objects, 51
   pub event-short : play lamps (begun ++ rec 18 (9 ∷ [])) ≡ stops 50 11 0 1 (held (lit 0)) (rec 18 (9 ∷ []))
   pub event-moment : play lamps (begun ++ event 2 0 []) ≡ stops 51 11 0 1 (held (lit 0)) (event 2 0 [])
   pub event-action : play lamps (begun ++ event 0 8 []) ≡ stops 51 11 0 1 (held (lit 0)) (event 0 8 [])
@@ -262,6 +366,27 @@ pub record RunFiles : Type 0 where
   pub not-closed : play lamps (begun ++ closeStep) ≡ stops 50 15 1 1 (held (lit 0)) []
   pub bytes-behind : play lamps (begun ++ closeRun ++ (0 ∷ 0 ∷ [])) ≡ stops 50 15 0 1 (held (lit 0)) (0 ∷ 0 ∷ [])
   pub close-behind : play lamps (begun ++ closeRun ++ closeRun) ≡ stops 50 15 0 1 (held (lit 0)) closeRun
+  -- 50: the length of the object count, before its range; a second count, before its range
+  pub objects-long : play lamps (rec 16 (65 ∷ 0 ∷ [])) ≡ stops 50 0 0 0 [] (rec 16 (65 ∷ 0 ∷ []))
+  pub objects-empty : play lamps (rec 16 []) ≡ stops 50 0 0 0 [] (rec 16 [])
+  pub objects-twice-65 : play lamps (objects 3 ++ objects 65) ≡ stops 50 5 0 0 [] (objects 65)
+  -- 51 of the relation before its length; a start fact too short
+  pub fact-relation-long : play lamps (objects 3 ++ fact (1 ∷ 0 ∷ [])) ≡ stops 51 5 0 0 [] (fact (1 ∷ 0 ∷ []))
+  pub fact-short : play lamps (objects 3 ++ fact (0 ∷ [])) ≡ stops 50 5 0 0 [] (fact (0 ∷ []))
+  -- 51 of the action before its length; an event too short for its action
+  pub event-action-long : play lamps (begun ++ event 0 8 (0 ∷ [])) ≡ stops 51 11 0 1 (held (lit 0)) (event 0 8 (0 ∷ []))
+  pub event-lacks-object : play lamps (begun ++ event 0 0 []) ≡ stops 50 11 0 1 (held (lit 0)) (event 0 0 [])
+  -- 52 counts what is open after the ends have left
+  pub open-exchanged : play calm (objects 1 ++ each 32 (λ i. wait ++ closeStep) ++ event 1 1 [] ++ wait ++ closeStep ++ closeRun) ≡ plays 33 0 [] 345
+  -- 57, 55 and 56 before 52
+  pub open-33-not-open : play crowd (objects 1 ++ each 32 (λ i. linger ++ closeStep) ++ linger ++ event 1 4 [] ++ closeStep ++ closeRun)
+      ≡ stops 57 337 32 0 [] rest
+  pub open-33-condition : play crowd (objects 1 ++ each 32 (λ i. linger ++ closeStep) ++ linger ++ event 0 3 [] ++ closeStep ++ closeRun)
+      ≡ stops 55 337 32 0 [] rest
+  pub open-33-interferes : play crowd (objects 1 ++ each 32 (λ i. linger ++ closeStep) ++ linger ++ event 0 1 [] ++ event 0 2 [] ++ closeStep ++ closeRun)
+      ≡ stops 56 343 32 0 [] rest
+  -- a run file of more than 65,535 bytes is read: 51 of its second record
+  pub run-longer : play lamps (objects 1 ++ (255 ∷ 255 ∷ 17 ∷ 0 ∷ lent 65535)) ≡ stops 51 5 0 0 [] (255 ∷ 255 ∷ 17 ∷ 0 ∷ lent 65535)
 
 pub runFiles : RunFiles
 unfolding played workAfter returned returnedBytes
@@ -309,6 +434,18 @@ runFiles =
       not-closed = refl;
       bytes-behind = refl;
       close-behind = refl;
+      objects-long = refl;
+      objects-empty = refl;
+      objects-twice-65 = refl;
+      fact-relation-long = refl;
+      fact-short = refl;
+      event-action-long = refl;
+      event-lacks-object = refl;
+      open-exchanged = refl;
+      open-33-not-open = refl;
+      open-33-condition = refl;
+      open-33-interferes = refl;
+      run-longer = refl;
     }
 
 -- ---- the part that comes back, and 58
@@ -345,3 +482,29 @@ parts =
       memory-enough = refl;
       too-long = refl;
     }
+
+-- ---- the limit of 1,024 facts, told of the definitions: a run file with so many facts takes too long to compute
+
+-- a state that holds a fact n times over, and playing before the first event with it
+abbrev crowded : ℕ → State
+crowded n = record { facts = replicate n (record { rel = 0; args = object 0 ∷ [] }); running = [] }
+
+abbrev starting : ℕ → Playing
+starting n =
+    record { at = 0; closed = false; objects = 2; state = crowded n; waiting = []; tally = record { begun = false; startSafe = false; steps = 0; weight = 0 } }
+
+abbrev one : Domain
+one = record { arities = 1 ∷ []; actions = []; template = [] }
+
+pub record Limits : Type 0 where
+  -- "over 1,024 facts"
+  pub facts-1024 : tooLarge (crowded 1024) ≡ false
+  pub facts-1025 : tooLarge (crowded 1025) ≡ true
+  -- "the 1,025th different start fact": another one beside 1,023 and beside 1,024, and one that is held already
+  pub start-1024 : factStop one (starting 1023) (0 ∷ 1 ∷ []) ≡ 0
+  pub start-1025 : factStop one (starting 1024) (0 ∷ 1 ∷ []) ≡ 52
+  pub start-repeated : factStop one (starting 1024) (0 ∷ 0 ∷ []) ≡ 0
+
+pub limits : Limits
+unfolding factStop
+limits = record { facts-1024 = refl; facts-1025 = refl; start-1024 = refl; start-1025 = refl; start-repeated = refl }

@@ -96,7 +96,7 @@ withRole p (l ∷ ls) = keepIf (p (l .role)) (l .atom) (withRole p ls)
 unfoldable pub literalsAt : Action → Moment → Clause → List (Atom Variable)
 literalsAt a m c = dedup sameLiteral (withRole (λ r. own m c r || (endsOverAll m && overAll c r)) (a .lits))
 
--- the conditions that must hold where an event happens
+-- the conditions that a witness lists
 abbrev pub required : Action → Moment → Clause → List (Atom Variable)
 required = literalsAt
 

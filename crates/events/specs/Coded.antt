@@ -110,7 +110,7 @@ clauseFor AtStart r = cond (ltb r 4) (r + 1) 0
 clauseFor OverAll r = cond (ltb r 4) 0 (cond (ltb r 6) (r - 3) 0)
 clauseFor AtEnd r = cond (ltb r 4) 0 (cond (ltb r 6) (r - 3) (cond (ltb r 10) (r - 5) 0))
 
--- the time of an event's literals, by the byte of its moment
+-- the time of an event's literals, by its moment
 abbrev pub timeOf : Moment → Time
 timeOf Start = AtStart
 timeOf End = AtEnd

@@ -1,12 +1,14 @@
-// Explains the verdict of a domain file in sentences, of the answer of `judge`, its report and its witness.
+// Explains the verdict of a domain file in sentences, of the answer of `judge`, its report and its witness, and where it is refused of the file's own literals
+// and components.
 mod broken;
-mod files;
-mod instance;
+mod named;
 mod reasons;
+mod refused;
 mod rows;
 mod witness;
 
 use libc::STDOUT_FILENO;
+use listing::files::read_named;
 use verdict::Judgement;
 
 // Words on standard output.
@@ -24,28 +26,12 @@ fn accepted(number: u64, report: &[u8]) {
     rows::print_journeys(report, 6);
 }
 
-// A template that is refused: the row named, why, and what shows it. With 43 the rows that are unbounded are ends of journeys; they come without a witness.
-fn refused(file: &[u8], v: Judgement, report: &[u8], facts: &[u8]) {
-    let number = v.number;
-    let when = rows::when_named(report, v);
-    reasons::print(v, when);
-    if number == 43 {
-        rows::print_journeys(report, 7);
-        reasons::print_open();
-        return;
-    }
-    witness::print(v.first, facts);
-    instance::print(file, v.first as usize, v.second as usize);
-    witness::print_held(number);
-    reasons::print_shown(v, when);
-}
-
 // The sentences of a file that is read: the verdict, then each row.
 fn judged(file: &[u8], v: Judgement, report: &[u8], facts: &[u8]) {
     if v.number < 2 {
         accepted(v.number, report);
     } else {
-        refused(file, v, report, facts);
+        refused::print(file, v, report, facts);
     }
     rows::print_all(report);
 }
@@ -65,7 +51,7 @@ pub fn explain(file: &[u8]) {
 // Explains the file of a name, or says that it cannot be read. (There is room for one byte more than a domain file may have, so that a longer one gets its 9.)
 pub fn explain_named(name: &[u8]) {
     let mut file = io::large_buffer();
-    let reading = files::read_named(name, &mut file);
+    let reading = read_named(b"explain", name, &mut file);
     if !reading.is_read {
         return;
     }

@@ -5,15 +5,15 @@ use listing::put_byte;
 ghost use Prim.Native.Nat.{_+_, _≤_};
 ghost use lib.ListN.{length};
 
-// The objects of the fact at an offset: its bytes from the third on, before the first FF. (No object has that number.)
-fn objects(facts: &[u8], at: usize)
-    requires { ⌜ at + 8 ≤ length (now facts) ⌝ }
+// The arguments of the row at an offset, of a fact or of a literal: its bytes from the third on, before the first FF. (No argument is that number.)
+pub fn say_arguments(rows: &[u8], at: usize)
+    requires { ⌜ at + 8 ≤ length (now rows) ⌝ }
 {
     for i in 2..8 {
-        if facts[at + i] == 255 {
+        if rows[at + i] == 255 {
             return;
         }
-        put_byte(b" ", facts[at + i]);
+        put_byte(b" ", rows[at + i]);
     }
 }
 
@@ -22,7 +22,7 @@ fn print_fact(facts: &[u8], at: usize)
     requires { ⌜ at + 8 ≤ length (now facts) ⌝ }
 {
     put_byte(b"fact ", facts[at]);
-    objects(facts, at);
+    say_arguments(facts, at);
     say(b"\n");
 }
 

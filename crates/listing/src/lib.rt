@@ -1,4 +1,6 @@
-// Prints the verdict of a domain file and its rows, and lines of words and numbers.
+// What the programs share: the verdict of a domain file printed with its rows, and lines of words and numbers (here); a file read by its name (files).
+pub mod files;
+
 use libc::STDOUT_FILENO;
 
 // A word, then a number.

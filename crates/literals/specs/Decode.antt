@@ -102,7 +102,7 @@ byte p i = getD p i 0
 unfoldable pub relationStop : List ℕ → ℕ
 relationStop p = cond (not (eqb (length p) 1)) 12 (cond (ltb 6 (byte p 0)) 15 0)
 
--- "15 count or sort": "variable count, 0 to 16; sort, 0 at once, 1 lasting"
+-- "15 .. count or sort": "variable count, 0 to 16; sort, 0 at once, 1 lasting"
 unfoldable pub actionStop : List ℕ → ℕ
 actionStop p = cond (not (eqb (length p) 2)) 12 (cond (ltb 16 (byte p 0)) 15 (cond (ltb 1 (byte p 1)) 15 0))
 
@@ -133,7 +133,7 @@ contradicts l m = contrary (l .role .clause) (m .role .clause) && together (l .r
 abbrev pub noRole : Action → ℕ → Bool
 noRole a r = ltb 9 r || (ltb 3 r && not (a .lasting))
 
--- "16 role; 17 relation; 18 variable", "19 repeated in its role; 20 both true and false"; "A length comes first where it is fixed or too short for the relation or action, else once that is known."
+-- "16 role; 17 relation; 18 variable", "19 repeated in its role; 20 both true and false"; "A length .. comes first where it is fixed or too short for the relation or action, else once that is known."
 unfoldable pub literalStop : Domain → List ℕ → ℕ
 unfolding roleOf
 literalStop D p =

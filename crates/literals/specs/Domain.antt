@@ -100,7 +100,7 @@ pub record Literal : Type 0 where
   pub role : Role
   pub atom : Atom Variable
 
--- an action schema: "variable count; sort, 0 at once, 1 lasting", and its literals
+-- an action schema: "variable count ..; sort, 0 at once, 1 lasting", and its literals
 pub record Action : Type 0 where
   pub vars : ℕ
   pub lasting : Bool

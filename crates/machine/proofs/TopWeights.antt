@@ -7,7 +7,7 @@ use native.Mathlib.Omega.{arith}
 use lib.ListN.{length}
 use lib.Seq.{drop-at}
 use Rattle.records.specs.Lists.{In, addIf, keepIf, filterBy, countBy, elem, dedup}
-use Rattle.records.proofs.Lists.{count-append, flatMap-append, count-some, in-flatMap}
+use Rattle.records.proofs.Lists.{count-append, count-some, in-flatMap}
 use Rattle.literals.specs.declared.Object.{Object}
 use Rattle.literals.specs.declared.Clause.the-variants.{Add, Delete}
 use Rattle.literals.specs.Domain.{Fact, sameFact, Domain}
@@ -50,10 +50,6 @@ module _ (D : Domain) (fs new : List Fact) (p : Fact → Bool) where
   matches-new : (y : List Object) → 1 ≤ weight D y new → In y (instancesIn D new)
   unfolding weight instancesIn
   matches-new y h = let r = count-some (matches D y) new h in in-flatMap (tuplesOf D) (r .1) (matches-tuple D y (r .0) (r .2))
-
-  instances-after : instancesIn D after ≡ instancesIn D kept ++ instancesIn D new
-  unfolding instancesIn
-  instances-after = flatMap-append (tuplesOf D) kept new
 
   top-new : topFrom D after (length kept) ≡ largest (map (λ y. weight D y after) (instancesIn D new))
   unfolding topFrom

@@ -1,11 +1,14 @@
 // Plays two files that a program names: reads them, and prints what the run leads to.
 mod facts;
-mod files;
 
 use libc::STDOUT_FILENO;
+use listing::files::read_named;
+use listing::files::refuse;
 use listing::put;
 use player::play::Fault;
 use player::play::play_files;
+ghost use mathlib.Core.Path.{_≡_};
+ghost use lib.ListN.{length};
 
 // Where the record at fault starts. With 2 and 58 no record is at fault.
 fn fault_line(number: u64, fault: Fault) {
@@ -41,23 +44,30 @@ fn show(domain: &[u8], run: &[u8]) {
     fault_line(number, fault);
 }
 
+// Room for a run file. Run files have no limit, but the program holds one whole: it plays up to 1,048,576 bytes, and one byte more tells a longer file.
+fn run_buffer() -> [u8; 1048577]
+    ensures { λ r. ⌜ 1048577 ≡ length r ⌝ }
+{
+    [0; 1048577]
+}
+
 // Plays the run file of one name on the domain file of the other, or says which of them cannot be played. (There is room for one byte
 // more than a domain file may have, so that a longer one gets its 9.)
 pub fn play_named(domain_name: &[u8], run_name: &[u8]) {
     let mut domain = io::large_buffer();
-    let domain_read = files::read_named(domain_name, &mut domain);
+    let domain_read = read_named(b"play", domain_name, &mut domain);
     if !domain_read.is_read {
         return;
     }
-    let mut run = files::run_buffer();
-    let run_read = files::read_named(run_name, &mut run);
+    let mut run = run_buffer();
+    let run_read = read_named(b"play", run_name, &mut run);
     if !run_read.is_read {
         return;
     }
     let n = domain_read.count;
     let m = run_read.count;
     if m > 1048576 {
-        files::refuse(b"play: over 1,048,576 bytes: ", run_name);
+        refuse(b"play", b": over 1,048,576 bytes: ", run_name);
         return;
     }
     show(&domain[..n], &run[..m]);

@@ -327,12 +327,6 @@ module _ {A : Type 0} where
   distinct-dedup eq (x ∷ xs) =
       and-i (all-filter (λ y. not (eq x y)) (dedup eq xs)) (pairwise-filter (λ x y. not (eq x y)) (λ y. not (eq x y)) (dedup eq xs) (distinct-dedup eq xs))
 
-  -- where no element stands twice, `dedup` changes nothing
-  pub dedup-same : (eq : A → A → Bool) (l : List A) → distinct eq l ≡ true → dedup eq l ≡ l
-  dedup-same eq [] o = refl
-  dedup-same eq (x ∷ xs) o =
-      rw (dedup-same eq xs (and-r (all (λ y. not (eq x y)) xs) _ o)) (ap {B = List A} (λ l. x ∷ l) (filter-all (λ y. not (eq x y)) xs (and-l _ _ o)))
-
   -- any two elements are equal, or pass one way round
   pub pairwise-in : (r : A → A → Bool) {a b : A} (l : List A) → pairwise r l ≡ true → In a l → In b l → (a ≡ b) ⊎ ((r a b ≡ true) ⊎ (r b a ≡ true))
   pairwise-in r {a} {b} (x ∷ xs) o (List·Memᴰ·head p) (List·Memᴰ·head q) = inl (p ∙ sym q)

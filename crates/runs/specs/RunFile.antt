@@ -15,7 +15,7 @@ use Rattle.verdict.specs.Machine.{Event}
 
 -- ---- the kinds of record
 
--- "kind 16, object count; kind 17, start fact; kind 18, event; kind 19, close the step; kind 20, close the run"
+-- "kind 16, object count ..; kind 17, start fact ..; kind 18, event ..; kind 19, close the step; kind 20, close the run"
 pub data RunKind : Type 0 where
   objectsRecord factRecord eventRecord stepRecord endRecord otherRecord : RunKind
 

@@ -235,16 +235,17 @@ word-small : (x : List ℕ) → Bytes x → wordOf x < 72057594037927936
 unfolding wordOf
 word-small x b = omega (arith, b 0, b 2, b 3, b 4, b 5, b 6, b 7)
 
-module _ (x y : List ℕ) (bx : Bytes x) (by : Bytes y) where
-  word-same : length x ≡ 8 → length y ≡ 8 → wordOf x ≡ wordOf y → (byte x 0 ≡ byte y 0 → byte x 1 ≡ byte y 1) → x ≡ y
+-- equal words are those of equal rows, where the same relation has the same arity
+module _ (x y : List ℕ) (bx : (i : ℕ) → 2 ≤ i → byte x i < 256) (by : (i : ℕ) → 2 ≤ i → byte y i < 256) where
+  pub word-same : length x ≡ 8 → length y ≡ 8 → wordOf x ≡ wordOf y → (byte x 0 ≡ byte y 0 → byte x 1 ≡ byte y 1) → x ≡ y
   unfolding wordOf
   word-same lx ly e f =
-      let d7 = digit _ (byte x 7) _ (byte y 7) (bx 7) (by 7) e in
-      let d6 = digit _ (byte x 6) _ (byte y 6) (bx 6) (by 6) (d7 .0) in
-      let d5 = digit _ (byte x 5) _ (byte y 5) (bx 5) (by 5) (d6 .0) in
-      let d4 = digit _ (byte x 4) _ (byte y 4) (bx 4) (by 4) (d5 .0) in
-      let d3 = digit _ (byte x 3) _ (byte y 3) (bx 3) (by 3) (d4 .0) in
-      let d2 = digit _ (byte x 2) _ (byte y 2) (bx 2) (by 2) (d3 .0) in
+      let d7 = digit _ (byte x 7) _ (byte y 7) (bx 7 (omega arith)) (by 7 (omega arith)) e in
+      let d6 = digit _ (byte x 6) _ (byte y 6) (bx 6 (omega arith)) (by 6 (omega arith)) (d7 .0) in
+      let d5 = digit _ (byte x 5) _ (byte y 5) (bx 5 (omega arith)) (by 5 (omega arith)) (d6 .0) in
+      let d4 = digit _ (byte x 4) _ (byte y 4) (bx 4 (omega arith)) (by 4 (omega arith)) (d5 .0) in
+      let d3 = digit _ (byte x 3) _ (byte y 3) (bx 3 (omega arith)) (by 3 (omega arith)) (d4 .0) in
+      let d2 = digit _ (byte x 2) _ (byte y 2) (bx 2 (omega arith)) (by 2 (omega arith)) (d3 .0) in
       ext-getD 0 x y (lx ∙ sym ly) (λ i h. pick i (omega arith) (d2 .0) (f (d2 .0)) (d2 .1) (d3 .1) (d4 .1) (d5 .1) (d6 .1) (d7 .1))
     where
       pick : (i : ℕ) → i < 8 → byte x 0 ≡ byte y 0 → byte x 1 ≡ byte y 1 → byte x 2 ≡ byte y 2 → byte x 3 ≡ byte y 3 → byte x 4 ≡ byte y 4 → byte x 5 ≡ byte y 5
@@ -441,7 +442,7 @@ module _ {arities : List ℕ} {keys : ℕ} {parts : List (List ℕ)} (index : Li
           go : (b : Bool) → eqb (getD index (4096 + s) 0) w ≡ b → b ≡ hasRow row rows
           go true t =
               let g = all-eight (one .fact) (one .held) in
-              let q = word-same row (one .fact) (eight .1) (g .1) (eight .0) (g .0) (sym f ∙ sym (eqb-true (getD index (4096 + s) 0) w t) ∙ word-at)
+              let q = word-same row (one .fact) (λ i h. eight .1 i) (λ i h. g .1 i) (eight .0) (g .0) (sym f ∙ sym (eqb-true (getD index (4096 + s) 0) w t) ∙ word-at)
               (λ b. sized ∙ ap (λ (k : ℕ). getD arities k 0) b ∙ sym (I .sized (one .fact) (one .held))) in
               sym (in-any (sameList eqb row) (one .held) (ap (sameList eqb row) (sym q) ∙ sameList-self eqb eqb-same row))
           go false t =

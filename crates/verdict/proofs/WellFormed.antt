@@ -3,13 +3,13 @@ use mathlib.Core.Path.{_≡_, sym, ap, _∙_}
 use mathlib.Core.Bool.{Bool, true, not, _&&_}
 use mathlib.Core.List.{List, [], _∷_, List·Memᴰ·head, List·Memᴰ·tail, List·Memᴰ·not-nil}
 use Prim.Native.Nat.{ℕ, _<_}
-use lib.Dec.{eqb, ltb, leb}
+use lib.Dec.{eqb, ltb}
 use lib.ListN.{length}
 use borrow.Author.Tests.{ltb-true, eq-eqb}
-use Rattle.records.specs.Lists.{In, all, countBy, pairwise, distinct}
+use Rattle.records.specs.Lists.{In, all, pairwise, distinct}
 use Rattle.records.proofs.Lists.{and-l, and-r, all-in, getD-in, not-true, clash}
 use Rattle.literals.specs.declared.Variable.{Variable}
-use Rattle.literals.specs.Domain.{Literal, Action, Component, isCounted, keyBelow, eachKeyOnce, keysOf, labelsFit, Domain, noAction, action}
+use Rattle.literals.specs.Domain.{Literal, Action, Component, keyBelow, eachKeyOnce, keysOf, labelsFit, Domain, noAction, action}
 use Rattle.literals.specs.Decode.{repeats, contradicts}
 use Rattle.verdict.specs.Claims.{hasArity, wellFormedAction, wellFormedTemplate, wellFormed}
 use Rattle.verdict.proofs.Tuples.{Below}
@@ -88,7 +88,3 @@ module _ (D : Domain) (ok : wellFormedTemplate D ≡ true) where
     pub keys-once : eachKeyOnce (keysOf (D .template)) (c .labels) ≡ true
     unfolding labelsFit
     keys-once = and-r (all (keyBelow (keysOf (D .template))) (c .labels)) _ (and-l _ _ labels-fit)
-
-    pub counted-few : leb (countBy isCounted (c .labels)) 1 ≡ true
-    unfolding labelsFit
-    counted-few = and-r (all (keyBelow (keysOf (D .template))) (c .labels) && eachKeyOnce (keysOf (D .template)) (c .labels)) _ labels-fit

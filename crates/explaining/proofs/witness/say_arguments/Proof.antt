@@ -1,18 +1,18 @@
--- `explaining::witness::objects` meets its contract. The loop's invariant: at most the eighth byte. Assumes nothing.
+-- `explaining::witness::say_arguments` meets its contract. The loop's invariant: at most the eighth byte. Assumes nothing.
 use Prim.Native.Nat.{_-_, _≤_}
 use native.Mathlib.Omega.{arith}
 use borrow.Author.Needs.{needs}
-use Rattle.explaining.proofs.witness.objects.Statement.{statement}
-use Rattle.explaining.proofs.witness.objects.Tie as tie
-use Rattle.explaining.proofs.witness.objects.Reads as reads
-use Rattle.explaining.proofs.witness.objects.Lts as lts
+use Rattle.explaining.proofs.witness.say_arguments.Statement.{statement}
+use Rattle.explaining.proofs.witness.say_arguments.Tie as tie
+use Rattle.explaining.proofs.witness.say_arguments.Reads as reads
+use Rattle.explaining.proofs.witness.say_arguments.Lts as lts
 use Rattle.listing.proofs.put_byte.Reads as put-byte-reads
 
 abbrev Inv-loop : tie.InvT-loop
-Inv-loop facts at i₀ t4 i = i ≤ 8
+Inv-loop rows at i₀ t4 i = i ≤ 8
 
 abbrev μ-loop : tie.MeasureT-loop
-μ-loop facts at i₀ t4 i = 8 - i
+μ-loop rows at i₀ t4 i = 8 - i
 
 loop-holds : tie.Need-loop-holds Inv-loop μ-loop
 loop-holds c = omega arith
@@ -50,8 +50,8 @@ loop-again c = omega arith
 returns-2 : tie.Need-returns-2 Inv-loop μ-loop
 returns-2 c = omega arith
 
-pub objects-spec : {M : Type 1} → statement M
-objects-spec =
+pub say-arguments-spec : {M : Type 1} → statement M
+say-arguments-spec =
     tie.close
     (tie.spec
     Inv-loop

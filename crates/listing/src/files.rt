@@ -1,7 +1,5 @@
-// Reads files by name, and says on standard error why one is not played.
+// Reads a file by name, or says on standard error why a program does nothing with it.
 use libc::STDERR_FILENO;
-ghost use mathlib.Core.Path.{_≡_};
-ghost use lib.ListN.{length};
 ghost use Rattle.io.specs.Counts.{Counts};
 
 // Whether a file was read, and how many bytes of it: all, or as many as there was room for.
@@ -10,27 +8,21 @@ pub struct Reading {
     pub count: usize,
 }
 
-// Room for a run file. Run files have no limit, but the program holds one whole: it plays up to 1,048,576 bytes, and one byte more tells a longer file.
-pub fn run_buffer() -> [u8; 1048577]
-    ensures { λ r. ⌜ 1048577 ≡ length r ⌝ }
-{
-    [0; 1048577]
-}
-
-// One line: why, and the file's name.
-pub fn refuse(why: &[u8], name: &[u8]) {
+// One line: the program, why, and the file's name.
+pub fn refuse(program: &[u8], why: &[u8], name: &[u8]) {
+    io::write_all(STDERR_FILENO, program);
     io::write_all(STDERR_FILENO, why);
     io::write_all(STDERR_FILENO, name);
     io::write_all(STDERR_FILENO, b"\n");
 }
 
 // That a file cannot be opened. An argument that is too long for a name comes as an empty one.
-fn refuse_name(name: &[u8]) {
+fn refuse_name(program: &[u8], name: &[u8]) {
     if name.len() == 0 {
-        refuse(b"play: a file name is empty or too long", name);
+        refuse(program, b": a file name is empty or too long", name);
         return;
     }
-    refuse(b"play: cannot open ", name);
+    refuse(program, b": cannot open ", name);
 }
 
 // Whether reading can go on, at the end of a file too. `read_full` stops at a read that fails (of a directory, say) as it does at the end; one read more tells which.
@@ -39,13 +31,13 @@ fn is_readable(fd: i32) -> bool {
     libc::read(fd, &mut next) >= 0
 }
 
-// Reads a file from its start, or says that it cannot be opened or read.
-pub fn read_named(name: &[u8], file: &mut [u8]) -> Reading
+// Reads a file from its start for the program of a name, or says that it cannot be opened or read.
+pub fn read_named(program: &[u8], name: &[u8], file: &mut [u8]) -> Reading
     ensures { λ r. ⌜ Counts (r .count) (now (file .exit)) ⌝ }
 {
     let fd = os::open_read(name);
     if fd < 0 {
-        refuse_name(name);
+        refuse_name(program, name);
         return Reading {
             is_read: false,
             count: 0,
@@ -55,7 +47,7 @@ pub fn read_named(name: &[u8], file: &mut [u8]) -> Reading
     let is_read = is_readable(fd);
     libc::close(fd);
     if !is_read {
-        refuse(b"play: cannot read ", name);
+        refuse(program, b": cannot read ", name);
     }
     Reading { is_read, count }
 }
