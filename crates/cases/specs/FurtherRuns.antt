@@ -504,7 +504,9 @@ pub record Limits : Type 0 where
   pub start-1024 : factStop one (starting 1023) (0 ∷ 1 ∷ []) ≡ 0
   pub start-1025 : factStop one (starting 1024) (0 ∷ 1 ∷ []) ≡ 52
   pub start-repeated : factStop one (starting 1024) (0 ∷ 0 ∷ []) ≡ 0
+  -- 51 before 52: there are two objects
+  pub start-outside : factStop one (starting 1024) (0 ∷ 2 ∷ []) ≡ 51
 
 pub limits : Limits
 unfolding factStop
-limits = record { facts-1024 = refl; facts-1025 = refl; start-1024 = refl; start-1025 = refl; start-repeated = refl }
+limits = record { facts-1024 = refl; facts-1025 = refl; start-1024 = refl; start-1025 = refl; start-repeated = refl; start-outside = refl }

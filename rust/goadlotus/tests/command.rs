@@ -26,12 +26,23 @@ fn help_and_refusals() {
     let tried = |words: &[&str]| run(&root.join("goadlotus"), &root, Path::new("/nowhere"), words);
     let (status, help, said) = tried(&["--help"]);
     assert_eq!((status, said.as_str()), (0, ""));
-    for part in ["goadlotus list FILE", "goadlotus explain FILE", "goadlotus play DOMAIN RUN", "docs/FORMAT.md", "40 to 43 refused"] {
+    for part in [
+        "goadlotus list FILE",
+        "goadlotus explain FILE",
+        "goadlotus play DOMAIN RUN",
+        "docs/FORMAT.md",
+        "40 to 43 refused",
+    ] {
         assert!(help.contains(part), "the help lacks {part:?}:\n{help}");
     }
     assert_eq!(tried(&[]), (2, String::new(), help));
     let missing = "goadlotus: can't read no such: there is no such file\n";
-    for words in [&["list", "no such"][..], &["explain", "no such"], &["play", "no such", "README.md"], &["play", "README.md", "no such"]] {
+    for words in [
+        &["list", "no such"][..],
+        &["explain", "no such"],
+        &["play", "no such", "README.md"],
+        &["play", "README.md", "no such"],
+    ] {
         assert_eq!(tried(words), (1, String::new(), missing.into()), "{words:?}");
     }
     assert_eq!(tried(&["list", "crates"]).0, 1);
