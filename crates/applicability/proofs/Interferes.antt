@@ -30,7 +30,7 @@ use Rattle.store.specs.Rows.{factRow}
 use Rattle.events.specs.Coded.{groundRow, waitingOf, GroundFits, EventsFit, Lent, endRow, boundRow, clauseFor, timeOf}
 use Rattle.applicability.specs.Interference.{clashing, Mark, rowMarks, eventMarks, marksIn, clashes, marksClash, Laid}
 use Rattle.events.proofs.Members.{map-in}
-use Rattle.events.proofs.FactRows.{countsFor, clause-counts, lent-action, lent-kept, lent-bound, ground-rows, noEvent}
+use Rattle.events.proofs.FactRows.{agree, agree-same, countsFor, clause-counts, lent-action, lent-kept, lent-bound, ground-rows, noEvent}
 use Rattle.applicability.proofs.Asked.{all-agree, any-event}
 use Rattle.applicability.proofs.Marks.{any-never, laid-more}
 use Rattle.applicability.proofs.Words.{Worded, same-word}
@@ -152,17 +152,8 @@ module _ (D : Domain) (e f : Event) (ke : (l : Literal) → In l (literalsOf D e
 fact-comm : (x y : Fact) → sameFact x y ≡ sameFact y x
 fact-comm x y = ap₂ _&&_ (eqb-comm (x .rel) (y .rel)) (sameList-comm sameObject (λ o p. eqb-comm (o .0) (p .0)) (x .args) (y .args))
 
-abbrev same : Bool → Bool → Bool
-same true b = b
-same false b = not b
-
-same-eq : (a b : Bool) → same a b ≡ true → a ≡ b
-same-eq true b t = sym t
-same-eq false true t = t
-same-eq false false t = refl
-
 abbrev clashesAs : Bool → ℕ → ℕ → Bool
-clashesAs s c d = same (clashing c d && s) (against c d s || against d c s)
+clashesAs s c d = agree (clashing c d && s) (against c d s || against d c s)
 
 all-clash : (s : Bool) → allBelow 5 (λ c. allBelow 5 (clashesAs s c)) ≡ true
 unfolding clashing
@@ -170,7 +161,7 @@ all-clash true = refl
 all-clash false = refl
 
 clash-either : (c d : ℕ) → c < 5 → d < 5 → (s : Bool) → clashing c d && s ≡ against c d s || against d c s
-clash-either c d h g s = same-eq _ _ (below-in 5 (clashesAs s c) (below-in 5 (λ c. allBelow 5 (clashesAs s c)) (all-clash s) c h) d g)
+clash-either c d h g s = agree-same _ _ (below-in 5 (clashesAs s c) (below-in 5 (λ c. allBelow 5 (clashesAs s c)) (all-clash s) c h) d g)
 
 -- no role has a clause above 4
 all-small : (t : Time) → allBelow 10 (λ b. ltb (clauseFor t b) 5) ≡ true
@@ -197,7 +188,7 @@ module _ (D : Domain) (e f : Event) (ke : (l : Literal) → In l (literalsOf D e
 
 -- a clause of 0 clashes with none
 abbrev countsAs : Bool → ℕ → ℕ → Bool
-countsAs s c d = same (not (eqb c 0) && (not (eqb d 0) && (s && clashing c d))) (clashing c d && s)
+countsAs s c d = agree (not (eqb c 0) && (not (eqb d 0) && (s && clashing c d))) (clashing c d && s)
 
 all-count : (s : Bool) → allBelow 5 (λ c. allBelow 5 (countsAs s c)) ≡ true
 unfolding clashing
@@ -205,7 +196,7 @@ all-count true = refl
 all-count false = refl
 
 clash-counts : (c d : ℕ) → c < 5 → d < 5 → (s : Bool) → not (eqb c 0) && (not (eqb d 0) && (s && clashing c d)) ≡ clashing c d && s
-clash-counts c d h g s = same-eq _ _ (below-in 5 (countsAs s c) (below-in 5 (λ c. allBelow 5 (countsAs s c)) (all-count s) c h) d g)
+clash-counts c d h g s = agree-same _ _ (below-in 5 (countsAs s c) (below-in 5 (λ c. allBelow 5 (countsAs s c)) (all-count s) c h) d g)
 
 -- an event whose facts their words tell apart
 record Facing (D : Domain) (e : Event) : Type 0 where

@@ -14,13 +14,12 @@ use Rattle.records.proofs.Lists.{any-append, filter-append, filter-few, flatMap
 use Rattle.literals.specs.declared.Time.{Time}
 use Rattle.literals.specs.Decode.{byte}
 use Rattle.literals.specs.Table.{rowsIn}
-use Rattle.literals.proofs.Rows.{part-first}
+use Rattle.literals.proofs.Rows.{part-first, rows-snoc}
 use Rattle.classes.proofs.Indices.{any-agree, any-or}
 use Rattle.classes.proofs.KeyRows.{length-rows}
 use Rattle.store.specs.Index.{wordOf}
 use Rattle.events.specs.Coded.{boundRow, clauseFor}
 use Rattle.applicability.specs.Interference.{clashing, Mark, rowMarks, markAt, marksIn, clashes, marksClash, inOne, Laid}
-use Rattle.events.proofs.RowLoops.{rows-snoc}
 
 -- ---- the first n in memory
 

@@ -34,7 +34,7 @@ fn clause_at_end(role: u8) -> u8
 }
 
 // 1 to 4 for a true condition, false condition, add or delete of the moment, 0 for none: of a role byte.
-fn clause_at(m: Moment, role: u8) -> u8
+pub fn clause_at(m: Moment, role: u8) -> u8
     ensures { λ r. ⌜ r ≡ clauseByte m role ⌝ }
 {
     match m {

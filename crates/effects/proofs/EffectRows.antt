@@ -21,7 +21,7 @@ use Rattle.literals.specs.Domain.{Fact, sameLiteral, sameFact, clauseNumber, Li
 use Rattle.literals.specs.Decode.{byte}
 use Rattle.literals.specs.Table.{rowsIn, literalRow}
 use Rattle.literals.proofs.Equality.{literal-eq, fact-eq, fact-self}
-use Rattle.literals.proofs.Rows.{part-first}
+use Rattle.literals.proofs.Rows.{part-first, rows-snoc}
 use Rattle.classes.specs.declared.Moment.{Moment}
 use Rattle.classes.specs.declared.Moment.the-variants.{Start, End}
 use Rattle.classes.specs.Classes.{own, endsOverAll, overAll, withRole, literalsAt}
@@ -33,7 +33,7 @@ use Rattle.events.specs.declared.Waiting.{Waiting}
 use Rattle.store.specs.Rows.{factRow}
 use Rattle.events.specs.Coded.{groundRow, waitingOf, GroundFits, EventsFit, Lent, endRow, boundRow, clauseFor, timeOf}
 use Rattle.effects.specs.Effects.{effectRows, flat, eventEffects, stepEffects}
-use Rattle.events.proofs.RowLoops.{length-bound, rows-snoc}
+use Rattle.events.proofs.RowLoops.{length-bound}
 use Rattle.events.proofs.FactRows.{length-fact-row, countsFor, lent-arity, lent-action, lent-kept, lent-bound, ground-rows, noEvent, clause-counts}
 use Rattle.effects.proofs.Joins.{dedup-map-dedup, same-append, same-elem}
 use Rattle.effects.proofs.FilledRows.{Whole, rows-own, Filled, filled-rows, filled-more, filled-own}

@@ -5,7 +5,7 @@ use mathlib.Core.List.{List, [], _∷_, _++_, map, flatMap, append-nil, List·Me
 use Prim.Native.Nat.{ℕ, zero, suc, _+_, _-_, _*_, _≤_, _<_}
 use native.Mathlib.Omega.{arith}
 use lib.Dec.{eqb, ltb}
-use lib.ListN.{length, take, drop, length-append, length-drop, take-append-drop}
+use lib.ListN.{length, take, drop, length-append, take-append-drop}
 use lib.Seq.{take-all, take-add, take-append-le, take-append-add, take-at, drop-drop, drop-append-add, length-take-le, paste}
 use borrow.Author.Tests.{lt-ltb, le-ltb, ltb-true, ltb-false}
 use Rattle.records.specs.Lists.{In, keepIf, filterBy, sameList, dedup}
@@ -13,13 +13,12 @@ use Rattle.records.specs.Memory.{over}
 use Rattle.records.proofs.Lists.{in-snoc, filter-append, filter-in, filter-few, dedup-in, flatMap-append, flatMap-snoc}
 use Rattle.records.proofs.Memory.{length-over, over-paste}
 use Rattle.literals.specs.Table.{rowsIn}
-use Rattle.literals.proofs.Rows.{length-part}
+use Rattle.literals.proofs.Rows.{length-part, rows-snoc, rows-whole}
 use Rattle.literals.proofs.Tables.{length-flat, rows-flat}
 use Rattle.classes.proofs.KeyRows.{length-rows}
 use Rattle.store.specs.Rows.{hasRow}
 use Rattle.effects.specs.Effects.{flat, joinRow, joinRows, atMost}
 use Rattle.effects.proofs.Joins.{joined-rows, join-snoc, join-append}
-use Rattle.events.proofs.RowLoops.{rows-snoc}
 
 -- ---- the first rows of a memory
 
@@ -37,11 +36,6 @@ rows-rest (suc n) (suc i) t h =
     ap {B = List (List ℕ)} (λ l. take 8 t ∷ l)
     (rows-rest n i (drop 8 t) (omega arith)
     ∙ ap₂ (λ (k : ℕ) (r : List ℕ). rowsIn i (drop 8 t) ++ rowsIn k r) f (drop-drop (8 * i) 8 t ∙ ap (λ (k : ℕ). drop k t) e))
-
-pub rows-whole : (j : ℕ) (t : List ℕ) → 8 * j ≤ length t → Whole (rowsIn j t)
-rows-whole zero t h row m = absurd (List·Memᴰ·not-nil m)
-rows-whole (suc j) t h row (List·Memᴰ·head e) = ap length e ∙ length-take-le 8 t (omega arith)
-rows-whole (suc j) t h row (List·Memᴰ·tail m) = rows-whole j (drop 8 t) (simp length-drop (omega arith)) row m
 
 flat-rows : (n : ℕ) (t : List ℕ) → flat (rowsIn n t) ≡ take (8 * n) t
 unfolding flatMap

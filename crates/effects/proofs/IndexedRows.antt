@@ -14,12 +14,11 @@ use Rattle.records.specs.Memory.{over}
 use Rattle.records.proofs.Lists.{bool-cases, off, sameList-eq, elem-in, in-snoc, getD-in}
 use Rattle.literals.specs.Decode.{byte}
 use Rattle.literals.specs.Table.{rowsIn}
-use Rattle.literals.proofs.Rows.{part-at, rows-more, rows-end}
+use Rattle.literals.proofs.Rows.{part-at, rows-more, rows-end, rows-snoc}
 use Rattle.classes.proofs.KeyRows.{length-rows, rows-at}
 use Rattle.store.specs.Index.{Sized, Indexed}
 use Rattle.store.specs.Rows.{hasRow}
 use Rattle.effects.specs.Effects.{Marked, flat, joinRow, atMost}
-use Rattle.events.proofs.RowLoops.{rows-snoc}
 use Rattle.effects.proofs.FilledRows.{Filled, filled-rows, filled-own, stays, left-out, kept-in, keptOf, kept-few, kept-next, kept-more, joinedOf, joined-next, joined-on, stopped-count, stopped-rows, joined-all, joined-out}
 
 -- ---- marks

@@ -22,7 +22,8 @@ use Rattle.store.specs.Rows.{factRow}
 use Rattle.effects.specs.Effects.{joinRows, atMost, flat, stepEffects}
 use Rattle.events.proofs.FactRows.{same-row}
 use Rattle.effects.proofs.Joins.{filter-agree, outside-map, dedup-map, joined-rows}
-use Rattle.effects.proofs.FilledRows.{rows-whole, fill-again, Filled, filled-rows, stays, keptOf, kept-few, behind, most-inside}
+use Rattle.literals.proofs.Rows.{rows-whole}
+use Rattle.effects.proofs.FilledRows.{fill-again, Filled, filled-rows, stays, keptOf, kept-few, behind, most-inside}
 use Rattle.effects.proofs.EffectRows.{step-once, step-elem}
 
 -- ---- the rows of facts

@@ -134,11 +134,11 @@ countsFor AtStart c r = counts Start c r
 countsFor OverAll c r = overAll c r
 countsFor AtEnd c r = counts End c r
 
-abbrev agree : Bool → Bool → Bool
+abbrev pub agree : Bool → Bool → Bool
 agree true b = b
 agree false b = not b
 
-agree-same : (a b : Bool) → agree a b ≡ true → a ≡ b
+pub agree-same : (a b : Bool) → agree a b ≡ true → a ≡ b
 agree-same true b t = sym t
 agree-same false true t = t
 agree-same false false t = refl

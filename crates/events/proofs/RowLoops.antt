@@ -1,17 +1,15 @@
 -- Laws of the fact that a literal's row is bound to, and of the rows of an action. Assumes nothing.
 use mathlib.Core.Path.{_≡_, refl, sym, ap, _∙_}
 use mathlib.Core.List.{List, [], _∷_, _++_, map, append-nil}
-use Prim.Native.Nat.{ℕ, zero, suc, _+_, _-_, _≤_, _<_, _*_}
+use Prim.Native.Nat.{ℕ, zero, suc, _+_, _-_, _≤_, _<_}
 use native.Mathlib.Omega.{arith}
 use lib.ListN.{length, getD, set, take, drop, replicate, length-append, length-drop, length-map, length-replicate, getD-replicate, List·getD-append}
-use lib.Seq.{paste, take-all, length-take-le, getD-take, getD-drop, getD-append-add, drop-drop}
+use lib.Seq.{paste, take-all, length-take-le, getD-take, getD-drop, getD-append-add}
 use borrow.Author.Tests.{lt-ltb, le-ltb}
 use Rattle.records.proofs.Memory.{paste-more}
 use Rattle.literals.specs.Decode.{byte}
 use Rattle.literals.proofs.Rows.{length-part, part-at}
 use Rattle.events.specs.Coded.{objectOf, boundBytes, boundRow}
-use native.Mathlib.Numerals.{add-one}
-use Rattle.literals.specs.Table.{rowsIn}
 
 -- ---- the fact that a literal's row is bound to
 
@@ -97,16 +95,3 @@ module _ (arity : ℕ) (ground t : List ℕ) (at : ℕ) (h : at + 8 ≤ length t
 pub bound-sized : (arities ground row fact : List ℕ) → fact ≡ boundRow arities ground row → byte fact 1 ≡ getD arities (byte fact 0) 0
 unfolding boundRow
 bound-sized arities ground row fact e = ap (λ (t : List ℕ). byte t 1) e ∙ sym (ap (λ (t : List ℕ). getD arities (byte t 0) 0) e)
-
--- ---- the first rows of a memory
-
-rows-last : (j : ℕ) (t : List ℕ) → rowsIn (suc j) t ≡ rowsIn j t ++ (take 8 (drop (8 * j) t) ∷ [])
-rows-last zero t = refl
-rows-last (suc j) t =
-    let e : 8 + 8 * j ≡ 8 * suc j = omega arith in
-    ap {B = List (List ℕ)} (λ l. take 8 t ∷ l)
-    (rows-last j (drop 8 t) ∙ ap (λ (r : List ℕ). rowsIn j (drop 8 t) ++ (take 8 r ∷ [])) (drop-drop (8 * j) 8 t ∙ ap (λ (n : ℕ). drop n t) e))
-
--- one row more
-pub rows-snoc : (j : ℕ) (t : List ℕ) → rowsIn (j + 1) t ≡ rowsIn j t ++ (take 8 (drop (8 * j) t) ∷ [])
-rows-snoc j t = ap (λ (n : ℕ). rowsIn n t) (add-one j) ∙ rows-last j t

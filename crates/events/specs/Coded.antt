@@ -18,7 +18,7 @@ use Rattle.literals.specs.Table.{pad, tableBytes, indexWith, Holds}
 use Rattle.classes.specs.declared.Moment.{Moment}
 use Rattle.classes.specs.declared.Moment.the-variants.{Start, End}
 use Rattle.classes.specs.Classes.{momentNumber}
-use Rattle.classes.specs.Coded.{position}
+use Rattle.classes.specs.Coded.{position, clauseByte}
 use Rattle.verdict.specs.Judged.{objectNumbers}
 use Rattle.verdict.specs.Machine.{GroundAction, Event}
 use Rattle.store.specs.Rows.{hasRow}
@@ -106,9 +106,10 @@ boundRow arities ground row = boundBytes (getD arities (byte row 1) 0) ground ro
 
 -- 1 to 4 for a true condition, false condition, add or delete that counts at the start, over all, or at the end; 0 for none
 unfoldable pub clauseFor : Time → ℕ → ℕ
-clauseFor AtStart r = cond (ltb r 4) (r + 1) 0
+unfolding clauseByte
+clauseFor AtStart r = clauseByte Start r
 clauseFor OverAll r = cond (ltb r 4) 0 (cond (ltb r 6) (r - 3) 0)
-clauseFor AtEnd r = cond (ltb r 4) 0 (cond (ltb r 6) (r - 3) (cond (ltb r 10) (r - 5) 0))
+clauseFor AtEnd r = clauseByte End r
 
 -- the time of an event's literals, by its moment
 abbrev pub timeOf : Moment → Time

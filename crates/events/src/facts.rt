@@ -1,10 +1,12 @@
 // The literals of an action as rows: the facts that its objects make of them, and what each is at the start, over all, or at the end.
+use classes::Moment;
 use classes::counts::arity_of;
+use classes::counts::clause_at;
 use literals::Time;
 ghost use mathlib.Core.Path.{_≡_};
 ghost use Prim.Native.Nat.{ℕ, _+_, _<_, _≤_};
 ghost use lib.ListN.{length, getD, take, drop};
-ghost use Rattle.literals.specs.declared.Time.the-variants.{OverAll, AtEnd};
+ghost use Rattle.literals.specs.declared.Time.the-variants.{OverAll};
 ghost use Rattle.runs.specs.RunFile.{momentOf};
 ghost use Rattle.events.specs.Coded.{objectOf, boundBytes, boundRow, clauseFor, timeOf};
 
@@ -62,35 +64,14 @@ fn clause_over_all(role: u8) -> u8
     0
 }
 
-// The clause of a role byte at the end, where the over-all conditions count too.
-fn clause_at_end(role: u8) -> u8
-    ensures { λ r. ⌜ r ≡ clauseFor AtEnd role ⌝ }
-{
-    if role < 4 {
-        return 0;
-    }
-    if role < 6 {
-        return role - 3;
-    }
-    if role < 10 {
-        return role - 5;
-    }
-    0
-}
-
-// 1 to 4 for a true condition, false condition, add or delete that counts then, 0 for none: of a role byte.
+// 1 to 4 for a true condition, false condition, add or delete that counts then, 0 for none: of a role byte. At the end the over-all conditions count too.
 pub fn clause_for(time: Time, role: u8) -> u8
     ensures { λ r. ⌜ r ≡ clauseFor time role ⌝ }
 {
     match time {
-        Time::AtStart => {
-            if role < 4 {
-                return role + 1;
-            }
-            0
-        },
+        Time::AtStart => clause_at(Moment::Start, role),
         Time::OverAll => clause_over_all(role),
-        Time::AtEnd => clause_at_end(role),
+        Time::AtEnd => clause_at(Moment::End, role),
     }
 }
 

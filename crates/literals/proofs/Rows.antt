@@ -1,15 +1,15 @@
 -- Rows of 8 bytes: a payload's row by its bytes, and the loops that write rows, compare them and go through them. Assumes nothing.
 use mathlib.Core.Path.{_≡_, refl, sym, ap, ap₂, _∙_}
 use mathlib.Core.Bool.{Bool, true, false, _&&_}
-use mathlib.Core.List.{List, [], _∷_, append-nil}
-use Prim.Native.Nat.{ℕ, suc, _+_, _-_, _*_, _≤_, _<_, max}
+use mathlib.Core.List.{List, [], _∷_, _++_, append-nil, List·Memᴰ·head, List·Memᴰ·tail, List·Memᴰ·not-nil}
+use Prim.Native.Nat.{ℕ, suc, _+_, _-_, _*_, _≤_, _<_, max, zero}
 use native.Mathlib.Numerals.{add-one}
 use native.Mathlib.Omega.{arith}
 use lib.Dec.{eqb}
 use lib.ListN.{length, getD, set, take, drop, replicate, length-append, length-replicate, length-drop, getD-replicate, List·getD-append, drop-of-length-le}
 use lib.Seq.{drop-cons, getD-drop, getD-take, getD-append-add, drop-drop, length-take-le, take-all, paste}
 use borrow.Author.Tests.{eq-eqb, ne-eqb, eqb-true}
-use Rattle.records.specs.Lists.{any, sameList}
+use Rattle.records.specs.Lists.{In, any, sameList}
 use Rattle.records.proofs.Lists.{off, sameList-eq}
 use Rattle.records.proofs.Memory.{paste-more, paste-length}
 use Rattle.literals.specs.Decode.{byte}
@@ -224,3 +224,22 @@ module _ (p t : List ℕ) (n i rank : ℕ) where
   pub ranks-end : n ≤ i → max rank (rowsRank p (rowsIn (n - i) t)) ≡ rank
   unfolding rowsRank
   ranks-end h = rw (rows-end t n i h) (omega arith)
+
+-- ---- the first rows of a memory
+
+pub rows-last : (j : ℕ) (t : List ℕ) → rowsIn (suc j) t ≡ rowsIn j t ++ (take 8 (drop (8 * j) t) ∷ [])
+rows-last zero t = refl
+rows-last (suc j) t =
+    let e : 8 + 8 * j ≡ 8 * suc j = omega arith in
+    ap {B = List (List ℕ)} (λ l. take 8 t ∷ l)
+    (rows-last j (drop 8 t) ∙ ap (λ (r : List ℕ). rowsIn j (drop 8 t) ++ (take 8 r ∷ [])) (drop-drop (8 * j) 8 t ∙ ap (λ (n : ℕ). drop n t) e))
+
+-- one row more
+pub rows-snoc : (j : ℕ) (t : List ℕ) → rowsIn (j + 1) t ≡ rowsIn j t ++ (take 8 (drop (8 * j) t) ∷ [])
+rows-snoc j t = ap (λ (n : ℕ). rowsIn n t) (add-one j) ∙ rows-last j t
+
+-- each has 8 bytes
+pub rows-whole : (j : ℕ) (t : List ℕ) → 8 * j ≤ length t → (row : List ℕ) → In row (rowsIn j t) → length row ≡ 8
+rows-whole zero t h row m = absurd (List·Memᴰ·not-nil m)
+rows-whole (suc j) t h row (List·Memᴰ·head e) = ap length e ∙ length-take-le 8 t (omega arith)
+rows-whole (suc j) t h row (List·Memᴰ·tail m) = rows-whole j (drop 8 t) (simp length-drop (omega arith)) row m

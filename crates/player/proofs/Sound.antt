@@ -18,7 +18,8 @@ use Rattle.literals.specs.Domain.{object, Fact, sameFact, Domain, arity, action
 use Rattle.literals.specs.Decode.{byte}
 use Rattle.literals.specs.Table.{Bounded}
 use Rattle.classes.specs.Classes.{momentNumber}
-use Rattle.verdict.specs.Machine.{Event, State, injective, sameEvent, next, topWeight}
+use Rattle.verdict.specs.Machine.{Event, State, next, topWeight}
+use Rattle.runs.proofs.Stops.{eventTests}
 use Rattle.runs.specs.RunFile.{RunKind, objectsRecord, factRecord, eventRecord, stepRecord, endRecord, otherRecord, runKindOf, factOf, momentOf, eventOf}
 use Rattle.runs.specs.Play.{maxObjects, maxFacts, maxEvents, Tally, Playing, beforeRun, onward, PlayTurn, goOn, finish, outcomeAt, stopAt, begin, outside, objectsStop, withObjects, factStop, joined, withFact, eventStop, withEvent, forbidden, tooLarge, tallied, accepted, afterStep, closeStep, stepStop, endStop, withClose, unless, playRecord, playFound, playStep}
 use Rattle.store.specs.Rows.{FactFits}
@@ -78,20 +79,7 @@ pub event-taken : (D : Domain) (p : Playing) (b : List ℕ) → p .objects ≤ m
 unfolding eventStop
 event-taken D p b l z =
     let a = action D (byte b 1) in
-    let g =
-    none-passes
-    ((eqb (p .objects) 0, 50)
-    ∷ (ltb (length b) 2, 50)
-    ∷ (ltb 1 (byte b 0), 51)
-    ∷ (leb (length (D .actions)) (byte b 1), 51)
-    ∷ (not (eqb (length b) (2 + a .vars)), 50)
-    ∷ (eqb (byte b 0) 1 && not (a .lasting), 51)
-    ∷ (outside p (drop 2 b), 51)
-    ∷ (not (injective (eventOf b)), 53)
-    ∷ (elem sameEvent (eventOf b) (p .waiting), 54)
-    ∷ (leb maxEvents (length (p .waiting)), 52)
-    ∷ [])
-    0 refl z in
+    let g = none-passes (eventTests D p b) 0 refl z in
     let e = eqb-true (length b) (2 + a .vars) (not-false _ (g .0 4)) in
     let d = length-drop 2 b in
     let m = length-map (drop 2 b) object in

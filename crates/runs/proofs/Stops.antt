@@ -107,21 +107,26 @@ moment-of : (m : Bool) (a : Action) → m && not (a .lasting) ≡ false → hasM
 moment-of true a e = not-false (a .lasting) e
 moment-of false a e = refl
 
-pub event-tested : (D : Domain) (p : Playing) (b : List ℕ) → Tested (eventStop D p b) (EventPasses D p b)
-unfolding eventStop legal
-event-tested D p b =
-    tested
-    ((eqb (p .objects) 0, 50)
+-- its tests, in their order
+abbrev pub eventTests : Domain → Playing → List ℕ → List (Bool × ℕ)
+eventTests D p b =
+    (eqb (p .objects) 0, 50)
     ∷ (ltb (length b) 2, 50)
     ∷ (ltb 1 (byte b 0), 51)
     ∷ (leb (length (D .actions)) (byte b 1), 51)
-    ∷ (not (eqb (length b) (2 + a .vars)), 50)
-    ∷ (eqb (byte b 0) 1 && not (a .lasting), 51)
+    ∷ (not (eqb (length b) (2 + action D (byte b 1) .vars)), 50)
+    ∷ (eqb (byte b 0) 1 && not (action D (byte b 1) .lasting), 51)
     ∷ (outside p (drop 2 b), 51)
     ∷ (not (injective (eventOf b)), 53)
     ∷ (elem sameEvent (eventOf b) (p .waiting), 54)
     ∷ (leb maxEvents (length (p .waiting)), 52)
-    ∷ [])
+    ∷ []
+
+pub event-tested : (D : Domain) (p : Playing) (b : List ℕ) → Tested (eventStop D p b) (EventPasses D p b)
+unfolding eventStop legal
+event-tested D p b =
+    tested
+    (eventTests D p b)
     0 refl (λ g.
     let l = eqb-true (length b) (2 + a .vars) (not-false _ (g 4)) in
     let n : length (map object (drop 2 b)) ≡ a .vars = simp (length-map, length-drop) (omega arith) in

@@ -7,14 +7,14 @@ use Prim.Native.Nat.{ℕ, zero, suc, _+_, _-_, _*_, _≤_, _<_}
 use native.Mathlib.Numerals.{add-one}
 use native.Mathlib.Omega.{arith}
 use lib.ListN.{length, getD, take, drop, replicate, length-append, length-map, length-drop, length-replicate, getD-replicate, List·getD-append}
-use lib.Seq.{take-suc, drop-drop, getD-take, getD-drop, getD-append-add, length-take-le, paste, paste-zero}
+use lib.Seq.{take-suc, getD-take, getD-drop, getD-append-add, length-take-le, paste, paste-zero}
 use borrow.Author.Tests.{lt-ltb, le-ltb, eq-eqb, ne-eqb}
 use Rattle.records.specs.Lists.{In, addIf, keepIf, countBy}
 use Rattle.records.specs.Memory.{over}
 use Rattle.records.proofs.Lists.{in-keepIf, count-append, flatMap-append}
 use Rattle.records.proofs.Memory.{length-over, over-paste}
+use Rattle.literals.proofs.Rows.{rows-last, rows-whole, part-first, length-part, part-at}
 use Rattle.literals.specs.Table.{rowsIn}
-use Rattle.literals.proofs.Rows.{part-first, length-part, part-at}
 use Rattle.literals.proofs.Tables.{length-flat}
 use Rattle.classes.proofs.KeyRows.{length-rows}
 use Rattle.showing.specs.Bytes.{selectBy, isCondition, conditionBytes, conditionOf, conditionIf, conditionsOf, objectByte, instanceBytes}
@@ -80,20 +80,6 @@ module _ {A B : Type 0} (p : A → Bool) where
       go : (b : Bool) → length (selectBy p xs ws) ≡ countBy p xs → length (keepIf b w (selectBy p xs ws)) ≡ addIf b (countBy p xs)
       go true h = ap suc h
       go false h = h
-
--- ---- the first rows of a memory
-
-rows-last : (j : ℕ) (t : List ℕ) → rowsIn (suc j) t ≡ rowsIn j t ++ (take 8 (drop (8 * j) t) ∷ [])
-rows-last zero t = refl
-rows-last (suc j) t =
-    let e : 8 + 8 * j ≡ 8 * suc j = omega arith in
-    ap {B = List (List ℕ)} (λ l. take 8 t ∷ l)
-    (rows-last j (drop 8 t) ∙ ap (λ (r : List ℕ). rowsIn j (drop 8 t) ++ (take 8 r ∷ [])) (drop-drop (8 * j) 8 t ∙ ap (λ (n : ℕ). drop n t) e))
-
-rows-whole : (j : ℕ) (t : List ℕ) → 8 * j ≤ length t → (row : List ℕ) → In row (rowsIn j t) → length row ≡ 8
-rows-whole zero t h row m = absurd (List·Memᴰ·not-nil m)
-rows-whole (suc j) t h row (List·Memᴰ·head e) = ap length e ∙ length-take-le 8 t (omega arith)
-rows-whole (suc j) t h row (List·Memᴰ·tail m) = rows-whole j (drop 8 t) (simp length-drop (omega arith)) row m
 
 -- ---- a condition's fact
 

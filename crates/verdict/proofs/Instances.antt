@@ -6,10 +6,10 @@ use mathlib.Core.List.{List, [], _∷_, _++_, map, List·Memᴰ·head, List·Mem
 use Prim.Native.Nat.{ℕ, zero, suc, _≤_, _<_}
 use native.Mathlib.Omega.{arith}
 use lib.Dec.{eqb}
-use lib.ListN.{getD, length, take, length-map, length-append}
+use lib.ListN.{getD, length, take, length-map}
 use lib.Seq.{take-suc, take-all}
 use borrow.Author.Tests.{eqb-true, ltb-true}
-use Rattle.records.specs.Lists.{In, all, any, keepIf, addIf, countBy}
+use Rattle.records.specs.Lists.{In, all, any, countBy}
 use Rattle.records.proofs.Lists.{and-l, and-r, and-i, eqb-same, in-keepIf, keepIf-tail, all-in, getD-in}
 use Rattle.literals.specs.declared.Variable.{Variable}
 use Rattle.literals.specs.declared.Object.{Object}
@@ -23,27 +23,9 @@ use Rattle.verdict.specs.Claims.{wellFormedTemplate}
 use Rattle.verdict.proofs.Tuples.{matches-of, component-of}
 use Rattle.verdict.proofs.WellFormed.{keys-below, keys-once}
 use Rattle.verdict.proofs.Acts.{class-in}
+use Rattle.verdict.proofs.TopWeight.{under-count, tuple-size}
 
 -- ---- a tuple has one element a key
-
-module _ {A : Type 0} where
-  under-count : (k : Key) (ls : List Label) (u : List A) → length ls ≡ length u → length (under k ls u) ≡ countBy (isKey k) ls
-  under-count k [] u e = refl
-  under-count k (l ∷ ls) [] e = absurd (omega arith)
-  under-count k (l ∷ ls) (x ∷ u) e = go (isKey k l) (under-count k ls u (omega arith))
-    where
-      go : (b : Bool) → length (under k ls u) ≡ countBy (isKey k) ls → length (keepIf b x (under k ls u)) ≡ addIf b (countBy (isKey k) ls)
-      go true h = ap suc h
-      go false h = h
-
-  tuple-count : (n : ℕ) (ls : List Label) (u : List A) → length ls ≡ length u → eachKeyOnce n ls ≡ true → length (keyTuple n ls u) ≡ n
-  tuple-count zero ls u e h = refl
-  tuple-count (suc n) ls u e h =
-      let a = tuple-count n ls u e (and-l _ _ h) in
-      let b = under-count (key n) ls u e in
-      let c = eqb-true (countBy (isKey (key n)) ls) 1 (and-r (eachKeyOnce n ls) _ h) in
-      let k = length-append (keyTuple n ls u) (under (key n) ls u) in
-      omega arith
 
 -- where each component has each key once
 pub class-keys : (D : Domain) (a : Action) → ((c : Component) → In c (D .template) → eachKeyOnce (keysOf (D .template)) (c .labels) ≡ true)
@@ -51,7 +33,7 @@ pub class-keys : (D : Domain) (a : Action) → ((c : Component) → In c (D .tem
 class-keys D a once x m =
     let l = class-in D a m in
     let c = component-of D (l .0 .atom) (l .2) in
-    ap length (c .3) ∙ tuple-count (keysOf (D .template)) (c .0 .labels) (l .0 .atom .args)
+    ap length (c .3) ∙ tuple-size (keysOf (D .template)) (c .0 .labels) (l .0 .atom .args)
     (eqb-true _ _ (and-r (eqb (c .0 .rel) (l .0 .atom .rel)) _ (c .2))) (once (c .0) (c .1))
 
 pub class-length : (D : Domain) (a : Action) → wellFormedTemplate D ≡ true → (x : List Variable) → In x (classes D a) → length x ≡ keysOf (D .template)

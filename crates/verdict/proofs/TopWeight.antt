@@ -56,7 +56,7 @@ module _ (D : Domain) (s : List Fact) where
 -- ---- such an instance has an object for each key
 
 module _ {A : Type 0} where
-  under-count : (k : Key) (ls : List Label) (vs : List A) → length ls ≡ length vs → length (under k ls vs) ≡ countBy (isKey k) ls
+  pub under-count : (k : Key) (ls : List Label) (vs : List A) → length ls ≡ length vs → length (under k ls vs) ≡ countBy (isKey k) ls
   under-count k [] vs e = refl
   under-count k (l ∷ ls) [] e = absurd (omega arith)
   under-count k (l ∷ ls) (v ∷ vs) e = go (isKey k l) (under-count k ls vs (omega arith))
