@@ -27,7 +27,7 @@ abbrev pub Whole : List (List ℕ) → Type 0
 Whole rows = (row : List ℕ) → In row rows → length row ≡ 8
 
 -- and those from it on
-rows-rest : (n i : ℕ) (t : List ℕ) → i ≤ n → rowsIn n t ≡ rowsIn i t ++ rowsIn (n - i) (drop (8 * i) t)
+pub rows-rest : (n i : ℕ) (t : List ℕ) → i ≤ n → rowsIn n t ≡ rowsIn i t ++ rowsIn (n - i) (drop (8 * i) t)
 rows-rest n zero t h = let e : n ≡ n - 0 = omega arith in ap (λ (k : ℕ). rowsIn k t) e
 rows-rest zero (suc i) t h = absurd (omega arith)
 rows-rest (suc n) (suc i) t h =
@@ -37,14 +37,14 @@ rows-rest (suc n) (suc i) t h =
     (rows-rest n i (drop 8 t) (omega arith)
     ∙ ap₂ (λ (k : ℕ) (r : List ℕ). rowsIn i (drop 8 t) ++ rowsIn k r) f (drop-drop (8 * i) 8 t ∙ ap (λ (k : ℕ). drop k t) e))
 
-flat-rows : (n : ℕ) (t : List ℕ) → flat (rowsIn n t) ≡ take (8 * n) t
+pub flat-rows : (n : ℕ) (t : List ℕ) → flat (rowsIn n t) ≡ take (8 * n) t
 unfolding flatMap
 flat-rows zero t = refl
 flat-rows (suc n) t =
     let e : 8 + 8 * n ≡ 8 * suc n = omega arith in
     ap (λ (l : List ℕ). take 8 t ++ l) (flat-rows n (drop 8 t)) ∙ sym (take-add 8 (8 * n) t) ∙ ap (λ (k : ℕ). take k t) e
 
-length-whole : (rows : List (List ℕ)) → Whole rows → length (flat rows) ≡ 8 * length rows
+pub length-whole : (rows : List (List ℕ)) → Whole rows → length (flat rows) ≡ 8 * length rows
 length-whole rows w = length-flat (λ (row : List ℕ). row) rows w
 
 -- a memory has its own rows
@@ -150,13 +150,6 @@ module _ (struck : List (List ℕ)) (row : List ℕ) where
     left-rows t h =
         rows-own k out h
         ∙ ap (λ (l : List (List ℕ)). over (flat l) out) (sym (ap (λ (l : List (List ℕ)). rowsIn k out ++ l) (left-out t) ∙ append-nil (rowsIn k out)))
-
-    pub kept-count : hasRow row struck ≡ false → k + 1 ≡ k + length (filterBy (stays struck) (row ∷ []))
-    kept-count t = let l = ap length (kept-in t) in omega arith
-
-    pub kept-rows : hasRow row struck ≡ false → {put next : List ℕ} → put ≡ row → next ≡ over (flat (rowsIn k out ++ (put ∷ []))) out
-        → next ≡ over (flat (rowsIn k out ++ filterBy (stays struck) (row ∷ []))) out
-    kept-rows t e f = f ∙ ap (λ (l : List (List ℕ)). over (flat (rowsIn k out ++ l)) out) (ap {B = List (List ℕ)} (λ r. r ∷ []) e ∙ sym (kept-in t))
 
 -- those kept of the first i rows
 abbrev pub keptOf : List (List ℕ) → List ℕ → ℕ → List (List ℕ)

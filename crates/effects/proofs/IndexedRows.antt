@@ -2,7 +2,7 @@
 use mathlib.Core.Path.{_≡_, refl, sym, ap, _∙_, subst}
 use mathlib.Core.Bool.{Bool, true, false, cond}
 use mathlib.Core.Logic.{_⊎_, inl, inr}
-use mathlib.Core.List.{List, [], _∷_, _++_, append-nil, append-assoc}
+use mathlib.Core.List.{List, [], _∷_, _++_, append-nil}
 use Prim.Native.Nat.{ℕ, _+_, _-_, _*_, _≤_, _<_}
 use native.Mathlib.Omega.{arith}
 use lib.Dec.{eqb}
@@ -19,7 +19,7 @@ use Rattle.classes.proofs.KeyRows.{length-rows, rows-at}
 use Rattle.store.specs.Index.{Sized, Indexed}
 use Rattle.store.specs.Rows.{hasRow}
 use Rattle.effects.specs.Effects.{Marked, flat, joinRow, atMost}
-use Rattle.effects.proofs.FilledRows.{Filled, filled-rows, filled-own, stays, left-out, kept-in, keptOf, kept-few, kept-next, kept-more, joinedOf, joined-next, joined-on, stopped-count, stopped-rows, joined-all, joined-out}
+use Rattle.effects.proofs.FilledRows.{Filled, filled-rows, filled-own, stays, left-out, keptOf, kept-few, kept-next, kept-more, joinedOf, joined-next, joined-on, stopped-count, stopped-rows, joined-all, joined-out}
 
 -- ---- marks
 
@@ -48,12 +48,6 @@ module _ {arities : List ℕ} {keys : ℕ} {parts : List (List ℕ)} {index : Li
   left-indexed t I =
       subst (λ (l : List (List ℕ)). Indexed arities keys parts index (l ++ after))
       (sym (ap (λ (l : List (List ℕ)). before ++ l) (left-out struck row t) ∙ append-nil before)) I
-
-  pub kept-indexed : hasRow row struck ≡ false → Indexed arities keys parts index (before ++ (row ∷ after))
-      → Indexed arities keys parts index ((before ++ filterBy (stays struck) (row ∷ [])) ++ after)
-  kept-indexed t I =
-      subst (Indexed arities keys parts index)
-      (sym (ap (λ (l : List (List ℕ)). (before ++ l) ++ after) (kept-in struck row t) ∙ append-assoc before (row ∷ []) after)) I
 
 -- where the loop over the rows of the work memory stands
 pub record Keeping (struck : List (List ℕ)) (work : List ℕ) (n keys : ℕ) (parts : List (List ℕ)) (out₀ index₀ out index : List ℕ) (k i : ℕ) : Type 0 where

@@ -2,5 +2,6 @@
 pub mod Joins
 pub mod FilledRows
 pub mod IndexedRows
+pub mod KeptRuns
 pub mod EffectRows
 pub mod StepFacts

@@ -1,10 +1,10 @@
 -- What a step adds and strikes, by the rows of its events' literals. Assumes nothing.
 use mathlib.Core.Path.{_≡_}
-use mathlib.Core.Bool.{_&&_, _||_, cond}
+use mathlib.Core.Bool.{true, false, _&&_, _||_, cond}
 use mathlib.Core.List.{List, [], _∷_, _++_, map, flatMap}
-use Prim.Native.Nat.{ℕ, suc}
+use Prim.Native.Nat.{ℕ, suc, _*_, _≤_, _<_}
 use lib.Dec.{eqb, ltb}
-use lib.ListN.{getD}
+use lib.ListN.{getD, take, drop}
 use Rattle.records.specs.Lists.{In, filterBy}
 use Rattle.literals.specs.declared.Time.{Time}
 use Rattle.literals.specs.declared.Clause.{Clause}
@@ -30,6 +30,13 @@ joinRow rows row = cond (hasRow row rows) rows (rows ++ (row ∷ []))
 abbrev pub joinRows : List (List ℕ) → List (List ℕ) → List (List ℕ)
 joinRows rows [] = rows
 joinRows rows (row ∷ more) = joinRows (joinRow rows row) more
+
+-- of the first n rows of a memory, the first from a row on that is one of these; n where there is none
+pub record FirstStruck (struck : List (List ℕ)) (work : List ℕ) (n from r : ℕ) : Type 0 where
+  pub behind : from ≤ r
+  pub within : r ≤ n
+  pub others : (j : ℕ) → from ≤ j → j < r → hasRow (take 8 (drop (8 * j) work)) struck ≡ false
+  pub found : r < n → hasRow (take 8 (drop (8 * r) work)) struck ≡ true
 
 -- the third bytes of these rows are marked
 abbrev pub Marked : List ℕ → List (List ℕ) → Type 0

@@ -3,6 +3,7 @@ use events::Waiting;
 use events::facts::bound_row;
 use events::facts::clause_for;
 use events::facts::time_at;
+use events::waits::put_bytes;
 use literals::Counts;
 use literals::Time;
 use literals::fields::wide;
@@ -31,7 +32,7 @@ ghost use Rattle.store.specs.Index.{Sized, Indexed};
 ghost use Rattle.runs.specs.Play.{heldBytes};
 ghost use Rattle.store.specs.Rows.{factRow, hasRow};
 ghost use Rattle.events.specs.Coded.{groundRow, waitingOf, GroundFits, EventsFit, Lent, Ready, timeOf};
-ghost use Rattle.effects.specs.Effects.{Marked, effectRows, joinRow, joinRows, atMost, flat, eventEffects, stepEffects};
+ghost use Rattle.effects.specs.Effects.{FirstStruck, Marked, effectRows, joinRow, joinRows, atMost, flat, eventEffects, stepEffects};
 
 // A row behind the first n.
 fn put_row(out: &mut [u8], n: usize, row: [u8; 8])
@@ -68,35 +69,19 @@ fn is_struck(work: &[u8], at: usize, marks: &[u8], struck: &[u8], m: usize) -> b
     has_row(struck, m, row_at(work, at))
 }
 
-// The row at an offset of the work memory, behind the first k rows of out, unless it is among those that are struck: then it leaves the index. The count then.
-fn keep_row(
-    work: &[u8],
-    at: usize,
-    marks: &[u8],
-    struck: &[u8],
-    m: usize,
-    out: &mut [u8],
-    k: usize,
-    index: &mut [u64],
-    parts: &[u8],
-    components: usize,
-    keys: usize,
-) -> usize
-    requires { ⌜ (at + 8 ≤ length (now work)) × (length (now marks) ≡ 256) × (8 * m ≤ length (now struck)) × Marked (now marks) (rowsIn m (now struck)) × (8 * k + 8 ≤ length (now out))
-        × (length (now index) ≡ 12289) × (8 * components ≤ length (now parts)) × (keys ≤ 6) ⌝ }
-    ensures count { λ r. ⌜ r ≡ k + length (filterBy (λ (row : List ℕ). not (hasRow row (rowsIn m (now (struck .entry))))) (take 8 (drop at (now (work .entry))) ∷ [])) ⌝ }
-    ensures rows { λ _. ⌜ now (out .exit) ≡ over (flat (rowsIn k (now (out .entry)) ++ filterBy (λ (row : List ℕ). not (hasRow row (rowsIn m (now (struck .entry))))) (take 8 (drop at (now (work .entry))) ∷ []))) (now (out .entry)) ⌝ }
-    ensures indexed { λ _. ⌜ ((arities : List ℕ) (before after : List (List ℕ))
-        → Indexed arities keys (rowsIn components (now (parts .entry))) (now (index .entry)) (before ++ (take 8 (drop at (now (work .entry))) ∷ after))
-        → Indexed arities keys (rowsIn components (now (parts .entry))) (now (index .exit)) ((before ++ filterBy (λ (row : List ℕ). not (hasRow row (rowsIn m (now (struck .entry))))) (take 8 (drop at (now (work .entry))) ∷ [])) ++ after)) ⌝ }
-    ensures beside { λ _. ⌜ getD (now (index .exit)) 12288 0 ≡ getD (now (index .entry)) 12288 0 ⌝ }
+// The first struck row of the work memory from a row on, of n; n where there is none.
+fn struck_from(work: &[u8], n: usize, from: usize, marks: &[u8], struck: &[u8], m: usize) -> usize
+    requires { ⌜ (n ≤ 1024) × (8 * n ≤ length (now work)) × (from ≤ n) × (length (now marks) ≡ 256) × (8 * m ≤ length (now struck)) × Marked (now marks) (rowsIn m (now struck)) ⌝ }
+    ensures { λ r. ⌜ FirstStruck (rowsIn m (now (struck .entry))) (now (work .entry)) n from r ⌝ }
 {
-    if is_struck(work, at, marks, struck, m) {
-        leave(index, parts, components, keys, work, at);
-        return k;
+    let mut i = from;
+    while i < n {
+        if is_struck(work, 8 * i, marks, struck, m) {
+            return i;
+        }
+        i += 1;
     }
-    put_row(out, k, row_at(work, at));
-    k + 1
+    n
 }
 
 // The rows of the work memory that are not struck, in order, to the front of out; how many they are. The others leave the index.
@@ -122,22 +107,20 @@ fn keep_rows(
 {
     let marks = marks_of(struck, m);
     let mut k = 0;
-    for i in 0..n {
-        k = keep_row(
-            work,
-            8 * i,
-            &marks,
-            struck,
-            m,
-            out,
-            k,
-            index,
-            parts,
-            components,
-            keys,
-        );
+    let mut i = 0;
+    // Most rows stay, so those between two struck ones are put at once.
+    loop {
+        let next = struck_from(work, n, i, &marks, struck, m);
+        let from = 8 * i;
+        let to = 8 * next;
+        put_bytes(out, 8 * k, &work[from..to]);
+        k += next - i;
+        if n <= next {
+            return k;
+        }
+        leave(index, parts, components, keys, work, to);
+        i = next + 1;
     }
-    k
 }
 
 // The row at an offset of what is added, behind the first n rows of out and into the index, where it is not there yet; the count then, or 1,025 where there is no room.

@@ -1,12 +1,14 @@
--- `keep_rows` meets its contract: after i turns those kept of the first i rows are written, and the index is of them and the rows to come. Assumes nothing.
-use mathlib.Core.Path.{_≡_, sym}
-use Prim.Native.Nat.{_-_}
+-- `keep_rows` meets its contract: those kept of the first i rows are written, and the index is of them and the rows to come; each turn goes to the next row that is struck. Assumes nothing.
+use mathlib.Core.Path.{_≡_, refl, sym}
+use Prim.Native.Nat.{_-_, _*_}
 use native.Mathlib.Omega.{arith}
-use lib.ListN.{length}
+use lib.ListN.{length, drop, length-drop}
+use lib.Seq.{length-take-le}
 use borrow.Author.Needs.{needs}
 use Rattle.literals.specs.Table.{rowsIn}
 use Rattle.effects.proofs.FilledRows.{filled-length}
-use Rattle.effects.proofs.IndexedRows.{Keeping, keeping-begin, keeping-more, keeping-count, keeping-rows, keeping-indexed}
+use Rattle.effects.proofs.IndexedRows.{Keeping, keeping-begin, keeping-count, keeping-rows, keeping-indexed}
+use Rattle.effects.proofs.KeptRuns.{keeping-run, keeping-struck}
 use Rattle.effects.proofs.keep_rows.Statement.{statement}
 use Rattle.effects.proofs.keep_rows.Tie as tie
 
@@ -24,54 +26,86 @@ loop-holds c =
     let a = c .before .before .before .before .before .before .args in
     keeping-begin (rowsIn (a .m) (a .struck .now)) (a .work .now) (a .n) (a .keys) (rowsIn (a .components) (a .parts .now)) (a .out .now) (a .index .now)
 
-mul-keep-row : tie.Need-mul-keep-row Inv-loop μ-loop
-mul-keep-row c = let p = c .before .before .before .before .before .before .before .before .pre .0 in omega arith
+slice-aggregate-struck-from : tie.Need-slice-aggregate-struck-from Inv-loop μ-loop
+slice-aggregate-struck-from c = search needs
 
-slice-aggregate-keep-row : tie.Need-slice-aggregate-keep-row Inv-loop μ-loop
-slice-aggregate-keep-row c = search needs
+struck-from-requires : tie.Need-struck-from-requires Inv-loop μ-loop
+struck-from-requires c κs =
+    let p = c .before .before .before .before .before .before .before .before .pre in
+    let g : 256 ≡ length (c .before .before .marks-of .result) = slice-aggregate-struck-from c in
+    (p .0, p .1, c .before .loop .inv .reach, sym g, p .2, c .before .before .marks-of .ensures)
 
-keep-row-requires : tie.Need-keep-row-requires Inv-loop μ-loop
-keep-row-requires c κs =
+mul-from : tie.Need-mul-from Inv-loop μ-loop
+mul-from c = let r = c .before .before .loop .inv .reach in let p = c .before .before .before .before .before .before .before .before .before .pre .0 in omega arith
+
+mul-to : tie.Need-mul-to Inv-loop μ-loop
+mul-to c = let e = c .struck-from .ensures .within in let p = c .before .before .before .before .before .before .before .before .before .pre .0 in omega arith
+
+mul-put-bytes : tie.Need-mul-put-bytes Inv-loop μ-loop
+mul-put-bytes c = let r = c .before .before .before .loop .inv .reach in let f = c .before .before .before .loop .inv .few in let p = c .before .before .before .before .before .before .before .before .before .before .pre .0 in omega arith
+
+sub-put-bytes : tie.Need-sub-put-bytes Inv-loop μ-loop
+sub-put-bytes c = let b = c .before .struck-from .ensures .behind in omega arith
+
+part-put-bytes-start : tie.Need-part-put-bytes-start Inv-loop μ-loop
+part-put-bytes-start c = let b = c .before .struck-from .ensures .behind in omega arith
+
+part-put-bytes-end : tie.Need-part-put-bytes-end Inv-loop μ-loop
+part-put-bytes-end c = let e = c .before .struck-from .ensures .within in let p = c .before .before .before .before .before .before .before .before .before .before .pre .1 in omega arith
+
+put-bytes-requires : tie.Need-put-bytes-requires Inv-loop μ-loop
+put-bytes-requires c κs =
     let p = c .before .before .before .before .before .before .before .before .before .before .before .pre in
-    let K = c .before .before .before .before .loop .inv in
-    let t = c .before .before .before .loop-test .taken in
-    let g : 256 ≡ length (c .before .before .before .before .before .marks-of .result) = slice-aggregate-keep-row (c .before .before) in
-    let l = filled-length (K .filled) in
-    let f = K .few in
-    let s = K .same in
-    let n = p .0 in
     let w = p .1 in
     let o = p .3 in
-    let x = p .4 in
-    (omega arith, sym g, p .2, c .before .before .before .before .before .marks-of .ensures, omega arith, omega arith, p .5, p .6)
+    let K = c .before .before .before .before .loop .inv in
+    let S = c .before .before .struck-from .ensures in
+    let b = S .behind in
+    let e = S .within in
+    let f = K .few in
+    let l = filled-length (K .filled) in
+    let d = length-drop (8 * c .before .before .before .before .loop .i) (c .before .before .before .before .before .before .before .before .before .before .before .args .work .now) in
+    let t = length-take-le (8 * c .before .before .struck-from .result - 8 * c .before .before .before .before .loop .i) (drop (8 * c .before .before .before .before .loop .i) (c .before .before .before .before .before .before .before .before .before .before .before .args .work .now)) (omega arith) in
+    omega arith
 
-add-i : tie.Need-add-i Inv-loop μ-loop
-add-i c = let t = c .before .before .before .before .before .before .before .before .loop-test .taken in let p = c .before .before .before .before .before .before .before .before .before .before .before .before .before .before .before .before .pre .0 in omega arith
+sub-k : tie.Need-sub-k Inv-loop μ-loop
+sub-k c = c .before .before .before .before .before .struck-from .ensures .behind
 
-loop-less : tie.Need-loop-less Inv-loop μ-loop
-loop-less c = let t = c .before .before .before .before .before .before .before .before .loop-test .taken in omega arith
-
-loop-again : tie.Need-loop-again Inv-loop μ-loop
-loop-again c =
-    let p = c .before .before .before .before .before .before .before .before .before .before .before .before .before .before .before .before .pre in
-    let l = c .before .before .before .before .before .before .before .before .before .loop in
-    let t = c .before .before .before .before .before .before .before .before .loop-test .taken in
-    let r = c .before .before .before .before .keep-row .ensures in
-    keeping-more (l .inv) t (p .1) (p .3) (r .0) (r .1 .0) (r .1 .1 .0) (c .before .before .before .before .keep-row .kept .1 .1 .1 .1 .1 .1 .1 .0) (r .1 .1 .1)
+add-k : tie.Need-add-k Inv-loop μ-loop
+add-k c = let f = c .before .before .before .before .before .before .before .loop .inv .few in let e = c .before .before .before .before .before .struck-from .ensures .within in let b = c .before .before .before .before .before .struck-from .ensures .behind in let p = c .before .before .before .before .before .before .before .before .before .before .before .before .before .before .pre .0 in omega arith
 
 same-length : tie.Need-same-length Inv-loop μ-loop
-same-length c = filled-length (c .before .loop .inv .filled)
+same-length c = filled-length (keeping-run (c .before .before .before .before .before .before .before .before .loop .inv) (c .before .before .before .before .before .before .struck-from .result) (c .before .before .before .before .before .before .struck-from .ensures) (c .before .before .before .before .before .before .before .before .before .before .before .before .before .before .before .pre .1) (c .before .before .before .before .before .before .before .before .before .before .before .before .before .before .before .pre .3) refl (c .before .before .before .put-bytes .ensures) .filled)
 
 same-length-2 : tie.Need-same-length-2 Inv-loop μ-loop
-same-length-2 c = c .before .loop .inv .same
+same-length-2 c = c .before .before .before .before .before .before .before .before .loop .inv .same
 
 returns : tie.Need-returns Inv-loop μ-loop
 returns c =
-    let K = c .before .loop .inv in
+    let K = keeping-run (c .before .before .before .before .before .before .before .before .loop .inv) (c .before .before .before .before .before .before .struck-from .result) (c .before .before .before .before .before .before .struck-from .ensures) (c .before .before .before .before .before .before .before .before .before .before .before .before .before .before .before .pre .1) (c .before .before .before .before .before .before .before .before .before .before .before .before .before .before .before .pre .3) refl (c .before .before .before .put-bytes .ensures) in
     let r = K .reach in
-    let t = c .loop-test .left in
-    let e : c .before .loop .i ≡ c .before .before .before .before .before .before .before .before .args .n = omega arith in
+    let e : c .before .before .before .before .before .before .struck-from .result ≡ c .before .before .before .before .before .before .before .before .before .before .before .before .before .before .before .args .n = omega arith in
     (keeping-count K e, (keeping-rows K e, (keeping-indexed K e, K .beside)))
+
+leave-requires : tie.Need-leave-requires Inv-loop μ-loop
+leave-requires c κs =
+    let p = c .before .before .before .before .before .before .before .before .before .before .before .before .before .before .before .before .pre in
+    let w = p .1 in
+    let x = p .4 in
+    let s = c .before .before .before .before .before .before .before .before .before .loop .inv .same in
+    let t = c .before .if1 .left in
+    (omega arith, p .5, p .6, omega arith)
+
+add-i : tie.Need-add-i Inv-loop μ-loop
+add-i c = let e = c .before .before .before .before .before .before .before .before .before .before .struck-from .ensures .within in let p = c .before .before .before .before .before .before .before .before .before .before .before .before .before .before .before .before .before .before .before .pre .0 in omega arith
+
+loop-less : tie.Need-loop-less Inv-loop μ-loop
+loop-less c = let b = c .before .before .before .before .before .before .before .before .before .before .struck-from .ensures .behind in let t = c .before .before .before .before .if1 .left in omega arith
+
+loop-again : tie.Need-loop-again Inv-loop μ-loop
+loop-again c =
+    keeping-struck (c .before .before .before .before .before .before .before .before .before .before .before .before .loop .inv) (c .before .before .before .before .before .before .before .before .before .before .struck-from .result) (c .before .before .before .before .before .before .before .before .before .before .struck-from .ensures) (c .before .before .before .before .before .before .before .before .before .before .before .before .before .before .before .before .before .before .before .pre .1) (c .before .before .before .before .before .before .before .before .before .before .before .before .before .before .before .before .before .before .before .pre .3) refl (c .before .before .before .before .before .before .before .put-bytes .ensures)
+    (c .before .before .before .before .if1 .left) (c .before .before .leave .ensures .0) (c .before .before .leave .kept .0) (c .before .before .leave .ensures .1)
 
 pub keep-rows-spec : {M : Type 1} → statement M
 keep-rows-spec =
@@ -81,12 +115,21 @@ keep-rows-spec =
     μ-loop
     marks-of-requires
     loop-holds
-    mul-keep-row
-    slice-aggregate-keep-row
-    keep-row-requires
-    add-i
-    loop-less
-    loop-again
+    slice-aggregate-struck-from
+    struck-from-requires
+    mul-from
+    mul-to
+    mul-put-bytes
+    sub-put-bytes
+    part-put-bytes-start
+    part-put-bytes-end
+    put-bytes-requires
+    sub-k
+    add-k
     same-length
     same-length-2
-    returns)
+    returns
+    leave-requires
+    add-i
+    loop-less
+    loop-again)

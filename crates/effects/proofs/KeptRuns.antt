@@ -1,0 +1,119 @@
+-- Rows that are kept, a run of them at a time: those between two that are struck. Assumes nothing.
+use mathlib.Core.Path.{_≡_, refl, sym, ap, ap₂, _∙_, subst}
+use mathlib.Core.Bool.{true, false}
+use mathlib.Core.Logic.{_⊎_, inl, inr}
+use mathlib.Core.List.{List, [], _∷_, _++_, append-nil, append-assoc}
+use Prim.Native.Nat.{ℕ, zero, suc, _+_, _-_, _*_, _≤_, _<_}
+use native.Mathlib.Omega.{arith}
+use lib.Dec.{ltb}
+use lib.ListN.{length, getD, take, drop, length-drop}
+use lib.Seq.{drop-drop, paste}
+use borrow.Author.Tests.{ltb-true, ltb-false}
+use Rattle.records.specs.Memory.{over}
+use Rattle.records.proofs.Lists.{bool-cases, flatMap-append}
+use Rattle.records.proofs.Memory.{over-paste}
+use Rattle.literals.specs.Table.{rowsIn}
+use Rattle.literals.proofs.Rows.{rows-last, rows-whole}
+use Rattle.classes.proofs.KeyRows.{length-rows}
+use Rattle.store.specs.Rows.{hasRow}
+use Rattle.store.specs.Index.{Indexed}
+use Rattle.effects.specs.Effects.{FirstStruck, flat}
+use Rattle.effects.proofs.FilledRows.{rows-rest, flat-rows, length-whole, rows-own, Filled, filled-length, filled-more, kept-in, left-count, left-rows, keptOf, kept-next}
+use Rattle.effects.proofs.IndexedRows.{left-indexed, Keeping, keeping-more}
+
+-- ---- the first struck row
+
+-- one row more that is not struck
+pub others-more : (struck : List (List ℕ)) (work : List ℕ) (from i : ℕ) → ((j : ℕ) → from ≤ j → j < i → hasRow (take 8 (drop (8 * j) work)) struck ≡ false)
+    → hasRow (take 8 (drop (8 * i) work)) struck ≡ false → (j : ℕ) → from ≤ j → j < i + 1 → hasRow (take 8 (drop (8 * j) work)) struck ≡ false
+others-more struck work from i h e j a b = go (bool-cases (ltb j i))
+  where
+    go : (ltb j i ≡ true) ⊎ (ltb j i ≡ false) → hasRow (take 8 (drop (8 * j) work)) struck ≡ false
+    go (inl l) = h j a (ltb-true j i l)
+    go (inr l) = let g = ltb-false j i l in let q : j ≡ i = omega arith in ap (λ (k : ℕ). hasRow (take 8 (drop (8 * k) work)) struck) q ∙ e
+
+-- ---- a run of rows
+
+-- none of them is struck, so all are kept
+run-kept : (struck : List (List ℕ)) (work : List ℕ) (i q : ℕ) → ((j : ℕ) → i ≤ j → j < i + q → hasRow (take 8 (drop (8 * j) work)) struck ≡ false)
+    → keptOf struck work (i + q) ≡ keptOf struck work i ++ rowsIn q (drop (8 * i) work)
+run-kept struck work i zero h =
+    let e : i + 0 ≡ i = omega arith in
+    ap (keptOf struck work) e ∙ sym (append-nil (keptOf struck work i))
+run-kept struck work i (suc q) h =
+    let e : i + suc q ≡ i + q + 1 = omega arith in
+    let f : 8 * i + 8 * q ≡ 8 * (i + q) = omega arith in
+    let row : List ℕ = take 8 (drop (8 * (i + q)) work) in
+    ap (keptOf struck work) e
+    ∙ kept-next struck work (i + q)
+    ∙ ap₂ (λ (x y : List (List ℕ)). x ++ y) (run-kept struck work i q (λ j a b. h j a (omega arith))) (kept-in struck row (h (i + q) (omega arith) (omega arith)))
+    ∙ append-assoc (keptOf struck work i) (rowsIn q (drop (8 * i) work)) (row ∷ [])
+    ∙ ap (λ (l : List (List ℕ)). keptOf struck work i ++ l)
+    (sym (rows-last q (drop (8 * i) work) ∙ ap (λ (r : List ℕ). rowsIn q (drop (8 * i) work) ++ (take 8 r ∷ [])) (drop-drop (8 * q) (8 * i) work ∙ ap (λ (n : ℕ). drop n work) f)))
+
+-- their bytes, put behind k rows
+put-run : (k q : ℕ) (out t : List ℕ) → 8 * k ≤ length out
+    → paste out (8 * k) (take (8 * q) t) (length (take (8 * q) t)) ≡ over (flat (rowsIn k out ++ rowsIn q t)) out
+put-run k q out t h =
+    let l = length-rows k out in
+    let w = length-whole (rowsIn k out) (rows-whole k out h) in
+    let z : length (flat (rowsIn k out)) ≡ 8 * k = omega arith in
+    let s : List ℕ = take (8 * q) t in
+    ap (λ (o : List ℕ). paste o (8 * k) s (length s)) (rows-own k out h)
+    ∙ over-paste (flat (rowsIn k out)) out s (8 * k) (length s) z refl
+    ∙ ap (λ (b : List ℕ). over (flat (rowsIn k out) ++ b) out) (sym (flat-rows q t))
+    ∙ ap (λ (b : List ℕ). over b out) (sym (flatMap-append (λ (row : List ℕ). row) (rowsIn k out) (rowsIn q t)))
+
+module _ {struck : List (List ℕ)} {work : List ℕ} {n keys : ℕ} {parts : List (List ℕ)} {out₀ index₀ out index : List ℕ} {k i : ℕ} (K : Keeping struck work n keys parts out₀ index₀ out index k i)
+    (p : ℕ) (S : FirstStruck struck work n i p) (w : 8 * n ≤ length work) (o : 8 * n ≤ length out₀) {m : ℕ} {next : List ℕ} (c : m ≡ k + (p - i))
+    (f : next ≡ paste out (8 * k) (take (8 * p - 8 * i) (drop (8 * i) work)) (length (take (8 * p - 8 * i) (drop (8 * i) work)))) where
+  abbrev rest : List ℕ
+  rest = drop (8 * i) work
+
+  run-all : keptOf struck work i ++ rowsIn (p - i) rest ≡ keptOf struck work p
+  run-all =
+      let b = S .behind in
+      let u : i + (p - i) ≡ p = omega arith in
+      sym (run-kept struck work i (p - i) (λ j x y. S .others j x (omega arith))) ∙ ap (keptOf struck work) u
+
+  -- the rows up to the first that is struck
+  pub keeping-run : Keeping struck work n keys parts out₀ index₀ next index m p
+  keeping-run =
+      let b = S .behind in
+      let e = S .within in
+      let g = K .few in
+      let v : 8 * p - 8 * i ≡ 8 * (p - i) = omega arith in
+      let d = length-drop (8 * i) work in
+      let l = length-rows (p - i) rest in
+      let r = filled-length (K .filled) in
+      let x : n - i - (p - i) ≡ n - p = omega arith in
+      let y : 8 * i + 8 * (p - i) ≡ 8 * p = omega arith in
+      record {
+        reach = e;
+        few = omega arith;
+        filled =
+            subst (λ (l : List (List ℕ)). Filled l m next out₀) run-all
+            (filled-more (K .filled) (rowsIn (p - i) rest) (rows-whole (p - i) rest (omega arith)) (omega arith) (omega arith)
+            (f ∙ ap (λ (z : ℕ). paste out (8 * k) (take z rest) (length (take z rest))) v ∙ put-run k (p - i) out rest (omega arith)));
+        same = K .same;
+        indexed =
+            λ arities I.
+            subst (Indexed arities keys parts index)
+            (ap (λ (l : List (List ℕ)). keptOf struck work i ++ l) (rows-rest (n - i) (p - i) rest (omega arith))
+            ∙ sym (append-assoc (keptOf struck work i) (rowsIn (p - i) rest) (rowsIn (n - i - (p - i)) (drop (8 * (p - i)) rest)))
+            ∙ ap₂ (λ (l r : List (List ℕ)). l ++ r) run-all (ap₂ rowsIn x (drop-drop (8 * (p - i)) (8 * i) work ∙ ap (λ (z : ℕ). drop z work) y)))
+            (K .indexed arities I);
+        beside = K .beside;
+      }
+
+  -- and that one, which leaves the index
+  pub keeping-struck : p < n → {index′ : List ℕ}
+      → ((arities : List ℕ) (before after : List (List ℕ)) → Indexed arities keys parts index (before ++ (take 8 (drop (8 * p) work) ∷ after)) → Indexed arities keys parts index′ (before ++ after))
+      → length index′ ≡ length index → getD index′ 12288 0 ≡ getD index 12288 0 → Keeping struck work n keys parts out₀ index₀ next index′ m (p + 1)
+  keeping-struck h x s b =
+      let row : List ℕ = take 8 (drop (8 * p) work) in
+      let t = S .found h in
+      let g = keeping-run .few in
+      let r = filled-length (keeping-run .filled) in
+      keeping-more keeping-run h w o (left-count struck row m next t) (left-rows struck row m next t (omega arith))
+      (λ arities before after I. left-indexed struck row before after t (x arities before after I)) s b
