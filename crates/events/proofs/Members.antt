@@ -7,8 +7,6 @@ use Rattle.classes.specs.declared.Moment.{Moment}
 use Rattle.classes.specs.declared.Moment.the-variants.{Start, End as Ending}
 use Rattle.verdict.specs.Machine.{GroundAction, Event, sameGround, closeOne, closeAt, closeAll}
 
--- ---- the machine's next state is of the domain too
-
 pub map-in : {A B : Type 0} (f : A → B) (l : List A) {b : B} → In b (map f l) → (a : A) × In a l × (b ≡ f a)
 map-in f [] m = absurd (List·Memᴰ·not-nil m)
 map-in f (x ∷ xs) (List·Memᴰ·head e) = (x, List·Memᴰ·head refl, e)

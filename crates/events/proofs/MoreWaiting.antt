@@ -18,8 +18,6 @@ use Rattle.events.specs.Coded.{groundRow, waitingOf, EventsFit}
 use Rattle.events.proofs.FactRows.{waiting-count}
 use Rattle.events.proofs.OpenRows.{length-flat, length-ground}
 
--- ---- an event more that waits
-
 -- a list in an array of zeros, and more of it
 pad-paste : (n : ℕ) (l s : List ℕ) (at : ℕ) → length l ≡ at → paste (pad n l) at s (length s) ≡ pad n (l ++ s)
 unfolding over

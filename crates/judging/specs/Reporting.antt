@@ -8,8 +8,6 @@ use Rattle.verdict.specs.Decision.{Row}
 use Rattle.verdict.specs.Judged.{rowBytes}
 use Rattle.naming.specs.Named.{nameBytes}
 
--- ---- names
-
 -- where reporting stands: the rows rs are written, the rest is still to come, and the names of both are given
 pub record Reporting (rs rest : List Row) (at : ℕ) (report names old given : List ℕ) : Type 0 where
   pub written : at ≡ length rs

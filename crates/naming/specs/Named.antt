@@ -11,8 +11,6 @@ use Rattle.naming.specs.declared.Naming.{Naming}
 use Rattle.verdict.specs.Decision.{Row, rows}
 use Rattle.verdict.specs.Coded.{notesOf}
 
--- ---- names
-
 -- a byte a row: the name's number
 abbrev pub nameBytes : List Row → List ℕ
 nameBytes rs = map (λ (r : Row). nameNumber (r .name)) rs

@@ -11,7 +11,6 @@ use Rattle.literals.specs.Domain.{Fact, Action}
 use Rattle.classes.specs.declared.Moment.{Moment}
 use Rattle.classes.specs.Classes.{required}
 use Rattle.verdict.specs.Binding.{bind, sameNumbers}
-use Rattle.verdict.specs.Decision.{rows}
 use Rattle.verdict.specs.Judged.{factBytes}
 
 -- ---- the witness of a place, where it fits

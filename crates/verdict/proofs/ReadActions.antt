@@ -12,12 +12,9 @@ use Rattle.literals.specs.Table.{literalRow, Holds}
 use Rattle.literals.proofs.Held.{arities-is, components-is, keys-is, parts-is}
 use Rattle.literals.proofs.Spans.{action-listed}
 use Rattle.classes.specs.Coded.{TemplateIn}
-use Rattle.verdict.specs.Decision.{rows}
 use Rattle.verdict.specs.Claims.{wellFormed}
 use Rattle.verdict.specs.Coded.{ActionIn}
 use Rattle.verdict.proofs.WellFormed.{literals-apart, action-well-formed}
-
--- ---- an action of a domain that was read
 
 pub template-in : {D : Domain} {index : Index} → Holds D index → TemplateIn D (index .parts) (index .components) (index .keys) (index .arities)
 template-in H = record { bounded = H .bounded; rows = parts-is H; count = components-is H; keyed = keys-is H; arguments = arities-is H }

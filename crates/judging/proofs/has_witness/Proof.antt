@@ -1,4 +1,4 @@
--- `verdict::judging::has_witness` meets its contract. Assumes nothing.
+-- `has_witness` meets its contract. Assumes nothing.
 use native.Mathlib.Omega.{arith}
 use borrow.Author.Tests.{lt-leb, le-leb}
 use Rattle.judging.proofs.has_witness.Statement.{statement}

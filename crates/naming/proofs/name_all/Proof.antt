@@ -1,4 +1,4 @@
--- `verdict::naming::name_all` meets its contract. The loop's invariant is `InActions` of proofs/NamedRows; the measure is how many actions are left. Assumes nothing.
+-- `name_all` meets its contract. The loop's invariant is `InActions` of proofs/NamedRows; the measure is how many actions are left. Assumes nothing.
 use mathlib.Core.Path.{refl, sym, _∙_}
 use mathlib.Core.List.{[]}
 use Prim.Native.Nat.{_-_, _*_, _≤_, _<_}

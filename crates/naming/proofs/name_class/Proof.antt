@@ -1,4 +1,4 @@
--- `verdict::naming::name_class` meets its contract: the names at both moments, and whether it is a journey. Assumes nothing.
+-- `name_class` meets its contract: the names at both moments, and whether it is a journey. Assumes nothing.
 use borrow.Author.Needs.{needs}
 use Rattle.records.proofs.Lists.{clash}
 use mathlib.Core.Path.{_∙_, ap₂}

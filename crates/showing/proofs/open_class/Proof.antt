@@ -1,4 +1,4 @@
--- `verdict::showing::open_class` meets its contract. Assumes nothing.
+-- `open_class` meets its contract. Assumes nothing.
 use borrow.Author.Needs.{needs}
 use Rattle.showing.proofs.open_class.Statement.{statement}
 use Rattle.showing.proofs.open_class.Tie as tie

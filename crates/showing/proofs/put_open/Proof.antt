@@ -1,4 +1,4 @@
--- `verdict::showing::put_open` meets its contract. Assumes nothing.
+-- `put_open` meets its contract. Assumes nothing.
 use mathlib.Core.Path.{_≡_, refl}
 use mathlib.Core.List.{[]}
 use Prim.Native.Nat.{_*_}

@@ -1,4 +1,4 @@
--- `verdict::showing::put_plain` meets its contract. Assumes nothing.
+-- `put_plain` meets its contract. Assumes nothing.
 use mathlib.Core.List.{[]}
 use native.Mathlib.Omega.{arith}
 use lib.ListN.{getD}

@@ -1,4 +1,4 @@
--- `verdict::showing::put_witness` meets its contract. Assumes nothing.
+-- `put_witness` meets its contract. Assumes nothing.
 use mathlib.Core.Path.{_≡_, sym, _∙_}
 use native.Mathlib.Omega.{arith}
 use borrow.Author.Needs.{needs}

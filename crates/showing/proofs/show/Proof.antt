@@ -1,4 +1,4 @@
--- `verdict::showing::show` meets its contract. Assumes nothing.
+-- `show` meets its contract. Assumes nothing.
 use mathlib.Core.List.{[]}
 use native.Mathlib.Omega.{arith}
 use borrow.Author.Needs.{needs}

@@ -1,4 +1,4 @@
--- `verdict::report::put_action` meets its contract. The loop's invariant: the rows of the classes passed are written. Assumes nothing.
+-- `report::put_action` meets its contract. The loop's invariant: the rows of the classes passed are written. Assumes nothing.
 use mathlib.Core.Path.{_≡_, refl, _∙_}
 use mathlib.Core.List.{List, [], _++_}
 use Prim.Native.Nat.{ℕ, _+_, _-_, _*_, _≤_, _<_}

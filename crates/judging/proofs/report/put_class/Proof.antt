@@ -1,4 +1,4 @@
--- `verdict::report::put_class` meets its contract: a row for each moment. Assumes nothing.
+-- `report::put_class` meets its contract: a row for each moment. Assumes nothing.
 use mathlib.Core.Path.{_∙_, refl}
 use mathlib.Core.List.{[], _∷_, _++_}
 use native.Mathlib.Omega.{arith}

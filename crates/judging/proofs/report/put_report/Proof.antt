@@ -1,4 +1,4 @@
--- `verdict::report::put_report` meets its contract. The loop's invariant: the rows of the actions passed are written. Assumes nothing.
+-- `report::put_report` meets its contract. The loop's invariant: the rows of the actions passed are written. Assumes nothing.
 use mathlib.Core.Path.{_≡_, refl, _∙_}
 use mathlib.Core.List.{List, map}
 use Prim.Native.Nat.{ℕ, _+_, _-_, _*_, _≤_, _<_}

@@ -1,4 +1,4 @@
--- `verdict::report::put_row` meets its contract: four stores at the seam, for which there is room. Assumes nothing.
+-- `report::put_row` meets its contract: four stores at the seam, for which there is room. Assumes nothing.
 use native.Mathlib.Omega.{arith}
 use borrow.Author.Needs.{needs}
 use lib.ListN.{length-set}

@@ -1,4 +1,4 @@
--- `verdict::naming::Naming::new` meets its contract: no row is named. Assumes nothing.
+-- `Naming::new` meets its contract: no row is named. Assumes nothing.
 use borrow.Author.Needs.{needs}
 use mathlib.Core.Path.{refl}
 use native.Mathlib.Omega.{arith}

@@ -1,4 +1,4 @@
--- `verdict::naming::Naming::with_action` meets its contract: the classes are numbered, and then named. Assumes nothing.
+-- `Naming::with_action` meets its contract: the classes are numbered, and then named. Assumes nothing.
 use mathlib.Core.Path.{refl, sym, ap, _∙_}
 use Prim.Native.Nat.{ℕ, _*_}
 use native.Mathlib.Nat.{sub-zero}

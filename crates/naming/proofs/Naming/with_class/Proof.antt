@@ -1,4 +1,4 @@
--- `verdict::naming::Naming::with_class` meets its contract: a row for each moment. Assumes nothing.
+-- `Naming::with_class` meets its contract: a row for each moment. Assumes nothing.
 use mathlib.Core.Path.{_∙_}
 use native.Mathlib.Omega.{arith}
 use borrow.Author.Needs.{needs}

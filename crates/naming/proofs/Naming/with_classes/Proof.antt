@@ -1,4 +1,4 @@
--- `verdict::naming::Naming::with_classes` meets its contract: each class by the clauses of both moments. Assumes nothing.
+-- `Naming::with_classes` meets its contract: each class by the clauses of both moments. Assumes nothing.
 use mathlib.Core.Path.{refl}
 use native.Mathlib.Omega.{arith}
 use borrow.Author.Needs.{needs}

@@ -1,4 +1,4 @@
--- `verdict::naming::Naming::with_each` meets its contract. The loop's invariant is `InClasses` of proofs/NamedRows; the measure is how many classes are left. Assumes nothing.
+-- `Naming::with_each` meets its contract. The loop's invariant is `InClasses` of proofs/NamedRows; the measure is how many classes are left. Assumes nothing.
 use mathlib.Core.Path.{refl, _∙_}
 use Prim.Native.Nat.{_-_, _<_}
 use native.Mathlib.Omega.{arith}

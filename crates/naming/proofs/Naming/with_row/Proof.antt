@@ -1,4 +1,4 @@
--- `verdict::naming::Naming::with_row` meets its contract: the name's byte stands at the seam. Assumes nothing.
+-- `Naming::with_row` meets its contract: the name's byte stands at the seam. Assumes nothing.
 use mathlib.Core.Path.{refl}
 use borrow.Author.Needs.{needs}
 use Rattle.naming.proofs.NamedRows.{named-more}

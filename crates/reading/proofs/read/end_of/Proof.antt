@@ -1,4 +1,4 @@
--- `literals::read::end_of` meets its contract. Assumes nothing.
+-- `read::end_of` meets its contract. Assumes nothing.
 use borrow.Author.Tests.{eq-eqb, ne-eqb}
 use Rattle.reading.specs.Reading.{finishedOf}
 use Rattle.reading.proofs.read.end_of.Statement.{statement}

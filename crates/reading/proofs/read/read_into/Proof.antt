@@ -1,4 +1,4 @@
--- `literals::read::read_into` meets its contract. The loop's invariant is `Loop` of proofs/Turns; the measure is what is left of the file. Assumes nothing.
+-- `read::read_into` meets its contract. The loop's invariant is `Loop` of proofs/Turns; the measure is what is left of the file. Assumes nothing.
 use mathlib.Core.Path.{sym, ap, _∙_}
 use Prim.Native.Nat.{_-_}
 use lib.ListN.{length}
