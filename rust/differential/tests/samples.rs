@@ -171,6 +171,16 @@ fn the_page_has_every_file() {
     expect_none(wrong_on_page(&stored()));
 }
 
+/// The repository's README tells how many files there are.
+#[test]
+fn the_readme_counts_them() {
+    let files = stored();
+    let readme = fs::read_to_string(folder().join("../README.md")).expect("README.md");
+    let (domains, runs) = (names(&files, ".domain").count(), names(&files, ".run").count());
+    let told = format!("{domains} domain files and {runs} run files");
+    assert!(readme.contains(&told), "README.md doesn't say that samples/ has {told}");
+}
+
 /// What the page shows step by step, the runs that decide where a published answer differs: the facts that it tells of
 /// the instance are those held. (No other instance has any in these runs.)
 #[test]
@@ -329,5 +339,5 @@ fn a_wrong_answer_is_noticed() {
     };
     let weighs_two = |name: &&str| text(&stored, &format!("{name}.played")).lines().next().unwrap().ends_with(" 2");
     let heavy = names(&stored, ".run").filter(weighs_two).count();
-    assert_eq!((wrong_texts(judge, light, &stored).len(), heavy), (12, 12));
+    assert_eq!((wrong_texts(judge, light, &stored).len(), heavy), (14, 14));
 }

@@ -308,9 +308,7 @@ fn evaluate(expression: &Expression, scope: &Scope) -> Option<Value> {
                 _ => Value::Bytes([left.bytes(), right.bytes()].concat()),
             })
         }
-        Expression::Lambda(parameter, body) => {
-            Some(Value::Lambda(parameter.clone(), body.clone(), scope.clone()))
-        }
+        Expression::Lambda(parameter, body) => Some(Value::Lambda(parameter.clone(), body.clone(), scope.clone())),
         Expression::Record(fields) => {
             let fields = fields.iter().map(|(name, value)| Some((name.clone(), evaluate(value, scope)?)));
             Some(Value::Record(fields.collect::<Option<_>>()?))
@@ -438,8 +436,8 @@ mod tests {
         let count = |group| all.cases.iter().filter(|case| case.group == group).count();
         let groups = ["Samples", "Names", "Room", "Refusals", "Steps", "RunFiles", "Parts"];
         assert_eq!(groups.map(count), [12, 37, 9, 64, 50, 54, 6]);
-        let limits =
-            ["facts-1024", "facts-1025", "start-1024", "start-1025", "start-repeated", "start-outside"].map(String::from);
+        let limits = ["facts-1024", "facts-1025", "start-1024", "start-1025", "start-repeated", "start-outside"]
+            .map(String::from);
         let others = ["m1-is-listed", "roles", "lamps-accepted"].map(String::from);
         assert_eq!(all.others, [&others[..], &limits].concat());
     }

@@ -2,6 +2,7 @@
 //! what each of them teaches; `write_samples` of the package `differential` writes them.
 
 use crate::literature::{rovers_dropping, rovers_sampling, Named, DEPOTS, DRIVERLOG, FLOORTILE, ROVERS, SATELLITE};
+use crate::proved::{Call, Cases};
 use crate::records::encode;
 
 /// A domain file, NAME.domain.
@@ -38,6 +39,7 @@ impl Samples {
 /// All of them.
 pub fn all() -> Samples {
     let mut samples = specification();
+    proved(&mut samples);
     misreadings(&mut samples);
     floortile(&mut samples);
     depots(&mut samples);
@@ -89,6 +91,94 @@ lasting lend volume shelf reader
     start delete at volume shelf
     end add out volume reader
 ";
+
+/// What M1 to M12 leave open, from roles over all to six arguments.
+const RULES: [&str; 16] = [
+    "over-all-at-end",
+    "over-all-not-at-start",
+    "over-all-and-end-once",
+    "over-all-false-covers",
+    "second-class",
+    "class-before-moment",
+    "no-row",
+    "no-keys",
+    "no-keys-two-relations",
+    "no-arguments",
+    "six-arguments",
+    "keys-swapped-witness",
+    "witness-order",
+    "journey-of-another-class",
+    "bounded-journey",
+    "first-of-three",
+];
+
+/// A broken file for each number, 9 to 23.
+const BROKEN: [&str; 17] = [
+    "too-long",
+    "head-cut",
+    "not-closed",
+    "kind-6",
+    "literal-long",
+    "relation-late",
+    "closing-behind",
+    "relation-65",
+    "arity-7",
+    "role-4-at-once",
+    "literal-relation",
+    "variable-1",
+    "repeated",
+    "over-all-and-end",
+    "key-missing",
+    "used-before",
+    "no-component",
+];
+
+/// What a step asks and leaves: the domain, and its runs.
+const STEPS: [(&str, &[&str]); 3] = [
+    (
+        "lamps",
+        &[
+            "order-of-facts",
+            "order-of-events",
+            "added-twice",
+            "open-twice",
+            "restarted",
+            "empty-step",
+            "start-free",
+            "over-all-true-fails",
+            "not-yet-open",
+            "added-deleted",
+            "end-interferes",
+        ],
+    ),
+    ("m1", &["weight-highest"]),
+    ("m3", &["refused-template"]),
+];
+
+/// A run file at fault for each number, 50 to 54.
+const RUN_FILES: [(&str, &[&str]); 2] =
+    [("lamps", &["event-waits", "event-object", "bound-twice"]), ("calm", &["event-17", "event-repeated"])];
+
+/// Cases that are proved of the definitions, on their very bytes.
+fn proved(samples: &mut Samples) {
+    let cases = Cases::read();
+    for (group, names) in [("Names", &RULES[..]), ("Refusals", &BROKEN)] {
+        for &name in names {
+            let Call::Judge { file, .. } = &cases.case(group, name).call else { panic!("{name} isn't judged") };
+            samples.domains.push(Domain { name, file: file.clone() });
+        }
+    }
+    for name in ["lamps", "calm"] {
+        samples.domains.push(Domain { name, file: cases.file(name).to_vec() });
+    }
+    for (group, runs) in [("Steps", &STEPS[..]), ("RunFiles", &RUN_FILES)] {
+        for (of, name) in runs.iter().flat_map(|(of, names)| names.iter().map(move |name| (*of, *name))) {
+            let Call::Play { domain, run, .. } = &cases.case(group, name).call else { panic!("{name} isn't played") };
+            assert_eq!(domain, cases.file(of), "{name} isn't a run of {of}");
+            samples.runs.push(Run { name, of, file: run.clone() });
+        }
+    }
+}
 
 /// The start of lend takes `in` away, and its end doesn't speak of it.
 const BOUNDED_ANYWHERE: &str = "
