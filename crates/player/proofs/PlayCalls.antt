@@ -31,7 +31,7 @@ use Rattle.runs.specs.Play.{workBytes, Outcome, accepted, heldBytes, playRun, R
 use Rattle.events.specs.Coded.{Lent}
 use Rattle.player.specs.Player.{Runnable, endedOf}
 use Rattle.runs.specs.Claims.{PlaysAsMachine}
-use Rattle.player.specs.Called.{faultOf, fileOf, offsetOf, faultFile, faultOffset, partAt, answerOf, answerBy, LentToPlay}
+use Rattle.player.specs.Called.{faultOf, fileOf, offsetOf, faultFile, faultOffset, partAt, answerOf, answerBy, answerUnplayed, LentToPlay}
 use Rattle.runs.proofs.Never.{played-as-machine, no-alarm}
 
 -- ---- the answer of a run
@@ -94,7 +94,7 @@ accepted-by D j e b f = f ∙ ap (λ (n : ℕ). leb n 1) (ap (λ (x : Judgement)
 -- ---- a domain that was read
 
 module _ (D : Domain) (r w : List ℕ) where
-  pub call-small : length w < workBytes → (record { number = 58; place = 0; steps = 0; weight = 0; fault = InRun (length r) } ≡ answerOf (callBy (domain D) r w)) × (w ≡ callBy (domain D) r w .memory)
+  pub call-small : length w < workBytes → (answerUnplayed 58 0 (InRun (length r)) ≡ answerOf (callBy (domain D) r w)) × (w ≡ callBy (domain D) r w .memory)
   unfolding callBy
   call-small h = rw (callBy, lt-ltb (length w) workBytes h) (refl, refl)
 
@@ -111,15 +111,15 @@ module _ (d r w : List ℕ) where
   call-of x e a work h = (h .0 ∙ ap (λ (y : Decoded). answerOf (callBy y r w)) (sym e), h .1 ∙ ap (λ (y : Decoded). callBy y r w .memory) (sym e))
 
   pub call-refused : (s : ReadAnswer) → s ≡ readOf d → (s .number ≡ 0 → ⊥)
-      → (record { number = s .number; place = s .place; steps = 0; weight = 0; fault = InDomain (s .start) } ≡ answerOf (call d r w)) × (w ≡ workAfter d r w)
+      → (answerUnplayed (s .number) (s .place) (InDomain (s .start)) ≡ answerOf (call d r w)) × (w ≡ workAfter d r w)
   unfolding callBy
   call-refused s e z = go (decode d) refl (read-by d s e)
     where
       go : (x : Decoded) → decode d ≡ x → s ≡ readBy x (indexOf (readFile d .read))
-          → (record { number = s .number; place = s .place; steps = 0; weight = 0; fault = InDomain (s .start) } ≡ answerOf (call d r w)) × (w ≡ workAfter d r w)
+          → (answerUnplayed (s .number) (s .place) (InDomain (s .start)) ≡ answerOf (call d r w)) × (w ≡ workAfter d r w)
       go (refused x) q y =
-          call-of (refused x) q (record { number = s .number; place = s .place; steps = 0; weight = 0; fault = InDomain (s .start) }) w
-          (ap (λ (t : ReadAnswer). record { number = t .number; place = t .place; steps = 0; weight = 0; fault = InDomain (t .start) }) y, refl)
+          call-of (refused x) q (answerUnplayed (s .number) (s .place) (InDomain (s .start))) w
+          (ap (λ (t : ReadAnswer). answerUnplayed (t .number) (t .place) (InDomain (t .start))) y, refl)
       go (domain D) q y = absurd (z (ap (λ (t : ReadAnswer). t .number) y))
 
   pub call-read : (D : Domain) → decode d ≡ domain D → (a : PlayAnswer) (work : List ℕ) → (a ≡ answerOf (callBy (domain D) r w)) × (work ≡ callBy (domain D) r w .memory) → (a ≡ answerOf (call d r w)) × (work ≡ workAfter d r w)

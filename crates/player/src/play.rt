@@ -6,14 +6,16 @@ use naming::name_all;
 use reading::read::read_into;
 ghost use mathlib.Core.Path.{_≡_};
 ghost use mathlib.Core.Bool.{true};
+ghost use Prim.Native.Nat.{_≤_};
+ghost use lib.ListN.{length};
 ghost use Rattle.literals.specs.Domain.{Domain};
 ghost use Rattle.literals.specs.Decode.{domain as domainRead};
 ghost use Rattle.verdict.specs.Claims.{wellFormed};
-ghost use Rattle.runs.specs.Play.{accepted, Outcome, callBy, call, played, workAfter, returned, returnedBytes};
+ghost use Rattle.runs.specs.Play.{workBytes, accepted, Outcome, callBy, call, played, workAfter, returned, returnedBytes};
 ghost use Rattle.events.specs.Coded.{Lent};
 ghost use Rattle.player.specs.Player.{endedOf};
 ghost use Rattle.runs.specs.Claims.{PlaysAsMachine};
-ghost use Rattle.player.specs.Called.{faultFile, faultOffset, partAt, answerOf, answerBy, LentToPlay};
+ghost use Rattle.player.specs.Called.{faultFile, faultOffset, partAt, answerOf, answerBy, answerUnplayed, LentToPlay};
 
 // Where the record at fault starts: an offset of the domain file, or of the run file.
 pub enum Fault {
@@ -126,7 +128,7 @@ fn answer_by(ended: Ended) -> PlayAnswer
     }
 }
 
-// A domain that was read, and a run: 58 where the work memory is too small.
+// A domain that was read, and a run, where the work memory is enough.
 fn play_domain(
     counts: Counts,
     arities: &[u8],
@@ -138,20 +140,11 @@ fn play_domain(
     run: &[u8],
     work: &mut [u8],
 ) -> PlayAnswer
-    requires { ⌜ LentToPlay counts (now arities) (now variables) (now sorts) (now starts) (now parts) (now table) ⌝ }
+    requires { ⌜ LentToPlay counts (now arities) (now variables) (now sorts) (now starts) (now parts) (now table) × (workBytes ≤ length (now work)) ⌝ }
     ensures { λ r. ⌜ ((D : Domain)
         → Lent D counts (now (arities .entry)) (now (variables .entry)) (now (sorts .entry)) (now (starts .entry)) (now (parts .entry)) (now (table .entry)) → wellFormed D ≡ true
         → (r ≡ answerOf (callBy (domainRead D) (now (run .entry)) (now (work .entry)))) × (now (work .exit) ≡ callBy (domainRead D) (now (run .entry)) (now (work .entry)) .memory)) ⌝ }
 {
-    if work.len() < 8192 {
-        return PlayAnswer {
-            number: 58,
-            place: 0,
-            steps: 0,
-            weight: 0,
-            fault: Fault::Run(run.len()),
-        };
-    }
     let accepted = accepts(counts, arities, variables, sorts, starts, parts, table);
     let ended = play_run(
         counts,
@@ -168,7 +161,20 @@ fn play_domain(
     answer_by(ended)
 }
 
-// A domain file, read or refused 9 to 23, and a run file.
+// An answer without a run: no step is made, and nothing weighs.
+fn unplayed(number: u64, place: usize, fault: Fault) -> PlayAnswer
+    ensures { λ r. ⌜ r ≡ answerUnplayed number place fault ⌝ }
+{
+    PlayAnswer {
+        number,
+        place,
+        steps: 0,
+        weight: 0,
+        fault,
+    }
+}
+
+// A domain file, read or refused 9 to 23, then 58 where the work memory is too small, then the run file.
 pub fn play_files(domain: &[u8], run: &[u8], work: &mut [u8]) -> PlayAnswer
     ensures answer { λ r. ⌜ r ≡ answerOf (call (now («domain» .entry)) (now (run .entry)) (now (work .entry))) ⌝ }
     ensures work { λ _. ⌜ now (work .exit) ≡ workAfter (now («domain» .entry)) (now (run .entry)) (now (work .entry)) ⌝ }
@@ -191,13 +197,10 @@ pub fn play_files(domain: &[u8], run: &[u8], work: &mut [u8]) -> PlayAnswer
     let number = read.number;
     let counts = read.counts;
     if number != 0 {
-        return PlayAnswer {
-            number,
-            place: read.place,
-            steps: 0,
-            weight: 0,
-            fault: Fault::Domain(read.start),
-        };
+        return unplayed(number, read.place, Fault::Domain(read.start));
+    }
+    if work.len() < 8192 {
+        return unplayed(58, 0, Fault::Run(run.len()));
     }
     play_domain(
         counts,

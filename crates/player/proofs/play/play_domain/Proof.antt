@@ -1,20 +1,18 @@
 -- `play_domain` meets its contract. Assumes nothing.
 use borrow.Author.Needs.{needs}
 use Rattle.runs.specs.Play.{playRun}
-use Rattle.player.proofs.PlayCalls.{call-small, call-run, runnable}
+use Rattle.player.proofs.PlayCalls.{call-run, runnable}
 use Rattle.player.proofs.play.play_domain.Statement.{statement}
 use Rattle.player.proofs.play.play_domain.Tie as tie
-
-returns : tie.Need-returns
-returns c D lent well = let a = c .before .before .before .before .before .before .before .before .before .args in call-small D (a .run .now) (a .work .now) (c .if1 .taken)
 
 accepts-requires : tie.Need-accepts-requires
 accepts-requires c κs = search needs
 
 play-run-requires : tie.Need-play-run-requires
 play-run-requires c κs =
-    let p = c .before .before .before .before .before .before .before .before .before .before .before .pre in
-    runnable p (c .before .accepts .result) (c .before .accepts .ensures (p .said) (p .lent) (p .well)) (c .before .before .before .before .before .before .before .before .before .before .before .args .work .now) (c .before .before .if1 .left)
+    let p = c .before .before .before .before .before .before .before .before .before .before .pre in
+    let l = p .0 in
+    runnable l (c .before .accepts .result) (c .before .accepts .ensures (l .said) (l .lent) (l .well)) (c .before .before .before .before .before .before .before .before .before .before .args .work .now) (p .1)
 
 answer-by-requires : tie.Need-answer-by-requires
 answer-by-requires c κs = search needs
@@ -22,13 +20,13 @@ answer-by-requires c κs = search needs
 same-length : tie.Need-same-length
 same-length c = search needs
 
-returns-2 : tie.Need-returns-2
-returns-2 c D lent well =
-    let a = c .before .before .before .before .before .before .before .before .before .before .before .before .before .before .before .args in
+returns : tie.Need-returns
+returns c D lent well =
+    let a = c .before .before .before .before .before .before .before .before .before .before .before .before .before .before .args in
     let e = c .before .before .before .play-run .ensures D lent (c .before .before .before .before .before .accepts .ensures D lent well) in
-    call-run D (a .run .now) (a .work .now) (c .before .before .before .before .before .before .if1 .left) (c .answer-by .result) (c .answer-by .ensures (playRun D (a .run .now)) (e .0)) _ (e .1)
+    call-run D (a .run .now) (a .work .now) (c .before .before .before .before .before .before .before .before .before .before .before .before .before .before .pre .1) (c .answer-by .result) (c .answer-by .ensures (playRun D (a .run .now)) (e .0)) _ (e .1)
 
 pub play-domain-spec : {M : Type 1} → statement M
 play-domain-spec =
     tie.close
-    (tie.spec returns accepts-requires play-run-requires answer-by-requires same-length returns-2)
+    (tie.spec accepts-requires play-run-requires answer-by-requires same-length returns)
