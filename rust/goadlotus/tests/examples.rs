@@ -1,4 +1,5 @@
-//! The examples that README.md shows: both are compiled, judge M1, and stand in README.md as they are.
+//! The examples that README.md shows: both programs are compiled, judge M1, and stand in README.md as they are; and what
+//! it says that the command prints is what is stored.
 
 use std::env;
 use std::fs;
@@ -58,4 +59,26 @@ fn readme_shows_them() {
         let text = fs::read_to_string(root.join(file)).expect("an example");
         assert!(readme.contains(&format!("```{language}\n{text}```\n")), "README.md doesn't show {file} as it is");
     }
+}
+
+/// What README.md says that a command prints: the block behind the one with the command alone.
+fn printed<'a>(readme: &'a str, command: &str) -> &'a str {
+    let (_, behind) = readme.split_once(&format!("```\n{command}\n```\n```\n")).expect(command);
+    behind.split_once("```\n").expect("the block ends").0
+}
+
+/// The gate compares the stored texts with what the programs print.
+#[test]
+fn readme_shows_what_is_printed() {
+    let root = root();
+    let read = |path: &str| fs::read_to_string(root.join(path)).expect(path);
+    let readme = read("README.md");
+    assert_eq!(printed(&readme, "./goadlotus list samples/m1.domain"), read("samples/m1.listing"));
+    assert_eq!(printed(&readme, "./goadlotus play samples/m1.domain samples/m12.run"), read("samples/m12.played"));
+    let explained = read("crates/explain_samples/stdout");
+    let m5 = explained.split_once("m5\n").and_then(|(_, m5)| m5.split_once("m6\n")).expect("M5, then M6").0;
+    assert_eq!(printed(&readme, "./goadlotus explain samples/m5.domain"), m5);
+    // it is the same file
+    let bytes = |path: &str| fs::read(root.join(path)).expect(path);
+    assert_eq!(bytes("crates/explain_samples/data/m5"), bytes("samples/m5.domain"));
 }
