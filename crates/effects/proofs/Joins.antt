@@ -3,11 +3,13 @@ use mathlib.Core.Path.{_≡_, refl, sym, ap, ap₂, _∙_}
 use mathlib.Core.Bool.{Bool, true, false, _&&_, _||_, not, cond}
 use mathlib.Core.Logic.{_⊎_, inl, inr}
 use mathlib.Core.List.{List, [], _∷_, _++_, map, append-nil, append-assoc, List·Memᴰ·head, List·Memᴰ·tail}
-use Prim.Native.Nat.{ℕ}
+use Prim.Native.Nat.{ℕ, suc, _+_, _≤_}
+use native.Mathlib.Omega.{arith}
 use lib.Dec.{eqb}
+use lib.ListN.{length}
 use borrow.Author.Tests.{eqb-true}
-use Rattle.records.specs.Lists.{In, keepIf, filterBy, sameList, elem, dedup}
-use Rattle.records.proofs.Lists.{bool-cases, off, clash, eqb-same, sameList-eq, sameList-self, in-elem, elem-in, in-dedup, dedup-in, filter-append, any-append}
+use Rattle.records.specs.Lists.{In, addIf, keepIf, filterBy, countBy, all, sameList, elem, distinct, dedup}
+use Rattle.records.proofs.Lists.{bool-cases, off, clash, eqb-same, sameList-eq, sameList-self, in-elem, elem-in, in-dedup, dedup-in, filter-append, any-append, count-append, count-pos, count-none, single-count}
 use Rattle.classes.proofs.Indices.{filter-filter, filter-map}
 use Rattle.store.specs.Rows.{hasRow}
 use Rattle.effects.specs.Effects.{joinRow, joinRows}
@@ -110,6 +112,38 @@ module _ {A : Type 0} (eq : A → A → Bool) (sound : (a b : A) → eq a b ≡ 
       ∙ filter-agree (λ a. not (elem eq a xs)) (λ a. not (elem eq a xs′)) (dedup eq ys′) (λ a m. ap not (same-elem xs xs′ e a)))
       ∙ sym (dedup-append xs′ ys′)
 
+  -- one of each pair of tests passes
+  count-either : (p q : A → Bool) (l : List A) → countBy (λ a. p a || q a) l ≤ countBy p l + countBy q l
+  count-either p q [] = omega arith
+  count-either p q (x ∷ xs) = go (p x) (q x) (count-either p q xs)
+    where
+      go : (b c : Bool) → countBy (λ a. p a || q a) xs ≤ countBy p xs + countBy q xs
+          → addIf (b || c) (countBy (λ a. p a || q a) xs) ≤ addIf b (countBy p xs) + addIf c (countBy q xs)
+      go true true h = omega arith
+      go true false h = omega arith
+      go false true h = omega arith
+      go false false h = h
+
+  -- where no element stands twice, no more of them are among some others than there are others
+  count-among : (l others : List A) → distinct eq l ≡ true → countBy (λ a. elem eq a others) l ≤ length others
+  count-among l [] o = let z = count-none (λ (a : A). false) l (λ a m t. clash t refl) in omega arith
+  count-among l (x ∷ xs) o =
+      let e = count-either (λ a. eq a x) (λ a. elem eq a xs) l in
+      let s = single-count (λ a. eq a x) eq self l o (λ a b m n s t. sound a x s ∙ sym (sound b x t)) in
+      let r = count-among l xs o in
+      omega arith
+
+  -- so once as many are found as there are others, no later one is among them
+  pub none-left : (xs ys others : List A) → distinct eq (xs ++ ys) ≡ true → length others ≤ countBy (λ a. elem eq a others) xs
+      → (a : A) → In a ys → elem eq a others ≡ false
+  none-left xs ys others o h a m =
+      off (elem eq a others)
+      (λ t.
+      let c = count-append (λ (b : A). elem eq b others) xs ys in
+      let p = count-pos (λ (b : A). elem eq b others) m t in
+      let r = count-among (xs ++ ys) others o in
+      omega arith)
+
 -- a map, before which repeats may be left out
 module _ {A B : Type 0} (f : A → B) (eq : A → A → Bool) (sound : (a b : A) → eq a b ≡ true → a ≡ b)
     (eq′ : B → B → Bool) (sound′ : (a b : B) → eq′ a b ≡ true → a ≡ b) (self′ : (b : B) → eq′ b b ≡ true) where
@@ -157,12 +191,22 @@ module _ {A B : Type 0} (f : A → B) (eq : A → A → Bool) (eq′ : B → B �
       (filter-agree (λ a. not (eq′ (f x) (f a))) (λ a. not (eq x a)) (dedup eq xs)
       (λ a m. ap not (h x a (List·Memᴰ·head refl) (List·Memᴰ·tail (dedup-in eq xs m))))))
 
+  all-other : (x : A) (l : List A) → ((b : A) → In b l → eq′ (f x) (f b) ≡ eq x b) → all (λ b. not (eq′ (f x) b)) (map f l) ≡ all (λ a. not (eq x a)) l
+  all-other x [] h = refl
+  all-other x (y ∷ ys) h = ap₂ _&&_ (ap not (h y (List·Memᴰ·head refl))) (all-other x ys (λ b m. h b (List·Memᴰ·tail m)))
+
+  -- an element stands twice where its image does
+  pub distinct-map : (l : List A) → ((a b : A) → In a l → In b l → eq′ (f a) (f b) ≡ eq a b) → distinct eq′ (map f l) ≡ distinct eq l
+  distinct-map [] h = refl
+  distinct-map (x ∷ xs) h =
+      ap₂ _&&_ (all-other x xs (λ b m. h x b (List·Memᴰ·head refl) (List·Memᴰ·tail m))) (distinct-map xs (λ a b m n. h a b (List·Memᴰ·tail m) (List·Memᴰ·tail n)))
+
 -- ---- rows that join
 
-row-sound : (x y : List ℕ) → sameList eqb x y ≡ true → x ≡ y
+pub row-sound : (x y : List ℕ) → sameList eqb x y ≡ true → x ≡ y
 row-sound = sameList-eq eqb eqb-true
 
-row-self : (x : List ℕ) → sameList eqb x x ≡ true
+pub row-self : (x : List ℕ) → sameList eqb x x ≡ true
 row-self = sameList-self eqb eqb-same
 
 -- those that join stand behind, each once

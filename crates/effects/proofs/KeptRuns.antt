@@ -5,20 +5,22 @@ use mathlib.Core.Logic.{_⊎_, inl, inr}
 use mathlib.Core.List.{List, [], _∷_, _++_, append-nil, append-assoc}
 use Prim.Native.Nat.{ℕ, zero, suc, _+_, _-_, _*_, _≤_, _<_}
 use native.Mathlib.Omega.{arith}
-use lib.Dec.{ltb}
+use lib.Dec.{eqb, ltb}
 use lib.ListN.{length, getD, take, drop, length-drop}
 use lib.Seq.{drop-drop, paste}
 use borrow.Author.Tests.{ltb-true, ltb-false}
+use Rattle.records.specs.Lists.{In, sameList}
 use Rattle.records.specs.Memory.{over}
-use Rattle.records.proofs.Lists.{bool-cases, flatMap-append}
+use Rattle.records.proofs.Lists.{bool-cases, getD-in, count-filter, count-not, flatMap-append}
 use Rattle.records.proofs.Memory.{over-paste}
 use Rattle.literals.specs.Table.{rowsIn}
 use Rattle.literals.proofs.Rows.{rows-last, rows-whole}
-use Rattle.classes.proofs.KeyRows.{length-rows}
+use Rattle.classes.proofs.KeyRows.{length-rows, rows-at}
 use Rattle.store.specs.Rows.{hasRow}
 use Rattle.store.specs.Index.{Indexed}
-use Rattle.effects.specs.Effects.{FirstStruck, flat}
-use Rattle.effects.proofs.FilledRows.{rows-rest, flat-rows, length-whole, rows-own, Filled, filled-length, filled-more, kept-in, left-count, left-rows, keptOf, kept-next}
+use Rattle.effects.specs.Effects.{Once, struckOf, FirstStruck, flat}
+use Rattle.effects.proofs.Joins.{none-left, row-sound, row-self}
+use Rattle.effects.proofs.FilledRows.{rows-rest, flat-rows, length-whole, rows-own, Filled, filled-length, filled-more, stays, kept-in, left-count, left-rows, keptOf, kept-next}
 use Rattle.effects.proofs.IndexedRows.{left-indexed, Keeping, keeping-more}
 
 -- ---- the first struck row
@@ -31,6 +33,41 @@ others-more struck work from i h e j a b = go (bool-cases (ltb j i))
     go : (ltb j i ≡ true) ⊎ (ltb j i ≡ false) → hasRow (take 8 (drop (8 * j) work)) struck ≡ false
     go (inl l) = h j a (ltb-true j i l)
     go (inr l) = let g = ltb-false j i l in let q : j ≡ i = omega arith in ap (λ (k : ℕ). hasRow (take 8 (drop (8 * k) work)) struck) q ∙ e
+
+-- ---- all that are struck are gone
+
+-- a row behind the first ones is one of the rest
+later-row : (work : List ℕ) (n from j : ℕ) → from ≤ j → j < n → In (take 8 (drop (8 * j) work)) (rowsIn (n - from) (drop (8 * from) work))
+later-row work n from j a b =
+    let e : 8 * from + 8 * (j - from) ≡ 8 * j = omega arith in
+    let l = length-rows (n - from) (drop (8 * from) work) in
+    subst (λ (row : List ℕ). In row (rowsIn (n - from) (drop (8 * from) work)))
+    (rows-at (n - from) (drop (8 * from) work) (j - from) [] (omega arith)
+    ∙ ap (take 8) (drop-drop (8 * (j - from)) (8 * from) work ∙ ap (λ (k : ℕ). drop k work) e))
+    (getD-in (rowsIn (n - from) (drop (8 * from) work)) (j - from) [] (omega arith))
+
+-- no row stands twice, and as many are gone as are struck: none of the rest is struck
+pub all-gone : (struck : List (List ℕ)) (work : List ℕ) (n from : ℕ) → from ≤ n → Once (rowsIn n work) → length struck ≤ struckOf struck work from → FirstStruck struck work n from n
+all-gone struck work n from h o g =
+    record {
+      behind = h;
+      within = omega arith;
+      others =
+          λ j a b.
+          none-left (sameList eqb) row-sound row-self (rowsIn from work) (rowsIn (n - from) (drop (8 * from) work)) struck
+          (subst Once (rows-rest n from work h) o) g (take 8 (drop (8 * j) work)) (later-row work n from j a b);
+      found = λ l. absurd (omega arith);
+    }
+
+-- those that are not kept are gone
+pub gone-count : {struck : List (List ℕ)} {work : List ℕ} {n keys : ℕ} {parts : List (List ℕ)} {out₀ index₀ out index : List ℕ} {k i : ℕ} → Keeping struck work n keys parts out₀ index₀ out index k i
+    → i - k ≡ struckOf struck work i
+gone-count {struck} {work} {i = i} K =
+    let c = K .filled .count in
+    let f = count-filter (stays struck) (rowsIn i work) in
+    let s = count-not (λ (row : List ℕ). hasRow row struck) (rowsIn i work) in
+    let l = length-rows i work in
+    omega arith
 
 -- ---- a run of rows
 

@@ -1,13 +1,13 @@
 -- The facts after a step: the rows that are kept and then joined are those of the machine's `factsAfter`. Assumes nothing.
 use mathlib.Core.Path.{_≡_, refl, sym, ap, ap₂, _∙_, subst}
-use mathlib.Core.Bool.{not}
+use mathlib.Core.Bool.{true, not}
 use mathlib.Core.List.{List, [], _∷_, _++_, map, flatMap, map-append, append-assoc}
 use Prim.Native.Nat.{ℕ, zero, suc, _+_, _-_, _*_, _≤_}
 use native.Mathlib.Omega.{arith}
 use lib.Dec.{eqb}
 use lib.ListN.{length, take, replicate, length-map}
 use lib.Seq.{take-all, take-append-add}
-use Rattle.records.specs.Lists.{filterBy, sameList, elem, dedup}
+use Rattle.records.specs.Lists.{filterBy, sameList, elem, distinct, dedup}
 use Rattle.records.specs.Memory.{over}
 use Rattle.records.proofs.Lists.{filter-in}
 use Rattle.records.proofs.Memory.{drop-replicate}
@@ -19,9 +19,9 @@ use Rattle.verdict.specs.Machine.{Event, stepFacts, factsAfter}
 use Rattle.store.specs.Index.{Sized, Indexed}
 use Rattle.runs.specs.Play.{heldBytes}
 use Rattle.store.specs.Rows.{factRow}
-use Rattle.effects.specs.Effects.{joinRows, atMost, flat, stepEffects}
+use Rattle.effects.specs.Effects.{joinRows, Once, atMost, flat, stepEffects, HoldsAfter}
 use Rattle.events.proofs.FactRows.{same-row}
-use Rattle.effects.proofs.Joins.{filter-agree, outside-map, dedup-map, joined-rows}
+use Rattle.effects.proofs.Joins.{filter-agree, outside-map, dedup-map, distinct-map, joined-rows}
 use Rattle.literals.proofs.Rows.{rows-whole}
 use Rattle.effects.proofs.FilledRows.{fill-again, Filled, filled-rows, stays, keptOf, kept-few, behind, most-inside}
 use Rattle.effects.proofs.EffectRows.{step-once, step-elem}
@@ -31,6 +31,10 @@ use Rattle.effects.proofs.EffectRows.{step-once, step-elem}
 -- those not among some others
 outside : (fs gs : List Fact) → filterBy (stays (map factRow gs)) (map factRow fs) ≡ map factRow (filterBy (λ (f : Fact). not (elem sameFact f gs)) fs)
 outside fs gs = outside-map factRow sameFact (sameList eqb) fs gs (λ f g m k. same-row f g)
+
+-- facts that stand once have rows that stand once
+pub once-facts : (fs : List Fact) → distinct sameFact fs ≡ true → Once (map factRow fs)
+once-facts fs o = distinct-map factRow sameFact (sameList eqb) fs (λ f g m k. same-row f g) ∙ o
 
 -- facts that join others
 joined-facts : (fs gs : List Fact) → joinRows (map factRow fs) (map factRow gs) ≡ map factRow (fs ++ filterBy (λ (f : Fact). not (elem sameFact f fs)) (dedup sameFact gs))
@@ -126,7 +130,7 @@ module _ {keys : ℕ} {parts : List (List ℕ)} {struck work adds : List ℕ} {m
     after-rows : joinRows (rowsIn kept out₁) (rowsIn k adds) ≡ map factRow (factsAfter D fs es)
     after-rows = ap₂ joinRows (filled-rows filled ∙ kept-rows) t ∙ after-facts D fs es
 
-    pub after-kept : kept ≡ length (filterBy (λ (f : Fact). not (elem sameFact f (stepFacts D es Delete))) fs)
+    after-kept : kept ≡ length (filterBy (λ (f : Fact). not (elem sameFact f (stepFacts D es Delete))) fs)
     after-kept = X .keptCount ∙ ap length kept-rows ∙ length-map (keptFacts D fs es) factRow
 
     module _ (arities : List ℕ) (I : Indexed arities keys parts index₀ (map factRow fs)) (S : Sized arities (map factRow (stepEffects D es Add))) where
@@ -136,10 +140,10 @@ module _ {keys : ℕ} {parts : List (List ℕ)} {struck work adds : List ℕ} {m
       added-sized : Sized arities (rowsIn k adds)
       added-sized = subst (Sized arities) (sym t) S
 
-      pub after-count : facts ≡ atMost 1024 (length (factsAfter D fs es))
+      after-count : facts ≡ atMost 1024 (length (factsAfter D fs es))
       after-count = X .joinedCount arities kept-held added-sized ∙ ap (atMost 1024) (ap length after-rows ∙ length-map (factsAfter D fs es) factRow)
 
-      pub after-written : out₂ ≡ over (factBytes (take 1024 (factsAfter D fs es))) out₀
+      after-written : out₂ ≡ over (factBytes (take 1024 (factsAfter D fs es))) out₀
       after-written =
           let q = kept-few (rowsIn m struck) work n in
           let a = X .small in
@@ -151,14 +155,17 @@ module _ {keys : ℕ} {parts : List (List ℕ)} {struck work adds : List ℕ} {m
           ∙ ap (λ (l : List (List ℕ)). over (flat l) out₀) (sym first ∙ ap (take 1024) after-rows ∙ take-map factRow 1024 (factsAfter D fs es))
           ∙ ap (λ (l : List ℕ). over l out₀) (fact-bytes (take 1024 (factsAfter D fs es)))
 
-      pub after-held : out₀ ≡ replicate 8192 0 → length (factsAfter D fs es) ≤ 1024 → out₂ ≡ heldBytes (factsAfter D fs es)
+      after-held : out₀ ≡ replicate 8192 0 → length (factsAfter D fs es) ≤ 1024 → out₂ ≡ heldBytes (factsAfter D fs es)
       unfolding heldBytes
       after-held x y =
           after-written
           ∙ ap₂ (λ (l : List Fact) (x : List ℕ). over (factBytes l) x) (take-all 1024 (factsAfter D fs es) y) x
           ∙ over-zeros 8192 (factBytes (factsAfter D fs es))
 
-      pub after-indexed : length (factsAfter D fs es) ≤ 1024 → Indexed arities keys parts index₂ (map factRow (factsAfter D fs es))
+      after-indexed : length (factsAfter D fs es) ≤ 1024 → Indexed arities keys parts index₂ (map factRow (factsAfter D fs es))
       after-indexed y =
           let c : facts ≡ length (factsAfter D fs es) = after-count ∙ sym (most-inside (length (factsAfter D fs es)) y) in
           subst (Indexed arities keys parts index₂) after-rows (X .joinedIndexed arities kept-held added-sized (omega arith))
+
+      pub holds-after : HoldsAfter D fs es arities keys parts out₀ (record { kept = kept; facts = facts }) out₂ index₂
+      holds-after = record { kept = after-kept; facts = after-count; written = after-written; held = after-held; indexed = after-indexed }

@@ -1,20 +1,28 @@
 -- What a step adds and strikes, by the rows of its events' literals. Assumes nothing.
 use mathlib.Core.Path.{_≡_}
-use mathlib.Core.Bool.{true, false, _&&_, _||_, cond}
+use mathlib.Core.Bool.{true, false, _&&_, _||_, not, cond}
 use mathlib.Core.List.{List, [], _∷_, _++_, map, flatMap}
 use Prim.Native.Nat.{ℕ, suc, _*_, _≤_, _<_}
 use lib.Dec.{eqb, ltb}
-use lib.ListN.{getD, take, drop}
-use Rattle.records.specs.Lists.{In, filterBy}
+use lib.ListN.{length, getD, take, drop, replicate}
+use Rattle.records.specs.Lists.{In, filterBy, countBy, sameList, elem, distinct}
+use Rattle.records.specs.Memory.{over}
 use Rattle.literals.specs.declared.Time.{Time}
 use Rattle.literals.specs.declared.Clause.{Clause}
-use Rattle.literals.specs.Domain.{Fact, Domain, action}
+use Rattle.literals.specs.declared.Clause.the-variants.{Delete}
+use Rattle.literals.specs.Domain.{Fact, sameFact, Domain, action}
 use Rattle.literals.specs.Decode.{byte}
+use Rattle.literals.specs.Table.{rowsIn}
 use Rattle.classes.specs.Classes.{own, endsOverAll, overAll, withRole}
 use Rattle.verdict.specs.Binding.{bind}
-use Rattle.verdict.specs.Machine.{Event}
-use Rattle.store.specs.Rows.{hasRow}
+use Rattle.verdict.specs.Judged.{factBytes}
+use Rattle.verdict.specs.Machine.{Event, stepFacts, factsAfter}
+use Rattle.runs.specs.Play.{maxEvents, heldBytes}
+use Rattle.store.specs.Index.{Indexed}
+use Rattle.store.specs.Rows.{factRow, hasRow}
+use Rattle.events.specs.declared.Waiting.{Waiting}
 use Rattle.events.specs.Coded.{boundRow, clauseFor}
+use Rattle.effects.specs.declared.After.{After}
 
 -- ---- effects, by rows
 
@@ -30,6 +38,14 @@ joinRow rows row = cond (hasRow row rows) rows (rows ++ (row ∷ []))
 abbrev pub joinRows : List (List ℕ) → List (List ℕ) → List (List ℕ)
 joinRows rows [] = rows
 joinRows rows (row ∷ more) = joinRows (joinRow rows row) more
+
+-- no row stands twice
+abbrev pub Once : List (List ℕ) → Type 0
+Once rows = distinct (sameList eqb) rows ≡ true
+
+-- how many of the first n rows of a memory are one of these
+abbrev pub struckOf : List (List ℕ) → List ℕ → ℕ → ℕ
+struckOf struck work n = countBy (λ (row : List ℕ). hasRow row struck) (rowsIn n work)
 
 -- of the first n rows of a memory, the first from a row on that is one of these; n where there is none
 pub record FirstStruck (struck : List (List ℕ)) (work : List ℕ) (n from r : ℕ) : Type 0 where
@@ -61,3 +77,15 @@ eventEffects D e c = map (bind (e .ground .binding)) (withRole (λ r. own (e .mo
 unfoldable pub stepEffects : Domain → List Event → Clause → List Fact
 unfolding eventEffects flatMap
 stepEffects D es c = flatMap (λ e. eventEffects D e c) es
+
+-- room for them: 64 rows of 8 bytes for each event
+abbrev pub RoomFor : Waiting → List ℕ → Type 0
+RoomFor w out = w .count ≤ maxEvents → 512 * w .count ≤ length out
+
+-- what a step leaves of facts, in a memory that was `old` before: how many are kept and how many there are then, their bytes, and their index
+pub record HoldsAfter (D : Domain) (fs : List Fact) (es : List Event) (arities : List ℕ) (keys : ℕ) (parts : List (List ℕ)) (old : List ℕ) (r : After) (out index : List ℕ) : Type 0 where
+  pub kept : r .kept ≡ length (filterBy (λ (f : Fact). not (elem sameFact f (stepFacts D es Delete))) fs)
+  pub facts : r .facts ≡ atMost 1024 (length (factsAfter D fs es))
+  pub written : out ≡ over (factBytes (take 1024 (factsAfter D fs es))) old
+  pub held : old ≡ replicate 8192 0 → length (factsAfter D fs es) ≤ 1024 → out ≡ heldBytes (factsAfter D fs es)
+  pub indexed : length (factsAfter D fs es) ≤ 1024 → Indexed arities keys parts index (map factRow (factsAfter D fs es))

@@ -32,7 +32,7 @@ ghost use Rattle.store.specs.Index.{Sized, Indexed};
 ghost use Rattle.runs.specs.Play.{heldBytes};
 ghost use Rattle.store.specs.Rows.{factRow, hasRow};
 ghost use Rattle.events.specs.Coded.{groundRow, waitingOf, GroundFits, EventsFit, Lent, Ready, timeOf};
-ghost use Rattle.effects.specs.Effects.{FirstStruck, Marked, effectRows, joinRow, joinRows, atMost, flat, eventEffects, stepEffects};
+ghost use Rattle.effects.specs.Effects.{Once, struckOf, FirstStruck, Marked, RoomFor, HoldsAfter, effectRows, joinRow, joinRows, atMost, flat, eventEffects, stepEffects};
 
 // A row behind the first n.
 fn put_row(out: &mut [u8], n: usize, row: [u8; 8])
@@ -69,11 +69,23 @@ fn is_struck(work: &[u8], at: usize, marks: &[u8], struck: &[u8], m: usize) -> b
     has_row(struck, m, row_at(work, at))
 }
 
-// The first struck row of the work memory from a row on, of n; n where there is none.
-fn struck_from(work: &[u8], n: usize, from: usize, marks: &[u8], struck: &[u8], m: usize) -> usize
-    requires { ⌜ (n ≤ 1024) × (8 * n ≤ length (now work)) × (from ≤ n) × (length (now marks) ≡ 256) × (8 * m ≤ length (now struck)) × Marked (now marks) (rowsIn m (now struck)) ⌝ }
+// The first struck row of the work memory from a row on, of n; n where there is none. No row stands twice, so none is left to find once as many are gone as are struck.
+fn struck_from(
+    work: &[u8],
+    n: usize,
+    from: usize,
+    gone: usize,
+    marks: &[u8],
+    struck: &[u8],
+    m: usize,
+) -> usize
+    requires { ⌜ (n ≤ 1024) × (8 * n ≤ length (now work)) × (from ≤ n) × (length (now marks) ≡ 256) × (8 * m ≤ length (now struck)) × Marked (now marks) (rowsIn m (now struck))
+        × Once (rowsIn n (now work)) × (gone ≡ struckOf (rowsIn m (now struck)) (now work) from) ⌝ }
     ensures { λ r. ⌜ FirstStruck (rowsIn m (now (struck .entry))) (now (work .entry)) n from r ⌝ }
 {
+    if m <= gone {
+        return n;
+    }
     let mut i = from;
     while i < n {
         if is_struck(work, 8 * i, marks, struck, m) {
@@ -97,7 +109,7 @@ fn keep_rows(
     keys: usize,
 ) -> usize
     requires { ⌜ (n ≤ 1024) × (8 * n ≤ length (now work)) × (8 * m ≤ length (now struck)) × (8 * n ≤ length (now out))
-        × (length (now index) ≡ 12289) × (8 * components ≤ length (now parts)) × (keys ≤ 6) ⌝ }
+        × (length (now index) ≡ 12289) × (8 * components ≤ length (now parts)) × (keys ≤ 6) × Once (rowsIn n (now work)) ⌝ }
     ensures count { λ r. ⌜ r ≡ length (filterBy (λ (row : List ℕ). not (hasRow row (rowsIn m (now (struck .entry))))) (rowsIn n (now (work .entry)))) ⌝ }
     ensures rows { λ _. ⌜ now (out .exit) ≡ over (flat (filterBy (λ (row : List ℕ). not (hasRow row (rowsIn m (now (struck .entry))))) (rowsIn n (now (work .entry))))) (now (out .entry)) ⌝ }
     ensures indexed { λ _. ⌜ ((arities : List ℕ)
@@ -110,7 +122,7 @@ fn keep_rows(
     let mut i = 0;
     // Most rows stay, so those between two struck ones are put at once.
     loop {
-        let next = struck_from(work, n, i, &marks, struck, m);
+        let next = struck_from(work, n, i, i - k, &marks, struck, m);
         let from = 8 * i;
         let to = 8 * next;
         put_bytes(out, 8 * k, &work[from..to]);
@@ -307,7 +319,7 @@ fn event_effects(
     )
 }
 
-// Those of every waiting event, in order, at the front of out: what the step adds (clause 3) or strikes (clause 4).
+// Those of every waiting event, in order, at the front of out: what the step adds (clause 3) or strikes (clause 4). An event has at most 64.
 fn step_effects(
     counts: Counts,
     arities: &[u8],
@@ -317,8 +329,8 @@ fn step_effects(
     clause: u8,
     out: &mut [u8],
 ) -> usize
-    requires { ⌜ Ready counts (now arities) (now starts) (now table) × (length (now out) ≡ 8192) ⌝ }
-    ensures few { λ r. ⌜ r ≤ 1024 ⌝ }
+    requires { ⌜ Ready counts (now arities) (now starts) (now table) × RoomFor waiting (now out) ⌝ }
+    ensures few { λ r. ⌜ (r ≤ 1024) × (8 * r ≤ length (now (out .entry))) ⌝ }
     ensures effects { λ r. ⌜ ((D : Domain) (variables sorts parts : List ℕ) (es : List Event) (c : Clause)
         → Lent D counts (now (arities .entry)) variables sorts (now (starts .entry)) parts (now (table .entry)) → waiting ≡ waitingOf es → EventsFit D es → length es ≤ 16
         → clause ≡ suc (clauseNumber c)
@@ -354,6 +366,56 @@ pub struct After {
     pub facts: usize,
 }
 
+// The facts after the waiting events, as below, with room for their effects: what is struck is done with before what is added is written.
+fn facts_in(
+    counts: Counts,
+    arities: &[u8],
+    starts: &[usize],
+    table: &[u8],
+    waiting: Waiting,
+    work: &[u8],
+    n: usize,
+    out: &mut [u8],
+    parts: &[u8],
+    index: &mut [u64],
+    effects: &mut [u8],
+) -> After
+    requires { ⌜ Ready counts (now arities) (now starts) (now table) × (n ≤ 1024) × (8 * n ≤ length (now work)) × (length (now out) ≡ 8192)
+        × (length (now parts) ≡ 128) × (counts .components ≤ 16) × (counts .keys ≤ 6) × (length (now index) ≡ 12289) × Once (rowsIn n (now work)) × RoomFor waiting (now effects) ⌝ }
+    ensures few { λ r. ⌜ (r .kept ≤ n) × (r .kept ≤ r .facts) × (r .facts ≤ 1025) ⌝ }
+    ensures after { λ r. ⌜ ((D : Domain) (variables sorts components : List ℕ) (es : List Event) (fs : List Fact)
+        → Lent D counts (now (arities .entry)) variables sorts (now (starts .entry)) components (now (table .entry)) → waiting ≡ waitingOf es → EventsFit D es → length es ≤ 16
+        → rowsIn n (now (work .entry)) ≡ map factRow fs
+        → Indexed (now (arities .entry)) (counts .keys) (rowsIn (counts .components) (now (parts .entry))) (now (index .entry)) (map factRow fs)
+        → HoldsAfter D fs es (now (arities .entry)) (counts .keys) (rowsIn (counts .components) (now (parts .entry))) (now (out .entry)) r (now (out .exit)) (now (index .exit))) ⌝ }
+    ensures beside { λ _. ⌜ getD (now (index .exit)) 12288 0 ≡ getD (now (index .entry)) 12288 0 ⌝ }
+{
+    let m = step_effects(counts, arities, starts, table, waiting, 4, effects);
+    let kept = keep_rows(
+        work,
+        n,
+        effects,
+        m,
+        out,
+        index,
+        parts,
+        counts.components,
+        counts.keys,
+    );
+    let k = step_effects(counts, arities, starts, table, waiting, 3, effects);
+    let facts = join_rows(
+        effects,
+        k,
+        out,
+        kept,
+        index,
+        parts,
+        counts.components,
+        counts.keys,
+    );
+    After { kept, facts }
+}
+
 // The facts after the waiting events, at the front of out: the first n rows of the work memory without those that a delete strikes, then what is added, each fact once; not beyond 1,024 facts.
 pub fn facts_after(
     counts: Counts,
@@ -368,7 +430,7 @@ pub fn facts_after(
     index: &mut [u64],
 ) -> After
     requires { ⌜ Ready counts (now arities) (now starts) (now table) × (n ≤ 1024) × (8 * n ≤ length (now work)) × (length (now out) ≡ 8192)
-        × (length (now parts) ≡ 128) × (counts .components ≤ 16) × (counts .keys ≤ 6) × (length (now index) ≡ 12289) ⌝ }
+        × (length (now parts) ≡ 128) × (counts .components ≤ 16) × (counts .keys ≤ 6) × (length (now index) ≡ 12289) × Once (rowsIn n (now work)) ⌝ }
     ensures few { λ r. ⌜ (r .kept ≤ n) × (r .kept ≤ r .facts) × (r .facts ≤ 1025) ⌝ }
     ensures counted { λ r. ⌜ ((D : Domain) (variables sorts components : List ℕ) (es : List Event) (fs : List Fact)
         → Lent D counts (now (arities .entry)) variables sorts (now (starts .entry)) components (now (table .entry)) → waiting ≡ waitingOf es → EventsFit D es → length es ≤ 16
@@ -394,30 +456,35 @@ pub fn facts_after(
         → Indexed (now (arities .entry)) (counts .keys) (rowsIn (counts .components) (now (parts .entry))) (now (index .exit)) (map factRow (factsAfter D fs es))) ⌝ }
     ensures beside { λ _. ⌜ getD (now (index .exit)) 12288 0 ≡ getD (now (index .entry)) 12288 0 ⌝ }
 {
-    let mut struck = [0u8; 8192];
-    let m = step_effects(counts, arities, starts, table, waiting, 4, &mut struck);
-    let mut adds = [0u8; 8192];
-    let k = step_effects(counts, arities, starts, table, waiting, 3, &mut adds);
-    let kept = keep_rows(
+    // Most steps have one event, and a small array is cleared sooner.
+    if waiting.count <= 1 {
+        let mut effects = [0u8; 512];
+        return facts_in(
+            counts,
+            arities,
+            starts,
+            table,
+            waiting,
+            work,
+            n,
+            out,
+            parts,
+            index,
+            &mut effects,
+        );
+    }
+    let mut effects = [0u8; 8192];
+    facts_in(
+        counts,
+        arities,
+        starts,
+        table,
+        waiting,
         work,
         n,
-        &struck,
-        m,
         out,
-        index,
         parts,
-        counts.components,
-        counts.keys,
-    );
-    let facts = join_rows(
-        &adds,
-        k,
-        out,
-        kept,
         index,
-        parts,
-        counts.components,
-        counts.keys,
-    );
-    After { kept, facts }
+        &mut effects,
+    )
 }

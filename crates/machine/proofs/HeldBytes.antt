@@ -1,5 +1,5 @@
 -- The bytes of facts in work memory: rows of 8, zeros to 8,192, the rest untouched. Assumes nothing.
-use mathlib.Core.Path.{_≡_, refl, sym, ap, _∙_}
+use mathlib.Core.Path.{_≡_, refl, sym, ap, _∙_, subst}
 use mathlib.Core.List.{List, [], _∷_, _++_, map, flatMap, append-assoc}
 use Prim.Native.Nat.{ℕ, _+_, _-_, _*_, _≤_}
 use native.Mathlib.Omega.{arith}
@@ -18,6 +18,8 @@ use Rattle.runs.specs.Play.{workBytes, maxFacts, heldBytes}
 use Rattle.store.specs.Rows.{factRow, Few, FactFits}
 use Rattle.machine.specs.Stepping.{holdingOf, Kept}
 use Rattle.events.proofs.FactRows.{length-fact-row}
+use Rattle.effects.specs.Effects.{Once}
+use Rattle.effects.proofs.StepFacts.{once-facts}
 
 -- facts of the domain have room in a row
 pub fits-few : {D : Domain} → Bounded D → (fs : List Fact) → ((f : Fact) → In f fs → FactFits D f) → Few fs
@@ -76,3 +78,8 @@ pub state-rows : (D : Domain) → Bounded D → (s : State) (es : List Event) �
     → rowsIn (holding .facts) work ≡ map factRow (s .facts)
 state-rows D B s es k holding is work old e =
     ap (λ (h : Holding). rowsIn (h .facts) work) is ∙ ap (rowsIn (length (s .facts))) e ∙ work-rows (s .facts) (fits-few B (s .facts) (k .facts)) (k .facts-few) old
+
+-- none of which stands twice
+pub state-once : (D : Domain) → Bounded D → (s : State) (es : List Event) → Kept D s es → (holding : Holding) → holding ≡ holdingOf s es → (work old : List ℕ) → work ≡ over (heldBytes (s .facts)) old
+    → Once (rowsIn (holding .facts) work)
+state-once D B s es k holding is work old e = subst Once (sym (state-rows D B s es k holding is work old e)) (once-facts (s .facts) (k .facts-once))

@@ -18,6 +18,7 @@ use Rattle.verdict.specs.Machine.{GroundAction, Event, State, eventFacts, facts
 use Rattle.verdict.proofs.Acts.{literalsAt-in}
 use Rattle.verdict.proofs.Steps.{After}
 use Rattle.verdict.proofs.Events.{after-in}
+use Rattle.verdict.proofs.Weight.{distinct-after}
 use Rattle.runs.specs.Play.{maxFacts, maxRunning, tooLarge}
 use Rattle.store.specs.Rows.{FactFits}
 use Rattle.events.specs.Coded.{GroundFits, GroundsFit, EventsFit}
@@ -68,6 +69,7 @@ kept-next D B s es k t =
     record {
       facts = facts-fit D B (s .facts) es (k .facts) (k .waiting);
       facts-few = ltb-false maxFacts (length (factsAfter D (s .facts) es)) (o .0);
+      facts-once = distinct-after D (s .facts) es (k .facts-once);
       running = running-fit D (s .running) es (k .running) (k .waiting);
       running-few = ltb-false maxRunning (length (closeAll es (s .running) ++ openedBy D es)) (o .1);
       waiting = λ e m. absurd (List·Memᴰ·not-nil m);

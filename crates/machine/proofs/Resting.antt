@@ -38,6 +38,7 @@ kept-none kept =
     record {
       facts = kept .facts;
       facts-few = kept .facts-few;
+      facts-once = kept .facts-once;
       running = kept .running;
       running-few = kept .running-few;
       waiting = λ e m. absurd (List·Memᴰ·not-nil m);

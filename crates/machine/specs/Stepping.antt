@@ -5,26 +5,29 @@ use mathlib.Core.List.{List, [], map}
 use Prim.Native.Nat.{ℕ, _≤_, max}
 use lib.Dec.{eqb}
 use lib.ListN.{length, getD}
-use Rattle.records.specs.Lists.{In, all}
+use Rattle.records.specs.Lists.{In, all, distinct}
 use Rattle.records.specs.Memory.{over}
 use Rattle.literals.specs.declared.Counts.{Counts}
-use Rattle.literals.specs.Domain.{Fact, Domain}
+use Rattle.literals.specs.Domain.{Fact, sameFact, Domain}
+use Rattle.literals.specs.Table.{rowsIn}
 use Rattle.verdict.specs.Machine.{Event, State, next, topWeight, overAllHold}
 use Rattle.store.specs.Index.{Indexed}
 use Rattle.machine.specs.declared.State.{State as Holding}
 use Rattle.runs.specs.Play.{maxFacts, maxRunning, maxEvents, workBytes, forbidden, tooLarge, heldBytes}
 use Rattle.store.specs.Rows.{factRow, FactFits}
 use Rattle.events.specs.Coded.{openOf, waitingOf, GroundsFit, EventsFit, Ready}
+use Rattle.effects.specs.Effects.{Once}
 
 -- ---- what the code holds
 
 abbrev pub holdingOf : State → List Event → Holding
 holdingOf s es = record { facts = length (s .facts); running = openOf (s .running); waiting = waitingOf es }
 
--- facts, entries and events of the domain, within the player's limits
+-- facts, entries and events of the domain, within the player's limits, and no fact twice
 pub record Kept (D : Domain) (s : State) (es : List Event) : Type 0 where
   pub facts : (f : Fact) → In f (s .facts) → FactFits D f
   pub facts-few : length (s .facts) ≤ maxFacts
+  pub facts-once : distinct sameFact (s .facts) ≡ true
   pub running : GroundsFit D (s .running)
   pub running-few : length (s .running) ≤ maxRunning
   pub waiting : EventsFit D es
@@ -45,6 +48,7 @@ pub record Closable (n : Counts) (arities sorts starts parts table : List ℕ) (
   pub components : n .components ≤ 16
   pub keys : n .keys ≤ 6
   pub facts : state .facts ≤ maxFacts
+  pub facts-once : Once (rowsIn (state .facts) work)
   pub running : state .running .count ≤ maxRunning
   pub waiting : state .waiting .count ≤ maxEvents
   pub room : workBytes ≤ length work

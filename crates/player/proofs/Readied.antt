@@ -7,6 +7,7 @@ use native.Mathlib.Omega.{arith}
 use lib.Dec.{ltb}
 use lib.ListN.{length, getD, length-map, List·getD-eq-default}
 use borrow.Author.Tests.{ltb-true, ltb-false}
+use Rattle.records.specs.Memory.{over}
 use Rattle.records.proofs.Lists.{getD-in}
 use Rattle.records.proofs.Memory.{length-over}
 use Rattle.literals.specs.declared.Counts.{Counts}
@@ -23,7 +24,7 @@ use Rattle.runs.specs.Play.{workBytes, maxFacts, Playing, begin, accepted, held
 use Rattle.events.specs.Coded.{openOf, waitingOf, Lent, Ready}
 use Rattle.machine.specs.Stepping.{holdingOf, Kept, Closable, Noted}
 use Rattle.player.specs.Player.{playerOf, Stands, Playable}
-use Rattle.machine.proofs.HeldBytes.{fits-few, length-held}
+use Rattle.machine.proofs.HeldBytes.{fits-few, length-held, state-once}
 use Rattle.player.proofs.Sound.{sound-begin}
 use Rattle.player.proofs.PlayTurns.{state-is, waiting-are}
 
@@ -66,10 +67,10 @@ module _ {D : Domain} {n : Counts} {arities variables sorts starts parts table :
         room = room;
       }
 
-  pub closable : 8 * n .rows ≤ length table → (s : State) (es : List Event) → Kept D s es → (h : Holding) → h ≡ holdingOf s es → (work : List ℕ) → workBytes ≤ length work
+  pub closable : 8 * n .rows ≤ length table → (s : State) (es : List Event) → Kept D s es → (h : Holding) → h ≡ holdingOf s es → (work old : List ℕ) → work ≡ over (heldBytes (s .facts)) old → workBytes ≤ length work
       → Closable n arities sorts starts parts table h work
   unfolding openOf waitingOf
-  closable room s es k h is work l =
+  closable room s es k h is work old m l =
       let f : h .facts ≡ length (s .facts) = ap (λ (x : Holding). x .facts) is in
       let r : h .running .count ≡ length (s .running) = ap (λ (x : Holding). x .running .count) is in
       let w : h .waiting .count ≡ length es = ap (λ (x : Holding). x .waiting .count) is in
@@ -83,6 +84,7 @@ module _ {D : Domain} {n : Counts} {arities variables sorts starts parts table :
         components = shape .components;
         keys = shape .keys;
         facts = omega arith;
+        facts-once = state-once D (L .held .bounded) s es k h is work old m;
         running = omega arith;
         waiting = omega arith;
         room = l;
@@ -159,7 +161,7 @@ module _ {n : Counts} {arities variables sorts starts parts table : List ℕ} {a
         let b : player .at ≡ P .reached .at = ap (λ (x : Player). x .at) (P .stands .is) in
         let s : begun .tally .steps ≡ begin (P .said) (P .reached) .tally .steps = ap (λ (x : Player). x .tally .steps) (here .is) in
         let k = here .sound .steps in (
-          closable lent (P .table-room) (P .reached .state) (P .reached .waiting) (here .sound .kept) (begun .state) (state-is (P .said) (begin (P .said) (P .reached)) here) work room-now,
+          closable lent (P .table-room) (P .reached .state) (P .reached .waiting) (here .sound .kept) (begun .state) (state-is (P .said) (begin (P .said) (P .reached)) here) work (P .old) (P .stands .memory) room-now,
           omega arith,
           omega arith,
           P .index-length,

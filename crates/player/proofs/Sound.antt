@@ -1,5 +1,5 @@
 -- What holds wherever playing stands: each record keeps it. Assumes nothing.
-use mathlib.Core.Path.{_≡_, refl}
+use mathlib.Core.Path.{_≡_, refl, ap}
 use mathlib.Core.Bool.{Bool, true, false, _&&_, _||_, not, cond, false≢true}
 use mathlib.Core.List.{List, [], _∷_, _++_, List·Memᴰ·not-nil}
 use Prim.Native.Nat.{ℕ, zero, suc, _+_, _≤_, _<_, max}
@@ -7,7 +7,7 @@ use native.Mathlib.Omega.{arith}
 use lib.Dec.{eqb, ltb, leb}
 use lib.ListN.{length, drop, length-map, length-append, length-drop}
 use borrow.Author.Tests.{eqb-true, ltb-false, leb-true, leb-false}
-use Rattle.records.specs.Lists.{In, elem}
+use Rattle.records.specs.Lists.{In, elem, distinct}
 use Rattle.records.specs.declared.Record.{Record}
 use Rattle.records.specs.declared.Record.the-variants.{Whole, Cut, End}
 use Rattle.records.specs.Record.{recordAt, payload}
@@ -19,6 +19,8 @@ use Rattle.literals.specs.Decode.{byte}
 use Rattle.literals.specs.Table.{Bounded}
 use Rattle.classes.specs.Classes.{momentNumber}
 use Rattle.verdict.specs.Machine.{Event, State, next, topWeight}
+use Rattle.verdict.proofs.Events.{not-fact}
+use Rattle.verdict.proofs.Weight.{distinct-append}
 use Rattle.runs.proofs.Stops.{eventTests}
 use Rattle.runs.specs.RunFile.{RunKind, objectsRecord, factRecord, eventRecord, stepRecord, endRecord, otherRecord, runKindOf, factOf, momentOf, eventOf}
 use Rattle.runs.specs.Play.{maxObjects, maxFacts, maxEvents, Tally, Playing, beforeRun, onward, PlayTurn, goOn, finish, outcomeAt, stopAt, begin, outside, objectsStop, withObjects, factStop, joined, withFact, eventStop, withEvent, forbidden, tooLarge, tallied, accepted, afterStep, closeStep, stepStop, endStop, withClose, unless, playRecord, playFound, playStep}
@@ -107,6 +109,7 @@ module _ (D : Domain) where
       record {
         facts = go (elem sameFact f (s .facts));
         facts-few = l;
+        facts-once = once (elem sameFact f (s .facts)) refl;
         running = k .running;
         running-few = k .running-few;
         waiting = k .waiting;
@@ -117,12 +120,19 @@ module _ (D : Domain) where
       go true g m = k .facts g m
       go false g m = in-snoc {P = FactFits D} (s .facts) f (k .facts) h g m
 
+      once : (t : Bool) → elem sameFact f (s .facts) ≡ t → distinct sameFact (cond t (s .facts) (s .facts ++ (f ∷ []))) ≡ true
+      once true e = k .facts-once
+      once false e =
+          distinct-append (s .facts) (f ∷ []) (k .facts-once) refl
+          (λ g m n. in-snoc {P = λ (x : Fact). In x (s .facts) → ⊥} [] f (λ x i. absurd (List·Memᴰ·not-nil i)) (not-fact f (s .facts) (ap not e)) g n m)
+
   kept-event : (s : State) (es : List Event) (e : Event) → Kept D s es → GroundFits D (e .ground) → length es < maxEvents → Kept D s (es ++ (e ∷ []))
   kept-event s es e k h l =
       let a = length-append es (e ∷ []) in
       record {
         facts = k .facts;
         facts-few = k .facts-few;
+        facts-once = k .facts-once;
         running = k .running;
         running-few = k .running-few;
         waiting = in-snoc {P = λ (d : Event). GroundFits D (d .ground)} es e (k .waiting) h;
@@ -283,6 +293,7 @@ module _ (D : Domain) where
             record {
               facts = λ f m. absurd (List·Memᴰ·not-nil m);
               facts-few = omega arith;
+              facts-once = refl;
               running = λ g m. absurd (List·Memᴰ·not-nil m);
               running-few = omega arith;
               waiting = λ e m. absurd (List·Memᴰ·not-nil m);

@@ -8,7 +8,7 @@ use borrow.Author.Needs.{needs}
 use Rattle.literals.specs.Table.{rowsIn}
 use Rattle.effects.proofs.FilledRows.{filled-length}
 use Rattle.effects.proofs.IndexedRows.{Keeping, keeping-begin, keeping-count, keeping-rows, keeping-indexed}
-use Rattle.effects.proofs.KeptRuns.{keeping-run, keeping-struck}
+use Rattle.effects.proofs.KeptRuns.{gone-count, keeping-run, keeping-struck}
 use Rattle.effects.proofs.keep_rows.Statement.{statement}
 use Rattle.effects.proofs.keep_rows.Tie as tie
 
@@ -26,6 +26,9 @@ loop-holds c =
     let a = c .before .before .before .before .before .before .args in
     keeping-begin (rowsIn (a .m) (a .struck .now)) (a .work .now) (a .n) (a .keys) (rowsIn (a .components) (a .parts .now)) (a .out .now) (a .index .now)
 
+sub-struck-from : tie.Need-sub-struck-from Inv-loop μ-loop
+sub-struck-from c = c .loop .inv .few
+
 slice-aggregate-struck-from : tie.Need-slice-aggregate-struck-from Inv-loop μ-loop
 slice-aggregate-struck-from c = search needs
 
@@ -33,7 +36,7 @@ struck-from-requires : tie.Need-struck-from-requires Inv-loop μ-loop
 struck-from-requires c κs =
     let p = c .before .before .before .before .before .before .before .before .pre in
     let g : 256 ≡ length (c .before .before .marks-of .result) = slice-aggregate-struck-from c in
-    (p .0, p .1, c .before .loop .inv .reach, sym g, p .2, c .before .before .marks-of .ensures)
+    (p .0, p .1, c .before .loop .inv .reach, sym g, p .2, c .before .before .marks-of .ensures, p .7, gone-count (c .before .loop .inv))
 
 mul-from : tie.Need-mul-from Inv-loop μ-loop
 mul-from c = let r = c .before .before .loop .inv .reach in let p = c .before .before .before .before .before .before .before .before .before .pre .0 in omega arith
@@ -115,6 +118,7 @@ keep-rows-spec =
     μ-loop
     marks-of-requires
     loop-holds
+    sub-struck-from
     slice-aggregate-struck-from
     struck-from-requires
     mul-from

@@ -42,6 +42,7 @@ event-effects-requires c κs =
     let r : 272 ≡ length (c .before .before .before .before .before .before .before .before .before .before .before .before .args .waiting .rows) = slice-aggregate-event-effects-2 (c .before) in
     let k = v .few in
     let z = v .sized in
+    let room = p .1 (omega arith) in
     (p .0, sym m, sym r, omega arith, omega arith)
 
 add-i : tie.Need-add-i Inv-loop μ-loop
@@ -58,6 +59,7 @@ loop-again c =
     let k = l .inv .few in
     let z = l .inv .sized in
     let g = r .0 in
+    let room = c .before .before .before .before .before .before .before .before .before .before .before .before .before .before .before .pre .1 (omega arith) in
     record {
       reach = omega arith;
       few = omega arith;
@@ -80,7 +82,8 @@ same-length c = c .before .loop .inv .sized
 returns-2 : tie.Need-returns-2 Inv-loop μ-loop
 returns-2 c =
     let l = c .before .loop in
-    let k = l .inv .few in (
+    let k = l .inv .few in
+    let room = c .before .before .before .before .before .before .before .before .before .pre .1 (omega arith) in (
       omega arith,
       λ D variables sorts parts es k L w F h f.
           let q = waiting-count es (c .before .before .before .before .before .before .before .before .before .args .waiting) w in

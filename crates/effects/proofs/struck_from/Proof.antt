@@ -1,4 +1,4 @@
--- `struck_from` meets its contract: no row from the first one on and before row i is struck. Assumes nothing.
+-- `struck_from` meets its contract: no row from the first one on and before row i is struck, or all that are struck are gone. Assumes nothing.
 use mathlib.Core.Path.{_≡_, sym, _∙_}
 use mathlib.Core.Bool.{false}
 use Prim.Native.Nat.{ℕ, _-_, _*_, _≤_, _<_}
@@ -6,17 +6,27 @@ use native.Mathlib.Omega.{arith}
 use lib.ListN.{take, drop}
 use borrow.Author.Needs.{needs}
 use Rattle.literals.specs.Table.{rowsIn}
+use Rattle.classes.proofs.KeyRows.{length-rows}
 use Rattle.store.specs.Rows.{hasRow}
-use Rattle.effects.proofs.KeptRuns.{others-more}
+use Rattle.effects.proofs.KeptRuns.{others-more, all-gone}
 use Rattle.effects.proofs.struck_from.Statement.{statement}
 use Rattle.effects.proofs.struck_from.Tie as tie
 
 abbrev Inv-loop : tie.InvT-loop
-Inv-loop work n from marks struck m i₀ i =
+Inv-loop work n from gone marks struck m i₀ i =
     (from ≤ i) × (i ≤ n) × ((j : ℕ) → from ≤ j → j < i → hasRow (take 8 (drop (8 * j) work)) (rowsIn m struck) ≡ false)
 
 abbrev μ-loop : tie.MeasureT-loop
-μ-loop work n from marks struck m i₀ i = n - i
+μ-loop work n from gone marks struck m i₀ i = n - i
+
+returns : tie.Need-returns Inv-loop μ-loop
+returns c =
+    let a = c .before .before .before .before .args in
+    let p = c .before .before .before .before .pre in
+    let g = p .7 in
+    let t = c .if1 .taken in
+    let l = length-rows (a .m) (a .struck .now) in
+    all-gone (rowsIn (a .m) (a .struck .now)) (a .work .now) (a .n) (a .from) (p .2) (p .6) (omega arith)
 
 loop-holds : tie.Need-loop-holds Inv-loop μ-loop
 loop-holds c = (omega arith, omega arith, λ j a b. absurd (omega arith))
@@ -27,10 +37,10 @@ mul-is-struck c = omega arith
 is-struck-requires : tie.Need-is-struck-requires Inv-loop μ-loop
 is-struck-requires c κs = search needs
 
-returns : tie.Need-returns Inv-loop μ-loop
-returns c =
+returns-2 : tie.Need-returns-2 Inv-loop μ-loop
+returns-2 c =
     let l = c .before .before .before .loop in
-    let s = sym (c .before .is-struck .ensures) ∙ c .if1 .taken in
+    let s = sym (c .before .is-struck .ensures) ∙ c .if2 .taken in
     record { behind = l .inv .0; within = l .inv .1; others = l .inv .2; found = λ h. s }
 
 add-i : tie.Need-add-i Inv-loop μ-loop
@@ -41,12 +51,12 @@ loop-less c = omega arith
 
 loop-again : tie.Need-loop-again Inv-loop μ-loop
 loop-again c =
-    let a = c .before .before .before .before .before .before .before .args in
+    let a = c .before .before .before .before .before .before .before .before .args in
     let l = c .before .before .before .loop in
-    (omega arith, omega arith, others-more (rowsIn (a .m) (a .struck .now)) (a .work .now) (a .from) (l .i) (l .inv .2) (sym (c .before .is-struck .ensures) ∙ c .if1 .left))
+    (omega arith, omega arith, others-more (rowsIn (a .m) (a .struck .now)) (a .work .now) (a .from) (l .i) (l .inv .2) (sym (c .before .is-struck .ensures) ∙ c .if2 .left))
 
-returns-2 : tie.Need-returns-2 Inv-loop μ-loop
-returns-2 c =
+returns-3 : tie.Need-returns-3 Inv-loop μ-loop
+returns-3 c =
     let l = c .before .loop in
     record { behind = omega arith; within = omega arith; others = λ j a b. l .inv .2 j a (omega arith); found = λ h. absurd (omega arith) }
 
@@ -56,11 +66,12 @@ struck-from-spec =
     (tie.spec
     Inv-loop
     μ-loop
+    returns
     loop-holds
     mul-is-struck
     is-struck-requires
-    returns
+    returns-2
     add-i
     loop-less
     loop-again
-    returns-2)
+    returns-3)
