@@ -196,10 +196,11 @@ pub fn play_files(domain: &[u8], run: &[u8], work: &mut [u8]) -> PlayAnswer
     );
     let number = read.number;
     let counts = read.counts;
+    let room = work.len();
     if number != 0 {
         return unplayed(number, read.place, Fault::Domain(read.start));
     }
-    if work.len() < 8192 {
+    if room < 8192 {
         return unplayed(58, 0, Fault::Run(run.len()));
     }
     play_domain(
