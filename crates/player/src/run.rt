@@ -1,6 +1,6 @@
 // A whole run: its records in file order, up to its end or to the first that is at fault.
 use super::Player;
-use super::Turn;
+use super::Tally;
 use events::waits::put_bytes;
 use literals::Counts;
 ghost use mathlib.Core.Path.{_≡_};
@@ -21,15 +21,13 @@ pub struct Ended {
     pub weight: usize,
 }
 
-// What a turn that ends the run tells of it.
-fn ended_by(turn: Turn) -> Ended
-    ensures { λ r. ⌜ (r .number ≡ turn .number) × (r .place ≡ turn .player .at) × (r .steps ≡ turn .player .tally .steps) × (r .weight ≡ turn .player .tally .weight) ⌝ }
+// How a run ended that stopped by a number at an offset, with this tally.
+fn ended_by(number: u64, at: usize, tally: Tally) -> Ended
+    ensures { λ r. ⌜ (r .number ≡ number) × (r .place ≡ at) × (r .steps ≡ tally .steps) × (r .weight ≡ tally .weight) ⌝ }
 {
-    let player = turn.player;
-    let tally = player.tally;
     Ended {
-        number: turn.number,
-        place: player.at,
+        number,
+        place: at,
         steps: tally.steps,
         weight: tally.weight,
     }
@@ -71,11 +69,12 @@ fn play_records(
             index,
         );
         let number = turn.number;
+        player = turn.player;
         if number == 0 {
-            player = turn.player;
             continue;
         }
-        return ended_by(turn);
+        let tally = player.tally;
+        return ended_by(number, player.at, tally);
     }
 }
 

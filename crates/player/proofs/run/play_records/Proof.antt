@@ -43,31 +43,31 @@ loop-less c =
     let a = c .before .before .before .before .before .before .before .before .before .before .before .before .before .before .before .before .before .before .before .before .args in
     let l = c .before .before .before .before .before .before .before .before .before .loop in
     let s = c .before .before .before .before .before .before .step in
-    loop-falls (p .0 .said) ((p .0 .lent) .held .bounded) (a .run .now) (a .work .now) (l .player) (l .work) (l .inv .2 (p .0 .said) (a .work .now) (p .0 .lent) (p .0 .decided) (p .1) (p .2)) (s .result) _ _ (λ q o st noted. s .ensures (p .0 .said) q o (p .0 .lent) (p .0 .decided) st noted .0) (λ q o st noted. s .ensures (p .0 .said) q o (p .0 .lent) (p .0 .decided) st noted .1) (c .before .if1 .taken)
+    loop-falls (p .0 .said) ((p .0 .lent) .held .bounded) (a .run .now) (a .work .now) (l .player) (l .work) (l .inv .2 (p .0 .said) (a .work .now) (p .0 .lent) (p .0 .decided) (p .1) (p .2)) (s .result) _ _ (λ q o st noted. s .ensures (p .0 .said) q o (p .0 .lent) (p .0 .decided) st noted .0) (λ q o st noted. s .ensures (p .0 .said) q o (p .0 .lent) (p .0 .decided) st noted .1) (c .if1 .taken)
 
 loop-again : tie.Need-loop-again Inv-loop μ-loop
 loop-again c =
     let a = c .before .before .before .before .before .before .before .before .before .before .before .before .before .before .before .before .before .before .before .before .args in
     let l = c .before .before .before .before .before .before .before .before .before .loop in
     let s = c .before .before .before .before .before .before .step in
-    (s .kept .1 .1 .1 .1 .1 .1 .1 .1 .1 .1 .0 ∙ l .inv .0, s .kept .1 .1 .1 .1 .1 .1 .1 .1 .1 .1 .1 .0 ∙ l .inv .1, λ D old lent said clear zeros. loop-on D (lent .held .bounded) (a .run .now) old (l .player) (l .work) (l .inv .2 D old lent said clear zeros) (s .result) _ _ (λ q o st noted. s .ensures D q o lent said st noted .0) (λ q o st noted. s .ensures D q o lent said st noted .1) (c .before .if1 .taken))
+    (s .kept .1 .1 .1 .1 .1 .1 .1 .1 .1 .1 .0 ∙ l .inv .0, s .kept .1 .1 .1 .1 .1 .1 .1 .1 .1 .1 .1 .0 ∙ l .inv .1, λ D old lent said clear zeros. loop-on D (lent .held .bounded) (a .run .now) old (l .player) (l .work) (l .inv .2 D old lent said clear zeros) (s .result) _ _ (λ q o st noted. s .ensures D q o lent said st noted .0) (λ q o st noted. s .ensures D q o lent said st noted .1) (c .if1 .taken))
 
 ended-by-requires : tie.Need-ended-by-requires Inv-loop μ-loop
 ended-by-requires c κs = search needs
 
 same-length : tie.Need-same-length Inv-loop μ-loop
-same-length c = c .before .before .before .before .before .before .step .kept .1 .1 .1 .1 .1 .1 .1 .1 .1 .1 .0 ∙ c .before .before .before .before .before .before .before .before .before .loop .inv .0
+same-length c = c .before .before .before .before .before .before .before .before .step .kept .1 .1 .1 .1 .1 .1 .1 .1 .1 .1 .0 ∙ c .before .before .before .before .before .before .before .before .before .before .before .loop .inv .0
 
 same-length-2 : tie.Need-same-length-2 Inv-loop μ-loop
-same-length-2 c = c .before .before .before .before .before .before .step .kept .1 .1 .1 .1 .1 .1 .1 .1 .1 .1 .1 .0 ∙ c .before .before .before .before .before .before .before .before .before .loop .inv .1
+same-length-2 c = c .before .before .before .before .before .before .before .before .step .kept .1 .1 .1 .1 .1 .1 .1 .1 .1 .1 .1 .0 ∙ c .before .before .before .before .before .before .before .before .before .before .before .loop .inv .1
 
 returns : tie.Need-returns Inv-loop μ-loop
 returns c D old lent said clear =
-    let p = c .before .before .before .before .before .before .before .before .before .before .before .before .before .before .before .before .before .before .before .before .pre in
-    let a = c .before .before .before .before .before .before .before .before .before .before .before .before .before .before .before .before .before .before .before .before .args in
-    let l = c .before .before .before .before .before .before .before .before .before .loop in
-    let s = c .before .before .before .before .before .before .step in
-    loop-ends D (lent .held .bounded) (a .run .now) old (l .player) (l .work) (l .inv .2 D old lent said clear (p .2)) (s .result) _ _ (λ q o st noted. s .ensures D q o lent said st noted .0) (λ q o st noted. s .ensures D q o lent said st noted .1) (c .before .if1 .left) (c .ended-by .result) (c .ended-by .ensures)
+    let p = c .before .before .before .before .before .before .before .before .before .before .before .before .before .before .before .before .before .before .before .before .before .before .pre in
+    let a = c .before .before .before .before .before .before .before .before .before .before .before .before .before .before .before .before .before .before .before .before .before .before .args in
+    let l = c .before .before .before .before .before .before .before .before .before .before .before .loop in
+    let s = c .before .before .before .before .before .before .before .before .step in
+    loop-ends D (lent .held .bounded) (a .run .now) old (l .player) (l .work) (l .inv .2 D old lent said clear (p .2)) (s .result) _ _ (λ q o st noted. s .ensures D q o lent said st noted .0) (λ q o st noted. s .ensures D q o lent said st noted .1) (c .before .before .if1 .left) (c .ended-by .result) (c .ended-by .ensures)
 
 pub play-records-spec : {M : Type 1} → statement M
 play-records-spec =
