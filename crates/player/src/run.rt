@@ -1,6 +1,7 @@
 // A whole run: its records in file order, up to its end or to the first that is at fault.
 use super::Player;
 use super::Tally;
+use super::Turn;
 use events::waits::put_bytes;
 use literals::Counts;
 ghost use mathlib.Core.Path.{_≡_};
@@ -53,9 +54,14 @@ fn play_records(
         → «accepted» ≡ acceptedTemplate D → now (work .entry) ≡ over (heldBytes []) old
         → (r ≡ endedOf (playRun D (now (run .entry)))) × (now (work .exit) ≡ over (heldBytes (playRun D (now (run .entry)) .facts)) old)) ⌝ }
 {
-    let mut player = Player::new();
+    let mut turn = Turn {
+        number: 0,
+        player: Player::new(),
+    };
+    // One variable for all turns: a second one would be one copy more of the state for each record.
     loop {
-        let turn = player.step(
+        let player = turn.player;
+        turn = player.step(
             counts,
             arities,
             variables,
@@ -69,12 +75,12 @@ fn play_records(
             index,
         );
         let number = turn.number;
-        player = turn.player;
         if number == 0 {
             continue;
         }
-        let tally = player.tally;
-        return ended_by(number, player.at, tally);
+        let last = turn.player;
+        let tally = last.tally;
+        return ended_by(number, last.at, tally);
     }
 }
 
