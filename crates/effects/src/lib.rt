@@ -17,19 +17,16 @@ ghost use mathlib.Core.Path.{_≡_};
 ghost use mathlib.Core.Bool.{not};
 ghost use mathlib.Core.List.{List, [], _∷_, _++_, map};
 ghost use Prim.Native.Nat.{ℕ, suc, _+_, _*_, _<_, _≤_};
-ghost use lib.ListN.{length, getD, take, drop, replicate};
-ghost use Rattle.records.specs.Lists.{filterBy, elem};
+ghost use lib.ListN.{length, getD, take, drop};
+ghost use Rattle.records.specs.Lists.{filterBy};
 ghost use Rattle.records.specs.Memory.{over};
 ghost use Rattle.literals.specs.declared.Clause.{Clause};
-ghost use Rattle.literals.specs.declared.Clause.the-variants.{Delete};
-ghost use Rattle.literals.specs.Domain.{Fact, sameFact, clauseNumber, Domain};
+ghost use Rattle.literals.specs.Domain.{Fact, clauseNumber, Domain};
 ghost use Rattle.literals.specs.Decode.{byte};
 ghost use Rattle.literals.specs.Table.{rowsIn};
 ghost use Rattle.classes.specs.Classes.{momentNumber};
-ghost use Rattle.verdict.specs.Judged.{factBytes};
-ghost use Rattle.verdict.specs.Machine.{Event, stepFacts, factsAfter};
+ghost use Rattle.verdict.specs.Machine.{Event};
 ghost use Rattle.store.specs.Index.{Sized, Indexed};
-ghost use Rattle.runs.specs.Play.{heldBytes};
 ghost use Rattle.store.specs.Rows.{factRow, hasRow};
 ghost use Rattle.events.specs.Coded.{groundRow, waitingOf, GroundFits, EventsFit, Lent, Ready, timeOf};
 ghost use Rattle.effects.specs.Effects.{Once, struckOf, FirstStruck, Marked, RoomFor, HoldsAfter, effectRows, joinRow, joinRows, atMost, flat, eventEffects, stepEffects};
@@ -432,28 +429,11 @@ pub fn facts_after(
     requires { ⌜ Ready counts (now arities) (now starts) (now table) × (n ≤ 1024) × (8 * n ≤ length (now work)) × (length (now out) ≡ 8192)
         × (length (now parts) ≡ 128) × (counts .components ≤ 16) × (counts .keys ≤ 6) × (length (now index) ≡ 12289) × Once (rowsIn n (now work)) ⌝ }
     ensures few { λ r. ⌜ (r .kept ≤ n) × (r .kept ≤ r .facts) × (r .facts ≤ 1025) ⌝ }
-    ensures counted { λ r. ⌜ ((D : Domain) (variables sorts components : List ℕ) (es : List Event) (fs : List Fact)
+    ensures after { λ r. ⌜ ((D : Domain) (variables sorts components : List ℕ) (es : List Event) (fs : List Fact)
         → Lent D counts (now (arities .entry)) variables sorts (now (starts .entry)) components (now (table .entry)) → waiting ≡ waitingOf es → EventsFit D es → length es ≤ 16
         → rowsIn n (now (work .entry)) ≡ map factRow fs
         → Indexed (now (arities .entry)) (counts .keys) (rowsIn (counts .components) (now (parts .entry))) (now (index .entry)) (map factRow fs)
-        → (r .kept ≡ length (filterBy (λ (f : Fact). not (elem sameFact f (stepFacts D es Delete))) fs)) × (r .facts ≡ atMost 1024 (length (factsAfter D fs es)))) ⌝ }
-    ensures written { λ r. ⌜ ((D : Domain) (variables sorts components : List ℕ) (es : List Event) (fs : List Fact)
-        → Lent D counts (now (arities .entry)) variables sorts (now (starts .entry)) components (now (table .entry)) → waiting ≡ waitingOf es → EventsFit D es → length es ≤ 16
-        → rowsIn n (now (work .entry)) ≡ map factRow fs
-        → Indexed (now (arities .entry)) (counts .keys) (rowsIn (counts .components) (now (parts .entry))) (now (index .entry)) (map factRow fs)
-        → now (out .exit) ≡ over (factBytes (take 1024 (factsAfter D fs es))) (now (out .entry))) ⌝ }
-    ensures held { λ r. ⌜ ((D : Domain) (variables sorts components : List ℕ) (es : List Event) (fs : List Fact)
-        → Lent D counts (now (arities .entry)) variables sorts (now (starts .entry)) components (now (table .entry)) → waiting ≡ waitingOf es → EventsFit D es → length es ≤ 16
-        → rowsIn n (now (work .entry)) ≡ map factRow fs
-        → Indexed (now (arities .entry)) (counts .keys) (rowsIn (counts .components) (now (parts .entry))) (now (index .entry)) (map factRow fs)
-        → now (out .entry) ≡ replicate 8192 0 → length (factsAfter D fs es) ≤ 1024
-        → now (out .exit) ≡ heldBytes (factsAfter D fs es)) ⌝ }
-    ensures indexed { λ r. ⌜ ((D : Domain) (variables sorts components : List ℕ) (es : List Event) (fs : List Fact)
-        → Lent D counts (now (arities .entry)) variables sorts (now (starts .entry)) components (now (table .entry)) → waiting ≡ waitingOf es → EventsFit D es → length es ≤ 16
-        → rowsIn n (now (work .entry)) ≡ map factRow fs
-        → Indexed (now (arities .entry)) (counts .keys) (rowsIn (counts .components) (now (parts .entry))) (now (index .entry)) (map factRow fs)
-        → length (factsAfter D fs es) ≤ 1024
-        → Indexed (now (arities .entry)) (counts .keys) (rowsIn (counts .components) (now (parts .entry))) (now (index .exit)) (map factRow (factsAfter D fs es))) ⌝ }
+        → HoldsAfter D fs es (now (arities .entry)) (counts .keys) (rowsIn (counts .components) (now (parts .entry))) (now (out .entry)) r (now (out .exit)) (now (index .exit))) ⌝ }
     ensures beside { λ _. ⌜ getD (now (index .exit)) 12288 0 ≡ getD (now (index .entry)) 12288 0 ⌝ }
 {
     // Most steps have one event, and a small array is cleared sooner.

@@ -20,23 +20,7 @@ same-length-2 : tie.Need-same-length-2
 same-length-2 c = search needs
 
 returns : tie.Need-returns
-returns c =
-    let r = c .before .before .before .before .before .facts-in .ensures in (
-      r .0,
-      (
-        λ D variables sorts parts es fs L w F h u I. let x = r .1 .0 D variables sorts parts es fs L w F h u I in (x .kept, x .facts),
-        (
-          λ D variables sorts parts es fs L w F h u I. r .1 .0 D variables sorts parts es fs L w F h u I .written,
-          (
-            λ D variables sorts parts es fs L w F h u I. r .1 .0 D variables sorts parts es fs L w F h u I .held,
-            (
-              λ D variables sorts parts es fs L w F h u I. r .1 .0 D variables sorts parts es fs L w F h u I .indexed,
-              r .1 .1,
-            ),
-          ),
-        ),
-      ),
-    )
+returns c = c .before .before .before .before .before .facts-in .ensures
 
 slice-aggregate-facts-in-2 : tie.Need-slice-aggregate-facts-in-2
 slice-aggregate-facts-in-2 c = search needs
@@ -53,23 +37,7 @@ same-length-4 : tie.Need-same-length-4
 same-length-4 c = search needs
 
 returns-2 : tie.Need-returns-2
-returns-2 c =
-    let r = c .before .before .before .before .before .facts-in2 .ensures in (
-      r .0,
-      (
-        λ D variables sorts parts es fs L w F h u I. let x = r .1 .0 D variables sorts parts es fs L w F h u I in (x .kept, x .facts),
-        (
-          λ D variables sorts parts es fs L w F h u I. r .1 .0 D variables sorts parts es fs L w F h u I .written,
-          (
-            λ D variables sorts parts es fs L w F h u I. r .1 .0 D variables sorts parts es fs L w F h u I .held,
-            (
-              λ D variables sorts parts es fs L w F h u I. r .1 .0 D variables sorts parts es fs L w F h u I .indexed,
-              r .1 .1,
-            ),
-          ),
-        ),
-      ),
-    )
+returns-2 c = c .before .before .before .before .before .facts-in2 .ensures
 
 pub facts-after-spec : {M : Type 1} → statement M
 facts-after-spec =

@@ -29,10 +29,10 @@ returns c =
           let w = ap (λ (x : Holding). x .waiting) is in
           let rows = state-rows D (lent .held .bounded) s es kept (a .self) is (a .work .now) old memory in
           let e = (c .before .before .before .before .facts-after .ensures .1 .0 D variables (a .sorts .now) (a .parts .now) es (s .facts) lent w (kept .waiting) (kept .waiting-few) rows held) in
-          leaves-large D s es old (a .weight) free (many-facts D s es (c .before .before .before .before .facts-after .result .facts) (e .1) (c .if1 .taken)) (a .self) is (a .work .now) memory,
+          leaves-large D s es old (a .weight) free (many-facts D s es (c .before .before .before .before .facts-after .result .facts) (e .facts) (c .if1 .taken)) (a .self) is (a .work .now) memory,
       (
         λ D variables s es old lent kept is memory free held z. absurd (omega arith),
-        c .before .before .before .before .facts-after .ensures .1 .1 .1 .1 .1,
+        c .before .before .before .before .facts-after .ensures .1 .1,
       ),
     )
 
@@ -54,7 +54,7 @@ returns-2 c =
           leaves-large D s es old (a .weight) free (many-open D s es (sym (not-true _ (c .if2 .taken)) ∙ f .0)) (a .self) is (a .work .now) memory,
       (
         λ D variables s es old lent kept is memory free held z. absurd (omega arith),
-        c .before .before .before .before .before .before .before .facts-after .ensures .1 .1 .1 .1 .1,
+        c .before .before .before .before .before .before .before .facts-after .ensures .1 .1,
       ),
     )
 
@@ -94,15 +94,15 @@ returns-3 c =
           let f = (c .before .before .before .before .before .before .before .before .before .before .before .before .after .ensures D (indexWith (a .counts) (a .arities .now) variables (a .sorts .now) (a .starts .now) (a .parts .now)) (s .running) es (lent .held) refl refl (kept .running) (kept .waiting) (kept .running-few) (kept .waiting-few) (ap (λ (x : Holding). x .running) is) w) in
           let yes = not-false _ (c .before .before .before .before .before .before .before .before .before .before .if2 .left) in
           let B = lent .held .bounded in
-          let few = after-few D B s es old (a .weight) kept free (c .before .before .before .before .before .before .before .before .before .before .before .before .before .before .before .before .before .facts-after .result .facts) (e .1) (c .before .before .before .before .before .before .before .before .before .before .before .before .before .if1 .left) (sym yes ∙ f .0) in
-          let m = (c .before .before .before .before .before .before .before .before .before .before .before .before .before .before .before .before .before .facts-after .ensures .1 .1 .1 .0 D variables (a .sorts .now) (a .parts .now) es (s .facts) lent w (kept .waiting) (kept .waiting-few) rows held refl few) in
-          let after = (c .before .before .before .before .before .before .before .before .before .before .before .before .before .before .before .before .before .facts-after .ensures .1 .1 .1 .1 .0 D variables (a .sorts .now) (a .parts .now) es (s .facts) lent w (kept .waiting) (kept .waiting-few) rows held few) in
-          leaves-taken D B s es old (a .weight) kept free (c .before .before .before .before .before .before .before .before .before .before .before .before .before .before .before .before .before .facts-after .result .facts) (e .1) (c .before .before .before .before .before .before .before .before .before .before .before .before .before .if1 .left) (sym yes ∙ f .0) _ m
-          (c .before .before .before .before .before .before .before .before .before .before .before .before .after .result .running) (f .1 yes) (c .none .result) (c .none .ensures) (c .before .top-from .result) (c .before .before .before .before .before .before .before .before .before .before .before .before .before .before .before .before .before .facts-after .result .kept) (e .0) under
+          let few = after-few D B s es old (a .weight) kept free (c .before .before .before .before .before .before .before .before .before .before .before .before .before .before .before .before .before .facts-after .result .facts) (e .facts) (c .before .before .before .before .before .before .before .before .before .before .before .before .before .if1 .left) (sym yes ∙ f .0) in
+          let m = e .held refl few in
+          let after = e .indexed few in
+          leaves-taken D B s es old (a .weight) kept free (c .before .before .before .before .before .before .before .before .before .before .before .before .before .before .before .before .before .facts-after .result .facts) (e .facts) (c .before .before .before .before .before .before .before .before .before .before .before .before .before .if1 .left) (sym yes ∙ f .0) _ m
+          (c .before .before .before .before .before .before .before .before .before .before .before .before .after .result .running) (f .1 yes) (c .none .result) (c .none .ensures) (c .before .top-from .result) (c .before .before .before .before .before .before .before .before .before .before .before .before .before .before .before .before .before .facts-after .result .kept) (e .kept) under
           (c .before .top-from .ensures .1 D (indexWith (a .counts) (a .arities .now) variables (a .sorts .now) (a .starts .now) (a .parts .now)) _ (a .arities .now) (lent .held) refl refl refl
-          (memory-indexed D B s es old (a .weight) kept free (c .before .before .before .before .before .before .before .before .before .before .before .before .before .before .before .before .before .facts-after .result .facts) (e .1) (c .before .before .before .before .before .before .before .before .before .before .before .before .before .if1 .left) (sym yes ∙ f .0) _ m (a .arities .now) (a .counts .keys) (rowsIn (a .counts .components) (a .parts .now)) _ after)
-          (memory-rows D B s es old (a .weight) kept free (c .before .before .before .before .before .before .before .before .before .before .before .before .before .before .before .before .before .facts-after .result .facts) (e .1) (c .before .before .before .before .before .before .before .before .before .before .before .before .before .if1 .left) (sym yes ∙ f .0) _ m)
-          (after-fits D B s es old (a .weight) kept free (c .before .before .before .before .before .before .before .before .before .before .before .before .before .before .before .before .before .facts-after .result .facts) (e .1) (c .before .before .before .before .before .before .before .before .before .before .before .before .before .if1 .left) (sym yes ∙ f .0)))
+          (memory-indexed D B s es old (a .weight) kept free (c .before .before .before .before .before .before .before .before .before .before .before .before .before .before .before .before .before .facts-after .result .facts) (e .facts) (c .before .before .before .before .before .before .before .before .before .before .before .before .before .if1 .left) (sym yes ∙ f .0) _ m (a .arities .now) (a .counts .keys) (rowsIn (a .counts .components) (a .parts .now)) _ after)
+          (memory-rows D B s es old (a .weight) kept free (c .before .before .before .before .before .before .before .before .before .before .before .before .before .before .before .before .before .facts-after .result .facts) (e .facts) (c .before .before .before .before .before .before .before .before .before .before .before .before .before .if1 .left) (sym yes ∙ f .0) _ m)
+          (after-fits D B s es old (a .weight) kept free (c .before .before .before .before .before .before .before .before .before .before .before .before .before .before .before .before .before .facts-after .result .facts) (e .facts) (c .before .before .before .before .before .before .before .before .before .before .before .before .before .if1 .left) (sym yes ∙ f .0)))
           (a .work .now) _ memory (c .before .before .before .before .before .before .put-bytes .ensures),
       (
         λ D variables s es old lent kept is memory free held z.
@@ -112,9 +112,9 @@ returns-3 c =
             let f = (c .before .before .before .before .before .before .before .before .before .before .before .before .after .ensures D (indexWith (a .counts) (a .arities .now) variables (a .sorts .now) (a .starts .now) (a .parts .now)) (s .running) es (lent .held) refl refl (kept .running) (kept .waiting) (kept .running-few) (kept .waiting-few) (ap (λ (x : Holding). x .running) is) w) in
             let yes = not-false _ (c .before .before .before .before .before .before .before .before .before .before .if2 .left) in
             let B = lent .held .bounded in
-            let few = after-few D B s es old (a .weight) kept free (c .before .before .before .before .before .before .before .before .before .before .before .before .before .before .before .before .before .facts-after .result .facts) (e .1) (c .before .before .before .before .before .before .before .before .before .before .before .before .before .if1 .left) (sym yes ∙ f .0) in
-            taken-indexed D B s es old (a .weight) kept free (c .before .before .before .before .before .before .before .before .before .before .before .before .before .before .before .before .before .facts-after .result .facts) (e .1) (c .before .before .before .before .before .before .before .before .before .before .before .before .before .if1 .left) (sym yes ∙ f .0) (a .arities .now) (a .counts .keys) (rowsIn (a .counts .components) (a .parts .now)) _ (c .before .before .before .before .before .before .before .before .before .before .before .before .before .before .before .before .before .facts-after .ensures .1 .1 .1 .1 .0 D variables (a .sorts .now) (a .parts .now) es (s .facts) lent w (kept .waiting) (kept .waiting-few) rows held few),
-        c .before .before .before .before .before .before .before .before .before .before .before .before .before .before .before .before .before .facts-after .ensures .1 .1 .1 .1 .1,
+            let few = after-few D B s es old (a .weight) kept free (c .before .before .before .before .before .before .before .before .before .before .before .before .before .before .before .before .before .facts-after .result .facts) (e .facts) (c .before .before .before .before .before .before .before .before .before .before .before .before .before .if1 .left) (sym yes ∙ f .0) in
+            taken-indexed D B s es old (a .weight) kept free (c .before .before .before .before .before .before .before .before .before .before .before .before .before .before .before .before .before .facts-after .result .facts) (e .facts) (c .before .before .before .before .before .before .before .before .before .before .before .before .before .if1 .left) (sym yes ∙ f .0) (a .arities .now) (a .counts .keys) (rowsIn (a .counts .components) (a .parts .now)) _ (e .indexed few),
+        c .before .before .before .before .before .before .before .before .before .before .before .before .before .before .before .before .before .facts-after .ensures .1 .1,
       ),
     )
 
