@@ -1,5 +1,4 @@
 -- `facts_after` meets its contract: it lends room for the effects of its events. Assumes nothing.
-use mathlib.Core.Path.{_≡_}
 use native.Mathlib.Omega.{arith}
 use borrow.Author.Needs.{needs}
 use Rattle.effects.proofs.facts_after.Statement.{statement}

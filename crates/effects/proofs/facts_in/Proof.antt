@@ -1,7 +1,6 @@
 -- `facts_in` meets its contract: what is kept and what joins are the facts after the step. Assumes nothing.
-use mathlib.Core.Path.{_≡_, refl, sym, _∙_}
+use mathlib.Core.Path.{refl, _∙_}
 use native.Mathlib.Omega.{arith}
-use lib.ListN.{length}
 use Rattle.literals.specs.declared.Clause.the-variants.{Add, Delete}
 use Rattle.literals.specs.Table.{rowsIn}
 use Rattle.effects.proofs.FilledRows.{kept-few}
