@@ -1,7 +1,7 @@
 -- Laws of the loops over the rows of components, literals and classes: the place of a row, and the key tuple of a row. Assumes nothing.
 use mathlib.Core.Path.{_≡_, refl, sym, ap, ap₂, _∙_}
 use mathlib.Core.Bool.{Bool, true, false, cond, _&&_}
-use mathlib.Core.List.{List, [], _∷_, _++_, append-nil}
+use mathlib.Core.List.{List, [], _∷_, _++_}
 use Prim.Native.Nat.{ℕ, zero, suc, _+_, _-_, _*_, _≤_, _<_}
 use native.Mathlib.Numerals.{add-one}
 use native.Mathlib.Omega.{arith}
@@ -14,7 +14,7 @@ use Rattle.records.specs.Memory.{over}
 use Rattle.records.proofs.Memory.{over-more, drop-replicate}
 use Rattle.literals.specs.Decode.{byte}
 use Rattle.literals.specs.Table.{rowOf, rowsIn}
-use Rattle.literals.proofs.Rows.{length-row, eight-by-four, same-miss, same-hit, same-end, length-part, part-at, part-first, rows-more, rows-end}
+use Rattle.literals.proofs.Rows.{length-row, row-full, eight-by-four, same-miss, same-hit, same-end, length-part, part-at, part-first, rows-more, rows-end}
 use Rattle.classes.specs.Coded.{position, underKey, underKeys, keyRow, keyRows, numberedBy, tuplesAfter}
 
 -- ---- the place of the first row that passes, from row c on
@@ -112,10 +112,6 @@ row-more l k v e h =
     ap (λ (a : List ℕ). set a k v) (row-over l)
     ∙ over-more l (replicate 8 255) k v e (simp length-replicate h)
     ∙ sym (row-over (l ++ (v ∷ [])))
-
--- a row is filled already
-pub row-full : (l : List ℕ) → length l ≡ 8 → rowOf l ≡ l
-row-full l e = rw e (append-nil l)
 
 pub tuple-none : (part row : List ℕ) → replicate 8 255 ≡ keyRow 0 part row
 unfolding keyRow

@@ -1,13 +1,13 @@
 -- Rows of 8 bytes by index: what they say of the literals and components that they hold. Assumes nothing.
 use mathlib.Core.Path.{_≡_, refl, sym, ap, ap₂, _∙_}
 use mathlib.Core.Bool.{Bool, true, false, _&&_}
-use mathlib.Core.List.{List, [], _∷_, _++_, map, flatMap, append-nil, Memᴰ·of-map}
+use mathlib.Core.List.{List, [], _++_, map, flatMap, append-nil, Memᴰ·of-map}
 use Prim.Native.Nat.{ℕ, suc, _+_, _-_, _*_, _≤_, _<_}
 use native.Mathlib.Omega.{arith}
 use lib.Dec.{eqb}
 use lib.ListN.{length, getD, take, drop, length-append, length-map}
 use Rattle.records.specs.Lists.{In, sameList}
-use Rattle.records.proofs.Lists.{getD-in}
+use Rattle.records.proofs.Lists.{getD-in, map-back}
 use Rattle.literals.specs.declared.Variable.{Variable}
 use Rattle.literals.specs.declared.Time.the-variants.{AtStart}
 use Rattle.literals.specs.declared.Clause.the-variants.{Positive}
@@ -53,10 +53,6 @@ noLiteral = record { role = record { time = AtStart; clause = Positive }; atom =
 abbrev pub literalAt : List Literal → ℕ → Literal
 literalAt ls j = getD ls j noLiteral
 
-numbers-back : (vs : List Variable) → map variable (map (λ (v : Variable). v .0) vs) ≡ vs
-numbers-back [] = refl
-numbers-back (v ∷ vs) = ap {B = List Variable} (λ l. v ∷ l) (numbers-back vs)
-
 -- two rows agree behind their roles where the literals have the same atom
 same-rows : (l m : Literal) → Kept l → Kept m → sameList eqb (drop 1 (literalRow l)) (drop 1 (literalRow m)) ≡ sameLiteral (l .atom) (m .atom)
 same-rows l m h k =
@@ -73,7 +69,7 @@ same-rows l m h k =
     small
     (k .arguments)
     (omega arith)
-    ∙ ap (λ (vs : List Variable). sameList sameVariable vs (m .atom .args)) (numbers-back (l .atom .args)))
+    ∙ ap (λ (vs : List Variable). sameList sameVariable vs (m .atom .args)) (map-back variable (λ (v : Variable). v .0) (λ v. refl) (l .atom .args)))
   where
     small : (b : ℕ) → In b (map (λ (v : Variable). v .0) (l .atom .args)) → b < 255
     small b i = let r = Memᴰ·of-map (λ (v : Variable). v .0) (l .atom .args) i in let e = r .2 in let q = h .arguments (r .0) (r .1) in omega arith

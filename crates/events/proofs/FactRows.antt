@@ -11,7 +11,7 @@ use lib.ListN.{length, getD, take, drop, replicate, length-append, length-map, l
 use lib.Seq.{take-at, drop-at, drop-drop, length-take-le}
 use borrow.Author.Tests.{eqb-true, eqb-false, lt-ltb}
 use Rattle.records.specs.Lists.{In, all, any, sameList, elem, dedup}
-use Rattle.records.proofs.Lists.{bool-cases, off, clash, eqb-same, any-map, any-in, in-any, all-in, all-of, allBelow, below-in, sameList-self, in-dedup, dedup-in}
+use Rattle.records.proofs.Lists.{bool-cases, off, clash, any-map, any-in, in-any, all-in, all-of, getD-in, allBelow, below-in, in-dedup, dedup-in}
 use Rattle.literals.specs.declared.Variable.{Variable}
 use Rattle.literals.specs.declared.Object.{Object}
 use Rattle.literals.specs.declared.Index.{Index}
@@ -21,8 +21,8 @@ use Rattle.literals.specs.declared.Time.the-variants.{AtStart, OverAll, AtEnd}
 use Rattle.literals.specs.declared.Clause.{Clause}
 use Rattle.literals.specs.declared.Clause.the-variants.{Positive, Negative, Add, Delete}
 use Rattle.literals.specs.declared.Role.{Role}
-use Rattle.literals.specs.Domain.{object, sameObject, Atom, Fact, sameLiteral, sameFact, clauseNumber, roleNumber, roleOf, Literal, Action, Domain, arity, action}
-use Rattle.literals.specs.Table.{literalRow, rowsIn, indexOf}
+use Rattle.literals.specs.Domain.{object, sameObject, Atom, Fact, sameLiteral, sameFact, clauseNumber, roleNumber, roleOf, Literal, Action, Domain, arity, noAction, action}
+use Rattle.literals.specs.Table.{literalRow, rowsIn, indexOf, Bounded}
 use Rattle.literals.proofs.Equality.{literal-eq}
 use Rattle.literals.proofs.Tables.{Kept, kept, length-literal-row, rows-flat, pad-at}
 use Rattle.literals.proofs.Spans.{action-listed, span-size, part-literals}
@@ -38,6 +38,7 @@ use Rattle.events.specs.declared.Open.{Open}
 use Rattle.events.specs.declared.Waiting.{Waiting}
 use Rattle.runs.specs.RunFile.{momentOf}
 use Rattle.store.specs.Rows.{factRow, hasRow}
+use Rattle.store.proofs.InstanceRows.{same-numbers}
 use Rattle.events.specs.Coded.{groundRow, GroundFits, Lent, Ready, endRow, objectOf, boundRow, clauseFor, timeOf, openOf, waitingOf}
 
 -- ---- equal rows are rows of equal facts
@@ -51,12 +52,6 @@ same-size (x ∷ xs) (y ∷ ys) n = go (sameObject x y) (same-size xs ys (λ e. 
     go : (b : Bool) → sameList sameObject xs ys ≡ false → b && sameList sameObject xs ys ≡ false
     go true h = h
     go false h = refl
-
-same-numbers : (x y : List Object) (fill : List ℕ) → length x ≡ length y → sameList eqb (objectNumbers x ++ fill) (objectNumbers y ++ fill) ≡ sameList sameObject x y
-same-numbers [] [] fill e = sameList-self eqb eqb-same fill
-same-numbers [] (y ∷ ys) fill e = absurd (omega arith)
-same-numbers (x ∷ xs) [] fill e = absurd (omega arith)
-same-numbers (x ∷ xs) (y ∷ ys) fill e = ap (λ (b : Bool). sameObject x y && b) (same-numbers xs ys fill (omega arith))
 
 same-arguments : (x y : List Object)
     → eqb (length x) (length y) && sameList eqb (objectNumbers x ++ replicate (6 - length x) 255) (objectNumbers y ++ replicate (6 - length y) 255) ≡ sameList sameObject x y
@@ -83,6 +78,11 @@ pub length-fact-row : (f : Fact) → length (f .args) ≤ 6 → length (factRow 
 length-fact-row f h = simp (length-append, length-map, length-replicate) (omega arith)
 
 -- ---- an action with its objects
+
+-- at most 16, in a domain that reading keeps
+pub few-objects : {D : Domain} → Bounded D → (g : GroundAction) → GroundFits D g → length (g .binding) ≤ 16
+unfolding action
+few-objects {D} B g f = let e = f .bound in let h = B .counts (action D (g .action)) (getD-in (D .actions) (g .action) noAction (f .listed)) in omega arith
 
 pub length-ground-row : (g : GroundAction) → length (g .binding) ≤ 16 → length (groundRow g) ≡ 17
 length-ground-row g h = simp (length-append, length-map, length-replicate) (omega arith)
@@ -222,19 +222,13 @@ module _ (D : Domain) (n : Counts) (arities variables sorts starts parts table :
         (part-literals (L .held) i b table (L .old) (L .rows) from to p q ∙ sym (append-nil (flatMap literalRow (action D i .lits))))
         ∙ rows-flat literalRow (action D i .lits) [] (λ l m. length-literal-row l (lent-kept l m .fits))
 
-  pub ground-few : (g : GroundAction) → GroundFits D g → length (g .binding) ≤ 16
-  ground-few g F =
-      let e = F .bound in
-      let c = L .held .bounded .counts (action D (g .action)) (lent-action (g .action) (F .listed)) in
-      omega arith
-
   -- a literal's row of an action, by the action's objects
   pub lent-bound : (g : GroundAction) → GroundFits D g → (l : Literal) → In l (action D (g .action) .lits)
       → boundRow arities (groundRow g) (literalRow l) ≡ factRow (bind (g .binding) (l .atom))
   lent-bound g F l m =
       let i = lent-action (g .action) (F .listed) in
       let e = F .bound in
-      bound-fact arities g l (L .held .bounded .literalArity (action D (g .action)) i l m ∙ sym (lent-arity (l .atom .rel))) (ground-few g F)
+      bound-fact arities g l (L .held .bounded .literalArity (action D (g .action)) i l m ∙ sym (lent-arity (l .atom .rel))) (few-objects (L .held .bounded) g F)
       (λ v w. let b = L .held .bounded .below (action D (g .action)) i l m v w in omega arith)
 
 -- an action with its objects, found by its row

@@ -6,18 +6,17 @@ use mathlib.Core.List.{List, [], _∷_, _++_, map, flatMap, append-nil, append-a
 use Prim.Native.Nat.{ℕ, zero, suc, _+_, _-_, _*_, _≤_, _<_}
 use native.Mathlib.Omega.{arith}
 use lib.Dec.{eqb, ltb, leb}
-use lib.ListN.{length, getD, take, drop, replicate, length-append, length-map, length-replicate, replicate-append-replicate, List·getD-map, drop-of-length-le}
+use lib.ListN.{length, getD, take, drop, replicate, length-append, replicate-append-replicate, List·getD-map, drop-of-length-le}
 use lib.Seq.{paste, take-at, drop-at, take-all, split-at, length-take-le}
 use borrow.Author.Tests.{ltb-true, ltb-false, lt-ltb, le-leb, lt-leb, ne-eqb, eqb-true, eqb-false}
 use Rattle.records.specs.Lists.{In, keepIf, all, sameList, elem}
-use Rattle.records.specs.Memory.{over}
-use Rattle.records.proofs.Lists.{bool-cases, eqb-same, sameList-self, getD-in, flatMap-append, flatMap-snoc, in-snoc}
-use Rattle.records.proofs.Memory.{over-paste, drop-replicate}
+use Rattle.records.proofs.Lists.{bool-cases, eqb-same, sameList-self, flatMap-append, flatMap-snoc, in-snoc}
+use Rattle.records.proofs.Memory.{over-paste}
 use Rattle.literals.specs.declared.Object.{Object}
 use Rattle.literals.specs.declared.Index.{Index}
 use Rattle.literals.specs.Domain.{sameObject, noAction, Domain, action}
 use Rattle.literals.specs.Table.{pad, sortNumber, Bounded, Holds}
-use Rattle.literals.proofs.Tables.{pad-at}
+use Rattle.literals.proofs.Tables.{pad-over, pad-at}
 use Rattle.literals.proofs.Held.{actions-is, sorts-is}
 use Rattle.classes.specs.declared.Moment.{Moment}
 use Rattle.classes.specs.declared.Moment.the-variants.{Start, End}
@@ -31,6 +30,7 @@ use Rattle.events.specs.declared.Waiting.{Waiting}
 use Rattle.events.specs.declared.openings.Opened.{Opened}
 use Rattle.events.specs.Coded.{groundRow, groundsIn, openOf, waitingOf, GroundFits, GroundsFit, EventsFit, EventRow, eventsIn, endOpen, withoutEntry, closeEntry, closeEvent, closeEvents, joinEntry, opensBy, joinEvent, joinEvents}
 use Rattle.store.specs.Rows.{hasRow}
+use Rattle.events.proofs.FactRows.{few-objects, length-ground-row}
 use Rattle.events.proofs.Members.{close-in, closed-in}
 
 -- ---- rows of 17 bytes, one for each element
@@ -87,22 +87,13 @@ same-objects (o ∷ os) (p ∷ ps) m n h g e =
     ap (λ (t : Bool). eqb (o .0) (p .0) && t) (same-objects os ps m n (λ q i. h q (List·Memᴰ·tail i)) (λ q i. g q (List·Memᴰ·tail i)) (omega arith))
 
 module _ {D : Domain} (B : Bounded D) where
-  pub few-objects : (g : GroundAction) → GroundFits D g → length (g .binding) ≤ 16
-  unfolding action
-  few-objects g f = let e = f .bound in let h = B .counts (action D (g .action)) (getD-in (D .actions) (g .action) noAction (f .listed)) in omega arith
-
   pub length-ground : (g : GroundAction) → GroundFits D g → length (groundRow g) ≡ 17
-  length-ground g f =
-      let h = few-objects g f in
-      let a = length-append (objectNumbers (g .binding)) (replicate (16 - length (g .binding)) 255) in
-      let m = length-map (g .binding) (λ (o : Object). o .0) in
-      let r = length-replicate {A = ℕ} (16 - length (g .binding)) 255 in
-      omega arith
+  length-ground g f = length-ground-row g (few-objects B g f)
 
   pub same-rows : (g h : GroundAction) → GroundFits D g → GroundFits D h → sameList eqb (groundRow g) (groundRow h) ≡ sameGround g h
   same-rows g h f k =
-      let a = few-objects g f in
-      let b = few-objects h k in
+      let a = few-objects B g f in
+      let b = few-objects B h k in
       ap (λ (t : Bool). eqb (g .action) (h .action) && t)
       (same-objects (g .binding) (h .binding) (16 - length (g .binding)) (16 - length (h .binding)) (f .objects) (k .objects) (omega arith))
 
@@ -280,10 +271,6 @@ closes-are B (e ∷ es) h gs k few =
     ∙ closes-are B es (λ x m. h x (List·Memᴰ·tail m)) (closeAt (e .moment) (e .ground) gs) (λ g m. k g (close-at-in (e .moment) (e .ground) gs m)) (omega arith)
 
 -- ---- an entry more
-
-pad-over : (n : ℕ) (l : List ℕ) → pad n l ≡ over l (replicate n 0)
-unfolding over
-pad-over n l = rw drop-replicate
 
 bytes-in : (n : ℕ) (x z : List ℕ) (k : ℕ) → length x ≡ 17 * k → length z ≡ 17 → paste (pad n x) (17 * k) z 17 ≡ pad n (x ++ z)
 bytes-in n x z k e f = ap (λ (t : List ℕ). paste t (17 * k) z 17) (pad-over n x) ∙ over-paste x (replicate n 0) z (17 * k) 17 e f ∙ sym (pad-over n (x ++ z))

@@ -189,7 +189,7 @@ module _ (t : List ℕ) (b n i : ℕ) (h : i < n) where
 -- ---- ranks
 
 -- a row of 8 bytes is its own row
-row-full : (row : List ℕ) → length row ≡ 8 → rowOf row ≡ row
+pub row-full : (row : List ℕ) → length row ≡ 8 → rowOf row ≡ row
 row-full row g = let z : 8 - length row ≡ 0 = omega arith in rw z (append-nil row)
 
 module _ (row t : List ℕ) (at : ℕ) (g : length row ≡ 8) where

@@ -83,7 +83,7 @@ any-component b cs = any-map componentRow (λ row. eqb b (byte row 0)) cs
 -- ---- a list in an array
 
 -- an array of zeros whose first numbers are the list
-pad-over : (n : ℕ) (l : List ℕ) → pad n l ≡ over l (replicate n 0)
+pub pad-over : (n : ℕ) (l : List ℕ) → pad n l ≡ over l (replicate n 0)
 unfolding over
 pad-over n l = rw drop-replicate
 

@@ -16,6 +16,7 @@ use Rattle.records.proofs.Memory.{length-over, over-paste}
 use Rattle.literals.proofs.Rows.{rows-last, rows-whole, part-first, length-part, part-at}
 use Rattle.literals.specs.Table.{rowsIn}
 use Rattle.literals.proofs.Tables.{length-flat}
+use Rattle.classes.proofs.Indices.{getD-map}
 use Rattle.classes.proofs.KeyRows.{length-rows}
 use Rattle.showing.specs.Bytes.{selectBy, isCondition, conditionBytes, conditionOf, conditionIf, conditionsOf, objectByte, instanceBytes}
 
@@ -198,11 +199,6 @@ object-key spare label class t h l = rw (lt-ltb label 8 l) (sym (part-at t (8 * 
 pub object-spare : (spare label : ℕ) (tuple : List ℕ) → 8 ≤ label → spare ≡ objectByte spare tuple label
 object-spare spare label tuple l = rw (le-ltb label 8 l)
 
-map-at : (f : ℕ → ℕ) (l : List ℕ) (i : ℕ) → i < length l → getD (map f l) i 0 ≡ f (getD l i 0)
-map-at f [] i h = absurd (omega arith)
-map-at f (x ∷ xs) zero h = refl
-map-at f (x ∷ xs) (suc i) h = map-at f xs i (omega arith)
-
 module _ (arity spare : ℕ) (tuple row : List ℕ) (h : length row ≡ 8) (g : arity ≤ 6) where
   abbrev labels : List ℕ
   labels = take arity (drop 1 row)
@@ -225,7 +221,7 @@ module _ (arity spare : ℕ) (tuple row : List ℕ) (h : length row ≡ 8) (g : 
       let n = length-objects in
       let m = length-labels in
       List·getD-append (map (objectByte spare tuple) labels) (replicate (6 - arity) 255) 0 k (omega arith)
-      ∙ map-at (objectByte spare tuple) labels k (omega arith)
+      ∙ getD-map (objectByte spare tuple) labels k 0 0 (omega arith)
       ∙ ap (objectByte spare tuple) (getD-take arity (drop 1 row) k 0 l ∙ getD-drop 1 row k 0)
 
   fill-at : (k : ℕ) → k < 6 → arity ≤ k → getD (map (objectByte spare tuple) labels ++ replicate (6 - arity) 255) k 0 ≡ 255

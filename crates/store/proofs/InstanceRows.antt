@@ -8,16 +8,17 @@ use native.Mathlib.Omega.{arith}
 use lib.Dec.{eqb}
 use lib.ListN.{length, getD, take, drop, replicate, length-map}
 use lib.Seq.{take-all, drop-drop}
-use Rattle.records.specs.Lists.{In, addIf, keepIf, all, any, sameList}
-use Rattle.records.proofs.Lists.{and-l, and-r, eqb-same, eqb-comm, sameList-self, sameList-comm, flatMap-in}
+use Rattle.records.specs.Lists.{In, addIf, keepIf, any, sameList}
+use Rattle.records.proofs.Lists.{and-r, eqb-same, eqb-comm, sameList-self, sameList-comm, flatMap-in}
 use Rattle.literals.specs.declared.Variable.{Variable}
 use Rattle.literals.specs.declared.Object.{Object}
 use Rattle.literals.specs.declared.Index.{Index}
 use Rattle.literals.specs.declared.Time.the-variants.{AtStart}
 use Rattle.literals.specs.declared.Clause.the-variants.{Positive}
-use Rattle.literals.specs.Domain.{variable, sameObject, Fact, Literal, Component, keyBelow, eachKeyOnce, keysOf, labelsFit, Domain}
+use Rattle.literals.specs.Domain.{variable, sameObject, Fact, Literal, Component, keysOf, Domain}
 use Rattle.literals.specs.Decode.{byte}
 use Rattle.literals.specs.Table.{rowOf, literalRow, componentRow, rowsIn, Holds}
+use Rattle.literals.proofs.Bytes.{keys-once}
 use Rattle.literals.proofs.Rows.{part-first, rows-more, rows-end}
 use Rattle.literals.proofs.Tables.{rows-components}
 use Rattle.literals.proofs.Held.{components-is, keys-is, parts-is}
@@ -254,17 +255,17 @@ rows-back (t ∷ ts) = ap₂ _∷_ (ap rowOf (numbers-same t)) (rows-back ts)
 
 -- ---- two key tuples have the same row where they are the same
 
-same-behind : (m : ℕ) (x y : List Object) → length x ≡ length y → sameList eqb (objectNumbers x ++ replicate m 255) (objectNumbers y ++ replicate m 255) ≡ sameList sameObject x y
-same-behind m [] [] e = sameList-self eqb eqb-same (replicate m 255)
-same-behind m [] (y ∷ ys) e = absurd (omega arith)
-same-behind m (x ∷ xs) [] e = absurd (omega arith)
-same-behind m (x ∷ xs) (y ∷ ys) e = ap (λ (b : Bool). eqb (x .0) (y .0) && b) (same-behind m xs ys (omega arith))
+pub same-numbers : (x y : List Object) (fill : List ℕ) → length x ≡ length y → sameList eqb (objectNumbers x ++ fill) (objectNumbers y ++ fill) ≡ sameList sameObject x y
+same-numbers [] [] fill e = sameList-self eqb eqb-same fill
+same-numbers [] (y ∷ ys) fill e = absurd (omega arith)
+same-numbers (x ∷ xs) [] fill e = absurd (omega arith)
+same-numbers (x ∷ xs) (y ∷ ys) fill e = ap (λ (b : Bool). sameObject x y && b) (same-numbers xs ys fill (omega arith))
 
 same-rows : (x y : List Object) → length x ≡ length y → sameList eqb (objectsRow x) (objectsRow y) ≡ sameList sameObject y x
 same-rows x y e =
     let f : length (objectNumbers x) ≡ length (objectNumbers y) = length-map x (λ (o : Object). o .0) ∙ e ∙ sym (length-map y (λ (o : Object). o .0)) in
     ap (λ (k : ℕ). sameList eqb (objectNumbers x ++ replicate (8 - k) 255) (objectsRow y)) f
-    ∙ same-behind (8 - length (objectNumbers y)) x y e
+    ∙ same-numbers x y (replicate (8 - length (objectNumbers y)) 255) e
     ∙ sameList-comm sameObject (λ o p. eqb-comm (o .0) (p .0)) x y
 
 -- ---- from one place on
@@ -290,10 +291,6 @@ module _ {D : Domain} {index : Index} (h : Holds D index) (small : index .keys �
   few-keys : keysOf (D .template) ≤ 6
   few-keys = omega (arith, keys-is h)
 
-  once : (c : Component) → In c (D .template) → eachKeyOnce (keysOf (D .template)) (c .labels) ≡ true
-  unfolding labelsFit
-  once c m = and-r (all (keyBelow (keysOf (D .template))) (c .labels)) _ (and-l _ _ (h .bounded .keysFit c m))
-
   -- the key tuples of a fact
   pub instances-are : (f : Fact) → FactFits D f → instanceRows (index .keys) (rowsIn (index .components) (index .parts)) (factRow f) ≡ map objectsRow (tuplesOf D f)
   unfolding tuplesOf
@@ -302,7 +299,7 @@ module _ {D : Domain} {index : Index} (h : Holds D index) (small : index .keys �
       (ap₂ rowsIn (components-is h) (parts-is h) ∙ rows-components (D .template) (h .bounded .labels) (replicate (128 - length (flatMap componentRow (D .template))) 0))
       ∙ rows-same (keysOf (D .template)) f (map componentRow (D .template))
       ∙ tuples-rows D (keysOf (D .template)) few-keys (asLiteral f) (length-map (f .args) asVariable ∙ k .sized) (D .template)
-      (λ c m. record { arguments = h .bounded .componentArity c m; keys = once c m }) (h .bounded .componentsOnce)
+      (λ c m. record { arguments = h .bounded .componentArity c m; keys = keys-once _ _ (h .bounded .keysFit c m) }) (h .bounded .componentsOnce)
       ∙ ap (map tupleRow) (tuples-same (keysOf (D .template)) f (D .template))
       ∙ rows-back (tuplesBy (keysOf (D .template)) (D .template) f)
 
@@ -310,7 +307,7 @@ module _ {D : Domain} {index : Index} (h : Holds D index) (small : index .keys �
   tuple-keys : (f : Fact) (t : List Object) → In t (tuplesOf D f) → length t ≡ keysOf (D .template)
   tuple-keys f t m =
       let c = component-of D f m in
-      ap length (c .3) ∙ tuple-size (keysOf (D .template)) (c .0 .labels) (f .args) (eqb-true _ _ (and-r (eqb (c .0 .rel) (f .rel)) _ (c .2))) (once (c .0) (c .1))
+      ap length (c .3) ∙ tuple-size (keysOf (D .template)) (c .0 .labels) (f .args) (eqb-true _ _ (and-r (eqb (c .0 .rel) (f .rel)) _ (c .2))) (keys-once _ _ (h .bounded .keysFit (c .0) (c .1)))
 
   module _ (y : List Object) (e : length y ≡ keysOf (D .template)) where
     -- the weight of an instance
