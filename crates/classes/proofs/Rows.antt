@@ -33,16 +33,16 @@ module _ (rows : List ℕ) (i j : ℕ) (h : 8 * i + 8 ≤ length rows) (g : 8 * 
 
 -- ---- the rows of a list's elements
 
-module _ {A : Type 0} (f : A → List ℕ) (l : List A) (rest : List ℕ) (d : A) (h : (a : A) → In a l → length (f a) ≡ 8) where
-  pub row-flat : (j : ℕ) → j < length l → rowAt (flatMap f l ++ rest) j ≡ f (getD l j d)
-  row-flat j g =
-      sym (rows-at (length l) (flatMap f l ++ rest) j [] g) ∙ ap (λ (r : List (List ℕ)). getD r j []) (rows-flat f l rest h) ∙ getD-map f l j d [] g
+module _ {A : Type 0} (f : A → List ℕ) (l : List A) (rest : List ℕ) (d : A) where
+  pub row-flat : {w : ℕ} → ((a : A) → In a l → length (f a) ≡ w) → (j : ℕ) → j < length l → take w (drop (w * j) (flatMap f l ++ rest)) ≡ f (getD l j d)
+  row-flat {w} h j g =
+      sym (rows-at w (length l) (flatMap f l ++ rest) j [] g) ∙ ap (λ (r : List (List ℕ)). getD r j []) (rows-flat f l rest h) ∙ getD-map f l j d [] g
 
-  pub byte-flat : (j k : ℕ) → j < length l → k < 8 → getD (flatMap f l ++ rest) (8 * j + k) 0 ≡ getD (f (getD l j d)) k 0
-  byte-flat j k g s =
+  pub byte-flat : ((a : A) → In a l → length (f a) ≡ 8) → (j k : ℕ) → j < length l → k < 8 → getD (flatMap f l ++ rest) (8 * j + k) 0 ≡ getD (f (getD l j d)) k 0
+  byte-flat h j k g s =
       let e = length-append (flatMap f l) rest in
       let u = length-flat f l h in
-      sym (part-at (flatMap f l ++ rest) (8 * j) (omega arith) k s) ∙ ap (λ (r : List ℕ). getD r k 0) (row-flat j g)
+      sym (part-at 8 (flatMap f l ++ rest) (8 * j) (omega arith) k s) ∙ ap (λ (r : List ℕ). getD r k 0) (row-flat h j g)
 
 -- ---- of literals
 

@@ -2,13 +2,13 @@
 use mathlib.Core.Path.{_≡_, refl, sym, ap, ap₂, _∙_}
 use mathlib.Core.Bool.{Bool, true, false, _&&_, not, cond}
 use mathlib.Core.Logic.{_⊎_, inl, inr}
-use mathlib.Core.List.{List, [], _∷_, _++_, map, flatMap, append-assoc, append-nil, List·Memᴰ·head, List·Memᴰ·tail}
+use mathlib.Core.List.{List, [], _∷_, _++_, map, flatMap, append-nil, List·Memᴰ·head, List·Memᴰ·tail}
 use Prim.Native.Nat.{ℕ, zero, suc, _+_, _-_, _*_, _≤_, _<_}
 use native.Mathlib.Numerals.{add-one}
 use native.Mathlib.Omega.{arith}
 use lib.Dec.{eqb}
 use lib.ListN.{length, getD, take, drop, replicate, length-append, length-map, length-replicate, length-drop, List·getD-append, List·getD-map}
-use lib.Seq.{take-at, drop-at, drop-drop, length-take-le}
+use lib.Seq.{take-at, length-take-le}
 use borrow.Author.Tests.{eqb-true, eqb-false, lt-ltb}
 use Rattle.records.specs.Lists.{In, all, any, sameList, elem, dedup}
 use Rattle.records.proofs.Lists.{bool-cases, off, clash, any-map, any-in, in-any, all-in, all-of, getD-in, allBelow, below-in, in-dedup, dedup-in}
@@ -30,6 +30,7 @@ use Rattle.classes.specs.declared.Moment.{Moment}
 use Rattle.classes.specs.declared.Moment.the-variants.{Start, End}
 use Rattle.classes.specs.Classes.{momentNumber, overAll, withRole, literalsAt}
 use Rattle.classes.proofs.Clauses.{counts}
+use Rattle.classes.proofs.Rows.{row-flat}
 use Rattle.classes.proofs.Indices.{any-agree}
 use Rattle.verdict.specs.Binding.{Binding, valueOf, bind}
 use Rattle.verdict.specs.Judged.{objectNumbers}
@@ -272,20 +273,6 @@ part-fits n arities starts table R i h from to p q =
 
 -- ---- rows of 17 bytes
 
-module _ {A : Type 0} (f : A → List ℕ) where
-  pub ground-row-at : (l : List A) (rest : List ℕ) (d : A) → ((a : A) → In a l → length (f a) ≡ 17) → (i : ℕ) → i < length l
-      → take 17 (drop (17 * i) (flatMap f l ++ rest)) ≡ f (getD l i d)
-  unfolding flatMap
-  ground-row-at [] rest d h i b = absurd (omega arith)
-  ground-row-at (x ∷ xs) rest d h zero b =
-      ap (take 17) (append-assoc (f x) (flatMap f xs) rest) ∙ take-at (f x) (flatMap f xs ++ rest) 17 (h x (List·Memᴰ·head refl))
-  ground-row-at (x ∷ xs) rest d h (suc i) b =
-      let e : 17 * suc i ≡ 17 + 17 * i = omega arith in
-      ap₂ (λ (n : ℕ) (t : List ℕ). take 17 (drop n t)) e (append-assoc (f x) (flatMap f xs) rest)
-      ∙ ap (take 17) (sym (drop-drop (17 * i) 17 (f x ++ (flatMap f xs ++ rest))))
-      ∙ ap (λ (t : List ℕ). take 17 (drop (17 * i) t)) (drop-at (f x) (flatMap f xs ++ rest) 17 (h x (List·Memᴰ·head refl)))
-      ∙ ground-row-at xs rest d (λ a m. h a (List·Memᴰ·tail m)) i (omega arith)
-
 -- what an index beyond the last reads
 abbrev pub noGround : GroundAction
 noGround = record { action = 0; binding = [] }
@@ -299,7 +286,7 @@ pub open-row-at : (gs : List GroundAction) → ((g : GroundAction) → In g gs �
 unfolding openOf
 open-row-at gs h o e i b =
     ap (λ (x : Open). take 17 (drop (17 * i) (x .rows))) e
-    ∙ ground-row-at groundRow gs (replicate (544 - length (flatMap groundRow gs)) 0) noGround (λ g m. length-ground-row g (h g m)) i b
+    ∙ row-flat groundRow gs (replicate (544 - length (flatMap groundRow gs)) 0) noGround (λ g m. length-ground-row g (h g m)) i b
 
 pub open-count : (gs : List GroundAction) (o : Open) → o ≡ openOf gs → o .count ≡ length gs
 unfolding openOf
@@ -311,7 +298,7 @@ pub waiting-row-at : (es : List Event) → ((e : Event) → In e es → length (
 unfolding waitingOf
 waiting-row-at es h w p i b =
     ap (λ (x : Waiting). take 17 (drop (17 * i) (x .rows))) p
-    ∙ ground-row-at (λ (e : Event). groundRow (e .ground)) es (replicate (272 - length (flatMap (λ (e : Event). groundRow (e .ground)) es)) 0) noEvent (λ e m. length-ground-row (e .ground) (h e m)) i b
+    ∙ row-flat (λ (e : Event). groundRow (e .ground)) es (replicate (272 - length (flatMap (λ (e : Event). groundRow (e .ground)) es)) 0) noEvent (λ e m. length-ground-row (e .ground) (h e m)) i b
 
 pub waiting-moment-at : (es : List Event) (w : Waiting) → w ≡ waitingOf es → (i : ℕ) → getD (w .moments) i 0 ≡ momentNumber (getD es i noEvent .moment)
 unfolding waitingOf

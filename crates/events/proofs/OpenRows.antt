@@ -11,12 +11,11 @@ use lib.Seq.{paste, take-at, drop-at, take-all, split-at, length-take-le}
 use borrow.Author.Tests.{ltb-true, ltb-false, lt-ltb, le-leb, lt-leb, ne-eqb, eqb-true, eqb-false}
 use Rattle.records.specs.Lists.{In, keepIf, all, sameList, elem}
 use Rattle.records.proofs.Lists.{bool-cases, eqb-same, sameList-self, flatMap-append, flatMap-snoc, in-snoc}
-use Rattle.records.proofs.Memory.{over-paste}
 use Rattle.literals.specs.declared.Object.{Object}
 use Rattle.literals.specs.declared.Index.{Index}
 use Rattle.literals.specs.Domain.{sameObject, noAction, Domain, action}
 use Rattle.literals.specs.Table.{pad, sortNumber, Bounded, Holds}
-use Rattle.literals.proofs.Tables.{pad-over, pad-at}
+use Rattle.literals.proofs.Tables.{length-flat, rows-flat, pad-at, pad-paste}
 use Rattle.literals.proofs.Held.{actions-is, sorts-is}
 use Rattle.classes.specs.declared.Moment.{Moment}
 use Rattle.classes.specs.declared.Moment.the-variants.{Start, End}
@@ -33,34 +32,12 @@ use Rattle.store.specs.Rows.{hasRow}
 use Rattle.events.proofs.FactRows.{few-objects, length-ground-row}
 use Rattle.events.proofs.Members.{close-in, closed-in}
 
--- ---- rows of 17 bytes, one for each element
+-- ---- the events that wait
 
-module _ {A : Type 0} (f : A → List ℕ) where
-  abbrev Seventeen : List A → Type 0
-  Seventeen l = (a : A) → In a l → length (f a) ≡ 17
-
-  pub length-flat : (l : List A) → Seventeen l → length (flatMap f l) ≡ 17 * length l
-  unfolding flatMap
-  length-flat [] h = refl
-  length-flat (x ∷ xs) h = simp length-append (omega (arith, h x (List·Memᴰ·head refl), length-flat xs (λ a m. h a (List·Memᴰ·tail m))))
-
-  grounds-flat : (l : List A) (rest : List ℕ) → Seventeen l → groundsIn (length l) (flatMap f l ++ rest) ≡ map f l
-  unfolding flatMap
-  grounds-flat [] rest h = refl
-  grounds-flat (x ∷ xs) rest h =
-      let e = h x (List·Memᴰ·head refl) in
-      rw (
-        append-assoc (f x) (flatMap f xs) rest,
-        take-at (f x) (flatMap f xs ++ rest) 17 e,
-        drop-at (f x) (flatMap f xs ++ rest) 17 e,
-        grounds-flat xs rest (λ a m. h a (List·Memᴰ·tail m)),
-      )
-
--- the events that wait
 abbrev eventRow : Event → EventRow
 eventRow e = record { moment = momentNumber (e .moment); row = groundRow (e .ground) }
 
-events-flat : (f : Event → List ℕ) (es : List Event) (left rest : List ℕ) → Seventeen f es
+events-flat : (f : Event → List ℕ) (es : List Event) (left rest : List ℕ) → ((e : Event) → In e es → length (f e) ≡ 17)
     → eventsIn (length es) (map (λ (e : Event). momentNumber (e .moment)) es ++ left) (flatMap f es ++ rest)
     ≡ map {B = EventRow} (λ (e : Event). record { moment = momentNumber (e .moment); row = f e }) es
 unfolding flatMap
@@ -110,7 +87,7 @@ module _ {D : Domain} (B : Bounded D) where
 
   entries-are : (gs : List GroundAction) → GroundsFit D gs → groundsIn (openOf gs .count) (openOf gs .rows) ≡ map groundRow gs
   unfolding openOf
-  entries-are gs k = grounds-flat groundRow gs (replicate (544 - length (flatMap groundRow gs)) 0) (λ g m. length-ground g (k g m))
+  entries-are gs k = rows-flat groundRow gs (replicate (544 - length (flatMap groundRow gs)) 0) (λ g m. length-ground g (k g m))
 
   events-are : (es : List Event) → EventsFit D es → eventsIn (waitingOf es .count) (waitingOf es .moments) (waitingOf es .rows) ≡ map eventRow es
   unfolding waitingOf
@@ -272,9 +249,6 @@ closes-are B (e ∷ es) h gs k few =
 
 -- ---- an entry more
 
-bytes-in : (n : ℕ) (x z : List ℕ) (k : ℕ) → length x ≡ 17 * k → length z ≡ 17 → paste (pad n x) (17 * k) z 17 ≡ pad n (x ++ z)
-bytes-in n x z k e f = ap (λ (t : List ℕ). paste t (17 * k) z 17) (pad-over n x) ∙ over-paste x (replicate n 0) z (17 * k) 17 e f ∙ sym (pad-over n (x ++ z))
-
 module _ {D : Domain} (B : Bounded D) where
   entry-in : (gs : List GroundAction) → GroundsFit D gs → (g : GroundAction) → GroundFits D g → joinEntry (groundRow g) (openOf gs) ≡ openOf (gs ++ (g ∷ []))
   unfolding openOf joinEntry
@@ -285,7 +259,7 @@ module _ {D : Domain} (B : Bounded D) where
 
       bytes : paste (pad 544 (flatMap groundRow gs)) (17 * length gs) (groundRow g) 17 ≡ pad 544 (flatMap groundRow (gs ++ (g ∷ [])))
       bytes =
-          bytes-in 544 (flatMap groundRow gs) (groundRow g) (length gs) (length-flat groundRow gs (λ h m. length-ground B h (k h m))) (length-ground B g f)
+          pad-paste 544 (flatMap groundRow gs) (groundRow g) (17 * length gs) 17 (length-flat groundRow gs (λ h m. length-ground B h (k h m))) (length-ground B g f)
           ∙ ap (pad 544) (sym (flatMap-snoc groundRow gs g))
 
 -- what the answer says of the entries afterwards

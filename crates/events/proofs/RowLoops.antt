@@ -28,7 +28,7 @@ module _ (arity : ℕ) (ground t : List ℕ) (at : ℕ) (h : at + 8 ≤ length t
   objects = map (objectOf ground) (take arity (drop 2 row))
 
   length-arguments : length (take arity (drop 2 row)) ≡ arity
-  length-arguments = let l = length-part t at h in length-take-le arity (drop 2 row) (simp length-drop (omega arith))
+  length-arguments = let l = length-part 8 t at h in length-take-le arity (drop 2 row) (simp length-drop (omega arith))
 
   length-objects : length objects ≡ arity
   length-objects = length-map (take arity (drop 2 row)) (objectOf ground) ∙ length-arguments
@@ -41,7 +41,7 @@ module _ (arity : ℕ) (ground t : List ℕ) (at : ℕ) (h : at + 8 ≤ length t
       omega arith
 
   pub bound-first : (i : ℕ) → i ≡ 0 → getD t (at + 1) 0 ≡ getD (boundBytes arity ground row) i 0
-  bound-first i e = sym (part-at t at h 1 (omega arith)) ∙ ap (λ (i : ℕ). getD (boundBytes arity ground row) i 0) (sym e)
+  bound-first i e = sym (part-at 8 t at h 1 (omega arith)) ∙ ap (λ (i : ℕ). getD (boundBytes arity ground row) i 0) (sym e)
 
   pub bound-object : (i r : ℕ) → (i ≡ 0 → ⊥) → (i ≡ 1 → ⊥) → i < 2 + arity → r ≡ objectOf ground (getD t (at + i) 0) → r ≡ getD (boundBytes arity ground row) i 0
   bound-object zero r n o l e = absurd (n refl)
@@ -55,7 +55,7 @@ module _ (arity : ℕ) (ground t : List ℕ) (at : ℕ) (h : at + 8 ≤ length t
       ∙ sym
       (List·getD-append objects (replicate (6 - arity) 255) 0 k (omega arith)
       ∙ getD-map (objectOf ground) (take arity (drop 2 row)) k 0 0 (omega arith)
-      ∙ ap (objectOf ground) (getD-take arity (drop 2 row) k 0 (omega arith) ∙ getD-drop 2 row k 0 ∙ part-at t at h (2 + k) (omega arith)))
+      ∙ ap (objectOf ground) (getD-take arity (drop 2 row) k 0 (omega arith) ∙ getD-drop 2 row k 0 ∙ part-at 8 t at h (2 + k) (omega arith)))
 
   pub bound-fill : (i : ℕ) → i < 8 → (i ≡ 0 → ⊥) → (i ≡ 1 → ⊥) → 2 + arity ≤ i → 255 ≡ getD (boundBytes arity ground row) i 0
   bound-fill zero l n o m = absurd (n refl)
@@ -85,7 +85,7 @@ module _ (arity : ℕ) (ground t : List ℕ) (at : ℕ) (h : at + 8 ≤ length t
       ∙ ap (λ (k : ℕ). paste (replicate 8 255) 0 (boundBytes arity ground row) k) z
       ∙ ap (λ (l : List ℕ). l ++ []) (take-all 8 (boundBytes arity ground row) (omega (arith, length-bound arity ground t at h g)))
       ∙ append-nil (boundBytes arity ground row)
-      ∙ ap (λ (n : ℕ). boundBytes n ground row) (f ∙ sym (ap (λ (r : ℕ). getD arities r 0) (part-at t at h 1 (omega arith))))
+      ∙ ap (λ (n : ℕ). boundBytes n ground row) (f ∙ sym (ap (λ (r : ℕ). getD arities r 0) (part-at 8 t at h 1 (omega arith))))
 
 -- its second byte is the arity of its relation
 pub bound-sized : (arities ground row fact : List ℕ) → fact ≡ boundRow arities ground row → byte fact 1 ≡ getD arities (byte fact 0) 0

@@ -3,6 +3,7 @@ use mathlib.Core.Path.{_≡_, refl, sym, ap, ap₂, _∙_}
 use mathlib.Core.Bool.{Bool, true, false, _&&_, _||_, cond}
 use mathlib.Core.List.{List, [], _∷_, _++_, map, flatMap, append-assoc, List·Memᴰ·head, List·Memᴰ·tail, Memᴰ·append-left, Memᴰ·append-right}
 use Prim.Native.Nat.{ℕ, zero, suc, _+_, _-_, _*_, _≤_, _<_, max}
+use native.Mathlib.Nat.{add-comm, mul-zero, mul-suc}
 use native.Mathlib.Omega.{arith}
 use lib.Dec.{eqb}
 use lib.ListN.{length, getD, set, take, drop, replicate, length-append, length-map, length-replicate}
@@ -16,7 +17,7 @@ use Rattle.literals.specs.declared.Variable.{Variable}
 use Rattle.literals.specs.declared.Role.{Role}
 use Rattle.literals.specs.Domain.{variable, sameVariable, sameLiteral, roleOf, roleNumber, sameRole, Literal, Action, Component, Domain}
 use Rattle.literals.specs.Decode.{byte, literalOf, repeats, contrary, together, contradicts}
-use Rattle.literals.specs.Table.{rowOf, literalRow, labelNumber, componentRow, pad, roleRank, rowRank, rowsIn, rowsRank, Bounded}
+use Rattle.literals.specs.Table.{rowOf, literalRow, labelNumber, componentRow, pad, roleRank, rowRank, rowsBy, rowsIn, rowsRank, Bounded}
 use Rattle.literals.proofs.Rows.{length-row}
 
 -- ---- a row at the seam of a table
@@ -27,20 +28,24 @@ over-row new old p at e h = over-paste new old (rowOf p) at 8 e (length-row p h)
 -- ---- the rows of a table that holds one for each element
 
 module _ {A : Type 0} (f : A → List ℕ) where
-  pub length-flat : (l : List A) → ((a : A) → In a l → length (f a) ≡ 8) → length (flatMap f l) ≡ 8 * length l
+  pub length-flat : {w : ℕ} (l : List A) → ((a : A) → In a l → length (f a) ≡ w) → length (flatMap f l) ≡ w * length l
   unfolding flatMap
-  length-flat [] h = refl
-  length-flat (x ∷ xs) h = simp length-append (omega (arith, h x (List·Memᴰ·head refl), length-flat xs (λ a m. h a (List·Memᴰ·tail m))))
+  length-flat {w} [] h = sym (mul-zero w)
+  length-flat {w} (x ∷ xs) h =
+      length-append (f x) (flatMap f xs)
+      ∙ ap₂ _+_ (h x (List·Memᴰ·head refl)) (length-flat xs (λ a m. h a (List·Memᴰ·tail m)))
+      ∙ add-comm w (w * length xs)
+      ∙ sym (mul-suc w (length xs))
 
-  pub rows-flat : (l : List A) (rest : List ℕ) → ((a : A) → In a l → length (f a) ≡ 8) → rowsIn (length l) (flatMap f l ++ rest) ≡ map f l
+  pub rows-flat : {w : ℕ} (l : List A) (rest : List ℕ) → ((a : A) → In a l → length (f a) ≡ w) → rowsBy w (length l) (flatMap f l ++ rest) ≡ map f l
   unfolding flatMap
   rows-flat [] rest h = refl
-  rows-flat (x ∷ xs) rest h =
+  rows-flat {w} (x ∷ xs) rest h =
       let e = h x (List·Memᴰ·head refl) in
       rw (
         append-assoc (f x) (flatMap f xs) rest,
-        take-at (f x) (flatMap f xs ++ rest) 8 e,
-        drop-at (f x) (flatMap f xs ++ rest) 8 e,
+        take-at (f x) (flatMap f xs ++ rest) w e,
+        drop-at (f x) (flatMap f xs ++ rest) w e,
         rows-flat xs rest (λ a m. h a (List·Memᴰ·tail m)),
       )
 
@@ -83,7 +88,7 @@ any-component b cs = any-map componentRow (λ row. eqb b (byte row 0)) cs
 -- ---- a list in an array
 
 -- an array of zeros whose first numbers are the list
-pub pad-over : (n : ℕ) (l : List ℕ) → pad n l ≡ over l (replicate n 0)
+pad-over : (n : ℕ) (l : List ℕ) → pad n l ≡ over l (replicate n 0)
 unfolding over
 pad-over n l = rw drop-replicate
 
@@ -102,11 +107,9 @@ take-pad n l = take-append-seam l (replicate (n - length l) 0)
 pub length-pad : (n : ℕ) (l : List ℕ) → length l ≤ n → length (pad n l) ≡ n
 length-pad n l h = simp (length-append, length-replicate) (omega arith)
 
-pub pad-row : (n : ℕ) (l p : List ℕ) → length p ≤ 8 → paste (pad n l) (length l) (rowOf p) 8 ≡ pad n (l ++ rowOf p)
-pad-row n l p h =
-    ap (λ (a : List ℕ). paste a (length l) (rowOf p) 8) (pad-over n l)
-    ∙ over-row l (replicate n 0) p (length l) refl h
-    ∙ sym (pad-over n (l ++ rowOf p))
+-- k numbers more
+pub pad-paste : (n : ℕ) (l p : List ℕ) (at k : ℕ) → length l ≡ at → length p ≡ k → paste (pad n l) at p k ≡ pad n (l ++ p)
+pad-paste n l p at k e f = ap (λ (a : List ℕ). paste a at p k) (pad-over n l) ∙ over-paste l (replicate n 0) p at k e f ∙ sym (pad-over n (l ++ p))
 
 -- ---- ranks: what the bytes of a literal's row say of the literal
 

@@ -64,12 +64,12 @@ module _ (keys r : ℕ) (row : List ℕ) (e : byte row 0 ≡ r) where
 -- the fact at an offset, and the place of its relation's component
 module _ (parts memory : List ℕ) (n keys at c : ℕ) (e : c ≡ position (starts (getD memory at 0)) (rowsIn n parts)) where
   pub component-le : c ≤ n
-  component-le = omega (arith, place-le (starts (getD memory at 0)) (rowsIn n parts), length-rows n parts)
+  component-le = omega (arith, place-le (starts (getD memory at 0)) (rowsIn n parts), length-rows 8 n parts)
 
   pub unmatched : c ≡ n → record { matched = false; row = replicate 8 255 } ≡ keyedBy (instanceRows keys (rowsIn n parts) (take 8 (drop at memory)))
   unfolding keyedBy
   unmatched f =
-      rw (instance-none keys (getD memory at 0) (take 8 (drop at memory)) (part-first memory at) (rowsIn n parts) (sym e ∙ f ∙ sym (length-rows n parts)))
+      rw (instance-none keys (getD memory at 0) (take 8 (drop at memory)) (part-first memory at) (rowsIn n parts) (sym e ∙ f ∙ sym (length-rows 8 n parts)))
 
   pub matched : (c ≡ n → ⊥) → (t : List ℕ) → t ≡ keyRow keys (take 8 (drop (8 * c) parts)) (take 8 (drop at memory))
       → record { matched = true; row = t } ≡ keyedBy (instanceRows keys (rowsIn n parts) (take 8 (drop at memory)))
@@ -77,9 +77,9 @@ module _ (parts memory : List ℕ) (n keys at c : ℕ) (e : c ≡ position (star
   matched h t f =
       let v : c < n = omega (arith, component-le) in
       sym (ap keyedBy
-      (instance-one keys (getD memory at 0) (take 8 (drop at memory)) (part-first memory at) (rowsIn n parts) (λ z. h (e ∙ z ∙ length-rows n parts))
+      (instance-one keys (getD memory at 0) (take 8 (drop at memory)) (part-first memory at) (rowsIn n parts) (λ z. h (e ∙ z ∙ length-rows 8 n parts))
       ∙ ap (λ (k : ℕ). keyRow keys (getD (rowsIn n parts) k []) (take 8 (drop at memory)) ∷ []) (sym e)
-      ∙ ap (λ (p : List ℕ). keyRow keys p (take 8 (drop at memory)) ∷ []) (rows-at n parts c [] v)
+      ∙ ap (λ (p : List ℕ). keyRow keys p (take 8 (drop at memory)) ∷ []) (rows-at 8 n parts c [] v)
       ∙ ap (λ (x : List ℕ). x ∷ []) (sym f)))
 
 -- ---- none or one
@@ -144,7 +144,7 @@ module _ (keys : ℕ) (ps : List (List ℕ)) (memory row : List ℕ) (n i weight
       → (weight + w) + rowWeight keys ps (rowsIn (n - (i + 1)) (drop (8 * (i + 1)) memory)) row ≡ weight + rowWeight keys ps (rowsIn (n - i) (drop (8 * i) memory)) row
   unfolding rowWeight
   weigh-more w h e =
-      rw (rows-more memory n i h)
+      rw (rows-more 8 memory n i h)
       (go (any (sameList eqb row) (instanceRows keys ps (take 8 (drop (8 * i) memory)))) (rowWeight keys ps (rowsIn (n - (i + 1)) (drop (8 * (i + 1)) memory)) row) e)
     where
       go : (b : Bool) (m : ℕ) → w ≡ addIf b 0 → (weight + w) + m ≡ weight + addIf b m
@@ -153,7 +153,7 @@ module _ (keys : ℕ) (ps : List (List ℕ)) (memory row : List ℕ) (n i weight
 
   pub weigh-end : n ≤ i → weight + rowWeight keys ps (rowsIn (n - i) (drop (8 * i) memory)) row ≡ weight
   unfolding rowWeight
-  weigh-end h = rw (rows-end (drop (8 * i) memory) n i h) (omega arith)
+  weigh-end h = rw (rows-end 8 (drop (8 * i) memory) n i h) (omega arith)
 
 pub adds-few : (b : Bool) (w : ℕ) → w ≡ addIf b 0 → w ≤ 1
 adds-few true w e = omega arith
@@ -189,11 +189,11 @@ module _ (keys : ℕ) (ps facts : List (List ℕ)) (memory : List ℕ) (n i top 
   unfolding flatMap
   top-more r h e =
       let f = largest-append (rowWeight keys ps facts) (instanceRows keys ps (take 8 (drop (8 * i) memory))) (flatMap (instanceRows keys ps) (rowsIn (n - (i + 1)) (drop (8 * (i + 1)) memory))) in
-      rw (rows-more memory n i h) (omega arith)
+      rw (rows-more 8 memory n i h) (omega arith)
 
   pub top-end : n ≤ i → max top (topOf keys ps facts (rowsIn (n - i) (drop (8 * i) memory))) ≡ top
   unfolding flatMap
-  top-end h = rw (rows-end (drop (8 * i) memory) n i h) (omega arith)
+  top-end h = rw (rows-end 8 (drop (8 * i) memory) n i h) (omega arith)
 
 -- the rows from one place on
 rows-drop : (n from : ℕ) (t : List ℕ) → drop from (rowsIn n t) ≡ rowsIn (n - from) (drop (8 * from) t)

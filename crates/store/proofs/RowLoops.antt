@@ -16,23 +16,23 @@ use Rattle.literals.proofs.Rows.{length-part, part-at, rows-more, rows-end}
 
 module _ (p : List ℕ → Bool) (t : List ℕ) (n i : ℕ) where
   pub any-end : n ≤ i → any p (rowsIn (n - i) (drop (8 * i) t)) ≡ false
-  any-end h = rw (rows-end (drop (8 * i) t) n i h)
+  any-end h = rw (rows-end 8 (drop (8 * i) t) n i h)
 
   pub all-end : n ≤ i → all p (rowsIn (n - i) (drop (8 * i) t)) ≡ true
-  all-end h = rw (rows-end (drop (8 * i) t) n i h)
+  all-end h = rw (rows-end 8 (drop (8 * i) t) n i h)
 
   module _ (h : i < n) where
     pub any-hit : p (take 8 (drop (8 * i) t)) ≡ true → any p (rowsIn (n - i) (drop (8 * i) t)) ≡ true
-    any-hit e = rw (rows-more t n i h, e)
+    any-hit e = rw (rows-more 8 t n i h, e)
 
     pub any-miss : p (take 8 (drop (8 * i) t)) ≡ false → any p (rowsIn (n - i) (drop (8 * i) t)) ≡ any p (rowsIn (n - (i + 1)) (drop (8 * (i + 1)) t))
-    any-miss e = rw (rows-more t n i h, e)
+    any-miss e = rw (rows-more 8 t n i h, e)
 
     pub all-miss : p (take 8 (drop (8 * i) t)) ≡ false → all p (rowsIn (n - i) (drop (8 * i) t)) ≡ false
-    all-miss e = rw (rows-more t n i h, e)
+    all-miss e = rw (rows-more 8 t n i h, e)
 
     pub all-hit : p (take 8 (drop (8 * i) t)) ≡ true → all p (rowsIn (n - i) (drop (8 * i) t)) ≡ all p (rowsIn (n - (i + 1)) (drop (8 * (i + 1)) t))
-    all-hit e = rw (rows-more t n i h, e)
+    all-hit e = rw (rows-more 8 t n i h, e)
 
 pub any-first : (p : List ℕ → Bool) (t : List ℕ) (n : ℕ) → any p (rowsIn (n - 0) (drop (8 * 0) t)) ≡ any p (rowsIn n t)
 any-first p t n = ap (λ (k : ℕ). any p (rowsIn k t)) (sub-zero n)
@@ -47,11 +47,11 @@ module _ (t : List ℕ) (at : ℕ) (h : at + 8 ≤ length t) (row : List ℕ) (i
   read-more l =
       let z : 0 + i ≡ i = omega arith in
       ap (λ (k : ℕ). set row k (getD t (at + i) 0)) (sym z)
-      ∙ paste-more (take 8 (drop at t)) (replicate 8 0) row 0 i 8 (omega arith) (length-part t at h) e (getD t (at + i) 0) l (sym (part-at t at h i l))
+      ∙ paste-more (take 8 (drop at t)) (replicate 8 0) row 0 i 8 (omega arith) (length-part 8 t at h) e (getD t (at + i) 0) l (sym (part-at 8 t at h i l))
 
   pub read-all : i ≡ 8 → row ≡ take 8 (drop at t)
   read-all z =
       e
       ∙ ap (λ (k : ℕ). paste (replicate 8 0) 0 (take 8 (drop at t)) k) z
-      ∙ ap (λ (l : List ℕ). l ++ []) (take-all 8 (take 8 (drop at t)) (omega (arith, length-part t at h)))
+      ∙ ap (λ (l : List ℕ). l ++ []) (take-all 8 (take 8 (drop at t)) (omega (arith, length-part 8 t at h)))
       ∙ append-nil (take 8 (drop at t))

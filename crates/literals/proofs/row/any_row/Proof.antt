@@ -46,7 +46,7 @@ loop-again c = let a = c .before .before .before .before .args in
 returns-2 : tie.Need-returns-2 Inv-loop μ-loop
 returns-2 c = let a = c .before .before .args in
     let l = c .before .loop in
-    sym (ap (any (λ row. eqb (a .b) (byte row 0))) (rows-end (drop (8 * l .i) (a .table .now)) (a .n) (l .i) (omega arith))) ∙ l .inv .1
+    sym (ap (any (λ row. eqb (a .b) (byte row 0))) (rows-end 8 (drop (8 * l .i) (a .table .now)) (a .n) (l .i) (omega arith))) ∙ l .inv .1
 
 pub any-row-spec : {M : Type 1} → statement M
 any-row-spec =
