@@ -15,7 +15,7 @@ use Rattle.records.specs.Memory.{over}
 use Rattle.records.proofs.Memory.{over-more, drop-replicate}
 use Rattle.literals.specs.Decode.{byte}
 use Rattle.literals.specs.Table.{rowOf, rowsBy, rowsIn}
-use Rattle.literals.proofs.Rows.{length-row, row-full, eight-by-four, same-miss, same-hit, same-end, length-part, part-at, part-first, rows-more, rows-end}
+use Rattle.literals.proofs.Rows.{length-row, row-full, eight-by-four, same-miss, same-hit, same-end, length-part, part-at, rows-more, rows-end}
 use Rattle.classes.specs.Coded.{position, underKey, underKeys, keyRow, keyRows, numberedBy, tuplesAfter}
 
 -- ---- the place of the first row that passes, from row c on
@@ -34,13 +34,6 @@ module _ (w : ℕ) (p : List ℕ → Bool) (t : List ℕ) (n c : ℕ) where
     pub place-miss : p (take w (drop (w * c) t)) ≡ false
         → c + 1 + position p (rowsBy w (n - (c + 1)) (drop (w * (c + 1)) t)) ≡ c + position p (rowsBy w (n - c) (drop (w * c) t))
     place-miss e = rw (rows-more w t n c h, e) (omega arith)
-
--- whether the row at c starts with b
-pub starts-yes : (t : List ℕ) (b c : ℕ) → getD t (8 * c) 0 ≡ b → eqb b (byte (take 8 (drop (8 * c) t)) 0) ≡ true
-starts-yes t b c e = rw (part-first t (8 * c)) (eq-eqb b (getD t (8 * c) 0) (sym e))
-
-pub starts-no : (t : List ℕ) (b c : ℕ) → (getD t (8 * c) 0 ≡ b → ⊥) → eqb b (byte (take 8 (drop (8 * c) t)) 0) ≡ false
-starts-no t b c e = rw (part-first t (8 * c)) (ne-eqb b (getD t (8 * c) 0) (λ f. e (sym f)))
 
 -- ---- w bytes and the row at an offset, from byte i on
 
@@ -142,6 +135,7 @@ place-le p (x ∷ xs) = go (p x) (place-le p xs)
     go true h = omega arith
     go false h = omega arith
 
+-- as many rows as were asked for, and the one at c
 pub length-rows : (w n : ℕ) (t : List ℕ) → length (rowsBy w n t) ≡ n
 length-rows w zero t = refl
 length-rows w (suc n) t = ap suc (length-rows w n (drop w t))

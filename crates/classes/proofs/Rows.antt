@@ -1,20 +1,19 @@
 -- Rows of 8 bytes by index: what they say of the literals and components that they hold. Assumes nothing.
-use mathlib.Core.Path.{_≡_, refl, sym, ap, ap₂, _∙_}
+use mathlib.Core.Path.{_≡_, sym, ap, ap₂, _∙_}
 use mathlib.Core.Bool.{Bool, true, false, _&&_}
-use mathlib.Core.List.{List, [], _++_, map, flatMap, append-nil, Memᴰ·of-map}
+use mathlib.Core.List.{List, [], _++_, map, flatMap, append-nil}
 use Prim.Native.Nat.{ℕ, suc, _+_, _-_, _*_, _≤_, _<_}
 use native.Mathlib.Omega.{arith}
 use lib.Dec.{eqb}
 use lib.ListN.{length, getD, take, drop, length-append, length-map}
 use Rattle.records.specs.Lists.{In, sameList}
-use Rattle.records.proofs.Lists.{getD-in, map-back}
-use Rattle.literals.specs.declared.Variable.{Variable}
+use Rattle.records.proofs.Lists.{getD-in}
 use Rattle.literals.specs.declared.Time.the-variants.{AtStart}
 use Rattle.literals.specs.declared.Clause.the-variants.{Positive}
-use Rattle.literals.specs.Domain.{variable, sameVariable, sameLiteral, roleNumber, Literal}
+use Rattle.literals.specs.Domain.{sameLiteral, roleNumber, Literal}
 use Rattle.literals.specs.Table.{literalRow}
 use Rattle.literals.proofs.Rows.{seven-by-four, part-at}
-use Rattle.literals.proofs.Tables.{Kept, length-flat, rows-flat, length-literal-row, same-filled}
+use Rattle.literals.proofs.Tables.{Kept, length-flat, rows-flat, length-literal-row, value, same-filled}
 use Rattle.classes.specs.Coded.{rowAt, sameAtomAt}
 use Rattle.classes.proofs.Indices.{getD-map}
 use Rattle.classes.proofs.KeyRows.{rows-at}
@@ -58,21 +57,10 @@ same-rows : (l m : Literal) → Kept l → Kept m → sameList eqb (drop 1 (lite
 same-rows l m h k =
     let f = h .fits in
     let g = k .fits in
-    let u = length-map (l .atom .args) (λ (v : Variable). v .0) in
-    let w = length-map (m .atom .args) (λ (v : Variable). v .0) in
+    let u = length-map (l .atom .args) value in
+    let w = length-map (m .atom .args) value in
     ap (λ (t : Bool). eqb (l .atom .rel) (m .atom .rel) && t)
-    (same-filled
-    (map (λ (v : Variable). v .0) (l .atom .args))
-    (m .atom .args)
-    (8 - suc (suc (length (map (λ (v : Variable). v .0) (l .atom .args)))))
-    (8 - suc (suc (length (map (λ (v : Variable). v .0) (m .atom .args)))))
-    small
-    (k .arguments)
-    (omega arith)
-    ∙ ap (λ (vs : List Variable). sameList sameVariable vs (m .atom .args)) (map-back variable (λ (v : Variable). v .0) (λ v. refl) (l .atom .args)))
-  where
-    small : (b : ℕ) → In b (map (λ (v : Variable). v .0) (l .atom .args)) → b < 255
-    small b i = let r = Memᴰ·of-map (λ (v : Variable). v .0) (l .atom .args) i in let e = r .2 in let q = h .arguments (r .0) (r .1) in omega arith
+    (same-filled value (l .atom .args) (m .atom .args) (8 - suc (suc (length (map value (l .atom .args))))) (8 - suc (suc (length (map value (m .atom .args))))) (h .arguments) (k .arguments) (omega arith))
 
 module _ (ls : List Literal) (k : (l : Literal) → In l ls → Kept l) where
   pub kept-at : (j : ℕ) → j < length ls → Kept (literalAt ls j)

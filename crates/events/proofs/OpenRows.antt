@@ -3,26 +3,25 @@ use mathlib.Core.Path.{_≡_, refl, sym, ap, ap₂, subst, _∙_}
 use mathlib.Core.Bool.{Bool, true, false, not, _&&_, cond, true≢false, _||_}
 use mathlib.Core.Logic.{_⊎_, inl, inr}
 use mathlib.Core.List.{List, [], _∷_, _++_, map, flatMap, append-nil, append-assoc, List·Memᴰ·head, List·Memᴰ·tail, Memᴰ·append-left, Memᴰ·append-right}
-use Prim.Native.Nat.{ℕ, zero, suc, _+_, _-_, _*_, _≤_, _<_}
+use Prim.Native.Nat.{ℕ, zero, suc, _+_, _-_, _*_, _≤_}
 use native.Mathlib.Omega.{arith}
 use lib.Dec.{eqb, ltb, leb}
 use lib.ListN.{length, getD, take, drop, replicate, length-append, replicate-append-replicate, List·getD-map, drop-of-length-le}
 use lib.Seq.{paste, take-at, drop-at, take-all, split-at, length-take-le}
-use borrow.Author.Tests.{ltb-true, ltb-false, lt-ltb, le-leb, lt-leb, ne-eqb, eqb-true, eqb-false}
+use borrow.Author.Tests.{ltb-true, ltb-false, lt-ltb, le-leb, lt-leb, eqb-true, eqb-false}
 use Rattle.records.specs.Lists.{In, keepIf, all, sameList, elem}
-use Rattle.records.proofs.Lists.{bool-cases, eqb-same, sameList-self, flatMap-append, flatMap-snoc, in-snoc}
+use Rattle.records.proofs.Lists.{bool-cases, flatMap-append, flatMap-snoc, in-snoc}
 use Rattle.literals.specs.declared.Object.{Object}
 use Rattle.literals.specs.declared.Index.{Index}
-use Rattle.literals.specs.Domain.{sameObject, noAction, Domain, action}
+use Rattle.literals.specs.Domain.{noAction, Domain, action}
 use Rattle.literals.specs.Table.{pad, sortNumber, Bounded, Holds}
-use Rattle.literals.proofs.Tables.{length-flat, rows-flat, pad-at, pad-paste}
+use Rattle.literals.proofs.Tables.{length-flat, rows-flat, pad-at, pad-paste, same-filled}
 use Rattle.literals.proofs.Held.{actions-is, sorts-is}
 use Rattle.classes.specs.declared.Moment.{Moment}
 use Rattle.classes.specs.declared.Moment.the-variants.{Start, End}
 use Rattle.classes.specs.Classes.{momentNumber}
 use Rattle.classes.specs.Coded.{position}
 use Rattle.classes.proofs.KeyRows.{place-le}
-use Rattle.verdict.specs.Judged.{objectNumbers}
 use Rattle.verdict.specs.Machine.{GroundAction, Event, sameGround, isOpenAt, isOpen, closeOne, closeAt, closeAll, opens, openedBy}
 use Rattle.events.specs.declared.Open.{Open}
 use Rattle.events.specs.declared.Waiting.{Waiting}
@@ -53,16 +52,6 @@ events-flat f (x ∷ xs) left rest h =
 
 -- ---- two actions with objects have the same row where they are the same
 
-same-objects : (x y : List Object) (m n : ℕ) → ((o : Object) → In o x → o .0 < 255) → ((o : Object) → In o y → o .0 < 255) → length x + m ≡ length y + n
-    → sameList eqb (objectNumbers x ++ replicate m 255) (objectNumbers y ++ replicate n 255) ≡ sameList sameObject x y
-same-objects [] [] m n h g e = let f : m ≡ n = omega arith in rw f (sameList-self eqb eqb-same (replicate n 255))
-same-objects [] (o ∷ os) zero n h g e = absurd (omega arith)
-same-objects [] (o ∷ os) (suc m) n h g e = let f = g o (List·Memᴰ·head refl) in rw (ne-eqb 255 (o .0) (λ z. omega arith))
-same-objects (o ∷ os) [] m zero h g e = absurd (omega arith)
-same-objects (o ∷ os) [] m (suc n) h g e = let f = h o (List·Memᴰ·head refl) in rw (ne-eqb (o .0) 255 (λ z. omega arith))
-same-objects (o ∷ os) (p ∷ ps) m n h g e =
-    ap (λ (t : Bool). eqb (o .0) (p .0) && t) (same-objects os ps m n (λ q i. h q (List·Memᴰ·tail i)) (λ q i. g q (List·Memᴰ·tail i)) (omega arith))
-
 module _ {D : Domain} (B : Bounded D) where
   pub length-ground : (g : GroundAction) → GroundFits D g → length (groundRow g) ≡ 17
   length-ground g f = length-ground-row g (few-objects B g f)
@@ -72,7 +61,7 @@ module _ {D : Domain} (B : Bounded D) where
       let a = few-objects B g f in
       let b = few-objects B h k in
       ap (λ (t : Bool). eqb (g .action) (h .action) && t)
-      (same-objects (g .binding) (h .binding) (16 - length (g .binding)) (16 - length (h .binding)) (f .objects) (k .objects) (omega arith))
+      (same-filled (λ (o : Object). o .0) (g .binding) (h .binding) (16 - length (g .binding)) (16 - length (h .binding)) (f .objects) (k .objects) (omega arith))
 
   -- ---- the entries
 

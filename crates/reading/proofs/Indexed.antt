@@ -181,7 +181,6 @@ module _ {D : Domain} {index : Index} (h : Holds D index) (p : List ℕ) where
           let b = bytes in
           let f = few in
           e
-          ∙ rw (h .is) (ap (λ (n : ℕ). paste (pad 128 (flatMap componentRow (D .template))) n (rowOf p) 8) (sym bytes))
-          ∙ pad-paste 128 (flatMap componentRow (D .template)) (rowOf p) (length (flatMap componentRow (D .template))) 8 refl (length-row p (omega arith))
+          ∙ rw (h .is) (pad-paste 128 (flatMap componentRow (D .template)) (rowOf p) (8 * length (D .template)) 8 bytes (length-row p (omega arith)))
           ∙ ap (λ (r : List ℕ). pad 128 (flatMap componentRow (D .template) ++ r)) (component-row p l)
           ∙ ap (pad 128) (sym (flatMap-snoc componentRow (D .template) (componentOf p)))

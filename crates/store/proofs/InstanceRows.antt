@@ -20,12 +20,12 @@ use Rattle.literals.specs.Decode.{byte}
 use Rattle.literals.specs.Table.{rowOf, literalRow, componentRow, rowsIn, Holds}
 use Rattle.literals.proofs.Bytes.{keys-once}
 use Rattle.literals.proofs.Rows.{part-first, rows-more, rows-end}
-use Rattle.literals.proofs.Tables.{rows-components}
+use Rattle.literals.proofs.Tables.{rows-components, value}
 use Rattle.literals.proofs.Held.{components-is, keys-is, parts-is}
 use Rattle.classes.specs.Classes.{keyTuple, isOf, tuplesBy, tuplesOf, hasTuple}
 use Rattle.classes.specs.Coded.{position, tupleRow, underKeys, keyRow, keyRows}
 use Rattle.classes.proofs.KeyRows.{place-le, length-rows, rows-at}
-use Rattle.classes.proofs.Numbers.{value, tuples-rows}
+use Rattle.classes.proofs.Numbers.{tuples-rows}
 use Rattle.verdict.specs.Judged.{objectNumbers}
 use Rattle.verdict.specs.Machine.{weight, instancesIn, largest}
 use Rattle.verdict.proofs.Tuples.{keyTuple-map, component-of}

@@ -8,8 +8,9 @@ use lib.Dec.{eqb}
 use lib.ListN.{drop}
 use Rattle.literals.specs.Decode.{byte}
 use Rattle.literals.specs.Table.{rowsIn}
+use Rattle.literals.proofs.Rows.{starts-yes, starts-no}
 use Rattle.classes.specs.Coded.{position}
-use Rattle.classes.proofs.KeyRows.{place-first, place-hit, place-miss, place-end, starts-yes, starts-no}
+use Rattle.classes.proofs.KeyRows.{place-first, place-hit, place-miss, place-end}
 use Rattle.classes.proofs.number.component_of.Statement.{statement}
 use Rattle.classes.proofs.number.component_of.Tie as tie
 
