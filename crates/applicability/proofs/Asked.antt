@@ -23,7 +23,8 @@ use Rattle.literals.proofs.Tables.{Kept}
 use Rattle.classes.specs.declared.Moment.{Moment}
 use Rattle.classes.specs.declared.Moment.the-variants.{Start, End}
 use Rattle.classes.specs.Classes.{withRole, literalsAt, overAll}
-use Rattle.classes.proofs.Indices.{any-filter, all-filter}
+use Rattle.classes.proofs.Clauses.{any-role}
+use Rattle.classes.proofs.Indices.{all-filter}
 use Rattle.verdict.specs.Binding.{bind}
 use Rattle.verdict.specs.Machine.{GroundAction, Event, eventFacts, conditionsHold, overAllHold}
 use Rattle.store.specs.Rows.{factRow}
@@ -66,12 +67,6 @@ module _ (p : Role → Bool) (q : Atom Variable → Bool) (ls : List Literal) wh
       ap (all q) (with-role p ls)
       ∙ all-map (λ (l : Literal). l .atom) q (filterBy (λ (l : Literal). p (l .role)) ls)
       ∙ all-filter (λ (l : Literal). p (l .role)) (λ (l : Literal). q (l .atom)) ls
-
-  pub any-role : any q (withRole p ls) ≡ any (λ (l : Literal). p (l .role) && q (l .atom)) ls
-  any-role =
-      ap (any q) (with-role p ls)
-      ∙ any-map (λ (l : Literal). l .atom) q (filterBy (λ (l : Literal). p (l .role)) ls)
-      ∙ any-filter (λ (l : Literal). p (l .role)) (λ (l : Literal). q (l .atom)) ls
 
 -- the facts of an event, as tests of its action's literals
 module _ (D : Domain) (e : Event) (c : Clause) (q : Fact → Bool) where

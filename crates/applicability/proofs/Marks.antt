@@ -173,7 +173,7 @@ pub rows-few : (t : Time) (arities ground rows : List ℕ) (i at : ℕ) (words�
 rows-few t arities ground rows i at words₀ clauses₀ words clauses n e =
     let c = marks-count words clauses n words₀ clauses₀ at (rowMarks t arities ground (rowsIn i rows)) e in
     let f = row-marks-few t arities ground (rowsIn i rows) in
-    let l = length-rows i rows in
+    let l = length-rows 8 i rows in
     omega arith
 
 -- ---- the events' one behind the other

@@ -202,7 +202,7 @@ role-counts m c r =
     of-clause true = eqb·suc-suc d (clauseNumber c)
     of-clause false = eqb·zero-suc (clauseNumber c)
 
-any-role : (r : Role → Bool) (q : Atom Variable → Bool) (ls : List Literal) → any q (withRole r ls) ≡ any (λ (l : Literal). r (l .role) && q (l .atom)) ls
+pub any-role : (r : Role → Bool) (q : Atom Variable → Bool) (ls : List Literal) → any q (withRole r ls) ≡ any (λ (l : Literal). r (l .role) && q (l .atom)) ls
 any-role r q [] = refl
 any-role r q (l ∷ ls) = go (r (l .role)) (any-role r q ls)
   where

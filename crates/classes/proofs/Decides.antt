@@ -9,14 +9,15 @@ use lib.Dec.{eqb, leb}
 use lib.ListN.{length, getD, replicate, length-map, List·getD-append}
 use borrow.Author.Tests.{eq-eqb, ne-eqb, eqb-true, eqb-false, le-leb, lt-leb, ltb-true}
 use Rattle.records.specs.Lists.{In, filterBy, countBy, any, all, elem}
-use Rattle.records.proofs.Lists.{below-in, bool-cases, and-l, not-true, getD-in, all-in, any-map, all-map, any-append, count-filter}
+use Rattle.records.proofs.Lists.{below-in, bool-cases, not-true, getD-in, all-in, any-map, all-map, any-append, count-filter}
 use Rattle.literals.specs.declared.Variable.{Variable}
 use Rattle.literals.specs.declared.Label.{Label}
 use Rattle.literals.specs.declared.Label.the-variants.{Key as keyed, Counted}
 use Rattle.literals.specs.declared.Clause.{Clause}
 use Rattle.literals.specs.declared.Clause.the-variants.{Positive, Negative, Add, Delete}
-use Rattle.literals.specs.Domain.{Atom, sameLiteral, clauseNumber, Literal, Action, Component, isCounted, keyBelow, keysOf, labelsFit, Domain}
+use Rattle.literals.specs.Domain.{Atom, sameLiteral, clauseNumber, Literal, Action, Component, isCounted, keyBelow, keysOf, Domain}
 use Rattle.literals.specs.Table.{literalRow, labelNumber, componentRow, pad, Bounded as BoundedDomain}
+use Rattle.literals.proofs.Bytes.{keys-below}
 use Rattle.literals.proofs.Tables.{Kept, kept, length-component-row, pad-at}
 use Rattle.literals.proofs.Held.{keys-few}
 use Rattle.classes.specs.declared.Moment.{Moment}
@@ -48,10 +49,6 @@ sameBool false b = not b
 bool-eq : (s t : Bool) → sameBool s t ≡ true → s ≡ t
 bool-eq true t e = sym e
 bool-eq false t e = sym (not-true t e)
-
-keys-below : (n : ℕ) (ls : List Label) → labelsFit n ls ≡ true → all (keyBelow n) ls ≡ true
-unfolding labelsFit
-keys-below n ls t = and-l _ _ (and-l _ _ t)
 
 -- ---- a component's labels, as bytes
 
@@ -110,7 +107,7 @@ module _ {D : Domain} {parts arities : List ℕ} {components keys : ℕ} (T : Te
       count = keysOf (D .template)
 
       fits : all (keyBelow count) ls ≡ true
-      fits = keys-below count ls (T .bounded .keysFit (componentAt D c) here)
+      fits = keys-below _ _ (T .bounded .keysFit (componentAt D c) here)
 
 -- ---- a class by its number
 

@@ -11,7 +11,7 @@ use lib.Dec.{eqb, eqb·suc-suc}
 use lib.ListN.{length, getD, take}
 use borrow.Author.Tests.{ne-eqb, eqb-true, eqb-false}
 use Rattle.records.specs.Lists.{In, keepIf, filterBy, all, any}
-use Rattle.records.proofs.Lists.{bool-cases, filter-append}
+use Rattle.records.proofs.Lists.{bool-cases, filter-append, filter-agree}
 use Rattle.classes.specs.Coded.{position, numbersFrom, below}
 
 -- ---- the numbers that a loop has left
@@ -91,10 +91,6 @@ module _ {A : Type 0} (p q : A → Bool) where
   pub any-agree : (l : List A) → ((a : A) → In a l → p a ≡ q a) → any p l ≡ any q l
   any-agree [] h = refl
   any-agree (x ∷ xs) h = ap₂ _||_ (h x (List·Memᴰ·head refl)) (any-agree xs (λ a m. h a (List·Memᴰ·tail m)))
-
-  filter-agree : (l : List A) → ((a : A) → In a l → p a ≡ q a) → filterBy p l ≡ filterBy q l
-  filter-agree [] h = refl
-  filter-agree (x ∷ xs) h = ap₂ (λ (t : Bool) (l : List A). keepIf t x l) (h x (List·Memᴰ·head refl)) (filter-agree xs (λ a m. h a (List·Memᴰ·tail m)))
 
   position-agree : (l : List A) → ((a : A) → In a l → p a ≡ q a) → position p l ≡ position q l
   position-agree [] h = refl

@@ -1,9 +1,10 @@
 -- Laws of the loops over the rows of components, literals and classes: the place of a row, and the key tuple of a row. Assumes nothing.
 use mathlib.Core.Path.{_≡_, refl, sym, ap, ap₂, _∙_}
 use mathlib.Core.Bool.{Bool, true, false, cond, _&&_}
-use mathlib.Core.List.{List, [], _∷_, _++_, append-nil}
+use mathlib.Core.List.{List, [], _∷_, _++_}
 use Prim.Native.Nat.{ℕ, zero, suc, _+_, _-_, _*_, _≤_, _<_}
 use native.Mathlib.Numerals.{add-one}
+use native.Mathlib.Nat.{add-comm, mul-zero, mul-suc}
 use native.Mathlib.Omega.{arith}
 use lib.Dec.{eqb}
 use lib.ListN.{length, getD, set, take, drop, replicate, length-append, length-replicate, drop-of-length-le}
@@ -13,45 +14,41 @@ use Rattle.records.specs.Lists.{sameList}
 use Rattle.records.specs.Memory.{over}
 use Rattle.records.proofs.Memory.{over-more, drop-replicate}
 use Rattle.literals.specs.Decode.{byte}
-use Rattle.literals.specs.Table.{rowOf, rowsIn}
-use Rattle.literals.proofs.Rows.{length-row, eight-by-four, same-miss, same-hit, same-end, length-part, part-at, part-first, rows-more, rows-end}
+use Rattle.literals.specs.Table.{rowOf, rowsBy, rowsIn}
+use Rattle.literals.proofs.Rows.{length-row, row-full, eight-by-four, same-miss, same-hit, same-end, length-part, part-at, rows-more, rows-end}
 use Rattle.classes.specs.Coded.{position, underKey, underKeys, keyRow, keyRows, numberedBy, tuplesAfter}
 
 -- ---- the place of the first row that passes, from row c on
 
-module _ (p : List ℕ → Bool) (t : List ℕ) (n c : ℕ) where
-  pub place-end : n ≤ c → c + position p (rowsIn (n - c) (drop (8 * c) t)) ≡ c
-  place-end h = rw (rows-end (drop (8 * c) t) n c h) (omega arith)
+pub place-first : (w : ℕ) (p : List ℕ → Bool) (t : List ℕ) (n : ℕ) → 0 + position p (rowsBy w (n - 0) (drop (w * 0) t)) ≡ position p (rowsBy w n t)
+place-first w p t n = let e : n - 0 ≡ n = omega arith in rw (e, mul-zero w) (omega arith)
+
+module _ (w : ℕ) (p : List ℕ → Bool) (t : List ℕ) (n c : ℕ) where
+  pub place-end : n ≤ c → c + position p (rowsBy w (n - c) (drop (w * c) t)) ≡ c
+  place-end h = rw (rows-end w (drop (w * c) t) n c h) (omega arith)
 
   module _ (h : c < n) where
-    pub place-hit : p (take 8 (drop (8 * c) t)) ≡ true → c + position p (rowsIn (n - c) (drop (8 * c) t)) ≡ c
-    place-hit e = rw (rows-more t n c h, e) (omega arith)
+    pub place-hit : p (take w (drop (w * c) t)) ≡ true → c + position p (rowsBy w (n - c) (drop (w * c) t)) ≡ c
+    place-hit e = rw (rows-more w t n c h, e) (omega arith)
 
-    pub place-miss : p (take 8 (drop (8 * c) t)) ≡ false
-        → c + 1 + position p (rowsIn (n - (c + 1)) (drop (8 * (c + 1)) t)) ≡ c + position p (rowsIn (n - c) (drop (8 * c) t))
-    place-miss e = rw (rows-more t n c h, e) (omega arith)
+    pub place-miss : p (take w (drop (w * c) t)) ≡ false
+        → c + 1 + position p (rowsBy w (n - (c + 1)) (drop (w * (c + 1)) t)) ≡ c + position p (rowsBy w (n - c) (drop (w * c) t))
+    place-miss e = rw (rows-more w t n c h, e) (omega arith)
 
--- whether the row at c starts with b
-pub starts-yes : (t : List ℕ) (b c : ℕ) → getD t (8 * c) 0 ≡ b → eqb b (byte (take 8 (drop (8 * c) t)) 0) ≡ true
-starts-yes t b c e = rw (part-first t (8 * c)) (eq-eqb b (getD t (8 * c) 0) (sym e))
+-- ---- w bytes and the row at an offset, from byte i on
 
-pub starts-no : (t : List ℕ) (b c : ℕ) → (getD t (8 * c) 0 ≡ b → ⊥) → eqb b (byte (take 8 (drop (8 * c) t)) 0) ≡ false
-starts-no t b c e = rw (part-first t (8 * c)) (ne-eqb b (getD t (8 * c) 0) (λ f. e (sym f)))
+module _ (w : ℕ) (x t : List ℕ) (at i : ℕ) (e : length x ≡ w) (h : at + w ≤ length t) where
+  pub row-miss : i < w → (getD x i 0 ≡ getD t (at + i) 0 → ⊥) → sameList eqb (drop i x) (drop i (take w (drop at t))) ≡ false
+  row-miss l n = same-miss x (take w (drop at t)) i (omega arith) (omega (arith, length-part w t at h)) (λ f. n (f ∙ part-at w t at h i l))
 
--- ---- a key tuple and the row at an offset, from byte i on
+  pub row-hit : i < w → getD x i 0 ≡ getD t (at + i) 0
+      → sameList eqb (drop i x) (drop i (take w (drop at t))) ≡ sameList eqb (drop (i + 1) x) (drop (i + 1) (take w (drop at t)))
+  row-hit l f = same-hit x (take w (drop at t)) i (omega arith) (omega (arith, length-part w t at h)) (f ∙ sym (part-at w t at h i l))
 
-module _ (x t : List ℕ) (at i : ℕ) (e : length x ≡ 8) (h : at + 8 ≤ length t) where
-  pub tuple-miss : i < 8 → (getD x i 0 ≡ getD t (at + i) 0 → ⊥) → sameList eqb (drop i x) (drop i (take 8 (drop at t))) ≡ false
-  tuple-miss l n = same-miss x (take 8 (drop at t)) i (omega arith) (omega (arith, length-part t at h)) (λ f. n (f ∙ part-at t at h i l))
+  pub row-end : w ≤ i → sameList eqb (drop i x) (drop i (take w (drop at t))) ≡ true
+  row-end l = same-end x (take w (drop at t)) i (omega arith) (omega (arith, length-part w t at h))
 
-  pub tuple-hit : i < 8 → getD x i 0 ≡ getD t (at + i) 0
-      → sameList eqb (drop i x) (drop i (take 8 (drop at t))) ≡ sameList eqb (drop (i + 1) x) (drop (i + 1) (take 8 (drop at t)))
-  tuple-hit l f = same-hit x (take 8 (drop at t)) i (omega arith) (omega (arith, length-part t at h)) (f ∙ sym (part-at t at h i l))
-
-  pub tuple-end : 8 ≤ i → sameList eqb (drop i x) (drop i (take 8 (drop at t))) ≡ true
-  tuple-end l = same-end x (take 8 (drop at t)) i (omega arith) (omega (arith, length-part t at h))
-
--- the same, four bytes at a time
+-- a key tuple of 8 bytes, four at a time
 module _ (x t : List ℕ) (at : ℕ) (e : length x ≡ 8) (h : at + 8 ≤ length t) where
   tuple-by-four : sameList eqb x (take 8 (drop at t)) ≡ sameList eqb (take 4 (drop 0 x)) (take 4 (drop at t)) && sameList eqb (take 4 (drop 4 x)) (take 4 (drop (at + 4) t))
   tuple-by-four = ap (λ (r : List ℕ). sameList eqb r (take 8 (drop at t))) (sym (take-all 8 x (omega arith))) ∙ eight-by-four x t 0 at (omega arith) h
@@ -73,13 +70,13 @@ under-none k (b ∷ bs) = refl
 row-cons : (t : List ℕ) (at : ℕ) → at + 8 ≤ length t → (i j k : ℕ) → i < 8 → i + 1 ≡ j → at + i ≡ k
     → drop i (take 8 (drop at t)) ≡ getD t k 0 ∷ drop j (take 8 (drop at t))
 row-cons t at h i j k l e f =
-    drop-cons (take 8 (drop at t)) i 0 (omega (arith, length-part t at h))
-    ∙ ap₂ _∷_ (part-at t at h i l ∙ ap (λ (n : ℕ). getD t n 0) f) (ap (λ (n : ℕ). drop n (take 8 (drop at t))) (sym (add-one i) ∙ e))
+    drop-cons (take 8 (drop at t)) i 0 (omega (arith, length-part 8 t at h))
+    ∙ ap₂ _∷_ (part-at 8 t at h i l ∙ ap (λ (n : ℕ). getD t n 0) f) (ap (λ (n : ℕ). drop n (take 8 (drop at t))) (sym (add-one i) ∙ e))
 
 module _ (parts rows : List ℕ) (part at k i : ℕ) (h : part + 8 ≤ length parts) (g : at + 8 ≤ length rows) where
   pub under-end : 6 ≤ i → underKey k (drop (i + 1) (take 8 (drop part parts))) (drop (i + 2) (take 8 (drop at rows))) ≡ 255
   under-end l =
-      ap (underKey k (drop (i + 1) (take 8 (drop part parts)))) (drop-of-length-le (take 8 (drop at rows)) {i = i + 2} (omega (arith, length-part rows at g)))
+      ap (underKey k (drop (i + 1) (take 8 (drop part parts)))) (drop-of-length-le (take 8 (drop at rows)) {i = i + 2} (omega (arith, length-part 8 rows at g)))
       ∙ under-none k (drop (i + 1) (take 8 (drop part parts)))
 
   module _ (l : i < 6) where
@@ -113,10 +110,6 @@ row-more l k v e h =
     ∙ over-more l (replicate 8 255) k v e (simp length-replicate h)
     ∙ sym (row-over (l ++ (v ∷ [])))
 
--- a row is filled already
-pub row-full : (l : List ℕ) → length l ≡ 8 → rowOf l ≡ l
-row-full l e = rw e (append-nil l)
-
 pub tuple-none : (part row : List ℕ) → replicate 8 255 ≡ keyRow 0 part row
 unfolding keyRow
 tuple-none part row = refl
@@ -142,16 +135,16 @@ place-le p (x ∷ xs) = go (p x) (place-le p xs)
     go true h = omega arith
     go false h = omega arith
 
-pub length-rows : (n : ℕ) (t : List ℕ) → length (rowsIn n t) ≡ n
-length-rows zero t = refl
-length-rows (suc n) t = ap suc (length-rows n (drop 8 t))
+-- as many rows as were asked for, and the one at c
+pub length-rows : (w n : ℕ) (t : List ℕ) → length (rowsBy w n t) ≡ n
+length-rows w zero t = refl
+length-rows w (suc n) t = ap suc (length-rows w n (drop w t))
 
-pub rows-at : (n : ℕ) (t : List ℕ) (c : ℕ) (d : List ℕ) → c < n → getD (rowsIn n t) c d ≡ take 8 (drop (8 * c) t)
-rows-at zero t c d h = absurd (omega arith)
-rows-at (suc n) t zero d h = refl
-rows-at (suc n) t (suc c) d h =
-    let e : 8 + 8 * c ≡ 8 * suc c = omega arith in
-    rows-at n (drop 8 t) c d (omega arith) ∙ ap (take 8) (drop-drop (8 * c) 8 t) ∙ ap (λ (k : ℕ). take 8 (drop k t)) e
+pub rows-at : (w n : ℕ) (t : List ℕ) (c : ℕ) (d : List ℕ) → c < n → getD (rowsBy w n t) c d ≡ take w (drop (w * c) t)
+rows-at w zero t c d h = absurd (omega arith)
+rows-at w (suc n) t zero d h = ap (λ (k : ℕ). take w (drop k t)) (sym (mul-zero w))
+rows-at w (suc n) t (suc c) d h =
+    rows-at w n (drop w t) c d (omega arith) ∙ ap (take w) (drop-drop (w * c) w t ∙ ap (λ (k : ℕ). drop k t) (add-comm w (w * c) ∙ sym (mul-suc w c)))
 
 -- ---- the key tuple of a literal's row, by the place of its component
 
@@ -201,29 +194,29 @@ module _ (t tuples : List ℕ) (count class : ℕ) (e : class ≡ position (same
 -- by the place of the component of its relation
 module _ (parts rows tuples : List ℕ) (n keys at count c : ℕ) (g : at + 8 ≤ length rows) (e : c ≡ position (λ row. eqb (getD rows (at + 1) 0) (byte row 0)) (rowsIn n parts)) where
   pub component-le : c ≤ n
-  component-le = omega (arith, place-le (λ row. eqb (getD rows (at + 1) 0) (byte row 0)) (rowsIn n parts), length-rows n parts)
+  component-le = omega (arith, place-le (λ row. eqb (getD rows (at + 1) 0) (byte row 0)) (rowsIn n parts), length-rows 8 n parts)
 
   pub unmatched : c ≡ n
       → (record { class = 255; count = count } ≡ numberedBy (keyRows keys (rowsIn n parts) (take 8 (drop at rows))) count tuples)
       × (tuples ≡ tuplesAfter (keyRows keys (rowsIn n parts) (take 8 (drop at rows))) count tuples)
   unfolding numberedBy tuplesAfter
   unmatched f =
-      rw (key-rows-none keys (getD rows (at + 1) 0) (take 8 (drop at rows)) (part-at rows at g 1 (omega arith)) (rowsIn n parts) (sym e ∙ f ∙ sym (length-rows n parts)))
+      rw (key-rows-none keys (getD rows (at + 1) 0) (take 8 (drop at rows)) (part-at 8 rows at g 1 (omega arith)) (rowsIn n parts) (sym e ∙ f ∙ sym (length-rows 8 n parts)))
       (refl, refl)
 
   module _ (h : c ≡ n → ⊥) (t : List ℕ) (f : t ≡ keyRow keys (take 8 (drop (8 * c) parts)) (take 8 (drop at rows))) where
     matched : keyRows keys (rowsIn n parts) (take 8 (drop at rows)) ≡ t ∷ []
     matched =
-        let u = key-rows-one keys (getD rows (at + 1) 0) (take 8 (drop at rows)) (part-at rows at g 1 (omega arith)) (rowsIn n parts) (λ z. h (e ∙ z ∙ length-rows n parts)) in
+        let u = key-rows-one keys (getD rows (at + 1) 0) (take 8 (drop at rows)) (part-at 8 rows at g 1 (omega arith)) (rowsIn n parts) (λ z. h (e ∙ z ∙ length-rows 8 n parts)) in
         let v : c < n = omega (arith, component-le) in
         u
         ∙ ap (λ (k : ℕ). keyRow keys (getD (rowsIn n parts) k []) (take 8 (drop at rows)) ∷ []) (sym e)
-        ∙ ap (λ (p : List ℕ). keyRow keys p (take 8 (drop at rows)) ∷ []) (rows-at n parts c [] v)
+        ∙ ap (λ (p : List ℕ). keyRow keys p (take 8 (drop at rows)) ∷ []) (rows-at 8 n parts c [] v)
         ∙ ap (λ (x : List ℕ). x ∷ []) (sym f)
 
     module _ (class : ℕ) (q : class ≡ position (sameList eqb t) (rowsIn count tuples)) where
       pub class-le : class ≤ count
-      class-le = omega (arith, place-le (sameList eqb t) (rowsIn count tuples), length-rows count tuples)
+      class-le = omega (arith, place-le (sameList eqb t) (rowsIn count tuples), length-rows 8 count tuples)
 
       pub new-class : class ≡ count → keys ≤ 8 → (out : List ℕ) → out ≡ paste tuples (8 * count) (rowOf t) 8
           → (record { class = class; count = count + 1 } ≡ numberedBy (keyRows keys (rowsIn n parts) (take 8 (drop at rows))) count tuples)

@@ -8,13 +8,14 @@ use native.Mathlib.Omega.{arith}
 use lib.Dec.{eqb}
 use lib.ListN.{length, getD, set, take, drop, replicate, length-map, length-set, drop-of-length-le, take-append-drop}
 use lib.Seq.{take-suc, take-all, length-take-le}
-use Rattle.records.specs.Lists.{In, all, sameList}
+use Rattle.records.specs.Lists.{In, sameList}
 use Rattle.records.specs.Memory.{over}
-use Rattle.records.proofs.Lists.{and-l, and-r, getD-in}
+use Rattle.records.proofs.Lists.{getD-in}
 use Rattle.records.proofs.Memory.{over-more}
 use Rattle.literals.specs.declared.Variable.{Variable}
-use Rattle.literals.specs.Domain.{Literal, Action, Component, keyBelow, keysOf, labelsFit, Domain}
+use Rattle.literals.specs.Domain.{Literal, Action, Component, keysOf, Domain}
 use Rattle.literals.specs.Table.{literalRow, componentRow, rowsIn}
+use Rattle.literals.proofs.Bytes.{keys-once}
 use Rattle.literals.proofs.Tables.{kept, length-literals, rows-components}
 use Rattle.classes.specs.declared.number.Numbered.{Numbered}
 use Rattle.classes.specs.Classes.{tuplesOf, classes}
@@ -38,8 +39,7 @@ module _ {D : Domain} {parts arities : List ℕ} {components keys : ℕ} (h : Te
   few-keys = let k = h .keyed in omega arith
 
   fits : (c : Component) → In c (D .template) → Fits D (keysOf (D .template)) c
-  unfolding labelsFit
-  fits c m = record { arguments = h .bounded .componentArity c m; keys = and-r (all (keyBelow (keysOf (D .template))) (c .labels)) _ (and-l _ _ (h .bounded .keysFit c m)) }
+  fits c m = record { arguments = h .bounded .componentArity c m; keys = keys-once _ _ (h .bounded .keysFit c m) }
 
   pub one : (l : Literal) → In l (a .lits) → One (keysOf (D .template)) (tuples D l)
   unfolding tuplesOf

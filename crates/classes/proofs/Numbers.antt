@@ -20,13 +20,10 @@ use Rattle.literals.specs.Domain.{key, sameVariable, Literal, Component, isKey,
 use Rattle.literals.specs.Table.{rowOf, literalRow, labelNumber, componentRow, rowsIn}
 use Rattle.literals.proofs.Equality.{variables-eq, variables-self}
 use Rattle.literals.proofs.Rows.{length-row}
-use Rattle.literals.proofs.Tables.{over-row, length-flat, rows-flat}
+use Rattle.literals.proofs.Tables.{over-row, length-flat, rows-flat, value}
 use Rattle.classes.specs.Classes.{under, keyTuple, tuplesBy}
 use Rattle.classes.specs.Coded.{position, classNumberBy, tupleRow, underKey, underKeys, keyRow, keyRows, numberedBy, tuplesAfter}
 use Rattle.classes.proofs.KeyRows.{length-keys}
-
-abbrev pub value : Variable → ℕ
-value v = v .0
 
 abbrev pub same : List Variable → List Variable → Bool
 same = sameList sameVariable

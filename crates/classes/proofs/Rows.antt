@@ -1,20 +1,19 @@
 -- Rows of 8 bytes by index: what they say of the literals and components that they hold. Assumes nothing.
-use mathlib.Core.Path.{_≡_, refl, sym, ap, ap₂, _∙_}
+use mathlib.Core.Path.{_≡_, sym, ap, ap₂, _∙_}
 use mathlib.Core.Bool.{Bool, true, false, _&&_}
-use mathlib.Core.List.{List, [], _∷_, _++_, map, flatMap, append-nil, Memᴰ·of-map}
+use mathlib.Core.List.{List, [], _++_, map, flatMap, append-nil}
 use Prim.Native.Nat.{ℕ, suc, _+_, _-_, _*_, _≤_, _<_}
 use native.Mathlib.Omega.{arith}
 use lib.Dec.{eqb}
 use lib.ListN.{length, getD, take, drop, length-append, length-map}
 use Rattle.records.specs.Lists.{In, sameList}
 use Rattle.records.proofs.Lists.{getD-in}
-use Rattle.literals.specs.declared.Variable.{Variable}
 use Rattle.literals.specs.declared.Time.the-variants.{AtStart}
 use Rattle.literals.specs.declared.Clause.the-variants.{Positive}
-use Rattle.literals.specs.Domain.{variable, sameVariable, sameLiteral, roleNumber, Literal}
+use Rattle.literals.specs.Domain.{sameLiteral, roleNumber, Literal}
 use Rattle.literals.specs.Table.{literalRow}
 use Rattle.literals.proofs.Rows.{seven-by-four, part-at}
-use Rattle.literals.proofs.Tables.{Kept, length-flat, rows-flat, length-literal-row, same-filled}
+use Rattle.literals.proofs.Tables.{Kept, length-flat, rows-flat, length-literal-row, value, same-filled}
 use Rattle.classes.specs.Coded.{rowAt, sameAtomAt}
 use Rattle.classes.proofs.Indices.{getD-map}
 use Rattle.classes.proofs.KeyRows.{rows-at}
@@ -33,16 +32,16 @@ module _ (rows : List ℕ) (i j : ℕ) (h : 8 * i + 8 ≤ length rows) (g : 8 * 
 
 -- ---- the rows of a list's elements
 
-module _ {A : Type 0} (f : A → List ℕ) (l : List A) (rest : List ℕ) (d : A) (h : (a : A) → In a l → length (f a) ≡ 8) where
-  pub row-flat : (j : ℕ) → j < length l → rowAt (flatMap f l ++ rest) j ≡ f (getD l j d)
-  row-flat j g =
-      sym (rows-at (length l) (flatMap f l ++ rest) j [] g) ∙ ap (λ (r : List (List ℕ)). getD r j []) (rows-flat f l rest h) ∙ getD-map f l j d [] g
+module _ {A : Type 0} (f : A → List ℕ) (l : List A) (rest : List ℕ) (d : A) where
+  pub row-flat : {w : ℕ} → ((a : A) → In a l → length (f a) ≡ w) → (j : ℕ) → j < length l → take w (drop (w * j) (flatMap f l ++ rest)) ≡ f (getD l j d)
+  row-flat {w} h j g =
+      sym (rows-at w (length l) (flatMap f l ++ rest) j [] g) ∙ ap (λ (r : List (List ℕ)). getD r j []) (rows-flat f l rest h) ∙ getD-map f l j d [] g
 
-  pub byte-flat : (j k : ℕ) → j < length l → k < 8 → getD (flatMap f l ++ rest) (8 * j + k) 0 ≡ getD (f (getD l j d)) k 0
-  byte-flat j k g s =
+  pub byte-flat : ((a : A) → In a l → length (f a) ≡ 8) → (j k : ℕ) → j < length l → k < 8 → getD (flatMap f l ++ rest) (8 * j + k) 0 ≡ getD (f (getD l j d)) k 0
+  byte-flat h j k g s =
       let e = length-append (flatMap f l) rest in
       let u = length-flat f l h in
-      sym (part-at (flatMap f l ++ rest) (8 * j) (omega arith) k s) ∙ ap (λ (r : List ℕ). getD r k 0) (row-flat j g)
+      sym (part-at 8 (flatMap f l ++ rest) (8 * j) (omega arith) k s) ∙ ap (λ (r : List ℕ). getD r k 0) (row-flat h j g)
 
 -- ---- of literals
 
@@ -53,30 +52,15 @@ noLiteral = record { role = record { time = AtStart; clause = Positive }; atom =
 abbrev pub literalAt : List Literal → ℕ → Literal
 literalAt ls j = getD ls j noLiteral
 
-numbers-back : (vs : List Variable) → map variable (map (λ (v : Variable). v .0) vs) ≡ vs
-numbers-back [] = refl
-numbers-back (v ∷ vs) = ap {B = List Variable} (λ l. v ∷ l) (numbers-back vs)
-
 -- two rows agree behind their roles where the literals have the same atom
 same-rows : (l m : Literal) → Kept l → Kept m → sameList eqb (drop 1 (literalRow l)) (drop 1 (literalRow m)) ≡ sameLiteral (l .atom) (m .atom)
 same-rows l m h k =
     let f = h .fits in
     let g = k .fits in
-    let u = length-map (l .atom .args) (λ (v : Variable). v .0) in
-    let w = length-map (m .atom .args) (λ (v : Variable). v .0) in
+    let u = length-map (l .atom .args) value in
+    let w = length-map (m .atom .args) value in
     ap (λ (t : Bool). eqb (l .atom .rel) (m .atom .rel) && t)
-    (same-filled
-    (map (λ (v : Variable). v .0) (l .atom .args))
-    (m .atom .args)
-    (8 - suc (suc (length (map (λ (v : Variable). v .0) (l .atom .args)))))
-    (8 - suc (suc (length (map (λ (v : Variable). v .0) (m .atom .args)))))
-    small
-    (k .arguments)
-    (omega arith)
-    ∙ ap (λ (vs : List Variable). sameList sameVariable vs (m .atom .args)) (numbers-back (l .atom .args)))
-  where
-    small : (b : ℕ) → In b (map (λ (v : Variable). v .0) (l .atom .args)) → b < 255
-    small b i = let r = Memᴰ·of-map (λ (v : Variable). v .0) (l .atom .args) i in let e = r .2 in let q = h .arguments (r .0) (r .1) in omega arith
+    (same-filled value (l .atom .args) (m .atom .args) (8 - suc (suc (length (map value (l .atom .args))))) (8 - suc (suc (length (map value (m .atom .args))))) (h .arguments) (k .arguments) (omega arith))
 
 module _ (ls : List Literal) (k : (l : Literal) → In l ls → Kept l) where
   pub kept-at : (j : ℕ) → j < length ls → Kept (literalAt ls j)

@@ -139,7 +139,7 @@ module _ (t : Time) (clause : ℕ) (arities ground : List ℕ) where
 
 -- behind the first
 pub length-behind : (at : ℕ) (out : List ℕ) (l : List (List ℕ)) → length (rowsIn at out ++ l) ≡ at + length l
-length-behind at out l = let a = length-append (rowsIn at out) l in let r = length-rows at out in omega arith
+length-behind at out l = let a = length-append (rowsIn at out) l in let r = length-rows 8 at out in omega arith
 
 -- ---- an event's
 

@@ -59,7 +59,7 @@ rows-own n t h =
 
 pub put-row : (n : ℕ) (out row : List ℕ) → 8 * n + 8 ≤ length out → length row ≡ 8 → paste out (8 * n) row 8 ≡ over (flat (rowsIn n out ++ (row ∷ []))) out
 put-row n out row h e =
-    let l = length-rows n out in
+    let l = length-rows 8 n out in
     let k = length-whole (rowsIn n out) (rows-whole n out (omega arith)) in
     let z : length (flat (rowsIn n out)) ≡ 8 * n = omega arith in
     ap (λ (t : List ℕ). paste t (8 * n) row 8) (rows-own n out (omega arith))
@@ -127,7 +127,7 @@ module _ {rows : List (List ℕ)} {n : ℕ} {out old : List ℕ} (F : Filled row
       whole-append (x ∷ xs) ys v w row (List·Memᴰ·tail m) = whole-append xs ys (λ r k. v r (List·Memᴰ·tail k)) w row m
 
 pub filled-own : (n : ℕ) (out : List ℕ) → 8 * n ≤ length out → Filled (rowsIn n out) n out out
-filled-own n out h = record { count = sym (length-rows n out); room = h; whole = rows-whole n out h; bytes = rows-own n out h }
+filled-own n out h = record { count = sym (length-rows 8 n out); room = h; whole = rows-whole n out h; bytes = rows-own n out h }
 
 -- ---- rows that are kept
 
@@ -158,7 +158,7 @@ keptOf struck work i = filterBy (stays struck) (rowsIn i work)
 pub kept-few : (struck : List (List ℕ)) (work : List ℕ) (i : ℕ) → length (keptOf struck work i) ≤ i
 kept-few struck work i =
     let f = filter-few (stays struck) (rowsIn i work) in
-    let l = length-rows i work in
+    let l = length-rows 8 i work in
     omega arith
 
 one-few : {A : Type 0} (p : A → Bool) (x : A) → length (filterBy p (x ∷ [])) ≤ 1
@@ -183,7 +183,7 @@ kept-more struck work i k {out} {old} h g r F {m} {next} e f =
     (filled-more F (filterBy (stays struck) (take 8 (drop (8 * i) work) ∷ [])) whole e (omega arith) f)
   where
     whole : Whole (filterBy (stays struck) (take 8 (drop (8 * i) work) ∷ []))
-    whole row w = in-snoc {P = λ (r : List ℕ). length r ≡ 8} [] (take 8 (drop (8 * i) work)) (λ a n. absurd (List·Memᴰ·not-nil n)) (length-part work (8 * i) h) row (filter-in (stays struck) (take 8 (drop (8 * i) work) ∷ []) w .0)
+    whole row w = in-snoc {P = λ (r : List ℕ). length r ≡ 8} [] (take 8 (drop (8 * i) work)) (λ a n. absurd (List·Memᴰ·not-nil n)) (length-part 8 work (8 * i) h) row (filter-in (stays struck) (take 8 (drop (8 * i) work) ∷ []) w .0)
 
 -- ---- rows that join
 
@@ -216,14 +216,14 @@ module _ (n : ℕ) (out : List ℕ) (g : n ≤ 1024) (h : length out ≡ 8192) {
   joined-new t = ap (λ (b : Bool). cond b (rowsIn n out) (rowsIn n out ++ (at ∷ []))) (ap (λ (r : List ℕ). hasRow r (rowsIn n out)) (sym e) ∙ t)
 
   length-new : length (rowsIn n out ++ (at ∷ [])) ≡ n + 1
-  length-new = let l = length-append (rowsIn n out) (at ∷ []) in let k = length-rows n out in omega arith
+  length-new = let l = length-append (rowsIn n out) (at ∷ []) in let k = length-rows 8 n out in omega arith
 
   pub there-count : hasRow row (rowsIn n out) ≡ true → n ≡ atMost 1024 (length (joinRow (rowsIn n out) at))
-  there-count t = most-inside n g ∙ ap (atMost 1024) (sym (ap length (joined-there t) ∙ length-rows n out))
+  there-count t = most-inside n g ∙ ap (atMost 1024) (sym (ap length (joined-there t) ∙ length-rows 8 n out))
 
   pub there-rows : hasRow row (rowsIn n out) ≡ true → out ≡ over (flat (take 1024 (joinRow (rowsIn n out) at))) out
   there-rows t =
-      let k = length-rows n out in
+      let k = length-rows 8 n out in
       rows-own n out (omega arith)
       ∙ ap (λ (l : List (List ℕ)). over (flat l) out) (sym (ap (take 1024) (joined-there t) ∙ take-all 1024 (rowsIn n out) (omega arith)))
 
@@ -232,7 +232,7 @@ module _ (n : ℕ) (out : List ℕ) (g : n ≤ 1024) (h : length out ≡ 8192) {
 
   pub full-rows : hasRow row (rowsIn n out) ≡ false → 1024 ≤ n → out ≡ over (flat (take 1024 (joinRow (rowsIn n out) at))) out
   full-rows t m =
-      let k = length-rows n out in
+      let k = length-rows 8 n out in
       let z : length (rowsIn n out) ≡ 1024 = omega arith in
       rows-own n out (omega arith)
       ∙ ap (λ (l : List (List ℕ)). over (flat l) out) (sym (ap (take 1024) (joined-new t) ∙ take-at (rowsIn n out) (at ∷ []) 1024 z))
@@ -278,7 +278,7 @@ module _ (rows : List (List ℕ)) (adds : List ℕ) (j n : ℕ) {out old : List 
 
   whole-new : Whole new
   whole-new row w =
-      in-snoc {P = λ (r : List ℕ). length r ≡ 8} [] (take 8 (drop (8 * j) adds)) (λ a n. absurd (List·Memᴰ·not-nil n)) (length-part adds (8 * j) h) row
+      in-snoc {P = λ (r : List ℕ). length r ≡ 8} [] (take 8 (drop (8 * j) adds)) (λ a n. absurd (List·Memᴰ·not-nil n)) (length-part 8 adds (8 * j) h) row
       (dedup-in (sameList eqb) (take 8 (drop (8 * j) adds) ∷ []) (filter-in (λ (row : List ℕ). not (hasRow row (joinedOf rows adds j))) (dedup (sameList eqb) (take 8 (drop (8 * j) adds) ∷ [])) w .0))
 
   joined-count : r ≡ atMost 1024 (length (joinedOf rows adds (j + 1)))

@@ -30,7 +30,7 @@ marks-more rows marks j first h b e M =
     subst (Marked (set marks first 1)) (sym (rows-snoc j rows))
     (in-snoc {P = λ (row : List ℕ). getD (set marks first 1) (byte row 2) 0 ≡ 1} (rowsIn j rows) (take 8 (drop (8 * j) rows))
     (λ row m. still (byte row 2) (bool-cases (eqb (byte row 2) first)) (M row m))
-    (ap (λ (i : ℕ). getD (set marks first 1) i 0) (part-at rows (8 * j) h 2 (omega arith) ∙ sym e) ∙ getD-set-same marks first 1 0 b))
+    (ap (λ (i : ℕ). getD (set marks first 1) i 0) (part-at 8 rows (8 * j) h 2 (omega arith) ∙ sym e) ∙ getD-set-same marks first 1 0 b))
   where
     still : (i : ℕ) → (eqb i first ≡ true) ⊎ (eqb i first ≡ false) → getD marks i 0 ≡ 1 → getD (set marks first 1) i 0 ≡ 1
     still i (inl t) m = ap (λ (k : ℕ). getD (set marks first 1) k 0) (eqb-true i first t) ∙ getD-set-same marks first 1 0 b
@@ -93,7 +93,7 @@ module _ {struck : List (List ℕ)} {work : List ℕ} {n keys : ℕ} {parts : Li
             λ arities I.
             subst (λ (l : List (List ℕ)). Indexed arities keys parts index′ (l ++ rowsIn (n - (i + 1)) (drop (8 * (i + 1)) work))) (sym (kept-next struck work i))
             (x arities (keptOf struck work i) (rowsIn (n - (i + 1)) (drop (8 * (i + 1)) work))
-            (subst (λ (l : List (List ℕ)). Indexed arities keys parts index (keptOf struck work i ++ l)) (rows-more work n i h) (K .indexed arities I)));
+            (subst (λ (l : List (List ℕ)). Indexed arities keys parts index (keptOf struck work i ++ l)) (rows-more 8 work n i h) (K .indexed arities I)));
         beside = b ∙ K .beside;
       }
 
@@ -107,7 +107,7 @@ module _ {struck : List (List ℕ)} {work : List ℕ} {n keys : ℕ} {parts : Li
     pub keeping-indexed : (arities : List ℕ) → Indexed arities keys parts index₀ (rowsIn n work) → Indexed arities keys parts index (keptOf struck work n)
     keeping-indexed arities I =
         subst (Indexed arities keys parts index)
-        (ap (λ (l : List (List ℕ)). keptOf struck work i ++ l) (rows-end (drop (8 * i) work) n i (omega arith)) ∙ append-nil (keptOf struck work i) ∙ ap (keptOf struck work) e)
+        (ap (λ (l : List (List ℕ)). keptOf struck work i ++ l) (rows-end 8 (drop (8 * i) work) n i (omega arith)) ∙ append-nil (keptOf struck work i) ∙ ap (keptOf struck work) e)
         (K .indexed arities I)
 
 -- ---- the index beside rows that join
@@ -175,7 +175,7 @@ module _ {adds : List ℕ} {m count keys : ℕ} {parts : List (List ℕ)} {out�
       row-sized : byte (take 8 (drop (8 * j) adds)) 1 ≡ getD arities (byte (take 8 (drop (8 * j) adds)) 0) 0
       row-sized =
           S (take 8 (drop (8 * j) adds))
-          (subst (λ (row : List ℕ). In row (rowsIn m adds)) (rows-at m adds j [] h) (let l = length-rows m adds in getD-in (rowsIn m adds) j [] (omega arith)))
+          (subst (λ (row : List ℕ). In row (rowsIn m adds)) (rows-at 8 m adds j [] h) (let l = length-rows 8 m adds in getD-in (rowsIn m adds) j [] (omega arith)))
 
       -- without room: whatever comes later does not change the answer
       pub joining-stop-count : 1024 < r → r ≡ atMost 1024 (length (joinedOf first adds m))

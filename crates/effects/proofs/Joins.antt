@@ -3,23 +3,18 @@ use mathlib.Core.Path.{_≡_, refl, sym, ap, ap₂, _∙_}
 use mathlib.Core.Bool.{Bool, true, false, _&&_, _||_, not, cond}
 use mathlib.Core.Logic.{_⊎_, inl, inr}
 use mathlib.Core.List.{List, [], _∷_, _++_, map, append-nil, append-assoc, List·Memᴰ·head, List·Memᴰ·tail}
-use Prim.Native.Nat.{ℕ, suc, _+_, _≤_}
+use Prim.Native.Nat.{ℕ, _+_, _≤_}
 use native.Mathlib.Omega.{arith}
 use lib.Dec.{eqb}
 use lib.ListN.{length}
 use borrow.Author.Tests.{eqb-true}
 use Rattle.records.specs.Lists.{In, addIf, keepIf, filterBy, countBy, all, sameList, elem, distinct, dedup}
-use Rattle.records.proofs.Lists.{bool-cases, off, clash, eqb-same, sameList-eq, sameList-self, in-elem, elem-in, in-dedup, dedup-in, filter-append, any-append, count-append, count-pos, count-none, single-count}
+use Rattle.records.proofs.Lists.{bool-cases, off, clash, eqb-same, sameList-eq, sameList-self, in-elem, elem-in, in-dedup, dedup-in, filter-append, filter-agree, any-append, count-append, count-pos, count-none, single-count}
 use Rattle.classes.proofs.Indices.{filter-filter, filter-map}
 use Rattle.store.specs.Rows.{hasRow}
 use Rattle.effects.specs.Effects.{joinRow, joinRows}
 
 -- ---- two tests
-
-module _ {A : Type 0} (p q : A → Bool) where
-  pub filter-agree : (l : List A) → ((a : A) → In a l → p a ≡ q a) → filterBy p l ≡ filterBy q l
-  filter-agree [] h = refl
-  filter-agree (x ∷ xs) h = ap₂ (λ (b : Bool) (l : List A). keepIf b x l) (h x (List·Memᴰ·head refl)) (filter-agree xs (λ a m. h a (List·Memᴰ·tail m)))
 
 -- what the second test refuses, the first refuses
 filter-absorb : {A : Type 0} (p q : A → Bool) (l : List A) → ((a : A) → In a l → q a && p a ≡ p a) → filterBy p (filterBy q l) ≡ filterBy p l

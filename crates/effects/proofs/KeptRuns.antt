@@ -40,9 +40,9 @@ others-more struck work from i h e j a b = go (bool-cases (ltb j i))
 later-row : (work : List ℕ) (n from j : ℕ) → from ≤ j → j < n → In (take 8 (drop (8 * j) work)) (rowsIn (n - from) (drop (8 * from) work))
 later-row work n from j a b =
     let e : 8 * from + 8 * (j - from) ≡ 8 * j = omega arith in
-    let l = length-rows (n - from) (drop (8 * from) work) in
+    let l = length-rows 8 (n - from) (drop (8 * from) work) in
     subst (λ (row : List ℕ). In row (rowsIn (n - from) (drop (8 * from) work)))
-    (rows-at (n - from) (drop (8 * from) work) (j - from) [] (omega arith)
+    (rows-at 8 (n - from) (drop (8 * from) work) (j - from) [] (omega arith)
     ∙ ap (take 8) (drop-drop (8 * (j - from)) (8 * from) work ∙ ap (λ (k : ℕ). drop k work) e))
     (getD-in (rowsIn (n - from) (drop (8 * from) work)) (j - from) [] (omega arith))
 
@@ -66,7 +66,7 @@ gone-count {struck} {work} {i = i} K =
     let c = K .filled .count in
     let f = count-filter (stays struck) (rowsIn i work) in
     let s = count-not (λ (row : List ℕ). hasRow row struck) (rowsIn i work) in
-    let l = length-rows i work in
+    let l = length-rows 8 i work in
     omega arith
 
 -- ---- a run of rows
@@ -92,7 +92,7 @@ run-kept struck work i (suc q) h =
 put-run : (k q : ℕ) (out t : List ℕ) → 8 * k ≤ length out
     → paste out (8 * k) (take (8 * q) t) (length (take (8 * q) t)) ≡ over (flat (rowsIn k out ++ rowsIn q t)) out
 put-run k q out t h =
-    let l = length-rows k out in
+    let l = length-rows 8 k out in
     let w = length-whole (rowsIn k out) (rows-whole k out h) in
     let z : length (flat (rowsIn k out)) ≡ 8 * k = omega arith in
     let s : List ℕ = take (8 * q) t in
@@ -121,7 +121,7 @@ module _ {struck : List (List ℕ)} {work : List ℕ} {n keys : ℕ} {parts : Li
       let g = K .few in
       let v : 8 * p - 8 * i ≡ 8 * (p - i) = omega arith in
       let d = length-drop (8 * i) work in
-      let l = length-rows (p - i) rest in
+      let l = length-rows 8 (p - i) rest in
       let r = filled-length (K .filled) in
       let x : n - i - (p - i) ≡ n - p = omega arith in
       let y : 8 * i + 8 * (p - i) ≡ 8 * p = omega arith in

@@ -9,7 +9,7 @@ use lib.ListN.{length, take, replicate, length-map}
 use lib.Seq.{take-all, take-append-add}
 use Rattle.records.specs.Lists.{filterBy, sameList, elem, distinct, dedup}
 use Rattle.records.specs.Memory.{over}
-use Rattle.records.proofs.Lists.{filter-in}
+use Rattle.records.proofs.Lists.{filter-in, filter-agree}
 use Rattle.records.proofs.Memory.{drop-replicate}
 use Rattle.literals.specs.declared.Clause.the-variants.{Add, Delete}
 use Rattle.literals.specs.Domain.{Fact, sameFact, Domain}
@@ -21,7 +21,7 @@ use Rattle.runs.specs.Play.{heldBytes}
 use Rattle.store.specs.Rows.{factRow}
 use Rattle.effects.specs.Effects.{joinRows, Once, atMost, flat, stepEffects, HoldsAfter}
 use Rattle.events.proofs.FactRows.{same-row}
-use Rattle.effects.proofs.Joins.{filter-agree, outside-map, dedup-map, distinct-map, joined-rows}
+use Rattle.effects.proofs.Joins.{outside-map, dedup-map, distinct-map, joined-rows}
 use Rattle.literals.proofs.Rows.{rows-whole}
 use Rattle.effects.proofs.FilledRows.{fill-again, Filled, filled-rows, stays, keptOf, kept-few, behind, most-inside}
 use Rattle.effects.proofs.EffectRows.{step-once, step-elem}

@@ -2,16 +2,16 @@
 use mathlib.Core.Path.{_≡_, refl, sym, ap, ap₂, _∙_}
 use mathlib.Core.Bool.{Bool, true, false, _&&_, not, cond}
 use mathlib.Core.Logic.{_⊎_, inl, inr}
-use mathlib.Core.List.{List, [], _∷_, _++_, map, flatMap, append-assoc, append-nil, List·Memᴰ·head, List·Memᴰ·tail}
+use mathlib.Core.List.{List, [], _∷_, _++_, map, flatMap, append-nil, List·Memᴰ·head, List·Memᴰ·tail}
 use Prim.Native.Nat.{ℕ, zero, suc, _+_, _-_, _*_, _≤_, _<_}
 use native.Mathlib.Numerals.{add-one}
 use native.Mathlib.Omega.{arith}
 use lib.Dec.{eqb}
 use lib.ListN.{length, getD, take, drop, replicate, length-append, length-map, length-replicate, length-drop, List·getD-append, List·getD-map}
-use lib.Seq.{take-at, drop-at, drop-drop, length-take-le}
+use lib.Seq.{take-at, length-take-le}
 use borrow.Author.Tests.{eqb-true, eqb-false, lt-ltb}
 use Rattle.records.specs.Lists.{In, all, any, sameList, elem, dedup}
-use Rattle.records.proofs.Lists.{bool-cases, off, clash, eqb-same, any-map, any-in, in-any, all-in, all-of, allBelow, below-in, sameList-self, in-dedup, dedup-in}
+use Rattle.records.proofs.Lists.{bool-cases, off, clash, any-map, any-in, in-any, all-in, all-of, getD-in, allBelow, below-in, in-dedup, dedup-in}
 use Rattle.literals.specs.declared.Variable.{Variable}
 use Rattle.literals.specs.declared.Object.{Object}
 use Rattle.literals.specs.declared.Index.{Index}
@@ -21,8 +21,8 @@ use Rattle.literals.specs.declared.Time.the-variants.{AtStart, OverAll, AtEnd}
 use Rattle.literals.specs.declared.Clause.{Clause}
 use Rattle.literals.specs.declared.Clause.the-variants.{Positive, Negative, Add, Delete}
 use Rattle.literals.specs.declared.Role.{Role}
-use Rattle.literals.specs.Domain.{object, sameObject, Atom, Fact, sameLiteral, sameFact, clauseNumber, roleNumber, roleOf, Literal, Action, Domain, arity, action}
-use Rattle.literals.specs.Table.{literalRow, rowsIn, indexOf}
+use Rattle.literals.specs.Domain.{object, sameObject, Atom, Fact, sameLiteral, sameFact, clauseNumber, roleNumber, roleOf, Literal, Action, Domain, arity, noAction, action}
+use Rattle.literals.specs.Table.{literalRow, rowsIn, indexOf, Bounded}
 use Rattle.literals.proofs.Equality.{literal-eq}
 use Rattle.literals.proofs.Tables.{Kept, kept, length-literal-row, rows-flat, pad-at}
 use Rattle.literals.proofs.Spans.{action-listed, span-size, part-literals}
@@ -30,6 +30,7 @@ use Rattle.classes.specs.declared.Moment.{Moment}
 use Rattle.classes.specs.declared.Moment.the-variants.{Start, End}
 use Rattle.classes.specs.Classes.{momentNumber, overAll, withRole, literalsAt}
 use Rattle.classes.proofs.Clauses.{counts}
+use Rattle.classes.proofs.Rows.{row-flat}
 use Rattle.classes.proofs.Indices.{any-agree}
 use Rattle.verdict.specs.Binding.{Binding, valueOf, bind}
 use Rattle.verdict.specs.Judged.{objectNumbers}
@@ -38,6 +39,7 @@ use Rattle.events.specs.declared.Open.{Open}
 use Rattle.events.specs.declared.Waiting.{Waiting}
 use Rattle.runs.specs.RunFile.{momentOf}
 use Rattle.store.specs.Rows.{factRow, hasRow}
+use Rattle.store.proofs.InstanceRows.{same-numbers}
 use Rattle.events.specs.Coded.{groundRow, GroundFits, Lent, Ready, endRow, objectOf, boundRow, clauseFor, timeOf, openOf, waitingOf}
 
 -- ---- equal rows are rows of equal facts
@@ -51,12 +53,6 @@ same-size (x ∷ xs) (y ∷ ys) n = go (sameObject x y) (same-size xs ys (λ e. 
     go : (b : Bool) → sameList sameObject xs ys ≡ false → b && sameList sameObject xs ys ≡ false
     go true h = h
     go false h = refl
-
-same-numbers : (x y : List Object) (fill : List ℕ) → length x ≡ length y → sameList eqb (objectNumbers x ++ fill) (objectNumbers y ++ fill) ≡ sameList sameObject x y
-same-numbers [] [] fill e = sameList-self eqb eqb-same fill
-same-numbers [] (y ∷ ys) fill e = absurd (omega arith)
-same-numbers (x ∷ xs) [] fill e = absurd (omega arith)
-same-numbers (x ∷ xs) (y ∷ ys) fill e = ap (λ (b : Bool). sameObject x y && b) (same-numbers xs ys fill (omega arith))
 
 same-arguments : (x y : List Object)
     → eqb (length x) (length y) && sameList eqb (objectNumbers x ++ replicate (6 - length x) 255) (objectNumbers y ++ replicate (6 - length y) 255) ≡ sameList sameObject x y
@@ -83,6 +79,11 @@ pub length-fact-row : (f : Fact) → length (f .args) ≤ 6 → length (factRow 
 length-fact-row f h = simp (length-append, length-map, length-replicate) (omega arith)
 
 -- ---- an action with its objects
+
+-- at most 16, in a domain that reading keeps
+pub few-objects : {D : Domain} → Bounded D → (g : GroundAction) → GroundFits D g → length (g .binding) ≤ 16
+unfolding action
+few-objects {D} B g f = let e = f .bound in let h = B .counts (action D (g .action)) (getD-in (D .actions) (g .action) noAction (f .listed)) in omega arith
 
 pub length-ground-row : (g : GroundAction) → length (g .binding) ≤ 16 → length (groundRow g) ≡ 17
 length-ground-row g h = simp (length-append, length-map, length-replicate) (omega arith)
@@ -222,19 +223,13 @@ module _ (D : Domain) (n : Counts) (arities variables sorts starts parts table :
         (part-literals (L .held) i b table (L .old) (L .rows) from to p q ∙ sym (append-nil (flatMap literalRow (action D i .lits))))
         ∙ rows-flat literalRow (action D i .lits) [] (λ l m. length-literal-row l (lent-kept l m .fits))
 
-  pub ground-few : (g : GroundAction) → GroundFits D g → length (g .binding) ≤ 16
-  ground-few g F =
-      let e = F .bound in
-      let c = L .held .bounded .counts (action D (g .action)) (lent-action (g .action) (F .listed)) in
-      omega arith
-
   -- a literal's row of an action, by the action's objects
   pub lent-bound : (g : GroundAction) → GroundFits D g → (l : Literal) → In l (action D (g .action) .lits)
       → boundRow arities (groundRow g) (literalRow l) ≡ factRow (bind (g .binding) (l .atom))
   lent-bound g F l m =
       let i = lent-action (g .action) (F .listed) in
       let e = F .bound in
-      bound-fact arities g l (L .held .bounded .literalArity (action D (g .action)) i l m ∙ sym (lent-arity (l .atom .rel))) (ground-few g F)
+      bound-fact arities g l (L .held .bounded .literalArity (action D (g .action)) i l m ∙ sym (lent-arity (l .atom .rel))) (few-objects (L .held .bounded) g F)
       (λ v w. let b = L .held .bounded .below (action D (g .action)) i l m v w in omega arith)
 
 -- an action with its objects, found by its row
@@ -278,20 +273,6 @@ part-fits n arities starts table R i h from to p q =
 
 -- ---- rows of 17 bytes
 
-module _ {A : Type 0} (f : A → List ℕ) where
-  pub ground-row-at : (l : List A) (rest : List ℕ) (d : A) → ((a : A) → In a l → length (f a) ≡ 17) → (i : ℕ) → i < length l
-      → take 17 (drop (17 * i) (flatMap f l ++ rest)) ≡ f (getD l i d)
-  unfolding flatMap
-  ground-row-at [] rest d h i b = absurd (omega arith)
-  ground-row-at (x ∷ xs) rest d h zero b =
-      ap (take 17) (append-assoc (f x) (flatMap f xs) rest) ∙ take-at (f x) (flatMap f xs ++ rest) 17 (h x (List·Memᴰ·head refl))
-  ground-row-at (x ∷ xs) rest d h (suc i) b =
-      let e : 17 * suc i ≡ 17 + 17 * i = omega arith in
-      ap₂ (λ (n : ℕ) (t : List ℕ). take 17 (drop n t)) e (append-assoc (f x) (flatMap f xs) rest)
-      ∙ ap (take 17) (sym (drop-drop (17 * i) 17 (f x ++ (flatMap f xs ++ rest))))
-      ∙ ap (λ (t : List ℕ). take 17 (drop (17 * i) t)) (drop-at (f x) (flatMap f xs ++ rest) 17 (h x (List·Memᴰ·head refl)))
-      ∙ ground-row-at xs rest d (λ a m. h a (List·Memᴰ·tail m)) i (omega arith)
-
 -- what an index beyond the last reads
 abbrev pub noGround : GroundAction
 noGround = record { action = 0; binding = [] }
@@ -305,7 +286,7 @@ pub open-row-at : (gs : List GroundAction) → ((g : GroundAction) → In g gs �
 unfolding openOf
 open-row-at gs h o e i b =
     ap (λ (x : Open). take 17 (drop (17 * i) (x .rows))) e
-    ∙ ground-row-at groundRow gs (replicate (544 - length (flatMap groundRow gs)) 0) noGround (λ g m. length-ground-row g (h g m)) i b
+    ∙ row-flat groundRow gs (replicate (544 - length (flatMap groundRow gs)) 0) noGround (λ g m. length-ground-row g (h g m)) i b
 
 pub open-count : (gs : List GroundAction) (o : Open) → o ≡ openOf gs → o .count ≡ length gs
 unfolding openOf
@@ -317,7 +298,7 @@ pub waiting-row-at : (es : List Event) → ((e : Event) → In e es → length (
 unfolding waitingOf
 waiting-row-at es h w p i b =
     ap (λ (x : Waiting). take 17 (drop (17 * i) (x .rows))) p
-    ∙ ground-row-at (λ (e : Event). groundRow (e .ground)) es (replicate (272 - length (flatMap (λ (e : Event). groundRow (e .ground)) es)) 0) noEvent (λ e m. length-ground-row (e .ground) (h e m)) i b
+    ∙ row-flat (λ (e : Event). groundRow (e .ground)) es (replicate (272 - length (flatMap (λ (e : Event). groundRow (e .ground)) es)) 0) noEvent (λ e m. length-ground-row (e .ground) (h e m)) i b
 
 pub waiting-moment-at : (es : List Event) (w : Waiting) → w ≡ waitingOf es → (i : ℕ) → getD (w .moments) i 0 ≡ momentNumber (getD es i noEvent .moment)
 unfolding waitingOf

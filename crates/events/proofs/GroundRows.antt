@@ -1,4 +1,4 @@
--- Laws of loops over rows of 17 bytes: comparing them, finding one, taking one out, writing one behind them; and over the events that wait. Assumes nothing.
+-- Laws of loops over rows of 17 bytes: finding one, taking one out, writing one behind them; and over the events that wait. Assumes nothing.
 use mathlib.Core.Path.{_≡_, refl, sym, ap, ap₂, _∙_}
 use mathlib.Core.Bool.{Bool, true, false, _||_, cond}
 use mathlib.Core.Logic.{_⊎_, inl, inr}
@@ -8,74 +8,23 @@ use native.Mathlib.Nat.{sub-zero}
 use native.Mathlib.Omega.{arith}
 use lib.Dec.{eqb, ltb}
 use lib.ListN.{length, getD, take, drop, replicate, length-drop, drop-of-length-le}
-use lib.Seq.{paste, length-paste, take-paste, take-all, getD-take, getD-drop, drop-drop, length-take-le}
+use lib.Seq.{paste, length-paste, take-paste, take-all, getD-drop, drop-drop}
 use borrow.Author.Tests.{ltb-true, ltb-false, lt-ltb, le-ltb, eq-eqb, ne-eqb}
 use Rattle.records.specs.Lists.{any, all, sameList}
 use Rattle.records.proofs.Lists.{bool-cases}
-use Rattle.literals.proofs.Rows.{same-miss, same-hit, same-end}
+use Rattle.literals.proofs.Rows.{first-at}
 use Rattle.classes.specs.Coded.{position}
-use Rattle.classes.proofs.KeyRows.{place-le}
+use Rattle.classes.proofs.KeyRows.{place-le, length-rows}
 use Rattle.events.specs.declared.Open.{Open}
 use Rattle.events.specs.declared.openings.Opened.{Opened}
 use Rattle.events.specs.Coded.{groundsIn, EventRow, eventsIn, endOpen, withoutEntry, closeEntry, closeEvent, closeEvents, joinEntry, opensBy, joinEvent, joinEvents}
 use Rattle.store.specs.Rows.{hasRow}
 
--- ---- an entry and the row at an offset, from byte i on
-
-module _ (t : List ℕ) (at : ℕ) (h : at + 17 ≤ length t) where
-  pub length-ground-at : length (take 17 (drop at t)) ≡ 17
-  length-ground-at = length-take-le 17 (drop at t) (simp length-drop (omega arith))
-
-  ground-at : (i : ℕ) → i < 17 → getD (take 17 (drop at t)) i 0 ≡ getD t (at + i) 0
-  ground-at i g = getD-take 17 (drop at t) i 0 g ∙ getD-drop at t i 0
-
-ground-first : (t : List ℕ) (at : ℕ) → getD (take 17 (drop at t)) 0 0 ≡ getD t at 0
-ground-first t at = getD-take 17 (drop at t) 0 0 (omega arith) ∙ getD-drop at t 0 0 ∙ ap (λ (k : ℕ). getD t k 0) (omega arith)
-
 -- a part of 17 bytes
 pub part-ground : (t : List ℕ) (at : ℕ) → take (at + 17 - at) (drop at t) ≡ take 17 (drop at t)
 part-ground t at = let e : at + 17 - at ≡ 17 = omega arith in ap (λ (k : ℕ). take k (drop at t)) e
 
-module _ (x t : List ℕ) (at i : ℕ) (e : length x ≡ 17) (h : at + 17 ≤ length t) where
-  pub ground-miss : i < 17 → (getD x i 0 ≡ getD t (at + i) 0 → ⊥) → sameList eqb (drop i x) (drop i (take 17 (drop at t))) ≡ false
-  ground-miss l n = same-miss x (take 17 (drop at t)) i (omega arith) (omega (arith, length-ground-at t at h)) (λ f. n (f ∙ ground-at t at h i l))
-
-  pub ground-hit : i < 17 → getD x i 0 ≡ getD t (at + i) 0
-      → sameList eqb (drop i x) (drop i (take 17 (drop at t))) ≡ sameList eqb (drop (i + 1) x) (drop (i + 1) (take 17 (drop at t)))
-  ground-hit l f = same-hit x (take 17 (drop at t)) i (omega arith) (omega (arith, length-ground-at t at h)) (f ∙ sym (ground-at t at h i l))
-
-  pub ground-end : 17 ≤ i → sameList eqb (drop i x) (drop i (take 17 (drop at t))) ≡ true
-  ground-end l = same-end x (take 17 (drop at t)) i (omega arith) (omega (arith, length-ground-at t at h))
-
--- ---- the place of the first entry that passes, from entry i on
-
-grounds-more : (t : List ℕ) (n i : ℕ) → i < n → groundsIn (n - i) (drop (17 * i) t) ≡ take 17 (drop (17 * i) t) ∷ groundsIn (n - (i + 1)) (drop (17 * (i + 1)) t)
-grounds-more t n i h =
-    let e : n - i ≡ suc (n - (i + 1)) = omega arith in
-    let f : 17 * i + 17 ≡ 17 * (i + 1) = omega arith in
-    rw (e, drop-drop, f)
-
-grounds-end : (t : List ℕ) (n i : ℕ) → n ≤ i → groundsIn (n - i) t ≡ []
-grounds-end t n i h = let e : n - i ≡ 0 = omega arith in rw e
-
-module _ (p : List ℕ → Bool) (t : List ℕ) (n i : ℕ) where
-  pub entry-end : n ≤ i → i + position p (groundsIn (n - i) (drop (17 * i) t)) ≡ i
-  entry-end h = rw (grounds-end (drop (17 * i) t) n i h) (omega arith)
-
-  module _ (h : i < n) where
-    pub entry-hit : p (take 17 (drop (17 * i) t)) ≡ true → i + position p (groundsIn (n - i) (drop (17 * i) t)) ≡ i
-    entry-hit e = rw (grounds-more t n i h, e) (omega arith)
-
-    pub entry-miss : p (take 17 (drop (17 * i) t)) ≡ false
-        → i + 1 + position p (groundsIn (n - (i + 1)) (drop (17 * (i + 1)) t)) ≡ i + position p (groundsIn (n - i) (drop (17 * i) t))
-    entry-miss e = rw (grounds-more t n i h, e) (omega arith)
-
-pub entry-first : (p : List ℕ → Bool) (t : List ℕ) (n : ℕ) → 0 + position p (groundsIn (n - 0) (drop (17 * 0) t)) ≡ position p (groundsIn n t)
-entry-first p t n = let e : n - 0 ≡ n = omega arith in rw e (omega arith)
-
-length-grounds : (n : ℕ) (t : List ℕ) → length (groundsIn n t) ≡ n
-length-grounds zero t = refl
-length-grounds (suc n) t = ap suc (length-grounds n (drop 17 t))
+-- ---- the place of an entry
 
 suc-ltb : (m n : ℕ) → ltb (suc m) (suc n) ≡ ltb m n
 suc-ltb m n = go (bool-cases (ltb m n))
@@ -94,10 +43,10 @@ place-any p (x ∷ xs) = go (p x) (place-any p xs)
 
 -- where the place is below n, one of the entries is it
 pub place-open : (row t : List ℕ) (n k : ℕ) → k ≡ position (sameList eqb row) (groundsIn n t) → ltb k n ≡ hasRow row (groundsIn n t)
-place-open row t n k e = ap₂ ltb e (sym (length-grounds n t)) ∙ place-any (sameList eqb row) (groundsIn n t)
+place-open row t n k e = ap₂ ltb e (sym (length-rows 17 n t)) ∙ place-any (sameList eqb row) (groundsIn n t)
 
 pub entry-le : (row t : List ℕ) (n k : ℕ) → k ≡ position (sameList eqb row) (groundsIn n t) → k ≤ n
-entry-le row t n k e = omega (arith, place-le (sameList eqb row) (groundsIn n t), length-grounds n t)
+entry-le row t n k e = omega (arith, place-le (sameList eqb row) (groundsIn n t), length-rows 17 n t)
 
 -- ---- the events that wait, from event i on
 
@@ -277,7 +226,7 @@ module _ (sorts : List ℕ) (actions : ℕ) where
         ≡ cond b (cond (ltb (o .count) 32) (record { fits = true; running = joinEntry (e .row) o }) (record { fits = false; running = o })) (record { fits = true; running = o })
     unfolding joinEvent
     by-start = ap {B = Opened} (λ b. cond b (cond (ltb (o .count) 32) (record { fits = true; running = joinEntry (e .row) o }) (record { fits = false; running = o })) (record { fits = true; running = o }))
-        (ap (opensBy sorts actions (getD moments i 0)) (ground-first events (17 * i)) ∙ sym f)
+        (ap (opensBy sorts actions (getD moments i 0)) (first-at 17 events (17 * i) (omega arith)) ∙ sym f)
 
     pub joins-not : b ≡ false → record { fits = true; running = o } ≡ joinEvent sorts actions e o
     joins-not h = sym (by-start ∙ rw h)

@@ -3,28 +3,18 @@ use mathlib.Core.Path.{_≡_, refl, sym, ap, ap₂, _∙_}
 use mathlib.Core.List.{List, [], _∷_, _++_, map, flatMap, map-append}
 use Prim.Native.Nat.{ℕ, _+_, _*_, _<_}
 use native.Mathlib.Omega.{arith}
-use lib.ListN.{length, set, replicate, length-append, length-map}
+use lib.ListN.{length, set, length-append, length-map}
 use lib.Seq.{paste}
-use Rattle.records.specs.Memory.{over}
 use Rattle.records.proofs.Lists.{flatMap-snoc}
-use Rattle.records.proofs.Memory.{over-paste, drop-replicate}
 use Rattle.literals.specs.Domain.{Domain}
 use Rattle.literals.specs.Table.{pad, Bounded}
-use Rattle.literals.proofs.Tables.{pad-more}
+use Rattle.literals.proofs.Tables.{length-flat, pad-more, pad-paste}
 use Rattle.classes.specs.Classes.{momentNumber}
 use Rattle.verdict.specs.Machine.{Event}
 use Rattle.events.specs.declared.Waiting.{Waiting}
 use Rattle.events.specs.Coded.{groundRow, waitingOf, EventsFit}
 use Rattle.events.proofs.FactRows.{waiting-count}
-use Rattle.events.proofs.OpenRows.{length-flat, length-ground}
-
--- a list in an array of zeros, and more of it
-pad-paste : (n : ℕ) (l s : List ℕ) (at : ℕ) → length l ≡ at → paste (pad n l) at s (length s) ≡ pad n (l ++ s)
-unfolding over
-pad-paste n l s at e =
-    ap (λ (t : List ℕ). paste (l ++ t) at s (length s)) (sym (drop-replicate (length l) n 0))
-    ∙ over-paste l (replicate n 0) s at (length s) e refl
-    ∙ ap (λ (t : List ℕ). (l ++ s) ++ t) (drop-replicate (length (l ++ s)) n 0)
+use Rattle.events.proofs.OpenRows.{length-ground}
 
 -- what waits, with the byte of a moment and a row behind the others
 pub waiting-more : {D : Domain} → Bounded D → (es : List Event) → EventsFit D es → (w : Waiting) → w ≡ waitingOf es → w .count < 16
@@ -62,5 +52,5 @@ waiting-more {D} B es F w p l e moment ground rows q r s = λ i. record { count 
         let k = length-flat (λ (e : Event). groundRow (e .ground)) es (λ f m. length-ground B (f .ground) (F f m)) in
         s
         ∙ ap₂ (λ (t : List ℕ) (n : ℕ). paste t (17 * n) ground (length ground)) (ap (λ (x : Waiting). x .rows) p) size
-        ∙ pad-paste 272 rows-of ground (17 * length es) k
+        ∙ pad-paste 272 rows-of ground (17 * length es) (length ground) k refl
         ∙ ap (pad 272) (ap (λ (g : List ℕ). rows-of ++ g) r ∙ sym (flatMap-snoc (λ (e : Event). groundRow (e .ground)) es e))

@@ -3,64 +3,40 @@ use mathlib.Core.Path.{_≡_, refl, sym, ap, ap₂, subst, _∙_}
 use mathlib.Core.Bool.{Bool, true, false, not, _&&_, cond, true≢false, _||_}
 use mathlib.Core.Logic.{_⊎_, inl, inr}
 use mathlib.Core.List.{List, [], _∷_, _++_, map, flatMap, append-nil, append-assoc, List·Memᴰ·head, List·Memᴰ·tail, Memᴰ·append-left, Memᴰ·append-right}
-use Prim.Native.Nat.{ℕ, zero, suc, _+_, _-_, _*_, _≤_, _<_}
+use Prim.Native.Nat.{ℕ, zero, suc, _+_, _-_, _*_, _≤_}
 use native.Mathlib.Omega.{arith}
 use lib.Dec.{eqb, ltb, leb}
-use lib.ListN.{length, getD, take, drop, replicate, length-append, length-map, length-replicate, replicate-append-replicate, List·getD-map, drop-of-length-le}
+use lib.ListN.{length, getD, take, drop, replicate, length-append, replicate-append-replicate, List·getD-map, drop-of-length-le}
 use lib.Seq.{paste, take-at, drop-at, take-all, split-at, length-take-le}
-use borrow.Author.Tests.{ltb-true, ltb-false, lt-ltb, le-leb, lt-leb, ne-eqb, eqb-true, eqb-false}
+use borrow.Author.Tests.{ltb-true, ltb-false, lt-ltb, le-leb, lt-leb, eqb-true, eqb-false}
 use Rattle.records.specs.Lists.{In, keepIf, all, sameList, elem}
-use Rattle.records.specs.Memory.{over}
-use Rattle.records.proofs.Lists.{bool-cases, eqb-same, sameList-self, getD-in, flatMap-append, flatMap-snoc, in-snoc}
-use Rattle.records.proofs.Memory.{over-paste, drop-replicate}
+use Rattle.records.proofs.Lists.{bool-cases, flatMap-append, flatMap-snoc, in-snoc}
 use Rattle.literals.specs.declared.Object.{Object}
 use Rattle.literals.specs.declared.Index.{Index}
-use Rattle.literals.specs.Domain.{sameObject, noAction, Domain, action}
+use Rattle.literals.specs.Domain.{noAction, Domain, action}
 use Rattle.literals.specs.Table.{pad, sortNumber, Bounded, Holds}
-use Rattle.literals.proofs.Tables.{pad-at}
+use Rattle.literals.proofs.Tables.{length-flat, rows-flat, pad-at, pad-paste, same-filled}
 use Rattle.literals.proofs.Held.{actions-is, sorts-is}
 use Rattle.classes.specs.declared.Moment.{Moment}
 use Rattle.classes.specs.declared.Moment.the-variants.{Start, End}
 use Rattle.classes.specs.Classes.{momentNumber}
 use Rattle.classes.specs.Coded.{position}
 use Rattle.classes.proofs.KeyRows.{place-le}
-use Rattle.verdict.specs.Judged.{objectNumbers}
 use Rattle.verdict.specs.Machine.{GroundAction, Event, sameGround, isOpenAt, isOpen, closeOne, closeAt, closeAll, opens, openedBy}
 use Rattle.events.specs.declared.Open.{Open}
 use Rattle.events.specs.declared.Waiting.{Waiting}
 use Rattle.events.specs.declared.openings.Opened.{Opened}
 use Rattle.events.specs.Coded.{groundRow, groundsIn, openOf, waitingOf, GroundFits, GroundsFit, EventsFit, EventRow, eventsIn, endOpen, withoutEntry, closeEntry, closeEvent, closeEvents, joinEntry, opensBy, joinEvent, joinEvents}
 use Rattle.store.specs.Rows.{hasRow}
+use Rattle.events.proofs.FactRows.{few-objects, length-ground-row}
 use Rattle.events.proofs.Members.{close-in, closed-in}
 
--- ---- rows of 17 bytes, one for each element
+-- ---- the events that wait
 
-module _ {A : Type 0} (f : A → List ℕ) where
-  abbrev Seventeen : List A → Type 0
-  Seventeen l = (a : A) → In a l → length (f a) ≡ 17
-
-  pub length-flat : (l : List A) → Seventeen l → length (flatMap f l) ≡ 17 * length l
-  unfolding flatMap
-  length-flat [] h = refl
-  length-flat (x ∷ xs) h = simp length-append (omega (arith, h x (List·Memᴰ·head refl), length-flat xs (λ a m. h a (List·Memᴰ·tail m))))
-
-  grounds-flat : (l : List A) (rest : List ℕ) → Seventeen l → groundsIn (length l) (flatMap f l ++ rest) ≡ map f l
-  unfolding flatMap
-  grounds-flat [] rest h = refl
-  grounds-flat (x ∷ xs) rest h =
-      let e = h x (List·Memᴰ·head refl) in
-      rw (
-        append-assoc (f x) (flatMap f xs) rest,
-        take-at (f x) (flatMap f xs ++ rest) 17 e,
-        drop-at (f x) (flatMap f xs ++ rest) 17 e,
-        grounds-flat xs rest (λ a m. h a (List·Memᴰ·tail m)),
-      )
-
--- the events that wait
 abbrev eventRow : Event → EventRow
 eventRow e = record { moment = momentNumber (e .moment); row = groundRow (e .ground) }
 
-events-flat : (f : Event → List ℕ) (es : List Event) (left rest : List ℕ) → Seventeen f es
+events-flat : (f : Event → List ℕ) (es : List Event) (left rest : List ℕ) → ((e : Event) → In e es → length (f e) ≡ 17)
     → eventsIn (length es) (map (λ (e : Event). momentNumber (e .moment)) es ++ left) (flatMap f es ++ rest)
     ≡ map {B = EventRow} (λ (e : Event). record { moment = momentNumber (e .moment); row = f e }) es
 unfolding flatMap
@@ -76,35 +52,16 @@ events-flat f (x ∷ xs) left rest h =
 
 -- ---- two actions with objects have the same row where they are the same
 
-same-objects : (x y : List Object) (m n : ℕ) → ((o : Object) → In o x → o .0 < 255) → ((o : Object) → In o y → o .0 < 255) → length x + m ≡ length y + n
-    → sameList eqb (objectNumbers x ++ replicate m 255) (objectNumbers y ++ replicate n 255) ≡ sameList sameObject x y
-same-objects [] [] m n h g e = let f : m ≡ n = omega arith in rw f (sameList-self eqb eqb-same (replicate n 255))
-same-objects [] (o ∷ os) zero n h g e = absurd (omega arith)
-same-objects [] (o ∷ os) (suc m) n h g e = let f = g o (List·Memᴰ·head refl) in rw (ne-eqb 255 (o .0) (λ z. omega arith))
-same-objects (o ∷ os) [] m zero h g e = absurd (omega arith)
-same-objects (o ∷ os) [] m (suc n) h g e = let f = h o (List·Memᴰ·head refl) in rw (ne-eqb (o .0) 255 (λ z. omega arith))
-same-objects (o ∷ os) (p ∷ ps) m n h g e =
-    ap (λ (t : Bool). eqb (o .0) (p .0) && t) (same-objects os ps m n (λ q i. h q (List·Memᴰ·tail i)) (λ q i. g q (List·Memᴰ·tail i)) (omega arith))
-
 module _ {D : Domain} (B : Bounded D) where
-  pub few-objects : (g : GroundAction) → GroundFits D g → length (g .binding) ≤ 16
-  unfolding action
-  few-objects g f = let e = f .bound in let h = B .counts (action D (g .action)) (getD-in (D .actions) (g .action) noAction (f .listed)) in omega arith
-
   pub length-ground : (g : GroundAction) → GroundFits D g → length (groundRow g) ≡ 17
-  length-ground g f =
-      let h = few-objects g f in
-      let a = length-append (objectNumbers (g .binding)) (replicate (16 - length (g .binding)) 255) in
-      let m = length-map (g .binding) (λ (o : Object). o .0) in
-      let r = length-replicate {A = ℕ} (16 - length (g .binding)) 255 in
-      omega arith
+  length-ground g f = length-ground-row g (few-objects B g f)
 
   pub same-rows : (g h : GroundAction) → GroundFits D g → GroundFits D h → sameList eqb (groundRow g) (groundRow h) ≡ sameGround g h
   same-rows g h f k =
-      let a = few-objects g f in
-      let b = few-objects h k in
+      let a = few-objects B g f in
+      let b = few-objects B h k in
       ap (λ (t : Bool). eqb (g .action) (h .action) && t)
-      (same-objects (g .binding) (h .binding) (16 - length (g .binding)) (16 - length (h .binding)) (f .objects) (k .objects) (omega arith))
+      (same-filled (λ (o : Object). o .0) (g .binding) (h .binding) (16 - length (g .binding)) (16 - length (h .binding)) (f .objects) (k .objects) (omega arith))
 
   -- ---- the entries
 
@@ -119,7 +76,7 @@ module _ {D : Domain} (B : Bounded D) where
 
   entries-are : (gs : List GroundAction) → GroundsFit D gs → groundsIn (openOf gs .count) (openOf gs .rows) ≡ map groundRow gs
   unfolding openOf
-  entries-are gs k = grounds-flat groundRow gs (replicate (544 - length (flatMap groundRow gs)) 0) (λ g m. length-ground g (k g m))
+  entries-are gs k = rows-flat groundRow gs (replicate (544 - length (flatMap groundRow gs)) 0) (λ g m. length-ground g (k g m))
 
   events-are : (es : List Event) → EventsFit D es → eventsIn (waitingOf es .count) (waitingOf es .moments) (waitingOf es .rows) ≡ map eventRow es
   unfolding waitingOf
@@ -281,13 +238,6 @@ closes-are B (e ∷ es) h gs k few =
 
 -- ---- an entry more
 
-pad-over : (n : ℕ) (l : List ℕ) → pad n l ≡ over l (replicate n 0)
-unfolding over
-pad-over n l = rw drop-replicate
-
-bytes-in : (n : ℕ) (x z : List ℕ) (k : ℕ) → length x ≡ 17 * k → length z ≡ 17 → paste (pad n x) (17 * k) z 17 ≡ pad n (x ++ z)
-bytes-in n x z k e f = ap (λ (t : List ℕ). paste t (17 * k) z 17) (pad-over n x) ∙ over-paste x (replicate n 0) z (17 * k) 17 e f ∙ sym (pad-over n (x ++ z))
-
 module _ {D : Domain} (B : Bounded D) where
   entry-in : (gs : List GroundAction) → GroundsFit D gs → (g : GroundAction) → GroundFits D g → joinEntry (groundRow g) (openOf gs) ≡ openOf (gs ++ (g ∷ []))
   unfolding openOf joinEntry
@@ -298,7 +248,7 @@ module _ {D : Domain} (B : Bounded D) where
 
       bytes : paste (pad 544 (flatMap groundRow gs)) (17 * length gs) (groundRow g) 17 ≡ pad 544 (flatMap groundRow (gs ++ (g ∷ [])))
       bytes =
-          bytes-in 544 (flatMap groundRow gs) (groundRow g) (length gs) (length-flat groundRow gs (λ h m. length-ground B h (k h m))) (length-ground B g f)
+          pad-paste 544 (flatMap groundRow gs) (groundRow g) (17 * length gs) 17 (length-flat groundRow gs (λ h m. length-ground B h (k h m))) (length-ground B g f)
           ∙ ap (pad 544) (sym (flatMap-snoc groundRow gs g))
 
 -- what the answer says of the entries afterwards

@@ -1,6 +1,6 @@
 -- Laws of the fact that a literal's row is bound to, and of the rows of an action. Assumes nothing.
 use mathlib.Core.Path.{_≡_, refl, sym, ap, _∙_}
-use mathlib.Core.List.{List, [], _∷_, _++_, map, append-nil}
+use mathlib.Core.List.{List, [], _++_, map, append-nil}
 use Prim.Native.Nat.{ℕ, zero, suc, _+_, _-_, _≤_, _<_}
 use native.Mathlib.Omega.{arith}
 use lib.ListN.{length, getD, set, take, drop, replicate, length-append, length-drop, length-map, length-replicate, getD-replicate, List·getD-append}
@@ -9,6 +9,7 @@ use borrow.Author.Tests.{lt-ltb, le-ltb}
 use Rattle.records.proofs.Memory.{paste-more}
 use Rattle.literals.specs.Decode.{byte}
 use Rattle.literals.proofs.Rows.{length-part, part-at}
+use Rattle.classes.proofs.Indices.{getD-map}
 use Rattle.events.specs.Coded.{objectOf, boundBytes, boundRow}
 
 -- ---- the fact that a literal's row is bound to
@@ -19,11 +20,6 @@ object-in ground v h = rw (lt-ltb v 16 h)
 pub object-out : (ground : List ℕ) (v : ℕ) → 16 ≤ v → 0 ≡ objectOf ground v
 object-out ground v h = rw (le-ltb v 16 h)
 
-map-at : (f : ℕ → ℕ) (l : List ℕ) (i : ℕ) → i < length l → getD (map f l) i 0 ≡ f (getD l i 0)
-map-at f [] i h = absurd (omega arith)
-map-at f (x ∷ xs) zero h = refl
-map-at f (x ∷ xs) (suc i) h = map-at f xs i (omega arith)
-
 module _ (arity : ℕ) (ground t : List ℕ) (at : ℕ) (h : at + 8 ≤ length t) (g : arity ≤ 6) where
   abbrev row : List ℕ
   row = take 8 (drop at t)
@@ -32,7 +28,7 @@ module _ (arity : ℕ) (ground t : List ℕ) (at : ℕ) (h : at + 8 ≤ length t
   objects = map (objectOf ground) (take arity (drop 2 row))
 
   length-arguments : length (take arity (drop 2 row)) ≡ arity
-  length-arguments = let l = length-part t at h in length-take-le arity (drop 2 row) (simp length-drop (omega arith))
+  length-arguments = let l = length-part 8 t at h in length-take-le arity (drop 2 row) (simp length-drop (omega arith))
 
   length-objects : length objects ≡ arity
   length-objects = length-map (take arity (drop 2 row)) (objectOf ground) ∙ length-arguments
@@ -45,7 +41,7 @@ module _ (arity : ℕ) (ground t : List ℕ) (at : ℕ) (h : at + 8 ≤ length t
       omega arith
 
   pub bound-first : (i : ℕ) → i ≡ 0 → getD t (at + 1) 0 ≡ getD (boundBytes arity ground row) i 0
-  bound-first i e = sym (part-at t at h 1 (omega arith)) ∙ ap (λ (i : ℕ). getD (boundBytes arity ground row) i 0) (sym e)
+  bound-first i e = sym (part-at 8 t at h 1 (omega arith)) ∙ ap (λ (i : ℕ). getD (boundBytes arity ground row) i 0) (sym e)
 
   pub bound-object : (i r : ℕ) → (i ≡ 0 → ⊥) → (i ≡ 1 → ⊥) → i < 2 + arity → r ≡ objectOf ground (getD t (at + i) 0) → r ≡ getD (boundBytes arity ground row) i 0
   bound-object zero r n o l e = absurd (n refl)
@@ -58,8 +54,8 @@ module _ (arity : ℕ) (ground t : List ℕ) (at : ℕ) (h : at + 8 ≤ length t
       ∙ ap (λ (i : ℕ). objectOf ground (getD t (at + i) 0)) z
       ∙ sym
       (List·getD-append objects (replicate (6 - arity) 255) 0 k (omega arith)
-      ∙ map-at (objectOf ground) (take arity (drop 2 row)) k (omega arith)
-      ∙ ap (objectOf ground) (getD-take arity (drop 2 row) k 0 (omega arith) ∙ getD-drop 2 row k 0 ∙ part-at t at h (2 + k) (omega arith)))
+      ∙ getD-map (objectOf ground) (take arity (drop 2 row)) k 0 0 (omega arith)
+      ∙ ap (objectOf ground) (getD-take arity (drop 2 row) k 0 (omega arith) ∙ getD-drop 2 row k 0 ∙ part-at 8 t at h (2 + k) (omega arith)))
 
   pub bound-fill : (i : ℕ) → i < 8 → (i ≡ 0 → ⊥) → (i ≡ 1 → ⊥) → 2 + arity ≤ i → 255 ≡ getD (boundBytes arity ground row) i 0
   bound-fill zero l n o m = absurd (n refl)
@@ -89,7 +85,7 @@ module _ (arity : ℕ) (ground t : List ℕ) (at : ℕ) (h : at + 8 ≤ length t
       ∙ ap (λ (k : ℕ). paste (replicate 8 255) 0 (boundBytes arity ground row) k) z
       ∙ ap (λ (l : List ℕ). l ++ []) (take-all 8 (boundBytes arity ground row) (omega (arith, length-bound arity ground t at h g)))
       ∙ append-nil (boundBytes arity ground row)
-      ∙ ap (λ (n : ℕ). boundBytes n ground row) (f ∙ sym (ap (λ (r : ℕ). getD arities r 0) (part-at t at h 1 (omega arith))))
+      ∙ ap (λ (n : ℕ). boundBytes n ground row) (f ∙ sym (ap (λ (r : ℕ). getD arities r 0) (part-at 8 t at h 1 (omega arith))))
 
 -- its second byte is the arity of its relation
 pub bound-sized : (arities ground row fact : List ℕ) → fact ≡ boundRow arities ground row → byte fact 1 ≡ getD arities (byte fact 0) 0

@@ -14,7 +14,7 @@ use Rattle.literals.specs.declared.Time.{Time}
 use Rattle.literals.specs.declared.Time.the-variants.{AtStart, OverAll, AtEnd}
 use Rattle.literals.specs.Domain.{Domain, action}
 use Rattle.literals.specs.Decode.{byte}
-use Rattle.literals.specs.Table.{pad, tableBytes, indexWith, Holds}
+use Rattle.literals.specs.Table.{pad, rowsBy, tableBytes, indexWith, Holds}
 use Rattle.classes.specs.declared.Moment.{Moment}
 use Rattle.classes.specs.declared.Moment.the-variants.{Start, End}
 use Rattle.classes.specs.Classes.{momentNumber}
@@ -34,8 +34,7 @@ groundRow g = g .action ∷ (objectNumbers (g .binding) ++ replicate (16 - lengt
 
 -- the first n rows of 17 bytes of a memory
 abbrev pub groundsIn : ℕ → List ℕ → List (List ℕ)
-groundsIn zero t = []
-groundsIn (suc n) t = take 17 t ∷ groundsIn n (drop 17 t)
+groundsIn = rowsBy 17
 
 -- ---- what the code holds
 

@@ -1,4 +1,4 @@
--- Laws for the checks of a record's fields: loops over the bytes of a slice, and labels as bytes. Assumes nothing.
+-- Laws for the checks of a record's fields: arguments, and labels as bytes. Assumes nothing.
 use mathlib.Core.Path.{_≡_, refl, sym, ap, ap₂, _∙_}
 use mathlib.Core.Bool.{Bool, true, false, _&&_, _||_, not, cond}
 use mathlib.Core.Logic.{_⊎_, inl, inr}
@@ -7,49 +7,17 @@ use Prim.Native.Nat.{ℕ, zero, suc, _+_, _≤_, _<_}
 use native.Mathlib.Numerals.{add-one}
 use native.Mathlib.Omega.{arith}
 use lib.Dec.{eqb, ltb, leb}
-use lib.ListN.{length, take, drop, getD, drop-of-length-le}
-use lib.Seq.{drop-cons, length-take-le, getD-take}
+use lib.ListN.{length, take, drop, getD}
+use lib.Seq.{length-take-le, getD-take}
 use borrow.Author.Tests.{eq-eqb, ne-eqb, eqb-true, eqb-false, le-leb, lt-leb}
 use Rattle.records.specs.Lists.{all, any, countBy}
 use Rattle.records.proofs.Lists.{and-l, and-r, and-i, bool-cases, eqb-comm, count-not, count-map}
 use Rattle.records.proofs.Numbers.{rows-split, cond-or}
+use Rattle.literals.specs.declared.Label.{Label}
 use Rattle.literals.specs.declared.Label.the-variants.{Key as keyed, Counted}
 use Rattle.literals.specs.Domain.{key, isKey, isCounted, keyBelow, eachKeyOnce, labelsFit}
 use Rattle.literals.specs.Decode.{byte, labelOf, labelStop}
 use Rattle.literals.specs.Table.{argumentsStop, literalFields, keysBelow, eachOnce}
-
--- ---- a loop that has a slice's bytes from i on left, and a test of one byte
-
-module _ (p : ℕ → Bool) (s : List ℕ) (i : ℕ) where
-  -- past the end nothing is left
-  pub any-end : length s ≤ i → any p (drop i s) ≡ false
-  any-end h = rw (drop-of-length-le s h)
-
-  pub all-end : length s ≤ i → all p (drop i s) ≡ true
-  all-end h = rw (drop-of-length-le s h)
-
-  pub count-end : length s ≤ i → countBy p (drop i s) ≡ 0
-  count-end h = rw (drop-of-length-le s h)
-
-  -- the byte at i comes first
-  module _ (h : i < length s) where
-    pub any-hit : p (getD s i 0) ≡ true → any p (drop i s) ≡ true
-    any-hit t = rw (drop-cons s i 0 h, t)
-
-    pub any-miss : p (getD s i 0) ≡ false → any p (drop i s) ≡ any p (drop (i + 1) s)
-    any-miss t = rw (drop-cons s i 0 h, t, add-one)
-
-    pub all-hit : p (getD s i 0) ≡ true → all p (drop i s) ≡ all p (drop (i + 1) s)
-    all-hit t = rw (drop-cons s i 0 h, t, add-one)
-
-    pub all-miss : p (getD s i 0) ≡ false → all p (drop i s) ≡ false
-    all-miss t = rw (drop-cons s i 0 h, t)
-
-    pub count-hit : p (getD s i 0) ≡ true → countBy p (drop i s) ≡ suc (countBy p (drop (i + 1) s))
-    count-hit t = rw (drop-cons s i 0 h, t, add-one)
-
-    pub count-miss : p (getD s i 0) ≡ false → countBy p (drop i s) ≡ countBy p (drop (i + 1) s)
-    count-miss t = rw (drop-cons s i 0 h, t, add-one)
 
 -- ---- a relation that is known, and its arguments
 
@@ -125,6 +93,16 @@ label-stop n bs h = rw (below-labels n bs, once-labels n bs (omega arith), count
 pub keys-and-counted : (bs : List ℕ) → countBy (λ l. not (isCounted l)) (map labelOf bs) + countBy (eqb 255) bs ≡ length bs
 keys-and-counted bs =
     rw (count-map labelOf (λ l. not (isCounted l)) (λ b. not (eqb 255 b)) (λ b. ap not (label-counted b)) bs) (count-not (eqb 255) bs)
+
+-- labels that fit: each key is below the count, and stands once
+module _ (n : ℕ) (ls : List Label) (h : labelsFit n ls ≡ true) where
+  pub keys-below : all (keyBelow n) ls ≡ true
+  unfolding labelsFit
+  keys-below = and-l _ _ (and-l _ _ h)
+
+  pub keys-once : eachKeyOnce n ls ≡ true
+  unfolding labelsFit
+  keys-once = and-r (all (keyBelow n) ls) _ (and-l _ _ h)
 
 -- ---- each number below n once
 

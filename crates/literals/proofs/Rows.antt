@@ -4,16 +4,17 @@ use mathlib.Core.Bool.{Bool, true, false, _&&_}
 use mathlib.Core.List.{List, [], _∷_, _++_, append-nil, List·Memᴰ·head, List·Memᴰ·tail, List·Memᴰ·not-nil}
 use Prim.Native.Nat.{ℕ, suc, _+_, _-_, _*_, _≤_, _<_, max, zero}
 use native.Mathlib.Numerals.{add-one}
+use native.Mathlib.Nat.{sub-zero, mul-suc}
 use native.Mathlib.Omega.{arith}
 use lib.Dec.{eqb}
 use lib.ListN.{length, getD, set, take, drop, replicate, length-append, length-replicate, length-drop, getD-replicate, List·getD-append, drop-of-length-le}
 use lib.Seq.{drop-cons, getD-drop, getD-take, getD-append-add, drop-drop, length-take-le, take-all, paste}
 use borrow.Author.Tests.{eq-eqb, ne-eqb, eqb-true}
-use Rattle.records.specs.Lists.{In, any, sameList}
+use Rattle.records.specs.Lists.{In, any, all, sameList}
 use Rattle.records.proofs.Lists.{off, sameList-eq}
 use Rattle.records.proofs.Memory.{paste-more, paste-length}
 use Rattle.literals.specs.Decode.{byte}
-use Rattle.literals.specs.Table.{rowOf, FourAt, roleRank, rowRank, rowsIn, rowsRank}
+use Rattle.literals.specs.Table.{rowOf, FourAt, roleRank, rowRank, rowsBy, rowsIn, rowsRank}
 
 -- ---- a payload's row
 
@@ -154,42 +155,71 @@ module _ (row t : List ℕ) (at : ℕ) (g : length row ≡ 8) (h : at + 8 ≤ le
   pub atom-other : sameList eqb (take 4 (drop 1 row)) (take 4 (drop (at + 1) t)) ≡ false → false ≡ sameList eqb (drop 1 row) (drop 1 (take 8 (drop at t)))
   atom-other e = sym (atom-by-four ∙ ap (λ (b : Bool). b && sameList eqb (take 4 (drop 4 row)) (take 4 (drop (at + 4) t))) e)
 
--- ---- the row at an offset of a memory
+-- ---- the row of w bytes at an offset of a memory
+
+-- its first byte
+pub first-at : (w : ℕ) (t : List ℕ) (at : ℕ) → 0 < w → getD (take w (drop at t)) 0 0 ≡ getD t at 0
+first-at w t at h = getD-take w (drop at t) 0 0 h ∙ getD-drop at t 0 0 ∙ ap (λ (k : ℕ). getD t k 0) (omega arith)
 
 pub part-first : (t : List ℕ) (at : ℕ) → byte (take 8 (drop at t)) 0 ≡ getD t at 0
-part-first t at = getD-take 8 (drop at t) 0 0 (omega arith) ∙ getD-drop at t 0 0 ∙ ap (λ (k : ℕ). getD t k 0) (omega arith)
+part-first t at = first-at 8 t at (omega arith)
 
-module _ (t : List ℕ) (at : ℕ) (h : at + 8 ≤ length t) where
-  pub length-part : length (take 8 (drop at t)) ≡ 8
-  length-part = length-take-le 8 (drop at t) (simp length-drop (omega arith))
+module _ (w : ℕ) (t : List ℕ) (at : ℕ) (h : at + w ≤ length t) where
+  pub length-part : length (take w (drop at t)) ≡ w
+  length-part = length-take-le w (drop at t) (simp length-drop (omega arith))
 
-  pub part-at : (i : ℕ) → i < 8 → getD (take 8 (drop at t)) i 0 ≡ getD t (at + i) 0
-  part-at i g = getD-take 8 (drop at t) i 0 g ∙ getD-drop at t i 0
+  pub part-at : (i : ℕ) → i < w → getD (take w (drop at t)) i 0 ≡ getD t (at + i) 0
+  part-at i g = getD-take w (drop at t) i 0 g ∙ getD-drop at t i 0
 
--- ---- the rows of a memory from row i on
+-- ---- the rows of w bytes of a memory from row i on
 
-pub rows-more : (t : List ℕ) (n i : ℕ) → i < n → rowsIn (n - i) (drop (8 * i) t) ≡ take 8 (drop (8 * i) t) ∷ rowsIn (n - (i + 1)) (drop (8 * (i + 1)) t)
-rows-more t n i h =
+pub rows-more : (w : ℕ) (t : List ℕ) (n i : ℕ) → i < n → rowsBy w (n - i) (drop (w * i) t) ≡ take w (drop (w * i) t) ∷ rowsBy w (n - (i + 1)) (drop (w * (i + 1)) t)
+rows-more w t n i h =
     let e : n - i ≡ suc (n - (i + 1)) = omega arith in
-    let f : 8 * i + 8 ≡ 8 * (i + 1) = omega arith in
+    let f : w * i + w ≡ w * (i + 1) = sym (mul-suc w i) ∙ ap (λ (k : ℕ). w * k) (sym (add-one i)) in
     rw (e, drop-drop, f)
 
-pub rows-end : (t : List ℕ) (n i : ℕ) → n ≤ i → rowsIn (n - i) t ≡ []
-rows-end t n i h = let e : n - i ≡ 0 = omega arith in rw e
+pub rows-end : (w : ℕ) (t : List ℕ) (n i : ℕ) → n ≤ i → rowsBy w (n - i) t ≡ []
+rows-end w t n i h = let e : n - i ≡ 0 = omega arith in rw e
 
--- whether a row from row i on starts with b
-module _ (t : List ℕ) (b n i : ℕ) (h : i < n) where
-  pub rows-hit : getD t (8 * i) 0 ≡ b → any (λ row. eqb b (byte row 0)) (rowsIn (n - i) (drop (8 * i) t)) ≡ true
-  rows-hit e = rw (rows-more t n i h, part-first t (8 * i), eq-eqb b (getD t (8 * i) 0) (sym e))
+-- a test on the rows of 8 bytes from row i on
+module _ (p : List ℕ → Bool) (t : List ℕ) (n i : ℕ) where
+  pub any-end : n ≤ i → any p (rowsIn (n - i) (drop (8 * i) t)) ≡ false
+  any-end h = rw (rows-end 8 (drop (8 * i) t) n i h)
 
-  pub rows-miss : (getD t (8 * i) 0 ≡ b → ⊥)
-      → any (λ row. eqb b (byte row 0)) (rowsIn (n - i) (drop (8 * i) t)) ≡ any (λ row. eqb b (byte row 0)) (rowsIn (n - (i + 1)) (drop (8 * (i + 1)) t))
-  rows-miss e = rw (rows-more t n i h, part-first t (8 * i), ne-eqb b (getD t (8 * i) 0) (λ f. e (sym f)))
+  pub all-end : n ≤ i → all p (rowsIn (n - i) (drop (8 * i) t)) ≡ true
+  all-end h = rw (rows-end 8 (drop (8 * i) t) n i h)
+
+  module _ (h : i < n) where
+    pub any-hit : p (take 8 (drop (8 * i) t)) ≡ true → any p (rowsIn (n - i) (drop (8 * i) t)) ≡ true
+    any-hit e = rw (rows-more 8 t n i h, e)
+
+    pub any-miss : p (take 8 (drop (8 * i) t)) ≡ false → any p (rowsIn (n - i) (drop (8 * i) t)) ≡ any p (rowsIn (n - (i + 1)) (drop (8 * (i + 1)) t))
+    any-miss e = rw (rows-more 8 t n i h, e)
+
+    pub all-miss : p (take 8 (drop (8 * i) t)) ≡ false → all p (rowsIn (n - i) (drop (8 * i) t)) ≡ false
+    all-miss e = rw (rows-more 8 t n i h, e)
+
+    pub all-hit : p (take 8 (drop (8 * i) t)) ≡ true → all p (rowsIn (n - i) (drop (8 * i) t)) ≡ all p (rowsIn (n - (i + 1)) (drop (8 * (i + 1)) t))
+    all-hit e = rw (rows-more 8 t n i h, e)
+
+pub any-first : (p : List ℕ → Bool) (t : List ℕ) (n : ℕ) → any p (rowsIn (n - 0) (drop (8 * 0) t)) ≡ any p (rowsIn n t)
+any-first p t n = ap (λ (k : ℕ). any p (rowsIn k t)) (sub-zero n)
+
+pub all-first : (p : List ℕ → Bool) (t : List ℕ) (n : ℕ) → all p (rowsIn (n - 0) (drop (8 * 0) t)) ≡ all p (rowsIn n t)
+all-first p t n = ap (λ (k : ℕ). all p (rowsIn k t)) (sub-zero n)
+
+-- whether the row at c starts with b
+pub starts-yes : (t : List ℕ) (b c : ℕ) → getD t (8 * c) 0 ≡ b → eqb b (byte (take 8 (drop (8 * c) t)) 0) ≡ true
+starts-yes t b c e = rw (part-first t (8 * c)) (eq-eqb b (getD t (8 * c) 0) (sym e))
+
+pub starts-no : (t : List ℕ) (b c : ℕ) → (getD t (8 * c) 0 ≡ b → ⊥) → eqb b (byte (take 8 (drop (8 * c) t)) 0) ≡ false
+starts-no t b c e = rw (part-first t (8 * c)) (ne-eqb b (getD t (8 * c) 0) (λ f. e (sym f)))
 
 -- ---- ranks
 
 -- a row of 8 bytes is its own row
-row-full : (row : List ℕ) → length row ≡ 8 → rowOf row ≡ row
+pub row-full : (row : List ℕ) → length row ≡ 8 → rowOf row ≡ row
 row-full row g = let z : 8 - length row ≡ 0 = omega arith in rw z (append-nil row)
 
 module _ (row t : List ℕ) (at : ℕ) (g : length row ≡ 8) where
@@ -219,11 +249,11 @@ module _ (p t : List ℕ) (n i rank : ℕ) where
   pub ranks-more : (r s : ℕ) → i < n → r ≡ rowRank p (take 8 (drop (8 * i) t)) → s ≡ max rank r
       → max s (rowsRank p (rowsIn (n - (i + 1)) (drop (8 * (i + 1)) t))) ≡ max rank (rowsRank p (rowsIn (n - i) (drop (8 * i) t)))
   unfolding rowsRank
-  ranks-more r s h e f = rw (rows-more t n i h, ← e, f) (omega arith)
+  ranks-more r s h e f = rw (rows-more 8 t n i h, ← e, f) (omega arith)
 
   pub ranks-end : n ≤ i → max rank (rowsRank p (rowsIn (n - i) t)) ≡ rank
   unfolding rowsRank
-  ranks-end h = rw (rows-end t n i h) (omega arith)
+  ranks-end h = rw (rows-end 8 t n i h) (omega arith)
 
 -- ---- the first rows of a memory
 

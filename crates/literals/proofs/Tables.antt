@@ -1,8 +1,9 @@
 -- Laws of the tables that reading fills: rows of literals and of components, lists in arrays, and what the ranks of rows say of literals. Assumes nothing.
 use mathlib.Core.Path.{_≡_, refl, sym, ap, ap₂, _∙_}
 use mathlib.Core.Bool.{Bool, true, false, _&&_, _||_, cond}
-use mathlib.Core.List.{List, [], _∷_, _++_, map, flatMap, append-assoc, List·Memᴰ·head, List·Memᴰ·tail, Memᴰ·append-left, Memᴰ·append-right}
+use mathlib.Core.List.{List, [], _∷_, _++_, map, flatMap, append-assoc, List·Memᴰ·head, List·Memᴰ·tail, Memᴰ·append-left, Memᴰ·append-right, Memᴰ·of-map}
 use Prim.Native.Nat.{ℕ, zero, suc, _+_, _-_, _*_, _≤_, _<_, max}
+use native.Mathlib.Nat.{add-comm, mul-zero, mul-suc}
 use native.Mathlib.Omega.{arith}
 use lib.Dec.{eqb}
 use lib.ListN.{length, getD, set, take, drop, replicate, length-append, length-map, length-replicate}
@@ -10,13 +11,13 @@ use lib.Seq.{take-at, drop-at, take-append-seam, paste}
 use borrow.Author.Tests.{eqb-true, ne-eqb}
 use Rattle.records.specs.Lists.{In, any, sameList}
 use Rattle.records.specs.Memory.{over}
-use Rattle.records.proofs.Lists.{eqb-same, sameList-self, any-map, flatMap-append, allBelow, below-in}
+use Rattle.records.proofs.Lists.{eqb-same, sameList-self, any-map, flatMap-append, map-back, allBelow, below-in}
 use Rattle.records.proofs.Memory.{over-more, over-paste, drop-replicate, getD-fill}
 use Rattle.literals.specs.declared.Variable.{Variable}
 use Rattle.literals.specs.declared.Role.{Role}
-use Rattle.literals.specs.Domain.{variable, sameVariable, sameLiteral, roleOf, roleNumber, sameRole, Literal, Action, Component, Domain}
+use Rattle.literals.specs.Domain.{variable, sameLiteral, roleOf, roleNumber, sameRole, Literal, Action, Component, Domain}
 use Rattle.literals.specs.Decode.{byte, literalOf, repeats, contrary, together, contradicts}
-use Rattle.literals.specs.Table.{rowOf, literalRow, labelNumber, componentRow, pad, roleRank, rowRank, rowsIn, rowsRank, Bounded}
+use Rattle.literals.specs.Table.{rowOf, literalRow, labelNumber, componentRow, pad, roleRank, rowRank, rowsBy, rowsIn, rowsRank, Bounded}
 use Rattle.literals.proofs.Rows.{length-row}
 
 -- ---- a row at the seam of a table
@@ -27,20 +28,24 @@ over-row new old p at e h = over-paste new old (rowOf p) at 8 e (length-row p h)
 -- ---- the rows of a table that holds one for each element
 
 module _ {A : Type 0} (f : A → List ℕ) where
-  pub length-flat : (l : List A) → ((a : A) → In a l → length (f a) ≡ 8) → length (flatMap f l) ≡ 8 * length l
+  pub length-flat : {w : ℕ} (l : List A) → ((a : A) → In a l → length (f a) ≡ w) → length (flatMap f l) ≡ w * length l
   unfolding flatMap
-  length-flat [] h = refl
-  length-flat (x ∷ xs) h = simp length-append (omega (arith, h x (List·Memᴰ·head refl), length-flat xs (λ a m. h a (List·Memᴰ·tail m))))
+  length-flat {w} [] h = sym (mul-zero w)
+  length-flat {w} (x ∷ xs) h =
+      length-append (f x) (flatMap f xs)
+      ∙ ap₂ _+_ (h x (List·Memᴰ·head refl)) (length-flat xs (λ a m. h a (List·Memᴰ·tail m)))
+      ∙ add-comm w (w * length xs)
+      ∙ sym (mul-suc w (length xs))
 
-  pub rows-flat : (l : List A) (rest : List ℕ) → ((a : A) → In a l → length (f a) ≡ 8) → rowsIn (length l) (flatMap f l ++ rest) ≡ map f l
+  pub rows-flat : {w : ℕ} (l : List A) (rest : List ℕ) → ((a : A) → In a l → length (f a) ≡ w) → rowsBy w (length l) (flatMap f l ++ rest) ≡ map f l
   unfolding flatMap
   rows-flat [] rest h = refl
-  rows-flat (x ∷ xs) rest h =
+  rows-flat {w} (x ∷ xs) rest h =
       let e = h x (List·Memᴰ·head refl) in
       rw (
         append-assoc (f x) (flatMap f xs) rest,
-        take-at (f x) (flatMap f xs ++ rest) 8 e,
-        drop-at (f x) (flatMap f xs ++ rest) 8 e,
+        take-at (f x) (flatMap f xs ++ rest) w e,
+        drop-at (f x) (flatMap f xs ++ rest) w e,
         rows-flat xs rest (λ a m. h a (List·Memᴰ·tail m)),
       )
 
@@ -102,11 +107,9 @@ take-pad n l = take-append-seam l (replicate (n - length l) 0)
 pub length-pad : (n : ℕ) (l : List ℕ) → length l ≤ n → length (pad n l) ≡ n
 length-pad n l h = simp (length-append, length-replicate) (omega arith)
 
-pub pad-row : (n : ℕ) (l p : List ℕ) → length p ≤ 8 → paste (pad n l) (length l) (rowOf p) 8 ≡ pad n (l ++ rowOf p)
-pad-row n l p h =
-    ap (λ (a : List ℕ). paste a (length l) (rowOf p) 8) (pad-over n l)
-    ∙ over-row l (replicate n 0) p (length l) refl h
-    ∙ sym (pad-over n (l ++ rowOf p))
+-- k numbers more
+pub pad-paste : (n : ℕ) (l p : List ℕ) (at k : ℕ) → length l ≡ at → length p ≡ k → paste (pad n l) at p k ≡ pad n (l ++ p)
+pad-paste n l p at k e f = ap (λ (a : List ℕ). paste a at p k) (pad-over n l) ∙ over-paste l (replicate n 0) p at k e f ∙ sym (pad-over n (l ++ p))
 
 -- ---- ranks: what the bytes of a literal's row say of the literal
 
@@ -146,25 +149,37 @@ all-agree = refl
 role-rank : (a b : ℕ) → a ≤ 9 → b ≤ 9 → roleRank a b ≡ rank (sameRole (roleOf a) (roleOf b)) (opposed (roleOf a) (roleOf b))
 role-rank a b h g = eqb-true _ _ (below-in 10 (agrees a) (below-in 10 (λ a. allBelow 10 (agrees a)) all-agree a (omega arith)) b (omega arith))
 
--- -- the atoms: filled lists are the same where the lists are, as no argument is FF
+-- -- the atoms: filled lists are the same where the lists are, as no element's number is FF
 
-pub same-filled : (x : List ℕ) (y : List Variable) (m n : ℕ) → ((b : ℕ) → In b x → b < 255) → ((v : Variable) → In v y → v .0 < 255) → length x + m ≡ length y + n
-    → sameList eqb (x ++ replicate m 255) (map (λ (v : Variable). v .0) y ++ replicate n 255) ≡ sameList sameVariable (map variable x) y
-same-filled [] [] m n h g e = let f : m ≡ n = omega arith in rw f (sameList-self eqb eqb-same (replicate n 255))
-same-filled [] (v ∷ vs) zero n h g e = absurd (omega arith)
-same-filled [] (v ∷ vs) (suc m) n h g e = let f = g v (List·Memᴰ·head refl) in rw (ne-eqb 255 (v .0) (λ z. omega arith))
-same-filled (b ∷ bs) [] m zero h g e = absurd (omega arith)
-same-filled (b ∷ bs) [] m (suc n) h g e = let f = h b (List·Memᴰ·head refl) in rw (ne-eqb b 255 (λ z. omega arith))
-same-filled (b ∷ bs) (v ∷ vs) m n h g e =
-    ap (λ (t : Bool). eqb b (v .0) && t) (same-filled bs vs m n (λ c i. h c (List·Memᴰ·tail i)) (λ w i. g w (List·Memᴰ·tail i)) (omega arith))
+module _ {A : Type 0} (number : A → ℕ) where
+  pub same-filled : (x y : List A) (m n : ℕ) → ((a : A) → In a x → number a < 255) → ((a : A) → In a y → number a < 255) → length x + m ≡ length y + n
+      → sameList eqb (map number x ++ replicate m 255) (map number y ++ replicate n 255) ≡ sameList (λ a b. eqb (number a) (number b)) x y
+  same-filled [] [] m n h g e = let f : m ≡ n = omega arith in rw f (sameList-self eqb eqb-same (replicate n 255))
+  same-filled [] (b ∷ bs) zero n h g e = absurd (omega arith)
+  same-filled [] (b ∷ bs) (suc m) n h g e = let f = g b (List·Memᴰ·head refl) in rw (ne-eqb 255 (number b) (λ z. omega arith))
+  same-filled (a ∷ as′) [] m zero h g e = absurd (omega arith)
+  same-filled (a ∷ as′) [] m (suc n) h g e = let f = h a (List·Memᴰ·head refl) in rw (ne-eqb (number a) 255 (λ z. omega arith))
+  same-filled (a ∷ as′) (b ∷ bs) m n h g e =
+      ap (λ (t : Bool). eqb (number a) (number b) && t) (same-filled as′ bs m n (λ c i. h c (List·Memᴰ·tail i)) (λ c i. g c (List·Memᴰ·tail i)) (omega arith))
+
+-- a variable's number
+abbrev pub value : Variable → ℕ
+value v = v .0
 
 same-atoms : (a b : ℕ) (q : List ℕ) (l : Literal) → Comparable (a ∷ b ∷ q) → Kept l
     → sameList eqb (drop 1 (rowOf (a ∷ b ∷ q))) (drop 1 (literalRow l)) ≡ sameLiteral (literalOf (a ∷ b ∷ q) .atom) (l .atom)
 same-atoms a b q l h k =
     let g = h .fits in
     let f = k .fits in
-    let n = length-map (l .atom .args) (λ (v : Variable). v .0) in
-    ap (λ (t : Bool). eqb b (l .atom .rel) && t) (same-filled q (l .atom .args) (8 - suc (suc (length q))) (8 - suc (suc (length (map (λ (v : Variable). v .0) (l .atom .args))))) (h .arguments) (k .arguments) (omega arith))
+    let n = length-map (l .atom .args) value in
+    let o = length-map q variable in
+    let m = 8 - suc (suc (length (map value (l .atom .args)))) in
+    ap (λ (t : Bool). eqb b (l .atom .rel) && t)
+    (ap (λ (x : List ℕ). sameList eqb (x ++ replicate (8 - suc (suc (length q))) 255) (map value (l .atom .args) ++ replicate m 255)) (sym (map-back value variable (λ b. refl) q))
+    ∙ same-filled value (map variable q) (l .atom .args) (8 - suc (suc (length q))) m small (k .arguments) (omega arith))
+  where
+    small : (v : Variable) → In v (map variable q) → v .0 < 255
+    small v i = let r = Memᴰ·of-map variable q i in let e = ap value (r .2) in let j = h .arguments (r .0) (r .1) in omega arith
 
 -- -- both
 

@@ -128,10 +128,14 @@ unfoldable pub rowRank : List ℕ → List ℕ → ℕ
 unfolding roleRank
 rowRank p row = cond (sameList eqb (drop 1 (rowOf p)) (drop 1 row)) (roleRank (byte p 0) (byte row 0)) 0
 
--- the first n rows of a memory
+-- the first n rows of w bytes of a memory
+abbrev pub rowsBy : ℕ → ℕ → List ℕ → List (List ℕ)
+rowsBy w zero t = []
+rowsBy w (suc n) t = take w t ∷ rowsBy w n (drop w t)
+
+-- of 8 bytes
 abbrev pub rowsIn : ℕ → List ℕ → List (List ℕ)
-rowsIn zero t = []
-rowsIn (suc n) t = take 8 t ∷ rowsIn n (drop 8 t)
+rowsIn = rowsBy 8
 
 -- the highest rank of a payload with these rows
 unfoldable pub rowsRank : List ℕ → List (List ℕ) → ℕ

@@ -9,7 +9,7 @@ use Rattle.records.specs.Memory.{over}
 use Rattle.records.proofs.Lists.{flatMap-snoc}
 use Rattle.records.proofs.Memory.{over-paste, drop-replicate}
 use Rattle.literals.specs.Domain.{Fact}
-use Rattle.literals.proofs.Tables.{length-flat as length-eights}
+use Rattle.literals.proofs.Tables.{length-flat}
 use Rattle.verdict.specs.Judged.{factBytes}
 use Rattle.runs.specs.Play.{workBytes, maxFacts, heldBytes}
 use Rattle.store.specs.Rows.{factRow, Few}
@@ -52,7 +52,7 @@ pub held-more : (fs : List Fact) (f : Fact) (row old : List ℕ) (n : ℕ) → F
     → paste (over (heldBytes fs) old) (8 * n) row 8 ≡ over (heldBytes (fs ++ (f ∷ []))) old
 unfolding heldBytes
 held-more fs f row old n few h e l r =
-    let k : length (factBytes fs) ≡ 8 * length fs = ap length (bytes-flat fs) ∙ length-eights factRow fs (λ g m. length-fact-row g (few g m)) in
+    let k : length (factBytes fs) ≡ 8 * length fs = ap length (bytes-flat fs) ∙ length-flat factRow fs (λ g m. length-fact-row g (few g m)) in
     let at : 8 * n ≡ length (factBytes fs) = omega arith in
     ap₂ (λ (a : ℕ) (b : List ℕ). paste (over (heldBytes fs) old) a b 8) at r
     ∙ zeros-more (factBytes fs) (factRow f) old workBytes (omega arith) (length-fact-row f h)

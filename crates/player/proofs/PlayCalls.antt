@@ -1,7 +1,6 @@
 -- The call of playing: from what reading, deciding and the run promise to the answer, the work memory and the part. Assumes nothing.
 use mathlib.Core.Path.{_≡_, refl, sym, ap, _∙_}
 use mathlib.Core.Bool.{Bool, true, false, cond}
-use mathlib.Core.Option.{Option, none, some}
 use mathlib.Core.List.{List}
 use Prim.Native.Nat.{ℕ, _-_, _≤_, _<_}
 use native.Mathlib.Omega.{arith}
@@ -17,11 +16,11 @@ use Rattle.literals.specs.Table.{indexOf, indexWith, Shaped}
 use Rattle.reading.specs.Reading.{ReadAnswer, readBy, readOf, tableAfter}
 use Rattle.literals.proofs.Held.{shaped}
 use Rattle.verdict.specs.declared.Judgement.{Judgement}
-use Rattle.verdict.specs.Decision.{Row, decision}
-use Rattle.verdict.specs.Judged.{answerRow, decided}
+use Rattle.verdict.specs.Judged.{decided}
 use Rattle.verdict.specs.Coded.{judgementOf}
 use Rattle.verdict.specs.Claims.{wellFormed}
 use Rattle.verdict.proofs.Decodes.{decoded-well-formed}
+use Rattle.verdict.proofs.Safety.{decided-number}
 use Rattle.judging.proofs.FileCalls.{WasRead, was-read, read-by}
 use Rattle.player.specs.declared.run.Ended.{Ended}
 use Rattle.player.specs.declared.play.Fault.{Fault}
@@ -80,16 +79,8 @@ module _ (d r : List ℕ) (at : ℕ) (f : Fault) where
 
 -- ---- the decision
 
-number-decided : (D : Domain) → decided D .number ≡ decision D .number
-unfolding decided
-number-decided D = go (decision D .place)
-  where
-    go : (p : Option Row) → answerRow (decision D .number) p .number ≡ decision D .number
-    go none = refl
-    go (some r) = refl
-
 pub accepted-by : (D : Domain) (j : Judgement) → j ≡ judgementOf (decided D) → (b : Bool) → b ≡ leb (j .number) 1 → b ≡ accepted D
-accepted-by D j e b f = f ∙ ap (λ (n : ℕ). leb n 1) (ap (λ (x : Judgement). x .number) e ∙ number-decided D)
+accepted-by D j e b f = f ∙ ap (λ (n : ℕ). leb n 1) (ap (λ (x : Judgement). x .number) e ∙ decided-number D)
 
 -- ---- a domain that was read
 

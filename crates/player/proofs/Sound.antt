@@ -2,7 +2,7 @@
 use mathlib.Core.Path.{_≡_, refl, ap}
 use mathlib.Core.Bool.{Bool, true, false, _&&_, _||_, not, cond, false≢true}
 use mathlib.Core.List.{List, [], _∷_, _++_, List·Memᴰ·not-nil}
-use Prim.Native.Nat.{ℕ, zero, suc, _+_, _≤_, _<_, max}
+use Prim.Native.Nat.{ℕ, _+_, _≤_, _<_, max}
 use native.Mathlib.Omega.{arith}
 use lib.Dec.{eqb, ltb, leb}
 use lib.ListN.{length, drop, length-map, length-append, length-drop}
@@ -29,6 +29,7 @@ use Rattle.events.specs.Coded.{GroundFits}
 use Rattle.machine.specs.Stepping.{Kept}
 use Rattle.player.specs.Player.{Sound}
 use Rattle.events.proofs.Members.{map-in}
+use Rattle.run_fields.proofs.RunFields.{byte-moment}
 use Rattle.machine.proofs.NextKept.{kept-next}
 
 -- ---- the tests of each record, as far as they are needed here
@@ -86,7 +87,7 @@ event-taken D p b l z =
     let d = length-drop 2 b in
     let m = length-map (drop 2 b) object in
     record {
-      moment = go (byte b 0) (ltb-false 1 (byte b 0) (g .0 2));
+      moment = byte-moment (byte b 0) (ltb-false 1 (byte b 0) (g .0 2));
       fits =
           record {
             listed = leb-false (length (D .actions)) (byte b 1) (g .0 3);
@@ -95,11 +96,6 @@ event-taken D p b l z =
           };
       few = leb-false maxEvents (length (p .waiting)) (g .0 9);
     }
-  where
-    go : (m : ℕ) → m ≤ 1 → m ≡ momentNumber (momentOf m)
-    go zero h = refl
-    go (suc zero) h = refl
-    go (suc (suc m)) h = absurd (omega arith)
 
 -- ---- each record
 

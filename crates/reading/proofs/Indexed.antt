@@ -15,7 +15,8 @@ use Rattle.literals.specs.declared.Label.the-variants.{Key as keyed, Counted}
 use Rattle.literals.specs.Domain.{key, Literal, Action, keysOf, Domain}
 use Rattle.literals.specs.Decode.{relationRecord, actionRecord, literalRecord, componentRecord, byte, literalOf, labelOf, componentOf, actionOf, extend}
 use Rattle.literals.specs.Table.{rowOf, labelNumber, allLiterals, componentRow, pad, startsFrom, sortNumber, indexOf, Holds}
-use Rattle.literals.proofs.Tables.{pad-more, pad-row, length-components}
+use Rattle.literals.proofs.Rows.{length-row}
+use Rattle.literals.proofs.Tables.{pad-more, pad-paste, length-components}
 use Rattle.literals.proofs.Bounds.{length-withLiteral}
 use Rattle.literals.proofs.Held.{rows-snoc, literals-snoc, literals-more, starts-more, map-more, starts-length}
 
@@ -180,7 +181,6 @@ module _ {D : Domain} {index : Index} (h : Holds D index) (p : List ℕ) where
           let b = bytes in
           let f = few in
           e
-          ∙ rw (h .is) (ap (λ (n : ℕ). paste (pad 128 (flatMap componentRow (D .template))) n (rowOf p) 8) (sym bytes))
-          ∙ pad-row 128 (flatMap componentRow (D .template)) p (omega arith)
+          ∙ rw (h .is) (pad-paste 128 (flatMap componentRow (D .template)) (rowOf p) (8 * length (D .template)) 8 bytes (length-row p (omega arith)))
           ∙ ap (λ (r : List ℕ). pad 128 (flatMap componentRow (D .template) ++ r)) (component-row p l)
           ∙ ap (pad 128) (sym (flatMap-snoc componentRow (D .template) (componentOf p)))

@@ -4,14 +4,13 @@ use mathlib.Core.Bool.{Bool, true, false, not, _&&_, _||_, cond, true≢false, f
 use mathlib.Core.Logic.{_⊎_, inl, inr}
 use mathlib.Core.List.{List, [], _∷_, _++_, map, flatMap, append-nil, append-assoc, List·Memᴰ·head, List·Memᴰ·tail, List·Memᴰ·not-nil, Memᴰ·cast, Memᴰ·append-left, Memᴰ·append-right, List·Memᴰ·append-cases, List·Memᴰ·eq-of-singleton}
 use Prim.Native.Nat.{ℕ, zero, suc, _+_, _≤_, _<_}
+use native.Mathlib.Numerals.{add-one}
 use native.Mathlib.Omega.{arith}
 use lib.Dec.{eqb}
-use lib.ListN.{length, getD, take}
+use lib.ListN.{length, getD, take, drop, length-append, drop-of-length-le}
+use lib.Seq.{drop-cons}
 use borrow.Author.Tests.{eqb-true, eqb-false, eq-eqb}
 use Rattle.records.specs.Lists.{addIf, keepIf, filterBy, countBy, all, any, pairwise, empty, In, sameList, elem, distinct, dedup}
-use lib.ListN.{length, getD, length-append}
-use borrow.Author.Tests.{eqb-true, eq-eqb}
-use Rattle.records.specs.Lists.{addIf, keepIf, filterBy, countBy, all, any, pairwise, In, sameList, elem, distinct, dedup}
 
 -- ---- tests
 
@@ -370,6 +369,11 @@ module _ {A : Type 0} where
       go true h = ap {B = List A} (λ l. x ∷ l) h
       go false h = h
 
+  -- tests that agree on every element
+  pub filter-agree : (p q : A → Bool) (l : List A) → ((a : A) → In a l → p a ≡ q a) → filterBy p l ≡ filterBy q l
+  filter-agree p q [] h = refl
+  filter-agree p q (x ∷ xs) h = ap₂ (λ (t : Bool) (l : List A). keepIf t x l) (h x (List·Memᴰ·head refl)) (filter-agree p q xs (λ a m. h a (List·Memᴰ·tail m)))
+
   pub filter-none : (p : A → Bool) (l : List A) → ((a : A) → In a l → p a ≡ false) → filterBy p l ≡ []
   filter-none p [] h = refl
   filter-none p (x ∷ xs) h = rw (h x (List·Memᴰ·head refl)) (filter-none p xs (λ a m. h a (List·Memᴰ·tail m)))
@@ -495,3 +499,45 @@ module _ {A : Type 0} where
       let r = flat-few f xs h in
       let k = h x in
       omega arith
+
+-- ---- a loop that has the elements from index i on left
+
+module _ {A : Type 0} (l : List A) (i : ℕ) (d : A) where
+  -- past the end nothing is left
+  pub all-end : (p : A → Bool) → length l ≤ i → all p (drop i l) ≡ true
+  all-end p h = rw (drop-of-length-le l h)
+
+  pub any-end : (p : A → Bool) → length l ≤ i → any p (drop i l) ≡ false
+  any-end p h = rw (drop-of-length-le l h)
+
+  pub pairwise-end : (r : A → A → Bool) → length l ≤ i → pairwise r (drop i l) ≡ true
+  pairwise-end r h = rw (drop-of-length-le l h)
+
+  pub count-end : (p : A → Bool) → length l ≤ i → countBy p (drop i l) ≡ 0
+  count-end p h = rw (drop-of-length-le l h)
+
+  -- the element at i comes first
+  module _ (h : i < length l) where
+    pub all-hit : (p : A → Bool) → p (getD l i d) ≡ true → all p (drop i l) ≡ all p (drop (i + 1) l)
+    all-hit p t = rw (drop-cons l i d h, t, add-one i)
+
+    pub all-miss : (p : A → Bool) → p (getD l i d) ≡ false → all p (drop i l) ≡ false
+    all-miss p t = rw (drop-cons l i d h, t)
+
+    pub any-hit : (p : A → Bool) → p (getD l i d) ≡ true → any p (drop i l) ≡ true
+    any-hit p t = rw (drop-cons l i d h, t)
+
+    pub any-miss : (p : A → Bool) → p (getD l i d) ≡ false → any p (drop i l) ≡ any p (drop (i + 1) l)
+    any-miss p t = rw (drop-cons l i d h, t, add-one i)
+
+    pub count-hit : (p : A → Bool) → p (getD l i d) ≡ true → countBy p (drop i l) ≡ suc (countBy p (drop (i + 1) l))
+    count-hit p t = rw (drop-cons l i d h, t, add-one i)
+
+    pub count-miss : (p : A → Bool) → p (getD l i d) ≡ false → countBy p (drop i l) ≡ countBy p (drop (i + 1) l)
+    count-miss p t = rw (drop-cons l i d h, t, add-one i)
+
+    pub pairwise-hit : (r : A → A → Bool) → all (r (getD l i d)) (drop (i + 1) l) ≡ true → pairwise r (drop i l) ≡ pairwise r (drop (i + 1) l)
+    pairwise-hit r t = rw (drop-cons l i d h, sym (ap (λ (k : ℕ). all (r (getD l i d)) (drop k l)) (add-one i)) ∙ t, add-one i)
+
+    pub pairwise-miss : (r : A → A → Bool) → all (r (getD l i d)) (drop (i + 1) l) ≡ false → pairwise r (drop i l) ≡ false
+    pairwise-miss r t = rw (drop-cons l i d h, sym (ap (λ (k : ℕ). all (r (getD l i d)) (drop k l)) (add-one i)) ∙ t)

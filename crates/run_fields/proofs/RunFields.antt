@@ -7,7 +7,7 @@ use Prim.Native.Nat.{ℕ, zero, suc, _+_, _≤_, _<_}
 use native.Mathlib.Numerals.{add-one}
 use native.Mathlib.Omega.{arith}
 use lib.Dec.{eqb, ltb, leb}
-use lib.ListN.{length, drop, getD, length-map, length-drop, drop-of-length-le, List·getD-map}
+use lib.ListN.{length, drop, getD, length-map, length-drop, drop-of-length-le}
 use lib.Seq.{drop-cons}
 use borrow.Author.Tests.{lt-ltb, le-ltb, ltb-false, le-leb, lt-leb, leb-false, eq-eqb, ne-eqb, eqb-true}
 use Rattle.records.specs.Lists.{all, any, empty, countBy, addIf, distinct, elem}
@@ -15,12 +15,12 @@ use Rattle.records.proofs.Lists.{not-false, any-out, all-map, empty-no, empty-y
 use Rattle.records.proofs.Numbers.{numberOf, testOf, none-passes, rows-split}
 use Rattle.literals.specs.declared.Object.{Object}
 use Rattle.literals.specs.declared.Counts.{Counts}
-use Rattle.literals.specs.declared.Index.{Index}
-use Rattle.literals.specs.Domain.{object, sameObject, Fact, sameFact, Action, Domain, arity, noAction, action}
+use Rattle.literals.specs.Domain.{object, sameObject, Fact, sameFact, Domain, arity, action}
 use Rattle.literals.specs.Decode.{byte}
-use Rattle.literals.specs.Table.{sortNumber, indexWith, Holds}
+use Rattle.literals.specs.Table.{indexWith, Holds}
 use Rattle.literals.proofs.Tables.{pad-at}
-use Rattle.literals.proofs.Held.{relations-is, actions-is, arities-is, variables-is, sorts-is}
+use Rattle.literals.proofs.Spans.{vars-at, sort-at}
+use Rattle.literals.proofs.Held.{relations-is, actions-is, arities-is}
 use Rattle.classes.specs.Classes.{momentNumber}
 use Rattle.classes.specs.Coded.{below}
 use Rattle.verdict.specs.Machine.{Event, sameEvent, injective}
@@ -32,18 +32,6 @@ use Rattle.events.specs.Coded.{groundRow, waitingOf, GroundFits, EventsFit}
 use Rattle.run_fields.specs.Fields.{factFields, eventFields, waitsAt}
 use Rattle.events.proofs.FactRows.{has-fact}
 use Rattle.run_fields.proofs.WaitingRows.{waiting-elem}
-
--- ---- an action's variable count and sort, by the bytes of the domain
-
-module _ {D : Domain} {index : Index} (H : Holds D index) (i : ℕ) where
-  variables-at : getD (index .variables) i 0 ≡ action D i .vars
-  unfolding action
-  variables-at =
-      ap (λ (l : List ℕ). getD l i 0) (variables-is H) ∙ pad-at 64 (map (λ (a : Action). a .vars) (D .actions)) i ∙ List·getD-map (λ (a : Action). a .vars) (D .actions) i noAction
-
-  sorts-at : getD (index .sorts) i 0 ≡ sortNumber (action D i)
-  unfolding action
-  sorts-at = ap (λ (l : List ℕ). getD l i 0) (sorts-is H) ∙ pad-at 64 (map sortNumber (D .actions)) i ∙ List·getD-map sortNumber (D .actions) i noAction
 
 -- ---- the close of a run: the tests of the close of a step, and that no event waits
 
@@ -231,7 +219,7 @@ module _ (D : Domain) (q : Playing) (n : Counts) (arities variables sorts starts
 
 -- ---- what holds where no number up to 51 stops an event
 
-byte-moment : (m : ℕ) → m ≤ 1 → m ≡ momentNumber (momentOf m)
+pub byte-moment : (m : ℕ) → m ≤ 1 → m ≡ momentNumber (momentOf m)
 byte-moment zero h = refl
 byte-moment (suc zero) h = refl
 byte-moment (suc (suc m)) h = absurd (omega arith)
@@ -275,7 +263,7 @@ module _ (n : Counts) (variables sorts : List ℕ) (objects : ℕ) (b : List ℕ
   event-fits : (D : Domain) (arities starts parts : List ℕ) → Holds D (indexWith n arities variables sorts starts parts) → objects ≤ 64 → GroundFits D (eventOf b .ground)
   event-fits D arities starts parts H h =
       let l = event-size in
-      let v = variables-at H (byte b 1) in
+      let v = vars-at H (byte b 1) in
       let k = length-map (drop 2 b) object in
       let d = length-drop 2 b in
       let a = actions-is H in
@@ -332,14 +320,14 @@ module _ (D : Domain) (q : Playing) (n : Counts) (arities variables sorts starts
       ∷ []
 
   sort-is : byte b 0 ≤ 1 → ltb (getD sorts (byte b 1) 0) (byte b 0) ≡ eqb (byte b 0) 1 && not (action D (byte b 1) .lasting)
-  sort-is h = ap (λ (s : ℕ). ltb s (byte b 0)) (sorts-at H (byte b 1)) ∙ sort-test (action D (byte b 1) .lasting) (byte b 0) h
+  sort-is h = ap (λ (s : ℕ). ltb s (byte b 0)) (sort-at H (byte b 1)) ∙ sort-test (action D (byte b 1) .lasting) (byte b 0) h
 
   event-fields-is : eventFields n variables sorts objects b ≡ numberOf event-rows 0
   unfolding eventFields event-rows
   event-fields-is =
       rw e
       (ap (λ (m : ℕ). cond (eqb objects 0) 50 (cond (ltb (length b) 2) 50 m))
-      (cond-else (ltb 1 (byte b 0)) 51 (λ f. rw (actions-is H, variables-at H (byte b 1), sort-is (ltb-false 1 (byte b 0) f)))))
+      (cond-else (ltb 1 (byte b 0)) 51 (λ f. rw (actions-is H, vars-at H (byte b 1), sort-is (ltb-false 1 (byte b 0) f)))))
 
   -- the tests behind them
   abbrev event-last : ℕ

@@ -16,8 +16,8 @@ use Rattle.verdict.specs.Machine.{Event, sameEvent}
 use Rattle.events.specs.declared.Waiting.{Waiting}
 use Rattle.events.specs.Coded.{groundRow, waitingOf, GroundFits, EventsFit}
 use Rattle.run_fields.specs.Fields.{waitsAt}
-use Rattle.events.proofs.FactRows.{noEvent, waiting-row-at, waiting-moment-at, waiting-count}
-use Rattle.events.proofs.OpenRows.{few-objects, same-rows}
+use Rattle.events.proofs.FactRows.{few-objects, noEvent, waiting-row-at, waiting-moment-at, waiting-count}
+use Rattle.events.proofs.OpenRows.{same-rows}
 
 -- an event waits exactly where one of the rows is its row, with the byte of its moment
 module _ {D : Domain} (B : Bounded D) (es : List Event) (F : EventsFit D es) (w : Waiting) (p : w ≡ waitingOf es) (e : Event) (h : GroundFits D (e .ground)) (moment : ℕ)

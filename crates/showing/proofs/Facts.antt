@@ -16,6 +16,7 @@ use Rattle.records.proofs.Memory.{length-over, over-paste}
 use Rattle.literals.proofs.Rows.{rows-last, rows-whole, part-first, length-part, part-at}
 use Rattle.literals.specs.Table.{rowsIn}
 use Rattle.literals.proofs.Tables.{length-flat}
+use Rattle.classes.proofs.Indices.{getD-map}
 use Rattle.classes.proofs.KeyRows.{length-rows}
 use Rattle.showing.specs.Bytes.{selectBy, isCondition, conditionBytes, conditionOf, conditionIf, conditionsOf, objectByte, instanceBytes}
 
@@ -85,20 +86,20 @@ module _ {A B : Type 0} (p : A → Bool) where
 
 module _ (arity : ℕ) (t : List ℕ) (at : ℕ) (h : at + 8 ≤ length t) where
   pub condition-first : (i : ℕ) → i ≡ 0 → getD t (at + 1) 0 ≡ getD (conditionBytes arity (take 8 (drop at t))) i 0
-  condition-first i e = sym (part-at t at h 1 (omega arith)) ∙ ap (λ (i : ℕ). getD (conditionBytes arity (take 8 (drop at t))) i 0) (sym e)
+  condition-first i e = sym (part-at 8 t at h 1 (omega arith)) ∙ ap (λ (i : ℕ). getD (conditionBytes arity (take 8 (drop at t))) i 0) (sym e)
 
   pub condition-behind : (i : ℕ) → i < 8 → (i ≡ 0 → ⊥) → (i ≡ 1 → ⊥) → getD t (at + i) 0 ≡ getD (conditionBytes arity (take 8 (drop at t))) i 0
   condition-behind zero l n o = absurd (n refl)
   condition-behind (suc zero) l n o = absurd (o refl)
   condition-behind (suc (suc k)) l n o =
       let e : suc (suc k) ≡ 2 + k = omega arith in
-      ap (λ (i : ℕ). getD t (at + i) 0) e ∙ sym (getD-drop 2 (take 8 (drop at t)) k 0 ∙ part-at t at h (2 + k) (omega arith))
+      ap (λ (i : ℕ). getD t (at + i) 0) e ∙ sym (getD-drop 2 (take 8 (drop at t)) k 0 ∙ part-at 8 t at h (2 + k) (omega arith))
 
 length-condition : (arity : ℕ) (row : List ℕ) → length row ≡ 8 → length (conditionBytes arity row) ≡ 8
 length-condition arity row e = let d = length-drop 2 row in omega arith
 
 pub length-condition-at : (arity : ℕ) (t : List ℕ) (at : ℕ) → at + 8 ≤ length t → length (conditionBytes arity (take 8 (drop at t))) ≡ 8
-length-condition-at arity t at h = length-condition arity (take 8 (drop at t)) (length-part t at h)
+length-condition-at arity t at h = length-condition arity (take 8 (drop at t)) (length-part 8 t at h)
 
 -- ---- it where the literal is a true condition
 
@@ -117,7 +118,7 @@ module _ (arities t d : List ℕ) (at row k : ℕ) where
     if-so =
         rw (eq-eqb k 1 e)
         (ap (λ (n : ℕ). conditionBytes n (take 8 (drop row t)))
-        (ap (λ (r : ℕ). getD arities r 0) (part-at t row h 1 (omega arith)) ∙ sym f))
+        (ap (λ (r : ℕ). getD arities r 0) (part-at 8 t row h 1 (omega arith)) ∙ sym f))
 
     pub put-in : (out : List ℕ) → out ≡ paste d at (conditionBytes arity (take 8 (drop row t))) 8
         → out ≡ paste d at (conditionIf arities k (take 8 (drop row t))) (length (conditionIf arities k (take 8 (drop row t))))
@@ -137,7 +138,7 @@ module _ (arities ks t : List ℕ) where
   unfolding conditionsOf flatMap
   conditions-more j h =
       let l = length-take-le j ks (omega arith) in
-      let r = length-rows j t in
+      let r = length-rows 8 j t in
       ap (λ (n : ℕ). conditionsOf arities (take n ks) (rowsIn n t)) (add-one j)
       ∙ ap₂ (conditionsOf arities) (take-suc ks j 0 h) (rows-last j t)
       ∙ ap (flatMap (conditionOf arities)) (select-snoc isCondition (take j ks) (rowsIn j t) (getD ks j 0) (take 8 (drop (8 * j) t)) (omega arith))
@@ -152,7 +153,7 @@ module _ (arities ks t : List ℕ) where
   unfolding conditionsOf
   length-conditions j h g =
       let l = length-take-le j ks h in
-      let r = length-rows j t in
+      let r = length-rows 8 j t in
       let n = length-select isCondition (take j ks) (rowsIn j t) (omega arith) in
       let f = length-flat (conditionOf arities) (selectBy isCondition (take j ks) (rowsIn j t)) (λ row m. length-condition (getD arities (getD row 1 0) 0) row (rows-whole j t g row (select-in isCondition (take j ks) (rowsIn j t) m))) in
       omega arith
@@ -193,15 +194,10 @@ module _ (arities ks t : List ℕ) where
 -- ---- an instance fact
 
 pub object-key : (spare label class : ℕ) (t : List ℕ) → 8 * class + 8 ≤ length t → label < 8 → getD t (8 * class + label) 0 ≡ objectByte spare (take 8 (drop (8 * class) t)) label
-object-key spare label class t h l = rw (lt-ltb label 8 l) (sym (part-at t (8 * class) h label l))
+object-key spare label class t h l = rw (lt-ltb label 8 l) (sym (part-at 8 t (8 * class) h label l))
 
 pub object-spare : (spare label : ℕ) (tuple : List ℕ) → 8 ≤ label → spare ≡ objectByte spare tuple label
 object-spare spare label tuple l = rw (le-ltb label 8 l)
-
-map-at : (f : ℕ → ℕ) (l : List ℕ) (i : ℕ) → i < length l → getD (map f l) i 0 ≡ f (getD l i 0)
-map-at f [] i h = absurd (omega arith)
-map-at f (x ∷ xs) zero h = refl
-map-at f (x ∷ xs) (suc i) h = map-at f xs i (omega arith)
 
 module _ (arity spare : ℕ) (tuple row : List ℕ) (h : length row ≡ 8) (g : arity ≤ 6) where
   abbrev labels : List ℕ
@@ -225,7 +221,7 @@ module _ (arity spare : ℕ) (tuple row : List ℕ) (h : length row ≡ 8) (g : 
       let n = length-objects in
       let m = length-labels in
       List·getD-append (map (objectByte spare tuple) labels) (replicate (6 - arity) 255) 0 k (omega arith)
-      ∙ map-at (objectByte spare tuple) labels k (omega arith)
+      ∙ getD-map (objectByte spare tuple) labels k 0 0 (omega arith)
       ∙ ap (objectByte spare tuple) (getD-take arity (drop 1 row) k 0 l ∙ getD-drop 1 row k 0)
 
   fill-at : (k : ℕ) → k < 6 → arity ≤ k → getD (map (objectByte spare tuple) labels ++ replicate (6 - arity) 255) k 0 ≡ 255
@@ -247,12 +243,12 @@ module _ (arity spare : ℕ) (tuple t : List ℕ) (at : ℕ) (h : at + 8 ≤ len
       let z : suc (suc k) - 1 ≡ 1 + k = omega arith in
       e
       ∙ ap (λ (i : ℕ). objectByte spare tuple (getD t (at + i) 0)) z
-      ∙ sym (object-at arity spare tuple (take 8 (drop at t)) (length-part t at h) g k (omega arith) ∙ ap (objectByte spare tuple) (part-at t at h (1 + k) (omega arith)))
+      ∙ sym (object-at arity spare tuple (take 8 (drop at t)) (length-part 8 t at h) g k (omega arith) ∙ ap (objectByte spare tuple) (part-at 8 t at h (1 + k) (omega arith)))
 
   pub instance-fill : (i : ℕ) → i < 8 → (i ≡ 0 → ⊥) → (i ≡ 1 → ⊥) → 2 + arity ≤ i → 255 ≡ getD (instanceBytes arity spare tuple (take 8 (drop at t))) i 0
   instance-fill zero l n o m = absurd (n refl)
   instance-fill (suc zero) l n o m = absurd (o refl)
-  instance-fill (suc (suc k)) l n o m = sym (fill-at arity spare tuple (take 8 (drop at t)) (length-part t at h) g k (omega arith) (omega arith))
+  instance-fill (suc (suc k)) l n o m = sym (fill-at arity spare tuple (take 8 (drop at t)) (length-part 8 t at h) g k (omega arith) (omega arith))
 
   pub length-instance-at : length (instanceBytes arity spare tuple (take 8 (drop at t))) ≡ 8
-  length-instance-at = length-instance arity spare tuple (take 8 (drop at t)) (length-part t at h) g
+  length-instance-at = length-instance arity spare tuple (take 8 (drop at t)) (length-part 8 t at h) g

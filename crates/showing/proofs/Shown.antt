@@ -18,8 +18,9 @@ use Rattle.literals.specs.declared.Label.{Label}
 use Rattle.literals.specs.declared.Label.the-variants.{Key as keyed, Counted}
 use Rattle.literals.specs.declared.Clause.the-variants.{Positive, Add, Delete}
 use Rattle.literals.specs.declared.Index.{Index}
-use Rattle.literals.specs.Domain.{object, Atom, Fact, Literal, Action, Component, keyBelow, eachKeyOnce, keysOf, labelsFit, Domain, arity, action}
+use Rattle.literals.specs.Domain.{object, Atom, Fact, Literal, Action, Component, keyBelow, keysOf, Domain, arity, action}
 use Rattle.literals.specs.Table.{literalRow, labelNumber, componentRow, rowsIn, pad, Bounded, Holds}
+use Rattle.literals.proofs.Bytes.{keys-below, keys-once}
 use Rattle.literals.proofs.Rows.{length-row, row-inside, part-first}
 use Rattle.literals.proofs.Tables.{rows-flat, length-literals, length-literal-row, length-component-row, length-components, length-pad, pad-at, take-pad}
 use Rattle.literals.proofs.Bounds.{arity-six as arity-most}
@@ -323,16 +324,8 @@ module _ {D : Domain} {a : Action} {parts : List ℕ} {components keys : ℕ} {a
       let b = B .components in
       ap length (T .rows) ∙ length-pad 128 (flatMap componentRow (D .template)) (omega arith)
 
-  keys-below : (c : Component) → In c (D .template) → all (keyBelow (keysOf (D .template))) (c .labels) ≡ true
-  unfolding labelsFit
-  keys-below c k = and-l _ _ (and-l _ _ (B .keysFit c k))
-
-  keys-once : (c : Component) → In c (D .template) → eachKeyOnce (keysOf (D .template)) (c .labels) ≡ true
-  unfolding labelsFit
-  keys-once c k = and-r (all (keyBelow (keysOf (D .template))) (c .labels)) _ (and-l _ _ (B .keysFit c k))
-
   tuple-length : (x : List Variable) → In x (classes D a) → length x ≡ keysOf (D .template)
-  tuple-length = class-keys D a keys-once
+  tuple-length = class-keys D a (λ c k. keys-once _ _ (B .keysFit c k))
 
   module _ (j : ℕ) (h : j < length (classes D a)) where
     class-listed : In (getD (classes D a) j []) (classes D a)
@@ -374,7 +367,7 @@ module _ {D : Domain} {a : Action} {parts : List ℕ} {components keys : ℕ} {a
           let n = keys-few in
           ap₂ (λ (k s : ℕ). instanceBytes k s (take 8 (drop (8 * j) tuples)) (take 8 (drop (8 * u) parts))) (f ∙ part-arity) q
           ∙ ap₂ (instanceBytes (length (part .labels)) (a .vars)) (tuple-part tuples e) component-part
-          ∙ instance-fact a x (keysOf (D .template)) class-below (tuple-length x class-listed) (omega arith) part (keys-below part part-listed)
+          ∙ instance-fact a x (keysOf (D .template)) class-below (tuple-length x class-listed) (omega arith) part (keys-below _ _ (B .keysFit part part-listed))
 
   -- ---- together: what the code leaves, of the k true conditions
 

@@ -8,23 +8,24 @@ use native.Mathlib.Omega.{arith}
 use lib.Dec.{eqb}
 use lib.ListN.{length, getD, take, drop, replicate, length-map}
 use lib.Seq.{take-all, drop-drop}
-use Rattle.records.specs.Lists.{In, addIf, keepIf, all, any, sameList}
-use Rattle.records.proofs.Lists.{and-l, and-r, eqb-same, eqb-comm, sameList-self, sameList-comm, flatMap-in}
+use Rattle.records.specs.Lists.{In, addIf, keepIf, any, sameList}
+use Rattle.records.proofs.Lists.{and-r, eqb-same, eqb-comm, sameList-self, sameList-comm, flatMap-in}
 use Rattle.literals.specs.declared.Variable.{Variable}
 use Rattle.literals.specs.declared.Object.{Object}
 use Rattle.literals.specs.declared.Index.{Index}
 use Rattle.literals.specs.declared.Time.the-variants.{AtStart}
 use Rattle.literals.specs.declared.Clause.the-variants.{Positive}
-use Rattle.literals.specs.Domain.{variable, sameObject, Fact, Literal, Component, keyBelow, eachKeyOnce, keysOf, labelsFit, Domain}
+use Rattle.literals.specs.Domain.{variable, sameObject, Fact, Literal, Component, keysOf, Domain}
 use Rattle.literals.specs.Decode.{byte}
 use Rattle.literals.specs.Table.{rowOf, literalRow, componentRow, rowsIn, Holds}
+use Rattle.literals.proofs.Bytes.{keys-once}
 use Rattle.literals.proofs.Rows.{part-first, rows-more, rows-end}
-use Rattle.literals.proofs.Tables.{rows-components}
+use Rattle.literals.proofs.Tables.{rows-components, value}
 use Rattle.literals.proofs.Held.{components-is, keys-is, parts-is}
 use Rattle.classes.specs.Classes.{keyTuple, isOf, tuplesBy, tuplesOf, hasTuple}
 use Rattle.classes.specs.Coded.{position, tupleRow, underKeys, keyRow, keyRows}
 use Rattle.classes.proofs.KeyRows.{place-le, length-rows, rows-at}
-use Rattle.classes.proofs.Numbers.{value, tuples-rows}
+use Rattle.classes.proofs.Numbers.{tuples-rows}
 use Rattle.verdict.specs.Judged.{objectNumbers}
 use Rattle.verdict.specs.Machine.{weight, instancesIn, largest}
 use Rattle.verdict.proofs.Tuples.{keyTuple-map, component-of}
@@ -63,12 +64,12 @@ module _ (keys r : ℕ) (row : List ℕ) (e : byte row 0 ≡ r) where
 -- the fact at an offset, and the place of its relation's component
 module _ (parts memory : List ℕ) (n keys at c : ℕ) (e : c ≡ position (starts (getD memory at 0)) (rowsIn n parts)) where
   pub component-le : c ≤ n
-  component-le = omega (arith, place-le (starts (getD memory at 0)) (rowsIn n parts), length-rows n parts)
+  component-le = omega (arith, place-le (starts (getD memory at 0)) (rowsIn n parts), length-rows 8 n parts)
 
   pub unmatched : c ≡ n → record { matched = false; row = replicate 8 255 } ≡ keyedBy (instanceRows keys (rowsIn n parts) (take 8 (drop at memory)))
   unfolding keyedBy
   unmatched f =
-      rw (instance-none keys (getD memory at 0) (take 8 (drop at memory)) (part-first memory at) (rowsIn n parts) (sym e ∙ f ∙ sym (length-rows n parts)))
+      rw (instance-none keys (getD memory at 0) (take 8 (drop at memory)) (part-first memory at) (rowsIn n parts) (sym e ∙ f ∙ sym (length-rows 8 n parts)))
 
   pub matched : (c ≡ n → ⊥) → (t : List ℕ) → t ≡ keyRow keys (take 8 (drop (8 * c) parts)) (take 8 (drop at memory))
       → record { matched = true; row = t } ≡ keyedBy (instanceRows keys (rowsIn n parts) (take 8 (drop at memory)))
@@ -76,9 +77,9 @@ module _ (parts memory : List ℕ) (n keys at c : ℕ) (e : c ≡ position (star
   matched h t f =
       let v : c < n = omega (arith, component-le) in
       sym (ap keyedBy
-      (instance-one keys (getD memory at 0) (take 8 (drop at memory)) (part-first memory at) (rowsIn n parts) (λ z. h (e ∙ z ∙ length-rows n parts))
+      (instance-one keys (getD memory at 0) (take 8 (drop at memory)) (part-first memory at) (rowsIn n parts) (λ z. h (e ∙ z ∙ length-rows 8 n parts))
       ∙ ap (λ (k : ℕ). keyRow keys (getD (rowsIn n parts) k []) (take 8 (drop at memory)) ∷ []) (sym e)
-      ∙ ap (λ (p : List ℕ). keyRow keys p (take 8 (drop at memory)) ∷ []) (rows-at n parts c [] v)
+      ∙ ap (λ (p : List ℕ). keyRow keys p (take 8 (drop at memory)) ∷ []) (rows-at 8 n parts c [] v)
       ∙ ap (λ (x : List ℕ). x ∷ []) (sym f)))
 
 -- ---- none or one
@@ -143,7 +144,7 @@ module _ (keys : ℕ) (ps : List (List ℕ)) (memory row : List ℕ) (n i weight
       → (weight + w) + rowWeight keys ps (rowsIn (n - (i + 1)) (drop (8 * (i + 1)) memory)) row ≡ weight + rowWeight keys ps (rowsIn (n - i) (drop (8 * i) memory)) row
   unfolding rowWeight
   weigh-more w h e =
-      rw (rows-more memory n i h)
+      rw (rows-more 8 memory n i h)
       (go (any (sameList eqb row) (instanceRows keys ps (take 8 (drop (8 * i) memory)))) (rowWeight keys ps (rowsIn (n - (i + 1)) (drop (8 * (i + 1)) memory)) row) e)
     where
       go : (b : Bool) (m : ℕ) → w ≡ addIf b 0 → (weight + w) + m ≡ weight + addIf b m
@@ -152,7 +153,7 @@ module _ (keys : ℕ) (ps : List (List ℕ)) (memory row : List ℕ) (n i weight
 
   pub weigh-end : n ≤ i → weight + rowWeight keys ps (rowsIn (n - i) (drop (8 * i) memory)) row ≡ weight
   unfolding rowWeight
-  weigh-end h = rw (rows-end (drop (8 * i) memory) n i h) (omega arith)
+  weigh-end h = rw (rows-end 8 (drop (8 * i) memory) n i h) (omega arith)
 
 pub adds-few : (b : Bool) (w : ℕ) → w ≡ addIf b 0 → w ≤ 1
 adds-few true w e = omega arith
@@ -188,11 +189,11 @@ module _ (keys : ℕ) (ps facts : List (List ℕ)) (memory : List ℕ) (n i top 
   unfolding flatMap
   top-more r h e =
       let f = largest-append (rowWeight keys ps facts) (instanceRows keys ps (take 8 (drop (8 * i) memory))) (flatMap (instanceRows keys ps) (rowsIn (n - (i + 1)) (drop (8 * (i + 1)) memory))) in
-      rw (rows-more memory n i h) (omega arith)
+      rw (rows-more 8 memory n i h) (omega arith)
 
   pub top-end : n ≤ i → max top (topOf keys ps facts (rowsIn (n - i) (drop (8 * i) memory))) ≡ top
   unfolding flatMap
-  top-end h = rw (rows-end (drop (8 * i) memory) n i h) (omega arith)
+  top-end h = rw (rows-end 8 (drop (8 * i) memory) n i h) (omega arith)
 
 -- the rows from one place on
 rows-drop : (n from : ℕ) (t : List ℕ) → drop from (rowsIn n t) ≡ rowsIn (n - from) (drop (8 * from) t)
@@ -254,17 +255,17 @@ rows-back (t ∷ ts) = ap₂ _∷_ (ap rowOf (numbers-same t)) (rows-back ts)
 
 -- ---- two key tuples have the same row where they are the same
 
-same-behind : (m : ℕ) (x y : List Object) → length x ≡ length y → sameList eqb (objectNumbers x ++ replicate m 255) (objectNumbers y ++ replicate m 255) ≡ sameList sameObject x y
-same-behind m [] [] e = sameList-self eqb eqb-same (replicate m 255)
-same-behind m [] (y ∷ ys) e = absurd (omega arith)
-same-behind m (x ∷ xs) [] e = absurd (omega arith)
-same-behind m (x ∷ xs) (y ∷ ys) e = ap (λ (b : Bool). eqb (x .0) (y .0) && b) (same-behind m xs ys (omega arith))
+pub same-numbers : (x y : List Object) (fill : List ℕ) → length x ≡ length y → sameList eqb (objectNumbers x ++ fill) (objectNumbers y ++ fill) ≡ sameList sameObject x y
+same-numbers [] [] fill e = sameList-self eqb eqb-same fill
+same-numbers [] (y ∷ ys) fill e = absurd (omega arith)
+same-numbers (x ∷ xs) [] fill e = absurd (omega arith)
+same-numbers (x ∷ xs) (y ∷ ys) fill e = ap (λ (b : Bool). sameObject x y && b) (same-numbers xs ys fill (omega arith))
 
 same-rows : (x y : List Object) → length x ≡ length y → sameList eqb (objectsRow x) (objectsRow y) ≡ sameList sameObject y x
 same-rows x y e =
     let f : length (objectNumbers x) ≡ length (objectNumbers y) = length-map x (λ (o : Object). o .0) ∙ e ∙ sym (length-map y (λ (o : Object). o .0)) in
     ap (λ (k : ℕ). sameList eqb (objectNumbers x ++ replicate (8 - k) 255) (objectsRow y)) f
-    ∙ same-behind (8 - length (objectNumbers y)) x y e
+    ∙ same-numbers x y (replicate (8 - length (objectNumbers y)) 255) e
     ∙ sameList-comm sameObject (λ o p. eqb-comm (o .0) (p .0)) x y
 
 -- ---- from one place on
@@ -290,10 +291,6 @@ module _ {D : Domain} {index : Index} (h : Holds D index) (small : index .keys �
   few-keys : keysOf (D .template) ≤ 6
   few-keys = omega (arith, keys-is h)
 
-  once : (c : Component) → In c (D .template) → eachKeyOnce (keysOf (D .template)) (c .labels) ≡ true
-  unfolding labelsFit
-  once c m = and-r (all (keyBelow (keysOf (D .template))) (c .labels)) _ (and-l _ _ (h .bounded .keysFit c m))
-
   -- the key tuples of a fact
   pub instances-are : (f : Fact) → FactFits D f → instanceRows (index .keys) (rowsIn (index .components) (index .parts)) (factRow f) ≡ map objectsRow (tuplesOf D f)
   unfolding tuplesOf
@@ -302,7 +299,7 @@ module _ {D : Domain} {index : Index} (h : Holds D index) (small : index .keys �
       (ap₂ rowsIn (components-is h) (parts-is h) ∙ rows-components (D .template) (h .bounded .labels) (replicate (128 - length (flatMap componentRow (D .template))) 0))
       ∙ rows-same (keysOf (D .template)) f (map componentRow (D .template))
       ∙ tuples-rows D (keysOf (D .template)) few-keys (asLiteral f) (length-map (f .args) asVariable ∙ k .sized) (D .template)
-      (λ c m. record { arguments = h .bounded .componentArity c m; keys = once c m }) (h .bounded .componentsOnce)
+      (λ c m. record { arguments = h .bounded .componentArity c m; keys = keys-once _ _ (h .bounded .keysFit c m) }) (h .bounded .componentsOnce)
       ∙ ap (map tupleRow) (tuples-same (keysOf (D .template)) f (D .template))
       ∙ rows-back (tuplesBy (keysOf (D .template)) (D .template) f)
 
@@ -310,7 +307,7 @@ module _ {D : Domain} {index : Index} (h : Holds D index) (small : index .keys �
   tuple-keys : (f : Fact) (t : List Object) → In t (tuplesOf D f) → length t ≡ keysOf (D .template)
   tuple-keys f t m =
       let c = component-of D f m in
-      ap length (c .3) ∙ tuple-size (keysOf (D .template)) (c .0 .labels) (f .args) (eqb-true _ _ (and-r (eqb (c .0 .rel) (f .rel)) _ (c .2))) (once (c .0) (c .1))
+      ap length (c .3) ∙ tuple-size (keysOf (D .template)) (c .0 .labels) (f .args) (eqb-true _ _ (and-r (eqb (c .0 .rel) (f .rel)) _ (c .2))) (keys-once _ _ (h .bounded .keysFit (c .0) (c .1)))
 
   module _ (y : List Object) (e : length y ≡ keysOf (D .template)) where
     -- the weight of an instance

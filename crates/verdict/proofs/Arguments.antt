@@ -15,11 +15,12 @@ use Rattle.literals.specs.declared.Key.{Key}
 use Rattle.literals.specs.declared.Label.{Label}
 use Rattle.literals.specs.declared.Label.the-variants.{Key as keyed, Counted}
 use Rattle.literals.specs.Domain.{key, Fact, Component, isKey, isCounted, keyBelow, keysOf, Domain}
+use Rattle.literals.proofs.Bytes.{keys-below}
 use Rattle.classes.specs.Classes.{under, keyTuple, isOf, matches}
 use Rattle.verdict.specs.Claims.{wellFormedTemplate}
 use Rattle.verdict.proofs.Equality.{atom-of}
 use Rattle.verdict.proofs.Tuples.{matches-tuple, component-of}
-use Rattle.verdict.proofs.WellFormed.{one-component, keys-below}
+use Rattle.verdict.proofs.WellFormed.{one-component, labels-fit}
 
 module _ {A : Type 0} where
   append-split : (xs us ys vs : List A) → length xs ≡ length us → xs ++ ys ≡ us ++ vs → (xs ≡ us) × (ys ≡ vs)
@@ -94,5 +95,5 @@ same-fact D ok y f g hf hg e full = go (component-of D f (matches-tuple D y f hf
         let dg′ : isOf c g ≡ true = rw cd at dg in
         let lg : length (c .labels) ≡ length (g .args) = eqb-true _ _ (and-r (eqb (c .rel) (g .rel)) _ dg′) in
         let tg′ : y ≡ keyTuple n (c .labels) (g .args) = rw cd at tg in
-        atom-of e (args-eq n (c .labels) (f .args) (g .args) (full c mc rc) (keys-below D ok c mc) lf lg
+        atom-of e (args-eq n (c .labels) (f .args) (g .args) (full c mc rc) (keys-below _ _ (labels-fit D ok c mc)) lf lg
         (tuple-under n (c .labels) (f .args) (g .args) (sym lf ∙ lg) (sym tf ∙ tg′)))

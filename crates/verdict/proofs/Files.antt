@@ -11,7 +11,7 @@ use Rattle.verdict.proofs.Safety.{safety, never-rises}
 use Rattle.verdict.proofs.Demand.{exactness, witness-shows}
 
 -- the file's decision is its domain's
-decided-file : (f : List ℕ) (D : Domain) → decode f ≡ domain D → decidedFile f ≡ decided D
+pub decided-file : (f : List ℕ) (D : Domain) → decode f ≡ domain D → decidedFile f ≡ decided D
 unfolding decidedFile
 decided-file f D e = ap decidedBy e
 

@@ -17,11 +17,12 @@ use Rattle.literals.specs.declared.Key.{Key}
 use Rattle.literals.specs.declared.Label.{Label}
 use Rattle.literals.specs.declared.Label.the-variants.{Key as keyed, Counted}
 use Rattle.literals.specs.Domain.{object, key, Atom, Action, Component, isKey, isCounted, keyBelow, eachKeyOnce, keysOf, Domain}
+use Rattle.literals.proofs.Bytes.{keys-below, keys-once}
 use Rattle.classes.specs.Classes.{under, keyTuple, isOf, tuplesBy, tuplesOf, matches, classes, covered}
 use Rattle.verdict.specs.Decision.{objectUnder, instanceFact, firstUncovered}
 use Rattle.verdict.specs.Claims.{wellFormedTemplate}
 use Rattle.verdict.proofs.Tuples.{matches-of, component-of}
-use Rattle.verdict.proofs.WellFormed.{keys-below, keys-once}
+use Rattle.verdict.proofs.WellFormed.{labels-fit}
 use Rattle.verdict.proofs.Acts.{class-in}
 use Rattle.verdict.proofs.TopWeight.{under-count, tuple-size}
 
@@ -37,7 +38,7 @@ class-keys D a once x m =
     (eqb-true _ _ (and-r (eqb (c .0 .rel) (l .0 .atom .rel)) _ (c .2))) (once (c .0) (c .1))
 
 pub class-length : (D : Domain) (a : Action) → wellFormedTemplate D ≡ true → (x : List Variable) → In x (classes D a) → length x ≡ keysOf (D .template)
-class-length D a ok = class-keys D a (keys-once D ok)
+class-length D a ok = class-keys D a (λ c m. keys-once _ _ (labels-fit D ok c m))
 
 -- ---- the tuple of an instance fact is the instance
 
@@ -81,7 +82,7 @@ module _ (D : Domain) (ok : wellFormedTemplate D ≡ true) (s : Object) (y : Lis
       n = keysOf (D .template)
 
       whole : keyTuple n (c .labels) (map (objectUnder s y) (c .labels)) ≡ y
-      whole = tuple-take s y n (c .labels) (omega arith) (keys-once D ok c m) ∙ take-all n y (omega arith)
+      whole = tuple-take s y n (c .labels) (omega arith) (keys-once _ _ (labels-fit D ok c m)) ∙ take-all n y (omega arith)
 
       about : isOf c (instanceFact s y c) ≡ true
       about = and-i (eqb-same (c .rel)) (rw (length-map (c .labels) (objectUnder s y)) (eqb-same (length (c .labels))))
@@ -90,7 +91,7 @@ module _ (D : Domain) (ok : wellFormedTemplate D ≡ true) (s : Object) (y : Lis
   pub instance-objects : (o : Object) → In o (instanceFact s y c .args) → In o y ⊎ (o ≡ s)
   instance-objects o h =
       let r = Memᴰ·of-map (objectUnder s y) (c .labels) h in
-      go (r .0) (all-in (keyBelow (keysOf (D .template))) (c .labels) (keys-below D ok c m) (r .1)) (r .2)
+      go (r .0) (all-in (keyBelow (keysOf (D .template))) (c .labels) (keys-below _ _ (labels-fit D ok c m)) (r .1)) (r .2)
     where
       go : (l : Label) → keyBelow (keysOf (D .template)) l ≡ true → objectUnder s y l ≡ o → In o y ⊎ (o ≡ s)
       go Counted b e = inr (sym e)

@@ -3,7 +3,7 @@ use mathlib.Core.Path.{_≡_, refl, sym, ap, ap₂, _∙_}
 use mathlib.Core.Bool.{Bool, true, false, _&&_, cond, false≢true}
 use mathlib.Core.Logic.{_⊎_, inl, inr}
 use mathlib.Core.List.{List, [], _∷_, _++_, map, append-assoc, List·Memᴰ·head, List·Memᴰ·tail}
-use Prim.Native.Nat.{ℕ, _+_, _-_, _*_, _≤_}
+use Prim.Native.Nat.{ℕ, _-_, _*_, _≤_}
 use native.Mathlib.Omega.{arith}
 use lib.Dec.{ltb, leb}
 use lib.ListN.{length, take, drop, replicate, length-append, length-map, length-replicate}
@@ -11,17 +11,17 @@ use lib.Seq.{take-at, drop-at}
 use borrow.Author.Tests.{leb-true, ltb-false, le-leb, eqb-true}
 use Rattle.records.specs.Lists.{In, all}
 use Rattle.records.specs.Memory.{over}
-use Rattle.records.proofs.Lists.{and-l, and-r, and-i, all-in}
+use Rattle.records.proofs.Lists.{and-l, and-r, and-i, all-in, map-back}
 use Rattle.records.proofs.Memory.{length-over}
 use Rattle.literals.specs.declared.Object.{Object}
 use Rattle.literals.specs.Domain.{object, Fact, Domain, arity}
 use Rattle.literals.specs.Decode.{Decoded, domain, decode}
 use Rattle.literals.proofs.Bounds.{arity-six, decoded-bounded}
 use Rattle.verdict.specs.Decision.{rows, witness}
-use Rattle.verdict.specs.Judged.{objectNumbers, factBytes, Answer, answerAt, decided, decidedBy, decidedFile, writesWitness, judgedDomain, judgedBy, judged, witnessMemoryBy, witnessAfter}
+use Rattle.verdict.specs.Judged.{objectNumbers, factBytes, Answer, answerAt, decided, decidedFile, writesWitness, judgedDomain, judgedBy, judged, witnessMemoryBy, witnessAfter}
 use Rattle.verdict.specs.Claims.{hasArity, isFact, plainObjects, Shown, readFacts, AcceptedSafe, RefusedHarmful, ShownBy, WitnessHarms}
 use Rattle.verdict.proofs.Answers.{judging-decides}
-use Rattle.verdict.proofs.Files.{file-safe, file-exact, file-witness}
+use Rattle.verdict.proofs.Files.{decided-file, file-safe, file-exact, file-witness}
 
 -- an answer that is neither 30 nor 31 is the file's decision
 decides : (f report wit : List ℕ) → (judged f report wit .number ≡ 30 → ⊥) → (judged f report wit .number ≡ 31 → ⊥) → judged f report wit ≡ decidedFile f
@@ -63,14 +63,10 @@ read-back (f ∷ fs) rest h = ap₂ _∷_ this (ap (readFacts (length fs)) behin
     tail : List ℕ
     tail = (objectNumbers (f .args) ++ (fill ++ factBytes fs)) ++ rest
 
-    numbers-back : (os : List Object) → map object (objectNumbers os) ≡ os
-    numbers-back [] = refl
-    numbers-back (o ∷ os) = ap {B = List Object} (λ l. o ∷ l) (numbers-back os)
-
     this : record { rel = f .rel; args = map object (take k tail) } ≡ f
     this =
         let e : take k tail ≡ objectNumbers (f .args) = ap (take k) (append-assoc (objectNumbers (f .args)) (fill ++ factBytes fs) rest) ∙ take-at (objectNumbers (f .args)) ((fill ++ factBytes fs) ++ rest) k (length-map (f .args) (λ (o : Object). o .0)) in
-        let a : map object (take k tail) ≡ f .args = ap (map object) e ∙ numbers-back (f .args) in
+        let a : map object (take k tail) ≡ f .args = ap (map object) e ∙ map-back object (λ (o : Object). o .0) (λ o. refl) (f .args) in
         λ i. record { rel = f .rel; args = a i }
 
     behind : drop 8 (f .rel ∷ k ∷ tail) ≡ factBytes fs ++ rest
@@ -124,10 +120,6 @@ witness-of : (f : List ℕ) (D : Domain) → decode f ≡ domain D → (report w
 unfolding witnessAfter
 witness-of f D e report wit = ap (λ (d : Decoded). witnessMemoryBy d report wit) e
 
-decided-of : (f : List ℕ) (D : Domain) → decode f ≡ domain D → decidedFile f ≡ decided D
-unfolding decidedFile
-decided-of f D e = ap decidedBy e
-
 pub judged-shown : (f report wit : List ℕ)
     → WitnessHarms f (judged f report wit .number) (witnessAfter f report wit) (judged f report wit .first) (judged f report wit .second) (judged f report wit .third)
 unfolding over
@@ -138,7 +130,7 @@ judged-shown f report wit D e nl t =
   where
     shown : judged f report wit ≡ decidedFile f → Shown D (decidedFile f) → ShownBy D (decidedFile f .number) (witnessMemoryBy (domain D) report wit) (decidedFile f .first) (decidedFile f .second) (decidedFile f .third)
     shown is s =
-        let d = ap (λ (x : Answer). x .number) (decided-of f D e) in
+        let d = ap (λ (x : Answer). x .number) (decided-file f D e) in
         let lo = s .numbered .0 in
         let hi = s .numbered .1 in
         let w = written D report wit

@@ -13,11 +13,12 @@ use Rattle.literals.specs.declared.Object.{Object}
 use Rattle.literals.specs.declared.Key.{Key}
 use Rattle.literals.specs.declared.Label.{Label}
 use Rattle.literals.specs.Domain.{key, Fact, isKey, eachKeyOnce, keysOf, Domain}
+use Rattle.literals.proofs.Bytes.{keys-once}
 use Rattle.classes.specs.Classes.{under, keyTuple, tuplesOf, matches}
 use Rattle.verdict.specs.Machine.{weight, instancesIn, largest, topWeight}
 use Rattle.verdict.specs.Claims.{wellFormed}
 use Rattle.verdict.proofs.Tuples.{matches-tuple, component-of}
-use Rattle.verdict.proofs.WellFormed.{template-well-formed, keys-once}
+use Rattle.verdict.proofs.WellFormed.{template-well-formed, labels-fit}
 
 -- ---- the largest of some numbers
 
@@ -81,4 +82,4 @@ instance-size D wf s y m =
     let c = component-of D f (r .2) in
     rw (c .3)
     (tuple-size (keysOf (D .template)) (c .0 .labels) (f .args) (eqb-true (length (c .0 .labels)) (length (f .args)) (and-r (eqb (c .0 .rel) (f .rel)) _ (c .2)))
-    (keys-once D (template-well-formed D wf) (c .0) (c .1)))
+    (keys-once _ _ (labels-fit D (template-well-formed D wf) (c .0) (c .1))))

@@ -9,7 +9,7 @@ use borrow.Author.Tests.{ltb-true, eq-eqb}
 use Rattle.records.specs.Lists.{In, all, pairwise, distinct}
 use Rattle.records.proofs.Lists.{and-l, and-r, all-in, getD-in, not-true, clash}
 use Rattle.literals.specs.declared.Variable.{Variable}
-use Rattle.literals.specs.Domain.{Literal, Action, Component, keyBelow, eachKeyOnce, keysOf, labelsFit, Domain, noAction, action}
+use Rattle.literals.specs.Domain.{Literal, Action, Component, keysOf, labelsFit, Domain, noAction, action}
 use Rattle.literals.specs.Decode.{repeats, contradicts}
 use Rattle.verdict.specs.Claims.{hasArity, wellFormedAction, wellFormedTemplate, wellFormed}
 use Rattle.verdict.proofs.Tuples.{Below}
@@ -78,13 +78,5 @@ module _ (D : Domain) (ok : wellFormedTemplate D ≡ true) where
     pub component-arity : hasArity D (c .rel) (c .labels) ≡ true
     component-arity = and-l _ _ fits
 
-    labels-fit : labelsFit (keysOf (D .template)) (c .labels) ≡ true
+    pub labels-fit : labelsFit (keysOf (D .template)) (c .labels) ≡ true
     labels-fit = and-r (hasArity D (c .rel) (c .labels)) _ fits
-
-    pub keys-below : all (keyBelow (keysOf (D .template))) (c .labels) ≡ true
-    unfolding labelsFit
-    keys-below = and-l _ _ (and-l _ _ labels-fit)
-
-    pub keys-once : eachKeyOnce (keysOf (D .template)) (c .labels) ≡ true
-    unfolding labelsFit
-    keys-once = and-r (all (keyBelow (keysOf (D .template))) (c .labels)) _ (and-l _ _ labels-fit)

@@ -1,10 +1,10 @@
 -- `event_effects` meets its contract. Assumes nothing.
-use mathlib.Core.Path.{refl, ap, _∙_}
-use Prim.Native.Nat.{ℕ, _+_, _*_}
+use mathlib.Core.Path.{ap, _∙_}
+use Prim.Native.Nat.{ℕ, _*_}
 use Rattle.runs.specs.RunFile.{momentOf}
 use Rattle.events.specs.Coded.{timeOf}
 use Rattle.events.proofs.FactRows.{moment-back}
-use Rattle.events.proofs.Listed.{part-of-17}
+use Rattle.events.proofs.GroundRows.{part-ground}
 use borrow.Author.Needs.{needs}
 use Rattle.effects.proofs.event_effects.Statement.{statement}
 use Rattle.effects.proofs.event_effects.Tie as tie
@@ -43,7 +43,7 @@ returns c =
       λ D variables sorts parts e k L F m f h.
           let a = c .before .before .before .before .before .before .before .before .before .before .before .before .before .args in
           let t = c .before .before .before .before .before .time-at .ensures in
-          r .1 D variables sorts parts e k L F (t ∙ ap (λ (j : ℕ). timeOf (momentOf j)) m ∙ ap timeOf (moment-back (e .moment))) (part-of-17 (a .rows .now) (17 * a .i) (17 * a .i + 17) refl ∙ f) h,
+          r .1 D variables sorts parts e k L F (t ∙ ap (λ (j : ℕ). timeOf (momentOf j)) m ∙ ap timeOf (moment-back (e .moment))) (part-ground (a .rows .now) (17 * a .i) ∙ f) h,
     )
 
 pub event-effects-spec : {M : Type 1} → statement M

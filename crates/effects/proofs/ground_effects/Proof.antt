@@ -72,7 +72,7 @@ returns-2 c =
     let g = bounds (c .before .before .before .before .before .before .before .before) in
     let part = take (8 * s .result .to - 8 * s .result .from) (drop (8 * s .result .from) (a .table .now)) in
     let o = effects-few (a .time) (a .clause) (a .arities .now) (a .ground .now) (rowsIn (s .result .to - s .result .from) part) in
-    let l = length-rows (s .result .to - s .result .from) part in
+    let l = length-rows 8 (s .result .to - s .result .from) part in
     let q = r .0 in (
       omega arith,
       λ D variables sorts parts e k L F t f h.

@@ -30,7 +30,7 @@ returns c =
     let p = c .before .before .before .before .before .before .before .pre in
     let w = c .before .before .wide .ensures .0 in
     unmarked (a .marks .now) (rowsIn (a .m) (a .struck .now)) (take 8 (drop (a .at) (a .work .now))) (p .3)
-    (ap (λ (i : ℕ). getD (a .marks .now) i 0) (part-at (a .work .now) (a .at) (p .0) 2 (omega arith) ∙ sym w) ∙ c .if1 .taken)
+    (ap (λ (i : ℕ). getD (a .marks .now) i 0) (part-at 8 (a .work .now) (a .at) (p .0) 2 (omega arith) ∙ sym w) ∙ c .if1 .taken)
 
 row-at-requires : tie.Need-row-at-requires
 row-at-requires c κs = search needs

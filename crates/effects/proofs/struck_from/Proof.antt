@@ -25,7 +25,7 @@ returns c =
     let p = c .before .before .before .before .pre in
     let g = p .7 in
     let t = c .if1 .taken in
-    let l = length-rows (a .m) (a .struck .now) in
+    let l = length-rows 8 (a .m) (a .struck .now) in
     all-gone (rowsIn (a .m) (a .struck .now)) (a .work .now) (a .n) (a .from) (p .2) (p .6) (omega arith)
 
 loop-holds : tie.Need-loop-holds Inv-loop μ-loop

@@ -7,9 +7,9 @@ use native.Mathlib.Omega.{arith}
 use lib.ListN.{drop}
 use Rattle.records.specs.Lists.{all}
 use Rattle.literals.specs.Table.{rowsIn}
+use Rattle.literals.proofs.Rows.{all-first, all-hit, all-miss, all-end}
 use Rattle.store.specs.Index.{Indexed}
 use Rattle.applicability.specs.Conditions.{rowMet}
-use Rattle.store.proofs.RowLoops.{all-first, all-hit, all-miss, all-end}
 use Rattle.applicability.proofs.conditions.conditions_met.Statement.{statement}
 use Rattle.applicability.proofs.conditions.conditions_met.Tie as tie
 

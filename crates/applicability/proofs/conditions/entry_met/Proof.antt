@@ -1,8 +1,8 @@
 -- `entry_met` meets its contract: what the entry's action asks over all. Assumes nothing.
-use mathlib.Core.Path.{refl, _∙_}
-use Prim.Native.Nat.{_+_, _*_}
+use mathlib.Core.Path.{_∙_}
+use Prim.Native.Nat.{_*_}
 use Rattle.applicability.specs.Conditions.{asked}
-use Rattle.events.proofs.Listed.{part-of-17}
+use Rattle.events.proofs.GroundRows.{part-ground}
 use borrow.Author.Needs.{needs}
 use Rattle.applicability.proofs.conditions.entry_met.Statement.{statement}
 use Rattle.applicability.proofs.conditions.entry_met.Tie as tie
@@ -29,7 +29,7 @@ returns : tie.Need-returns
 unfolding asked
 returns c D variables sorts parts g fs L F r f keys rows I =
     let a = c .before .before .before .before .before .before .before .before .args in
-    c .ground-met .ensures D variables sorts parts g fs L F (part-of-17 (a .rows .now) (17 * a .i) (17 * a .i + 17) refl ∙ r) f keys rows I
+    c .ground-met .ensures D variables sorts parts g fs L F (part-ground (a .rows .now) (17 * a .i) ∙ r) f keys rows I
 
 pub entry-met-spec : {M : Type 1} → statement M
 entry-met-spec =

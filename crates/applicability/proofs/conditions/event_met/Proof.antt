@@ -1,11 +1,11 @@
 -- `event_met` meets its contract: an event's conditions are what its action asks at its time. Assumes nothing.
-use mathlib.Core.Path.{refl, ap, _∙_}
-use Prim.Native.Nat.{_+_, _*_}
+use mathlib.Core.Path.{ap, _∙_}
+use Prim.Native.Nat.{_*_}
 use Rattle.literals.specs.declared.Time.{Time}
 use Rattle.applicability.specs.Conditions.{asked}
 use Rattle.events.proofs.FactRows.{time-back}
 use Rattle.applicability.proofs.Asked.{asked-event}
-use Rattle.events.proofs.Listed.{part-of-17}
+use Rattle.events.proofs.GroundRows.{part-ground}
 use borrow.Author.Needs.{needs}
 use Rattle.applicability.proofs.conditions.event_met.Statement.{statement}
 use Rattle.applicability.proofs.conditions.event_met.Tie as tie
@@ -38,7 +38,7 @@ returns : tie.Need-returns
 returns c D variables sorts parts e fs L F m r f keys rows I =
     let a = c .before .before .before .before .before .before .before .before .before .before .before .args in
     let t = c .before .before .time-at .ensures in
-    c .ground-met .ensures D variables sorts parts (e .ground) fs L F (part-of-17 (a .rows .now) (17 * a .i) (17 * a .i + 17) refl ∙ r) f keys rows I
+    c .ground-met .ensures D variables sorts parts (e .ground) fs L F (part-ground (a .rows .now) (17 * a .i) ∙ r) f keys rows I
     ∙ ap (λ (u : Time). asked D u (e .ground) fs) (time-back _ _ (e .moment) t m)
     ∙ asked-event D e fs
 

@@ -7,6 +7,7 @@ use Prim.Native.Nat.{ℕ, _-_, _≤_, _<_}
 use native.Mathlib.Omega.{arith}
 use lib.ListN.{length, getD, drop}
 use Rattle.records.specs.Lists.{all}
+use Rattle.records.proofs.Lists.{all-hit, all-miss, all-end}
 use Rattle.literals.specs.Domain.{Fact, Domain}
 use Rattle.literals.specs.Table.{rowsIn}
 use Rattle.verdict.specs.Machine.{Event, conditionsHold}
@@ -15,7 +16,7 @@ use Rattle.events.specs.declared.Waiting.{Waiting}
 use Rattle.store.specs.Rows.{factRow}
 use Rattle.events.specs.Coded.{waitingOf, EventsFit, Lent}
 use Rattle.events.proofs.FactRows.{noEvent, waiting-count, waiting-moment-at}
-use Rattle.events.proofs.Listed.{all-hit, all-miss, all-end, event-fits, event-row}
+use Rattle.events.proofs.Listed.{event-fits, event-row}
 use Rattle.applicability.proofs.conditions.events_met.Statement.{statement}
 use Rattle.applicability.proofs.conditions.events_met.Tie as tie
 

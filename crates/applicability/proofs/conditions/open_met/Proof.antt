@@ -7,6 +7,7 @@ use Prim.Native.Nat.{ℕ, _-_, _≤_, _<_}
 use native.Mathlib.Omega.{arith}
 use lib.ListN.{length, getD, drop}
 use Rattle.records.specs.Lists.{all}
+use Rattle.records.proofs.Lists.{all-hit, all-miss, all-end}
 use Rattle.literals.specs.Domain.{Fact, Domain}
 use Rattle.literals.specs.Table.{rowsIn}
 use Rattle.verdict.specs.Machine.{GroundAction, overAllHold}
@@ -15,7 +16,7 @@ use Rattle.events.specs.declared.Open.{Open}
 use Rattle.store.specs.Rows.{factRow}
 use Rattle.events.specs.Coded.{openOf, GroundsFit, Lent}
 use Rattle.events.proofs.FactRows.{noGround, open-count}
-use Rattle.events.proofs.Listed.{all-hit, all-miss, all-end, entry-fits, entry-row}
+use Rattle.events.proofs.Listed.{entry-fits, entry-row}
 use Rattle.applicability.proofs.conditions.open_met.Statement.{statement}
 use Rattle.applicability.proofs.conditions.open_met.Tie as tie
 

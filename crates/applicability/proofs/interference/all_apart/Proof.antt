@@ -7,8 +7,8 @@ use native.Mathlib.Omega.{arith}
 use lib.ListN.{length, getD, take, drop}
 use borrow.Author.Needs.{needs}
 use Rattle.records.specs.Lists.{pairwise}
+use Rattle.records.proofs.Lists.{pairwise-hit, pairwise-miss, pairwise-end}
 use Rattle.applicability.specs.Interference.{Mark, marksClash, inOne, Laid}
-use Rattle.events.proofs.Listed.{pairwise-hit, pairwise-miss, pairwise-end}
 use Rattle.applicability.proofs.Marks.{before-first, laid-clash}
 use Rattle.applicability.proofs.interference.all_apart.Statement.{statement}
 use Rattle.applicability.proofs.interference.all_apart.Tie as tie

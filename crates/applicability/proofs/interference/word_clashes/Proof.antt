@@ -6,8 +6,8 @@ use native.Mathlib.Omega.{arith}
 use lib.ListN.{drop}
 use borrow.Author.Needs.{needs}
 use Rattle.records.specs.Lists.{any}
+use Rattle.records.proofs.Lists.{any-hit, any-miss, any-end}
 use Rattle.applicability.specs.Interference.{marksIn, clashes}
-use Rattle.events.proofs.Listed.{any-hit, any-miss, any-end}
 use Rattle.applicability.proofs.Marks.{noMark, length-marks, at-same, at-other}
 use Rattle.applicability.proofs.interference.word_clashes.Statement.{statement}
 use Rattle.applicability.proofs.interference.word_clashes.Tie as tie

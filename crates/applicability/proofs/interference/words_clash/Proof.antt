@@ -6,8 +6,8 @@ use native.Mathlib.Omega.{arith}
 use lib.ListN.{drop}
 use borrow.Author.Needs.{needs}
 use Rattle.records.specs.Lists.{any}
+use Rattle.records.proofs.Lists.{any-hit, any-miss, any-end}
 use Rattle.applicability.specs.Interference.{Mark, marksIn, clashes, marksClash}
-use Rattle.events.proofs.Listed.{any-hit, any-miss, any-end}
 use Rattle.applicability.proofs.Marks.{noMark, length-marks, mark-test}
 use Rattle.applicability.proofs.interference.words_clash.Statement.{statement}
 use Rattle.applicability.proofs.interference.words_clash.Tie as tie

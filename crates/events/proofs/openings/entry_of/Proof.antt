@@ -6,8 +6,8 @@ use lib.Dec.{eqb}
 use lib.ListN.{drop}
 use Rattle.records.specs.Lists.{sameList}
 use Rattle.classes.specs.Coded.{position}
+use Rattle.classes.proofs.KeyRows.{place-first, place-hit, place-miss, place-end}
 use Rattle.events.specs.Coded.{groundsIn}
-use Rattle.events.proofs.GroundRows.{entry-first, entry-hit, entry-miss, entry-end}
 use Rattle.events.proofs.openings.entry_of.Statement.{statement}
 use Rattle.events.proofs.openings.entry_of.Tie as tie
 
@@ -18,7 +18,7 @@ abbrev μ-loop : tie.MeasureT-loop
 μ-loop rows n ground k₀ k = n - k
 
 loop-holds : tie.Need-loop-holds Inv-loop μ-loop
-loop-holds c = let a = c .before .before .args in (omega arith, entry-first (sameList eqb (a .ground .now)) (a .rows .now) (a .n))
+loop-holds c = let a = c .before .before .args in (omega arith, place-first 17 (sameList eqb (a .ground .now)) (a .rows .now) (a .n))
 
 mul-same-ground : tie.Need-mul-same-ground Inv-loop μ-loop
 mul-same-ground c = omega arith
@@ -29,7 +29,7 @@ same-ground-requires c κs = (omega arith, omega arith)
 returns : tie.Need-returns Inv-loop μ-loop
 returns c = let a = c .before .before .before .before .before .before .args in
     let l = c .before .before .before .loop in
-    sym (entry-hit (sameList eqb (a .ground .now)) (a .rows .now) (a .n) (l .k) (omega arith) (sym (c .before .same-ground .ensures) ∙ c .if1 .taken)) ∙ l .inv .1
+    sym (place-hit 17 (sameList eqb (a .ground .now)) (a .rows .now) (a .n) (l .k) (omega arith) (sym (c .before .same-ground .ensures) ∙ c .if1 .taken)) ∙ l .inv .1
 
 add-k : tie.Need-add-k Inv-loop μ-loop
 add-k c = omega arith
@@ -40,13 +40,13 @@ loop-less c = omega arith
 loop-again : tie.Need-loop-again Inv-loop μ-loop
 loop-again c = let a = c .before .before .before .before .before .before .args in
     let l = c .before .before .before .loop in
-    (omega arith, entry-miss (sameList eqb (a .ground .now)) (a .rows .now) (a .n) (l .k) (omega arith) (sym (c .before .same-ground .ensures) ∙ c .if1 .left) ∙ l .inv .1)
+    (omega arith, place-miss 17 (sameList eqb (a .ground .now)) (a .rows .now) (a .n) (l .k) (omega arith) (sym (c .before .same-ground .ensures) ∙ c .if1 .left) ∙ l .inv .1)
 
 returns-2 : tie.Need-returns-2 Inv-loop μ-loop
 returns-2 c = let a = c .before .before .before .before .args in
     let l = c .before .loop in
     let e : l .k ≡ a .n = omega arith in
-    sym e ∙ sym (entry-end (sameList eqb (a .ground .now)) (a .rows .now) (a .n) (l .k) (omega arith)) ∙ l .inv .1
+    sym e ∙ sym (place-end 17 (sameList eqb (a .ground .now)) (a .rows .now) (a .n) (l .k) (omega arith)) ∙ l .inv .1
 
 pub entry-of-spec : {M : Type 1} → statement M
 entry-of-spec =

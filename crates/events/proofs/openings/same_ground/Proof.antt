@@ -5,7 +5,7 @@ use native.Mathlib.Omega.{arith}
 use lib.Dec.{eqb}
 use lib.ListN.{take, drop}
 use Rattle.records.specs.Lists.{sameList}
-use Rattle.events.proofs.GroundRows.{ground-miss, ground-hit, ground-end}
+use Rattle.classes.proofs.KeyRows.{row-miss, row-hit, row-end}
 use Rattle.events.proofs.openings.same_ground.Statement.{statement}
 use Rattle.events.proofs.openings.same_ground.Tie as tie
 
@@ -30,7 +30,7 @@ shared-slice-read-if1-2 c = omega arith
 returns : tie.Need-returns Inv-loop μ-loop
 returns c = let a = c .before .before .before .before .before .args in
     let l = c .before .before .before .before .loop in
-    sym (ground-miss (a .ground .now) (a .memory .now) (a .at) (l .i) (omega arith) (omega arith) (omega arith) (c .if1 .taken)) ∙ l .inv .1
+    sym (row-miss 17 (a .ground .now) (a .memory .now) (a .at) (l .i) (omega arith) (omega arith) (omega arith) (c .if1 .taken)) ∙ l .inv .1
 
 add-i : tie.Need-add-i Inv-loop μ-loop
 add-i c = omega arith
@@ -41,12 +41,12 @@ loop-less c = omega arith
 loop-again : tie.Need-loop-again Inv-loop μ-loop
 loop-again c = let a = c .before .before .before .before .before .args in
     let l = c .before .before .before .before .loop in
-    (omega arith, sym (ground-hit (a .ground .now) (a .memory .now) (a .at) (l .i) (omega arith) (omega arith) (omega arith) (c .if1 .left)) ∙ l .inv .1)
+    (omega arith, sym (row-hit 17 (a .ground .now) (a .memory .now) (a .at) (l .i) (omega arith) (omega arith) (omega arith) (c .if1 .left)) ∙ l .inv .1)
 
 returns-2 : tie.Need-returns-2 Inv-loop μ-loop
 returns-2 c = let a = c .before .before .args in
     let l = c .before .loop in
-    sym (ground-end (a .ground .now) (a .memory .now) (a .at) (l .i) (omega arith) (omega arith) (omega arith)) ∙ l .inv .1
+    sym (row-end 17 (a .ground .now) (a .memory .now) (a .at) (l .i) (omega arith) (omega arith) (omega arith)) ∙ l .inv .1
 
 pub same-ground-spec : {M : Type 1} → statement M
 same-ground-spec =

@@ -6,7 +6,7 @@ use borrow.Author.Tests.{le-leb, lt-leb}
 use lib.Dec.{leb}
 use lib.ListN.{length, drop}
 use Rattle.records.specs.Lists.{any}
-use Rattle.literals.proofs.Bytes.{any-hit, any-miss, any-end}
+use Rattle.records.proofs.Lists.{any-hit, any-miss, any-end}
 use Rattle.literals.proofs.fields.any_from.Statement.{statement}
 use Rattle.literals.proofs.fields.any_from.Tie as tie
 
@@ -25,7 +25,7 @@ shared-slice-read-if1 c = omega arith
 returns : tie.Need-returns Inv-loop μ-loop
 returns c =
     let turn = c .before .before .before in
-    sym (any-hit _ (turn .before .args .s .now) (turn .loop .i) (omega arith) (le-leb _ _ (c .if1 .taken))) ∙ turn .loop .inv
+    sym (any-hit (turn .before .args .s .now) (turn .loop .i) 0 (omega arith) _ (le-leb _ _ (c .if1 .taken))) ∙ turn .loop .inv
 
 add-i : tie.Need-add-i Inv-loop μ-loop
 add-i c = omega arith
@@ -36,10 +36,10 @@ loop-less c = omega arith
 loop-again : tie.Need-loop-again Inv-loop μ-loop
 loop-again c =
     let turn = c .before .before .before in
-    sym (any-miss _ (turn .before .args .s .now) (turn .loop .i) (omega arith) (lt-leb _ _ (c .if1 .left))) ∙ turn .loop .inv
+    sym (any-miss (turn .before .args .s .now) (turn .loop .i) 0 (omega arith) _ (lt-leb _ _ (c .if1 .left))) ∙ turn .loop .inv
 
 returns-2 : tie.Need-returns-2 Inv-loop μ-loop
-returns-2 c = sym (any-end _ (c .before .before .args .s .now) (c .before .loop .i) (omega arith)) ∙ c .before .loop .inv
+returns-2 c = sym (any-end (c .before .before .args .s .now) (c .before .loop .i) 0 _ (omega arith)) ∙ c .before .loop .inv
 
 pub any-from-spec : {M : Type 1} → statement M
 any-from-spec =

@@ -7,7 +7,7 @@ use borrow.Author.Tests.{eq-eqb, ne-eqb}
 use lib.Dec.{eqb}
 use lib.ListN.{length, drop}
 use Rattle.records.specs.Lists.{countBy}
-use Rattle.literals.proofs.Bytes.{count-hit, count-miss, count-end}
+use Rattle.records.proofs.Lists.{count-hit, count-miss, count-end}
 use Rattle.literals.proofs.fields.count_from.Statement.{statement}
 use Rattle.literals.proofs.fields.count_from.Tie as tie
 
@@ -37,12 +37,12 @@ loop-again c =
     let turn = c .before .before .before in
     let p = eqb (turn .before .args .b) in
     let s = turn .before .args .s .now in
-    ⊎-elim (λ w. let e = count-hit p s (turn .loop .i) (omega arith) (eq-eqb _ _ (sym (w .0 .taken))) in (omega arith, omega arith))
-    (λ w. let e = count-miss p s (turn .loop .i) (omega arith) (ne-eqb _ _ (λ g. w .0 .left (sym g))) in (omega arith, omega arith))
+    ⊎-elim (λ w. let e = count-hit s (turn .loop .i) 0 (omega arith) p (eq-eqb _ _ (sym (w .0 .taken))) in (omega arith, omega arith))
+    (λ w. let e = count-miss s (turn .loop .i) 0 (omega arith) p (ne-eqb _ _ (λ g. w .0 .left (sym g))) in (omega arith, omega arith))
     (c .if1 .came)
 
 returns : tie.Need-returns Inv-loop μ-loop
-returns c = let start = c .before .before .args in omega (arith, count-end (eqb (start .b)) (start .s .now) (c .before .loop .i) (omega arith))
+returns c = let start = c .before .before .args in omega (arith, count-end (start .s .now) (c .before .loop .i) 0 (eqb (start .b)) (omega arith))
 
 pub count-from-spec : {M : Type 1} → statement M
 count-from-spec =

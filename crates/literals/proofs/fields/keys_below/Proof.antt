@@ -8,8 +8,8 @@ use borrow.Author.Tests.{not-true, not-false}
 use lib.Dec.{eqb, ltb}
 use lib.ListN.{length, drop}
 use Rattle.records.specs.Lists.{all}
+use Rattle.records.proofs.Lists.{all-hit, all-miss, all-end}
 use Rattle.literals.specs.Table.{keysBelow}
-use Rattle.literals.proofs.Bytes.{all-hit, all-miss, all-end}
 use Rattle.literals.proofs.fields.keys_below.Statement.{statement}
 use Rattle.literals.proofs.fields.keys_below.Tie as tie
 
@@ -35,7 +35,7 @@ returns : tie.Need-returns Inv-loop μ-loop
 returns c =
     let turn = c .before .before .before .before in
     let start = turn .before .before .args in
-    sym (all-miss (fits (start .n)) (start .p .now) (turn .loop .i) (omega arith) (sym (c .before .label-below .ensures) ∙ not-true _ (c .if1 .taken))) ∙ turn .loop .inv
+    sym (all-miss (start .p .now) (turn .loop .i) 0 (omega arith) (fits (start .n)) (sym (c .before .label-below .ensures) ∙ not-true _ (c .if1 .taken))) ∙ turn .loop .inv
 
 add-i : tie.Need-add-i Inv-loop μ-loop
 add-i c = omega arith
@@ -47,12 +47,12 @@ loop-again : tie.Need-loop-again Inv-loop μ-loop
 loop-again c =
     let turn = c .before .before .before .before in
     let start = turn .before .before .args in
-    sym (all-hit (fits (start .n)) (start .p .now) (turn .loop .i) (omega arith) (sym (c .before .label-below .ensures) ∙ not-false _ (c .if1 .left))) ∙ turn .loop .inv
+    sym (all-hit (start .p .now) (turn .loop .i) 0 (omega arith) (fits (start .n)) (sym (c .before .label-below .ensures) ∙ not-false _ (c .if1 .left))) ∙ turn .loop .inv
 
 returns-2 : tie.Need-returns-2 Inv-loop μ-loop
 returns-2 c =
     let start = c .before .before .before .args in
-    sym (all-end (fits (start .n)) (start .p .now) (c .before .loop .i) (omega arith)) ∙ c .before .loop .inv
+    sym (all-end (start .p .now) (c .before .loop .i) 0 (fits (start .n)) (omega arith)) ∙ c .before .loop .inv
 
 pub keys-below-spec : {M : Type 1} → statement M
 keys-below-spec =

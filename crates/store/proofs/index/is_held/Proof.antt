@@ -24,7 +24,7 @@ returns : tie.Need-returns
 returns c = let a = c .before .before .before .before .before .args in
     let o = c .before .before .slot-of in
     λ arities keys parts i z.
-    held-none (a .index .now) (rowsIn (a .n) (a .memory .now)) i (omega (arith, length-rows (a .n) (a .memory .now))) (a .row) (o .result) (o .ensures .0) (c .if1 .taken)
+    held-none (a .index .now) (rowsIn (a .n) (a .memory .now)) i (omega (arith, length-rows 8 (a .n) (a .memory .now))) (a .row) (o .result) (o .ensures .0) (c .if1 .taken)
 
 add-result : tie.Need-add-result
 add-result c = search needs
@@ -45,7 +45,7 @@ returns-2 c = let a = c .before .before .before .before .before .before .before 
     let b : Bytes (a .row) = λ k. let z : Fits w8 (getD (a .row) k 0) = search needs in omega arith in
     let m : Bytes (a .memory .now) = λ k. omega (arith, c .before .before .before .before .before .before .shared-slice-known2 .given k) in
     λ arities keys parts i z.
-    held-one (a .index .now) (rowsIn (a .n) (a .memory .now)) i (omega (arith, length-rows (a .n) (a .memory .now))) (a .row) (o .result) (o .ensures .0)
+    held-one (a .index .now) (rowsIn (a .n) (a .memory .now)) i (omega (arith, length-rows 8 (a .n) (a .memory .now))) (a .row) (o .result) (o .ensures .0)
     (c .before .before .if2 .taken) (c .word-of .result) (c .word-of .ensures .0) (l, b) (rows-eight (a .n) (a .memory .now) (omega arith) m) z
 
 has-row-requires : tie.Need-has-row-requires

@@ -6,7 +6,7 @@ use borrow.Author.Needs.{needs}
 use lib.Dec.{eqb}
 use lib.ListN.{take, drop}
 use Rattle.records.specs.Lists.{sameList}
-use Rattle.classes.proofs.KeyRows.{tuple-miss, tuple-hit, tuple-end}
+use Rattle.classes.proofs.KeyRows.{row-miss, row-hit, row-end}
 use Rattle.store.proofs.rows.same_row.Statement.{statement}
 use Rattle.store.proofs.rows.same_row.Tie as tie
 
@@ -31,7 +31,7 @@ shared-slice-read-if1 c = omega arith
 returns : tie.Need-returns Inv-loop μ-loop
 returns c = let a = c .before .before .before .before .args in
     let l = c .before .before .before .loop in
-    sym (tuple-miss (a .t3) (a .memory .now) (a .at) (l .i) (omega arith) (omega arith) (omega arith) (c .if1 .taken)) ∙ l .inv .1
+    sym (row-miss 8 (a .t3) (a .memory .now) (a .at) (l .i) (omega arith) (omega arith) (omega arith) (c .if1 .taken)) ∙ l .inv .1
 
 add-i : tie.Need-add-i Inv-loop μ-loop
 add-i c = omega arith
@@ -42,12 +42,12 @@ loop-less c = omega arith
 loop-again : tie.Need-loop-again Inv-loop μ-loop
 loop-again c = let a = c .before .before .before .before .args in
     let l = c .before .before .before .loop in
-    (omega arith, sym (tuple-hit (a .t3) (a .memory .now) (a .at) (l .i) (omega arith) (omega arith) (omega arith) (c .if1 .left)) ∙ l .inv .1)
+    (omega arith, sym (row-hit 8 (a .t3) (a .memory .now) (a .at) (l .i) (omega arith) (omega arith) (omega arith) (c .if1 .left)) ∙ l .inv .1)
 
 returns-2 : tie.Need-returns-2 Inv-loop μ-loop
 returns-2 c = let a = c .before .before .args in
     let l = c .before .loop in
-    sym (tuple-end (a .t3) (a .memory .now) (a .at) (l .i) (omega arith) (omega arith) (omega arith)) ∙ l .inv .1
+    sym (row-end 8 (a .t3) (a .memory .now) (a .at) (l .i) (omega arith) (omega arith) (omega arith)) ∙ l .inv .1
 
 pub same-row-spec : {M : Type 1} → statement M
 same-row-spec =

@@ -43,7 +43,7 @@ returns-2 c = let a = c .before .before .before .before .before .before .before 
     let fact = take 8 (drop (a .at) (a .memory .now)) in
     let g = c .before .before .key-slot in
     λ arities i. higher-old (a .keys) ps rows fact (a .least) (k .result .row) (keyed-one (k .result) (a .keys) ps fact (k .ensures) (not-false (k .result .matched) (c .before .before .before .before .if1 .left))) (rowWeight (a .keys) ps rows (k .result .row)) refl
-    (let w = weight-most (a .index .now) rows i (omega (arith, length-rows (a .n) (a .memory .now))) (k .result .row) (g .result) (g .ensures .0) in omega (arith, c .if2 .taken))
+    (let w = weight-most (a .index .now) rows i (omega (arith, length-rows 8 (a .n) (a .memory .now))) (k .result .row) (g .result) (g .ensures .0) in omega (arith, c .if2 .taken))
 
 weigh-requires : tie.Need-weigh-requires
 weigh-requires c κs = search needs
