@@ -1,7 +1,7 @@
 //! Playing, timed.
 
 use crate::runs;
-use crate::timing::take_turns;
+use crate::timing::{take_turns, Timed};
 use std::hint::black_box;
 
 /// Answers with number, place, steps, weight, and the length of the part.
@@ -35,33 +35,38 @@ fn by_model(domain: &[u8], run: &[u8], work: &mut [u8]) -> [u64; 5] {
     [played.number.into(), played.first as u64, played.steps as u64, played.weight.into(), part as u64]
 }
 
-pub fn print() {
+/// The times, and the steps made.
+fn time(name: &str, domain: &[u8], run: &[u8]) -> (Timed, f64) {
+    let (mut library, mut model) = (Side::new(by_library), Side::new(by_model));
+    let played = library.play(domain, run);
+    let same = played == model.play(domain, run) && library.work == model.work;
+    assert!(same, "{name}: library and model differ");
+    assert_eq!(played[0], 2, "{name}: not played to the end");
+    let timed = take_turns(
+        || {
+            black_box(library.play(domain, run));
+        },
+        || {
+            black_box(model.play(domain, run));
+        },
+    );
+    (timed, played[2] as f64)
+}
+
+fn single_runs(domain: &[u8]) {
     println!("\nplaying, nanoseconds: median of interleaved rounds; ratio is library / model");
     println!(
         "{:24} {:>7} {:>6} {:>12} {:>12} {:>7} {:>9} {:>9} {:>9} {:>9} {:>7}",
         "run", "bytes", "steps", "library", "model", "ratio", "lib/step", "mod/step", "lib/byte", "mod/byte", "rounds"
     );
-    let domain = runs::archive();
     for (name, run) in [
         ("5,000 steps of 1 event", runs::single_events(5_000)),
         ("1,000 steps of 16 events", runs::full_steps(1_000)),
         ("10,000 empty, 32 open", runs::empty_steps(10_000)),
         ("lending, 1 MB", runs::lending(1_000_000)),
     ] {
-        let (mut library, mut model) = (Side::new(by_library), Side::new(by_model));
-        let played = library.play(&domain, &run);
-        let same = played == model.play(&domain, &run) && library.work == model.work;
-        assert!(same, "{name}: library and model differ");
-        assert_eq!(played[0], 2, "{name}: not played to the end");
-        let timed = take_turns(
-            || {
-                black_box(library.play(&domain, &run));
-            },
-            || {
-                black_box(model.play(&domain, &run));
-            },
-        );
-        let (bytes, steps) = (run.len() as f64, played[2] as f64);
+        let (timed, steps) = time(name, domain, &run);
+        let bytes = run.len() as f64;
         println!(
             "{name:24} {bytes:>7} {steps:>6} {:>12.0} {:>12.0} {:>7.2} {:>9.1} {:>9.1} {:>9.2} {:>9.2} {:>7}",
             timed.library,
@@ -74,4 +79,24 @@ pub fn print() {
             timed.rounds
         );
     }
+}
+
+/// Facts held and events of a step.
+const SIZES: [(usize, usize); 7] = [(125, 1), (250, 1), (500, 1), (1_000, 1), (1_000, 2), (1_000, 4), (1_000, 16)];
+
+fn growth(domain: &[u8]) {
+    println!("\ngrowth with the facts held and the events of a step, nanoseconds a step");
+    println!("{:>6} {:>6} {:>12} {:>12} {:>7}", "facts", "events", "library", "model", "ratio");
+    for (facts, events) in SIZES {
+        // each volume is moved 16 times
+        let (timed, steps) = time("moves", domain, &runs::moves(facts, 16 * facts / events, events));
+        let (library, model) = (timed.library / steps, timed.model / steps);
+        println!("{facts:>6} {events:>6} {library:>12.1} {model:>12.1} {:>7.2}", library / model);
+    }
+}
+
+pub fn print() {
+    let domain = runs::archive();
+    single_runs(&domain);
+    growth(&domain);
 }

@@ -79,13 +79,12 @@ fn close(mut records: Vec<Rec>) -> Vec<u8> {
     encode(&records)
 }
 
-/// So many steps of so many events, each moving a volume to its next shelf.
-fn moves(steps: usize, events: usize) -> Vec<u8> {
-    const VOLUMES: usize = 1_000;
-    let mut records = start(VOLUMES);
+/// So many volumes, and so many steps of so many events, each moving a volume to its next shelf.
+pub fn moves(volumes: usize, steps: usize, events: usize) -> Vec<u8> {
+    let mut records = start(volumes);
     for step in 0..steps {
         for moved in step * events..(step + 1) * events {
-            let (number, times) = (moved % VOLUMES, moved / VOLUMES);
+            let (number, times) = (moved % volumes, moved / volumes);
             records.push(event(0, MOVE, number, shelf(number, times), shelf(number, times + 1)));
         }
         records.push(rec(19, []));
@@ -95,12 +94,12 @@ fn moves(steps: usize, events: usize) -> Vec<u8> {
 
 /// Steps of one event over 1,000 facts.
 pub fn single_events(steps: usize) -> Vec<u8> {
-    moves(steps, 1)
+    moves(1_000, steps, 1)
 }
 
 /// Steps of 16 events over 1,000 facts.
 pub fn full_steps(steps: usize) -> Vec<u8> {
-    moves(steps, FULL)
+    moves(1_000, steps, FULL)
 }
 
 /// 960 volumes, all readers present.
