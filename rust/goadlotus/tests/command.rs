@@ -1,5 +1,5 @@
-//! The script `goadlotus` of the repository's root: its help and refusals, M1 listed and explained and M12 played where the programs
-//! are built, and the first use, in a folder of its own with a stand-in for rt. Nothing is proved here.
+//! The script `goadlotus` of the repository's root: its help and refusals; M1 listed and explained, M12 played and all of samples/
+//! tried where the programs are built; and the first use, in a folder of its own with a stand-in for rt. Nothing is proved here.
 
 use std::fs::{self, File, Permissions};
 use std::os::unix::fs::PermissionsExt;
@@ -80,6 +80,26 @@ fn m1_listed_where_built() {
 fn m12_played_where_built() {
     let m12 = fs::read_to_string(root().join("crates/play/stdout")).expect("crates/play/stdout");
     where_built("play", "crates/play/data", &["m1", "m12"], &m12);
+}
+
+/// Every file of samples/ by the programs themselves: what they print is the text beside it.
+#[test]
+fn samples_where_built() {
+    let samples = root().join("samples");
+    let read = |name: String| fs::read_to_string(samples.join(&name)).unwrap_or_else(|_| panic!("samples/{name}"));
+    let mut tried = 0;
+    for entry in fs::read_dir(&samples).expect("samples") {
+        let file = entry.expect("a file").file_name().into_string().expect("UTF-8");
+        if let Some(name) = file.strip_suffix(".domain") {
+            where_built("list", "samples", &[&file], &read(format!("{name}.listing")));
+            tried += 1;
+        } else if let Some(name) = file.strip_suffix(".run") {
+            let of = read(format!("{name}.of"));
+            where_built("play", "samples", &[of.trim_end(), &file], &read(format!("{name}.played")));
+            tried += 1;
+        }
+    }
+    assert!(tried >= 100, "only {tried} files of samples/ were found");
 }
 
 fn write(path: PathBuf, text: &str) {
