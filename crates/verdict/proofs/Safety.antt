@@ -181,7 +181,6 @@ module _ (D : Domain) (wf : wellFormed D ≡ true) (v : Bool) (acc : decision D 
 
   -- what an allowed step gives the argument
   record Taken (s : State) (es : List Event) : Type 0 where
-    are-open : (e : Event) → In e es → isOpen (s .running) e ≡ true
     conditions : all (conditionsHold D (s .facts)) es ≡ true
     apart : independent D es ≡ true
     acts : (e : Event) → In e es → Act (matches D y) v (eventFacts D e) (starts c e) (ends c e)
@@ -193,7 +192,6 @@ module _ (D : Domain) (wf : wellFormed D ≡ true) (v : Bool) (acc : decision D 
   taken s es l al =
       let op : (e : Event) → In e es → isOpen (s .running) e ≡ true = λ e m. all-in (isOpen (s .running)) es (and-l _ _ (and-l _ _ (and-l _ _ al))) m in
       record {
-        are-open = op;
         conditions = and-r (all (isOpen (s .running)) es) _ (and-l _ _ (and-l _ _ al));
         apart = and-r (all (isOpen (s .running)) es && all (conditionsHold D (s .facts)) es && all (overAllHold D (s .facts)) (s .running)) _ al;
         acts = λ e m. event-act (e .moment) (e .ground) (all-in (legal D) es (l .legal-events) m) (all-in injective es (l .injective-events) m);
