@@ -1,9 +1,14 @@
 // The sentence of a domain file that is not well-formed: 9 to 23.
 use super::say;
 use listing::put;
+ghost use mathlib.Core.Path.{_≡_};
+ghost use mathlib.Core.Bool.{_&&_};
+ghost use lib.Dec.{ltb, leb};
 
-// Whether a number says that the file was not read.
-pub fn is_broken(number: u64) -> bool {
+// Whether a number says that the file was not read: neither accepted nor refused for a class.
+pub fn is_broken(number: u64) -> bool
+    ensures { λ r. ⌜ r ≡ (leb 2 number && ltb number 40) ⌝ }
+{
     if number < 2 {
         return false;
     }
