@@ -24,11 +24,11 @@ use Rattle.events.specs.declared.Waiting.{Waiting}
 use Rattle.player.specs.declared.Player.{Player}
 use Rattle.player.specs.declared.Turn.{Turn}
 use Rattle.runs.specs.RunFile.{objectsRecord, factRecord, eventRecord, stepRecord, endRecord, otherRecord, runKindOf, factOf, eventOf}
-use Rattle.runs.specs.Play.{objectsStop, factStop, eventStop, stepStop, endStop, playRecord, playFound, playStep, Tally, Playing, onward, PlayTurn, goOn, stopAt, startTally, begin, withObjects, joined, withFact, withEvent, withClose, unless, forbidden, tooLarge, accepted, afterStep, closeStep, heldBytes}
+use Rattle.runs.specs.Play.{objectsStop, factStop, eventStop, stepStop, endStop, playRecord, playFound, playStep, Playing, onward, PlayTurn, goOn, stopAt, startTally, begin, withObjects, joined, withFact, withEvent, withClose, unless, forbidden, tooLarge, accepted, afterStep, closeStep, heldBytes}
 use Rattle.store.specs.Rows.{factRow, hasRow, Few}
 use Rattle.events.specs.Coded.{waitingOf}
 use Rattle.machine.specs.Stepping.{holdingOf, closeStop, closeState, closeWaiting, closeWeight, Leaves}
-use Rattle.player.specs.Player.{playerOf, Stands, LeadsTo, NotedAfter}
+use Rattle.player.specs.Player.{tallyOf, playerOf, Stands, LeadsTo, NotedAfter}
 use Rattle.events.proofs.FactRows.{has-fact}
 use Rattle.machine.proofs.HeldBytes.{fits-few, state-rows}
 use Rattle.machine.proofs.RunRows.{held-more}
@@ -86,22 +86,22 @@ module _ (D : Domain) (q : Playing) {player : Player} {work old : List ℕ} (st 
 -- ---- the start counts
 
 module _ (D : Domain) (p : Playing) (player : Player) (work old : List ℕ) (st : Stands D p player work old) where
-  pub begun-already : player .tally .begun ≡ true → player ≡ playerOf D (begin D p)
+  pub begun-already : player .tally .begun ≡ true → player .tally ≡ tallyOf D (begin D p .tally)
   unfolding playerOf begin
   begun-already b =
-      let e : p .tally .begun ≡ true = sym (ap (λ (x : Player). x .tally .begun) (st .is)) ∙ b in
-      st .is ∙ ap (λ (t : Tally). playerOf D (record { at = p .at; closed = p .closed; objects = p .objects; state = p .state; waiting = p .waiting; tally = t })) (kept-tally e)
+      let e : p .tally .begun ≡ true = begun-is D p st ∙ b in
+      ap (λ (x : Player). x .tally) (st .is) ∙ ap (tallyOf D) (kept-tally e)
     where
       kept-tally : p .tally .begun ≡ true → p .tally ≡ startTally (p .tally) (topWeight D (p .state .facts))
       kept-tally e = rw e
 
   pub begun-now : player .tally .begun ≡ false → (watched : Bool) (top : ℕ) → top ≡ topWeight D (p .state .facts) → watched ≡ leb top 1 && accepted D
-      → record { at = player .at; closed = player .closed; objects = player .objects; state = player .state; tally = record { begun = true; watched = watched; steps = 0; weight = top } } ≡ playerOf D (begin D p)
-  unfolding playerOf begin
+      → record { begun = true; watched = watched; steps = 0; weight = top } ≡ tallyOf D (begin D p .tally)
+  unfolding begin
   begun-now b watched top e w =
-      let z : p .tally .begun ≡ false = sym (ap (λ (x : Player). x .tally .begun) (st .is)) ∙ b in
-      (λ i. record { at = st .is i .at; closed = st .is i .closed; objects = st .is i .objects; state = st .is i .state; tally = record { begun = true; watched = (w ∙ ap (λ (k : ℕ). leb k 1 && accepted D) e) i; steps = 0; weight = e i } })
-      ∙ ap (λ (t : Tally). playerOf D (record { at = p .at; closed = p .closed; objects = p .objects; state = p .state; waiting = p .waiting; tally = t })) (new-tally z)
+      let z : p .tally .begun ≡ false = begun-is D p st ∙ b in
+      (λ i. record { begun = true; watched = (w ∙ ap (λ (k : ℕ). leb k 1 && accepted D) e) i; steps = 0; weight = e i })
+      ∙ ap (tallyOf D) (new-tally z)
     where
       new-tally : p .tally .begun ≡ false
           → record { begun = true; startSafe = leb (topWeight D (p .state .facts)) 1; steps = 0; weight = topWeight D (p .state .facts) } ≡ startTally (p .tally) (topWeight D (p .state .facts))

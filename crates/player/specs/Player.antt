@@ -11,15 +11,21 @@ use Rattle.literals.specs.Domain.{Domain}
 use Rattle.literals.specs.Table.{rowsIn}
 use Rattle.verdict.specs.Machine.{topWeight}
 use Rattle.player.specs.declared.Player.{Player}
+use Rattle.player.specs.declared.Tally.{Tally}
 use Rattle.player.specs.declared.Turn.{Turn}
 use Rattle.player.specs.declared.run.Ended.{Ended}
-use Rattle.runs.specs.Play.{maxObjects, workBytes, Playing, PlayTurn, goOn, finish, Outcome, accepted, heldBytes}
+use Rattle.runs.specs.Play.{maxObjects, workBytes, Tally as Counted, Playing, PlayTurn, goOn, finish, Outcome, accepted, heldBytes}
 use Rattle.events.specs.Coded.{openOf, waitingOf, Lent}
 use Rattle.machine.specs.Stepping.{holdingOf, Kept, Noted}
 
 -- ---- what the code holds
 
--- a weight above 1 is watched for where the template is accepted and the start weights are at most 1
+-- what is counted: a weight above 1 is watched for where the template is accepted and the start weights are at most 1
+abbrev pub tallyOf : Domain → Counted → Tally
+tallyOf D t =
+    record { begun = t .begun; watched = t .startSafe && accepted D; steps = t .steps; weight = t .weight }
+
+-- where playing stands
 unfoldable pub playerOf : Domain → Playing → Player
 unfolding openOf waitingOf
 playerOf D p =
@@ -28,14 +34,13 @@ playerOf D p =
       closed = p .closed;
       objects = p .objects;
       state = holdingOf (p .state) (p .waiting);
-      tally =
-          record {
-            begun = p .tally .begun;
-            watched = p .tally .startSafe && accepted D;
-            steps = p .tally .steps;
-            weight = p .tally .weight;
-          };
+      tally = tallyOf D (p .tally);
     }
+
+-- the player with another tally
+abbrev pub withTally : Player → Tally → Player
+withTally player tally =
+    record { at = player .at; closed = player .closed; objects = player .objects; state = player .state; tally = tally }
 
 -- ---- what holds wherever playing stands
 

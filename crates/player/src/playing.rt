@@ -32,7 +32,7 @@ ghost use Rattle.runs.specs.RunFile.{runKindOf, factOf, eventOf};
 ghost use Rattle.runs.specs.Play.{Playing, beforeRun, goOn, unless, begin, objectsStop, withObjects, factStop, withFact, eventStop, withEvent, stepStop, closeStep, endStop, withClose, accepted as acceptedTemplate, playRecord, playStep};
 ghost use Rattle.events.specs.Coded.{Lent};
 ghost use Rattle.machine.specs.Stepping.{Noted, Closable};
-ghost use Rattle.player.specs.Player.{playerOf, Stands, Playable, LeadsTo, NotedAfter};
+ghost use Rattle.player.specs.Player.{tallyOf, playerOf, withTally, Stands, Playable, LeadsTo, NotedAfter};
 
 // Whether a weight above 1 is a fault from now on: the template is accepted, and the start weights are at most 1.
 fn is_watched(top: usize, accepted: bool) -> bool
@@ -42,6 +42,38 @@ fn is_watched(top: usize, accepted: bool) -> bool
         return accepted;
     }
     false
+}
+
+impl Tally {
+    // The start counts once the first record of kind 18 to 20 is met: the tally from then on.
+    fn begin(
+        self,
+        facts: usize,
+        components: usize,
+        keys: usize,
+        parts: &[u8],
+        accepted: bool,
+        work: &[u8],
+        index: &[u64],
+    ) -> Tally
+        requires { ⌜ (8 * components ≤ length (now parts)) × (keys ≤ 6) × (facts ≤ 1024) × (8 * facts ≤ length (now work)) × (length (now index) ≡ 12289) ⌝ }
+        ensures { λ r. ⌜ ((D : Domain) (p : Playing) (player : Player) (counts : Counts) (arities variables sorts starts old : List ℕ) → Holds D (indexWith counts arities variables sorts starts (now (parts .entry)))
+            → components ≡ counts .components → keys ≡ counts .keys → «accepted» ≡ acceptedTemplate D
+            → Stands D p player (now (work .entry)) old → self ≡ player .tally → facts ≡ player .state .facts
+            → Noted D arities keys (rowsIn components (now (parts .entry))) (now (index .entry)) (p .state) → r ≡ tallyOf D (begin D p .tally)) ⌝ }
+    {
+        if self.begun {
+            return self;
+        }
+        let top = top_from(parts, components, keys, work, facts, 0, 0, index);
+        let watched = is_watched(top, accepted);
+        Tally {
+            begun: true,
+            watched,
+            steps: 0,
+            weight: top,
+        }
+    }
 }
 
 impl Player {
@@ -67,47 +99,10 @@ impl Player {
         }
     }
 
-    // The start counts once the first record of kind 18 to 20 is met.
-    fn begin(
-        self,
-        components: usize,
-        keys: usize,
-        parts: &[u8],
-        accepted: bool,
-        work: &[u8],
-        index: &[u64],
-    ) -> Player
-        requires { ⌜ (8 * components ≤ length (now parts)) × (keys ≤ 6) × (self .state .facts ≤ 1024) × (8 * self .state .facts ≤ length (now work)) × (length (now index) ≡ 12289) ⌝ }
-        ensures { λ r. ⌜ ((D : Domain) (p : Playing) (counts : Counts) (arities variables sorts starts old : List ℕ) → Holds D (indexWith counts arities variables sorts starts (now (parts .entry)))
-            → components ≡ counts .components → keys ≡ counts .keys → «accepted» ≡ acceptedTemplate D → Stands D p self (now (work .entry)) old
-            → Noted D arities keys (rowsIn components (now (parts .entry))) (now (index .entry)) (p .state) → r ≡ playerOf D (begin D p)) ⌝ }
+    // The same, going on behind a record with this tally and another state of the machine.
+    fn onward(self, tally: Tally, behind: usize, state: State) -> Player
+        ensures { λ r. ⌜ (r .at ≡ behind) × (r .closed ≡ false) × (r .objects ≡ self .objects) × (r .state ≡ state) × (r .tally ≡ tally) ⌝ }
     {
-        let tally = self.tally;
-        let state = self.state;
-        if tally.begun {
-            return self;
-        }
-        let top = top_from(parts, components, keys, work, state.facts, 0, 0, index);
-        let watched = is_watched(top, accepted);
-        Player {
-            at: self.at,
-            closed: self.closed,
-            objects: self.objects,
-            state,
-            tally: Tally {
-                begun: true,
-                watched,
-                steps: 0,
-                weight: top,
-            },
-        }
-    }
-
-    // The same, going on behind a record with another state of the machine.
-    fn onward(self, behind: usize, state: State) -> Player
-        ensures { λ r. ⌜ (r .at ≡ behind) × (r .closed ≡ false) × (r .objects ≡ self .objects) × (r .state ≡ state) × (r .tally ≡ self .tally) ⌝ }
-    {
-        let tally = self.tally;
         Player {
             at: behind,
             closed: false,
@@ -176,7 +171,7 @@ impl Player {
         if is_held(index, work, n, row) {
             return Turn {
                 number: 0,
-                player: self.onward(behind, state),
+                player: self.onward(tally, behind, state),
             };
         }
         if 1024 <= n {
@@ -192,13 +187,14 @@ impl Player {
         next.facts = n + 1;
         Turn {
             number: 0,
-            player: self.onward(behind, next),
+            player: self.onward(tally, behind, next),
         }
     }
 
     // Kind 18: an event.
     fn take_event(
         self,
+        tally: Tally,
         counts: Counts,
         variables: &[u8],
         sorts: &[u8],
@@ -207,7 +203,7 @@ impl Player {
     ) -> Turn
         requires { ⌜ (length (now variables) ≡ 64) × ((i : ℕ) → getD (now variables) i 0 ≤ 16) × (length (now sorts) ≡ 64) × (counts .actions ≤ 64) × (self .state .waiting .count ≤ 16) ⌝ }
         ensures { λ r. ⌜ ((D : Domain) (q : Playing) (arities starts parts work old : List ℕ) → Holds D (indexWith counts arities (now (variables .entry)) (now (sorts .entry)) starts parts)
-            → Stands D q self work old
+            → Stands D q (withTally self tally) work old
             → LeadsTo D (unless (eventStop D q (now (p .entry))) q (goOn (withEvent q (eventOf (now (p .entry))) behind))) r work old) ⌝ }
     {
         let state = self.state;
@@ -217,7 +213,13 @@ impl Player {
         if number != 0 {
             return Turn {
                 number,
-                player: self,
+                player: Player {
+                    at: self.at,
+                    closed: self.closed,
+                    objects: self.objects,
+                    state,
+                    tally,
+                },
             };
         }
         let ground = ground_row(p);
@@ -229,13 +231,14 @@ impl Player {
         };
         Turn {
             number: 0,
-            player: self.onward(behind, next),
+            player: self.onward(tally, behind, next),
         }
     }
 
     // Kind 19: the step's close. 59 counts and keeps the step.
     fn take_step(
         self,
+        tally: Tally,
         counts: Counts,
         arities: &[u8],
         sorts: &[u8],
@@ -247,21 +250,26 @@ impl Player {
         p: &[u8],
         behind: usize,
     ) -> Turn
-        requires { ⌜ Closable counts (now arities) (now sorts) (now starts) (now parts) (now table) (self .state) (now work) × (self .tally .steps ≤ self .at) × (self .at < behind) × (length (now index) ≡ 12289) ⌝ }
+        requires { ⌜ Closable counts (now arities) (now sorts) (now starts) (now parts) (now table) (self .state) (now work) × (tally .steps ≤ self .at) × (self .at < behind) × (length (now index) ≡ 12289) ⌝ }
         ensures { λ r. ⌜ ((D : Domain) (q : Playing) (variables old : List ℕ)
             → Lent D counts (now (arities .entry)) variables (now (sorts .entry)) (now (starts .entry)) (now (parts .entry)) (now (table .entry))
-            → Stands D q self (now (work .entry)) old → q .tally .begun ≡ true
+            → Stands D q (withTally self tally) (now (work .entry)) old → q .tally .begun ≡ true
             → Noted D (now (arities .entry)) (counts .keys) (rowsIn (counts .components) (now (parts .entry))) (now (index .entry)) (q .state)
             → LeadsTo D (unless (stepStop q (now (p .entry))) q (closeStep D q behind)) r (now (work .exit)) old
             × NotedAfter D (now (arities .entry)) (counts .keys) (rowsIn (counts .components) (now (parts .entry))) (now (index .exit)) (unless (stepStop q (now (p .entry))) q (closeStep D q behind))) ⌝ }
     {
-        let tally = self.tally;
         let state = self.state;
         let number = step_stop(self.objects, p);
         if number != 0 {
             return Turn {
                 number,
-                player: self,
+                player: Player {
+                    at: self.at,
+                    closed: self.closed,
+                    objects: self.objects,
+                    state,
+                    tally,
+                },
             };
         }
         let closed = state.step(
@@ -281,7 +289,13 @@ impl Player {
         if stop != 0 {
             return Turn {
                 number: stop,
-                player: self,
+                player: Player {
+                    at: self.at,
+                    closed: self.closed,
+                    objects: self.objects,
+                    state,
+                    tally,
+                },
             };
         }
         let counted = Tally {
@@ -317,18 +331,23 @@ impl Player {
     }
 
     // Kind 20: the run's close.
-    fn take_end(self, p: &[u8], behind: usize) -> Turn
-        ensures { λ r. ⌜ ((D : Domain) (q : Playing) (work old : List ℕ) → Stands D q self work old
+    fn take_end(self, tally: Tally, p: &[u8], behind: usize) -> Turn
+        ensures { λ r. ⌜ ((D : Domain) (q : Playing) (work old : List ℕ) → Stands D q (withTally self tally) work old
             → LeadsTo D (unless (endStop q (now (p .entry))) q (goOn (withClose q behind))) r work old) ⌝ }
     {
-        let tally = self.tally;
         let state = self.state;
         let waiting = state.waiting;
         let number = end_stop(self.objects, waiting.count, p);
         if number != 0 {
             return Turn {
                 number,
-                player: self,
+                player: Player {
+                    at: self.at,
+                    closed: self.closed,
+                    objects: self.objects,
+                    state,
+                    tally,
+                },
             };
         }
         Turn {
@@ -342,6 +361,7 @@ impl Player {
             },
         }
     }
+
     // A record of any kind; the start counts once one of kind 18 to 20 is met.
     fn take_record(
         self,
@@ -371,7 +391,8 @@ impl Player {
             16 => self.take_objects(p, behind),
             17 => self.take_fact(counts, arities, parts, work, index, p, behind),
             18 => {
-                let begun = self.begin(
+                let tally = self.tally.begin(
+                    self.state.facts,
                     counts.components,
                     counts.keys,
                     parts,
@@ -379,10 +400,11 @@ impl Player {
                     work,
                     index,
                 );
-                begun.take_event(counts, variables, sorts, p, behind)
+                self.take_event(tally, counts, variables, sorts, p, behind)
             }
             19 => {
-                let begun = self.begin(
+                let tally = self.tally.begin(
+                    self.state.facts,
                     counts.components,
                     counts.keys,
                     parts,
@@ -390,7 +412,8 @@ impl Player {
                     work,
                     index,
                 );
-                begun.take_step(
+                self.take_step(
+                    tally,
                     counts,
                     arities,
                     sorts,
@@ -404,7 +427,8 @@ impl Player {
                 )
             }
             20 => {
-                let begun = self.begin(
+                let tally = self.tally.begin(
+                    self.state.facts,
                     counts.components,
                     counts.keys,
                     parts,
@@ -412,7 +436,7 @@ impl Player {
                     work,
                     index,
                 );
-                begun.take_end(p, behind)
+                self.take_end(tally, p, behind)
             }
             _ => Turn {
                 number: 50,

@@ -4,6 +4,7 @@ use mathlib.Core.Path.{sym, _∙_}
 use native.Mathlib.Omega.{arith}
 use Rattle.runs.specs.RunFile.{eventOf}
 use Rattle.runs.specs.Play.{goOn, withEvent, eventStop}
+use Rattle.player.specs.Player.{withTally}
 use Rattle.player.proofs.Sound.{event-taken}
 use Rattle.player.proofs.PlayTurns.{stops, passes, objects-are, objects-low, waiting-is, event-on}
 use Rattle.player.proofs.Player.take_event.Statement.{statement}
@@ -15,8 +16,9 @@ event-stop-requires c κs = search needs
 returns : tie.Need-returns
 returns c D q arities starts parts work old held st =
     let a = c .before .before .before .before .before .before .before .before .args in
+    let player = withTally (a .self) (a .tally) in
     let e = (c .before .event-stop .ensures .0 D q arities starts parts held (objects-are D q st) (objects-low D q st) (waiting-is D q st) (st .sound .kept .waiting)) in
-    stops D q (a .self) work old st (eventStop D q (a .p .now)) (c .before .event-stop .result) (goOn (withEvent q (eventOf (a .p .now)) (a .behind))) e (c .if1 .taken)
+    stops D q player work old st (eventStop D q (a .p .now)) (c .before .event-stop .result) (goOn (withEvent q (eventOf (a .p .now)) (a .behind))) e (c .if1 .taken)
 
 ground-row-requires : tie.Need-ground-row-requires
 ground-row-requires c κs = let f = c .before .event-stop .ensures .1 (c .if1 .left) in (f .0, f .1)
@@ -33,10 +35,11 @@ onward-requires c κs = search needs
 returns-2 : tie.Need-returns-2
 returns-2 c D q arities starts parts work old held st =
     let a = c .before .before .before .before .before .before .before .before .before .before .before .before .args in
+    let player = withTally (a .self) (a .tally) in
     let e = (c .before .before .before .before .before .event-stop .ensures .0 D q arities starts parts held (objects-are D q st) (objects-low D q st) (waiting-is D q st) (st .sound .kept .waiting)) in
     let t = event-taken D q (a .p .now) (st .sound .objects) (sym e ∙ c .before .before .before .before .if1 .left) in
     passes D q (eventStop D q (a .p .now)) (c .before .before .before .before .before .event-stop .result) (goOn (withEvent q (eventOf (a .p .now)) (a .behind))) _ work old e (c .before .before .before .before .if1 .left)
-    (event-on D (held .bounded) q (a .self) work old st (a .p .now) (a .behind) (c .before .with .result)
+    (event-on D (held .bounded) q player work old st (a .p .now) (a .behind) (c .before .with .result)
     (c .before .with .ensures D (q .waiting) (eventOf (a .p .now)) (held .bounded) (st .sound .kept .waiting) (waiting-is D q st) (t .moment) (c .before .before .before .ground-row .ensures)) (c .onward .result) (c .onward .ensures))
 
 pub take-event-spec : {M : Type 1} → statement M

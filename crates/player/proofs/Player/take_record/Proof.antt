@@ -21,7 +21,7 @@ begin-requires : tie.Need-begin-requires
 begin-requires c κs = begin-shape (c .before .before .before .before .before .before .before .before .before .before .before .before .pre .0)
 
 take-event-requires : tie.Need-take-event-requires
-take-event-requires c κs = event-shape (c .before .before .before .before .before .before .before .before .before .before .before .before .before .pre .0) (c .begin .result) (c .begin .ensures)
+take-event-requires c κs = event-shape (c .before .before .before .before .before .before .before .before .before .before .before .before .before .pre .0)
 
 begin-requires-2 : tie.Need-begin-requires-2
 begin-requires-2 c κs = begin-shape (c .before .before .before .before .before .before .before .before .before .before .before .before .pre .0)
