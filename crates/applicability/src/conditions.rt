@@ -1,6 +1,4 @@
 // Conditions: whether the facts meet what an action asks at the start, over all, or at the end.
-use events::Open;
-use events::Waiting;
 use events::facts::bound_row;
 use events::facts::clause_for;
 use events::facts::time_at;
@@ -172,31 +170,31 @@ pub fn events_met(
     arities: &[u8],
     starts: &[usize],
     table: &[u8],
-    waiting: Waiting,
+    moments: &[u8],
+    rows: &[u8],
+    count: usize,
     index: &[u64],
     work: &[u8],
     n: usize,
 ) -> bool
-    requires { ⌜ Ready counts (now arities) (now starts) (now table) × (length (now index) ≡ 12289) × (n ≤ 1024) × (8 * n ≤ length (now work)) ⌝ }
+    requires { ⌜ Ready counts (now arities) (now starts) (now table) × (length (now index) ≡ 12289) × (n ≤ 1024) × (8 * n ≤ length (now work))
+        × (length (now moments) ≡ 16) × (length (now rows) ≡ 272) ⌝ }
     ensures { λ r. ⌜ ((D : Domain) (variables sorts parts : List ℕ) (es : List Event) (fs : List Fact)
-        → Lent D counts (now (arities .entry)) variables sorts (now (starts .entry)) parts (now (table .entry)) → waiting ≡ waitingOf es → EventsFit D es → length es ≤ 16
-        → rowsIn n (now (work .entry)) ≡ map factRow fs
+        → Lent D counts (now (arities .entry)) variables sorts (now (starts .entry)) parts (now (table .entry))
+        → record { count = count; moments = now (moments .entry); rows = now (rows .entry) } ≡ waitingOf es → EventsFit D es → length es ≤ 16 → rowsIn n (now (work .entry)) ≡ map factRow fs
         → ((keys : ℕ) (rows : List (List ℕ)) → Indexed (now (arities .entry)) keys rows (now (index .entry)) (map factRow fs) → r ≡ all (conditionsHold D fs) es)) ⌝ }
 {
-    let count = waiting.count;
     if 16 < count {
         return false;
     }
-    let moments = waiting.moments;
-    let rows = waiting.rows;
     for i in 0..count {
         if !event_met(
             counts,
             arities,
             starts,
             table,
-            &moments,
-            &rows,
+            moments,
+            rows,
             i,
             index,
             work,
@@ -247,24 +245,23 @@ pub fn open_met(
     arities: &[u8],
     starts: &[usize],
     table: &[u8],
-    running: Open,
+    rows: &[u8],
+    count: usize,
     index: &[u64],
     work: &[u8],
     n: usize,
 ) -> bool
-    requires { ⌜ Ready counts (now arities) (now starts) (now table) × (length (now index) ≡ 12289) × (n ≤ 1024) × (8 * n ≤ length (now work)) ⌝ }
+    requires { ⌜ Ready counts (now arities) (now starts) (now table) × (length (now index) ≡ 12289) × (n ≤ 1024) × (8 * n ≤ length (now work)) × (length (now rows) ≡ 544) ⌝ }
     ensures { λ r. ⌜ ((D : Domain) (variables sorts parts : List ℕ) (gs : List GroundAction) (fs : List Fact)
-        → Lent D counts (now (arities .entry)) variables sorts (now (starts .entry)) parts (now (table .entry)) → running ≡ openOf gs → GroundsFit D gs → length gs ≤ 32
-        → rowsIn n (now (work .entry)) ≡ map factRow fs
+        → Lent D counts (now (arities .entry)) variables sorts (now (starts .entry)) parts (now (table .entry))
+        → record { count = count; rows = now (rows .entry) } ≡ openOf gs → GroundsFit D gs → length gs ≤ 32 → rowsIn n (now (work .entry)) ≡ map factRow fs
         → ((keys : ℕ) (rows : List (List ℕ)) → Indexed (now (arities .entry)) keys rows (now (index .entry)) (map factRow fs) → r ≡ all (overAllHold D fs) gs)) ⌝ }
 {
-    let count = running.count;
     if 32 < count {
         return false;
     }
-    let rows = running.rows;
     for i in 0..count {
-        if !entry_met(counts, arities, starts, table, &rows, i, index, work, n) {
+        if !entry_met(counts, arities, starts, table, rows, i, index, work, n) {
             return false;
         }
     }

@@ -1,5 +1,4 @@
 // Interference: whether two events of a step have literals of one fact that may not stand together.
-use events::Waiting;
 use events::facts::bound_row;
 use events::facts::clause_for;
 use events::facts::time_at;
@@ -161,20 +160,21 @@ fn step_words(
     arities: &[u8],
     starts: &[usize],
     table: &[u8],
-    waiting: Waiting,
+    moments: &[u8],
+    rows: &[u8],
+    count: usize,
     words: &mut [u64],
     clauses: &mut [u8],
     ends: &mut [usize],
 ) -> usize
-    requires { ⌜ Ready counts (now arities) (now starts) (now table) × (waiting .count ≤ 16) × (length (now words) ≡ 1024) × (length (now clauses) ≡ 1024) × (length (now ends) ≡ 16) ⌝ }
-    ensures few { λ r. ⌜ (r ≤ 1024) × ((i : ℕ) → i < waiting .count → getD (now (ends .exit)) i 0 ≤ 1024) ⌝ }
+    requires { ⌜ Ready counts (now arities) (now starts) (now table) × (count ≤ 16) × (length (now words) ≡ 1024) × (length (now clauses) ≡ 1024) × (length (now ends) ≡ 16)
+        × (length (now moments) ≡ 16) × (length (now rows) ≡ 272) ⌝ }
+    ensures few { λ r. ⌜ (r ≤ 1024) × ((i : ℕ) → i < count → getD (now (ends .exit)) i 0 ≤ 1024) ⌝ }
     ensures laid { λ r. ⌜ ((D : Domain) (variables sorts parts : List ℕ) (es : List Event)
-        → Lent D counts (now (arities .entry)) variables sorts (now (starts .entry)) parts (now (table .entry)) → waiting ≡ waitingOf es → EventsFit D es
+        → Lent D counts (now (arities .entry)) variables sorts (now (starts .entry)) parts (now (table .entry))
+        → record { count = count; moments = now (moments .entry); rows = now (rows .entry) } ≡ waitingOf es → EventsFit D es
         → Laid (map (eventMarks D) es) (now (words .exit)) (now (clauses .exit)) (now (ends .exit)) r) ⌝ }
 {
-    let count = waiting.count;
-    let moments = waiting.moments;
-    let rows = waiting.rows;
     let mut n = 0;
     for i in 0..count {
         n = event_words(
@@ -182,8 +182,8 @@ fn step_words(
             arities,
             starts,
             table,
-            &moments,
-            &rows,
+            moments,
+            rows,
             i,
             words,
             clauses,
@@ -256,14 +256,15 @@ pub fn independent(
     arities: &[u8],
     starts: &[usize],
     table: &[u8],
-    waiting: Waiting,
+    moments: &[u8],
+    rows: &[u8],
+    count: usize,
 ) -> bool
-    requires { ⌜ Ready counts (now arities) (now starts) (now table) ⌝ }
+    requires { ⌜ Ready counts (now arities) (now starts) (now table) × (length (now moments) ≡ 16) × (length (now rows) ≡ 272) ⌝ }
     ensures { λ r. ⌜ ((D : Domain) (variables sorts parts : List ℕ) (es : List Event)
-        → Lent D counts (now (arities .entry)) variables sorts (now (starts .entry)) parts (now (table .entry)) → waiting ≡ waitingOf es → EventsFit D es → length es ≤ 16
-        → r ≡ independent D es) ⌝ }
+        → Lent D counts (now (arities .entry)) variables sorts (now (starts .entry)) parts (now (table .entry))
+        → record { count = count; moments = now (moments .entry); rows = now (rows .entry) } ≡ waitingOf es → EventsFit D es → length es ≤ 16 → r ≡ independent D es) ⌝ }
 {
-    let count = waiting.count;
     if 16 < count {
         return false;
     }
@@ -278,7 +279,9 @@ pub fn independent(
         arities,
         starts,
         table,
-        waiting,
+        moments,
+        rows,
+        count,
         &mut words,
         &mut clauses,
         &mut ends,

@@ -44,6 +44,11 @@ flat-rows (suc n) t =
     let e : 8 + 8 * n ≡ 8 * suc n = omega arith in
     ap (λ (l : List ℕ). take 8 t ++ l) (flat-rows n (drop 8 t)) ∙ sym (take-add 8 (8 * n) t) ∙ ap (λ (k : ℕ). take k t) e
 
+pub whole-append : (xs ys : List (List ℕ)) → Whole xs → Whole ys → Whole (xs ++ ys)
+whole-append [] ys v w row m = w row m
+whole-append (x ∷ xs) ys v w row (List·Memᴰ·head e) = v row (List·Memᴰ·head e)
+whole-append (x ∷ xs) ys v w row (List·Memᴰ·tail m) = whole-append xs ys (λ r k. v r (List·Memᴰ·tail k)) w row m
+
 pub length-whole : (rows : List (List ℕ)) → Whole rows → length (flat rows) ≡ 8 * length rows
 length-whole rows w = length-flat (λ (row : List ℕ). row) rows w
 
@@ -120,11 +125,6 @@ module _ {rows : List (List ℕ)} {n : ℕ} {out old : List ℕ} (F : Filled row
             ∙ ap₂ (λ (rs : List (List ℕ)) (t : List ℕ). over (flat (rs ++ more)) t) filled-rows (F .bytes)
             ∙ fill-again rows more old;
       }
-    where
-      whole-append : (xs ys : List (List ℕ)) → Whole xs → Whole ys → Whole (xs ++ ys)
-      whole-append [] ys v w row m = w row m
-      whole-append (x ∷ xs) ys v w row (List·Memᴰ·head e) = v row (List·Memᴰ·head e)
-      whole-append (x ∷ xs) ys v w row (List·Memᴰ·tail m) = whole-append xs ys (λ r k. v r (List·Memᴰ·tail k)) w row m
 
 pub filled-own : (n : ℕ) (out : List ℕ) → 8 * n ≤ length out → Filled (rowsIn n out) n out out
 filled-own n out h = record { count = sym (length-rows 8 n out); room = h; whole = rows-whole n out h; bytes = rows-own n out h }

@@ -5,25 +5,23 @@ use mathlib.Core.List.{List, [], _∷_, _++_, map, flatMap, map-append, append-a
 use Prim.Native.Nat.{ℕ, zero, suc, _+_, _-_, _*_, _≤_}
 use native.Mathlib.Omega.{arith}
 use lib.Dec.{eqb}
-use lib.ListN.{length, take, replicate, length-map}
-use lib.Seq.{take-all, take-append-add}
+use lib.ListN.{length, take, drop, replicate, length-map}
+use lib.Seq.{take-all, take-at, take-append-add}
 use Rattle.records.specs.Lists.{filterBy, sameList, elem, distinct, dedup}
 use Rattle.records.specs.Memory.{over}
-use Rattle.records.proofs.Lists.{filter-in, filter-agree}
-use Rattle.records.proofs.Memory.{drop-replicate}
+use Rattle.records.proofs.Lists.{filter-in, filter-agree, dedup-in}
 use Rattle.literals.specs.declared.Clause.the-variants.{Add, Delete}
 use Rattle.literals.specs.Domain.{Fact, sameFact, Domain}
 use Rattle.literals.specs.Table.{rowsIn}
 use Rattle.verdict.specs.Judged.{objectNumbers, factBytes}
 use Rattle.verdict.specs.Machine.{Event, stepFacts, factsAfter}
 use Rattle.store.specs.Index.{Sized, Indexed}
-use Rattle.runs.specs.Play.{heldBytes}
 use Rattle.store.specs.Rows.{factRow}
 use Rattle.effects.specs.Effects.{joinRows, Once, atMost, flat, stepEffects, HoldsAfter}
 use Rattle.events.proofs.FactRows.{same-row}
 use Rattle.effects.proofs.Joins.{outside-map, dedup-map, distinct-map, joined-rows}
 use Rattle.literals.proofs.Rows.{rows-whole}
-use Rattle.effects.proofs.FilledRows.{fill-again, Filled, filled-rows, stays, keptOf, kept-few, behind, most-inside}
+use Rattle.effects.proofs.FilledRows.{Whole, whole-append, length-whole, fill-again, Filled, filled-rows, stays, keptOf, kept-few, behind, most-inside}
 use Rattle.effects.proofs.EffectRows.{step-once, step-elem}
 
 -- ---- the rows of facts
@@ -57,9 +55,10 @@ take-map g zero l = refl
 take-map g (suc n) [] = refl
 take-map {A} {B} g (suc n) (x ∷ xs) = ap {B = List B} (λ l. g x ∷ l) (take-map g n xs)
 
-over-zeros : (n : ℕ) (b : List ℕ) → over b (replicate n 0) ≡ b ++ replicate (n - length b) 0
+-- what is new stands in front
+take-over : (new old : List ℕ) (n : ℕ) → length new ≡ n → take n (over new old) ≡ new
 unfolding over
-over-zeros n b = ap (λ (l : List ℕ). b ++ l) (drop-replicate (length b) n 0)
+take-over new old n e = take-at new (drop (length new) old) n e
 
 -- ---- what the step keeps, and what it leaves
 
@@ -86,6 +85,7 @@ module _ (D : Domain) (fs : List Fact) (es : List Event) where
 pub record Done (keys : ℕ) (parts : List (List ℕ)) (struck work adds : List ℕ) (m n k : ℕ) (out₀ out₁ out₂ index₀ index₁ index₂ : List ℕ) (kept facts : ℕ) : Type 0 where
   pub small : n ≤ 1024
   pub within : 8 * n ≤ length work
+  pub addsWithin : 8 * k ≤ length adds
   pub room : length out₀ ≡ 8192
   pub keptCount : kept ≡ length (keptOf (rowsIn m struck) work n)
   pub keptBytes : out₁ ≡ over (flat (keptOf (rowsIn m struck) work n)) out₀
@@ -116,6 +116,9 @@ module _ {keys : ℕ} {parts : List (List ℕ)} {struck work adds : List ℕ} {m
   all-joined : joinRows (rowsIn kept out₁) (rowsIn k adds) ≡ keptRows ++ newRows
   all-joined = ap (λ (l : List (List ℕ)). joinRows l (rowsIn k adds)) (filled-rows filled) ∙ joined-rows keptRows (rowsIn k adds)
 
+  new-whole : Whole newRows
+  new-whole row i = rows-whole k adds (X .addsWithin) row (dedup-in (sameList eqb) (rowsIn k adds) (filter-in (stays keptRows) (dedup (sameList eqb) (rowsIn k adds)) i .0))
+
   pub after-few : (kept ≤ n) × (kept ≤ facts) × (facts ≤ 1025)
   after-few =
       let q = kept-few (rowsIn m struck) work n in
@@ -132,6 +135,12 @@ module _ {keys : ℕ} {parts : List (List ℕ)} {struck work adds : List ℕ} {m
 
     after-kept : kept ≡ length (filterBy (λ (f : Fact). not (elem sameFact f (stepFacts D es Delete))) fs)
     after-kept = X .keptCount ∙ ap length kept-rows ∙ length-map (keptFacts D fs es) factRow
+
+    after-length : length (factBytes (factsAfter D fs es)) ≡ 8 * length (factsAfter D fs es)
+    after-length =
+        sym (ap length (fact-bytes (factsAfter D fs es)))
+        ∙ length-whole (map factRow (factsAfter D fs es)) (subst Whole (sym all-joined ∙ after-rows) (whole-append keptRows newRows (filled .whole) new-whole))
+        ∙ ap (λ (i : ℕ). 8 * i) (length-map (factsAfter D fs es) factRow)
 
     module _ (arities : List ℕ) (I : Indexed arities keys parts index₀ (map factRow fs)) (S : Sized arities (map factRow (stepEffects D es Add))) where
       kept-held : Indexed arities keys parts index₁ (rowsIn kept out₁)
@@ -155,12 +164,10 @@ module _ {keys : ℕ} {parts : List (List ℕ)} {struck work adds : List ℕ} {m
           ∙ ap (λ (l : List (List ℕ)). over (flat l) out₀) (sym first ∙ ap (take 1024) after-rows ∙ take-map factRow 1024 (factsAfter D fs es))
           ∙ ap (λ (l : List ℕ). over l out₀) (fact-bytes (take 1024 (factsAfter D fs es)))
 
-      after-held : out₀ ≡ replicate 8192 0 → length (factsAfter D fs es) ≤ 1024 → out₂ ≡ heldBytes (factsAfter D fs es)
-      unfolding heldBytes
-      after-held x y =
-          after-written
-          ∙ ap₂ (λ (l : List Fact) (x : List ℕ). over (factBytes l) x) (take-all 1024 (factsAfter D fs es) y) x
-          ∙ over-zeros 8192 (factBytes (factsAfter D fs es))
+      after-held : length (factsAfter D fs es) ≤ 1024 → take (8 * length (factsAfter D fs es)) out₂ ≡ factBytes (factsAfter D fs es)
+      after-held y =
+          ap (take (8 * length (factsAfter D fs es))) (after-written ∙ ap (λ (l : List Fact). over (factBytes l) out₀) (take-all 1024 (factsAfter D fs es) y))
+          ∙ take-over (factBytes (factsAfter D fs es)) out₀ (8 * length (factsAfter D fs es)) after-length
 
       after-indexed : length (factsAfter D fs es) ≤ 1024 → Indexed arities keys parts index₂ (map factRow (factsAfter D fs es))
       after-indexed y =

@@ -4,7 +4,7 @@ use mathlib.Core.Bool.{true, false, _&&_, _||_, not, cond}
 use mathlib.Core.List.{List, [], _∷_, _++_, map, flatMap}
 use Prim.Native.Nat.{ℕ, suc, _*_, _≤_, _<_}
 use lib.Dec.{eqb, ltb}
-use lib.ListN.{length, getD, take, drop, replicate}
+use lib.ListN.{length, getD, take, drop}
 use Rattle.records.specs.Lists.{In, filterBy, countBy, sameList, elem, distinct}
 use Rattle.records.specs.Memory.{over}
 use Rattle.literals.specs.declared.Time.{Time}
@@ -17,10 +17,8 @@ use Rattle.classes.specs.Classes.{own, endsOverAll, overAll, withRole}
 use Rattle.verdict.specs.Binding.{bind}
 use Rattle.verdict.specs.Judged.{factBytes}
 use Rattle.verdict.specs.Machine.{Event, stepFacts, factsAfter}
-use Rattle.runs.specs.Play.{maxEvents, heldBytes}
 use Rattle.store.specs.Index.{Indexed}
 use Rattle.store.specs.Rows.{factRow, hasRow}
-use Rattle.events.specs.declared.Waiting.{Waiting}
 use Rattle.events.specs.Coded.{boundRow, clauseFor}
 use Rattle.effects.specs.declared.After.{After}
 
@@ -78,14 +76,10 @@ unfoldable pub stepEffects : Domain → List Event → Clause → List Fact
 unfolding eventEffects flatMap
 stepEffects D es c = flatMap (λ e. eventEffects D e c) es
 
--- room for them: 64 rows of 8 bytes for each event
-abbrev pub RoomFor : Waiting → List ℕ → Type 0
-RoomFor w out = w .count ≤ maxEvents → 512 * w .count ≤ length out
-
 -- what a step leaves of facts, in a memory that was `old` before: how many are kept and how many there are then, their bytes, and their index
 pub record HoldsAfter (D : Domain) (fs : List Fact) (es : List Event) (arities : List ℕ) (keys : ℕ) (parts : List (List ℕ)) (old : List ℕ) (r : After) (out index : List ℕ) : Type 0 where
   pub kept : r .kept ≡ length (filterBy (λ (f : Fact). not (elem sameFact f (stepFacts D es Delete))) fs)
   pub facts : r .facts ≡ atMost 1024 (length (factsAfter D fs es))
   pub written : out ≡ over (factBytes (take 1024 (factsAfter D fs es))) old
-  pub held : old ≡ replicate 8192 0 → length (factsAfter D fs es) ≤ 1024 → out ≡ heldBytes (factsAfter D fs es)
+  pub held : length (factsAfter D fs es) ≤ 1024 → take (8 * length (factsAfter D fs es)) out ≡ factBytes (factsAfter D fs es)
   pub indexed : length (factsAfter D fs es) ≤ 1024 → Indexed arities keys parts index (map factRow (factsAfter D fs es))

@@ -1,5 +1,4 @@
 // The facts after a step: what it strikes goes out, then what it adds joins, each fact once.
-use events::Waiting;
 use events::facts::bound_row;
 use events::facts::clause_for;
 use events::facts::time_at;
@@ -29,7 +28,7 @@ ghost use Rattle.verdict.specs.Machine.{Event};
 ghost use Rattle.store.specs.Index.{Sized, Indexed};
 ghost use Rattle.store.specs.Rows.{factRow, hasRow};
 ghost use Rattle.events.specs.Coded.{groundRow, waitingOf, GroundFits, EventsFit, Lent, Ready, timeOf};
-ghost use Rattle.effects.specs.Effects.{Once, struckOf, FirstStruck, Marked, RoomFor, HoldsAfter, effectRows, joinRow, joinRows, atMost, flat, eventEffects, stepEffects};
+ghost use Rattle.effects.specs.Effects.{Once, struckOf, FirstStruck, Marked, HoldsAfter, effectRows, joinRow, joinRows, atMost, flat, eventEffects, stepEffects};
 
 // A row behind the first n.
 fn put_row(out: &mut [u8], n: usize, row: [u8; 8])
@@ -41,17 +40,15 @@ fn put_row(out: &mut [u8], n: usize, row: [u8; 8])
     }
 }
 
-// Which third bytes the first m rows have: 1 for each that one of them has.
-fn marks_of(rows: &[u8], m: usize) -> [u8; 256]
-    requires { ⌜ 8 * m ≤ length (now rows) ⌝ }
-    ensures { λ r. ⌜ Marked r (rowsIn m (now (rows .entry))) ⌝ }
+// Marks the third bytes of the first m rows.
+fn put_marks(marks: &mut [u8], rows: &[u8], m: usize)
+    requires { ⌜ (length (now marks) ≡ 256) × (8 * m ≤ length (now rows)) ⌝ }
+    ensures { λ _. ⌜ Marked (now (marks .exit)) (rowsIn m (now (rows .entry))) ⌝ }
 {
-    let mut marks = [0u8; 256];
     for j in 0..m {
         let first = wide(rows[8 * j + 2]);
         marks[first] = 1;
     }
-    marks
 }
 
 // Whether the row at an offset of the work memory is struck; most are told by their third byte, the first argument.
@@ -114,7 +111,8 @@ fn keep_rows(
         → Indexed arities keys (rowsIn components (now (parts .entry))) (now (index .exit)) (filterBy (λ (row : List ℕ). not (hasRow row (rowsIn m (now (struck .entry))))) (rowsIn n (now (work .entry))))) ⌝ }
     ensures beside { λ _. ⌜ getD (now (index .exit)) 12288 0 ≡ getD (now (index .entry)) 12288 0 ⌝ }
 {
-    let marks = marks_of(struck, m);
+    let mut marks = [0u8; 256];
+    put_marks(&mut marks, struck, m);
     let mut k = 0;
     let mut i = 0;
     // Most rows stay, so those between two struck ones are put at once.
@@ -322,23 +320,23 @@ fn step_effects(
     arities: &[u8],
     starts: &[usize],
     table: &[u8],
-    waiting: Waiting,
+    moments: &[u8],
+    events: &[u8],
+    count: usize,
     clause: u8,
     out: &mut [u8],
 ) -> usize
-    requires { ⌜ Ready counts (now arities) (now starts) (now table) × RoomFor waiting (now out) ⌝ }
-    ensures few { λ r. ⌜ (r ≤ 1024) × (8 * r ≤ length (now (out .entry))) ⌝ }
+    requires { ⌜ Ready counts (now arities) (now starts) (now table) × (length (now moments) ≡ 16) × (length (now events) ≡ 272) × (length (now out) ≡ 8192) ⌝ }
+    ensures few { λ r. ⌜ r ≤ 1024 ⌝ }
     ensures effects { λ r. ⌜ ((D : Domain) (variables sorts parts : List ℕ) (es : List Event) (c : Clause)
-        → Lent D counts (now (arities .entry)) variables sorts (now (starts .entry)) parts (now (table .entry)) → waiting ≡ waitingOf es → EventsFit D es → length es ≤ 16
+        → Lent D counts (now (arities .entry)) variables sorts (now (starts .entry)) parts (now (table .entry))
+        → record { count = count; moments = now (moments .entry); rows = now (events .entry) } ≡ waitingOf es → EventsFit D es → length es ≤ 16
         → clause ≡ suc (clauseNumber c)
         → (r ≡ length (stepEffects D es c)) × (rowsIn r (now (out .exit)) ≡ map factRow (stepEffects D es c))) ⌝ }
 {
-    let count = waiting.count;
     if 16 < count {
         return 0;
     }
-    let moments = waiting.moments;
-    let rows = waiting.rows;
     let mut n = 0;
     for i in 0..count {
         n = event_effects(
@@ -346,8 +344,8 @@ fn step_effects(
             arities,
             starts,
             table,
-            &moments,
-            &rows,
+            moments,
+            events,
             i,
             clause,
             out,
@@ -363,13 +361,16 @@ pub struct After {
     pub facts: usize,
 }
 
-// The facts after the waiting events, as below, with room for their effects: what is struck is done with before what is added is written.
-fn facts_in(
+// The facts after the waiting events, at the front of out: the first n rows of the work memory without those that a delete strikes, then what is added, each fact once; not beyond 1,024 facts.
+// `effects` is scratch memory, used twice: what is struck is done with before what is added is written.
+pub fn facts_after(
     counts: Counts,
     arities: &[u8],
     starts: &[usize],
     table: &[u8],
-    waiting: Waiting,
+    moments: &[u8],
+    events: &[u8],
+    count: usize,
     work: &[u8],
     n: usize,
     out: &mut [u8],
@@ -378,16 +379,28 @@ fn facts_in(
     effects: &mut [u8],
 ) -> After
     requires { ⌜ Ready counts (now arities) (now starts) (now table) × (n ≤ 1024) × (8 * n ≤ length (now work)) × (length (now out) ≡ 8192)
-        × (length (now parts) ≡ 128) × (counts .components ≤ 16) × (counts .keys ≤ 6) × (length (now index) ≡ 12289) × Once (rowsIn n (now work)) × RoomFor waiting (now effects) ⌝ }
+        × (length (now parts) ≡ 128) × (counts .components ≤ 16) × (counts .keys ≤ 6) × (length (now index) ≡ 12289) × Once (rowsIn n (now work))
+        × (length (now moments) ≡ 16) × (length (now events) ≡ 272) × (length (now effects) ≡ 8192) ⌝ }
     ensures few { λ r. ⌜ (r .kept ≤ n) × (r .kept ≤ r .facts) × (r .facts ≤ 1025) ⌝ }
     ensures after { λ r. ⌜ ((D : Domain) (variables sorts components : List ℕ) (es : List Event) (fs : List Fact)
-        → Lent D counts (now (arities .entry)) variables sorts (now (starts .entry)) components (now (table .entry)) → waiting ≡ waitingOf es → EventsFit D es → length es ≤ 16
+        → Lent D counts (now (arities .entry)) variables sorts (now (starts .entry)) components (now (table .entry))
+        → record { count = count; moments = now (moments .entry); rows = now (events .entry) } ≡ waitingOf es → EventsFit D es → length es ≤ 16
         → rowsIn n (now (work .entry)) ≡ map factRow fs
         → Indexed (now (arities .entry)) (counts .keys) (rowsIn (counts .components) (now (parts .entry))) (now (index .entry)) (map factRow fs)
         → HoldsAfter D fs es (now (arities .entry)) (counts .keys) (rowsIn (counts .components) (now (parts .entry))) (now (out .entry)) r (now (out .exit)) (now (index .exit))) ⌝ }
     ensures beside { λ _. ⌜ getD (now (index .exit)) 12288 0 ≡ getD (now (index .entry)) 12288 0 ⌝ }
 {
-    let m = step_effects(counts, arities, starts, table, waiting, 4, effects);
+    let m = step_effects(
+        counts,
+        arities,
+        starts,
+        table,
+        moments,
+        events,
+        count,
+        4,
+        effects,
+    );
     let kept = keep_rows(
         work,
         n,
@@ -399,7 +412,17 @@ fn facts_in(
         counts.components,
         counts.keys,
     );
-    let k = step_effects(counts, arities, starts, table, waiting, 3, effects);
+    let k = step_effects(
+        counts,
+        arities,
+        starts,
+        table,
+        moments,
+        events,
+        count,
+        3,
+        effects,
+    );
     let facts = join_rows(
         effects,
         k,
@@ -411,60 +434,4 @@ fn facts_in(
         counts.keys,
     );
     After { kept, facts }
-}
-
-// The facts after the waiting events, at the front of out: the first n rows of the work memory without those that a delete strikes, then what is added, each fact once; not beyond 1,024 facts.
-pub fn facts_after(
-    counts: Counts,
-    arities: &[u8],
-    starts: &[usize],
-    table: &[u8],
-    waiting: Waiting,
-    work: &[u8],
-    n: usize,
-    out: &mut [u8],
-    parts: &[u8],
-    index: &mut [u64],
-) -> After
-    requires { ⌜ Ready counts (now arities) (now starts) (now table) × (n ≤ 1024) × (8 * n ≤ length (now work)) × (length (now out) ≡ 8192)
-        × (length (now parts) ≡ 128) × (counts .components ≤ 16) × (counts .keys ≤ 6) × (length (now index) ≡ 12289) × Once (rowsIn n (now work)) ⌝ }
-    ensures few { λ r. ⌜ (r .kept ≤ n) × (r .kept ≤ r .facts) × (r .facts ≤ 1025) ⌝ }
-    ensures after { λ r. ⌜ ((D : Domain) (variables sorts components : List ℕ) (es : List Event) (fs : List Fact)
-        → Lent D counts (now (arities .entry)) variables sorts (now (starts .entry)) components (now (table .entry)) → waiting ≡ waitingOf es → EventsFit D es → length es ≤ 16
-        → rowsIn n (now (work .entry)) ≡ map factRow fs
-        → Indexed (now (arities .entry)) (counts .keys) (rowsIn (counts .components) (now (parts .entry))) (now (index .entry)) (map factRow fs)
-        → HoldsAfter D fs es (now (arities .entry)) (counts .keys) (rowsIn (counts .components) (now (parts .entry))) (now (out .entry)) r (now (out .exit)) (now (index .exit))) ⌝ }
-    ensures beside { λ _. ⌜ getD (now (index .exit)) 12288 0 ≡ getD (now (index .entry)) 12288 0 ⌝ }
-{
-    // Most steps have one event, and a small array is cleared sooner.
-    if waiting.count <= 1 {
-        let mut effects = [0u8; 512];
-        return facts_in(
-            counts,
-            arities,
-            starts,
-            table,
-            waiting,
-            work,
-            n,
-            out,
-            parts,
-            index,
-            &mut effects,
-        );
-    }
-    let mut effects = [0u8; 8192];
-    facts_in(
-        counts,
-        arities,
-        starts,
-        table,
-        waiting,
-        work,
-        n,
-        out,
-        parts,
-        index,
-        &mut effects,
-    )
 }

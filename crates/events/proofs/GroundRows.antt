@@ -16,8 +16,7 @@ use Rattle.literals.proofs.Rows.{first-at}
 use Rattle.classes.specs.Coded.{position}
 use Rattle.classes.proofs.KeyRows.{place-le, length-rows}
 use Rattle.events.specs.declared.Open.{Open}
-use Rattle.events.specs.declared.openings.Opened.{Opened}
-use Rattle.events.specs.Coded.{groundsIn, EventRow, eventsIn, endOpen, withoutEntry, closeEntry, closeEvent, closeEvents, joinEntry, opensBy, joinEvent, joinEvents}
+use Rattle.events.specs.Coded.{groundsIn, EventRow, eventsIn, endOpen, withoutEntry, closeEntry, closeEvent, closeEvents, joinEntry, opensBy, joinEvent, joinEvents, Opened}
 use Rattle.store.specs.Rows.{hasRow}
 
 -- a part of 17 bytes

@@ -24,7 +24,6 @@ use Rattle.verdict.specs.Machine.{GroundAction, Event}
 use Rattle.store.specs.Rows.{hasRow}
 use Rattle.events.specs.declared.Open.{Open}
 use Rattle.events.specs.declared.Waiting.{Waiting}
-use Rattle.events.specs.declared.openings.Opened.{Opened}
 
 -- ---- rows
 
@@ -158,6 +157,11 @@ joinEntry row o = record { count = o .count + 1; rows = paste (o .rows) (17 * o 
 -- an event of this moment and action is the start of a lasting action
 unfoldable pub opensBy : List ℕ → ℕ → ℕ → ℕ → Bool
 opensBy sorts actions moment action = not (eqb moment 1) && ltb action actions && eqb (getD sorts action 0) 1
+
+-- what a step leaves open, where it fits
+pub record Opened : Type 0 where
+  pub fits : Bool
+  pub running : Open
 
 -- the entry of such a start joins, where there is room for it
 unfoldable pub joinEvent : List ℕ → ℕ → EventRow → Open → Opened

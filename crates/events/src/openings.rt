@@ -1,6 +1,4 @@
 // The list of open lasting actions: which ends are open, and what a step leaves of it. An entry is a row of 17 bytes: action, objects, FF to fill.
-use super::Open;
-use super::Waiting;
 use super::waits::put_bytes;
 ghost use mathlib.Core.Path.{_≡_};
 ghost use mathlib.Core.Bool.{true};
@@ -17,16 +15,10 @@ ghost use Rattle.verdict.specs.Machine.{GroundAction, Event, isOpen, closeAll, 
 ghost use Rattle.events.specs.Coded.{groundsIn, openOf, waitingOf, GroundsFit, EventsFit, eventsIn, endOpen, closeEntry, closeEvent, closeEvents, joinEntry, opensBy, joinEvent, joinEvents};
 ghost use Rattle.store.specs.Rows.{hasRow};
 
-// What a step leaves open, where it fits.
-pub struct Opened {
-    pub fits: bool,
-    pub running: Open,
-}
-
 // How many entries there are after starts joined, where they fit.
-struct Joined {
-    fits: bool,
-    count: usize,
+pub struct Joined {
+    pub fits: bool,
+    pub count: usize,
 }
 
 // Whether the entry at an offset is this one.
@@ -96,23 +88,20 @@ fn all_open(rows: &[u8], n: usize, moments: &[u8], events: &[u8], count: usize) 
     true
 }
 
-// Whether every end of the step is open.
-pub fn ends_open(running: Open, waiting: Waiting) -> bool
+// Whether every end of the step is open, by the entries and events of which there are so many.
+pub fn ends_open(rows: &[u8], n: usize, moments: &[u8], events: &[u8], count: usize) -> bool
+    requires { ⌜ (length (now rows) ≡ 544) × (length (now moments) ≡ 16) × (length (now events) ≡ 272) ⌝ }
     ensures { λ r. ⌜ ((D : Domain) (gs : List GroundAction) (es : List Event) → Bounded D → GroundsFit D gs → EventsFit D es → length gs ≤ 32 → length es ≤ 16
-        → running ≡ openOf gs → waiting ≡ waitingOf es → r ≡ all (isOpen gs) es) ⌝ }
+        → record { count = n; rows = now (rows .entry) } ≡ openOf gs
+        → record { count = count; moments = now (moments .entry); rows = now (events .entry) } ≡ waitingOf es → r ≡ all (isOpen gs) es) ⌝ }
 {
-    let n = running.count;
     if 32 < n {
         return false;
     }
-    let count = waiting.count;
     if 16 < count {
         return false;
     }
-    let rows = running.rows;
-    let moments = waiting.moments;
-    let events = waiting.rows;
-    all_open(&rows, n, &moments, &events, count)
+    all_open(rows, n, moments, events, count)
 }
 
 // Whether an event of this moment and action is the start of a lasting action.
@@ -255,41 +244,36 @@ fn join_all(
     }
 }
 
-impl Open {
-    // The list after a step: ends leave it, starts of lasting actions join it.
-    pub fn after(self, waiting: Waiting, sorts: &[u8], actions: usize) -> Opened
-        requires { ⌜ actions ≤ length (now sorts) ⌝ }
-        ensures { λ r. ⌜ ((D : Domain) (index : Index) (gs : List GroundAction) (es : List Event) → Holds D index
-            → index .sorts ≡ now (sorts .entry) → index .actions ≡ actions → GroundsFit D gs → EventsFit D es → length gs ≤ 32 → length es ≤ 16
-            → self ≡ openOf gs → waiting ≡ waitingOf es
-            → (r .fits ≡ leb (length (closeAll es gs ++ openedBy D es)) 32) × (r .fits ≡ true → r .running ≡ openOf (closeAll es gs ++ openedBy D es))) ⌝ }
-    {
-        let count = waiting.count;
-        if 16 < count {
-            return Opened {
-                fits: false,
-                running: self,
-            };
-        }
-        let n = self.count;
-        if 32 < n {
-            return Opened {
-                fits: false,
-                running: self,
-            };
-        }
-        let moments = waiting.moments;
-        let events = waiting.rows;
-        let mut rows = self.rows;
-        let left = close_all(&mut rows, n, &moments, &events, count);
-        let joined = join_all(&mut rows, left, sorts, actions, &moments, &events, count);
-        let running = Open {
-            count: joined.count,
-            rows,
+// The entries after a step, in place of those before it: ends leave the list, starts of lasting actions join it. Where they do not fit, what is left there is of no use.
+pub fn open_after(
+    rows: &mut [u8],
+    n: usize,
+    moments: &[u8],
+    events: &[u8],
+    count: usize,
+    sorts: &[u8],
+    actions: usize,
+) -> Joined
+    requires { ⌜ (length (now rows) ≡ 544) × (length (now moments) ≡ 16) × (length (now events) ≡ 272) × (actions ≤ length (now sorts)) ⌝ }
+    ensures { λ r. ⌜ ((D : Domain) (index : Index) (gs : List GroundAction) (es : List Event) → Holds D index
+        → index .sorts ≡ now (sorts .entry) → index .actions ≡ actions → GroundsFit D gs → EventsFit D es → length gs ≤ 32 → length es ≤ 16
+        → record { count = n; rows = now (rows .entry) } ≡ openOf gs
+        → record { count = count; moments = now (moments .entry); rows = now (events .entry) } ≡ waitingOf es
+        → (r .fits ≡ leb (length (closeAll es gs ++ openedBy D es)) 32)
+        × (r .fits ≡ true → record { count = r .count; rows = now (rows .exit) } ≡ openOf (closeAll es gs ++ openedBy D es))) ⌝ }
+{
+    if 16 < count {
+        return Joined {
+            fits: false,
+            count: n,
         };
-        Opened {
-            fits: joined.fits,
-            running,
-        }
     }
+    if 32 < n {
+        return Joined {
+            fits: false,
+            count: n,
+        };
+    }
+    let left = close_all(rows, n, moments, events, count);
+    join_all(rows, left, sorts, actions, moments, events, count)
 }

@@ -4,7 +4,7 @@ use super::Waiting;
 ghost use mathlib.Core.Path.{_≡_};
 ghost use mathlib.Core.List.{List, [], _∷_, _++_};
 ghost use Prim.Native.Nat.{_+_, _*_, _<_, _≤_};
-ghost use lib.ListN.{length};
+ghost use lib.ListN.{length, replicate};
 ghost use lib.Seq.{paste};
 ghost use Rattle.literals.specs.Domain.{Domain};
 ghost use Rattle.literals.specs.Table.{Bounded};
@@ -19,6 +19,16 @@ pub fn put_bytes(out: &mut [u8], at: usize, p: &[u8])
 {
     for i in 0..p.len() {
         out[at + i] = p[i];
+    }
+}
+
+// So many zeros, written at an offset.
+pub fn put_zeros(out: &mut [u8], at: usize, n: usize)
+    requires { ⌜ at + n ≤ length (now out) ⌝ }
+    ensures { λ _. ⌜ now (out .exit) ≡ paste (now (out .entry)) at (replicate n 0) n ⌝ }
+{
+    for i in 0..n {
+        out[at + i] = 0;
     }
 }
 

@@ -1,12 +1,11 @@
 -- The step's close: what forbids it, what is too large, and what it leaves. Assumes nothing.
-use mathlib.Core.Path.{_≡_, refl, sym, ap, _∙_}
+use mathlib.Core.Path.{_≡_, refl, sym, ap, ap₂, _∙_, subst}
 use mathlib.Core.Bool.{Bool, true, false, _&&_, not, cond}
 use mathlib.Core.List.{List, [], _++_, map}
-use Prim.Native.Nat.{ℕ, _≤_, _<_, max}
+use Prim.Native.Nat.{ℕ, _-_, _*_, _≤_, _<_, max}
 use native.Mathlib.Omega.{arith}
 use lib.Dec.{eqb, ltb, leb}
-use lib.ListN.{length}
-use lib.Seq.{paste}
+use lib.ListN.{length, take, replicate}
 use borrow.Author.Tests.{ne-eqb, lt-ltb, le-ltb, ltb-true, leb-true, leb-false}
 use Rattle.records.specs.Lists.{In, filterBy, all, elem}
 use Rattle.records.specs.Memory.{over}
@@ -14,6 +13,7 @@ use Rattle.records.proofs.Lists.{or-l, or-r}
 use Rattle.literals.specs.declared.Clause.the-variants.{Delete}
 use Rattle.literals.specs.Domain.{Fact, sameFact, Domain}
 use Rattle.literals.specs.Table.{rowsIn, Bounded}
+use Rattle.verdict.specs.Judged.{factBytes}
 use Rattle.verdict.specs.Machine.{GroundAction, Event, State, isOpen, conditionsHold, overAllHold, independent, stepFacts, factsAfter, closeAll, openedBy, next, topWeight}
 use Rattle.store.specs.Index.{Indexed}
 use Rattle.events.specs.declared.Open.{Open}
@@ -23,8 +23,8 @@ use Rattle.runs.specs.Play.{maxFacts, maxRunning, forbidden, tooLarge, heldByte
 use Rattle.store.specs.Rows.{factRow, topFrom, FactFits}
 use Rattle.events.specs.Coded.{openOf, waitingOf}
 use Rattle.effects.specs.Effects.{atMost}
-use Rattle.machine.specs.Stepping.{holdingOf, Kept, closeStop, closeState, closeWaiting, closeWeight, Leaves}
-use Rattle.machine.proofs.HeldBytes.{fits-few, held-rows, held-anew}
+use Rattle.machine.specs.Stepping.{holdingOf, Kept, closeStop, closeState, closeWaiting, closeWeight, thenHeld, Leaves}
+use Rattle.machine.proofs.HeldBytes.{fits-few, held-settled, work-rows}
 use Rattle.machine.proofs.TopWeights.{top-after}
 use Rattle.machine.proofs.NextKept.{kept-next}
 
@@ -126,9 +126,9 @@ module _ (D : Domain) (B : Bounded D) (s : State) (es : List Event) (old : List 
   abbrev running : List GroundAction
   running = closeAll es (s .running) ++ openedBy D es
 
-  holding-next : (n : ℕ) (o : Open) (v : Waiting) → n ≡ length after → o ≡ openOf running → v ≡ waitingOf [] → record { facts = n; running = o; waiting = v } ≡ holdingOf (next D s es) []
+  holding-next : (n : ℕ) (o : Open) → n ≡ length after → o ≡ openOf running → record { facts = n; running = o; waiting = waitingOf [] } ≡ holdingOf (next D s es) []
   unfolding next
-  holding-next n o v e f g i = record { facts = e i; running = f i; waiting = g i }
+  holding-next n o e f i = record { facts = e i; running = f i; waiting = waitingOf [] }
 
   facts-next : next D s es .facts ≡ after
   unfolding next
@@ -157,27 +157,42 @@ module _ (D : Domain) (B : Bounded D) (s : State) (es : List Event) (old : List 
     pub taken-indexed : (arities : List ℕ) (keys : ℕ) (parts : List (List ℕ)) (index : List ℕ) → Indexed arities keys parts index (map factRow after) → Indexed arities keys parts index (map factRow (closeState D s es .facts))
     taken-indexed arities keys parts index h = rw facts-taken h
 
-    module _ (memory : List ℕ) (m : memory ≡ heldBytes after) where
-      pub memory-rows : rowsIn n memory ≡ map factRow after
-      memory-rows = ap (λ (k : ℕ). rowsIn k memory) size-is ∙ ap (rowsIn (length after)) m ∙ held-rows after (fits-few B after after-fits)
+    -- the rows that are put together beside the work memory, put there
+    module _ (work work′ memory : List ℕ) (held : ℕ) (he : held ≡ length (s .facts)) (b : work ≡ over (heldBytes (s .facts)) old) (m : take (8 * length after) memory ≡ factBytes after)
+        (be : work′ ≡ over (take (8 * n) memory ++ replicate (8 * held - 8 * n) 0) work) where
+      pub work-taken : work′ ≡ over (heldBytes after) old
+      work-taken =
+          be
+          ∙ ap₂ (λ (k h : ℕ). over (take (8 * k) memory ++ replicate (8 * h - 8 * k) 0) work) size-is he
+          ∙ ap₂ (λ (t x : List ℕ). over (t ++ replicate (8 * length (s .facts) - 8 * length after) 0) x) m b
+          ∙ held-settled (s .facts) after (fits-few B (s .facts) (kept .facts)) (fits-few B after after-fits) (kept .facts-few) after-few old
 
-      pub memory-indexed : (arities : List ℕ) (keys : ℕ) (parts : List (List ℕ)) (index : List ℕ) → Indexed arities keys parts index (map factRow after) → Indexed arities keys parts index (rowsIn n memory)
-      memory-indexed arities keys parts index h = rw memory-rows h
+      pub taken-rows : rowsIn n work′ ≡ map factRow after
+      taken-rows = ap₂ rowsIn size-is work-taken ∙ work-rows after (fits-few B after after-fits) after-few old
 
-      pub leaves-taken : (o : Open) → o ≡ openOf running → (v : Waiting) → v ≡ waitingOf [] → (weight k : ℕ)
+      pub rows-indexed : (arities : List ℕ) (keys : ℕ) (parts : List (List ℕ)) (index : List ℕ) → Indexed arities keys parts index (map factRow after) → Indexed arities keys parts index (rowsIn n work′)
+      rows-indexed arities keys parts index h = rw taken-rows h
+
+      pub leaves-taken : (o : Open) → o ≡ openOf running → (weight k : ℕ)
           → k ≡ length (filterBy (λ (f : Fact). not (elem sameFact f (stepFacts D es Delete))) (s .facts)) → topWeight D (s .facts) ≤ w → weight ≡ max w (topFrom D after k)
-          → (work work′ : List ℕ) → work ≡ over (heldBytes (s .facts)) old → work′ ≡ paste work 0 memory (length memory)
-          → Leaves D s es old w 0 (record { facts = n; running = o; waiting = v }) weight work′
-      leaves-taken o oe v ve weight k ke under we work work′ b be =
-          let few = fits-few B (s .facts) (kept .facts) in
+          → Leaves D s es old w 0 (record { facts = n; running = o; waiting = waitingOf [] }) weight work′
+      leaves-taken o oe weight k ke under we =
           leaves-next D s es old w free (not-large D s es after-few running-short)
-          (record { facts = n; running = o; waiting = v })
-          (holding-next n o v size-is oe ve)
+          (record { facts = n; running = o; waiting = waitingOf [] })
+          (holding-next n o size-is oe)
           weight
           (we ∙ ap (λ (j : ℕ). max w (topFrom D after j)) ke ∙ sym (top-after D (s .facts) es w under) ∙ sym (ap (λ (fs : List Fact). max w (topWeight D fs)) facts-next))
           work′
-          (be
-          ∙ ap (λ (x : List ℕ). paste x 0 memory (length memory)) b
-          ∙ ap (λ (x : List ℕ). paste (over (heldBytes (s .facts)) old) 0 x (length x)) m
-          ∙ held-anew (s .facts) after few (fits-few B after after-fits) (kept .facts-few) after-few old
-          ∙ sym (ap (λ (fs : List Fact). over (heldBytes fs) old) facts-next))
+          (work-taken ∙ sym (ap (λ (fs : List Fact). over (heldBytes fs) old) facts-next))
+
+-- ---- by what the step that nothing forbids is told
+
+module _ {D : Domain} {s : State} {es : List Event} {old : List ℕ} {w number : ℕ} (facts n : ℕ) (rows : List ℕ) (before : Holding) {weight : ℕ} {work : List ℕ}
+    (l : Leaves D s es old w number (thenHeld number facts n rows before) weight work) where
+  pub held-refused : (number ≡ 0 → ⊥) → Leaves D s es old w number before weight work
+  held-refused z = subst (λ (b : Bool). Leaves D s es old w number (cond b (record { facts = facts; running = record { count = n; rows = rows }; waiting = waitingOf [] }) before) weight work) (ne-eqb number 0 z) l
+
+  pub held-taken : number ≡ 0 → (v : Waiting) → v ≡ waitingOf [] → Leaves D s es old w 0 (record { facts = facts; running = record { count = n; rows = rows }; waiting = v }) weight work
+  held-taken z v e =
+      subst (λ (v : Waiting). Leaves D s es old w 0 (record { facts = facts; running = record { count = n; rows = rows }; waiting = v }) weight work) (sym e)
+      (subst (λ (k : ℕ). Leaves D s es old w k (thenHeld k facts n rows before) weight work) z l)

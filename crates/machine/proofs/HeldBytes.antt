@@ -3,9 +3,10 @@ use mathlib.Core.Path.{_≡_, refl, sym, ap, _∙_, subst}
 use mathlib.Core.List.{List, [], _∷_, _++_, map, flatMap, append-assoc}
 use Prim.Native.Nat.{ℕ, _+_, _-_, _*_, _≤_}
 use native.Mathlib.Omega.{arith}
-use lib.ListN.{length, drop, replicate, length-append, length-replicate}
-use lib.Seq.{paste, take-all, drop-at}
+use lib.ListN.{length, drop, replicate, length-append, length-replicate, replicate-append-replicate}
+use lib.Seq.{drop-append-le, drop-append-add}
 use Rattle.records.specs.Memory.{over}
+use Rattle.records.proofs.Memory.{drop-replicate}
 use Rattle.literals.specs.Domain.{Fact, Domain}
 use Rattle.literals.specs.Table.{rowsIn, Bounded}
 use Rattle.literals.proofs.Bounds.{arity-six}
@@ -41,10 +42,6 @@ module _ (fs : List Fact) (h : Few fs) where
   pub bytes-rows : (rest : List ℕ) → rowsIn (length fs) (factBytes fs ++ rest) ≡ map factRow fs
   bytes-rows rest = ap (λ (b : List ℕ). rowsIn (length fs) (b ++ rest)) (bytes-flat fs) ∙ rows-flat factRow fs rest (λ f m. length-fact-row f (h f m))
 
-  pub held-rows : rowsIn (length fs) (heldBytes fs) ≡ map factRow fs
-  unfolding heldBytes
-  held-rows = bytes-rows (replicate (workBytes - length (factBytes fs)) 0)
-
   module _ (few : length fs ≤ maxFacts) where
     pub length-held : length (heldBytes fs) ≡ workBytes
     unfolding heldBytes
@@ -60,18 +57,33 @@ module _ (fs : List Fact) (h : Few fs) where
         ap (rowsIn (length fs)) (append-assoc (factBytes fs) (replicate (workBytes - length (factBytes fs)) 0) (drop (length (heldBytes fs)) old))
         ∙ bytes-rows (replicate (workBytes - length (factBytes fs)) 0 ++ drop (length (heldBytes fs)) old)
 
--- other facts in their place
-pub held-anew : (fs gs : List Fact) → Few fs → Few gs → length fs ≤ maxFacts → length gs ≤ maxFacts → (old : List ℕ)
-    → paste (over (heldBytes fs) old) 0 (heldBytes gs) (length (heldBytes gs)) ≡ over (heldBytes gs) old
-unfolding over
-held-anew fs gs hf hg kf kg old =
+-- other facts in their place: their bytes, and zeros where there were more
+pub held-settled : (fs gs : List Fact) → Few fs → Few gs → length fs ≤ maxFacts → length gs ≤ maxFacts → (old : List ℕ)
+    → over (factBytes gs ++ replicate (8 * length fs - 8 * length gs) 0) (over (heldBytes fs) old) ≡ over (heldBytes gs) old
+unfolding over heldBytes
+held-settled fs gs hf hg kf kg old =
+    let F : List ℕ = factBytes fs in
+    let G : List ℕ = factBytes gs in
+    let f = length-bytes fs hf in
+    let g = length-bytes gs hg in
     let n = length-held fs hf kf in
     let m = length-held gs hg kg in
-    let t = take-all (length (heldBytes gs)) (heldBytes gs) (omega arith) in
-    let z : 0 + length (heldBytes gs) ≡ length (heldBytes fs) = omega arith in
-    let e : length (heldBytes fs) ≡ length (heldBytes gs) = omega arith in
-    ap (λ (b : List ℕ). b ++ drop (0 + length (heldBytes gs)) (heldBytes fs ++ drop (length (heldBytes fs)) old)) t
-    ∙ ap (λ (b : List ℕ). heldBytes gs ++ b) (ap (λ (k : ℕ). drop k (heldBytes fs ++ drop (length (heldBytes fs)) old)) z ∙ drop-at (heldBytes fs) (drop (length (heldBytes fs)) old) (length (heldBytes fs)) refl ∙ ap (λ (k : ℕ). drop k old) e)
+    let more : ℕ = 8 * length fs - 8 * length gs in
+    let on : ℕ = 8 * length gs + more - 8 * length fs in
+    let left : ℕ = workBytes - length F - on in
+    let rest : List ℕ = drop (length (heldBytes fs)) old in
+    let r = length-replicate {A = ℕ} more 0 in
+    let l = length-append G (replicate more 0) in
+    let k : length (G ++ replicate more 0) ≡ length F + on = omega arith in
+    let e : more + left ≡ workBytes - length G = omega arith in
+    let z : length (heldBytes fs) ≡ length (heldBytes gs) = omega arith in
+    ap (λ (b : List ℕ). (G ++ replicate more 0) ++ b)
+    (ap (λ (j : ℕ). drop j (heldBytes fs ++ rest)) k ∙ drop-append-le (length F + on) (heldBytes fs) rest (omega arith)
+    ∙ ap (λ (b : List ℕ). b ++ rest) (drop-append-add F (replicate (workBytes - length F) 0) on ∙ drop-replicate on (workBytes - length F) 0))
+    ∙ append-assoc G (replicate more 0) (replicate left 0 ++ rest)
+    ∙ ap (λ (b : List ℕ). G ++ b) (sym (append-assoc (replicate more 0) (replicate left 0) rest) ∙ ap (λ (b : List ℕ). b ++ rest) (replicate-append-replicate more left 0 ∙ ap (λ (j : ℕ). replicate j 0) e))
+    ∙ sym (append-assoc G (replicate (workBytes - length G) 0) rest)
+    ∙ ap (λ (j : ℕ). heldBytes gs ++ drop j old) z
 
 -- the rows of the facts that a state of the machine holds in work memory
 pub state-rows : (D : Domain) → Bounded D → (s : State) (es : List Event) → Kept D s es → (holding : Holding) → holding ≡ holdingOf s es → (work old : List ℕ) → work ≡ over (heldBytes (s .facts)) old

@@ -1,5 +1,5 @@
 -- A step without events changes nothing; what stands beside the facts, kept or made anew. Assumes nothing.
-use mathlib.Core.Path.{_≡_, refl, sym, ap, _∙_}
+use mathlib.Core.Path.{_≡_, refl, sym, ap, ap₂, _∙_}
 use mathlib.Core.Bool.{Bool, true, false, not, cond}
 use mathlib.Core.List.{List, [], _∷_, _++_, map, flatMap, append-nil, List·Memᴰ·not-nil}
 use Prim.Native.Nat.{ℕ, _≤_, max}
@@ -18,8 +18,8 @@ use Rattle.machine.specs.declared.State.{State as Holding}
 use Rattle.runs.specs.Play.{maxFacts, maxRunning, tooLarge, heldBytes}
 use Rattle.store.specs.Rows.{factRow}
 use Rattle.events.specs.Coded.{waitingOf}
-use Rattle.machine.specs.Stepping.{holdingOf, Kept, Noted, closeStop, closeState, Leaves}
-use Rattle.machine.proofs.Closing.{not-kept, nothing-forbids, leaves-forbidden, leaves-next}
+use Rattle.machine.specs.Stepping.{holdingOf, Kept, Noted, closeStop, closeState, closeWaiting, closeWeight, Leaves}
+use Rattle.machine.proofs.Closing.{not-kept, nothing-forbids}
 
 none-struck : (fs : List Fact) → all (λ (f : Fact). not (elem sameFact f [])) fs ≡ true
 none-struck [] = refl
@@ -62,26 +62,37 @@ module _ (D : Domain) (s : State) where
       go true = next-none
       go false = refl
 
-  module _ (old : List ℕ) (w : ℕ) (state : Holding) (is : state ≡ holdingOf s []) (work : List ℕ) (m : work ≡ over (heldBytes (s .facts)) old) where
-    -- an over-all condition fails
-    pub unrest : all (overAllHold D (s .facts)) (s .running) ≡ false → Leaves D s [] old w 55 state w work
-    unrest h = leaves-forbidden D s [] old w 55 (not-kept D s [] refl refl h) (λ z. omega arith) state is work m
+  -- an over-all condition fails
+  pub unrest : all (overAllHold D (s .facts)) (s .running) ≡ false → 55 ≡ closeStop D s []
+  unfolding closeStop
+  unrest h = rw (sym (not-kept D s [] refl refl h))
 
-    -- all of them hold
-    pub rests : Kept D s [] → topWeight D (s .facts) ≤ w → all (overAllHold D (s .facts)) (s .running) ≡ true → Leaves D s [] old w 0 state w work
-    rests kept under h =
-        let e = next-none in
-        let small : tooLarge s ≡ false = rw (le-ltb maxFacts (length (s .facts)) (kept .facts-few), le-ltb maxRunning (length (s .running)) (kept .running-few)) in
-        let top : w ≡ max w (topWeight D (s .facts)) = omega arith in
-        leaves-next D s [] old w
-        (sym (nothing-forbids D s [] refl refl h refl))
-        (ap tooLarge e ∙ small)
-        state
-        (is ∙ sym (ap (λ (t : State). holdingOf t []) e))
-        w
-        (top ∙ sym (ap (λ (t : State). max w (topWeight D (t .facts))) e))
-        work
-        (m ∙ sym (ap (λ (t : State). over (heldBytes (t .facts)) old) e))
+  -- all of them hold
+  pub rests : Kept D s [] → all (overAllHold D (s .facts)) (s .running) ≡ true → 0 ≡ closeStop D s []
+  unfolding closeStop
+  rests kept h =
+      let small : tooLarge s ≡ false = rw (le-ltb maxFacts (length (s .facts)) (kept .facts-few), le-ltb maxRunning (length (s .running)) (kept .running-few)) in
+      rw (sym (nothing-forbids D s [] refl refl h refl), ap tooLarge next-none ∙ small)
+
+  -- either way all is left as it was
+  pub rest-leaves : (old : List ℕ) (w : ℕ) → topWeight D (s .facts) ≤ w → (n : ℕ) → n ≡ closeStop D s [] → (state : Holding) → state ≡ holdingOf s []
+      → (work : List ℕ) → work ≡ over (heldBytes (s .facts)) old → Leaves D s [] old w n state w work
+  unfolding closeWaiting closeWeight
+  rest-leaves old w under n e state is work m =
+      record {
+        number-is = e;
+        state-is = is ∙ sym (ap₂ holdingOf rest-state (none-wait (eqb (closeStop D s []) 0)));
+        weight-is = as-before (eqb (closeStop D s []) 0);
+        work-is = m ∙ sym (ap (λ (t : State). over (heldBytes (t .facts)) old) rest-state);
+      }
+    where
+      none-wait : (b : Bool) → cond {A = List Event} b [] [] ≡ []
+      none-wait true = refl
+      none-wait false = refl
+
+      as-before : (b : Bool) → w ≡ cond b (max w (topWeight D (next D s [] .facts))) w
+      as-before true = let top : w ≡ max w (topWeight D (s .facts)) = omega arith in top ∙ sym (ap (λ (t : State). max w (topWeight D (t .facts))) next-none)
+      as-before false = refl
 
 -- ---- what stands beside the facts
 

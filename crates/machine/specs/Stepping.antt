@@ -23,6 +23,15 @@ use Rattle.effects.specs.Effects.{Once}
 abbrev pub holdingOf : State → List Event → Holding
 holdingOf s es = record { facts = length (s .facts); running = openOf (s .running); waiting = waitingOf es }
 
+-- so many facts, so many entries of a memory, and so many events of two
+abbrev pub heldAs : ℕ → ℕ → List ℕ → ℕ → List ℕ → List ℕ → Holding
+heldAs facts n rows count moments events =
+    record {
+      facts = facts;
+      running = record { count = n; rows = rows };
+      waiting = record { count = count; moments = moments; rows = events };
+    }
+
 -- facts, entries and events of the domain, within the player's limits, and no fact twice
 pub record Kept (D : Domain) (s : State) (es : List Event) : Type 0 where
   pub facts : (f : Fact) → In f (s .facts) → FactFits D f
@@ -73,6 +82,10 @@ closeWaiting D s es = cond (eqb (closeStop D s es) 0) [] es
 unfoldable pub closeWeight : Domain → State → List Event → ℕ → ℕ
 unfolding closeStop next topWeight
 closeWeight D s es w = cond (eqb (closeStop D s es) 0) (max w (topWeight D (next D s es .facts))) w
+
+-- what is held after a step that nothing forbids: with 0 so many facts and so many entries of a memory, and no event waits; else what was
+abbrev pub thenHeld : ℕ → ℕ → ℕ → List ℕ → Holding → Holding
+thenHeld number facts n rows before = cond (eqb number 0) (record { facts = facts; running = record { count = n; rows = rows }; waiting = waitingOf [] }) before
 
 -- all that a close leaves, of the highest weight w before it and of work memory that was `old` before the run
 pub record Leaves (D : Domain) (s : State) (es : List Event) (old : List ℕ) (w : ℕ) (number : ℕ) (state : Holding) (weight : ℕ) (work : List ℕ) : Type 0 where

@@ -4,15 +4,18 @@ use applicability::conditions::events_met;
 use applicability::conditions::open_met;
 use applicability::interference::independent;
 use effects::facts_after;
+use events::Open;
 use events::Waiting;
 use events::openings::ends_open;
+use events::openings::open_after;
 use events::waits::put_bytes;
+use events::waits::put_zeros;
 use literals::Counts;
 use store::weighing::top_from;
 ghost use mathlib.Core.Path.{_≡_};
-ghost use mathlib.Core.List.{List, [], map};
-ghost use Prim.Native.Nat.{ℕ, _*_, _<_, _≤_};
-ghost use lib.ListN.{length, getD};
+ghost use mathlib.Core.List.{List, [], _++_, map};
+ghost use Prim.Native.Nat.{ℕ, _-_, _*_, _<_, _≤_};
+ghost use lib.ListN.{length, getD, take, replicate};
 ghost use Rattle.records.specs.Memory.{over};
 ghost use Rattle.literals.specs.Domain.{Domain};
 ghost use Rattle.literals.specs.Table.{rowsIn};
@@ -20,8 +23,8 @@ ghost use Rattle.verdict.specs.Machine.{Event, State as MachineState, topWeight
 ghost use Rattle.store.specs.Index.{Indexed};
 ghost use Rattle.runs.specs.Play.{forbidden, heldBytes};
 ghost use Rattle.store.specs.Rows.{factRow};
-ghost use Rattle.events.specs.Coded.{Lent, Ready};
-ghost use Rattle.machine.specs.Stepping.{holdingOf, Kept, Noted, Closable, closeState, Leaves};
+ghost use Rattle.events.specs.Coded.{openOf, Lent, Ready};
+ghost use Rattle.machine.specs.Stepping.{holdingOf, heldAs, Kept, Noted, Closable, closeStop, closeState, thenHeld, Leaves};
 
 // What closing a step led to: 0 and the state after it, or the number that refuses it and the state as it was; and the highest weight.
 pub struct Closed {
@@ -30,189 +33,198 @@ pub struct Closed {
     pub weight: usize,
 }
 
-impl State {
-    // The number that forbids the step, or 0: an end that is not open, a condition that fails, interference.
-    fn forbidden(
-        self,
-        counts: Counts,
-        arities: &[u8],
-        starts: &[usize],
-        table: &[u8],
-        work: &[u8],
-        index: &[u64],
-    ) -> u64
-        requires { ⌜ Ready counts (now arities) (now starts) (now table) × (self .facts ≤ 1024) × (8 * self .facts ≤ length (now work)) × (length (now index) ≡ 12289) ⌝ }
-        ensures { λ r. ⌜ ((D : Domain) (variables sorts parts : List ℕ) (s : MachineState) (es : List Event)
-            → Lent D counts (now (arities .entry)) variables sorts (now (starts .entry)) parts (now (table .entry)) → Kept D s es → self ≡ holdingOf s es
-            → rowsIn (self .facts) (now (work .entry)) ≡ map factRow (s .facts)
-            → ((keys : ℕ) (rows : List (List ℕ)) → Indexed (now (arities .entry)) keys rows (now (index .entry)) (map factRow (s .facts)) → r ≡ forbidden D s es)) ⌝ }
-    {
-        let running = self.running;
-        let waiting = self.waiting;
-        if !ends_open(running, waiting) {
-            return 57;
-        }
-        if !events_met(
-            counts,
-            arities,
-            starts,
-            table,
-            waiting,
-            index,
-            work,
-            self.facts,
-        ) {
-            return 55;
-        }
-        if !open_met(
-            counts,
-            arities,
-            starts,
-            table,
-            running,
-            index,
-            work,
-            self.facts,
-        ) {
-            return 55;
-        }
-        if !independent(counts, arities, starts, table, waiting) {
-            return 56;
-        }
-        0
-    }
+// What a step that nothing forbids leads to: 0, how many facts are held then and how many entries are open, or 52; and the highest weight.
+struct Advanced {
+    number: u64,
+    facts: usize,
+    open: usize,
+    weight: usize,
+}
 
-    // The state after a step that nothing forbids; 52 where that is too large. The facts are computed beside the work memory and put there at last.
-    fn advance(
-        self,
-        counts: Counts,
-        arities: &[u8],
-        sorts: &[u8],
-        starts: &[usize],
-        parts: &[u8],
-        table: &[u8],
-        work: &mut [u8],
-        weight: usize,
-        index: &mut [u64],
-    ) -> Closed
-        requires { ⌜ Closable counts (now arities) (now sorts) (now starts) (now parts) (now table) self (now work) × (length (now index) ≡ 12289) ⌝ }
-        ensures leaves { λ r. ⌜ ((D : Domain) (variables : List ℕ) (s : MachineState) (es : List Event) (old : List ℕ)
-            → Lent D counts (now (arities .entry)) variables (now (sorts .entry)) (now (starts .entry)) (now (parts .entry)) (now (table .entry)) → Kept D s es → self ≡ holdingOf s es
-            → now (work .entry) ≡ over (heldBytes (s .facts)) old → topWeight D (s .facts) ≤ weight → forbidden D s es ≡ 0
-            → Indexed (now (arities .entry)) (counts .keys) (rowsIn (counts .components) (now (parts .entry))) (now (index .entry)) (map factRow (s .facts))
-            → Leaves D s es old weight (r .number) (r .state) (r .weight) (now (work .exit))) ⌝ }
-        ensures indexed { λ r. ⌜ ((D : Domain) (variables : List ℕ) (s : MachineState) (es : List Event) (old : List ℕ)
-            → Lent D counts (now (arities .entry)) variables (now (sorts .entry)) (now (starts .entry)) (now (parts .entry)) (now (table .entry)) → Kept D s es → self ≡ holdingOf s es
-            → now (work .entry) ≡ over (heldBytes (s .facts)) old → forbidden D s es ≡ 0
-            → Indexed (now (arities .entry)) (counts .keys) (rowsIn (counts .components) (now (parts .entry))) (now (index .entry)) (map factRow (s .facts))
-            → r .number ≡ 0 → Indexed (now (arities .entry)) (counts .keys) (rowsIn (counts .components) (now (parts .entry))) (now (index .exit)) (map factRow (closeState D s es .facts))) ⌝ }
-        ensures beside { λ _. ⌜ getD (now (index .exit)) 12288 0 ≡ getD (now (index .entry)) 12288 0 ⌝ }
-    {
-        let running = self.running;
-        let waiting = self.waiting;
-        let mut memory = [0u8; 8192];
-        let after = facts_after(
-            counts,
-            arities,
-            starts,
-            table,
-            waiting,
-            work,
-            self.facts,
-            &mut memory,
-            parts,
-            index,
-        );
-        let facts = after.facts;
-        if 1024 < facts {
-            return Closed {
-                number: 52,
-                state: self,
-                weight,
-            };
-        }
-        let opened = running.after(waiting, sorts, counts.actions);
-        if !opened.fits {
-            return Closed {
-                number: 52,
-                state: self,
-                weight,
-            };
-        }
-        let running = opened.running;
-        put_bytes(work, 0, &memory);
-        let highest = top_from(
-            parts,
-            counts.components,
-            counts.keys,
-            &memory,
+// The first n rows of a memory in place of the rows that the work memory holds; zeros where it held more.
+fn settle(work: &mut [u8], held: usize, rows: &[u8], n: usize)
+    requires { ⌜ (held ≤ 1024) × (8 * held ≤ length (now work)) × (n ≤ 1024) × (8 * n ≤ length (now work)) × (8 * n ≤ length (now rows)) ⌝ }
+    ensures { λ _. ⌜ now (work .exit) ≡ over (take (8 * n) (now (rows .entry)) ++ replicate (8 * held - 8 * n) 0) (now (work .entry)) ⌝ }
+{
+    let end = 8 * n;
+    put_bytes(work, 0, &rows[..end]);
+    if n < held {
+        put_zeros(work, end, 8 * held - end);
+    }
+}
+
+// The number that forbids a step, or 0: an end that is not open, a condition that fails, interference.
+fn forbidden(
+    counts: Counts,
+    arities: &[u8],
+    starts: &[usize],
+    table: &[u8],
+    rows: &[u8],
+    n: usize,
+    moments: &[u8],
+    events: &[u8],
+    count: usize,
+    index: &[u64],
+    work: &[u8],
+    facts: usize,
+) -> u64
+    requires { ⌜ Ready counts (now arities) (now starts) (now table) × (length (now rows) ≡ 544) × (length (now moments) ≡ 16) × (length (now events) ≡ 272)
+        × (length (now index) ≡ 12289) × (facts ≤ 1024) × (8 * facts ≤ length (now work)) ⌝ }
+    ensures { λ r. ⌜ ((D : Domain) (variables sorts parts : List ℕ) (s : MachineState) (es : List Event)
+        → Lent D counts (now (arities .entry)) variables sorts (now (starts .entry)) parts (now (table .entry)) → Kept D s es
+        → heldAs facts n (now (rows .entry)) count (now (moments .entry)) (now (events .entry)) ≡ holdingOf s es
+        → rowsIn facts (now (work .entry)) ≡ map factRow (s .facts)
+        → ((keys : ℕ) (held : List (List ℕ)) → Indexed (now (arities .entry)) keys held (now (index .entry)) (map factRow (s .facts)) → r ≡ forbidden D s es)) ⌝ }
+{
+    if !ends_open(rows, n, moments, events, count) {
+        return 57;
+    }
+    if !events_met(
+        counts,
+        arities,
+        starts,
+        table,
+        moments,
+        events,
+        count,
+        index,
+        work,
+        facts,
+    ) {
+        return 55;
+    }
+    if !open_met(counts, arities, starts, table, rows, n, index, work, facts) {
+        return 55;
+    }
+    if !independent(counts, arities, starts, table, moments, events, count) {
+        return 56;
+    }
+    0
+}
+
+// The step that nothing forbids: its facts in the work memory and its entries in `rows`; 52 where either are too many, and the work memory is as it was.
+// The facts are put together in `spare` first.
+fn advance(
+    counts: Counts,
+    arities: &[u8],
+    sorts: &[u8],
+    starts: &[usize],
+    parts: &[u8],
+    table: &[u8],
+    rows: &mut [u8],
+    n: usize,
+    moments: &[u8],
+    events: &[u8],
+    count: usize,
+    index: &mut [u64],
+    work: &mut [u8],
+    facts: usize,
+    weight: usize,
+    spare: &mut [u8],
+    effects: &mut [u8],
+) -> Advanced
+    requires { ⌜ Closable counts (now arities) (now sorts) (now starts) (now parts) (now table) (heldAs facts n (now rows) count (now moments) (now events)) (now work)
+        × (length (now index) ≡ 12289) × (length (now rows) ≡ 544) × (length (now moments) ≡ 16) × (length (now events) ≡ 272)
+        × (length (now spare) ≡ 8192) × (length (now effects) ≡ 8192) ⌝ }
+    ensures leaves { λ r. ⌜ ((D : Domain) (variables : List ℕ) (s : MachineState) (es : List Event) (old : List ℕ)
+        → Lent D counts (now (arities .entry)) variables (now (sorts .entry)) (now (starts .entry)) (now (parts .entry)) (now (table .entry)) → Kept D s es
+        → heldAs facts n (now (rows .entry)) count (now (moments .entry)) (now (events .entry)) ≡ holdingOf s es
+        → now (work .entry) ≡ over (heldBytes (s .facts)) old → topWeight D (s .facts) ≤ weight → forbidden D s es ≡ 0
+        → Indexed (now (arities .entry)) (counts .keys) (rowsIn (counts .components) (now (parts .entry))) (now (index .entry)) (map factRow (s .facts))
+        → Leaves D s es old weight (r .number)
+        (thenHeld (r .number) (r .facts) (r .open) (now (rows .exit)) (heldAs facts n (now (rows .entry)) count (now (moments .entry)) (now (events .entry))))
+        (r .weight) (now (work .exit))) ⌝ }
+    ensures indexed { λ r. ⌜ ((D : Domain) (variables : List ℕ) (s : MachineState) (es : List Event) (old : List ℕ)
+        → Lent D counts (now (arities .entry)) variables (now (sorts .entry)) (now (starts .entry)) (now (parts .entry)) (now (table .entry)) → Kept D s es
+        → heldAs facts n (now (rows .entry)) count (now (moments .entry)) (now (events .entry)) ≡ holdingOf s es
+        → now (work .entry) ≡ over (heldBytes (s .facts)) old → forbidden D s es ≡ 0
+        → Indexed (now (arities .entry)) (counts .keys) (rowsIn (counts .components) (now (parts .entry))) (now (index .entry)) (map factRow (s .facts))
+        → r .number ≡ 0 → Indexed (now (arities .entry)) (counts .keys) (rowsIn (counts .components) (now (parts .entry))) (now (index .exit)) (map factRow (closeState D s es .facts))) ⌝ }
+    ensures beside { λ _. ⌜ getD (now (index .exit)) 12288 0 ≡ getD (now (index .entry)) 12288 0 ⌝ }
+{
+    let after = facts_after(
+        counts,
+        arities,
+        starts,
+        table,
+        moments,
+        events,
+        count,
+        work,
+        facts,
+        spare,
+        parts,
+        index,
+        effects,
+    );
+    let then = after.facts;
+    if 1024 < then {
+        return Advanced {
+            number: 52,
             facts,
-            after.kept,
+            open: n,
             weight,
-            index,
-        );
-        Closed {
-            number: 0,
-            state: State {
-                facts,
-                running,
-                waiting: Waiting::none(),
-            },
-            weight: highest,
-        }
+        };
     }
-
-    // Closes a step without events, which changes nothing: the over-all conditions of everything open are asked, unless the index's last number says that they hold.
-    fn rest(
-        self,
-        counts: Counts,
-        arities: &[u8],
-        starts: &[usize],
-        table: &[u8],
-        work: &[u8],
-        weight: usize,
-        index: &mut [u64],
-    ) -> Closed
-        requires { ⌜ Ready counts (now arities) (now starts) (now table) × (self .facts ≤ 1024) × (8 * self .facts ≤ length (now work)) × (length (now index) ≡ 12289) ⌝ }
-        ensures leaves { λ r. ⌜ ((D : Domain) (variables sorts parts : List ℕ) (s : MachineState) (old : List ℕ) (keys : ℕ) (rows : List (List ℕ))
-            → Lent D counts (now (arities .entry)) variables sorts (now (starts .entry)) parts (now (table .entry)) → Kept D s [] → self ≡ holdingOf s []
-            → now (work .entry) ≡ over (heldBytes (s .facts)) old → topWeight D (s .facts) ≤ weight
-            → Noted D (now (arities .entry)) keys rows (now (index .entry)) s
-            → Leaves D s [] old weight (r .number) (r .state) (r .weight) (now (work .entry))) ⌝ }
-        ensures noted { λ r. ⌜ ((D : Domain) (variables sorts parts : List ℕ) (s : MachineState) (old : List ℕ) (keys : ℕ) (rows : List (List ℕ))
-            → Lent D counts (now (arities .entry)) variables sorts (now (starts .entry)) parts (now (table .entry)) → Kept D s [] → self ≡ holdingOf s []
-            → now (work .entry) ≡ over (heldBytes (s .facts)) old
-            → Noted D (now (arities .entry)) keys rows (now (index .entry)) s
-            → r .number ≡ 0 → Noted D (now (arities .entry)) keys rows (now (index .exit)) (closeState D s [])) ⌝ }
-    {
-        let running = self.running;
-        if index[12288] != 1 {
-            if !open_met(
-                counts,
-                arities,
-                starts,
-                table,
-                running,
-                index,
-                work,
-                self.facts,
-            ) {
-                return Closed {
-                    number: 55,
-                    state: self,
-                    weight,
-                };
-            }
-            index[12288] = 1;
-        }
-        Closed {
-            number: 0,
-            state: self,
+    let opened = open_after(rows, n, moments, events, count, sorts, counts.actions);
+    if !opened.fits {
+        return Advanced {
+            number: 52,
+            facts,
+            open: n,
             weight,
-        }
+        };
     }
+    settle(work, facts, spare, then);
+    let highest = top_from(
+        parts,
+        counts.components,
+        counts.keys,
+        work,
+        then,
+        after.kept,
+        weight,
+        index,
+    );
+    Advanced {
+        number: 0,
+        facts: then,
+        open: opened.count,
+        weight: highest,
+    }
+}
 
-    // Closes the step that is read: takes it, or refuses it by 57, 55, 56 or 52 and changes nothing.
+// A step without events, which changes nothing: the over-all conditions of everything open are asked, unless the index's last number says that they hold. 55 where they do not.
+fn rest(
+    counts: Counts,
+    arities: &[u8],
+    starts: &[usize],
+    table: &[u8],
+    rows: &[u8],
+    n: usize,
+    index: &mut [u64],
+    work: &[u8],
+    facts: usize,
+) -> u64
+    requires { ⌜ Ready counts (now arities) (now starts) (now table) × (length (now rows) ≡ 544) × (length (now index) ≡ 12289) × (facts ≤ 1024) × (8 * facts ≤ length (now work)) ⌝ }
+    ensures { λ r. ⌜ ((D : Domain) (variables sorts parts : List ℕ) (s : MachineState) (keys : ℕ) (held : List (List ℕ))
+        → Lent D counts (now (arities .entry)) variables sorts (now (starts .entry)) parts (now (table .entry)) → Kept D s []
+        → record { count = n; rows = now (rows .entry) } ≡ openOf (s .running) → rowsIn facts (now (work .entry)) ≡ map factRow (s .facts)
+        → Noted D (now (arities .entry)) keys held (now (index .entry)) s
+        → (r ≡ closeStop D s []) × (r ≡ 0 → Noted D (now (arities .entry)) keys held (now (index .exit)) (closeState D s []))) ⌝ }
+{
+    if index[12288] != 1 {
+        if !open_met(counts, arities, starts, table, rows, n, index, work, facts) {
+            return 55;
+        }
+        index[12288] = 1;
+    }
+    0
+}
+
+impl State {
+    // Closes the step that is read: takes it, or refuses it by 57, 55, 56 or 52 and changes nothing. `spare` and `effects` are memory to work in.
+    // What is lent on are the memories of one local each: what is lent cannot be told to stay as it is, so a second one would be one copy more.
     pub fn step(
         self,
         counts: Counts,
@@ -224,8 +236,11 @@ impl State {
         work: &mut [u8],
         weight: usize,
         index: &mut [u64],
+        spare: &mut [u8],
+        effects: &mut [u8],
     ) -> Closed
-        requires { ⌜ Closable counts (now arities) (now sorts) (now starts) (now parts) (now table) self (now work) × (length (now index) ≡ 12289) ⌝ }
+        requires { ⌜ Closable counts (now arities) (now sorts) (now starts) (now parts) (now table) self (now work) × (length (now index) ≡ 12289)
+            × (length (now spare) ≡ 8192) × (length (now effects) ≡ 8192) ⌝ }
         ensures leaves { λ r. ⌜ ((D : Domain) (variables : List ℕ) (s : MachineState) (es : List Event) (old : List ℕ)
             → Lent D counts (now (arities .entry)) variables (now (sorts .entry)) (now (starts .entry)) (now (parts .entry)) (now (table .entry)) → Kept D s es → self ≡ holdingOf s es
             → now (work .entry) ≡ over (heldBytes (s .facts)) old → topWeight D (s .facts) ≤ weight
@@ -237,12 +252,44 @@ impl State {
             → Noted D (now (arities .entry)) (counts .keys) (rowsIn (counts .components) (now (parts .entry))) (now (index .entry)) s
             → r .number ≡ 0 → Noted D (now (arities .entry)) (counts .keys) (rowsIn (counts .components) (now (parts .entry))) (now (index .exit)) (closeState D s es)) ⌝ }
     {
+        let running = self.running;
         let waiting = self.waiting;
+        let mut rows = running.rows;
         if waiting.count == 0 {
-            return self.rest(counts, arities, starts, table, work, weight, index);
+            let number = rest(
+                counts,
+                arities,
+                starts,
+                table,
+                &rows,
+                running.count,
+                index,
+                work,
+                self.facts,
+            );
+            return Closed {
+                number,
+                state: self,
+                weight,
+            };
         }
         index[12288] = 0;
-        let number = self.forbidden(counts, arities, starts, table, work, index);
+        let moments = waiting.moments;
+        let events = waiting.rows;
+        let number = forbidden(
+            counts,
+            arities,
+            starts,
+            table,
+            &rows,
+            running.count,
+            &moments,
+            &events,
+            waiting.count,
+            index,
+            work,
+            self.facts,
+        );
         if number != 0 {
             return Closed {
                 number,
@@ -250,16 +297,43 @@ impl State {
                 weight,
             };
         }
-        self.advance(
+        let advanced = advance(
             counts,
             arities,
             sorts,
             starts,
             parts,
             table,
-            work,
-            weight,
+            &mut rows,
+            running.count,
+            &moments,
+            &events,
+            waiting.count,
             index,
-        )
+            work,
+            self.facts,
+            weight,
+            spare,
+            effects,
+        );
+        if advanced.number != 0 {
+            return Closed {
+                number: advanced.number,
+                state: self,
+                weight: advanced.weight,
+            };
+        }
+        Closed {
+            number: 0,
+            state: State {
+                facts: advanced.facts,
+                running: Open {
+                    count: advanced.open,
+                    rows,
+                },
+                waiting: Waiting::none(),
+            },
+            weight: advanced.weight,
+        }
     }
 }

@@ -22,6 +22,7 @@ use Rattle.verdict.specs.Machine.{Event, State, next, topWeight}
 use Rattle.machine.specs.declared.State.{State as Holding}
 use Rattle.events.specs.declared.Waiting.{Waiting}
 use Rattle.player.specs.declared.Player.{Player}
+use Rattle.player.specs.declared.Tally.{Tally as Held}
 use Rattle.player.specs.declared.Turn.{Turn}
 use Rattle.runs.specs.RunFile.{objectsRecord, factRecord, eventRecord, stepRecord, endRecord, otherRecord, runKindOf, factOf, eventOf}
 use Rattle.runs.specs.Play.{objectsStop, factStop, eventStop, stepStop, endStop, playRecord, playFound, playStep, Playing, onward, PlayTurn, goOn, stopAt, startTally, begin, withObjects, joined, withFact, withEvent, withClose, unless, forbidden, tooLarge, accepted, afterStep, closeStep, heldBytes}
@@ -110,6 +111,12 @@ module _ (D : Domain) (p : Playing) (player : Player) (work old : List ℕ) (st 
   -- what work memory has for weighing
   pub facts-rows : Bounded D → rowsIn (player .state .facts) work ≡ map factRow (p .state .facts)
   facts-rows B = state-rows D B (p .state) (p .waiting) (st .sound .kept) (player .state) (state-is D p st) work old (st .memory)
+
+  -- all but the tally stays
+  pub begun-player : (tally : Held) → tally ≡ tallyOf D (begin D p .tally)
+      → record { at = player .at; closed = player .closed; objects = player .objects; state = player .state; tally = tally } ≡ playerOf D (begin D p)
+  unfolding playerOf begin
+  begun-player tally e i = record { at = st .is i .at; closed = st .is i .closed; objects = st .is i .objects; state = st .is i .state; tally = e i }
 
 -- ---- kinds 16 and 20
 

@@ -1,5 +1,5 @@
 -- A domain that is lent, and a player that stands in its run, give the code all that it relies on. Assumes nothing.
-use mathlib.Core.Path.{_≡_, refl, ap, ap₂, _∙_}
+use mathlib.Core.Path.{_≡_, refl, ap, _∙_}
 use mathlib.Core.Bool.{Bool, true, false}
 use mathlib.Core.List.{List, map}
 use Prim.Native.Nat.{ℕ, _*_, _≤_, _<_}
@@ -20,11 +20,10 @@ use Rattle.literals.proofs.Spans.{vars-at}
 use Rattle.verdict.specs.Machine.{Event, State}
 use Rattle.machine.specs.declared.State.{State as Holding}
 use Rattle.player.specs.declared.Player.{Player}
-use Rattle.player.specs.declared.Tally.{Tally}
 use Rattle.runs.specs.Play.{workBytes, maxFacts, Playing, begin, accepted, heldBytes}
 use Rattle.events.specs.Coded.{openOf, waitingOf, Lent, Ready}
 use Rattle.machine.specs.Stepping.{holdingOf, Kept, Closable, Noted}
-use Rattle.player.specs.Player.{tallyOf, playerOf, withTally, Stands, Playable}
+use Rattle.player.specs.Player.{playerOf, Stands, Playable}
 use Rattle.machine.proofs.HeldBytes.{fits-few, length-held, state-once}
 use Rattle.player.proofs.Sound.{sound-begin}
 use Rattle.player.proofs.PlayTurns.{state-is, waiting-are}
@@ -131,36 +130,39 @@ module _ {n : Counts} {arities variables sorts starts parts table : List ℕ} {a
       × (8 * n .components ≤ length parts) × (n .keys ≤ 6) × (length index ≡ 12289)
   fact-shape = let b = begin-shape in (arities-size lent, shape lent .arities, relations-few lent, facts-held, room-now, b .0, b .1, P .index-length)
 
-  pub event-shape : (length variables ≡ 64) × ((i : ℕ) → getD variables i 0 ≤ 16) × (length sorts ≡ 64) × (n .actions ≤ 64) × (player .state .waiting .count ≤ 16)
-  event-shape =
-      let w = waiting-are (P .said) (P .reached) (P .stands) in
-      let k = P .stands .sound .kept .waiting-few in
-      (variables-size lent, variables-few lent, sorts-size lent, actions-few lent, omega arith)
-
-  -- of the tally once the start counts
-  module _ (tally : Tally)
-      (is : (D : Domain) (p : Playing) (stood : Player) (m : Counts) (as′ vs ss ts old : List ℕ) → Holds D (indexWith m as′ vs ss ts parts) → n .components ≡ m .components → n .keys ≡ m .keys → accepts ≡ accepted D
-      → Stands D p stood work old → player .tally ≡ stood .tally → player .state .facts ≡ stood .state .facts → Noted D as′ (n .keys) (rowsIn (n .components) parts) index (p .state) → tally ≡ tallyOf D (begin D p .tally)) where
-    -- the player stands there with it, for every domain that is lent
+  -- of the player once the start counts
+  module _ (begun : Player)
+      (is : (D : Domain) (p : Playing) (m : Counts) (as′ vs ss ts old : List ℕ) → Holds D (indexWith m as′ vs ss ts parts) → n .components ≡ m .components → n .keys ≡ m .keys → accepts ≡ accepted D
+      → Stands D p player work old → Noted D as′ (n .keys) (rowsIn (n .components) parts) index (p .state) → begun ≡ playerOf D (begin D p)) where
+    -- it stands there, for every domain that is lent
     pub stands-begun : (D : Domain) → Lent D n arities variables sorts starts parts table → accepts ≡ accepted D → (q : Playing) (old : List ℕ) → Stands D q player work old
-        → Noted D arities (n .keys) (rowsIn (n .components) parts) index (q .state) → Stands D (begin D q) (withTally player tally) work old
-    unfolding playerOf begin
+        → Noted D arities (n .keys) (rowsIn (n .components) parts) index (q .state) → Stands D (begin D q) begun work old
+    unfolding begin
     stands-begun D L e q old st noted =
         record {
-          is = ap₂ withTally (st .is) (is D q player n arities variables sorts starts old (L .held) refl refl e st refl refl noted);
+          is = is D q n arities variables sorts starts old (L .held) refl refl e st noted;
           memory = st .memory;
           sound = sound-begin D q (st .sound);
         }
 
-    pub step-shape : (behind : ℕ) → player .at < behind → Closable n arities sorts starts parts table (player .state) work × (tally .steps ≤ player .at) × (player .at < behind) × (length index ≡ 12289)
-    unfolding playerOf
+    abbrev here : Stands (P .said) (begin (P .said) (P .reached)) begun work (P .old)
+    here = stands-begun (P .said) lent (P .decided) (P .reached) (P .old) (P .stands) (P .noted)
+
+    pub event-shape : (length variables ≡ 64) × ((i : ℕ) → getD variables i 0 ≤ 16) × (length sorts ≡ 64) × (n .actions ≤ 64) × (begun .state .waiting .count ≤ 16)
+    event-shape =
+        let w = waiting-are (P .said) (begin (P .said) (P .reached)) here in
+        let k = here .sound .kept .waiting-few in
+        (variables-size lent, variables-few lent, sorts-size lent, actions-few lent, omega arith)
+
+    pub step-shape : (behind : ℕ) → player .at < behind → Closable n arities sorts starts parts table (begun .state) work × (begun .tally .steps ≤ begun .at) × (begun .at < behind) × (length index ≡ 12289)
+    unfolding playerOf begin
     step-shape behind l =
-        let here = stands-begun (P .said) lent (P .decided) (P .reached) (P .old) (P .stands) (P .noted) in
-        let a : player .at ≡ begin (P .said) (P .reached) .at = ap (λ (x : Player). x .at) (here .is) in
-        let s : tally .steps ≡ begin (P .said) (P .reached) .tally .steps = ap (λ (x : Player). x .tally .steps) (here .is) in
+        let a : begun .at ≡ P .reached .at = ap (λ (x : Player). x .at) (here .is) in
+        let b : player .at ≡ P .reached .at = ap (λ (x : Player). x .at) (P .stands .is) in
+        let s : begun .tally .steps ≡ begin (P .said) (P .reached) .tally .steps = ap (λ (x : Player). x .tally .steps) (here .is) in
         let k = here .sound .steps in (
-          closable lent (P .table-room) (P .reached .state) (P .reached .waiting) (P .stands .sound .kept) (player .state) (state-is (P .said) (P .reached) (P .stands)) work (P .old) (P .stands .memory) room-now,
+          closable lent (P .table-room) (P .reached .state) (P .reached .waiting) (here .sound .kept) (begun .state) (state-is (P .said) (begin (P .said) (P .reached)) here) work (P .old) (P .stands .memory) room-now,
           omega arith,
-          l,
+          omega arith,
           P .index-length,
         )

@@ -37,11 +37,6 @@ playerOf D p =
       tally = tallyOf D (p .tally);
     }
 
--- the player with another tally
-abbrev pub withTally : Player → Tally → Player
-withTally player tally =
-    record { at = player .at; closed = player .closed; objects = player .objects; state = player .state; tally = tally }
-
 -- ---- what holds wherever playing stands
 
 pub record Sound (D : Domain) (p : Playing) : Type 0 where

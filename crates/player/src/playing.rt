@@ -32,7 +32,7 @@ ghost use Rattle.runs.specs.RunFile.{runKindOf, factOf, eventOf};
 ghost use Rattle.runs.specs.Play.{Playing, beforeRun, goOn, unless, begin, objectsStop, withObjects, factStop, withFact, eventStop, withEvent, stepStop, closeStep, endStop, withClose, accepted as acceptedTemplate, playRecord, playStep};
 ghost use Rattle.events.specs.Coded.{Lent};
 ghost use Rattle.machine.specs.Stepping.{Noted, Closable};
-ghost use Rattle.player.specs.Player.{tallyOf, playerOf, withTally, Stands, Playable, LeadsTo, NotedAfter};
+ghost use Rattle.player.specs.Player.{tallyOf, playerOf, Stands, Playable, LeadsTo, NotedAfter};
 
 // Whether a weight above 1 is a fault from now on: the template is accepted, and the start weights are at most 1.
 fn is_watched(top: usize, accepted: bool) -> bool
@@ -99,10 +99,45 @@ impl Player {
         }
     }
 
-    // The same, going on behind a record with this tally and another state of the machine.
-    fn onward(self, tally: Tally, behind: usize, state: State) -> Player
-        ensures { λ r. ⌜ (r .at ≡ behind) × (r .closed ≡ false) × (r .objects ≡ self .objects) × (r .state ≡ state) × (r .tally ≡ tally) ⌝ }
+    // The same with that tally. (The tally alone goes through the choice there: the state with it would be a copy more for each record.)
+    fn begin(
+        self,
+        components: usize,
+        keys: usize,
+        parts: &[u8],
+        accepted: bool,
+        work: &[u8],
+        index: &[u64],
+    ) -> Player
+        requires { ⌜ (8 * components ≤ length (now parts)) × (keys ≤ 6) × (self .state .facts ≤ 1024) × (8 * self .state .facts ≤ length (now work)) × (length (now index) ≡ 12289) ⌝ }
+        ensures { λ r. ⌜ ((D : Domain) (p : Playing) (counts : Counts) (arities variables sorts starts old : List ℕ) → Holds D (indexWith counts arities variables sorts starts (now (parts .entry)))
+            → components ≡ counts .components → keys ≡ counts .keys → «accepted» ≡ acceptedTemplate D → Stands D p self (now (work .entry)) old
+            → Noted D arities keys (rowsIn components (now (parts .entry))) (now (index .entry)) (p .state) → r ≡ playerOf D (begin D p)) ⌝ }
     {
+        let tally = self.tally.begin(
+            self.state.facts,
+            components,
+            keys,
+            parts,
+            accepted,
+            work,
+            index,
+        );
+        let state = self.state;
+        Player {
+            at: self.at,
+            closed: self.closed,
+            objects: self.objects,
+            state,
+            tally,
+        }
+    }
+
+    // The same, going on behind a record with another state of the machine.
+    fn onward(self, behind: usize, state: State) -> Player
+        ensures { λ r. ⌜ (r .at ≡ behind) × (r .closed ≡ false) × (r .objects ≡ self .objects) × (r .state ≡ state) × (r .tally ≡ self .tally) ⌝ }
+    {
+        let tally = self.tally;
         Player {
             at: behind,
             closed: false,
@@ -171,7 +206,7 @@ impl Player {
         if is_held(index, work, n, row) {
             return Turn {
                 number: 0,
-                player: self.onward(tally, behind, state),
+                player: self.onward(behind, state),
             };
         }
         if 1024 <= n {
@@ -187,14 +222,13 @@ impl Player {
         next.facts = n + 1;
         Turn {
             number: 0,
-            player: self.onward(tally, behind, next),
+            player: self.onward(behind, next),
         }
     }
 
     // Kind 18: an event.
     fn take_event(
         self,
-        tally: Tally,
         counts: Counts,
         variables: &[u8],
         sorts: &[u8],
@@ -203,23 +237,28 @@ impl Player {
     ) -> Turn
         requires { ⌜ (length (now variables) ≡ 64) × ((i : ℕ) → getD (now variables) i 0 ≤ 16) × (length (now sorts) ≡ 64) × (counts .actions ≤ 64) × (self .state .waiting .count ≤ 16) ⌝ }
         ensures { λ r. ⌜ ((D : Domain) (q : Playing) (arities starts parts work old : List ℕ) → Holds D (indexWith counts arities (now (variables .entry)) (now (sorts .entry)) starts parts)
-            → Stands D q (withTally self tally) work old
+            → Stands D q self work old
             → LeadsTo D (unless (eventStop D q (now (p .entry))) q (goOn (withEvent q (eventOf (now (p .entry))) behind))) r work old) ⌝ }
     {
         let state = self.state;
         let waiting = state.waiting;
         let running = state.running;
-        let number = event_stop(counts, variables, sorts, self.objects, waiting, p);
+        let moments = waiting.moments;
+        let events = waiting.rows;
+        let number = event_stop(
+            counts,
+            variables,
+            sorts,
+            self.objects,
+            &moments,
+            &events,
+            waiting.count,
+            p,
+        );
         if number != 0 {
             return Turn {
                 number,
-                player: Player {
-                    at: self.at,
-                    closed: self.closed,
-                    objects: self.objects,
-                    state,
-                    tally,
-                },
+                player: self,
             };
         }
         let ground = ground_row(p);
@@ -231,14 +270,13 @@ impl Player {
         };
         Turn {
             number: 0,
-            player: self.onward(tally, behind, next),
+            player: self.onward(behind, next),
         }
     }
 
     // Kind 19: the step's close. 59 counts and keeps the step.
     fn take_step(
         self,
-        tally: Tally,
         counts: Counts,
         arities: &[u8],
         sorts: &[u8],
@@ -247,29 +285,27 @@ impl Player {
         table: &[u8],
         work: &mut [u8],
         index: &mut [u64],
+        spare: &mut [u8],
+        effects: &mut [u8],
         p: &[u8],
         behind: usize,
     ) -> Turn
-        requires { ⌜ Closable counts (now arities) (now sorts) (now starts) (now parts) (now table) (self .state) (now work) × (tally .steps ≤ self .at) × (self .at < behind) × (length (now index) ≡ 12289) ⌝ }
+        requires { ⌜ Closable counts (now arities) (now sorts) (now starts) (now parts) (now table) (self .state) (now work) × (self .tally .steps ≤ self .at) × (self .at < behind) × (length (now index) ≡ 12289)
+            × (length (now spare) ≡ 8192) × (length (now effects) ≡ 8192) ⌝ }
         ensures { λ r. ⌜ ((D : Domain) (q : Playing) (variables old : List ℕ)
             → Lent D counts (now (arities .entry)) variables (now (sorts .entry)) (now (starts .entry)) (now (parts .entry)) (now (table .entry))
-            → Stands D q (withTally self tally) (now (work .entry)) old → q .tally .begun ≡ true
+            → Stands D q self (now (work .entry)) old → q .tally .begun ≡ true
             → Noted D (now (arities .entry)) (counts .keys) (rowsIn (counts .components) (now (parts .entry))) (now (index .entry)) (q .state)
             → LeadsTo D (unless (stepStop q (now (p .entry))) q (closeStep D q behind)) r (now (work .exit)) old
             × NotedAfter D (now (arities .entry)) (counts .keys) (rowsIn (counts .components) (now (parts .entry))) (now (index .exit)) (unless (stepStop q (now (p .entry))) q (closeStep D q behind))) ⌝ }
     {
+        let tally = self.tally;
         let state = self.state;
         let number = step_stop(self.objects, p);
         if number != 0 {
             return Turn {
                 number,
-                player: Player {
-                    at: self.at,
-                    closed: self.closed,
-                    objects: self.objects,
-                    state,
-                    tally,
-                },
+                player: self,
             };
         }
         let closed = state.step(
@@ -282,6 +318,8 @@ impl Player {
             work,
             tally.weight,
             index,
+            spare,
+            effects,
         );
         let stop = closed.number;
         let next = closed.state;
@@ -289,13 +327,7 @@ impl Player {
         if stop != 0 {
             return Turn {
                 number: stop,
-                player: Player {
-                    at: self.at,
-                    closed: self.closed,
-                    objects: self.objects,
-                    state,
-                    tally,
-                },
+                player: self,
             };
         }
         let counted = Tally {
@@ -331,23 +363,18 @@ impl Player {
     }
 
     // Kind 20: the run's close.
-    fn take_end(self, tally: Tally, p: &[u8], behind: usize) -> Turn
-        ensures { λ r. ⌜ ((D : Domain) (q : Playing) (work old : List ℕ) → Stands D q (withTally self tally) work old
+    fn take_end(self, p: &[u8], behind: usize) -> Turn
+        ensures { λ r. ⌜ ((D : Domain) (q : Playing) (work old : List ℕ) → Stands D q self work old
             → LeadsTo D (unless (endStop q (now (p .entry))) q (goOn (withClose q behind))) r work old) ⌝ }
     {
+        let tally = self.tally;
         let state = self.state;
         let waiting = state.waiting;
         let number = end_stop(self.objects, waiting.count, p);
         if number != 0 {
             return Turn {
                 number,
-                player: Player {
-                    at: self.at,
-                    closed: self.closed,
-                    objects: self.objects,
-                    state,
-                    tally,
-                },
+                player: self,
             };
         }
         Turn {
@@ -375,11 +402,14 @@ impl Player {
         accepted: bool,
         work: &mut [u8],
         index: &mut [u64],
+        spare: &mut [u8],
+        effects: &mut [u8],
         kind: u16,
         p: &[u8],
         behind: usize,
     ) -> Turn
-        requires { ⌜ Playable counts (now arities) (now variables) (now sorts) (now starts) (now parts) (now table) «accepted» self (now work) (now index) × (self .at < behind) ⌝ }
+        requires { ⌜ Playable counts (now arities) (now variables) (now sorts) (now starts) (now parts) (now table) «accepted» self (now work) (now index) × (self .at < behind)
+            × (length (now spare) ≡ 8192) × (length (now effects) ≡ 8192) ⌝ }
         ensures { λ r. ⌜ ((D : Domain) (q : Playing) (old : List ℕ)
             → Lent D counts (now (arities .entry)) (now (variables .entry)) (now (sorts .entry)) (now (starts .entry)) (now (parts .entry)) (now (table .entry))
             → «accepted» ≡ acceptedTemplate D → Stands D q self (now (work .entry)) old
@@ -391,8 +421,7 @@ impl Player {
             16 => self.take_objects(p, behind),
             17 => self.take_fact(counts, arities, parts, work, index, p, behind),
             18 => {
-                let tally = self.tally.begin(
-                    self.state.facts,
+                let begun = self.begin(
                     counts.components,
                     counts.keys,
                     parts,
@@ -400,11 +429,10 @@ impl Player {
                     work,
                     index,
                 );
-                self.take_event(tally, counts, variables, sorts, p, behind)
+                begun.take_event(counts, variables, sorts, p, behind)
             }
             19 => {
-                let tally = self.tally.begin(
-                    self.state.facts,
+                let begun = self.begin(
                     counts.components,
                     counts.keys,
                     parts,
@@ -412,8 +440,7 @@ impl Player {
                     work,
                     index,
                 );
-                self.take_step(
-                    tally,
+                begun.take_step(
                     counts,
                     arities,
                     sorts,
@@ -422,13 +449,14 @@ impl Player {
                     table,
                     work,
                     index,
+                    spare,
+                    effects,
                     p,
                     behind,
                 )
             }
             20 => {
-                let tally = self.tally.begin(
-                    self.state.facts,
+                let begun = self.begin(
                     counts.components,
                     counts.keys,
                     parts,
@@ -436,7 +464,7 @@ impl Player {
                     work,
                     index,
                 );
-                self.take_end(tally, p, behind)
+                begun.take_end(p, behind)
             }
             _ => Turn {
                 number: 50,
@@ -459,8 +487,10 @@ impl Player {
         run: &[u8],
         work: &mut [u8],
         index: &mut [u64],
+        spare: &mut [u8],
+        effects: &mut [u8],
     ) -> Turn
-        requires { ⌜ Playable counts (now arities) (now variables) (now sorts) (now starts) (now parts) (now table) «accepted» self (now work) (now index) ⌝ }
+        requires { ⌜ Playable counts (now arities) (now variables) (now sorts) (now starts) (now parts) (now table) «accepted» self (now work) (now index) × (length (now spare) ≡ 8192) × (length (now effects) ≡ 8192) ⌝ }
         ensures { λ r. ⌜ ((D : Domain) (q : Playing) (old : List ℕ)
             → Lent D counts (now (arities .entry)) (now (variables .entry)) (now (sorts .entry)) (now (starts .entry)) (now (parts .entry)) (now (table .entry))
             → «accepted» ≡ acceptedTemplate D → Stands D q self (now (work .entry)) old
@@ -495,6 +525,8 @@ impl Player {
                     accepted,
                     work,
                     index,
+                    spare,
+                    effects,
                     kind,
                     &run[start..end],
                     end,

@@ -7,7 +7,7 @@ use literals::Counts;
 ghost use mathlib.Core.Path.{_≡_};
 ghost use mathlib.Core.List.{List, []};
 ghost use Prim.Native.Nat.{ℕ};
-ghost use lib.ListN.{replicate};
+ghost use lib.ListN.{length, replicate};
 ghost use Rattle.records.specs.Memory.{over};
 ghost use Rattle.literals.specs.Domain.{Domain};
 ghost use Rattle.runs.specs.Play.{accepted as acceptedTemplate, heldBytes, playRun};
@@ -34,7 +34,7 @@ fn ended_by(number: u64, at: usize, tally: Tally) -> Ended
     }
 }
 
-// The records of a run file, where the work memory holds no fact yet.
+// The records of a run file, where the work memory holds no fact yet. `spare` and `effects` are memory for each step to work in.
 fn play_records(
     counts: Counts,
     arities: &[u8],
@@ -47,8 +47,11 @@ fn play_records(
     run: &[u8],
     work: &mut [u8],
     index: &mut [u64],
+    spare: &mut [u8],
+    effects: &mut [u8],
 ) -> Ended
-    requires { ⌜ Runnable counts (now arities) (now variables) (now sorts) (now starts) (now parts) (now table) «accepted» (now work) × (now work ≡ over (heldBytes []) (now work)) × (now index ≡ replicate 12289 0) ⌝ }
+    requires { ⌜ Runnable counts (now arities) (now variables) (now sorts) (now starts) (now parts) (now table) «accepted» (now work) × (now work ≡ over (heldBytes []) (now work)) × (now index ≡ replicate 12289 0)
+        × (length (now spare) ≡ 8192) × (length (now effects) ≡ 8192) ⌝ }
     ensures { λ r. ⌜ ((D : Domain) (old : List ℕ)
         → Lent D counts (now (arities .entry)) (now (variables .entry)) (now (sorts .entry)) (now (starts .entry)) (now (parts .entry)) (now (table .entry))
         → «accepted» ≡ acceptedTemplate D → now (work .entry) ≡ over (heldBytes []) old
@@ -73,6 +76,8 @@ fn play_records(
             run,
             work,
             index,
+            spare,
+            effects,
         );
         let number = turn.number;
         if number == 0 {
@@ -106,6 +111,9 @@ pub fn play_run(
     let zeros = [0u8; 8192];
     put_bytes(work, 0, &zeros);
     let mut index = [0u64; 12289];
+    // Memory that each step works in: cleared here once and for all.
+    let mut spare = [0u8; 8192];
+    let mut effects = [0u8; 8192];
     play_records(
         counts,
         arities,
@@ -118,5 +126,7 @@ pub fn play_run(
         run,
         work,
         &mut index,
+        &mut spare,
+        &mut effects,
     )
 }

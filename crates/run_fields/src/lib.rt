@@ -1,5 +1,4 @@
 // The fields of a run file's records: each check answers the number that stops its record, or 0. And what a record that passes adds: a row of a fact, an event that waits.
-use events::Waiting;
 use events::openings::same_ground;
 use events::waits::put_bytes;
 use literals::Counts;
@@ -221,35 +220,35 @@ fn waits_at(moments: &[u8], rows: &[u8], moment: u8, ground: &[u8], i: usize) ->
 }
 
 // Whether this event waits: an action with objects, at the moment of this byte.
-fn is_waiting(waiting: Waiting, moment: u8, ground: [u8; 17]) -> bool
-    requires { ⌜ waiting .count ≤ 16 ⌝ }
-    ensures { λ r. ⌜ r ≡ any (waitsAt (waiting .moments) (waiting .rows) moment ground) (below (waiting .count)) ⌝ }
+fn is_waiting(moments: &[u8], rows: &[u8], count: usize, moment: u8, ground: [u8; 17]) -> bool
+    requires { ⌜ (count ≤ 16) × (length (now moments) ≡ 16) × (length (now rows) ≡ 272) ⌝ }
+    ensures { λ r. ⌜ r ≡ any (waitsAt (now (moments .entry)) (now (rows .entry)) moment ground) (below count) ⌝ }
 {
-    let n = waiting.count;
-    let moments = waiting.moments;
-    let rows = waiting.rows;
-    for i in 0..n {
-        if waits_at(&moments, &rows, moment, &ground, i) {
+    for i in 0..count {
+        if waits_at(moments, rows, moment, &ground, i) {
             return true;
         }
     }
     false
 }
 
-// Kind 18: an event, where these wait already.
+// Kind 18: an event, where so many wait already.
 pub fn event_stop(
     counts: Counts,
     variables: &[u8],
     sorts: &[u8],
     objects: u8,
-    waiting: Waiting,
+    moments: &[u8],
+    rows: &[u8],
+    count: usize,
     p: &[u8],
 ) -> u64
-    requires { ⌜ (length (now variables) ≡ 64) × ((i : ℕ) → getD (now variables) i 0 ≤ 16) × (length (now sorts) ≡ 64) × (counts .actions ≤ 64) × (waiting .count ≤ 16) ⌝ }
+    requires { ⌜ (length (now variables) ≡ 64) × ((i : ℕ) → getD (now variables) i 0 ≤ 16) × (length (now sorts) ≡ 64) × (counts .actions ≤ 64) × (count ≤ 16)
+        × (length (now moments) ≡ 16) × (length (now rows) ≡ 272) ⌝ }
     ensures is { λ r. ⌜ ((D : Domain) (q : Playing) (arities starts parts : List ℕ) → Holds D (indexWith counts arities (now (variables .entry)) (now (sorts .entry)) starts parts)
-        → q .objects ≡ objects → objects ≤ 64 → waiting ≡ waitingOf (q .waiting) → EventsFit D (q .waiting)
+        → q .objects ≡ objects → objects ≤ 64 → record { count = count; moments = now (moments .entry); rows = now (rows .entry) } ≡ waitingOf (q .waiting) → EventsFit D (q .waiting)
         → r ≡ eventStop D q (now (p .entry))) ⌝ }
-    ensures fits { λ r. ⌜ (r ≡ 0 → (2 ≤ length (now (p .entry))) × (length (now (p .entry)) ≤ 18) × (waiting .count < 16)) ⌝ }
+    ensures fits { λ r. ⌜ (r ≡ 0 → (2 ≤ length (now (p .entry))) × (length (now (p .entry)) ≤ 18) × (count < 16)) ⌝ }
 {
     let stop = event_fields(counts, variables, sorts, objects, p);
     if stop != 0 {
@@ -258,10 +257,10 @@ pub fn event_stop(
     if twice_from(p, 2) {
         return 53;
     }
-    if is_waiting(waiting, p[0], ground_row(p)) {
+    if is_waiting(moments, rows, count, p[0], ground_row(p)) {
         return 54;
     }
-    if 16 <= waiting.count {
+    if 16 <= count {
         return 52;
     }
     0

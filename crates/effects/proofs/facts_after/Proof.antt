@@ -1,16 +1,42 @@
--- `facts_after` meets its contract: it lends room for the effects of its events. Assumes nothing.
+-- `facts_after` meets its contract: what is kept and what joins are the facts after the step. Assumes nothing.
+use mathlib.Core.Path.{refl, _∙_}
 use native.Mathlib.Omega.{arith}
+use Rattle.literals.specs.declared.Clause.the-variants.{Add, Delete}
+use Rattle.literals.specs.Table.{rowsIn}
+use Rattle.effects.proofs.FilledRows.{kept-few}
+use Rattle.effects.proofs.EffectRows.{step-sized}
+use Rattle.effects.proofs.StepFacts.{Done, after-few, holds-after}
 use borrow.Author.Needs.{needs}
 use Rattle.effects.proofs.facts_after.Statement.{statement}
 use Rattle.effects.proofs.facts_after.Tie as tie
 
-slice-aggregate-facts-in : tie.Need-slice-aggregate-facts-in
-slice-aggregate-facts-in c = search needs
+step-effects-requires : tie.Need-step-effects-requires
+step-effects-requires c κs = search needs
 
-facts-in-requires : tie.Need-facts-in-requires
-facts-in-requires c κs =
-    let p = c .before .before .before .before .before .before .before .before .before .before .before .before .pre in
-    (p .0, p .1, p .2, p .3, p .4, p .5, p .6, p .7, p .8, λ h. omega arith)
+keep-rows-requires : tie.Need-keep-rows-requires
+keep-rows-requires c κs = search needs
+
+step-effects-requires-2 : tie.Need-step-effects-requires-2
+step-effects-requires-2 c κs =
+    let p = c .before .before .before .before .before .before .before .before .before .before .before .before .before .before .before .before .before .before .before .before .before .before .before .pre in
+    let l = c .before .before .before .before .before .before .before .before .before .before .before .step-effects .kept .1 .1 .1 .1 .1 .1 .1 .1 .0 in
+    (p .0, p .9, p .10, l ∙ p .11)
+
+join-rows-requires : tie.Need-join-rows-requires
+join-rows-requires c κs =
+    let a = c .before .before .before .before .before .before .before .before .before .before .before .before .before .before .before .before .before .before .before .before .before .before .before .before .before .before .before .before .before .args in
+    let p = c .before .before .before .before .before .before .before .before .before .before .before .before .before .before .before .before .before .before .before .before .before .before .before .before .before .before .before .before .before .pre in
+    let struck = c .before .before .before .before .before .before .before .before .before .before .before .before .before .before .before .before .before .step-effects in
+    let keeps = c .before .before .before .before .before .before .before .before .before .before .before .keep-rows in
+    let added = c .before .before .before .before .before .step-effects2 in
+    let q = kept-few (rowsIn (struck .result) (struck .last .1 .1 .1 .1 .1 .1 .1 .1 .0)) (a .work .now) (a .n) in
+    let e = keeps .ensures .0 in
+    let n = p .1 in
+    let x = p .4 in
+    let y = p .5 in
+    let l = added .kept .1 .1 .1 .1 .1 .1 .1 .1 .0 ∙ struck .kept .1 .1 .1 .1 .1 .1 .1 .1 .0 ∙ p .11 in
+    let r = added .ensures .0 in
+    (r, omega arith, omega arith, keeps .kept .1 .1 .1 .1 .0 ∙ p .3, keeps .kept .1 .1 .1 .1 .1 .0 ∙ p .7, omega arith, p .6)
 
 same-length : tie.Need-same-length
 same-length c = search needs
@@ -18,37 +44,52 @@ same-length c = search needs
 same-length-2 : tie.Need-same-length-2
 same-length-2 c = search needs
 
-returns : tie.Need-returns
-returns c = c .before .before .before .before .before .facts-in .ensures
-
-slice-aggregate-facts-in-2 : tie.Need-slice-aggregate-facts-in-2
-slice-aggregate-facts-in-2 c = search needs
-
-facts-in-requires-2 : tie.Need-facts-in-requires-2
-facts-in-requires-2 c κs =
-    let p = c .before .before .before .before .before .before .before .before .before .before .before .before .pre in
-    (p .0, p .1, p .2, p .3, p .4, p .5, p .6, p .7, p .8, λ h. omega arith)
-
 same-length-3 : tie.Need-same-length-3
 same-length-3 c = search needs
 
-same-length-4 : tie.Need-same-length-4
-same-length-4 c = search needs
-
-returns-2 : tie.Need-returns-2
-returns-2 c = c .before .before .before .before .before .facts-in2 .ensures
+returns : tie.Need-returns
+returns c =
+    let a = c .before .before .before .before .before .before .before .before .before .before .before .before .before .before .before .before .before .before .before .before .before .before .before .before .before .before .before .before .before .before .before .before .before .before .args in
+    let p = c .before .before .before .before .before .before .before .before .before .before .before .before .before .before .before .before .before .before .before .before .before .before .before .before .before .before .before .before .before .before .before .before .before .before .pre in
+    let struck = c .before .before .before .before .before .before .before .before .before .before .before .before .before .before .before .before .before .before .before .before .before .before .step-effects in
+    let keeps = c .before .before .before .before .before .before .before .before .before .before .before .before .before .before .before .before .keep-rows in
+    let added = c .before .before .before .before .before .before .before .before .before .before .step-effects2 in
+    let joins = c .before .before .before .before .join-rows in
+    let kept = keeps .ensures in
+    let joined = joins .ensures in
+    let X : Done (a .counts .keys) (rowsIn (a .counts .components) (a .parts .now)) (struck .last .1 .1 .1 .1 .1 .1 .1 .1 .0) (a .work .now) (added .last .1 .1 .1 .1 .1 .1 .1 .1 .0) (struck .result) (a .n) (added .result)
+    (a .out .now) (keeps .last .1 .1 .1 .1 .0) (joins .last .1 .1 .0) (a .index .now) (keeps .last .1 .1 .1 .1 .1 .0) (joins .last .1 .1 .1 .1 .0) (keeps .result) (joins .result)
+    = record {
+      small = p .1;
+      within = p .2;
+      addsWithin = let l = added .kept .1 .1 .1 .1 .1 .1 .1 .1 .0 ∙ struck .kept .1 .1 .1 .1 .1 .1 .1 .1 .0 ∙ p .11 in let r = added .ensures .0 in omega arith;
+      room = p .3;
+      keptCount = kept .0;
+      keptBytes = kept .1 .0;
+      keptIndexed = kept .1 .1 .0;
+      joinedFew = joined .0;
+      joinedCount = joined .1 .0;
+      joinedBytes = joined .1 .1 .0;
+      joinedIndexed = joined .1 .1 .1 .0;
+    } in (
+      after-few X,
+      (
+        λ D variables sorts parts es fs L w F h u I.
+            holds-after X D es fs (struck .ensures .1 D variables sorts parts es Delete L w F h refl .1) (added .ensures .1 D variables sorts parts es Add L w F h refl .1) u (a .arities .now) I
+            (step-sized D (a .counts) (a .arities .now) variables sorts (a .starts .now) parts (a .table .now) L Add es F),
+        joined .1 .1 .1 .1 ∙ kept .1 .1 .1,
+      ),
+    )
 
 pub facts-after-spec : {M : Type 1} → statement M
 facts-after-spec =
     tie.close
     (tie.spec
-    slice-aggregate-facts-in
-    facts-in-requires
+    step-effects-requires
+    keep-rows-requires
+    step-effects-requires-2
+    join-rows-requires
     same-length
     same-length-2
-    returns
-    slice-aggregate-facts-in-2
-    facts-in-requires-2
     same-length-3
-    same-length-4
-    returns-2)
+    returns)

@@ -1,9 +1,8 @@
 -- `step_effects` meets its contract: after i turns what the first i events add or strike is written. Assumes nothing.
-use mathlib.Core.Path.{_≡_, refl, sym}
+use mathlib.Core.Path.{refl}
 use Prim.Native.Nat.{_-_, _<_}
 use native.Mathlib.Omega.{arith}
 use lib.ListN.{length, getD}
-use borrow.Author.Needs.{needs}
 use Rattle.events.proofs.FactRows.{noEvent, waiting-count, waiting-moment-at}
 use Rattle.events.proofs.Listed.{event-fits, event-row}
 use Rattle.effects.proofs.EffectRows.{whole-event, step-begin, step-more, step-end, InEvents}
@@ -11,16 +10,16 @@ use Rattle.effects.proofs.step_effects.Statement.{statement}
 use Rattle.effects.proofs.step_effects.Tie as tie
 
 abbrev Inv-loop : tie.InvT-loop
-Inv-loop counts arities starts table clause out₀ count moments rows n₀ i₀ out n i = InEvents counts arities starts table clause record { count = count; moments = moments; rows = rows } out₀ out n i
+Inv-loop counts arities starts table moments events count clause out₀ n₀ i₀ out n i = InEvents counts arities starts table clause record { count = count; moments = moments; rows = events } out₀ out n i
 
 abbrev μ-loop : tie.MeasureT-loop
-μ-loop counts arities starts table clause out₀ count moments rows n₀ i₀ out n i = count - i
+μ-loop counts arities starts table moments events count clause out₀ n₀ i₀ out n i = count - i
 
 returns : tie.Need-returns Inv-loop μ-loop
 returns c = (
   omega arith,
   λ D variables sorts parts es k L w F h f.
-      let q = waiting-count es (c .before .before .before .before .before .args .waiting) w in
+      let q = waiting-count es _ w in
       let t = c .if1 .taken in
       absurd (omega arith),
 )
@@ -28,22 +27,14 @@ returns c = (
 loop-holds : tie.Need-loop-holds Inv-loop μ-loop
 loop-holds c = record { reach = omega arith; few = omega arith; sized = refl; filled = λ D variables sorts parts es k L w F f. step-begin D es k (c .before .before .before .before .before .before .before .args .out .now) }
 
-slice-aggregate-event-effects : tie.Need-slice-aggregate-event-effects Inv-loop μ-loop
-slice-aggregate-event-effects c = search needs
-
-slice-aggregate-event-effects-2 : tie.Need-slice-aggregate-event-effects-2 Inv-loop μ-loop
-slice-aggregate-event-effects-2 c = search needs
-
 event-effects-requires : tie.Need-event-effects-requires Inv-loop μ-loop
 event-effects-requires c κs =
-    let p = c .before .before .before .before .before .before .before .before .before .before .before .before .pre in
-    let v = c .before .before .before .before .loop .inv in
-    let m : 16 ≡ length (c .before .before .before .before .before .before .before .before .before .before .before .before .args .waiting .moments) = slice-aggregate-event-effects (c .before .before) in
-    let r : 272 ≡ length (c .before .before .before .before .before .before .before .before .before .before .before .before .args .waiting .rows) = slice-aggregate-event-effects-2 (c .before) in
+    let p = c .before .before .before .before .before .before .before .before .before .before .pre in
+    let v = c .before .before .loop .inv in
     let k = v .few in
     let z = v .sized in
-    let room = p .1 (omega arith) in
-    (p .0, sym m, sym r, omega arith, omega arith)
+    let o = p .3 in
+    (p .0, p .1, p .2, omega arith, omega arith)
 
 add-i : tie.Need-add-i Inv-loop μ-loop
 add-i c = omega arith
@@ -53,25 +44,25 @@ loop-less c = omega arith
 
 loop-again : tie.Need-loop-again Inv-loop μ-loop
 loop-again c =
-    let a = c .before .before .before .before .before .before .before .before .before .before .before .before .before .before .before .args in
-    let l = c .before .before .before .before .before .before .before .loop in
+    let a = c .before .before .before .before .before .before .before .before .before .before .before .before .before .args in
+    let l = c .before .before .before .before .before .loop in
     let r = c .before .before .event-effects .ensures in
     let k = l .inv .few in
     let z = l .inv .sized in
     let g = r .0 in
-    let room = c .before .before .before .before .before .before .before .before .before .before .before .before .before .before .before .pre .1 (omega arith) in
+    let o = c .before .before .before .before .before .before .before .before .before .before .before .before .before .pre .3 in
     record {
       reach = omega arith;
       few = omega arith;
       sized = omega arith;
       filled =
           λ D variables sorts parts es k L w F f.
-          let q = waiting-count es (a .waiting) w in
+          let q = waiting-count es _ w in
           let h : l .i < length es = omega arith in
           let e = getD es (l .i) noEvent in
           let G = event-fits D (a .counts) (a .arities .now) variables sorts (a .starts .now) parts (a .table .now) L (l .i) es F h in
-          let x = r .1 D variables sorts parts e k L G (waiting-moment-at es (a .waiting) w (l .i))
-          (event-row D (a .counts) (a .arities .now) variables sorts (a .starts .now) parts (a .table .now) L (l .i) es F h (a .waiting) w) f in
+          let x = r .1 D variables sorts parts e k L G (waiting-moment-at es _ w (l .i))
+          (event-row D (a .counts) (a .arities .now) variables sorts (a .starts .now) parts (a .table .now) L (l .i) es F h _ w) f in
           step-more D es k (l .i) (l .n) h (l .inv .filled D variables sorts parts es k L w F f)
           (whole-event D (a .counts) (a .arities .now) variables sorts (a .starts .now) parts (a .table .now) L e G k) (omega arith) (x .0) (x .1);
     }
@@ -82,11 +73,10 @@ same-length c = c .before .loop .inv .sized
 returns-2 : tie.Need-returns-2 Inv-loop μ-loop
 returns-2 c =
     let l = c .before .loop in
-    let k = l .inv .few in
-    let room = c .before .before .before .before .before .before .before .before .before .pre .1 (omega arith) in (
+    let k = l .inv .few in (
       omega arith,
       λ D variables sorts parts es k L w F h f.
-          let q = waiting-count es (c .before .before .before .before .before .before .before .before .before .args .waiting) w in
+          let q = waiting-count es _ w in
           step-end D es k (l .i) (l .n) (omega arith) (l .inv .filled D variables sorts parts es k L w F f),
     )
 
@@ -98,8 +88,6 @@ step-effects-spec =
     μ-loop
     returns
     loop-holds
-    slice-aggregate-event-effects
-    slice-aggregate-event-effects-2
     event-effects-requires
     add-i
     loop-less

@@ -23,10 +23,10 @@ returns-2 c = (
 )
 
 shared-slice-read-is-waiting : tie.Need-shared-slice-read-is-waiting
-shared-slice-read-is-waiting c = let l = event-short-row _ _ _ _ _ (sym (c .before .before .before .before .event-fields .ensures) ∙ c .before .before .before .if1 .left) (c .before .before .before .before .before .before .before .before .pre .1) in omega arith
+shared-slice-read-is-waiting c = let l = event-short-row _ _ _ _ _ (sym (c .before .before .before .before .event-fields .ensures) ∙ c .before .before .before .if1 .left) (c .before .before .before .before .before .before .before .before .before .before .pre .1) in omega arith
 
 ground-row-requires : tie.Need-ground-row-requires
-ground-row-requires c κs = event-short-row _ _ _ _ _ (sym (c .before .before .before .before .event-fields .ensures) ∙ c .before .before .before .if1 .left) (c .before .before .before .before .before .before .before .before .pre .1)
+ground-row-requires c κs = event-short-row _ _ _ _ _ (sym (c .before .before .before .before .event-fields .ensures) ∙ c .before .before .before .if1 .left) (c .before .before .before .before .before .before .before .before .before .before .pre .1)
 
 is-waiting-requires : tie.Need-is-waiting-requires
 is-waiting-requires c κs = search needs
@@ -44,26 +44,26 @@ returns-3 c =
 
 returns-4 : tie.Need-returns-4
 returns-4 c =
-    let f = c .before .before .before .before .before .before .before .before .before .event-fields .ensures in
-    let z = c .before .before .before .before .before .before .before .before .if1 .left in (
+    let f = c .before .before .before .before .before .before .before .before .event-fields .ensures in
+    let z = c .before .before .before .before .before .before .before .if1 .left in (
       λ D q ar st pa H e o w F.
           let k = waiting-count (q .waiting) _ w in
-          event-full D q _ ar _ _ st pa H _ e _ _ f z _ (c .before .before .before .before .before .before .before .twice-from .ensures) (c .before .before .before .before .before .before .if2 .left) _
-          (event-waits _ _ _ _ _ (sym f ∙ z) D ar st pa H o (q .waiting) F _ w _ (c .before .before .before .before .ground-row .ensures) _ (c .before .before .before .is-waiting .ensures))
-          (c .before .before .if3 .left) (omega arith),
+          event-full D q _ ar _ _ st pa H _ e _ _ f z _ (c .before .before .before .before .before .before .twice-from .ensures) (c .before .before .before .before .before .if2 .left) _
+          (event-waits _ _ _ _ _ (sym f ∙ z) D ar st pa H o (q .waiting) F _ w _ (c .before .before .before .ground-row .ensures) _ (c .before .before .is-waiting .ensures))
+          (c .before .if3 .left) (omega arith),
       λ y. absurd (omega arith),
     )
 
 returns-5 : tie.Need-returns-5
 returns-5 c =
-    let f = c .before .before .before .before .before .before .before .before .before .event-fields .ensures in
-    let z = c .before .before .before .before .before .before .before .before .if1 .left in (
+    let f = c .before .before .before .before .before .before .before .before .event-fields .ensures in
+    let z = c .before .before .before .before .before .before .before .if1 .left in (
       λ D q ar st pa H e o w F.
           let k = waiting-count (q .waiting) _ w in
-          event-room D q _ ar _ _ st pa H _ e _ _ f z _ (c .before .before .before .before .before .before .before .twice-from .ensures) (c .before .before .before .before .before .before .if2 .left) _
-          (event-waits _ _ _ _ _ (sym f ∙ z) D ar st pa H o (q .waiting) F _ w _ (c .before .before .before .before .ground-row .ensures) _ (c .before .before .before .is-waiting .ensures))
-          (c .before .before .if3 .left) (omega arith),
-      λ y. let l = event-short-row _ _ _ _ _ (sym f ∙ z) (c .before .before .before .before .before .before .before .before .before .before .before .before .before .pre .1) in (l .0, l .1, c .if4 .left),
+          event-room D q _ ar _ _ st pa H _ e _ _ f z _ (c .before .before .before .before .before .before .twice-from .ensures) (c .before .before .before .before .before .if2 .left) _
+          (event-waits _ _ _ _ _ (sym f ∙ z) D ar st pa H o (q .waiting) F _ w _ (c .before .before .before .ground-row .ensures) _ (c .before .before .is-waiting .ensures))
+          (c .before .if3 .left) (omega arith),
+      λ y. let l = event-short-row _ _ _ _ _ (sym f ∙ z) (c .before .before .before .before .before .before .before .before .before .before .before .before .before .before .pre .1) in (l .0, l .1, c .if4 .left),
     )
 
 pub event-stop-spec : {M : Type 1} → statement M

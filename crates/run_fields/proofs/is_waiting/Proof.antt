@@ -12,34 +12,27 @@ use Rattle.run_fields.proofs.is_waiting.Statement.{statement}
 use Rattle.run_fields.proofs.is_waiting.Tie as tie
 
 abbrev Inv-loop : tie.InvT-loop
-Inv-loop moment ground n moments rows i₀ i = (i ≤ n) × (any (waitsAt moments rows moment ground) (left n i) ≡ any (waitsAt moments rows moment ground) (below n))
+Inv-loop moments rows count moment ground i₀ i = (i ≤ count) × (any (waitsAt moments rows moment ground) (left count i) ≡ any (waitsAt moments rows moment ground) (below count))
 
 abbrev μ-loop : tie.MeasureT-loop
-μ-loop moment ground n moments rows i₀ i = n - i
+μ-loop moments rows count moment ground i₀ i = count - i
 
 loop-holds : tie.Need-loop-holds Inv-loop μ-loop
-loop-holds c = let a = c .before .before .args in (omega arith, ap (any (waitsAt (a .waiting .moments) (a .waiting .rows) (a .moment) (a .t3))) (left-all (a .waiting .count)))
+loop-holds c = let a = c .before .before .args in (omega arith, ap (any (waitsAt (a .moments .now) (a .rows .now) (a .moment) (a .t5))) (left-all (a .count)))
 
 slice-aggregate-waits-at : tie.Need-slice-aggregate-waits-at Inv-loop μ-loop
 slice-aggregate-waits-at c = search needs
 
-slice-aggregate-waits-at-2 : tie.Need-slice-aggregate-waits-at-2 Inv-loop μ-loop
-slice-aggregate-waits-at-2 c = search needs
-
-slice-aggregate-waits-at-3 : tie.Need-slice-aggregate-waits-at-3 Inv-loop μ-loop
-slice-aggregate-waits-at-3 c = search needs
-
 waits-at-requires : tie.Need-waits-at-requires Inv-loop μ-loop
 waits-at-requires c κs =
-    let m : length (c .before .before .before .before .before .before .before .args .waiting .moments) ≡ 16 = search needs in
-    let r : length (c .before .before .before .before .before .before .before .args .waiting .rows) ≡ 272 = search needs in
-    let g : length (c .before .before .before .before .before .before .before .args .t3) ≡ 17 = search needs in
+    let p = c .before .before .before .before .before .pre in
+    let g : length (c .before .before .before .before .before .args .t5) ≡ 17 = search needs in
     (omega arith, omega arith, omega arith)
 
 returns : tie.Need-returns Inv-loop μ-loop
 returns c =
-    let l = c .before .before .before .before .before .before .loop in
-    sym (any-hit _ _ (l .i) (c .before .before .before .before .before .loop-test .taken) (sym (c .before .waits-at .ensures) ∙ c .if1 .taken)) ∙ l .inv .1
+    let l = c .before .before .before .before .loop in
+    sym (any-hit _ _ (l .i) (c .before .before .before .loop-test .taken) (sym (c .before .waits-at .ensures) ∙ c .if1 .taken)) ∙ l .inv .1
 
 add-i : tie.Need-add-i Inv-loop μ-loop
 add-i c = omega arith
@@ -49,13 +42,13 @@ loop-less c = omega arith
 
 loop-again : tie.Need-loop-again Inv-loop μ-loop
 loop-again c =
-    let l = c .before .before .before .before .before .before .loop in
-    (omega arith, sym (any-miss _ _ (l .i) (c .before .before .before .before .before .loop-test .taken) (sym (c .before .waits-at .ensures) ∙ c .if1 .left)) ∙ l .inv .1)
+    let l = c .before .before .before .before .loop in
+    (omega arith, sym (any-miss _ _ (l .i) (c .before .before .before .loop-test .taken) (sym (c .before .waits-at .ensures) ∙ c .if1 .left)) ∙ l .inv .1)
 
 returns-2 : tie.Need-returns-2 Inv-loop μ-loop
 returns-2 c =
     let a = c .before .before .before .before .args in
-    sym (any-end (waitsAt (a .waiting .moments) (a .waiting .rows) (a .moment) (a .t3)) (a .waiting .count) (c .before .loop .i) (omega arith)) ∙ c .before .loop .inv .1
+    sym (any-end (waitsAt (a .moments .now) (a .rows .now) (a .moment) (a .t5)) (a .count) (c .before .loop .i) (omega arith)) ∙ c .before .loop .inv .1
 
 pub is-waiting-spec : {M : Type 1} → statement M
 is-waiting-spec =
@@ -65,8 +58,6 @@ is-waiting-spec =
     μ-loop
     loop-holds
     slice-aggregate-waits-at
-    slice-aggregate-waits-at-2
-    slice-aggregate-waits-at-3
     waits-at-requires
     returns
     add-i

@@ -12,13 +12,15 @@ use Rattle.applicability.proofs.interference.independent.Tie as tie
 
 returns : tie.Need-returns
 returns c D variables sorts parts es L w F h =
-    let k = waiting-count es (c .before .before .before .before .args .waiting) w in
+    let a = c .before .before .before .before .before .before .args in
+    let k = waiting-count es (record { count = a .count; moments = a .moments .now; rows = a .rows .now }) w in
     let t = c .if1 .taken in
     absurd (omega arith)
 
 returns-2 : tie.Need-returns-2
 returns-2 c D variables sorts parts es L w F h =
-    let k = waiting-count es (c .before .before .before .before .before .args .waiting) w in
+    let a = c .before .before .before .before .before .before .before .args in
+    let k = waiting-count es (record { count = a .count; moments = a .moments .now; rows = a .rows .now }) w in
     let t = c .if2 .taken in
     few-independent D es (omega arith)
 
@@ -48,8 +50,8 @@ all-apart-requires c κs = search needs
 
 returns-3 : tie.Need-returns-3
 returns-3 c D variables sorts parts es L w F h =
-    let a = c .before .before .before .before .before .before .before .before .before .before .before .before .before .before .before .before .args in
-    let k = waiting-count es (a .waiting) w in
+    let a = c .before .before .before .before .before .before .before .before .before .before .before .before .before .before .before .before .before .before .args in
+    let k = waiting-count es (record { count = a .count; moments = a .moments .now; rows = a .rows .now }) w in
     c .all-apart .ensures (map (eventMarks D) es) (length-map es (eventMarks D) ∙ sym k) (c .before .before .before .before .before .before .before .step-words .ensures .1 D variables sorts parts es L w F)
     ∙ apart-independent D (a .counts) (a .arities .now) variables sorts (a .starts .now) parts (a .table .now) L es F
 

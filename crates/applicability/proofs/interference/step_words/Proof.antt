@@ -12,11 +12,11 @@ use Rattle.applicability.proofs.interference.step_words.Statement.{stat
 use Rattle.applicability.proofs.interference.step_words.Tie as tie
 
 abbrev Inv-loop : tie.InvT-loop
-Inv-loop counts arities starts table words₀ clauses₀ ends₀ count moments rows n₀ i₀ words clauses ends n i =
+Inv-loop counts arities starts table moments rows count words₀ clauses₀ ends₀ n₀ i₀ words clauses ends n i =
     InWords counts arities starts table record { count = count; moments = moments; rows = rows } words₀ clauses₀ ends₀ words clauses ends n i
 
 abbrev μ-loop : tie.MeasureT-loop
-μ-loop counts arities starts table words₀ clauses₀ ends₀ count moments rows n₀ i₀ words clauses ends n i = count - i
+μ-loop counts arities starts table moments rows count words₀ clauses₀ ends₀ n₀ i₀ words clauses ends n i = count - i
 
 loop-holds : tie.Need-loop-holds Inv-loop μ-loop
 loop-holds c =
@@ -31,28 +31,20 @@ loop-holds c =
       laid = λ D variables sorts parts es L w F. laid-none (a .words .now) (a .clauses .now) (a .ends .now);
     }
 
-slice-aggregate-event-words : tie.Need-slice-aggregate-event-words Inv-loop μ-loop
-slice-aggregate-event-words c = search needs
-
-slice-aggregate-event-words-2 : tie.Need-slice-aggregate-event-words-2 Inv-loop μ-loop
-slice-aggregate-event-words-2 c = search needs
-
 event-words-requires : tie.Need-event-words-requires Inv-loop μ-loop
 event-words-requires c κs =
-    let p = c .before .before .before .before .before .before .before .before .before .before .before .before .before .before .pre in
-    let v = c .before .before .before .before .before .loop .inv in
-    let m : 16 ≡ length (c .before .before .before .before .before .before .before .before .before .before .before .before .before .before .args .waiting .moments) = slice-aggregate-event-words (c .before .before .before) in
-    let r : 272 ≡ length (c .before .before .before .before .before .before .before .before .before .before .before .before .before .before .args .waiting .rows) = slice-aggregate-event-words-2 (c .before .before) in
+    let p = c .before .before .before .before .before .before .before .before .before .before .before .before .pre in
+    let v = c .before .before .before .loop .inv in
     let k = v .few in
     let x = v .wordsKept in
     let y = v .clausesKept in
-    (p .0, sym m, sym r, omega arith, omega arith, omega arith)
+    (p .0, p .5, p .6, omega arith, omega arith, omega arith)
 
 mul-ends : tie.Need-mul-ends Inv-loop μ-loop
 mul-ends c = omega arith
 
 slice-write-ends : tie.Need-slice-write-ends Inv-loop μ-loop
-slice-write-ends c = let z = c .before .before .before .before .before .before .before .before .before .before .loop .inv .endsKept in let p = c .before .before .before .before .before .before .before .before .before .before .before .before .before .before .before .before .before .before .before .pre in omega arith
+slice-write-ends c = let z = c .before .before .before .before .before .before .before .before .loop .inv .endsKept in let p = c .before .before .before .before .before .before .before .before .before .before .before .before .before .before .before .before .before .pre in omega arith
 
 add-i : tie.Need-add-i Inv-loop μ-loop
 add-i c = omega arith
@@ -62,9 +54,9 @@ loop-less c = omega arith
 
 loop-again : tie.Need-loop-again Inv-loop μ-loop
 loop-again c =
-    let a = c .before .before .before .before .before .before .before .before .before .before .before .before .before .before .before .before .before .before .before .args in
-    let p = c .before .before .before .before .before .before .before .before .before .before .before .before .before .before .before .before .before .before .before .pre in
-    let l = c .before .before .before .before .before .before .before .before .before .before .loop in
+    let a = c .before .before .before .before .before .before .before .before .before .before .before .before .before .before .before .before .before .args in
+    let p = c .before .before .before .before .before .before .before .before .before .before .before .before .before .before .before .before .before .pre in
+    let l = c .before .before .before .before .before .before .before .before .loop in
     let r = c .before .before .before .before .event-words .ensures in
     let kept = c .before .before .before .before .event-words .kept in
     let k = l .inv .few in
@@ -79,13 +71,13 @@ loop-again c =
       within = within-more (l .ends) (l .i) (c .before .before .before .before .event-words .result) 1024 (omega arith) (omega arith) (l .inv .within);
       laid =
           λ D variables sorts parts es L w F.
-          let q = waiting-count es (a .waiting) w in
+          let q = waiting-count es (record { count = a .count; moments = a .moments .now; rows = a .rows .now }) w in
           let h : l .i < length es = omega arith in
           let e = getD es (l .i) noEvent in
           let G = event-fits D (a .counts) (a .arities .now) variables sorts (a .starts .now) parts (a .table .now) L (l .i) es F h in
           laid-event D es (l .i) h (l .inv .laid D variables sorts parts es L w F) (omega arith)
-          (r .1 D variables sorts parts e L G (waiting-moment-at es (a .waiting) w (l .i))
-          (event-row D (a .counts) (a .arities .now) variables sorts (a .starts .now) parts (a .table .now) L (l .i) es F h (a .waiting) w));
+          (r .1 D variables sorts parts e L G (waiting-moment-at es (record { count = a .count; moments = a .moments .now; rows = a .rows .now }) w (l .i))
+          (event-row D (a .counts) (a .arities .now) variables sorts (a .starts .now) parts (a .table .now) L (l .i) es F h (record { count = a .count; moments = a .moments .now; rows = a .rows .now }) w));
     }
 
 same-length : tie.Need-same-length Inv-loop μ-loop
@@ -104,7 +96,8 @@ returns c =
     let p = c .before .before .before .before .before .before .before .before .before .before .pre in (
       (omega arith, λ i h. l .inv .within i (omega arith)),
       λ D variables sorts parts es L w F.
-          let q = waiting-count es (c .before .before .before .before .before .before .before .before .before .before .args .waiting) w in
+          let a = c .before .before .before .before .before .before .before .before .before .before .args in
+          let q = waiting-count es (record { count = a .count; moments = a .moments .now; rows = a .rows .now }) w in
           laid-all D es (l .i) (omega arith) (l .inv .laid D variables sorts parts es L w F),
     )
 
@@ -115,8 +108,6 @@ step-words-spec =
     Inv-loop
     μ-loop
     loop-holds
-    slice-aggregate-event-words
-    slice-aggregate-event-words-2
     event-words-requires
     mul-ends
     slice-write-ends

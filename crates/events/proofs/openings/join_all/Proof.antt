@@ -6,8 +6,7 @@ use native.Mathlib.Omega.{arith}
 use lib.ListN.{length, drop}
 use Rattle.records.proofs.Lists.{not-true, not-false}
 use Rattle.events.specs.declared.Open.{Open}
-use Rattle.events.specs.declared.openings.Opened.{Opened}
-use Rattle.events.specs.Coded.{EventRow, eventsIn, joinEvents}
+use Rattle.events.specs.Coded.{EventRow, eventsIn, joinEvents, Opened}
 use Rattle.events.proofs.GroundRows.{eventAt, events-first, joins-few, joins-more, joins-full, joins-end}
 use Rattle.events.proofs.openings.join_all.Statement.{statement}
 use Rattle.events.proofs.openings.join_all.Tie as tie

@@ -14,18 +14,24 @@ put-bytes-requires c κs = search needs
 slice-aggregate-play-records : tie.Need-slice-aggregate-play-records
 slice-aggregate-play-records c = search needs
 
+slice-aggregate-play-records-2 : tie.Need-slice-aggregate-play-records-2
+slice-aggregate-play-records-2 c = search needs
+
+slice-aggregate-play-records-3 : tie.Need-slice-aggregate-play-records-3
+slice-aggregate-play-records-3 c = search needs
+
 play-records-requires : tie.Need-play-records-requires
 play-records-requires c κs =
-    let old = c .before .before .before .before .before .before .before .before .before .before .before .before .before .before .before .args .work .now in
-    (runnable-now (c .before .before .before .before .before .before .before .before .before .before .before .before .before .before .before .pre) _ (c .before .before .before .before .put-bytes .kept .0), cleared-again old _ (cleared old _ (c .before .before .before .before .put-bytes .ensures)), refl)
+    let old = c .before .before .before .before .before .before .before .before .before .before .before .before .before .before .before .before .before .args .work .now in
+    (runnable-now (c .before .before .before .before .before .before .before .before .before .before .before .before .before .before .before .before .before .pre) _ (c .before .before .before .before .before .before .put-bytes .kept .0), cleared-again old _ (cleared old _ (c .before .before .before .before .before .before .put-bytes .ensures)), refl, refl, refl)
 
 same-length : tie.Need-same-length
 same-length c = search needs
 
 returns : tie.Need-returns
 returns c D lent said =
-    let old = c .before .before .before .before .before .before .before .before .before .before .before .before .before .before .before .before .before .before .before .args .work .now in
-    c .before .before .before .play-records .ensures D old lent said (cleared old _ (c .before .before .before .before .before .before .before .before .put-bytes .ensures))
+    let old = c .before .before .before .before .before .before .before .before .before .before .before .before .before .before .before .before .before .before .before .before .before .before .before .args .work .now in
+    c .before .before .before .before .before .play-records .ensures D old lent said (cleared old _ (c .before .before .before .before .before .before .before .before .before .before .before .before .put-bytes .ensures))
 
 pub play-run-spec : {M : Type 1} → statement M
 play-run-spec =
@@ -34,6 +40,8 @@ play-run-spec =
     slice-aggregate-put-bytes
     put-bytes-requires
     slice-aggregate-play-records
+    slice-aggregate-play-records-2
+    slice-aggregate-play-records-3
     play-records-requires
     same-length
     returns)

@@ -1,11 +1,11 @@
--- `State::forbidden` meets its contract: the tests in their order. Assumes nothing.
+-- `forbidden` meets its contract: the tests in their order. Assumes nothing.
 use borrow.Author.Needs.{needs}
 use mathlib.Core.Path.{sym, ap, _∙_}
 use Rattle.records.proofs.Lists.{not-true, not-false}
 use Rattle.machine.specs.declared.State.{State as Holding}
 use Rattle.machine.proofs.Closing.{not-open, not-met, not-kept, not-apart, nothing-forbids}
-use Rattle.machine.proofs.State.forbidden.Statement.{statement}
-use Rattle.machine.proofs.State.forbidden.Tie as tie
+use Rattle.machine.proofs.step.forbidden.Statement.{statement}
+use Rattle.machine.proofs.step.forbidden.Tie as tie
 
 ends-open-requires : tie.Need-ends-open-requires
 ends-open-requires c κs = search needs

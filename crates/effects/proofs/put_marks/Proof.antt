@@ -1,24 +1,24 @@
--- `marks_of` meets its contract: after j turns the first j rows are marked. Assumes nothing.
+-- `put_marks` meets its contract: after j turns the first j rows are marked. Assumes nothing.
 use mathlib.Core.Path.{_≡_, _∙_, subst}
 use mathlib.Core.List.{List·Memᴰ·not-nil}
 use Prim.Native.Nat.{ℕ, _-_, _≤_}
 use native.Mathlib.Omega.{arith}
-use lib.ListN.{length, length-set, length-replicate}
+use lib.ListN.{length, length-set}
 use borrow.Author.Needs.{needs}
 use Rattle.literals.specs.Table.{rowsIn}
 use Rattle.effects.specs.Effects.{Marked}
 use Rattle.effects.proofs.IndexedRows.{marks-more}
-use Rattle.effects.proofs.marks_of.Statement.{statement}
-use Rattle.effects.proofs.marks_of.Tie as tie
+use Rattle.effects.proofs.put_marks.Statement.{statement}
+use Rattle.effects.proofs.put_marks.Tie as tie
 
 abbrev Inv-loop : tie.InvT-loop
-Inv-loop rows m marks₀ j₀ marks j = (j ≤ m) × (length marks ≡ 256) × Marked marks (rowsIn j rows)
+Inv-loop marks₀ rows m j₀ marks j = (j ≤ m) × (length marks ≡ 256) × Marked marks (rowsIn j rows)
 
 abbrev μ-loop : tie.MeasureT-loop
-μ-loop rows m marks₀ j₀ marks j = m - j
+μ-loop marks₀ rows m j₀ marks j = m - j
 
 loop-holds : tie.Need-loop-holds Inv-loop μ-loop
-loop-holds c = (omega arith, length-replicate {A = ℕ} 256 0, λ row m. absurd (List·Memᴰ·not-nil m))
+loop-holds c = (omega arith, c .before .before .pre .0, λ row m. absurd (List·Memᴰ·not-nil m))
 
 mul-wide : tie.Need-mul-wide Inv-loop μ-loop
 mul-wide c = omega arith
@@ -32,8 +32,8 @@ shared-slice-read-wide c = omega arith
 wide-requires : tie.Need-wide-requires Inv-loop μ-loop
 wide-requires c κs = search needs
 
-array-write-marks : tie.Need-array-write-marks Inv-loop μ-loop
-array-write-marks c = let w = c .wide .ensures .1 in omega arith
+slice-write-marks : tie.Need-slice-write-marks Inv-loop μ-loop
+slice-write-marks c = let w = c .wide .ensures .1 in omega arith
 
 add-j : tie.Need-add-j Inv-loop μ-loop
 add-j c = omega arith
@@ -46,17 +46,20 @@ loop-again c =
     let l = c .before .before .before .loop in
     let w = c .wide .ensures in
     let s = l .inv .1 in
-    (omega arith, length-set (l .marks) (c .wide .result) 1 ∙ s, marks-more (c .before .before .before .before .before .args .rows .now) (l .marks) (l .j) (c .wide .result) (omega arith) (omega arith) (w .0) (l .inv .2))
+    (omega arith, length-set (l .marks) (c .wide .result) 1 ∙ s, marks-more (c .before .before .before .before .before .before .args .rows .now) (l .marks) (l .j) (c .wide .result) (omega arith) (omega arith) (w .0) (l .inv .2))
+
+same-length : tie.Need-same-length Inv-loop μ-loop
+same-length c = search needs
 
 returns : tie.Need-returns Inv-loop μ-loop
 returns c =
-    let a = c .before .before .before .args in
+    let a = c .before .before .before .before .args in
     let l = c .before .loop in
     let e : l .j ≡ a .m = omega arith in
     subst (λ (k : ℕ). Marked (l .marks) (rowsIn k (a .rows .now))) e (l .inv .2)
 
-pub marks-of-spec : {M : Type 1} → statement M
-marks-of-spec =
+pub put-marks-spec : {M : Type 1} → statement M
+put-marks-spec =
     tie.close
     (tie.spec
     Inv-loop
@@ -66,8 +69,9 @@ marks-of-spec =
     add-wide
     shared-slice-read-wide
     wide-requires
-    array-write-marks
+    slice-write-marks
     add-j
     loop-less
     loop-again
+    same-length
     returns)

@@ -1,0 +1,84 @@
+-- `settle` meets its contract: the rows go to the front, and the zeros to the seam behind them. Assumes nothing.
+use borrow.Author.Needs.{needs}
+use mathlib.Core.Path.{_≡_, refl, sym, ap, _∙_}
+use mathlib.Core.List.{List, [], _++_, append-nil}
+use Prim.Native.Nat.{ℕ, _-_, _*_}
+use native.Mathlib.Omega.{arith}
+use lib.ListN.{length, take, replicate, length-replicate}
+use lib.Seq.{paste, length-take-le}
+use Rattle.records.specs.Memory.{over}
+use Rattle.records.proofs.Memory.{over-paste}
+use Rattle.machine.proofs.step.settle.Statement.{statement}
+use Rattle.machine.proofs.step.settle.Tie as tie
+
+-- bytes put at the front
+to-front : (new old out : List ℕ) → out ≡ paste old 0 new (length new) → out ≡ over new old
+unfolding over
+to-front new old out e = e ∙ over-paste [] old new 0 (length new) refl refl
+
+mul-end : tie.Need-mul-end
+mul-end c = omega arith
+
+slice-aggregate-put-bytes : tie.Need-slice-aggregate-put-bytes
+slice-aggregate-put-bytes c =
+    let a = c .before .before .before .before .args in
+    let p = c .before .before .before .before .pre in
+    let l = length-take-le (8 * a .n) (a .rows .now) (p .4) in
+    omega arith
+
+put-bytes-requires : tie.Need-put-bytes-requires
+put-bytes-requires c κs =
+    let a = c .before .before .before .before .args in
+    let p = c .before .before .before .before .pre in
+    let l = length-take-le (8 * a .n) (a .rows .now) (p .4) in
+    let r = p .3 in
+    omega arith
+
+mul-put-zeros : tie.Need-mul-put-zeros
+mul-put-zeros c = omega arith
+
+sub-put-zeros : tie.Need-sub-put-zeros
+sub-put-zeros c = omega arith
+
+put-zeros-requires : tie.Need-put-zeros-requires
+put-zeros-requires c κs = search needs
+
+same-length : tie.Need-same-length
+same-length c = search needs
+
+returns : tie.Need-returns
+returns c =
+    let a = c .before .before .before .before .before .before .before .before .before .before .before .before .args in
+    let p = c .before .before .before .before .before .before .before .before .before .before .before .before .pre in
+    let rows : List ℕ = take (8 * a .n) (a .rows .now) in
+    let more : ℕ = 8 * a .held - 8 * a .n in
+    let l = length-take-le (8 * a .n) (a .rows .now) (p .4) in
+    c .before .before .put-zeros .ensures
+    ∙ ap (λ (w : List ℕ). paste w (8 * a .n) (replicate more 0) more) (to-front rows (a .work .now) _ (c .before .before .before .before .before .before .before .put-bytes .ensures))
+    ∙ over-paste rows (a .work .now) (replicate more 0) (8 * a .n) more l (length-replicate more 0)
+
+same-length-2 : tie.Need-same-length-2
+same-length-2 c = search needs
+
+returns-2 : tie.Need-returns-2
+returns-2 c =
+    let a = c .before .before .before .before .before .before .before .before .args in
+    let rows : List ℕ = take (8 * a .n) (a .rows .now) in
+    let none : 0 ≡ 8 * a .held - 8 * a .n = omega arith in
+    to-front rows (a .work .now) _ (c .before .before .before .put-bytes .ensures)
+    ∙ ap (λ (front : List ℕ). over front (a .work .now)) (sym (append-nil rows) ∙ ap (λ (k : ℕ). rows ++ replicate k 0) none)
+
+pub settle-spec : {M : Type 1} → statement M
+settle-spec =
+    tie.close
+    (tie.spec
+    mul-end
+    slice-aggregate-put-bytes
+    put-bytes-requires
+    mul-put-zeros
+    sub-put-zeros
+    put-zeros-requires
+    same-length
+    returns
+    same-length-2
+    returns-2)
