@@ -224,7 +224,7 @@ fn rest(
 
 impl State {
     // Closes the step that is read: takes it, or refuses it by 57, 55, 56 or 52 and changes nothing. `spare` and `effects` are memory to work in.
-    // What is lent on are the memories of one local each: what is lent cannot be told to stay as it is, so a second one would be one copy more.
+    // Entries and events are each lent from one local, since every local of its own would be one copy more of them for each step.
     pub fn step(
         self,
         counts: Counts,

@@ -99,7 +99,7 @@ impl Player {
         }
     }
 
-    // The same with that tally. (The tally alone goes through the choice there: the state with it would be a copy more for each record.)
+    // The player with the tally from then on. (The tally alone is chosen there: choosing the player would be one copy more of its state for each record.)
     fn begin(
         self,
         components: usize,

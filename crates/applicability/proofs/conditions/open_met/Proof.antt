@@ -1,5 +1,4 @@
 -- `open_met` meets its contract: each entry before i is met, so the test is that of the entries from i on. Assumes nothing.
-use borrow.Author.Needs.{needs}
 use borrow.Author.Tests.{not-true, not-false}
 use mathlib.Core.Path.{_≡_, refl, sym, _∙_}
 use mathlib.Core.List.{List, map}

@@ -1,9 +1,8 @@
 -- `step_words` meets its contract: after i turns those of the first i events are put, each up to its end. Assumes nothing.
-use mathlib.Core.Path.{_≡_, refl, sym, _∙_}
+use mathlib.Core.Path.{refl, _∙_}
 use Prim.Native.Nat.{_-_, _<_}
 use native.Mathlib.Omega.{arith}
 use lib.ListN.{length, getD, length-set}
-use borrow.Author.Needs.{needs}
 use Rattle.events.proofs.FactRows.{noEvent, waiting-count, waiting-moment-at}
 use Rattle.events.proofs.Listed.{event-fits, event-row}
 use Rattle.applicability.proofs.Marks.{laid-none, within-more}

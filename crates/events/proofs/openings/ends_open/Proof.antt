@@ -1,7 +1,6 @@
 -- `ends_open` meets its contract: what is lent fits, and the rows are those of the entries and events. Assumes nothing.
 use native.Mathlib.Omega.{arith}
 use Rattle.events.proofs.OpenRows.{events-few, entries-few, ends-held}
-use borrow.Author.Needs.{needs}
 use Rattle.events.proofs.openings.ends_open.Statement.{statement}
 use Rattle.events.proofs.openings.ends_open.Tie as tie
 

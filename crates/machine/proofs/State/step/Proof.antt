@@ -77,7 +77,7 @@ forbidden-requires c κs =
     let e = events-length (c .before .before .before .before .before .before .before .before .before .before .before .before .before .before .before .before .before .before .before .before .before) in
     let f = p .0 .facts in
     let w = p .0 .room in
-    (p .0 .ready, r, m, e, length-set (a .index .now) 12288 0 ∙ p .1, f, omega arith)
+    (p .0 .ready, r, m, e, length-set (a .index .now) 12288 _ ∙ p .1, f, omega arith)
 
 same-length-3 : tie.Need-same-length-3
 same-length-3 c = search needs
@@ -89,7 +89,7 @@ returns-2 : tie.Need-returns-2
 returns-2 c =
     let a = c .before .before .before .before .before .before .before .before .before .before .before .before .before .before .before .before .before .before .before .before .before .before .before .args in (
       λ D variables s es old lent kept is memory under noted.
-          let held = (indexed-set (a .arities .now) (a .counts .keys) (rowsIn (a .counts .components) (a .parts .now)) (a .index .now) 0 (map factRow (s .facts)) (noted .indexed)) in
+          let held = (indexed-set (a .arities .now) (a .counts .keys) (rowsIn (a .counts .components) (a .parts .now)) (a .index .now) _ (map factRow (s .facts)) (noted .indexed)) in
           let f = c .before .forbidden .ensures D variables (a .sorts .now) (a .parts .now) s es lent kept is (state-rows D (lent .held .bounded) s es kept (a .self) is (a .work .now) old memory) (a .counts .keys) (rowsIn (a .counts .components) (a .parts .now)) held in
           leaves-forbidden D s es old (a .weight) (c .before .forbidden .result) f (c .if2 .taken) (a .self) is (a .work .now) memory,
       λ D variables s es old lent kept is memory noted z. absurd (c .if2 .taken z),
@@ -111,13 +111,13 @@ advance-requires c κs =
     let r = entries-length (c .before .before .before .before .before .before .before .before .before .before .before .before .before .before .before .before .before .before .before .before .before .before .before .before .before .before .before .before .before .before) in
     let m = moments-length (c .before .before .before .before .before .before .before .before .before .before .before .before .before .before .before .before .before .before .before .before .before .before .before .before .before .before .before .before .before .before) in
     let e = events-length (c .before .before .before .before .before .before .before .before .before .before .before .before .before .before .before .before .before .before .before .before .before .before .before .before .before .before .before .before .before .before) in
-    (p .0, length-set (a .index .now) 12288 0 ∙ p .1, r, m, e, p .2, p .3)
+    (p .0, length-set (a .index .now) 12288 _ ∙ p .1, r, m, e, p .2, p .3)
 
 same-length-5 : tie.Need-same-length-5
 same-length-5 c = search needs
 
 same-length-6 : tie.Need-same-length-6
-same-length-6 c = c .before .before .before .before .before .before .before .before .before .before .before .advance .kept .1 .1 .1 .1 .1 .1 .1 .1 .1 .1 .1 .0 ∙ length-set (c .before .before .before .before .before .before .before .before .before .before .before .before .before .before .before .before .before .before .before .before .before .before .before .before .before .before .before .before .before .before .before .before .before .before .before .before .before .before .before .before .before .before .args .index .now) 12288 0
+same-length-6 c = c .before .before .before .before .before .before .before .before .before .before .before .advance .kept .1 .1 .1 .1 .1 .1 .1 .1 .1 .1 .1 .0 ∙ length-set (c .before .before .before .before .before .before .before .before .before .before .before .before .before .before .before .before .before .before .before .before .before .before .before .before .before .before .before .before .before .before .before .before .before .before .before .before .before .before .before .before .before .before .args .index .now) 12288 _
 
 same-length-7 : tie.Need-same-length-7
 same-length-7 c = search needs
@@ -130,7 +130,7 @@ returns-3 c =
     let a = c .before .before .before .before .before .before .before .before .before .before .before .before .before .before .before .before .before .before .before .before .before .before .before .before .before .before .before .before .before .before .before .before .before .before .before .before .before .before .before .before .before .before .args in
     let x = c .before .before .before .before .before .before .before .before .before .before .before .advance in (
       λ D variables s es old lent kept is memory under noted.
-          let held = (indexed-set (a .arities .now) (a .counts .keys) (rowsIn (a .counts .components) (a .parts .now)) (a .index .now) 0 (map factRow (s .facts)) (noted .indexed)) in
+          let held = (indexed-set (a .arities .now) (a .counts .keys) (rowsIn (a .counts .components) (a .parts .now)) (a .index .now) _ (map factRow (s .facts)) (noted .indexed)) in
           let f = c .before .before .before .before .before .before .before .before .before .before .before .before .before .before .before .before .before .before .before .before .forbidden .ensures D variables (a .sorts .now) (a .parts .now) s es lent kept is (state-rows D (lent .held .bounded) s es kept (a .self) is (a .work .now) old memory) (a .counts .keys) (rowsIn (a .counts .components) (a .parts .now)) held in
           held-refused (x .result .facts) (x .result .open) (x .last .1 .1 .1 .1 .1 .1 .0) (a .self) (x .ensures .0 D variables s es old lent kept is memory under (sym f ∙ c .before .before .before .before .before .before .before .before .before .before .before .before .before .before .before .before .before .before .before .if2 .left) held) (c .if3 .taken),
       λ D variables s es old lent kept is memory noted z. absurd (c .if3 .taken z),
@@ -143,7 +143,7 @@ same-length-9 : tie.Need-same-length-9
 same-length-9 c = search needs
 
 same-length-10 : tie.Need-same-length-10
-same-length-10 c = c .before .before .before .before .before .before .before .before .before .before .before .before .advance .kept .1 .1 .1 .1 .1 .1 .1 .1 .1 .1 .1 .0 ∙ length-set (c .before .before .before .before .before .before .before .before .before .before .before .before .before .before .before .before .before .before .before .before .before .before .before .before .before .before .before .before .before .before .before .before .before .before .before .before .before .before .before .before .before .before .before .args .index .now) 12288 0
+same-length-10 c = c .before .before .before .before .before .before .before .before .before .before .before .before .advance .kept .1 .1 .1 .1 .1 .1 .1 .1 .1 .1 .1 .0 ∙ length-set (c .before .before .before .before .before .before .before .before .before .before .before .before .before .before .before .before .before .before .before .before .before .before .before .before .before .before .before .before .before .before .before .before .before .before .before .before .before .before .before .before .before .before .before .args .index .now) 12288 _
 
 same-length-11 : tie.Need-same-length-11
 same-length-11 c = search needs
@@ -156,11 +156,11 @@ returns-4 c =
     let a = c .before .before .before .before .before .before .before .before .before .before .before .before .before .before .before .before .before .before .before .before .before .before .before .before .before .before .before .before .before .before .before .before .before .before .before .before .before .before .before .before .before .before .before .args in
     let x = c .before .before .before .before .before .before .before .before .before .before .before .before .advance in (
       λ D variables s es old lent kept is memory under noted.
-          let held = (indexed-set (a .arities .now) (a .counts .keys) (rowsIn (a .counts .components) (a .parts .now)) (a .index .now) 0 (map factRow (s .facts)) (noted .indexed)) in
+          let held = (indexed-set (a .arities .now) (a .counts .keys) (rowsIn (a .counts .components) (a .parts .now)) (a .index .now) _ (map factRow (s .facts)) (noted .indexed)) in
           let f = c .before .before .before .before .before .before .before .before .before .before .before .before .before .before .before .before .before .before .before .before .before .forbidden .ensures D variables (a .sorts .now) (a .parts .now) s es lent kept is (state-rows D (lent .held .bounded) s es kept (a .self) is (a .work .now) old memory) (a .counts .keys) (rowsIn (a .counts .components) (a .parts .now)) held in
           held-taken (x .result .facts) (x .result .open) (x .last .1 .1 .1 .1 .1 .1 .0) (a .self) (x .ensures .0 D variables s es old lent kept is memory under (sym f ∙ c .before .before .before .before .before .before .before .before .before .before .before .before .before .before .before .before .before .before .before .before .if2 .left) held) (c .before .if3 .left) (c .none .result) (c .none .ensures),
       λ D variables s es old lent kept is memory noted z.
-          let held = (indexed-set (a .arities .now) (a .counts .keys) (rowsIn (a .counts .components) (a .parts .now)) (a .index .now) 0 (map factRow (s .facts)) (noted .indexed)) in
+          let held = (indexed-set (a .arities .now) (a .counts .keys) (rowsIn (a .counts .components) (a .parts .now)) (a .index .now) _ (map factRow (s .facts)) (noted .indexed)) in
           let f = c .before .before .before .before .before .before .before .before .before .before .before .before .before .before .before .before .before .before .before .before .before .forbidden .ensures D variables (a .sorts .now) (a .parts .now) s es lent kept is (state-rows D (lent .held .bounded) s es kept (a .self) is (a .work .now) old memory) (a .counts .keys) (rowsIn (a .counts .components) (a .parts .now)) held in
           noted-anew (a .arities .now) (a .counts .keys) (rowsIn (a .counts .components) (a .parts .now)) D _ (closeState D s es)
           (x .ensures .1 .0 D variables s es old lent kept is memory (sym f ∙ c .before .before .before .before .before .before .before .before .before .before .before .before .before .before .before .before .before .before .before .before .if2 .left) held (c .before .if3 .left))
