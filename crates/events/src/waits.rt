@@ -1,5 +1,4 @@
-// Events that wait for the close of their step, one behind the other; and what is open at first.
-use super::Open;
+// Events that wait for the close of their step, one behind the other; bytes and zeros written at an offset.
 use super::Waiting;
 ghost use mathlib.Core.Path.{_≡_};
 ghost use mathlib.Core.List.{List, [], _∷_, _++_};
@@ -10,7 +9,7 @@ ghost use Rattle.literals.specs.Domain.{Domain};
 ghost use Rattle.literals.specs.Table.{Bounded};
 ghost use Rattle.classes.specs.Classes.{momentNumber};
 ghost use Rattle.verdict.specs.Machine.{Event};
-ghost use Rattle.events.specs.Coded.{openOf, groundRow, waitingOf, EventsFit};
+ghost use Rattle.events.specs.Coded.{groundRow, waitingOf, EventsFit};
 
 // The bytes of a slice, written at an offset.
 pub fn put_bytes(out: &mut [u8], at: usize, p: &[u8])
@@ -43,34 +42,16 @@ impl Waiting {
             rows: [0u8; 272],
         }
     }
-
-    // One event more, behind the others.
-    pub fn with(self, moment: u8, ground: [u8; 17]) -> Waiting
-        requires { ⌜ self .count < 16 ⌝ }
-        ensures { λ r. ⌜ ((D : Domain) (es : List Event) (e : Event) → Bounded D → EventsFit D es → self ≡ waitingOf es
-            → moment ≡ momentNumber (e .moment) → ground ≡ groundRow (e .ground) → r ≡ waitingOf (es ++ (e ∷ []))) ⌝ }
-    {
-        let n = self.count;
-        let mut moments = self.moments;
-        moments[n] = moment;
-        let mut rows = self.rows;
-        put_bytes(&mut rows, 17 * n, &ground);
-        Waiting {
-            count: n + 1,
-            moments,
-            rows,
-        }
-    }
 }
 
-impl Open {
-    // Nothing is open.
-    pub fn none() -> Open
-        ensures { λ r. ⌜ r ≡ openOf [] ⌝ }
-    {
-        Open {
-            count: 0,
-            rows: [0u8; 544],
-        }
-    }
+// One event more, behind the first n that wait.
+pub fn wait(moments: &mut [u8], events: &mut [u8], n: usize, moment: u8, ground: [u8; 17])
+    requires { ⌜ (n < 16) × (length (now moments) ≡ 16) × (length (now events) ≡ 272) ⌝ }
+    ensures { λ _. ⌜ ((D : Domain) (es : List Event) (e : Event) → Bounded D → EventsFit D es
+        → record { count = n; moments = now (moments .entry); rows = now (events .entry) } ≡ waitingOf es
+        → moment ≡ momentNumber (e .moment) → ground ≡ groundRow (e .ground)
+        → record { count = n + 1; moments = now (moments .exit); rows = now (events .exit) } ≡ waitingOf (es ++ (e ∷ []))) ⌝ }
+{
+    moments[n] = moment;
+    put_bytes(events, 17 * n, &ground);
 }

@@ -1,5 +1,6 @@
-// The machine: its state as the code holds it (here), and the step's close (step). What a step asks is told by the crate applicability, what it leaves by effects and
+// The machine: its state as the code holds it (here), out of memories and into them (memory), and the step's close (step). What a step asks is told by the crate applicability, what it leaves by effects and
 // events; facts are held by the crate store.
+pub mod memory;
 pub mod step;
 
 use events::Open;

@@ -16,13 +16,12 @@ use Rattle.literals.proofs.Tables.{pad-at}
 use Rattle.literals.proofs.Held.{arities-is}
 use Rattle.verdict.specs.Machine.{Event, State, next, topWeight}
 use Rattle.store.specs.Index.{totalAt, Indexed}
-use Rattle.player.specs.declared.Turn.{Turn}
 use Rattle.runs.specs.RunFile.{RunKind, objectsRecord, factRecord, eventRecord, stepRecord, endRecord, otherRecord, runKindOf, factOf, eventOf}
 use Rattle.runs.specs.Play.{maxFacts, objectsStop, factStop, eventStop, stepStop, endStop, Playing, PlayTurn, goOn, finish, outcomeAt, stopAt, tallied, onward, unless, begin, withObjects, withFact, withEvent, withClose, beforeRun, tooLarge, forbidden, accepted, afterStep, closeStep, playRecord}
 use Rattle.store.specs.Rows.{factRow}
 use Rattle.machine.specs.Stepping.{Noted, closeStop, closeState}
 use Rattle.machine.proofs.Resting.{indexed-set, noted-anew, unset}
-use Rattle.player.specs.Player.{LeadsTo, NotedAfter}
+use Rattle.player.specs.Player.{WholeTurn as Turn, LeadsTo, NotedAfter}
 use Rattle.player.proofs.Sound.{fact-taken}
 
 module _ (D : Domain) (arities : List ℕ) (keys : ℕ) (parts : List (List ℕ)) (index : List ℕ) where

@@ -11,12 +11,10 @@ use Rattle.literals.specs.declared.Counts.{Counts}
 use Rattle.literals.specs.Domain.{Domain}
 use Rattle.literals.specs.Table.{Bounded, rowsIn}
 use Rattle.verdict.specs.Judged.{factBytes}
-use Rattle.player.specs.declared.Player.{Player}
-use Rattle.player.specs.declared.Turn.{Turn}
 use Rattle.player.specs.declared.run.Ended.{Ended}
 use Rattle.runs.specs.Play.{Playing, beforeRun, Outcome, PlayTurn, goOn, finish, heldBytes, playStep, playFrom, playRun}
 use Rattle.machine.specs.Stepping.{Noted}
-use Rattle.player.specs.Player.{playerOf, Stands, LeadsTo, NotedAfter, Playable, Runnable, endedOf}
+use Rattle.player.specs.Player.{Whole as Player, WholeTurn as Turn, playerOf, Stands, LeadsTo, NotedAfter, Playable, Runnable, endedOf}
 use Rattle.runs.proofs.Loop.{play-more, play-done, play-at}
 use Rattle.player.proofs.Sound.{sound-on, sound-new}
 use Rattle.player.proofs.PlayTurns.{at-is}

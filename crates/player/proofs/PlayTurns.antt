@@ -21,19 +21,47 @@ use Rattle.literals.proofs.Bounds.{arity-six}
 use Rattle.verdict.specs.Machine.{Event, State, next, topWeight}
 use Rattle.machine.specs.declared.State.{State as Holding}
 use Rattle.events.specs.declared.Waiting.{Waiting}
-use Rattle.player.specs.declared.Player.{Player}
+use Rattle.player.specs.declared.Player.{Player as Small}
 use Rattle.player.specs.declared.Tally.{Tally as Held}
-use Rattle.player.specs.declared.Turn.{Turn}
 use Rattle.runs.specs.RunFile.{objectsRecord, factRecord, eventRecord, stepRecord, endRecord, otherRecord, runKindOf, factOf, eventOf}
 use Rattle.runs.specs.Play.{objectsStop, factStop, eventStop, stepStop, endStop, playRecord, playFound, playStep, Playing, onward, PlayTurn, goOn, stopAt, startTally, begin, withObjects, joined, withFact, withEvent, withClose, unless, forbidden, tooLarge, accepted, afterStep, closeStep, heldBytes}
 use Rattle.store.specs.Rows.{factRow, hasRow, Few}
 use Rattle.events.specs.Coded.{waitingOf}
-use Rattle.machine.specs.Stepping.{holdingOf, closeStop, closeState, closeWaiting, closeWeight, Leaves}
-use Rattle.player.specs.Player.{tallyOf, playerOf, Stands, LeadsTo, NotedAfter}
+use Rattle.machine.specs.Stepping.{holdingOf, heldAs, closeStop, closeState, closeWaiting, closeWeight, Leaves}
+use Rattle.player.specs.Player.{Whole as Player, WholeTurn as Turn, wholeOf, tallyOf, playerOf, Stands, LeadsTo, NotedAfter}
 use Rattle.events.proofs.FactRows.{has-fact}
 use Rattle.machine.proofs.HeldBytes.{fits-few, state-rows}
 use Rattle.machine.proofs.RunRows.{held-more}
 use Rattle.player.proofs.Sound.{FactTaken, fact-taken}
+
+-- ---- the player with its memories
+
+-- going on behind a record
+pub gone-on : (self new : Small) (behind facts waits : ℕ) (entries moments events : List ℕ)
+    → new ≡ record { at = behind; closed = false; objects = self .objects; facts = facts; opened = self .opened; waits = waits; tally = self .tally }
+    → (new .at ≡ behind) × (new .closed ≡ false) × (new .objects ≡ self .objects)
+    × (wholeOf new entries moments events .state ≡ heldAs facts (self .opened) entries waits moments events) × (new .tally ≡ self .tally)
+gone-on self new behind facts waits entries moments events e = (
+  ap (λ (x : Small). x .at) e,
+  ap (λ (x : Small). x .closed) e,
+  ap (λ (x : Small). x .objects) e,
+  ap (λ (x : Small). heldAs (x .facts) (x .opened) entries (x .waits) moments events) e,
+  ap (λ (x : Small). x .tally) e,
+)
+
+-- a state that is put into the memories
+pub put-back : (at : ℕ) (closed : Bool) (objects : ℕ) (tally : Held) (s : Holding) (entries moments events : List ℕ) → entries ≡ s .running .rows → moments ≡ s .waiting .moments → events ≡ s .waiting .rows
+    → _≡_ {A = Player}
+    (record { at = at; closed = closed; objects = objects; state = heldAs (s .facts) (s .running .count) entries (s .waiting .count) moments events; tally = tally })
+    (record { at = at; closed = closed; objects = objects; state = s; tally = tally })
+put-back at closed objects tally s entries moments events e f g i =
+    record {
+      at = at;
+      closed = closed;
+      objects = objects;
+      state = record { facts = s .facts; running = record { count = s .running .count; rows = e i }; waiting = record { count = s .waiting .count; moments = f i; rows = g i } };
+      tally = tally;
+    }
 
 -- ---- a record that is refused, and one that passes
 

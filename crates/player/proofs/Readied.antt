@@ -19,11 +19,10 @@ use Rattle.literals.proofs.Held.{starts-length, shaped}
 use Rattle.literals.proofs.Spans.{vars-at}
 use Rattle.verdict.specs.Machine.{Event, State}
 use Rattle.machine.specs.declared.State.{State as Holding}
-use Rattle.player.specs.declared.Player.{Player}
 use Rattle.runs.specs.Play.{workBytes, maxFacts, Playing, begin, accepted, heldBytes}
 use Rattle.events.specs.Coded.{openOf, waitingOf, Lent, Ready}
 use Rattle.machine.specs.Stepping.{holdingOf, Kept, Closable, Noted}
-use Rattle.player.specs.Player.{playerOf, Stands, Playable}
+use Rattle.player.specs.Player.{Whole as Player, playerOf, Stands, Playable}
 use Rattle.machine.proofs.HeldBytes.{fits-few, length-held, state-once}
 use Rattle.player.proofs.Sound.{sound-begin}
 use Rattle.player.proofs.PlayTurns.{state-is, waiting-are}

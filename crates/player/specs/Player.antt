@@ -10,13 +10,14 @@ use Rattle.literals.specs.declared.Counts.{Counts}
 use Rattle.literals.specs.Domain.{Domain}
 use Rattle.literals.specs.Table.{rowsIn}
 use Rattle.verdict.specs.Machine.{topWeight}
+use Rattle.machine.specs.declared.State.{State as Holding}
 use Rattle.player.specs.declared.Player.{Player}
 use Rattle.player.specs.declared.Tally.{Tally}
 use Rattle.player.specs.declared.Turn.{Turn}
 use Rattle.player.specs.declared.run.Ended.{Ended}
 use Rattle.runs.specs.Play.{maxObjects, workBytes, Tally as Counted, Playing, PlayTurn, goOn, finish, Outcome, accepted, heldBytes}
 use Rattle.events.specs.Coded.{openOf, waitingOf, Lent}
-use Rattle.machine.specs.Stepping.{holdingOf, Kept, Noted}
+use Rattle.machine.specs.Stepping.{holdingOf, heldAs, Kept, Noted}
 
 -- ---- what the code holds
 
@@ -25,8 +26,34 @@ abbrev pub tallyOf : Domain → Counted → Tally
 tallyOf D t =
     record { begun = t .begun; watched = t .startSafe && accepted D; steps = t .steps; weight = t .weight }
 
+-- the player with the machine's state, whose entries and events stand in memories beside it
+pub record Whole : Type 0 where
+  pub at : ℕ
+  pub closed : Bool
+  pub objects : ℕ
+  pub state : Holding
+  pub tally : Tally
+
+abbrev pub wholeOf : Player → List ℕ → List ℕ → List ℕ → Whole
+wholeOf player entries moments events =
+    record {
+      at = player .at;
+      closed = player .closed;
+      objects = player .objects;
+      state = heldAs (player .facts) (player .opened) entries (player .waits) moments events;
+      tally = player .tally;
+    }
+
+-- and with the number that ends playing, or 0
+pub record WholeTurn : Type 0 where
+  pub number : ℕ
+  pub player : Whole
+
+abbrev pub turnOf : Turn → List ℕ → List ℕ → List ℕ → WholeTurn
+turnOf turn entries moments events = record { number = turn .number; player = wholeOf (turn .player) entries moments events }
+
 -- where playing stands
-unfoldable pub playerOf : Domain → Playing → Player
+unfoldable pub playerOf : Domain → Playing → Whole
 unfolding openOf waitingOf
 playerOf D p =
     record {
@@ -51,7 +78,7 @@ pub record Sound (D : Domain) (p : Playing) : Type 0 where
   pub watched : p .tally .startSafe && accepted D ≡ true → p .tally .weight ≤ 1
 
 -- the player and its work memory stand where playing stands
-pub record Stands (D : Domain) (p : Playing) (player : Player) (work old : List ℕ) : Type 0 where
+pub record Stands (D : Domain) (p : Playing) (player : Whole) (work old : List ℕ) : Type 0 where
   pub is : player ≡ playerOf D p
   pub memory : work ≡ over (heldBytes (p .state .facts)) old
   pub sound : Sound D p
@@ -59,13 +86,13 @@ pub record Stands (D : Domain) (p : Playing) (player : Player) (work old : List 
 -- ---- what a record leads to
 
 -- playing goes on
-pub record GoesOn (D : Domain) (q : Playing) (t : Turn) (work old : List ℕ) : Type 0 where
+pub record GoesOn (D : Domain) (q : Playing) (t : WholeTurn) (work old : List ℕ) : Type 0 where
   pub number : t .number ≡ 0
   pub is : t .player ≡ playerOf D q
   pub memory : work ≡ over (heldBytes (q .state .facts)) old
 
 -- playing ends
-pub record Ends (o : Outcome) (t : Turn) (work old : List ℕ) : Type 0 where
+pub record Ends (o : Outcome) (t : WholeTurn) (work old : List ℕ) : Type 0 where
   pub number : t .number ≡ o .number
   pub some : o .number ≡ 0 → ⊥
   pub place : t .player .at ≡ o .place
@@ -73,7 +100,7 @@ pub record Ends (o : Outcome) (t : Turn) (work old : List ℕ) : Type 0 where
   pub weight : t .player .tally .weight ≡ o .weight
   pub memory : work ≡ over (heldBytes (o .facts)) old
 
-abbrev pub LeadsTo : Domain → PlayTurn → Turn → List ℕ → List ℕ → Type 0
+abbrev pub LeadsTo : Domain → PlayTurn → WholeTurn → List ℕ → List ℕ → Type 0
 LeadsTo D (goOn q) t work old = GoesOn D q t work old
 LeadsTo D (finish o) t work old = Ends o t work old
 
@@ -85,7 +112,7 @@ NotedAfter D arities keys parts index (finish o) = Unit {0}
 -- ---- what the code relies on
 
 -- to play a record: a domain is lent, and the player stands somewhere in its run
-pub record Playable (n : Counts) (arities variables sorts starts parts table : List ℕ) (accepts : Bool) (player : Player) (work index : List ℕ) : Type 0 where
+pub record Playable (n : Counts) (arities variables sorts starts parts table : List ℕ) (accepts : Bool) (player : Whole) (work index : List ℕ) : Type 0 where
   pub said : Domain
   pub reached : Playing
   pub old : List ℕ

@@ -3,8 +3,6 @@ pub mod play;
 pub mod playing;
 pub mod run;
 
-use machine::State;
-
 // What is counted of a run: whether the start counts (a record of kind 18 to 20 is met), whether a weight above 1 is a fault (the template is accepted, the
 // start weights are at most 1), the steps made, the highest weight.
 pub struct Tally {
@@ -14,12 +12,15 @@ pub struct Tally {
     pub weight: usize,
 }
 
-// Where playing stands: the next record's offset, whether the run's close is read, and the object count, 0 before its record.
+// Where playing stands: the next record's offset, whether the run's close is read, the object count, 0 before its record, and of the machine's state how many facts are held, how many entries are open and
+// how many events wait. Entries and events stand in memories beside it, as the facts do.
 pub struct Player {
     pub at: usize,
     pub closed: bool,
     pub objects: u8,
-    pub state: State,
+    pub facts: usize,
+    pub opened: usize,
+    pub waits: usize,
     pub tally: Tally,
 }
 

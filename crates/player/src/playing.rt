@@ -2,8 +2,7 @@
 use super::Player;
 use super::Tally;
 use super::Turn;
-use events::Open;
-use events::Waiting;
+use events::waits::wait;
 use literals::Counts;
 use machine::State;
 use records::Record;
@@ -24,15 +23,15 @@ ghost use mathlib.Core.Bool.{true, false, _&&_};
 ghost use mathlib.Core.List.{List};
 ghost use Prim.Native.Nat.{ℕ, _+_, _*_, _<_, _≤_};
 ghost use lib.Dec.{leb};
-ghost use lib.ListN.{length, getD};
+ghost use lib.ListN.{length, getD, replicate};
 ghost use Rattle.literals.specs.Domain.{Domain};
 ghost use Rattle.literals.specs.Decode.{byte};
 ghost use Rattle.literals.specs.Table.{rowsIn, indexWith, Holds};
 ghost use Rattle.runs.specs.RunFile.{runKindOf, factOf, eventOf};
 ghost use Rattle.runs.specs.Play.{Playing, beforeRun, goOn, unless, begin, objectsStop, withObjects, factStop, withFact, eventStop, withEvent, stepStop, closeStep, endStop, withClose, accepted as acceptedTemplate, playRecord, playStep};
 ghost use Rattle.events.specs.Coded.{Lent};
-ghost use Rattle.machine.specs.Stepping.{Noted, Closable};
-ghost use Rattle.player.specs.Player.{tallyOf, playerOf, Stands, Playable, LeadsTo, NotedAfter};
+ghost use Rattle.machine.specs.Stepping.{heldAs, Noted, Closable};
+ghost use Rattle.player.specs.Player.{Whole, wholeOf, turnOf, tallyOf, playerOf, Stands, Playable, LeadsTo, NotedAfter};
 
 // Whether a weight above 1 is a fault from now on: the template is accepted, and the start weights are at most 1.
 fn is_watched(top: usize, accepted: bool) -> bool
@@ -57,7 +56,7 @@ impl Tally {
         index: &[u64],
     ) -> Tally
         requires { ⌜ (8 * components ≤ length (now parts)) × (keys ≤ 6) × (facts ≤ 1024) × (8 * facts ≤ length (now work)) × (length (now index) ≡ 12289) ⌝ }
-        ensures { λ r. ⌜ ((D : Domain) (p : Playing) (player : Player) (counts : Counts) (arities variables sorts starts old : List ℕ) → Holds D (indexWith counts arities variables sorts starts (now (parts .entry)))
+        ensures { λ r. ⌜ ((D : Domain) (p : Playing) (player : Whole) (counts : Counts) (arities variables sorts starts old : List ℕ) → Holds D (indexWith counts arities variables sorts starts (now (parts .entry)))
             → components ≡ counts .components → keys ≡ counts .keys → «accepted» ≡ acceptedTemplate D
             → Stands D p player (now (work .entry)) old → self ≡ player .tally → facts ≡ player .state .facts
             → Noted D arities keys (rowsIn components (now (parts .entry))) (now (index .entry)) (p .state) → r ≡ tallyOf D (begin D p .tally)) ⌝ }
@@ -79,17 +78,15 @@ impl Tally {
 impl Player {
     // Before the run.
     pub fn new() -> Player
-        ensures { λ r. ⌜ ((D : Domain) → r ≡ playerOf D beforeRun) ⌝ }
+        ensures { λ r. ⌜ ((D : Domain) → wholeOf r (replicate 544 0) (replicate 16 0) (replicate 272 0) ≡ playerOf D beforeRun) ⌝ }
     {
         Player {
             at: 0,
             closed: false,
             objects: 0,
-            state: State {
-                facts: 0,
-                running: Open::none(),
-                waiting: Waiting::none(),
-            },
+            facts: 0,
+            opened: 0,
+            waits: 0,
             tally: Tally {
                 begun: false,
                 watched: false,
@@ -99,7 +96,7 @@ impl Player {
         }
     }
 
-    // The player with the tally from then on. (The tally alone is chosen there: choosing the player would be one copy more of its state for each record.)
+    // The player with the tally from then on.
     fn begin(
         self,
         components: usize,
@@ -109,48 +106,44 @@ impl Player {
         work: &[u8],
         index: &[u64],
     ) -> Player
-        requires { ⌜ (8 * components ≤ length (now parts)) × (keys ≤ 6) × (self .state .facts ≤ 1024) × (8 * self .state .facts ≤ length (now work)) × (length (now index) ≡ 12289) ⌝ }
-        ensures { λ r. ⌜ ((D : Domain) (p : Playing) (counts : Counts) (arities variables sorts starts old : List ℕ) → Holds D (indexWith counts arities variables sorts starts (now (parts .entry)))
-            → components ≡ counts .components → keys ≡ counts .keys → «accepted» ≡ acceptedTemplate D → Stands D p self (now (work .entry)) old
-            → Noted D arities keys (rowsIn components (now (parts .entry))) (now (index .entry)) (p .state) → r ≡ playerOf D (begin D p)) ⌝ }
+        requires { ⌜ (8 * components ≤ length (now parts)) × (keys ≤ 6) × (self .facts ≤ 1024) × (8 * self .facts ≤ length (now work)) × (length (now index) ≡ 12289) ⌝ }
+        ensures { λ r. ⌜ ((D : Domain) (p : Playing) (entries moments events : List ℕ) (counts : Counts) (arities variables sorts starts old : List ℕ) → Holds D (indexWith counts arities variables sorts starts (now (parts .entry)))
+            → components ≡ counts .components → keys ≡ counts .keys → «accepted» ≡ acceptedTemplate D → Stands D p (wholeOf self entries moments events) (now (work .entry)) old
+            → Noted D arities keys (rowsIn components (now (parts .entry))) (now (index .entry)) (p .state) → wholeOf r entries moments events ≡ playerOf D (begin D p)) ⌝ }
     {
-        let tally = self.tally.begin(
-            self.state.facts,
-            components,
-            keys,
-            parts,
-            accepted,
-            work,
-            index,
-        );
-        let state = self.state;
+        let tally = self.tally
+            .begin(self.facts, components, keys, parts, accepted, work, index);
         Player {
             at: self.at,
             closed: self.closed,
             objects: self.objects,
-            state,
+            facts: self.facts,
+            opened: self.opened,
+            waits: self.waits,
             tally,
         }
     }
 
-    // The same, going on behind a record with another state of the machine.
-    fn onward(self, behind: usize, state: State) -> Player
-        ensures { λ r. ⌜ (r .at ≡ behind) × (r .closed ≡ false) × (r .objects ≡ self .objects) × (r .state ≡ state) × (r .tally ≡ self .tally) ⌝ }
+    // The same, going on behind a record with so many facts and so many events that wait.
+    fn onward(self, behind: usize, facts: usize, waits: usize) -> Player
+        ensures { λ r. ⌜ r ≡ record { at = behind; closed = false; objects = self .objects; facts = facts; opened = self .opened; waits = waits; tally = self .tally } ⌝ }
     {
         let tally = self.tally;
         Player {
             at: behind,
             closed: false,
             objects: self.objects,
-            state,
+            facts,
+            opened: self.opened,
+            waits,
             tally,
         }
     }
 
     // Kind 16: the object count.
     fn take_objects(self, p: &[u8], behind: usize) -> Turn
-        ensures { λ r. ⌜ ((D : Domain) (q : Playing) (work old : List ℕ) → Stands D q self work old
-            → LeadsTo D (unless (objectsStop q (now (p .entry))) q (goOn (withObjects q (byte (now (p .entry)) 0) behind))) r work old) ⌝ }
+        ensures { λ r. ⌜ ((D : Domain) (q : Playing) (entries moments events work old : List ℕ) → Stands D q (wholeOf self entries moments events) work old
+            → LeadsTo D (unless (objectsStop q (now (p .entry))) q (goOn (withObjects q (byte (now (p .entry)) 0) behind))) (turnOf r entries moments events) work old) ⌝ }
     {
         let number = objects_stop(self.objects, p);
         if number != 0 {
@@ -159,7 +152,6 @@ impl Player {
                 player: self,
             };
         }
-        let state = self.state;
         let tally = self.tally;
         Turn {
             number: 0,
@@ -167,7 +159,9 @@ impl Player {
                 at: behind,
                 closed: false,
                 objects: p[0],
-                state,
+                facts: self.facts,
+                opened: self.opened,
+                waits: self.waits,
                 tally,
             },
         }
@@ -184,17 +178,16 @@ impl Player {
         p: &[u8],
         behind: usize,
     ) -> Turn
-        requires { ⌜ (length (now arities) ≡ 64) × ((i : ℕ) → getD (now arities) i 0 ≤ 6) × (counts .relations ≤ 64) × (self .state .facts ≤ 1024) × (8192 ≤ length (now work))
+        requires { ⌜ (length (now arities) ≡ 64) × ((i : ℕ) → getD (now arities) i 0 ≤ 6) × (counts .relations ≤ 64) × (self .facts ≤ 1024) × (8192 ≤ length (now work))
             × (8 * counts .components ≤ length (now parts)) × (counts .keys ≤ 6) × (length (now index) ≡ 12289) ⌝ }
-        ensures { λ r. ⌜ ((D : Domain) (q : Playing) (variables sorts starts old : List ℕ) → Holds D (indexWith counts (now (arities .entry)) variables sorts starts (now (parts .entry)))
-            → Stands D q self (now (work .entry)) old
+        ensures { λ r. ⌜ ((D : Domain) (q : Playing) (entries moments events variables sorts starts old : List ℕ) → Holds D (indexWith counts (now (arities .entry)) variables sorts starts (now (parts .entry)))
+            → Stands D q (wholeOf self entries moments events) (now (work .entry)) old
             → Noted D (now (arities .entry)) (counts .keys) (rowsIn (counts .components) (now (parts .entry))) (now (index .entry)) (q .state)
-            → LeadsTo D (unless (factStop D q (now (p .entry))) q (goOn (withFact q (factOf (now (p .entry))) behind))) r (now (work .exit)) old
+            → LeadsTo D (unless (factStop D q (now (p .entry))) q (goOn (withFact q (factOf (now (p .entry))) behind))) (turnOf r entries moments events) (now (work .exit)) old
             × NotedAfter D (now (arities .entry)) (counts .keys) (rowsIn (counts .components) (now (parts .entry))) (now (index .exit)) (unless (factStop D q (now (p .entry))) q (goOn (withFact q (factOf (now (p .entry))) behind)))) ⌝ }
     {
         let tally = self.tally;
-        let state = self.state;
-        let n = state.facts;
+        let n = self.facts;
         let number = fact_stop(counts, arities, self.objects, tally.begun, work, n, p);
         if number != 0 {
             return Turn {
@@ -206,7 +199,7 @@ impl Player {
         if is_held(index, work, n, row) {
             return Turn {
                 number: 0,
-                player: self.onward(behind, state),
+                player: self.onward(behind, n, self.waits),
             };
         }
         if 1024 <= n {
@@ -218,11 +211,9 @@ impl Player {
         put_fact(work, n, row);
         enter(index, parts, counts.components, counts.keys, &row, 0);
         index[12288] = 0;
-        let mut next = state;
-        next.facts = n + 1;
         Turn {
             number: 0,
-            player: self.onward(behind, next),
+            player: self.onward(behind, n + 1, self.waits),
         }
     }
 
@@ -232,27 +223,26 @@ impl Player {
         counts: Counts,
         variables: &[u8],
         sorts: &[u8],
+        moments: &mut [u8],
+        events: &mut [u8],
         p: &[u8],
         behind: usize,
     ) -> Turn
-        requires { ⌜ (length (now variables) ≡ 64) × ((i : ℕ) → getD (now variables) i 0 ≤ 16) × (length (now sorts) ≡ 64) × (counts .actions ≤ 64) × (self .state .waiting .count ≤ 16) ⌝ }
-        ensures { λ r. ⌜ ((D : Domain) (q : Playing) (arities starts parts work old : List ℕ) → Holds D (indexWith counts arities (now (variables .entry)) (now (sorts .entry)) starts parts)
-            → Stands D q self work old
-            → LeadsTo D (unless (eventStop D q (now (p .entry))) q (goOn (withEvent q (eventOf (now (p .entry))) behind))) r work old) ⌝ }
+        requires { ⌜ (length (now variables) ≡ 64) × ((i : ℕ) → getD (now variables) i 0 ≤ 16) × (length (now sorts) ≡ 64) × (counts .actions ≤ 64) × (self .waits ≤ 16)
+            × (length (now moments) ≡ 16) × (length (now events) ≡ 272) ⌝ }
+        ensures { λ r. ⌜ ((D : Domain) (q : Playing) (entries arities starts parts work old : List ℕ) → Holds D (indexWith counts arities (now (variables .entry)) (now (sorts .entry)) starts parts)
+            → Stands D q (wholeOf self entries (now (moments .entry)) (now (events .entry))) work old
+            → LeadsTo D (unless (eventStop D q (now (p .entry))) q (goOn (withEvent q (eventOf (now (p .entry))) behind))) (turnOf r entries (now (moments .exit)) (now (events .exit))) work old) ⌝ }
     {
-        let state = self.state;
-        let waiting = state.waiting;
-        let running = state.running;
-        let moments = waiting.moments;
-        let events = waiting.rows;
+        let n = self.waits;
         let number = event_stop(
             counts,
             variables,
             sorts,
             self.objects,
-            &moments,
-            &events,
-            waiting.count,
+            moments,
+            events,
+            n,
             p,
         );
         if number != 0 {
@@ -261,16 +251,10 @@ impl Player {
                 player: self,
             };
         }
-        let ground = ground_row(p);
-        let more = waiting.with(p[0], ground);
-        let next = State {
-            facts: state.facts,
-            running,
-            waiting: more,
-        };
+        wait(moments, events, n, p[0], ground_row(p));
         Turn {
             number: 0,
-            player: self.onward(behind, next),
+            player: self.onward(behind, self.facts, n + 1),
         }
     }
 
@@ -285,22 +269,25 @@ impl Player {
         table: &[u8],
         work: &mut [u8],
         index: &mut [u64],
+        entries: &mut [u8],
+        moments: &mut [u8],
+        events: &mut [u8],
         spare: &mut [u8],
         effects: &mut [u8],
         p: &[u8],
         behind: usize,
     ) -> Turn
-        requires { ⌜ Closable counts (now arities) (now sorts) (now starts) (now parts) (now table) (self .state) (now work) × (self .tally .steps ≤ self .at) × (self .at < behind) × (length (now index) ≡ 12289)
+        requires { ⌜ Closable counts (now arities) (now sorts) (now starts) (now parts) (now table) (heldAs (self .facts) (self .opened) (now entries) (self .waits) (now moments) (now events)) (now work)
+            × (self .tally .steps ≤ self .at) × (self .at < behind) × (length (now index) ≡ 12289) × (length (now entries) ≡ 544) × (length (now moments) ≡ 16) × (length (now events) ≡ 272)
             × (length (now spare) ≡ 8192) × (length (now effects) ≡ 8192) ⌝ }
         ensures { λ r. ⌜ ((D : Domain) (q : Playing) (variables old : List ℕ)
             → Lent D counts (now (arities .entry)) variables (now (sorts .entry)) (now (starts .entry)) (now (parts .entry)) (now (table .entry))
-            → Stands D q self (now (work .entry)) old → q .tally .begun ≡ true
+            → Stands D q (wholeOf self (now (entries .entry)) (now (moments .entry)) (now (events .entry))) (now (work .entry)) old → q .tally .begun ≡ true
             → Noted D (now (arities .entry)) (counts .keys) (rowsIn (counts .components) (now (parts .entry))) (now (index .entry)) (q .state)
-            → LeadsTo D (unless (stepStop q (now (p .entry))) q (closeStep D q behind)) r (now (work .exit)) old
+            → LeadsTo D (unless (stepStop q (now (p .entry))) q (closeStep D q behind)) (turnOf r (now (entries .exit)) (now (moments .exit)) (now (events .exit))) (now (work .exit)) old
             × NotedAfter D (now (arities .entry)) (counts .keys) (rowsIn (counts .components) (now (parts .entry))) (now (index .exit)) (unless (stepStop q (now (p .entry))) q (closeStep D q behind))) ⌝ }
     {
         let tally = self.tally;
-        let state = self.state;
         let number = step_stop(self.objects, p);
         if number != 0 {
             return Turn {
@@ -308,6 +295,14 @@ impl Player {
                 player: self,
             };
         }
+        let state = State::held(
+            self.facts,
+            entries,
+            self.opened,
+            moments,
+            events,
+            self.waits,
+        );
         let closed = state.step(
             counts,
             arities,
@@ -330,6 +325,7 @@ impl Player {
                 player: self,
             };
         }
+        next.put(entries, moments, events);
         let counted = Tally {
             begun: tally.begun,
             watched: tally.watched,
@@ -344,7 +340,9 @@ impl Player {
                         at: self.at,
                         closed: false,
                         objects: self.objects,
-                        state: next,
+                        facts: next.facts,
+                        opened: next.running.count,
+                        waits: next.waiting.count,
                         tally: counted,
                     },
                 };
@@ -356,7 +354,9 @@ impl Player {
                 at: behind,
                 closed: false,
                 objects: self.objects,
-                state: next,
+                facts: next.facts,
+                opened: next.running.count,
+                waits: next.waiting.count,
                 tally: counted,
             },
         }
@@ -364,13 +364,11 @@ impl Player {
 
     // Kind 20: the run's close.
     fn take_end(self, p: &[u8], behind: usize) -> Turn
-        ensures { λ r. ⌜ ((D : Domain) (q : Playing) (work old : List ℕ) → Stands D q self work old
-            → LeadsTo D (unless (endStop q (now (p .entry))) q (goOn (withClose q behind))) r work old) ⌝ }
+        ensures { λ r. ⌜ ((D : Domain) (q : Playing) (entries moments events work old : List ℕ) → Stands D q (wholeOf self entries moments events) work old
+            → LeadsTo D (unless (endStop q (now (p .entry))) q (goOn (withClose q behind))) (turnOf r entries moments events) work old) ⌝ }
     {
         let tally = self.tally;
-        let state = self.state;
-        let waiting = state.waiting;
-        let number = end_stop(self.objects, waiting.count, p);
+        let number = end_stop(self.objects, self.waits, p);
         if number != 0 {
             return Turn {
                 number,
@@ -383,7 +381,9 @@ impl Player {
                 at: behind,
                 closed: true,
                 objects: self.objects,
-                state,
+                facts: self.facts,
+                opened: self.opened,
+                waits: self.waits,
                 tally,
             },
         }
@@ -402,19 +402,22 @@ impl Player {
         accepted: bool,
         work: &mut [u8],
         index: &mut [u64],
+        entries: &mut [u8],
+        moments: &mut [u8],
+        events: &mut [u8],
         spare: &mut [u8],
         effects: &mut [u8],
         kind: u16,
         p: &[u8],
         behind: usize,
     ) -> Turn
-        requires { ⌜ Playable counts (now arities) (now variables) (now sorts) (now starts) (now parts) (now table) «accepted» self (now work) (now index) × (self .at < behind)
-            × (length (now spare) ≡ 8192) × (length (now effects) ≡ 8192) ⌝ }
+        requires { ⌜ Playable counts (now arities) (now variables) (now sorts) (now starts) (now parts) (now table) «accepted» (wholeOf self (now entries) (now moments) (now events)) (now work) (now index) × (self .at < behind)
+            × (length (now entries) ≡ 544) × (length (now moments) ≡ 16) × (length (now events) ≡ 272) × (length (now spare) ≡ 8192) × (length (now effects) ≡ 8192) ⌝ }
         ensures { λ r. ⌜ ((D : Domain) (q : Playing) (old : List ℕ)
             → Lent D counts (now (arities .entry)) (now (variables .entry)) (now (sorts .entry)) (now (starts .entry)) (now (parts .entry)) (now (table .entry))
-            → «accepted» ≡ acceptedTemplate D → Stands D q self (now (work .entry)) old
+            → «accepted» ≡ acceptedTemplate D → Stands D q (wholeOf self (now (entries .entry)) (now (moments .entry)) (now (events .entry))) (now (work .entry)) old
             → Noted D (now (arities .entry)) (counts .keys) (rowsIn (counts .components) (now (parts .entry))) (now (index .entry)) (q .state)
-            → LeadsTo D (playRecord D q (runKindOf kind) (now (p .entry)) behind) r (now (work .exit)) old
+            → LeadsTo D (playRecord D q (runKindOf kind) (now (p .entry)) behind) (turnOf r (now (entries .exit)) (now (moments .exit)) (now (events .exit))) (now (work .exit)) old
             × NotedAfter D (now (arities .entry)) (counts .keys) (rowsIn (counts .components) (now (parts .entry))) (now (index .exit)) (playRecord D q (runKindOf kind) (now (p .entry)) behind)) ⌝ }
     {
         match kind {
@@ -429,7 +432,7 @@ impl Player {
                     work,
                     index,
                 );
-                begun.take_event(counts, variables, sorts, p, behind)
+                begun.take_event(counts, variables, sorts, moments, events, p, behind)
             }
             19 => {
                 let begun = self.begin(
@@ -449,6 +452,9 @@ impl Player {
                     table,
                     work,
                     index,
+                    entries,
+                    moments,
+                    events,
                     spare,
                     effects,
                     p,
@@ -487,15 +493,19 @@ impl Player {
         run: &[u8],
         work: &mut [u8],
         index: &mut [u64],
+        entries: &mut [u8],
+        moments: &mut [u8],
+        events: &mut [u8],
         spare: &mut [u8],
         effects: &mut [u8],
     ) -> Turn
-        requires { ⌜ Playable counts (now arities) (now variables) (now sorts) (now starts) (now parts) (now table) «accepted» self (now work) (now index) × (length (now spare) ≡ 8192) × (length (now effects) ≡ 8192) ⌝ }
+        requires { ⌜ Playable counts (now arities) (now variables) (now sorts) (now starts) (now parts) (now table) «accepted» (wholeOf self (now entries) (now moments) (now events)) (now work) (now index)
+            × (length (now entries) ≡ 544) × (length (now moments) ≡ 16) × (length (now events) ≡ 272) × (length (now spare) ≡ 8192) × (length (now effects) ≡ 8192) ⌝ }
         ensures { λ r. ⌜ ((D : Domain) (q : Playing) (old : List ℕ)
             → Lent D counts (now (arities .entry)) (now (variables .entry)) (now (sorts .entry)) (now (starts .entry)) (now (parts .entry)) (now (table .entry))
-            → «accepted» ≡ acceptedTemplate D → Stands D q self (now (work .entry)) old
+            → «accepted» ≡ acceptedTemplate D → Stands D q (wholeOf self (now (entries .entry)) (now (moments .entry)) (now (events .entry))) (now (work .entry)) old
             → Noted D (now (arities .entry)) (counts .keys) (rowsIn (counts .components) (now (parts .entry))) (now (index .entry)) (q .state)
-            → LeadsTo D (playStep D (now (run .entry)) q) r (now (work .exit)) old
+            → LeadsTo D (playStep D (now (run .entry)) q) (turnOf r (now (entries .exit)) (now (moments .exit)) (now (events .exit))) (now (work .exit)) old
             × NotedAfter D (now (arities .entry)) (counts .keys) (rowsIn (counts .components) (now (parts .entry))) (now (index .exit)) (playStep D (now (run .entry)) q)) ⌝ }
     {
         let at = self.at;
@@ -525,6 +535,9 @@ impl Player {
                     accepted,
                     work,
                     index,
+                    entries,
+                    moments,
+                    events,
                     spare,
                     effects,
                     kind,

@@ -47,11 +47,14 @@ fn play_records(
     run: &[u8],
     work: &mut [u8],
     index: &mut [u64],
+    entries: &mut [u8],
+    moments: &mut [u8],
+    events: &mut [u8],
     spare: &mut [u8],
     effects: &mut [u8],
 ) -> Ended
     requires { ⌜ Runnable counts (now arities) (now variables) (now sorts) (now starts) (now parts) (now table) «accepted» (now work) × (now work ≡ over (heldBytes []) (now work)) × (now index ≡ replicate 12289 0)
-        × (length (now spare) ≡ 8192) × (length (now effects) ≡ 8192) ⌝ }
+        × (now entries ≡ replicate 544 0) × (now moments ≡ replicate 16 0) × (now events ≡ replicate 272 0) × (length (now spare) ≡ 8192) × (length (now effects) ≡ 8192) ⌝ }
     ensures { λ r. ⌜ ((D : Domain) (old : List ℕ)
         → Lent D counts (now (arities .entry)) (now (variables .entry)) (now (sorts .entry)) (now (starts .entry)) (now (parts .entry)) (now (table .entry))
         → «accepted» ≡ acceptedTemplate D → now (work .entry) ≡ over (heldBytes []) old
@@ -61,7 +64,6 @@ fn play_records(
         number: 0,
         player: Player::new(),
     };
-    // One variable for all turns: a second one would be one copy more of the state for each record.
     loop {
         let player = turn.player;
         turn = player.step(
@@ -76,6 +78,9 @@ fn play_records(
             run,
             work,
             index,
+            entries,
+            moments,
+            events,
             spare,
             effects,
         );
@@ -111,6 +116,9 @@ pub fn play_run(
     let zeros = [0u8; 8192];
     put_bytes(work, 0, &zeros);
     let mut index = [0u64; 12289];
+    let mut entries = [0u8; 544];
+    let mut moments = [0u8; 16];
+    let mut events = [0u8; 272];
     // Memory that each step works in: cleared here once and for all.
     let mut spare = [0u8; 8192];
     let mut effects = [0u8; 8192];
@@ -126,6 +134,9 @@ pub fn play_run(
         run,
         work,
         &mut index,
+        &mut entries,
+        &mut moments,
+        &mut events,
         &mut spare,
         &mut effects,
     )

@@ -1,6 +1,7 @@
 -- `Player::begin` meets its contract: all but the tally stays. Assumes nothing.
 use borrow.Author.Needs.{needs}
 use mathlib.Core.Path.{refl}
+use Rattle.player.specs.Player.{wholeOf}
 use Rattle.player.proofs.PlayTurns.{begun-player}
 use Rattle.player.proofs.Player.begin.Statement.{statement}
 use Rattle.player.proofs.Player.begin.Tie as tie
@@ -9,9 +10,10 @@ begin-requires : tie.Need-begin-requires
 begin-requires c κs = search needs
 
 returns : tie.Need-returns
-returns c D p counts arities variables sorts starts old held components keys said st noted =
-    let a = c .before .before .before .before .before .args in
-    begun-player D p (a .self) (a .work .now) old st _ (c .before .begin .ensures D p (a .self) counts arities variables sorts starts old held components keys said st refl refl noted)
+returns c D p entries moments events counts arities variables sorts starts old held components keys said st noted =
+    let a = c .before .before .before .before .args in
+    let player = wholeOf (a .self) entries moments events in
+    begun-player D p player (a .work .now) old st _ (c .begin .ensures D p player counts arities variables sorts starts old held components keys said st refl refl noted)
 
 pub begin-spec : {M : Type 1} → statement M
 begin-spec = tie.close (tie.spec begin-requires returns)

@@ -5,6 +5,7 @@ use native.Mathlib.Omega.{arith}
 use Rattle.records.proofs.Laws.{whole-within}
 use Rattle.literals.specs.Table.{rowsIn}
 use Rattle.runs.specs.Play.{playStep}
+use Rattle.player.specs.Player.{wholeOf}
 use Rattle.player.proofs.PlayTurns.{turn-behind, turn-end, turn-cut, turn-none, turn-whole, turn-noted}
 use Rattle.player.proofs.NotedTurns.{noted-ended}
 use Rattle.player.proofs.Player.step.Statement.{statement}
@@ -12,15 +13,17 @@ use Rattle.player.proofs.Player.step.Tie as tie
 
 returns : tie.Need-returns
 returns c D q old lent said st noted =
-    let a = c .before .before .before .before .before .before .before .before .before .before .before .before .before .args in
-    let l = turn-behind D (a .run .now) q (a .self) (a .work .now) old st (c .before .if1 .taken) (c .if2 .taken) in
-    (l, noted-ended D (a .arities .now) (a .counts .keys) (rowsIn (a .counts .components) (a .parts .now)) (a .index .now) (playStep D (a .run .now) q) (record { number = 50; player = a .self }) (a .work .now) old l (λ z. omega arith))
+    let a = c .before .before .before .before .before .before .before .before .before .before .before .before .before .before .before .before .args in
+    let player = wholeOf (a .self) (a .entries .now) (a .moments .now) (a .events .now) in
+    let l = turn-behind D (a .run .now) q player (a .work .now) old st (c .before .if1 .taken) (c .if2 .taken) in
+    (l, noted-ended D (a .arities .now) (a .counts .keys) (rowsIn (a .counts .components) (a .parts .now)) (a .index .now) (playStep D (a .run .now) q) (record { number = 50; player = player }) (a .work .now) old l (λ z. omega arith))
 
 returns-2 : tie.Need-returns-2
 returns-2 c D q old lent said st noted =
-    let a = c .before .before .before .before .before .before .before .before .before .before .before .before .before .args in
-    let l = turn-end D (a .run .now) q (a .self) (a .work .now) old st (c .before .if1 .taken) (c .if2 .left) in
-    (l, noted-ended D (a .arities .now) (a .counts .keys) (rowsIn (a .counts .components) (a .parts .now)) (a .index .now) (playStep D (a .run .now) q) (record { number = 2; player = a .self }) (a .work .now) old l (λ z. omega arith))
+    let a = c .before .before .before .before .before .before .before .before .before .before .before .before .before .before .before .before .args in
+    let player = wholeOf (a .self) (a .entries .now) (a .moments .now) (a .events .now) in
+    let l = turn-end D (a .run .now) q player (a .work .now) old st (c .before .if1 .taken) (c .if2 .left) in
+    (l, noted-ended D (a .arities .now) (a .counts .keys) (rowsIn (a .counts .components) (a .parts .now)) (a .index .now) (playStep D (a .run .now) q) (record { number = 2; player = player }) (a .work .now) old l (λ z. omega arith))
 
 record-at-requires : tie.Need-record-at-requires
 record-at-requires c κs = search needs
@@ -29,7 +32,7 @@ enum-known-kind : tie.Need-enum-known-kind
 enum-known-kind c = search needs
 
 add-end : tie.Need-add-end
-add-end c = let f = c .before .before .before .before .before .before .before .before .before .before .before .before .before .before .before .before .good .1 .1 .1 .1 .1 .1 .1 .1 .1 .0 in let w = whole-within _ _ (sym (c .before .before .before .record-at .ensures) ∙ c .before .kind .given .1) in omega arith
+add-end c = let f = c .before .before .before .before .before .before .before .before .before .before .before .before .before .before .before .before .before .before .before .good .1 .1 .1 .1 .1 .1 .1 .1 .1 .0 in let w = whole-within _ _ (sym (c .before .before .before .record-at .ensures) ∙ c .before .kind .given .1) in omega arith
 
 sub-take-record : tie.Need-sub-take-record
 sub-take-record c = search needs
@@ -38,13 +41,13 @@ part-take-record-start : tie.Need-part-take-record-start
 part-take-record-start c = search needs
 
 part-take-record-end : tie.Need-part-take-record-end
-part-take-record-end c = let w = whole-within _ _ (sym (c .before .before .before .before .before .before .before .record-at .ensures) ∙ c .before .before .before .before .before .kind .given .1) in omega arith
+part-take-record-end c = let w = whole-within _ _ (sym (c .before .before .before .before .before .before .before .before .before .before .record-at .ensures) ∙ c .before .before .before .before .before .before .before .before .kind .given .1) in omega arith
 
 take-record-requires : tie.Need-take-record-requires
 take-record-requires c κs =
-    let w = whole-within _ _ (sym (c .before .before .before .before .before .before .before .before .record-at .ensures) ∙ c .before .before .before .before .before .before .kind .given .1) in
-    let p = c .before .before .before .before .before .before .before .before .before .before .before .before .before .before .before .before .before .before .before .before .before .pre in
-    (p .0, omega arith, p .1, p .2)
+    let w = whole-within _ _ (sym (c .before .before .before .before .before .before .before .before .before .before .before .record-at .ensures) ∙ c .before .before .before .before .before .before .before .before .before .kind .given .1) in
+    let p = c .before .before .before .before .before .before .before .before .before .before .before .before .before .before .before .before .before .before .before .before .before .before .before .before .before .before .before .pre in
+    (p .0, omega arith, p .1, p .2, p .3, p .4, p .5)
 
 enum-told : tie.Need-enum-told
 enum-told c = search needs
@@ -64,26 +67,38 @@ same-length-3 c = search needs
 same-length-4 : tie.Need-same-length-4
 same-length-4 c = search needs
 
+same-length-5 : tie.Need-same-length-5
+same-length-5 c = search needs
+
+same-length-6 : tie.Need-same-length-6
+same-length-6 c = search needs
+
+same-length-7 : tie.Need-same-length-7
+same-length-7 c = search needs
+
 returns-3 : tie.Need-returns-3
 returns-3 c D q old lent said st noted =
-    let a = c .before .before .before .before .before .before .before .before .before .before .before .before .before .before .before .before .before .before .before .before .before .before .before .before .before .before .before .before .before .before .args in
-    let l = c .before .before .before .before .before .before .before .before .take-record .ensures D q old lent said st noted in
-    let found = sym (c .before .before .before .before .before .before .before .before .before .before .before .before .before .before .before .before .before .record-at .ensures) ∙ c .before .before .before .before .before .before .before .before .before .before .before .before .before .before .before .kind .given .1 in (
-      turn-whole D (a .run .now) q (a .self) (a .work .now) old st (c .before .before .before .before .before .before .before .before .before .before .before .before .before .before .before .before .before .before .if1 .left) _ _ _ found _ _ _ refl (l .0),
-      turn-noted D (a .run .now) q (a .self) (a .work .now) old st (c .before .before .before .before .before .before .before .before .before .before .before .before .before .before .before .before .before .before .if1 .left) _ _ _ found _ refl (a .arities .now) (a .counts .keys) (rowsIn (a .counts .components) (a .parts .now)) _ (l .1),
+    let a = c .before .before .before .before .before .before .before .before .before .before .before .before .before .before .before .before .before .before .before .before .before .before .before .before .before .before .before .before .before .before .before .before .before .before .before .before .before .before .before .before .before .before .args in
+    let player = wholeOf (a .self) (a .entries .now) (a .moments .now) (a .events .now) in
+    let l = c .before .before .before .before .before .before .before .before .before .before .before .before .before .before .take-record .ensures D q old lent said st noted in
+    let found = sym (c .before .before .before .before .before .before .before .before .before .before .before .before .before .before .before .before .before .before .before .before .before .before .before .before .before .before .record-at .ensures) ∙ c .before .before .before .before .before .before .before .before .before .before .before .before .before .before .before .before .before .before .before .before .before .before .before .before .kind .given .1 in (
+      turn-whole D (a .run .now) q player (a .work .now) old st (c .before .before .before .before .before .before .before .before .before .before .before .before .before .before .before .before .before .before .before .before .before .before .before .before .before .before .before .if1 .left) _ _ _ found _ _ _ refl (l .0),
+      turn-noted D (a .run .now) q player (a .work .now) old st (c .before .before .before .before .before .before .before .before .before .before .before .before .before .before .before .before .before .before .before .before .before .before .before .before .before .before .before .if1 .left) _ _ _ found _ refl (a .arities .now) (a .counts .keys) (rowsIn (a .counts .components) (a .parts .now)) _ (l .1),
     )
 
 returns-4 : tie.Need-returns-4
 returns-4 c D q old lent said st noted =
-    let a = c .before .before .before .before .before .before .before .before .before .before .before .before .before .before .before .args in
-    let l = turn-cut D (a .run .now) q (a .self) (a .work .now) old st (c .before .before .before .if1 .left) (sym (c .before .before .record-at .ensures) ∙ c .enum-told .given .1) in
-    (l, noted-ended D (a .arities .now) (a .counts .keys) (rowsIn (a .counts .components) (a .parts .now)) (a .index .now) (playStep D (a .run .now) q) (record { number = 50; player = a .self }) (a .work .now) old l (λ z. omega arith))
+    let a = c .before .before .before .before .before .before .before .before .before .before .before .before .before .before .before .before .before .before .args in
+    let player = wholeOf (a .self) (a .entries .now) (a .moments .now) (a .events .now) in
+    let l = turn-cut D (a .run .now) q player (a .work .now) old st (c .before .before .before .if1 .left) (sym (c .before .before .record-at .ensures) ∙ c .enum-told .given .1) in
+    (l, noted-ended D (a .arities .now) (a .counts .keys) (rowsIn (a .counts .components) (a .parts .now)) (a .index .now) (playStep D (a .run .now) q) (record { number = 50; player = player }) (a .work .now) old l (λ z. omega arith))
 
 returns-5 : tie.Need-returns-5
 returns-5 c D q old lent said st noted =
-    let a = c .before .before .before .before .before .before .before .before .before .before .before .before .before .before .before .args in
-    let l = turn-none D (a .run .now) q (a .self) (a .work .now) old st (c .before .before .before .if1 .left) (sym (c .before .before .record-at .ensures) ∙ c .enum-told2 .given .1) in
-    (l, noted-ended D (a .arities .now) (a .counts .keys) (rowsIn (a .counts .components) (a .parts .now)) (a .index .now) (playStep D (a .run .now) q) (record { number = 50; player = a .self }) (a .work .now) old l (λ z. omega arith))
+    let a = c .before .before .before .before .before .before .before .before .before .before .before .before .before .before .before .before .before .before .args in
+    let player = wholeOf (a .self) (a .entries .now) (a .moments .now) (a .events .now) in
+    let l = turn-none D (a .run .now) q player (a .work .now) old st (c .before .before .before .if1 .left) (sym (c .before .before .record-at .ensures) ∙ c .enum-told2 .given .1) in
+    (l, noted-ended D (a .arities .now) (a .counts .keys) (rowsIn (a .counts .components) (a .parts .now)) (a .index .now) (playStep D (a .run .now) q) (record { number = 50; player = player }) (a .work .now) old l (λ z. omega arith))
 
 pub step-spec : {M : Type 1} → statement M
 step-spec =
@@ -104,6 +119,9 @@ step-spec =
     same-length-2
     same-length-3
     same-length-4
+    same-length-5
+    same-length-6
+    same-length-7
     returns-3
     returns-4
     returns-5)

@@ -2,6 +2,7 @@
 use borrow.Author.Needs.{needs}
 use Rattle.player.proofs.PlayTurns.{stops, passes, end-on, objects-are, waiting-are}
 use Rattle.runs.specs.Play.{goOn, withClose, endStop}
+use Rattle.player.specs.Player.{wholeOf}
 use Rattle.player.proofs.Player.take_end.Statement.{statement}
 use Rattle.player.proofs.Player.take_end.Tie as tie
 
@@ -9,10 +10,15 @@ end-stop-requires : tie.Need-end-stop-requires
 end-stop-requires c κs = search needs
 
 returns : tie.Need-returns
-returns c D q work old st = stops D q (c .before .before .before .before .before .before .args .self) work old st (endStop q (c .before .before .before .before .before .before .args .p .now)) (c .before .end-stop .result) (goOn (withClose q (c .before .before .before .before .before .before .args .behind))) (c .before .end-stop .ensures q (objects-are D q st) (waiting-are D q st)) (c .if1 .taken)
+returns c D q entries moments events work old st =
+    let a = c .before .before .before .before .args in
+    stops D q (wholeOf (a .self) entries moments events) work old st (endStop q (a .p .now)) (c .before .end-stop .result) (goOn (withClose q (a .behind))) (c .before .end-stop .ensures q (objects-are D q st) (waiting-are D q st)) (c .if1 .taken)
 
 returns-2 : tie.Need-returns-2
-returns-2 c D q work old st = passes D q (endStop q (c .before .before .before .before .before .before .args .p .now)) (c .before .end-stop .result) (goOn (withClose q (c .before .before .before .before .before .before .args .behind))) _ work old (c .before .end-stop .ensures q (objects-are D q st) (waiting-are D q st)) (c .if1 .left) (end-on D q (c .before .before .before .before .before .before .args .self) work old st (c .before .before .before .before .before .before .args .behind))
+returns-2 c D q entries moments events work old st =
+    let a = c .before .before .before .before .args in
+    passes D q (endStop q (a .p .now)) (c .before .end-stop .result) (goOn (withClose q (a .behind))) _ work old (c .before .end-stop .ensures q (objects-are D q st) (waiting-are D q st)) (c .if1 .left)
+    (end-on D q (wholeOf (a .self) entries moments events) work old st (a .behind))
 
 pub take-end-spec : {M : Type 1} → statement M
 take-end-spec = tie.close (tie.spec end-stop-requires returns returns-2)

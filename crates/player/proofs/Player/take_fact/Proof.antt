@@ -2,6 +2,7 @@
 use borrow.Author.Needs.{needs}
 use mathlib.Core.Path.{_≡_, refl, sym, _∙_}
 use mathlib.Core.List.{map}
+use Prim.Native.Nat.{_+_}
 use native.Mathlib.Omega.{arith}
 use lib.ListN.{length, take, drop}
 use lib.Seq.{take-all}
@@ -10,7 +11,8 @@ use Rattle.runs.specs.RunFile.{factOf}
 use Rattle.runs.specs.Play.{goOn, unless, withFact, factStop}
 use Rattle.store.specs.Rows.{factRow}
 use Rattle.run_fields.proofs.RunFields.{fact-found}
-use Rattle.player.proofs.PlayTurns.{stops, passes, objects-are, begun-is, facts-rows, facts-count, few-facts, fact-again, fact-room, fact-new}
+use Rattle.player.specs.Player.{wholeOf}
+use Rattle.player.proofs.PlayTurns.{gone-on, stops, passes, objects-are, begun-is, facts-rows, facts-count, few-facts, fact-again, fact-room, fact-new}
 use Rattle.player.proofs.NotedTurns.{noted-ended, noted-unless, fact-sized, noted-again, noted-fact}
 use Rattle.player.proofs.Player.take_fact.Statement.{statement}
 use Rattle.player.proofs.Player.take_fact.Tie as tie
@@ -22,10 +24,11 @@ same-length : tie.Need-same-length
 same-length c = search needs
 
 returns : tie.Need-returns
-returns c D q variables sorts starts old held st noted =
-    let a = c .before .before .before .before .before .before .before .before .before .before .args in
-    let l = stops D q (a .self) (a .work .now) old st (factStop D q (a .p .now)) (c .before .fact-stop .result) (goOn (withFact q (factOf (a .p .now)) (a .behind))) (c .before .fact-stop .ensures .0 D q variables sorts starts (a .parts .now) held (objects-are D q st) (begun-is D q st) (facts-rows D q (a .self) (a .work .now) old st (held .bounded)) (facts-count D (held .bounded) q (a .self) (a .work .now) old st (a .p .now) (a .behind)) (few-facts D (held .bounded) q (a .self) (a .work .now) old st (a .p .now) (a .behind))) (c .if1 .taken) in
-    (l, noted-ended D (a .arities .now) (a .counts .keys) (rowsIn (a .counts .components) (a .parts .now)) (a .index .now) (unless (factStop D q (a .p .now)) q (goOn (withFact q (factOf (a .p .now)) (a .behind)))) (record { number = c .before .fact-stop .result; player = a .self }) (a .work .now) old l (c .if1 .taken))
+returns c D q entries moments events variables sorts starts old held st noted =
+    let a = c .before .before .before .before .before .before .before .before .before .args in
+    let player = wholeOf (a .self) entries moments events in
+    let l = stops D q player (a .work .now) old st (factStop D q (a .p .now)) (c .before .fact-stop .result) (goOn (withFact q (factOf (a .p .now)) (a .behind))) (c .before .fact-stop .ensures .0 D q variables sorts starts (a .parts .now) held (objects-are D q st) (begun-is D q st) (facts-rows D q player (a .work .now) old st (held .bounded)) (facts-count D (held .bounded) q player (a .work .now) old st (a .p .now) (a .behind)) (few-facts D (held .bounded) q player (a .work .now) old st (a .p .now) (a .behind))) (c .if1 .taken) in
+    (l, noted-ended D (a .arities .now) (a .counts .keys) (rowsIn (a .counts .components) (a .parts .now)) (a .index .now) (unless (factStop D q (a .p .now)) q (goOn (withFact q (factOf (a .p .now)) (a .behind)))) (record { number = c .before .fact-stop .result; player = player }) (a .work .now) old l (c .if1 .taken))
 
 fact-row-requires : tie.Need-fact-row-requires
 fact-row-requires c κs = c .before .fact-stop .ensures .1 (c .if1 .left)
@@ -43,18 +46,19 @@ same-length-3 : tie.Need-same-length-3
 same-length-3 c = search needs
 
 returns-2 : tie.Need-returns-2
-returns-2 c D q variables sorts starts old held st noted =
-    let a = c .before .before .before .before .before .before .before .before .before .before .before .before .before .before .before .before .args in
+returns-2 c D q entries moments events variables sorts starts old held st noted =
+    let a = c .before .before .before .before .before .before .before .before .before .before .before .before .before .before .before .args in
+    let player = wholeOf (a .self) entries moments events in
     let f = c .before .before .before .before .before .before .before .fact-stop in
     let row = c .before .before .before .before .before .fact-row in
     let found = c .before .before .is-held in
-    let stop = (c .before .before .before .before .before .before .before .fact-stop .ensures .0 D q variables sorts starts (a .parts .now) held (objects-are D q st) (begun-is D q st) (facts-rows D q (a .self) (a .work .now) old st (held .bounded)) (facts-count D (held .bounded) q (a .self) (a .work .now) old st (a .p .now) (a .behind)) (few-facts D (held .bounded) q (a .self) (a .work .now) old st (a .p .now) (a .behind))) in
+    let stop = (c .before .before .before .before .before .before .before .fact-stop .ensures .0 D q variables sorts starts (a .parts .now) held (objects-are D q st) (begun-is D q st) (facts-rows D q player (a .work .now) old st (held .bounded)) (facts-count D (held .bounded) q player (a .work .now) old st (a .p .now) (a .behind)) (few-facts D (held .bounded) q player (a .work .now) old st (a .p .now) (a .behind))) in
     let zero = sym stop ∙ c .before .before .before .before .before .before .if1 .left in
-    let rows = facts-rows D q (a .self) (a .work .now) old st (held .bounded) in
+    let rows = facts-rows D q player (a .work .now) old st (held .bounded) in
     let sized = fact-sized D (a .counts) (a .arities .now) variables sorts starts (a .parts .now) held q (a .p .now) (st .sound .kept .facts-few) zero (row .result) (row .ensures) in
     let is = found .ensures (a .arities .now) (a .counts .keys) (rowsIn (a .counts .components) (a .parts .now)) (rw rows (noted .indexed)) sized in (
       passes D q (factStop D q (a .p .now)) (f .result) (goOn (withFact q (factOf (a .p .now)) (a .behind))) _ (a .work .now) old stop (c .before .before .before .before .before .before .if1 .left)
-          (fact-again D (held .bounded) q (a .self) (a .work .now) old st (a .p .now) (a .behind) zero (row .result) (row .ensures) (found .result) is (c .before .if2 .taken) (c .onward .result) (c .onward .ensures)),
+          (fact-again D (held .bounded) q player (a .work .now) old st (a .p .now) (a .behind) zero (row .result) (row .ensures) (found .result) is (c .before .if2 .taken) (wholeOf (c .onward .result) entries moments events) (gone-on (a .self) (c .onward .result) (a .behind) (a .self .facts) (a .self .waits) entries moments events (c .onward .ensures))),
       noted-unless D _ _ _ _ (factStop D q (a .p .now)) q (goOn (withFact q (factOf (a .p .now)) (a .behind)))
           (noted-again D _ _ _ q (factOf (a .p .now)) (a .behind) _ (fact-found (factOf (a .p .now)) (q .state .facts) (row .result) _ (found .result) (row .ensures) rows is ∙ c .before .if2 .taken) noted),
     )
@@ -66,16 +70,17 @@ same-length-5 : tie.Need-same-length-5
 same-length-5 c = search needs
 
 returns-3 : tie.Need-returns-3
-returns-3 c D q variables sorts starts old held st noted =
-    let a = c .before .before .before .before .before .before .before .before .before .before .before .before .before .before .before .before .args in
+returns-3 c D q entries moments events variables sorts starts old held st noted =
+    let a = c .before .before .before .before .before .before .before .before .before .before .before .before .before .before .before .args in
+    let player = wholeOf (a .self) entries moments events in
     let row = c .before .before .before .before .before .fact-row in
     let found = c .before .before .is-held in
-    let stop = (c .before .before .before .before .before .before .before .fact-stop .ensures .0 D q variables sorts starts (a .parts .now) held (objects-are D q st) (begun-is D q st) (facts-rows D q (a .self) (a .work .now) old st (held .bounded)) (facts-count D (held .bounded) q (a .self) (a .work .now) old st (a .p .now) (a .behind)) (few-facts D (held .bounded) q (a .self) (a .work .now) old st (a .p .now) (a .behind))) in
+    let stop = (c .before .before .before .before .before .before .before .fact-stop .ensures .0 D q variables sorts starts (a .parts .now) held (objects-are D q st) (begun-is D q st) (facts-rows D q player (a .work .now) old st (held .bounded)) (facts-count D (held .bounded) q player (a .work .now) old st (a .p .now) (a .behind)) (few-facts D (held .bounded) q player (a .work .now) old st (a .p .now) (a .behind))) in
     let zero = sym stop ∙ c .before .before .before .before .before .before .if1 .left in
-    let rows = facts-rows D q (a .self) (a .work .now) old st (held .bounded) in
+    let rows = facts-rows D q player (a .work .now) old st (held .bounded) in
     let sized = fact-sized D (a .counts) (a .arities .now) variables sorts starts (a .parts .now) held q (a .p .now) (st .sound .kept .facts-few) zero (row .result) (row .ensures) in
     let is = found .ensures (a .arities .now) (a .counts .keys) (rowsIn (a .counts .components) (a .parts .now)) (rw rows (noted .indexed)) sized in
-    let l = fact-room D (held .bounded) q (a .self) (a .work .now) old st (a .p .now) (a .behind) zero (row .result) (row .ensures) (found .result) is (c .before .if2 .left) in
+    let l = fact-room D (held .bounded) q player (a .work .now) old st (a .p .now) (a .behind) zero (row .result) (row .ensures) (found .result) is (c .before .if2 .left) in
     absurd (omega arith)
 
 put-fact-requires : tie.Need-put-fact-requires
@@ -90,8 +95,8 @@ enter-requires c κs = search needs
 slice-write-index : tie.Need-slice-write-index
 slice-write-index c = search needs
 
-add-next : tie.Need-add-next
-add-next c = search needs
+add-onward : tie.Need-add-onward
+add-onward c = search needs
 
 onward-requires-2 : tie.Need-onward-requires-2
 onward-requires-2 c κs = search needs
@@ -103,14 +108,15 @@ same-length-7 : tie.Need-same-length-7
 same-length-7 c = search needs
 
 returns-4 : tie.Need-returns-4
-returns-4 c D q variables sorts starts old held st noted =
-    let a = c .before .before .before .before .before .before .before .before .before .before .before .before .before .before .before .before .before .before .before .before .before .before .before .before .before .before .args in
+returns-4 c D q entries moments events variables sorts starts old held st noted =
+    let a = c .before .before .before .before .before .before .before .before .before .before .before .before .before .before .before .before .before .before .before .before .before .before .before .before .before .args in
+    let player = wholeOf (a .self) entries moments events in
     let f = c .before .before .before .before .before .before .before .before .before .before .before .before .before .before .before .before .before .fact-stop in
     let row = c .before .before .before .before .before .before .before .before .before .before .before .before .before .before .before .fact-row in
     let found = c .before .before .before .before .before .before .before .before .before .before .before .before .is-held in
-    let stop = (c .before .before .before .before .before .before .before .before .before .before .before .before .before .before .before .before .before .fact-stop .ensures .0 D q variables sorts starts (a .parts .now) held (objects-are D q st) (begun-is D q st) (facts-rows D q (a .self) (a .work .now) old st (held .bounded)) (facts-count D (held .bounded) q (a .self) (a .work .now) old st (a .p .now) (a .behind)) (few-facts D (held .bounded) q (a .self) (a .work .now) old st (a .p .now) (a .behind))) in
+    let stop = (c .before .before .before .before .before .before .before .before .before .before .before .before .before .before .before .before .before .fact-stop .ensures .0 D q variables sorts starts (a .parts .now) held (objects-are D q st) (begun-is D q st) (facts-rows D q player (a .work .now) old st (held .bounded)) (facts-count D (held .bounded) q player (a .work .now) old st (a .p .now) (a .behind)) (few-facts D (held .bounded) q player (a .work .now) old st (a .p .now) (a .behind))) in
     let zero = sym stop ∙ c .before .before .before .before .before .before .before .before .before .before .before .before .before .before .before .before .if1 .left in
-    let rows = facts-rows D q (a .self) (a .work .now) old st (held .bounded) in
+    let rows = facts-rows D q player (a .work .now) old st (held .bounded) in
     let sized = fact-sized D (a .counts) (a .arities .now) variables sorts starts (a .parts .now) held q (a .p .now) (st .sound .kept .facts-few) zero (row .result) (row .ensures) in
     let is = found .ensures (a .arities .now) (a .counts .keys) (rowsIn (a .counts .components) (a .parts .now)) (rw rows (noted .indexed)) sized in
     let long : length (row .result) ≡ 8 = search needs in
@@ -118,9 +124,9 @@ returns-4 c D q variables sorts starts old held st noted =
     let more = c .before .before .before .enter .ensures .0 (a .arities .now) (map factRow (q .state .facts)) (noted .indexed) (rw whole sized) in
     let now = rw (whole, row .ensures) at more in (
       passes D q (factStop D q (a .p .now)) (f .result) (goOn (withFact q (factOf (a .p .now)) (a .behind))) _ _ old stop (c .before .before .before .before .before .before .before .before .before .before .before .before .before .before .before .before .if1 .left)
-          (fact-new D (held .bounded) q (a .self) (a .work .now) old st (a .p .now) (a .behind) zero (row .result) (row .ensures) (found .result) is (c .before .before .before .before .before .before .before .before .before .before .before .if2 .left) (c .onward2 .result) _ refl (c .onward2 .ensures) _ (c .before .before .before .before .before .before .before .before .put-fact .ensures)),
+          (fact-new D (held .bounded) q player (a .work .now) old st (a .p .now) (a .behind) zero (row .result) (row .ensures) (found .result) is (c .before .before .before .before .before .before .before .before .before .before .before .if2 .left) (wholeOf (c .onward2 .result) entries moments events) _ refl (gone-on (a .self) (c .onward2 .result) (a .behind) (a .self .facts + 1) (a .self .waits) entries moments events (c .onward2 .ensures)) _ (c .before .before .before .before .before .before .before .before .put-fact .ensures)),
       noted-unless D _ _ _ _ (factStop D q (a .p .now)) q (goOn (withFact q (factOf (a .p .now)) (a .behind)))
-          (noted-fact D _ _ _ q (factOf (a .p .now)) (a .behind) _ (c .before .before .before .enter .kept .0 ∙ c .before .before .before .before .before .before .before .before .before .before .before .before .before .before .before .before .before .before .before .before .before .before .before .before .before .before .pre .7) (fact-found (factOf (a .p .now)) (q .state .facts) (row .result) _ (found .result) (row .ensures) rows is ∙ c .before .before .before .before .before .before .before .before .before .before .before .if2 .left)
+          (noted-fact D _ _ _ q (factOf (a .p .now)) (a .behind) _ (c .before .before .before .enter .kept .0 ∙ c .before .before .before .before .before .before .before .before .before .before .before .before .before .before .before .before .before .before .before .before .before .before .before .before .before .pre .7) (fact-found (factOf (a .p .now)) (q .state .facts) (row .result) _ (found .result) (row .ensures) rows is ∙ c .before .before .before .before .before .before .before .before .before .before .before .if2 .left)
           now),
     )
 
@@ -144,7 +150,7 @@ take-fact-spec =
     slice-aggregate-enter
     enter-requires
     slice-write-index
-    add-next
+    add-onward
     onward-requires-2
     same-length-6
     same-length-7

@@ -4,6 +4,7 @@ use mathlib.Core.Path.{refl}
 use native.Mathlib.Omega.{arith}
 use Rattle.runs.specs.RunFile.{objectsRecord, factRecord, eventRecord, stepRecord, endRecord, otherRecord}
 use Rattle.runs.specs.Play.{begin}
+use Rattle.player.specs.Player.{wholeOf}
 use Rattle.player.proofs.Sound.{begun-tally}
 use Rattle.player.proofs.PlayTurns.{stops-at, kind-16, kind-17, kind-18, kind-19, kind-20, kind-other, of-objects, of-fact, of-event, of-step, of-end, of-other}
 use Rattle.player.proofs.NotedTurns.{noted-of, noted-begun, noted-objects, noted-fact-record, noted-event, noted-step-record, noted-end, noted-other}
@@ -15,33 +16,40 @@ take-objects-requires : tie.Need-take-objects-requires
 take-objects-requires c κs = search needs
 
 take-fact-requires : tie.Need-take-fact-requires
-take-fact-requires c κs = fact-shape (c .before .before .before .before .before .before .before .before .before .before .before .before .before .before .pre .0)
+take-fact-requires c κs = fact-shape (c .before .before .before .before .before .before .before .before .before .before .before .before .before .before .before .before .before .pre .0)
 
 begin-requires : tie.Need-begin-requires
-begin-requires c κs = begin-shape (c .before .before .before .before .before .before .before .before .before .before .before .before .before .before .pre .0)
+begin-requires c κs = begin-shape (c .before .before .before .before .before .before .before .before .before .before .before .before .before .before .before .before .before .pre .0)
 
 take-event-requires : tie.Need-take-event-requires
-take-event-requires c κs = event-shape (c .before .before .before .before .before .before .before .before .before .before .before .before .before .before .before .pre .0) (c .begin .result) (c .begin .ensures)
+take-event-requires c κs =
+    let a = c .before .before .before .before .before .before .before .before .before .before .before .before .before .before .before .before .before .before .before .before .args in
+    let p = c .before .before .before .before .before .before .before .before .before .before .before .before .before .before .before .before .before .before .before .before .pre in
+    let b = c .before .before .begin in
+    let q = event-shape (p .0) (wholeOf (b .result) (a .entries .now) (a .moments .now) (a .events .now)) (λ D p m ars vs ss ts old. b .ensures D p (a .entries .now) (a .moments .now) (a .events .now) m ars vs ss ts old) in
+    (q .0, q .1, q .2, q .3, q .4, p .3, p .4)
 
 begin-requires-2 : tie.Need-begin-requires-2
-begin-requires-2 c κs = begin-shape (c .before .before .before .before .before .before .before .before .before .before .before .before .before .before .pre .0)
+begin-requires-2 c κs = begin-shape (c .before .before .before .before .before .before .before .before .before .before .before .before .before .before .before .before .before .pre .0)
 
 take-step-requires : tie.Need-take-step-requires
 take-step-requires c κs =
-    let p = c .before .before .before .before .before .before .before .before .before .before .before .before .before .before .before .before .before .before .before .pre in
-    let q = step-shape (c .before .before .before .before .before .before .before .before .before .before .before .before .before .before .before .before .before .before .before .pre .0) (c .before .before .before .before .begin2 .result) (c .before .before .before .before .begin2 .ensures) (c .before .before .before .before .before .before .before .before .before .before .before .before .before .before .before .before .before .before .before .args .behind) (c .before .before .before .before .before .before .before .before .before .before .before .before .before .before .before .before .before .before .before .pre .1) in
-    (q .0, q .1, q .2, q .3, p .2, p .3)
+    let a = c .before .before .before .before .before .before .before .before .before .before .before .before .before .before .before .before .before .before .before .before .before .before .before .before .before .args in
+    let p = c .before .before .before .before .before .before .before .before .before .before .before .before .before .before .before .before .before .before .before .before .before .before .before .before .before .pre in
+    let b = c .before .before .before .before .before .before .before .begin2 in
+    let q = step-shape (p .0) (wholeOf (b .result) (a .entries .now) (a .moments .now) (a .events .now)) (λ D p m ars vs ss ts old. b .ensures D p (a .entries .now) (a .moments .now) (a .events .now) m ars vs ss ts old) (a .behind) (p .1) in
+    (q .0, q .1, q .2, q .3, p .2, p .3, p .4, p .5, p .6)
 
 begin-requires-3 : tie.Need-begin-requires-3
-begin-requires-3 c κs = begin-shape (c .before .before .before .before .before .before .before .before .before .before .before .before .before .before .pre .0)
+begin-requires-3 c κs = begin-shape (c .before .before .before .before .before .before .before .before .before .before .before .before .before .before .before .before .before .pre .0)
 
 take-end-requires : tie.Need-take-end-requires
 take-end-requires c κs = search needs
 
 returns : tie.Need-returns
 returns c D q old lent said st noted =
-    let a = c .before .before .before .before .before .before .before .before .before .before .before .before .before .args in
-    let l = c .take-objects .ensures D q _ old st in
+    let a = c .before .before .before .before .before .before .before .before .before .before .before .before .before .before .before .before .args in
+    let l = c .take-objects .ensures D q (a .entries .now) (a .moments .now) (a .events .now) _ old st in
     (of-objects D q (a .kind) (a .p .now) (a .behind) _ _ old (kind-16 (a .kind) (omega arith)) l, noted-of D _ _ _ _ q (a .p .now) (a .behind) (a .kind) objectsRecord (kind-16 (a .kind) (omega arith)) (noted-objects D _ _ _ _ q (a .p .now) (a .behind) noted))
 
 same-length : tie.Need-same-length
@@ -52,8 +60,8 @@ same-length-2 c = search needs
 
 returns-2 : tie.Need-returns-2
 returns-2 c D q old lent said st noted =
-    let a = c .before .before .before .before .before .before .before .before .before .before .before .before .before .before .before .before .before .before .before .args in
-    let l = c .before .before .before .before .take-fact .ensures D q (a .variables .now) (a .sorts .now) (a .starts .now) old (lent .held) st noted in
+    let a = c .before .before .before .before .before .before .before .before .before .before .before .before .before .before .before .before .before .before .before .before .before .before .args in
+    let l = c .before .before .before .before .take-fact .ensures D q (a .entries .now) (a .moments .now) (a .events .now) (a .variables .now) (a .sorts .now) (a .starts .now) old (lent .held) st noted in
     (of-fact D q (a .kind) (a .p .now) (a .behind) _ _ old (kind-17 (a .kind) (omega arith)) (l .0), noted-of D _ _ _ _ q (a .p .now) (a .behind) (a .kind) factRecord (kind-17 (a .kind) (omega arith)) (noted-fact-record D _ _ _ _ q (a .p .now) (a .behind) (l .1)))
 
 same-length-3 : tie.Need-same-length-3
@@ -62,17 +70,20 @@ same-length-3 c = search needs
 same-length-4 : tie.Need-same-length-4
 same-length-4 c = search needs
 
-returns-3 : tie.Need-returns-3
-returns-3 c D q old lent said st noted =
-    let a = c .before .before .before .before .before .before .before .before .before .before .before .before .before .before .before .before .args in
-    let l = c .take-event .ensures D (begin D q) (a .arities .now) (a .starts .now) (a .parts .now) _ old (lent .held) (stands-begun (c .before .before .before .before .before .before .before .before .before .before .before .before .before .before .before .before .pre .0) (c .before .begin .result) (c .before .begin .ensures) D lent said q old st noted) in
-    (of-event D q (a .kind) (a .p .now) (a .behind) _ _ old (kind-18 (a .kind) (omega arith)) l, noted-of D _ _ _ _ q (a .p .now) (a .behind) (a .kind) eventRecord (kind-18 (a .kind) (omega arith)) (noted-event D _ _ _ _ q (a .p .now) (a .behind) noted))
-
 same-length-5 : tie.Need-same-length-5
 same-length-5 c = search needs
 
 same-length-6 : tie.Need-same-length-6
 same-length-6 c = search needs
+
+returns-3 : tie.Need-returns-3
+returns-3 c D q old lent said st noted =
+    let a = c .before .before .before .before .before .before .before .before .before .before .before .before .before .before .before .before .before .before .before .before .before .before .before .before .before .args in
+    let k = c .before .before .before .before .before .before .before .before .before .before .match .keys3 in
+    let b = c .before .before .before .before .before .before .before .begin in
+    let s = stands-begun (c .before .before .before .before .before .before .before .before .before .before .before .before .before .before .before .before .before .before .before .before .before .before .before .before .before .pre .0) (wholeOf (b .result) (a .entries .now) (a .moments .now) (a .events .now)) (λ D p m ars vs ss ts old. b .ensures D p (a .entries .now) (a .moments .now) (a .events .now) m ars vs ss ts old) D lent said q old st noted in
+    let l = c .before .before .before .before .take-event .ensures D (begin D q) (a .entries .now) (a .arities .now) (a .starts .now) (a .parts .now) _ old (lent .held) s in
+    (of-event D q (a .kind) (a .p .now) (a .behind) _ _ old (kind-18 (a .kind) (omega (arith, k))) l, noted-of D _ _ _ _ q (a .p .now) (a .behind) (a .kind) eventRecord (kind-18 (a .kind) (omega (arith, k))) (noted-event D _ _ _ _ q (a .p .now) (a .behind) noted))
 
 same-length-7 : tie.Need-same-length-7
 same-length-7 c = search needs
@@ -80,29 +91,49 @@ same-length-7 c = search needs
 same-length-8 : tie.Need-same-length-8
 same-length-8 c = search needs
 
-returns-4 : tie.Need-returns-4
-returns-4 c D q old lent said st noted =
-    let a = c .before .before .before .before .before .before .before .before .before .before .before .before .before .before .before .before .before .before .before .before .before .before .before .before .before .before .before .before .args in
-    let l = c .before .before .before .before .before .before .before .before .take-step .ensures D (begin D q) (a .variables .now) old lent (stands-begun (c .before .before .before .before .before .before .before .before .before .before .before .before .before .before .before .before .before .before .before .before .before .before .before .before .before .before .before .before .pre .0) (c .before .before .before .before .before .before .before .before .before .before .before .before .before .begin2 .result) (c .before .before .before .before .before .before .before .before .before .before .before .before .before .begin2 .ensures) D lent said q old st noted) (begun-tally D q) (noted-begun D _ _ _ _ q noted) in
-    (of-step D q (a .kind) (a .p .now) (a .behind) _ _ old (kind-19 (a .kind) (omega arith)) (l .0), noted-of D _ _ _ _ q (a .p .now) (a .behind) (a .kind) stepRecord (kind-19 (a .kind) (omega arith)) (noted-step-record D _ _ _ _ q (a .p .now) (a .behind) (l .1)))
-
 same-length-9 : tie.Need-same-length-9
 same-length-9 c = search needs
 
 same-length-10 : tie.Need-same-length-10
 same-length-10 c = search needs
 
+same-length-11 : tie.Need-same-length-11
+same-length-11 c = search needs
+
+same-length-12 : tie.Need-same-length-12
+same-length-12 c = search needs
+
+same-length-13 : tie.Need-same-length-13
+same-length-13 c = search needs
+
+returns-4 : tie.Need-returns-4
+returns-4 c D q old lent said st noted =
+    let a = c .before .before .before .before .before .before .before .before .before .before .before .before .before .before .before .before .before .before .before .before .before .before .before .before .before .before .before .before .before .before .before .before .before .before .before .before .before .before .before .before .args in
+    let k = c .before .before .before .before .before .before .before .before .before .before .before .before .before .before .before .before .before .before .before .before .before .before .before .before .before .match .keys4 in
+    let b = c .before .before .before .before .before .before .before .before .before .before .before .before .before .before .before .before .before .before .before .before .before .before .begin2 in
+    let s = stands-begun (c .before .before .before .before .before .before .before .before .before .before .before .before .before .before .before .before .before .before .before .before .before .before .before .before .before .before .before .before .before .before .before .before .before .before .before .before .before .before .before .before .pre .0) (wholeOf (b .result) (a .entries .now) (a .moments .now) (a .events .now)) (λ D p m ars vs ss ts old. b .ensures D p (a .entries .now) (a .moments .now) (a .events .now) m ars vs ss ts old) D lent said q old st noted in
+    let l = c .before .before .before .before .before .before .before .before .before .before .before .before .before .before .take-step .ensures D (begin D q) (a .variables .now) old lent s (begun-tally D q) (noted-begun D _ _ _ _ q noted) in
+    (of-step D q (a .kind) (a .p .now) (a .behind) _ _ old (kind-19 (a .kind) (omega (arith, k))) (l .0), noted-of D _ _ _ _ q (a .p .now) (a .behind) (a .kind) stepRecord (kind-19 (a .kind) (omega (arith, k))) (noted-step-record D _ _ _ _ q (a .p .now) (a .behind) (l .1)))
+
+same-length-14 : tie.Need-same-length-14
+same-length-14 c = search needs
+
+same-length-15 : tie.Need-same-length-15
+same-length-15 c = search needs
+
 returns-5 : tie.Need-returns-5
 returns-5 c D q old lent said st noted =
-    let a = c .before .before .before .before .before .before .before .before .before .before .before .before .before .before .before .before .args in
-    let l = c .take-end .ensures D (begin D q) _ old (stands-begun (c .before .before .before .before .before .before .before .before .before .before .before .before .before .before .before .before .pre .0) (c .before .begin3 .result) (c .before .begin3 .ensures) D lent said q old st noted) in
+    let a = c .before .before .before .before .before .before .before .before .before .before .before .before .before .before .before .before .before .before .before .args in
+    let b = c .before .begin3 in
+    let s = stands-begun (c .before .before .before .before .before .before .before .before .before .before .before .before .before .before .before .before .before .before .before .pre .0) (wholeOf (b .result) (a .entries .now) (a .moments .now) (a .events .now)) (λ D p m ars vs ss ts old. b .ensures D p (a .entries .now) (a .moments .now) (a .events .now) m ars vs ss ts old) D lent said q old st noted in
+    let l = c .take-end .ensures D (begin D q) (a .entries .now) (a .moments .now) (a .events .now) _ old s in
     (of-end D q (a .kind) (a .p .now) (a .behind) _ _ old (kind-20 (a .kind) (omega arith)) l, noted-of D _ _ _ _ q (a .p .now) (a .behind) (a .kind) endRecord (kind-20 (a .kind) (omega arith)) (noted-end D _ _ _ _ q (a .p .now) (a .behind) noted))
 
 returns-6 : tie.Need-returns-6
 returns-6 c D q old lent said st noted =
-    let a = c .before .before .before .before .before .before .before .before .before .before .before .before .args in
+    let a = c .before .before .before .before .before .before .before .before .before .before .before .before .before .before .before .args in
     let other = kind-other (a .kind) (omega arith) (omega arith) (omega arith) (omega arith) (omega arith) in
-    (of-other D q (a .kind) (a .p .now) (a .behind) _ _ old other (stops-at D q (a .self) (a .work .now) old st 50 50 refl (λ z. omega arith)), noted-of D _ _ _ _ q (a .p .now) (a .behind) (a .kind) otherRecord other (noted-other D _ _ _ _ q (a .p .now) (a .behind)))
+    (of-other D q (a .kind) (a .p .now) (a .behind) _ _ old other (stops-at D q (wholeOf (a .self) (a .entries .now) (a .moments .now) (a .events .now)) (a .work .now) old st 50 50 refl (λ z. omega arith)), noted-of D _ _ _ _ q (a .p .now) (a .behind) (a .kind) otherRecord other (noted-other D _ _ _ _ q (a .p .now) (a .behind)))
 
 pub take-record-spec : {M : Type 1} → statement M
 take-record-spec =
@@ -122,13 +153,18 @@ take-record-spec =
     returns-2
     same-length-3
     same-length-4
-    returns-3
     same-length-5
     same-length-6
+    returns-3
     same-length-7
     same-length-8
-    returns-4
     same-length-9
     same-length-10
+    same-length-11
+    same-length-12
+    same-length-13
+    returns-4
+    same-length-14
+    same-length-15
     returns-5
     returns-6)

@@ -20,18 +20,27 @@ slice-aggregate-play-records-2 c = search needs
 slice-aggregate-play-records-3 : tie.Need-slice-aggregate-play-records-3
 slice-aggregate-play-records-3 c = search needs
 
+slice-aggregate-play-records-4 : tie.Need-slice-aggregate-play-records-4
+slice-aggregate-play-records-4 c = search needs
+
+slice-aggregate-play-records-5 : tie.Need-slice-aggregate-play-records-5
+slice-aggregate-play-records-5 c = search needs
+
+slice-aggregate-play-records-6 : tie.Need-slice-aggregate-play-records-6
+slice-aggregate-play-records-6 c = search needs
+
 play-records-requires : tie.Need-play-records-requires
 play-records-requires c κs =
-    let old = c .before .before .before .before .before .before .before .before .before .before .before .before .before .before .before .before .before .args .work .now in
-    (runnable-now (c .before .before .before .before .before .before .before .before .before .before .before .before .before .before .before .before .before .pre) _ (c .before .before .before .before .before .before .put-bytes .kept .0), cleared-again old _ (cleared old _ (c .before .before .before .before .before .before .put-bytes .ensures)), refl, refl, refl)
+    let old = c .before .before .before .before .before .before .before .before .before .before .before .before .before .before .before .before .before .before .before .before .args .work .now in
+    (runnable-now (c .before .before .before .before .before .before .before .before .before .before .before .before .before .before .before .before .before .before .before .before .pre) _ (c .before .before .before .before .before .before .before .before .before .put-bytes .kept .0), cleared-again old _ (cleared old _ (c .before .before .before .before .before .before .before .before .before .put-bytes .ensures)), refl, refl, refl, refl, refl, refl)
 
 same-length : tie.Need-same-length
 same-length c = search needs
 
 returns : tie.Need-returns
 returns c D lent said =
-    let old = c .before .before .before .before .before .before .before .before .before .before .before .before .before .before .before .before .before .before .before .before .before .before .before .args .work .now in
-    c .before .before .before .before .before .play-records .ensures D old lent said (cleared old _ (c .before .before .before .before .before .before .before .before .before .before .before .before .put-bytes .ensures))
+    let old = c .before .before .before .before .before .before .before .before .before .before .before .before .before .before .before .before .before .before .before .before .before .before .before .before .before .before .before .before .before .args .work .now in
+    c .before .before .before .before .before .before .before .before .play-records .ensures D old lent said (cleared old _ (c .before .before .before .before .before .before .before .before .before .before .before .before .before .before .before .before .before .before .put-bytes .ensures))
 
 pub play-run-spec : {M : Type 1} → statement M
 play-run-spec =
@@ -42,6 +51,9 @@ play-run-spec =
     slice-aggregate-play-records
     slice-aggregate-play-records-2
     slice-aggregate-play-records-3
+    slice-aggregate-play-records-4
+    slice-aggregate-play-records-5
+    slice-aggregate-play-records-6
     play-records-requires
     same-length
     returns)
