@@ -3,8 +3,10 @@ use super::say;
 use listing::name;
 use listing::put_byte;
 use verdict::Judgement;
+ghost use mathlib.Core.Path.{_≡_};
 ghost use Prim.Native.Nat.{_+_, _≤_};
 ghost use lib.ListN.{length};
+ghost use Rattle.explaining.specs.Rows.{isNamed, namedRow, whenAt, whenNamed};
 
 // When the event of a row happens.
 pub enum When {
@@ -31,6 +33,7 @@ pub fn say_when(when: When) {
 // When the event of the row at an offset happens. The row of a start stands before that of its end; a class of an action at once has one row.
 fn when_at(report: &[u8], at: usize) -> When
     requires { ⌜ at + 4 ≤ length (now report) ⌝ }
+    ensures { λ r. ⌜ r ≡ whenAt (now (report .entry)) at ⌝ }
 {
     if report[at + 2] == 1 {
         return When::End;
@@ -45,7 +48,9 @@ fn when_at(report: &[u8], at: usize) -> When
 }
 
 // Whether a row's action, class and moment are the ones that the verdict names.
-fn is_named(action: u8, class: u8, moment: u8, v: Judgement) -> bool {
+fn is_named(action: u8, class: u8, moment: u8, v: Judgement) -> bool
+    ensures { λ r. ⌜ r ≡ isNamed action class moment v ⌝ }
+{
     if action as u64 != v.first {
         return false;
     }
@@ -55,9 +60,10 @@ fn is_named(action: u8, class: u8, moment: u8, v: Judgement) -> bool {
     moment as u64 == v.third
 }
 
-// The offset of the row that the verdict names; the report's end where there is none.
+// The offset of the row that the verdict names; the end of the last whole row where there is none.
 fn named_row(report: &[u8], v: Judgement) -> usize
-    ensures { λ r. ⌜ r ≤ length (now (report .entry)) ⌝ }
+    ensures is { λ r. ⌜ r ≡ namedRow (now (report .entry)) v ⌝ }
+    ensures fits { λ r. ⌜ r ≤ length (now (report .entry)) ⌝ }
 {
     let mut at = 0;
     while at + 4 <= report.len() {
@@ -70,7 +76,9 @@ fn named_row(report: &[u8], v: Judgement) -> usize
 }
 
 // When the event that the verdict names happens.
-pub fn when_named(report: &[u8], v: Judgement) -> When {
+pub fn when_named(report: &[u8], v: Judgement) -> When
+    ensures { λ r. ⌜ r ≡ whenNamed (now (report .entry)) v ⌝ }
+{
     let at = named_row(report, v);
     if report.len() < at + 4 {
         return When::Once;

@@ -1,0 +1,2 @@
+-- The rows of a report, as they are explained.
+pub mod Rows
