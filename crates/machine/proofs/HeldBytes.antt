@@ -6,7 +6,7 @@ use native.Mathlib.Omega.{arith}
 use lib.ListN.{length, drop, replicate, length-append, length-replicate, replicate-append-replicate, drop-of-length-le}
 use lib.Seq.{paste, drop-append-le, drop-append-add}
 use Rattle.records.specs.Memory.{over}
-use Rattle.records.proofs.Memory.{over-paste, drop-replicate}
+use Rattle.records.proofs.Memory.{paste-front, drop-replicate}
 use Rattle.literals.specs.Domain.{Fact, Domain}
 use Rattle.literals.specs.Table.{rowsIn, Bounded}
 use Rattle.literals.proofs.Bounds.{arity-six}
@@ -101,6 +101,6 @@ pub put-whole : (old new out : List ℕ) → length new ≡ length old → out �
 unfolding over
 put-whole old new out e f =
     f
-    ∙ over-paste [] old new 0 (length new) refl refl
+    ∙ paste-front new old (length new) refl
     ∙ ap (λ (b : List ℕ). new ++ b) (drop-of-length-le old {i = length new} (omega arith))
     ∙ append-nil new

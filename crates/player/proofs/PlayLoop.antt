@@ -5,8 +5,9 @@ use mathlib.Core.List.{List, [], _++_}
 use Prim.Native.Nat.{ℕ, zero, suc, _+_, _-_, _≤_, _<_}
 use native.Mathlib.Omega.{arith}
 use lib.ListN.{length, drop, replicate, length-replicate}
-use lib.Seq.{paste, take-all, drop-at}
+use lib.Seq.{paste, drop-at}
 use Rattle.records.specs.Memory.{over}
+use Rattle.records.proofs.Memory.{paste-front}
 use Rattle.literals.specs.declared.Counts.{Counts}
 use Rattle.literals.specs.Domain.{Domain}
 use Rattle.literals.specs.Table.{Bounded, rowsIn}
@@ -45,13 +46,7 @@ begins D arities keys parts r old work index player is e z =
       noted = noted-none D arities keys parts index z;
     }
 
--- the first bytes overwritten, once and again
-paste-over : (new old : List ℕ) (n : ℕ) → n ≡ length new → paste old 0 new n ≡ over new old
-unfolding over
-paste-over new old n e =
-    let z : 0 + n ≡ length new = omega arith in
-    ap (λ (t : List ℕ). t ++ drop (0 + n) old) (take-all n new (omega arith)) ∙ ap (λ (k : ℕ). new ++ drop k old) z
-
+-- the first bytes overwritten again
 over-again : (new old : List ℕ) → over new (over new old) ≡ over new old
 unfolding over
 over-again new old = ap (λ (t : List ℕ). new ++ t) (drop-at new (drop (length new) old) (length new) refl)
@@ -61,7 +56,7 @@ unfolding heldBytes factBytes
 held-none = refl
 
 pub cleared : (old work : List ℕ) → work ≡ paste old 0 (replicate 8192 0) 8192 → work ≡ over (heldBytes []) old
-cleared old work e = e ∙ paste-over (replicate 8192 0) old 8192 (sym (length-replicate {A = ℕ} 8192 0)) ∙ ap (λ (z : List ℕ). over z old) held-none
+cleared old work e = e ∙ paste-front (replicate 8192 0) old 8192 (sym (length-replicate {A = ℕ} 8192 0)) ∙ ap (λ (z : List ℕ). over z old) held-none
 
 pub cleared-again : (old work : List ℕ) → work ≡ over (heldBytes []) old → work ≡ over (heldBytes []) work
 cleared-again old work e = e ∙ sym (over-again (heldBytes []) old) ∙ ap (over (heldBytes [])) (sym e)

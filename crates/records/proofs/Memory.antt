@@ -31,6 +31,11 @@ over-paste new old s at n e f =
     behind : drop (at + n) (new ++ drop (length new) old) ≡ drop (length (new ++ s)) old
     behind = rw (← e, ← f, drop-append-add, drop-drop, length-append)
 
+-- a copy to the front
+pub paste-front : (new old : List ℕ) (n : ℕ) → n ≡ length new → paste old 0 new n ≡ over new old
+unfolding over
+paste-front new old n e = over-paste [] old new 0 n refl (sym e)
+
 -- ---- fills
 
 pub drop-replicate : (k m a : ℕ) → drop k (replicate m a) ≡ replicate (m - k) a

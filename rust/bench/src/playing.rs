@@ -82,7 +82,8 @@ fn single_runs(domain: &[u8]) {
 }
 
 /// Facts held and events of a step.
-const SIZES: [(usize, usize); 7] = [(125, 1), (250, 1), (500, 1), (1_000, 1), (1_000, 2), (1_000, 4), (1_000, 16)];
+const SIZES: [(usize, usize); 9] =
+    [(16, 1), (64, 1), (125, 1), (250, 1), (500, 1), (1_000, 1), (1_000, 2), (1_000, 4), (1_000, 16)];
 
 fn growth(domain: &[u8]) {
     println!("\ngrowth with the facts held and the events of a step, nanoseconds a step");

@@ -1,7 +1,5 @@
 -- `wait` meets its contract. Assumes nothing.
-use mathlib.Core.Path.{_≡_}
 use native.Mathlib.Omega.{arith}
-use lib.ListN.{length}
 use borrow.Author.Needs.{needs}
 use Rattle.events.proofs.MoreWaiting.{waiting-more}
 use Rattle.events.proofs.waits.wait.Statement.{statement}

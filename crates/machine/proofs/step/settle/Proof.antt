@@ -1,20 +1,15 @@
 -- `settle` meets its contract: the rows go to the front, and the zeros to the seam behind them. Assumes nothing.
 use borrow.Author.Needs.{needs}
 use mathlib.Core.Path.{_≡_, refl, sym, ap, _∙_}
-use mathlib.Core.List.{List, [], _++_, append-nil}
+use mathlib.Core.List.{List, _++_, append-nil}
 use Prim.Native.Nat.{ℕ, _-_, _*_}
 use native.Mathlib.Omega.{arith}
-use lib.ListN.{length, take, replicate, length-replicate}
+use lib.ListN.{take, replicate, length-replicate}
 use lib.Seq.{paste, length-take-le}
 use Rattle.records.specs.Memory.{over}
-use Rattle.records.proofs.Memory.{over-paste}
+use Rattle.records.proofs.Memory.{over-paste, paste-front}
 use Rattle.machine.proofs.step.settle.Statement.{statement}
 use Rattle.machine.proofs.step.settle.Tie as tie
-
--- bytes put at the front
-to-front : (new old out : List ℕ) → out ≡ paste old 0 new (length new) → out ≡ over new old
-unfolding over
-to-front new old out e = e ∙ over-paste [] old new 0 (length new) refl refl
 
 mul-end : tie.Need-mul-end
 mul-end c = omega arith
@@ -54,7 +49,7 @@ returns c =
     let more : ℕ = 8 * a .held - 8 * a .n in
     let l = length-take-le (8 * a .n) (a .rows .now) (p .4) in
     c .before .before .put-zeros .ensures
-    ∙ ap (λ (w : List ℕ). paste w (8 * a .n) (replicate more 0) more) (to-front rows (a .work .now) _ (c .before .before .before .before .before .before .before .put-bytes .ensures))
+    ∙ ap (λ (w : List ℕ). paste w (8 * a .n) (replicate more 0) more) (c .before .before .before .before .before .before .before .put-bytes .ensures ∙ paste-front rows (a .work .now) _ refl)
     ∙ over-paste rows (a .work .now) (replicate more 0) (8 * a .n) more l (length-replicate more 0)
 
 same-length-2 : tie.Need-same-length-2
@@ -65,7 +60,7 @@ returns-2 c =
     let a = c .before .before .before .before .before .before .before .before .args in
     let rows : List ℕ = take (8 * a .n) (a .rows .now) in
     let none : 0 ≡ 8 * a .held - 8 * a .n = omega arith in
-    to-front rows (a .work .now) _ (c .before .before .before .put-bytes .ensures)
+    c .before .before .before .put-bytes .ensures ∙ paste-front rows (a .work .now) _ refl
     ∙ ap (λ (front : List ℕ). over front (a .work .now)) (sym (append-nil rows) ∙ ap (λ (k : ℕ). rows ++ replicate k 0) none)
 
 pub settle-spec : {M : Type 1} → statement M
