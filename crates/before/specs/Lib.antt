@@ -1,0 +1,3 @@
+-- The run file, the player, and what is claimed of them.
+pub mod Play
+pub mod Claims
