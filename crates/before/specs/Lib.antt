@@ -1,3 +1,0 @@
--- The run file, the player, and what is claimed of them.
-pub mod Play
-pub mod Claims
