@@ -65,7 +65,8 @@ fn clause_over_all(role: u8) -> u8
     0
 }
 
-// 1 to 4 for a true condition, false condition, add or delete that counts then, 0 for none: of a role byte. At the end the over-all conditions count too.
+// 1 to 4 for a true condition, false condition, add or delete that counts then, 0 for none: of a role byte. At the end the
+// over-all conditions count too.
 pub fn clause_for(time: Time, role: u8) -> u8
     ensures { λ r. ⌜ r ≡ clauseFor time role ⌝ }
 {
