@@ -1,12 +1,12 @@
 -- What the events of a step add or strike: the rows that the code collects are those of the machine's facts. Assumes nothing.
 use mathlib.Core.Path.{_≡_, refl, sym, ap, ap₂, _∙_, subst}
-use mathlib.Core.Bool.{Bool, true, false, _||_, _&&_, cond}
+use mathlib.Core.Bool.{Bool, true, false, _||_, _&&_}
 use mathlib.Core.Logic.{_⊎_, inl, inr}
 use mathlib.Core.List.{List, [], _∷_, _++_, map, flatMap, map-append, append-nil, append-assoc, List·Memᴰ·head, List·Memᴰ·tail, List·Memᴰ·not-nil, List·Memᴰ·append-cases}
 use Prim.Native.Nat.{ℕ, suc, _+_, _-_, _*_, _≤_, _<_}
 use native.Mathlib.Numerals.{add-one}
 use native.Mathlib.Omega.{arith}
-use lib.Dec.{eqb, ltb}
+use lib.Dec.{eqb}
 use lib.ListN.{length, getD, take, drop, length-append, length-map}
 use lib.Seq.{take-all, take-suc}
 use borrow.Author.Tests.{eq-eqb, ne-eqb}
@@ -20,8 +20,8 @@ use Rattle.literals.specs.declared.Role.{Role}
 use Rattle.literals.specs.Domain.{Fact, sameLiteral, sameFact, clauseNumber, Literal, Domain, action}
 use Rattle.literals.specs.Decode.{byte}
 use Rattle.literals.specs.Table.{rowsIn, literalRow}
-use Rattle.literals.specs.Held.{within, arityIn, Held, SpanOf}
-use Rattle.literals.proofs.Heads.{within-le, action-in}
+use Rattle.literals.specs.Held.{arityIn, Held, SpanOf}
+use Rattle.literals.proofs.Heads.{action-in, arity-limit}
 use Rattle.literals.proofs.Equality.{literal-eq, fact-eq, fact-self}
 use Rattle.literals.proofs.Rows.{part-first, rows-snoc}
 use Rattle.classes.specs.declared.Moment.{Moment}
@@ -97,14 +97,6 @@ module _ (t : Time) (clause : ℕ) (head ground rows : List ℕ) (at k : ℕ) (e
 
 -- ---- the rows of an action's literals
 
-arity-few : (head : List ℕ) (r : ℕ) → arityIn head r ≤ 6
-unfolding arityIn
-arity-few head r = go (ltb r 64)
-  where
-    go : (b : Bool) → cond b (within 6 (getD head (8 + r) 0)) 0 ≤ 6
-    go true = within-le 6 (getD head (8 + r) 0)
-    go false = omega arith
-
 module _ (t : Time) (clause : ℕ) (head ground : List ℕ) where
   pub effects-few : (l : List (List ℕ)) → length (effectRows t clause head ground l) ≤ length l
   unfolding effectRows
@@ -125,7 +117,7 @@ module _ (t : Time) (clause : ℕ) (head ground : List ℕ) where
     whole-one at h = go (eqb (clauseFor t (byte (take 8 (drop at rows)) 0)) clause)
       where
         go : (b : Bool) → Whole (map (boundRow head ground) (keepIf b (take 8 (drop at rows)) []))
-        go true row (List·Memᴰ·head e) = ap length e ∙ length-bound (arityIn head (byte (take 8 (drop at rows)) 1)) ground rows at h (arity-few head (byte (take 8 (drop at rows)) 1))
+        go true row (List·Memᴰ·head e) = ap length e ∙ length-bound (arityIn head (byte (take 8 (drop at rows)) 1)) ground rows at h (arity-limit head (byte (take 8 (drop at rows)) 1))
         go true row (List·Memᴰ·tail m) = absurd (List·Memᴰ·not-nil m)
         go false row m = absurd (List·Memᴰ·not-nil m)
 
