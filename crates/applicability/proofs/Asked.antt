@@ -10,7 +10,8 @@ use borrow.Author.Tests.{eqb-true, ne-eqb}
 use Rattle.records.specs.Lists.{In, keepIf, filterBy, all, any, elem}
 use Rattle.records.proofs.Lists.{all-map, any-map}
 use Rattle.literals.specs.declared.Variable.{Variable}
-use Rattle.literals.specs.declared.Counts.{Counts}
+use Rattle.literals.specs.declared.span.Span.{Span}
+use Rattle.literals.specs.Held.{Held, SpanOf}
 use Rattle.literals.specs.declared.Time.{Time}
 use Rattle.literals.specs.declared.Time.the-variants.{AtStart, OverAll, AtEnd}
 use Rattle.literals.specs.declared.Clause.{Clause}
@@ -28,9 +29,9 @@ use Rattle.classes.proofs.Indices.{all-filter}
 use Rattle.verdict.specs.Binding.{bind}
 use Rattle.verdict.specs.Machine.{GroundAction, Event, eventFacts, conditionsHold, overAllHold}
 use Rattle.store.specs.Rows.{factRow}
-use Rattle.events.specs.Coded.{groundRow, GroundFits, Lent, endRow, boundRow, clauseFor, timeOf}
+use Rattle.events.specs.Coded.{groundRow, GroundFits, boundRow, clauseFor, timeOf}
 use Rattle.applicability.specs.Conditions.{conditionMet, rowMet, asked}
-use Rattle.events.proofs.FactRows.{has-fact, countsFor, clause-counts, any-literals, all-literals, lent-kept, lent-bound, ground-rows}
+use Rattle.events.proofs.FactRows.{has-fact, countsFor, clause-counts, any-literals, all-literals, held-kept, held-rows, held-bound}
 
 -- ---- one row
 
@@ -169,16 +170,14 @@ asked-event D e fs = go (e .moment)
 
 -- ---- as the code finds it
 
-module _ (D : Domain) (n : Counts) (arities variables sorts starts parts table : List ℕ) (L : Lent D n arities variables sorts starts parts table) (g : GroundAction) (F : GroundFits D g)
-    (ground : List ℕ) (e : ground ≡ groundRow g) where
-  pub ground-asks : (t : Time) (fs : List Fact) (facts : List (List ℕ)) → facts ≡ map factRow fs → (from to : ℕ) → from ≡ getD starts (getD ground 0 0) 0 → to ≡ endRow n starts (getD ground 0 0)
-      → all (rowMet t arities ground facts) (rowsIn (to - from) (take (8 * to - 8 * from) (drop (8 * from) table))) ≡ asked D t g fs
-  ground-asks t fs facts f from to p q =
+module _ {D : Domain} {head table : List ℕ} (H : Held D head table) (g : GroundAction) (F : GroundFits D g) (ground : List ℕ) (e : ground ≡ groundRow g) where
+  pub ground-asks : (t : Time) (fs : List Fact) (facts : List (List ℕ)) → facts ≡ map factRow fs → (r : Span) → SpanOf D (g .action) table r
+      → all (rowMet t head ground facts) (rowsIn (r .to - r .from) (take (8 * r .to - 8 * r .from) (drop (8 * r .from) table))) ≡ asked D t g fs
+  ground-asks t fs facts f r S =
       let ls = action D (g .action) .lits in
-      ap₂ (λ (x : List ℕ) (y : List (List ℕ)). all (rowMet t arities x y) (rowsIn (to - from) (take (8 * to - 8 * from) (drop (8 * from) table)))) e f
-      ∙ ap (all (rowMet t arities (groundRow g) (map factRow fs))) (ground-rows D n arities variables sorts starts parts table L g F ground e from to p q)
-      ∙ all-map literalRow (rowMet t arities (groundRow g) (map factRow fs)) ls
-      ∙ all-agree (λ (l : Literal). rowMet t arities (groundRow g) (map factRow fs) (literalRow l)) (asks t g fs) ls
-      (λ l m. row-asks t arities g fs l (lent-kept D n arities variables sorts starts parts table L (g .action) (F .listed) l m)
-      (lent-bound D n arities variables sorts starts parts table L g F l m))
+      ap₂ (λ (x : List ℕ) (y : List (List ℕ)). all (rowMet t head x y) (rowsIn (r .to - r .from) (take (8 * r .to - 8 * r .from) (drop (8 * r .from) table)))) e f
+      ∙ ap (all (rowMet t head (groundRow g) (map factRow fs))) (held-rows H (g .action) (F .listed) r S)
+      ∙ all-map literalRow (rowMet t head (groundRow g) (map factRow fs)) ls
+      ∙ all-agree (λ (l : Literal). rowMet t head (groundRow g) (map factRow fs) (literalRow l)) (asks t g fs) ls
+      (λ l m. row-asks t head g fs l (held-kept H (g .action) (F .listed) l m) (held-bound H g F l m))
       ∙ sym (asked-all D g fs t)

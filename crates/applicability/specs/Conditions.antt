@@ -20,7 +20,7 @@ conditionMet clause row facts = cond (eqb clause 1) (hasRow row facts) (cond (eq
 
 unfoldable pub rowMet : Time → List ℕ → List ℕ → List (List ℕ) → List ℕ → Bool
 unfolding clauseFor boundRow conditionMet
-rowMet t arities ground facts row = conditionMet (clauseFor t (byte row 0)) (boundRow arities ground row) facts
+rowMet t head ground facts row = conditionMet (clauseFor t (byte row 0)) (boundRow head ground row) facts
 
 -- the same without rows: what an action asks of the facts at the start, over all, or at the end
 unfoldable pub asked : Domain → Time → GroundAction → List Fact → Bool

@@ -2,10 +2,11 @@
 use events::facts::bound_row;
 use events::facts::clause_for;
 use events::facts::time_at;
-use literals::Counts;
 use literals::Time;
 use literals::fields::wide;
-use literals::span::span_of;
+use literals::head::Head;
+use literals::head::actions_in;
+use literals::head::rows_of;
 use store::index::is_held;
 ghost use mathlib.Core.Path.{_≡_};
 ghost use mathlib.Core.List.{List, map};
@@ -16,18 +17,19 @@ ghost use Rattle.literals.specs.declared.Time.the-variants.{OverAll};
 ghost use Rattle.literals.specs.Domain.{Fact, Domain};
 ghost use Rattle.literals.specs.Decode.{byte};
 ghost use Rattle.literals.specs.Table.{rowsIn};
+ghost use Rattle.literals.specs.Held.{arityIn, Held};
 ghost use Rattle.classes.specs.Classes.{momentNumber};
 ghost use Rattle.verdict.specs.Machine.{GroundAction, Event, conditionsHold, overAllHold};
 ghost use Rattle.store.specs.Index.{Indexed};
 ghost use Rattle.store.specs.Rows.{factRow};
-ghost use Rattle.events.specs.Coded.{groundRow, openOf, waitingOf, GroundFits, GroundsFit, EventsFit, Lent, Ready};
+ghost use Rattle.events.specs.Coded.{groundRow, openOf, waitingOf, GroundFits, GroundsFit, EventsFit};
 ghost use Rattle.applicability.specs.Conditions.{conditionMet, rowMet, asked};
 
 // Whether the first n rows of the work memory meet a condition: clause 1 asks for its fact, clause 2 for its absence.
 fn condition_met(clause: u8, row: [u8; 8], index: &[u64], work: &[u8], n: usize) -> bool
     requires { ⌜ (length (now index) ≡ 12289) × (n ≤ 1024) × (8 * n ≤ length (now work)) ⌝ }
-    ensures { λ r. ⌜ ((arities : List ℕ) (keys : ℕ) (parts : List (List ℕ)) → Indexed arities keys parts (now (index .entry)) (rowsIn n (now (work .entry)))
-        → byte row 1 ≡ getD arities (byte row 0) 0 → r ≡ conditionMet clause row (rowsIn n (now (work .entry)))) ⌝ }
+    ensures { λ r. ⌜ ((head : List ℕ) → Indexed head (now (index .entry)) (rowsIn n (now (work .entry)))
+        → byte row 1 ≡ arityIn head (byte row 0) → r ≡ conditionMet clause row (rowsIn n (now (work .entry)))) ⌝ }
 {
     if clause == 1 {
         return is_held(index, work, n, row);
@@ -41,7 +43,7 @@ fn condition_met(clause: u8, row: [u8; 8], index: &[u64], work: &[u8], n: usize)
 // Whether they meet the literal's row at an offset; only a condition is bound to its objects.
 fn row_met(
     time: Time,
-    arities: &[u8],
+    head: &Head,
     ground: &[u8],
     rows: &[u8],
     row: usize,
@@ -49,9 +51,9 @@ fn row_met(
     work: &[u8],
     n: usize,
 ) -> bool
-    requires { ⌜ (length (now arities) ≡ 64) × ((i : ℕ) → getD (now arities) i 0 ≤ 6) × (length (now ground) ≡ 17) × (row + 8 ≤ length (now rows)) × (length (now index) ≡ 12289) × (n ≤ 1024) × (8 * n ≤ length (now work)) ⌝ }
-    ensures { λ r. ⌜ ((keys : ℕ) (parts : List (List ℕ)) → Indexed (now (arities .entry)) keys parts (now (index .entry)) (rowsIn n (now (work .entry)))
-        → r ≡ rowMet time (now (arities .entry)) (now (ground .entry)) (rowsIn n (now (work .entry))) (take 8 (drop row (now (rows .entry))))) ⌝ }
+    requires { ⌜ (length (now ground) ≡ 17) × (row + 8 ≤ length (now rows)) × (length (now index) ≡ 12289) × (n ≤ 1024) × (8 * n ≤ length (now work)) ⌝ }
+    ensures { λ r. ⌜ (Indexed (now (head .entry)) (now (index .entry)) (rowsIn n (now (work .entry)))
+        → r ≡ rowMet time (now (head .entry)) (now (ground .entry)) (rowsIn n (now (work .entry))) (take 8 (drop row (now (rows .entry))))) ⌝ }
 {
     let clause = clause_for(time, rows[row]);
     if clause == 0 {
@@ -60,19 +62,13 @@ fn row_met(
     if 2 < clause {
         return true;
     }
-    condition_met(
-        clause,
-        bound_row(arities, ground, rows, row),
-        index,
-        work,
-        n,
-    )
+    condition_met(clause, bound_row(head, ground, rows, row), index, work, n)
 }
 
 // Whether they meet the first k rows of an action's literals.
 fn conditions_met(
     time: Time,
-    arities: &[u8],
+    head: &Head,
     ground: &[u8],
     rows: &[u8],
     k: usize,
@@ -80,12 +76,12 @@ fn conditions_met(
     work: &[u8],
     n: usize,
 ) -> bool
-    requires { ⌜ (length (now arities) ≡ 64) × ((i : ℕ) → getD (now arities) i 0 ≤ 6) × (length (now ground) ≡ 17) × (8 * k ≤ length (now rows)) × (length (now index) ≡ 12289) × (n ≤ 1024) × (8 * n ≤ length (now work)) ⌝ }
-    ensures { λ r. ⌜ ((keys : ℕ) (parts : List (List ℕ)) → Indexed (now (arities .entry)) keys parts (now (index .entry)) (rowsIn n (now (work .entry)))
-        → r ≡ all (rowMet time (now (arities .entry)) (now (ground .entry)) (rowsIn n (now (work .entry)))) (rowsIn k (now (rows .entry)))) ⌝ }
+    requires { ⌜ (length (now ground) ≡ 17) × (8 * k ≤ length (now rows)) × (length (now index) ≡ 12289) × (n ≤ 1024) × (8 * n ≤ length (now work)) ⌝ }
+    ensures { λ r. ⌜ (Indexed (now (head .entry)) (now (index .entry)) (rowsIn n (now (work .entry)))
+        → r ≡ all (rowMet time (now (head .entry)) (now (ground .entry)) (rowsIn n (now (work .entry)))) (rowsIn k (now (rows .entry)))) ⌝ }
 {
     for i in 0..k {
-        if !row_met(time, arities, ground, rows, 8 * i, index, work, n) {
+        if !row_met(time, head, ground, rows, 8 * i, index, work, n) {
             return false;
         }
     }
@@ -94,9 +90,7 @@ fn conditions_met(
 
 // Whether the facts in the work memory meet what an action with its objects asks at this time.
 pub fn ground_met(
-    counts: Counts,
-    arities: &[u8],
-    starts: &[usize],
+    head: &Head,
     table: &[u8],
     time: Time,
     ground: &[u8],
@@ -104,22 +98,22 @@ pub fn ground_met(
     work: &[u8],
     n: usize,
 ) -> bool
-    requires { ⌜ Ready counts (now arities) (now starts) (now table) × (length (now ground) ≡ 17) × (length (now index) ≡ 12289) × (n ≤ 1024) × (8 * n ≤ length (now work)) ⌝ }
-    ensures { λ r. ⌜ ((D : Domain) (variables sorts parts : List ℕ) (g : GroundAction) (fs : List Fact)
-        → Lent D counts (now (arities .entry)) variables sorts (now (starts .entry)) parts (now (table .entry)) → GroundFits D g → now (ground .entry) ≡ groundRow g
+    requires { ⌜ (length (now ground) ≡ 17) × (length (now index) ≡ 12289) × (n ≤ 1024) × (8 * n ≤ length (now work)) ⌝ }
+    ensures { λ r. ⌜ ((D : Domain) (g : GroundAction) (fs : List Fact)
+        → Held D (now (head .entry)) (now (table .entry)) → GroundFits D g → now (ground .entry) ≡ groundRow g
         → rowsIn n (now (work .entry)) ≡ map factRow fs
-        → ((keys : ℕ) (rows : List (List ℕ)) → Indexed (now (arities .entry)) keys rows (now (index .entry)) (map factRow fs) → r ≡ asked D time g fs)) ⌝ }
+        → Indexed (now (head .entry)) (now (index .entry)) (map factRow fs) → r ≡ asked D time g fs) ⌝ }
 {
     let action = wide(ground[0]);
-    if counts.actions <= action {
+    if actions_in(head) <= action {
         return false;
     }
-    let span = span_of(starts, counts.actions, counts.rows, action);
+    let span = rows_of(head, table, action);
     let from = 8 * span.from;
     let to = 8 * span.to;
     conditions_met(
         time,
-        arities,
+        head,
         ground,
         &table[from..to],
         span.to - span.from,
@@ -131,9 +125,7 @@ pub fn ground_met(
 
 // Whether they meet the conditions of the waiting event i.
 fn event_met(
-    counts: Counts,
-    arities: &[u8],
-    starts: &[usize],
+    head: &Head,
     table: &[u8],
     moments: &[u8],
     rows: &[u8],
@@ -142,19 +134,17 @@ fn event_met(
     work: &[u8],
     n: usize,
 ) -> bool
-    requires { ⌜ Ready counts (now arities) (now starts) (now table) × (length (now moments) ≡ 16) × (length (now rows) ≡ 272) × (i < 16) × (length (now index) ≡ 12289) × (n ≤ 1024) × (8 * n ≤ length (now work)) ⌝ }
-    ensures { λ r. ⌜ ((D : Domain) (variables sorts parts : List ℕ) (e : Event) (fs : List Fact)
-        → Lent D counts (now (arities .entry)) variables sorts (now (starts .entry)) parts (now (table .entry)) → GroundFits D (e .ground)
+    requires { ⌜ (length (now moments) ≡ 16) × (length (now rows) ≡ 272) × (i < 16) × (length (now index) ≡ 12289) × (n ≤ 1024) × (8 * n ≤ length (now work)) ⌝ }
+    ensures { λ r. ⌜ ((D : Domain) (e : Event) (fs : List Fact)
+        → Held D (now (head .entry)) (now (table .entry)) → GroundFits D (e .ground)
         → getD (now (moments .entry)) i 0 ≡ momentNumber (e .moment) → take 17 (drop (17 * i) (now (rows .entry))) ≡ groundRow (e .ground)
         → rowsIn n (now (work .entry)) ≡ map factRow fs
-        → ((keys : ℕ) (rows : List (List ℕ)) → Indexed (now (arities .entry)) keys rows (now (index .entry)) (map factRow fs) → r ≡ conditionsHold D fs e)) ⌝ }
+        → Indexed (now (head .entry)) (now (index .entry)) (map factRow fs) → r ≡ conditionsHold D fs e) ⌝ }
 {
     let at = 17 * i;
     let end = at + 17;
     ground_met(
-        counts,
-        arities,
-        starts,
+        head,
         table,
         time_at(moments[i]),
         &rows[at..end],
@@ -166,9 +156,7 @@ fn event_met(
 
 // Whether they meet the conditions of every waiting event.
 pub fn events_met(
-    counts: Counts,
-    arities: &[u8],
-    starts: &[usize],
+    head: &Head,
     table: &[u8],
     moments: &[u8],
     rows: &[u8],
@@ -177,29 +165,18 @@ pub fn events_met(
     work: &[u8],
     n: usize,
 ) -> bool
-    requires { ⌜ Ready counts (now arities) (now starts) (now table) × (length (now index) ≡ 12289) × (n ≤ 1024) × (8 * n ≤ length (now work))
+    requires { ⌜ (length (now index) ≡ 12289) × (n ≤ 1024) × (8 * n ≤ length (now work))
         × (length (now moments) ≡ 16) × (length (now rows) ≡ 272) ⌝ }
-    ensures { λ r. ⌜ ((D : Domain) (variables sorts parts : List ℕ) (es : List Event) (fs : List Fact)
-        → Lent D counts (now (arities .entry)) variables sorts (now (starts .entry)) parts (now (table .entry))
+    ensures { λ r. ⌜ ((D : Domain) (es : List Event) (fs : List Fact)
+        → Held D (now (head .entry)) (now (table .entry))
         → record { count = count; moments = now (moments .entry); rows = now (rows .entry) } ≡ waitingOf es → EventsFit D es → length es ≤ 16 → rowsIn n (now (work .entry)) ≡ map factRow fs
-        → ((keys : ℕ) (rows : List (List ℕ)) → Indexed (now (arities .entry)) keys rows (now (index .entry)) (map factRow fs) → r ≡ all (conditionsHold D fs) es)) ⌝ }
+        → Indexed (now (head .entry)) (now (index .entry)) (map factRow fs) → r ≡ all (conditionsHold D fs) es) ⌝ }
 {
     if 16 < count {
         return false;
     }
     for i in 0..count {
-        if !event_met(
-            counts,
-            arities,
-            starts,
-            table,
-            moments,
-            rows,
-            i,
-            index,
-            work,
-            n,
-        ) {
+        if !event_met(head, table, moments, rows, i, index, work, n) {
             return false;
         }
     }
@@ -208,9 +185,7 @@ pub fn events_met(
 
 // Whether they meet the over-all conditions of the open entry i.
 fn entry_met(
-    counts: Counts,
-    arities: &[u8],
-    starts: &[usize],
+    head: &Head,
     table: &[u8],
     rows: &[u8],
     i: usize,
@@ -218,32 +193,20 @@ fn entry_met(
     work: &[u8],
     n: usize,
 ) -> bool
-    requires { ⌜ Ready counts (now arities) (now starts) (now table) × (length (now rows) ≡ 544) × (i < 32) × (length (now index) ≡ 12289) × (n ≤ 1024) × (8 * n ≤ length (now work)) ⌝ }
-    ensures { λ r. ⌜ ((D : Domain) (variables sorts parts : List ℕ) (g : GroundAction) (fs : List Fact)
-        → Lent D counts (now (arities .entry)) variables sorts (now (starts .entry)) parts (now (table .entry)) → GroundFits D g
+    requires { ⌜ (length (now rows) ≡ 544) × (i < 32) × (length (now index) ≡ 12289) × (n ≤ 1024) × (8 * n ≤ length (now work)) ⌝ }
+    ensures { λ r. ⌜ ((D : Domain) (g : GroundAction) (fs : List Fact)
+        → Held D (now (head .entry)) (now (table .entry)) → GroundFits D g
         → take 17 (drop (17 * i) (now (rows .entry))) ≡ groundRow g → rowsIn n (now (work .entry)) ≡ map factRow fs
-        → ((keys : ℕ) (rows : List (List ℕ)) → Indexed (now (arities .entry)) keys rows (now (index .entry)) (map factRow fs) → r ≡ overAllHold D fs g)) ⌝ }
+        → Indexed (now (head .entry)) (now (index .entry)) (map factRow fs) → r ≡ overAllHold D fs g) ⌝ }
 {
     let at = 17 * i;
     let end = at + 17;
-    ground_met(
-        counts,
-        arities,
-        starts,
-        table,
-        Time::OverAll,
-        &rows[at..end],
-        index,
-        work,
-        n,
-    )
+    ground_met(head, table, Time::OverAll, &rows[at..end], index, work, n)
 }
 
 // Whether they meet the over-all conditions of everything open.
 pub fn open_met(
-    counts: Counts,
-    arities: &[u8],
-    starts: &[usize],
+    head: &Head,
     table: &[u8],
     rows: &[u8],
     count: usize,
@@ -251,17 +214,17 @@ pub fn open_met(
     work: &[u8],
     n: usize,
 ) -> bool
-    requires { ⌜ Ready counts (now arities) (now starts) (now table) × (length (now index) ≡ 12289) × (n ≤ 1024) × (8 * n ≤ length (now work)) × (length (now rows) ≡ 544) ⌝ }
-    ensures { λ r. ⌜ ((D : Domain) (variables sorts parts : List ℕ) (gs : List GroundAction) (fs : List Fact)
-        → Lent D counts (now (arities .entry)) variables sorts (now (starts .entry)) parts (now (table .entry))
+    requires { ⌜ (length (now index) ≡ 12289) × (n ≤ 1024) × (8 * n ≤ length (now work)) × (length (now rows) ≡ 544) ⌝ }
+    ensures { λ r. ⌜ ((D : Domain) (gs : List GroundAction) (fs : List Fact)
+        → Held D (now (head .entry)) (now (table .entry))
         → record { count = count; rows = now (rows .entry) } ≡ openOf gs → GroundsFit D gs → length gs ≤ 32 → rowsIn n (now (work .entry)) ≡ map factRow fs
-        → ((keys : ℕ) (rows : List (List ℕ)) → Indexed (now (arities .entry)) keys rows (now (index .entry)) (map factRow fs) → r ≡ all (overAllHold D fs) gs)) ⌝ }
+        → Indexed (now (head .entry)) (now (index .entry)) (map factRow fs) → r ≡ all (overAllHold D fs) gs) ⌝ }
 {
     if 32 < count {
         return false;
     }
     for i in 0..count {
-        if !entry_met(counts, arities, starts, table, rows, i, index, work, n) {
+        if !entry_met(head, table, rows, i, index, work, n) {
             return false;
         }
     }

@@ -16,18 +16,20 @@ use Rattle.literals.specs.declared.Label.the-variants.{Key as keyed, Counted}
 use Rattle.literals.specs.declared.Clause.{Clause}
 use Rattle.literals.specs.declared.Clause.the-variants.{Positive, Negative, Add, Delete}
 use Rattle.literals.specs.Domain.{Atom, sameLiteral, clauseNumber, Literal, Action, Component, isCounted, keyBelow, keysOf, Domain}
-use Rattle.literals.specs.Table.{literalRow, labelNumber, componentRow, pad, Bounded as BoundedDomain}
+use Rattle.literals.specs.Table.{literalRow, labelNumber, pad, Bounded as BoundedDomain}
+use Rattle.literals.specs.Held.{arityIn, partIn, HeadOf}
 use Rattle.literals.proofs.Bytes.{keys-below}
-use Rattle.literals.proofs.Tables.{Kept, kept, length-component-row, pad-at}
+use Rattle.literals.proofs.Tables.{Kept, kept, pad-at}
+use Rattle.literals.proofs.Heads.{part-is}
 use Rattle.literals.proofs.Held.{keys-few}
 use Rattle.classes.specs.declared.Moment.{Moment}
 use Rattle.classes.specs.declared.Moment.the-variants.{Start, End}
 use Rattle.classes.specs.declared.Name.the-variants.{Unreachable, Irrelevant, Heavy, Balanced, Unbalanced, Bounded, Unbounded}
 use Rattle.classes.specs.declared.Sole.{Sole}
 use Rattle.classes.specs.Classes.{tuplesOf, belongs, classes, inClass, deletedBy, changedBy, covered, excluding, nameBy, nameOf, journey}
-use Rattle.classes.specs.Coded.{TemplateIn, position, classNumberBy, classNumbers, clausesAt, uncoveredAt, below, isAt, isSameAt, sameIn, changedAt, excludesAt, coveredAt, soleBy, soleAt, soleOf}
+use Rattle.classes.specs.Coded.{MomentOf, position, classNumberBy, classNumbers, clausesAt, uncoveredAt, below, isAt, isSameAt, sameIn, changedAt, excludesAt, coveredAt, lackingAt, soleBy, soleAt, soleOf}
 use Rattle.classes.proofs.Indices.{at-all, any-below, filter-below, position-below, any-filter, all-filter, filter-filter, filter-map, any-or, position-map, position-none, getD-map}
-use Rattle.classes.proofs.Rows.{literalAt, relation-at, atoms-at, byte-flat}
+use Rattle.classes.proofs.Rows.{literalAt, relation-at, atoms-at}
 use Rattle.classes.proofs.Clauses.{literals-at, clauses-few}
 use Rattle.classes.proofs.Members.{member}
 use Rattle.classes.proofs.Soles.{sole-none, sole-many, sole-one, sole-less, sole-passes, sole-all}
@@ -63,40 +65,30 @@ counted-byte : (n : ℕ) → n ≤ 6 → (l : Label) → keyBelow n l ≡ true �
 counted-byte n h (keyed k) t = let g = ltb-true (k .0) n t in ne-eqb (k .0) 255 (λ e. omega arith)
 counted-byte n h Counted t = refl
 
-module _ {D : Domain} {parts arities : List ℕ} {components keys : ℕ} (T : TemplateIn D parts components keys arities) (c : ℕ) (h : c < length (D .template)) where
+module _ {D : Domain} {head : List ℕ} (H : HeadOf D head) (c : ℕ) (h : c < length (D .template)) where
   here : In (componentAt D c) (D .template)
   here = getD-in (D .template) c noComponent h
 
-  part-byte : (i : ℕ) → i < 8 → getD parts (8 * c + i) 0 ≡ getD (componentRow (componentAt D c)) i 0
-  part-byte i g =
-      ap (λ (p : List ℕ). getD p (8 * c + i) 0) (T .rows)
-      ∙ byte-flat componentRow (D .template) (replicate (128 - length (flatMap componentRow (D .template))) 0) noComponent (λ d m. length-component-row d (T .bounded .labels d m)) c i h g
+  part-relation : getD (partIn head c) 0 0 ≡ componentAt D c .rel
+  part-relation = ap (λ (p : List ℕ). getD p 0 0) (part-is H noComponent c h)
 
-  part-relation : getD parts (8 * c) 0 ≡ componentAt D c .rel
-  part-relation = let e : 8 * c ≡ 8 * c + 0 = omega arith in ap (λ (i : ℕ). getD parts i 0) e ∙ part-byte 0 (omega arith)
+  part-arity : arityIn head (getD (partIn head c) 0 0) ≡ length (componentAt D c .labels)
+  part-arity = ap (arityIn head) part-relation ∙ H .arities (componentAt D c .rel) ∙ sym (H .bounded .componentArity (componentAt D c) here)
 
-  part-arity : getD arities (getD parts (8 * c) 0) 0 ≡ length (componentAt D c .labels)
-  part-arity =
-      ap₂ (λ (l : List ℕ) (r : ℕ). getD l r 0) (T .arguments) part-relation
-      ∙ pad-at 64 (D .arities) (componentAt D c .rel)
-      ∙ sym (T .bounded .componentArity (componentAt D c) here)
-
-  part-label : (i : ℕ) → i < length (componentAt D c .labels) → getD parts (8 * c + 1 + i) 0 ≡ labelNumber (getD (componentAt D c .labels) i Counted)
+  part-label : (i : ℕ) → i < length (componentAt D c .labels) → getD (partIn head c) (1 + i) 0 ≡ labelNumber (getD (componentAt D c .labels) i Counted)
   part-label i g =
-      let s = T .bounded .labels (componentAt D c) here in
-      let e : 8 * c + 1 + i ≡ 8 * c + suc i = omega arith in
+      let e : 1 + i ≡ suc i = omega arith in
       let ns = map labelNumber (componentAt D c .labels) in
       let f = length-map (componentAt D c .labels) labelNumber in
-      ap (λ (j : ℕ). getD parts j 0) e
-      ∙ part-byte (suc i) (omega arith)
+      ap₂ (λ (p : List ℕ) (j : ℕ). getD p j 0) (part-is H noComponent c h) e
       ∙ List·getD-append ns (replicate (8 - suc (length ns)) 255) 0 i (omega arith)
       ∙ getD-map labelNumber (componentAt D c .labels) i Counted 0 g
 
-  part-counted : any (λ i. eqb (getD parts (8 * c + 1 + i) 0) 255) (below (getD arities (getD parts (8 * c) 0) 0)) ≡ any isCounted (componentAt D c .labels)
+  part-counted : any (λ i. eqb (getD (partIn head c) (1 + i) 0) 255) (below (arityIn head (getD (partIn head c) 0 0))) ≡ any isCounted (componentAt D c .labels)
   part-counted =
-      ap (λ (n : ℕ). any (λ i. eqb (getD parts (8 * c + 1 + i) 0) 255) (below n)) part-arity
-      ∙ any-below (λ i. eqb (getD parts (8 * c + 1 + i) 0) 255) (λ i. isCounted (getD ls i Counted)) (length ls)
-      (λ i g. ap (λ (b : ℕ). eqb b 255) (part-label i g) ∙ counted-byte count (keys-few (D .template) (T .bounded .labels)) (getD ls i Counted) (all-in (keyBelow count) ls fits (getD-in ls i Counted g)))
+      ap (λ (n : ℕ). any (λ i. eqb (getD (partIn head c) (1 + i) 0) 255) (below n)) part-arity
+      ∙ any-below (λ i. eqb (getD (partIn head c) (1 + i) 0) 255) (λ i. isCounted (getD ls i Counted)) (length ls)
+      (λ i g. ap (λ (b : ℕ). eqb b 255) (part-label i g) ∙ counted-byte count (keys-few (D .template) (H .bounded .labels)) (getD ls i Counted) (all-in (keyBelow count) ls fits (getD-in ls i Counted g)))
       ∙ sym (any-map (λ i. getD ls i Counted) isCounted (below (length ls)))
       ∙ ap (any isCounted) (at-all Counted ls)
     where
@@ -107,7 +99,7 @@ module _ {D : Domain} {parts arities : List ℕ} {components keys : ℕ} (T : Te
       count = keysOf (D .template)
 
       fits : all (keyBelow count) ls ≡ true
-      fits = keys-below _ _ (T .bounded .keysFit (componentAt D c) here)
+      fits = keys-below _ _ (H .bounded .keysFit (componentAt D c) here)
 
 -- ---- a class by its number
 
@@ -268,59 +260,63 @@ module _ (D : Domain) (a : Action) (B : BoundedDomain D) (i : In a (D .actions))
           ap₂ (λ (e t : Bool). eqb (getD (classNumbers D a) j 0) k && (e && t)) (clause-excludes (getD clauses j 0) s) (ap (eqb r) (relation-at (a .lits) kept-in j g))
           ∙ each-clause (eqb (getD (classNumbers D a) j 0) k) (eqb (getD clauses j 0) 2) (eqb (getD clauses j 0) 3) (eqb (getD clauses j 0) 4) (q (atom j))
 
-  module _ {parts arities : List ℕ} {components keys : ℕ} (T : TemplateIn D parts components keys arities) where
-    covered-in : (c : ℕ) → c < length (D .template) → coveredAt parts arities rows (classNumbers D a) clauses k c ≡ covered (excluding D a x m) (componentAt D c)
+  module _ {head : List ℕ} (H : HeadOf D head) where
+    covered-in : (c : ℕ) → c < length (D .template) → coveredAt head rows (classNumbers D a) clauses k c ≡ covered (excluding D a x m) (componentAt D c)
     unfolding coveredAt
     covered-in c g =
-        ap₂ (λ (s t : Bool). not s && t) (part-counted T c g)
-        (ap (λ (r : ℕ). any (excludesAt rows (classNumbers D a) clauses k r) (below (length (classNumbers D a)))) (part-relation T c g) ∙ excludes-in (componentAt D c .rel))
+        ap₂ (λ (s t : Bool). not s && t) (part-counted H c g)
+        (ap (λ (r : ℕ). any (excludesAt rows (classNumbers D a) clauses k r) (below (length (classNumbers D a)))) (part-relation H c g) ∙ excludes-in (componentAt D c .rel))
 
-    uncovered-in : position (λ c. not (coveredAt parts arities rows (classNumbers D a) clauses k c)) (below components) ≡ uncoveredAt D a x m
-    unfolding uncoveredAt
+    uncovered-in : lackingAt head rows (classNumbers D a) clauses k ≡ uncoveredAt D a x m
+    unfolding uncoveredAt lackingAt
     uncovered-in =
-        ap (λ (l : ℕ). position (λ c. not (coveredAt parts arities rows (classNumbers D a) clauses k c)) (below l)) (T .count)
-        ∙ position-below (λ c. not (coveredAt parts arities rows (classNumbers D a) clauses k c)) (λ c. not (covered (excluding D a x m) (componentAt D c))) (length (D .template))
+        ap (λ (l : ℕ). position (λ c. not (coveredAt head rows (classNumbers D a) clauses k c)) (below l)) (H .components)
+        ∙ position-below (λ c. not (coveredAt head rows (classNumbers D a) clauses k c)) (λ c. not (covered (excluding D a x m) (componentAt D c))) (length (D .template))
         (λ c g. ap not (covered-in c g))
         ∙ sym (position-map (componentAt D) (λ c. not (covered (excluding D a x m) c)) (below (length (D .template))))
         ∙ ap (position (λ c. not (covered (excluding D a x m) c))) (at-all noComponent (D .template))
 
--- ---- the first uncovered component, of memories that hold a domain's template and an action
+-- ---- the memories of a moment
 
-pub uncovered-held : {D : Domain} {a : Action} (m : Moment) {parts arities : List ℕ} {components keys : ℕ} {rows of clauses : List ℕ} {k : ℕ} → TemplateIn D parts components keys arities
-    → In a (D .actions) → rows ≡ flatMap literalRow (a .lits) → of ≡ classNumbers D a → clauses ≡ pad 64 (clausesAt a m) → k < length (classes D a)
-    → position (λ c. not (coveredAt parts arities rows of clauses k c)) (below components) ≡ uncoveredAt D a (getD (classes D a) k []) m
-uncovered-held {D} {a} m {parts} {arities} {components} {keys} {rows} {of} {clauses} {k} T i e f g h =
-    ap (λ (r : List ℕ). position (λ c. not (coveredAt parts arities r of clauses k c)) (below components)) e
-    ∙ ap₂ (λ (o d : List ℕ). position (λ c. not (coveredAt parts arities (flatMap literalRow (a .lits)) o d k c)) (below components)) f g
-    ∙ uncovered-in D a (T .bounded) i m k h T
+module _ {D : Domain} {a : Action} {m : Moment} {head rows of clauses : List ℕ} (M : MomentOf D a m head rows of clauses) where
+  its-bounds : BoundedDomain D
+  its-bounds = M .whole .says .bounded
+
+  -- the other moment of its action, by the bytes that it has there
+  pub moment-of : (m′ : Moment) → MomentOf D a m′ head rows (classNumbers D a) (pad 64 (clausesAt a m′))
+  moment-of m′ = record { whole = M .whole; numbers = refl; clauses-are = refl }
+
+  pub uncovered-held : {k : ℕ} → k < length (classes D a) → lackingAt head rows of clauses k ≡ uncoveredAt D a (getD (classes D a) k []) m
+  uncovered-held {k} h =
+      (λ t. lackingAt head (M .whole .literals t) (M .numbers t) (M .clauses-are t) k)
+      ∙ uncovered-in D a its-bounds (M .whole .listed) m k h (M .whole .says)
 
 -- ---- the first line that fits
 
-module _ {D : Domain} {a : Action} (B : BoundedDomain D) (i : In a (D .actions)) (m : Moment) {rows of clauses : List ℕ} {k : ℕ} {sole : Sole} (e : rows ≡ flatMap literalRow (a .lits)) (f : of ≡ classNumbers D a)
-    (g : clauses ≡ pad 64 (clausesAt a m)) (h : k < length (classes D a)) (s : sole ≡ soleOf of clauses k) where
+module _ {D : Domain} {a : Action} {m : Moment} {head rows of clauses : List ℕ} (M : MomentOf D a m head rows of clauses) {k : ℕ} (h : k < length (classes D a)) {sole : Sole} (s : sole ≡ soleOf of clauses k) where
   conditions-are : sole .conditions ≡ soleAt (classNumbers D a) (pad 64 (clausesAt a m)) k 1
-  conditions-are = ap (λ (r : Sole). r .conditions) s ∙ ap₂ (λ (o c : List ℕ). soleAt o c k 1) f g
+  conditions-are = ap (λ (r : Sole). r .conditions) s ∙ ap₂ (λ (o c : List ℕ). soleAt o c k 1) (M .numbers) (M .clauses-are)
 
   adds-are : sole .adds ≡ soleAt (classNumbers D a) (pad 64 (clausesAt a m)) k 3
-  adds-are = ap (λ (r : Sole). r .adds) s ∙ ap₂ (λ (o c : List ℕ). soleAt o c k 3) f g
+  adds-are = ap (λ (r : Sole). r .adds) s ∙ ap₂ (λ (o c : List ℕ). soleAt o c k 3) (M .numbers) (M .clauses-are)
 
   pub no-conditions : sole .conditions ≡ 0 → length (inClass D a (getD (classes D a) k []) m Positive) ≡ 0
-  no-conditions z = none-in D a B i m k h Positive (sym conditions-are ∙ z)
+  no-conditions z = none-in D a (its-bounds M) (M .whole .listed) m k h Positive (sym conditions-are ∙ z)
 
   pub many-conditions : sole .conditions ≡ 255 → 2 ≤ length (inClass D a (getD (classes D a) k []) m Positive)
-  many-conditions z = many-in D a B i m k h Positive (sym conditions-are ∙ z)
+  many-conditions z = many-in D a (its-bounds M) (M .whole .listed) m k h Positive (sym conditions-are ∙ z)
 
   pub one-condition : (sole .conditions ≡ 0 → ⊥) → (sole .conditions ≡ 255 → ⊥) → length (inClass D a (getD (classes D a) k []) m Positive) ≡ 1
-  one-condition y z = one-in D a B i m k h Positive (λ w. y (conditions-are ∙ w)) (λ w. z (conditions-are ∙ w))
+  one-condition y z = one-in D a (its-bounds M) (M .whole .listed) m k h Positive (λ w. y (conditions-are ∙ w)) (λ w. z (conditions-are ∙ w))
 
   pub no-adds : sole .adds ≡ 0 → length (inClass D a (getD (classes D a) k []) m Add) ≡ 0
-  no-adds z = none-in D a B i m k h Add (sym adds-are ∙ z)
+  no-adds z = none-in D a (its-bounds M) (M .whole .listed) m k h Add (sym adds-are ∙ z)
 
   pub many-adds : sole .adds ≡ 255 → 2 ≤ length (inClass D a (getD (classes D a) k []) m Add)
-  many-adds z = many-in D a B i m k h Add (sym adds-are ∙ z)
+  many-adds z = many-in D a (its-bounds M) (M .whole .listed) m k h Add (sym adds-are ∙ z)
 
   pub one-add : (sole .adds ≡ 0 → ⊥) → (sole .adds ≡ 255 → ⊥) → length (inClass D a (getD (classes D a) k []) m Add) ≡ 1
-  one-add y z = one-in D a B i m k h Add (λ w. y (adds-are ∙ w)) (λ w. z (adds-are ∙ w))
+  one-add y z = one-in D a (its-bounds M) (M .whole .listed) m k h Add (λ w. y (adds-are ∙ w)) (λ w. z (adds-are ∙ w))
 
   pub some-conditions : (sole .conditions ≡ 0 → ⊥) → length (inClass D a (getD (classes D a) k []) m Positive) ≡ 0 → ⊥
   some-conditions y z = go (bool-cases (eqb (sole .conditions) 255))
@@ -340,14 +336,14 @@ module _ {D : Domain} {a : Action} (B : BoundedDomain D) (i : In a (D .actions))
     pub changed-held : changedAt rows of clauses k (sole .conditions - 1)
         ≡ all (changedBy (inClass D a (getD (classes D a) k []) m Add) (inClass D a (getD (classes D a) k []) m Delete)) (inClass D a (getD (classes D a) k []) m Positive)
     changed-held =
-        (λ t. changedAt (e t) (f t) (g t) k (conditions-are t - 1))
-        ∙ changed-in D a B i m k h (λ w. some (conditions-are ∙ w)) (λ w. few (conditions-are ∙ w))
+        (λ t. changedAt (M .whole .literals t) (M .numbers t) (M .clauses-are t) k (conditions-are t - 1))
+        ∙ changed-in D a (its-bounds M) (M .whole .listed) m k h (λ w. some (conditions-are ∙ w)) (λ w. few (conditions-are ∙ w))
 
     pub deleted-held : sameIn rows of clauses k 4 (sole .conditions - 1)
         ≡ all (deletedBy (inClass D a (getD (classes D a) k []) m Delete)) (inClass D a (getD (classes D a) k []) m Positive)
     deleted-held =
-        (λ t. sameIn (e t) (f t) (g t) k 4 (conditions-are t - 1))
-        ∙ deleted-in D a B i m k h (λ w. some (conditions-are ∙ w)) (λ w. few (conditions-are ∙ w))
+        (λ t. sameIn (M .whole .literals t) (M .numbers t) (M .clauses-are t) k 4 (conditions-are t - 1))
+        ∙ deleted-in D a (its-bounds M) (M .whole .listed) m k h (λ w. some (conditions-are ∙ w)) (λ w. few (conditions-are ∙ w))
 
 -- where the only condition stands, a loop may look
 pub sole-inside : (of clauses : List ℕ) (class : ℕ) {sole : Sole} → length of ≤ 64 → sole ≡ soleOf of clauses class → (sole .conditions ≡ 0 → ⊥) → (sole .conditions ≡ 255 → ⊥)
@@ -391,37 +387,36 @@ name-is D a x m =
 
 -- ---- the name of a class, as the code finds it
 
-module _ {D : Domain} {a : Action} (B : BoundedDomain D) (i : In a (D .actions)) (m : Moment) {rows of clauses : List ℕ} {k : ℕ} {sole : Sole} (e : rows ≡ flatMap literalRow (a .lits)) (f : of ≡ classNumbers D a)
-    (g : clauses ≡ pad 64 (clausesAt a m)) (h : k < length (classes D a)) (s : sole ≡ soleOf of clauses k) where
+module _ {D : Domain} {a : Action} {m : Moment} {head rows of clauses : List ℕ} (M : MomentOf D a m head rows of clauses) {k : ℕ} (h : k < length (classes D a)) {sole : Sole} (s : sole ≡ soleOf of clauses k) where
   pub unreachable-named : sole .conditions ≡ 255 → Unreachable ≡ nameOf D a (getD (classes D a) k []) m
-  unreachable-named z = sym (name-is D a (getD (classes D a) k []) m ∙ by-unreachable _ _ _ _ (many-conditions B i m e f g h s z))
+  unreachable-named z = sym (name-is D a (getD (classes D a) k []) m ∙ by-unreachable _ _ _ _ (many-conditions M h s z))
 
   module _ (few : sole .conditions ≡ 255 → ⊥) where
     few-conditions : length (inClass D a (getD (classes D a) k []) m Positive) ≤ 1
     few-conditions = go (bool-cases (eqb (sole .conditions) 0))
       where
         go : (eqb (sole .conditions) 0 ≡ true) ⊎ (eqb (sole .conditions) 0 ≡ false) → length (inClass D a (getD (classes D a) k []) m Positive) ≤ 1
-        go (inl t) = let n = no-conditions B i m e f g h s (eqb-true _ _ t) in omega arith
-        go (inr t) = let n = one-condition B i m e f g h s (eqb-false _ _ t) few in omega arith
+        go (inl t) = let n = no-conditions M h s (eqb-true _ _ t) in omega arith
+        go (inr t) = let n = one-condition M h s (eqb-false _ _ t) few in omega arith
 
     pub irrelevant-named : sole .adds ≡ 0 → Irrelevant ≡ nameOf D a (getD (classes D a) k []) m
-    irrelevant-named z = sym (name-is D a (getD (classes D a) k []) m ∙ by-irrelevant _ _ _ _ few-conditions (no-adds B i m e f g h s z))
+    irrelevant-named z = sym (name-is D a (getD (classes D a) k []) m ∙ by-irrelevant _ _ _ _ few-conditions (no-adds M h s z))
 
     pub heavy-named : sole .adds ≡ 255 → Heavy ≡ nameOf D a (getD (classes D a) k []) m
-    heavy-named z = sym (name-is D a (getD (classes D a) k []) m ∙ by-heavy _ _ _ _ few-conditions (many-adds B i m e f g h s z))
+    heavy-named z = sym (name-is D a (getD (classes D a) k []) m ∙ by-heavy _ _ _ _ few-conditions (many-adds M h s z))
 
     module _ (added : sole .adds ≡ 0 → ⊥) (light : sole .adds ≡ 255 → ⊥) where
       pub changed-named : (sole .conditions ≡ 0 → ⊥) → (t : Bool) → changedAt rows of clauses k (sole .conditions - 1) ≡ t → cond t Balanced Unbalanced ≡ nameOf D a (getD (classes D a) k []) m
       changed-named some t c =
           sym (name-is D a (getD (classes D a) k []) m
-          ∙ by-changed _ _ _ _ (one-condition B i m e f g h s some few) (one-add B i m e f g h s added light)
-          ∙ ap (λ (b : Bool). cond b Balanced Unbalanced) (sym (changed-held B i m e f g h s some few) ∙ c))
+          ∙ by-changed _ _ _ _ (one-condition M h s some few) (one-add M h s added light)
+          ∙ ap (λ (b : Bool). cond b Balanced Unbalanced) (sym (changed-held M h s some few) ∙ c))
 
       pub covered-named : sole .conditions ≡ 0 → (u n : ℕ) → u ≡ uncoveredAt D a (getD (classes D a) k []) m → n ≡ length (D .template) → (t : Bool) → eqb u n ≡ t
           → cond t Bounded Unbounded ≡ nameOf D a (getD (classes D a) k []) m
       covered-named none u n p q t c =
           sym (name-is D a (getD (classes D a) k []) m
-          ∙ by-covered _ _ _ _ (no-conditions B i m e f g h s none) (one-add B i m e f g h s added light)
+          ∙ by-covered _ _ _ _ (no-conditions M h s none) (one-add M h s added light)
           ∙ ap (λ (b : Bool). cond b Bounded Unbounded) (ap₂ eqb (sym p) (sym q) ∙ c))
 
 -- ---- whether it is a journey

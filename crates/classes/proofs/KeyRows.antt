@@ -16,7 +16,9 @@ use Rattle.records.proofs.Memory.{over-more, drop-replicate}
 use Rattle.literals.specs.Decode.{byte}
 use Rattle.literals.specs.Table.{rowOf, rowsBy, rowsIn}
 use Rattle.literals.proofs.Rows.{length-row, row-full, eight-by-four, same-miss, same-hit, same-end, length-part, part-at, rows-more, rows-end}
-use Rattle.classes.specs.Coded.{position, underKey, underKeys, keyRow, keyRows, numberedBy, tuplesAfter}
+use Rattle.literals.proofs.Heads.{parts-length, part-row}
+use Rattle.literals.specs.Held.{componentsIn, keysIn, partIn, partsIn}
+use Rattle.classes.specs.Coded.{position, underKey, underKeys, keyRow, keyRows, keyRowsIn, numberedBy, tuplesAfter}
 
 -- ---- the place of the first row that passes, from row c on
 
@@ -73,26 +75,27 @@ row-cons t at h i j k l e f =
     drop-cons (take 8 (drop at t)) i 0 (omega (arith, length-part 8 t at h))
     ∙ ap₂ _∷_ (part-at 8 t at h i l ∙ ap (λ (n : ℕ). getD t n 0) f) (ap (λ (n : ℕ). drop n (take 8 (drop at t))) (sym (add-one i) ∙ e))
 
-module _ (parts rows : List ℕ) (part at k i : ℕ) (h : part + 8 ≤ length parts) (g : at + 8 ≤ length rows) where
-  pub under-end : 6 ≤ i → underKey k (drop (i + 1) (take 8 (drop part parts))) (drop (i + 2) (take 8 (drop at rows))) ≡ 255
+-- of a component's row and the row at an offset
+module _ (part rows : List ℕ) (at k i : ℕ) (h : length part ≡ 8) (g : at + 8 ≤ length rows) where
+  pub under-end : 6 ≤ i → underKey k (drop (i + 1) part) (drop (i + 2) (take 8 (drop at rows))) ≡ 255
   under-end l =
-      ap (underKey k (drop (i + 1) (take 8 (drop part parts)))) (drop-of-length-le (take 8 (drop at rows)) {i = i + 2} (omega (arith, length-part 8 rows at g)))
-      ∙ under-none k (drop (i + 1) (take 8 (drop part parts)))
+      ap (underKey k (drop (i + 1) part)) (drop-of-length-le (take 8 (drop at rows)) {i = i + 2} (omega (arith, length-part 8 rows at g)))
+      ∙ under-none k (drop (i + 1) part)
 
   module _ (l : i < 6) where
-    under-more : underKey k (drop (i + 1) (take 8 (drop part parts))) (drop (i + 2) (take 8 (drop at rows)))
-        ≡ cond (eqb k (getD parts (part + 1 + i) 0)) (getD rows (at + 2 + i) 0)
-        (underKey k (drop (i + 1 + 1) (take 8 (drop part parts))) (drop (i + 1 + 2) (take 8 (drop at rows))))
+    under-more : underKey k (drop (i + 1) part) (drop (i + 2) (take 8 (drop at rows)))
+        ≡ cond (eqb k (getD part (i + 1) 0)) (getD rows (at + 2 + i) 0) (underKey k (drop (i + 1 + 1) part) (drop (i + 1 + 2) (take 8 (drop at rows))))
     under-more =
-        ap₂ (underKey k) (row-cons parts part h (i + 1) (i + 1 + 1) (part + 1 + i) (omega arith) (omega arith) (omega arith)) (row-cons rows at g (i + 2) (i + 1 + 2) (at + 2 + i) (omega arith) (omega arith) (omega arith))
+        ap₂ (underKey k)
+        (drop-cons part (i + 1) 0 (omega arith) ∙ ap (λ (n : ℕ). getD part (i + 1) 0 ∷ drop n part) (sym (add-one (i + 1))))
+        (row-cons rows at g (i + 2) (i + 1 + 2) (at + 2 + i) (omega arith) (omega arith) (omega arith))
 
-    pub under-hit : getD parts (part + 1 + i) 0 ≡ k → underKey k (drop (i + 1) (take 8 (drop part parts))) (drop (i + 2) (take 8 (drop at rows))) ≡ getD rows (at + 2 + i) 0
-    under-hit e = under-more ∙ rw (eq-eqb k (getD parts (part + 1 + i) 0) (sym e))
+    pub under-hit : getD part (i + 1) 0 ≡ k → underKey k (drop (i + 1) part) (drop (i + 2) (take 8 (drop at rows))) ≡ getD rows (at + 2 + i) 0
+    under-hit e = under-more ∙ rw (eq-eqb k (getD part (i + 1) 0) (sym e))
 
-    pub under-miss : (getD parts (part + 1 + i) 0 ≡ k → ⊥)
-        → underKey k (drop (i + 1) (take 8 (drop part parts))) (drop (i + 2) (take 8 (drop at rows)))
-        ≡ underKey k (drop (i + 1 + 1) (take 8 (drop part parts))) (drop (i + 1 + 2) (take 8 (drop at rows)))
-    under-miss e = under-more ∙ rw (ne-eqb k (getD parts (part + 1 + i) 0) (λ f. e (sym f)))
+    pub under-miss : (getD part (i + 1) 0 ≡ k → ⊥)
+        → underKey k (drop (i + 1) part) (drop (i + 2) (take 8 (drop at rows))) ≡ underKey k (drop (i + 1 + 1) part) (drop (i + 1 + 2) (take 8 (drop at rows)))
+    under-miss e = under-more ∙ rw (ne-eqb k (getD part (i + 1) 0) (λ f. e (sym f)))
 
 -- ---- the key tuple, key by key
 
@@ -192,40 +195,41 @@ module _ (t tuples : List ℕ) (count class : ℕ) (e : class ≡ position (same
   tuples-old f = rw (← e, ne-eqb class count f)
 
 -- by the place of the component of its relation
-module _ (parts rows tuples : List ℕ) (n keys at count c : ℕ) (g : at + 8 ≤ length rows) (e : c ≡ position (λ row. eqb (getD rows (at + 1) 0) (byte row 0)) (rowsIn n parts)) where
-  pub component-le : c ≤ n
-  component-le = omega (arith, place-le (λ row. eqb (getD rows (at + 1) 0) (byte row 0)) (rowsIn n parts), length-rows 8 n parts)
+module _ (head rows tuples : List ℕ) (at count c : ℕ) (g : at + 8 ≤ length rows) (e : c ≡ position (λ row. eqb (getD rows (at + 1) 0) (byte row 0)) (partsIn head)) where
+  pub component-le : c ≤ componentsIn head
+  component-le = omega (arith, place-le (λ row. eqb (getD rows (at + 1) 0) (byte row 0)) (partsIn head), parts-length head)
 
-  pub unmatched : c ≡ n
-      → (record { class = 255; count = count } ≡ numberedBy (keyRows keys (rowsIn n parts) (take 8 (drop at rows))) count tuples)
-      × (tuples ≡ tuplesAfter (keyRows keys (rowsIn n parts) (take 8 (drop at rows))) count tuples)
-  unfolding numberedBy tuplesAfter
+  pub unmatched : c ≡ componentsIn head
+      → (record { class = 255; count = count } ≡ numberedBy (keyRowsIn head (take 8 (drop at rows))) count tuples)
+      × (tuples ≡ tuplesAfter (keyRowsIn head (take 8 (drop at rows))) count tuples)
+  unfolding numberedBy tuplesAfter keyRowsIn
   unmatched f =
-      rw (key-rows-none keys (getD rows (at + 1) 0) (take 8 (drop at rows)) (part-at 8 rows at g 1 (omega arith)) (rowsIn n parts) (sym e ∙ f ∙ sym (length-rows 8 n parts)))
+      rw (key-rows-none (keysIn head) (getD rows (at + 1) 0) (take 8 (drop at rows)) (part-at 8 rows at g 1 (omega arith)) (partsIn head) (sym e ∙ f ∙ sym (parts-length head)))
       (refl, refl)
 
-  module _ (h : c ≡ n → ⊥) (t : List ℕ) (f : t ≡ keyRow keys (take 8 (drop (8 * c) parts)) (take 8 (drop at rows))) where
-    matched : keyRows keys (rowsIn n parts) (take 8 (drop at rows)) ≡ t ∷ []
+  module _ (h : c ≡ componentsIn head → ⊥) (t : List ℕ) (f : t ≡ keyRow (keysIn head) (partIn head c) (take 8 (drop at rows))) where
+    matched : keyRowsIn head (take 8 (drop at rows)) ≡ t ∷ []
+    unfolding keyRowsIn
     matched =
-        let u = key-rows-one keys (getD rows (at + 1) 0) (take 8 (drop at rows)) (part-at 8 rows at g 1 (omega arith)) (rowsIn n parts) (λ z. h (e ∙ z ∙ length-rows 8 n parts)) in
-        let v : c < n = omega (arith, component-le) in
+        let u = key-rows-one (keysIn head) (getD rows (at + 1) 0) (take 8 (drop at rows)) (part-at 8 rows at g 1 (omega arith)) (partsIn head) (λ z. h (e ∙ z ∙ parts-length head)) in
+        let v : c < componentsIn head = omega (arith, component-le) in
         u
-        ∙ ap (λ (k : ℕ). keyRow keys (getD (rowsIn n parts) k []) (take 8 (drop at rows)) ∷ []) (sym e)
-        ∙ ap (λ (p : List ℕ). keyRow keys p (take 8 (drop at rows)) ∷ []) (rows-at 8 n parts c [] v)
+        ∙ ap (λ (k : ℕ). keyRow (keysIn head) (getD (partsIn head) k []) (take 8 (drop at rows)) ∷ []) (sym e)
+        ∙ ap (λ (p : List ℕ). keyRow (keysIn head) p (take 8 (drop at rows)) ∷ []) (part-row head c v)
         ∙ ap (λ (x : List ℕ). x ∷ []) (sym f)
 
     module _ (class : ℕ) (q : class ≡ position (sameList eqb t) (rowsIn count tuples)) where
       pub class-le : class ≤ count
       class-le = omega (arith, place-le (sameList eqb t) (rowsIn count tuples), length-rows 8 count tuples)
 
-      pub new-class : class ≡ count → keys ≤ 8 → (out : List ℕ) → out ≡ paste tuples (8 * count) (rowOf t) 8
-          → (record { class = class; count = count + 1 } ≡ numberedBy (keyRows keys (rowsIn n parts) (take 8 (drop at rows))) count tuples)
-          × (out ≡ tuplesAfter (keyRows keys (rowsIn n parts) (take 8 (drop at rows))) count tuples)
+      pub new-class : class ≡ count → keysIn head ≤ 8 → (out : List ℕ) → out ≡ paste tuples (8 * count) (rowOf t) 8
+          → (record { class = class; count = count + 1 } ≡ numberedBy (keyRowsIn head (take 8 (drop at rows))) count tuples)
+          × (out ≡ tuplesAfter (keyRowsIn head (take 8 (drop at rows))) count tuples)
       new-class z k out o =
-          let l : length t ≡ 8 = ap length f ∙ length-tuple keys (take 8 (drop (8 * c) parts)) (take 8 (drop at rows)) k in
+          let l : length t ≡ 8 = ap length f ∙ length-tuple (keysIn head) (partIn head c) (take 8 (drop at rows)) k in
           rw matched (numbered-new t tuples count class q z, o ∙ ap (λ (x : List ℕ). paste tuples (8 * count) x 8) (row-full t l) ∙ tuples-new t tuples count class q z)
 
       pub old-class : (class ≡ count → ⊥)
-          → (record { class = class; count = count } ≡ numberedBy (keyRows keys (rowsIn n parts) (take 8 (drop at rows))) count tuples)
-          × (tuples ≡ tuplesAfter (keyRows keys (rowsIn n parts) (take 8 (drop at rows))) count tuples)
+          → (record { class = class; count = count } ≡ numberedBy (keyRowsIn head (take 8 (drop at rows))) count tuples)
+          × (tuples ≡ tuplesAfter (keyRowsIn head (take 8 (drop at rows))) count tuples)
       old-class z = rw matched (numbered-old t tuples count class q z, tuples-old t tuples count class q z)

@@ -14,12 +14,13 @@ use Rattle.records.proofs.Lists.{getD-in}
 use Rattle.records.proofs.Memory.{over-more}
 use Rattle.literals.specs.declared.Variable.{Variable}
 use Rattle.literals.specs.Domain.{Literal, Action, Component, keysOf, Domain}
-use Rattle.literals.specs.Table.{literalRow, componentRow, rowsIn}
+use Rattle.literals.specs.Table.{literalRow, rowsIn, Bounded}
 use Rattle.literals.proofs.Bytes.{keys-once}
-use Rattle.literals.proofs.Tables.{kept, length-literals, rows-components}
+use Rattle.literals.proofs.Tables.{kept, length-literals}
+use Rattle.literals.proofs.Held.{keys-few}
 use Rattle.classes.specs.declared.number.Numbered.{Numbered}
 use Rattle.classes.specs.Classes.{tuplesOf, classes}
-use Rattle.classes.specs.Coded.{TemplateIn, rowAt, position, classNumberBy, classNumbers, tupleRow, classTuples, keyRows, numberedBy, tuplesAfter}
+use Rattle.classes.specs.Coded.{ActionOf, rowAt, position, classNumberBy, classNumbers, tupleRow, classTuples, keyRows, keyRowsIn, numberedBy, tuplesAfter}
 use Rattle.classes.proofs.Rows.{noLiteral, row-at}
 use Rattle.classes.proofs.Numbers.{One, Fits, tuples-one, tuples-rows, found, numbers, numbers-more, rowsOf, numbered-more, tuples-more}
 
@@ -34,47 +35,46 @@ pub record Numbered-by (D : Domain) (ls : List Literal) (of₀ of rows : List �
 
 -- ---- the literals of an action of a domain whose template is held
 
-module _ {D : Domain} {parts arities : List ℕ} {components keys : ℕ} (h : TemplateIn D parts components keys arities) (s : keys ≤ 6) {a : Action} (i : In a (D .actions)) where
+module _ {D : Domain} {a : Action} {head rows : List ℕ} (A : ActionOf D a head rows) where
+  abbrev B : Bounded D
+  B = A .says .bounded
+
   few-keys : keysOf (D .template) ≤ 6
-  few-keys = let k = h .keyed in omega arith
+  few-keys = keys-few (D .template) (B .labels)
 
   fits : (c : Component) → In c (D .template) → Fits D (keysOf (D .template)) c
-  fits c m = record { arguments = h .bounded .componentArity c m; keys = keys-once _ _ (h .bounded .keysFit c m) }
+  fits c m = record { arguments = B .componentArity c m; keys = keys-once _ _ (B .keysFit c m) }
 
   pub one : (l : Literal) → In l (a .lits) → One (keysOf (D .template)) (tuples D l)
   unfolding tuplesOf
-  one l m = tuples-one D (keysOf (D .template)) few-keys l (h .bounded .literalArity a i l m) (D .template) fits (h .bounded .componentsOnce)
+  one l m = tuples-one D (keysOf (D .template)) few-keys l (B .literalArity a (A .listed) l m) (D .template) fits (B .componentsOnce)
 
   -- the key tuples of a literal, by the bytes of the index
-  tuples-are : (l : Literal) → In l (a .lits) → keyRows keys (rowsIn components parts) (literalRow l) ≡ map tupleRow (tuples D l)
-  unfolding tuplesOf
+  tuples-are : (l : Literal) → In l (a .lits) → keyRowsIn head (literalRow l) ≡ map tupleRow (tuples D l)
+  unfolding tuplesOf keyRowsIn
   tuples-are l m =
-      ap (λ (k : ℕ). keyRows k (rowsIn components parts) (literalRow l)) (h .keyed)
-      ∙ ap (λ (ps : List (List ℕ)). keyRows (keysOf (D .template)) ps (literalRow l))
-      (ap₂ rowsIn (h .count) (h .rows) ∙ rows-components (D .template) (h .bounded .labels) (replicate (128 - length (flatMap componentRow (D .template))) 0))
-      ∙ tuples-rows D (keysOf (D .template)) few-keys l (h .bounded .literalArity a i l m) (D .template) fits (h .bounded .componentsOnce)
+      ap₂ (λ (k : ℕ) (ps : List (List ℕ)). keyRows k ps (literalRow l)) (A .says .keys) (A .says .parts)
+      ∙ tuples-rows D (keysOf (D .template)) few-keys l (B .literalArity a (A .listed) l m) (D .template) fits (B .componentsOnce)
 
-  module _ {rows : List ℕ} (e : rows ≡ flatMap literalRow (a .lits)) where
-    row-of : (j : ℕ) → j < length (a .lits) → take 8 (drop (8 * j) rows) ≡ literalRow (getD (a .lits) j noLiteral)
-    row-of j g =
-        ap (λ (t : List ℕ). rowAt t j) e ∙ row-at (a .lits) (λ l m. kept (h .bounded) i m) j g
+  row-of : (j : ℕ) → j < length (a .lits) → take 8 (drop (8 * j) rows) ≡ literalRow (getD (a .lits) j noLiteral)
+  row-of j g = ap (λ (t : List ℕ). rowAt t j) (A .literals) ∙ row-at (a .lits) (λ l m. kept B (A .listed) m) j g
 
-    rows-length : length rows ≡ 8 * length (a .lits)
-    rows-length = ap length e ∙ length-literals (a .lits) (h .bounded .arguments a i)
+  rows-length : length rows ≡ 8 * length (a .lits)
+  rows-length = ap length (A .literals) ∙ length-literals (a .lits) (B .arguments a (A .listed))
 
 -- ---- the loop
 
-pub record SoFar (parts : List ℕ) (components keys : ℕ) (rows of₀ of table₀ table : List ℕ) (count j : ℕ) : Type 0 where
+pub record SoFar (head rows of₀ of table₀ table : List ℕ) (count j : ℕ) : Type 0 where
   pub few : count ≤ j
   pub reach : j ≤ length of₀
   pub whole : length of ≡ length of₀
   pub room : length table ≡ 512
-  pub is : (D : Domain) (a : Action) (arities : List ℕ) → TemplateIn D parts components keys arities → In a (D .actions) → rows ≡ flatMap literalRow (a .lits) → table₀ ≡ replicate 512 255 → Numbered-by D (take j (a .lits)) of₀ of table count
+  pub is : (D : Domain) (a : Action) → ActionOf D a head rows → table₀ ≡ replicate 512 255 → Numbered-by D (take j (a .lits)) of₀ of table count
 
-pub so-far-none : (parts : List ℕ) (components keys : ℕ) (rows of₀ table₀ : List ℕ) → length table₀ ≡ 512 → SoFar parts components keys rows of₀ of₀ table₀ table₀ 0 0
+pub so-far-none : (head rows of₀ table₀ : List ℕ) → length table₀ ≡ 512 → SoFar head rows of₀ of₀ table₀ table₀ 0 0
 unfolding over flatMap
-so-far-none parts components keys rows of₀ table₀ l =
-    record { few = omega arith; reach = omega arith; whole = refl; room = l; is = λ D a arities h i e f. record { table = f; counted = refl; given = refl } }
+so-far-none head rows of₀ table₀ l =
+    record { few = omega arith; reach = omega arith; whole = refl; room = l; is = λ D a A f. record { table = f; counted = refl; given = refl } }
 
 numbered-few : (ts : List (List ℕ)) (count : ℕ) (table : List ℕ) → numberedBy ts count table .count ≤ count + 1
 unfolding numberedBy
@@ -85,42 +85,42 @@ numbered-few (t ∷ ts) count table = go (eqb (position (sameList eqb t) (rowsIn
     go true = omega arith
     go false = omega arith
 
-module _ (parts : List ℕ) (components keys : ℕ) (rows of₀ of table₀ table table′ : List ℕ) (count j : ℕ) (o : Numbered) (m : length table′ ≡ 512) (s : keys ≤ 6) (l : length rows ≡ 8 * length of₀)
-    (w : SoFar parts components keys rows of₀ of table₀ table count j)
+module _ (head rows of₀ of table₀ table table′ : List ℕ) (count j : ℕ) (o : Numbered) (m : length table′ ≡ 512) (l : length rows ≡ 8 * length of₀)
+    (w : SoFar head rows of₀ of table₀ table count j)
     (g : j < length of₀)
-    (e : o ≡ numberedBy (keyRows keys (rowsIn components parts) (take 8 (drop (8 * j) rows))) count table)
-    (f : table′ ≡ tuplesAfter (keyRows keys (rowsIn components parts) (take 8 (drop (8 * j) rows))) count table) where
-  turn : (D : Domain) (a : Action) (arities : List ℕ) → TemplateIn D parts components keys arities → In a (D .actions) → rows ≡ flatMap literalRow (a .lits) → table₀ ≡ replicate 512 255
+    (e : o ≡ numberedBy (keyRowsIn head (take 8 (drop (8 * j) rows))) count table)
+    (f : table′ ≡ tuplesAfter (keyRowsIn head (take 8 (drop (8 * j) rows))) count table) where
+  turn : (D : Domain) (a : Action) → ActionOf D a head rows → table₀ ≡ replicate 512 255
       → Numbered-by D (take (j + 1) (a .lits)) of₀ (set of j (o .class)) table′ (o .count)
-  turn D a arities h i r z = rw (add-one j, take-suc (a .lits) j noLiteral inside) after
+  turn D a A z = rw (add-one j, take-suc (a .lits) j noLiteral inside) after
     where
       before : Numbered-by D (take j (a .lits)) of₀ of table count
-      before = w .is D a arities h i r z
+      before = w .is D a A z
 
       inside : j < length (a .lits)
-      inside = let k = rows-length h s i r in omega arith
+      inside = let k = rows-length A in omega arith
 
       x : Literal
       x = getD (a .lits) j noLiteral
 
       its : One (keysOf (D .template)) (tuples D x)
-      its = one h s i x (getD-in (a .lits) j noLiteral inside)
+      its = one A x (getD-in (a .lits) j noLiteral inside)
 
       -- of the literals so far
       those : (y : Literal) → In y (take j (a .lits)) → One (keysOf (D .template)) (tuples D y)
-      those y m = one h s i y (subst (λ (ls : List Literal). In y ls) (take-append-drop j (a .lits)) (Memᴰ·append-left (drop j (a .lits)) m))
+      those y m = one A y (subst (λ (ls : List Literal). In y ls) (take-append-drop j (a .lits)) (Memᴰ·append-left (drop j (a .lits)) m))
 
-      keyed-by : keyRows keys (rowsIn components parts) (take 8 (drop (8 * j) rows)) ≡ map tupleRow (tuples D x)
+      keyed-by : keyRowsIn head (take 8 (drop (8 * j) rows)) ≡ map tupleRow (tuples D x)
       keyed-by =
-          ap (keyRows keys (rowsIn components parts)) (row-of h s i r j inside)
-          ∙ tuples-are h s i x (getD-in (a .lits) j noLiteral inside)
+          ap (keyRowsIn head) (row-of A j inside)
+          ∙ tuples-are A x (getD-in (a .lits) j noLiteral inside)
 
       result : o ≡ record { class = classNumberBy (found (tuples D) (take j (a .lits) ++ (x ∷ []))) (tuples D x); count = length (found (tuples D) (take j (a .lits) ++ (x ∷ []))) }
       result =
           e
           ∙ ap (λ (ts : List (List ℕ)). numberedBy ts count table) keyed-by
           ∙ ap₂ (numberedBy (map tupleRow (tuples D x))) (before .counted) (before .table)
-          ∙ numbered-more (tuples D) (keysOf (D .template)) (few-keys h s i) (take j (a .lits)) those x its
+          ∙ numbered-more (tuples D) (keysOf (D .template)) (few-keys A) (take j (a .lits)) those x its
 
       after : Numbered-by D (take j (a .lits) ++ (x ∷ [])) of₀ (set of j (o .class)) table′ (o .count)
       after =
@@ -129,7 +129,7 @@ module _ (parts : List ℕ) (components keys : ℕ) (rows of₀ of table₀ tabl
                 f
                 ∙ ap (λ (ts : List (List ℕ)). tuplesAfter ts count table) keyed-by
                 ∙ ap₂ (tuplesAfter (map tupleRow (tuples D x))) (before .counted) (before .table)
-                ∙ tuples-more (tuples D) (keysOf (D .template)) (few-keys h s i) (take j (a .lits)) those x its;
+                ∙ tuples-more (tuples D) (keysOf (D .template)) (few-keys A) (take j (a .lits)) those x its;
             counted = ap (λ (p : Numbered). p .count) result;
             given =
                 ap₂ (λ (t : List ℕ) (v : ℕ). set t j v) (before .given) (ap (λ (p : Numbered). p .class) result)
@@ -139,11 +139,11 @@ module _ (parts : List ℕ) (components keys : ℕ) (rows of₀ of table₀ tabl
                 ∙ ap (λ (t : List ℕ). over t of₀) (sym (numbers-more (tuples D) (take j (a .lits)) x its));
           }
 
-  pub so-far-more : SoFar parts components keys rows of₀ (set of j (o .class)) table₀ table′ (o .count) (j + 1)
+  pub so-far-more : SoFar head rows of₀ (set of j (o .class)) table₀ table′ (o .count) (j + 1)
   so-far-more =
       record {
         few =
-            let k = numbered-few (keyRows keys (rowsIn components parts) (take 8 (drop (8 * j) rows))) count table in
+            let k = numbered-few (keyRowsIn head (take 8 (drop (8 * j) rows))) count table in
             let q = ap (λ (p : Numbered). p .count) e in
             let u = w .few in
             omega arith;
@@ -153,26 +153,26 @@ module _ (parts : List ℕ) (components keys : ℕ) (rows of₀ of table₀ tabl
         is = turn;
       }
 
-pub so-far-all : (parts : List ℕ) (components keys : ℕ) (rows of₀ of table₀ table : List ℕ) (count j : ℕ) → keys ≤ 6 → length rows ≡ 8 * length of₀
-    → SoFar parts components keys rows of₀ of table₀ table count j → length of₀ ≤ j
-    → (D : Domain) (a : Action) (arities : List ℕ) → TemplateIn D parts components keys arities → In a (D .actions) → rows ≡ flatMap literalRow (a .lits) → table₀ ≡ replicate 512 255
+pub so-far-all : (head rows of₀ of table₀ table : List ℕ) (count j : ℕ) → length rows ≡ 8 * length of₀
+    → SoFar head rows of₀ of table₀ table count j → length of₀ ≤ j
+    → (D : Domain) (a : Action) → ActionOf D a head rows → table₀ ≡ replicate 512 255
     → (count ≡ length (classes D a)) × (table ≡ classTuples D a) × (of ≡ classNumbers D a)
 unfolding classTuples classNumbers classes over
-so-far-all parts components keys rows of₀ of table₀ table count j s l w g D a arities h i r z = (
+so-far-all head rows of₀ of table₀ table count j l w g D a A z = (
   now .counted ∙ ap (λ (ls : List Literal). length (found (tuples D) ls)) done,
   now .table ∙ ap (λ (ls : List Literal). rowsOf (found (tuples D) ls)) done,
   now .given ∙ ap (λ (ls : List Literal). over (numbers (tuples D) ls) of₀) done ∙ covers,
 )
   where
     now : Numbered-by D (take j (a .lits)) of₀ of table count
-    now = w .is D a arities h i r z
+    now = w .is D a A z
 
     done : take j (a .lits) ≡ a .lits
-    done = let k = rows-length h s i r in take-all j (a .lits) (omega arith)
+    done = let k = rows-length A in take-all j (a .lits) (omega arith)
 
     covers : over (numbers (tuples D) (a .lits)) of₀ ≡ numbers (tuples D) (a .lits)
     covers =
-        let k = rows-length h s i r in
+        let k = rows-length A in
         let n = length-map (a .lits) (λ y. classNumberBy (found (tuples D) (a .lits)) (tuples D y)) in
         ap (λ (t : List ℕ). numbers (tuples D) (a .lits) ++ t) (drop-of-length-le of₀ {i = length (numbers (tuples D) (a .lits))} (omega arith))
         ∙ append-nil (numbers (tuples D) (a .lits))

@@ -1,32 +1,23 @@
--- How the code holds the template and the classes of an action: class numbers, the clause of each literal at a moment, and what a name is decided by. Assumes nothing.
+-- How the code holds the classes of an action: class numbers, the clause of each literal at a moment, and what a name is decided by. Assumes nothing.
 use mathlib.Core.Path.{_≡_}
 use mathlib.Core.Bool.{Bool, true, false, _&&_, _||_, not, cond}
 use mathlib.Core.List.{List, [], _∷_, _++_, map, flatMap}
-use Prim.Native.Nat.{ℕ, zero, suc, _+_, _-_, _*_}
+use Prim.Native.Nat.{ℕ, zero, suc, _+_, _-_, _*_, _≤_}
 use lib.Dec.{eqb, ltb, leb}
 use lib.ListN.{length, getD, take, drop, replicate}
 use lib.Seq.{paste}
-use Rattle.records.specs.Lists.{any, pairwise, sameList}
+use Rattle.records.specs.Lists.{In, any, pairwise, sameList}
 use Rattle.literals.specs.declared.Variable.{Variable}
 use Rattle.literals.specs.declared.Role.{Role}
-use Rattle.literals.specs.Domain.{sameVariable, sameLiteral, clauseNumber, Literal, Action, keysOf, Domain}
+use Rattle.literals.specs.Domain.{sameVariable, sameLiteral, clauseNumber, Literal, Action, Domain}
 use Rattle.literals.specs.Decode.{byte, repeats}
-use Rattle.literals.specs.Table.{rowOf, rowsIn, componentRow, pad, Bounded}
+use Rattle.literals.specs.Table.{rowOf, rowsIn, literalRow, pad}
+use Rattle.literals.specs.Held.{componentsIn, keysIn, arityIn, partIn, partsIn, HeadOf}
 use Rattle.classes.specs.declared.Moment.{Moment}
 use Rattle.classes.specs.declared.Moment.the-variants.{Start, End}
 use Rattle.classes.specs.declared.Sole.{Sole}
 use Rattle.classes.specs.declared.number.Numbered.{Numbered}
 use Rattle.classes.specs.Classes.{tuplesOf, own, overAll, endsOverAll, classes, covered, excluding}
-
--- ---- the template
-
--- the template of a domain as the code holds it: 8 bytes a component, how many there are, how many keys they have, and the arities of all relations
-pub record TemplateIn (D : Domain) (parts : List ℕ) (components keys : ℕ) (arities : List ℕ) : Type 0 where
-  pub bounded : Bounded D
-  pub rows : parts ≡ pad 128 (flatMap componentRow (D .template))
-  pub count : components ≡ length (D .template)
-  pub keyed : keys ≡ keysOf (D .template)
-  pub arguments : arities ≡ pad 64 (D .arities)
 
 -- ---- class numbers
 
@@ -78,6 +69,11 @@ unfoldable pub keyRows : ℕ → List (List ℕ) → List ℕ → List (List ℕ
 unfolding keyRow
 keyRows n [] row = []
 keyRows n (part ∷ parts) row = cond (eqb (byte row 1) (byte part 0)) (keyRow n part row ∷ []) (keyRows n parts row)
+
+-- the same, by the head of a domain
+unfoldable pub keyRowsIn : List ℕ → List ℕ → List (List ℕ)
+unfolding keysIn partsIn keyRows
+keyRowsIn head row = keyRows (keysIn head) (partsIn head) row
 
 -- the class number of a literal with these key tuples, none or one, and how many classes there then are: `tuples` has the rows of `count` classes
 unfoldable pub numberedBy : List (List ℕ) → ℕ → List ℕ → Numbered
@@ -180,12 +176,17 @@ changedAt rows of clauses class i = sameIn rows of clauses class 3 i || sameIn r
 unfoldable pub excludesAt : List ℕ → List ℕ → List ℕ → ℕ → ℕ → ℕ → Bool
 excludesAt rows of clauses class relation j = eqb (getD of j 0) class && (leb 2 (getD clauses j 0) && eqb relation (getD rows (8 * j + 1) 0))
 
--- the class covers the component c, of these components and arities
-unfoldable pub coveredAt : List ℕ → List ℕ → List ℕ → List ℕ → List ℕ → ℕ → ℕ → Bool
-unfolding excludesAt
-coveredAt parts arities rows of clauses class c =
-    let relation = getD parts (8 * c) 0 in
-    not (any (λ i. eqb (getD parts (8 * c + 1 + i) 0) 255) (below (getD arities relation 0))) && any (excludesAt rows of clauses class relation) (below (length of))
+-- the class covers the component c of the head
+unfoldable pub coveredAt : List ℕ → List ℕ → List ℕ → List ℕ → ℕ → ℕ → Bool
+unfolding partIn arityIn excludesAt
+coveredAt head rows of clauses class c =
+    let part = partIn head c in
+    not (any (λ i. eqb (getD part (1 + i) 0) 255) (below (arityIn head (getD part 0 0)))) && any (excludesAt rows of clauses class (getD part 0 0)) (below (length of))
+
+-- the first component that it does not cover, or their number
+unfoldable pub lackingAt : List ℕ → List ℕ → List ℕ → List ℕ → ℕ → ℕ
+unfolding componentsIn coveredAt
+lackingAt head rows of clauses class = position (λ c. not (coveredAt head rows of clauses class c)) (below (componentsIn head))
 
 -- ---- which literals pass a test: 0 for none, k + 1 for the literal k alone, 255 for more
 
@@ -207,3 +208,23 @@ soleAt of clauses class clause = soleBy (isAt of clauses class clause) (length o
 -- the true conditions and the adds of a class
 abbrev pub soleOf : List ℕ → List ℕ → ℕ → Sole
 soleOf of clauses class = record { conditions = soleAt of clauses class 1; adds = soleAt of clauses class 3 }
+
+-- ---- what the code's memories hold of an action
+
+-- a row for each class number, and no more than 64
+pub record Sides (rows of : List ℕ) : Type 0 where
+  pub rowed : 8 * length of ≤ length rows
+  pub few : length of ≤ 64
+
+-- an action of the domain of a head, by the rows of its literals, none of which is repeated in its role
+pub record ActionOf (D : Domain) (a : Action) (head rows : List ℕ) : Type 0 where
+  pub says : HeadOf D head
+  pub listed : In a (D .actions)
+  pub apart : noRepeats a ≡ true
+  pub literals : rows ≡ flatMap literalRow (a .lits)
+
+-- besides, the class numbers of its literals, and the clause of each at a moment
+pub record MomentOf (D : Domain) (a : Action) (m : Moment) (head rows of clauses : List ℕ) : Type 0 where
+  pub whole : ActionOf D a head rows
+  pub numbers : of ≡ classNumbers D a
+  pub clauses-are : clauses ≡ pad 64 (clausesAt a m)

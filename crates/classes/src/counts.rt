@@ -1,21 +1,28 @@
 // What a class has at a moment: the clause of each literal there, its true conditions and adds, and the name that they decide.
+use super::Marks;
 use super::Moment;
 use super::Name;
 use super::Sole;
+use literals::fields::wide;
+use literals::head::Head;
+use literals::head::arity_of;
+use literals::head::components_in;
+use literals::head::part_byte;
 use literals::row::same_four;
 ghost use mathlib.Core.Path.{_≡_};
-ghost use mathlib.Core.Bool.{true, _&&_, not};
-ghost use mathlib.Core.List.{flatMap, []};
+ghost use mathlib.Core.Bool.{true, _&&_};
+ghost use mathlib.Core.List.{List, []};
 ghost use Prim.Native.Nat.{ℕ, _+_, _*_, _≤_, _<_};
 ghost use lib.Dec.{eqb};
 ghost use lib.ListN.{length, getD};
-ghost use Rattle.records.specs.Lists.{In, any};
+ghost use Rattle.records.specs.Lists.{any};
 ghost use Rattle.literals.specs.Domain.{Domain, Action};
-ghost use Rattle.literals.specs.Table.{literalRow, pad, Bounded};
+ghost use Rattle.literals.specs.Table.{pad};
+ghost use Rattle.literals.specs.Held.{partIn};
 ghost use Rattle.classes.specs.declared.Moment.{Moment};
 ghost use Rattle.classes.specs.declared.Moment.the-variants.{Start, End};
 ghost use Rattle.classes.specs.Classes.{classes, nameOf, journey};
-ghost use Rattle.classes.specs.Coded.{TemplateIn, clausesAt, classNumbers, noRepeats, uncoveredAt, position, below, clauseByte, mayMeet, sameAtomAt, saysAt, clauseIn, isAt, isSameAt, sameIn, changedAt, excludesAt, coveredAt, soleMore, soleAt, soleOf};
+ghost use Rattle.classes.specs.Coded.{ActionOf, MomentOf, Sides, clausesAt, classNumbers, uncoveredAt, below, clauseByte, mayMeet, sameAtomAt, saysAt, clauseIn, isAt, isSameAt, sameIn, changedAt, excludesAt, coveredAt, lackingAt, soleMore, soleAt, soleOf};
 
 // The clause of a role byte at the end.
 fn clause_at_end(role: u8) -> u8
@@ -114,9 +121,9 @@ fn clause_once(rows: &[u8], m: Moment, j: usize) -> u8
 }
 
 // The clause of each literal at a moment, 0 for none and for one that an earlier literal says already; `clauses` is all 0 before.
-pub fn clauses_at(rows: &[u8], n: usize, m: Moment, clauses: &mut [u8])
-    requires { ⌜ (length (now rows) ≡ 8 * n) × (n ≤ 64) × (length (now clauses) ≡ 64) ⌝ }
-    ensures { λ _. ⌜ ((D : Domain) (a : Action) → Bounded D → In a (D .actions) → noRepeats a ≡ true → now (rows .entry) ≡ flatMap literalRow (a .lits)
+pub fn clauses_at(rows: &[u8], n: usize, m: Moment, clauses: &mut Marks)
+    requires { ⌜ (length (now rows) ≡ 8 * n) × (n ≤ 64) ⌝ }
+    ensures { λ _. ⌜ ((D : Domain) (a : Action) (head : List ℕ) → ActionOf D a head (now (rows .entry))
         → now (clauses .entry) ≡ pad 64 [] → now (clauses .exit) ≡ pad 64 (clausesAt a m)) ⌝ }
 {
     for j in 0..n {
@@ -125,8 +132,8 @@ pub fn clauses_at(rows: &[u8], n: usize, m: Moment, clauses: &mut [u8])
 }
 
 // Whether the row `j` is in a class with this clause.
-fn is_at(of: &[u8], clauses: &[u8], class: u8, clause: u8, j: usize) -> bool
-    requires { ⌜ (j < length (now of)) × (j < length (now clauses)) ⌝ }
+fn is_at(of: &[u8], clauses: &Marks, class: u8, clause: u8, j: usize) -> bool
+    requires { ⌜ (j < length (now of)) × (length (now of) ≤ 64) ⌝ }
     ensures { λ r. ⌜ r ≡ isAt (now (of .entry)) (now (clauses .entry)) class clause j ⌝ }
 {
     if of[j] == class {
@@ -156,8 +163,8 @@ fn mark(soles: &mut [u8], class: u8, here: u8, clause: u8, j: usize)
 }
 
 // For each class number, which of its literals has this clause: 0 for none, k + 1 for the literal k alone, 255 for more; `soles` is all 0 before.
-pub fn soles_at(of: &[u8], clauses: &[u8], clause: u8, soles: &mut [u8])
-    requires { ⌜ (length (now of) ≤ length (now clauses)) × (length (now of) ≤ 64) × (length (now soles) ≡ 64) ⌝ }
+pub fn soles_at(of: &[u8], clauses: &Marks, clause: u8, soles: &mut [u8])
+    requires { ⌜ (length (now of) ≤ 64) × (length (now soles) ≡ 64) ⌝ }
     ensures { λ _. ⌜ (now (soles .entry) ≡ pad 64 [] → (k : ℕ) → k < 64 → getD (now (soles .exit)) k 0 ≡ soleAt (now (of .entry)) (now (clauses .entry)) k clause) ⌝ }
 {
     for j in 0..of.len() {
@@ -169,13 +176,13 @@ pub fn soles_at(of: &[u8], clauses: &[u8], clause: u8, soles: &mut [u8])
 fn is_same_at(
     rows: &[u8],
     of: &[u8],
-    clauses: &[u8],
+    clauses: &Marks,
     class: u8,
     clause: u8,
     i: usize,
     j: usize,
 ) -> bool
-    requires { ⌜ (8 * length (now of) ≤ length (now rows)) × (length (now of) ≤ length (now clauses)) × (i < length (now of)) × (j < length (now of)) ⌝ }
+    requires { ⌜ Sides (now rows) (now of) × (i < length (now of)) × (j < length (now of)) ⌝ }
     ensures { λ r. ⌜ r ≡ isSameAt (now (rows .entry)) (now (of .entry)) (now (clauses .entry)) class clause i j ⌝ }
 {
     if is_at(of, clauses, class, clause, j) {
@@ -185,8 +192,8 @@ fn is_same_at(
 }
 
 // Whether a literal of a class with this clause has the atom of the row `i`.
-fn any_same(rows: &[u8], of: &[u8], clauses: &[u8], class: u8, clause: u8, i: usize) -> bool
-    requires { ⌜ (8 * length (now of) ≤ length (now rows)) × (length (now of) ≤ length (now clauses)) × (i < length (now of)) ⌝ }
+fn any_same(rows: &[u8], of: &[u8], clauses: &Marks, class: u8, clause: u8, i: usize) -> bool
+    requires { ⌜ Sides (now rows) (now of) × (i < length (now of)) ⌝ }
     ensures { λ r. ⌜ r ≡ sameIn (now (rows .entry)) (now (of .entry)) (now (clauses .entry)) class clause i ⌝ }
 {
     for j in 0..of.len() {
@@ -198,8 +205,8 @@ fn any_same(rows: &[u8], of: &[u8], clauses: &[u8], class: u8, clause: u8, i: us
 }
 
 // Whether a literal with the atom of the row `i` is an add or a delete of a class.
-fn is_changed(rows: &[u8], of: &[u8], clauses: &[u8], class: u8, i: usize) -> bool
-    requires { ⌜ (8 * length (now of) ≤ length (now rows)) × (length (now of) ≤ length (now clauses)) × (i < length (now of)) ⌝ }
+fn is_changed(rows: &[u8], of: &[u8], clauses: &Marks, class: u8, i: usize) -> bool
+    requires { ⌜ Sides (now rows) (now of) × (i < length (now of)) ⌝ }
     ensures { λ r. ⌜ r ≡ changedAt (now (rows .entry)) (now (of .entry)) (now (clauses .entry)) class i ⌝ }
 {
     if any_same(rows, of, clauses, class, 3, i) {
@@ -209,8 +216,8 @@ fn is_changed(rows: &[u8], of: &[u8], clauses: &[u8], class: u8, i: usize) -> bo
 }
 
 // Whether the row `j` is a false condition, add or delete of a class, with this relation.
-fn excludes(rows: &[u8], of: &[u8], clauses: &[u8], class: u8, relation: u8, j: usize) -> bool
-    requires { ⌜ (8 * length (now of) ≤ length (now rows)) × (length (now of) ≤ length (now clauses)) × (j < length (now of)) ⌝ }
+fn excludes(rows: &[u8], of: &[u8], clauses: &Marks, class: u8, relation: u8, j: usize) -> bool
+    requires { ⌜ Sides (now rows) (now of) × (j < length (now of)) ⌝ }
     ensures { λ r. ⌜ r ≡ excludesAt (now (rows .entry)) (now (of .entry)) (now (clauses .entry)) class relation j ⌝ }
 {
     if of[j] != class {
@@ -223,8 +230,8 @@ fn excludes(rows: &[u8], of: &[u8], clauses: &[u8], class: u8, relation: u8, j: 
 }
 
 // Whether a false condition, add or delete of a class has this relation.
-fn any_excluding(rows: &[u8], of: &[u8], clauses: &[u8], class: u8, relation: u8) -> bool
-    requires { ⌜ (8 * length (now of) ≤ length (now rows)) × (length (now of) ≤ length (now clauses)) ⌝ }
+fn any_excluding(rows: &[u8], of: &[u8], clauses: &Marks, class: u8, relation: u8) -> bool
+    requires { ⌜ Sides (now rows) (now of) ⌝ }
     ensures { λ r. ⌜ r ≡ any (excludesAt (now (rows .entry)) (now (of .entry)) (now (clauses .entry)) class relation) (below (length (now (of .entry)))) ⌝ }
 {
     for j in 0..of.len() {
@@ -235,105 +242,59 @@ fn any_excluding(rows: &[u8], of: &[u8], clauses: &[u8], class: u8, relation: u8
     false
 }
 
-// Whether one of a component's first n labels is FF.
-fn any_counted(parts: &[u8], part: usize, n: usize) -> bool
-    requires { ⌜ part + 1 + n ≤ length (now parts) ⌝ }
-    ensures { λ r. ⌜ r ≡ any (λ i. eqb (getD (now (parts .entry)) (part + 1 + i) 0) 255) (below n) ⌝ }
+// Whether one of the first n labels of the component `c` is FF.
+fn any_counted(head: &Head, c: usize, n: usize) -> bool
+    requires { ⌜ (c < 16) × (n ≤ 6) ⌝ }
+    ensures { λ r. ⌜ r ≡ any (λ i. eqb (getD (partIn (now (head .entry)) c) (1 + i) 0) 255) (below n) ⌝ }
 {
     for i in 0..n {
-        if parts[part + 1 + i] == 255 {
+        if part_byte(head, c, 1 + i) == 255 {
             return true;
         }
     }
     false
 }
 
-// The arity of a relation, 0 where there is none.
-pub fn arity_of(arities: &[u8], relation: u8) -> u8
-    ensures { λ r. ⌜ r ≡ getD (now (arities .entry)) relation 0 ⌝ }
-{
-    let at = relation as usize;
-    if at < arities.len() {
-        return arities[at];
-    }
-    0
-}
-
 // Whether a class covers the component `c`.
-fn covers(
-    parts: &[u8],
-    arities: &[u8],
-    rows: &[u8],
-    of: &[u8],
-    clauses: &[u8],
-    class: u8,
-    c: usize,
-) -> bool
-    requires { ⌜ (8 * c + 8 ≤ length (now parts)) × ((i : ℕ) → getD (now arities) i 0 ≤ 6) × (8 * length (now of) ≤ length (now rows)) × (length (now of) ≤ length (now clauses)) ⌝ }
-    ensures { λ r. ⌜ r ≡ coveredAt (now (parts .entry)) (now (arities .entry)) (now (rows .entry)) (now (of .entry)) (now (clauses .entry)) class c ⌝ }
+fn covers(head: &Head, rows: &[u8], of: &[u8], clauses: &Marks, class: u8, c: usize) -> bool
+    requires { ⌜ (c < 16) × Sides (now rows) (now of) ⌝ }
+    ensures { λ r. ⌜ r ≡ coveredAt (now (head .entry)) (now (rows .entry)) (now (of .entry)) (now (clauses .entry)) class c ⌝ }
 {
-    let relation = parts[8 * c];
-    if any_counted(parts, 8 * c, arity_of(arities, relation) as usize) {
+    let relation = part_byte(head, c, 0);
+    if any_counted(head, c, wide(arity_of(head, relation))) {
         return false;
     }
     any_excluding(rows, of, clauses, class, relation)
 }
 
-// The first of n components that a class does not cover, or n.
-fn first_lacking(
-    parts: &[u8],
-    n: usize,
-    arities: &[u8],
-    rows: &[u8],
-    of: &[u8],
-    clauses: &[u8],
-    class: u8,
-) -> usize
-    requires { ⌜ (8 * n ≤ length (now parts)) × ((i : ℕ) → getD (now arities) i 0 ≤ 6) × (8 * length (now of) ≤ length (now rows)) × (length (now of) ≤ length (now clauses)) ⌝ }
-    ensures { λ r. ⌜ r ≡ position (λ c. not (coveredAt (now (parts .entry)) (now (arities .entry)) (now (rows .entry)) (now (of .entry)) (now (clauses .entry)) class c)) (below n) ⌝ }
+// The first component that a class does not cover at the moment of these clauses, or the number of components; `of` holds the class numbers of the
+// action's literals, which are these rows.
+fn first_lacking(head: &Head, rows: &[u8], of: &[u8], clauses: &Marks, class: u8) -> usize
+    requires { ⌜ Sides (now rows) (now of) ⌝ }
+    ensures { λ r. ⌜ r ≡ lackingAt (now (head .entry)) (now (rows .entry)) (now (of .entry)) (now (clauses .entry)) class ⌝ }
 {
+    let n = components_in(head);
     for c in 0..n {
-        if !covers(parts, arities, rows, of, clauses, class, c) {
+        if !covers(head, rows, of, clauses, class, c) {
             return c;
         }
     }
     n
 }
 
-// The first component that a class does not cover at the moment of these clauses, or the number of components; `of` holds the class numbers of the
-// action's literals, which are these rows.
-pub fn first_uncovered(
-    parts: &[u8],
-    components: usize,
-    arities: &[u8],
-    rows: &[u8],
-    of: &[u8],
-    clauses: &[u8],
-    class: u8,
-) -> usize
-    requires { ⌜ (8 * components ≤ length (now parts)) × ((i : ℕ) → getD (now arities) i 0 ≤ 6) × (8 * length (now of) ≤ length (now rows)) × (length (now of) ≤ length (now clauses)) ⌝ }
-    ensures { λ r. ⌜ ((D : Domain) (a : Action) (m : Moment) (keys : ℕ) → TemplateIn D (now (parts .entry)) components keys (now (arities .entry)) → In a (D .actions)
-        → now (rows .entry) ≡ flatMap literalRow (a .lits) → now (of .entry) ≡ classNumbers D a → now (clauses .entry) ≡ pad 64 (clausesAt a m)
+// The same, of a domain that is held.
+pub fn first_uncovered(head: &Head, rows: &[u8], of: &[u8], clauses: &Marks, class: u8) -> usize
+    requires { ⌜ Sides (now rows) (now of) ⌝ }
+    ensures { λ r. ⌜ ((D : Domain) (a : Action) (m : Moment) → MomentOf D a m (now (head .entry)) (now (rows .entry)) (now (of .entry)) (now (clauses .entry))
         → class < length (classes D a) → r ≡ uncoveredAt D a (getD (classes D a) class []) m) ⌝ }
 {
-    first_lacking(parts, components, arities, rows, of, clauses, class)
+    first_lacking(head, rows, of, clauses, class)
 }
 
 // The name of a class at the moment of these clauses, of its true conditions and adds there. What they do not decide is looked up.
-pub fn name_at(
-    parts: &[u8],
-    components: usize,
-    arities: &[u8],
-    rows: &[u8],
-    of: &[u8],
-    clauses: &[u8],
-    sole: Sole,
-    class: u8,
-) -> Name
-    requires { ⌜ (8 * components ≤ length (now parts)) × ((i : ℕ) → getD (now arities) i 0 ≤ 6) × (8 * length (now of) ≤ length (now rows)) × (length (now of) ≤ length (now clauses))
-        × (length (now of) ≤ 64) × (sole ≡ soleOf (now of) (now clauses) class) ⌝ }
-    ensures { λ r. ⌜ ((D : Domain) (a : Action) (m : Moment) (keys : ℕ) → TemplateIn D (now (parts .entry)) components keys (now (arities .entry)) → In a (D .actions)
-        → now (rows .entry) ≡ flatMap literalRow (a .lits) → now (of .entry) ≡ classNumbers D a → now (clauses .entry) ≡ pad 64 (clausesAt a m)
+pub fn name_at(head: &Head, rows: &[u8], of: &[u8], clauses: &Marks, sole: Sole, class: u8) -> Name
+    requires { ⌜ Sides (now rows) (now of) × (sole ≡ soleOf (now of) (now clauses) class) ⌝ }
+    ensures { λ r. ⌜ ((D : Domain) (a : Action) (m : Moment) → MomentOf D a m (now (head .entry)) (now (rows .entry)) (now (of .entry)) (now (clauses .entry))
         → class < length (classes D a) → r ≡ nameOf D a (getD (classes D a) class []) m) ⌝ }
 {
     let conditions = sole.conditions;
@@ -348,7 +309,7 @@ pub fn name_at(
         return Name::Heavy;
     }
     if conditions == 0 {
-        if first_uncovered(parts, components, arities, rows, of, clauses, class) == components {
+        if first_uncovered(head, rows, of, clauses, class) == components_in(head) {
             return Name::Bounded;
         }
         return Name::Unbounded;
@@ -360,11 +321,17 @@ pub fn name_at(
 }
 
 // Whether a class of a lasting action is a journey, of its true conditions and adds at the start, whose clauses these are, and at the end.
-pub fn is_journey(rows: &[u8], of: &[u8], clauses: &[u8], start: Sole, end: Sole, class: u8) -> bool
-    requires { ⌜ (8 * length (now of) ≤ length (now rows)) × (length (now of) ≤ length (now clauses)) × (length (now of) ≤ 64) × (start ≡ soleOf (now of) (now clauses) class) ⌝ }
-    ensures { λ r. ⌜ ((D : Domain) (a : Action) → Bounded D → In a (D .actions) → a .lasting ≡ true → now (rows .entry) ≡ flatMap literalRow (a .lits)
-        → now (of .entry) ≡ classNumbers D a → now (clauses .entry) ≡ pad 64 (clausesAt a Start) → end ≡ soleOf (classNumbers D a) (pad 64 (clausesAt a End)) class
-        → class < length (classes D a) → r ≡ journey D a (getD (classes D a) class [])) ⌝ }
+pub fn is_journey(
+    rows: &[u8],
+    of: &[u8],
+    clauses: &Marks,
+    start: Sole,
+    end: Sole,
+    class: u8,
+) -> bool
+    requires { ⌜ Sides (now rows) (now of) × (start ≡ soleOf (now of) (now clauses) class) ⌝ }
+    ensures { λ r. ⌜ ((D : Domain) (a : Action) (head : List ℕ) → MomentOf D a Start head (now (rows .entry)) (now (of .entry)) (now (clauses .entry)) → a .lasting ≡ true
+        → end ≡ soleOf (classNumbers D a) (pad 64 (clausesAt a End)) class → class < length (classes D a) → r ≡ journey D a (getD (classes D a) class [])) ⌝ }
 {
     let condition = start.conditions;
     if start.adds != 0 {

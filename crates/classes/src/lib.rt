@@ -22,6 +22,9 @@ pub enum Name {
     Unbounded,
 }
 
+// A byte for each literal of an action, or for each of its classes.
+pub type Marks = [u8; 64];
+
 // The true conditions and the adds of a class at a moment: 0 for none, k + 1 for the literal k alone, 255 for more.
 pub struct Sole {
     pub conditions: u8,

@@ -38,9 +38,12 @@ use Rattle.verdict.specs.Machine.{GroundAction, Event}
 use Rattle.events.specs.declared.Open.{Open}
 use Rattle.events.specs.declared.Waiting.{Waiting}
 use Rattle.runs.specs.RunFile.{momentOf}
+use Rattle.literals.specs.declared.span.Span.{Span}
+use Rattle.literals.specs.Held.{actionsIn, arityIn, Held, SpanOf}
+use Rattle.literals.proofs.Heads.{action-in}
 use Rattle.store.specs.Rows.{factRow, hasRow}
 use Rattle.store.proofs.InstanceRows.{same-numbers}
-use Rattle.events.specs.Coded.{groundRow, GroundFits, Lent, Ready, endRow, objectOf, boundRow, clauseFor, timeOf, openOf, waitingOf}
+use Rattle.events.specs.Coded.{groundRow, GroundFits, objectOf, boundRow, clauseFor, timeOf, openOf, waitingOf}
 
 -- ---- equal rows are rows of equal facts
 
@@ -110,10 +113,10 @@ objects-at g (v ∷ vs) k h =
     ap₂ (λ (n : ℕ) (l : List ℕ). n ∷ l) (object-at g v (h v (List·Memᴰ·head refl)) k) (objects-at g vs k (λ w m. h w (List·Memᴰ·tail m)))
 
 -- the fact of a literal whose relation has this arity, by an action's objects
-pub bound-fact : (arities : List ℕ) (g : GroundAction) (l : Literal) → length (l .atom .args) ≡ getD arities (l .atom .rel) 0 → length (g .binding) ≤ 16
-    → ((v : Variable) → In v (l .atom .args) → v .0 < length (g .binding)) → boundRow arities (groundRow g) (literalRow l) ≡ factRow (bind (g .binding) (l .atom))
+pub bound-fact : (head : List ℕ) (g : GroundAction) (l : Literal) → length (l .atom .args) ≡ arityIn head (l .atom .rel) → length (g .binding) ≤ 16
+    → ((v : Variable) → In v (l .atom .args) → v .0 < length (g .binding)) → boundRow head (groundRow g) (literalRow l) ≡ factRow (bind (g .binding) (l .atom))
 unfolding boundRow
-bound-fact arities g l e k h =
+bound-fact head g l e k h =
     ap (λ (n : ℕ). l .atom .rel ∷ n ∷ (map (objectOf (groundRow g)) (take n (numbers ++ fill)) ++ replicate (6 - n) 255)) (sym e)
     ∙ ap (λ (x : List ℕ). l .atom .rel ∷ length (l .atom .args) ∷ (map (objectOf (groundRow g)) x ++ replicate (6 - length (l .atom .args)) 255))
     (take-at numbers fill (length (l .atom .args)) (length-map (l .atom .args) (λ (v : Variable). v .0)))
@@ -194,82 +197,38 @@ unfolding literalsAt
 all-literals a Start c q = all-once q (withRole (counts Start c) (a .lits))
 all-literals a End c q = all-once q (withRole (counts End c) (a .lits))
 
--- ---- the memories of a domain
+-- ---- head and table of a domain
 
-module _ (D : Domain) (n : Counts) (arities variables sorts starts parts table : List ℕ) (L : Lent D n arities variables sorts starts parts table) where
-  pub lent-actions : n .actions ≡ length (D .actions)
-  unfolding indexOf
-  lent-actions = ap (λ (x : Index). x .actions) (L .held .is)
-
-  pub lent-arity : (r : ℕ) → getD arities r 0 ≡ arity D r
-  unfolding indexOf
-  lent-arity r = ap (λ (x : Index). getD (x .arities) r 0) (L .held .is) ∙ pad-at 64 (D .arities) r
-
+module _ {D : Domain} {head table : List ℕ} (H : Held D head table) where
   module _ (i : ℕ) (b : i < length (D .actions)) where
-    pub lent-action : In (action D i) (D .actions)
-    lent-action = action-listed (L .held) i b
+    pub held-kept : (l : Literal) → In l (action D i .lits) → Kept l
+    held-kept l m = kept (H .says .bounded) (action-in H i b) m
 
-    pub lent-kept : (l : Literal) → In l (action D i .lits) → Kept l
-    lent-kept l m = kept (L .held .bounded) lent-action m
-
-    pub lent-size : endRow n starts i - getD starts i 0 ≡ length (action D i .lits)
-    lent-size = span-size (L .held) i b
-
-    -- the rows of the part of the table from the first row of the action to the one behind its last
-    pub lent-rows : (from to : ℕ) → from ≡ getD starts i 0 → to ≡ endRow n starts i
-        → rowsIn (to - from) (take (8 * to - 8 * from) (drop (8 * from) table)) ≡ map literalRow (action D i .lits)
-    lent-rows from to p q =
-        ap₂ rowsIn (ap₂ (λ (x y : ℕ). x - y) q p ∙ lent-size)
-        (part-literals (L .held) i b table (L .old) (L .rows) from to p q ∙ sym (append-nil (flatMap literalRow (action D i .lits))))
-        ∙ rows-flat literalRow (action D i .lits) [] (λ l m. length-literal-row l (lent-kept l m .fits))
+    -- the rows of the part of the table that has the action's literals
+    pub held-rows : (r : Span) → SpanOf D i table r → rowsIn (r .to - r .from) (take (8 * r .to - 8 * r .from) (drop (8 * r .from) table)) ≡ map literalRow (action D i .lits)
+    held-rows r S =
+        let s = S .size in
+        let z : r .to - r .from ≡ length (action D i .lits) = omega arith in
+        ap₂ rowsIn z (S .literals ∙ sym (append-nil (flatMap literalRow (action D i .lits))))
+        ∙ rows-flat literalRow (action D i .lits) [] (λ l m. length-literal-row l (held-kept l m .fits))
 
   -- a literal's row of an action, by the action's objects
-  pub lent-bound : (g : GroundAction) → GroundFits D g → (l : Literal) → In l (action D (g .action) .lits)
-      → boundRow arities (groundRow g) (literalRow l) ≡ factRow (bind (g .binding) (l .atom))
-  lent-bound g F l m =
-      let i = lent-action (g .action) (F .listed) in
+  pub held-bound : (g : GroundAction) → GroundFits D g → (l : Literal) → In l (action D (g .action) .lits)
+      → boundRow head (groundRow g) (literalRow l) ≡ factRow (bind (g .binding) (l .atom))
+  held-bound g F l m =
+      let B = H .says .bounded in
+      let i = action-in H (g .action) (F .listed) in
       let e = F .bound in
-      bound-fact arities g l (L .held .bounded .literalArity (action D (g .action)) i l m ∙ sym (lent-arity (l .atom .rel))) (few-objects (L .held .bounded) g F)
-      (λ v w. let b = L .held .bounded .below (action D (g .action)) i l m v w in omega arith)
+      bound-fact head g l (B .literalArity (action D (g .action)) i l m ∙ sym (H .says .arities (l .atom .rel))) (few-objects B g F)
+      (λ v w. let b = B .below (action D (g .action)) i l m v w in omega arith)
 
--- an action with its objects, found by its row
-module _ (D : Domain) (n : Counts) (arities variables sorts starts parts table : List ℕ) (L : Lent D n arities variables sorts starts parts table) (g : GroundAction) (F : GroundFits D g)
-    (ground : List ℕ) (e : ground ≡ groundRow g) where
-  ground-action : getD ground 0 0 ≡ g .action
-  ground-action = ap (λ (x : List ℕ). getD x 0 0) e
-
-  -- its action is one of the domain's
-  pub ground-listed : n .actions ≤ getD ground 0 0 → ⊥
-  ground-listed h =
-      let a = ground-action in
-      let c = lent-actions D n arities variables sorts starts parts table L in
+  -- an action with its objects, found by its row: it is one of the domain's
+  pub ground-listed : (g : GroundAction) → GroundFits D g → (ground : List ℕ) → ground ≡ groundRow g → actionsIn head ≤ getD ground 0 0 → ⊥
+  ground-listed g F ground e h =
+      let a = ap (λ (x : List ℕ). getD x 0 0) e in
+      let c = H .says .actions in
       let l = F .listed in
       omega arith
-
-  -- and the rows of its literals
-  pub ground-rows : (from to : ℕ) → from ≡ getD starts (getD ground 0 0) 0 → to ≡ endRow n starts (getD ground 0 0)
-      → rowsIn (to - from) (take (8 * to - 8 * from) (drop (8 * from) table)) ≡ map literalRow (action D (g .action) .lits)
-  ground-rows from to p q =
-      lent-rows D n arities variables sorts starts parts table L (g .action) (F .listed) from to (p ∙ ap (λ (i : ℕ). getD starts i 0) ground-action) (q ∙ ap (endRow n starts) ground-action)
-
--- ---- the part of the table that has an action's rows, whatever the memories hold
-
-pub record PartFits (table : List ℕ) (from to : ℕ) : Type 0 where
-  pub order : from ≤ to
-  pub few : to ≤ from + 64
-  pub room : 8 * to ≤ length table
-  pub size : 8 * (to - from) ≤ length (take (8 * to - 8 * from) (drop (8 * from) table))
-
-pub part-fits : (n : Counts) (arities starts table : List ℕ) → Ready n arities starts table → (i : ℕ) → i < n .actions → (from to : ℕ) → from ≡ getD starts i 0 → to ≡ endRow n starts i
-    → PartFits table from to
-part-fits n arities starts table R i h from to p q =
-    let o = R .order i h in
-    let w = R .within i h in
-    let f = R .few i h in
-    let r = R .room in
-    let d = length-drop (8 * from) table in
-    let t = length-take-le (8 * to - 8 * from) (drop (8 * from) table) (omega arith) in
-    record { order = omega arith; few = omega arith; room = omega arith; size = omega arith }
 
 -- ---- rows of 17 bytes
 

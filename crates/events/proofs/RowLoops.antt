@@ -10,6 +10,7 @@ use Rattle.records.proofs.Memory.{paste-more}
 use Rattle.literals.specs.Decode.{byte}
 use Rattle.literals.proofs.Rows.{length-part, part-at}
 use Rattle.classes.proofs.Indices.{getD-map}
+use Rattle.literals.specs.Held.{arityIn}
 use Rattle.events.specs.Coded.{objectOf, boundBytes, boundRow}
 
 -- ---- the fact that a literal's row is bound to
@@ -77,17 +78,17 @@ module _ (arity : ℕ) (ground t : List ℕ) (at : ℕ) (h : at + 8 ≤ length t
       ap (λ (k : ℕ). set fact k r) (sym z)
       ∙ paste-more (boundBytes arity ground (take 8 (drop at t))) (replicate 8 255) fact 0 i 8 (omega arith) (length-bound arity ground t at h g) e r l f
 
-  pub bound-all : (arities : List ℕ) → arity ≡ getD arities (getD t (at + 1) 0) 0 → i ≡ 8 → fact ≡ boundRow arities ground (take 8 (drop at t))
+  pub bound-all : (head : List ℕ) → arity ≡ arityIn head (getD t (at + 1) 0) → i ≡ 8 → fact ≡ boundRow head ground (take 8 (drop at t))
   unfolding boundRow
-  bound-all arities f z =
+  bound-all head f z =
       let row : List ℕ = take 8 (drop at t) in
       e
       ∙ ap (λ (k : ℕ). paste (replicate 8 255) 0 (boundBytes arity ground row) k) z
       ∙ ap (λ (l : List ℕ). l ++ []) (take-all 8 (boundBytes arity ground row) (omega (arith, length-bound arity ground t at h g)))
       ∙ append-nil (boundBytes arity ground row)
-      ∙ ap (λ (n : ℕ). boundBytes n ground row) (f ∙ sym (ap (λ (r : ℕ). getD arities r 0) (part-at 8 t at h 1 (omega arith))))
+      ∙ ap (λ (n : ℕ). boundBytes n ground row) (f ∙ sym (ap (arityIn head) (part-at 8 t at h 1 (omega arith))))
 
 -- its second byte is the arity of its relation
-pub bound-sized : (arities ground row fact : List ℕ) → fact ≡ boundRow arities ground row → byte fact 1 ≡ getD arities (byte fact 0) 0
+pub bound-sized : (head ground row fact : List ℕ) → fact ≡ boundRow head ground row → byte fact 1 ≡ arityIn head (byte fact 0)
 unfolding boundRow
-bound-sized arities ground row fact e = ap (λ (t : List ℕ). byte t 1) e ∙ sym (ap (λ (t : List ℕ). getD arities (byte t 0) 0) e)
+bound-sized head ground row fact e = ap (λ (t : List ℕ). byte t 1) e ∙ sym (ap (λ (t : List ℕ). arityIn head (byte t 0)) e)

@@ -7,14 +7,13 @@ use lib.Dec.{eqb, ltb}
 use lib.ListN.{length, getD, take, drop, replicate}
 use lib.Seq.{paste}
 use Rattle.records.specs.Lists.{In, sameList}
-use Rattle.records.specs.Memory.{over}
 use Rattle.literals.specs.declared.Object.{Object}
-use Rattle.literals.specs.declared.Counts.{Counts}
 use Rattle.literals.specs.declared.Time.{Time}
 use Rattle.literals.specs.declared.Time.the-variants.{AtStart, OverAll, AtEnd}
 use Rattle.literals.specs.Domain.{Domain, action}
 use Rattle.literals.specs.Decode.{byte}
-use Rattle.literals.specs.Table.{pad, rowsBy, tableBytes, indexWith, Holds}
+use Rattle.literals.specs.Table.{pad, rowsBy}
+use Rattle.literals.specs.Held.{actionsIn, arityIn, lastingIn}
 use Rattle.classes.specs.declared.Moment.{Moment}
 use Rattle.classes.specs.declared.Moment.the-variants.{Start, End}
 use Rattle.classes.specs.Classes.{momentNumber}
@@ -66,29 +65,6 @@ GroundsFit D gs = (g : GroundAction) → In g gs → GroundFits D g
 abbrev pub EventsFit : Domain → List Event → Type 0
 EventsFit D es = (e : Event) → In e es → GroundFits D (e .ground)
 
--- ---- the memories of a domain that was read
-
--- they hold this domain
-pub record Lent (D : Domain) (n : Counts) (arities variables sorts starts parts table : List ℕ) : Type 0 where
-  pub held : Holds D (indexWith n arities variables sorts starts parts)
-  pub old : List ℕ
-  pub rows : table ≡ over (tableBytes D) old
-
--- the row behind the last literal of an action
-abbrev pub endRow : Counts → List ℕ → ℕ → ℕ
-endRow n starts i = cond (ltb (i + 1) (n .actions)) (getD starts (i + 1) 0) (n .rows)
-
--- what the code relies on, whatever they hold
-pub record Ready (n : Counts) (arities starts table : List ℕ) : Type 0 where
-  pub arities-length : length arities ≡ 64
-  pub arities-few : (i : ℕ) → getD arities i 0 ≤ 6
-  pub starts-length : length starts ≡ 64
-  pub actions : n .actions ≤ 64
-  pub order : (i : ℕ) → i < n .actions → getD starts i 0 ≤ endRow n starts i
-  pub within : (i : ℕ) → i < n .actions → endRow n starts i ≤ n .rows
-  pub few : (i : ℕ) → i < n .actions → endRow n starts i ≤ getD starts i 0 + 64
-  pub room : 8 * n .rows ≤ length table
-
 -- ---- a literal's row, bound
 
 -- the object of a variable: an action's row has its objects behind the action
@@ -99,8 +75,10 @@ objectOf ground v = cond (ltb v 16) (getD ground (v + 1) 0) 0
 abbrev pub boundBytes : ℕ → List ℕ → List ℕ → List ℕ
 boundBytes n ground row = byte row 1 ∷ n ∷ (map (objectOf ground) (take n (drop 2 row)) ++ replicate (6 - n) 255)
 
+-- of a head
 unfoldable pub boundRow : List ℕ → List ℕ → List ℕ → List ℕ
-boundRow arities ground row = boundBytes (getD arities (byte row 1) 0) ground row
+unfolding arityIn
+boundRow head ground row = boundBytes (arityIn head (byte row 1)) ground row
 
 -- 1 to 4 for a true condition, false condition, add or delete that counts at the start, over all, or at the end; 0 for none
 unfoldable pub clauseFor : Time → ℕ → ℕ
@@ -121,7 +99,11 @@ pub record EventRow : Type 0 where
   pub moment : ℕ
   pub row : List ℕ
 
--- the first n events of these memories
+-- the event at a place of these memories
+abbrev pub eventAt : List ℕ → List ℕ → ℕ → EventRow
+eventAt moments rows i = record { moment = getD moments i 0; row = take 17 (drop (17 * i) rows) }
+
+-- the first n
 abbrev pub eventsIn : ℕ → List ℕ → List ℕ → List EventRow
 eventsIn zero moments rows = []
 eventsIn (suc n) moments rows = record { moment = getD moments 0 0; row = take 17 rows } ∷ eventsIn n (drop 1 moments) (drop 17 rows)
@@ -155,8 +137,9 @@ unfoldable pub joinEntry : List ℕ → Open → Open
 joinEntry row o = record { count = o .count + 1; rows = paste (o .rows) (17 * o .count) row 17 }
 
 -- an event of this moment and action is the start of a lasting action
-unfoldable pub opensBy : List ℕ → ℕ → ℕ → ℕ → Bool
-opensBy sorts actions moment action = not (eqb moment 1) && ltb action actions && eqb (getD sorts action 0) 1
+unfoldable pub opensBy : List ℕ → ℕ → ℕ → Bool
+unfolding actionsIn lastingIn
+opensBy head moment action = not (eqb moment 1) && ltb action (actionsIn head) && lastingIn head action
 
 -- what a step leaves open, where it fits
 pub record Opened : Type 0 where
@@ -164,16 +147,16 @@ pub record Opened : Type 0 where
   pub running : Open
 
 -- the entry of such a start joins, where there is room for it
-unfoldable pub joinEvent : List ℕ → ℕ → EventRow → Open → Opened
+unfoldable pub joinEvent : List ℕ → EventRow → Open → Opened
 unfolding opensBy joinEntry
-joinEvent sorts actions e o =
-    cond (opensBy sorts actions (e .moment) (byte (e .row) 0))
+joinEvent head e o =
+    cond (opensBy head (e .moment) (byte (e .row) 0))
     (cond (ltb (o .count) 32) (record { fits = true; running = joinEntry (e .row) o }) (record { fits = false; running = o }))
     (record { fits = true; running = o })
 
 -- those of several events, up to the first for which there is no room
-abbrev pub joinEvents : List ℕ → ℕ → List EventRow → Open → Opened
-joinEvents sorts actions [] o = record { fits = true; running = o }
-joinEvents sorts actions (e ∷ es) o =
-    let joined = joinEvent sorts actions e o in
-    cond (joined .fits) (joinEvents sorts actions es (joined .running)) joined
+abbrev pub joinEvents : List ℕ → List EventRow → Open → Opened
+joinEvents head [] o = record { fits = true; running = o }
+joinEvents head (e ∷ es) o =
+    let joined = joinEvent head e o in
+    cond (joined .fits) (joinEvents head es (joined .running)) joined

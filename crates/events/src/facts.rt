@@ -1,10 +1,11 @@
 // The literals of an action as rows: the facts that its objects make of them, and what each is at the start, over all, or at the end.
 use classes::Moment;
-use classes::counts::arity_of;
 use classes::counts::clause_at;
 use literals::Time;
+use literals::head::Head;
+use literals::head::arity_of;
 ghost use mathlib.Core.Path.{_≡_};
-ghost use Prim.Native.Nat.{ℕ, _+_, _<_, _≤_};
+ghost use Prim.Native.Nat.{_+_, _<_, _≤_};
 ghost use lib.ListN.{length, getD, take, drop};
 ghost use Rattle.literals.specs.declared.Time.the-variants.{OverAll};
 ghost use Rattle.runs.specs.RunFile.{momentOf};
@@ -39,11 +40,11 @@ fn bound_byte(arity: u8, ground: &[u8], rows: &[u8], row: usize, i: usize) -> u8
 }
 
 // The fact of the literal's row at an offset.
-pub fn bound_row(arities: &[u8], ground: &[u8], rows: &[u8], row: usize) -> [u8; 8]
-    requires { ⌜ (length (now arities) ≡ 64) × ((i : ℕ) → getD (now arities) i 0 ≤ 6) × (length (now ground) ≡ 17) × (row + 8 ≤ length (now rows)) ⌝ }
-    ensures { λ r. ⌜ r ≡ boundRow (now (arities .entry)) (now (ground .entry)) (take 8 (drop row (now (rows .entry)))) ⌝ }
+pub fn bound_row(head: &Head, ground: &[u8], rows: &[u8], row: usize) -> [u8; 8]
+    requires { ⌜ (length (now ground) ≡ 17) × (row + 8 ≤ length (now rows)) ⌝ }
+    ensures { λ r. ⌜ r ≡ boundRow (now (head .entry)) (now (ground .entry)) (take 8 (drop row (now (rows .entry)))) ⌝ }
 {
-    let arity = arity_of(arities, rows[row + 1]);
+    let arity = arity_of(head, rows[row + 1]);
     let mut fact = [255u8; 8];
     for i in 0..8 {
         fact[i] = bound_byte(arity, ground, rows, row, i);
@@ -64,7 +65,8 @@ fn clause_over_all(role: u8) -> u8
     0
 }
 
-// 1 to 4 for a true condition, false condition, add or delete that counts then, 0 for none: of a role byte. At the end the over-all conditions count too.
+// 1 to 4 for a true condition, false condition, add or delete that counts then, 0 for none: of a role byte. At the end the
+// over-all conditions count too.
 pub fn clause_for(time: Time, role: u8) -> u8
     ensures { λ r. ⌜ r ≡ clauseFor time role ⌝ }
 {

@@ -110,7 +110,7 @@ unfolding allLiterals
 literals-in as′ m = flatMap-in (λ (a : Action). a .lits) as′ m
 
 -- at most 64 literals an action
-rows-few : (as′ : List Action) → ((a : Action) → In a as′ → length (a .lits) ≤ 64) → length (allLiterals as′) ≤ 64 * length as′
+pub rows-few : (as′ : List Action) → ((a : Action) → In a as′ → length (a .lits) ≤ 64) → length (allLiterals as′) ≤ 64 * length as′
 unfolding allLiterals flatMap
 rows-few [] h = omega arith
 rows-few (a ∷ as′) h =

@@ -21,7 +21,7 @@ use Rattle.literals.proofs.Tables.{length-literal-row, length-flat, pad
 -- ---- the rows of some elements, between those before them and those behind them
 
 module _ {A : Type 0} (f : A → List ℕ) where
-  part-flat : (xs ys zs : List A) (old : List ℕ) → ((a : A) → In a (xs ++ (ys ++ zs)) → length (f a) ≡ 8)
+  pub part-flat : (xs ys zs : List A) (old : List ℕ) → ((a : A) → In a (xs ++ (ys ++ zs)) → length (f a) ≡ 8)
       → take (8 * length ys) (drop (8 * length xs) (over (flatMap f (xs ++ (ys ++ zs))) old)) ≡ flatMap f ys
   unfolding over
   part-flat xs ys zs old h =
@@ -35,14 +35,14 @@ module _ {A : Type 0} (f : A → List ℕ) where
 
 -- ---- the literals before an action, its own, and those behind it
 
-literals-split : (as′ : List Action) (i : ℕ) → i < length as′
+pub literals-split : (as′ : List Action) (i : ℕ) → i < length as′
     → allLiterals as′ ≡ allLiterals (take i as′) ++ (getD as′ i noAction .lits ++ allLiterals (drop (suc i) as′))
 unfolding allLiterals flatMap
 literals-split as′ i b =
     ap allLiterals (split-at as′ i noAction b)
     ∙ flatMap-append (λ (a : Action). a .lits) (take i as′) (getD as′ i noAction ∷ drop (suc i) as′)
 
-literals-next : (as′ : List Action) (i : ℕ) → i < length as′
+pub literals-next : (as′ : List Action) (i : ℕ) → i < length as′
     → length (allLiterals (take (suc i) as′)) ≡ length (allLiterals (take i as′)) + length (getD as′ i noAction .lits)
 unfolding allLiterals flatMap
 literals-next [] i b = absurd (omega arith)
@@ -53,7 +53,7 @@ literals-next (a ∷ as′) (suc i) b =
     let r = literals-next as′ i (omega arith) in
     omega arith
 
-starts-at : (n : ℕ) (as′ : List Action) (i : ℕ) → i < length as′ → getD (startsFrom n as′) i 0 ≡ n + length (allLiterals (take i as′))
+pub starts-at : (n : ℕ) (as′ : List Action) (i : ℕ) → i < length as′ → getD (startsFrom n as′) i 0 ≡ n + length (allLiterals (take i as′))
 unfolding allLiterals flatMap
 starts-at n [] i b = absurd (omega arith)
 starts-at n (a ∷ as′) zero b = let z : n ≡ n + 0 = omega arith in z

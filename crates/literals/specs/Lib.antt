@@ -2,3 +2,4 @@
 pub mod Domain
 pub mod Decode
 pub mod Table
+pub mod Held

@@ -1,5 +1,6 @@
 // A domain: numberings, roles and labels, and how the code holds it (here); the fields of a record (fields); the rows of the literal table (row), and those of one action (span).
 pub mod fields;
+pub mod head;
 pub mod row;
 pub mod span;
 

@@ -5,27 +5,26 @@ use mathlib.Core.List.{List, [], _∷_, _++_, map, map-append, append-nil, appen
 use Prim.Native.Nat.{ℕ, suc, _+_, _-_, _*_, _≤_, _<_}
 use native.Mathlib.Numerals.{add-one}
 use native.Mathlib.Omega.{arith}
-use lib.Dec.{eqb, ltb}
 use lib.ListN.{length, getD, set, take, drop, length-append, length-map}
 use lib.Seq.{take-suc, take-all, take-at, drop-cons, length-take-le}
-use borrow.Author.Tests.{lt-ltb, le-ltb}
 use Rattle.records.specs.Memory.{over}
 use Rattle.records.proofs.Memory.{length-over, over-more}
 use Rattle.literals.specs.declared.Variable.{Variable}
 use Rattle.literals.specs.Domain.{Action, Domain, noAction, action}
-use Rattle.literals.specs.declared.Index.{Index}
-use Rattle.literals.specs.declared.Counts.{Counts}
-use Rattle.literals.specs.Table.{tableBytes, pad, indexWith, Holds, Shaped}
+use Rattle.literals.specs.declared.span.Span.{Span}
+use Rattle.literals.specs.Table.{allLiterals, pad}
+use Rattle.literals.specs.Held.{actionsIn, Held, SpanFits, SpanOf}
 use Rattle.literals.proofs.Tables.{pad-more}
-use Rattle.literals.proofs.Spans.{sort-at}
+use Rattle.literals.proofs.Held.{rows-few}
+use Rattle.literals.proofs.Heads.{literals-after}
 use Rattle.classes.specs.declared.Moment.the-variants.{Start, End}
 use Rattle.classes.specs.declared.Name.{Name}
 use Rattle.classes.specs.Classes.{momentsOf, nameNumber, classes, nameOf, journey}
-use Rattle.classes.specs.Coded.{classNumbers, clausesAt, soleOf}
+use Rattle.classes.specs.Coded.{MomentOf, soleOf}
 use Rattle.naming.specs.declared.Naming.{Naming}
 use Rattle.verdict.specs.Decision.{Row, rowAt, rowsOfClasses, rowsFrom, rows}
 use Rattle.verdict.specs.Claims.{wellFormed}
-use Rattle.verdict.specs.Coded.{rowFor, notesOf, ActionIn}
+use Rattle.verdict.specs.Coded.{rowFor, notesOf}
 use Rattle.naming.specs.Named.{nameBytes, classCounts, SolesIn, Named, namingOf}
 
 -- ---- one class or one action more
@@ -196,26 +195,17 @@ module _ (D : Domain) where
 
 -- ---- where the loops of naming stand
 
--- the sort byte of an action tells whether it lasts
-pub lasting-byte : {D : Domain} {index : Index} → Holds D index → (i : ℕ) → action D i .lasting ≡ eqb (getD (index .sorts) i 0) 1
-lasting-byte {D} H i = sym (ap (λ (s : ℕ). eqb s 1) (sort-at H i) ∙ go (action D i .lasting))
-  where
-    go : (b : Bool) → eqb (cond b 1 0) 1 ≡ b
-    go true = refl
-    go false = refl
-
 -- a class by its number, of the true conditions and adds of all of them
 pub sole-at : {of clauses conditions adds : List ℕ} → SolesIn of clauses conditions adds → (k : ℕ) → k < 64 → record { conditions = getD conditions k 0; adds = getD adds k 0 } ≡ soleOf of clauses k
 sole-at S k h = λ i. record { conditions = S .conditions-are k h i; adds = S .adds-are k h i }
 
 -- in an action, after k of its classes
-pub record InClasses (parts : List ℕ) (components : ℕ) (arities rows of at-start at-end : List ℕ) (count i : ℕ) (lasting : Bool) (names₀ : List ℕ) (next₀ : Naming) (names : List ℕ) (next : Naming) (k : ℕ) : Type 0 where
+pub record InClasses (head rows of at-start at-end : List ℕ) (count i : ℕ) (lasting : Bool) (names₀ : List ℕ) (next₀ : Naming) (names : List ℕ) (next : Naming) (k : ℕ) : Type 0 where
   pub reach : k ≤ count
   pub few : next .rows ≤ next₀ .rows + 2 * k
   pub room : length names ≡ length names₀
-  pub named : (rs : List Row) (old : List ℕ) (D : Domain) (a : Action) (keys : ℕ) → Named rs next₀ names₀ old → ActionIn D a parts components keys arities rows → a .lasting ≡ lasting
-      → of ≡ classNumbers D a → at-start ≡ pad 64 (clausesAt a Start) → (lasting ≡ true → at-end ≡ pad 64 (clausesAt a End)) → count ≡ length (classes D a)
-      → Named (rs ++ rowsOfClasses D a i 0 (take k (classes D a))) next names old
+  pub named : (rs : List Row) (old : List ℕ) (D : Domain) (a : Action) → Named rs next₀ names₀ old → MomentOf D a Start head rows of at-start → a .lasting ≡ lasting
+      → (lasting ≡ true → MomentOf D a End head rows of at-end) → count ≡ length (classes D a) → Named (rs ++ rowsOfClasses D a i 0 (take k (classes D a))) next names old
 
 -- the first n of an array, where a call has put xs there
 module _ (xs ys : List ℕ) (n : ℕ) (e : length xs ≡ n) where
@@ -225,47 +215,30 @@ module _ (xs ys : List ℕ) (n : ℕ) (e : length xs ≡ n) where
   pub part-again : take (n - 0) (xs ++ ys) ≡ xs
   part-again = let z : length xs ≡ n - 0 = omega arith in take-at xs ys (n - 0) z
 
--- the first row of an action, or the one behind all of them
-abbrev pub beginOf : Counts → List ℕ → ℕ → ℕ
-beginOf domain starts k = cond (ltb k (domain .actions)) (getD starts k 0) (domain .rows)
+-- at most two rows for each literal of the actions so far
+module _ {D : Domain} {head table : List ℕ} (H : Held D head table) (i : ℕ) (h : i < length (D .actions)) {span : Span} (S : SpanOf D i table span) (F : SpanFits (length table) span)
+    (r : ℕ) (g : r ≤ 2 * length (allLiterals (take i (D .actions)))) where
+  pub names-room : (n : ℕ) → length table ≤ 4 * n → r + 2 * (span .to - span .from) ≤ n
+  names-room n l = let f = S .first in let o = F .order in let m = F .room in omega arith
 
-pub begin-inside : (domain : Counts) (starts : List ℕ) (k : ℕ) → k < domain .actions → beginOf domain starts k ≡ getD starts k 0
-begin-inside domain starts k h = rw (lt-ltb k (domain .actions) h)
+  pub names-next : (q : ℕ) → q ≤ r + 2 * (span .to - span .from) → q ≤ 2 * length (allLiterals (take (i + 1) (D .actions)))
+  names-next q l =
+      let s = S .size in
+      let e = ap (λ (k : ℕ). length (allLiterals (take k (D .actions)))) (add-one i) ∙ literals-after D i h in
+      omega arith
 
-pub begin-last : (domain : Counts) (starts : List ℕ) (k : ℕ) → domain .actions ≤ k → beginOf domain starts k ≡ domain .rows
-begin-last domain starts k h = rw (le-ltb k (domain .actions) h)
-
--- at most two rows for each literal
-module _ {domain : Counts} {arities variables sorts starts parts : List ℕ} (S : Shaped (indexWith domain arities variables sorts starts parts)) (i : ℕ) (h : i < domain .actions) (from to : ℕ)
-    (e : from ≡ getD starts i 0) (f : to ≡ beginOf domain starts (i + 1)) (r : ℕ) (g : r ≤ 2 * beginOf domain starts i) where
-  pub names-room : (n : ℕ) → 2 * domain .rows ≤ n → r + 2 * (to - from) ≤ n
-  names-room n l = let b = begin-inside domain starts i h in let s = S .spans i h in let o = s .order in let w = s .within in omega arith
-
-  pub names-next : (q : ℕ) → q ≤ r + 2 * (to - from) → q ≤ 2 * beginOf domain starts (i + 1)
-  names-next q l = let b = begin-inside domain starts i h in let s = S .spans i h in let o = s .order in omega arith
+-- all of them
+pub names-few : {D : Domain} {head table : List ℕ} → Held D head table → (k r : ℕ) → length (D .actions) ≤ k → r ≤ 2 * length (allLiterals (take k (D .actions))) → r ≤ 8192
+names-few {D} H k r h g =
+    let e = ap (λ (l : List Action). length (allLiterals l)) (take-all k (D .actions) h) in
+    let n = rows-few (D .actions) (H .says .bounded .sizes) in
+    let m = H .says .bounded .actions in
+    omega arith
 
 -- in a domain, after k of its actions
-pub record InActions (domain : Counts) (arities sorts starts parts table names₀ counts₀ names counts : List ℕ) (naming : Naming) (k : ℕ) : Type 0 where
-  pub reach : k ≤ domain .actions
-  pub few : naming .rows ≤ 2 * beginOf domain starts k
+pub record InActions (head table names₀ counts₀ names counts : List ℕ) (naming : Naming) (k : ℕ) : Type 0 where
+  pub reach : k ≤ actionsIn head
   pub room : length names ≡ length names₀
-  pub counted : length counts ≡ 64
-  pub named : (D : Domain) (old variables : List ℕ) → Holds D (indexWith domain arities variables sorts starts parts) → wellFormed D ≡ true → table ≡ over (tableBytes D) old → counts₀ ≡ pad 64 []
+  pub few : (D : Domain) → Held D head table → naming .rows ≤ 2 * length (allLiterals (take k (D .actions)))
+  pub named : (D : Domain) → Held D head table → wellFormed D ≡ true → counts₀ ≡ pad 64 []
       → Named (rowsFrom D 0 (take k (D .actions))) naming names names₀ × (counts ≡ pad 64 (classCounts D (take k (D .actions))))
-
--- the bounds of an index do not speak of its variables, nor of its sorts
-pub shaped-with : {domain : Counts} {arities variables sorts starts parts : List ℕ} (variables′ sorts′ : List ℕ) → Shaped (indexWith domain arities variables sorts starts parts)
-    → Shaped (indexWith domain arities variables′ sorts′ starts parts)
-shaped-with variables′ sorts′ S =
-    record {
-      relations = S .relations;
-      arities = S .arities;
-      actions = S .actions;
-      rows = S .rows;
-      order = S .order;
-      last = S .last;
-      spans = λ i h. let s = S .spans i h in record { order = s .order; within = s .within; few = s .few };
-      components = S .components;
-      parts = S .parts;
-      keys = S .keys;
-    }

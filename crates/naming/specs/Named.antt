@@ -21,8 +21,6 @@ classCounts D as′ = map (λ (a : Action). length (classes D a)) as′
 
 -- the true conditions and the adds of each class at the moment of these clauses
 pub record SolesIn (of clauses conditions adds : List ℕ) : Type 0 where
-  pub conditions-room : length conditions ≡ 64
-  pub adds-room : length adds ≡ 64
   pub conditions-are : (k : ℕ) → k < 64 → getD conditions k 0 ≡ soleAt of clauses k 1
   pub adds-are : (k : ℕ) → k < 64 → getD adds k 0 ≡ soleAt of clauses k 3
 

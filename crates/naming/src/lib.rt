@@ -1,4 +1,5 @@
 // The names of all moments, in the order of the report.
+use classes::Marks;
 use classes::Moment;
 use classes::Name;
 use classes::Sole;
@@ -8,25 +9,27 @@ use classes::counts::name_at;
 use classes::counts::soles_at;
 use classes::name_number;
 use classes::number::number_classes;
-use literals::Counts;
-use literals::span::span_of;
+use literals::head::Head;
+use literals::head::actions_in;
+use literals::head::is_lasting;
+use literals::head::rows_of;
 use verdict::Notes;
 use verdict::Place;
 ghost use mathlib.Core.Path.{_≡_};
 ghost use mathlib.Core.Bool.{true};
-ghost use mathlib.Core.List.{List, [], _∷_, _++_, map, flatMap};
+ghost use mathlib.Core.List.{List, [], _∷_, _++_, map};
 ghost use Prim.Native.Nat.{ℕ, _+_, _*_, _≤_, _<_};
 ghost use lib.ListN.{length, getD, set};
-ghost use Rattle.records.specs.Lists.{In};
 ghost use Rattle.records.specs.Memory.{over};
-ghost use Rattle.literals.specs.Domain.{Domain, Action, action};
-ghost use Rattle.literals.specs.Table.{literalRow, tableBytes, pad, indexWith, Holds, Shaped};
+ghost use Rattle.literals.specs.Domain.{Domain, Action};
+ghost use Rattle.literals.specs.Table.{pad};
+ghost use Rattle.literals.specs.Held.{Held, Read};
 ghost use Rattle.classes.specs.declared.Moment.the-variants.{Start, End};
 ghost use Rattle.classes.specs.Classes.{momentsOf, classes, nameOf, journey};
-ghost use Rattle.classes.specs.Coded.{TemplateIn, classNumbers, clausesAt, soleOf};
+ghost use Rattle.classes.specs.Coded.{ActionOf, MomentOf, Sides, classNumbers, soleOf};
 ghost use Rattle.verdict.specs.Decision.{Row, rowAt, rowsOfClasses, rows};
 ghost use Rattle.verdict.specs.Claims.{wellFormed};
-ghost use Rattle.verdict.specs.Coded.{rowFor, ActionIn};
+ghost use Rattle.verdict.specs.Coded.{rowFor};
 ghost use Rattle.naming.specs.Named.{nameBytes, classCounts, SolesIn, Named, namingOf};
 
 // The names of one class: at its start, and at its end where the action lasts.
@@ -44,33 +47,28 @@ pub struct Naming {
 
 // The names of a class, of the clauses of the action's literals at its start and at its end, and of the class's true conditions and adds there.
 fn name_class(
-    parts: &[u8],
-    components: usize,
-    arities: &[u8],
+    head: &Head,
     rows: &[u8],
     of: &[u8],
-    at_start: &[u8],
-    at_end: &[u8],
+    at_start: &Marks,
+    at_end: &Marks,
     first: Sole,
     last: Sole,
     class: u8,
     lasting: bool,
 ) -> ClassNames
-    requires { ⌜ (8 * components ≤ length (now parts)) × ((i : ℕ) → getD (now arities) i 0 ≤ 6) × (8 * length (now of) ≤ length (now rows)) × (length (now of) ≤ length (now «at_start»))
-        × (length (now of) ≤ length (now «at_end»)) × (length (now of) ≤ 64) × (first ≡ soleOf (now of) (now «at_start») class) × (last ≡ soleOf (now of) (now «at_end») class) ⌝ }
-    ensures start { λ r. ⌜ ((D : Domain) (a : Action) (keys : ℕ) → TemplateIn D (now (parts .entry)) components keys (now (arities .entry)) → In a (D .actions)
-        → now (rows .entry) ≡ flatMap literalRow (a .lits) → now (of .entry) ≡ classNumbers D a → now («at_start» .entry) ≡ pad 64 (clausesAt a Start)
+    requires { ⌜ Sides (now rows) (now of) × (first ≡ soleOf (now of) (now «at_start») class) × (last ≡ soleOf (now of) (now «at_end») class) ⌝ }
+    ensures start { λ r. ⌜ ((D : Domain) (a : Action) → MomentOf D a Start (now (head .entry)) (now (rows .entry)) (now (of .entry)) (now («at_start» .entry))
         → class < length (classes D a) → r .start ≡ nameOf D a (getD (classes D a) class []) Start) ⌝ }
-    ensures end { λ r. ⌜ ((D : Domain) (a : Action) (keys : ℕ) → TemplateIn D (now (parts .entry)) components keys (now (arities .entry)) → In a (D .actions)
-        → now (rows .entry) ≡ flatMap literalRow (a .lits) → now (of .entry) ≡ classNumbers D a → now («at_start» .entry) ≡ pad 64 (clausesAt a Start)
-        → now («at_end» .entry) ≡ pad 64 (clausesAt a End) → class < length (classes D a) → lasting ≡ true → a .lasting ≡ true
+    ensures end { λ r. ⌜ ((D : Domain) (a : Action) → MomentOf D a Start (now (head .entry)) (now (rows .entry)) (now (of .entry)) (now («at_start» .entry))
+        → MomentOf D a End (now (head .entry)) (now (rows .entry)) (now (of .entry)) (now («at_end» .entry)) → class < length (classes D a) → lasting ≡ true → a .lasting ≡ true
         → (r .end ≡ nameOf D a (getD (classes D a) class []) End) × (r .journey ≡ journey D a (getD (classes D a) class []))) ⌝ }
 {
-    let start = name_at(parts, components, arities, rows, of, at_start, first, class);
+    let start = name_at(head, rows, of, at_start, first, class);
     if lasting {
         return ClassNames {
             start,
-            end: name_at(parts, components, arities, rows, of, at_end, last, class),
+            end: name_at(head, rows, of, at_end, last, class),
             journey: is_journey(rows, of, at_start, first, last, class),
         };
     }
@@ -153,37 +151,32 @@ impl Naming {
     // The rows of the classes of an action, of the clauses of its literals at both moments, and of each class's true conditions and adds there.
     fn with_each(
         self,
-        parts: &[u8],
-        components: usize,
-        arities: &[u8],
+        head: &Head,
         rows: &[u8],
         of: &[u8],
-        at_start: &[u8],
-        at_end: &[u8],
-        conditions: &[u8],
-        adds: &[u8],
-        end_conditions: &[u8],
-        end_adds: &[u8],
+        at_start: &Marks,
+        at_end: &Marks,
+        conditions: &Marks,
+        adds: &Marks,
+        end_conditions: &Marks,
+        end_adds: &Marks,
         count: usize,
         i: usize,
         lasting: bool,
         names: &mut [u8],
     ) -> Naming
-        requires { ⌜ (8 * components ≤ length (now parts)) × ((i : ℕ) → getD (now arities) i 0 ≤ 6) × (8 * length (now of) ≤ length (now rows)) × (length (now of) ≤ length (now «at_start»))
-            × (length (now of) ≤ length (now «at_end»)) × (length (now of) ≤ 64) × SolesIn (now of) (now «at_start») (now conditions) (now adds)
-            × SolesIn (now of) (now «at_end») (now «end_conditions») (now «end_adds») × (count ≤ length (now of)) × (i < 64) × (self .rows + 2 * count ≤ length (now names)) ⌝ }
+        requires { ⌜ Sides (now rows) (now of) × SolesIn (now of) (now «at_start») (now conditions) (now adds) × SolesIn (now of) (now «at_end») (now «end_conditions») (now «end_adds»)
+            × (count ≤ length (now of)) × (i < 64) × (self .rows + 2 * count ≤ length (now names)) ⌝ }
         ensures rows { λ r. ⌜ r .rows ≤ self .rows + 2 * count ⌝ }
-        ensures named { λ r. ⌜ ((rs : List Row) (old : List ℕ) (D : Domain) (a : Action) (keys : ℕ) → Named rs self (now (names .entry)) old
-            → ActionIn D a (now (parts .entry)) components keys (now (arities .entry)) (now (rows .entry)) → a .lasting ≡ lasting
-            → now (of .entry) ≡ classNumbers D a → now («at_start» .entry) ≡ pad 64 (clausesAt a Start)
-            → (lasting ≡ true → now («at_end» .entry) ≡ pad 64 (clausesAt a End)) → count ≡ length (classes D a) → Named (rs ++ rowsOfClasses D a i 0 (classes D a)) r (now (names .exit)) old) ⌝ }
+        ensures named { λ r. ⌜ ((rs : List Row) (old : List ℕ) (D : Domain) (a : Action) → Named rs self (now (names .entry)) old
+            → MomentOf D a Start (now (head .entry)) (now (rows .entry)) (now (of .entry)) (now («at_start» .entry)) → a .lasting ≡ lasting
+            → (lasting ≡ true → MomentOf D a End (now (head .entry)) (now (rows .entry)) (now (of .entry)) (now («at_end» .entry))) → count ≡ length (classes D a)
+            → Named (rs ++ rowsOfClasses D a i 0 (classes D a)) r (now (names .exit)) old) ⌝ }
     {
         let mut next = self;
         for class in 0..count {
             let named = name_class(
-                parts,
-                components,
-                arities,
+                head,
                 rows,
                 of,
                 at_start,
@@ -207,9 +200,7 @@ impl Naming {
     // The rows of the classes of an action: `of` holds the class number of each of its literals, which are these rows. (An action at once has no end.)
     fn with_classes(
         self,
-        parts: &[u8],
-        components: usize,
-        arities: &[u8],
+        head: &Head,
         rows: &[u8],
         of: &[u8],
         count: usize,
@@ -217,11 +208,10 @@ impl Naming {
         lasting: bool,
         names: &mut [u8],
     ) -> Naming
-        requires { ⌜ (8 * components ≤ length (now parts)) × ((i : ℕ) → getD (now arities) i 0 ≤ 6) × (length (now rows) ≡ 8 * length (now of)) × (length (now of) ≤ 64)
-            × (count ≤ length (now of)) × (i < 64) × (self .rows + 2 * count ≤ length (now names)) ⌝ }
+        requires { ⌜ (length (now rows) ≡ 8 * length (now of)) × (length (now of) ≤ 64) × (count ≤ length (now of)) × (i < 64) × (self .rows + 2 * count ≤ length (now names)) ⌝ }
         ensures rows { λ r. ⌜ r .rows ≤ self .rows + 2 * count ⌝ }
-        ensures named { λ r. ⌜ ((rs : List Row) (old : List ℕ) (D : Domain) (a : Action) (keys : ℕ) → Named rs self (now (names .entry)) old
-            → ActionIn D a (now (parts .entry)) components keys (now (arities .entry)) (now (rows .entry)) → a .lasting ≡ lasting
+        ensures named { λ r. ⌜ ((rs : List Row) (old : List ℕ) (D : Domain) (a : Action) → Named rs self (now (names .entry)) old
+            → ActionOf D a (now (head .entry)) (now (rows .entry)) → a .lasting ≡ lasting
             → now (of .entry) ≡ classNumbers D a → count ≡ length (classes D a) → Named (rs ++ rowsOfClasses D a i 0 (classes D a)) r (now (names .exit)) old) ⌝ }
     {
         let n = of.len();
@@ -233,9 +223,7 @@ impl Naming {
         soles_at(of, &at_start, 3, &mut adds);
         if !lasting {
             return self.with_each(
-                parts,
-                components,
-                arities,
+                head,
                 rows,
                 of,
                 &at_start,
@@ -257,9 +245,7 @@ impl Naming {
         soles_at(of, &at_end, 1, &mut end_conditions);
         soles_at(of, &at_end, 3, &mut end_adds);
         self.with_each(
-            parts,
-            components,
-            arities,
+            head,
             rows,
             of,
             &at_start,
@@ -278,75 +264,47 @@ impl Naming {
     // The rows of one action more, whose n literals are these rows; `counts` gets how many classes it has.
     fn with_action(
         self,
-        parts: &[u8],
-        components: usize,
-        keys: usize,
-        arities: &[u8],
+        head: &Head,
         rows: &[u8],
         n: usize,
         i: usize,
         lasting: bool,
         names: &mut [u8],
-        counts: &mut [u8],
+        counts: &mut Marks,
     ) -> Naming
-        requires { ⌜ (8 * components ≤ length (now parts)) × (keys ≤ 6) × ((i : ℕ) → getD (now arities) i 0 ≤ 6) × (length (now rows) ≡ 8 * n) × (n ≤ 64)
-            × (i < 64) × (self .rows + 2 * n ≤ length (now names)) × (length (now counts) ≡ 64) ⌝ }
+        requires { ⌜ (length (now rows) ≡ 8 * n) × (n ≤ 64) × (i < 64) × (self .rows + 2 * n ≤ length (now names)) ⌝ }
         ensures rows { λ r. ⌜ r .rows ≤ self .rows + 2 * n ⌝ }
         ensures named { λ r. ⌜ ((rs : List Row) (old : List ℕ) (D : Domain) (a : Action) → Named rs self (now (names .entry)) old
-            → ActionIn D a (now (parts .entry)) components keys (now (arities .entry)) (now (rows .entry)) → a .lasting ≡ lasting
+            → ActionOf D a (now (head .entry)) (now (rows .entry)) → a .lasting ≡ lasting
             → (now (counts .exit) ≡ set (now (counts .entry)) i (length (classes D a)))
             × Named (rs ++ rowsOfClasses D a i 0 (classes D a)) r (now (names .exit)) old) ⌝ }
     {
         let mut of = [0u8; 64];
         let mut tuples = [255u8; 512];
-        let count = number_classes(parts, components, keys, rows, &mut of[0..n], &mut tuples);
+        let count = number_classes(head, rows, &mut of[0..n], &mut tuples);
         counts[i] = count as u8;
-        self.with_classes(
-            parts,
-            components,
-            arities,
-            rows,
-            &of[0..n],
-            count,
-            i,
-            lasting,
-            names,
-        )
+        self.with_classes(head, rows, &of[0..n], count, i, lasting, names)
     }
 }
 
-// The names of all moments of a domain, of the memories that hold it; `counts` gets how many classes each action has.
-pub fn name_all(
-    domain: Counts,
-    arities: &[u8],
-    sorts: &[u8],
-    starts: &[usize],
-    parts: &[u8],
-    table: &[u8],
-    names: &mut [u8],
-    counts: &mut [u8],
-) -> Naming
-    requires { ⌜ ((variables : List ℕ) → Shaped (indexWith domain (now arities) variables (now sorts) (now starts) (now parts))) × (length (now sorts) ≡ 64) × (length (now starts) ≡ 64)
-        × (8 * domain .rows ≤ length (now table)) × (2 * domain .rows ≤ length (now names)) × (length (now counts) ≡ 64) ⌝ }
+// The names of all moments of a domain that was read; `counts` gets how many classes each action has.
+pub fn name_all(head: &Head, table: &[u8], names: &mut [u8], counts: &mut Marks) -> Naming
+    requires { ⌜ Read (now head) (now table) × (length (now table) ≤ 4 * length (now names)) ⌝ }
     ensures rows { λ r. ⌜ r .rows ≤ 8192 ⌝ }
-    ensures named { λ r. ⌜ ((D : Domain) (old variables : List ℕ) → Holds D (indexWith domain (now (arities .entry)) variables (now (sorts .entry)) (now (starts .entry)) (now (parts .entry)))
-        → wellFormed D ≡ true → now (table .entry) ≡ over (tableBytes D) old → now (counts .entry) ≡ pad 64 []
+    ensures named { λ r. ⌜ ((D : Domain) → Held D (now (head .entry)) (now (table .entry)) → wellFormed D ≡ true → now (counts .entry) ≡ pad 64 []
         → (r ≡ namingOf D) × (now (counts .exit) ≡ pad 64 (classCounts D (D .actions))) × (now (names .exit) ≡ over (nameBytes (rows D)) (now (names .entry)))) ⌝ }
 {
     let mut naming = Naming::new();
-    for i in 0..domain.actions {
-        let span = span_of(starts, domain.actions, domain.rows, i);
+    for i in 0..actions_in(head) {
+        let span = rows_of(head, table, i);
         let from = 8 * span.from;
         let to = 8 * span.to;
         naming = naming.with_action(
-            parts,
-            domain.components,
-            domain.keys,
-            arities,
+            head,
             &table[from..to],
             span.to - span.from,
             i,
-            sorts[i] == 1,
+            is_lasting(head, i),
             names,
             counts,
         );

@@ -12,16 +12,17 @@ use Rattle.records.specs.Lists.{In, addIf, keepIf, any, sameList}
 use Rattle.records.proofs.Lists.{and-r, eqb-same, eqb-comm, sameList-self, sameList-comm, flatMap-in}
 use Rattle.literals.specs.declared.Variable.{Variable}
 use Rattle.literals.specs.declared.Object.{Object}
-use Rattle.literals.specs.declared.Index.{Index}
 use Rattle.literals.specs.declared.Time.the-variants.{AtStart}
 use Rattle.literals.specs.declared.Clause.the-variants.{Positive}
 use Rattle.literals.specs.Domain.{variable, sameObject, Fact, Literal, Component, keysOf, Domain}
 use Rattle.literals.specs.Decode.{byte}
-use Rattle.literals.specs.Table.{rowOf, literalRow, componentRow, rowsIn, Holds}
+use Rattle.literals.specs.Table.{rowOf, literalRow, componentRow, rowsIn}
+use Rattle.literals.specs.Held.{componentsIn, keysIn, partIn, partsIn, HeadOf}
 use Rattle.literals.proofs.Bytes.{keys-once}
 use Rattle.literals.proofs.Rows.{part-first, rows-more, rows-end}
-use Rattle.literals.proofs.Tables.{rows-components, value}
-use Rattle.literals.proofs.Held.{components-is, keys-is, parts-is}
+use Rattle.literals.proofs.Tables.{value}
+use Rattle.literals.proofs.Held.{keys-few}
+use Rattle.literals.proofs.Heads.{parts-length, part-row}
 use Rattle.classes.specs.Classes.{keyTuple, isOf, tuplesBy, tuplesOf, hasTuple}
 use Rattle.classes.specs.Coded.{position, tupleRow, underKeys, keyRow, keyRows}
 use Rattle.classes.proofs.KeyRows.{place-le, length-rows, rows-at}
@@ -62,24 +63,24 @@ module _ (keys r : ℕ) (row : List ℕ) (e : byte row 0 ≡ r) where
       go false ih k = ih (λ z. k (ap suc z))
 
 -- the fact at an offset, and the place of its relation's component
-module _ (parts memory : List ℕ) (n keys at c : ℕ) (e : c ≡ position (starts (getD memory at 0)) (rowsIn n parts)) where
-  pub component-le : c ≤ n
-  component-le = omega (arith, place-le (starts (getD memory at 0)) (rowsIn n parts), length-rows 8 n parts)
+module _ (head memory : List ℕ) (at c : ℕ) (e : c ≡ position (starts (getD memory at 0)) (partsIn head)) where
+  pub component-le : c ≤ componentsIn head
+  component-le = omega (arith, place-le (starts (getD memory at 0)) (partsIn head), parts-length head)
 
-  pub unmatched : c ≡ n → record { matched = false; row = replicate 8 255 } ≡ keyedBy (instanceRows keys (rowsIn n parts) (take 8 (drop at memory)))
+  pub unmatched : c ≡ componentsIn head → record { matched = false; row = replicate 8 255 } ≡ keyedBy (instanceRows (keysIn head) (partsIn head) (take 8 (drop at memory)))
   unfolding keyedBy
   unmatched f =
-      rw (instance-none keys (getD memory at 0) (take 8 (drop at memory)) (part-first memory at) (rowsIn n parts) (sym e ∙ f ∙ sym (length-rows 8 n parts)))
+      rw (instance-none (keysIn head) (getD memory at 0) (take 8 (drop at memory)) (part-first memory at) (partsIn head) (sym e ∙ f ∙ sym (parts-length head)))
 
-  pub matched : (c ≡ n → ⊥) → (t : List ℕ) → t ≡ keyRow keys (take 8 (drop (8 * c) parts)) (take 8 (drop at memory))
-      → record { matched = true; row = t } ≡ keyedBy (instanceRows keys (rowsIn n parts) (take 8 (drop at memory)))
+  pub matched : (c ≡ componentsIn head → ⊥) → (t : List ℕ) → t ≡ keyRow (keysIn head) (partIn head c) (take 8 (drop at memory))
+      → record { matched = true; row = t } ≡ keyedBy (instanceRows (keysIn head) (partsIn head) (take 8 (drop at memory)))
   unfolding keyedBy
   matched h t f =
-      let v : c < n = omega (arith, component-le) in
+      let v : c < componentsIn head = omega (arith, component-le) in
       sym (ap keyedBy
-      (instance-one keys (getD memory at 0) (take 8 (drop at memory)) (part-first memory at) (rowsIn n parts) (λ z. h (e ∙ z ∙ length-rows 8 n parts))
-      ∙ ap (λ (k : ℕ). keyRow keys (getD (rowsIn n parts) k []) (take 8 (drop at memory)) ∷ []) (sym e)
-      ∙ ap (λ (p : List ℕ). keyRow keys p (take 8 (drop at memory)) ∷ []) (rows-at 8 n parts c [] v)
+      (instance-one (keysIn head) (getD memory at 0) (take 8 (drop at memory)) (part-first memory at) (partsIn head) (λ z. h (e ∙ z ∙ parts-length head))
+      ∙ ap (λ (k : ℕ). keyRow (keysIn head) (getD (partsIn head) k []) (take 8 (drop at memory)) ∷ []) (sym e)
+      ∙ ap (λ (p : List ℕ). keyRow (keysIn head) p (take 8 (drop at memory)) ∷ []) (part-row head c v)
       ∙ ap (λ (x : List ℕ). x ∷ []) (sym f)))
 
 -- ---- none or one
@@ -287,16 +288,15 @@ any-same : (y : List Object) (ts : List (List Object)) → ((t : List Object) �
 any-same y [] h = refl
 any-same y (t ∷ ts) h = ap₂ _||_ (same-rows y t (h t (List·Memᴰ·head refl))) (any-same y ts (λ u m. h u (List·Memᴰ·tail m)))
 
-module _ {D : Domain} {index : Index} (h : Holds D index) (small : index .keys ≤ 6) where
+module _ {D : Domain} {head : List ℕ} (h : HeadOf D head) where
   few-keys : keysOf (D .template) ≤ 6
-  few-keys = omega (arith, keys-is h)
+  few-keys = keys-few (D .template) (h .bounded .labels)
 
   -- the key tuples of a fact
-  pub instances-are : (f : Fact) → FactFits D f → instanceRows (index .keys) (rowsIn (index .components) (index .parts)) (factRow f) ≡ map objectsRow (tuplesOf D f)
+  pub instances-are : (f : Fact) → FactFits D f → instanceRows (keysIn head) (partsIn head) (factRow f) ≡ map objectsRow (tuplesOf D f)
   unfolding tuplesOf
   instances-are f k =
-      ap₂ (λ (n : ℕ) (ps : List (List ℕ)). instanceRows n ps (factRow f)) (keys-is h)
-      (ap₂ rowsIn (components-is h) (parts-is h) ∙ rows-components (D .template) (h .bounded .labels) (replicate (128 - length (flatMap componentRow (D .template))) 0))
+      ap₂ (λ (n : ℕ) (ps : List (List ℕ)). instanceRows n ps (factRow f)) (h .keys) (h .parts)
       ∙ rows-same (keysOf (D .template)) f (map componentRow (D .template))
       ∙ tuples-rows D (keysOf (D .template)) few-keys (asLiteral f) (length-map (f .args) asVariable ∙ k .sized) (D .template)
       (λ c m. record { arguments = h .bounded .componentArity c m; keys = keys-once _ _ (h .bounded .keysFit c m) }) (h .bounded .componentsOnce)
@@ -312,7 +312,7 @@ module _ {D : Domain} {index : Index} (h : Holds D index) (small : index .keys �
   module _ (y : List Object) (e : length y ≡ keysOf (D .template)) where
     -- the weight of an instance
     pub weight-is : (fs : List Fact) → ((f : Fact) → In f fs → FactFits D f)
-        → rowWeight (index .keys) (rowsIn (index .components) (index .parts)) (map factRow fs) (objectsRow y) ≡ weight D y fs
+        → rowWeight (keysIn head) (partsIn head) (map factRow fs) (objectsRow y) ≡ weight D y fs
     unfolding rowWeight weight hasTuple
     weight-is [] fit = refl
     weight-is (f ∷ fs) fit =
@@ -321,7 +321,7 @@ module _ {D : Domain} {index : Index} (h : Holds D index) (small : index .keys �
         (weight-is fs (λ g m. fit g (List·Memᴰ·tail m)))
 
   flat-rows : (fs : List Fact) → ((f : Fact) → In f fs → FactFits D f)
-      → flatMap (instanceRows (index .keys) (rowsIn (index .components) (index .parts))) (map factRow fs) ≡ map objectsRow (instancesIn D fs)
+      → flatMap (instanceRows (keysIn head) (partsIn head)) (map factRow fs) ≡ map objectsRow (instancesIn D fs)
   unfolding flatMap instancesIn
   flat-rows [] fit = refl
   flat-rows (f ∷ fs) fit =
@@ -334,24 +334,19 @@ module _ {D : Domain} {index : Index} (h : Holds D index) (small : index .keys �
 
   -- the weights of some instances
   weights-are : (fs : List Fact) → ((f : Fact) → In f fs → FactFits D f) → (ys : List (List Object)) → ((y : List Object) → In y ys → length y ≡ keysOf (D .template))
-      → map (rowWeight (index .keys) (rowsIn (index .components) (index .parts)) (map factRow fs)) (map objectsRow ys) ≡ map (λ y. weight D y fs) ys
+      → map (rowWeight (keysIn head) (partsIn head) (map factRow fs)) (map objectsRow ys) ≡ map (λ y. weight D y fs) ys
   weights-are fs fit [] k = refl
   weights-are fs fit (y ∷ ys) k = ap₂ _∷_ (weight-is y (k y (List·Memᴰ·head refl)) fs fit) (weights-are fs fit ys (λ z m. k z (List·Memᴰ·tail m)))
 
   pub top-is : (fs : List Fact) → ((f : Fact) → In f fs → FactFits D f) → (from : ℕ)
-      → topRows (index .keys) (rowsIn (index .components) (index .parts)) (map factRow fs) from ≡ topFrom D fs from
+      → topRows (keysIn head) (partsIn head) (map factRow fs) from ≡ topFrom D fs from
   unfolding topRows topFrom
   top-is fs fit from =
-      ap (λ (rows : List (List ℕ)). topOf (index .keys) (rowsIn (index .components) (index .parts)) (map factRow fs) rows) (drop-map from fs)
-      ∙ ap (λ (rows : List (List ℕ)). largest (map (rowWeight (index .keys) (rowsIn (index .components) (index .parts)) (map factRow fs)) rows)) (flat-rows (drop from fs) (λ f m. fit f (dropped from fs m)))
+      ap (λ (rows : List (List ℕ)). topOf (keysIn head) (partsIn head) (map factRow fs) rows) (drop-map from fs)
+      ∙ ap (λ (rows : List (List ℕ)). largest (map (rowWeight (keysIn head) (partsIn head) (map factRow fs)) rows)) (flat-rows (drop from fs) (λ f m. fit f (dropped from fs m)))
       ∙ ap largest (weights-are fs fit (instancesIn D (drop from fs)) (instance-keys (drop from fs)))
 
 -- as the code holds them
-pub top-held : (parts memory : List ℕ) (components keys n from : ℕ) → keys ≤ 6
-    → (D : Domain) (index : Index) (fs : List Fact) → Holds D index → index .components ≡ components → index .keys ≡ keys → index .parts ≡ parts
-    → rowsIn n memory ≡ map factRow fs → ((f : Fact) → In f fs → FactFits D f)
-    → topRows keys (rowsIn components parts) (rowsIn n memory) from ≡ topFrom D fs from
-top-held parts memory components keys n from small D index fs h c k p e fit =
-    ap (λ (rows : List (List ℕ)). topRows keys (rowsIn components parts) rows from) e
-    ∙ ap₂ (λ (m : ℕ) (ps : List (List ℕ)). topRows m ps (map factRow fs) from) (sym k) (sym (ap₂ rowsIn c p))
-    ∙ top-is h (omega arith) fs fit from
+pub top-held : (head memory : List ℕ) (n from : ℕ) (D : Domain) (fs : List Fact) → HeadOf D head → rowsIn n memory ≡ map factRow fs → ((f : Fact) → In f fs → FactFits D f)
+    → topRows (keysIn head) (partsIn head) (rowsIn n memory) from ≡ topFrom D fs from
+top-held head memory n from D fs h e fit = ap (λ (rows : List (List ℕ)). topRows (keysIn head) (partsIn head) rows from) e ∙ top-is h fs fit from

@@ -13,6 +13,7 @@ use Rattle.records.specs.Lists.{In, addIf, countBy, any, sameList}
 use Rattle.records.proofs.Lists.{off, bool-cases, eqb-same, in-any, any-in, sameList-eq, sameList-self, count-pos, count-none}
 use Rattle.literals.specs.Decode.{byte}
 use Rattle.literals.specs.Table.{rowsIn}
+use Rattle.literals.specs.Held.{keysIn, arityIn, partsIn}
 use Rattle.store.specs.Rows.{instanceRows, rowWeight, hasRow}
 use Rattle.store.specs.Index.{wordOf, slotOf, keySlot, amountAt, totalAt, Sized, Indexed}
 use Rattle.store.proofs.InstanceRows.{Single, single}
@@ -301,81 +302,81 @@ module _ (index first second : List ℕ) (s w : ℕ) (len : length index ≡ 122
       (less-at index first s 1 (omega arith) place (sum + cond (eqb place (4096 + s)) w 0) (omega arith) m h)
 
 -- an index with one fact more
-module _ {arities : List ℕ} {keys : ℕ} {parts : List (List ℕ)} {index : List ℕ} {rows : List (List ℕ)} (I : Indexed arities keys parts index rows) (row : List ℕ) (sized : byte row 1 ≡ getD arities (byte row 0) 0) where
-  joined : (last : List ℕ) → ((place : ℕ) → place < 12288 → getD last place 0 ≡ (totalAt keys parts place rows + amountAt keys parts place row) % 72057594037927936)
-      → Indexed arities keys parts last (rows ++ (row ∷ []))
+module _ {head index : List ℕ} {rows : List (List ℕ)} (I : Indexed head index rows) (row : List ℕ) (sized : byte row 1 ≡ arityIn head (byte row 0)) where
+  joined : (last : List ℕ) → ((place : ℕ) → place < 12288 → getD last place 0 ≡ (totalAt (keysIn head) (partsIn head) place rows + amountAt (keysIn head) (partsIn head) place row) % 72057594037927936)
+      → Indexed head last (rows ++ (row ∷ []))
   joined last h = record { totals = sums; sized = all-sized }
     where
-      sums : (place : ℕ) → place < 12288 → getD last place 0 ≡ totalAt keys parts place (rows ++ (row ∷ [])) % 72057594037927936
+      sums : (place : ℕ) → place < 12288 → getD last place 0 ≡ totalAt (keysIn head) (partsIn head) place (rows ++ (row ∷ [])) % 72057594037927936
       sums place b =
           h place b
-          ∙ ap (λ (n : ℕ). n % 72057594037927936) (omega (arith, total-append keys parts place rows (row ∷ []), total-cons keys parts place row [], total-none keys parts place))
+          ∙ ap (λ (n : ℕ). n % 72057594037927936) (omega (arith, total-append (keysIn head) (partsIn head) place rows (row ∷ []), total-cons (keysIn head) (partsIn head) place row [], total-none (keysIn head) (partsIn head) place))
 
-      new : (r : List ℕ) → In r rows ⊎ In r (row ∷ []) → byte r 1 ≡ getD arities (byte r 0) 0
+      new : (r : List ℕ) → In r rows ⊎ In r (row ∷ []) → byte r 1 ≡ arityIn head (byte r 0)
       new r (inl m) = I .sized r m
-      new r (inr m) = let q = List·Memᴰ·eq-of-singleton m in ap (λ (x : List ℕ). byte x 1) q ∙ sized ∙ ap (λ (x : List ℕ). getD arities (byte x 0) 0) (sym q)
+      new r (inr m) = let q = List·Memᴰ·eq-of-singleton m in ap (λ (x : List ℕ). byte x 1) q ∙ sized ∙ ap (λ (x : List ℕ). arityIn head (byte x 0)) (sym q)
 
-      all-sized : Sized arities (rows ++ (row ∷ []))
+      all-sized : Sized head (rows ++ (row ∷ []))
       all-sized r m = new r (List·Memᴰ·append-cases rows m)
 
   module _ (first second : List ℕ) (s w : ℕ) (len : length index ≡ 12289) (e : s ≡ slotOf row) (f : w ≡ wordOf row)
       (m : first ≡ set index s ((getD index s 0 % 72057594037927936 + 1) % 72057594037927936))
       (n : second ≡ set first (4096 + s) ((getD first (4096 + s) 0 % 72057594037927936 + w) % 72057594037927936)) where
-    pub enter-none : instanceRows keys parts row ≡ [] → Indexed arities keys parts second (rows ++ (row ∷ []))
+    pub enter-none : instanceRows (keysIn head) (partsIn head) row ≡ [] → Indexed head second (rows ++ (row ∷ []))
     enter-none z =
         joined second
-        (λ place b. two-more index first second s w len (omega (arith, slot-below row)) m n place (totalAt keys parts place rows) (I .totals place b)
-        ∙ ap (λ (n : ℕ). n % 72057594037927936) (omega (arith, amount-by keys parts row s w place e f, ap (keyedAt place) z)))
+        (λ place b. two-more index first second s w len (omega (arith, slot-below row)) m n place (totalAt (keysIn head) (partsIn head) place rows) (I .totals place b)
+        ∙ ap (λ (n : ℕ). n % 72057594037927936) (omega (arith, amount-by (keysIn head) (partsIn head) row s w place e f, ap (keyedAt place) z)))
 
-    pub enter-one : (t third : List ℕ) (k : ℕ) → instanceRows keys parts row ≡ t ∷ [] → k ≡ keySlot t
-        → third ≡ set second (8192 + k) ((getD second (8192 + k) 0 % 72057594037927936 + 1) % 72057594037927936) → Indexed arities keys parts third (rows ++ (row ∷ []))
+    pub enter-one : (t third : List ℕ) (k : ℕ) → instanceRows (keysIn head) (partsIn head) row ≡ t ∷ [] → k ≡ keySlot t
+        → third ≡ set second (8192 + k) ((getD second (8192 + k) 0 % 72057594037927936 + 1) % 72057594037927936) → Indexed head third (rows ++ (row ∷ []))
     enter-one t third k z q o =
         let b = slot-below row in
         let l = length-more index first second s w len (omega arith) m n in
         joined third
         (λ place b. more-at second third (8192 + k) 1 (omega (arith, key-below t)) place
-        (totalAt keys parts place rows + cond (eqb place s) 1 0 + cond (eqb place (4096 + s)) w 0) o
-        (two-more index first second s w len (omega (arith, slot-below row)) m n place (totalAt keys parts place rows) (I .totals place b))
-        ∙ ap (λ (n : ℕ). n % 72057594037927936) (omega (arith, amount-by keys parts row s w place e f, one-key keys parts row place k t z q)))
+        (totalAt (keysIn head) (partsIn head) place rows + cond (eqb place s) 1 0 + cond (eqb place (4096 + s)) w 0) o
+        (two-more index first second s w len (omega (arith, slot-below row)) m n place (totalAt (keysIn head) (partsIn head) place rows) (I .totals place b))
+        ∙ ap (λ (n : ℕ). n % 72057594037927936) (omega (arith, amount-by (keysIn head) (partsIn head) row s w place e f, one-key (keysIn head) (partsIn head) row place k t z q)))
 
 -- and with one less
-module _ {arities : List ℕ} {keys : ℕ} {parts : List (List ℕ)} {index : List ℕ} (before after : List (List ℕ)) (row : List ℕ) (I : Indexed arities keys parts index (before ++ (row ∷ after))) where
-  rest : (last : List ℕ) → ((place : ℕ) → getD index place 0 ≡ (totalAt keys parts place (before ++ after) + amountAt keys parts place row) % 72057594037927936
-      → getD last place 0 ≡ totalAt keys parts place (before ++ after) % 72057594037927936) → Indexed arities keys parts last (before ++ after)
+module _ {head index : List ℕ} (before after : List (List ℕ)) (row : List ℕ) (I : Indexed head index (before ++ (row ∷ after))) where
+  rest : (last : List ℕ) → ((place : ℕ) → getD index place 0 ≡ (totalAt (keysIn head) (partsIn head) place (before ++ after) + amountAt (keysIn head) (partsIn head) place row) % 72057594037927936
+      → getD last place 0 ≡ totalAt (keysIn head) (partsIn head) place (before ++ after) % 72057594037927936) → Indexed head last (before ++ after)
   rest last h = record { totals = sums; sized = all-sized }
     where
-      sums : (place : ℕ) → place < 12288 → getD last place 0 ≡ totalAt keys parts place (before ++ after) % 72057594037927936
+      sums : (place : ℕ) → place < 12288 → getD last place 0 ≡ totalAt (keysIn head) (partsIn head) place (before ++ after) % 72057594037927936
       sums place b =
           h place
           (I .totals place b
           ∙ ap (λ (n : ℕ). n % 72057594037927936)
-          (omega (arith, total-append keys parts place before (row ∷ after), total-append keys parts place before after, total-cons keys parts place row after)))
+          (omega (arith, total-append (keysIn head) (partsIn head) place before (row ∷ after), total-append (keysIn head) (partsIn head) place before after, total-cons (keysIn head) (partsIn head) place row after)))
 
       old : (r : List ℕ) → In r before ⊎ In r after → In r (before ++ (row ∷ after))
       old r (inl m) = Memᴰ·append-left (row ∷ after) m
       old r (inr m) = Memᴰ·append-right before (List·Memᴰ·tail m)
 
-      all-sized : Sized arities (before ++ after)
+      all-sized : Sized head (before ++ after)
       all-sized r m = I .sized r (old r (List·Memᴰ·append-cases before m))
 
   module _ (first second : List ℕ) (s w : ℕ) (len : length index ≡ 12289) (e : s ≡ slotOf row) (f : w ≡ wordOf row) (few : w < 72057594037927936)
       (m : first ≡ set index s ((getD index s 0 % 72057594037927936 + (72057594037927936 - 1)) % 72057594037927936))
       (n : second ≡ set first (4096 + s) ((getD first (4096 + s) 0 % 72057594037927936 + (72057594037927936 - w)) % 72057594037927936)) where
-    pub leave-none : instanceRows keys parts row ≡ [] → Indexed arities keys parts second (before ++ after)
+    pub leave-none : instanceRows (keysIn head) (partsIn head) row ≡ [] → Indexed head second (before ++ after)
     leave-none z =
         rest second
-        (λ place g. two-less index first second s w len (omega (arith, slot-below row)) few m n place (totalAt keys parts place (before ++ after))
-        (g ∙ ap (λ (n : ℕ). n % 72057594037927936) (omega (arith, amount-by keys parts row s w place e f, ap (keyedAt place) z))))
+        (λ place g. two-less index first second s w len (omega (arith, slot-below row)) few m n place (totalAt (keysIn head) (partsIn head) place (before ++ after))
+        (g ∙ ap (λ (n : ℕ). n % 72057594037927936) (omega (arith, amount-by (keysIn head) (partsIn head) row s w place e f, ap (keyedAt place) z))))
 
-    pub leave-one : (t third : List ℕ) (k : ℕ) → instanceRows keys parts row ≡ t ∷ [] → k ≡ keySlot t
-        → third ≡ set second (8192 + k) ((getD second (8192 + k) 0 % 72057594037927936 + (72057594037927936 - 1)) % 72057594037927936) → Indexed arities keys parts third (before ++ after)
+    pub leave-one : (t third : List ℕ) (k : ℕ) → instanceRows (keysIn head) (partsIn head) row ≡ t ∷ [] → k ≡ keySlot t
+        → third ≡ set second (8192 + k) ((getD second (8192 + k) 0 % 72057594037927936 + (72057594037927936 - 1)) % 72057594037927936) → Indexed head third (before ++ after)
     leave-one t third k z q o =
         let b = slot-below row in
         let l = length-less index first second s w len (omega arith) few m n in
         rest third
-        (λ place g. less-at second third (8192 + k) 1 (omega (arith, key-below t)) place (totalAt keys parts place (before ++ after)) (omega arith) o
-        (two-less index first second s w len (omega (arith, slot-below row)) few m n place (totalAt keys parts place (before ++ after) + cond (eqb place (8192 + k)) 1 0)
-        (g ∙ ap (λ (n : ℕ). n % 72057594037927936) (omega (arith, amount-by keys parts row s w place e f, one-key keys parts row place k t z q)))))
+        (λ place g. less-at second third (8192 + k) 1 (omega (arith, key-below t)) place (totalAt (keysIn head) (partsIn head) place (before ++ after)) (omega arith) o
+        (two-less index first second s w len (omega (arith, slot-below row)) few m n place (totalAt (keysIn head) (partsIn head) place (before ++ after) + cond (eqb place (8192 + k)) 1 0)
+        (g ∙ ap (λ (n : ℕ). n % 72057594037927936) (omega (arith, amount-by (keysIn head) (partsIn head) row s w place e f, one-key (keysIn head) (partsIn head) row place k t z q)))))
 
 -- the number behind them stays
 module _ (index after : List ℕ) (p v q : ℕ) where
@@ -413,12 +414,12 @@ count-few p (x ∷ xs) = go (p x) (count-few p xs)
     go true h = omega arith
     go false h = omega arith
 
-module _ {arities : List ℕ} {keys : ℕ} {parts : List (List ℕ)} (index : List ℕ) (rows : List (List ℕ)) (I : Indexed arities keys parts index rows) (few : length rows ≤ 1024) where
+module _ {head : List ℕ} (index : List ℕ) (rows : List (List ℕ)) (I : Indexed head index rows) (few : length rows ≤ 1024) where
   module _ (row : List ℕ) (s : ℕ) (e : s ≡ slotOf row) where
     count-at : getD index s 0 ≡ countBy (λ (r : List ℕ). eqb s (slotOf r)) rows
     count-at =
         I .totals s (omega (arith, slot-below row))
-        ∙ omega (arith, total-slot keys parts s (omega (arith, slot-below row)) rows, count-few (λ (r : List ℕ). eqb s (slotOf r)) rows)
+        ∙ omega (arith, total-slot (keysIn head) (partsIn head) s (omega (arith, slot-below row)) rows, count-few (λ (r : List ℕ). eqb s (slotOf r)) rows)
 
     pub held-none : getD index s 0 ≡ 0 → false ≡ hasRow row rows
     held-none z =
@@ -429,9 +430,9 @@ module _ {arities : List ℕ} {keys : ℕ} {parts : List (List ℕ)} (index : Li
         let k = count-pos (λ (x : List ℕ). eqb s (slotOf x)) (r .1) (eq-eqb s (slotOf (r .0)) (e ∙ ap slotOf (sameList-eq eqb eqb-true row (r .0) (r .2)))) in
         omega (arith, count-at)))
 
-    module _ (z : getD index s 0 ≡ 1) (w : ℕ) (f : w ≡ wordOf row) (eight : Eight row) (all-eight : (r : List ℕ) → In r rows → Eight r) (sized : byte row 1 ≡ getD arities (byte row 0) 0) where
-      one : Sole keys parts s (omega (arith, slot-below row)) rows
-      one = sole keys parts s (omega (arith, slot-below row)) rows (sym count-at ∙ z)
+    module _ (z : getD index s 0 ≡ 1) (w : ℕ) (f : w ≡ wordOf row) (eight : Eight row) (all-eight : (r : List ℕ) → In r rows → Eight r) (sized : byte row 1 ≡ arityIn head (byte row 0)) where
+      one : Sole (keysIn head) (partsIn head) s (omega (arith, slot-below row)) rows
+      one = sole (keysIn head) (partsIn head) s (omega (arith, slot-below row)) rows (sym count-at ∙ z)
 
       word-at : getD index (4096 + s) 0 ≡ wordOf (one .fact)
       word-at = I .totals (4096 + s) (omega (arith, slot-below row)) ∙ omega (arith, one .word, word-small (one .fact) (all-eight (one .fact) (one .held) .1))
@@ -443,7 +444,7 @@ module _ {arities : List ℕ} {keys : ℕ} {parts : List (List ℕ)} (index : Li
           go true t =
               let g = all-eight (one .fact) (one .held) in
               let q = word-same row (one .fact) (λ i h. eight .1 i) (λ i h. g .1 i) (eight .0) (g .0) (sym f ∙ sym (eqb-true (getD index (4096 + s) 0) w t) ∙ word-at)
-              (λ b. sized ∙ ap (λ (k : ℕ). getD arities k 0) b ∙ sym (I .sized (one .fact) (one .held))) in
+              (λ b. sized ∙ ap (arityIn head) b ∙ sym (I .sized (one .fact) (one .held))) in
               sym (in-any (sameList eqb row) (one .held) (ap (sameList eqb row) (sym q) ∙ sameList-self eqb eqb-same row))
           go false t =
               sym
@@ -455,8 +456,8 @@ module _ {arities : List ℕ} {keys : ℕ} {parts : List (List ℕ)} (index : Li
               eqb-false (getD index (4096 + s) 0) w t (word-at ∙ ap wordOf (sym (q ∙ a)) ∙ sym f)))
 
   -- the weight of an instance is no more than the facts at its slot
-  pub weight-most : (t : List ℕ) (k : ℕ) → k ≡ keySlot t → rowWeight keys parts rows t ≤ getD index (8192 + k) 0
+  pub weight-most : (t : List ℕ) (k : ℕ) → k ≡ keySlot t → rowWeight (keysIn head) (partsIn head) rows t ≤ getD index (8192 + k) 0
   weight-most t k e =
       let g = I .totals (8192 + keySlot t) (omega (arith, key-below t)) in
       let q = ap (λ (n : ℕ). getD index (8192 + n) 0) e in
-      omega (arith, weight-few keys parts t rows, total-few keys parts (keySlot t) rows)
+      omega (arith, weight-few (keysIn head) (partsIn head) t rows, total-few (keysIn head) (partsIn head) (keySlot t) rows)

@@ -7,6 +7,7 @@ use lib.Dec.{eqb}
 use lib.ListN.{getD}
 use Rattle.records.specs.Lists.{In, countBy}
 use Rattle.literals.specs.Decode.{byte}
+use Rattle.literals.specs.Held.{keysIn, arityIn, partsIn}
 use Rattle.store.specs.Rows.{instanceRows}
 
 -- a fact's row as one number: its relation and arguments
@@ -38,9 +39,9 @@ totalAt keys parts place (row ∷ rows) = amountAt keys parts place row + totalA
 
 -- each fact with the arity of its relation
 abbrev pub Sized : List ℕ → List (List ℕ) → Type 0
-Sized arities rows = (row : List ℕ) → In row rows → byte row 1 ≡ getD arities (byte row 0) 0
+Sized head rows = (row : List ℕ) → In row rows → byte row 1 ≡ arityIn head (byte row 0)
 
--- an index of these facts: each number is their total, below 2 ^ 56
-pub record Indexed (arities : List ℕ) (keys : ℕ) (parts : List (List ℕ)) (index : List ℕ) (rows : List (List ℕ)) : Type 0 where
-  pub totals : (place : ℕ) → place < 12288 → getD index place 0 ≡ totalAt keys parts place rows % 72057594037927936
-  pub sized : Sized arities rows
+-- an index of these facts, of a head: each number is their total, below 2 ^ 56
+pub record Indexed (head index : List ℕ) (rows : List (List ℕ)) : Type 0 where
+  pub totals : (place : ℕ) → place < 12288 → getD index place 0 ≡ totalAt (keysIn head) (partsIn head) place rows % 72057594037927936
+  pub sized : Sized head rows

@@ -3,12 +3,14 @@ use super::keys::key_of;
 use super::rows::has_row;
 use super::rows::row_at;
 use literals::fields::wide;
+use literals::head::Head;
 ghost use mathlib.Core.Path.{_≡_};
 ghost use mathlib.Core.List.{List, [], _∷_, _++_};
 ghost use Prim.Native.Nat.{ℕ, _+_, _-_, _*_, _≤_, _<_, _%_};
 ghost use lib.ListN.{length, getD, set, take, drop};
 ghost use Rattle.literals.specs.Decode.{byte};
 ghost use Rattle.literals.specs.Table.{rowsIn};
+ghost use Rattle.literals.specs.Held.{arityIn};
 ghost use Rattle.store.specs.Rows.{hasRow};
 ghost use Rattle.store.specs.Index.{wordOf, slotOf, keySlot, Indexed};
 
@@ -54,8 +56,8 @@ pub fn key_slot(t: [u8; 8]) -> usize
 // Whether one of the first n rows is this one, of a fact with the arity of its relation: the index tells, or, where a slot has several facts, the rows do.
 pub fn is_held(index: &[u64], memory: &[u8], n: usize, row: [u8; 8]) -> bool
     requires { ⌜ (length (now index) ≡ 12289) × (n ≤ 1024) × (8 * n ≤ length (now memory)) ⌝ }
-    ensures { λ r. ⌜ ((arities : List ℕ) (keys : ℕ) (parts : List (List ℕ)) → Indexed arities keys parts (now (index .entry)) (rowsIn n (now (memory .entry)))
-        → byte row 1 ≡ getD arities (byte row 0) 0 → r ≡ hasRow row (rowsIn n (now (memory .entry)))) ⌝ }
+    ensures { λ r. ⌜ ((head : List ℕ) → Indexed head (now (index .entry)) (rowsIn n (now (memory .entry)))
+        → byte row 1 ≡ arityIn head (byte row 0) → r ≡ hasRow row (rowsIn n (now (memory .entry)))) ⌝ }
 {
     let slot = slot_of(row);
     let count = index[slot];
@@ -85,25 +87,18 @@ fn take_at(index: &mut [u64], place: usize, amount: u64)
 }
 
 // The index with one fact more, the row at an offset.
-pub fn enter(
-    index: &mut [u64],
-    parts: &[u8],
-    components: usize,
-    keys: usize,
-    memory: &[u8],
-    at: usize,
-)
-    requires { ⌜ (length (now index) ≡ 12289) × (8 * components ≤ length (now parts)) × (keys ≤ 6) × (at + 8 ≤ length (now memory)) ⌝ }
-    ensures indexed { λ _. ⌜ ((arities : List ℕ) (rows : List (List ℕ)) → Indexed arities keys (rowsIn components (now (parts .entry))) (now (index .entry)) rows
-        → byte (take 8 (drop at (now (memory .entry)))) 1 ≡ getD arities (byte (take 8 (drop at (now (memory .entry)))) 0) 0
-        → Indexed arities keys (rowsIn components (now (parts .entry))) (now (index .exit)) (rows ++ (take 8 (drop at (now (memory .entry))) ∷ []))) ⌝ }
+pub fn enter(index: &mut [u64], head: &Head, memory: &[u8], at: usize)
+    requires { ⌜ (length (now index) ≡ 12289) × (at + 8 ≤ length (now memory)) ⌝ }
+    ensures indexed { λ _. ⌜ ((rows : List (List ℕ)) → Indexed (now (head .entry)) (now (index .entry)) rows
+        → byte (take 8 (drop at (now (memory .entry)))) 1 ≡ arityIn (now (head .entry)) (byte (take 8 (drop at (now (memory .entry)))) 0)
+        → Indexed (now (head .entry)) (now (index .exit)) (rows ++ (take 8 (drop at (now (memory .entry))) ∷ []))) ⌝ }
     ensures beside { λ _. ⌜ getD (now (index .exit)) 12288 0 ≡ getD (now (index .entry)) 12288 0 ⌝ }
 {
     let row = row_at(memory, at);
     let slot = slot_of(row);
     add_at(index, slot, 1);
     add_at(index, 4096 + slot, word_of(row));
-    let keyed = key_of(parts, components, keys, memory, at);
+    let keyed = key_of(head, memory, at);
     if keyed.matched {
         let t = keyed.row;
         add_at(index, 8192 + key_slot(t), 1);
@@ -111,25 +106,18 @@ pub fn enter(
 }
 
 // The index with one fact less, the row at an offset.
-pub fn leave(
-    index: &mut [u64],
-    parts: &[u8],
-    components: usize,
-    keys: usize,
-    memory: &[u8],
-    at: usize,
-)
-    requires { ⌜ (length (now index) ≡ 12289) × (8 * components ≤ length (now parts)) × (keys ≤ 6) × (at + 8 ≤ length (now memory)) ⌝ }
-    ensures indexed { λ _. ⌜ ((arities : List ℕ) (before after : List (List ℕ))
-        → Indexed arities keys (rowsIn components (now (parts .entry))) (now (index .entry)) (before ++ (take 8 (drop at (now (memory .entry))) ∷ after))
-        → Indexed arities keys (rowsIn components (now (parts .entry))) (now (index .exit)) (before ++ after)) ⌝ }
+pub fn leave(index: &mut [u64], head: &Head, memory: &[u8], at: usize)
+    requires { ⌜ (length (now index) ≡ 12289) × (at + 8 ≤ length (now memory)) ⌝ }
+    ensures indexed { λ _. ⌜ ((before after : List (List ℕ))
+        → Indexed (now (head .entry)) (now (index .entry)) (before ++ (take 8 (drop at (now (memory .entry))) ∷ after))
+        → Indexed (now (head .entry)) (now (index .exit)) (before ++ after)) ⌝ }
     ensures beside { λ _. ⌜ getD (now (index .exit)) 12288 0 ≡ getD (now (index .entry)) 12288 0 ⌝ }
 {
     let row = row_at(memory, at);
     let slot = slot_of(row);
     take_at(index, slot, 1);
     take_at(index, 4096 + slot, word_of(row));
-    let keyed = key_of(parts, components, keys, memory, at);
+    let keyed = key_of(head, memory, at);
     if keyed.matched {
         let t = keyed.row;
         take_at(index, 8192 + key_slot(t), 1);

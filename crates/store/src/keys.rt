@@ -1,10 +1,12 @@
 // The key tuple of a fact: an instance of the template, as a row of 8 bytes.
 use classes::number::component_of;
 use classes::number::key_tuple;
+use literals::head::Head;
+use literals::head::components_in;
 ghost use mathlib.Core.Path.{_≡_};
-ghost use Prim.Native.Nat.{_+_, _*_, _≤_};
+ghost use Prim.Native.Nat.{_+_, _≤_};
 ghost use lib.ListN.{length, take, drop};
-ghost use Rattle.literals.specs.Table.{rowsIn};
+ghost use Rattle.literals.specs.Held.{keysIn, partsIn};
 ghost use Rattle.store.specs.Rows.{instanceRows, keyedBy};
 
 // The key tuple of a fact, as a row, where its relation has a component.
@@ -14,12 +16,12 @@ pub struct Keyed {
 }
 
 // The key tuple of the fact at an offset.
-pub fn key_of(parts: &[u8], components: usize, keys: usize, memory: &[u8], at: usize) -> Keyed
-    requires { ⌜ (8 * components ≤ length (now parts)) × (keys ≤ 6) × (at + 8 ≤ length (now memory)) ⌝ }
-    ensures { λ r. ⌜ r ≡ keyedBy (instanceRows keys (rowsIn components (now (parts .entry))) (take 8 (drop at (now (memory .entry))))) ⌝ }
+pub fn key_of(head: &Head, memory: &[u8], at: usize) -> Keyed
+    requires { ⌜ (at + 8 ≤ length (now memory)) ⌝ }
+    ensures { λ r. ⌜ r ≡ keyedBy (instanceRows (keysIn (now (head .entry))) (partsIn (now (head .entry))) (take 8 (drop at (now (memory .entry))))) ⌝ }
 {
-    let c = component_of(parts, components, memory[at]);
-    if c == components {
+    let c = component_of(head, memory[at]);
+    if c == components_in(head) {
         return Keyed {
             matched: false,
             row: [255u8; 8],
@@ -27,6 +29,6 @@ pub fn key_of(parts: &[u8], components: usize, keys: usize, memory: &[u8], at: u
     }
     Keyed {
         matched: true,
-        row: key_tuple(parts, 8 * c, memory, at, keys),
+        row: key_tuple(head, c, memory, at),
     }
 }

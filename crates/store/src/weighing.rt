@@ -2,32 +2,26 @@
 use super::index::key_slot;
 use super::keys::key_of;
 use super::rows::same_row;
+use literals::head::Head;
 ghost use mathlib.Core.Path.{_≡_};
 ghost use mathlib.Core.List.{List, map};
 ghost use Prim.Native.Nat.{ℕ, _+_, _*_, _≤_, max};
 ghost use lib.Dec.{eqb};
 ghost use lib.ListN.{length, take, drop};
 ghost use Rattle.records.specs.Lists.{In, addIf, any, sameList};
-ghost use Rattle.literals.specs.declared.Index.{Index};
 ghost use Rattle.literals.specs.Domain.{Fact, Domain};
-ghost use Rattle.literals.specs.Table.{rowsIn, Holds};
+ghost use Rattle.literals.specs.Table.{rowsIn};
 ghost use Rattle.verdict.specs.Machine.{largest};
+ghost use Rattle.literals.specs.Held.{keysIn, partsIn, HeadOf};
 ghost use Rattle.store.specs.Rows.{factRow, FactFits, instanceRows, topFrom, rowWeight, topRows};
 ghost use Rattle.store.specs.Index.{Indexed};
 
 // 1 where the fact at an offset has this key tuple, else 0: the component by the fact's relation first, then its keys.
-fn weight_at(
-    parts: &[u8],
-    components: usize,
-    keys: usize,
-    memory: &[u8],
-    at: usize,
-    row: [u8; 8],
-) -> usize
-    requires { ⌜ (8 * components ≤ length (now parts)) × (keys ≤ 6) × (at + 8 ≤ length (now memory)) ⌝ }
-    ensures { λ r. ⌜ r ≡ addIf (any (sameList eqb row) (instanceRows keys (rowsIn components (now (parts .entry))) (take 8 (drop at (now (memory .entry)))))) 0 ⌝ }
+fn weight_at(head: &Head, memory: &[u8], at: usize, row: [u8; 8]) -> usize
+    requires { ⌜ (at + 8 ≤ length (now memory)) ⌝ }
+    ensures { λ r. ⌜ r ≡ addIf (any (sameList eqb row) (instanceRows (keysIn (now (head .entry))) (partsIn (now (head .entry))) (take 8 (drop at (now (memory .entry)))))) 0 ⌝ }
 {
-    let keyed = key_of(parts, components, keys, memory, at);
+    let keyed = key_of(head, memory, at);
     if !keyed.matched {
         return 0;
     }
@@ -39,43 +33,27 @@ fn weight_at(
 }
 
 // The weight of the instance with this key tuple among the first n facts.
-fn weigh(
-    parts: &[u8],
-    components: usize,
-    keys: usize,
-    memory: &[u8],
-    n: usize,
-    row: [u8; 8],
-) -> usize
-    requires { ⌜ (8 * components ≤ length (now parts)) × (keys ≤ 6) × (8 * n ≤ length (now memory)) ⌝ }
-    ensures { λ r. ⌜ r ≡ rowWeight keys (rowsIn components (now (parts .entry))) (rowsIn n (now (memory .entry))) row ⌝ }
+fn weigh(head: &Head, memory: &[u8], n: usize, row: [u8; 8]) -> usize
+    requires { ⌜ (8 * n ≤ length (now memory)) ⌝ }
+    ensures { λ r. ⌜ r ≡ rowWeight (keysIn (now (head .entry))) (partsIn (now (head .entry))) (rowsIn n (now (memory .entry))) row ⌝ }
 {
     let mut weight: usize = 0;
     let mut i: usize = 0;
     while i < n {
-        weight += weight_at(parts, components, keys, memory, 8 * i, row);
+        weight += weight_at(head, memory, 8 * i, row);
         i += 1;
     }
     weight
 }
 
 // The higher of `least` and the weight of the instance of the fact at an offset, among the first n facts; it is weighed only where the index has more than `least` facts in its slot.
-fn heavier(
-    parts: &[u8],
-    components: usize,
-    keys: usize,
-    memory: &[u8],
-    n: usize,
-    at: usize,
-    least: usize,
-    index: &[u64],
-) -> usize
-    requires { ⌜ (8 * components ≤ length (now parts)) × (keys ≤ 6) × (n ≤ 1024) × (8 * n ≤ length (now memory)) × (at + 8 ≤ length (now memory)) × (length (now index) ≡ 12289) ⌝ }
-    ensures { λ r. ⌜ ((arities : List ℕ) → Indexed arities keys (rowsIn components (now (parts .entry))) (now (index .entry)) (rowsIn n (now (memory .entry)))
-        → r ≡ max least (largest (map (rowWeight keys (rowsIn components (now (parts .entry))) (rowsIn n (now (memory .entry))))
-        (instanceRows keys (rowsIn components (now (parts .entry))) (take 8 (drop at (now (memory .entry)))))))) ⌝ }
+fn heavier(head: &Head, memory: &[u8], n: usize, at: usize, least: usize, index: &[u64]) -> usize
+    requires { ⌜ (n ≤ 1024) × (8 * n ≤ length (now memory)) × (at + 8 ≤ length (now memory)) × (length (now index) ≡ 12289) ⌝ }
+    ensures { λ r. ⌜ (Indexed (now (head .entry)) (now (index .entry)) (rowsIn n (now (memory .entry)))
+        → r ≡ max least (largest (map (rowWeight (keysIn (now (head .entry))) (partsIn (now (head .entry))) (rowsIn n (now (memory .entry))))
+        (instanceRows (keysIn (now (head .entry))) (partsIn (now (head .entry))) (take 8 (drop at (now (memory .entry)))))))) ⌝ }
 {
-    let keyed = key_of(parts, components, keys, memory, at);
+    let keyed = key_of(head, memory, at);
     if !keyed.matched {
         return least;
     }
@@ -83,7 +61,7 @@ fn heavier(
     if index[8192 + key_slot(row)] <= least as u64 {
         return least;
     }
-    let weight = weigh(parts, components, keys, memory, n, row);
+    let weight = weigh(head, memory, n, row);
     if least < weight {
         return weight;
     }
@@ -92,28 +70,25 @@ fn heavier(
 
 // The highest of `least` and the weights of the instances of the facts from one place on, among the first n facts.
 pub fn top_from(
-    parts: &[u8],
-    components: usize,
-    keys: usize,
+    head: &Head,
     memory: &[u8],
     n: usize,
     from: usize,
     least: usize,
     index: &[u64],
 ) -> usize
-    requires { ⌜ (8 * components ≤ length (now parts)) × (keys ≤ 6) × (n ≤ 1024) × (8 * n ≤ length (now memory)) × (length (now index) ≡ 12289) ⌝ }
-    ensures rows { λ r. ⌜ ((arities : List ℕ) → Indexed arities keys (rowsIn components (now (parts .entry))) (now (index .entry)) (rowsIn n (now (memory .entry)))
-        → r ≡ max least (topRows keys (rowsIn components (now (parts .entry))) (rowsIn n (now (memory .entry))) from)) ⌝ }
-    ensures weights { λ r. ⌜ ((D : Domain) (held : Index) (fs : List Fact) (arities : List ℕ) → Holds D held
-        → held .components ≡ components → held .keys ≡ keys → held .parts ≡ now (parts .entry)
-        → Indexed arities keys (rowsIn components (now (parts .entry))) (now (index .entry)) (rowsIn n (now (memory .entry)))
+    requires { ⌜ (n ≤ 1024) × (8 * n ≤ length (now memory)) × (length (now index) ≡ 12289) ⌝ }
+    ensures rows { λ r. ⌜ (Indexed (now (head .entry)) (now (index .entry)) (rowsIn n (now (memory .entry)))
+        → r ≡ max least (topRows (keysIn (now (head .entry))) (partsIn (now (head .entry))) (rowsIn n (now (memory .entry))) from)) ⌝ }
+    ensures weights { λ r. ⌜ ((D : Domain) (fs : List Fact) → HeadOf D (now (head .entry))
+        → Indexed (now (head .entry)) (now (index .entry)) (rowsIn n (now (memory .entry)))
         → rowsIn n (now (memory .entry)) ≡ map factRow fs → ((f : Fact) → In f fs → FactFits D f)
         → r ≡ max least (topFrom D fs from)) ⌝ }
 {
     let mut top = least;
     let mut i = from;
     while i < n {
-        top = heavier(parts, components, keys, memory, n, 8 * i, top, index);
+        top = heavier(head, memory, n, 8 * i, top, index);
         i += 1;
     }
     top

@@ -6,25 +6,20 @@ use Prim.Native.Nat.{ℕ, _<_}
 use lib.ListN.{length}
 use Rattle.records.proofs.Lists.{and-l, pairwise-weaken}
 use Rattle.literals.specs.Domain.{Domain, action}
-use Rattle.literals.specs.declared.Index.{Index}
 use Rattle.literals.specs.Decode.{repeats, contradicts}
-use Rattle.literals.specs.Table.{literalRow, Holds}
-use Rattle.literals.proofs.Held.{arities-is, components-is, keys-is, parts-is}
-use Rattle.literals.proofs.Spans.{action-listed}
-use Rattle.classes.specs.Coded.{TemplateIn}
+use Rattle.literals.specs.Table.{literalRow}
+use Rattle.literals.specs.Held.{Held}
+use Rattle.literals.proofs.Heads.{action-in}
+use Rattle.classes.specs.Coded.{ActionOf}
 use Rattle.verdict.specs.Claims.{wellFormed}
-use Rattle.verdict.specs.Coded.{ActionIn}
 use Rattle.verdict.proofs.WellFormed.{literals-apart, action-well-formed}
 
-pub template-in : {D : Domain} {index : Index} → Holds D index → TemplateIn D (index .parts) (index .components) (index .keys) (index .arities)
-template-in H = record { bounded = H .bounded; rows = parts-is H; count = components-is H; keyed = keys-is H; arguments = arities-is H }
-
-pub action-held : {D : Domain} {index : Index} → Holds D index → wellFormed D ≡ true → (i : ℕ) → i < length (D .actions) → {rows : List ℕ} → rows ≡ flatMap literalRow (action D i .lits)
-    → ActionIn D (action D i) (index .parts) (index .components) (index .keys) (index .arities) rows
+pub action-held : {D : Domain} {head table : List ℕ} → Held D head table → wellFormed D ≡ true → (i : ℕ) → i < length (D .actions) → {rows : List ℕ} → rows ≡ flatMap literalRow (action D i .lits)
+    → ActionOf D (action D i) head rows
 action-held {D} H wf i h e =
     record {
-      template = template-in H;
-      listed = action-listed H i h;
+      says = H .says;
+      listed = action-in H i h;
       apart = pairwise-weaken (λ l m. not (repeats l m) && not (contradicts l m)) (λ l m. not (repeats l m)) (action D i .lits) (λ l m t. and-l _ _ t) (literals-apart D (action D i) (action-well-formed D wf i h));
       literals = e;
     }

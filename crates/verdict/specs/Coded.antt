@@ -1,18 +1,14 @@
 -- How the code holds rows, notes of them, and answers. Assumes nothing.
-use mathlib.Core.Path.{_≡_}
 use mathlib.Core.Bool.{Bool, true, false, _&&_, not, cond}
-use mathlib.Core.List.{List, flatMap}
+use mathlib.Core.List.{List}
 use mathlib.Core.Option.{Option, none, some}
 use Prim.Native.Nat.{ℕ}
 use lib.Dec.{eqb}
-use Rattle.records.specs.Lists.{In, any}
-use Rattle.literals.specs.Domain.{Action, Domain}
-use Rattle.literals.specs.Table.{literalRow}
+use Rattle.records.specs.Lists.{any}
 use Rattle.classes.specs.declared.Moment.{Moment}
 use Rattle.classes.specs.declared.Moment.the-variants.{Start, End}
 use Rattle.classes.specs.declared.Name.{Name}
 use Rattle.classes.specs.Classes.{momentNumber}
-use Rattle.classes.specs.Coded.{TemplateIn, noRepeats}
 use Rattle.verdict.specs.declared.Judgement.{Judgement}
 use Rattle.verdict.specs.declared.Place.{Place}
 use Rattle.verdict.specs.declared.Notes.{Notes}
@@ -78,12 +74,3 @@ withName n name e p =
     (cond (isBounded name && not e && not (n .bounded))
     record { fault = n .fault; faulty = n .faulty; unbounded = n .unbounded; bounded = true; outside = p }
     n)
-
--- ---- names
-
--- an action of a domain, and the memories that hold the template and the action's literals, none of which is repeated in its role
-pub record ActionIn (D : Domain) (a : Action) (parts : List ℕ) (components keys : ℕ) (arities rows : List ℕ) : Type 0 where
-  pub template : TemplateIn D parts components keys arities
-  pub listed : In a (D .actions)
-  pub apart : noRepeats a ≡ true
-  pub literals : rows ≡ flatMap literalRow (a .lits)

@@ -19,16 +19,19 @@ is-journey-requires : tie.Need-is-journey-requires
 is-journey-requires c κs = search needs
 
 returns : tie.Need-returns
-returns c = (
-  λ D a keys T i e f g h. c .before .before .before .name-at .ensures D a Start keys T i e f g h,
-  λ D a keys T i e f g k h t l.
-      (c .before .name-at2 .ensures D a End keys T i e f k h, c .is-journey .ensures D a (T .bounded) i l e f g (c .before .before .before .before .before .before .before .before .before .before .pre .7 ∙ ap₂ (λ (o d : List ℕ). soleOf o d (c .before .before .before .before .before .before .before .before .before .before .args .class)) f k) h),
-)
+returns c =
+    let s = c .before .before .before .before .before .before in (
+      λ D a M h. c .before .before .before .name-at .ensures D a Start M h,
+      λ D a M N h t l. (
+        c .before .name-at2 .ensures D a End N h,
+        c .is-journey .ensures D a _ M l (s .pre .2 ∙ ap₂ (λ (o d : List ℕ). soleOf o d (s .args .class)) (N .numbers) (N .clauses-are)) h,
+      ),
+    )
 
 returns-2 : tie.Need-returns-2
 returns-2 c = (
-  λ D a keys T i e f g h. c .before .name-at .ensures D a Start keys T i e f g h,
-  λ D a keys T i e f g k h t l. absurd (clash t (c .if1 .left)),
+  λ D a M h. c .before .name-at .ensures D a Start M h,
+  λ D a M N h t l. absurd (clash t (c .if1 .left)),
 )
 
 pub name-class-spec : {M : Type 1} → statement M

@@ -14,31 +14,31 @@ use Rattle.applicability.proofs.conditions.conditions_met.Statement.{st
 use Rattle.applicability.proofs.conditions.conditions_met.Tie as tie
 
 abbrev Inv-loop : tie.InvT-loop
-Inv-loop time arities ground rows k index work n i₀ i =
-    (i ≤ k) × ((keys : ℕ) (parts : List (List ℕ)) → Indexed arities keys parts index (rowsIn n work)
-    → all (rowMet time arities ground (rowsIn n work)) (rowsIn (k - i) (drop (8 * i) rows)) ≡ all (rowMet time arities ground (rowsIn n work)) (rowsIn k rows))
+Inv-loop time head ground rows k index work n i₀ i =
+    (i ≤ k) × (Indexed head index (rowsIn n work)
+    → all (rowMet time head ground (rowsIn n work)) (rowsIn (k - i) (drop (8 * i) rows)) ≡ all (rowMet time head ground (rowsIn n work)) (rowsIn k rows))
 
 abbrev μ-loop : tie.MeasureT-loop
-μ-loop time arities ground rows k index work n i₀ i = k - i
+μ-loop time head ground rows k index work n i₀ i = k - i
 
 loop-holds : tie.Need-loop-holds Inv-loop μ-loop
 loop-holds c =
-    let a = c .before .before .before .before .before .args in
-    (omega arith, λ keys parts I. all-first (rowMet (a .time) (a .arities .now) (a .ground .now) (rowsIn (a .n) (a .work .now))) (a .rows .now) (a .k))
+    let a = c .before .before .before .before .args in
+    (omega arith, λ I. all-first (rowMet (a .time) (a .head .now) (a .ground .now) (rowsIn (a .n) (a .work .now))) (a .rows .now) (a .k))
 
 mul-row-met : tie.Need-mul-row-met Inv-loop μ-loop
 mul-row-met c = omega arith
 
 row-met-requires : tie.Need-row-met-requires Inv-loop μ-loop
 row-met-requires c κs =
-    let p = c .before .before .before .before .before .before .before .pre in
-    (p .0, p .1, p .2, omega arith, p .4, p .5, p .6)
+    let p = c .before .before .before .before .before .before .pre in
+    (p .0, omega arith, p .2, p .3, p .4)
 
 returns : tie.Need-returns Inv-loop μ-loop
-returns c keys parts I =
-    let a = c .before .before .before .before .before .before .before .before .before .args in
+returns c I =
+    let a = c .before .before .before .before .before .before .before .before .args in
     let l = c .before .before .before .loop in
-    sym (all-miss (rowMet (a .time) (a .arities .now) (a .ground .now) (rowsIn (a .n) (a .work .now))) (a .rows .now) (a .k) (l .i) (omega arith) (sym (c .before .row-met .ensures keys parts I) ∙ not-true _ (c .if1 .taken))) ∙ l .inv .1 keys parts I
+    sym (all-miss (rowMet (a .time) (a .head .now) (a .ground .now) (rowsIn (a .n) (a .work .now))) (a .rows .now) (a .k) (l .i) (omega arith) (sym (c .before .row-met .ensures I) ∙ not-true _ (c .if1 .taken))) ∙ l .inv .1 I
 
 add-i : tie.Need-add-i Inv-loop μ-loop
 add-i c = omega arith
@@ -48,15 +48,15 @@ loop-less c = omega arith
 
 loop-again : tie.Need-loop-again Inv-loop μ-loop
 loop-again c =
-    let a = c .before .before .before .before .before .before .before .before .before .args in
+    let a = c .before .before .before .before .before .before .before .before .args in
     let l = c .before .before .before .loop in
-    (omega arith, λ keys parts I. sym (all-hit (rowMet (a .time) (a .arities .now) (a .ground .now) (rowsIn (a .n) (a .work .now))) (a .rows .now) (a .k) (l .i) (omega arith) (sym (c .before .row-met .ensures keys parts I) ∙ not-false _ (c .if1 .left))) ∙ l .inv .1 keys parts I)
+    (omega arith, λ I. sym (all-hit (rowMet (a .time) (a .head .now) (a .ground .now) (rowsIn (a .n) (a .work .now))) (a .rows .now) (a .k) (l .i) (omega arith) (sym (c .before .row-met .ensures I) ∙ not-false _ (c .if1 .left))) ∙ l .inv .1 I)
 
 returns-2 : tie.Need-returns-2 Inv-loop μ-loop
-returns-2 c keys parts I =
-    let a = c .before .before .before .before .before .before .before .args in
+returns-2 c I =
+    let a = c .before .before .before .before .before .before .args in
     let l = c .before .loop in
-    sym (all-end (rowMet (a .time) (a .arities .now) (a .ground .now) (rowsIn (a .n) (a .work .now))) (a .rows .now) (a .k) (l .i) (omega arith)) ∙ l .inv .1 keys parts I
+    sym (all-end (rowMet (a .time) (a .head .now) (a .ground .now) (rowsIn (a .n) (a .work .now))) (a .rows .now) (a .k) (l .i) (omega arith)) ∙ l .inv .1 I
 
 pub conditions-met-spec : {M : Type 1} → statement M
 conditions-met-spec =

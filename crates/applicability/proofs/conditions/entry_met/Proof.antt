@@ -27,9 +27,9 @@ ground-met-requires c κs = search needs
 
 returns : tie.Need-returns
 unfolding asked
-returns c D variables sorts parts g fs L F r f keys rows I =
-    let a = c .before .before .before .before .before .before .before .before .args in
-    c .ground-met .ensures D variables sorts parts g fs L F (part-ground (a .rows .now) (17 * a .i) ∙ r) f keys rows I
+returns c D g fs L F r f I =
+    let a = c .before .before .before .before .before .before .args in
+    c .ground-met .ensures D g fs L F (part-ground (a .rows .now) (17 * a .i) ∙ r) f I
 
 pub entry-met-spec : {M : Type 1} → statement M
 entry-met-spec =

@@ -35,10 +35,10 @@ ground-met-requires : tie.Need-ground-met-requires
 ground-met-requires c κs = search needs
 
 returns : tie.Need-returns
-returns c D variables sorts parts e fs L F m r f keys rows I =
-    let a = c .before .before .before .before .before .before .before .before .before .before .before .args in
+returns c D e fs L F m r f I =
+    let a = c .before .before .before .before .before .before .before .before .before .args in
     let t = c .before .before .time-at .ensures in
-    c .ground-met .ensures D variables sorts parts (e .ground) fs L F (part-ground (a .rows .now) (17 * a .i) ∙ r) f keys rows I
+    c .ground-met .ensures D (e .ground) fs L F (part-ground (a .rows .now) (17 * a .i) ∙ r) f I
     ∙ ap (λ (u : Time). asked D u (e .ground) fs) (time-back _ _ (e .moment) t m)
     ∙ asked-event D e fs
 

@@ -9,63 +9,64 @@ use Rattle.records.specs.Lists.{all}
 use Rattle.records.proofs.Lists.{all-hit, all-miss, all-end}
 use Rattle.literals.specs.Domain.{Fact, Domain}
 use Rattle.literals.specs.Table.{rowsIn}
+use Rattle.literals.specs.Held.{Held}
 use Rattle.verdict.specs.Machine.{Event, conditionsHold}
 use Rattle.store.specs.Index.{Indexed}
 use Rattle.events.specs.declared.Waiting.{Waiting}
 use Rattle.store.specs.Rows.{factRow}
-use Rattle.events.specs.Coded.{waitingOf, EventsFit, Lent}
+use Rattle.events.specs.Coded.{waitingOf, EventsFit}
 use Rattle.events.proofs.FactRows.{noEvent, waiting-count, waiting-moment-at}
 use Rattle.events.proofs.Listed.{event-fits, event-row}
 use Rattle.applicability.proofs.conditions.events_met.Statement.{statement}
 use Rattle.applicability.proofs.conditions.events_met.Tie as tie
 
 abbrev Inv-loop : tie.InvT-loop
-Inv-loop counts arities starts table moments rows count index work n i₀ i =
-    (i ≤ count) × ((D : Domain) (variables sorts parts : List ℕ) (es : List Event) (fs : List Fact) → Lent D counts arities variables sorts starts parts table
+Inv-loop head table moments rows count index work n i₀ i =
+    (i ≤ count) × ((D : Domain) (es : List Event) (fs : List Fact) → Held D head table
     → _≡_ {A = Waiting} (record { count = count; moments = moments; rows = rows }) (waitingOf es) → EventsFit D es → rowsIn n work ≡ map factRow fs
-    → (keys : ℕ) (held : List (List ℕ)) → Indexed arities keys held index (map factRow fs) → all (conditionsHold D fs) (drop i es) ≡ all (conditionsHold D fs) es)
+    → Indexed head index (map factRow fs) → all (conditionsHold D fs) (drop i es) ≡ all (conditionsHold D fs) es)
 
 abbrev μ-loop : tie.MeasureT-loop
-μ-loop counts arities starts table moments rows count index work n i₀ i = count - i
+μ-loop head table moments rows count index work n i₀ i = count - i
 
 returns : tie.Need-returns Inv-loop μ-loop
-returns c D variables sorts parts es fs L w F h f keys held I =
-    let a = c .before .before .before .before .before .before .before .before .args in
+returns c D es fs L w F h f I =
+    let a = c .before .before .before .before .before .before .args in
     let k = waiting-count es (record { count = a .count; moments = a .moments .now; rows = a .rows .now }) w in
     let t = c .if1 .taken in
     absurd (omega arith)
 
 loop-holds : tie.Need-loop-holds Inv-loop μ-loop
-loop-holds c = (omega arith, λ D variables sorts parts es fs L w F f keys held I. refl)
+loop-holds c = (omega arith, λ D es fs L w F f I. refl)
 
 event-met-requires : tie.Need-event-met-requires Inv-loop μ-loop
 event-met-requires c κs =
-    let p = c .before .before .before .before .before .before .before .before .before .before .pre in
-    (p .0, p .4, p .5, omega arith, p .1, p .2, p .3)
+    let p = c .before .before .before .before .before .before .before .before .pre in
+    (p .3, p .4, omega arith, p .0, p .1, p .2)
 
 -- the event of this turn
-event-at : (b : tie.After-event-met Inv-loop μ-loop) (D : Domain) (variables sorts parts : List ℕ) (es : List Event) (fs : List Fact)
-    → Lent D (b .before .before .before .before .before .before .before .before .before .before .before .args .counts) (b .before .before .before .before .before .before .before .before .before .before .before .args .arities .now) variables sorts (b .before .before .before .before .before .before .before .before .before .before .before .args .starts .now) parts (b .before .before .before .before .before .before .before .before .before .before .before .args .table .now)
-    → _≡_ {A = Waiting} (record { count = b .before .before .before .before .before .before .before .before .before .before .before .args .count; moments = b .before .before .before .before .before .before .before .before .before .before .before .args .moments .now; rows = b .before .before .before .before .before .before .before .before .before .before .before .args .rows .now }) (waitingOf es) → EventsFit D es → rowsIn (b .before .before .before .before .before .before .before .before .before .before .before .args .n) (b .before .before .before .before .before .before .before .before .before .before .before .args .work .now) ≡ map factRow fs
-    → (keys : ℕ) (held : List (List ℕ)) → Indexed (b .before .before .before .before .before .before .before .before .before .before .before .args .arities .now) keys held (b .before .before .before .before .before .before .before .before .before .before .before .args .index .now) (map factRow fs)
+event-at : (b : tie.After-event-met Inv-loop μ-loop) (D : Domain) (es : List Event) (fs : List Fact)
+    → Held D (b .before .before .before .before .before .before .before .before .before .args .head .now) (b .before .before .before .before .before .before .before .before .before .args .table .now)
+    → _≡_ {A = Waiting} (record { count = b .before .before .before .before .before .before .before .before .before .args .count; moments = b .before .before .before .before .before .before .before .before .before .args .moments .now; rows = b .before .before .before .before .before .before .before .before .before .args .rows .now }) (waitingOf es) → EventsFit D es → rowsIn (b .before .before .before .before .before .before .before .before .before .args .n) (b .before .before .before .before .before .before .before .before .before .args .work .now) ≡ map factRow fs
+    → Indexed (b .before .before .before .before .before .before .before .before .before .args .head .now) (b .before .before .before .before .before .before .before .before .before .args .index .now) (map factRow fs)
     → (b .before .before .loop .i < length es) × (b .event-met .result ≡ conditionsHold D fs (getD es (b .before .before .loop .i) noEvent))
-event-at b D variables sorts parts es fs L w F f keys held I =
-    let a = b .before .before .before .before .before .before .before .before .before .before .before .args in
+event-at b D es fs L w F f I =
+    let a = b .before .before .before .before .before .before .before .before .before .args in
     let i = b .before .before .loop .i in
     let k = waiting-count es (record { count = a .count; moments = a .moments .now; rows = a .rows .now }) w in
     let h : i < length es = omega arith in (
       h,
-      b .event-met .ensures D variables sorts parts (getD es i noEvent) fs L
-          (event-fits D (a .counts) (a .arities .now) variables sorts (a .starts .now) parts (a .table .now) L i es F h)
+      b .event-met .ensures D (getD es i noEvent) fs L
+          (event-fits (L .says) i es F h)
           (waiting-moment-at es (record { count = a .count; moments = a .moments .now; rows = a .rows .now }) w i)
-          (event-row D (a .counts) (a .arities .now) variables sorts (a .starts .now) parts (a .table .now) L i es F h (record { count = a .count; moments = a .moments .now; rows = a .rows .now }) w) f keys held I,
+          (event-row (L .says) i es F h (record { count = a .count; moments = a .moments .now; rows = a .rows .now }) w) f I,
     )
 
 returns-2 : tie.Need-returns-2 Inv-loop μ-loop
-returns-2 c D variables sorts parts es fs L w F h f keys held I =
+returns-2 c D es fs L w F h f I =
     let l = c .before .before .before .loop in
-    let e = event-at (c .before) D variables sorts parts es fs L w F f keys held I in
-    sym (all-miss es (l .i) noEvent (e .0) (conditionsHold D fs) (sym (e .1) ∙ not-true _ (c .if2 .taken))) ∙ l .inv .1 D variables sorts parts es fs L w F f keys held I
+    let e = event-at (c .before) D es fs L w F f I in
+    sym (all-miss es (l .i) noEvent (e .0) (conditionsHold D fs) (sym (e .1) ∙ not-true _ (c .if2 .taken))) ∙ l .inv .1 D es fs L w F f I
 
 add-i : tie.Need-add-i Inv-loop μ-loop
 add-i c = omega arith
@@ -77,17 +78,17 @@ loop-again : tie.Need-loop-again Inv-loop μ-loop
 loop-again c =
     let l = c .before .before .before .loop in (
       omega arith,
-      λ D variables sorts parts es fs L w F f keys held I.
-          let e = event-at (c .before) D variables sorts parts es fs L w F f keys held I in
-          sym (all-hit es (l .i) noEvent (e .0) (conditionsHold D fs) (sym (e .1) ∙ not-false _ (c .if2 .left))) ∙ l .inv .1 D variables sorts parts es fs L w F f keys held I,
+      λ D es fs L w F f I.
+          let e = event-at (c .before) D es fs L w F f I in
+          sym (all-hit es (l .i) noEvent (e .0) (conditionsHold D fs) (sym (e .1) ∙ not-false _ (c .if2 .left))) ∙ l .inv .1 D es fs L w F f I,
     )
 
 returns-3 : tie.Need-returns-3 Inv-loop μ-loop
-returns-3 c D variables sorts parts es fs L w F h f keys held I =
+returns-3 c D es fs L w F h f I =
     let l = c .before .loop in
-    let a = c .before .before .before .before .before .before .before .before .before .before .args in
+    let a = c .before .before .before .before .before .before .before .before .args in
     let k = waiting-count es (record { count = a .count; moments = a .moments .now; rows = a .rows .now }) w in
-    sym (all-end es (l .i) noEvent (conditionsHold D fs) (omega arith)) ∙ l .inv .1 D variables sorts parts es fs L w F f keys held I
+    sym (all-end es (l .i) noEvent (conditionsHold D fs) (omega arith)) ∙ l .inv .1 D es fs L w F f I
 
 pub events-met-spec : {M : Type 1} → statement M
 events-met-spec =

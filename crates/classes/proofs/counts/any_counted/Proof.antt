@@ -8,37 +8,35 @@ use Prim.Native.Nat.{ℕ, _+_, _-_}
 use lib.Dec.{eqb}
 use lib.ListN.{getD}
 use Rattle.records.specs.Lists.{any}
+use Rattle.literals.specs.Held.{partIn}
 use Rattle.classes.specs.Coded.{below}
 use Rattle.classes.proofs.Indices.{left, left-all, any-hit, any-miss, any-end}
 use Rattle.classes.proofs.counts.any_counted.Statement.{statement}
 use Rattle.classes.proofs.counts.any_counted.Tie as tie
 
 abbrev isFF : List ℕ → ℕ → ℕ → Bool
-isFF parts part i = eqb (getD parts (part + 1 + i) 0) 255
+isFF head c i = eqb (getD (partIn head c) (1 + i) 0) 255
 
 abbrev Inv-loop : tie.InvT-loop
-Inv-loop parts part n i₀ i = any (isFF parts part) (left n i) ≡ any (isFF parts part) (below n)
+Inv-loop head c n i₀ i = any (isFF head c) (left n i) ≡ any (isFF head c) (below n)
 
 abbrev μ-loop : tie.MeasureT-loop
-μ-loop parts part n i₀ i = n - i
+μ-loop head c n i₀ i = n - i
 
 loop-holds : tie.Need-loop-holds Inv-loop μ-loop
-loop-holds c = let a = c .args in ap (any (isFF (a .parts .now) (a .part))) (left-all (a .n))
+loop-holds c = ap (any (isFF (c .args .head .now) (c .args .c))) (left-all (c .args .n))
 
-add-if1 : tie.Need-add-if1 Inv-loop μ-loop
-add-if1 c = omega arith
+add-part-byte : tie.Need-add-part-byte Inv-loop μ-loop
+add-part-byte c = omega arith
 
-add-if1-2 : tie.Need-add-if1-2 Inv-loop μ-loop
-add-if1-2 c = omega arith
-
-shared-slice-read-if1 : tie.Need-shared-slice-read-if1 Inv-loop μ-loop
-shared-slice-read-if1 c = omega arith
+part-byte-requires : tie.Need-part-byte-requires Inv-loop μ-loop
+part-byte-requires c κs = (omega arith, omega arith)
 
 returns : tie.Need-returns Inv-loop μ-loop
 returns c =
     let turn = c .before .before .before in
     let a = turn .before .args in
-    sym (any-hit (isFF (a .parts .now) (a .part)) (a .n) (turn .loop .i) (omega arith) (eq-eqb _ _ (c .if1 .taken))) ∙ turn .loop .inv
+    sym (any-hit (isFF (a .head .now) (a .c)) (a .n) (turn .loop .i) (omega arith) (eq-eqb _ _ (sym (c .before .part-byte .ensures) ∙ c .if1 .taken))) ∙ turn .loop .inv
 
 add-i : tie.Need-add-i Inv-loop μ-loop
 add-i c = omega arith
@@ -50,13 +48,13 @@ loop-again : tie.Need-loop-again Inv-loop μ-loop
 loop-again c =
     let turn = c .before .before .before in
     let a = turn .before .args in
-    sym (any-miss (isFF (a .parts .now) (a .part)) (a .n) (turn .loop .i) (omega arith) (ne-eqb _ _ (c .if1 .left))) ∙ turn .loop .inv
+    sym (any-miss (isFF (a .head .now) (a .c)) (a .n) (turn .loop .i) (omega arith) (ne-eqb _ _ (λ e. c .if1 .left (c .before .part-byte .ensures ∙ e)))) ∙ turn .loop .inv
 
 returns-2 : tie.Need-returns-2 Inv-loop μ-loop
 returns-2 c =
     let turn = c .before in
     let a = turn .before .args in
-    sym (any-end (isFF (a .parts .now) (a .part)) (a .n) (turn .loop .i) (omega arith)) ∙ turn .loop .inv
+    sym (any-end (isFF (a .head .now) (a .c)) (a .n) (turn .loop .i) (omega arith)) ∙ turn .loop .inv
 
 pub any-counted-spec : {M : Type 1} → statement M
 any-counted-spec =
@@ -65,9 +63,8 @@ any-counted-spec =
     Inv-loop
     μ-loop
     loop-holds
-    add-if1
-    add-if1-2
-    shared-slice-read-if1
+    add-part-byte
+    part-byte-requires
     returns
     add-i
     loop-less

@@ -1,5 +1,6 @@
 -- `any_excluding` meets its contract: no row before j excludes, so the test is that of the rows left. Assumes nothing.
 use native.Mathlib.Omega.{arith}
+use borrow.Author.Needs.{needs}
 use mathlib.Core.Path.{_≡_, sym, ap, _∙_}
 use Prim.Native.Nat.{_-_}
 use lib.ListN.{length}
@@ -18,16 +19,16 @@ abbrev μ-loop : tie.MeasureT-loop
 
 loop-holds : tie.Need-loop-holds Inv-loop μ-loop
 loop-holds c =
-    let a = c .before .before .before .args in
+    let a = c .before .before .args in
     ap (any (excludesAt (a .rows .now) (a .of .now) (a .clauses .now) (a .class) (a .relation))) (left-all (length (a .of .now)))
 
 excludes-requires : tie.Need-excludes-requires Inv-loop μ-loop
-excludes-requires c κs = (omega arith, omega arith, omega arith)
+excludes-requires c κs = search needs
 
 returns : tie.Need-returns Inv-loop μ-loop
 returns c =
     let turn = c .before .before .before in
-    let a = turn .before .before .before .before .args in
+    let a = turn .before .before .before .args in
     sym (any-hit (excludesAt (a .rows .now) (a .of .now) (a .clauses .now) (a .class) (a .relation)) (length (a .of .now)) (turn .loop .j) (omega arith) (sym (c .before .excludes .ensures) ∙ c .if1 .taken))
     ∙ turn .loop .inv
 
@@ -40,14 +41,14 @@ loop-less c = omega arith
 loop-again : tie.Need-loop-again Inv-loop μ-loop
 loop-again c =
     let turn = c .before .before .before in
-    let a = turn .before .before .before .before .args in
+    let a = turn .before .before .before .args in
     sym (any-miss (excludesAt (a .rows .now) (a .of .now) (a .clauses .now) (a .class) (a .relation)) (length (a .of .now)) (turn .loop .j) (omega arith) (sym (c .before .excludes .ensures) ∙ c .if1 .left))
     ∙ turn .loop .inv
 
 returns-2 : tie.Need-returns-2 Inv-loop μ-loop
 returns-2 c =
     let turn = c .before in
-    let a = turn .before .before .before .before .args in
+    let a = turn .before .before .before .args in
     sym (any-end (excludesAt (a .rows .now) (a .of .now) (a .clauses .now) (a .class) (a .relation)) (length (a .of .now)) (turn .loop .j) (omega arith)) ∙ turn .loop .inv
 
 pub any-excluding-spec : {M : Type 1} → statement M

@@ -1,5 +1,6 @@
 -- `any_same` meets its contract: no row before j is one, so the test is that of the rows left. Assumes nothing.
 use native.Mathlib.Omega.{arith}
+use borrow.Author.Needs.{needs}
 use mathlib.Core.Path.{_≡_, sym, ap, _∙_}
 use Prim.Native.Nat.{_-_}
 use lib.ListN.{length}
@@ -19,16 +20,16 @@ abbrev μ-loop : tie.MeasureT-loop
 loop-holds : tie.Need-loop-holds Inv-loop μ-loop
 unfolding sameIn
 loop-holds c =
-    let a = c .before .before .before .args in
+    let a = c .before .before .args in
     ap (any (isSameAt (a .rows .now) (a .of .now) (a .clauses .now) (a .class) (a .clause) (a .i))) (left-all (length (a .of .now)))
 
 is-same-at-requires : tie.Need-is-same-at-requires Inv-loop μ-loop
-is-same-at-requires c κs = (omega arith, omega arith, omega arith, omega arith)
+is-same-at-requires c κs = search needs
 
 returns : tie.Need-returns Inv-loop μ-loop
 returns c =
     let turn = c .before .before .before in
-    let a = turn .before .before .before .before .args in
+    let a = turn .before .before .before .args in
     sym (any-hit (isSameAt (a .rows .now) (a .of .now) (a .clauses .now) (a .class) (a .clause) (a .i)) (length (a .of .now)) (turn .loop .j) (omega arith) (sym (c .before .is-same-at .ensures) ∙ c .if1 .taken))
     ∙ turn .loop .inv
 
@@ -41,14 +42,14 @@ loop-less c = omega arith
 loop-again : tie.Need-loop-again Inv-loop μ-loop
 loop-again c =
     let turn = c .before .before .before in
-    let a = turn .before .before .before .before .args in
+    let a = turn .before .before .before .args in
     sym (any-miss (isSameAt (a .rows .now) (a .of .now) (a .clauses .now) (a .class) (a .clause) (a .i)) (length (a .of .now)) (turn .loop .j) (omega arith) (sym (c .before .is-same-at .ensures) ∙ c .if1 .left))
     ∙ turn .loop .inv
 
 returns-2 : tie.Need-returns-2 Inv-loop μ-loop
 returns-2 c =
     let turn = c .before in
-    let a = turn .before .before .before .before .args in
+    let a = turn .before .before .before .args in
     sym (any-end (isSameAt (a .rows .now) (a .of .now) (a .clauses .now) (a .class) (a .clause) (a .i)) (length (a .of .now)) (turn .loop .j) (omega arith)) ∙ turn .loop .inv
 
 pub any-same-spec : {M : Type 1} → statement M

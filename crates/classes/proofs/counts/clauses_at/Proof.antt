@@ -11,19 +11,19 @@ use Rattle.classes.proofs.counts.clauses_at.Statement.{statement}
 use Rattle.classes.proofs.counts.clauses_at.Tie as tie
 
 abbrev Inv-loop : tie.InvT-loop
-Inv-loop rows n m clauses₀ j₀ clauses j = (j ≤ n) × (length clauses ≡ length clauses₀) × (clauses₀ ≡ pad 64 [] → clauses ≡ pad 64 (map (clauseIn rows m) (below j)))
+Inv-loop rows n m clauses₀ j₀ clauses j = (j ≤ n) × (clauses₀ ≡ pad 64 [] → clauses ≡ pad 64 (map (clauseIn rows m) (below j)))
 
 abbrev μ-loop : tie.MeasureT-loop
 μ-loop rows n m clauses₀ j₀ clauses j = n - j
 
 loop-holds : tie.Need-loop-holds Inv-loop μ-loop
-loop-holds c = (omega arith, refl, λ e. e)
+loop-holds c = (omega arith, λ e. e)
 
 clause-once-requires : tie.Need-clause-once-requires Inv-loop μ-loop
 clause-once-requires c κs = omega arith
 
-slice-write-clauses : tie.Need-slice-write-clauses Inv-loop μ-loop
-slice-write-clauses c = let r = c .before .before .loop .inv .1 in omega arith
+element-write-clauses : tie.Need-element-write-clauses Inv-loop μ-loop
+element-write-clauses c = omega arith
 
 add-j : tie.Need-add-j Inv-loop μ-loop
 add-j c = omega arith
@@ -33,23 +33,19 @@ loop-less c = omega arith
 
 loop-again : tie.Need-loop-again Inv-loop μ-loop
 loop-again c =
-    let a = c .before .before .before .before .before .args in
+    let a = c .before .before .before .before .args in
     let l = c .before .before .loop in (
       omega arith,
-      length-set (l .clauses) (l .j) (c .clause-once .result) ∙ l .inv .1,
-      λ e. clauses-more (a .rows .now) (a .m) (l .clauses) (l .j) (c .clause-once .result) (omega arith) (l .inv .2 e) (c .clause-once .ensures),
+      λ e. clauses-more (a .rows .now) (a .m) (l .clauses) (l .j) (c .clause-once .result) (omega arith) (l .inv .1 e) (c .clause-once .ensures),
     )
 
-same-length : tie.Need-same-length Inv-loop μ-loop
-same-length c = c .before .loop .inv .1
-
 returns : tie.Need-returns Inv-loop μ-loop
-returns c D a B i apart e z =
-    let s = c .before .before .before .before in
+returns c D a head A z =
+    let s = c .before .before .before in
     let l = c .before .loop in
     let j : l .j ≡ s .args .n = omega arith in
-    l .inv .2 z
-    ∙ ap (pad 64) (ap (λ (k : ℕ). map (clauseIn (s .args .rows .now) (s .args .m)) (below k)) j ∙ clauses-held (s .args .m) (s .args .rows .now) (s .args .n) B i apart e (s .pre .0))
+    l .inv .1 z
+    ∙ ap (pad 64) (ap (λ (k : ℕ). map (clauseIn (s .args .rows .now) (s .args .m)) (below k)) j ∙ clauses-held (s .args .m) (s .args .rows .now) (s .args .n) (A .says .bounded) (A .listed) (A .apart) (A .literals) (s .pre .0))
 
 pub clauses-at-spec : {M : Type 1} → statement M
 clauses-at-spec =
@@ -59,9 +55,8 @@ clauses-at-spec =
     μ-loop
     loop-holds
     clause-once-requires
-    slice-write-clauses
+    element-write-clauses
     add-j
     loop-less
     loop-again
-    same-length
     returns)

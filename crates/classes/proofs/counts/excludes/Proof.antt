@@ -12,8 +12,8 @@ returns : tie.Need-returns
 unfolding excludesAt
 returns c = simp (ne-eqb _ _ (c .if1 .taken))
 
-shared-slice-read-if2 : tie.Need-shared-slice-read-if2
-shared-slice-read-if2 c = search needs
+element-copy-out-if2 : tie.Need-element-copy-out-if2
+element-copy-out-if2 c = search needs
 
 returns-2 : tie.Need-returns-2
 unfolding excludesAt
@@ -38,7 +38,7 @@ excludes-spec =
     (tie.spec
     shared-slice-read-if1
     returns
-    shared-slice-read-if2
+    element-copy-out-if2
     returns-2
     mul-result
     add-result

@@ -8,8 +8,8 @@ use Rattle.classes.proofs.counts.is_at.Tie as tie
 shared-slice-read-if1 : tie.Need-shared-slice-read-if1
 shared-slice-read-if1 c = search needs
 
-shared-slice-read-result : tie.Need-shared-slice-read-result
-shared-slice-read-result c = search needs
+element-copy-out-result : tie.Need-element-copy-out-result
+element-copy-out-result c = search needs
 
 returns : tie.Need-returns
 unfolding isAt
@@ -20,4 +20,4 @@ unfolding isAt
 returns-2 c = simp (ne-eqb _ _ (c .if1 .left))
 
 pub is-at-spec : {M : Type 1} → statement M
-is-at-spec = tie.close (tie.spec shared-slice-read-if1 shared-slice-read-result returns returns-2)
+is-at-spec = tie.close (tie.spec shared-slice-read-if1 element-copy-out-result returns returns-2)

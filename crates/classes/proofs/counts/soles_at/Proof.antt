@@ -16,13 +16,13 @@ abbrev μ-loop : tie.MeasureT-loop
 μ-loop of clauses clause soles₀ j₀ j-end soles j = length of - j
 
 loop-holds : tie.Need-loop-holds Inv-loop μ-loop
-loop-holds c = let a = c .before .before .before .args in (omega arith, refl, λ e. noted-none (a .of .now) (a .clauses .now) (a .clause) (a .soles .now) e)
+loop-holds c = let a = c .before .before .args in (omega arith, refl, λ e. noted-none (a .of .now) (a .clauses .now) (a .clause) (a .soles .now) e)
 
 shared-slice-read-mark : tie.Need-shared-slice-read-mark Inv-loop μ-loop
 shared-slice-read-mark c = omega arith
 
-shared-slice-read-mark-2 : tie.Need-shared-slice-read-mark-2 Inv-loop μ-loop
-shared-slice-read-mark-2 c = omega arith
+element-copy-out-mark : tie.Need-element-copy-out-mark Inv-loop μ-loop
+element-copy-out-mark c = omega arith
 
 mark-requires : tie.Need-mark-requires Inv-loop μ-loop
 mark-requires c κs = omega arith
@@ -35,7 +35,7 @@ loop-less c = omega arith
 
 loop-again : tie.Need-loop-again Inv-loop μ-loop
 loop-again c =
-    let a = c .before .before .before .before .before .before .before .before .before .before .before .args in
+    let a = c .before .before .before .before .before .before .before .before .before .before .args in
     let l = c .before .before .before .before .before .before .before .loop in
     let r = c .before .before .mark in (
       omega arith,
@@ -47,7 +47,7 @@ same-length : tie.Need-same-length Inv-loop μ-loop
 same-length c = c .before .loop .inv .1
 
 returns : tie.Need-returns Inv-loop μ-loop
-returns c e = let a = c .before .before .before .before .before .args in let l = c .before .loop in noted-all (a .of .now) (a .clauses .now) (a .clause) (l .j) (l .soles) (omega arith) (l .inv .2 e)
+returns c e = let a = c .before .before .before .before .args in let l = c .before .loop in noted-all (a .of .now) (a .clauses .now) (a .clause) (l .j) (l .soles) (omega arith) (l .inv .2 e)
 
 pub soles-at-spec : {M : Type 1} → statement M
 soles-at-spec =
@@ -57,7 +57,7 @@ soles-at-spec =
     μ-loop
     loop-holds
     shared-slice-read-mark
-    shared-slice-read-mark-2
+    element-copy-out-mark
     mark-requires
     add-j
     loop-less

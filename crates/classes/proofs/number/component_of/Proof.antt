@@ -1,41 +1,60 @@
 -- `component_of` meets its contract: no row before c has the relation, so the place is c and that from row c on. Assumes nothing.
-use mathlib.Core.Path.{_≡_, sym, _∙_}
-use mathlib.Core.Bool.{Bool}
-use mathlib.Core.List.{List}
-use Prim.Native.Nat.{ℕ, _+_, _-_, _*_, _≤_}
 use native.Mathlib.Omega.{arith}
+use borrow.Author.Needs.{needs}
+use mathlib.Core.Path.{_≡_, sym, ap, _∙_}
+use mathlib.Core.Bool.{Bool, true, false}
+use mathlib.Core.List.{List}
+use Prim.Native.Nat.{ℕ, suc, _+_, _-_, _≤_, _<_}
+use borrow.Author.Tests.{eq-eqb, ne-eqb}
 use lib.Dec.{eqb}
-use lib.ListN.{drop}
 use Rattle.literals.specs.Decode.{byte}
-use Rattle.literals.specs.Table.{rowsIn}
-use Rattle.literals.proofs.Rows.{starts-yes, starts-no}
+use Rattle.literals.specs.Held.{partIn, partsFrom, partsIn}
+use Rattle.literals.proofs.Heads.{parts-next, parts-end}
 use Rattle.classes.specs.Coded.{position}
-use Rattle.classes.proofs.KeyRows.{place-first, place-hit, place-miss, place-end}
 use Rattle.classes.proofs.number.component_of.Statement.{statement}
 use Rattle.classes.proofs.number.component_of.Tie as tie
 
 abbrev starts : ℕ → List ℕ → Bool
 starts b row = eqb b (byte row 0)
 
+module _ (b : ℕ) (head : List ℕ) (n c : ℕ) where
+  hit : c < n → starts b (partIn head c) ≡ true → position (starts b) (partsFrom head c (n - c)) ≡ 0
+  hit h e = rw (parts-next head n c h, e)
+
+  miss : c < n → starts b (partIn head c) ≡ false → position (starts b) (partsFrom head c (n - c)) ≡ suc (position (starts b) (partsFrom head (c + 1) (n - (c + 1))))
+  miss h e = rw (parts-next head n c h, e)
+
+  ended : n ≤ c → position (starts b) (partsFrom head c (n - c)) ≡ 0
+  ended h = rw (parts-end head n c h)
+
 abbrev Inv-loop : tie.InvT-loop
-Inv-loop parts n relation c₀ c = (c ≤ n) × (c + position (starts relation) (rowsIn (n - c) (drop (8 * c) parts)) ≡ position (starts relation) (rowsIn n parts))
+Inv-loop head relation n c₀ c =
+    (c ≤ n) × (n ≤ 16) × (c + position (starts relation) (partsFrom head c (n - c)) ≡ position (starts relation) (partsIn head))
 
 abbrev μ-loop : tie.MeasureT-loop
-μ-loop parts n relation c₀ c = n - c
+μ-loop head relation n c₀ c = n - c
+
+components-in-requires : tie.Need-components-in-requires Inv-loop μ-loop
+components-in-requires c κs = search needs
 
 loop-holds : tie.Need-loop-holds Inv-loop μ-loop
-loop-holds c = (omega arith, place-first 8 (starts (c .args .relation)) (c .args .parts .now) (c .args .n))
+unfolding partsIn
+loop-holds c =
+    let a = c .before .args in
+    let n = c .components-in .ensures in
+    let e = ap (λ (k : ℕ). position (starts (a .relation)) (partsFrom (a .head .now) 0 k)) (let z : c .components-in .result - 0 ≡ c .components-in .result = omega arith in z ∙ n .0) in
+    (omega arith, n .1, omega arith)
 
-mul-if1 : tie.Need-mul-if1 Inv-loop μ-loop
-mul-if1 c = omega arith
-
-shared-slice-read-if1 : tie.Need-shared-slice-read-if1 Inv-loop μ-loop
-shared-slice-read-if1 c = omega arith
+part-byte-requires : tie.Need-part-byte-requires Inv-loop μ-loop
+part-byte-requires c κs = search needs
 
 returns : tie.Need-returns Inv-loop μ-loop
-returns c = let a = c .before .before .before .before .args in
-    let l = c .before .before .before .loop in
-    sym (place-hit 8 (starts (a .relation)) (a .parts .now) (a .n) (l .c) (omega arith) (starts-yes (a .parts .now) (a .relation) (l .c) (c .if1 .taken))) ∙ l .inv .1
+returns c =
+    let t = c .before .before .before in
+    let a = t .before .before .args in
+    let e = hit (a .relation) (a .head .now) (t .before .components-in .result) (t .loop .c) (omega arith) (eq-eqb _ _ (sym (sym (c .before .part-byte .ensures) ∙ c .if1 .taken))) in
+    let i = t .loop .inv .2 in
+    omega arith
 
 add-c : tie.Need-add-c Inv-loop μ-loop
 add-c c = omega arith
@@ -44,15 +63,20 @@ loop-less : tie.Need-loop-less Inv-loop μ-loop
 loop-less c = omega arith
 
 loop-again : tie.Need-loop-again Inv-loop μ-loop
-loop-again c = let a = c .before .before .before .before .args in
-    let l = c .before .before .before .loop in
-    (omega arith, place-miss 8 (starts (a .relation)) (a .parts .now) (a .n) (l .c) (omega arith) (starts-no (a .parts .now) (a .relation) (l .c) (c .if1 .left)) ∙ l .inv .1)
+loop-again c =
+    let t = c .before .before .before in
+    let a = t .before .before .args in
+    let e = miss (a .relation) (a .head .now) (t .before .components-in .result) (t .loop .c) (omega arith) (ne-eqb _ _ (λ e. c .if1 .left (c .before .part-byte .ensures ∙ sym e))) in
+    let i = t .loop .inv .2 in
+    (omega arith, t .loop .inv .1, omega arith)
 
 returns-2 : tie.Need-returns-2 Inv-loop μ-loop
-returns-2 c = let a = c .before .before .args in
-    let l = c .before .loop in
-    let e : l .c ≡ a .n = omega arith in
-    sym e ∙ sym (place-end 8 (starts (a .relation)) (a .parts .now) (a .n) (l .c) (omega arith)) ∙ l .inv .1
+returns-2 c =
+    let t = c .before in
+    let a = t .before .before .args in
+    let e = ended (a .relation) (a .head .now) (t .before .components-in .result) (t .loop .c) (omega arith) in
+    let i = t .loop .inv .2 in
+    omega arith
 
 pub component-of-spec : {M : Type 1} → statement M
 component-of-spec =
@@ -60,9 +84,9 @@ component-of-spec =
     (tie.spec
     Inv-loop
     μ-loop
+    components-in-requires
     loop-holds
-    mul-if1
-    shared-slice-read-if1
+    part-byte-requires
     returns
     add-c
     loop-less

@@ -1,32 +1,35 @@
 -- `key_tuple` meets its contract: after k turns the tuple has the first k keys. Assumes nothing.
-use mathlib.Core.Path.{_≡_, ap, _∙_}
-use Prim.Native.Nat.{ℕ, _-_, _≤_}
 use native.Mathlib.Omega.{arith}
 use borrow.Author.Needs.{needs}
+use mathlib.Core.Path.{_≡_, ap, _∙_}
+use Prim.Native.Nat.{ℕ, _-_, _≤_}
 use lib.ListN.{take, drop}
+use Rattle.literals.specs.Held.{partIn}
 use Rattle.classes.specs.Coded.{keyRow}
 use Rattle.classes.proofs.KeyRows.{tuple-none, tuple-more}
 use Rattle.classes.proofs.number.key_tuple.Statement.{statement}
 use Rattle.classes.proofs.number.key_tuple.Tie as tie
 
 abbrev Inv-loop : tie.InvT-loop
-Inv-loop parts part rows at n t₀ k₀ t k = (k ≤ n) × (t ≡ keyRow k (take 8 (drop part parts)) (take 8 (drop at rows)))
+Inv-loop head c rows at t₀ k₀ k-end t k = (k ≤ k-end) × (k-end ≤ 6) × (t ≡ keyRow k (partIn head c) (take 8 (drop at rows)))
 
 abbrev μ-loop : tie.MeasureT-loop
-μ-loop parts part rows at n t₀ k₀ t k = n - k
+μ-loop head c rows at t₀ k₀ k-end t k = k-end - k
+
+keys-in-requires : tie.Need-keys-in-requires Inv-loop μ-loop
+keys-in-requires c κs = search needs
 
 loop-holds : tie.Need-loop-holds Inv-loop μ-loop
-loop-holds c = let a = c .before .before .args in
-    (omega arith, tuple-none (take 8 (drop (a .part) (a .parts .now))) (take 8 (drop (a .at) (a .rows .now))))
+loop-holds c = (omega arith, c .keys-in .ensures .1, tuple-none _ _)
 
 cast-under-key : tie.Need-cast-under-key Inv-loop μ-loop
 cast-under-key c = omega arith
 
 under-key-requires : tie.Need-under-key-requires Inv-loop μ-loop
-under-key-requires c κs = omega arith
+under-key-requires c κs = search needs
 
 array-write-t : tie.Need-array-write-t Inv-loop μ-loop
-array-write-t c = search needs
+array-write-t c = omega arith
 
 add-k : tie.Need-add-k Inv-loop μ-loop
 add-k c = omega arith
@@ -35,15 +38,15 @@ loop-less : tie.Need-loop-less Inv-loop μ-loop
 loop-less c = omega arith
 
 loop-again : tie.Need-loop-again Inv-loop μ-loop
-loop-again c = let a = c .before .before .before .before .before .args in
-    let l = c .before .before .loop in
-    (omega arith, tuple-more (take 8 (drop (a .part) (a .parts .now))) (take 8 (drop (a .at) (a .rows .now))) (l .t) (l .k) (c .under-key .result) (omega arith) (l .inv .1) (c .under-key .ensures))
+loop-again c = let l = c .before .before .loop in (omega arith, l .inv .1, tuple-more _ _ (l .t) (l .k) (c .under-key .result) (omega arith) (l .inv .2) (c .under-key .ensures))
 
 returns : tie.Need-returns Inv-loop μ-loop
-returns c = let a = c .before .before .before .before .args in
+returns c =
     let l = c .before .loop in
-    let e : l .k ≡ a .n = omega arith in
-    l .inv .1 ∙ ap (λ (n : ℕ). keyRow n (take 8 (drop (a .part) (a .parts .now))) (take 8 (drop (a .at) (a .rows .now)))) e
+    let a = c .before .before .before .before .args in
+    let k = c .before .before .keys-in .ensures .0 in
+    let e : l .k ≡ c .before .before .keys-in .result = omega arith in
+    l .inv .2 ∙ ap (λ (n : ℕ). keyRow n (partIn (a .head .now) (a .c)) (take 8 (drop (a .at) (a .rows .now)))) (e ∙ k)
 
 pub key-tuple-spec : {M : Type 1} → statement M
 key-tuple-spec =
@@ -51,6 +54,7 @@ key-tuple-spec =
     (tie.spec
     Inv-loop
     μ-loop
+    keys-in-requires
     loop-holds
     cast-under-key
     under-key-requires

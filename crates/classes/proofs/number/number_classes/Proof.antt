@@ -8,13 +8,13 @@ use Rattle.classes.proofs.number.number_classes.Statement.{statement}
 use Rattle.classes.proofs.number.number_classes.Tie as tie
 
 abbrev Inv-loop : tie.InvT-loop
-Inv-loop parts components keys rows of₀ tuples₀ count₀ j₀ j-end of tuples count j = SoFar parts components keys rows of₀ of tuples₀ tuples count j
+Inv-loop head rows of₀ tuples₀ count₀ j₀ j-end of tuples count j = SoFar head rows of₀ of tuples₀ tuples count j
 
 abbrev μ-loop : tie.MeasureT-loop
-μ-loop parts components keys rows of₀ tuples₀ count₀ j₀ j-end of tuples count j = length of₀ - j
+μ-loop head rows of₀ tuples₀ count₀ j₀ j-end of tuples count j = length of₀ - j
 
 loop-holds : tie.Need-loop-holds Inv-loop μ-loop
-loop-holds c = let a = c .before .before .before .before .args in so-far-none (a .parts .now) (a .components) (a .keys) (a .rows .now) (a .of .now) (a .tuples .now) (c .before .before .before .before .pre .4)
+loop-holds c = let a = c .before .before .before .args in so-far-none (a .head .now) (a .rows .now) (a .of .now) (a .tuples .now) (c .before .before .before .pre .2)
 
 mul-number-literal : tie.Need-mul-number-literal Inv-loop μ-loop
 mul-number-literal c = omega arith
@@ -23,7 +23,7 @@ number-literal-requires : tie.Need-number-literal-requires Inv-loop μ-loop
 number-literal-requires c κs =
     let w = c .before .before .loop .inv .few in
     let r = c .before .before .loop .inv .room in
-    (omega arith, omega arith, omega arith, omega arith, omega arith)
+    (omega arith, omega arith, omega arith)
 
 slice-write-of : tie.Need-slice-write-of Inv-loop μ-loop
 slice-write-of c = let w = c .before .before .before .before .before .loop .inv .whole in omega arith
@@ -36,10 +36,10 @@ loop-less c = omega arith
 
 loop-again : tie.Need-loop-again Inv-loop μ-loop
 loop-again c =
-    let a = c .before .before .before .before .before .before .before .before .before .before .args in
-    let p = c .before .before .before .before .before .before .before .before .before .before .pre in
+    let a = c .before .before .before .before .before .before .before .before .before .args in
+    let p = c .before .before .before .before .before .before .before .before .before .pre in
     let l = c .before .before .before .before .before .loop in
-    so-far-more (a .parts .now) (a .components) (a .keys) (a .rows .now) (a .of .now) (l .of) (a .tuples .now) (l .tuples) _ (l .count) (l .j) (c .before .before .number-literal .result) (c .before .before .number-literal .kept .1 .1 .1 .1 .1 .0 ∙ l .inv .room) (p .1) (p .2) (l .inv) (omega arith)
+    so-far-more (a .head .now) (a .rows .now) (a .of .now) (l .of) (a .tuples .now) (l .tuples) _ (l .count) (l .j) (c .before .before .number-literal .result) (c .before .before .number-literal .kept .1 .1 .1 .0 ∙ l .inv .room) (p .0) (l .inv) (omega arith)
     (c .before .before .number-literal .ensures .0) (c .before .before .number-literal .ensures .1)
 
 same-length : tie.Need-same-length Inv-loop μ-loop
@@ -50,12 +50,12 @@ same-length-2 c = let r = c .before .loop .inv .room in omega arith
 
 returns : tie.Need-returns Inv-loop μ-loop
 returns c =
-    let a = c .before .before .before .before .before .before .args in
-    let p = c .before .before .before .before .before .before .pre in
+    let a = c .before .before .before .before .before .args in
+    let p = c .before .before .before .before .before .pre in
     let l = c .before .loop in
     let w = l .inv .few in
     let r = l .inv .reach in
-    (omega arith, so-far-all (a .parts .now) (a .components) (a .keys) (a .rows .now) (a .of .now) (l .of) (a .tuples .now) (l .tuples) (l .count) (l .j) (p .1) (p .2) (l .inv) (omega arith))
+    (omega arith, so-far-all (a .head .now) (a .rows .now) (a .of .now) (l .of) (a .tuples .now) (l .tuples) (l .count) (l .j) (p .0) (l .inv) (omega arith))
 
 pub number-classes-spec : {M : Type 1} → statement M
 number-classes-spec =

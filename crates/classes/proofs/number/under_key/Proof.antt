@@ -1,32 +1,33 @@
 -- `under_key` meets its contract: no label before i is k, so the argument is that from label i on. Assumes nothing.
-use mathlib.Core.Path.{_≡_, refl, sym, _∙_}
-use Prim.Native.Nat.{_+_, _-_, _≤_}
 use native.Mathlib.Omega.{arith}
-use lib.ListN.{take, drop}
+use borrow.Author.Needs.{needs}
+use mathlib.Core.Path.{_≡_, refl, sym, _∙_}
+use Prim.Native.Nat.{ℕ, _+_, _-_, _≤_, _<_}
+use lib.ListN.{length, take, drop}
+use Rattle.literals.specs.Held.{partIn}
+use Rattle.literals.proofs.Heads.{part-length}
 use Rattle.classes.specs.Coded.{underKey}
 use Rattle.classes.proofs.KeyRows.{under-hit, under-miss, under-end}
 use Rattle.classes.proofs.number.under_key.Statement.{statement}
 use Rattle.classes.proofs.number.under_key.Tie as tie
 
 abbrev Inv-loop : tie.InvT-loop
-Inv-loop parts part rows at k i₀ i = (i ≤ 6)
-    × (underKey k (drop (i + 1) (take 8 (drop part parts))) (drop (i + 2) (take 8 (drop at rows)))
-    ≡ underKey k (drop 1 (take 8 (drop part parts))) (drop 2 (take 8 (drop at rows))))
+Inv-loop head c rows at k i₀ i = (i ≤ 6) × (length (partIn head c) ≡ 8)
+    × (underKey k (drop (i + 1) (partIn head c)) (drop (i + 2) (take 8 (drop at rows))) ≡ underKey k (drop 1 (partIn head c)) (drop 2 (take 8 (drop at rows))))
 
 abbrev μ-loop : tie.MeasureT-loop
-μ-loop parts part rows at k i₀ i = 6 - i
+μ-loop head c rows at k i₀ i = 6 - i
 
 loop-holds : tie.Need-loop-holds Inv-loop μ-loop
-loop-holds c = (omega arith, refl)
+loop-holds c =
+    let a = c .before .args in
+    (omega arith, part-length (a .head .now) (a .c), refl)
 
-add-if1 : tie.Need-add-if1 Inv-loop μ-loop
-add-if1 c = omega arith
+add-part-byte : tie.Need-add-part-byte Inv-loop μ-loop
+add-part-byte c = omega arith
 
-add-if1-2 : tie.Need-add-if1-2 Inv-loop μ-loop
-add-if1-2 c = omega arith
-
-shared-slice-read-if1 : tie.Need-shared-slice-read-if1 Inv-loop μ-loop
-shared-slice-read-if1 c = omega arith
+part-byte-requires : tie.Need-part-byte-requires Inv-loop μ-loop
+part-byte-requires c κs = (omega arith, omega arith)
 
 add-result : tie.Need-add-result Inv-loop μ-loop
 add-result c = omega arith
@@ -38,9 +39,11 @@ shared-slice-read-result : tie.Need-shared-slice-read-result Inv-loop μ-loop
 shared-slice-read-result c = omega arith
 
 returns : tie.Need-returns Inv-loop μ-loop
-returns c = let a = c .before .before .before .before .before .args in
-    let l = c .before .before .before .before .loop in
-    sym (under-hit (a .parts .now) (a .rows .now) (a .part) (a .at) (a .k) (l .i) (omega arith) (omega arith) (omega arith) (c .before .if1 .taken)) ∙ l .inv .1
+returns c =
+    let t = c .before .before .before .before in
+    let a = t .before .before .args in
+    let l = t .loop in
+    sym (under-hit _ (a .rows .now) (a .at) (a .k) (l .i) (l .inv .1) (t .before .before .pre .1) (omega arith) (sym (c .before .before .part-byte .ensures) ∙ c .before .if1 .taken)) ∙ l .inv .2
 
 add-i : tie.Need-add-i Inv-loop μ-loop
 add-i c = omega arith
@@ -49,14 +52,18 @@ loop-less : tie.Need-loop-less Inv-loop μ-loop
 loop-less c = omega arith
 
 loop-again : tie.Need-loop-again Inv-loop μ-loop
-loop-again c = let a = c .before .before .before .before .args in
-    let l = c .before .before .before .loop in
-    (omega arith, sym (under-miss (a .parts .now) (a .rows .now) (a .part) (a .at) (a .k) (l .i) (omega arith) (omega arith) (omega arith) (c .if1 .left)) ∙ l .inv .1)
+loop-again c =
+    let t = c .before .before .before in
+    let a = t .before .before .args in
+    let l = t .loop in
+    (omega arith, l .inv .1, sym (under-miss _ (a .rows .now) (a .at) (a .k) (l .i) (l .inv .1) (t .before .before .pre .1) (omega arith) (λ e. c .if1 .left (c .before .part-byte .ensures ∙ e))) ∙ l .inv .2)
 
 returns-2 : tie.Need-returns-2 Inv-loop μ-loop
-returns-2 c = let a = c .before .before .args in
-    let l = c .before .loop in
-    sym (under-end (a .parts .now) (a .rows .now) (a .part) (a .at) (a .k) (l .i) (omega arith) (omega arith) (omega arith)) ∙ l .inv .1
+returns-2 c =
+    let t = c .before in
+    let a = t .before .before .args in
+    let l = t .loop in
+    sym (under-end _ (a .rows .now) (a .at) (a .k) (l .i) (l .inv .1) (t .before .before .pre .1) (omega arith)) ∙ l .inv .2
 
 pub under-key-spec : {M : Type 1} → statement M
 under-key-spec =
@@ -65,9 +72,8 @@ under-key-spec =
     Inv-loop
     μ-loop
     loop-holds
-    add-if1
-    add-if1-2
-    shared-slice-read-if1
+    add-part-byte
+    part-byte-requires
     add-result
     add-result-2
     shared-slice-read-result

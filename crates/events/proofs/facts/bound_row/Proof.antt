@@ -11,14 +11,10 @@ use Rattle.events.proofs.facts.bound_row.Statement.{statement}
 use Rattle.events.proofs.facts.bound_row.Tie as tie
 
 abbrev Inv-loop : tie.InvT-loop
-Inv-loop arities ground rows row arity fact₀ i₀ fact i = (i ≤ 8) × (fact ≡ paste (replicate 8 255) 0 (boundBytes arity ground (take 8 (drop row rows))) i)
+Inv-loop head ground rows row arity fact₀ i₀ fact i = (i ≤ 8) × (fact ≡ paste (replicate 8 255) 0 (boundBytes arity ground (take 8 (drop row rows))) i)
 
 abbrev μ-loop : tie.MeasureT-loop
-μ-loop arities ground rows row arity fact₀ i₀ fact i = 8 - i
-
--- the arity that was looked up
-few : (b : tie.After-arity-of Inv-loop μ-loop) → b .arity-of .result ≤ 6
-few b = rw (b .arity-of .ensures) (b .before .before .before .before .before .pre .1 (getD (b .before .before .before .before .before .args .rows .now) (b .before .before .before .before .before .args .row + 1) 0))
+μ-loop head ground rows row arity fact₀ i₀ fact i = 8 - i
 
 add-arity-of : tie.Need-add-arity-of Inv-loop μ-loop
 add-arity-of c = search needs
@@ -30,10 +26,10 @@ arity-of-requires : tie.Need-arity-of-requires Inv-loop μ-loop
 arity-of-requires c κs = search needs
 
 loop-holds : tie.Need-loop-holds Inv-loop μ-loop
-loop-holds c = let a = c .before .before .before .before .before .args in (omega arith, paste-zero (replicate 8 255) 0 (boundBytes (c .arity-of .result) (a .ground .now) (take 8 (drop (a .row) (a .rows .now)))))
+loop-holds c = let a = c .before .before .before .before .args in (omega arith, paste-zero (replicate 8 255) 0 (boundBytes (c .arity-of .result) (a .ground .now) (take 8 (drop (a .row) (a .rows .now)))))
 
 bound-byte-requires : tie.Need-bound-byte-requires Inv-loop μ-loop
-bound-byte-requires c κs = let f = few (c .before .before) in omega arith
+bound-byte-requires c κs = let f = c .before .before .arity-of .ensures .1 in omega arith
 
 array-write-fact : tie.Need-array-write-fact Inv-loop μ-loop
 array-write-fact c = omega arith
@@ -45,14 +41,14 @@ loop-less : tie.Need-loop-less Inv-loop μ-loop
 loop-less c = omega arith
 
 loop-again : tie.Need-loop-again Inv-loop μ-loop
-loop-again c = let a = c .before .before .before .before .before .before .before .before .args in
+loop-again c = let a = c .before .before .before .before .before .before .before .args in
     let l = c .before .before .loop in
-    (omega arith, bound-more (c .before .before .before .arity-of .result) (a .ground .now) (a .rows .now) (a .row) (omega arith) (few (c .before .before .before)) (l .fact) (l .i) (l .inv .1) (c .bound-byte .result) (omega arith) (c .bound-byte .ensures))
+    (omega arith, bound-more (c .before .before .before .arity-of .result) (a .ground .now) (a .rows .now) (a .row) (omega arith) (c .before .before .before .arity-of .ensures .1) (l .fact) (l .i) (l .inv .1) (c .bound-byte .result) (omega arith) (c .bound-byte .ensures))
 
 returns : tie.Need-returns Inv-loop μ-loop
-returns c = let a = c .before .before .before .before .before .before .before .args in
+returns c = let a = c .before .before .before .before .before .before .args in
     let l = c .before .loop in
-    bound-all (c .before .before .arity-of .result) (a .ground .now) (a .rows .now) (a .row) (omega arith) (few (c .before .before)) (l .fact) (l .i) (l .inv .1) (a .arities .now) (c .before .before .arity-of .ensures) (omega arith)
+    bound-all (c .before .before .arity-of .result) (a .ground .now) (a .rows .now) (a .row) (omega arith) (c .before .before .arity-of .ensures .1) (l .fact) (l .i) (l .inv .1) (a .head .now) (c .before .before .arity-of .ensures .0) (omega arith)
 
 pub bound-row-spec : {M : Type 1} → statement M
 bound-row-spec =

@@ -27,8 +27,8 @@ number-classes-requires c κs = search needs
 cast-counts : tie.Need-cast-counts
 cast-counts c = search needs
 
-slice-write-counts : tie.Need-slice-write-counts
-slice-write-counts c = search needs
+element-write-counts : tie.Need-element-write-counts
+element-write-counts c = search needs
 
 sub-with-classes : tie.Need-sub-with-classes
 sub-with-classes c = search needs
@@ -39,36 +39,33 @@ part-with-classes-start c = search needs
 part-with-classes-end : tie.Need-part-with-classes-end
 part-with-classes-end c =
     let b = c .before .before .before in
-    part-within (b .number-classes .last .1 .1 .1 .1 .0) _ _ (b .number-classes .kept .1 .1 .1 .1 .0 ∙ sym (c .before .before .before .before .before .of .given .1) ∙ sub-zero _)
+    part-within (b .number-classes .last .1 .1 .0) _ _ (b .number-classes .kept .1 .1 .0 ∙ sym (c .before .before .before .before .before .of .given .1) ∙ sub-zero _)
 
 with-classes-requires : tie.Need-with-classes-requires
 with-classes-requires c κs =
-    let p = c .before .before .before .before .before .before .before .before .before .before .before .before .before .pre in
+    let p = c .before .before .before .before .before .before .before .before .before .before .pre in
     let b = c .before .before .before .before .before in
-    let f = b .number-classes .kept .1 .1 .1 .1 .0 ∙ sym (c .before .before .before .before .before .before .before .of .given .1) ∙ sub-zero _ in
-    let e = ap length (part-again (b .number-classes .last .1 .1 .1 .1 .0) _ _ f) ∙ f in
-    let k = b .number-classes .ensures .0 in
     let g = c .before .before .before .before .before .before .before .of .given .1 in
-    (p .0, p .2, p .3 ∙ ap (λ (n : ℕ). 8 * n) (sym e), omega arith, omega arith, p .5, omega arith)
+    let f = b .number-classes .kept .1 .1 .0 ∙ sym g ∙ sub-zero _ in
+    let e = ap length (part-again (b .number-classes .last .1 .1 .0) _ _ f) ∙ f in
+    let k = b .number-classes .ensures .0 in
+    (p .0 ∙ ap (λ (n : ℕ). 8 * n) (sym e), omega arith, omega arith, p .2, omega arith)
 
 same-length : tie.Need-same-length
 same-length c = search needs
 
-same-length-2 : tie.Need-same-length-2
-same-length-2 c = search needs
-
 returns : tie.Need-returns
 returns c =
-    let a = c .before .before .before .before .before .before .before .before .before .before .before .before .before .before .before .before .args in
+    let a = c .before .before .before .before .before .before .before .before .before .before .before .before .before .args in
     let b = c .before .before .before .before .before .before .before .before in
     let g = c .before .before .before .before .before .before .before .before .before .before .of .given .1 in
     let k = b .number-classes .ensures .0 in
     let w = c .before .before .with-classes .ensures in
-    let f = b .number-classes .kept .1 .1 .1 .1 .0 ∙ sym g ∙ sub-zero _ in (
+    let f = b .number-classes .kept .1 .1 .0 ∙ sym g ∙ sub-zero _ in (
       omega arith,
       λ rs old D x N A l.
-          let t = b .number-classes .ensures .1 D x _ (A .template) (A .listed) (A .literals) refl in
-          (ap (λ (v : ℕ). set (a .counts .now) (a .i) v) (t .0), w .1 rs old D x _ N A l (part-again (b .number-classes .last .1 .1 .1 .1 .0) _ _ f ∙ t .2) (t .0)),
+          let t = b .number-classes .ensures .1 D x A refl in
+          (ap (λ (v : ℕ). set (a .counts .now) (a .i) v) (t .0), w .1 rs old D x N A l (part-again (b .number-classes .last .1 .1 .0) _ _ f ∙ t .2) (t .0)),
     )
 
 pub with-action-spec : {M : Type 1} → statement M
@@ -81,11 +78,10 @@ with-action-spec =
     slice-aggregate-number-classes
     number-classes-requires
     cast-counts
-    slice-write-counts
+    element-write-counts
     sub-with-classes
     part-with-classes-start
     part-with-classes-end
     with-classes-requires
     same-length
-    same-length-2
     returns)

@@ -2,6 +2,7 @@
 use mathlib.Core.Path.{refl, _∙_}
 use Prim.Native.Nat.{_-_, _<_}
 use native.Mathlib.Omega.{arith}
+use borrow.Author.Needs.{needs}
 use lib.ListN.{length}
 use Rattle.classes.specs.Classes.{classes}
 use Rattle.naming.proofs.NamedRows.{InClasses, sole-at, named-begin, named-next, named-end}
@@ -9,11 +10,11 @@ use Rattle.naming.proofs.Naming.with_each.Statement.{statement}
 use Rattle.naming.proofs.Naming.with_each.Tie as tie
 
 abbrev Inv-loop : tie.InvT-loop
-Inv-loop parts components arities rows of at-start at-end conditions adds end-conditions end-adds count i lasting names₀ next₀ class₀ names next class =
-    InClasses parts components arities rows of at-start at-end count i lasting names₀ next₀ names next class
+Inv-loop head rows of at-start at-end conditions adds end-conditions end-adds count i lasting names₀ next₀ class₀ names next class =
+    InClasses head rows of at-start at-end count i lasting names₀ next₀ names next class
 
 abbrev μ-loop : tie.MeasureT-loop
-μ-loop parts components arities rows of at-start at-end conditions adds end-conditions end-adds count i lasting names₀ next₀ class₀ names next class = count - class
+μ-loop head rows of at-start at-end conditions adds end-conditions end-adds count i lasting names₀ next₀ class₀ names next class = count - class
 
 loop-holds : tie.Need-loop-holds Inv-loop μ-loop
 loop-holds c =
@@ -21,30 +22,30 @@ loop-holds c =
       reach = omega arith;
       few = omega arith;
       room = refl;
-      named = λ rs old D a keys N A t f s z g. named-begin D a (c .before .before .before .before .before .before .before .before .before .before .before .args .i) (classes D a) rs N;
+      named = λ rs old D a N M t E g. named-begin D a (c .before .before .before .args .i) (classes D a) rs N;
     }
 
-shared-slice-read-with-class : tie.Need-shared-slice-read-with-class Inv-loop μ-loop
-shared-slice-read-with-class c = let r = c .before .before .before .before .before .before .before .before .before .before .before .before .before .before .pre .6 .conditions-room in omega arith
+element-copy-out-with-class : tie.Need-element-copy-out-with-class Inv-loop μ-loop
+element-copy-out-with-class c = omega arith
 
-shared-slice-read-t24 : tie.Need-shared-slice-read-t24 Inv-loop μ-loop
-shared-slice-read-t24 c = let r = c .before .before .before .before .before .before .before .before .before .before .before .before .before .before .before .pre .6 .adds-room in omega arith
+element-copy-out-t24 : tie.Need-element-copy-out-t24 Inv-loop μ-loop
+element-copy-out-t24 c = omega arith
 
-shared-slice-read-t27 : tie.Need-shared-slice-read-t27 Inv-loop μ-loop
-shared-slice-read-t27 c = let r = c .before .before .before .before .before .before .before .before .before .before .before .before .before .before .before .before .pre .7 .conditions-room in omega arith
+element-copy-out-t28 : tie.Need-element-copy-out-t28 Inv-loop μ-loop
+element-copy-out-t28 c = omega arith
 
-shared-slice-read-t29 : tie.Need-shared-slice-read-t29 Inv-loop μ-loop
-shared-slice-read-t29 c = let r = c .before .before .before .before .before .before .before .before .before .before .before .before .before .before .before .before .before .pre .7 .adds-room in omega arith
+element-copy-out-t31 : tie.Need-element-copy-out-t31 Inv-loop μ-loop
+element-copy-out-t31 c = omega arith
 
 cast-name-class : tie.Need-cast-name-class Inv-loop μ-loop
 cast-name-class c = omega arith
 
 name-class-requires : tie.Need-name-class-requires Inv-loop μ-loop
 name-class-requires c κs =
-    let p = c .before .before .before .before .before .before .before .before .before .before .before .before .before .before .before .before .before .pre in
+    let p = c .before .before .before .before .before .before .before .before .before .pre in
     let k = c .before .before .before .before .before .loop .class in
     let h : k < 64 = omega arith in
-    (p .0, p .1, p .2, p .3, p .4, p .5, sole-at (p .6) k h, sole-at (p .7) k h)
+    (p .0, sole-at (p .1) k h, sole-at (p .2) k h)
 
 cast-with-class : tie.Need-cast-with-class Inv-loop μ-loop
 cast-with-class c = omega arith
@@ -53,14 +54,14 @@ with-class-requires : tie.Need-with-class-requires Inv-loop μ-loop
 with-class-requires c κs =
     let w = c .before .before .before .before .before .before .before .loop .inv .few in
     let r = c .before .before .before .before .before .before .before .loop .inv .room in
-    let p = c .before .before .before .before .before .before .before .before .before .before .before .before .before .before .before .before .before .before .before .pre in
-    (omega arith, p .9)
+    (omega arith, c .before .before .before .before .before .before .before .before .before .before .before .pre .4)
 
 add-class : tie.Need-add-class Inv-loop μ-loop
 add-class c =
     let t = c .before .before .before .before .before .before .before .before .before .loop-test .taken in
-    let p = c .before .before .before .before .before .before .before .before .before .before .before .before .before .before .before .before .before .before .before .before .before .before .pre .8 in
-    let q = c .before .before .before .before .before .before .before .before .before .before .before .before .before .before .before .before .before .before .before .before .before .before .pre .5 in
+    let p = c .before .before .before .before .before .before .before .before .before .before .before .before .before .before .pre in
+    let m = p .3 in
+    let s = p .0 .few in
     omega arith
 
 loop-less : tie.Need-loop-less Inv-loop μ-loop
@@ -70,7 +71,6 @@ loop-again : tie.Need-loop-again Inv-loop μ-loop
 loop-again c =
     let l = c .before .before .before .before .before .before .before .before .before .before .loop in
     let w = l .inv .few in
-    let i = c .before .before .before .before .before .before .before .before .before .before .before .before .before .before .before .before .before .before .before .before .before .before .args .i in
     let named = c .before .before .before .before .name-class .ensures in
     let called = c .before .before .with-class in
     record {
@@ -78,12 +78,10 @@ loop-again c =
       few = omega arith;
       room = called .kept .1 .1 .1 .1 .1 .0 ∙ l .inv .room;
       named =
-          λ rs old D a keys N A t f s z g.
+          λ rs old D a N M t E g.
           let h : l .class < length (classes D a) = omega arith in
-          named-next D a i (classes D a) rs (l .class) h
-          (called .ensures .1 _ old D a (l .inv .named rs old D a keys N A t f s z g) t
-          (named .0 D a keys (A .template) (A .listed) (A .literals) f s h)
-          (λ k. named .1 D a keys (A .template) (A .listed) (A .literals) f s (z k) h k (t ∙ k)));
+          named-next D a (c .before .before .before .before .before .before .before .before .before .before .before .before .before .before .args .i) (classes D a) rs (l .class) h
+          (called .ensures .1 _ old D a (l .inv .named rs old D a N M t E g) t (named .0 D a M h) (λ k. named .1 D a M (E k) h k (t ∙ k)));
     }
 
 same-length : tie.Need-same-length Inv-loop μ-loop
@@ -95,7 +93,7 @@ returns c =
     let w = l .inv .few in
     let r = l .inv .reach in (
       omega arith,
-      λ rs old D a keys N A t f s z g. named-end D a _ (classes D a) rs (l .class) (omega arith) (l .inv .named rs old D a keys N A t f s z g),
+      λ rs old D a N M t E g. named-end D a _ (classes D a) rs (l .class) (omega arith) (l .inv .named rs old D a N M t E g),
     )
 
 pub with-each-spec : {M : Type 1} → statement M
@@ -105,10 +103,10 @@ with-each-spec =
     Inv-loop
     μ-loop
     loop-holds
-    shared-slice-read-with-class
-    shared-slice-read-t24
-    shared-slice-read-t27
-    shared-slice-read-t29
+    element-copy-out-with-class
+    element-copy-out-t24
+    element-copy-out-t28
+    element-copy-out-t31
     cast-name-class
     name-class-requires
     cast-with-class

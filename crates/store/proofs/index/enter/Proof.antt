@@ -4,6 +4,7 @@ use Prim.Native.Nat.{_+_}
 use native.Mathlib.Omega.{arith}
 use borrow.Author.Needs.{needs}
 use lib.ListN.{take, drop}
+use Rattle.literals.specs.Held.{keysIn, partsIn}
 use Rattle.literals.specs.Table.{rowsIn}
 use Rattle.store.specs.Index.{wordOf, slotOf}
 use Rattle.store.proofs.InstanceRows.{keyed-none, keyed-one}
@@ -51,7 +52,7 @@ returns c = let keyed = c .before .before .before .before .before .before .befor
     let first = worded .before .before .before .before in
     let slotted = first .before .before in
     let read = slotted .before in
-    let start = read .before .before .before .before in
+    let start = read .before .before .before in
     let a = start .args in
     let k = keyed .key-of in
     let o = slotted .slot-of in
@@ -66,9 +67,9 @@ returns c = let keyed = c .before .before .before .before .before .before .befor
     ∙ beside-at (a .index .now) (x .last .0) (o .result) _ 12288 (x .ensures) (omega (arith, o .ensures .1)) in
     let g = c .before .before .before .key-slot in
     let v = c .before .before .add-at3 in (
-      λ arities rows i z. enter-one i row z (x .last .0) (y .last .0) (o .result) (w .result)
+      λ rows i z. enter-one i row z (x .last .0) (y .last .0) (o .result) (w .result)
           (start .pre .0) e f (x .ensures) (y .ensures) (k .result .row) (v .last .0) (g .result)
-          (keyed-one (k .result) (a .keys) (rowsIn (a .components) (a .parts .now)) row (k .ensures) (c .before .before .before .before .before .before .if1 .taken)) (g .ensures .0) (v .ensures),
+          (keyed-one (k .result) (keysIn (a .head .now)) (partsIn (a .head .now)) row (k .ensures) (c .before .before .before .before .before .before .if1 .taken)) (g .ensures .0) (v .ensures),
       beside-at (y .last .0) (v .last .0) (8192 + g .result) _ 12288 (v .ensures) (omega (arith, g .ensures .1)) ∙ b,
     )
 
@@ -82,7 +83,7 @@ returns-2 c = let keyed = c .before in
     let first = worded .before .before .before .before in
     let slotted = first .before .before in
     let read = slotted .before in
-    let start = read .before .before .before .before in
+    let start = read .before .before .before in
     let a = start .args in
     let k = keyed .key-of in
     let o = slotted .slot-of in
@@ -95,9 +96,9 @@ returns-2 c = let keyed = c .before in
     let b =
     beside-at (x .last .0) (y .last .0) (4096 + o .result) _ 12288 (y .ensures) (omega (arith, o .ensures .1))
     ∙ beside-at (a .index .now) (x .last .0) (o .result) _ 12288 (x .ensures) (omega (arith, o .ensures .1)) in (
-      λ arities rows i z. enter-none i row z (x .last .0) (y .last .0) (o .result) (w .result)
+      λ rows i z. enter-none i row z (x .last .0) (y .last .0) (o .result) (w .result)
           (start .pre .0) e f (x .ensures) (y .ensures)
-          (keyed-none (k .result) (a .keys) (rowsIn (a .components) (a .parts .now)) row (k .ensures) (c .if1 .left)),
+          (keyed-none (k .result) (keysIn (a .head .now)) (partsIn (a .head .now)) row (k .ensures) (c .if1 .left)),
       b,
     )
 

@@ -23,7 +23,7 @@ shared-slice-read-count c = search needs
 returns : tie.Need-returns
 returns c = let a = c .before .before .before .before .before .args in
     let o = c .before .before .slot-of in
-    λ arities keys parts i z.
+    λ head i z.
     held-none (a .index .now) (rowsIn (a .n) (a .memory .now)) i (omega (arith, length-rows 8 (a .n) (a .memory .now))) (a .row) (o .result) (o .ensures .0) (c .if1 .taken)
 
 add-result : tie.Need-add-result
@@ -44,7 +44,7 @@ returns-2 c = let a = c .before .before .before .before .before .before .before 
     let l : length (a .row) ≡ 8 = search needs in
     let b : Bytes (a .row) = λ k. let z : Fits w8 (getD (a .row) k 0) = search needs in omega arith in
     let m : Bytes (a .memory .now) = λ k. omega (arith, c .before .before .before .before .before .before .shared-slice-known2 .given k) in
-    λ arities keys parts i z.
+    λ head i z.
     held-one (a .index .now) (rowsIn (a .n) (a .memory .now)) i (omega (arith, length-rows 8 (a .n) (a .memory .now))) (a .row) (o .result) (o .ensures .0)
     (c .before .before .if2 .taken) (c .word-of .result) (c .word-of .ensures .0) (l, b) (rows-eight (a .n) (a .memory .now) (omega arith) m) z
 

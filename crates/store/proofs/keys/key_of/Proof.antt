@@ -1,6 +1,7 @@
 -- `key_of` meets its contract: by the place of the relation's component. Assumes nothing.
 use native.Mathlib.Omega.{arith}
 use borrow.Author.Needs.{needs}
+use mathlib.Core.Path.{sym, _∙_}
 use Rattle.store.proofs.InstanceRows.{component-le, unmatched, matched}
 use Rattle.store.proofs.keys.key_of.Statement.{statement}
 use Rattle.store.proofs.keys.key_of.Tie as tie
@@ -11,24 +12,26 @@ shared-slice-read-component-of c = search needs
 component-of-requires : tie.Need-component-of-requires
 component-of-requires c κs = search needs
 
-returns : tie.Need-returns
-returns c = let a = c .before .before .before .before .before .args in
-    unmatched (a .parts .now) (a .memory .now) (a .components) (a .keys) (a .at) (c .before .component-of .result) (c .before .component-of .ensures) (c .if1 .taken)
+components-in-requires : tie.Need-components-in-requires
+components-in-requires c κs = search needs
 
-mul-key-tuple : tie.Need-mul-key-tuple
-mul-key-tuple c = let a = c .before .before .before .before .before .args in
-    let h = component-le (a .parts .now) (a .memory .now) (a .components) (a .keys) (a .at) (c .before .component-of .result) (c .before .component-of .ensures) in
-    omega arith
+returns : tie.Need-returns
+returns c =
+    let a = c .before .before .before .before .before .args in
+    unmatched (a .head .now) (a .memory .now) (a .at) (c .before .before .component-of .result) (c .before .before .component-of .ensures) (c .if1 .taken ∙ c .before .components-in .ensures .0)
 
 key-tuple-requires : tie.Need-key-tuple-requires
-key-tuple-requires c κs = let a = c .before .before .before .before .before .args in
-    let h = component-le (a .parts .now) (a .memory .now) (a .components) (a .keys) (a .at) (c .before .component-of .result) (c .before .component-of .ensures) in
+key-tuple-requires c κs =
+    let a = c .before .before .before .before .before .args in
+    let h = component-le (a .head .now) (a .memory .now) (a .at) (c .before .before .component-of .result) (c .before .before .component-of .ensures) in
+    let n = c .before .components-in .ensures in
     let g = c .if1 .left in
-    (omega arith, omega arith, omega arith)
+    (omega arith, omega arith)
 
 returns-2 : tie.Need-returns-2
-returns-2 c = let a = c .before .before .before .before .before .before .args in
-    matched (a .parts .now) (a .memory .now) (a .components) (a .keys) (a .at) (c .before .before .component-of .result) (c .before .before .component-of .ensures) (c .before .if1 .left) (c .key-tuple .result) (c .key-tuple .ensures)
+returns-2 c =
+    let a = c .before .before .before .before .before .before .args in
+    matched (a .head .now) (a .memory .now) (a .at) (c .before .before .before .component-of .result) (c .before .before .before .component-of .ensures) (λ e. c .before .if1 .left (e ∙ sym (c .before .before .components-in .ensures .0))) (c .key-tuple .result) (c .key-tuple .ensures)
 
 pub key-of-spec : {M : Type 1} → statement M
 key-of-spec =
@@ -36,7 +39,7 @@ key-of-spec =
     (tie.spec
     shared-slice-read-component-of
     component-of-requires
+    components-in-requires
     returns
-    mul-key-tuple
     key-tuple-requires
     returns-2)

@@ -3,6 +3,7 @@ use mathlib.Core.Path.{refl}
 use native.Mathlib.Omega.{arith}
 use borrow.Author.Needs.{needs}
 use lib.ListN.{take, drop}
+use Rattle.literals.specs.Held.{keysIn, partsIn}
 use Rattle.records.proofs.Lists.{not-true, not-false}
 use Rattle.literals.specs.Table.{rowsIn}
 use Rattle.classes.proofs.KeyRows.{length-rows}
@@ -16,12 +17,12 @@ key-of-requires : tie.Need-key-of-requires
 key-of-requires c κs = search needs
 
 returns : tie.Need-returns
-returns c = let a = c .before .before .before .before .before .before .args in
+returns c = let a = c .before .before .before .before .before .args in
     let k = c .before .before .key-of in
-    let ps = rowsIn (a .components) (a .parts .now) in
+    let ps = partsIn (a .head .now) in
     let rows = rowsIn (a .n) (a .memory .now) in
     let fact = take 8 (drop (a .at) (a .memory .now)) in
-    λ arities i. higher-none (a .keys) ps rows fact (a .least) (keyed-none (k .result) (a .keys) ps fact (k .ensures) (not-true (k .result .matched) (c .if1 .taken)))
+    λ i. higher-none (keysIn (a .head .now)) ps rows fact (a .least) (keyed-none (k .result) (keysIn (a .head .now)) ps fact (k .ensures) (not-true (k .result .matched) (c .if1 .taken)))
 
 key-slot-requires : tie.Need-key-slot-requires
 key-slot-requires c κs = search needs
@@ -36,33 +37,33 @@ shared-slice-read-if2 : tie.Need-shared-slice-read-if2
 shared-slice-read-if2 c = search needs
 
 returns-2 : tie.Need-returns-2
-returns-2 c = let a = c .before .before .before .before .before .before .before .before .before .before .args in
+returns-2 c = let a = c .before .before .before .before .before .before .before .before .before .args in
     let k = c .before .before .before .before .before .before .key-of in
-    let ps = rowsIn (a .components) (a .parts .now) in
+    let ps = partsIn (a .head .now) in
     let rows = rowsIn (a .n) (a .memory .now) in
     let fact = take 8 (drop (a .at) (a .memory .now)) in
     let g = c .before .before .key-slot in
-    λ arities i. higher-old (a .keys) ps rows fact (a .least) (k .result .row) (keyed-one (k .result) (a .keys) ps fact (k .ensures) (not-false (k .result .matched) (c .before .before .before .before .if1 .left))) (rowWeight (a .keys) ps rows (k .result .row)) refl
+    λ i. higher-old (keysIn (a .head .now)) ps rows fact (a .least) (k .result .row) (keyed-one (k .result) (keysIn (a .head .now)) ps fact (k .ensures) (not-false (k .result .matched) (c .before .before .before .before .if1 .left))) (rowWeight (keysIn (a .head .now)) ps rows (k .result .row)) refl
     (let w = weight-most (a .index .now) rows i (omega (arith, length-rows 8 (a .n) (a .memory .now))) (k .result .row) (g .result) (g .ensures .0) in omega (arith, c .if2 .taken))
 
 weigh-requires : tie.Need-weigh-requires
 weigh-requires c κs = search needs
 
 returns-3 : tie.Need-returns-3
-returns-3 c = let a = c .before .before .before .before .before .before .before .before .before .before .before .before .args in
+returns-3 c = let a = c .before .before .before .before .before .before .before .before .before .before .before .args in
     let k = c .before .before .before .before .before .before .before .before .key-of in
-    let ps = rowsIn (a .components) (a .parts .now) in
+    let ps = partsIn (a .head .now) in
     let rows = rowsIn (a .n) (a .memory .now) in
     let fact = take 8 (drop (a .at) (a .memory .now)) in
-    λ arities i. higher-new (a .keys) ps rows fact (a .least) (k .result .row) (keyed-one (k .result) (a .keys) ps fact (k .ensures) (not-false (k .result .matched) (c .before .before .before .before .before .before .if1 .left))) (c .before .weigh .result) (c .before .weigh .ensures) (c .if3 .taken)
+    λ i. higher-new (keysIn (a .head .now)) ps rows fact (a .least) (k .result .row) (keyed-one (k .result) (keysIn (a .head .now)) ps fact (k .ensures) (not-false (k .result .matched) (c .before .before .before .before .before .before .if1 .left))) (c .before .weigh .result) (c .before .weigh .ensures) (c .if3 .taken)
 
 returns-4 : tie.Need-returns-4
-returns-4 c = let a = c .before .before .before .before .before .before .before .before .before .before .before .before .args in
+returns-4 c = let a = c .before .before .before .before .before .before .before .before .before .before .before .args in
     let k = c .before .before .before .before .before .before .before .before .key-of in
-    let ps = rowsIn (a .components) (a .parts .now) in
+    let ps = partsIn (a .head .now) in
     let rows = rowsIn (a .n) (a .memory .now) in
     let fact = take 8 (drop (a .at) (a .memory .now)) in
-    λ arities i. higher-old (a .keys) ps rows fact (a .least) (k .result .row) (keyed-one (k .result) (a .keys) ps fact (k .ensures) (not-false (k .result .matched) (c .before .before .before .before .before .before .if1 .left))) (c .before .weigh .result) (c .before .weigh .ensures) (c .if3 .left)
+    λ i. higher-old (keysIn (a .head .now)) ps rows fact (a .least) (k .result .row) (keyed-one (k .result) (keysIn (a .head .now)) ps fact (k .ensures) (not-false (k .result .matched) (c .before .before .before .before .before .before .if1 .left))) (c .before .weigh .result) (c .before .weigh .ensures) (c .if3 .left)
 
 pub heavier-spec : {M : Type 1} → statement M
 heavier-spec =

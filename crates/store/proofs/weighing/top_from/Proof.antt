@@ -4,6 +4,7 @@ use mathlib.Core.List.{List}
 use Prim.Native.Nat.{ℕ, _-_, _*_, max}
 use native.Mathlib.Omega.{arith}
 use lib.ListN.{drop}
+use Rattle.literals.specs.Held.{keysIn, partsIn}
 use Rattle.literals.specs.Table.{rowsIn}
 use Rattle.store.specs.Rows.{topRows}
 use Rattle.store.specs.Index.{Indexed}
@@ -12,22 +13,22 @@ use Rattle.store.proofs.weighing.top_from.Statement.{statement}
 use Rattle.store.proofs.weighing.top_from.Tie as tie
 
 abbrev Inv-loop : tie.InvT-loop
-Inv-loop parts components keys memory n from least index top₀ i₀ top i =
-    (arities : List ℕ) → Indexed arities keys (rowsIn components parts) index (rowsIn n memory)
-    → max top (topOf keys (rowsIn components parts) (rowsIn n memory) (rowsIn (n - i) (drop (8 * i) memory)))
-    ≡ max least (topOf keys (rowsIn components parts) (rowsIn n memory) (rowsIn (n - from) (drop (8 * from) memory)))
+Inv-loop head memory n from least index top₀ i₀ top i =
+    Indexed head index (rowsIn n memory)
+    → max top (topOf (keysIn head) (partsIn head) (rowsIn n memory) (rowsIn (n - i) (drop (8 * i) memory)))
+    ≡ max least (topOf (keysIn head) (partsIn head) (rowsIn n memory) (rowsIn (n - from) (drop (8 * from) memory)))
 
 abbrev μ-loop : tie.MeasureT-loop
-μ-loop parts components keys memory n from least index top₀ i₀ top i = n - i
+μ-loop head memory n from least index top₀ i₀ top i = n - i
 
 loop-holds : tie.Need-loop-holds Inv-loop μ-loop
-loop-holds c = λ arities h. refl
+loop-holds c = λ h. refl
 
 mul-heavier : tie.Need-mul-heavier Inv-loop μ-loop
 mul-heavier c = omega arith
 
 heavier-requires : tie.Need-heavier-requires Inv-loop μ-loop
-heavier-requires c κs = (omega arith, omega arith, omega arith, omega arith, omega arith, omega arith)
+heavier-requires c κs = (omega arith, omega arith, omega arith, omega arith)
 
 add-i : tie.Need-add-i Inv-loop μ-loop
 add-i c = omega arith
@@ -36,18 +37,18 @@ loop-less : tie.Need-loop-less Inv-loop μ-loop
 loop-less c = omega arith
 
 loop-again : tie.Need-loop-again Inv-loop μ-loop
-loop-again c = let a = c .before .before .before .before .before .before .args in
+loop-again c = let a = c .before .before .before .before .before .args in
     let l = c .before .before .loop in
-    λ arities h. top-more (a .keys) (rowsIn (a .components) (a .parts .now)) (rowsIn (a .n) (a .memory .now)) (a .memory .now) (a .n) (l .i) (l .top) (c .heavier .result) (omega arith) (c .heavier .ensures arities h) ∙ l .inv arities h
+    λ h. top-more (keysIn (a .head .now)) (partsIn (a .head .now)) (rowsIn (a .n) (a .memory .now)) (a .memory .now) (a .n) (l .i) (l .top) (c .heavier .result) (omega arith) (c .heavier .ensures h) ∙ l .inv h
 
 returns : tie.Need-returns Inv-loop μ-loop
-returns c = let a = c .before .before .before .before .before .args in
+returns c = let a = c .before .before .before .before .args in
     let l = c .before .loop in
-    let e : (arities : List ℕ) → Indexed arities (a .keys) (rowsIn (a .components) (a .parts .now)) (a .index .now) (rowsIn (a .n) (a .memory .now))
-    → l .top ≡ max (a .least) (topRows (a .keys) (rowsIn (a .components) (a .parts .now)) (rowsIn (a .n) (a .memory .now)) (a .from)) = λ arities h. sym (top-end (a .keys) (rowsIn (a .components) (a .parts .now)) (rowsIn (a .n) (a .memory .now)) (a .memory .now) (a .n) (l .i) (l .top) (omega arith))
-    ∙ l .inv arities h
-    ∙ ap (max (a .least)) (top-rows (a .keys) (rowsIn (a .components) (a .parts .now)) (a .memory .now) (a .n) (a .from)) in
-    (e, λ D held fs arities h m k p i r fit. e arities i ∙ ap (max (a .least)) (top-held (a .parts .now) (a .memory .now) (a .components) (a .keys) (a .n) (a .from) (omega arith) D held fs h m k p r fit))
+    let e : Indexed (a .head .now) (a .index .now) (rowsIn (a .n) (a .memory .now))
+    → l .top ≡ max (a .least) (topRows (keysIn (a .head .now)) (partsIn (a .head .now)) (rowsIn (a .n) (a .memory .now)) (a .from)) = λ h. sym (top-end (keysIn (a .head .now)) (partsIn (a .head .now)) (rowsIn (a .n) (a .memory .now)) (a .memory .now) (a .n) (l .i) (l .top) (omega arith))
+    ∙ l .inv h
+    ∙ ap (max (a .least)) (top-rows (keysIn (a .head .now)) (partsIn (a .head .now)) (a .memory .now) (a .n) (a .from)) in
+    (e, λ D fs h i r fit. e i ∙ ap (max (a .least)) (top-held (a .head .now) (a .memory .now) (a .n) (a .from) D fs h r fit))
 
 pub top-from-spec : {M : Type 1} → statement M
 top-from-spec =

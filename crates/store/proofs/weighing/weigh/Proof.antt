@@ -4,6 +4,7 @@ use Prim.Native.Nat.{_+_, _-_, _*_, _≤_}
 use native.Mathlib.Omega.{arith}
 use lib.Dec.{eqb}
 use lib.ListN.{take, drop}
+use Rattle.literals.specs.Held.{keysIn, partsIn}
 use Rattle.records.specs.Lists.{any, sameList}
 use Rattle.literals.specs.Table.{rowsIn}
 use Rattle.store.specs.Rows.{instanceRows, rowWeight}
@@ -12,26 +13,26 @@ use Rattle.store.proofs.weighing.weigh.Statement.{statement}
 use Rattle.store.proofs.weighing.weigh.Tie as tie
 
 abbrev Inv-loop : tie.InvT-loop
-Inv-loop parts components keys memory n row weight₀ i₀ weight i = (i ≤ n) × (weight ≤ i)
-    × (weight + rowWeight keys (rowsIn components parts) (rowsIn (n - i) (drop (8 * i) memory)) row ≡ rowWeight keys (rowsIn components parts) (rowsIn n memory) row)
+Inv-loop head memory n row weight₀ i₀ weight i = (i ≤ n) × (weight ≤ i)
+    × (weight + rowWeight (keysIn head) (partsIn head) (rowsIn (n - i) (drop (8 * i) memory)) row ≡ rowWeight (keysIn head) (partsIn head) (rowsIn n memory) row)
 
 abbrev μ-loop : tie.MeasureT-loop
-μ-loop parts components keys memory n row weight₀ i₀ weight i = n - i
+μ-loop head memory n row weight₀ i₀ weight i = n - i
 
 loop-holds : tie.Need-loop-holds Inv-loop μ-loop
-loop-holds c = let a = c .before .before .args in
-    (omega arith, omega arith, weigh-none (a .keys) (rowsIn (a .components) (a .parts .now)) (a .memory .now) (a .row) (a .n))
+loop-holds c = let a = c .before .args in
+    (omega arith, omega arith, weigh-none (keysIn (a .head .now)) (partsIn (a .head .now)) (a .memory .now) (a .row) (a .n))
 
 mul-weight-at : tie.Need-mul-weight-at Inv-loop μ-loop
 mul-weight-at c = omega arith
 
 weight-at-requires : tie.Need-weight-at-requires Inv-loop μ-loop
-weight-at-requires c κs = (omega arith, omega arith, omega arith)
+weight-at-requires c κs = omega arith
 
 add-weight : tie.Need-add-weight Inv-loop μ-loop
-add-weight c = let a = c .before .before .before .before .before .args in
+add-weight c = let a = c .before .before .before .before .args in
     let l = c .before .before .loop in
-    let h = adds-few (any (sameList eqb (a .row)) (instanceRows (a .keys) (rowsIn (a .components) (a .parts .now)) (take 8 (drop (8 * l .i) (a .memory .now))))) (c .weight-at .result) (c .weight-at .ensures) in
+    let h = adds-few (any (sameList eqb (a .row)) (instanceRows (keysIn (a .head .now)) (partsIn (a .head .now)) (take 8 (drop (8 * l .i) (a .memory .now))))) (c .weight-at .result) (c .weight-at .ensures) in
     omega arith
 
 add-i : tie.Need-add-i Inv-loop μ-loop
@@ -41,15 +42,15 @@ loop-less : tie.Need-loop-less Inv-loop μ-loop
 loop-less c = omega arith
 
 loop-again : tie.Need-loop-again Inv-loop μ-loop
-loop-again c = let a = c .before .before .before .before .before .args in
+loop-again c = let a = c .before .before .before .before .args in
     let l = c .before .before .loop in
-    let h = adds-few (any (sameList eqb (a .row)) (instanceRows (a .keys) (rowsIn (a .components) (a .parts .now)) (take 8 (drop (8 * l .i) (a .memory .now))))) (c .weight-at .result) (c .weight-at .ensures) in
-    (omega arith, omega arith, weigh-more (a .keys) (rowsIn (a .components) (a .parts .now)) (a .memory .now) (a .row) (a .n) (l .i) (l .weight) (c .weight-at .result) (omega arith) (c .weight-at .ensures) ∙ l .inv .2)
+    let h = adds-few (any (sameList eqb (a .row)) (instanceRows (keysIn (a .head .now)) (partsIn (a .head .now)) (take 8 (drop (8 * l .i) (a .memory .now))))) (c .weight-at .result) (c .weight-at .ensures) in
+    (omega arith, omega arith, weigh-more (keysIn (a .head .now)) (partsIn (a .head .now)) (a .memory .now) (a .row) (a .n) (l .i) (l .weight) (c .weight-at .result) (omega arith) (c .weight-at .ensures) ∙ l .inv .2)
 
 returns : tie.Need-returns Inv-loop μ-loop
-returns c = let a = c .before .before .before .before .args in
+returns c = let a = c .before .before .before .args in
     let l = c .before .loop in
-    sym (weigh-end (a .keys) (rowsIn (a .components) (a .parts .now)) (a .memory .now) (a .row) (a .n) (l .i) (l .weight) (omega arith)) ∙ l .inv .2
+    sym (weigh-end (keysIn (a .head .now)) (partsIn (a .head .now)) (a .memory .now) (a .row) (a .n) (l .i) (l .weight) (omega arith)) ∙ l .inv .2
 
 pub weigh-spec : {M : Type 1} → statement M
 weigh-spec =

@@ -1,0 +1,152 @@
+-- How the code holds a domain that was read: a head of 520 bytes, in sections, and the table of its literals. Assumes nothing.
+use mathlib.Core.Path.{_≡_}
+use mathlib.Core.Bool.{Bool, cond}
+use mathlib.Core.List.{List, [], _∷_, _++_, map, flatMap}
+use Prim.Native.Nat.{ℕ, zero, suc, _+_, _-_, _*_, _/_, _%_, _≤_, _<_}
+use lib.Dec.{eqb, ltb, leb}
+use lib.ListN.{length, take, drop, getD}
+use Rattle.records.specs.Memory.{over}
+use Rattle.literals.specs.declared.span.Span.{Span}
+use Rattle.literals.specs.declared.Counts.{Counts}
+use Rattle.literals.specs.Domain.{Action, keysOf, Domain, arity, action}
+use Rattle.literals.specs.Table.{literalRow, componentRow, pad, startsFrom, sortNumber, allLiterals, tableBytes, Bounded}
+
+-- ---- what a head says, whatever its bytes are: each number within its limit, 0 for one above it
+
+abbrev pub within : ℕ → ℕ → ℕ
+within limit n = cond (leb n limit) n 0
+
+unfoldable pub relationsIn : List ℕ → ℕ
+relationsIn head = within 64 (getD head 0 0)
+
+unfoldable pub actionsIn : List ℕ → ℕ
+actionsIn head = within 64 (getD head 1 0)
+
+unfoldable pub componentsIn : List ℕ → ℕ
+componentsIn head = within 16 (getD head 2 0)
+
+unfoldable pub keysIn : List ℕ → ℕ
+keysIn head = within 6 (getD head 3 0)
+
+-- 0 for a relation that there is not
+unfoldable pub arityIn : List ℕ → ℕ → ℕ
+arityIn head r = cond (ltb r 64) (within 6 (getD head (8 + r) 0)) 0
+
+-- n bytes from k on
+abbrev pub bytesFrom : List ℕ → ℕ → ℕ → List ℕ
+bytesFrom t k zero = []
+bytesFrom t k (suc n) = getD t k 0 ∷ bytesFrom t (suc k) n
+
+-- the row of a component: relation, labels, FF to fill
+unfoldable pub partIn : List ℕ → ℕ → List ℕ
+partIn head c = bytesFrom head (72 + 8 * c) 8
+
+-- those of n components from c on
+abbrev pub partsFrom : List ℕ → ℕ → ℕ → List (List ℕ)
+partsFrom head c zero = []
+partsFrom head c (suc n) = partIn head c ∷ partsFrom head (suc c) n
+
+-- those of all components
+unfoldable pub partsIn : List ℕ → List (List ℕ)
+unfolding componentsIn
+partsIn head = partsFrom head 0 (componentsIn head)
+
+-- of an action: its variables, whether it lasts, how many literals it has, and the table's row of the first
+unfoldable pub variablesIn : List ℕ → ℕ → ℕ
+variablesIn head i = within 16 (getD head (200 + i) 0)
+
+unfoldable pub lastingIn : List ℕ → ℕ → Bool
+lastingIn head i = eqb (getD head (264 + i) 0) 1
+
+unfoldable pub sizeIn : List ℕ → ℕ → ℕ
+sizeIn head i = within 64 (getD head (328 + i) 0)
+
+unfoldable pub firstIn : List ℕ → ℕ → ℕ
+firstIn head i = getD head (392 + i) 0 + 256 * getD head (456 + i) 0
+
+-- ---- the bytes of a domain's head: how many there are of each, then the sections
+
+abbrev pub countBytes : Domain → List ℕ
+countBytes D =
+    let n = length (allLiterals (D .actions)) in
+    length (D .arities) ∷ length (D .actions) ∷ length (D .template) ∷ keysOf (D .template) ∷ n % 256 ∷ n / 256 ∷ 0 ∷ 0 ∷ []
+
+-- of each action
+abbrev pub actionBytes : (Action → ℕ) → Domain → List ℕ
+actionBytes f D = pad 64 (map f (D .actions))
+
+-- how many literals each action has, and the row of the first
+unfoldable pub spanBytes : Domain → List ℕ
+spanBytes D =
+    actionBytes (λ (a : Action). length (a .lits)) D
+    ++ (pad 64 (map (λ n. n % 256) (startsFrom 0 (D .actions))) ++ pad 64 (map (λ n. n / 256) (startsFrom 0 (D .actions))))
+
+unfoldable pub headOf : Domain → List ℕ
+unfolding flatMap allLiterals spanBytes
+headOf D =
+    countBytes D
+    ++ (pad 64 (D .arities)
+    ++ (pad 128 (flatMap componentRow (D .template))
+    ++ (actionBytes (λ (a : Action). a .vars) D
+    ++ (actionBytes sortNumber D ++ spanBytes D))))
+
+-- ---- what head and table say of a domain that they hold
+
+pub record HeadOf (D : Domain) (head : List ℕ) : Type 0 where
+  pub bounded : Bounded D
+  pub relations : relationsIn head ≡ length (D .arities)
+  pub actions : actionsIn head ≡ length (D .actions)
+  pub keys : keysIn head ≡ keysOf (D .template)
+  pub arities : (r : ℕ) → arityIn head r ≡ arity D r
+  pub components : componentsIn head ≡ length (D .template)
+  pub parts : partsIn head ≡ map componentRow (D .template)
+  pub variables : (i : ℕ) → i < length (D .actions) → variablesIn head i ≡ action D i .vars
+  pub lasting : (i : ℕ) → i < length (D .actions) → lastingIn head i ≡ action D i .lasting
+  pub sizes : (i : ℕ) → i < length (D .actions) → sizeIn head i ≡ length (action D i .lits)
+  pub firsts : (i : ℕ) → i < length (D .actions) → firstIn head i ≡ length (allLiterals (take i (D .actions)))
+
+pub record Held (D : Domain) (head table : List ℕ) : Type 0 where
+  pub says : HeadOf D head
+  pub old : List ℕ
+  pub rows : table ≡ over (tableBytes D) old
+
+-- some domain is held
+abbrev pub Read : List ℕ → List ℕ → Type 0
+Read head table = (D : Domain) × Held D head table
+
+-- ---- the rows of an action's literals
+
+-- they lie in a table of n bytes, and are at most 64
+pub record SpanFits (n : ℕ) (r : Span) : Type 0 where
+  pub order : r .from ≤ r .to
+  pub few : r .to ≤ r .from + 64
+  pub room : 8 * r .to ≤ n
+
+-- they are those of the action i
+pub record SpanOf (D : Domain) (i : ℕ) (table : List ℕ) (r : Span) : Type 0 where
+  pub first : r .from ≡ length (allLiterals (take i (D .actions)))
+  pub size : r .to ≡ r .from + length (action D i .lits)
+  pub literals : take (8 * r .to - 8 * r .from) (drop (8 * r .from) table) ≡ flatMap literalRow (action D i .lits)
+
+-- ---- what packing asks of the memories that reading fills
+
+pub record CountsFit (n : Counts) : Type 0 where
+  pub relations : n .relations ≤ 64
+  pub actions : n .actions ≤ 64
+  pub components : n .components ≤ 16
+  pub keys : n .keys ≤ 6
+  pub rows : n .rows ≤ 4096
+
+pub record SpansFit (n : Counts) (starts : List ℕ) : Type 0 where
+  pub counted : CountsFit n
+  pub room : length starts ≡ 64
+  pub order : (i : ℕ) → i < n .actions → getD starts i 0 ≤ cond (ltb (i + 1) (n .actions)) (getD starts (i + 1) 0) (n .rows)
+  pub within-rows : (i : ℕ) → i < n .actions → cond (ltb (i + 1) (n .actions)) (getD starts (i + 1) 0) (n .rows) ≤ n .rows
+  pub few : (i : ℕ) → i < n .actions → cond (ltb (i + 1) (n .actions)) (getD starts (i + 1) 0) (n .rows) ≤ getD starts i 0 + 64
+
+pub record Packable (n : Counts) (arities variables sorts starts parts : List ℕ) : Type 0 where
+  pub spans : SpansFit n starts
+  pub arities-room : length arities ≡ 64
+  pub variables-room : length variables ≡ 64
+  pub sorts-room : length sorts ≡ 64
+  pub parts-room : length parts ≡ 128
