@@ -24,7 +24,8 @@ use Rattle.verdict.specs.Decision.{Row, rows, isUnbounded, faultBy, faultOf, is
 use Rattle.verdict.specs.Judged.{rowBytes, factBytes, Answer, answerAt, answerRow, decided, writesWitness, fillsReport, judgedDomain, reportBy, witnessMemoryBy}
 use Rattle.verdict.specs.Coded.{judgementOf, momentBy, notesOf}
 use Rattle.naming.specs.Named.{namingOf}
-use Rattle.showing.specs.Bytes.{fitsIn, shownIn}
+use Rattle.showing.specs.Bytes.{fitsIn, shownIn, RefusedAt, ShownAt}
+use Rattle.judging.specs.Reporting.{JudgedAs}
 use Rattle.verdict.proofs.Rows.{stands, filter-first}
 
 -- ---- the decision
@@ -149,15 +150,16 @@ module _ (D : Domain) (report wit : List ℕ) where
 
   -- all that a call leaves
   abbrev pub Leaves : Judgement → List ℕ → List ℕ → Type 0
-  Leaves r u w = (r ≡ judgementOf (judgedDomain D report wit)) × (u ≡ reportBy (domain D) report wit) × (w ≡ witnessMemoryBy (domain D) report wit)
+  Leaves r u w = JudgedAs (domain D) report wit r u w
 
   by-answer : {r : Judgement} {u w : List ℕ} (a : Answer) → judgedDomain D report wit ≡ a → r ≡ judgementOf a
       → u ≡ cond (fillsReport (a .number)) (over (rowBytes (rows D)) report) report → w ≡ cond (writesWitness (a .number)) (over (factBytes (witness D)) wit) wit → Leaves r u w
-  by-answer a e x y z = (
-    x ∙ ap judgementOf (sym e),
-    y ∙ ap (λ (b : Answer). cond (fillsReport (b .number)) (over (rowBytes (rows D)) report) report) (sym e),
-    z ∙ ap (λ (b : Answer). cond (writesWitness (b .number)) (over (factBytes (witness D)) wit) wit) (sym e),
-  )
+  by-answer a e x y z =
+      record {
+        answer = x ∙ ap judgementOf (sym e);
+        reported = y ∙ ap (λ (b : Answer). cond (fillsReport (b .number)) (over (rowBytes (rows D)) report) report) (sym e);
+        witnessed = z ∙ ap (λ (b : Answer). cond (writesWitness (b .number)) (over (factBytes (witness D)) wit) wit) (sym e);
+      }
 
   pub leaves-30 : {r : Judgement} → length report < 4 * length (rows D) → r ≡ judgementOf (answerAt 30 0) → Leaves r report wit
   leaves-30 h x = by-answer (answerAt 30 0) (short-report h) x refl refl
@@ -196,11 +198,10 @@ number-of D e = ap (λ (j : Judgement). j .number) e
 
 -- what showing the place of a refusal by 40 to 42 leaves
 pub showing-of : (D : Domain) (wit : List ℕ) {j : Judgement} {r : Bool} {out : List ℕ} → j ≡ judgementOf (decided D) → writesWitness (j .number) ≡ true
-    → ((e : Bool) → j .first < length (D .actions) → j .second < length (classes D (action D (j .first))) → (j .number ≡ 0 → ⊥)
-    → j .number ≡ faultBy (nameOf D (action D (j .first)) (classAt D (j .first) (j .second)) (momentBy (j .third))) e
-    → (r ≡ fitsIn (witnessAt D (action D (j .first)) (classAt D (j .first) (j .second)) (momentBy (j .third))) wit)
-    × (out ≡ shownIn (witnessAt D (action D (j .first)) (classAt D (j .first) (j .second)) (momentBy (j .third))) wit))
+    → (j .first < length (D .actions) → RefusedAt D (action D (j .first)) (j .second) (momentBy (j .third)) (j .number)
+    → ShownAt D (action D (j .first)) (j .second) (momentBy (j .third)) wit out r)
     → (r ≡ fitsIn (witness D) wit) × (out ≡ shownIn (witness D) wit)
+unfolding classAt
 showing-of D wit {j} is w h =
     let lo = leb-true 40 (j .number) (and-l (leb 40 (j .number)) (leb (j .number) 42) w) in
     let hi = leb-true (j .number) 42 (and-r (leb 40 (j .number)) (leb (j .number) 42) w) in
@@ -208,5 +209,5 @@ showing-of D wit {j} is w h =
     let same : answer ≡ decided D = ap (λ (q : Judgement). record { number = q .number; first = q .first; second = q .second; third = q .third }) is in
     let number : j .number ≡ decided D .number = ap (λ (q : Judgement). q .number) is in
     let p = subst (Placed D) (sym same) (placed D (omega arith) (omega arith)) in
-    let l = h (p .ended) (p .action-listed) (p .class-listed) (λ z. omega arith) (p .fault) in
-    (l .0 ∙ ap (λ (fs : List Fact). fitsIn fs wit) (sym (p .shown)), l .1 ∙ ap (λ (fs : List Fact). shownIn fs wit) (sym (p .shown)))
+    let l = h (p .action-listed) (record { listed = p .class-listed; journeyEnd = p .ended; fault = p .fault; refused = λ z. omega arith }) in
+    (l .fits ∙ ap (λ (fs : List Fact). fitsIn fs wit) (sym (p .shown)), l .bytes ∙ ap (λ (fs : List Fact). shownIn fs wit) (sym (p .shown)))

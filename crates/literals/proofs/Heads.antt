@@ -52,7 +52,7 @@ module _ (head : List ℕ) (r n : ℕ) (e : n ≡ r) where
 
 -- ---- components
 
-length-bytes : (t : List ℕ) (k n : ℕ) → length (bytesFrom t k n) ≡ n
+pub length-bytes : (t : List ℕ) (k n : ℕ) → length (bytesFrom t k n) ≡ n
 length-bytes t k zero = refl
 length-bytes t k (suc n) = ap suc (length-bytes t (suc k) n)
 
@@ -60,6 +60,22 @@ bytes-at : (t : List ℕ) (k n i : ℕ) → i < n → getD (bytesFrom t k n) i 0
 bytes-at t k zero i h = absurd (omega arith)
 bytes-at t k (suc n) zero h = let e : k ≡ k + 0 = omega arith in ap (λ (j : ℕ). getD t j 0) e
 bytes-at t k (suc n) (suc i) h = let e : suc k + i ≡ k + suc i = omega arith in bytes-at t (suc k) n i (omega arith) ∙ ap (λ (j : ℕ). getD t j 0) e
+
+-- one more
+pub bytes-more : (t : List ℕ) (k n : ℕ) → bytesFrom t k (suc n) ≡ bytesFrom t k n ++ (getD t (k + n) 0 ∷ [])
+bytes-more t k zero = let e : k ≡ k + 0 = omega arith in ap (λ (j : ℕ). getD t j 0 ∷ []) e
+bytes-more t k (suc n) =
+    let e : suc k + n ≡ k + suc n = omega arith in
+    ap {B = List ℕ} (λ r. getD t k 0 ∷ r) (bytes-more t (suc k) n ∙ ap (λ (j : ℕ). bytesFrom t (suc k) n ++ (getD t j 0 ∷ [])) e)
+
+bytes-behind : (x : ℕ) (t : List ℕ) (k n : ℕ) → bytesFrom (x ∷ t) (suc k) n ≡ bytesFrom t k n
+bytes-behind x t k zero = refl
+bytes-behind x t k (suc n) = ap {B = List ℕ} (λ r. getD t k 0 ∷ r) (bytes-behind x t (suc k) n)
+
+-- all of a list that more follows
+pub bytes-front : (l rest : List ℕ) → bytesFrom (l ++ rest) 0 (length l) ≡ l
+bytes-front [] rest = refl
+bytes-front (x ∷ xs) rest = ap {B = List ℕ} (λ r. x ∷ r) (bytes-behind x (xs ++ rest) 0 (length xs) ∙ bytes-front xs rest)
 
 pub part-length : (head : List ℕ) (c : ℕ) → length (partIn head c) ≡ 8
 unfolding partIn

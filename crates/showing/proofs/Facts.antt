@@ -7,47 +7,53 @@ use Prim.Native.Nat.{ℕ, zero, suc, _+_, _-_, _*_, _≤_, _<_}
 use native.Mathlib.Numerals.{add-one}
 use native.Mathlib.Omega.{arith}
 use lib.ListN.{length, getD, take, drop, replicate, length-append, length-map, length-drop, length-replicate, getD-replicate, List·getD-append}
-use lib.Seq.{take-suc, getD-take, getD-drop, getD-append-add, length-take-le, paste, paste-zero}
+use lib.Seq.{getD-take, getD-drop, getD-append-add, length-take-le, paste, paste-zero}
 use borrow.Author.Tests.{lt-ltb, le-ltb, eq-eqb, ne-eqb}
 use Rattle.records.specs.Lists.{In, addIf, keepIf, countBy}
 use Rattle.records.specs.Memory.{over}
 use Rattle.records.proofs.Lists.{in-keepIf, count-append, flatMap-append}
 use Rattle.records.proofs.Memory.{length-over, over-paste}
-use Rattle.literals.proofs.Rows.{rows-last, rows-whole, part-first, length-part, part-at}
 use Rattle.literals.specs.Table.{rowsIn}
+use Rattle.literals.specs.Held.{bytesFrom, arityIn, partIn}
+use Rattle.literals.proofs.Rows.{rows-last, rows-whole, length-part, part-at}
 use Rattle.literals.proofs.Tables.{length-flat}
+use Rattle.literals.proofs.Heads.{length-bytes, bytes-more, part-length}
 use Rattle.classes.proofs.Indices.{getD-map}
 use Rattle.classes.proofs.KeyRows.{length-rows}
-use Rattle.showing.specs.Bytes.{selectBy, isCondition, conditionBytes, conditionOf, conditionIf, conditionsOf, objectByte, instanceBytes}
+use Rattle.showing.specs.Bytes.{firstClauses, selectBy, isCondition, conditionBytes, conditionOf, conditionIf, conditionsOf, objectByte, instanceBytes}
 
--- ---- how many of the first pass
+-- ---- the first clauses, and how many of them pass
 
-module _ (p : ℕ → Bool) where
-  pub count-take-hit : (l : List ℕ) (j : ℕ) → j < length l → p (getD l j 0) ≡ true → countBy p (take (j + 1) l) ≡ countBy p (take j l) + 1
-  count-take-hit l j h t =
-      ap (λ (n : ℕ). countBy p (take n l)) (add-one j)
-      ∙ ap (countBy p) (take-suc l j 0 h)
-      ∙ count-append p (take j l) (getD l j 0 ∷ [])
-      ∙ ap (λ (b : Bool). countBy p (take j l) + addIf b 0) t
+first-more : (l : List ℕ) (j : ℕ) → firstClauses (j + 1) l ≡ firstClauses j l ++ (getD l j 0 ∷ [])
+first-more l j =
+    let e : 0 + j ≡ j = omega arith in
+    ap (λ (n : ℕ). firstClauses n l) (add-one j) ∙ bytes-more l 0 j ∙ ap (λ (i : ℕ). firstClauses j l ++ (getD l i 0 ∷ [])) e
 
-  pub count-take-miss : (l : List ℕ) (j : ℕ) → j < length l → p (getD l j 0) ≡ false → countBy p (take (j + 1) l) ≡ countBy p (take j l)
-  count-take-miss l j h t =
-      let z : countBy p (take j l) + 0 ≡ countBy p (take j l) = omega arith in
-      ap (λ (n : ℕ). countBy p (take n l)) (add-one j)
-      ∙ ap (countBy p) (take-suc l j 0 h)
-      ∙ count-append p (take j l) (getD l j 0 ∷ [])
-      ∙ ap (λ (b : Bool). countBy p (take j l) + addIf b 0) t
-      ∙ z
+module _ (p : ℕ → Bool) (l : List ℕ) where
+  count-more : (j : ℕ) {b : Bool} → p (getD l j 0) ≡ b → countBy p (firstClauses (j + 1) l) ≡ countBy p (firstClauses j l) + addIf b 0
+  count-more j t =
+      ap (countBy p) (first-more l j)
+      ∙ count-append p (firstClauses j l) (getD l j 0 ∷ [])
+      ∙ ap (λ (b : Bool). countBy p (firstClauses j l) + addIf b 0) t
 
-  pub count-take-le : (l : List ℕ) (j n : ℕ) → j ≤ n → countBy p (take j l) ≤ countBy p (take n l)
-  count-take-le l zero n h = omega arith
-  count-take-le l (suc j) zero h = absurd (omega arith)
-  count-take-le [] (suc j) (suc n) h = omega arith
-  count-take-le (x ∷ xs) (suc j) (suc n) h = go (p x) (count-take-le xs j n (omega arith))
+  pub count-hit : (j : ℕ) → p (getD l j 0) ≡ true → countBy p (firstClauses (j + 1) l) ≡ countBy p (firstClauses j l) + 1
+  count-hit j t = count-more j t
+
+  pub count-miss : (j : ℕ) → p (getD l j 0) ≡ false → countBy p (firstClauses (j + 1) l) ≡ countBy p (firstClauses j l)
+  count-miss j t = let e = count-more j t in omega arith
+
+  count-from : (k j n : ℕ) → j ≤ n → countBy p (bytesFrom l k j) ≤ countBy p (bytesFrom l k n)
+  count-from k zero n h = omega arith
+  count-from k (suc j) zero h = absurd (omega arith)
+  count-from k (suc j) (suc n) h = go (p (getD l k 0)) (count-from (suc k) j n (omega arith))
     where
-      go : (b : Bool) → countBy p (take j xs) ≤ countBy p (take n xs) → addIf b (countBy p (take j xs)) ≤ addIf b (countBy p (take n xs))
+      go : (b : Bool) → countBy p (bytesFrom l (suc k) j) ≤ countBy p (bytesFrom l (suc k) n)
+          → addIf b (countBy p (bytesFrom l (suc k) j)) ≤ addIf b (countBy p (bytesFrom l (suc k) n))
       go true e = omega arith
       go false e = e
+
+  pub count-le : (j n : ℕ) → j ≤ n → countBy p (firstClauses j l) ≤ countBy p (firstClauses n l)
+  count-le j n h = count-from 0 j n h
 
 -- ---- elements whose numbers pass
 
@@ -103,93 +109,92 @@ length-condition-at arity t at h = length-condition arity (take 8 (drop at t)) (
 
 -- ---- it where the literal is a true condition
 
-module _ (arities t d : List ℕ) (at row k : ℕ) where
-  if-not : (k ≡ 1 → ⊥) → conditionIf arities k (take 8 (drop row t)) ≡ []
+module _ (head t d : List ℕ) (at row k : ℕ) where
+  if-not : (k ≡ 1 → ⊥) → conditionIf head k (take 8 (drop row t)) ≡ []
   if-not n = rw (ne-eqb k 1 n)
 
-  pub left-out : (k ≡ 1 → ⊥) → d ≡ paste d at (conditionIf arities k (take 8 (drop row t))) (length (conditionIf arities k (take 8 (drop row t))))
+  pub left-out : (k ≡ 1 → ⊥) → d ≡ paste d at (conditionIf head k (take 8 (drop row t))) (length (conditionIf head k (take 8 (drop row t))))
   left-out n = paste-zero d at [] ∙ sym (ap (λ (s : List ℕ). paste d at s (length s)) (if-not n))
 
-  pub left-behind : (k ≡ 1 → ⊥) → at ≡ at + length (conditionIf arities k (take 8 (drop row t)))
+  pub left-behind : (k ≡ 1 → ⊥) → at ≡ at + length (conditionIf head k (take 8 (drop row t)))
   left-behind n = let e = ap length (if-not n) in omega arith
 
-  module _ (arity : ℕ) (h : row + 8 ≤ length t) (e : k ≡ 1) (f : arity ≡ getD arities (getD t (row + 1) 0) 0) where
-    if-so : conditionIf arities k (take 8 (drop row t)) ≡ conditionBytes arity (take 8 (drop row t))
+  module _ (arity : ℕ) (h : row + 8 ≤ length t) (e : k ≡ 1) (f : arity ≡ arityIn head (getD t (row + 1) 0)) where
+    if-so : conditionIf head k (take 8 (drop row t)) ≡ conditionBytes arity (take 8 (drop row t))
     if-so =
-        rw (eq-eqb k 1 e)
-        (ap (λ (n : ℕ). conditionBytes n (take 8 (drop row t)))
-        (ap (λ (r : ℕ). getD arities r 0) (part-at 8 t row h 1 (omega arith)) ∙ sym f))
+        rw (eq-eqb k 1 e) (ap (λ (n : ℕ). conditionBytes n (take 8 (drop row t))) (ap (arityIn head) (part-at 8 t row h 1 (omega arith)) ∙ sym f))
 
     pub put-in : (out : List ℕ) → out ≡ paste d at (conditionBytes arity (take 8 (drop row t))) 8
-        → out ≡ paste d at (conditionIf arities k (take 8 (drop row t))) (length (conditionIf arities k (take 8 (drop row t))))
+        → out ≡ paste d at (conditionIf head k (take 8 (drop row t))) (length (conditionIf head k (take 8 (drop row t))))
     put-in out o =
         o
         ∙ ap (paste d at (conditionBytes arity (take 8 (drop row t)))) (sym (length-condition-at arity t row h))
         ∙ sym (ap (λ (s : List ℕ). paste d at s (length s)) if-so)
 
-    pub put-behind : at + 8 ≡ at + length (conditionIf arities k (take 8 (drop row t)))
+    pub put-behind : at + 8 ≡ at + length (conditionIf head k (take 8 (drop row t)))
     put-behind = let g = ap length if-so in let l = length-condition-at arity t row h in omega arith
 
 -- ---- those of all true conditions
 
-module _ (arities ks t : List ℕ) where
-  conditions-more : (j : ℕ) → j < length ks
-      → conditionsOf arities (take (j + 1) ks) (rowsIn (j + 1) t) ≡ conditionsOf arities (take j ks) (rowsIn j t) ++ conditionIf arities (getD ks j 0) (take 8 (drop (8 * j) t))
+module _ (head ks t : List ℕ) where
+  -- those among the first j
+  abbrev pub conditionsTo : ℕ → List ℕ
+  conditionsTo j = conditionsOf head (firstClauses j ks) (rowsIn j t)
+
+  -- the one of the literal j
+  abbrev conditionAt : ℕ → List ℕ
+  conditionAt j = conditionIf head (getD ks j 0) (take 8 (drop (8 * j) t))
+
+  conditions-more : (j : ℕ) → conditionsTo (j + 1) ≡ conditionsTo j ++ conditionAt j
   unfolding conditionsOf flatMap
-  conditions-more j h =
-      let l = length-take-le j ks (omega arith) in
+  conditions-more j =
+      let l = length-bytes ks 0 j in
       let r = length-rows 8 j t in
-      ap (λ (n : ℕ). conditionsOf arities (take n ks) (rowsIn n t)) (add-one j)
-      ∙ ap₂ (conditionsOf arities) (take-suc ks j 0 h) (rows-last j t)
-      ∙ ap (flatMap (conditionOf arities)) (select-snoc isCondition (take j ks) (rowsIn j t) (getD ks j 0) (take 8 (drop (8 * j) t)) (omega arith))
-      ∙ flatMap-append (conditionOf arities) (selectBy isCondition (take j ks) (rowsIn j t)) (keepIf (isCondition (getD ks j 0)) (take 8 (drop (8 * j) t)) [])
-      ∙ ap (λ (b : List ℕ). conditionsOf arities (take j ks) (rowsIn j t) ++ b) (one (isCondition (getD ks j 0)) (take 8 (drop (8 * j) t)))
+      ap₂ (conditionsOf head) (first-more ks j) (ap (λ (n : ℕ). rowsIn n t) (add-one j) ∙ rows-last j t)
+      ∙ ap (flatMap (conditionOf head)) (select-snoc isCondition (firstClauses j ks) (rowsIn j t) (getD ks j 0) (take 8 (drop (8 * j) t)) (omega arith))
+      ∙ flatMap-append (conditionOf head) (selectBy isCondition (firstClauses j ks) (rowsIn j t)) (keepIf (isCondition (getD ks j 0)) (take 8 (drop (8 * j) t)) [])
+      ∙ ap (λ (b : List ℕ). conditionsTo j ++ b) (one (isCondition (getD ks j 0)) (take 8 (drop (8 * j) t)))
     where
-      one : (b : Bool) (row : List ℕ) → flatMap (conditionOf arities) (keepIf b row []) ≡ cond b (conditionOf arities row) []
-      one true row = append-nil (conditionOf arities row)
+      one : (b : Bool) (row : List ℕ) → flatMap (conditionOf head) (keepIf b row []) ≡ cond b (conditionOf head row) []
+      one true row = append-nil (conditionOf head row)
       one false row = refl
 
-  pub length-conditions : (j : ℕ) → j ≤ length ks → 8 * j ≤ length t → length (conditionsOf arities (take j ks) (rowsIn j t)) ≡ 8 * countBy isCondition (take j ks)
+  pub length-conditions : (j : ℕ) → 8 * j ≤ length t → length (conditionsTo j) ≡ 8 * countBy isCondition (firstClauses j ks)
   unfolding conditionsOf
-  length-conditions j h g =
-      let l = length-take-le j ks h in
+  length-conditions j g =
+      let l = length-bytes ks 0 j in
       let r = length-rows 8 j t in
-      let n = length-select isCondition (take j ks) (rowsIn j t) (omega arith) in
-      let f = length-flat (conditionOf arities) (selectBy isCondition (take j ks) (rowsIn j t)) (λ row m. length-condition (getD arities (getD row 1 0) 0) row (rows-whole j t g row (select-in isCondition (take j ks) (rowsIn j t) m))) in
+      let n = length-select isCondition (firstClauses j ks) (rowsIn j t) (omega arith) in
+      let f = length-flat (conditionOf head) (selectBy isCondition (firstClauses j ks) (rowsIn j t)) (λ row m. length-condition (arityIn head (getD row 1 0)) row (rows-whole j t g row (select-in isCondition (firstClauses j ks) (rowsIn j t) m))) in
       omega arith
 
   -- the loop that writes them: j rows are behind it
-  module _ (n : ℕ) (old : List ℕ) (h : n ≤ length ks) (g : 8 * n ≤ length t) (f : 8 * countBy isCondition (take n ks) ≤ length old) (j at : ℕ) (out : List ℕ)
-      (i : j ≤ n) (a : at ≡ length (conditionsOf arities (take j ks) (rowsIn j t))) (o : out ≡ over (conditionsOf arities (take j ks) (rowsIn j t)) old) where
+  module _ (n : ℕ) (old : List ℕ) (g : 8 * n ≤ length t) (f : 8 * countBy isCondition (firstClauses n ks) ≤ length old) (j at : ℕ) (out : List ℕ)
+      (i : j ≤ n) (a : at ≡ length (conditionsTo j)) (o : out ≡ over (conditionsTo j) old) where
     pub conditions-length : length out ≡ length old
     conditions-length =
-        let l = length-conditions j (omega arith) (omega arith) in
-        let c = count-take-le isCondition ks j n i in
-        ap length o ∙ length-over (conditionsOf arities (take j ks) (rowsIn j t)) old (omega arith)
+        let l = length-conditions j (omega arith) in
+        let c = count-le isCondition ks j n i in
+        ap length o ∙ length-over (conditionsTo j) old (omega arith)
 
     module _ (s : j < n) where
       pub conditions-room : getD ks j 0 ≡ 1 → at + 8 ≤ length out
       conditions-room e =
-          let l = length-conditions j (omega arith) (omega arith) in
-          let k = count-take-hit isCondition ks j (omega arith) (eq-eqb (getD ks j 0) 1 e) in
-          let c = count-take-le isCondition ks (j + 1) n (omega arith) in
+          let l = length-conditions j (omega arith) in
+          let k = count-hit isCondition ks j (eq-eqb (getD ks j 0) 1 e) in
+          let c = count-le isCondition ks (j + 1) n (omega arith) in
           let d = conditions-length in
           omega arith
 
-      pub conditions-at : (r : ℕ) → r ≡ at + length (conditionIf arities (getD ks j 0) (take 8 (drop (8 * j) t))) → r ≡ length (conditionsOf arities (take (j + 1) ks) (rowsIn (j + 1) t))
-      conditions-at r e =
-          let k = ap length (conditions-more j (omega arith)) ∙ length-append (conditionsOf arities (take j ks) (rowsIn j t)) (conditionIf arities (getD ks j 0) (take 8 (drop (8 * j) t))) in
-          omega arith
+      pub conditions-at : (r : ℕ) → r ≡ at + length (conditionAt j) → r ≡ length (conditionsTo (j + 1))
+      conditions-at r e = let k = ap length (conditions-more j) ∙ length-append (conditionsTo j) (conditionAt j) in omega arith
 
-      pub conditions-out : (out′ : List ℕ)
-          → out′ ≡ paste out at (conditionIf arities (getD ks j 0) (take 8 (drop (8 * j) t))) (length (conditionIf arities (getD ks j 0) (take 8 (drop (8 * j) t))))
-          → out′ ≡ over (conditionsOf arities (take (j + 1) ks) (rowsIn (j + 1) t)) old
+      pub conditions-out : (out′ : List ℕ) → out′ ≡ paste out at (conditionAt j) (length (conditionAt j)) → out′ ≡ over (conditionsTo (j + 1)) old
       conditions-out out′ e =
-          let b : List ℕ = conditionIf arities (getD ks j 0) (take 8 (drop (8 * j) t)) in
           e
-          ∙ ap (λ (x : List ℕ). paste x at b (length b)) o
-          ∙ over-paste (conditionsOf arities (take j ks) (rowsIn j t)) old b at (length b) (sym a) refl
-          ∙ sym (ap (λ (x : List ℕ). over x old) (conditions-more j (omega arith)))
+          ∙ ap (λ (x : List ℕ). paste x at (conditionAt j) (length (conditionAt j))) o
+          ∙ over-paste (conditionsTo j) old (conditionAt j) at (length (conditionAt j)) (sym a) refl
+          ∙ sym (ap (λ (x : List ℕ). over x old) (conditions-more j))
 
 -- ---- an instance fact
 
@@ -232,23 +237,25 @@ module _ (arity spare : ℕ) (tuple row : List ℕ) (h : length row ≡ 8) (g : 
       ∙ getD-append-add (map (objectByte spare tuple) labels) (replicate (6 - arity) 255) (k - arity) 0
       ∙ getD-replicate (6 - arity) (k - arity) 255 0 (omega arith)
 
-module _ (arity spare : ℕ) (tuple t : List ℕ) (at : ℕ) (h : at + 8 ≤ length t) (g : arity ≤ 6) where
-  pub instance-first : (i : ℕ) → i ≡ 0 → getD t at 0 ≡ getD (instanceBytes arity spare tuple (take 8 (drop at t))) i 0
-  instance-first i e = sym (part-first t at) ∙ ap (λ (i : ℕ). getD (instanceBytes arity spare tuple (take 8 (drop at t))) i 0) (sym e)
+-- of the component c of a head
+module _ (arity spare : ℕ) (tuple head : List ℕ) (c : ℕ) (g : arity ≤ 6) where
+  pub instance-first : (i r : ℕ) → i ≡ 0 → r ≡ getD (partIn head c) 0 0 → r ≡ getD (instanceBytes arity spare tuple (partIn head c)) i 0
+  instance-first i r e f = f ∙ ap (λ (i : ℕ). getD (instanceBytes arity spare tuple (partIn head c)) i 0) (sym e)
 
-  pub instance-object : (i r : ℕ) → (i ≡ 0 → ⊥) → (i ≡ 1 → ⊥) → i < 2 + arity → r ≡ objectByte spare tuple (getD t (at + (i - 1)) 0) → r ≡ getD (instanceBytes arity spare tuple (take 8 (drop at t))) i 0
+  pub instance-object : (i r : ℕ) → (i ≡ 0 → ⊥) → (i ≡ 1 → ⊥) → i < 2 + arity → r ≡ objectByte spare tuple (getD (partIn head c) (i - 1) 0)
+      → r ≡ getD (instanceBytes arity spare tuple (partIn head c)) i 0
   instance-object zero r n o l e = absurd (n refl)
   instance-object (suc zero) r n o l e = absurd (o refl)
   instance-object (suc (suc k)) r n o l e =
       let z : suc (suc k) - 1 ≡ 1 + k = omega arith in
       e
-      ∙ ap (λ (i : ℕ). objectByte spare tuple (getD t (at + i) 0)) z
-      ∙ sym (object-at arity spare tuple (take 8 (drop at t)) (length-part 8 t at h) g k (omega arith) ∙ ap (objectByte spare tuple) (part-at 8 t at h (1 + k) (omega arith)))
+      ∙ ap (λ (i : ℕ). objectByte spare tuple (getD (partIn head c) i 0)) z
+      ∙ sym (object-at arity spare tuple (partIn head c) (part-length head c) g k (omega arith))
 
-  pub instance-fill : (i : ℕ) → i < 8 → (i ≡ 0 → ⊥) → (i ≡ 1 → ⊥) → 2 + arity ≤ i → 255 ≡ getD (instanceBytes arity spare tuple (take 8 (drop at t))) i 0
+  pub instance-fill : (i : ℕ) → i < 8 → (i ≡ 0 → ⊥) → (i ≡ 1 → ⊥) → 2 + arity ≤ i → 255 ≡ getD (instanceBytes arity spare tuple (partIn head c)) i 0
   instance-fill zero l n o m = absurd (n refl)
   instance-fill (suc zero) l n o m = absurd (o refl)
-  instance-fill (suc (suc k)) l n o m = sym (fill-at arity spare tuple (take 8 (drop at t)) (length-part 8 t at h) g k (omega arith) (omega arith))
+  instance-fill (suc (suc k)) l n o m = sym (fill-at arity spare tuple (partIn head c) (part-length head c) g k (omega arith) (omega arith))
 
-  pub length-instance-at : length (instanceBytes arity spare tuple (take 8 (drop at t))) ≡ 8
-  length-instance-at = length-instance arity spare tuple (take 8 (drop at t)) (length-part 8 t at h) g
+  pub length-instance-at : length (instanceBytes arity spare tuple (partIn head c)) ≡ 8
+  length-instance-at = length-instance arity spare tuple (partIn head c) (part-length head c) g

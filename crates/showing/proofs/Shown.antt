@@ -5,41 +5,41 @@ use mathlib.Core.List.{List, [], _∷_, _++_, map, flatMap, append-nil, append-a
 use Prim.Native.Nat.{ℕ, zero, suc, _+_, _-_, _*_, _≤_, _<_}
 use native.Mathlib.Omega.{arith}
 use lib.Dec.{eqb, leb}
-use lib.ListN.{length, getD, take, drop, replicate, length-append, length-take, length-map}
-use lib.Seq.{take-at, drop-at, drop-drop, paste}
+use lib.ListN.{length, getD, take, drop, replicate, length-append, length-map}
+use lib.Seq.{take-at, paste}
 use borrow.Author.Tests.{lt-ltb, ltb-true, le-leb, lt-leb, eq-eqb, ne-eqb}
 use Rattle.records.specs.Lists.{In, keepIf, filterBy, countBy, all}
 use Rattle.records.specs.Memory.{over}
-use Rattle.records.proofs.Lists.{and-l, and-r, getD-in, count-le}
+use Rattle.records.proofs.Lists.{and-l, and-r, getD-in}
 use Rattle.records.proofs.Memory.{over-paste}
 use Rattle.literals.specs.declared.Variable.{Variable}
 use Rattle.literals.specs.declared.Object.{Object}
 use Rattle.literals.specs.declared.Label.{Label}
 use Rattle.literals.specs.declared.Label.the-variants.{Key as keyed, Counted}
 use Rattle.literals.specs.declared.Clause.the-variants.{Positive, Add, Delete}
-use Rattle.literals.specs.declared.Index.{Index}
 use Rattle.literals.specs.Domain.{object, Atom, Fact, Literal, Action, Component, keyBelow, keysOf, Domain, arity, action}
-use Rattle.literals.specs.Table.{literalRow, labelNumber, componentRow, rowsIn, pad, Bounded, Holds}
+use Rattle.literals.specs.Table.{literalRow, labelNumber, componentRow, rowsIn, pad, Bounded}
+use Rattle.literals.specs.Held.{arityIn, partIn, HeadOf, Held}
 use Rattle.literals.proofs.Bytes.{keys-below, keys-once}
-use Rattle.literals.proofs.Rows.{length-row, row-inside, part-first}
-use Rattle.literals.proofs.Tables.{rows-flat, length-literals, length-literal-row, length-component-row, length-components, length-pad, pad-at, take-pad}
+use Rattle.literals.proofs.Rows.{length-row, row-inside}
+use Rattle.literals.proofs.Tables.{rows-flat, length-literals, length-literal-row}
 use Rattle.literals.proofs.Bounds.{arity-six as arity-most}
 use Rattle.literals.proofs.Held.{keys-few as keys-most}
-use Rattle.literals.proofs.Spans.{action-listed}
+use Rattle.literals.proofs.Heads.{bytes-front, part-is, action-in}
 use Rattle.classes.specs.declared.Moment.{Moment}
 use Rattle.classes.specs.declared.Moment.the-variants.{Start, End}
 use Rattle.classes.specs.declared.Name.{Name}
 use Rattle.classes.specs.declared.Name.the-variants.{Unreachable, Irrelevant, Heavy, Balanced, Unbalanced, Bounded as bounded, Unbounded}
 use Rattle.classes.specs.Classes.{belongs, literalsAt, required, countedForReach, classes, inClass, changedBy, covered, excluding, nameNumber, nameBy, nameOf}
-use Rattle.classes.specs.Coded.{TemplateIn, position, tupleRow, classTuples, clausesAt, noRepeats, uncoveredAt, numbersFrom}
-use Rattle.classes.proofs.Rows.{noLiteral}
+use Rattle.classes.specs.Coded.{ActionOf, position, tupleRow, classTuples, clausesAt, uncoveredAt, numbersFrom}
+use Rattle.classes.proofs.Rows.{row-flat, noLiteral}
 use Rattle.classes.proofs.Clauses.{length-clauses, literals-at}
 use Rattle.classes.proofs.Members.{classes-few}
 use Rattle.verdict.specs.Binding.{valueOf, bind, bindTuple, objectsFrom, sameNumbers, spare}
-use Rattle.verdict.specs.Decision.{faultBy, classAt, objectUnder, instanceFact, firstUncovered, witnessBy, witnessAt}
+use Rattle.verdict.specs.Decision.{faultBy, objectUnder, instanceFact, firstUncovered, witnessBy, witnessAt}
 use Rattle.verdict.specs.Judged.{objectNumbers, factBytes}
-use Rattle.verdict.specs.Coded.{ActionIn, momentBy}
-use Rattle.showing.specs.Bytes.{fitsIn, shownIn, conditionFacts, selectBy, isCondition, conditionOf, conditionsOf, objectByte, instanceBytes}
+use Rattle.verdict.specs.Coded.{momentBy}
+use Rattle.showing.specs.Bytes.{fitsIn, shownIn, conditionFacts, RefusedAt, ShownAt, firstClauses, selectBy, isCondition, conditionOf, conditionsOf, objectByte, instanceBytes, instanceOf}
 use Rattle.verdict.proofs.Tuples.{Below, tuple-below}
 use Rattle.verdict.proofs.Acts.{class-in}
 use Rattle.verdict.proofs.Instances.{class-keys}
@@ -74,9 +74,9 @@ value-numbers a (v ∷ vs) h = ap₂ _∷_ (value-number a v (h v (List·Memᴰ�
 
 -- ---- a true condition's fact
 
-module _ (a : Action) (arities : List ℕ) where
-  condition-fact : (l : Literal) (fs : List Fact) → getD arities (l .atom .rel) 0 ≡ length (l .atom .args) → Below (a .vars) (l .atom .args)
-      → conditionOf arities (literalRow l) ++ factBytes fs ≡ factBytes (bind (sameNumbers a) (l .atom) ∷ fs)
+module _ (a : Action) (head : List ℕ) where
+  condition-fact : (l : Literal) (fs : List Fact) → arityIn head (l .atom .rel) ≡ length (l .atom .args) → Below (a .vars) (l .atom .args)
+      → conditionOf head (literalRow l) ++ factBytes fs ≡ factBytes (bind (sameNumbers a) (l .atom) ∷ fs)
   unfolding factBytes
   condition-fact l fs e h =
       let vs : List ℕ = map (λ (v : Variable). v .0) (l .atom .args) in
@@ -88,8 +88,8 @@ module _ (a : Action) (arities : List ℕ) where
       ∙ ap₂ (λ (x : List ℕ) (k : ℕ). x ++ (replicate k 255 ++ factBytes fs)) (sym (value-numbers a (l .atom .args) h)) z)
 
   conditions-facts : (ks : List ℕ) (ls : List Literal)
-      → ((l : Literal) → In l ls → (getD arities (l .atom .rel) 0 ≡ length (l .atom .args)) × Below (a .vars) (l .atom .args))
-      → conditionsOf arities ks (map literalRow ls) ≡ factBytes (map (bind (sameNumbers a)) (selectBy isCondition ks (map (λ (l : Literal). l .atom) ls)))
+      → ((l : Literal) → In l ls → (arityIn head (l .atom .rel) ≡ length (l .atom .args)) × Below (a .vars) (l .atom .args))
+      → conditionsOf head ks (map literalRow ls) ≡ factBytes (map (bind (sameNumbers a)) (selectBy isCondition ks (map (λ (l : Literal). l .atom) ls)))
   unfolding conditionsOf flatMap factBytes
   conditions-facts [] ls h = refl
   conditions-facts (k ∷ ks) [] h = refl
@@ -98,11 +98,11 @@ module _ (a : Action) (arities : List ℕ) where
       rest : List (Atom Variable)
       rest = selectBy isCondition ks (map (λ (l : Literal). l .atom) ls)
 
-      go : (b : Bool) → flatMap (conditionOf arities) (selectBy isCondition ks (map literalRow ls)) ≡ factBytes (map (bind (sameNumbers a)) rest)
-          → flatMap (conditionOf arities) (keepIf b (literalRow l) (selectBy isCondition ks (map literalRow ls))) ≡ factBytes (map (bind (sameNumbers a)) (keepIf b (l .atom) rest))
+      go : (b : Bool) → flatMap (conditionOf head) (selectBy isCondition ks (map literalRow ls)) ≡ factBytes (map (bind (sameNumbers a)) rest)
+          → flatMap (conditionOf head) (keepIf b (literalRow l) (selectBy isCondition ks (map literalRow ls))) ≡ factBytes (map (bind (sameNumbers a)) (keepIf b (l .atom) rest))
       go true e =
           let q = h l (List·Memᴰ·head refl) in
-          ap (λ (r : List ℕ). conditionOf arities (literalRow l) ++ r) e ∙ condition-fact l (map (bind (sameNumbers a)) rest) (q .0) (q .1)
+          ap (λ (r : List ℕ). conditionOf head (literalRow l) ++ r) e ∙ condition-fact l (map (bind (sameNumbers a)) rest) (q .0) (q .1)
       go false e = e
 
 -- ---- an instance fact
@@ -233,55 +233,41 @@ too-short fs out h = let e = lt-leb (8 * length fs) (length out) h in (sym e, sy
 long-enough : (fs : List Fact) (out : List ℕ) → 8 * length fs ≤ length out → (true ≡ fitsIn fs out) × (over (factBytes fs) out ≡ shownIn fs out)
 long-enough fs out h = let e = le-leb (8 * length fs) (length out) h in (sym e, sym (ap (λ (b : Bool). cond b (over (factBytes fs) out) out) e))
 
--- ---- the row of an element
-
-part-flat : {A : Type 0} (f : A → List ℕ) (l : List A) (rest : List ℕ) (j : ℕ) (d : A) → ((x : A) → In x l → length (f x) ≡ 8) → j < length l
-    → take 8 (drop (8 * j) (flatMap f l ++ rest)) ≡ f (getD l j d)
-unfolding flatMap
-part-flat f [] rest j d h g = absurd (omega arith)
-part-flat f (x ∷ xs) rest zero d h g =
-    ap (take 8) (append-assoc (f x) (flatMap f xs) rest) ∙ take-at (f x) (flatMap f xs ++ rest) 8 (h x (List·Memᴰ·head refl))
-part-flat f (x ∷ xs) rest (suc j) d h g =
-    let e : 8 * suc j ≡ 8 + 8 * j = omega arith in
-    ap (λ (n : ℕ). take 8 (drop n ((f x ++ flatMap f xs) ++ rest))) e
-    ∙ ap (take 8)
-    (sym (drop-drop (8 * j) 8 ((f x ++ flatMap f xs) ++ rest))
-    ∙ ap (drop (8 * j)) (ap (drop 8) (append-assoc (f x) (flatMap f xs) rest) ∙ drop-at (f x) (flatMap f xs ++ rest) 8 (h x (List·Memᴰ·head refl))))
-    ∙ part-flat f xs rest j d (λ y m. h y (List·Memᴰ·tail m)) (omega arith)
+module _ {D : Domain} {a : Action} {j : ℕ} {m : Moment} {fs : List Fact} (e : witnessAt D a (getD (classes D a) j []) m ≡ fs) {out out₁ : List ℕ} {r : Bool} where
+  shown-as : (r ≡ fitsIn fs out) × (out₁ ≡ shownIn fs out) → ShownAt D a j m out out₁ r
+  shown-as s =
+      record {
+        fits = s .0 ∙ ap (λ (gs : List Fact). fitsIn gs out) (sym e);
+        bytes = s .1 ∙ ap (λ (gs : List Fact). shownIn gs out) (sym e);
+      }
 
 -- ---- what the code holds of an action at a moment
 
-pub record Given (D : Domain) (a : Action) (parts : List ℕ) (components keys : ℕ) (arities : List ℕ) (m : Moment) (rows clauses : List ℕ) (n : ℕ) : Type 0 where
-  pub action : ActionIn D a parts components keys arities rows
+pub record Given (D : Domain) (a : Action) (head : List ℕ) (m : Moment) (rows clauses : List ℕ) (n : ℕ) : Type 0 where
+  pub action : ActionOf D a head rows
   pub clauses-are : clauses ≡ pad 64 (clausesAt a m)
   pub count : n ≡ length (a .lits)
   -- the true conditions by what each literal is
   pub selected : selectBy isCondition (clausesAt a m) (map (λ (l : Literal). l .atom) (a .lits)) ≡ literalsAt a m Positive
 
-module _ {D : Domain} {a : Action} {parts : List ℕ} {components keys : ℕ} {arities : List ℕ} {m : Moment} {rows clauses : List ℕ} {n : ℕ} (G : Given D a parts components keys arities m rows clauses n) where
-  T : TemplateIn D parts components keys arities
-  T = G .action .template
+module _ {D : Domain} {a : Action} {head : List ℕ} {m : Moment} {rows clauses : List ℕ} {n : ℕ} (G : Given D a head m rows clauses n) where
+  H : HeadOf D head
+  H = G .action .says
 
   B : Bounded D
-  B = T .bounded
+  B = H .bounded
 
   clauses-length : length (clausesAt a m) ≡ n
   unfolding clausesAt
   clauses-length = length-clauses m [] (a .lits) ∙ sym (G .count)
 
-  clauses-taken : take n clauses ≡ clausesAt a m
-  clauses-taken = ap₂ take (sym clauses-length) (G .clauses-are) ∙ take-pad 64 (clausesAt a m)
+  clauses-taken : firstClauses n clauses ≡ clausesAt a m
+  clauses-taken = ap₂ firstClauses (sym clauses-length) (G .clauses-are) ∙ bytes-front (clausesAt a m) (replicate (64 - length (clausesAt a m)) 0)
 
   rows-taken : rowsIn n rows ≡ map literalRow (a .lits)
   rows-taken =
       ap₂ rowsIn (G .count) (G .action .literals ∙ sym (append-nil (flatMap literalRow (a .lits))))
       ∙ rows-flat literalRow (a .lits) [] (λ l k. length-literal-row l (B .arguments a (G .action .listed) l k))
-
-  pub clauses-enough : n ≤ length clauses
-  clauses-enough =
-      let c = clauses-length in
-      let l = ap length (G .clauses-are) ∙ length-append (clausesAt a m) (replicate (64 - length (clausesAt a m)) 0) in
-      omega arith
 
   pub rows-enough : 8 * n ≤ length rows
   rows-enough =
@@ -289,18 +275,15 @@ module _ {D : Domain} {a : Action} {parts : List ℕ} {components keys : ℕ} {a
       let l = ap length (G .action .literals) ∙ length-literals (a .lits) (B .arguments a (G .action .listed)) in
       omega arith
 
-  arity-is : (r : ℕ) → getD arities r 0 ≡ arity D r
-  arity-is r = ap (λ (l : List ℕ). getD l r 0) (T .arguments) ∙ pad-at 64 (D .arities) r
-
   -- the facts of the true conditions
-  pub conditions-are : conditionsOf arities (take n clauses) (rowsIn n rows) ≡ factBytes (conditionFacts a m)
+  pub conditions-are : conditionsOf head (firstClauses n clauses) (rowsIn n rows) ≡ factBytes (conditionFacts a m)
   conditions-are =
-      ap₂ (conditionsOf arities) clauses-taken rows-taken
-      ∙ conditions-facts a arities (clausesAt a m) (a .lits) (λ l k. (arity-is (l .atom .rel) ∙ sym (B .literalArity a (G .action .listed) l k), B .below a (G .action .listed) l k))
+      ap₂ (conditionsOf head) clauses-taken rows-taken
+      ∙ conditions-facts a head (clausesAt a m) (a .lits) (λ l k. (H .arities (l .atom .rel) ∙ sym (B .literalArity a (G .action .listed) l k), B .below a (G .action .listed) l k))
       ∙ ap (λ (ps : List (Atom Variable)). factBytes (map (bind (sameNumbers a)) ps)) (G .selected)
 
   -- how many they are
-  pub conditions-count : countBy isCondition (take n clauses) ≡ length (conditionFacts a m)
+  pub conditions-count : countBy isCondition (firstClauses n clauses) ≡ length (conditionFacts a m)
   conditions-count =
       let c = clauses-length in
       let l = G .count in
@@ -312,17 +295,11 @@ module _ {D : Domain} {a : Action} {parts : List ℕ} {components keys : ℕ} {a
 
   -- ---- the instance fact of a class and a component
 
-  arity-six : (r : ℕ) → getD arities r 0 ≤ 6
-  arity-six r = let e = arity-is r in let b = arity-most D (B .arities) r in omega arith
+  arity-six : (r : ℕ) → arityIn head r ≤ 6
+  arity-six r = let e = H .arities r in let b = arity-most D (B .arities) r in omega arith
 
   keys-few : keysOf (D .template) ≤ 6
   keys-few = keys-most (D .template) (B .labels)
-
-  parts-long : length parts ≡ 128
-  parts-long =
-      let l = length-components (D .template) (B .labels) in
-      let b = B .components in
-      ap length (T .rows) ∙ length-pad 128 (flatMap componentRow (D .template)) (omega arith)
 
   tuple-length : (x : List Variable) → In x (classes D a) → length x ≡ keysOf (D .template)
   tuple-length = class-keys D a (λ c k. keys-once _ _ (B .keysFit c k))
@@ -338,8 +315,8 @@ module _ {D : Domain} {a : Action} {parts : List ℕ} {components keys : ℕ} {a
     unfolding classTuples
     tuple-part tuples e =
         ap (λ (t : List ℕ). take 8 (drop (8 * j) t)) e
-        ∙ part-flat tupleRow (classes D a) (replicate (512 - length (flatMap tupleRow (classes D a))) 255) j []
-        (λ x k. length-row (map (λ (v : Variable). v .0) x) (let n = length-map x (λ (v : Variable). v .0) in let t = tuple-length x k in let f = keys-few in omega arith)) h
+        ∙ row-flat tupleRow (classes D a) (replicate (512 - length (flatMap tupleRow (classes D a))) 255) []
+        (λ x k. length-row (map (λ (v : Variable). v .0) x) (let n = length-map x (λ (v : Variable). v .0) in let t = tuple-length x k in let f = keys-few in omega arith)) j h
 
     module _ (u : ℕ) (g : u < length (D .template)) where
       abbrev pub part : Component
@@ -348,94 +325,88 @@ module _ {D : Domain} {a : Action} {parts : List ℕ} {components keys : ℕ} {a
       part-listed : In part (D .template)
       part-listed = getD-in (D .template) u noComponent g
 
-      component-part : take 8 (drop (8 * u) parts) ≡ componentRow part
-      component-part =
-          ap (λ (t : List ℕ). take 8 (drop (8 * u) t)) (T .rows)
-          ∙ part-flat componentRow (D .template) (replicate (128 - length (flatMap componentRow (D .template))) 0) u noComponent (λ c k. length-component-row c (B .labels c k)) g
+      component-part : partIn head u ≡ componentRow part
+      component-part = part-is H noComponent u g
 
-      part-arity : getD arities (getD parts (8 * u) 0) 0 ≡ length (part .labels)
-      part-arity =
-          ap (λ (r : ℕ). getD arities r 0) (sym (part-first parts (8 * u)) ∙ ap (λ (r : List ℕ). getD r 0 0) component-part)
-          ∙ arity-is (part .rel)
-          ∙ sym (B .componentArity part part-listed)
+      part-arity : arityIn head (getD (partIn head u) 0 0) ≡ length (part .labels)
+      part-arity = ap (λ (r : List ℕ). arityIn head (getD r 0 0)) component-part ∙ H .arities (part .rel) ∙ sym (B .componentArity part part-listed)
 
-      pub instance-is : (tuples : List ℕ) (k s : ℕ) → tuples ≡ classTuples D a → k ≡ getD arities (getD parts (8 * u) 0) 0 → s ≡ a .vars
-          → instanceBytes k s (take 8 (drop (8 * j) tuples)) (take 8 (drop (8 * u) parts))
-          ≡ factBytes (instanceFact (spare a) (bindTuple (sameNumbers a) (getD (classes D a) j [])) part ∷ [])
-      instance-is tuples k s e f q =
+      pub instance-is : (tuples : List ℕ) (s : ℕ) → tuples ≡ classTuples D a → s ≡ a .vars
+          → instanceOf head u s (take 8 (drop (8 * j) tuples)) ≡ factBytes (instanceFact (spare a) (bindTuple (sameNumbers a) (getD (classes D a) j [])) part ∷ [])
+      instance-is tuples s e q =
           let x : List Variable = getD (classes D a) j [] in
           let n = keys-few in
-          ap₂ (λ (k s : ℕ). instanceBytes k s (take 8 (drop (8 * j) tuples)) (take 8 (drop (8 * u) parts))) (f ∙ part-arity) q
+          ap₂ (λ (k s : ℕ). instanceBytes k s (take 8 (drop (8 * j) tuples)) (partIn head u)) part-arity q
           ∙ ap₂ (instanceBytes (length (part .labels)) (a .vars)) (tuple-part tuples e) component-part
           ∙ instance-fact a x (keysOf (D .template)) class-below (tuple-length x class-listed) (omega arith) part (keys-below _ _ (B .keysFit part part-listed))
 
   -- ---- together: what the code leaves, of the k true conditions
 
-  module _ (x : List Variable) (number : ℕ) (e : Bool) (f : number ≡ faultBy (nameOf D a x m) e) (k : ℕ) (q : k ≡ countBy isCondition (take n clauses)) (out : List ℕ) where
+  module _ {j number : ℕ} (R : RefusedAt D a j m number) (k : ℕ) (q : k ≡ countBy isCondition (firstClauses n clauses)) (out : List ℕ) where
+    abbrev x : List Variable
+    x = getD (classes D a) j []
+
     facts-count : length (conditionFacts a m) ≡ k
     facts-count = sym (q ∙ conditions-count)
 
     -- refused by 40 or 41: the conditions
-    module _ (z : number ≡ 0 → ⊥) (t : number ≡ 42 → ⊥) where
-      pub plain-short : length out < 8 * k → (false ≡ fitsIn (witnessAt D a x m) out) × (out ≡ shownIn (witnessAt D a x m) out)
-      plain-short h = rw (witness-plain D a x m number e f z t) (too-short (conditionFacts a m) out (let c = facts-count in omega arith))
+    module _ (t : number ≡ 42 → ⊥) where
+      is-conditions : witnessAt D a x m ≡ conditionFacts a m
+      is-conditions = witness-plain D a (getD (classes D a) j []) m number (R .journeyEnd) (R .fault) (R .refused) t
 
-      pub plain-shown : 8 * k ≤ length out → (out₁ : List ℕ) → out₁ ≡ over (conditionsOf arities (take n clauses) (rowsIn n rows)) out
-          → (true ≡ fitsIn (witnessAt D a x m) out) × (out₁ ≡ shownIn (witnessAt D a x m) out)
+      pub plain-short : length out < 8 * k → ShownAt D a j m out out false
+      plain-short h = shown-as is-conditions (too-short (conditionFacts a m) out (let c = facts-count in omega arith))
+
+      pub plain-shown : 8 * k ≤ length out → (out₁ : List ℕ) → out₁ ≡ over (conditionsOf head (firstClauses n clauses) (rowsIn n rows)) out
+          → ShownAt D a j m out out₁ true
       plain-shown h out₁ o =
           let r = long-enough (conditionFacts a m) out (let c = facts-count in omega arith) in
-          rw (witness-plain D a x m number e f z t) (r .0, o ∙ ap (λ (b : List ℕ). over b out) conditions-are ∙ r .1)
+          shown-as is-conditions (r .0, o ∙ ap (λ (b : List ℕ). over b out) conditions-are ∙ r .1)
 
     -- refused by 42: the conditions, and the instance fact of the first uncovered component
     module _ (t : number ≡ 42) where
-      facts : List Fact
-      facts = conditionFacts a m ++ (instanceFact (spare a) (bindTuple (sameNumbers a) x) (getD (D .template) (uncoveredAt D a x m) noComponent) ∷ [])
+      abbrev u : ℕ
+      u = uncoveredAt D a x m
 
-      one-more : length facts ≡ k + 1
-      unfolding facts
-      one-more = length-append (conditionFacts a m) (instanceFact (spare a) (bindTuple (sameNumbers a) x) (getD (D .template) (uncoveredAt D a x m) noComponent) ∷ []) ∙ ap (λ (i : ℕ). i + 1) facts-count
+      abbrev shown : Fact
+      shown = instanceFact (spare a) (bindTuple (sameNumbers a) x) (getD (D .template) u noComponent)
 
-      is-facts : witnessAt D a x m ≡ facts
-      unfolding facts
-      is-facts = witness-open D a x m number e f t
+      one-more : length (conditionFacts a m ++ (shown ∷ [])) ≡ k + 1
+      one-more = length-append (conditionFacts a m) (shown ∷ []) ∙ ap (λ (i : ℕ). i + 1) facts-count
 
-      pub open-short : length out < 8 * k + 8 → (false ≡ fitsIn (witnessAt D a x m) out) × (out ≡ shownIn (witnessAt D a x m) out)
-      open-short h = rw is-facts (too-short facts out (let c = one-more in omega arith))
+      is-facts : witnessAt D a x m ≡ conditionFacts a m ++ (shown ∷ [])
+      is-facts = witness-open D a (getD (classes D a) j []) m number (R .journeyEnd) (R .fault) t
 
-      module _ (j : ℕ) (h : j < length (classes D a)) (p : x ≡ getD (classes D a) j []) (u : ℕ) (v : u ≡ uncoveredAt D a x m) where
-        open-part : u < length (D .template)
-        open-part = let b = open-listed D a x m number e f t in omega arith
+      pub open-inside : uncoveredAt D a (getD (classes D a) j []) m < length (D .template)
+      open-inside = open-listed D a (getD (classes D a) j []) m number (R .journeyEnd) (R .fault) t
 
-        pub open-shown : 8 * k + 8 ≤ length out → (tuples : List ℕ) (r s : ℕ)
-            → tuples ≡ classTuples D a → r ≡ getD arities (getD parts (8 * u) 0) 0 → s ≡ a .vars
-            → (out₁ out₂ : List ℕ) → out₁ ≡ over (conditionsOf arities (take n clauses) (rowsIn n rows)) out
-            → out₂ ≡ paste out₁ (8 * k) (instanceBytes r s (take 8 (drop (8 * j) tuples)) (take 8 (drop (8 * u) parts))) 8
-            → (true ≡ fitsIn (witnessAt D a x m) out) × (out₂ ≡ shownIn (witnessAt D a x m) out)
-        unfolding facts
-        open-shown room tuples r s c l w out₁ out₂ o₁ o₂ =
-            let bytes : List ℕ = conditionsOf arities (take n clauses) (rowsIn n rows) in
-            let fact : List ℕ = instanceBytes r s (take 8 (drop (8 * j) tuples)) (take 8 (drop (8 * u) parts)) in
-            let shown : Fact = instanceFact (spare a) (bindTuple (sameNumbers a) x) (getD (D .template) (uncoveredAt D a x m) noComponent) in
-            let is : fact ≡ factBytes (shown ∷ []) =
-            instance-is j h u open-part tuples r s c l w
-            ∙ ap₂ (λ (x : List Variable) (u : ℕ). factBytes (instanceFact (spare a) (bindTuple (sameNumbers a) x) (getD (D .template) u noComponent) ∷ [])) (sym p) v in
-            let many : length bytes ≡ 8 * k = (let b = length-conditions arities clauses rows n clauses-enough rows-enough in omega arith) in
-            let eight : length fact ≡ 8 =
-            (let b = B .components in
-            let d = parts-long in
-            let g = open-part in
-            let i = arity-six (getD parts (8 * u) 0) in
-            length-instance-at r s (take 8 (drop (8 * j) tuples)) parts (8 * u) (omega arith) (omega arith)) in
-            let full = long-enough facts out (let d = one-more in omega arith) in
-            rw is-facts (
-              full .0,
-              o₂
-                  ∙ ap (λ (b : List ℕ). paste b (8 * k) fact 8) o₁
-                  ∙ over-paste bytes out fact (8 * k) 8 many eight
-                  ∙ ap₂ (λ (b f : List ℕ). over (b ++ f) out) conditions-are is
-                  ∙ ap (λ (b : List ℕ). over b out) (sym (facts-append (conditionFacts a m) (shown ∷ [])))
-                  ∙ full .1,
-            )
+      pub open-short : length out < 8 * k + 8 → ShownAt D a j m out out false
+      open-short h = shown-as is-facts (too-short (conditionFacts a m ++ (shown ∷ [])) out (let c = one-more in omega arith))
+
+      pub open-shown : 8 * k + 8 ≤ length out → (tuples : List ℕ) (s u′ : ℕ)
+          → tuples ≡ classTuples D a → u′ ≡ uncoveredAt D a (getD (classes D a) j []) m → s ≡ a .vars
+          → (out₁ out₂ : List ℕ) → out₁ ≡ over (conditionsOf head (firstClauses n clauses) (rowsIn n rows)) out
+          → out₂ ≡ paste out₁ (8 * k) (instanceOf head u′ s (take 8 (drop (8 * j) tuples))) 8
+          → ShownAt D a j m out out₂ true
+      open-shown room tuples s u′ c v w out₁ out₂ o₁ o₂ =
+          let bytes : List ℕ = conditionsOf head (firstClauses n clauses) (rowsIn n rows) in
+          let fact : List ℕ = instanceOf head u′ s (take 8 (drop (8 * j) tuples)) in
+          let inside = open-inside in
+          let is : fact ≡ factBytes (shown ∷ []) =
+          instance-is j (R .listed) u′ (omega arith) tuples s c w
+          ∙ ap (λ (u : ℕ). factBytes (instanceFact (spare a) (bindTuple (sameNumbers a) (getD (classes D a) j [])) (getD (D .template) u noComponent) ∷ [])) v in
+          let many : length bytes ≡ 8 * k = (let b = length-conditions head clauses rows n rows-enough in omega arith) in
+          let eight : length fact ≡ 8 = length-instance-at (arityIn head (getD (partIn head u′) 0 0)) s (take 8 (drop (8 * j) tuples)) head u′ (arity-six (getD (partIn head u′) 0 0)) in
+          let full = long-enough (conditionFacts a m ++ (shown ∷ [])) out (let d = one-more in omega arith) in
+          shown-as is-facts (
+            full .0,
+            o₂
+                ∙ ap (λ (b : List ℕ). paste b (8 * k) fact 8) o₁
+                ∙ over-paste bytes out fact (8 * k) 8 many eight
+                ∙ ap₂ (λ (b f : List ℕ). over (b ++ f) out) conditions-are is
+                ∙ ap (λ (b : List ℕ). over b out) (sym (facts-append (conditionFacts a m) (shown ∷ [])))
+                ∙ full .1,
+          )
 
 -- ---- what is selected, by index: `from i n` lists the n numbers from i on
 
@@ -470,40 +441,33 @@ module _ (from : ℕ → ℕ → List ℕ) (none : (i : ℕ) → from i zero ≡
   selected-by a m d e = sym (e ∙ select-indexed isCondition (λ (l : Literal). l .atom) d (clausesAt a m) (a .lits) (length-clauses m [] (a .lits)))
 
 -- what the code holds, by what `clauses_at` ensures
-pub given : {D : Domain} {a : Action} {parts : List ℕ} {components keys : ℕ} {arities : List ℕ} (m : Moment) {rows clauses : List ℕ} {n : ℕ} → ActionIn D a parts components keys arities rows
-    → length rows ≡ 8 * n
-    → ((D : Domain) (a : Action) → Bounded D → In a (D .actions) → noRepeats a ≡ true → rows ≡ flatMap literalRow (a .lits) → pad 64 [] ≡ pad 64 [] → clauses ≡ pad 64 (clausesAt a m))
-    → Given D a parts components keys arities m rows clauses n
+pub given : {D : Domain} {a : Action} {head : List ℕ} (m : Moment) {rows clauses : List ℕ} {n : ℕ} → ActionOf D a head rows → length rows ≡ 8 * n
+    → ((D : Domain) (a : Action) (head : List ℕ) → ActionOf D a head rows → pad 64 [] ≡ pad 64 [] → clauses ≡ pad 64 (clausesAt a m))
+    → Given D a head m rows clauses n
 given {D} {a} m {rows} {clauses} {n} A l c =
     record {
       action = A;
-      clauses-are = c D a (A .template .bounded) (A .listed) (A .apart) (A .literals) refl;
-      count = (let k = sym (ap length (A .literals)) ∙ l in let g = length-literals (a .lits) (A .template .bounded .arguments a (A .listed)) in omega arith);
+      clauses-are = c D a _ A refl;
+      count = (let k = sym (ap length (A .literals)) ∙ l in let g = length-literals (a .lits) (A .says .bounded .arguments a (A .listed)) in omega arith);
       selected = selected-by numbersFrom (λ i. refl) (λ i n. refl) a m noLiteral (literals-at a m Positive);
     }
 
--- the true conditions are no more than the literals
-pub conditions-few : (clauses : List ℕ) (n k : ℕ) → n ≤ 64 → k ≡ countBy isCondition (take n clauses) → k ≤ 64
-conditions-few clauses n k h e = let l = length-take n clauses in let c = count-le isCondition (take n clauses) in omega arith
-
 -- a class of an action has a number below 64
-pub class-few : {D : Domain} {index : Index} → Holds D index → (i j : ℕ) → i < length (D .actions) → j < length (classes D (action D i)) → j < 64
+pub class-few : {D : Domain} {head table : List ℕ} → Held D head table → (i j : ℕ) → i < length (D .actions) → j < length (classes D (action D i)) → j < 64
 class-few {D} H i j h g =
-    let c = classes-few D (action D i) (H .bounded) in
-    let s = H .bounded .sizes (action D i) (action-listed H i h) in
+    let c = classes-few D (action D i) (H .says .bounded) in
+    let s = H .says .bounded .sizes (action D i) (action-in H i h) in
     omega arith
 
 -- ---- a moment by its number
 
--- what is shown of a place that is refused at a moment
-abbrev pub ShownAt : Domain → ℕ → ℕ → ℕ → Bool → Bool → List ℕ → List ℕ → Moment → Type 0
-ShownAt D i j number e r out out₁ m =
-    number ≡ faultBy (nameOf D (action D i) (classAt D i j) m) e
-    → (r ≡ fitsIn (witnessAt D (action D i) (classAt D i j) m) out) × (out₁ ≡ shownIn (witnessAt D (action D i) (classAt D i j) m) out)
+-- what is shown of a moment that is refused
+abbrev pub ShowsAt : Domain → ℕ → ℕ → ℕ → List ℕ → List ℕ → Bool → Moment → Type 0
+ShowsAt D i j number old new r m = RefusedAt D (action D i) j m number → ShownAt D (action D i) j m old new r
 
-module _ (D : Domain) (i j number : ℕ) (e r : Bool) (out out₁ : List ℕ) (moment : ℕ) where
-  pub shown-start : moment ≡ 0 → ShownAt D i j number e r out out₁ Start → ShownAt D i j number e r out out₁ (momentBy moment)
+module _ (D : Domain) (i j number : ℕ) (old new : List ℕ) (r : Bool) (moment : ℕ) where
+  pub shown-start : moment ≡ 0 → ShowsAt D i j number old new r Start → ShowsAt D i j number old new r (momentBy moment)
   shown-start h s = rw (eq-eqb moment 0 h) s
 
-  pub shown-end : (moment ≡ 0 → ⊥) → ShownAt D i j number e r out out₁ End → ShownAt D i j number e r out out₁ (momentBy moment)
+  pub shown-end : (moment ≡ 0 → ⊥) → ShowsAt D i j number old new r End → ShowsAt D i j number old new r (momentBy moment)
   shown-end h s = rw (ne-eqb moment 0 h) s

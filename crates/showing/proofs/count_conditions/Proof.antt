@@ -3,16 +3,15 @@ use mathlib.Core.Path.{_≡_, refl, ap, _∙_}
 use mathlib.Core.Logic.{⊎-elim}
 use Prim.Native.Nat.{ℕ, _-_, _≤_}
 use native.Mathlib.Omega.{arith}
-use lib.ListN.{take}
 use borrow.Author.Tests.{eq-eqb, ne-eqb}
 use Rattle.records.specs.Lists.{countBy}
-use Rattle.showing.specs.Bytes.{isCondition}
-use Rattle.showing.proofs.Facts.{count-take-hit, count-take-miss}
+use Rattle.showing.specs.Bytes.{firstClauses, isCondition}
+use Rattle.showing.proofs.Facts.{count-hit, count-miss}
 use Rattle.showing.proofs.count_conditions.Statement.{statement}
 use Rattle.showing.proofs.count_conditions.Tie as tie
 
 abbrev Inv-loop : tie.InvT-loop
-Inv-loop clauses n k₀ j₀ k j = (j ≤ n) × (k ≤ j) × (k ≡ countBy isCondition (take j clauses))
+Inv-loop clauses n k₀ j₀ k j = (j ≤ n) × (k ≤ j) × (k ≡ countBy isCondition (firstClauses j clauses))
 
 abbrev μ-loop : tie.MeasureT-loop
 μ-loop clauses n k₀ j₀ k j = n - j
@@ -20,8 +19,8 @@ abbrev μ-loop : tie.MeasureT-loop
 loop-holds : tie.Need-loop-holds Inv-loop μ-loop
 loop-holds c = (omega arith, omega arith, refl)
 
-shared-slice-read-if1 : tie.Need-shared-slice-read-if1 Inv-loop μ-loop
-shared-slice-read-if1 c = omega arith
+element-copy-out-if1 : tie.Need-element-copy-out-if1 Inv-loop μ-loop
+element-copy-out-if1 c = omega arith
 
 add-k : tie.Need-add-k Inv-loop μ-loop
 add-k c = omega arith
@@ -36,17 +35,26 @@ loop-again : tie.Need-loop-again Inv-loop μ-loop
 loop-again c =
     let a = c .before .before .before .before .args in
     let l = c .before .before .before .loop in
-    ⊎-elim (λ w. let e = count-take-hit isCondition (a .clauses .now) (l .j) (omega arith) (eq-eqb _ _ (w .0 .taken)) in (omega arith, omega arith, omega arith))
-    (λ w. let e = count-take-miss isCondition (a .clauses .now) (l .j) (omega arith) (ne-eqb _ _ (w .0 .left)) in (omega arith, omega arith, omega arith))
+    ⊎-elim (λ w. let e = count-hit isCondition (a .clauses .now) (l .j) (eq-eqb _ _ (w .0 .taken)) in (omega arith, omega arith, omega arith))
+    (λ w. let e = count-miss isCondition (a .clauses .now) (l .j) (ne-eqb _ _ (w .0 .left)) in (omega arith, omega arith, omega arith))
     (c .if1 .came)
 
 returns : tie.Need-returns Inv-loop μ-loop
 returns c =
     let a = c .before .before .args in
     let e : c .before .loop .j ≡ a .n = omega arith in
-    c .before .loop .inv .2 ∙ ap (λ (i : ℕ). countBy isCondition (take i (a .clauses .now))) e
+    (c .before .loop .inv .2 ∙ ap (λ (i : ℕ). countBy isCondition (firstClauses i (a .clauses .now))) e, omega arith)
 
 pub count-conditions-spec : {M : Type 1} → statement M
 count-conditions-spec =
     tie.close
-    (tie.spec Inv-loop μ-loop loop-holds shared-slice-read-if1 add-k add-j loop-less loop-again returns)
+    (tie.spec
+    Inv-loop
+    μ-loop
+    loop-holds
+    element-copy-out-if1
+    add-k
+    add-j
+    loop-less
+    loop-again
+    returns)

@@ -1,17 +1,22 @@
 -- `instance_byte` meets its contract. Assumes nothing.
-use borrow.Author.Needs.{needs}
-use Prim.Native.Nat.{_*_}
+use Prim.Native.Nat.{ℕ, _*_}
 use native.Mathlib.Omega.{arith}
 use lib.ListN.{take, drop}
+use mathlib.Core.Path.{ap, _∙_}
+use mathlib.Core.List.{List}
+use Rattle.showing.specs.Bytes.{objectByte}
 use Rattle.showing.proofs.Facts.{instance-first, instance-object, instance-fill}
+use borrow.Author.Needs.{needs}
 use Rattle.showing.proofs.instance_byte.Statement.{statement}
 use Rattle.showing.proofs.instance_byte.Tie as tie
 
-shared-slice-read-result : tie.Need-shared-slice-read-result
-shared-slice-read-result c = search needs
+part-byte-requires : tie.Need-part-byte-requires
+part-byte-requires c κs = search needs
 
 returns : tie.Need-returns
-returns c = let a = c .before .before .before .before .args in instance-first (a .arity) (a .spare) (take 8 (drop (8 * a .class) (a .tuples .now))) (a .parts .now) (a .part) (omega arith) (omega arith) (a .i) (omega arith)
+returns c =
+    let a = c .before .before .before .args in
+    instance-first (a .arity) (a .spare) (take 8 (drop (8 * a .class) (a .tuples .now))) (a .head .now) (a .c) (c .before .before .before .pre .0 .1) (a .i) _ (omega arith) (c .part-byte .ensures)
 
 returns-2 : tie.Need-returns-2
 returns-2 c = search needs
@@ -19,35 +24,38 @@ returns-2 c = search needs
 add-if3 : tie.Need-add-if3
 add-if3 c = search needs
 
-sub-object-under : tie.Need-sub-object-under
-sub-object-under c = search needs
+sub-part-byte : tie.Need-sub-part-byte
+sub-part-byte c = search needs
 
-add-object-under : tie.Need-add-object-under
-add-object-under c = search needs
-
-shared-slice-read-object-under : tie.Need-shared-slice-read-object-under
-shared-slice-read-object-under c = search needs
+part-byte-requires-2 : tie.Need-part-byte-requires-2
+part-byte-requires-2 c κs = search needs
 
 object-under-requires : tie.Need-object-under-requires
 object-under-requires c κs = search needs
 
 returns-3 : tie.Need-returns-3
-returns-3 c = let a = c .before .before .before .before .before .before .before .args in instance-object (a .arity) (a .spare) (take 8 (drop (8 * a .class) (a .tuples .now))) (a .parts .now) (a .part) (omega arith) (omega arith) (a .i) (c .object-under .result) (λ e. omega arith) (λ e. omega arith) (omega arith) (c .object-under .ensures)
+returns-3 c =
+    let a = c .before .before .before .before .before .before .args in
+    let o = c .object-under in
+    let b : List ℕ = take 8 (drop (8 * a .class) (a .tuples .now)) in
+    instance-object (a .arity) (a .spare) b (a .head .now) (a .c) (c .before .before .before .before .before .before .pre .0 .1) (a .i) (o .result) (λ e. omega arith) (λ e. omega arith) (omega arith)
+    (o .ensures ∙ ap (objectByte (a .spare) b) (c .before .part-byte2 .ensures))
 
 returns-4 : tie.Need-returns-4
-returns-4 c = let a = c .before .before .before .before .before .args in instance-fill (a .arity) (a .spare) (take 8 (drop (8 * a .class) (a .tuples .now))) (a .parts .now) (a .part) (omega arith) (omega arith) (a .i) (omega arith) (λ e. omega arith) (λ e. omega arith) (omega arith)
+returns-4 c =
+    let a = c .before .before .before .before .args in
+    instance-fill (a .arity) (a .spare) (take 8 (drop (8 * a .class) (a .tuples .now))) (a .head .now) (a .c) (c .before .before .before .before .pre .0 .1) (a .i) (omega arith) (λ e. omega arith) (λ e. omega arith) (omega arith)
 
 pub instance-byte-spec : {M : Type 1} → statement M
 instance-byte-spec =
     tie.close
     (tie.spec
-    shared-slice-read-result
+    part-byte-requires
     returns
     returns-2
     add-if3
-    sub-object-under
-    add-object-under
-    shared-slice-read-object-under
+    sub-part-byte
+    part-byte-requires-2
     object-under-requires
     returns-3
     returns-4)

@@ -1,4 +1,5 @@
 -- `open_class` meets its contract. Assumes nothing.
+
 use borrow.Author.Needs.{needs}
 use Rattle.showing.proofs.open_class.Statement.{statement}
 use Rattle.showing.proofs.open_class.Tie as tie
@@ -17,8 +18,8 @@ same-length-2 c = search needs
 
 returns : tie.Need-returns
 returns c D a m A t k h =
-    let q = c .before .before .before .before .before .before .number-classes .ensures .1 D a _ (A .template) (A .listed) (A .literals) t in
-    (q .1, c .first-uncovered .ensures D a m _ (A .template) (A .listed) (A .literals) (q .2) k h)
+    let q = c .before .before .before .before .before .before .number-classes .ensures .1 D a A t in
+    (q .1, c .first-uncovered .ensures D a m (record { whole = A; numbers = q .2; clauses-are = k }) h)
 
 pub open-class-spec : {M : Type 1} → statement M
 open-class-spec =

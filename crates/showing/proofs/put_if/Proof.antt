@@ -17,14 +17,14 @@ arity-of-requires c κs = search needs
 
 put-condition-requires : tie.Need-put-condition-requires
 put-condition-requires c κs =
-    let e : c .before .before .before .before .before .before .before .args .clause ≡ 1 = omega arith in
-    let r = c .before .before .before .before .before .before .before .pre .1 e in
+    let e : c .before .before .before .before .before .before .args .clause ≡ 1 = omega arith in
+    let r = c .before .before .before .before .before .before .pre .1 e in
     (omega arith, omega arith)
 
 add-result : tie.Need-add-result
 add-result c =
-    let e : c .before .before .before .before .before .before .before .before .before .before .args .clause ≡ 1 = omega arith in
-    let r = c .before .before .before .before .before .before .before .before .before .before .pre .1 e in
+    let e : c .before .before .before .before .before .before .before .before .before .args .clause ≡ 1 = omega arith in
+    let r = c .before .before .before .before .before .before .before .before .before .pre .1 e in
     omega arith
 
 same-length : tie.Need-same-length
@@ -32,16 +32,18 @@ same-length c = search needs
 
 returns : tie.Need-returns
 returns c =
-    let a = c .before .before .before .before .before .before .before .before .before .before .args in
+    let a = c .before .before .before .before .before .before .before .before .before .args in
     let e : a .clause ≡ 1 = omega arith in
     let q = c .before .before .before .arity-of in
     let w = c .before .before .put-condition in (
-      put-in (a .arities .now) (a .rows .now) (a .out .now) (a .at) (a .row) (a .clause) (q .result) (omega arith) e (q .ensures) (w .last .0) (w .ensures),
-      put-behind (a .arities .now) (a .rows .now) (a .out .now) (a .at) (a .row) (a .clause) (q .result) (omega arith) e (q .ensures),
+      put-in (a .head .now) (a .rows .now) (a .out .now) (a .at) (a .row) (a .clause) (q .result) (c .before .before .before .before .before .before .before .before .before .pre .0) e (q .ensures .0) (w .last .0) (w .ensures),
+      put-behind (a .head .now) (a .rows .now) (a .out .now) (a .at) (a .row) (a .clause) (q .result) (c .before .before .before .before .before .before .before .before .before .pre .0) e (q .ensures .0),
     )
 
 returns-2 : tie.Need-returns-2
-returns-2 c = let a = c .before .before .before .before .args in (left-out (a .arities .now) (a .rows .now) (a .out .now) (a .at) (a .row) (a .clause) (λ e. omega arith), left-behind (a .arities .now) (a .rows .now) (a .out .now) (a .at) (a .row) (a .clause) (λ e. omega arith))
+returns-2 c =
+    let a = c .before .before .before .args in
+    (left-out (a .head .now) (a .rows .now) (a .out .now) (a .at) (a .row) (a .clause) (λ e. omega arith), left-behind (a .head .now) (a .rows .now) (a .out .now) (a .at) (a .row) (a .clause) (λ e. omega arith))
 
 pub put-if-spec : {M : Type 1} → statement M
 put-if-spec =

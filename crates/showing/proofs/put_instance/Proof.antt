@@ -1,24 +1,38 @@
 -- `put_instance` meets its contract: after i turns the first i bytes of the fact are written. Assumes nothing.
 use borrow.Author.Needs.{needs}
 use native.Mathlib.Omega.{arith}
-use mathlib.Core.Path.{_≡_}
-use Prim.Native.Nat.{_-_, _*_, _≤_}
-use lib.ListN.{take, drop}
+use mathlib.Core.Path.{_≡_, ap, _∙_}
+use mathlib.Core.List.{List}
+use Prim.Native.Nat.{ℕ, _-_, _*_, _≤_}
+use lib.ListN.{take, drop, getD}
 use lib.Seq.{paste, paste-zero}
 use Rattle.records.proofs.Memory.{paste-more, paste-length}
-use Rattle.showing.specs.Bytes.{instanceBytes}
+use Rattle.literals.specs.Held.{arityIn, partIn}
+use Rattle.showing.specs.Bytes.{instanceBytes, instanceOf}
 use Rattle.showing.proofs.Facts.{length-instance-at}
 use Rattle.showing.proofs.put_instance.Statement.{statement}
 use Rattle.showing.proofs.put_instance.Tie as tie
 
+abbrev tupleAt : List ℕ → ℕ → List ℕ
+tupleAt tuples class = take 8 (drop (8 * class) tuples)
+
 abbrev Inv-loop : tie.InvT-loop
-Inv-loop out₀ at parts part arity tuples class spare i₀ out i = (i ≤ 8) × (out ≡ paste out₀ at (instanceBytes arity spare (take 8 (drop (8 * class) tuples)) (take 8 (drop part parts))) i)
+Inv-loop out₀ at head c tuples class spare arity i₀ out i = (i ≤ 8) × (arity ≤ 6) × (arity ≡ arityIn head (getD (partIn head c) 0 0)) × (out ≡ paste out₀ at (instanceBytes arity spare (tupleAt tuples class) (partIn head c)) i)
 
 abbrev μ-loop : tie.MeasureT-loop
-μ-loop out₀ at parts part arity tuples class spare i₀ out i = 8 - i
+μ-loop out₀ at head c tuples class spare arity i₀ out i = 8 - i
+
+part-byte-requires : tie.Need-part-byte-requires Inv-loop μ-loop
+part-byte-requires c κs = search needs
+
+arity-of-requires : tie.Need-arity-of-requires Inv-loop μ-loop
+arity-of-requires c κs = search needs
 
 loop-holds : tie.Need-loop-holds Inv-loop μ-loop
-loop-holds c = let a = c .before .before .before .args in (omega arith, paste-zero (a .out .now) (a .at) (instanceBytes (a .arity) (a .spare) (take 8 (drop (8 * a .class) (a .tuples .now))) (take 8 (drop (a .part) (a .parts .now)))))
+loop-holds c =
+    let a = c .before .before .before .before .args in
+    let r = c .arity-of in
+    (omega arith, r .ensures .1, r .ensures .0 ∙ ap (arityIn (a .head .now)) (c .before .part-byte .ensures), paste-zero (a .out .now) (a .at) (instanceBytes (r .result) (a .spare) (tupleAt (a .tuples .now) (a .class)) (partIn (a .head .now) (a .c))))
 
 instance-byte-requires : tie.Need-instance-byte-requires Inv-loop μ-loop
 instance-byte-requires c κs = search needs
@@ -27,7 +41,12 @@ add-out : tie.Need-add-out Inv-loop μ-loop
 add-out c = search needs
 
 slice-write-out : tie.Need-slice-write-out Inv-loop μ-loop
-slice-write-out c = let a = c .before .before .before .before .before .before .args in let l = paste-length (instanceBytes (a .arity) (a .spare) (take 8 (drop (8 * a .class) (a .tuples .now))) (take 8 (drop (a .part) (a .parts .now)))) (a .out .now) (c .before .before .loop .out) (a .at) (c .before .before .loop .i) 8 (omega arith) (length-instance-at (a .arity) (a .spare) (take 8 (drop (8 * a .class) (a .tuples .now))) (a .parts .now) (a .part) (omega arith) (omega arith)) (c .before .before .loop .inv .1) (omega arith) in omega arith
+slice-write-out c =
+    let a = c .before .before .before .before .before .before .before .args in
+    let l = c .before .before .loop in
+    let r = c .before .before .before .arity-of .result in
+    let z = paste-length (instanceBytes r (a .spare) (tupleAt (a .tuples .now) (a .class)) (partIn (a .head .now) (a .c))) (a .out .now) (l .out) (a .at) (l .i) 8 (omega arith) (length-instance-at r (a .spare) (tupleAt (a .tuples .now) (a .class)) (a .head .now) (a .c) (l .inv .1)) (l .inv .3) (omega arith) in
+    omega arith
 
 add-i : tie.Need-add-i Inv-loop μ-loop
 add-i c = omega arith
@@ -36,13 +55,29 @@ loop-less : tie.Need-loop-less Inv-loop μ-loop
 loop-less c = omega arith
 
 loop-again : tie.Need-loop-again Inv-loop μ-loop
-loop-again c = let a = c .before .before .before .before .before .before .args in (omega arith, paste-more (instanceBytes (a .arity) (a .spare) (take 8 (drop (8 * a .class) (a .tuples .now))) (take 8 (drop (a .part) (a .parts .now)))) (a .out .now) (c .before .before .loop .out) (a .at) (c .before .before .loop .i) 8 (omega arith) (length-instance-at (a .arity) (a .spare) (take 8 (drop (8 * a .class) (a .tuples .now))) (a .parts .now) (a .part) (omega arith) (omega arith)) (c .before .before .loop .inv .1) (c .instance-byte .result) (omega arith) (c .instance-byte .ensures))
+loop-again c =
+    let a = c .before .before .before .before .before .before .before .args in
+    let l = c .before .before .loop in
+    let r = c .before .before .before .arity-of .result in (
+      omega arith,
+      l .inv .1,
+      l .inv .2,
+      paste-more (instanceBytes r (a .spare) (tupleAt (a .tuples .now) (a .class)) (partIn (a .head .now) (a .c))) (a .out .now) (l .out) (a .at) (l .i) 8 (omega arith) (length-instance-at r (a .spare) (tupleAt (a .tuples .now) (a .class)) (a .head .now) (a .c) (l .inv .1)) (l .inv .3) (c .instance-byte .result) (omega arith) (c .instance-byte .ensures),
+    )
 
 same-length : tie.Need-same-length Inv-loop μ-loop
-same-length c = let a = c .before .before .before .before .before .args in paste-length (instanceBytes (a .arity) (a .spare) (take 8 (drop (8 * a .class) (a .tuples .now))) (take 8 (drop (a .part) (a .parts .now)))) (a .out .now) (c .before .loop .out) (a .at) (c .before .loop .i) 8 (omega arith) (length-instance-at (a .arity) (a .spare) (take 8 (drop (8 * a .class) (a .tuples .now))) (a .parts .now) (a .part) (omega arith) (omega arith)) (c .before .loop .inv .1) (omega arith)
+same-length c =
+    let a = c .before .before .before .before .before .before .args in
+    let l = c .before .loop in
+    let r = c .before .before .arity-of .result in
+    paste-length (instanceBytes r (a .spare) (tupleAt (a .tuples .now) (a .class)) (partIn (a .head .now) (a .c))) (a .out .now) (l .out) (a .at) (l .i) 8 (omega arith) (length-instance-at r (a .spare) (tupleAt (a .tuples .now) (a .class)) (a .head .now) (a .c) (l .inv .1)) (l .inv .3) (omega arith)
 
 returns : tie.Need-returns Inv-loop μ-loop
-returns c = let e : c .before .loop .i ≡ 8 = omega arith in rw e at (c .before .loop .inv .1)
+returns c =
+    let a = c .before .before .before .before .before .before .args in
+    let l = c .before .loop in
+    let e : l .i ≡ 8 = omega arith in
+    (rw e at (l .inv .3)) ∙ ap (λ (k : ℕ). paste (a .out .now) (a .at) (instanceBytes k (a .spare) (tupleAt (a .tuples .now) (a .class)) (partIn (a .head .now) (a .c))) 8) (l .inv .2)
 
 pub put-instance-spec : {M : Type 1} → statement M
 put-instance-spec =
@@ -50,6 +85,8 @@ put-instance-spec =
     (tie.spec
     Inv-loop
     μ-loop
+    part-byte-requires
+    arity-of-requires
     loop-holds
     instance-byte-requires
     add-out

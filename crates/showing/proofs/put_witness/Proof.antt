@@ -1,6 +1,7 @@
 -- `put_witness` meets its contract. Assumes nothing.
-use mathlib.Core.Path.{_≡_, sym, _∙_}
+use mathlib.Core.Path.{_≡_, subst}
 use native.Mathlib.Omega.{arith}
+use Rattle.showing.specs.Bytes.{RefusedAt}
 use borrow.Author.Needs.{needs}
 use Rattle.showing.proofs.put_witness.Statement.{statement}
 use Rattle.showing.proofs.put_witness.Tie as tie
@@ -12,9 +13,10 @@ same-length : tie.Need-same-length
 same-length c = search needs
 
 returns : tie.Need-returns
-returns c D a e A v h z f =
-    let q : c .before .before .before .before .before .before .before .before .before .args .number ≡ 42 = omega arith in
-    c .before .before .put-open .ensures D a e A v h (sym q ∙ f)
+returns c D a A v R =
+    let s = c .before .before .before .before .before .before .before .args in
+    let q : s .number ≡ 42 = omega arith in
+    c .before .before .put-open .ensures D a A v (subst (RefusedAt D a (s .j) (s .m)) q R)
 
 put-plain-requires : tie.Need-put-plain-requires
 put-plain-requires c κs = search needs
@@ -23,9 +25,9 @@ same-length-2 : tie.Need-same-length-2
 same-length-2 c = search needs
 
 returns-2 : tie.Need-returns-2
-returns-2 c D a e A v h z f =
-    let s = c .before .before .before .before .before .before .before .before .before .args in
-    c .before .before .put-plain .ensures D a (s .j) (s .number) e _ _ _ A z (λ q. omega arith) f
+returns-2 c D a A v R =
+    let s = c .before .before .before .before .before .before .before .args in
+    c .before .before .put-plain .ensures D a (s .j) (s .number) A R (λ q. omega arith)
 
 pub put-witness-spec : {M : Type 1} → statement M
 put-witness-spec =

@@ -1,155 +1,100 @@
 -- `show` meets its contract. Assumes nothing.
-use mathlib.Core.List.{[]}
+use mathlib.Core.Path.{_∙_}
 use native.Mathlib.Omega.{arith}
-use borrow.Author.Needs.{needs}
 use Rattle.literals.specs.Domain.{action}
-use Rattle.literals.proofs.Held.{actions-is}
-use Rattle.literals.proofs.Spans.{vars-at, part-literals, part-bounds, part-length}
-use Rattle.verdict.specs.Decision.{classAt}
 use Rattle.verdict.proofs.ReadActions.{action-held}
 use Rattle.showing.proofs.Shown.{class-few, shown-start, shown-end}
+use borrow.Author.Needs.{needs}
 use Rattle.showing.proofs.show.Statement.{statement}
 use Rattle.showing.proofs.show.Tie as tie
 
-returns : tie.Need-returns
-returns c D old sorts e H wf t g h z f = let n = actions-is H in absurd (omega arith)
+actions-in-requires : tie.Need-actions-in-requires
+actions-in-requires c κs = search needs
 
-returns-2 : tie.Need-returns-2
-returns-2 c D old sorts e H wf t g h z f =
-    let s = c .before .before .before .before .before .before .before .before .before in
-    let l = class-few H (s .args .i) (s .args .j) g h in
+returns : tie.Need-returns
+returns c D H wf g R =
+    let n = H .says .actions in
+    let m = c .before .actions-in .ensures .0 in
     absurd (omega arith)
 
-span-of-requires : tie.Need-span-of-requires
-span-of-requires c κs = let a = c .before .before .before .before .before .before .before .before .before .pre .0 [] .actions in let l = c .before .if1 .left in (omega arith, omega arith)
+returns-2 : tie.Need-returns-2
+returns-2 c D H wf g R =
+    let l = class-few H (c .before .before .before .before .before .args .i) (c .before .before .before .before .before .args .j) g (R .listed) in
+    absurd (omega arith)
+
+rows-of-requires : tie.Need-rows-of-requires
+rows-of-requires c κs = search needs
 
 mul-from : tie.Need-mul-from
-mul-from c =
-    let s = c .before .before .before .before .before .before .before .before .before .before .before in
-    let p = c .before .span-of in
-    let h = part-bounds (s .pre .0 []) (s .args .i) (c .before .before .before .if1 .left) (p .result .from) (p .result .to) (p .ensures .0) (p .ensures .1) in
-    omega arith
+mul-from c = search needs
 
 mul-to : tie.Need-mul-to
-mul-to c =
-    let s = c .before .before .before .before .before .before .before .before .before .before .before .before in
-    let p = c .before .before .span-of in
-    let h = part-bounds (s .pre .0 []) (s .args .i) (c .before .before .before .before .if1 .left) (p .result .from) (p .result .to) (p .ensures .0) (p .ensures .1) in
-    omega arith
+mul-to c = search needs
 
 sub-n : tie.Need-sub-n
-sub-n c =
-    let s = c .before .before .before .before .before .before .before .before .before .before .before .before .before in
-    let p = c .before .before .before .span-of in
-    let h = part-bounds (s .pre .0 []) (s .args .i) (c .before .before .before .before .before .if1 .left) (p .result .from) (p .result .to) (p .ensures .0) (p .ensures .1) in
-    omega arith
+sub-n c = search needs
 
-shared-slice-read-spare : tie.Need-shared-slice-read-spare
-shared-slice-read-spare c = let a = c .before .before .before .before .before .before .before .before .before .before .before .before .before .before .pre .0 [] .actions in let l = c .before .before .before .before .before .before .if1 .left in omega arith
+variables-of-requires : tie.Need-variables-of-requires
+variables-of-requires c κs = search needs
 
 sub-put-witness : tie.Need-sub-put-witness
-sub-put-witness c =
-    let s = c .before .before .before .before .before .before .before .before .before .before .before .before .before .before .before in
-    let p = c .before .before .before .before .before .span-of in
-    let h = part-bounds (s .pre .0 []) (s .args .i) (c .before .before .before .before .before .before .before .if1 .left) (p .result .from) (p .result .to) (p .ensures .0) (p .ensures .1) in
-    omega arith
+sub-put-witness c = search needs
 
 part-put-witness-start : tie.Need-part-put-witness-start
-part-put-witness-start c =
-    let s = c .before .before .before .before .before .before .before .before .before .before .before .before .before .before .before in
-    let p = c .before .before .before .before .before .span-of in
-    let h = part-bounds (s .pre .0 []) (s .args .i) (c .before .before .before .before .before .before .before .if1 .left) (p .result .from) (p .result .to) (p .ensures .0) (p .ensures .1) in
-    omega arith
+part-put-witness-start c = search needs
 
 part-put-witness-end : tie.Need-part-put-witness-end
-part-put-witness-end c =
-    let s = c .before .before .before .before .before .before .before .before .before .before .before .before .before .before .before in
-    let p = c .before .before .before .before .before .span-of in
-    let h = part-bounds (s .pre .0 []) (s .args .i) (c .before .before .before .before .before .before .before .if1 .left) (p .result .from) (p .result .to) (p .ensures .0) (p .ensures .1) in
-    let l = s .pre .3 in
-    omega arith
+part-put-witness-end c = search needs
 
 put-witness-requires : tie.Need-put-witness-requires
-put-witness-requires c κs =
-    let s = c .before .before .before .before .before .before .before .before .before .before .before .before .before .before .before .before .before in
-    let p = c .before .before .before .before .before .before .before .span-of in
-    let h = part-bounds (s .pre .0 []) (s .args .i) (c .before .before .before .before .before .before .before .before .before .if1 .left) (p .result .from) (p .result .to) (p .ensures .0) (p .ensures .1) in
-    let S = s .pre .0 [] in
-    let q = S .parts in
-    let m = S .components in
-    let k = c .before .before .before .before .before .before .before .before .if2 .left in
-    (omega arith, m, S .keys, S .arities, part-length (s .args .table .now) (p .result .from) (p .result .to) (h .order) (let l = s .pre .3 in let w = h .listed in omega arith), omega arith, omega arith)
+put-witness-requires c κs = search needs
 
 same-length : tie.Need-same-length
 same-length c = search needs
 
 returns-3 : tie.Need-returns-3
-unfolding classAt
-returns-3 c D old sorts e H wf t g h z =
-    let s = c .before .before .before .before .before .before .before .before .before .before .before .before .before .before .before .before .before .before .before .before in
-    let p = c .before .before .before .before .before .before .before .before .before .before .span-of in
+returns-3 c D H wf g =
+    let a = c .before .before .before .before .before .before .before .before .before .before .before .before .before .before .before .before .args in
     let w = c .before .before .put-witness in
-    let A = action-held H wf (s .args .i) g (part-literals H (s .args .i) g (s .args .table .now) old t (p .result .from) (p .result .to) (p .ensures .0) (p .ensures .1)) in
-    shown-start D (s .args .i) (s .args .j) (s .args .number) e (w .result) (s .args .out .now) (w .last .1 .1 .1 .1 .1 .1 .1 .1 .1 .1 .0) (s .args .moment) (c .before .before .before .before .before .if3 .taken)
-    (w .ensures D (action D (s .args .i)) e A (vars-at H (s .args .i)) h z)
+    let A = action-held H wf (a .i) g (c .before .before .before .before .before .before .before .before .before .before .rows-of .ensures .1 D H g .literals) in
+    shown-start D (a .i) (a .j) (a .number) (a .out .now) (w .last .1 .1 .1 .1 .1 .1 .1 .0) (w .result) (a .moment) (c .before .before .before .before .before .if3 .taken)
+    (w .ensures D (action D (a .i)) A (c .before .before .before .before .before .before .variables-of .ensures .0 ∙ H .says .variables (a .i) g))
 
 sub-put-witness-2 : tie.Need-sub-put-witness-2
-sub-put-witness-2 c =
-    let s = c .before .before .before .before .before .before .before .before .before .before .before .before .before .before .before in
-    let p = c .before .before .before .before .before .span-of in
-    let h = part-bounds (s .pre .0 []) (s .args .i) (c .before .before .before .before .before .before .before .if1 .left) (p .result .from) (p .result .to) (p .ensures .0) (p .ensures .1) in
-    omega arith
+sub-put-witness-2 c = search needs
 
 part-put-witness-start-2 : tie.Need-part-put-witness-start-2
-part-put-witness-start-2 c =
-    let s = c .before .before .before .before .before .before .before .before .before .before .before .before .before .before .before in
-    let p = c .before .before .before .before .before .span-of in
-    let h = part-bounds (s .pre .0 []) (s .args .i) (c .before .before .before .before .before .before .before .if1 .left) (p .result .from) (p .result .to) (p .ensures .0) (p .ensures .1) in
-    omega arith
+part-put-witness-start-2 c = search needs
 
 part-put-witness-end-2 : tie.Need-part-put-witness-end-2
-part-put-witness-end-2 c =
-    let s = c .before .before .before .before .before .before .before .before .before .before .before .before .before .before .before in
-    let p = c .before .before .before .before .before .span-of in
-    let h = part-bounds (s .pre .0 []) (s .args .i) (c .before .before .before .before .before .before .before .if1 .left) (p .result .from) (p .result .to) (p .ensures .0) (p .ensures .1) in
-    let l = s .pre .3 in
-    omega arith
+part-put-witness-end-2 c = search needs
 
 put-witness-requires-2 : tie.Need-put-witness-requires-2
-put-witness-requires-2 c κs =
-    let s = c .before .before .before .before .before .before .before .before .before .before .before .before .before .before .before .before .before in
-    let p = c .before .before .before .before .before .before .before .span-of in
-    let h = part-bounds (s .pre .0 []) (s .args .i) (c .before .before .before .before .before .before .before .before .before .if1 .left) (p .result .from) (p .result .to) (p .ensures .0) (p .ensures .1) in
-    let S = s .pre .0 [] in
-    let q = S .parts in
-    let m = S .components in
-    let k = c .before .before .before .before .before .before .before .before .if2 .left in
-    (omega arith, m, S .keys, S .arities, part-length (s .args .table .now) (p .result .from) (p .result .to) (h .order) (let l = s .pre .3 in let w = h .listed in omega arith), omega arith, omega arith)
+put-witness-requires-2 c κs = search needs
 
 same-length-2 : tie.Need-same-length-2
 same-length-2 c = search needs
 
 returns-4 : tie.Need-returns-4
-unfolding classAt
-returns-4 c D old sorts e H wf t g h z =
-    let s = c .before .before .before .before .before .before .before .before .before .before .before .before .before .before .before .before .before .before .before .before in
-    let p = c .before .before .before .before .before .before .before .before .before .before .span-of in
+returns-4 c D H wf g =
+    let a = c .before .before .before .before .before .before .before .before .before .before .before .before .before .before .before .before .args in
     let w = c .before .before .put-witness2 in
-    let A = action-held H wf (s .args .i) g (part-literals H (s .args .i) g (s .args .table .now) old t (p .result .from) (p .result .to) (p .ensures .0) (p .ensures .1)) in
-    shown-end D (s .args .i) (s .args .j) (s .args .number) e (w .result) (s .args .out .now) (w .last .1 .1 .1 .1 .1 .1 .1 .1 .1 .1 .0) (s .args .moment) (c .before .before .before .before .before .if3 .left)
-    (w .ensures D (action D (s .args .i)) e A (vars-at H (s .args .i)) h z)
+    let A = action-held H wf (a .i) g (c .before .before .before .before .before .before .before .before .before .before .rows-of .ensures .1 D H g .literals) in
+    shown-end D (a .i) (a .j) (a .number) (a .out .now) (w .last .1 .1 .1 .1 .1 .1 .1 .0) (w .result) (a .moment) (c .before .before .before .before .before .if3 .left)
+    (w .ensures D (action D (a .i)) A (c .before .before .before .before .before .before .variables-of .ensures .0 ∙ H .says .variables (a .i) g))
 
 pub show-spec : {M : Type 1} → statement M
 show-spec =
     tie.close
     (tie.spec
+    actions-in-requires
     returns
     returns-2
-    span-of-requires
+    rows-of-requires
     mul-from
     mul-to
     sub-n
-    shared-slice-read-spare
+    variables-of-requires
     sub-put-witness
     part-put-witness-start
     part-put-witness-end

@@ -1,2 +1,0 @@
--- The rows of a report, as they are explained.
-pub mod Rows
