@@ -197,7 +197,7 @@ worked facts = over (zeroed 8192 facts) (lent 8200)
 
 -- number, first place, steps, weight
 abbrev pub reply : ℕ → ℕ → ℕ → ℕ → Played
-reply n first steps weight = record { number = n; first = first; second = 0; third = 0; steps = steps; weight = weight }
+reply n first steps weight = record { number = n; first = first; steps = steps; weight = weight }
 
 -- 2: steps and weight, the facts, and the run file's length, at which its empty end stands
 abbrev pub plays : ℕ → ℕ → List ℕ → ℕ → AfterPlaying

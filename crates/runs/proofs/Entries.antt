@@ -6,7 +6,8 @@ use mathlib.Core.List.{List, [], _∷_, _++_, append-nil, List·Memᴰ·head, Li
 use Prim.Native.Nat.{ℕ, zero, suc, _+_, _-_, _≤_, _<_}
 use native.Mathlib.Omega.{arith}
 use lib.Dec.{ltb, leb}
-use lib.ListN.{length}
+use lib.ListN.{length, take, drop, length-drop}
+use lib.Seq.{length-take-le}
 use borrow.Author.Tests.{lt-ltb, le-ltb, le-leb, lt-leb}
 use Rattle.records.specs.Lists.{In, filterBy}
 use Rattle.records.specs.declared.Record.{Record}
@@ -16,7 +17,7 @@ use Rattle.records.proofs.Laws.{whole-within}
 use Rattle.records.proofs.Lists.{or-r, all-of, any-append, filter-all, filter-append, filter-none}
 use Rattle.literals.specs.Domain.{Fact}
 use Rattle.verdict.specs.Machine.{Event}
-use Rattle.runs.specs.RunFile.{RunKind, objectsRecord, factRecord, eventRecord, stepRecord, endRecord, otherRecord, runKindOf, factOf, eventOf, Entry, entriesFrom, entries, entriesBefore, entriesUpTo, factsBy, startFactsIn, waitingBy, waitingFrom, waitingIn, closedBy, stepsFrom, stepsIn, begins, begunIn}
+use Rattle.runs.specs.RunFile.{RunKind, objectsRecord, factRecord, eventRecord, stepRecord, endRecord, otherRecord, runKindOf, factOf, eventOf, Entry, entriesFrom, entries, entriesBefore, entriesUpTo, behindFrom, objectsBy, countFrom, objectsIn, isEnd, closedIn, factsBy, startFactsIn, waitingBy, waitingFrom, waitingIn, closedBy, stepsFrom, stepsIn, begins, begunIn}
 
 -- ---- the records of a file
 
@@ -45,6 +46,16 @@ module _ (r : List ℕ) where
   pub chain-within : {from to : ℕ} {es : List Entry} → Chain r from es to → from ≤ length r → to ≤ length r
   chain-within here h = h
   chain-within (link {at} v c) h = let w = whole-within r at v in chain-within c (omega arith)
+
+  -- it ends behind its last record
+  pub chain-behind : {from to : ℕ} {es : List Entry} → Chain r from es to → to ≡ behindFrom from es
+  unfolding payload
+  chain-behind here = refl
+  chain-behind (link {at} {k} {start} {len} {to} {es} v c) =
+      let w = whole-within r at v in
+      let n : length (take len (drop start r)) ≡ len = length-take-le len (drop start r) (let d = length-drop start r in omega arith) in
+      let z : start + len ≡ at + 4 + length (payload r start len) = omega arith in
+      chain-behind c ∙ ap (λ (m : ℕ). behindFrom m es) z
 
   -- every record of it stands before its end
   chain-before : {from to : ℕ} {es : List Entry} → Chain r from es to → (e : Entry) → In e es → e .at < to
@@ -172,6 +183,20 @@ steps-from-snoc ws (x ∷ xs) e = go (x .kind) (λ vs. steps-from-snoc vs xs e)
 
 pub steps-snoc : (es : List Entry) (e : Entry) → stepsIn (es ++ (e ∷ [])) ≡ stepsIn es ++ closedBy (e .kind) (waitingIn es) []
 steps-snoc = steps-from-snoc []
+
+objects-from-snoc : (n : ℕ) (es : List Entry) (e : Entry) → countFrom n (es ++ (e ∷ [])) ≡ objectsBy (e .kind) (e .bytes) (countFrom n es)
+objects-from-snoc n [] e = refl
+objects-from-snoc n (x ∷ xs) e = objects-from-snoc (objectsBy (x .kind) (x .bytes) n) xs e
+
+pub objects-snoc : (es : List Entry) (e : Entry) → objectsIn (es ++ (e ∷ [])) ≡ objectsBy (e .kind) (e .bytes) (objectsIn es)
+objects-snoc = objects-from-snoc 0
+
+pub closed-snoc : (es : List Entry) (e : Entry) → closedIn es ≡ false → closedIn (es ++ (e ∷ [])) ≡ isEnd (e .kind)
+closed-snoc es e h = any-append (λ (e : Entry). isEnd (e .kind)) es (e ∷ []) ∙ rw h (go (isEnd (e .kind)))
+  where
+    go : (b : Bool) → b || false ≡ b
+    go true = refl
+    go false = refl
 
 begun-snoc : (es : List Entry) (e : Entry) → begunIn (es ++ (e ∷ [])) ≡ begunIn es || (begins (e .kind) || false)
 begun-snoc es e = any-append (λ (e : Entry). begins (e .kind)) es (e ∷ [])

@@ -14,8 +14,8 @@ use Rattle.records.proofs.Laws.{whole-within}
 use Rattle.literals.specs.Domain.{Domain}
 use Rattle.literals.specs.Decode.{byte}
 use Rattle.verdict.specs.Machine.{State, next, topWeight}
-use Rattle.runs.specs.RunFile.{RunKind, objectsRecord, factRecord, eventRecord, stepRecord, endRecord, otherRecord, runKindOf, factOf, eventOf}
-use Rattle.runs.specs.Play.{Playing, beforeRun, Outcome, PlayTurn, goOn, finish, stopAt, begin, objectsStop, withObjects, factStop, withFact, eventStop, withEvent, forbidden, tooLarge, afterStep, closeStep, stepStop, endStop, withClose, playRecord, playFound, playStep, playFrom}
+use Rattle.runs.specs.RunFile.{RunKind, objectsRecord, factRecord, eventRecord, stepRecord, endRecord, otherRecord, runKindOf, factOf, eventOf, objectsStop, factStop, eventStop, stepStop, endStop}
+use Rattle.runs.specs.Play.{Playing, beforeRun, Outcome, PlayTurn, goOn, finish, stopAt, begin, withObjects, withFact, withEvent, forbidden, tooLarge, afterStep, closeStep, withClose, playRecord, playFound, playStep, playFrom}
 
 -- ---- one turn of the loop
 
@@ -52,11 +52,11 @@ at-close D p behind =
 
 at-record : (D : Domain) (p : Playing) (k : RunKind) (b : List ℕ) (behind : ℕ) → At behind (playRecord D p k b behind)
 unfolding playRecord
-at-record D p objectsRecord b behind = at-cond behind (eqb (objectsStop p b) 0) (goOn (withObjects p (byte b 0) behind)) (stopAt (objectsStop p b) p) refl tt
-at-record D p factRecord b behind = at-cond behind (eqb (factStop D p b) 0) (goOn (withFact p (factOf b) behind)) (stopAt (factStop D p b) p) refl tt
-at-record D p eventRecord b behind = let q = begin D p in at-cond behind (eqb (eventStop D q b) 0) (goOn (withEvent q (eventOf b) behind)) (stopAt (eventStop D q b) q) refl tt
-at-record D p stepRecord b behind = let q = begin D p in at-cond behind (eqb (stepStop q b) 0) (closeStep D q behind) (stopAt (stepStop q b) q) (at-close D q behind) tt
-at-record D p endRecord b behind = let q = begin D p in at-cond behind (eqb (endStop q b) 0) (goOn (withClose q behind)) (stopAt (endStop q b) q) refl tt
+at-record D p objectsRecord b behind = at-cond behind (eqb (objectsStop (p .objects) b) 0) (goOn (withObjects p (byte b 0) behind)) (stopAt (objectsStop (p .objects) b) p) refl tt
+at-record D p factRecord b behind = at-cond behind (eqb (factStop D (p .objects) (p .tally .begun) (p .state .facts) b) 0) (goOn (withFact p (factOf b) behind)) (stopAt (factStop D (p .objects) (p .tally .begun) (p .state .facts) b) p) refl tt
+at-record D p eventRecord b behind = let q = begin D p in at-cond behind (eqb (eventStop D (p .objects) (p .waiting) b) 0) (goOn (withEvent q (eventOf b) behind)) (stopAt (eventStop D (p .objects) (p .waiting) b) q) refl tt
+at-record D p stepRecord b behind = let q = begin D p in at-cond behind (eqb (stepStop (p .objects) b) 0) (closeStep D q behind) (stopAt (stepStop (p .objects) b) q) (at-close D q behind) tt
+at-record D p endRecord b behind = let q = begin D p in at-cond behind (eqb (endStop (p .objects) (p .waiting) b) 0) (goOn (withClose q behind)) (stopAt (endStop (p .objects) (p .waiting) b) q) refl tt
 at-record D p otherRecord b behind = tt
 
 -- ---- where a turn goes on: at least 4 bytes further, within the file

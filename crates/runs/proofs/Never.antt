@@ -19,7 +19,7 @@ use Rattle.verdict.specs.Claims.{among, isEvent, hasArity, isFact, wellFormed, 
 use Rattle.verdict.proofs.Equality.{object-self}
 use Rattle.verdict.proofs.Decodes.{decoded-well-formed}
 use Rattle.verdict.proofs.Safety.{safety}
-use Rattle.runs.specs.RunFile.{entriesUpTo, startFactsIn, stepsIn, begunIn}
+use Rattle.runs.specs.RunFile.{entriesUpTo, objectsIn, startFactsIn, stepsIn, begunIn}
 use Rattle.runs.specs.Play.{workBytes, playRun, Played, ofRun, Call, playedAt, outcomeCall, callBy, call, played}
 use Rattle.runs.specs.Claims.{statesOf, peakOf, AsMachine, PlayedAsMachine, playedEntries, NeverAboveOne, WeightStaysLow}
 use Rattle.runs.proofs.Traced.{ended}
@@ -78,7 +78,7 @@ answers P d r w x y z = by (decode d) refl
 pub never-above-one : NeverAboveOne
 unfolding decidedFile
 never-above-one d D e acc r h =
-    stays-low D (decoded-well-formed d D e) (rw e at acc) (objectsFrom 0 (told .objects)) (startFactsIn (playedEntries D r)) (stepsIn (playedEntries D r)) (told .facts-legal) (told .steps-legal) (told .events-legal) h
+    stays-low D (decoded-well-formed d D e) (rw e at acc) (objectsFrom 0 (objectsIn (playedEntries D r))) (startFactsIn (playedEntries D r)) (stepsIn (playedEntries D r)) (told .facts-legal) (told .steps-legal) (told .events-legal) h
   where
     told : AsMachine D r (playRun D r)
     told = played-as-machine d D e r

@@ -11,7 +11,7 @@ use borrow.Author.Tests.{eqb-true, eqb-false, eq-eqb, lt-ltb, leb-false}
 use Rattle.records.specs.Lists.{any, all, empty, elem}
 use Rattle.records.proofs.Lists.{and-l, and-r, and-i, or-l, or-r, or-out, not-false, bool-cases, off, clash, eqb-same, all-snoc, pairwise-snoc, any-none, all-map}
 use Rattle.records.proofs.Numbers.{numberOf, testOf, numbered, by-numbers}
-use Rattle.literals.specs.Domain.{object, sameObject, sameFact, Action, Domain, arity, action}
+use Rattle.literals.specs.Domain.{object, sameObject, Fact, sameFact, Action, Domain, arity, action}
 use Rattle.literals.specs.Decode.{byte}
 use Rattle.classes.specs.declared.Moment.{Moment}
 use Rattle.classes.specs.declared.Moment.the-variants.{Start, End}
@@ -19,8 +19,8 @@ use Rattle.verdict.specs.Binding.{objectsFrom}
 use Rattle.verdict.specs.Machine.{Event, State, sameMoment, sameEvent, hasMoment, legal, legalStep, injective, isOpen, conditionsHold, overAllHold, independent}
 use Rattle.verdict.specs.Claims.{among, isEvent, isFact}
 use Rattle.verdict.proofs.Equality.{objects-self, ground-eq}
-use Rattle.runs.specs.RunFile.{factOf, momentOf, eventOf}
-use Rattle.runs.specs.Play.{maxObjects, maxFacts, maxEvents, Playing, outside, objectsStop, factStop, eventStop, forbidden, stepStop, endStop}
+use Rattle.runs.specs.RunFile.{factOf, momentOf, eventOf, maxObjects, maxFacts, maxEvents, outside, objectsStop, factStop, eventStop, stepStop, endStop}
+use Rattle.runs.specs.Play.{forbidden}
 
 -- ---- numbers
 
@@ -57,76 +57,76 @@ among-of n os h =
 
 -- ---- kind 16
 
-pub objects-tested : (p : Playing) (b : List ℕ) → Tested (objectsStop p b) (p .objects ≡ 0)
+pub objects-tested : (n : ℕ) (b : List ℕ) → Tested (objectsStop n b) (n ≡ 0)
 unfolding objectsStop
-objects-tested p b =
-    tested ((not (eqb (p .objects) 0), 50) ∷ (not (eqb (length b) 1), 50) ∷ (eqb (byte b 0) 0 || ltb maxObjects (byte b 0), 51) ∷ []) 0 refl
-    (λ g. inl (refl, eqb-true (p .objects) 0 (not-false _ (g 0))))
+objects-tested n b =
+    tested ((not (eqb n 0), 50) ∷ (not (eqb (length b) 1), 50) ∷ (eqb (byte b 0) 0 || ltb maxObjects (byte b 0), 51) ∷ []) 0 refl
+    (λ g. inl (refl, eqb-true n 0 (not-false _ (g 0))))
 
 -- ---- kind 17
 
 -- what holds of a start fact that nothing stops
-pub record FactPasses (D : Domain) (p : Playing) (b : List ℕ) : Type 0 where
-  pub objects : p .objects ≡ 0 → ⊥
-  pub early : p .tally .begun ≡ false
-  pub fact : isFact D (objectsFrom 0 (p .objects)) (factOf b) ≡ true
+pub record FactPasses (D : Domain) (objects : ℕ) (begun : Bool) (b : List ℕ) : Type 0 where
+  pub some : objects ≡ 0 → ⊥
+  pub early : begun ≡ false
+  pub fact : isFact D (objectsFrom 0 objects) (factOf b) ≡ true
 
-pub fact-tested : (D : Domain) (p : Playing) (b : List ℕ) → Tested (factStop D p b) (FactPasses D p b)
+pub fact-tested : (D : Domain) (objects : ℕ) (begun : Bool) (held : List Fact) (b : List ℕ) → Tested (factStop D objects begun held b) (FactPasses D objects begun b)
 unfolding factStop
-fact-tested D p b =
+fact-tested D objects begun held b =
     tested
-    ((eqb (p .objects) 0 || p .tally .begun, 50)
+    ((eqb objects 0 || begun, 50)
     ∷ (ltb (length b) 1, 50)
     ∷ (leb (length (D .arities)) (byte b 0), 51)
     ∷ (not (eqb (length b) (1 + arity D (byte b 0))), 50)
-    ∷ (outside p (drop 1 b), 51)
-    ∷ (not (elem sameFact (factOf b) (p .state .facts)) && leb maxFacts (length (p .state .facts)), 52)
+    ∷ (outside objects (drop 1 b), 51)
+    ∷ (not (elem sameFact (factOf b) held) && leb maxFacts (length held), 52)
     ∷ [])
     0 refl (λ g.
     let l = eqb-true (length b) (1 + arity D (byte b 0)) (not-false _ (g 3)) in
     let n : length (map object (drop 1 b)) ≡ arity D (byte b 0) = simp (length-map, length-drop) (omega arith) in
-    let o = or-out (eqb (p .objects) 0) (p .tally .begun) (g 0) in
+    let o = or-out (eqb objects 0) begun (g 0) in
     inl (
       refl,
       record {
-        objects = eqb-false (p .objects) 0 (o .0);
+        some = eqb-false objects 0 (o .0);
         early = o .1;
-        fact = and-i (and-i (lt-ltb (byte b 0) (length (D .arities)) (leb-false (length (D .arities)) (byte b 0) (g 2))) (eq-eqb (length (map object (drop 1 b))) (arity D (byte b 0)) n)) (among-of (p .objects) (drop 1 b) (g 4));
+        fact = and-i (and-i (lt-ltb (byte b 0) (length (D .arities)) (leb-false (length (D .arities)) (byte b 0) (g 2))) (eq-eqb (length (map object (drop 1 b))) (arity D (byte b 0)) n)) (among-of objects (drop 1 b) (g 4));
       },
     ))
 
 -- ---- kind 18
 
 -- what holds of an event that nothing stops
-pub record EventPasses (D : Domain) (p : Playing) (b : List ℕ) : Type 0 where
-  pub objects : p .objects ≡ 0 → ⊥
-  pub event : isEvent D (objectsFrom 0 (p .objects)) (eventOf b) ≡ true
-  pub fresh : elem sameEvent (eventOf b) (p .waiting) ≡ false
+pub record EventPasses (D : Domain) (objects : ℕ) (waiting : List Event) (b : List ℕ) : Type 0 where
+  pub some : objects ≡ 0 → ⊥
+  pub event : isEvent D (objectsFrom 0 objects) (eventOf b) ≡ true
+  pub fresh : elem sameEvent (eventOf b) waiting ≡ false
 
 moment-of : (m : Bool) (a : Action) → m && not (a .lasting) ≡ false → hasMoment a (cond m End Start) ≡ true
 moment-of true a e = not-false (a .lasting) e
 moment-of false a e = refl
 
 -- its tests, in their order
-abbrev pub eventTests : Domain → Playing → List ℕ → List (Bool × ℕ)
-eventTests D p b =
-    (eqb (p .objects) 0, 50)
+abbrev pub eventTests : Domain → ℕ → List Event → List ℕ → List (Bool × ℕ)
+eventTests D objects waiting b =
+    (eqb objects 0, 50)
     ∷ (ltb (length b) 2, 50)
     ∷ (ltb 1 (byte b 0), 51)
     ∷ (leb (length (D .actions)) (byte b 1), 51)
     ∷ (not (eqb (length b) (2 + action D (byte b 1) .vars)), 50)
     ∷ (eqb (byte b 0) 1 && not (action D (byte b 1) .lasting), 51)
-    ∷ (outside p (drop 2 b), 51)
+    ∷ (outside objects (drop 2 b), 51)
     ∷ (not (injective (eventOf b)), 53)
-    ∷ (elem sameEvent (eventOf b) (p .waiting), 54)
-    ∷ (leb maxEvents (length (p .waiting)), 52)
+    ∷ (elem sameEvent (eventOf b) waiting, 54)
+    ∷ (leb maxEvents (length waiting), 52)
     ∷ []
 
-pub event-tested : (D : Domain) (p : Playing) (b : List ℕ) → Tested (eventStop D p b) (EventPasses D p b)
+pub event-tested : (D : Domain) (objects : ℕ) (waiting : List Event) (b : List ℕ) → Tested (eventStop D objects waiting b) (EventPasses D objects waiting b)
 unfolding eventStop legal
-event-tested D p b =
+event-tested D objects waiting b =
     tested
-    (eventTests D p b)
+    (eventTests D objects waiting b)
     0 refl (λ g.
     let l = eqb-true (length b) (2 + a .vars) (not-false _ (g 4)) in
     let n : length (map object (drop 2 b)) ≡ a .vars = simp (length-map, length-drop) (omega arith) in
@@ -136,8 +136,8 @@ event-tested D p b =
     inl (
       refl,
       record {
-        objects = eqb-false (p .objects) 0 (g 0);
-        event = and-i (and-i (and-i (and-i h1 h2) h3) (not-false _ (g 7))) (among-of (p .objects) (drop 2 b) (g 6));
+        some = eqb-false objects 0 (g 0);
+        event = and-i (and-i (and-i (and-i h1 h2) h3) (not-false _ (g 7))) (among-of objects (drop 2 b) (g 6));
         fresh = g 8;
       },
     ))
@@ -147,17 +147,17 @@ event-tested D p b =
 
 -- ---- kinds 19 and 20
 
-pub step-tested : (p : Playing) (b : List ℕ) → Tested (stepStop p b) (p .objects ≡ 0 → ⊥)
+pub step-tested : (n : ℕ) (b : List ℕ) → Tested (stepStop n b) (n ≡ 0 → ⊥)
 unfolding stepStop
-step-tested p b = tested ((eqb (p .objects) 0, 50) ∷ (not (eqb (length b) 0), 50) ∷ []) 0 refl (λ g. inl (refl, eqb-false (p .objects) 0 (g 0)))
+step-tested n b = tested ((eqb n 0, 50) ∷ (not (eqb (length b) 0), 50) ∷ []) 0 refl (λ g. inl (refl, eqb-false n 0 (g 0)))
 
-pub end-tested : (p : Playing) (b : List ℕ) → Tested (endStop p b) (p .waiting ≡ [])
+pub end-tested : (n : ℕ) (ws : List Event) (b : List ℕ) → Tested (endStop n ws b) (ws ≡ [])
 unfolding endStop
-end-tested p b = tested ((eqb (p .objects) 0, 50) ∷ (not (eqb (length b) 0), 50) ∷ []) (cond (empty (p .waiting)) 0 50) refl (λ g. go (p .waiting) refl)
+end-tested n ws b = tested ((eqb n 0, 50) ∷ (not (eqb (length b) 0), 50) ∷ []) (cond (empty ws) 0 50) refl (λ g. go ws refl)
   where
-    go : (ws : List Event) → p .waiting ≡ ws → Tested (cond (empty ws) 0 50) (p .waiting ≡ [])
+    go : (vs : List Event) → ws ≡ vs → Tested (cond (empty vs) 0 50) (ws ≡ [])
     go [] e = inl (refl, e)
-    go (w ∷ ws) e = inr (record { low = omega arith; high = omega arith })
+    go (v ∷ vs) e = inr (record { low = omega arith; high = omega arith })
 
 -- "57 end not open; 55 condition fails; 56 interference"
 pub forbidden-by : (D : Domain) (s : State) (es : List Event) → (forbidden D s es ≡ 0) ⊎ ((55 ≤ forbidden D s es) × (forbidden D s es ≤ 57))

@@ -2,32 +2,18 @@
 use mathlib.Core.Bool.{Bool, true, false, _&&_, _||_, not, cond}
 use mathlib.Core.List.{List, [], _∷_, _++_}
 use Prim.Native.Nat.{ℕ, zero, suc, _+_, _-_, max}
-use lib.Dec.{eqb, ltb, leb}
+use lib.Dec.{eqb, ltb}
 use lib.ListN.{length, drop, replicate}
-use Rattle.records.specs.Lists.{any, all, empty, elem}
+use Rattle.records.specs.Lists.{all, elem}
 use Rattle.records.specs.Memory.{over}
 use Rattle.records.specs.declared.Record.{Record}
 use Rattle.records.specs.declared.Record.the-variants.{Whole, Cut, End}
 use Rattle.records.specs.Record.{recordAt, payload}
-use Rattle.literals.specs.Domain.{Fact, sameFact, Domain, arity, action}
+use Rattle.literals.specs.Domain.{Fact, sameFact, Domain}
 use Rattle.literals.specs.Decode.{Refusal, Decoded, refused, domain, decode, byte}
 use Rattle.verdict.specs.Judged.{factBytes}
-use Rattle.verdict.specs.Machine.{Event, State, sameEvent, injective, isOpen, conditionsHold, overAllHold, interfere, independent, next, topWeight}
-use Rattle.runs.specs.RunFile.{RunKind, objectsRecord, factRecord, eventRecord, stepRecord, endRecord, otherRecord, runKindOf, factOf, eventOf}
-
--- ---- the player's own limits: "The machine has no size limits; those in 52 are the player's."
-
-abbrev pub maxObjects : ℕ
-maxObjects = 64
-
-abbrev pub maxFacts : ℕ
-maxFacts = 1024
-
-abbrev pub maxRunning : ℕ
-maxRunning = 32
-
-abbrev pub maxEvents : ℕ
-maxEvents = 16
+use Rattle.verdict.specs.Machine.{Event, State, isOpen, conditionsHold, overAllHold, interfere, independent, next, topWeight}
+use Rattle.runs.specs.RunFile.{RunKind, objectsRecord, factRecord, eventRecord, stepRecord, endRecord, otherRecord, runKindOf, factOf, eventOf, maxFacts, maxRunning, objectsStop, factStop, eventStop, stepStop, endStop}
 
 -- "the first 8,192 bytes"
 abbrev pub workBytes : ℕ
@@ -107,30 +93,11 @@ begin D p =
       tally = startTally (p .tally) (topWeight D (p .state .facts));
     }
 
--- ---- each kind: the number that stops its record, or 0; and where playing stands behind it
-
--- an object number that the run does not have
-abbrev pub outside : Playing → List ℕ → Bool
-outside p os = any (leb (p .objects)) os
-
--- "one 16", "object count 1 to 64"
-unfoldable pub objectsStop : Playing → List ℕ → ℕ
-objectsStop p b =
-    cond (not (eqb (p .objects) 0)) 50 (cond (not (eqb (length b) 1)) 50 (cond (eqb (byte b 0) 0 || ltb maxObjects (byte b 0)) 51 0))
+-- ---- where playing stands behind a record of each kind
 
 abbrev pub withObjects : Playing → ℕ → ℕ → Playing
 withObjects p n behind =
     record { at = behind; closed = false; objects = n; state = p .state; waiting = p .waiting; tally = p .tally }
-
--- "any number of 17": behind the 16, and before 18 to 20; "52 .. the 1,025th different start fact"
-unfoldable pub factStop : Domain → Playing → List ℕ → ℕ
-factStop D p b =
-    cond (eqb (p .objects) 0 || p .tally .begun) 50
-    (cond (ltb (length b) 1) 50
-    (cond (leb (length (D .arities)) (byte b 0)) 51
-    (cond (not (eqb (length b) (1 + arity D (byte b 0)))) 50
-    (cond (outside p (drop 1 b)) 51
-    (cond (not (elem sameFact (factOf b) (p .state .facts)) && leb maxFacts (length (p .state .facts))) 52 0)))))
 
 -- "repeats held once"
 abbrev pub joined : Fact → List Fact → List Fact
@@ -139,22 +106,6 @@ joined f fs = cond (elem sameFact f fs) fs (fs ++ (f ∷ []))
 abbrev pub withFact : Playing → Fact → ℕ → Playing
 withFact p f behind =
     onward p behind (record { facts = joined f (p .state .facts); running = p .state .running }) (p .waiting) (p .tally)
-
--- "51 number out of range, or moment 1 of an action at once; 53 one object bound twice; 54 event repeated in its step; 52 a step's 17th event"
-unfoldable pub eventStop : Domain → Playing → List ℕ → ℕ
-unfolding action
-eventStop D p b =
-    let a = action D (byte b 1) in
-    cond (eqb (p .objects) 0) 50
-    (cond (ltb (length b) 2) 50
-    (cond (ltb 1 (byte b 0)) 51
-    (cond (leb (length (D .actions)) (byte b 1)) 51
-    (cond (not (eqb (length b) (2 + a .vars))) 50
-    (cond (eqb (byte b 0) 1 && not (a .lasting)) 51
-    (cond (outside p (drop 2 b)) 51
-    (cond (not (injective (eventOf b))) 53
-    (cond (elem sameEvent (eventOf b) (p .waiting)) 54
-    (cond (leb maxEvents (length (p .waiting))) 52 0)))))))))
 
 abbrev pub withEvent : Playing → Event → ℕ → Playing
 withEvent p e behind = onward p behind (p .state) (p .waiting ++ (e ∷ [])) (p .tally)
@@ -190,13 +141,6 @@ closeStep D p behind =
     cond (tooLarge after) (stopAt 52 p) (afterStep p after (topWeight D (after .facts)) behind))
     (stopAt (forbidden D (p .state) (p .waiting)) p)
 
-unfoldable pub stepStop : Playing → List ℕ → ℕ
-stepStop p b = cond (eqb (p .objects) 0) 50 (cond (not (eqb (length b) 0)) 50 0)
-
--- "close the run, with no event waiting (else 50 at that record)"
-unfoldable pub endStop : Playing → List ℕ → ℕ
-endStop p b = cond (eqb (p .objects) 0) 50 (cond (not (eqb (length b) 0)) 50 (cond (empty (p .waiting)) 0 50))
-
 abbrev pub withClose : Playing → ℕ → Playing
 withClose p behind =
     record { at = behind; closed = true; objects = p .objects; state = p .state; waiting = p .waiting; tally = p .tally }
@@ -209,11 +153,11 @@ unless n p t = cond (eqb n 0) t (stopAt n p)
 -- a whole record of this kind with payload b, and the offset behind it
 unfoldable pub playRecord : Domain → Playing → RunKind → List ℕ → ℕ → PlayTurn
 unfolding objectsStop factStop begin eventStop stepStop closeStep endStop
-playRecord D p objectsRecord b behind = unless (objectsStop p b) p (goOn (withObjects p (byte b 0) behind))
-playRecord D p factRecord b behind = unless (factStop D p b) p (goOn (withFact p (factOf b) behind))
-playRecord D p eventRecord b behind = let q = begin D p in unless (eventStop D q b) q (goOn (withEvent q (eventOf b) behind))
-playRecord D p stepRecord b behind = let q = begin D p in unless (stepStop q b) q (closeStep D q behind)
-playRecord D p endRecord b behind = let q = begin D p in unless (endStop q b) q (goOn (withClose q behind))
+playRecord D p objectsRecord b behind = unless (objectsStop (p .objects) b) p (goOn (withObjects p (byte b 0) behind))
+playRecord D p factRecord b behind = unless (factStop D (p .objects) (p .tally .begun) (p .state .facts) b) p (goOn (withFact p (factOf b) behind))
+playRecord D p eventRecord b behind = let q = begin D p in unless (eventStop D (p .objects) (p .waiting) b) q (goOn (withEvent q (eventOf b) behind))
+playRecord D p stepRecord b behind = let q = begin D p in unless (stepStop (p .objects) b) q (closeStep D q behind)
+playRecord D p endRecord b behind = let q = begin D p in unless (endStop (p .objects) (p .waiting) b) q (goOn (withClose q behind))
 playRecord D p otherRecord b behind = stopAt 50 p
 
 unfoldable pub playFound : Domain → List ℕ → Playing → Record → PlayTurn
@@ -240,12 +184,10 @@ playRun D r = playFrom (suc (length r)) D r beforeRun
 
 -- ---- the call: a domain file, a run file and the work memory
 
--- "number (2 when played), steps made, highest weight", with three places
+-- "number (2 when played), steps made, highest weight", with the first place; the others are always 0
 pub record Played : Type 0 where
   pub number : ℕ
   pub first : ℕ
-  pub second : ℕ
-  pub third : ℕ
   pub steps : ℕ
   pub weight : ℕ
 
@@ -262,7 +204,7 @@ pub record Call : Type 0 where
 
 -- "unused places are 0"
 abbrev pub playedAt : ℕ → ℕ → ℕ → ℕ → Played
-playedAt n at s w = record { number = n; first = at; second = 0; third = 0; steps = s; weight = w }
+playedAt n at s w = record { number = n; first = at; steps = s; weight = w }
 
 -- "any later number for a record, give the record's offset as first place"
 abbrev pub placeOf : Outcome → ℕ

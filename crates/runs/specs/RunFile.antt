@@ -1,17 +1,31 @@
--- What a run file holds, told without a machine: its records, start facts and steps. Assumes nothing.
-use mathlib.Core.Bool.{Bool, true, false, cond}
+-- What a run file holds, told without a machine: its records, objects, start facts and steps, and what stops a record. Assumes nothing.
+use mathlib.Core.Bool.{Bool, true, false, _&&_, _||_, not, cond}
 use mathlib.Core.List.{List, [], _∷_, _++_, map}
 use Prim.Native.Nat.{ℕ, zero, suc, _+_}
 use lib.Dec.{eqb, ltb, leb}
 use lib.ListN.{length, drop}
-use Rattle.records.specs.Lists.{any, filterBy}
+use Rattle.records.specs.Lists.{any, empty, elem, dedup, filterBy}
 use Rattle.records.specs.declared.Record.the-variants.{Whole, Cut, End}
 use Rattle.records.specs.Record.{recordAt, payload}
-use Rattle.literals.specs.Domain.{object, Fact}
+use Rattle.literals.specs.Domain.{object, Fact, sameFact, Domain, arity, action}
 use Rattle.literals.specs.Decode.{byte}
 use Rattle.classes.specs.declared.Moment.{Moment}
 use Rattle.classes.specs.declared.Moment.the-variants.{Start, End as Ending}
-use Rattle.verdict.specs.Machine.{Event}
+use Rattle.verdict.specs.Machine.{Event, sameEvent, injective}
+
+-- ---- the player's own limits: "The machine has no size limits; those in 52 are the player's."
+
+abbrev pub maxObjects : ℕ
+maxObjects = 64
+
+abbrev pub maxFacts : ℕ
+maxFacts = 1024
+
+abbrev pub maxRunning : ℕ
+maxRunning = 32
+
+abbrev pub maxEvents : ℕ
+maxEvents = 16
 
 -- ---- the kinds of record
 
@@ -73,6 +87,31 @@ entriesUpTo r place = filterBy (λ (e : Entry). leb (e .at) place) (entries r)
 
 -- ---- what the records say
 
+-- where the records end: behind the payload of the last
+abbrev pub behindFrom : ℕ → List Entry → ℕ
+behindFrom at [] = at
+behindFrom at (e ∷ es) = behindFrom (e .at + 4 + length (e .bytes)) es
+
+abbrev pub behindIn : List Entry → ℕ
+behindIn es = behindFrom 0 es
+
+-- the object count behind a record, where it is n before it
+abbrev pub objectsBy : RunKind → List ℕ → ℕ → ℕ
+objectsBy objectsRecord b n = byte b 0
+objectsBy factRecord b n = n
+objectsBy eventRecord b n = n
+objectsBy stepRecord b n = n
+objectsBy endRecord b n = n
+objectsBy otherRecord b n = n
+
+abbrev pub countFrom : ℕ → List Entry → ℕ
+countFrom n [] = n
+countFrom n (e ∷ es) = countFrom (objectsBy (e .kind) (e .bytes) n) es
+
+-- the object count, 0 before its record
+abbrev pub objectsIn : List Entry → ℕ
+objectsIn es = countFrom 0 es
+
 abbrev pub factsBy : RunKind → List ℕ → List Fact → List Fact
 factsBy objectsRecord b fs = fs
 factsBy factRecord b fs = factOf b ∷ fs
@@ -131,3 +170,69 @@ begins otherRecord = false
 -- "once the first uncut record of kind 18 to 20 is met"
 abbrev pub begunIn : List Entry → Bool
 begunIn es = any (λ (e : Entry). begins (e .kind)) es
+
+abbrev pub isEnd : RunKind → Bool
+isEnd objectsRecord = false
+isEnd factRecord = false
+isEnd eventRecord = false
+isEnd stepRecord = false
+isEnd endRecord = true
+isEnd otherRecord = false
+
+-- the run's close is read
+abbrev pub closedIn : List Entry → Bool
+closedIn es = any (λ (e : Entry). isEnd (e .kind)) es
+
+-- ---- what stops a record: its number, or 0
+
+-- an object number that the run does not have
+abbrev pub outside : ℕ → List ℕ → Bool
+outside objects os = any (leb objects) os
+
+-- "one 16", "object count 1 to 64"
+unfoldable pub objectsStop : ℕ → List ℕ → ℕ
+objectsStop objects b =
+    cond (not (eqb objects 0)) 50 (cond (not (eqb (length b) 1)) 50 (cond (eqb (byte b 0) 0 || ltb maxObjects (byte b 0)) 51 0))
+
+-- "any number of 17": behind the 16, and before 18 to 20; "52 .. the 1,025th different start fact"
+unfoldable pub factStop : Domain → ℕ → Bool → List Fact → List ℕ → ℕ
+factStop D objects begun held b =
+    cond (eqb objects 0 || begun) 50
+    (cond (ltb (length b) 1) 50
+    (cond (leb (length (D .arities)) (byte b 0)) 51
+    (cond (not (eqb (length b) (1 + arity D (byte b 0)))) 50
+    (cond (outside objects (drop 1 b)) 51
+    (cond (not (elem sameFact (factOf b) held) && leb maxFacts (length held)) 52 0)))))
+
+-- "51 number out of range, or moment 1 of an action at once; 53 one object bound twice; 54 event repeated in its step; 52 a step's 17th event"
+unfoldable pub eventStop : Domain → ℕ → List Event → List ℕ → ℕ
+unfolding action
+eventStop D objects waiting b =
+    let a = action D (byte b 1) in
+    cond (eqb objects 0) 50
+    (cond (ltb (length b) 2) 50
+    (cond (ltb 1 (byte b 0)) 51
+    (cond (leb (length (D .actions)) (byte b 1)) 51
+    (cond (not (eqb (length b) (2 + a .vars))) 50
+    (cond (eqb (byte b 0) 1 && not (a .lasting)) 51
+    (cond (outside objects (drop 2 b)) 51
+    (cond (not (injective (eventOf b))) 53
+    (cond (elem sameEvent (eventOf b) waiting) 54
+    (cond (leb maxEvents (length waiting)) 52 0)))))))))
+
+unfoldable pub stepStop : ℕ → List ℕ → ℕ
+stepStop objects b = cond (eqb objects 0) 50 (cond (not (eqb (length b) 0)) 50 0)
+
+-- "close the run, with no event waiting (else 50 at that record)"
+unfoldable pub endStop : ℕ → List Event → List ℕ → ℕ
+endStop objects waiting b = cond (eqb objects 0) 50 (cond (not (eqb (length b) 0)) 50 (cond (empty waiting) 0 50))
+
+-- a whole record, told by the records before it; "repeats held once"
+unfoldable pub recordStop : Domain → List Entry → RunKind → List ℕ → ℕ
+unfolding objectsStop factStop eventStop stepStop endStop
+recordStop D es objectsRecord b = objectsStop (objectsIn es) b
+recordStop D es factRecord b = factStop D (objectsIn es) (begunIn es) (dedup sameFact (startFactsIn es)) b
+recordStop D es eventRecord b = eventStop D (objectsIn es) (waitingIn es) b
+recordStop D es stepRecord b = stepStop (objectsIn es) b
+recordStop D es endRecord b = endStop (objectsIn es) (waitingIn es) b
+recordStop D es otherRecord b = 50
