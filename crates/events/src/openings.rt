@@ -30,7 +30,8 @@ pub struct Joined {
 
 // Whether the entry at an offset is this one.
 pub fn same_ground(memory: &[u8], at: usize, ground: &[u8]) -> bool
-    requires { ⌜ (at + 17 ≤ length (now memory)) × (length (now ground) ≡ 17) ⌝ }
+    requires entry { ⌜ at + 17 ≤ length (now memory) ⌝ }
+    requires row { ⌜ length (now ground) ≡ 17 ⌝ }
     ensures { λ r. ⌜ r ≡ sameList eqb (now (ground .entry)) (take 17 (drop at (now (memory .entry)))) ⌝ }
 {
     let mut i = 0;
@@ -45,7 +46,8 @@ pub fn same_ground(memory: &[u8], at: usize, ground: &[u8]) -> bool
 
 // The number of the first of n entries that is this one, or n.
 fn entry_of(rows: &[u8], n: usize, ground: &[u8]) -> usize
-    requires { ⌜ (17 * n ≤ length (now rows)) × (length (now ground) ≡ 17) ⌝ }
+    requires entries { ⌜ 17 * n ≤ length (now rows) ⌝ }
+    requires row { ⌜ length (now ground) ≡ 17 ⌝ }
     ensures { λ r. ⌜ r ≡ position (sameList eqb (now (ground .entry))) (groundsIn n (now (rows .entry))) ⌝ }
 {
     let mut k = 0;
@@ -60,7 +62,8 @@ fn entry_of(rows: &[u8], n: usize, ground: &[u8]) -> usize
 
 // Whether one of n entries is this one.
 fn is_open(rows: &[u8], n: usize, ground: &[u8]) -> bool
-    requires { ⌜ (17 * n ≤ length (now rows)) × (length (now ground) ≡ 17) ⌝ }
+    requires entries { ⌜ 17 * n ≤ length (now rows) ⌝ }
+    requires row { ⌜ length (now ground) ≡ 17 ⌝ }
     ensures { λ r. ⌜ r ≡ hasRow (now (ground .entry)) (groundsIn n (now (rows .entry))) ⌝ }
 {
     entry_of(rows, n, ground) < n
@@ -133,7 +136,8 @@ fn opens_entry(head: &Head, moment: u8, action: u8) -> bool
 
 // The rows without the entry k: the later ones forward, zeros behind.
 fn without(rows: &mut [u8], k: usize)
-    requires { ⌜ (length (now rows) ≡ 544) × (k < 32) ⌝ }
+    requires entries { ⌜ length (now rows) ≡ 544 ⌝ }
+    requires entry { ⌜ k < 32 ⌝ }
     ensures { λ _. ⌜ now (rows .exit) ≡ take (17 * k) (now (rows .entry)) ++ (drop (17 * k + 17) (now (rows .entry)) ++ replicate 17 0) ⌝ }
 {
     let mut old = [0u8; 544];

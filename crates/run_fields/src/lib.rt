@@ -83,7 +83,8 @@ pub fn end_stop(objects: u8, waiting: usize, p: &[u8]) -> u64
 
 // The row of a start fact: relation, how many objects, objects, FF to fill.
 pub fn fact_row(p: &[u8]) -> [u8; 8]
-    requires { ⌜ (1 ≤ length (now p)) × (length (now p) ≤ 7) ⌝ }
+    requires relation { ⌜ 1 ≤ length (now p) ⌝ }
+    requires objects { ⌜ length (now p) ≤ 7 ⌝ }
     ensures { λ r. ⌜ r ≡ factRow (factOf (now (p .entry))) ⌝ }
 {
     let mut row = [255u8; 8];
@@ -95,7 +96,8 @@ pub fn fact_row(p: &[u8]) -> [u8; 8]
 
 // The row of an event's action: action, objects, FF to fill.
 pub fn ground_row(p: &[u8]) -> [u8; 17]
-    requires { ⌜ (2 ≤ length (now p)) × (length (now p) ≤ 18) ⌝ }
+    requires action { ⌜ 2 ≤ length (now p) ⌝ }
+    requires objects { ⌜ length (now p) ≤ 18 ⌝ }
     ensures { λ r. ⌜ r ≡ groundRow (eventOf (now (p .entry)) .ground) ⌝ }
 {
     let mut row = [255u8; 17];

@@ -32,7 +32,7 @@ mul-row-met c = omega arith
 row-met-requires : tie.Need-row-met-requires Inv-loop μ-loop
 row-met-requires c κs =
     let p = c .before .before .before .before .before .before .pre in
-    (p .0, omega arith, p .2, p .3, p .4)
+    (p .0, (omega arith, p .1 .1))
 
 returns : tie.Need-returns Inv-loop μ-loop
 returns c I =

@@ -59,7 +59,7 @@ conditions-met-requires c κs =
     let p = s .pre in
     let r = c .before .before .before .before .rows-of in
     let l = part-length (s .args .table .now) (r .result .from) (r .result .to) (r .ensures .0 .order) (r .ensures .0 .room) in
-    (p .0, omega arith, p .1, p .2, p .3)
+    (p .0, (omega arith, p .1))
 
 returns-2 : tie.Need-returns-2
 returns-2 c D g fs H F e f I =

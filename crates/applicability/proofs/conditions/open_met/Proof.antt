@@ -42,7 +42,7 @@ loop-holds c = (omega arith, λ D gs fs L o F f I. refl)
 entry-met-requires : tie.Need-entry-met-requires Inv-loop μ-loop
 entry-met-requires c κs =
     let p = c .before .before .before .before .before .before .before .pre in
-    (p .3, omega arith, p .0, p .1, p .2)
+    (p .1 .1 .1, (omega arith, (p .0, (p .1 .0, p .1 .1 .0))))
 
 -- the entry of this turn
 entry-at : (b : tie.After-entry-met Inv-loop μ-loop) (D : Domain) (gs : List GroundAction) (fs : List Fact)
