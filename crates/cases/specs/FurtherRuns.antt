@@ -7,7 +7,8 @@ use lib.ListN.{replicate}
 use Rattle.literals.specs.Domain.{object, Domain}
 use Rattle.verdict.specs.Judged.{decidedFile}
 use Rattle.verdict.specs.Machine.{State}
-use Rattle.runs.specs.Play.{Playing, factStop, tooLarge, ofDomain, ofRun, played, workAfter, returned, returnedBytes}
+use Rattle.runs.specs.RunFile.{factStop}
+use Rattle.runs.specs.Play.{tooLarge, ofDomain, ofRun, played, workAfter, returned, returnedBytes}
 use Rattle.cases.specs.Written.{FF, rec, each, relation, atOnce, lasting, component, closing, objects, fact, event, closeStep, closeRun, holds, lacks, adds, deletes, holdsOverAll, lacksOverAll, holdsAtEnd, lacksAtEnd, addsAtEnd, deletesAtEnd, lent, zeroed, held, playing, play, reply, plays, stops}
 use Rattle.cases.specs.Samples.{at, out, m1, m3}
 
@@ -489,10 +490,6 @@ parts =
 abbrev crowded : ℕ → State
 crowded n = record { facts = replicate n (record { rel = 0; args = object 0 ∷ [] }); running = [] }
 
-abbrev starting : ℕ → Playing
-starting n =
-    record { at = 0; closed = false; objects = 2; state = crowded n; waiting = []; tally = record { begun = false; steps = 0; weight = 0 } }
-
 abbrev one : Domain
 one = record { arities = 1 ∷ []; actions = []; template = [] }
 
@@ -501,11 +498,11 @@ pub record Limits : Type 0 where
   pub facts-1024 : tooLarge (crowded 1024) ≡ false
   pub facts-1025 : tooLarge (crowded 1025) ≡ true
   -- "the 1,025th different start fact": another one beside 1,023 and beside 1,024, and one that is held already
-  pub start-1024 : factStop one (starting 1023) (0 ∷ 1 ∷ []) ≡ 0
-  pub start-1025 : factStop one (starting 1024) (0 ∷ 1 ∷ []) ≡ 52
-  pub start-repeated : factStop one (starting 1024) (0 ∷ 0 ∷ []) ≡ 0
+  pub start-1024 : factStop one 2 false (crowded 1023 .facts) (0 ∷ 1 ∷ []) ≡ 0
+  pub start-1025 : factStop one 2 false (crowded 1024 .facts) (0 ∷ 1 ∷ []) ≡ 52
+  pub start-repeated : factStop one 2 false (crowded 1024 .facts) (0 ∷ 0 ∷ []) ≡ 0
   -- 51 before 52: there are two objects
-  pub start-outside : factStop one (starting 1024) (0 ∷ 2 ∷ []) ≡ 51
+  pub start-outside : factStop one 2 false (crowded 1024 .facts) (0 ∷ 2 ∷ []) ≡ 51
 
 pub limits : Limits
 unfolding factStop

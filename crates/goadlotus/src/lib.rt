@@ -57,7 +57,7 @@ pub extern "C" fn goadlotus_play(
     ensures work { λ _. ⌜ now (work .exit) ≡ workAfter (now («domain» .entry)) (now (run .entry)) (now (work .entry)) ⌝ }
     ensures file { λ _. ⌜ now («part_file» .exit) ≡ fileOf (returned (now («domain» .entry)) (now (run .entry)) (now (work .entry))) ⌝ }
     ensures offset { λ _. ⌜ now («part_at» .exit) ≡ offsetOf (returned (now («domain» .entry)) (now (run .entry)) (now (work .entry))) ⌝ }
-    ensures machine { λ r. ⌜ PlaysAsMachine (now («domain» .entry)) (now (run .entry)) (now (work .entry)) r (now (steps .exit)) (now (weight .exit)) (now (work .exit)) ⌝ }
+    ensures machine { λ r. ⌜ PlaysAsMachine (now («domain» .entry)) (now (run .entry)) (now (work .entry)) r (now (place .exit)) (now (steps .exit)) (now (weight .exit)) (now (work .exit)) ⌝ }
     ensures low { λ _. ⌜ StaysLow (now («domain» .entry)) (now (run .entry)) (now (weight .exit)) ⌝ }
 {
     let answer = play_files(domain, run, work);

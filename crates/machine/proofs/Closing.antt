@@ -19,7 +19,8 @@ use Rattle.store.specs.Index.{Indexed}
 use Rattle.events.specs.declared.Open.{Open}
 use Rattle.events.specs.declared.Waiting.{Waiting}
 use Rattle.machine.specs.declared.State.{State as Holding}
-use Rattle.runs.specs.Play.{maxFacts, maxRunning, forbidden, tooLarge, heldBytes}
+use Rattle.runs.specs.RunFile.{maxFacts, maxRunning}
+use Rattle.runs.specs.Play.{forbidden, tooLarge, heldBytes}
 use Rattle.store.specs.Rows.{factRow, topFrom, FactFits}
 use Rattle.events.specs.Coded.{openOf, waitingOf}
 use Rattle.effects.specs.Effects.{atMost}

@@ -15,7 +15,8 @@ use Rattle.verdict.specs.Judged.{objectNumbers, factBytes}
 use Rattle.records.specs.Lists.{In}
 use Rattle.verdict.specs.Machine.{Event, State}
 use Rattle.machine.specs.declared.State.{State as Holding}
-use Rattle.runs.specs.Play.{workBytes, maxFacts, heldBytes}
+use Rattle.runs.specs.RunFile.{maxFacts}
+use Rattle.runs.specs.Play.{workBytes, heldBytes}
 use Rattle.store.specs.Rows.{factRow, Few, FactFits}
 use Rattle.machine.specs.Stepping.{holdingOf, Kept}
 use Rattle.events.proofs.FactRows.{length-fact-row}

@@ -19,7 +19,8 @@ use Rattle.verdict.proofs.Acts.{literalsAt-in}
 use Rattle.verdict.proofs.Steps.{After}
 use Rattle.verdict.proofs.Events.{after-in}
 use Rattle.verdict.proofs.Weight.{distinct-after}
-use Rattle.runs.specs.Play.{maxFacts, maxRunning, tooLarge}
+use Rattle.runs.specs.RunFile.{maxFacts, maxRunning}
+use Rattle.runs.specs.Play.{tooLarge}
 use Rattle.store.specs.Rows.{FactFits}
 use Rattle.events.specs.Coded.{GroundFits, GroundsFit, EventsFit}
 use Rattle.machine.specs.Stepping.{Kept}

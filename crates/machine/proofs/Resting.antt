@@ -15,7 +15,8 @@ use Rattle.literals.specs.Domain.{Fact, sameFact, Domain}
 use Rattle.verdict.specs.Machine.{Event, State, overAllHold, stepFacts, factsAfter, next, topWeight}
 use Rattle.store.specs.Index.{Indexed}
 use Rattle.machine.specs.declared.State.{State as Holding}
-use Rattle.runs.specs.Play.{maxFacts, maxRunning, tooLarge, heldBytes}
+use Rattle.runs.specs.RunFile.{maxFacts, maxRunning}
+use Rattle.runs.specs.Play.{tooLarge, heldBytes}
 use Rattle.store.specs.Rows.{factRow}
 use Rattle.events.specs.Coded.{waitingOf}
 use Rattle.machine.specs.Stepping.{holdingOf, Kept, Noted, closeStop, closeState, closeWaiting, closeWeight, Leaves}

@@ -13,7 +13,8 @@ use Rattle.literals.specs.Held.{Held}
 use Rattle.verdict.specs.Machine.{Event, State, next, topWeight, overAllHold}
 use Rattle.store.specs.Index.{Indexed}
 use Rattle.machine.specs.declared.State.{State as Holding}
-use Rattle.runs.specs.Play.{maxFacts, maxRunning, maxEvents, workBytes, forbidden, tooLarge, heldBytes}
+use Rattle.runs.specs.RunFile.{maxFacts, maxRunning, maxEvents}
+use Rattle.runs.specs.Play.{workBytes, forbidden, tooLarge, heldBytes}
 use Rattle.store.specs.Rows.{factRow, FactFits}
 use Rattle.events.specs.Coded.{openOf, waitingOf, GroundsFit, EventsFit}
 use Rattle.effects.specs.Effects.{Once}

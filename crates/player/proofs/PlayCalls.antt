@@ -1,30 +1,25 @@
 -- The call of playing: from what reading, deciding and the run promise to the answer, the work memory and the part. Assumes nothing.
-use mathlib.Core.Path.{_≡_, refl, sym, ap, _∙_}
-use mathlib.Core.Bool.{true, false, cond}
+use mathlib.Core.Path.{_≡_, refl, sym, ap, ap₂, _∙_}
+use mathlib.Core.Bool.{Bool, true, false, cond}
 use mathlib.Core.List.{List}
 use Prim.Native.Nat.{ℕ, _-_, _≤_, _<_}
 use native.Mathlib.Omega.{arith}
 use lib.Dec.{eqb}
 use lib.ListN.{length, take, drop, length-drop, drop-of-length-le}
 use lib.Seq.{take-all}
-use borrow.Author.Tests.{eq-eqb, ne-eqb, lt-ltb, le-ltb}
+use borrow.Author.Tests.{eqb-true, eq-eqb, ne-eqb, lt-ltb, le-ltb}
 use Rattle.records.specs.Memory.{over}
-use Rattle.literals.specs.declared.Counts.{Counts}
-use Rattle.literals.specs.Domain.{Domain}
-use Rattle.literals.specs.Decode.{Decoded, refused, domain, readFile, decode}
-use Rattle.literals.specs.Table.{indexOf, indexWith}
-use Rattle.reading.specs.Reading.{ReadAnswer, readBy, readOf, tableAfter}
-use Rattle.literals.proofs.Held.{shaped}
-use Rattle.reading.proofs.Files.{WasRead, was-read, read-by}
+use Rattle.literals.specs.Domain.{Fact, Domain}
+use Rattle.literals.specs.Decode.{Refusal, Decoded, refused, domain, decode}
 use Rattle.player.specs.declared.run.Ended.{Ended}
 use Rattle.player.specs.declared.play.Fault.{Fault}
 use Rattle.player.specs.declared.play.Fault.the-variants.{Domain as InDomain, Run as InRun}
 use Rattle.player.specs.declared.play.PlayAnswer.{PlayAnswer}
-use Rattle.runs.specs.Play.{workBytes, Outcome, heldBytes, playRun, Returned, ofDomain, ofRun, Call, outcomeCall, callBy, call, played, workAfter, returned, returnedBytes}
-use Rattle.events.specs.Coded.{Lent}
-use Rattle.player.specs.Player.{Runnable, endedOf}
-use Rattle.runs.specs.Claims.{PlaysAsMachine, StaysLow}
-use Rattle.player.specs.Called.{faultOf, fileOf, offsetOf, faultFile, faultOffset, partAt, answerOf, answerBy, answerUnplayed, LentToPlay}
+use Rattle.runs.specs.RunFile.{entriesBefore}
+use Rattle.runs.specs.Play.{workBytes, Outcome, placeOf, heldBytes, playRun, Returned, ofDomain, ofRun, Call, outcomeCall, callBy, call, played, workAfter, returned, returnedBytes}
+use Rattle.runs.specs.Claims.{finalOf, AsMachine, PlaysAsMachine, StaysLow}
+use Rattle.player.specs.Player.{endedOf}
+use Rattle.player.specs.Called.{faultOf, fileOf, offsetOf, faultFile, faultOffset, partAt, answerOf, answerBy, answerUnplayed}
 use Rattle.runs.proofs.Never.{played-as-machine, weight-stays-low}
 
 -- ---- the answer of a run
@@ -90,17 +85,9 @@ module _ (d r w : List ℕ) where
   unfolding call workAfter
   call-of x e a work h = (h .0 ∙ ap (λ (y : Decoded). answerOf (callBy y r w)) (sym e), h .1 ∙ ap (λ (y : Decoded). callBy y r w .memory) (sym e))
 
-  pub call-refused : (s : ReadAnswer) → s ≡ readOf d → (s .number ≡ 0 → ⊥)
-      → (answerUnplayed (s .number) (s .place) (InDomain (s .start)) ≡ answerOf (call d r w)) × (w ≡ workAfter d r w)
+  pub call-refused : (x : Refusal) → decode d ≡ refused x → (answerUnplayed (x .number) (x .place) (InDomain (x .start)) ≡ answerOf (call d r w)) × (w ≡ workAfter d r w)
   unfolding callBy
-  call-refused s e z = go (decode d) refl (read-by d s e)
-    where
-      go : (x : Decoded) → decode d ≡ x → s ≡ readBy x (indexOf (readFile d .read))
-          → (answerUnplayed (s .number) (s .place) (InDomain (s .start)) ≡ answerOf (call d r w)) × (w ≡ workAfter d r w)
-      go (refused x) q y =
-          call-of (refused x) q (answerUnplayed (s .number) (s .place) (InDomain (s .start))) w
-          (ap (λ (t : ReadAnswer). answerUnplayed (t .number) (t .place) (InDomain (t .start))) y, refl)
-      go (domain D) q y = absurd (z (ap (λ (t : ReadAnswer). t .number) y))
+  call-refused x e = call-of (refused x) e (answerUnplayed (x .number) (x .place) (InDomain (x .start))) w (refl, refl)
 
   pub call-read : (D : Domain) → decode d ≡ domain D → (a : PlayAnswer) (work : List ℕ) → (a ≡ answerOf (callBy (domain D) r w)) × (work ≡ callBy (domain D) r w .memory) → (a ≡ answerOf (call d r w)) × (work ≡ workAfter d r w)
   call-read D e a work h = call-of (domain D) e a work h
@@ -147,51 +134,36 @@ module _ (d r w : List ℕ) where
         by-return (ofDomain at) = refl
         by-return (ofRun at) = refl
 
--- ---- what the run relies on
-
-module _ {n : Counts} {arities variables sorts starts parts table : List ℕ} (L : LentToPlay n arities variables sorts starts parts table) where
-  abbrev lent : Lent (L .said) n arities variables sorts starts parts table
-  lent = L .lent
-
-  pub rows-few : n .rows ≤ 4096
-  rows-few = let s = shaped (lent .held) in let a = s .actions in let r = s .rows in omega arith
-
-  pub runnable : (work : List ℕ) → workBytes ≤ length work → Runnable n arities variables sorts starts parts table work
-  runnable work l = let r = rows-few in let t = L .size in record { said = L .said; lent = lent; table-room = omega arith; room = l }
-
--- ---- a domain file that was read is lent
-
-module _ (d : List ℕ) {n : Counts} {arities variables sorts starts parts : List ℕ} (table old : List ℕ) (number place start : ℕ)
-    (e : record { number = number; place = place; start = start; index = indexWith n arities variables sorts starts parts } ≡ readOf d) (z : number ≡ 0) (t : table ≡ tableAfter d old) where
-  abbrev read : WasRead d (indexWith n arities variables sorts starts parts)
-  read = was-read d (record { number = number; place = place; start = start; index = indexWith n arities variables sorts starts parts }) e z
-
-  pub read-lent : Lent (read .said) n arities variables sorts starts parts table
-  read-lent = record { held = read .holds; old = old; rows = read .lists table old t }
-
-  pub read-to-play : length table ≡ 32768 → LentToPlay n arities variables sorts starts parts table
-  read-to-play l = record { said = read .said; lent = read-lent; size = l }
-
-  pub read-decoded : decode d ≡ domain (read .said)
-  read-decoded = read .decoded
-
 -- ---- the call is the machine's
 
-pub as-machine : (d r w : List ℕ) (number steps weight : ℕ) (memory : List ℕ) → number ≡ played d r w .number → steps ≡ played d r w .steps → weight ≡ played d r w .weight → memory ≡ workAfter d r w
-    → PlaysAsMachine d r w number steps weight memory
+-- with 2 the run ends with its file
+whole-file : (D : Domain) (r : List ℕ) (o : Outcome) → AsMachine D r o → cond (eqb (o .number) 2) (length r) (placeOf o) ≡ o .place
+whole-file D r o m = go (eqb (o .number) 2) refl
+  where
+    go : (b : Bool) → eqb (o .number) 2 ≡ b → cond b (length r) (cond b 0 (o .place)) ≡ o .place
+    go true q = sym (m .whole (eqb-true (o .number) 2 q))
+    go false q = refl
+
+pub as-machine : (d r w : List ℕ) (number place steps weight : ℕ) (memory : List ℕ) → number ≡ played d r w .number → place ≡ played d r w .first → steps ≡ played d r w .steps → weight ≡ played d r w .weight
+    → memory ≡ workAfter d r w → PlaysAsMachine d r w number place steps weight memory
 unfolding played workAfter call callBy outcomeCall
-as-machine d r w number steps weight memory a b c m D e l =
-    let f : call d r w ≡ outcomeCall (playRun D r) w = ap (λ (x : Decoded). callBy x r w) e ∙ by-room in (
-      playRun D r,
-      played-as-machine d D e r,
-      a ∙ ap (λ (x : Call). x .answer .number) f,
-      b ∙ ap (λ (x : Call). x .answer .steps) f,
-      c ∙ ap (λ (x : Call). x .answer .weight) f,
-      m ∙ ap (λ (x : Call). x .memory) f,
+as-machine d r w number place steps weight memory n p s h m D e l =
+    let o = playRun D r in
+    let f : call d r w ≡ outcomeCall o w = ap (λ (x : Decoded). callBy x r w) e ∙ by-room in
+    let a = played-as-machine d D e r in
+    let n′ : number ≡ o .number = n ∙ ap (λ (x : Call). x .answer .number) f in
+    let p′ : place ≡ placeOf o = p ∙ ap (λ (x : Call). x .answer .first) f in
+    let at : cond (eqb number 2) (length r) place ≡ o .place = ap₂ (λ (x y : ℕ). cond (eqb x 2) (length r) y) n′ p′ ∙ whole-file D r o a in
+    let fs : finalOf D (entriesBefore r (cond (eqb number 2) (length r) place)) .facts ≡ o .facts = ap (λ (x : ℕ). finalOf D (entriesBefore r x) .facts) at ∙ sym (a .facts) in (
+      same-outcome D r o a _ (λ i. record { number = n′ i; place = at i; steps = (s ∙ ap (λ (x : Call). x .answer .steps) f) i; weight = (h ∙ ap (λ (x : Call). x .answer .weight) f) i; facts = fs i }),
+      m ∙ ap (λ (x : Call). x .memory) f ∙ ap (λ (gs : List Fact). over (heldBytes gs) w) (sym fs),
     )
   where
     by-room : callBy (domain D) r w ≡ outcomeCall (playRun D r) w
     by-room = rw (callBy, le-ltb (length w) workBytes l)
+
+    same-outcome : (D : Domain) (r : List ℕ) (o : Outcome) → AsMachine D r o → (x : Outcome) → x ≡ o → AsMachine D r x
+    same-outcome D r o a x e = rw e a
 
 -- of the weight answered: where the template is accepted and the start weighs at most 1, it is at most 1
 pub stays-low : (d r w : List ℕ) (weight : ℕ) → weight ≡ played d r w .weight → StaysLow d r weight

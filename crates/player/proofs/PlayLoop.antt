@@ -1,6 +1,5 @@
 -- The loop over a run file: where it stands, and that it ends as the definition does. Assumes nothing.
 use mathlib.Core.Path.{_≡_, refl, sym, ap, _∙_}
-use mathlib.Core.Bool.{Bool}
 use mathlib.Core.List.{List, [], _++_}
 use Prim.Native.Nat.{ℕ, zero, suc, _+_, _-_, _≤_, _<_}
 use native.Mathlib.Omega.{arith}
@@ -8,34 +7,34 @@ use lib.ListN.{length, drop, replicate, length-replicate}
 use lib.Seq.{paste, drop-at}
 use Rattle.records.specs.Memory.{over}
 use Rattle.records.proofs.Memory.{paste-front}
-use Rattle.literals.specs.declared.Counts.{Counts}
 use Rattle.literals.specs.Domain.{Domain}
-use Rattle.literals.specs.Table.{Bounded, rowsIn}
+use Rattle.literals.specs.Table.{Bounded}
+use Rattle.literals.specs.Held.{Read}
 use Rattle.verdict.specs.Judged.{factBytes}
 use Rattle.player.specs.declared.run.Ended.{Ended}
-use Rattle.runs.specs.Play.{Playing, beforeRun, Outcome, PlayTurn, goOn, finish, heldBytes, playStep, playFrom, playRun}
+use Rattle.runs.specs.Play.{workBytes, Playing, beforeRun, Outcome, PlayTurn, goOn, finish, heldBytes, playStep, playFrom, playRun}
 use Rattle.machine.specs.Stepping.{Noted}
-use Rattle.player.specs.Player.{Whole as Player, WholeTurn as Turn, playerOf, Stands, LeadsTo, NotedAfter, Playable, Runnable, endedOf}
+use Rattle.player.specs.Player.{Whole as Player, WholeTurn as Turn, playerOf, Stands, LeadsTo, NotedAfter, Playable, endedOf}
 use Rattle.runs.proofs.Loop.{play-more, play-done, play-at}
 use Rattle.player.proofs.Sound.{sound-on, sound-new}
 use Rattle.player.proofs.PlayTurns.{at-is}
 use Rattle.player.proofs.NotedTurns.{noted-none}
 
 -- where the loop stands: it has played a part of the file as `playRun` does, and the fuel that is left suffices
-pub record Loop (D : Domain) (arities : List ℕ) (keys : ℕ) (parts : List (List ℕ)) (r old : List ℕ) (player : Player) (work index : List ℕ) : Type 0 where
+pub record Loop (D : Domain) (head r old : List ℕ) (player : Player) (work index : List ℕ) : Type 0 where
   pub reached : Playing
   pub stands : Stands D reached player work old
   pub within : reached .at ≤ length r
   pub left : ℕ
   pub enough : length r < reached .at + left
   pub same : playFrom left D r reached ≡ playRun D r
-  pub noted : Noted D arities keys parts index (reached .state)
+  pub noted : Noted D head index (reached .state)
 
 -- before the first record no fact is held
-pub begins : (D : Domain) (arities : List ℕ) (keys : ℕ) (parts : List (List ℕ)) (r old work index : List ℕ) (player : Player) → player ≡ playerOf beforeRun → work ≡ over (heldBytes []) old → index ≡ replicate 12289 0
-    → Loop D arities keys parts r old player work index
+pub begins : (D : Domain) (head r old work index : List ℕ) (player : Player) → player ≡ playerOf beforeRun → work ≡ over (heldBytes []) old → index ≡ replicate 12289 0
+    → Loop D head r old player work index
 unfolding playRun
-begins D arities keys parts r old work index player is e z =
+begins D head r old work index player is e z =
     record {
       reached = beforeRun;
       stands = record { is = is; memory = e; sound = sound-new D };
@@ -43,7 +42,7 @@ begins D arities keys parts r old work index player is e z =
       left = suc (length r);
       enough = omega arith;
       same = refl;
-      noted = noted-none D arities keys parts index z;
+      noted = noted-none D head index z;
     }
 
 -- the first bytes overwritten again
@@ -62,7 +61,7 @@ pub cleared-again : (old work : List ℕ) → work ≡ over (heldBytes []) old �
 cleared-again old work e = e ∙ sym (over-again (heldBytes []) old) ∙ ap (over (heldBytes [])) (sym e)
 
 -- the fuel is not used up
-fuel-left : {D : Domain} {arities : List ℕ} {keys : ℕ} {parts : List (List ℕ)} {r old : List ℕ} {player : Player} {work index : List ℕ} (i : Loop D arities keys parts r old player work index) → (f : ℕ) × (i .left ≡ suc f)
+fuel-left : {D : Domain} {head r old : List ℕ} {player : Player} {work index : List ℕ} (i : Loop D head r old player work index) → (f : ℕ) × (i .left ≡ suc f)
 fuel-left i = go (i .left) refl
   where
     go : (n : ℕ) → i .left ≡ n → (f : ℕ) × (i .left ≡ suc f)
@@ -70,11 +69,11 @@ fuel-left i = go (i .left) refl
     go (suc f) e = (f, e)
 
 -- one turn, from what `step` ensures
-module _ (D : Domain) (B : Bounded D) {arities : List ℕ} {keys : ℕ} {parts : List (List ℕ)} (r old : List ℕ) (player : Player) (work : List ℕ) {index : List ℕ} (i : Loop D arities keys parts r old player work index) (t : Turn) (work′ index′ : List ℕ)
-    (step : (q : Playing) (old : List ℕ) → Stands D q player work old → Noted D arities keys parts index (q .state) → LeadsTo (playStep D r q) t work′ old)
-    (notes : (q : Playing) (old : List ℕ) → Stands D q player work old → Noted D arities keys parts index (q .state) → NotedAfter D arities keys parts index′ (playStep D r q)) where
+module _ (D : Domain) (B : Bounded D) {head : List ℕ} (r old : List ℕ) (player : Player) (work : List ℕ) {index : List ℕ} (i : Loop D head r old player work index) (t : Turn) (work′ index′ : List ℕ)
+    (step : (q : Playing) (old : List ℕ) → Stands D q player work old → Noted D head index (q .state) → LeadsTo (playStep D r q) t work′ old)
+    (notes : (q : Playing) (old : List ℕ) → Stands D q player work old → Noted D head index (q .state) → NotedAfter D head index′ (playStep D r q)) where
   record Turned : Type 0 where
-    next : Loop D arities keys parts r old (t .player) work′ index′
+    next : Loop D head r old (t .player) work′ index′
     further : player .at < t .player .at
     inside : t .player .at ≤ length r
 
@@ -84,7 +83,7 @@ module _ (D : Domain) (B : Bounded D) {arities : List ℕ} {keys : ℕ} {parts :
       q : Playing
       q = i .reached
 
-      go : (u : PlayTurn) → playStep D r q ≡ u → LeadsTo u t work′ old → NotedAfter D arities keys parts index′ u → Turned
+      go : (u : PlayTurn) → playStep D r q ≡ u → LeadsTo u t work′ old → NotedAfter D head index′ u → Turned
       go (goOn n) e h m =
           let g = play-at D r q n e in
           let f = fuel-left i in
@@ -109,7 +108,7 @@ module _ (D : Domain) (B : Bounded D) {arities : List ℕ} {keys : ℕ} {parts :
           }
       go (finish o) e h m = absurd (h .some (sym (h .number) ∙ z))
 
-  pub loop-on : t .number ≡ 0 → Loop D arities keys parts r old (t .player) work′ index′
+  pub loop-on : t .number ≡ 0 → Loop D head r old (t .player) work′ index′
   loop-on z = turned z .next
 
   pub loop-falls : t .number ≡ 0 → length r - t .player .at < length r - player .at
@@ -131,22 +130,15 @@ module _ (D : Domain) (B : Bounded D) {arities : List ℕ} {keys : ℕ} {parts :
           (k ∙ ap endedOf p, h .memory ∙ ap (λ (x : Outcome). over (heldBytes (x .facts)) old) p)
 
 -- what a turn relies on
-pub playable : {n : Counts} {arities variables sorts starts parts table : List ℕ} {old : List ℕ} (R : Runnable n arities variables sorts starts parts table old)
-    (r : List ℕ) (player : Player) (work index : List ℕ) → Loop (R .said) arities (n .keys) (rowsIn (n .components) parts) r old player work index → length index ≡ 12289
-    → Playable n arities variables sorts starts parts table player work index
-playable {old = old} R r player work index i l =
+pub playable : {head table old : List ℕ} (R : Read head table) → workBytes ≤ length old → (r : List ℕ) (player : Player) (work index : List ℕ)
+    → Loop (R .0) head r old player work index → Playable head table player work index
+playable {old = old} R l r player work index i =
     record {
-      said = R .said;
+      said = R .0;
       reached = i .reached;
       old = old;
-      lent = R .lent;
-      table-room = R .table-room;
+      held = R .1;
       stands = i .stands;
-      room = R .room;
+      room = l;
       noted = i .noted;
-      index-length = l;
     }
-
-pub runnable-now : {n : Counts} {arities variables sorts starts parts table : List ℕ} {old : List ℕ} (R : Runnable n arities variables sorts starts parts table old)
-    (work : List ℕ) → length work ≡ length old → Runnable n arities variables sorts starts parts table work
-runnable-now R work e = record { said = R .said; lent = R .lent; table-room = R .table-room; room = let r = R .room in omega arith }

@@ -23,8 +23,8 @@ use Rattle.machine.specs.declared.State.{State as Holding}
 use Rattle.events.specs.declared.Waiting.{Waiting}
 use Rattle.player.specs.declared.Player.{Player as Small}
 use Rattle.player.specs.declared.Tally.{Tally as Held}
-use Rattle.runs.specs.RunFile.{objectsRecord, factRecord, eventRecord, stepRecord, endRecord, otherRecord, runKindOf, factOf, eventOf}
-use Rattle.runs.specs.Play.{objectsStop, factStop, eventStop, stepStop, endStop, playRecord, playFound, playStep, Playing, onward, PlayTurn, goOn, stopAt, startTally, begin, withObjects, joined, withFact, withEvent, withClose, unless, forbidden, tooLarge, afterStep, closeStep, heldBytes}
+use Rattle.runs.specs.RunFile.{objectsRecord, factRecord, eventRecord, stepRecord, endRecord, otherRecord, runKindOf, factOf, eventOf, objectsStop, factStop, eventStop, stepStop, endStop}
+use Rattle.runs.specs.Play.{playRecord, playFound, playStep, Playing, onward, PlayTurn, goOn, stopAt, startTally, begin, withObjects, joined, withFact, withEvent, withClose, unless, forbidden, tooLarge, afterStep, closeStep, heldBytes}
 use Rattle.store.specs.Rows.{factRow, hasRow, Few}
 use Rattle.events.specs.Coded.{waitingOf}
 use Rattle.machine.specs.Stepping.{holdingOf, heldAs, closeStop, closeState, closeWaiting, closeWeight, Leaves}
@@ -300,24 +300,24 @@ module _ (k : ℕ) where
   kind-other a b c d e = rw (ne-eqb k 16 a, ne-eqb k 17 b, ne-eqb k 18 c, ne-eqb k 19 d, ne-eqb k 20 e)
 
 module _ (D : Domain) (q : Playing) (k : ℕ) (b : List ℕ) (behind : ℕ) (t : Turn) (work old : List ℕ) where
-  pub of-objects : runKindOf k ≡ objectsRecord → LeadsTo (unless (objectsStop q b) q (goOn (withObjects q (byte b 0) behind))) t work old → LeadsTo (playRecord D q (runKindOf k) b behind) t work old
+  pub of-objects : runKindOf k ≡ objectsRecord → LeadsTo (unless (objectsStop (q .objects) b) q (goOn (withObjects q (byte b 0) behind))) t work old → LeadsTo (playRecord D q (runKindOf k) b behind) t work old
   unfolding playRecord
   of-objects e h = rw e h
 
-  pub of-fact : runKindOf k ≡ factRecord → LeadsTo (unless (factStop D q b) q (goOn (withFact q (factOf b) behind))) t work old → LeadsTo (playRecord D q (runKindOf k) b behind) t work old
+  pub of-fact : runKindOf k ≡ factRecord → LeadsTo (unless (factStop D (q .objects) (q .tally .begun) (q .state .facts) b) q (goOn (withFact q (factOf b) behind))) t work old → LeadsTo (playRecord D q (runKindOf k) b behind) t work old
   unfolding playRecord
   of-fact e h = rw e h
 
-  pub of-event : runKindOf k ≡ eventRecord → LeadsTo (unless (eventStop D (begin D q) b) (begin D q) (goOn (withEvent (begin D q) (eventOf b) behind))) t work old → LeadsTo (playRecord D q (runKindOf k) b behind) t work old
-  unfolding playRecord
+  pub of-event : runKindOf k ≡ eventRecord → LeadsTo (unless (eventStop D (begin D q .objects) (begin D q .waiting) b) (begin D q) (goOn (withEvent (begin D q) (eventOf b) behind))) t work old → LeadsTo (playRecord D q (runKindOf k) b behind) t work old
+  unfolding playRecord begin
   of-event e h = rw e h
 
-  pub of-step : runKindOf k ≡ stepRecord → LeadsTo (unless (stepStop (begin D q) b) (begin D q) (closeStep D (begin D q) behind)) t work old → LeadsTo (playRecord D q (runKindOf k) b behind) t work old
-  unfolding playRecord
+  pub of-step : runKindOf k ≡ stepRecord → LeadsTo (unless (stepStop (begin D q .objects) b) (begin D q) (closeStep D (begin D q) behind)) t work old → LeadsTo (playRecord D q (runKindOf k) b behind) t work old
+  unfolding playRecord begin
   of-step e h = rw e h
 
-  pub of-end : runKindOf k ≡ endRecord → LeadsTo (unless (endStop (begin D q) b) (begin D q) (goOn (withClose (begin D q) behind))) t work old → LeadsTo (playRecord D q (runKindOf k) b behind) t work old
-  unfolding playRecord
+  pub of-end : runKindOf k ≡ endRecord → LeadsTo (unless (endStop (begin D q .objects) (begin D q .waiting) b) (begin D q) (goOn (withClose (begin D q) behind))) t work old → LeadsTo (playRecord D q (runKindOf k) b behind) t work old
+  unfolding playRecord begin
   of-end e h = rw e h
 
   pub of-other : runKindOf k ≡ otherRecord → LeadsTo (stopAt 50 q) t work old → LeadsTo (playRecord D q (runKindOf k) b behind) t work old
@@ -370,12 +370,12 @@ module _ (D : Domain) (r : List ℕ) (q : Playing) (player : Player) (work old :
         let g : LeadsTo (playRecord D q (runKindOf k) (take len (drop start r)) (start + len)) t work′ old = rw (n, z) at h in
         rw (found (Whole k start len) e) g
 
-    pub turn-noted : (k start len : ℕ) → recordAt r (player .at) ≡ Whole k start len → (end : ℕ) → end ≡ start + len → (arities : List ℕ) (keys : ℕ) (parts : List (List ℕ)) (index : List ℕ)
-        → NotedAfter D arities keys parts index (playRecord D q (runKindOf k) (take (end - start) (drop start r)) end) → NotedAfter D arities keys parts index (playStep D r q)
+    pub turn-noted : (k start len : ℕ) → recordAt r (player .at) ≡ Whole k start len → (end : ℕ) → end ≡ start + len → (head index : List ℕ)
+        → NotedAfter D head index (playRecord D q (runKindOf k) (take (end - start) (drop start r)) end) → NotedAfter D head index (playStep D r q)
     unfolding playFound payload
-    turn-noted k start len e end z arities keys parts index h =
+    turn-noted k start len e end z head index h =
         let n : end - start ≡ len = omega arith in
-        let g : NotedAfter D arities keys parts index (playRecord D q (runKindOf k) (take len (drop start r)) (start + len)) = rw (n, z) at h in
+        let g : NotedAfter D head index (playRecord D q (runKindOf k) (take len (drop start r)) (start + len)) = rw (n, z) at h in
         rw (found (Whole k start len) e) g
 
 -- ---- kinds 17 and 18
@@ -387,7 +387,7 @@ module _ (D : Domain) (B : Bounded D) (q : Playing) (player : Player) (work old 
   pub few-facts : Few (q .state .facts)
   few-facts = fits-few B (q .state .facts) (st .sound .kept .facts)
 
-  module _ (z : factStop D q b ≡ 0) (row : List ℕ) (re : row ≡ factRow (factOf b)) (held : Bool) (he : held ≡ hasRow row (rowsIn (player .state .facts) work)) where
+  module _ (z : factStop D (q .objects) (q .tally .begun) (q .state .facts) b ≡ 0) (row : List ℕ) (re : row ≡ factRow (factOf b)) (held : Bool) (he : held ≡ hasRow row (rowsIn (player .state .facts) work)) where
     passed : FactTaken D q b
     passed = fact-taken D q b (st .sound .kept .facts-few) z
 

@@ -22,8 +22,8 @@ use Rattle.verdict.specs.Machine.{Event, State, next, topWeight}
 use Rattle.verdict.proofs.Events.{not-fact}
 use Rattle.verdict.proofs.Weight.{distinct-append}
 use Rattle.runs.proofs.Stops.{eventTests}
-use Rattle.runs.specs.RunFile.{RunKind, objectsRecord, factRecord, eventRecord, stepRecord, endRecord, otherRecord, runKindOf, factOf, momentOf, eventOf}
-use Rattle.runs.specs.Play.{maxObjects, maxFacts, maxEvents, Tally, Playing, beforeRun, onward, PlayTurn, goOn, finish, stopAt, begin, outside, objectsStop, withObjects, factStop, joined, withFact, eventStop, withEvent, forbidden, tooLarge, afterStep, closeStep, stepStop, endStop, withClose, unless, playRecord, playFound, playStep}
+use Rattle.runs.specs.RunFile.{RunKind, objectsRecord, factRecord, eventRecord, stepRecord, endRecord, otherRecord, runKindOf, factOf, momentOf, eventOf, maxObjects, maxFacts, maxEvents, outside, objectsStop, factStop, eventStop, stepStop, endStop}
+use Rattle.runs.specs.Play.{Tally, Playing, beforeRun, onward, PlayTurn, goOn, finish, stopAt, begin, withObjects, joined, withFact, withEvent, forbidden, tooLarge, afterStep, closeStep, withClose, unless, playRecord, playFound, playStep}
 use Rattle.store.specs.Rows.{FactFits}
 use Rattle.events.specs.Coded.{GroundFits}
 use Rattle.machine.specs.Stepping.{Kept}
@@ -34,7 +34,7 @@ use Rattle.machine.proofs.NextKept.{kept-next}
 
 -- ---- the tests of each record, as far as they are needed here
 
-objects-few : (p : Playing) (b : List ℕ) → objectsStop p b ≡ 0 → byte b 0 ≤ maxObjects
+objects-few : (p : Playing) (b : List ℕ) → objectsStop (p .objects) b ≡ 0 → byte b 0 ≤ maxObjects
 unfolding objectsStop
 objects-few p b z =
     let g = none-passes ((not (eqb (p .objects) 0), 50) ∷ (not (eqb (length b) 1), 50) ∷ (eqb (byte b 0) 0 || ltb maxObjects (byte b 0), 51) ∷ []) 0 refl z in
@@ -46,7 +46,7 @@ pub record FactTaken (D : Domain) (p : Playing) (b : List ℕ) : Type 0 where
   pub fits : FactFits D (factOf b)
   pub few : length (joined (factOf b) (p .state .facts)) ≤ maxFacts
 
-pub fact-taken : (D : Domain) (p : Playing) (b : List ℕ) → length (p .state .facts) ≤ maxFacts → factStop D p b ≡ 0 → FactTaken D p b
+pub fact-taken : (D : Domain) (p : Playing) (b : List ℕ) → length (p .state .facts) ≤ maxFacts → factStop D (p .objects) (p .tally .begun) (p .state .facts) b ≡ 0 → FactTaken D p b
 unfolding factStop
 fact-taken D p b l z =
     let g =
@@ -55,7 +55,7 @@ fact-taken D p b l z =
     ∷ (ltb (length b) 1, 50)
     ∷ (leb (length (D .arities)) (byte b 0), 51)
     ∷ (not (eqb (length b) (1 + arity D (byte b 0))), 50)
-    ∷ (outside p (drop 1 b), 51)
+    ∷ (outside (p .objects) (drop 1 b), 51)
     ∷ (not (elem sameFact (factOf b) (p .state .facts)) && leb maxFacts (length (p .state .facts)), 52)
     ∷ [])
     0 refl z in
@@ -78,11 +78,11 @@ pub record EventTaken (D : Domain) (p : Playing) (b : List ℕ) : Type 0 where
   pub fits : GroundFits D (eventOf b .ground)
   pub few : length (p .waiting) < maxEvents
 
-pub event-taken : (D : Domain) (p : Playing) (b : List ℕ) → p .objects ≤ maxObjects → eventStop D p b ≡ 0 → EventTaken D p b
+pub event-taken : (D : Domain) (p : Playing) (b : List ℕ) → p .objects ≤ maxObjects → eventStop D (p .objects) (p .waiting) b ≡ 0 → EventTaken D p b
 unfolding eventStop
 event-taken D p b l z =
     let a = action D (byte b 1) in
-    let g = none-passes (eventTests D p b) 0 refl z in
+    let g = none-passes (eventTests D (p .objects) (p .waiting) b) 0 refl z in
     let e = eqb-true (length b) (2 + a .vars) (not-false _ (g .0 4)) in
     let d = length-drop 2 b in
     let m = length-map (drop 2 b) object in
@@ -200,12 +200,12 @@ module _ (D : Domain) where
   begin-at p = refl
 
   sound-record : Bounded D → (p : Playing) → Sound D p → (k : RunKind) (b : List ℕ) (behind : ℕ) → p .at < behind → SoundTurn (playRecord D p k b behind)
-  unfolding playRecord
+  unfolding playRecord begin
   sound-record B p h objectsRecord b behind l =
-      sound-unless (objectsStop p b) p (goOn (withObjects p (byte b 0) behind))
+      sound-unless (objectsStop (p .objects) b) p (goOn (withObjects p (byte b 0) behind))
       (λ z. let a = h .steps in record { kept = h .kept; objects = objects-few p b z; steps = omega arith; early = h .early; weight = h .weight })
   sound-record B p h factRecord b behind l =
-      sound-unless (factStop D p b) p (goOn (withFact p (factOf b) behind))
+      sound-unless (factStop D (p .objects) (p .tally .begun) (p .state .facts) b) p (goOn (withFact p (factOf b) behind))
       (λ z.
       let t = fact-taken D p b (h .kept .facts-few) z in
       let a = h .steps in
@@ -220,7 +220,7 @@ module _ (D : Domain) where
       let q = begin D p in
       let s = sound-begin p h in
       let e = begin-at p in
-      sound-unless (eventStop D q b) q (goOn (withEvent q (eventOf b) behind))
+      sound-unless (eventStop D (p .objects) (p .waiting) b) q (goOn (withEvent q (eventOf b) behind))
       (λ z.
       let t = event-taken D q b (s .objects) z in
       let a = s .steps in
@@ -234,12 +234,12 @@ module _ (D : Domain) where
   sound-record B p h stepRecord b behind l =
       let q = begin D p in
       let e = begin-at p in
-      sound-unless (stepStop q b) q (closeStep D q behind) (λ z. sound-close B q (sound-begin p h) behind (omega arith) (begun-tally p))
+      sound-unless (stepStop (p .objects) b) q (closeStep D q behind) (λ z. sound-close B q (sound-begin p h) behind (omega arith) (begun-tally p))
   sound-record B p h endRecord b behind l =
       let q = begin D p in
       let s = sound-begin p h in
       let e = begin-at p in
-      sound-unless (endStop q b) q (goOn (withClose q behind))
+      sound-unless (endStop (p .objects) (p .waiting) b) q (goOn (withClose q behind))
       (λ z. let a = s .steps in record { kept = s .kept; objects = s .objects; steps = omega arith; early = s .early; weight = s .weight })
   sound-record B p h otherRecord b behind l = tt
 

@@ -1,15 +1,11 @@
 -- How the code answers a call of playing. Assumes nothing.
-use mathlib.Core.Path.{_≡_}
 use mathlib.Core.List.{List}
 use Prim.Native.Nat.{ℕ}
-use lib.ListN.{length, drop}
-use Rattle.literals.specs.declared.Counts.{Counts}
-use Rattle.literals.specs.Domain.{Domain}
+use lib.ListN.{drop}
 use Rattle.player.specs.declared.play.Fault.{Fault}
 use Rattle.player.specs.declared.play.Fault.the-variants.{Domain as InDomain, Run as InRun}
 use Rattle.player.specs.declared.play.PlayAnswer.{PlayAnswer}
 use Rattle.runs.specs.Play.{Outcome, placeOf, Returned, ofDomain, ofRun, Call}
-use Rattle.events.specs.Coded.{Lent}
 
 -- "a part of the domain file or of the run file, from that record to the end"
 abbrev pub faultOf : Returned → Fault
@@ -49,9 +45,3 @@ answerBy o = record { number = o .number; place = placeOf o; steps = o .steps; w
 -- of a call that plays nothing, 9 to 23 and 58
 abbrev pub answerUnplayed : ℕ → ℕ → Fault → PlayAnswer
 answerUnplayed number place fault = record { number = number; place = place; steps = 0; weight = 0; fault = fault }
-
--- what the code relies on: some domain is lent
-pub record LentToPlay (n : Counts) (arities variables sorts starts parts table : List ℕ) : Type 0 where
-  pub said : Domain
-  pub lent : Lent said n arities variables sorts starts parts table
-  pub size : length table ≡ 32768

@@ -3,20 +3,20 @@ use Prim.{Unit}
 use mathlib.Core.Path.{_≡_}
 use mathlib.Core.Bool.{Bool, true, false}
 use mathlib.Core.List.{List}
-use Prim.Native.Nat.{ℕ, _*_, _≤_}
+use Prim.Native.Nat.{ℕ, _≤_}
 use lib.ListN.{length}
 use Rattle.records.specs.Memory.{over}
-use Rattle.literals.specs.declared.Counts.{Counts}
 use Rattle.literals.specs.Domain.{Domain}
-use Rattle.literals.specs.Table.{rowsIn}
+use Rattle.literals.specs.Held.{Held}
 use Rattle.verdict.specs.Machine.{topWeight}
 use Rattle.machine.specs.declared.State.{State as Holding}
 use Rattle.player.specs.declared.Player.{Player}
 use Rattle.player.specs.declared.Tally.{Tally}
 use Rattle.player.specs.declared.Turn.{Turn}
 use Rattle.player.specs.declared.run.Ended.{Ended}
-use Rattle.runs.specs.Play.{maxObjects, workBytes, Tally as Counted, Playing, PlayTurn, goOn, finish, Outcome, heldBytes}
-use Rattle.events.specs.Coded.{openOf, waitingOf, Lent}
+use Rattle.runs.specs.RunFile.{maxObjects}
+use Rattle.runs.specs.Play.{workBytes, Tally as Counted, Playing, PlayTurn, goOn, finish, Outcome, heldBytes}
+use Rattle.events.specs.Coded.{openOf, waitingOf}
 use Rattle.machine.specs.Stepping.{holdingOf, heldAs, Kept, Noted}
 
 -- ---- what the code holds
@@ -102,30 +102,30 @@ LeadsTo (goOn q) t work old = GoesOn q t work old
 LeadsTo (finish o) t work old = Ends o t work old
 
 -- what stands beside the facts then, where playing goes on
-abbrev pub NotedAfter : Domain → List ℕ → ℕ → List (List ℕ) → List ℕ → PlayTurn → Type 0
-NotedAfter D arities keys parts index (goOn q) = Noted D arities keys parts index (q .state)
-NotedAfter D arities keys parts index (finish o) = Unit {0}
+abbrev pub NotedAfter : Domain → List ℕ → List ℕ → PlayTurn → Type 0
+NotedAfter D head index (goOn q) = Noted D head index (q .state)
+NotedAfter D head index (finish o) = Unit {0}
 
 -- ---- what the code relies on
 
--- to play a record: a domain is lent, and the player stands somewhere in its run
-pub record Playable (n : Counts) (arities variables sorts starts parts table : List ℕ) (player : Whole) (work index : List ℕ) : Type 0 where
+-- the memories of a run have their lengths
+pub record RunMemory (index entries moments events spare effects : List ℕ) : Type 0 where
+  pub index-length : length index ≡ 12289
+  pub entries-length : length entries ≡ 544
+  pub moments-length : length moments ≡ 16
+  pub events-length : length events ≡ 272
+  pub spare-length : length spare ≡ 8192
+  pub effects-length : length effects ≡ 8192
+
+-- to play a record: a domain is held, and the player stands somewhere in its run
+pub record Playable (head table : List ℕ) (player : Whole) (work index : List ℕ) : Type 0 where
   pub said : Domain
   pub reached : Playing
   pub old : List ℕ
-  pub lent : Lent said n arities variables sorts starts parts table
-  pub table-room : 8 * n .rows ≤ length table
+  pub held : Held said head table
   pub stands : Stands said reached player work old
   pub room : workBytes ≤ length old
-  pub noted : Noted said arities (n .keys) (rowsIn (n .components) parts) index (reached .state)
-  pub index-length : length index ≡ 12289
-
--- to play a whole run
-pub record Runnable (n : Counts) (arities variables sorts starts parts table : List ℕ) (work : List ℕ) : Type 0 where
-  pub said : Domain
-  pub lent : Lent said n arities variables sorts starts parts table
-  pub table-room : 8 * n .rows ≤ length table
-  pub room : workBytes ≤ length work
+  pub noted : Noted said head index (reached .state)
 
 -- ---- how a run ends
 

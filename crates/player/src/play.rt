@@ -1,18 +1,13 @@
 // The call: a domain file, a run file, and lent work memory.
 use super::run::Ended;
 use super::run::play_run;
-use literals::Counts;
-use reading::read::read_into;
+use literals::head::HEAD;
+use reading::domain::read_domain;
 ghost use mathlib.Core.Path.{_≡_};
-ghost use Prim.Native.Nat.{_≤_};
-ghost use lib.ListN.{length};
-ghost use Rattle.literals.specs.Domain.{Domain};
-ghost use Rattle.literals.specs.Decode.{domain as domainRead};
-ghost use Rattle.runs.specs.Play.{workBytes, Outcome, callBy, call, played, workAfter, returned, returnedBytes};
-ghost use Rattle.events.specs.Coded.{Lent};
-ghost use Rattle.player.specs.Player.{endedOf};
+ghost use Rattle.runs.specs.Play.{Outcome, call, played, workAfter, returned, returnedBytes};
 ghost use Rattle.runs.specs.Claims.{PlaysAsMachine, StaysLow};
-ghost use Rattle.player.specs.Called.{faultFile, faultOffset, partAt, answerOf, answerBy, answerUnplayed, LentToPlay};
+ghost use Rattle.player.specs.Player.{endedOf};
+ghost use Rattle.player.specs.Called.{faultFile, faultOffset, partAt, answerOf, answerBy, answerUnplayed};
 
 // Where the record at fault starts: an offset of the domain file, or of the run file.
 pub enum Fault {
@@ -94,37 +89,6 @@ fn answer_by(ended: Ended) -> PlayAnswer
     }
 }
 
-// A domain that was read, and a run, where the work memory is enough.
-fn play_domain(
-    counts: Counts,
-    arities: &[u8],
-    variables: &[u8],
-    sorts: &[u8],
-    starts: &[usize],
-    parts: &[u8],
-    table: &[u8],
-    run: &[u8],
-    work: &mut [u8],
-) -> PlayAnswer
-    requires { ⌜ LentToPlay counts (now arities) (now variables) (now sorts) (now starts) (now parts) (now table) × (workBytes ≤ length (now work)) ⌝ }
-    ensures { λ r. ⌜ ((D : Domain)
-        → Lent D counts (now (arities .entry)) (now (variables .entry)) (now (sorts .entry)) (now (starts .entry)) (now (parts .entry)) (now (table .entry))
-        → (r ≡ answerOf (callBy (domainRead D) (now (run .entry)) (now (work .entry)))) × (now (work .exit) ≡ callBy (domainRead D) (now (run .entry)) (now (work .entry)) .memory)) ⌝ }
-{
-    let ended = play_run(
-        counts,
-        arities,
-        variables,
-        sorts,
-        starts,
-        parts,
-        table,
-        run,
-        work,
-    );
-    answer_by(ended)
-}
-
 // An answer without a run: no step is made, and nothing weighs.
 fn unplayed(number: u64, place: usize, fault: Fault) -> PlayAnswer
     ensures { λ r. ⌜ r ≡ answerUnplayed number place fault ⌝ }
@@ -143,23 +107,10 @@ pub fn play_files(domain: &[u8], run: &[u8], work: &mut [u8]) -> PlayAnswer
     ensures answer { λ r. ⌜ r ≡ answerOf (call (now («domain» .entry)) (now (run .entry)) (now (work .entry))) ⌝ }
     ensures work { λ _. ⌜ now (work .exit) ≡ workAfter (now («domain» .entry)) (now (run .entry)) (now (work .entry)) ⌝ }
 {
-    let mut arities = [0u8; 64];
-    let mut variables = [0u8; 64];
-    let mut sorts = [0u8; 64];
-    let mut starts = [0usize; 64];
-    let mut parts = [0u8; 128];
+    let mut head = [0u8; HEAD];
     let mut table = [0u8; 32768];
-    let read = read_into(
-        domain,
-        &mut arities,
-        &mut variables,
-        &mut sorts,
-        &mut starts,
-        &mut parts,
-        &mut table,
-    );
+    let read = read_domain(domain, &mut head, &mut table);
     let number = read.number;
-    let counts = read.counts;
     let room = work.len();
     if number != 0 {
         return unplayed(number, read.place, Fault::Domain(read.start));
@@ -167,17 +118,8 @@ pub fn play_files(domain: &[u8], run: &[u8], work: &mut [u8]) -> PlayAnswer
     if room < 8192 {
         return unplayed(58, 0, Fault::Run(run.len()));
     }
-    play_domain(
-        counts,
-        &arities,
-        &variables,
-        &sorts,
-        &starts,
-        &parts,
-        &table,
-        run,
-        work,
-    )
+    let ended = play_run(&head, &table, run, work);
+    answer_by(ended)
 }
 
 // Plays a run file on a domain file: leaves the number, its place, the steps made and the highest weight, the facts in the work memory, and hands back the
@@ -197,7 +139,7 @@ pub fn play<'a>(
     ensures steps { λ _. ⌜ now (steps .exit) ≡ played (now («domain» .entry)) (now (run .entry)) (now (work .entry)) .steps ⌝ }
     ensures weight { λ _. ⌜ now (weight .exit) ≡ played (now («domain» .entry)) (now (run .entry)) (now (work .entry)) .weight ⌝ }
     ensures work { λ _. ⌜ now (work .exit) ≡ workAfter (now («domain» .entry)) (now (run .entry)) (now (work .entry)) ⌝ }
-    ensures machine { λ _. ⌜ PlaysAsMachine (now («domain» .entry)) (now (run .entry)) (now (work .entry)) (now (number .exit)) (now (steps .exit)) (now (weight .exit)) (now (work .exit)) ⌝ }
+    ensures machine { λ _. ⌜ PlaysAsMachine (now («domain» .entry)) (now (run .entry)) (now (work .entry)) (now (number .exit)) (now (place .exit)) (now (steps .exit)) (now (weight .exit)) (now (work .exit)) ⌝ }
     ensures low { λ _. ⌜ StaysLow (now («domain» .entry)) (now (run .entry)) (now (weight .exit)) ⌝ }
     ensures part { λ r. ⌜ now r ≡ returnedBytes (now («domain» .entry)) (now (run .entry)) (returned (now («domain» .entry)) (now (run .entry)) (now (work .entry))) ⌝ }
 {

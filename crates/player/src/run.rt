@@ -3,16 +3,16 @@ use super::Player;
 use super::Tally;
 use super::Turn;
 use events::waits::put_bytes;
-use literals::Counts;
+use literals::head::Head;
 ghost use mathlib.Core.Path.{_≡_};
 ghost use mathlib.Core.List.{List, []};
-ghost use Prim.Native.Nat.{ℕ};
+ghost use Prim.Native.Nat.{ℕ, _≤_};
 ghost use lib.ListN.{length, replicate};
 ghost use Rattle.records.specs.Memory.{over};
 ghost use Rattle.literals.specs.Domain.{Domain};
-ghost use Rattle.runs.specs.Play.{heldBytes, playRun};
-ghost use Rattle.events.specs.Coded.{Lent};
-ghost use Rattle.player.specs.Player.{Runnable, endedOf};
+ghost use Rattle.literals.specs.Held.{Held, Read};
+ghost use Rattle.runs.specs.Play.{workBytes, heldBytes, playRun};
+ghost use Rattle.player.specs.Player.{endedOf};
 
 // How a run ended: the number (2 when it was played), the offset of the record at fault, the steps made, the highest weight.
 pub struct Ended {
@@ -36,12 +36,7 @@ fn ended_by(number: u64, at: usize, tally: Tally) -> Ended
 
 // The records of a run file, where the work memory holds no fact yet. `spare` and `effects` are memory for each step to work in.
 fn play_records(
-    counts: Counts,
-    arities: &[u8],
-    variables: &[u8],
-    sorts: &[u8],
-    starts: &[usize],
-    parts: &[u8],
+    head: &Head,
     table: &[u8],
     run: &[u8],
     work: &mut [u8],
@@ -52,11 +47,16 @@ fn play_records(
     spare: &mut [u8],
     effects: &mut [u8],
 ) -> Ended
-    requires { ⌜ Runnable counts (now arities) (now variables) (now sorts) (now starts) (now parts) (now table) (now work) × (now work ≡ over (heldBytes []) (now work)) × (now index ≡ replicate 12289 0)
-        × (now entries ≡ replicate 544 0) × (now moments ≡ replicate 16 0) × (now events ≡ replicate 272 0) × (length (now spare) ≡ 8192) × (length (now effects) ≡ 8192) ⌝ }
-    ensures { λ r. ⌜ ((D : Domain) (old : List ℕ)
-        → Lent D counts (now (arities .entry)) (now (variables .entry)) (now (sorts .entry)) (now (starts .entry)) (now (parts .entry)) (now (table .entry))
-        → now (work .entry) ≡ over (heldBytes []) old
+    requires domain { ⌜ Read (now head) (now table) ⌝ }
+    requires room { ⌜ workBytes ≤ length (now work) ⌝ }
+    requires no_fact { ⌜ now work ≡ over (heldBytes []) (now work) ⌝ }
+    requires index { ⌜ now index ≡ replicate 12289 0 ⌝ }
+    requires entries { ⌜ now entries ≡ replicate 544 0 ⌝ }
+    requires moments { ⌜ now moments ≡ replicate 16 0 ⌝ }
+    requires events { ⌜ now events ≡ replicate 272 0 ⌝ }
+    requires spare { ⌜ length (now spare) ≡ 8192 ⌝ }
+    requires effects { ⌜ length (now effects) ≡ 8192 ⌝ }
+    ensures { λ r. ⌜ ((D : Domain) (old : List ℕ) → Held D (now (head .entry)) (now (table .entry)) → now (work .entry) ≡ over (heldBytes []) old
         → (r ≡ endedOf (playRun D (now (run .entry)))) × (now (work .exit) ≡ over (heldBytes (playRun D (now (run .entry)) .facts)) old)) ⌝ }
 {
     let mut turn = Turn {
@@ -66,12 +66,7 @@ fn play_records(
     loop {
         let player = turn.player;
         turn = player.step(
-            counts,
-            arities,
-            variables,
-            sorts,
-            starts,
-            parts,
+            head,
             table,
             run,
             work,
@@ -93,20 +88,10 @@ fn play_records(
 }
 
 // Plays a run file on a domain that was read.
-pub fn play_run(
-    counts: Counts,
-    arities: &[u8],
-    variables: &[u8],
-    sorts: &[u8],
-    starts: &[usize],
-    parts: &[u8],
-    table: &[u8],
-    run: &[u8],
-    work: &mut [u8],
-) -> Ended
-    requires { ⌜ Runnable counts (now arities) (now variables) (now sorts) (now starts) (now parts) (now table) (now work) ⌝ }
-    ensures { λ r. ⌜ ((D : Domain)
-        → Lent D counts (now (arities .entry)) (now (variables .entry)) (now (sorts .entry)) (now (starts .entry)) (now (parts .entry)) (now (table .entry))
+pub fn play_run(head: &Head, table: &[u8], run: &[u8], work: &mut [u8]) -> Ended
+    requires domain { ⌜ Read (now head) (now table) ⌝ }
+    requires room { ⌜ workBytes ≤ length (now work) ⌝ }
+    ensures { λ r. ⌜ ((D : Domain) → Held D (now (head .entry)) (now (table .entry))
         → (r ≡ endedOf (playRun D (now (run .entry)))) × (now (work .exit) ≡ over (heldBytes (playRun D (now (run .entry)) .facts)) (now (work .entry)))) ⌝ }
 {
     let zeros = [0u8; 8192];
@@ -119,12 +104,7 @@ pub fn play_run(
     let mut spare = [0u8; 8192];
     let mut effects = [0u8; 8192];
     play_records(
-        counts,
-        arities,
-        variables,
-        sorts,
-        starts,
-        parts,
+        head,
         table,
         run,
         work,

@@ -22,8 +22,7 @@ use Rattle.classes.specs.Classes.{momentNumber}
 use Rattle.classes.specs.Coded.{below}
 use Rattle.verdict.specs.Machine.{Event, sameEvent, injective}
 use Rattle.events.specs.declared.Waiting.{Waiting}
-use Rattle.runs.specs.RunFile.{factOf, momentOf, eventOf}
-use Rattle.runs.specs.Play.{maxFacts, maxEvents, Playing, outside, factStop, eventStop, stepStop, endStop}
+use Rattle.runs.specs.RunFile.{factOf, momentOf, eventOf, maxFacts, maxEvents, outside, factStop, eventStop, stepStop, endStop}
 use Rattle.store.specs.Rows.{factRow, hasRow}
 use Rattle.events.specs.Coded.{groundRow, waitingOf, GroundFits, EventsFit}
 use Rattle.run_fields.specs.Fields.{factFields, eventFields, waitsAt}
@@ -32,20 +31,20 @@ use Rattle.run_fields.proofs.WaitingRows.{waiting-elem}
 
 -- ---- the close of a run: the tests of the close of a step, and that no event waits
 
-end-split : (q : Playing) (b : List ℕ) → endStop q b ≡ cond (eqb (stepStop q b) 0) (cond (empty (q .waiting)) 0 50) (stepStop q b)
+end-split : (n : ℕ) (es : List Event) (b : List ℕ) → endStop n es b ≡ cond (eqb (stepStop n b) 0) (cond (empty es) 0 50) (stepStop n b)
 unfolding endStop stepStop
-end-split q b = rows-split ((eqb (q .objects) 0, 50) ∷ (not (eqb (length b) 0), 50) ∷ []) (cond (empty (q .waiting)) 0 50) refl
+end-split n es b = rows-split ((eqb n 0, 50) ∷ (not (eqb (length b) 0), 50) ∷ []) (cond (empty es) 0 50) refl
 
-module _ (q : Playing) (b : List ℕ) (stop : ℕ) (s : stop ≡ stepStop q b) where
-  pub end-stopped : (stop ≡ 0 → ⊥) → stop ≡ endStop q b
-  end-stopped z = sym (end-split q b ∙ rw (← s, ne-eqb stop 0 z))
+module _ (n : ℕ) (es : List Event) (b : List ℕ) (stop : ℕ) (s : stop ≡ stepStop n b) where
+  pub end-stopped : (stop ≡ 0 → ⊥) → stop ≡ endStop n es b
+  end-stopped z = sym (end-split n es b ∙ rw (← s, ne-eqb stop 0 z))
 
   module _ (z : stop ≡ 0) where
-    pub end-waiting : 0 < length (q .waiting) → 50 ≡ endStop q b
-    end-waiting l = sym (end-split q b ∙ rw (← s, eq-eqb stop 0 z, empty-no (q .waiting) l))
+    pub end-waiting : 0 < length es → 50 ≡ endStop n es b
+    end-waiting l = sym (end-split n es b ∙ rw (← s, eq-eqb stop 0 z, empty-no es l))
 
-    pub end-passed : length (q .waiting) ≤ 0 → 0 ≡ endStop q b
-    end-passed l = sym (end-split q b ∙ rw (← s, eq-eqb stop 0 z, empty-yes (q .waiting) l))
+    pub end-passed : length es ≤ 0 → 0 ≡ endStop n es b
+    end-passed l = sym (end-split n es b ∙ rw (← s, eq-eqb stop 0 z, empty-yes es l))
 
 -- ---- a loop over bytes that looks for one that stands twice
 
@@ -188,45 +187,44 @@ fact-found f fs row rows r p q e = sym (e ∙ ap₂ hasRow p q ∙ has-fact f fs
 
 -- ---- the number that stops a start fact, by the bytes of the domain
 
-module _ (D : Domain) (q : Playing) (head : List ℕ) (H : HeadOf D head) (objects : ℕ) (begun : Bool)
-    (e : q .objects ≡ objects) (t : q .tally .begun ≡ begun) (b : List ℕ) where
+module _ (D : Domain) (fs : List Fact) (head : List ℕ) (H : HeadOf D head) (objects : ℕ) (begun : Bool) (b : List ℕ) where
   -- the tests up to 51
   fact-rows : List (Bool × ℕ)
   fact-rows =
-      (eqb (q .objects) 0 || q .tally .begun, 50)
+      (eqb objects 0 || begun, 50)
       ∷ (ltb (length b) 1, 50)
       ∷ (leb (length (D .arities)) (byte b 0), 51)
       ∷ (not (eqb (length b) (1 + arity D (byte b 0))), 50)
-      ∷ (outside q (drop 1 b), 51)
+      ∷ (outside objects (drop 1 b), 51)
       ∷ []
 
   fact-fields-is : factFields head objects begun b ≡ numberOf fact-rows 0
   unfolding factFields fact-rows
-  fact-fields-is = rw (H .relations, H .arities (byte b 0), e, t)
+  fact-fields-is = rw (H .relations, H .arities (byte b 0))
 
-  fact-split : factStop D q b
-      ≡ cond (eqb (factFields head objects begun b) 0) (cond (not (elem sameFact (factOf b) (q .state .facts)) && leb maxFacts (length (q .state .facts))) 52 0) (factFields head objects begun b)
+  fact-split : factStop D objects begun fs b
+      ≡ cond (eqb (factFields head objects begun b) 0) (cond (not (elem sameFact (factOf b) fs) && leb maxFacts (length fs)) 52 0) (factFields head objects begun b)
   unfolding factStop fact-rows
   fact-split =
-      rows-split fact-rows (cond (not (elem sameFact (factOf b) (q .state .facts)) && leb maxFacts (length (q .state .facts))) 52 0) refl
-      ∙ ap (λ (m : ℕ). cond (eqb m 0) (cond (not (elem sameFact (factOf b) (q .state .facts)) && leb maxFacts (length (q .state .facts))) 52 0) m) (sym fact-fields-is)
+      rows-split fact-rows (cond (not (elem sameFact (factOf b) fs) && leb maxFacts (length fs)) 52 0) refl
+      ∙ ap (λ (m : ℕ). cond (eqb m 0) (cond (not (elem sameFact (factOf b) fs) && leb maxFacts (length fs)) 52 0) m) (sym fact-fields-is)
 
   module _ (stop : ℕ) (s : stop ≡ factFields head objects begun b) where
-    pub fact-stopped : (stop ≡ 0 → ⊥) → stop ≡ factStop D q b
+    pub fact-stopped : (stop ≡ 0 → ⊥) → stop ≡ factStop D objects begun fs b
     fact-stopped z = sym (fact-split ∙ rw (← s, ne-eqb stop 0 z))
 
     module _ (z : stop ≡ 0) where
-      fact-last : factStop D q b ≡ cond (not (elem sameFact (factOf b) (q .state .facts)) && leb maxFacts (length (q .state .facts))) 52 0
+      fact-last : factStop D objects begun fs b ≡ cond (not (elem sameFact (factOf b) fs) && leb maxFacts (length fs)) 52 0
       fact-last = fact-split ∙ rw (← s, eq-eqb stop 0 z)
 
-      pub fact-known : elem sameFact (factOf b) (q .state .facts) ≡ true → 0 ≡ factStop D q b
+      pub fact-known : elem sameFact (factOf b) fs ≡ true → 0 ≡ factStop D objects begun fs b
       fact-known k = sym (fact-last ∙ rw k)
 
-      pub fact-full : elem sameFact (factOf b) (q .state .facts) ≡ false → maxFacts ≤ length (q .state .facts) → 52 ≡ factStop D q b
-      fact-full k l = sym (fact-last ∙ rw (k, le-leb maxFacts (length (q .state .facts)) l))
+      pub fact-full : elem sameFact (factOf b) fs ≡ false → maxFacts ≤ length fs → 52 ≡ factStop D objects begun fs b
+      fact-full k l = sym (fact-last ∙ rw (k, le-leb maxFacts (length fs) l))
 
-      pub fact-room : length (q .state .facts) < maxFacts → 0 ≡ factStop D q b
-      fact-room l = sym (fact-last ∙ rw (lt-leb maxFacts (length (q .state .facts)) l) (go (elem sameFact (factOf b) (q .state .facts))))
+      pub fact-room : length fs < maxFacts → 0 ≡ factStop D objects begun fs b
+      fact-room l = sym (fact-last ∙ rw (lt-leb maxFacts (length fs) l) (go (elem sameFact (factOf b) fs)))
         where
           go : (k : Bool) → _≡_ {A = ℕ} (cond (not k && false) 52 0) 0
           go true = refl
@@ -312,24 +310,23 @@ cond-else : (t : Bool) (m : ℕ) {x y : ℕ} → (t ≡ false → x ≡ y) → c
 cond-else true m h = refl
 cond-else false m h = h refl
 
-module _ (D : Domain) (q : Playing) (head : List ℕ) (H : HeadOf D head) (objects : ℕ)
-    (e : q .objects ≡ objects) (b : List ℕ) where
+module _ (D : Domain) (es : List Event) (head : List ℕ) (H : HeadOf D head) (objects : ℕ) (b : List ℕ) where
   -- the tests up to 51
   event-rows : List (Bool × ℕ)
   event-rows =
-      (eqb (q .objects) 0, 50)
+      (eqb objects 0, 50)
       ∷ (ltb (length b) 2, 50)
       ∷ (ltb 1 (byte b 0), 51)
       ∷ (leb (length (D .actions)) (byte b 1), 51)
       ∷ (not (eqb (length b) (2 + action D (byte b 1) .vars)), 50)
       ∷ (eqb (byte b 0) 1 && not (action D (byte b 1) .lasting), 51)
-      ∷ (outside q (drop 2 b), 51)
+      ∷ (outside objects (drop 2 b), 51)
       ∷ []
 
   event-fields-is : eventFields head objects b ≡ numberOf event-rows 0
   unfolding eventFields event-rows
   event-fields-is =
-      rw (e, H .actions)
+      rw (H .actions)
       (ap (λ (m : ℕ). cond (eqb objects 0) 50 (cond (ltb (length b) 2) 50 (cond (ltb 1 (byte b 0)) 51 m)))
       (cond-else (leb (length (D .actions)) (byte b 1)) 51
       (λ f. let l = leb-false (length (D .actions)) (byte b 1) f in rw (H .variables (byte b 1) l, H .lasting (byte b 1) l))))
@@ -338,15 +335,15 @@ module _ (D : Domain) (q : Playing) (head : List ℕ) (H : HeadOf D head) (objec
   abbrev event-last : ℕ
   event-last =
       cond (not (injective (eventOf b))) 53
-      (cond (elem sameEvent (eventOf b) (q .waiting)) 54
-      (cond (leb maxEvents (length (q .waiting))) 52 0))
+      (cond (elem sameEvent (eventOf b) es) 54
+      (cond (leb maxEvents (length es)) 52 0))
 
-  event-split : eventStop D q b ≡ cond (eqb (eventFields head objects b) 0) event-last (eventFields head objects b)
+  event-split : eventStop D objects es b ≡ cond (eqb (eventFields head objects b) 0) event-last (eventFields head objects b)
   unfolding eventStop event-rows
   event-split = rows-split event-rows event-last refl ∙ ap (λ (m : ℕ). cond (eqb m 0) event-last m) (sym event-fields-is)
 
   module _ (stop : ℕ) (s : stop ≡ eventFields head objects b) where
-    pub event-stopped : (stop ≡ 0 → ⊥) → stop ≡ eventStop D q b
+    pub event-stopped : (stop ≡ 0 → ⊥) → stop ≡ eventStop D objects es b
     event-stopped z = sym (event-split ∙ rw (← s, ne-eqb stop 0 z))
 
     -- whether an object stands twice, and whether the event waits
@@ -354,18 +351,18 @@ module _ (D : Domain) (q : Playing) (head : List ℕ) (H : HeadOf D head) (objec
       twice-is : not (injective (eventOf b)) ≡ twice
       twice-is = ap not (objects-once (drop 2 b)) ∙ sym t
 
-      event-passed : eventStop D q b ≡ event-last
+      event-passed : eventStop D objects es b ≡ event-last
       event-passed = event-split ∙ rw (← s, eq-eqb stop 0 z)
 
-      pub event-twice : twice ≡ true → 53 ≡ eventStop D q b
+      pub event-twice : twice ≡ true → 53 ≡ eventStop D objects es b
       event-twice f = sym (event-passed ∙ rw (twice-is, f))
 
-      module _ (f : twice ≡ false) (waits : Bool) (w : elem sameEvent (eventOf b) (q .waiting) ≡ waits) where
-        pub event-repeated : waits ≡ true → 54 ≡ eventStop D q b
+      module _ (f : twice ≡ false) (waits : Bool) (w : elem sameEvent (eventOf b) es ≡ waits) where
+        pub event-repeated : waits ≡ true → 54 ≡ eventStop D objects es b
         event-repeated g = sym (event-passed ∙ rw (twice-is, f, w, g))
 
-        pub event-full : waits ≡ false → maxEvents ≤ length (q .waiting) → 52 ≡ eventStop D q b
-        event-full g l = sym (event-passed ∙ rw (twice-is, f, w, g, le-leb maxEvents (length (q .waiting)) l))
+        pub event-full : waits ≡ false → maxEvents ≤ length es → 52 ≡ eventStop D objects es b
+        event-full g l = sym (event-passed ∙ rw (twice-is, f, w, g, le-leb maxEvents (length es) l))
 
-        pub event-room : waits ≡ false → length (q .waiting) < maxEvents → 0 ≡ eventStop D q b
-        event-room g l = sym (event-passed ∙ rw (twice-is, f, w, g, lt-leb maxEvents (length (q .waiting)) l))
+        pub event-room : waits ≡ false → length es < maxEvents → 0 ≡ eventStop D objects es b
+        event-room g l = sym (event-passed ∙ rw (twice-is, f, w, g, lt-leb maxEvents (length es) l))

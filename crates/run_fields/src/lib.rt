@@ -20,12 +20,12 @@ ghost use lib.Dec.{eqb};
 ghost use lib.ListN.{length, getD, drop};
 ghost use lib.Seq.{paste};
 ghost use Rattle.records.specs.Lists.{any, distinct};
-ghost use Rattle.literals.specs.Domain.{Domain};
+ghost use Rattle.literals.specs.Domain.{Fact, Domain};
 ghost use Rattle.literals.specs.Table.{rowsIn};
 ghost use Rattle.literals.specs.Held.{lastingIn, HeadOf};
 ghost use Rattle.classes.specs.Coded.{below};
-ghost use Rattle.runs.specs.RunFile.{factOf, eventOf};
-ghost use Rattle.runs.specs.Play.{Playing, objectsStop, factStop, eventStop, stepStop, endStop};
+ghost use Rattle.runs.specs.RunFile.{factOf, eventOf, objectsStop, factStop, eventStop, stepStop, endStop};
+ghost use Rattle.verdict.specs.Machine.{Event};
 ghost use Rattle.store.specs.Rows.{factRow, Few};
 ghost use Rattle.events.specs.Coded.{groundRow, waitingOf, EventsFit};
 ghost use Rattle.run_fields.specs.Fields.{factFields, eventFields, waitsAt};
@@ -34,7 +34,7 @@ ghost use Rattle.run_fields.specs.Fields.{factFields, eventFields, waits
 
 // Kind 16: the object count. `objects` is the count so far, 0 before its record.
 pub fn objects_stop(objects: u8, p: &[u8]) -> u64
-    ensures is { λ r. ⌜ ((q : Playing) → q .objects ≡ objects → r ≡ objectsStop q (now (p .entry))) ⌝ }
+    ensures is { λ r. ⌜ r ≡ objectsStop objects (now (p .entry)) ⌝ }
     ensures fits { λ r. ⌜ (r ≡ 0 → (length (now (p .entry)) ≡ 1) × (getD (now (p .entry)) 0 0 ≤ 64)) ⌝ }
 {
     if objects != 0 {
@@ -54,7 +54,7 @@ pub fn objects_stop(objects: u8, p: &[u8]) -> u64
 
 // Kind 19: the close of a step has no fields.
 pub fn step_stop(objects: u8, p: &[u8]) -> u64
-    ensures { λ r. ⌜ ((q : Playing) → q .objects ≡ objects → r ≡ stepStop q (now (p .entry))) ⌝ }
+    ensures { λ r. ⌜ r ≡ stepStop objects (now (p .entry)) ⌝ }
 {
     if objects == 0 {
         return 50;
@@ -67,7 +67,7 @@ pub fn step_stop(objects: u8, p: &[u8]) -> u64
 
 // Kind 20: the close of the run has no fields either, and no event waits.
 pub fn end_stop(objects: u8, waiting: usize, p: &[u8]) -> u64
-    ensures { λ r. ⌜ ((q : Playing) → q .objects ≡ objects → length (q .waiting) ≡ waiting → r ≡ endStop q (now (p .entry))) ⌝ }
+    ensures { λ r. ⌜ ((es : List Event) → length es ≡ waiting → r ≡ endStop objects es (now (p .entry))) ⌝ }
 {
     let stop = step_stop(objects, p);
     if stop != 0 {
@@ -144,10 +144,9 @@ fn fact_fields(head: &Head, objects: u8, begun: bool, p: &[u8]) -> u64
 // Kind 17: a start fact, where the first n rows of the work memory are the facts so far; 52 is the 1,025th different one.
 pub fn fact_stop(head: &Head, objects: u8, begun: bool, work: &[u8], n: usize, p: &[u8]) -> u64
     requires { ⌜ 8 * n ≤ length (now work) ⌝ }
-    ensures is { λ r. ⌜ ((D : Domain) (q : Playing) → HeadOf D (now (head .entry))
-        → q .objects ≡ objects → q .tally .begun ≡ begun
-        → rowsIn n (now (work .entry)) ≡ map factRow (q .state .facts) → n ≡ length (q .state .facts) → Few (q .state .facts)
-        → r ≡ factStop D q (now (p .entry))) ⌝ }
+    ensures is { λ r. ⌜ ((D : Domain) (fs : List Fact) → HeadOf D (now (head .entry))
+        → rowsIn n (now (work .entry)) ≡ map factRow fs → n ≡ length fs → Few fs
+        → r ≡ factStop D objects begun fs (now (p .entry))) ⌝ }
     ensures fits { λ r. ⌜ (r ≡ 0 → (1 ≤ length (now (p .entry))) × (length (now (p .entry)) ≤ 7)) ⌝ }
 {
     let stop = fact_fields(head, objects, begun, p);
@@ -259,9 +258,9 @@ pub fn event_stop(
     requires few { ⌜ count ≤ 16 ⌝ }
     requires moments { ⌜ length (now moments) ≡ 16 ⌝ }
     requires events { ⌜ length (now rows) ≡ 272 ⌝ }
-    ensures is { λ r. ⌜ ((D : Domain) (q : Playing) → HeadOf D (now (head .entry)) → q .objects ≡ objects → objects ≤ 64
-        → record { count = count; moments = now (moments .entry); rows = now (rows .entry) } ≡ waitingOf (q .waiting)
-        → EventsFit D (q .waiting) → r ≡ eventStop D q (now (p .entry))) ⌝ }
+    ensures is { λ r. ⌜ ((D : Domain) (es : List Event) → HeadOf D (now (head .entry)) → objects ≤ 64
+        → record { count = count; moments = now (moments .entry); rows = now (rows .entry) } ≡ waitingOf es
+        → EventsFit D es → r ≡ eventStop D objects es (now (p .entry))) ⌝ }
     ensures fits { λ r. ⌜ (r ≡ 0 → (2 ≤ length (now (p .entry))) × (length (now (p .entry)) ≤ 18) × (count < 16)) ⌝ }
 {
     let stop = event_fields(head, objects, p);

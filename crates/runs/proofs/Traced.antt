@@ -7,7 +7,7 @@ use Prim.Native.Nat.{ℕ, zero, suc, _+_, _≤_, _<_}
 use native.Mathlib.Omega.{arith}
 use lib.Dec.{eqb, ltb}
 use lib.ListN.{length, length-append}
-use borrow.Author.Tests.{eq-eqb, ne-eqb}
+use borrow.Author.Tests.{eq-eqb, ne-eqb, ltb-false}
 use Rattle.records.specs.Lists.{In, all, dedup}
 use Rattle.records.specs.declared.Record.{Record}
 use Rattle.records.specs.declared.Record.the-variants.{Whole, Cut, End}
@@ -25,7 +25,7 @@ use Rattle.runs.proofs.Allowed.{allowed-not-forbidden}
 use Rattle.runs.proofs.Loop.{play-more, play-done, play-at}
 use Rattle.runs.proofs.Entries.{entryAt, Chain, here, snoc, chain-within, chain-behind, before-chain, up-to-whole, up-to-none, facts-snoc, waiting-snoc, steps-snoc, objects-snoc, closed-snoc, facts-keep, steps-keep, begun-keep, begun-here, begun-before, nothing-early}
 use Rattle.runs.proofs.Runs.{final, Taken, peak, no-steps, taken-snoc, final-snoc, peak-snoc, start-snoc}
-use Rattle.runs.proofs.Stops.{Tested, objects-tested, fact-tested, event-tested, step-tested, end-tested, no-events, legal-snoc}
+use Rattle.runs.proofs.Stops.{Tested, objects-tested, fact-tested, event-tested, step-tested, end-tested, forbidden-by, no-events, legal-snoc}
 
 -- ---- what holds of the machine, of start facts, steps taken and events that wait
 
@@ -162,15 +162,16 @@ good-cond D r false t u f g = g refl
 
 module _ (D : Domain) (r : List ℕ) where
   -- an outcome that leaves the state before the record
-  ends : {es : List Entry} {b : Bool} (p : Playing) → Stands D r es b p → begunIn (entriesUpTo r (p .at)) ≡ b → (n : ℕ) → n ≡ endNumber D r es (p .at) → (n ≡ 0 → ⊥)
+  ends : {es : List Entry} {b : Bool} (p : Playing) → Stands D r es b p → begunIn (entriesUpTo r (p .at)) ≡ b → (n : ℕ) → n ≡ endNumber D r es (p .at) → (n ≡ 0 → ⊥) → (n ≡ 2 → p .at ≡ length r)
       → AsMachine D r (outcomeAt n (p .at) (p .state) (p .tally))
-  ends {es} p h u n e z =
+  ends {es} p h u n e z w =
       rw (before-chain r (h .chain))
       (record {
         place = chain-behind r (h .chain);
         earlier = h .earlier;
         number = e;
         some = z;
+        whole = w;
         facts-legal = rw (← (h .objects)) (h .reached .facts-legal);
         steps-legal = h .reached .steps-legal;
         events-legal = rw (← (h .objects)) (h .reached .events-legal);
@@ -250,7 +251,7 @@ module _ (D : Domain) (r : List ℕ) where
   good-unless : {P : Type 0} {es : List Entry} {b : Bool} {e : Entry} {behind : ℕ} (p : Playing) → Stands D r es b p → begunIn (entriesUpTo r (p .at)) ≡ b → Found D r (p .at) e behind es
       → (n : ℕ) → n ≡ recordStop D es (e .kind) (e .bytes) → (t : PlayTurn) → Tested n P → (recordStop D es (e .kind) (e .bytes) ≡ 0 → P → Good D r t) → Good D r (unless n p t)
   good-unless p h u f n q t (inl z) g = rw (z .0) (g (sym q ∙ z .0) (z .1))
-  good-unless p h u f n q t (inr k) g = let z : n ≡ 0 → ⊥ = λ y. omega arith in rw (ne-eqb n 0 z) (ends D r p h u n (by-stop D r f n q z) z)
+  good-unless p h u f n q t (inr k) g = let z : n ≡ 0 → ⊥ = λ y. omega arith in rw (ne-eqb n 0 z) (ends D r p h u n (by-stop D r f n q z) z (λ y. absurd (omega arith)))
 
   -- the step's close
   good-close : {es : List Entry} (p : Playing) (b : List ℕ) (behind : ℕ) → (p .objects ≡ 0 → ⊥) → Stands D r es true p → Found D r (p .at) (entry p stepRecord b) behind es
@@ -261,11 +262,11 @@ module _ (D : Domain) (r : List ℕ) where
       (λ q.
       let a = allowed-not-forbidden D (p .state) (p .waiting) ∙ q in
       good-cond D r (tooLarge after) (stopAt 52 p) (afterStep p after top behind)
-      (λ l. ends D r p h u 52 (sym (said ∙ rw (a, l))) (λ y. omega arith))
+      (λ l. ends D r p h u 52 (sym (said ∙ rw (a, l))) (λ y. omega arith) (λ y. absurd (omega arith)))
       (λ l. went a (said ∙ rw (a, l))))
       (λ q.
       let a = allowed-not-forbidden D (p .state) (p .waiting) ∙ q in
-      ends D r p h u (forbidden D (p .state) (p .waiting)) (sym (said ∙ rw a)) (λ y. clash (eq-eqb (forbidden D (p .state) (p .waiting)) 0 y) q))
+      ends D r p h u (forbidden D (p .state) (p .waiting)) (sym (said ∙ rw a)) (λ y. clash (eq-eqb (forbidden D (p .state) (p .waiting)) 0 y) q) (λ y. absurd (not-two y (forbidden-by D (p .state) (p .waiting)))))
     where
       e : Entry
       e = entry p stepRecord b
@@ -281,6 +282,10 @@ module _ (D : Domain) (r : List ℕ) where
 
       said : endNumber D r es (p .at) ≡ stepEnd D (p .state) (p .waiting)
       said = by-close D r f stop ∙ sym (ap (λ (s : State). stepEnd D s (p .waiting)) (h .reached .state) ∙ ap (stepEnd D (finalOf D es)) (h .waiting))
+
+      not-two : forbidden D (p .state) (p .waiting) ≡ 2 → (forbidden D (p .state) (p .waiting) ≡ 0) ⊎ ((55 ≤ forbidden D (p .state) (p .waiting)) × (forbidden D (p .state) (p .waiting) ≤ 57)) → ⊥
+      not-two y (inl k) = omega arith
+      not-two y (inr k) = omega arith
 
       went : allowed D (p .state) (p .waiting) ≡ true → endNumber D r es (p .at) ≡ 0 → Good D r (afterStep p after top behind)
       went a n =
@@ -394,7 +399,7 @@ module _ (D : Domain) (r : List ℕ) where
         begun = λ _. begun-here es e refl;
       })
   good-record p otherRecord b behind h f =
-      ends D r p (h .stands) (rw (f .up-to) (begun-keep (h .es) (entry p otherRecord b) refl)) 50 (by-stop D r f 50 refl (λ y. omega arith)) (λ y. omega arith)
+      ends D r p (h .stands) (rw (f .up-to) (begun-keep (h .es) (entry p otherRecord b) refl)) 50 (by-stop D r f 50 refl (λ y. omega arith)) (λ y. omega arith) (λ y. absurd (omega arith))
 
   -- ---- the whole file
 
@@ -414,8 +419,8 @@ module _ (D : Domain) (r : List ℕ) where
         not-closed = sym (h .closed) ∙ c;
         number = number-at (h .es) (p .at) (sym (h .closed) ∙ c) (Whole k start len) e;
       })
-  good-found p c Cut e h = ends D r p (h .stands) (ap begunIn (up-to-none r (h .stands .chain) (inl e))) 50 (sym (number-at (h .es) (p .at) (sym (h .closed) ∙ c) Cut e)) (λ y. omega arith)
-  good-found p c End e h = ends D r p (h .stands) (ap begunIn (up-to-none r (h .stands .chain) (inr e))) 50 (sym (number-at (h .es) (p .at) (sym (h .closed) ∙ c) End e)) (λ y. omega arith)
+  good-found p c Cut e h = ends D r p (h .stands) (ap begunIn (up-to-none r (h .stands .chain) (inl e))) 50 (sym (number-at (h .es) (p .at) (sym (h .closed) ∙ c) Cut e)) (λ y. omega arith) (λ y. absurd (omega arith))
+  good-found p c End e h = ends D r p (h .stands) (ap begunIn (up-to-none r (h .stands .chain) (inr e))) 50 (sym (number-at (h .es) (p .at) (sym (h .closed) ∙ c) End e)) (λ y. omega arith) (λ y. absurd (omega arith))
 
   -- behind the run's close
   begun-still : {es : List Entry} {at : ℕ} → Chain r 0 es at → begunIn es ≡ true → (f : Record) → recordAt r at ≡ f → begunIn (entriesUpTo r at) ≡ true
@@ -437,8 +442,8 @@ module _ (D : Domain) (r : List ℕ) where
       let g : Stands D r (h .es) true p = rw b at (h .stands) in
       let u = begun-still (g .chain) b (recordAt r (p .at)) refl in
       good-cond D r (ltb (p .at) (length r)) (stopAt 50 p) (stopAt 2 p)
-      (λ l. ends D r p g u 50 (sym (number-closed (h .es) (p .at) k true l)) (λ y. omega arith))
-      (λ l. ends D r p g u 2 (sym (number-closed (h .es) (p .at) k false l)) (λ y. omega arith)))
+      (λ l. ends D r p g u 50 (sym (number-closed (h .es) (p .at) k true l)) (λ y. omega arith) (λ y. absurd (omega arith)))
+      (λ l. ends D r p g u 2 (sym (number-closed (h .es) (p .at) k false l)) (λ y. omega arith) (λ _. let a = ltb-false (p .at) (length r) l in let b = chain-within r (g .chain) (omega arith) in omega arith)))
       (λ c. good-found p c (recordAt r (p .at)) refl h)
 
   good-from : (fuel : ℕ) (p : Playing) → length r < p .at + fuel → Inv D r p → AsMachine D r (playFrom fuel D r p)

@@ -75,6 +75,8 @@ pub record EndsBehind (D : Domain) (r : List ℕ) (es : List Entry) (o : Outcome
   pub earlier : (e : Entry) → In e es → endNumber D r (entriesBefore r (e .at)) (e .at) ≡ 0
   pub number : o .number ≡ endNumber D r es (o .place)
   pub some : o .number ≡ 0 → ⊥
+  -- 2: the whole file is played
+  pub whole : o .number ≡ 2 → o .place ≡ length r
   -- their start facts and events are ones of the domain over the run's objects, with different objects for different variables
   pub facts-legal : all (isFact D (objectsFrom 0 (objectsIn es))) (startFactsIn es) ≡ true
   pub steps-legal : all (legalStep D) (stepsIn es) ≡ true

@@ -39,7 +39,7 @@ returns c =
               f .ensures .1,
               (
                 c .before .file-of .ensures ∙ file-is d r w (f .result) e,
-                (c .offset-of .ensures ∙ offset-is d r w (f .result) e, (as-machine d r w _ _ _ _ n s h (f .ensures .1), stays-low d r w _ h)),
+                (c .offset-of .ensures ∙ offset-is d r w (f .result) e, (as-machine d r w _ _ _ _ _ n (place-is d r w (f .result) e) s h (f .ensures .1), stays-low d r w _ h)),
               ),
             ),
           ),

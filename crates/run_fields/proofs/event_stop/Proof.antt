@@ -11,14 +11,14 @@ event-fields-requires : tie.Need-event-fields-requires
 event-fields-requires c κs = search needs
 
 returns : tie.Need-returns
-returns c = (λ D q H e o w F. event-stopped D q _ H _ e _ _ (c .before .event-fields .ensures) (c .if1 .taken), λ y. absurd (c .if1 .taken y))
+returns c = (λ D es H o w F. event-stopped D es _ H _ _ _ (c .before .event-fields .ensures) (c .if1 .taken), λ y. absurd (c .if1 .taken y))
 
 twice-from-requires : tie.Need-twice-from-requires
 twice-from-requires c κs = search needs
 
 returns-2 : tie.Need-returns-2
 returns-2 c = (
-  λ D q H e o w F. event-twice D q _ H _ e _ _ (c .before .before .before .event-fields .ensures) (c .before .before .if1 .left) _ (c .before .twice-from .ensures) (c .if2 .taken),
+  λ D es H o w F. event-twice D es _ H _ _ _ (c .before .before .before .event-fields .ensures) (c .before .before .if1 .left) _ (c .before .twice-from .ensures) (c .if2 .taken),
   λ y. absurd (omega arith),
 )
 
@@ -35,9 +35,9 @@ returns-3 : tie.Need-returns-3
 returns-3 c =
     let f = c .before .before .before .before .before .before .before .event-fields .ensures in
     let z = c .before .before .before .before .before .before .if1 .left in (
-      λ D q H e o w F.
-          event-repeated D q _ H _ e _ _ f z _ (c .before .before .before .before .before .twice-from .ensures) (c .before .before .before .before .if2 .left) _
-          (event-waits _ _ _ (sym f ∙ z) D H o (q .waiting) F _ w _ (c .before .before .ground-row .ensures) _ (c .before .is-waiting .ensures))
+      λ D es H o w F.
+          event-repeated D es _ H _ _ _ f z _ (c .before .before .before .before .before .twice-from .ensures) (c .before .before .before .before .if2 .left) _
+          (event-waits _ _ _ (sym f ∙ z) D H o es F _ w _ (c .before .before .ground-row .ensures) _ (c .before .is-waiting .ensures))
           (c .if3 .taken),
       λ y. absurd (omega arith),
     )
@@ -46,10 +46,10 @@ returns-4 : tie.Need-returns-4
 returns-4 c =
     let f = c .before .before .before .before .before .before .before .before .event-fields .ensures in
     let z = c .before .before .before .before .before .before .before .if1 .left in (
-      λ D q H e o w F.
-          let k = waiting-count (q .waiting) _ w in
-          event-full D q _ H _ e _ _ f z _ (c .before .before .before .before .before .before .twice-from .ensures) (c .before .before .before .before .before .if2 .left) _
-          (event-waits _ _ _ (sym f ∙ z) D H o (q .waiting) F _ w _ (c .before .before .before .ground-row .ensures) _ (c .before .before .is-waiting .ensures))
+      λ D es H o w F.
+          let k = waiting-count es _ w in
+          event-full D es _ H _ _ _ f z _ (c .before .before .before .before .before .before .twice-from .ensures) (c .before .before .before .before .before .if2 .left) _
+          (event-waits _ _ _ (sym f ∙ z) D H o es F _ w _ (c .before .before .before .ground-row .ensures) _ (c .before .before .is-waiting .ensures))
           (c .before .if3 .left) (omega arith),
       λ y. absurd (omega arith),
     )
@@ -58,10 +58,10 @@ returns-5 : tie.Need-returns-5
 returns-5 c =
     let f = c .before .before .before .before .before .before .before .before .event-fields .ensures in
     let z = c .before .before .before .before .before .before .before .if1 .left in (
-      λ D q H e o w F.
-          let k = waiting-count (q .waiting) _ w in
-          event-room D q _ H _ e _ _ f z _ (c .before .before .before .before .before .before .twice-from .ensures) (c .before .before .before .before .before .if2 .left) _
-          (event-waits _ _ _ (sym f ∙ z) D H o (q .waiting) F _ w _ (c .before .before .before .ground-row .ensures) _ (c .before .before .is-waiting .ensures))
+      λ D es H o w F.
+          let k = waiting-count es _ w in
+          event-room D es _ H _ _ _ f z _ (c .before .before .before .before .before .before .twice-from .ensures) (c .before .before .before .before .before .if2 .left) _
+          (event-waits _ _ _ (sym f ∙ z) D H o es F _ w _ (c .before .before .before .ground-row .ensures) _ (c .before .before .is-waiting .ensures))
           (c .before .if3 .left) (omega arith),
       λ y. let l = event-short-row _ _ _ (sym f ∙ z) in (l .0, l .1, c .if4 .left),
     )

@@ -11,13 +11,13 @@ fact-fields-requires : tie.Need-fact-fields-requires
 fact-fields-requires c κs = search needs
 
 returns : tie.Need-returns
-returns c = (λ D q H e t r l few. fact-stopped D q _ H _ _ e t _ _ (c .before .fact-fields .ensures) (c .if1 .taken), λ z. absurd (c .if1 .taken z))
+returns c = (λ D fs H r l few. fact-stopped D fs _ H _ _ _ _ (c .before .fact-fields .ensures) (c .if1 .taken), λ z. absurd (c .if1 .taken z))
 
 returns-2 : tie.Need-returns-2
 returns-2 c =
     let f = c .before .before .fact-fields in
     let z = c .before .if1 .left in (
-      λ D q H e t r l few. let k = c .if2 .taken in fact-room D q _ H _ _ e t _ _ (f .ensures) z (omega arith),
+      λ D fs H r l few. let k = c .if2 .taken in fact-room D fs _ H _ _ _ _ (f .ensures) z (omega arith),
       λ y. fact-short-row _ _ _ _ (sym (f .ensures) ∙ z),
     )
 
@@ -31,9 +31,9 @@ returns-3 : tie.Need-returns-3
 returns-3 c =
     let f = c .before .before .before .before .before .fact-fields in
     let z = c .before .before .before .before .if1 .left in (
-      λ D q H e t r l few.
-          fact-known D q _ H _ _ e t _ _ (f .ensures) z
-          (fact-found (factOf (c .before .before .before .before .before .before .before .before .args .p .now)) (q .state .facts) _ _ _ (c .before .before .fact-row .ensures) r (c .before .has-row .ensures) ∙ c .if3 .taken),
+      λ D fs H r l few.
+          fact-known D fs _ H _ _ _ _ (f .ensures) z
+          (fact-found (factOf (c .before .before .before .before .before .before .before .before .args .p .now)) fs _ _ _ (c .before .before .fact-row .ensures) r (c .before .has-row .ensures) ∙ c .if3 .taken),
       λ y. fact-short-row _ _ _ _ (sym (f .ensures) ∙ z),
     )
 
@@ -41,10 +41,10 @@ returns-4 : tie.Need-returns-4
 returns-4 c =
     let f = c .before .before .before .before .before .fact-fields in
     let z = c .before .before .before .before .if1 .left in (
-      λ D q H e t r l few.
+      λ D fs H r l few.
           let k = c .before .before .before .if2 .left in
-          fact-full D q _ H _ _ e t _ _ (f .ensures) z
-          (fact-found (factOf (c .before .before .before .before .before .before .before .before .args .p .now)) (q .state .facts) _ _ _ (c .before .before .fact-row .ensures) r (c .before .has-row .ensures) ∙ c .if3 .left) (omega arith),
+          fact-full D fs _ H _ _ _ _ (f .ensures) z
+          (fact-found (factOf (c .before .before .before .before .before .before .before .before .args .p .now)) fs _ _ _ (c .before .before .fact-row .ensures) r (c .before .has-row .ensures) ∙ c .if3 .left) (omega arith),
       λ y. absurd (omega arith),
     )
 

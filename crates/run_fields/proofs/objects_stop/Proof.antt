@@ -3,19 +3,19 @@ use native.Mathlib.Omega.{arith}
 use borrow.Author.Needs.{needs}
 use borrow.Author.Tests.{lt-ltb, le-ltb, eq-eqb, ne-eqb}
 use lib.ListN.{length, getD}
-use Rattle.runs.specs.Play.{objectsStop}
+use Rattle.runs.specs.RunFile.{objectsStop}
 use Rattle.run_fields.proofs.objects_stop.Statement.{statement}
 use Rattle.run_fields.proofs.objects_stop.Tie as tie
 
 returns : tie.Need-returns
 unfolding objectsStop
-returns c = (λ q e. simp (e, ne-eqb (c .before .args .objects) 0 (c .if1 .taken)), λ z. absurd (omega arith))
+returns c = (simp (ne-eqb (c .before .args .objects) 0 (c .if1 .taken)), λ z. absurd (omega arith))
 
 returns-2 : tie.Need-returns-2
 unfolding objectsStop
 returns-2 c =
     let a = c .before .before .args in
-    (λ q e. simp (e, eq-eqb (a .objects) 0 (c .before .if1 .left), ne-eqb (length (a .p .now)) 1 (c .if2 .taken)), λ z. absurd (omega arith))
+    (simp (eq-eqb (a .objects) 0 (c .before .if1 .left), ne-eqb (length (a .p .now)) 1 (c .if2 .taken)), λ z. absurd (omega arith))
 
 shared-slice-read-if3 : tie.Need-shared-slice-read-if3
 shared-slice-read-if3 c = search needs
@@ -24,7 +24,7 @@ returns-3 : tie.Need-returns-3
 unfolding objectsStop
 returns-3 c =
     let a = c .before .before .before .before .args in
-    (λ q e. simp (e, eq-eqb (a .objects) 0 (c .before .before .before .if1 .left), eq-eqb (length (a .p .now)) 1 (c .before .before .if2 .left), eq-eqb (getD (a .p .now) 0 0) 0 (c .if3 .taken)), λ z. absurd (omega arith))
+    (simp (eq-eqb (a .objects) 0 (c .before .before .before .if1 .left), eq-eqb (length (a .p .now)) 1 (c .before .before .if2 .left), eq-eqb (getD (a .p .now) 0 0) 0 (c .if3 .taken)), λ z. absurd (omega arith))
 
 shared-slice-read-if4 : tie.Need-shared-slice-read-if4
 shared-slice-read-if4 c = search needs
@@ -34,14 +34,12 @@ unfolding objectsStop
 returns-4 c =
     let low = c .before .before in
     let a = low .before .before .before .before .args in (
-      λ q e.
-          simp (
-            e,
-            eq-eqb (a .objects) 0 (low .before .before .before .if1 .left),
-            eq-eqb (length (a .p .now)) 1 (low .before .before .if2 .left),
-            ne-eqb (getD (a .p .now) 0 0) 0 (low .if3 .left),
-            lt-ltb 64 (getD (a .p .now) 0 0) (c .if4 .taken),
-          ),
+      simp (
+        eq-eqb (a .objects) 0 (low .before .before .before .if1 .left),
+        eq-eqb (length (a .p .now)) 1 (low .before .before .if2 .left),
+        ne-eqb (getD (a .p .now) 0 0) 0 (low .if3 .left),
+        lt-ltb 64 (getD (a .p .now) 0 0) (c .if4 .taken),
+      ),
       λ z. absurd (omega arith),
     )
 
@@ -50,14 +48,12 @@ unfolding objectsStop
 returns-5 c =
     let low = c .before .before in
     let a = low .before .before .before .before .args in (
-      λ q e.
-          simp (
-            e,
-            eq-eqb (a .objects) 0 (low .before .before .before .if1 .left),
-            eq-eqb (length (a .p .now)) 1 (low .before .before .if2 .left),
-            ne-eqb (getD (a .p .now) 0 0) 0 (low .if3 .left),
-            le-ltb 64 (getD (a .p .now) 0 0) (c .if4 .left),
-          ),
+      simp (
+        eq-eqb (a .objects) 0 (low .before .before .before .if1 .left),
+        eq-eqb (length (a .p .now)) 1 (low .before .before .if2 .left),
+        ne-eqb (getD (a .p .now) 0 0) 0 (low .if3 .left),
+        le-ltb 64 (getD (a .p .now) 0 0) (c .if4 .left),
+      ),
       λ z. (omega arith, omega arith),
     )
 

@@ -1,10 +1,10 @@
 -- `Player::take_event` meets its contract: refused, or one event more. Assumes nothing.
 use borrow.Author.Needs.{needs}
-use mathlib.Core.Path.{sym, _∙_}
-use Prim.Native.Nat.{_+_}
+use mathlib.Core.Path.{sym, ap, _∙_}
+use Prim.Native.Nat.{ℕ, _+_}
 use native.Mathlib.Omega.{arith}
-use Rattle.runs.specs.RunFile.{eventOf}
-use Rattle.runs.specs.Play.{goOn, withEvent, eventStop}
+use Rattle.runs.specs.RunFile.{eventOf, eventStop}
+use Rattle.runs.specs.Play.{goOn, withEvent}
 use Rattle.player.specs.Player.{wholeOf}
 use Rattle.player.proofs.Sound.{event-taken}
 use Rattle.player.proofs.PlayTurns.{gone-on, stops, passes, objects-are, objects-low, waiting-is, event-on}
@@ -21,10 +21,11 @@ same-length-2 : tie.Need-same-length-2
 same-length-2 c = search needs
 
 returns : tie.Need-returns
-returns c D q entries arities starts parts work old held st =
-    let a = c .before .before .before .before .before .before .before .before .before .args in
-    let e = (c .before .event-stop .ensures .0 D q arities starts parts held (objects-are D q st) (objects-low D q st) (waiting-is D q st) (st .sound .kept .waiting)) in
-    stops D q (wholeOf (a .self) entries (a .moments .now) (a .events .now)) work old st (eventStop D q (a .p .now)) (c .before .event-stop .result) (goOn (withEvent q (eventOf (a .p .now)) (a .behind))) e (c .if1 .taken)
+returns c D q entries work old H st =
+    let a = c .before .before .before .before .before .before .before .args in
+    let x = c .before .event-stop in
+    let e = x .ensures .0 D (q .waiting) H (objects-low D q st) (waiting-is D q st) (st .sound .kept .waiting) ∙ ap (λ (n : ℕ). eventStop D n (q .waiting) (a .p .now)) (sym (objects-are D q st)) in
+    stops D q (wholeOf (a .self) entries (a .moments .now) (a .events .now)) work old st (eventStop D (q .objects) (q .waiting) (a .p .now)) (x .result) (goOn (withEvent q (eventOf (a .p .now)) (a .behind))) e (c .if1 .taken)
 
 shared-slice-read-wait : tie.Need-shared-slice-read-wait
 shared-slice-read-wait c = let f = c .before .before .before .before .event-stop .ensures .1 (c .before .before .before .if1 .left) in let l = f .0 in omega arith
@@ -34,8 +35,8 @@ ground-row-requires c κs = let f = c .before .before .before .before .event-sto
 
 wait-requires : tie.Need-wait-requires
 wait-requires c κs =
-    let p = c .before .before .before .before .before .before .before .before .before .before .before .before .before .pre in
-    (c .before .before .before .before .before .event-stop .ensures .1 (c .before .before .before .before .if1 .left) .2, p .5, p .6)
+    let p = c .before .before .before .before .before .before .before .before .before .before .before .pre in
+    (c .before .before .before .before .before .event-stop .ensures .1 (c .before .before .before .before .if1 .left) .2, p .1 .0, p .1 .1)
 
 add-onward : tie.Need-add-onward
 add-onward c = search needs
@@ -50,16 +51,16 @@ same-length-4 : tie.Need-same-length-4
 same-length-4 c = search needs
 
 returns-2 : tie.Need-returns-2
-returns-2 c D q entries arities starts parts work old held st =
-    let a = c .before .before .before .before .before .before .before .before .before .before .before .before .before .before .before .before .before .before .before .args in
+returns-2 c D q entries work old H st =
+    let a = c .before .before .before .before .before .before .before .before .before .before .before .before .before .before .before .before .before .args in
     let w = c .before .before .before .before .before .wait in
     let x = c .before .before .before .before .before .before .before .before .before .before .before .event-stop in
     let left = c .before .before .before .before .before .before .before .before .before .before .if1 .left in
-    let e = (x .ensures .0 D q arities starts parts held (objects-are D q st) (objects-low D q st) (waiting-is D q st) (st .sound .kept .waiting)) in
+    let e = x .ensures .0 D (q .waiting) H (objects-low D q st) (waiting-is D q st) (st .sound .kept .waiting) ∙ ap (λ (n : ℕ). eventStop D n (q .waiting) (a .p .now)) (sym (objects-are D q st)) in
     let t = event-taken D q (a .p .now) (st .sound .objects) (sym e ∙ left) in
-    passes D q (eventStop D q (a .p .now)) (x .result) (goOn (withEvent q (eventOf (a .p .now)) (a .behind))) _ work old e left
-    (event-on D (held .bounded) q (wholeOf (a .self) entries (a .moments .now) (a .events .now)) work old st (a .p .now) (a .behind) _
-    (w .ensures D (q .waiting) (eventOf (a .p .now)) (held .bounded) (st .sound .kept .waiting) (waiting-is D q st) (t .moment) (c .before .before .before .before .before .before .ground-row .ensures))
+    passes D q (eventStop D (q .objects) (q .waiting) (a .p .now)) (x .result) (goOn (withEvent q (eventOf (a .p .now)) (a .behind))) _ work old e left
+    (event-on D (H .bounded) q (wholeOf (a .self) entries (a .moments .now) (a .events .now)) work old st (a .p .now) (a .behind) _
+    (w .ensures D (q .waiting) (eventOf (a .p .now)) (H .bounded) (st .sound .kept .waiting) (waiting-is D q st) (t .moment) (c .before .before .before .before .before .before .ground-row .ensures))
     _ (gone-on (a .self) (c .onward .result) (a .behind) (a .self .facts) (a .self .waits + 1) entries (w .last .0) (w .last .1 .0) (c .onward .ensures)))
 
 pub take-event-spec : {M : Type 1} → statement M

@@ -1,11 +1,13 @@
 -- `take_objects` meets its contract. Assumes nothing.
-use mathlib.Core.Path.{refl}
+use mathlib.Core.Path.{refl, sym, ap, _∙_}
+use Prim.Native.Nat.{ℕ}
 use native.Mathlib.Omega.{arith}
 use borrow.Author.Needs.{needs}
 use Rattle.player.specs.Player.{wholeOf}
 use Rattle.player.proofs.PlayTurns.{stops, passes, objects-on, objects-are}
 use Rattle.literals.specs.Decode.{byte}
-use Rattle.runs.specs.Play.{goOn, withObjects, objectsStop}
+use Rattle.runs.specs.RunFile.{objectsStop}
+use Rattle.runs.specs.Play.{goOn, withObjects}
 use Rattle.player.proofs.Player.take_objects.Statement.{statement}
 use Rattle.player.proofs.Player.take_objects.Tie as tie
 
@@ -15,7 +17,7 @@ objects-stop-requires c κs = search needs
 returns : tie.Need-returns
 returns c D q entries moments events work old st =
     let a = c .before .before .before .args in
-    stops D q (wholeOf (a .self) entries moments events) work old st (objectsStop q (a .p .now)) (c .before .objects-stop .result) (goOn (withObjects q (byte (a .p .now) 0) (a .behind))) (c .before .objects-stop .ensures .0 q (objects-are D q st)) (c .if1 .taken)
+    stops D q (wholeOf (a .self) entries moments events) work old st (objectsStop (q .objects) (a .p .now)) (c .before .objects-stop .result) (goOn (withObjects q (byte (a .p .now) 0) (a .behind))) (c .before .objects-stop .ensures .0 ∙ ap (λ (n : ℕ). objectsStop n (a .p .now)) (sym (objects-are D q st))) (c .if1 .taken)
 
 shared-slice-read-t8 : tie.Need-shared-slice-read-t8
 shared-slice-read-t8 c = let f = c .before .before .before .objects-stop .ensures .1 (c .before .before .if1 .left) .0 in omega arith
@@ -23,7 +25,7 @@ shared-slice-read-t8 c = let f = c .before .before .before .objects-stop .ensure
 returns-2 : tie.Need-returns-2
 returns-2 c D q entries moments events work old st =
     let a = c .before .before .before .before .before .args in
-    passes D q (objectsStop q (a .p .now)) (c .before .before .before .objects-stop .result) (goOn (withObjects q (byte (a .p .now) 0) (a .behind))) _ work old (c .before .before .before .objects-stop .ensures .0 q (objects-are D q st)) (c .before .before .if1 .left)
+    passes D q (objectsStop (q .objects) (a .p .now)) (c .before .before .before .objects-stop .result) (goOn (withObjects q (byte (a .p .now) 0) (a .behind))) _ work old (c .before .before .before .objects-stop .ensures .0 ∙ ap (λ (n : ℕ). objectsStop n (a .p .now)) (sym (objects-are D q st))) (c .before .before .if1 .left)
     (objects-on D q (wholeOf (a .self) entries moments events) work old st (a .behind) _ (byte (a .p .now) 0) refl)
 
 pub take-objects-spec : {M : Type 1} → statement M

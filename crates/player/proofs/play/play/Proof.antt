@@ -28,7 +28,7 @@ returns c =
             (
               f .ensures .1,
               (
-                as-machine (a .domain .now) (a .run .now) (a .work .now) _ _ _ _ (number-is (a .domain .now) (a .run .now) (a .work .now) (f .result) e) (steps-is (a .domain .now) (a .run .now) (a .work .now) (f .result) e)
+                as-machine (a .domain .now) (a .run .now) (a .work .now) _ _ _ _ _ (number-is (a .domain .now) (a .run .now) (a .work .now) (f .result) e) (place-is (a .domain .now) (a .run .now) (a .work .now) (f .result) e) (steps-is (a .domain .now) (a .run .now) (a .work .now) (f .result) e)
                     (weight-is (a .domain .now) (a .run .now) (a .work .now) (f .result) e) (f .ensures .1),
                 (
                   stays-low (a .domain .now) (a .run .now) (a .work .now) _ (weight-is (a .domain .now) (a .run .now) (a .work .now) (f .result) e),

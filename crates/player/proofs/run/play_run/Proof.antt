@@ -1,7 +1,8 @@
 -- `play_run` meets its contract. Assumes nothing.
 use borrow.Author.Needs.{needs}
 use mathlib.Core.Path.{refl}
-use Rattle.player.proofs.PlayLoop.{cleared, cleared-again, runnable-now}
+use native.Mathlib.Omega.{arith}
+use Rattle.player.proofs.PlayLoop.{cleared, cleared-again}
 use Rattle.player.proofs.run.play_run.Statement.{statement}
 use Rattle.player.proofs.run.play_run.Tie as tie
 
@@ -31,16 +32,20 @@ slice-aggregate-play-records-6 c = search needs
 
 play-records-requires : tie.Need-play-records-requires
 play-records-requires c κs =
-    let old = c .before .before .before .before .before .before .before .before .before .before .before .before .before .before .before .before .before .before .before .before .args .work .now in
-    (runnable-now (c .before .before .before .before .before .before .before .before .before .before .before .before .before .before .before .before .before .before .before .before .pre) _ (c .before .before .before .before .before .before .before .before .before .put-bytes .kept .0), cleared-again old _ (cleared old _ (c .before .before .before .before .before .before .before .before .before .put-bytes .ensures)), refl, refl, refl, refl, refl, refl)
+    let old = c .before .before .before .before .before .before .before .before .before .before .before .before .before .before .before .args .work .now in
+    let p = c .before .before .before .before .before .before .before .before .before .before .before .before .before .before .before .pre in
+    let put = c .before .before .before .before .before .before .before .before .before .put-bytes in
+    let long = put .kept .0 in
+    let room = p .1 in
+    (p .0, (omega arith, (cleared-again old _ (cleared old _ (put .ensures)), (refl, (refl, (refl, (refl, (refl, refl))))))))
 
 same-length : tie.Need-same-length
 same-length c = search needs
 
 returns : tie.Need-returns
-returns c D lent =
-    let old = c .before .before .before .before .before .before .before .before .before .before .before .before .before .before .before .before .before .before .before .before .before .before .before .before .before .before .before .before .before .args .work .now in
-    c .before .before .before .before .before .before .before .before .play-records .ensures D old lent (cleared old _ (c .before .before .before .before .before .before .before .before .before .before .before .before .before .before .before .before .before .before .put-bytes .ensures))
+returns c D H =
+    let old = c .before .before .before .before .before .before .before .before .before .before .before .before .before .before .before .before .before .before .before .before .before .before .before .before .args .work .now in
+    c .before .before .before .before .before .before .before .before .play-records .ensures D old H (cleared old _ (c .before .before .before .before .before .before .before .before .before .before .before .before .before .before .before .before .before .before .put-bytes .ensures))
 
 pub play-run-spec : {M : Type 1} → statement M
 play-run-spec =
