@@ -62,8 +62,7 @@ uint64_t goadlotus_judge(const uint8_t *file, size_t file_len,
  *   57        a step not allowed: an end is not open.
  *   58        work_len is under 8,192.
  *
- * No other number is returned. 9 to 23 come before 58, and 58 before anything of the run file. 59, an
- * accepted template whose start weighs at most 1 and that weighs more all the same, never comes.
+ * No other number is returned. 9 to 23 come before 58, and 58 before anything of the run file.
  *
  * What comes back:
  *

@@ -186,7 +186,7 @@ pub record Steps : Type 0 where
   -- the highest, not the last: 2 at the start, 1 after lend's start
   pub weight-highest : play m1 (objects 4 ++ fact (at 0 1) ++ fact (at 0 2) ++ event 0 1 (0 ∷ 1 ∷ 3 ∷ []) ++ closeStep ++ closeRun)
       ≡ plays 1 2 (held (at 0 2)) 36
-  -- no 59 where a start weight is above 1, though the template is accepted
+  -- a start weight above 1, though the template is accepted
   pub start-above-one : play m1 (objects 4 ++ fact (at 0 1) ++ fact (at 0 2) ++ event 0 0 (0 ∷ 1 ∷ 3 ∷ []) ++ closeStep ++ closeRun)
       ≡ plays 1 2 (held (at 0 2) ++ held (at 0 3)) 36
   -- nor where the template is refused: it is played too
@@ -491,7 +491,7 @@ crowded n = record { facts = replicate n (record { rel = 0; args = object 0 ∷ 
 
 abbrev starting : ℕ → Playing
 starting n =
-    record { at = 0; closed = false; objects = 2; state = crowded n; waiting = []; tally = record { begun = false; startSafe = false; steps = 0; weight = 0 } }
+    record { at = 0; closed = false; objects = 2; state = crowded n; waiting = []; tally = record { begun = false; steps = 0; weight = 0 } }
 
 abbrev one : Domain
 one = record { arities = 1 ∷ []; actions = []; template = [] }

@@ -8,7 +8,7 @@ ghost use Rattle.verdict.specs.Judged.{judged, reportAfter, witnessAfter};
 ghost use Rattle.verdict.specs.Claims.{AcceptedSafe, RefusedHarmful, WitnessHarms};
 ghost use Rattle.runs.specs.Play.{played, workAfter, returned};
 ghost use Rattle.player.specs.Called.{fileOf, offsetOf};
-ghost use Rattle.runs.specs.Claims.{PlaysAsMachine};
+ghost use Rattle.runs.specs.Claims.{PlaysAsMachine, StaysLow};
 
 // Judges a domain file: answers the number, and leaves its three places, the report and the witness.
 #[no_mangle]
@@ -58,7 +58,7 @@ pub extern "C" fn goadlotus_play(
     ensures file { λ _. ⌜ now («part_file» .exit) ≡ fileOf (returned (now («domain» .entry)) (now (run .entry)) (now (work .entry))) ⌝ }
     ensures offset { λ _. ⌜ now («part_at» .exit) ≡ offsetOf (returned (now («domain» .entry)) (now (run .entry)) (now (work .entry))) ⌝ }
     ensures machine { λ r. ⌜ PlaysAsMachine (now («domain» .entry)) (now (run .entry)) (now (work .entry)) r (now (steps .exit)) (now (weight .exit)) (now (work .exit)) ⌝ }
-    ensures never { λ r. ⌜ (r ≡ 59 → ⊥) ⌝ }
+    ensures low { λ _. ⌜ StaysLow (now («domain» .entry)) (now (run .entry)) (now (weight .exit)) ⌝ }
 {
     let answer = play_files(domain, run, work);
     let fault = answer.fault;

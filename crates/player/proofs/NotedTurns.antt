@@ -1,7 +1,7 @@
 -- What stands beside the facts after a record: their index, and what is noted of the open entries. Assumes nothing.
 use Prim.{tt}
 use mathlib.Core.Path.{_≡_, refl, sym, ap, _∙_}
-use mathlib.Core.Bool.{Bool, true, false, _&&_, cond}
+use mathlib.Core.Bool.{Bool, true, false, cond}
 use mathlib.Core.List.{List, [], _∷_, _++_, map, map-append, List·Memᴰ·not-nil}
 use Prim.Native.Nat.{ℕ, _≤_}
 use native.Mathlib.Omega.{arith}
@@ -17,7 +17,7 @@ use Rattle.literals.proofs.Held.{arities-is}
 use Rattle.verdict.specs.Machine.{Event, State, next, topWeight}
 use Rattle.store.specs.Index.{totalAt, Indexed}
 use Rattle.runs.specs.RunFile.{RunKind, objectsRecord, factRecord, eventRecord, stepRecord, endRecord, otherRecord, runKindOf, factOf, eventOf}
-use Rattle.runs.specs.Play.{maxFacts, objectsStop, factStop, eventStop, stepStop, endStop, Playing, PlayTurn, goOn, finish, outcomeAt, stopAt, tallied, onward, unless, begin, withObjects, withFact, withEvent, withClose, beforeRun, tooLarge, forbidden, accepted, afterStep, closeStep, playRecord}
+use Rattle.runs.specs.Play.{maxFacts, objectsStop, factStop, eventStop, stepStop, endStop, Playing, PlayTurn, goOn, finish, stopAt, unless, begin, withObjects, withFact, withEvent, withClose, beforeRun, tooLarge, forbidden, afterStep, closeStep, playRecord}
 use Rattle.store.specs.Rows.{factRow}
 use Rattle.machine.specs.Stepping.{Noted, closeStop, closeState}
 use Rattle.machine.proofs.Resting.{indexed-set, noted-anew, unset}
@@ -26,7 +26,7 @@ use Rattle.player.proofs.Sound.{fact-taken}
 
 module _ (D : Domain) (arities : List ℕ) (keys : ℕ) (parts : List (List ℕ)) (index : List ℕ) where
   -- where a record ends the run, nothing is asked
-  pub noted-ended : (t : PlayTurn) (turn : Turn) (work old : List ℕ) → LeadsTo D t turn work old → (turn .number ≡ 0 → ⊥) → NotedAfter D arities keys parts index t
+  pub noted-ended : (t : PlayTurn) (turn : Turn) (work old : List ℕ) → LeadsTo t turn work old → (turn .number ≡ 0 → ⊥) → NotedAfter D arities keys parts index t
   noted-ended (goOn q) turn work old l z = absurd (z (l .number))
   noted-ended (finish o) turn work old l z = tt
 
@@ -45,21 +45,14 @@ module _ (D : Domain) (arities : List ℕ) (keys : ℕ) (parts : List (List ℕ)
     abbrev es : List Event
     es = q .waiting
 
-    noted-taken : (after : State) (top : ℕ) → Noted D arities keys parts index after → NotedAfter D arities keys parts index (afterStep D q after top behind)
-    noted-taken after top h = go (q .tally .startSafe && ltb 1 top && accepted D)
-      where
-        go : (b : Bool) → NotedAfter D arities keys parts index (cond b (finish (outcomeAt 59 (q .at) after (tallied (q .tally) top))) (goOn (onward q behind after [] (tallied (q .tally) top))))
-        go true = tt
-        go false = h
-
     pub noted-closed : (number : ℕ) → number ≡ closeStop D s es → (number ≡ 0 → Noted D arities keys parts index (closeState D s es)) → NotedAfter D arities keys parts index (closeStep D q behind)
     unfolding closeStep closeStop closeState
     noted-closed number e h = go (eqb (forbidden D s es) 0) (tooLarge (next D s es)) e h
       where
         go : (b c : Bool) → number ≡ cond b (cond c 52 0) (forbidden D s es) → (number ≡ 0 → Noted D arities keys parts index (cond (eqb (cond b (cond c 52 0) (forbidden D s es)) 0) (next D s es) s))
-            → NotedAfter D arities keys parts index (cond b (cond c (stopAt 52 q) (afterStep D q (next D s es) (topWeight D (next D s es .facts)) behind)) (stopAt (forbidden D s es) q))
+            → NotedAfter D arities keys parts index (cond b (cond c (stopAt 52 q) (afterStep q (next D s es) (topWeight D (next D s es .facts)) behind)) (stopAt (forbidden D s es) q))
         go true true k n = tt
-        go true false k n = noted-taken (next D s es) (topWeight D (next D s es .facts)) (n k)
+        go true false k n = n k
         go false c k n = tt
 
 -- ---- records by their kind

@@ -1,10 +1,10 @@
 -- The call of playing: from what reading, deciding and the run promise to the answer, the work memory and the part. Assumes nothing.
 use mathlib.Core.Path.{_≡_, refl, sym, ap, _∙_}
-use mathlib.Core.Bool.{Bool, true, false, cond}
+use mathlib.Core.Bool.{true, false, cond}
 use mathlib.Core.List.{List}
 use Prim.Native.Nat.{ℕ, _-_, _≤_, _<_}
 use native.Mathlib.Omega.{arith}
-use lib.Dec.{eqb, leb}
+use lib.Dec.{eqb}
 use lib.ListN.{length, take, drop, length-drop, drop-of-length-le}
 use lib.Seq.{take-all}
 use borrow.Author.Tests.{eq-eqb, ne-eqb, lt-ltb, le-ltb}
@@ -12,26 +12,20 @@ use Rattle.records.specs.Memory.{over}
 use Rattle.literals.specs.declared.Counts.{Counts}
 use Rattle.literals.specs.Domain.{Domain}
 use Rattle.literals.specs.Decode.{Decoded, refused, domain, readFile, decode}
-use Rattle.literals.specs.Table.{indexOf, indexWith, Shaped}
+use Rattle.literals.specs.Table.{indexOf, indexWith}
 use Rattle.reading.specs.Reading.{ReadAnswer, readBy, readOf, tableAfter}
 use Rattle.literals.proofs.Held.{shaped}
-use Rattle.verdict.specs.declared.Judgement.{Judgement}
-use Rattle.verdict.specs.Judged.{decided}
-use Rattle.verdict.specs.Coded.{judgementOf}
-use Rattle.verdict.specs.Claims.{wellFormed}
-use Rattle.verdict.proofs.Decodes.{decoded-well-formed}
-use Rattle.verdict.proofs.Safety.{decided-number}
-use Rattle.judging.proofs.FileCalls.{WasRead, was-read, read-by}
+use Rattle.reading.proofs.Files.{WasRead, was-read, read-by}
 use Rattle.player.specs.declared.run.Ended.{Ended}
 use Rattle.player.specs.declared.play.Fault.{Fault}
 use Rattle.player.specs.declared.play.Fault.the-variants.{Domain as InDomain, Run as InRun}
 use Rattle.player.specs.declared.play.PlayAnswer.{PlayAnswer}
-use Rattle.runs.specs.Play.{workBytes, Outcome, accepted, heldBytes, playRun, Returned, ofDomain, ofRun, Call, outcomeCall, callBy, call, played, workAfter, returned, returnedBytes}
+use Rattle.runs.specs.Play.{workBytes, Outcome, heldBytes, playRun, Returned, ofDomain, ofRun, Call, outcomeCall, callBy, call, played, workAfter, returned, returnedBytes}
 use Rattle.events.specs.Coded.{Lent}
 use Rattle.player.specs.Player.{Runnable, endedOf}
-use Rattle.runs.specs.Claims.{PlaysAsMachine}
+use Rattle.runs.specs.Claims.{PlaysAsMachine, StaysLow}
 use Rattle.player.specs.Called.{faultOf, fileOf, offsetOf, faultFile, faultOffset, partAt, answerOf, answerBy, answerUnplayed, LentToPlay}
-use Rattle.runs.proofs.Never.{played-as-machine, no-alarm}
+use Rattle.runs.proofs.Never.{played-as-machine, weight-stays-low}
 
 -- ---- the answer of a run
 
@@ -76,11 +70,6 @@ module _ (d r : List ℕ) (at : ℕ) (f : Fault) where
 
   pub run-past : f ≡ InRun at → length r < at → take (length r - length r) (drop (length r) r) ≡ partAt d r f
   run-past e h = rest-none r at h ∙ sym (ap (partAt d r) e)
-
--- ---- the decision
-
-pub accepted-by : (D : Domain) (j : Judgement) → j ≡ judgementOf (decided D) → (b : Bool) → b ≡ leb (j .number) 1 → b ≡ accepted D
-accepted-by D j e b f = f ∙ ap (λ (n : ℕ). leb n 1) (ap (λ (x : Judgement). x .number) e ∙ decided-number D)
 
 -- ---- a domain that was read
 
@@ -158,34 +147,17 @@ module _ (d r w : List ℕ) where
         by-return (ofDomain at) = refl
         by-return (ofRun at) = refl
 
--- ---- what naming and the run rely on
+-- ---- what the run relies on
 
 module _ {n : Counts} {arities variables sorts starts parts table : List ℕ} (L : LentToPlay n arities variables sorts starts parts table) where
   abbrev lent : Lent (L .said) n arities variables sorts starts parts table
   lent = L .lent
 
-  -- the shape of an index doesn't hang on the variable counts
-  pub shape-any : (vs : List ℕ) → Shaped (indexWith n arities vs sorts starts parts)
-  shape-any vs =
-      let s = shaped (lent .held) in
-      record {
-        relations = s .relations;
-        arities = s .arities;
-        actions = s .actions;
-        rows = s .rows;
-        order = s .order;
-        last = s .last;
-        spans = λ i h. let k = s .spans i h in record { order = k .order; within = k .within; few = k .few };
-        components = s .components;
-        parts = s .parts;
-        keys = s .keys;
-      }
-
   pub rows-few : n .rows ≤ 4096
   rows-few = let s = shaped (lent .held) in let a = s .actions in let r = s .rows in omega arith
 
-  pub runnable : (accepts : Bool) → accepts ≡ accepted (L .said) → (work : List ℕ) → workBytes ≤ length work → Runnable n arities variables sorts starts parts table accepts work
-  runnable accepts e work l = let r = rows-few in let t = L .size in record { said = L .said; lent = lent; decided = e; table-room = omega arith; room = l }
+  pub runnable : (work : List ℕ) → workBytes ≤ length work → Runnable n arities variables sorts starts parts table work
+  runnable work l = let r = rows-few in let t = L .size in record { said = L .said; lent = lent; table-room = omega arith; room = l }
 
 -- ---- a domain file that was read is lent
 
@@ -194,14 +166,11 @@ module _ (d : List ℕ) {n : Counts} {arities variables sorts starts parts : Lis
   abbrev read : WasRead d (indexWith n arities variables sorts starts parts)
   read = was-read d (record { number = number; place = place; start = start; index = indexWith n arities variables sorts starts parts }) e z
 
-  pub read-well : wellFormed (read .said) ≡ true
-  read-well = decoded-well-formed d (read .said) (read .decoded)
-
   pub read-lent : Lent (read .said) n arities variables sorts starts parts table
   read-lent = record { held = read .holds; old = old; rows = read .lists table old t }
 
   pub read-to-play : length table ≡ 32768 → LentToPlay n arities variables sorts starts parts table
-  read-to-play l = record { said = read .said; well = read-well; lent = read-lent; size = l }
+  read-to-play l = record { said = read .said; lent = read-lent; size = l }
 
   pub read-decoded : decode d ≡ domain (read .said)
   read-decoded = read .decoded
@@ -224,5 +193,6 @@ as-machine d r w number steps weight memory a b c m D e l =
     by-room : callBy (domain D) r w ≡ outcomeCall (playRun D r) w
     by-room = rw (callBy, le-ltb (length w) workBytes l)
 
-pub never-59 : (d r w : List ℕ) (number : ℕ) → number ≡ played d r w .number → number ≡ 59 → ⊥
-never-59 d r w number e z = no-alarm d r w (sym e ∙ z)
+-- of the weight answered: where the template is accepted and the start weighs at most 1, it is at most 1
+pub stays-low : (d r w : List ℕ) (weight : ℕ) → weight ≡ played d r w .weight → StaysLow d r weight
+stays-low d r w weight e D q a h = let l = weight-stays-low d r w D q a h in omega arith

@@ -32,7 +32,7 @@ pub record Loop (D : Domain) (arities : List ℕ) (keys : ℕ) (parts : List (Li
   pub noted : Noted D arities keys parts index (reached .state)
 
 -- before the first record no fact is held
-pub begins : (D : Domain) (arities : List ℕ) (keys : ℕ) (parts : List (List ℕ)) (r old work index : List ℕ) (player : Player) → player ≡ playerOf D beforeRun → work ≡ over (heldBytes []) old → index ≡ replicate 12289 0
+pub begins : (D : Domain) (arities : List ℕ) (keys : ℕ) (parts : List (List ℕ)) (r old work index : List ℕ) (player : Player) → player ≡ playerOf beforeRun → work ≡ over (heldBytes []) old → index ≡ replicate 12289 0
     → Loop D arities keys parts r old player work index
 unfolding playRun
 begins D arities keys parts r old work index player is e z =
@@ -71,7 +71,7 @@ fuel-left i = go (i .left) refl
 
 -- one turn, from what `step` ensures
 module _ (D : Domain) (B : Bounded D) {arities : List ℕ} {keys : ℕ} {parts : List (List ℕ)} (r old : List ℕ) (player : Player) (work : List ℕ) {index : List ℕ} (i : Loop D arities keys parts r old player work index) (t : Turn) (work′ index′ : List ℕ)
-    (step : (q : Playing) (old : List ℕ) → Stands D q player work old → Noted D arities keys parts index (q .state) → LeadsTo D (playStep D r q) t work′ old)
+    (step : (q : Playing) (old : List ℕ) → Stands D q player work old → Noted D arities keys parts index (q .state) → LeadsTo (playStep D r q) t work′ old)
     (notes : (q : Playing) (old : List ℕ) → Stands D q player work old → Noted D arities keys parts index (q .state) → NotedAfter D arities keys parts index′ (playStep D r q)) where
   record Turned : Type 0 where
     next : Loop D arities keys parts r old (t .player) work′ index′
@@ -84,7 +84,7 @@ module _ (D : Domain) (B : Bounded D) {arities : List ℕ} {keys : ℕ} {parts :
       q : Playing
       q = i .reached
 
-      go : (u : PlayTurn) → playStep D r q ≡ u → LeadsTo D u t work′ old → NotedAfter D arities keys parts index′ u → Turned
+      go : (u : PlayTurn) → playStep D r q ≡ u → LeadsTo u t work′ old → NotedAfter D arities keys parts index′ u → Turned
       go (goOn n) e h m =
           let g = play-at D r q n e in
           let f = fuel-left i in
@@ -122,7 +122,7 @@ module _ (D : Domain) (B : Bounded D) {arities : List ℕ} {keys : ℕ} {parts :
       q : Playing
       q = i .reached
 
-      go : (u : PlayTurn) → playStep D r q ≡ u → LeadsTo D u t work′ old → (ended ≡ endedOf (playRun D r)) × (work′ ≡ over (heldBytes (playRun D r .facts)) old)
+      go : (u : PlayTurn) → playStep D r q ≡ u → LeadsTo u t work′ old → (ended ≡ endedOf (playRun D r)) × (work′ ≡ over (heldBytes (playRun D r .facts)) old)
       go (goOn n) e h = absurd (z (h .number))
       go (finish o) e h =
           let f = fuel-left i in
@@ -131,16 +131,15 @@ module _ (D : Domain) (B : Bounded D) {arities : List ℕ} {keys : ℕ} {parts :
           (k ∙ ap endedOf p, h .memory ∙ ap (λ (x : Outcome). over (heldBytes (x .facts)) old) p)
 
 -- what a turn relies on
-pub playable : {n : Counts} {arities variables sorts starts parts table : List ℕ} {accepts : Bool} {old : List ℕ} (R : Runnable n arities variables sorts starts parts table accepts old)
+pub playable : {n : Counts} {arities variables sorts starts parts table : List ℕ} {old : List ℕ} (R : Runnable n arities variables sorts starts parts table old)
     (r : List ℕ) (player : Player) (work index : List ℕ) → Loop (R .said) arities (n .keys) (rowsIn (n .components) parts) r old player work index → length index ≡ 12289
-    → Playable n arities variables sorts starts parts table accepts player work index
+    → Playable n arities variables sorts starts parts table player work index
 playable {old = old} R r player work index i l =
     record {
       said = R .said;
       reached = i .reached;
       old = old;
       lent = R .lent;
-      decided = R .decided;
       table-room = R .table-room;
       stands = i .stands;
       room = R .room;
@@ -148,6 +147,6 @@ playable {old = old} R r player work index i l =
       index-length = l;
     }
 
-pub runnable-now : {n : Counts} {arities variables sorts starts parts table : List ℕ} {accepts : Bool} {old : List ℕ} (R : Runnable n arities variables sorts starts parts table accepts old)
-    (work : List ℕ) → length work ≡ length old → Runnable n arities variables sorts starts parts table accepts work
-runnable-now R work e = record { said = R .said; lent = R .lent; decided = R .decided; table-room = R .table-room; room = let r = R .room in omega arith }
+pub runnable-now : {n : Counts} {arities variables sorts starts parts table : List ℕ} {old : List ℕ} (R : Runnable n arities variables sorts starts parts table old)
+    (work : List ℕ) → length work ≡ length old → Runnable n arities variables sorts starts parts table work
+runnable-now R work e = record { said = R .said; lent = R .lent; table-room = R .table-room; room = let r = R .room in omega arith }

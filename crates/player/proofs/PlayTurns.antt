@@ -24,7 +24,7 @@ use Rattle.events.specs.declared.Waiting.{Waiting}
 use Rattle.player.specs.declared.Player.{Player as Small}
 use Rattle.player.specs.declared.Tally.{Tally as Held}
 use Rattle.runs.specs.RunFile.{objectsRecord, factRecord, eventRecord, stepRecord, endRecord, otherRecord, runKindOf, factOf, eventOf}
-use Rattle.runs.specs.Play.{objectsStop, factStop, eventStop, stepStop, endStop, playRecord, playFound, playStep, Playing, onward, PlayTurn, goOn, stopAt, startTally, begin, withObjects, joined, withFact, withEvent, withClose, unless, forbidden, tooLarge, accepted, afterStep, closeStep, heldBytes}
+use Rattle.runs.specs.Play.{objectsStop, factStop, eventStop, stepStop, endStop, playRecord, playFound, playStep, Playing, onward, PlayTurn, goOn, stopAt, startTally, begin, withObjects, joined, withFact, withEvent, withClose, unless, forbidden, tooLarge, afterStep, closeStep, heldBytes}
 use Rattle.store.specs.Rows.{factRow, hasRow, Few}
 use Rattle.events.specs.Coded.{waitingOf}
 use Rattle.machine.specs.Stepping.{holdingOf, heldAs, closeStop, closeState, closeWaiting, closeWeight, Leaves}
@@ -66,7 +66,7 @@ put-back at closed objects tally s entries moments events e f g i =
 -- ---- a record that is refused, and one that passes
 
 module _ (D : Domain) (q : Playing) (player : Player) (work old : List ℕ) (st : Stands D q player work old) where
-  pub stops-at : (n m : ℕ) → m ≡ n → (m ≡ 0 → ⊥) → LeadsTo D (stopAt n q) (record { number = m; player = player }) work old
+  pub stops-at : (n m : ℕ) → m ≡ n → (m ≡ 0 → ⊥) → LeadsTo (stopAt n q) (record { number = m; player = player }) work old
   unfolding playerOf
   stops-at n m e z =
       record {
@@ -78,10 +78,10 @@ module _ (D : Domain) (q : Playing) (player : Player) (work old : List ℕ) (st 
         memory = st .memory;
       }
 
-  pub stops : (n m : ℕ) (t : PlayTurn) → m ≡ n → (m ≡ 0 → ⊥) → LeadsTo D (unless n q t) (record { number = m; player = player }) work old
+  pub stops : (n m : ℕ) (t : PlayTurn) → m ≡ n → (m ≡ 0 → ⊥) → LeadsTo (unless n q t) (record { number = m; player = player }) work old
   stops n m t e z = let f : eqb n 0 ≡ false = ne-eqb n 0 (λ k. z (e ∙ k)) in rw f (stops-at n m e z)
 
-pub passes : (D : Domain) (q : Playing) (n m : ℕ) (t : PlayTurn) (turn : Turn) (work old : List ℕ) → m ≡ n → m ≡ 0 → LeadsTo D t turn work old → LeadsTo D (unless n q t) turn work old
+pub passes : (D : Domain) (q : Playing) (n m : ℕ) (t : PlayTurn) (turn : Turn) (work old : List ℕ) → m ≡ n → m ≡ 0 → LeadsTo t turn work old → LeadsTo (unless n q t) turn work old
 passes D q n m t turn work old e z h = let f : eqb n 0 ≡ true = eq-eqb n 0 (sym e ∙ z) in rw f h
 
 -- what the player holds
@@ -115,25 +115,22 @@ module _ (D : Domain) (q : Playing) {player : Player} {work old : List ℕ} (st 
 -- ---- the start counts
 
 module _ (D : Domain) (p : Playing) (player : Player) (work old : List ℕ) (st : Stands D p player work old) where
-  pub begun-already : player .tally .begun ≡ true → player .tally ≡ tallyOf D (begin D p .tally)
+  pub begun-already : player .tally .begun ≡ true → player .tally ≡ tallyOf (begin D p .tally)
   unfolding playerOf begin
   begun-already b =
       let e : p .tally .begun ≡ true = begun-is D p st ∙ b in
-      ap (λ (x : Player). x .tally) (st .is) ∙ ap (tallyOf D) (kept-tally e)
+      ap (λ (x : Player). x .tally) (st .is) ∙ ap tallyOf (kept-tally e)
     where
       kept-tally : p .tally .begun ≡ true → p .tally ≡ startTally (p .tally) (topWeight D (p .state .facts))
       kept-tally e = rw e
 
-  pub begun-now : player .tally .begun ≡ false → (watched : Bool) (top : ℕ) → top ≡ topWeight D (p .state .facts) → watched ≡ leb top 1 && accepted D
-      → record { begun = true; watched = watched; steps = 0; weight = top } ≡ tallyOf D (begin D p .tally)
+  pub begun-now : player .tally .begun ≡ false → (top : ℕ) → top ≡ topWeight D (p .state .facts) → record { begun = true; steps = 0; weight = top } ≡ tallyOf (begin D p .tally)
   unfolding begin
-  begun-now b watched top e w =
+  begun-now b top e =
       let z : p .tally .begun ≡ false = begun-is D p st ∙ b in
-      (λ i. record { begun = true; watched = (w ∙ ap (λ (k : ℕ). leb k 1 && accepted D) e) i; steps = 0; weight = e i })
-      ∙ ap (tallyOf D) (new-tally z)
+      (λ i. record { begun = true; steps = 0; weight = e i }) ∙ ap tallyOf (new-tally z)
     where
-      new-tally : p .tally .begun ≡ false
-          → record { begun = true; startSafe = leb (topWeight D (p .state .facts)) 1; steps = 0; weight = topWeight D (p .state .facts) } ≡ startTally (p .tally) (topWeight D (p .state .facts))
+      new-tally : p .tally .begun ≡ false → record { begun = true; steps = 0; weight = topWeight D (p .state .facts) } ≡ startTally (p .tally) (topWeight D (p .state .facts))
       new-tally z = rw z
 
   -- what work memory has for weighing
@@ -141,8 +138,8 @@ module _ (D : Domain) (p : Playing) (player : Player) (work old : List ℕ) (st 
   facts-rows B = state-rows D B (p .state) (p .waiting) (st .sound .kept) (player .state) (state-is D p st) work old (st .memory)
 
   -- all but the tally stays
-  pub begun-player : (tally : Held) → tally ≡ tallyOf D (begin D p .tally)
-      → record { at = player .at; closed = player .closed; objects = player .objects; state = player .state; tally = tally } ≡ playerOf D (begin D p)
+  pub begun-player : (tally : Held) → tally ≡ tallyOf (begin D p .tally)
+      → record { at = player .at; closed = player .closed; objects = player .objects; state = player .state; tally = tally } ≡ playerOf (begin D p)
   unfolding playerOf begin
   begun-player tally e i = record { at = st .is i .at; closed = st .is i .closed; objects = st .is i .objects; state = st .is i .state; tally = e i }
 
@@ -150,17 +147,17 @@ module _ (D : Domain) (p : Playing) (player : Player) (work old : List ℕ) (st 
 
 module _ (D : Domain) (q : Playing) (player : Player) (work old : List ℕ) (st : Stands D q player work old) (behind : ℕ) where
   pub objects-on : (b n : ℕ) → b ≡ n
-      → LeadsTo D (goOn (withObjects q n behind)) (record { number = 0; player = record { at = behind; closed = false; objects = b; state = player .state; tally = player .tally } }) work old
+      → LeadsTo (goOn (withObjects q n behind)) (record { number = 0; player = record { at = behind; closed = false; objects = b; state = player .state; tally = player .tally } }) work old
   unfolding playerOf
   objects-on b n e =
       record {
         number = refl;
         is = ap (λ (x : Player). record { at = behind; closed = false; objects = b; state = x .state; tally = x .tally }) (st .is)
-            ∙ ap {B = Player} (λ (k : ℕ). record { at = behind; closed = false; objects = k; state = playerOf D q .state; tally = playerOf D q .tally }) e;
+            ∙ ap {B = Player} (λ (k : ℕ). record { at = behind; closed = false; objects = k; state = playerOf q .state; tally = playerOf q .tally }) e;
         memory = st .memory;
       }
 
-  pub end-on : LeadsTo D (goOn (withClose q behind)) (record { number = 0; player = record { at = behind; closed = true; objects = player .objects; state = player .state; tally = player .tally } }) work old
+  pub end-on : LeadsTo (goOn (withClose q behind)) (record { number = 0; player = record { at = behind; closed = true; objects = player .objects; state = player .state; tally = player .tally } }) work old
   unfolding playerOf
   end-on =
       record {
@@ -172,7 +169,7 @@ module _ (D : Domain) (q : Playing) (player : Player) (work old : List ℕ) (st 
   -- ---- the same, with another state of the machine
   module _ (s : State) (es : List Event) (new : Player) (work′ : List ℕ)
       (is : (new .at ≡ behind) × (new .closed ≡ false) × (new .objects ≡ player .objects) × (new .state ≡ holdingOf s es) × (new .tally ≡ player .tally)) (m : work′ ≡ over (heldBytes (s .facts)) old) where
-    pub onward-on : LeadsTo D (goOn (onward q behind s es (q .tally))) (record { number = 0; player = new }) work′ old
+    pub onward-on : LeadsTo (goOn (onward q behind s es (q .tally))) (record { number = 0; player = new }) work′ old
     unfolding playerOf
     onward-on =
         record {
@@ -203,18 +200,18 @@ module _ (D : Domain) (q : Playing) (behind : ℕ) where
   close-refused n e z = go (eqb (forbidden D s es) 0) (tooLarge (next D s es)) e
     where
       go : (b c : Bool) → n ≡ cond b (cond c 52 0) (forbidden D s es)
-          → cond b (cond c (stopAt 52 q) (afterStep D q (next D s es) (topWeight D (next D s es .facts)) behind)) (stopAt (forbidden D s es) q) ≡ stopAt n q
+          → cond b (cond c (stopAt 52 q) (afterStep q (next D s es) (topWeight D (next D s es .facts)) behind)) (stopAt (forbidden D s es) q) ≡ stopAt n q
       go true true k = ap (λ (j : ℕ). stopAt j q) (sym k)
       go true false k = absurd (z k)
       go false c k = ap (λ (j : ℕ). stopAt j q) (sym k)
 
-  close-taken : 0 ≡ closeStop D s es → closeStep D q behind ≡ afterStep D q (next D s es) (topWeight D (next D s es .facts)) behind
+  close-taken : 0 ≡ closeStop D s es → closeStep D q behind ≡ afterStep q (next D s es) (topWeight D (next D s es .facts)) behind
   unfolding closeStep closeStop
   close-taken e = go (eqb (forbidden D s es) 0) refl (tooLarge (next D s es)) e
     where
       go : (b : Bool) → eqb (forbidden D s es) 0 ≡ b → (c : Bool) → 0 ≡ cond b (cond c 52 0) (forbidden D s es)
-          → cond b (cond c (stopAt 52 q) (afterStep D q (next D s es) (topWeight D (next D s es .facts)) behind)) (stopAt (forbidden D s es) q)
-          ≡ afterStep D q (next D s es) (topWeight D (next D s es .facts)) behind
+          → cond b (cond c (stopAt 52 q) (afterStep q (next D s es) (topWeight D (next D s es .facts)) behind)) (stopAt (forbidden D s es) q)
+          ≡ afterStep q (next D s es) (topWeight D (next D s es .facts)) behind
       go true f true k = absurd (omega arith)
       go true f false k = refl
       go false f c k = absurd (eqb-false (forbidden D s es) 0 f (sym k))
@@ -225,7 +222,7 @@ module _ (D : Domain) (q : Playing) (behind : ℕ) where
     weight-was = ap (λ (x : Player). x .tally .weight) (st .is)
 
     -- a step that is refused
-    pub close-stops : (number ≡ 0 → ⊥) → LeadsTo D (closeStep D q behind) (record { number = number; player = player }) work′ old
+    pub close-stops : (number ≡ 0 → ⊥) → LeadsTo (closeStep D q behind) (record { number = number; player = player }) work′ old
     unfolding closeState playerOf
     close-stops z =
         let f : eqb (closeStop D s es) 0 ≡ false = ne-eqb (closeStop D s es) 0 (λ k. z (l .number-is ∙ k)) in
@@ -259,50 +256,13 @@ module _ (D : Domain) (q : Playing) (behind : ℕ) where
       unfolding closeState
       work-now = rw taken at (l .work-is)
 
-      watched-was : player .tally .watched ≡ q .tally .startSafe && accepted D
-      unfolding playerOf
-      watched-was = ap (λ (x : Player). x .tally .watched) (st .is)
-
-      and-mid : (a b c : Bool) → a && c ≡ true → b ≡ true → a && b && c ≡ true
-      and-mid true true true e f = refl
-      and-mid true false c e f = f
-      and-mid true true false e f = e
-      and-mid false b c e f = e
-
-      mid-off : (a b c : Bool) → (a && c ≡ true → b ≡ true → ⊥) → a && b && c ≡ false
-      mid-off true true true h = absurd (h refl refl)
-      mid-off true true false h = refl
-      mid-off true false c h = refl
-      mid-off false b c h = refl
-
-      -- 59
-      pub close-alarms : player .tally .watched ≡ true → 1 < weight → (new : Player) → (new .at ≡ player .at) × (new .tally .steps ≡ player .tally .steps + 1) × (new .tally .weight ≡ weight)
-          → LeadsTo D (closeStep D q behind) (record { number = 59; player = new }) work′ old
-      unfolding playerOf
-      close-alarms w g new is =
-          let a : q .tally .startSafe && accepted D ≡ true = sym watched-was ∙ w in
-          let low = st .sound .watched a in
-          let e = weight-now in
-          let t : 1 < top = omega arith in
-          let n = and-mid (q .tally .startSafe) (ltb 1 top) (accepted D) a (lt-ltb 1 top t) in
-          let u : player .tally .steps ≡ q .tally .steps = ap (λ (x : Player). x .tally .steps) (st .is) in
-          rw (close-taken (sym z ∙ l .number-is), n)
-          (record {
-            number = refl;
-            some = λ k. omega arith;
-            place = is .0 ∙ ap (λ (x : Player). x .at) (st .is);
-            steps = is .1 ∙ add-one (player .tally .steps) ∙ ap suc u;
-            weight = is .2 ∙ e;
-            memory = work-now;
-          })
-
       -- the step is counted
-      pub close-on : (player .tally .watched ≡ true → weight ≤ 1) → (counted : Player) → counted ≡ record { at = behind; closed = false; objects = player .objects; state = state; tally = record { begun = player .tally .begun; watched = player .tally .watched; steps = player .tally .steps + 1; weight = weight } }
-          → LeadsTo D (closeStep D q behind) (record { number = 0; player = counted }) work′ old
+      pub close-on : (counted : Player)
+          → counted ≡ record { at = behind; closed = false; objects = player .objects; state = state; tally = record { begun = player .tally .begun; steps = player .tally .steps + 1; weight = weight } }
+          → LeadsTo (closeStep D q behind) (record { number = 0; player = counted }) work′ old
       unfolding playerOf
-      close-on w counted is =
-          let n : q .tally .startSafe && ltb 1 top && accepted D ≡ false = mid-off (q .tally .startSafe) (ltb 1 top) (accepted D) (λ a b. let k = w (watched-was ∙ a) in let t = ltb-true 1 top b in let e = weight-now in omega arith) in
-          rw (close-taken (sym z ∙ l .number-is), n)
+      close-on counted is =
+          rw (close-taken (sym z ∙ l .number-is))
           (record {
             number = refl;
             is =
@@ -313,7 +273,7 @@ module _ (D : Domain) (q : Playing) (behind : ℕ) where
                   closed = false;
                   objects = st .is i .objects;
                   state = state-now i;
-                  tally = record { begun = st .is i .tally .begun; watched = st .is i .tally .watched; steps = (add-one (player .tally .steps) ∙ ap (λ (x : Player). suc (x .tally .steps)) (st .is)) i; weight = weight-now i };
+                  tally = record { begun = st .is i .tally .begun; steps = (add-one (player .tally .steps) ∙ ap (λ (x : Player). suc (x .tally .steps)) (st .is)) i; weight = weight-now i };
                 });
             memory = work-now;
           })
@@ -340,27 +300,27 @@ module _ (k : ℕ) where
   kind-other a b c d e = rw (ne-eqb k 16 a, ne-eqb k 17 b, ne-eqb k 18 c, ne-eqb k 19 d, ne-eqb k 20 e)
 
 module _ (D : Domain) (q : Playing) (k : ℕ) (b : List ℕ) (behind : ℕ) (t : Turn) (work old : List ℕ) where
-  pub of-objects : runKindOf k ≡ objectsRecord → LeadsTo D (unless (objectsStop q b) q (goOn (withObjects q (byte b 0) behind))) t work old → LeadsTo D (playRecord D q (runKindOf k) b behind) t work old
+  pub of-objects : runKindOf k ≡ objectsRecord → LeadsTo (unless (objectsStop q b) q (goOn (withObjects q (byte b 0) behind))) t work old → LeadsTo (playRecord D q (runKindOf k) b behind) t work old
   unfolding playRecord
   of-objects e h = rw e h
 
-  pub of-fact : runKindOf k ≡ factRecord → LeadsTo D (unless (factStop D q b) q (goOn (withFact q (factOf b) behind))) t work old → LeadsTo D (playRecord D q (runKindOf k) b behind) t work old
+  pub of-fact : runKindOf k ≡ factRecord → LeadsTo (unless (factStop D q b) q (goOn (withFact q (factOf b) behind))) t work old → LeadsTo (playRecord D q (runKindOf k) b behind) t work old
   unfolding playRecord
   of-fact e h = rw e h
 
-  pub of-event : runKindOf k ≡ eventRecord → LeadsTo D (unless (eventStop D (begin D q) b) (begin D q) (goOn (withEvent (begin D q) (eventOf b) behind))) t work old → LeadsTo D (playRecord D q (runKindOf k) b behind) t work old
+  pub of-event : runKindOf k ≡ eventRecord → LeadsTo (unless (eventStop D (begin D q) b) (begin D q) (goOn (withEvent (begin D q) (eventOf b) behind))) t work old → LeadsTo (playRecord D q (runKindOf k) b behind) t work old
   unfolding playRecord
   of-event e h = rw e h
 
-  pub of-step : runKindOf k ≡ stepRecord → LeadsTo D (unless (stepStop (begin D q) b) (begin D q) (closeStep D (begin D q) behind)) t work old → LeadsTo D (playRecord D q (runKindOf k) b behind) t work old
+  pub of-step : runKindOf k ≡ stepRecord → LeadsTo (unless (stepStop (begin D q) b) (begin D q) (closeStep D (begin D q) behind)) t work old → LeadsTo (playRecord D q (runKindOf k) b behind) t work old
   unfolding playRecord
   of-step e h = rw e h
 
-  pub of-end : runKindOf k ≡ endRecord → LeadsTo D (unless (endStop (begin D q) b) (begin D q) (goOn (withClose (begin D q) behind))) t work old → LeadsTo D (playRecord D q (runKindOf k) b behind) t work old
+  pub of-end : runKindOf k ≡ endRecord → LeadsTo (unless (endStop (begin D q) b) (begin D q) (goOn (withClose (begin D q) behind))) t work old → LeadsTo (playRecord D q (runKindOf k) b behind) t work old
   unfolding playRecord
   of-end e h = rw e h
 
-  pub of-other : runKindOf k ≡ otherRecord → LeadsTo D (stopAt 50 q) t work old → LeadsTo D (playRecord D q (runKindOf k) b behind) t work old
+  pub of-other : runKindOf k ≡ otherRecord → LeadsTo (stopAt 50 q) t work old → LeadsTo (playRecord D q (runKindOf k) b behind) t work old
   unfolding playRecord
   of-other e h = rw e h
 
@@ -375,13 +335,13 @@ module _ (D : Domain) (r : List ℕ) (q : Playing) (player : Player) (work old :
   unfolding playerOf
   at-is = ap (λ (x : Player). x .at) (st .is)
 
-  pub turn-behind : player .closed ≡ true → player .at < length r → LeadsTo D (playStep D r q) (record { number = 50; player = player }) work old
+  pub turn-behind : player .closed ≡ true → player .at < length r → LeadsTo (playStep D r q) (record { number = 50; player = player }) work old
   unfolding playStep
   turn-behind c l =
       let e = at-is in
       rw (sym closed-is ∙ c, lt-ltb (q .at) (length r) (omega arith)) (stops-at D q player work old st 50 50 refl (λ z. omega arith))
 
-  pub turn-end : player .closed ≡ true → length r ≤ player .at → LeadsTo D (playStep D r q) (record { number = 2; player = player }) work old
+  pub turn-end : player .closed ≡ true → length r ≤ player .at → LeadsTo (playStep D r q) (record { number = 2; player = player }) work old
   unfolding playStep
   turn-end c l =
       let e = at-is in
@@ -394,20 +354,20 @@ module _ (D : Domain) (r : List ℕ) (q : Playing) (player : Player) (work old :
         ap (λ (b : Bool). cond b (cond (ltb (q .at) (length r)) (stopAt 50 q) (stopAt 2 q)) (playFound D r q (recordAt r (q .at)))) (sym closed-is ∙ c)
         ∙ ap (playFound D r q) (ap (recordAt r) (sym at-is) ∙ e)
 
-    pub turn-cut : recordAt r (player .at) ≡ Cut → LeadsTo D (playStep D r q) (record { number = 50; player = player }) work old
+    pub turn-cut : recordAt r (player .at) ≡ Cut → LeadsTo (playStep D r q) (record { number = 50; player = player }) work old
     unfolding playFound
     turn-cut e = rw (found Cut e) (stops-at D q player work old st 50 50 refl (λ z. omega arith))
 
-    pub turn-none : recordAt r (player .at) ≡ End → LeadsTo D (playStep D r q) (record { number = 50; player = player }) work old
+    pub turn-none : recordAt r (player .at) ≡ End → LeadsTo (playStep D r q) (record { number = 50; player = player }) work old
     unfolding playFound
     turn-none e = rw (found End e) (stops-at D q player work old st 50 50 refl (λ z. omega arith))
 
     pub turn-whole : (k start len : ℕ) → recordAt r (player .at) ≡ Whole k start len → (t : Turn) (work′ : List ℕ) (end : ℕ) → end ≡ start + len
-        → LeadsTo D (playRecord D q (runKindOf k) (take (end - start) (drop start r)) end) t work′ old → LeadsTo D (playStep D r q) t work′ old
+        → LeadsTo (playRecord D q (runKindOf k) (take (end - start) (drop start r)) end) t work′ old → LeadsTo (playStep D r q) t work′ old
     unfolding playFound payload
     turn-whole k start len e t work′ end z h =
         let n : end - start ≡ len = omega arith in
-        let g : LeadsTo D (playRecord D q (runKindOf k) (take len (drop start r)) (start + len)) t work′ old = rw (n, z) at h in
+        let g : LeadsTo (playRecord D q (runKindOf k) (take len (drop start r)) (start + len)) t work′ old = rw (n, z) at h in
         rw (found (Whole k start len) e) g
 
     pub turn-noted : (k start len : ℕ) → recordAt r (player .at) ≡ Whole k start len → (end : ℕ) → end ≡ start + len → (arities : List ℕ) (keys : ℕ) (parts : List (List ℕ)) (index : List ℕ)
@@ -437,7 +397,7 @@ module _ (D : Domain) (B : Bounded D) (q : Playing) (player : Player) (work old 
     -- a fact that is held already
     pub fact-again : held ≡ true → (new : Player)
         → (new .at ≡ behind) × (new .closed ≡ false) × (new .objects ≡ player .objects) × (new .state ≡ player .state) × (new .tally ≡ player .tally)
-        → LeadsTo D (goOn (withFact q (factOf b) behind)) (record { number = 0; player = new }) work old
+        → LeadsTo (goOn (withFact q (factOf b) behind)) (record { number = 0; player = new }) work old
     fact-again h new is =
         let e : elem sameFact (factOf b) (q .state .facts) ≡ true = sym held-is ∙ h in
         let j : q .state .facts ≡ joined (factOf b) (q .state .facts) = rw e in
@@ -460,7 +420,7 @@ module _ (D : Domain) (B : Bounded D) (q : Playing) (player : Player) (work old 
     pub fact-new : held ≡ false → (new : Player) (next : Holding) → next ≡ record { facts = player .state .facts + 1; running = player .state .running; waiting = player .state .waiting }
         → (new .at ≡ behind) × (new .closed ≡ false) × (new .objects ≡ player .objects) × (new .state ≡ next) × (new .tally ≡ player .tally)
         → (work′ : List ℕ) → work′ ≡ paste work (8 * player .state .facts) row 8
-        → LeadsTo D (goOn (withFact q (factOf b) behind)) (record { number = 0; player = new }) work′ old
+        → LeadsTo (goOn (withFact q (factOf b) behind)) (record { number = 0; player = new }) work′ old
     fact-new h new next ne is work′ we =
         let fs : List Fact = q .state .facts ++ (factOf b ∷ []) in
         let n : player .state .facts + 1 ≡ length fs = let c = facts-count in let a = length-append (q .state .facts) (factOf b ∷ []) in omega arith in
@@ -478,7 +438,7 @@ module _ (D : Domain) (B : Bounded D) (q : Playing) (player : Player) (work old 
   pub event-on : (more : Waiting) → more ≡ waitingOf (q .waiting ++ (eventOf b ∷ [])) → (new : Player)
       → (new .at ≡ behind) × (new .closed ≡ false) × (new .objects ≡ player .objects)
       × (new .state ≡ record { facts = player .state .facts; running = player .state .running; waiting = more }) × (new .tally ≡ player .tally)
-      → LeadsTo D (goOn (withEvent q (eventOf b) behind)) (record { number = 0; player = new }) work old
+      → LeadsTo (goOn (withEvent q (eventOf b) behind)) (record { number = 0; player = new }) work old
   event-on more e new is =
       let s : new .state ≡ holdingOf (q .state) (q .waiting ++ (eventOf b ∷ [])) =
       is .3 ∙ (λ i. record { facts = state-is D q st i .facts; running = state-is D q st i .running; waiting = e i }) in

@@ -19,7 +19,7 @@ use Rattle.literals.proofs.Held.{starts-length, shaped}
 use Rattle.literals.proofs.Spans.{vars-at}
 use Rattle.verdict.specs.Machine.{Event, State}
 use Rattle.machine.specs.declared.State.{State as Holding}
-use Rattle.runs.specs.Play.{workBytes, maxFacts, Playing, begin, accepted, heldBytes}
+use Rattle.runs.specs.Play.{workBytes, maxFacts, Playing, begin, heldBytes}
 use Rattle.events.specs.Coded.{openOf, waitingOf, Lent, Ready}
 use Rattle.machine.specs.Stepping.{holdingOf, Kept, Closable, Noted}
 use Rattle.player.specs.Player.{Whole as Player, playerOf, Stands, Playable}
@@ -107,7 +107,7 @@ work-length {D} B {q} {player} {work} {old} st l =
 
 -- ---- what playing a record relies on
 
-module _ {n : Counts} {arities variables sorts starts parts table : List ℕ} {accepts : Bool} {player : Player} {work index : List ℕ} (P : Playable n arities variables sorts starts parts table accepts player work index) where
+module _ {n : Counts} {arities variables sorts starts parts table : List ℕ} {player : Player} {work index : List ℕ} (P : Playable n arities variables sorts starts parts table player work index) where
   abbrev lent : Lent (P .said) n arities variables sorts starts parts table
   lent = P .lent
 
@@ -131,21 +131,21 @@ module _ {n : Counts} {arities variables sorts starts parts table : List ℕ} {a
 
   -- of the player once the start counts
   module _ (begun : Player)
-      (is : (D : Domain) (p : Playing) (m : Counts) (as′ vs ss ts old : List ℕ) → Holds D (indexWith m as′ vs ss ts parts) → n .components ≡ m .components → n .keys ≡ m .keys → accepts ≡ accepted D
-      → Stands D p player work old → Noted D as′ (n .keys) (rowsIn (n .components) parts) index (p .state) → begun ≡ playerOf D (begin D p)) where
+      (is : (D : Domain) (p : Playing) (m : Counts) (as′ vs ss ts old : List ℕ) → Holds D (indexWith m as′ vs ss ts parts) → n .components ≡ m .components → n .keys ≡ m .keys
+      → Stands D p player work old → Noted D as′ (n .keys) (rowsIn (n .components) parts) index (p .state) → begun ≡ playerOf (begin D p)) where
     -- it stands there, for every domain that is lent
-    pub stands-begun : (D : Domain) → Lent D n arities variables sorts starts parts table → accepts ≡ accepted D → (q : Playing) (old : List ℕ) → Stands D q player work old
+    pub stands-begun : (D : Domain) → Lent D n arities variables sorts starts parts table → (q : Playing) (old : List ℕ) → Stands D q player work old
         → Noted D arities (n .keys) (rowsIn (n .components) parts) index (q .state) → Stands D (begin D q) begun work old
     unfolding begin
-    stands-begun D L e q old st noted =
+    stands-begun D L q old st noted =
         record {
-          is = is D q n arities variables sorts starts old (L .held) refl refl e st noted;
+          is = is D q n arities variables sorts starts old (L .held) refl refl st noted;
           memory = st .memory;
           sound = sound-begin D q (st .sound);
         }
 
     abbrev here : Stands (P .said) (begin (P .said) (P .reached)) begun work (P .old)
-    here = stands-begun (P .said) lent (P .decided) (P .reached) (P .old) (P .stands) (P .noted)
+    here = stands-begun (P .said) lent (P .reached) (P .old) (P .stands) (P .noted)
 
     pub event-shape : (length variables ≡ 64) × ((i : ℕ) → getD variables i 0 ≤ 16) × (length sorts ≡ 64) × (n .actions ≤ 64) × (begun .state .waiting .count ≤ 16)
     event-shape =

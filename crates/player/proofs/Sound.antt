@@ -23,7 +23,7 @@ use Rattle.verdict.proofs.Events.{not-fact}
 use Rattle.verdict.proofs.Weight.{distinct-append}
 use Rattle.runs.proofs.Stops.{eventTests}
 use Rattle.runs.specs.RunFile.{RunKind, objectsRecord, factRecord, eventRecord, stepRecord, endRecord, otherRecord, runKindOf, factOf, momentOf, eventOf}
-use Rattle.runs.specs.Play.{maxObjects, maxFacts, maxEvents, Tally, Playing, beforeRun, onward, PlayTurn, goOn, finish, outcomeAt, stopAt, begin, outside, objectsStop, withObjects, factStop, joined, withFact, eventStop, withEvent, forbidden, tooLarge, tallied, accepted, afterStep, closeStep, stepStop, endStop, withClose, unless, playRecord, playFound, playStep}
+use Rattle.runs.specs.Play.{maxObjects, maxFacts, maxEvents, Tally, Playing, beforeRun, onward, PlayTurn, goOn, finish, stopAt, begin, outside, objectsStop, withObjects, factStop, joined, withFact, eventStop, withEvent, forbidden, tooLarge, afterStep, closeStep, stepStop, endStop, withClose, unless, playRecord, playFound, playStep}
 use Rattle.store.specs.Rows.{FactFits}
 use Rattle.events.specs.Coded.{GroundFits}
 use Rattle.machine.specs.Stepping.{Kept}
@@ -142,15 +142,15 @@ module _ (D : Domain) where
       top : ℕ
       top = topWeight D (p .state .facts)
 
-      with-tally : (t : Tally) → t .steps ≤ p .at → (t .begun ≡ false → (t .startSafe ≡ false) × (t .steps ≡ 0) × (t .weight ≡ 0))
-          → (t .begun ≡ true → top ≤ t .weight) → (t .startSafe && accepted D ≡ true → t .weight ≤ 1)
+      with-tally : (t : Tally) → t .steps ≤ p .at → (t .begun ≡ false → (t .steps ≡ 0) × (t .weight ≡ 0))
+          → (t .begun ≡ true → top ≤ t .weight)
           → Sound D (record { at = p .at; closed = p .closed; objects = p .objects; state = p .state; waiting = p .waiting; tally = t })
-      with-tally t a b c d = record { kept = h .kept; objects = h .objects; steps = a; early = b; weight = c; watched = d }
+      with-tally t a b c = record { kept = h .kept; objects = h .objects; steps = a; early = b; weight = c }
 
       go : (b : Bool) → p .tally .begun ≡ b
-          → Sound D (record { at = p .at; closed = p .closed; objects = p .objects; state = p .state; waiting = p .waiting; tally = cond b (p .tally) (record { begun = true; startSafe = leb top 1; steps = 0; weight = top }) })
-      go true e = with-tally (p .tally) (h .steps) (h .early) (h .weight) (h .watched)
-      go false e = with-tally (record { begun = true; startSafe = leb top 1; steps = 0; weight = top }) (omega arith) (λ q. absurd (clash refl q)) (λ q. omega arith) (λ q. leb-true top 1 (and-l _ _ q))
+          → Sound D (record { at = p .at; closed = p .closed; objects = p .objects; state = p .state; waiting = p .waiting; tally = cond b (p .tally) (record { begun = true; steps = 0; weight = top }) })
+      go true e = with-tally (p .tally) (h .steps) (h .early) (h .weight)
+      go false e = with-tally (record { begun = true; steps = 0; weight = top }) (omega arith) (λ q. absurd (clash refl q)) (λ q. omega arith)
 
   -- a turn that goes on, goes on where it holds
   abbrev SoundTurn : PlayTurn → Type 0
@@ -165,30 +165,10 @@ module _ (D : Domain) where
       go false e = tt
 
   module _ (B : Bounded D) (p : Playing) (h : Sound D p) (behind : ℕ) (l : p .at < behind) where
-    sound-after : (s : State) → Kept D s [] → p .tally .begun ≡ true → SoundTurn (afterStep D p s (topWeight D (s .facts)) behind)
-    sound-after s k b = go (p .tally .startSafe && ltb 1 top && accepted D) refl
-      where
-        top : ℕ
-        top = topWeight D (s .facts)
-
-        low : (x y : Bool) → (x && y ≡ true → p .tally .weight ≤ 1) → x && ltb 1 top && y ≡ false → x && y ≡ true → max (p .tally .weight) top ≤ 1
-        low true true w f e = let a = w refl in let c = ltb-false 1 top (off (ltb 1 top) (λ q. clash (rw q) f)) in omega arith
-        low true false w f e = absurd (false≢true e)
-        low false y w f e = absurd (false≢true e)
-
-        go : (t : Bool) → p .tally .startSafe && ltb 1 top && accepted D ≡ t
-            → SoundTurn (cond t (finish (outcomeAt 59 (p .at) s (tallied (p .tally) top))) (goOn (onward p behind s [] (tallied (p .tally) top))))
-        go true e = tt
-        go false e =
-            let a = h .steps in
-            record {
-              kept = k;
-              objects = h .objects;
-              steps = omega arith;
-              early = λ q. absurd (clash b q);
-              weight = λ q. omega arith;
-              watched = λ q. low (p .tally .startSafe) (accepted D) (h .watched) e q;
-            }
+    sound-after : (s : State) → Kept D s [] → p .tally .begun ≡ true → SoundTurn (afterStep p s (topWeight D (s .facts)) behind)
+    sound-after s k b =
+        let a = h .steps in
+        record { kept = k; objects = h .objects; steps = omega arith; early = λ q. absurd (clash b q); weight = λ q. omega arith }
 
     sound-close : p .tally .begun ≡ true → SoundTurn (closeStep D p behind)
     unfolding closeStep
@@ -197,12 +177,12 @@ module _ (D : Domain) where
         after : State
         after = next D (p .state) (p .waiting)
 
-        fits : (t : Bool) → tooLarge after ≡ t → SoundTurn (cond t (stopAt 52 p) (afterStep D p after (topWeight D (after .facts)) behind))
+        fits : (t : Bool) → tooLarge after ≡ t → SoundTurn (cond t (stopAt 52 p) (afterStep p after (topWeight D (after .facts)) behind))
         fits true e = tt
         fits false e = sound-after after (kept-next D B (p .state) (p .waiting) (h .kept) e) b
 
         go : (t : Bool)
-            → SoundTurn (cond t (cond (tooLarge after) (stopAt 52 p) (afterStep D p after (topWeight D (after .facts)) behind)) (stopAt (forbidden D (p .state) (p .waiting)) p))
+            → SoundTurn (cond t (cond (tooLarge after) (stopAt 52 p) (afterStep p after (topWeight D (after .facts)) behind)) (stopAt (forbidden D (p .state) (p .waiting)) p))
         go true = fits (tooLarge after) refl
         go false = tt
 
@@ -211,7 +191,7 @@ module _ (D : Domain) where
   begun-tally p = go (p .tally .begun) refl
     where
       go : (b : Bool) → p .tally .begun ≡ b
-          → cond b (p .tally) (record { begun = true; startSafe = leb (topWeight D (p .state .facts)) 1; steps = 0; weight = topWeight D (p .state .facts) }) .begun ≡ true
+          → cond b (p .tally) (record { begun = true; steps = 0; weight = topWeight D (p .state .facts) }) .begun ≡ true
       go true e = e
       go false e = refl
 
@@ -223,7 +203,7 @@ module _ (D : Domain) where
   unfolding playRecord
   sound-record B p h objectsRecord b behind l =
       sound-unless (objectsStop p b) p (goOn (withObjects p (byte b 0) behind))
-      (λ z. let a = h .steps in record { kept = h .kept; objects = objects-few p b z; steps = omega arith; early = h .early; weight = h .weight; watched = h .watched })
+      (λ z. let a = h .steps in record { kept = h .kept; objects = objects-few p b z; steps = omega arith; early = h .early; weight = h .weight })
   sound-record B p h factRecord b behind l =
       sound-unless (factStop D p b) p (goOn (withFact p (factOf b) behind))
       (λ z.
@@ -235,7 +215,6 @@ module _ (D : Domain) where
         steps = omega arith;
         early = h .early;
         weight = λ q. absurd (clash q (t .early));
-        watched = h .watched;
       })
   sound-record B p h eventRecord b behind l =
       let q = begin D p in
@@ -251,7 +230,6 @@ module _ (D : Domain) where
         steps = omega arith;
         early = s .early;
         weight = s .weight;
-        watched = s .watched;
       })
   sound-record B p h stepRecord b behind l =
       let q = begin D p in
@@ -262,7 +240,7 @@ module _ (D : Domain) where
       let s = sound-begin p h in
       let e = begin-at p in
       sound-unless (endStop q b) q (goOn (withClose q behind))
-      (λ z. let a = s .steps in record { kept = s .kept; objects = s .objects; steps = omega arith; early = s .early; weight = s .weight; watched = s .watched })
+      (λ z. let a = s .steps in record { kept = s .kept; objects = s .objects; steps = omega arith; early = s .early; weight = s .weight })
   sound-record B p h otherRecord b behind l = tt
 
   sound-turn : Bounded D → (r : List ℕ) (p : Playing) → Sound D p → SoundTurn (playStep D r p)
@@ -297,7 +275,6 @@ module _ (D : Domain) where
             };
         objects = omega arith;
         steps = omega arith;
-        early = λ q. (refl, refl, refl);
+        early = λ q. (refl, refl);
         weight = λ q. absurd (false≢true q);
-        watched = λ q. absurd (false≢true q);
       }

@@ -1,12 +1,10 @@
 -- How the code answers a call of playing. Assumes nothing.
 use mathlib.Core.Path.{_≡_}
-use mathlib.Core.Bool.{true}
 use mathlib.Core.List.{List}
 use Prim.Native.Nat.{ℕ}
 use lib.ListN.{length, drop}
 use Rattle.literals.specs.declared.Counts.{Counts}
 use Rattle.literals.specs.Domain.{Domain}
-use Rattle.verdict.specs.Claims.{wellFormed}
 use Rattle.player.specs.declared.play.Fault.{Fault}
 use Rattle.player.specs.declared.play.Fault.the-variants.{Domain as InDomain, Run as InRun}
 use Rattle.player.specs.declared.play.PlayAnswer.{PlayAnswer}
@@ -55,6 +53,5 @@ answerUnplayed number place fault = record { number = number; place = place; ste
 -- what the code relies on: some domain is lent
 pub record LentToPlay (n : Counts) (arities variables sorts starts parts table : List ℕ) : Type 0 where
   pub said : Domain
-  pub well : wellFormed said ≡ true
   pub lent : Lent said n arities variables sorts starts parts table
   pub size : length table ≡ 32768

@@ -1,7 +1,7 @@
 -- Where the player stands, as the code holds it, and what a record leads to. Assumes nothing.
 use Prim.{Unit}
 use mathlib.Core.Path.{_≡_}
-use mathlib.Core.Bool.{Bool, true, false, _&&_}
+use mathlib.Core.Bool.{Bool, true, false}
 use mathlib.Core.List.{List}
 use Prim.Native.Nat.{ℕ, _*_, _≤_}
 use lib.ListN.{length}
@@ -15,16 +15,15 @@ use Rattle.player.specs.declared.Player.{Player}
 use Rattle.player.specs.declared.Tally.{Tally}
 use Rattle.player.specs.declared.Turn.{Turn}
 use Rattle.player.specs.declared.run.Ended.{Ended}
-use Rattle.runs.specs.Play.{maxObjects, workBytes, Tally as Counted, Playing, PlayTurn, goOn, finish, Outcome, accepted, heldBytes}
+use Rattle.runs.specs.Play.{maxObjects, workBytes, Tally as Counted, Playing, PlayTurn, goOn, finish, Outcome, heldBytes}
 use Rattle.events.specs.Coded.{openOf, waitingOf, Lent}
 use Rattle.machine.specs.Stepping.{holdingOf, heldAs, Kept, Noted}
 
 -- ---- what the code holds
 
--- what is counted: a weight above 1 is watched for where the template is accepted and the start weights are at most 1
-abbrev pub tallyOf : Domain → Counted → Tally
-tallyOf D t =
-    record { begun = t .begun; watched = t .startSafe && accepted D; steps = t .steps; weight = t .weight }
+-- what is counted
+abbrev pub tallyOf : Counted → Tally
+tallyOf t = record { begun = t .begun; steps = t .steps; weight = t .weight }
 
 -- the player with the machine's state, whose entries and events stand in memories beside it
 pub record Whole : Type 0 where
@@ -53,15 +52,15 @@ abbrev pub turnOf : Turn → List ℕ → List ℕ → List ℕ → WholeTurn
 turnOf turn entries moments events = record { number = turn .number; player = wholeOf (turn .player) entries moments events }
 
 -- where playing stands
-unfoldable pub playerOf : Domain → Playing → Whole
+unfoldable pub playerOf : Playing → Whole
 unfolding openOf waitingOf
-playerOf D p =
+playerOf p =
     record {
       at = p .at;
       closed = p .closed;
       objects = p .objects;
       state = holdingOf (p .state) (p .waiting);
-      tally = tallyOf D (p .tally);
+      tally = tallyOf (p .tally);
     }
 
 -- ---- what holds wherever playing stands
@@ -71,24 +70,22 @@ pub record Sound (D : Domain) (p : Playing) : Type 0 where
   pub objects : p .objects ≤ maxObjects
   -- each step has its record
   pub steps : p .tally .steps ≤ p .at
-  pub early : p .tally .begun ≡ false → (p .tally .startSafe ≡ false) × (p .tally .steps ≡ 0) × (p .tally .weight ≡ 0)
+  pub early : p .tally .begun ≡ false → (p .tally .steps ≡ 0) × (p .tally .weight ≡ 0)
   -- no instance weighs more than the highest weight
   pub weight : p .tally .begun ≡ true → topWeight D (p .state .facts) ≤ p .tally .weight
-  -- as long as it is watched, it is at most 1
-  pub watched : p .tally .startSafe && accepted D ≡ true → p .tally .weight ≤ 1
 
 -- the player and its work memory stand where playing stands
 pub record Stands (D : Domain) (p : Playing) (player : Whole) (work old : List ℕ) : Type 0 where
-  pub is : player ≡ playerOf D p
+  pub is : player ≡ playerOf p
   pub memory : work ≡ over (heldBytes (p .state .facts)) old
   pub sound : Sound D p
 
 -- ---- what a record leads to
 
 -- playing goes on
-pub record GoesOn (D : Domain) (q : Playing) (t : WholeTurn) (work old : List ℕ) : Type 0 where
+pub record GoesOn (q : Playing) (t : WholeTurn) (work old : List ℕ) : Type 0 where
   pub number : t .number ≡ 0
-  pub is : t .player ≡ playerOf D q
+  pub is : t .player ≡ playerOf q
   pub memory : work ≡ over (heldBytes (q .state .facts)) old
 
 -- playing ends
@@ -100,9 +97,9 @@ pub record Ends (o : Outcome) (t : WholeTurn) (work old : List ℕ) : Type 0 whe
   pub weight : t .player .tally .weight ≡ o .weight
   pub memory : work ≡ over (heldBytes (o .facts)) old
 
-abbrev pub LeadsTo : Domain → PlayTurn → WholeTurn → List ℕ → List ℕ → Type 0
-LeadsTo D (goOn q) t work old = GoesOn D q t work old
-LeadsTo D (finish o) t work old = Ends o t work old
+abbrev pub LeadsTo : PlayTurn → WholeTurn → List ℕ → List ℕ → Type 0
+LeadsTo (goOn q) t work old = GoesOn q t work old
+LeadsTo (finish o) t work old = Ends o t work old
 
 -- what stands beside the facts then, where playing goes on
 abbrev pub NotedAfter : Domain → List ℕ → ℕ → List (List ℕ) → List ℕ → PlayTurn → Type 0
@@ -112,12 +109,11 @@ NotedAfter D arities keys parts index (finish o) = Unit {0}
 -- ---- what the code relies on
 
 -- to play a record: a domain is lent, and the player stands somewhere in its run
-pub record Playable (n : Counts) (arities variables sorts starts parts table : List ℕ) (accepts : Bool) (player : Whole) (work index : List ℕ) : Type 0 where
+pub record Playable (n : Counts) (arities variables sorts starts parts table : List ℕ) (player : Whole) (work index : List ℕ) : Type 0 where
   pub said : Domain
   pub reached : Playing
   pub old : List ℕ
   pub lent : Lent said n arities variables sorts starts parts table
-  pub decided : accepts ≡ accepted said
   pub table-room : 8 * n .rows ≤ length table
   pub stands : Stands said reached player work old
   pub room : workBytes ≤ length old
@@ -125,10 +121,9 @@ pub record Playable (n : Counts) (arities variables sorts starts parts table : L
   pub index-length : length index ≡ 12289
 
 -- to play a whole run
-pub record Runnable (n : Counts) (arities variables sorts starts parts table : List ℕ) (accepts : Bool) (work : List ℕ) : Type 0 where
+pub record Runnable (n : Counts) (arities variables sorts starts parts table : List ℕ) (work : List ℕ) : Type 0 where
   pub said : Domain
   pub lent : Lent said n arities variables sorts starts parts table
-  pub decided : accepts ≡ accepted said
   pub table-room : 8 * n .rows ≤ length table
   pub room : workBytes ≤ length work
 

@@ -3,11 +3,9 @@ pub mod play;
 pub mod playing;
 pub mod run;
 
-// What is counted of a run: whether the start counts (a record of kind 18 to 20 is met), whether a weight above 1 is a fault (the template is accepted, the
-// start weights are at most 1), the steps made, the highest weight.
+// What is counted of a run: whether the start counts (a record of kind 18 to 20 is met), the steps made, the highest weight.
 pub struct Tally {
     pub begun: bool,
-    pub watched: bool,
     pub steps: usize,
     pub weight: usize,
 }

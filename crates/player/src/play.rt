@@ -2,19 +2,16 @@
 use super::run::Ended;
 use super::run::play_run;
 use literals::Counts;
-use naming::name_all;
 use reading::read::read_into;
 ghost use mathlib.Core.Path.{_≡_};
-ghost use mathlib.Core.Bool.{true};
 ghost use Prim.Native.Nat.{_≤_};
 ghost use lib.ListN.{length};
 ghost use Rattle.literals.specs.Domain.{Domain};
 ghost use Rattle.literals.specs.Decode.{domain as domainRead};
-ghost use Rattle.verdict.specs.Claims.{wellFormed};
-ghost use Rattle.runs.specs.Play.{workBytes, accepted, Outcome, callBy, call, played, workAfter, returned, returnedBytes};
+ghost use Rattle.runs.specs.Play.{workBytes, Outcome, callBy, call, played, workAfter, returned, returnedBytes};
 ghost use Rattle.events.specs.Coded.{Lent};
 ghost use Rattle.player.specs.Player.{endedOf};
-ghost use Rattle.runs.specs.Claims.{PlaysAsMachine};
+ghost use Rattle.runs.specs.Claims.{PlaysAsMachine, StaysLow};
 ghost use Rattle.player.specs.Called.{faultFile, faultOffset, partAt, answerOf, answerBy, answerUnplayed, LentToPlay};
 
 // Where the record at fault starts: an offset of the domain file, or of the run file.
@@ -74,37 +71,6 @@ fn part<'a>(domain: &'a [u8], run: &'a [u8], fault: Fault) -> &'a [u8]
     }
 }
 
-// Whether the template is accepted.
-fn accepts(
-    counts: Counts,
-    arities: &[u8],
-    variables: &[u8],
-    sorts: &[u8],
-    starts: &[usize],
-    parts: &[u8],
-    table: &[u8],
-) -> bool
-    requires { ⌜ LentToPlay counts (now arities) (now variables) (now sorts) (now starts) (now parts) (now table) ⌝ }
-    ensures { λ r. ⌜ ((D : Domain) → Lent D counts (now (arities .entry)) (now (variables .entry)) (now (sorts .entry)) (now (starts .entry)) (now (parts .entry)) (now (table .entry))
-        → wellFormed D ≡ true → r ≡ accepted D) ⌝ }
-{
-    let mut names = [0u8; 8192];
-    let mut classes = [0u8; 64];
-    let naming = name_all(
-        counts,
-        arities,
-        sorts,
-        starts,
-        parts,
-        table,
-        &mut names,
-        &mut classes,
-    );
-    let notes = naming.notes;
-    let decided = notes.decide();
-    decided.number <= 1
-}
-
 // What the end of a run tells: with 2 no record is at fault, and the empty end of the run file comes back.
 fn answer_by(ended: Ended) -> PlayAnswer
     ensures { λ r. ⌜ ((o : Outcome) → ended ≡ endedOf o → r ≡ answerBy o) ⌝ }
@@ -142,10 +108,9 @@ fn play_domain(
 ) -> PlayAnswer
     requires { ⌜ LentToPlay counts (now arities) (now variables) (now sorts) (now starts) (now parts) (now table) × (workBytes ≤ length (now work)) ⌝ }
     ensures { λ r. ⌜ ((D : Domain)
-        → Lent D counts (now (arities .entry)) (now (variables .entry)) (now (sorts .entry)) (now (starts .entry)) (now (parts .entry)) (now (table .entry)) → wellFormed D ≡ true
+        → Lent D counts (now (arities .entry)) (now (variables .entry)) (now (sorts .entry)) (now (starts .entry)) (now (parts .entry)) (now (table .entry))
         → (r ≡ answerOf (callBy (domainRead D) (now (run .entry)) (now (work .entry)))) × (now (work .exit) ≡ callBy (domainRead D) (now (run .entry)) (now (work .entry)) .memory)) ⌝ }
 {
-    let accepted = accepts(counts, arities, variables, sorts, starts, parts, table);
     let ended = play_run(
         counts,
         arities,
@@ -154,7 +119,6 @@ fn play_domain(
         starts,
         parts,
         table,
-        accepted,
         run,
         work,
     );
@@ -217,7 +181,8 @@ pub fn play_files(domain: &[u8], run: &[u8], work: &mut [u8]) -> PlayAnswer
 }
 
 // Plays a run file on a domain file: leaves the number, its place, the steps made and the highest weight, the facts in the work memory, and hands back the
-// record at fault as a part of its file. What it leaves is what the machine does on the start facts and steps of the run file, over the whole list; 59 never comes.
+// record at fault as a part of its file. What it leaves is what the machine does on the start facts and steps of the run file, over the whole list; where the
+// template is accepted and the start weighs at most 1, no state reached weighs more.
 pub fn play<'a>(
     domain: &'a [u8],
     run: &'a [u8],
@@ -233,7 +198,7 @@ pub fn play<'a>(
     ensures weight { λ _. ⌜ now (weight .exit) ≡ played (now («domain» .entry)) (now (run .entry)) (now (work .entry)) .weight ⌝ }
     ensures work { λ _. ⌜ now (work .exit) ≡ workAfter (now («domain» .entry)) (now (run .entry)) (now (work .entry)) ⌝ }
     ensures machine { λ _. ⌜ PlaysAsMachine (now («domain» .entry)) (now (run .entry)) (now (work .entry)) (now (number .exit)) (now (steps .exit)) (now (weight .exit)) (now (work .exit)) ⌝ }
-    ensures never { λ _. ⌜ (now (number .exit) ≡ 59 → ⊥) ⌝ }
+    ensures low { λ _. ⌜ StaysLow (now («domain» .entry)) (now (run .entry)) (now (weight .exit)) ⌝ }
     ensures part { λ r. ⌜ now r ≡ returnedBytes (now («domain» .entry)) (now (run .entry)) (returned (now («domain» .entry)) (now (run .entry)) (now (work .entry))) ⌝ }
 {
     let answer = play_files(domain, run, work);

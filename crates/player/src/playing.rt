@@ -19,29 +19,18 @@ use store::index::enter;
 use store::index::is_held;
 use store::weighing::top_from;
 ghost use mathlib.Core.Path.{_≡_};
-ghost use mathlib.Core.Bool.{true, false, _&&_};
+ghost use mathlib.Core.Bool.{true, false};
 ghost use mathlib.Core.List.{List};
 ghost use Prim.Native.Nat.{ℕ, _+_, _*_, _<_, _≤_};
-ghost use lib.Dec.{leb};
 ghost use lib.ListN.{length, getD, replicate};
 ghost use Rattle.literals.specs.Domain.{Domain};
 ghost use Rattle.literals.specs.Decode.{byte};
 ghost use Rattle.literals.specs.Table.{rowsIn, indexWith, Holds};
 ghost use Rattle.runs.specs.RunFile.{runKindOf, factOf, eventOf};
-ghost use Rattle.runs.specs.Play.{Playing, beforeRun, goOn, unless, begin, objectsStop, withObjects, factStop, withFact, eventStop, withEvent, stepStop, closeStep, endStop, withClose, accepted as acceptedTemplate, playRecord, playStep};
+ghost use Rattle.runs.specs.Play.{Playing, beforeRun, goOn, unless, begin, objectsStop, withObjects, factStop, withFact, eventStop, withEvent, stepStop, closeStep, endStop, withClose, playRecord, playStep};
 ghost use Rattle.events.specs.Coded.{Lent};
 ghost use Rattle.machine.specs.Stepping.{heldAs, Noted, Closable};
 ghost use Rattle.player.specs.Player.{Whole, wholeOf, turnOf, tallyOf, playerOf, Stands, Playable, LeadsTo, NotedAfter};
-
-// Whether a weight above 1 is a fault from now on: the template is accepted, and the start weights are at most 1.
-fn is_watched(top: usize, accepted: bool) -> bool
-    ensures { λ r. ⌜ r ≡ (leb top 1 && «accepted») ⌝ }
-{
-    if top <= 1 {
-        return accepted;
-    }
-    false
-}
 
 impl Tally {
     // The start counts once the first record of kind 18 to 20 is met: the tally from then on.
@@ -51,24 +40,21 @@ impl Tally {
         components: usize,
         keys: usize,
         parts: &[u8],
-        accepted: bool,
         work: &[u8],
         index: &[u64],
     ) -> Tally
         requires { ⌜ (8 * components ≤ length (now parts)) × (keys ≤ 6) × (facts ≤ 1024) × (8 * facts ≤ length (now work)) × (length (now index) ≡ 12289) ⌝ }
         ensures { λ r. ⌜ ((D : Domain) (p : Playing) (player : Whole) (counts : Counts) (arities variables sorts starts old : List ℕ) → Holds D (indexWith counts arities variables sorts starts (now (parts .entry)))
-            → components ≡ counts .components → keys ≡ counts .keys → «accepted» ≡ acceptedTemplate D
+            → components ≡ counts .components → keys ≡ counts .keys
             → Stands D p player (now (work .entry)) old → self ≡ player .tally → facts ≡ player .state .facts
-            → Noted D arities keys (rowsIn components (now (parts .entry))) (now (index .entry)) (p .state) → r ≡ tallyOf D (begin D p .tally)) ⌝ }
+            → Noted D arities keys (rowsIn components (now (parts .entry))) (now (index .entry)) (p .state) → r ≡ tallyOf (begin D p .tally)) ⌝ }
     {
         if self.begun {
             return self;
         }
         let top = top_from(parts, components, keys, work, facts, 0, 0, index);
-        let watched = is_watched(top, accepted);
         Tally {
             begun: true,
-            watched,
             steps: 0,
             weight: top,
         }
@@ -78,7 +64,7 @@ impl Tally {
 impl Player {
     // Before the run.
     pub fn new() -> Player
-        ensures { λ r. ⌜ ((D : Domain) → wholeOf r (replicate 544 0) (replicate 16 0) (replicate 272 0) ≡ playerOf D beforeRun) ⌝ }
+        ensures { λ r. ⌜ wholeOf r (replicate 544 0) (replicate 16 0) (replicate 272 0) ≡ playerOf beforeRun ⌝ }
     {
         Player {
             at: 0,
@@ -89,7 +75,6 @@ impl Player {
             waits: 0,
             tally: Tally {
                 begun: false,
-                watched: false,
                 steps: 0,
                 weight: 0,
             },
@@ -102,17 +87,16 @@ impl Player {
         components: usize,
         keys: usize,
         parts: &[u8],
-        accepted: bool,
         work: &[u8],
         index: &[u64],
     ) -> Player
         requires { ⌜ (8 * components ≤ length (now parts)) × (keys ≤ 6) × (self .facts ≤ 1024) × (8 * self .facts ≤ length (now work)) × (length (now index) ≡ 12289) ⌝ }
         ensures { λ r. ⌜ ((D : Domain) (p : Playing) (entries moments events : List ℕ) (counts : Counts) (arities variables sorts starts old : List ℕ) → Holds D (indexWith counts arities variables sorts starts (now (parts .entry)))
-            → components ≡ counts .components → keys ≡ counts .keys → «accepted» ≡ acceptedTemplate D → Stands D p (wholeOf self entries moments events) (now (work .entry)) old
-            → Noted D arities keys (rowsIn components (now (parts .entry))) (now (index .entry)) (p .state) → wholeOf r entries moments events ≡ playerOf D (begin D p)) ⌝ }
+            → components ≡ counts .components → keys ≡ counts .keys → Stands D p (wholeOf self entries moments events) (now (work .entry)) old
+            → Noted D arities keys (rowsIn components (now (parts .entry))) (now (index .entry)) (p .state) → wholeOf r entries moments events ≡ playerOf (begin D p)) ⌝ }
     {
         let tally = self.tally
-            .begin(self.facts, components, keys, parts, accepted, work, index);
+            .begin(self.facts, components, keys, parts, work, index);
         Player {
             at: self.at,
             closed: self.closed,
@@ -143,7 +127,7 @@ impl Player {
     // Kind 16: the object count.
     fn take_objects(self, p: &[u8], behind: usize) -> Turn
         ensures { λ r. ⌜ ((D : Domain) (q : Playing) (entries moments events work old : List ℕ) → Stands D q (wholeOf self entries moments events) work old
-            → LeadsTo D (unless (objectsStop q (now (p .entry))) q (goOn (withObjects q (byte (now (p .entry)) 0) behind))) (turnOf r entries moments events) work old) ⌝ }
+            → LeadsTo (unless (objectsStop q (now (p .entry))) q (goOn (withObjects q (byte (now (p .entry)) 0) behind))) (turnOf r entries moments events) work old) ⌝ }
     {
         let number = objects_stop(self.objects, p);
         if number != 0 {
@@ -183,7 +167,7 @@ impl Player {
         ensures { λ r. ⌜ ((D : Domain) (q : Playing) (entries moments events variables sorts starts old : List ℕ) → Holds D (indexWith counts (now (arities .entry)) variables sorts starts (now (parts .entry)))
             → Stands D q (wholeOf self entries moments events) (now (work .entry)) old
             → Noted D (now (arities .entry)) (counts .keys) (rowsIn (counts .components) (now (parts .entry))) (now (index .entry)) (q .state)
-            → LeadsTo D (unless (factStop D q (now (p .entry))) q (goOn (withFact q (factOf (now (p .entry))) behind))) (turnOf r entries moments events) (now (work .exit)) old
+            → LeadsTo (unless (factStop D q (now (p .entry))) q (goOn (withFact q (factOf (now (p .entry))) behind))) (turnOf r entries moments events) (now (work .exit)) old
             × NotedAfter D (now (arities .entry)) (counts .keys) (rowsIn (counts .components) (now (parts .entry))) (now (index .exit)) (unless (factStop D q (now (p .entry))) q (goOn (withFact q (factOf (now (p .entry))) behind)))) ⌝ }
     {
         let tally = self.tally;
@@ -232,7 +216,7 @@ impl Player {
             × (length (now moments) ≡ 16) × (length (now events) ≡ 272) ⌝ }
         ensures { λ r. ⌜ ((D : Domain) (q : Playing) (entries arities starts parts work old : List ℕ) → Holds D (indexWith counts arities (now (variables .entry)) (now (sorts .entry)) starts parts)
             → Stands D q (wholeOf self entries (now (moments .entry)) (now (events .entry))) work old
-            → LeadsTo D (unless (eventStop D q (now (p .entry))) q (goOn (withEvent q (eventOf (now (p .entry))) behind))) (turnOf r entries (now (moments .exit)) (now (events .exit))) work old) ⌝ }
+            → LeadsTo (unless (eventStop D q (now (p .entry))) q (goOn (withEvent q (eventOf (now (p .entry))) behind))) (turnOf r entries (now (moments .exit)) (now (events .exit))) work old) ⌝ }
     {
         let n = self.waits;
         let number = event_stop(
@@ -258,7 +242,7 @@ impl Player {
         }
     }
 
-    // Kind 19: the step's close. 59 counts and keeps the step.
+    // Kind 19: the step's close.
     fn take_step(
         self,
         counts: Counts,
@@ -284,7 +268,7 @@ impl Player {
             → Lent D counts (now (arities .entry)) variables (now (sorts .entry)) (now (starts .entry)) (now (parts .entry)) (now (table .entry))
             → Stands D q (wholeOf self (now (entries .entry)) (now (moments .entry)) (now (events .entry))) (now (work .entry)) old → q .tally .begun ≡ true
             → Noted D (now (arities .entry)) (counts .keys) (rowsIn (counts .components) (now (parts .entry))) (now (index .entry)) (q .state)
-            → LeadsTo D (unless (stepStop q (now (p .entry))) q (closeStep D q behind)) (turnOf r (now (entries .exit)) (now (moments .exit)) (now (events .exit))) (now (work .exit)) old
+            → LeadsTo (unless (stepStop q (now (p .entry))) q (closeStep D q behind)) (turnOf r (now (entries .exit)) (now (moments .exit)) (now (events .exit))) (now (work .exit)) old
             × NotedAfter D (now (arities .entry)) (counts .keys) (rowsIn (counts .components) (now (parts .entry))) (now (index .exit)) (unless (stepStop q (now (p .entry))) q (closeStep D q behind))) ⌝ }
     {
         let tally = self.tally;
@@ -328,26 +312,9 @@ impl Player {
         next.put(entries, moments, events);
         let counted = Tally {
             begun: tally.begun,
-            watched: tally.watched,
             steps: tally.steps + 1,
             weight,
         };
-        if tally.watched {
-            if 1 < weight {
-                return Turn {
-                    number: 59,
-                    player: Player {
-                        at: self.at,
-                        closed: false,
-                        objects: self.objects,
-                        facts: next.facts,
-                        opened: next.running.count,
-                        waits: next.waiting.count,
-                        tally: counted,
-                    },
-                };
-            }
-        }
         Turn {
             number: 0,
             player: Player {
@@ -365,7 +332,7 @@ impl Player {
     // Kind 20: the run's close.
     fn take_end(self, p: &[u8], behind: usize) -> Turn
         ensures { λ r. ⌜ ((D : Domain) (q : Playing) (entries moments events work old : List ℕ) → Stands D q (wholeOf self entries moments events) work old
-            → LeadsTo D (unless (endStop q (now (p .entry))) q (goOn (withClose q behind))) (turnOf r entries moments events) work old) ⌝ }
+            → LeadsTo (unless (endStop q (now (p .entry))) q (goOn (withClose q behind))) (turnOf r entries moments events) work old) ⌝ }
     {
         let tally = self.tally;
         let number = end_stop(self.objects, self.waits, p);
@@ -399,7 +366,6 @@ impl Player {
         starts: &[usize],
         parts: &[u8],
         table: &[u8],
-        accepted: bool,
         work: &mut [u8],
         index: &mut [u64],
         entries: &mut [u8],
@@ -411,38 +377,24 @@ impl Player {
         p: &[u8],
         behind: usize,
     ) -> Turn
-        requires { ⌜ Playable counts (now arities) (now variables) (now sorts) (now starts) (now parts) (now table) «accepted» (wholeOf self (now entries) (now moments) (now events)) (now work) (now index) × (self .at < behind)
+        requires { ⌜ Playable counts (now arities) (now variables) (now sorts) (now starts) (now parts) (now table) (wholeOf self (now entries) (now moments) (now events)) (now work) (now index) × (self .at < behind)
             × (length (now entries) ≡ 544) × (length (now moments) ≡ 16) × (length (now events) ≡ 272) × (length (now spare) ≡ 8192) × (length (now effects) ≡ 8192) ⌝ }
         ensures { λ r. ⌜ ((D : Domain) (q : Playing) (old : List ℕ)
             → Lent D counts (now (arities .entry)) (now (variables .entry)) (now (sorts .entry)) (now (starts .entry)) (now (parts .entry)) (now (table .entry))
-            → «accepted» ≡ acceptedTemplate D → Stands D q (wholeOf self (now (entries .entry)) (now (moments .entry)) (now (events .entry))) (now (work .entry)) old
+            → Stands D q (wholeOf self (now (entries .entry)) (now (moments .entry)) (now (events .entry))) (now (work .entry)) old
             → Noted D (now (arities .entry)) (counts .keys) (rowsIn (counts .components) (now (parts .entry))) (now (index .entry)) (q .state)
-            → LeadsTo D (playRecord D q (runKindOf kind) (now (p .entry)) behind) (turnOf r (now (entries .exit)) (now (moments .exit)) (now (events .exit))) (now (work .exit)) old
+            → LeadsTo (playRecord D q (runKindOf kind) (now (p .entry)) behind) (turnOf r (now (entries .exit)) (now (moments .exit)) (now (events .exit))) (now (work .exit)) old
             × NotedAfter D (now (arities .entry)) (counts .keys) (rowsIn (counts .components) (now (parts .entry))) (now (index .exit)) (playRecord D q (runKindOf kind) (now (p .entry)) behind)) ⌝ }
     {
         match kind {
             16 => self.take_objects(p, behind),
             17 => self.take_fact(counts, arities, parts, work, index, p, behind),
             18 => {
-                let begun = self.begin(
-                    counts.components,
-                    counts.keys,
-                    parts,
-                    accepted,
-                    work,
-                    index,
-                );
+                let begun = self.begin(counts.components, counts.keys, parts, work, index);
                 begun.take_event(counts, variables, sorts, moments, events, p, behind)
             }
             19 => {
-                let begun = self.begin(
-                    counts.components,
-                    counts.keys,
-                    parts,
-                    accepted,
-                    work,
-                    index,
-                );
+                let begun = self.begin(counts.components, counts.keys, parts, work, index);
                 begun.take_step(
                     counts,
                     arities,
@@ -462,14 +414,7 @@ impl Player {
                 )
             }
             20 => {
-                let begun = self.begin(
-                    counts.components,
-                    counts.keys,
-                    parts,
-                    accepted,
-                    work,
-                    index,
-                );
+                let begun = self.begin(counts.components, counts.keys, parts, work, index);
                 begun.take_end(p, behind)
             }
             _ => Turn {
@@ -489,7 +434,6 @@ impl Player {
         starts: &[usize],
         parts: &[u8],
         table: &[u8],
-        accepted: bool,
         run: &[u8],
         work: &mut [u8],
         index: &mut [u64],
@@ -499,13 +443,13 @@ impl Player {
         spare: &mut [u8],
         effects: &mut [u8],
     ) -> Turn
-        requires { ⌜ Playable counts (now arities) (now variables) (now sorts) (now starts) (now parts) (now table) «accepted» (wholeOf self (now entries) (now moments) (now events)) (now work) (now index)
+        requires { ⌜ Playable counts (now arities) (now variables) (now sorts) (now starts) (now parts) (now table) (wholeOf self (now entries) (now moments) (now events)) (now work) (now index)
             × (length (now entries) ≡ 544) × (length (now moments) ≡ 16) × (length (now events) ≡ 272) × (length (now spare) ≡ 8192) × (length (now effects) ≡ 8192) ⌝ }
         ensures { λ r. ⌜ ((D : Domain) (q : Playing) (old : List ℕ)
             → Lent D counts (now (arities .entry)) (now (variables .entry)) (now (sorts .entry)) (now (starts .entry)) (now (parts .entry)) (now (table .entry))
-            → «accepted» ≡ acceptedTemplate D → Stands D q (wholeOf self (now (entries .entry)) (now (moments .entry)) (now (events .entry))) (now (work .entry)) old
+            → Stands D q (wholeOf self (now (entries .entry)) (now (moments .entry)) (now (events .entry))) (now (work .entry)) old
             → Noted D (now (arities .entry)) (counts .keys) (rowsIn (counts .components) (now (parts .entry))) (now (index .entry)) (q .state)
-            → LeadsTo D (playStep D (now (run .entry)) q) (turnOf r (now (entries .exit)) (now (moments .exit)) (now (events .exit))) (now (work .exit)) old
+            → LeadsTo (playStep D (now (run .entry)) q) (turnOf r (now (entries .exit)) (now (moments .exit)) (now (events .exit))) (now (work .exit)) old
             × NotedAfter D (now (arities .entry)) (counts .keys) (rowsIn (counts .components) (now (parts .entry))) (now (index .exit)) (playStep D (now (run .entry)) q)) ⌝ }
     {
         let at = self.at;
@@ -532,7 +476,6 @@ impl Player {
                     starts,
                     parts,
                     table,
-                    accepted,
                     work,
                     index,
                     entries,

@@ -10,7 +10,7 @@ ghost use Prim.Native.Nat.{ℕ};
 ghost use lib.ListN.{length, replicate};
 ghost use Rattle.records.specs.Memory.{over};
 ghost use Rattle.literals.specs.Domain.{Domain};
-ghost use Rattle.runs.specs.Play.{accepted as acceptedTemplate, heldBytes, playRun};
+ghost use Rattle.runs.specs.Play.{heldBytes, playRun};
 ghost use Rattle.events.specs.Coded.{Lent};
 ghost use Rattle.player.specs.Player.{Runnable, endedOf};
 
@@ -43,7 +43,6 @@ fn play_records(
     starts: &[usize],
     parts: &[u8],
     table: &[u8],
-    accepted: bool,
     run: &[u8],
     work: &mut [u8],
     index: &mut [u64],
@@ -53,11 +52,11 @@ fn play_records(
     spare: &mut [u8],
     effects: &mut [u8],
 ) -> Ended
-    requires { ⌜ Runnable counts (now arities) (now variables) (now sorts) (now starts) (now parts) (now table) «accepted» (now work) × (now work ≡ over (heldBytes []) (now work)) × (now index ≡ replicate 12289 0)
+    requires { ⌜ Runnable counts (now arities) (now variables) (now sorts) (now starts) (now parts) (now table) (now work) × (now work ≡ over (heldBytes []) (now work)) × (now index ≡ replicate 12289 0)
         × (now entries ≡ replicate 544 0) × (now moments ≡ replicate 16 0) × (now events ≡ replicate 272 0) × (length (now spare) ≡ 8192) × (length (now effects) ≡ 8192) ⌝ }
     ensures { λ r. ⌜ ((D : Domain) (old : List ℕ)
         → Lent D counts (now (arities .entry)) (now (variables .entry)) (now (sorts .entry)) (now (starts .entry)) (now (parts .entry)) (now (table .entry))
-        → «accepted» ≡ acceptedTemplate D → now (work .entry) ≡ over (heldBytes []) old
+        → now (work .entry) ≡ over (heldBytes []) old
         → (r ≡ endedOf (playRun D (now (run .entry)))) × (now (work .exit) ≡ over (heldBytes (playRun D (now (run .entry)) .facts)) old)) ⌝ }
 {
     let mut turn = Turn {
@@ -74,7 +73,6 @@ fn play_records(
             starts,
             parts,
             table,
-            accepted,
             run,
             work,
             index,
@@ -94,7 +92,7 @@ fn play_records(
     }
 }
 
-// Plays a run file on a domain that was read. `accepted`: its template is accepted.
+// Plays a run file on a domain that was read.
 pub fn play_run(
     counts: Counts,
     arities: &[u8],
@@ -103,14 +101,12 @@ pub fn play_run(
     starts: &[usize],
     parts: &[u8],
     table: &[u8],
-    accepted: bool,
     run: &[u8],
     work: &mut [u8],
 ) -> Ended
-    requires { ⌜ Runnable counts (now arities) (now variables) (now sorts) (now starts) (now parts) (now table) «accepted» (now work) ⌝ }
+    requires { ⌜ Runnable counts (now arities) (now variables) (now sorts) (now starts) (now parts) (now table) (now work) ⌝ }
     ensures { λ r. ⌜ ((D : Domain)
         → Lent D counts (now (arities .entry)) (now (variables .entry)) (now (sorts .entry)) (now (starts .entry)) (now (parts .entry)) (now (table .entry))
-        → «accepted» ≡ acceptedTemplate D
         → (r ≡ endedOf (playRun D (now (run .entry)))) × (now (work .exit) ≡ over (heldBytes (playRun D (now (run .entry)) .facts)) (now (work .entry)))) ⌝ }
 {
     let zeros = [0u8; 8192];
@@ -130,7 +126,6 @@ pub fn play_run(
         starts,
         parts,
         table,
-        accepted,
         run,
         work,
         &mut index,

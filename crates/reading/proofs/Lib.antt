@@ -3,3 +3,4 @@ pub mod Indexed
 pub mod Takes
 pub mod Written
 pub mod Turns
+pub mod Files

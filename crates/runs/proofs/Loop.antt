@@ -1,7 +1,7 @@
 -- Playing goes record by record, each at least 4 bytes further on, so the fuel is never used up. Assumes nothing.
 use mathlib.Core.Path.{_≡_, refl, sym, _∙_}
-use mathlib.Core.Bool.{Bool, true, false, _&&_, cond}
-use mathlib.Core.List.{List, []}
+use mathlib.Core.Bool.{Bool, true, false, cond}
+use mathlib.Core.List.{List}
 use Prim.Native.Nat.{ℕ, zero, suc, _+_, _≤_, _<_}
 use native.Mathlib.Nat.{add-suc}
 use native.Mathlib.Omega.{arith}
@@ -15,7 +15,7 @@ use Rattle.literals.specs.Domain.{Domain}
 use Rattle.literals.specs.Decode.{byte}
 use Rattle.verdict.specs.Machine.{State, next, topWeight}
 use Rattle.runs.specs.RunFile.{RunKind, objectsRecord, factRecord, eventRecord, stepRecord, endRecord, otherRecord, runKindOf, factOf, eventOf}
-use Rattle.runs.specs.Play.{Playing, beforeRun, onward, Outcome, PlayTurn, goOn, finish, outcomeAt, stopAt, begin, objectsStop, withObjects, factStop, withFact, eventStop, withEvent, forbidden, tooLarge, tallied, accepted, afterStep, closeStep, stepStop, endStop, withClose, playRecord, playFound, playStep, playFrom}
+use Rattle.runs.specs.Play.{Playing, beforeRun, Outcome, PlayTurn, goOn, finish, stopAt, begin, objectsStop, withObjects, factStop, withFact, eventStop, withEvent, forbidden, tooLarge, afterStep, closeStep, stepStop, endStop, withClose, playRecord, playFound, playStep, playFrom}
 
 -- ---- one turn of the loop
 
@@ -40,9 +40,8 @@ at-cond n false t u h k = k
 at-close : (D : Domain) (p : Playing) (behind : ℕ) → At behind (closeStep D p behind)
 unfolding closeStep
 at-close D p behind =
-    at-cond behind (eqb (forbidden D (p .state) (p .waiting)) 0) (cond (tooLarge after) (stopAt 52 p) (afterStep D p after top behind)) (stopAt (forbidden D (p .state) (p .waiting)) p)
-    (at-cond behind (tooLarge after) (stopAt 52 p) (afterStep D p after top behind) tt
-    (at-cond behind (p .tally .startSafe && ltb 1 top && accepted D) (finish (outcomeAt 59 (p .at) after (tallied (p .tally) top))) (goOn (onward p behind after [] (tallied (p .tally) top))) tt refl))
+    at-cond behind (eqb (forbidden D (p .state) (p .waiting)) 0) (cond (tooLarge after) (stopAt 52 p) (afterStep p after top behind)) (stopAt (forbidden D (p .state) (p .waiting)) p)
+    (at-cond behind (tooLarge after) (stopAt 52 p) (afterStep p after top behind) tt refl)
     tt
   where
     after : State

@@ -1,31 +1,28 @@
--- 59 never comes, so that every run is played exactly as the machine plays it: demand 3 for the player. Assumes nothing.
+-- Demand 3 for the player: for an accepted template, no state reached weighs more than 1 where the start doesn't. Assumes nothing.
 use mathlib.Core.Path.{_≡_, refl, _∙_}
 use mathlib.Core.Bool.{Bool, true, false, _&&_, cond}
-use mathlib.Core.Logic.{inl, inr}
 use mathlib.Core.List.{List, _++_, Memᴰ·append-left}
-use Prim.Native.Nat.{ℕ, zero, suc, _≤_}
+use Prim.Native.Nat.{ℕ, _≤_}
 use native.Mathlib.Omega.{arith}
 use lib.Dec.{ltb}
 use lib.ListN.{length}
-use borrow.Author.Tests.{eq-eqb, leb-true}
+use borrow.Author.Tests.{eq-eqb}
 use Rattle.records.specs.Lists.{In, all, elem}
 use Rattle.records.proofs.Lists.{and-l, and-r, and-i, or-r, all-of, all-weaken, any-append, in-elem}
 use Rattle.literals.specs.declared.Object.{Object}
 use Rattle.literals.specs.Domain.{sameObject, Fact, Domain}
 use Rattle.literals.specs.Decode.{Refusal, Decoded, refused, domain, decode}
-use Rattle.literals.proofs.Refusals.{refusal-number}
 use Rattle.verdict.specs.Binding.{objectsFrom}
-use Rattle.verdict.specs.Decision.{decision}
 use Rattle.verdict.specs.Judged.{decided, decidedFile}
 use Rattle.verdict.specs.Machine.{Event, State, legal, legalStep, injective, startState, instancesIn, run, topWeight}
 use Rattle.verdict.specs.Claims.{among, isEvent, hasArity, isFact, wellFormed, Chosen, Accepted}
 use Rattle.verdict.proofs.Equality.{object-self}
 use Rattle.verdict.proofs.Decodes.{decoded-well-formed}
-use Rattle.verdict.proofs.Safety.{decided-number, safety}
-use Rattle.runs.specs.RunFile.{entriesBefore, entriesUpTo, startFactsIn, stepsIn, begunIn}
-use Rattle.runs.specs.Play.{workBytes, accepted, playRun, Played, ofRun, Call, playedAt, outcomeCall, callBy, call, played}
-use Rattle.runs.specs.Claims.{statesOf, peakOf, AsMachine, PlayedAsMachine, NoAlarm, WeightStaysLow}
-use Rattle.runs.proofs.Traced.{Alarm, Ended, ended}
+use Rattle.verdict.proofs.Safety.{safety}
+use Rattle.runs.specs.RunFile.{entriesUpTo, startFactsIn, stepsIn, begunIn}
+use Rattle.runs.specs.Play.{workBytes, playRun, Played, ofRun, Call, playedAt, outcomeCall, callBy, call, played}
+use Rattle.runs.specs.Claims.{statesOf, peakOf, AsMachine, PlayedAsMachine, playedEntries, NeverAboveOne, WeightStaysLow}
+use Rattle.runs.proofs.Traced.{ended}
 use Rattle.verdict.proofs.TopWeight.{largest-below, below-top, top-below, instance-size}
 
 -- ---- demand 3, of the highest weight
@@ -57,32 +54,9 @@ module _ (D : Domain) (wf : wellFormed D ≡ true) (acc : Accepted (decided D)) 
       top-below D (s .facts) 1
       (λ y k. safety D wf acc (y ++ objs) fs y ess (chosen objs fs y ess (s .facts) k hf hs he) (let b = below-top D (startState fs .facts) y in omega arith) s m)
 
--- ---- 59
-
-accepted-decided : (D : Domain) → accepted D ≡ true → Accepted (decided D)
-accepted-decided D a = go (decided D .number) refl (let l = leb-true (decision D .number) 1 a in let e = decided-number D in omega arith)
-  where
-    go : (n : ℕ) → decided D .number ≡ n → n ≤ 1 → Accepted (decided D)
-    go zero e l = inl e
-    go (suc zero) e l = inr e
-    go (suc (suc n)) e l = absurd (omega arith)
-
-quiet : (D : Domain) → wellFormed D ≡ true → Alarm D → ⊥
-quiet D wf a =
-    let k = stays-low D wf (accepted-decided D (a .template)) (objectsFrom 0 (a .objects)) (a .facts) (a .steps) (a .facts-legal) (a .steps-legal) (a .events-legal) (a .start) (a .state) (a .met) in
-    let l = a .heavy in
-    omega arith
-
-module _ (d : List ℕ) (D : Domain) (e : decode d ≡ domain D) (r : List ℕ) where
-  played-so : AsMachine D r (playRun D r) × (playRun D r .number ≡ 59 → ⊥)
-  played-so = go (ended D r)
-    where
-      go : Ended D r (playRun D r) → AsMachine D r (playRun D r) × (playRun D r .number ≡ 59 → ⊥)
-      go (inl a) = absurd (quiet D (decoded-well-formed d D e) a)
-      go (inr k) = k
-
+-- every run is played exactly as the machine plays it
 pub played-as-machine : PlayedAsMachine
-played-as-machine d D e r = played-so d D e r .0
+played-as-machine d D e r = ended D r
 
 -- ---- of the answer
 
@@ -101,26 +75,23 @@ answers P d r w x y z = by (decode d) refl
     by (refused f) e = x f e
     by (domain D) e = of D e (ltb (length w) workBytes)
 
-pub no-alarm : NoAlarm
-unfolding outcomeCall
-no-alarm d r w =
-    answers (λ a. a .number ≡ 59 → ⊥) d r w (λ f e q. let k = refusal-number d f e in omega arith) (λ q. omega arith) (λ D e. played-so d D e r .1)
-
-pub weight-stays-low : WeightStaysLow
-unfolding outcomeCall decidedFile
-weight-stays-low d D e acc r w h =
-    answers (λ a. a .weight ≤ 1) d r w (λ f _. omega arith) (omega arith)
-    (λ C c. let z : C ≡ D = cc in rw z (low (begunIn (entriesUpTo r (playRun D r .place))) (told .weight)))
+pub never-above-one : NeverAboveOne
+unfolding decidedFile
+never-above-one d D e acc r h =
+    stays-low D (decoded-well-formed d D e) (rw e at acc) (objectsFrom 0 (told .objects)) (startFactsIn (playedEntries D r)) (stepsIn (playedEntries D r)) (told .facts-legal) (told .steps-legal) (told .events-legal) h
   where
     told : AsMachine D r (playRun D r)
     told = played-as-machine d D e r
 
-    peak-low : peakOf D (entriesBefore r (playRun D r .place)) ≤ 1
-    peak-low =
-        largest-below (λ (s : State). topWeight D (s .facts)) 1 (statesOf D (entriesBefore r (playRun D r .place)))
-        (stays-low D (decoded-well-formed d D e) (rw e at acc) (objectsFrom 0 (told .objects)) (startFactsIn (entriesBefore r (playRun D r .place))) (stepsIn (entriesBefore r (playRun D r .place)))
-        (told .facts-legal) (told .steps-legal) (told .events-legal) h)
+pub weight-stays-low : WeightStaysLow
+unfolding outcomeCall
+weight-stays-low d r w D e acc h =
+    answers (λ a. a .weight ≤ 1) d r w (λ f _. omega arith) (omega arith)
+    (λ C c. let z : C ≡ D = cc in rw z (low (begunIn (entriesUpTo r (playRun D r .place))) (played-as-machine d D e r .weight)))
+  where
+    peak-low : peakOf D (playedEntries D r) ≤ 1
+    peak-low = largest-below (λ (s : State). topWeight D (s .facts)) 1 (statesOf D (playedEntries D r)) (never-above-one d D e acc r h)
 
-    low : (b : Bool) → playRun D r .weight ≡ cond b (peakOf D (entriesBefore r (playRun D r .place))) 0 → playRun D r .weight ≤ 1
+    low : (b : Bool) → playRun D r .weight ≡ cond b (peakOf D (playedEntries D r)) 0 → playRun D r .weight ≤ 1
     low true q = let k = peak-low in omega arith
     low false q = omega arith

@@ -1,31 +1,31 @@
--- Every outcome of playing is the machine's, or it raises the alarm 59 and then shows a run that breaks demand 3. Assumes nothing.
+-- Every outcome of playing is the machine's. Assumes nothing.
 use mathlib.Core.Path.{_≡_, refl, sym, ap, _∙_}
-use mathlib.Core.Bool.{Bool, true, false, _&&_, cond, false≢true}
+use mathlib.Core.Bool.{Bool, true, false, cond, false≢true}
 use mathlib.Core.Logic.{_⊎_, inl, inr}
-use mathlib.Core.List.{List, [], _∷_, _++_, List·Memᴰ·head, Memᴰ·append-right}
+use mathlib.Core.List.{List, [], _∷_, _++_}
 use Prim.Native.Nat.{ℕ, zero, suc, _+_, _≤_, _<_}
 use native.Mathlib.Omega.{arith}
-use lib.Dec.{eqb, ltb, leb}
+use lib.Dec.{eqb, ltb}
 use lib.ListN.{length, length-append}
-use borrow.Author.Tests.{eq-eqb, ne-eqb, ltb-true, ltb-false, leb-true}
-use Rattle.records.specs.Lists.{In, all}
+use borrow.Author.Tests.{eq-eqb, ne-eqb, ltb-false}
+use Rattle.records.specs.Lists.{all}
 use Rattle.records.specs.declared.Record.{Record}
 use Rattle.records.specs.declared.Record.the-variants.{Whole, Cut, End}
 use Rattle.records.specs.Record.{recordAt, payload}
 use Rattle.records.proofs.Laws.{cases}
-use Rattle.records.proofs.Lists.{and-l, and-r, clash, all-snoc}
+use Rattle.records.proofs.Lists.{and-l, clash, all-snoc}
 use Rattle.literals.specs.Domain.{Fact, Domain}
 use Rattle.literals.specs.Decode.{byte}
 use Rattle.verdict.specs.Binding.{objectsFrom}
-use Rattle.verdict.specs.Machine.{Event, State, legalStep, allowed, next, startState, run, topWeight}
+use Rattle.verdict.specs.Machine.{Event, State, legalStep, allowed, next, startState, topWeight}
 use Rattle.verdict.specs.Claims.{isEvent, isFact}
 use Rattle.runs.specs.RunFile.{RunKind, objectsRecord, factRecord, eventRecord, stepRecord, endRecord, otherRecord, runKindOf, factOf, eventOf, Entry, entries, entriesUpTo, startFactsIn, stepsIn, waitingIn, begunIn}
-use Rattle.runs.specs.Play.{Tally, Playing, beforeRun, onward, Outcome, PlayTurn, goOn, finish, outcomeAt, stopAt, startTally, begin, objectsStop, withObjects, factStop, joined, withFact, eventStop, withEvent, forbidden, tooLarge, tallied, accepted, afterStep, closeStep, stepStop, endStop, withClose, unless, playRecord, playFound, playStep, playFrom, playRun}
+use Rattle.runs.specs.Play.{Tally, Playing, beforeRun, PlayTurn, goOn, finish, outcomeAt, stopAt, startTally, begin, objectsStop, withObjects, factStop, joined, withFact, eventStop, withEvent, forbidden, tooLarge, tallied, afterStep, closeStep, stepStop, endStop, withClose, unless, playRecord, playFound, playStep, playFrom, playRun}
 use Rattle.runs.specs.Claims.{finalOf, AsMachine}
 use Rattle.runs.proofs.Allowed.{allowed-not-forbidden}
 use Rattle.runs.proofs.Loop.{play-more, play-done, play-at}
 use Rattle.runs.proofs.Entries.{entryAt, Chain, here, snoc, chain-within, before-chain, up-to-whole, up-to-none, all-read, facts-snoc, waiting-snoc, steps-snoc, facts-keep, steps-keep, begun-keep, begun-here, begun-before, nothing-early}
-use Rattle.runs.proofs.Runs.{final, Taken, peak, no-steps, run-snoc, taken-snoc, final-snoc, peak-snoc, start-snoc}
+use Rattle.runs.proofs.Runs.{final, Taken, peak, no-steps, taken-snoc, final-snoc, peak-snoc, start-snoc}
 use Rattle.runs.proofs.Stops.{Row, Tested, objects-tested, fact-tested, event-tested, step-tested, end-tested, forbidden-by, no-events, legal-snoc}
 
 -- ---- what holds of the machine, of start facts, steps taken and events that wait
@@ -46,7 +46,6 @@ pub record Counts (D : Domain) (b : Bool) (fs : List Fact) (ess : List (List Eve
   pub begun : t .begun ≡ b
   pub steps : t .steps ≡ length ess
   pub weight : t .weight ≡ cond b (peak D (startState fs) ess) 0
-  pub safe : b ≡ true → t .startSafe ≡ leb (topWeight D (startState fs .facts)) 1
 
 module _ (D : Domain) {n : ℕ} {s : State} {fs : List Fact} {ess : List (List Event)} {ws : List Event} where
   -- the object count
@@ -98,7 +97,7 @@ module _ (D : Domain) {n : ℕ} {s : State} {fs : List Fact} {ess : List (List E
   count-start {b} {t} z h k = go b z k
     where
       go : (b : Bool) → (b ≡ false → ess ≡ []) → Counts D b fs ess t → Counts D true fs ess (startTally t (topWeight D (s .facts)))
-      go true z k = rw (k .begun) (record { begun = refl; steps = k .steps; weight = k .weight; safe = k .safe })
+      go true z k = rw (k .begun) (record { begun = refl; steps = k .steps; weight = k .weight })
       go false z k =
           let e : ess ≡ [] = z refl in
           let f : s ≡ startState fs = h .state ∙ rw (e, no-steps) in
@@ -107,7 +106,6 @@ module _ (D : Domain) {n : ℕ} {s : State} {fs : List Fact} {ess : List (List E
             begun = refl;
             steps = rw e;
             weight = rw (e, no-steps, f) (omega arith);
-            safe = λ _. rw f;
           })
 
   -- one step more counts
@@ -118,7 +116,6 @@ module _ (D : Domain) {n : ℕ} {s : State} {fs : List Fact} {ess : List (List E
         begun = k .begun;
         steps = ap suc (k .steps) ∙ simp length-append (omega arith);
         weight = rw (k .weight, h .state) (sym (peak-snoc D (startState fs) ess ws (h .taken) b));
-        safe = k .safe;
       }
 
 -- one start fact more, before any step
@@ -138,7 +135,7 @@ with-fact D {n} {s} {fs} {ws} f z i h =
     }
 
 count-fact : (D : Domain) {fs : List Fact} {t : Tally} (f : Fact) → Counts D false fs [] t → Counts D false (fs ++ (f ∷ [])) [] t
-count-fact D f k = record { begun = k .begun; steps = k .steps; weight = k .weight; safe = λ q. absurd (false≢true q) }
+count-fact D f k = record { begun = k .begun; steps = k .steps; weight = k .weight }
 
 -- ---- where playing stands, told by the records before it
 
@@ -153,26 +150,9 @@ pub record Inv (D : Domain) (r : List ℕ) (p : Playing) : Type 0 where
   pub stands : Stands D r es (begunIn es) p
   pub closed : p .closed ≡ true → (waitingIn es ≡ []) × (begunIn es ≡ true)
 
--- a run of an accepted template that starts with weights of at most 1 and reaches a weight above 1
-pub record Alarm (D : Domain) : Type 0 where
-  pub template : accepted D ≡ true
-  pub objects : ℕ
-  pub facts : List Fact
-  pub steps : List (List Event)
-  pub facts-legal : all (isFact D (objectsFrom 0 objects)) facts ≡ true
-  pub steps-legal : all (legalStep D) steps ≡ true
-  pub events-legal : all (all (isEvent D (objectsFrom 0 objects))) steps ≡ true
-  pub start : topWeight D (startState facts .facts) ≤ 1
-  pub state : State
-  pub met : In state (run D (startState facts) steps)
-  pub heavy : 1 < topWeight D (state .facts)
-
-abbrev pub Ended : Domain → List ℕ → Outcome → Type 0
-Ended D r o = Alarm D ⊎ (AsMachine D r o × (o .number ≡ 59 → ⊥))
-
 abbrev pub Good : Domain → List ℕ → PlayTurn → Type 0
 Good D r (goOn q) = Inv D r q
-Good D r (finish o) = Ended D r o
+Good D r (finish o) = AsMachine D r o
 
 good-cond : (D : Domain) (r : List ℕ) (b : Bool) (t u : PlayTurn) → (b ≡ true → Good D r t) → (b ≡ false → Good D r u) → Good D r (cond b t u)
 good-cond D r true t u f g = f refl
@@ -208,8 +188,8 @@ module _ (D : Domain) (r : List ℕ) where
         }
 
     -- with a number up to 54
-    ends-row : (n : ℕ) → Row n → Ended D r (outcomeAt n (p .at) (p .state) (p .tally))
-    ends-row n k = inr (ends n (λ q. absurd (omega arith)) (λ q. let z = forbids-range n q in absurd (omega arith)), λ q. omega arith)
+    ends-row : (n : ℕ) → Row n → AsMachine D r (outcomeAt n (p .at) (p .state) (p .tally))
+    ends-row n k = ends n (λ q. absurd (omega arith)) (λ q. let z = forbids-range n q in absurd (omega arith))
 
     good-unless : {P : Type 0} (n : ℕ) (t : PlayTurn) → Tested n P → (P → Good D r t) → Good D r (unless n p t)
     good-unless n t (inl z) f = rw (z .0) (f (z .1))
@@ -240,8 +220,8 @@ module _ (D : Domain) (r : List ℕ) where
   good-close : {es : List Entry} (p : Playing) (b : List ℕ) (behind : ℕ) → (p .objects ≡ 0 → ⊥) → Stands D r es true p → Found r (p .at) (entry p stepRecord b) behind es → Good D r (closeStep D p behind)
   unfolding closeStep
   good-close {es} p b behind z h f =
-      good-cond D r (eqb (forbidden D (p .state) (p .waiting)) 0) (cond (tooLarge after) (stopAt 52 p) (afterStep D p after top behind)) (stopAt (forbidden D (p .state) (p .waiting)) p)
-      (λ q. good-cond D r (tooLarge after) (stopAt 52 p) (afterStep D p after top behind) (λ _. ends-row D r p h u 52 (record { low = omega arith; high = omega arith })) (λ _. went (allowed-not-forbidden D (p .state) (p .waiting) ∙ q)))
+      good-cond D r (eqb (forbidden D (p .state) (p .waiting)) 0) (cond (tooLarge after) (stopAt 52 p) (afterStep p after top behind)) (stopAt (forbidden D (p .state) (p .waiting)) p)
+      (λ q. good-cond D r (tooLarge after) (stopAt 52 p) (afterStep p after top behind) (λ _. ends-row D r p h u 52 (record { low = omega arith; high = omega arith })) (λ _. went (allowed-not-forbidden D (p .state) (p .waiting) ∙ q)))
       (λ q. refused q (forbidden-by D (p .state) (p .waiting)))
     where
       e : Entry
@@ -257,34 +237,16 @@ module _ (D : Domain) (r : List ℕ) where
       u = rw (f .up-to) (begun-here es e refl)
 
       refused : eqb (forbidden D (p .state) (p .waiting)) 0 ≡ false → (forbidden D (p .state) (p .waiting) ≡ 0) ⊎ ((55 ≤ forbidden D (p .state) (p .waiting)) × (forbidden D (p .state) (p .waiting) ≤ 57))
-          → Ended D r (outcomeAt (forbidden D (p .state) (p .waiting)) (p .at) (p .state) (p .tally))
+          → AsMachine D r (outcomeAt (forbidden D (p .state) (p .waiting)) (p .at) (p .state) (p .tally))
       refused q (inl k) = absurd (clash (eq-eqb (forbidden D (p .state) (p .waiting)) 0 k) q)
       refused q (inr k) =
           let a : allowed D (p .state) (p .waiting) ≡ false = allowed-not-forbidden D (p .state) (p .waiting) ∙ q in
-          inr (ends D r p h u (forbidden D (p .state) (p .waiting)) (λ m. absurd (omega arith)) (λ _. rw (← (h .reached .state), ← (h .waiting)) a), λ m. omega arith)
+          ends D r p h u (forbidden D (p .state) (p .waiting)) (λ m. absurd (omega arith)) (λ _. rw (← (h .reached .state), ← (h .waiting)) a)
 
-      went : allowed D (p .state) (p .waiting) ≡ true → Good D r (afterStep D p after top behind)
+      went : allowed D (p .state) (p .waiting) ≡ true → Good D r (afterStep p after top behind)
       went a =
           let w : allowed D (p .state) (waitingIn es) ≡ true = rw (h .waiting) at a in
           let k = with-step D z w (h .reached) in
-          good-cond D r (p .tally .startSafe && ltb 1 top && accepted D) (finish (outcomeAt 59 (p .at) after (tallied (p .tally) top))) (goOn (onward p behind after [] (tallied (p .tally) top)))
-          (λ c.
-          let c1 = and-l (p .tally .startSafe && ltb 1 top) (accepted D) c in
-          inl
-          (record {
-            template = and-r (p .tally .startSafe && ltb 1 top) (accepted D) c;
-            objects = p .objects;
-            facts = startFactsIn es;
-            steps = stepsIn es ++ (waitingIn es ∷ []);
-            facts-legal = k .facts-legal;
-            steps-legal = k .steps-legal;
-            events-legal = k .events-legal;
-            start = leb-true (topWeight D (startState (startFactsIn es) .facts)) 1 (sym (h .counts .safe refl) ∙ and-l (p .tally .startSafe) (ltb 1 top) c1);
-            state = after;
-            met = rw (run-snoc D (startState (startFactsIn es)) (stepsIn es) (waitingIn es) (h .reached .taken) (rw (h .reached .state) at w)) (Memᴰ·append-right (run D (startState (startFactsIn es)) (stepsIn es)) (List·Memᴰ·head (rw (h .reached .state, h .waiting))));
-            heavy = ltb-true 1 top (and-r (p .tally .startSafe) (ltb 1 top) c1);
-          }))
-          (λ _.
           record {
             es = es ++ (e ∷ []);
             stands =
@@ -295,7 +257,7 @@ module _ (D : Domain) (r : List ℕ) where
                   waiting = sym (waiting-snoc es e);
                 };
             closed = λ q. absurd (false≢true q);
-          })
+          }
 
   good-record : (p : Playing) (k : RunKind) (b : List ℕ) (behind : ℕ) (h : Inv D r p) → Found r (p .at) (entry p k b) behind (h .es) → Good D r (playRecord D p k b behind)
   unfolding playRecord begin
@@ -407,15 +369,15 @@ module _ (D : Domain) (r : List ℕ) where
       (λ _. ends-row D r p g u 50 (record { low = omega arith; high = omega arith }))
       (λ l.
       let e = end-at (p .at) (ltb-false (p .at) (length r) l) in
-      inr (ends D r p g u 2 (λ _. (sym (all-read r (g .chain) (inr e)), h .closed c .0)) (λ q. let z = forbids-range 2 q in absurd (omega arith)), λ q. omega arith)))
+      ends D r p g u 2 (λ _. (sym (all-read r (g .chain) (inr e)), h .closed c .0)) (λ q. let z = forbids-range 2 q in absurd (omega arith))))
       (λ _. good-found p (recordAt r (p .at)) refl h)
 
-  good-from : (fuel : ℕ) (p : Playing) → length r < p .at + fuel → Inv D r p → Ended D r (playFrom fuel D r p)
+  good-from : (fuel : ℕ) (p : Playing) → length r < p .at + fuel → Inv D r p → AsMachine D r (playFrom fuel D r p)
   good-from zero p l h = let w = chain-within r (h .stands .chain) (omega arith) in absurd (omega arith)
   good-from (suc fuel) p l h = go (λ q. good-from fuel q) (playStep D r p) refl (good-step p h)
     where
-      go : ((q : Playing) → length r < q .at + fuel → Inv D r q → Ended D r (playFrom fuel D r q))
-          → (t : PlayTurn) → playStep D r p ≡ t → Good D r t → Ended D r (playFrom (suc fuel) D r p)
+      go : ((q : Playing) → length r < q .at + fuel → Inv D r q → AsMachine D r (playFrom fuel D r q))
+          → (t : PlayTurn) → playStep D r p ≡ t → Good D r t → AsMachine D r (playFrom (suc fuel) D r p)
       go ih (goOn q) e k = let z = play-at D r p q e in rw (play-more fuel D r p q e) (ih q (omega arith) k)
       go ih (finish o) e k = rw (play-done fuel D r p o e) k
 
@@ -437,13 +399,13 @@ module _ (D : Domain) (r : List ℕ) where
                     taken = rw no-steps;
                     state = rw no-steps;
                   };
-              counts = record { begun = refl; steps = refl; weight = refl; safe = λ q. absurd (false≢true q) };
+              counts = record { begun = refl; steps = refl; weight = refl };
               waiting = refl;
             };
         closed = λ q. absurd (false≢true q);
       }
 
-  -- a run file is played exactly as the machine plays it, or shows what demand 3 rules out
-  pub ended : Ended D r (playRun D r)
+  -- a run file is played exactly as the machine plays it
+  pub ended : AsMachine D r (playRun D r)
   unfolding playRun
   ended = good-from (suc (length r)) beforeRun (omega arith) at-first

@@ -6,7 +6,7 @@ use mathlib.Core.List.{List, [], map}
 use Prim.Native.Nat.{ℕ, suc, _≤_}
 use lib.Dec.{eqb}
 use lib.ListN.{length}
-use Rattle.records.specs.Lists.{all}
+use Rattle.records.specs.Lists.{In, all}
 use Rattle.records.specs.Memory.{over}
 use Rattle.literals.specs.Domain.{Domain}
 use Rattle.literals.specs.Decode.{domain, decode}
@@ -72,12 +72,20 @@ AllowedIsNotForbidden = (D : Domain) (s : State) (es : List Event) → allowed D
 
 -- ---- what demand 3 says of the player
 
--- 59 never comes, whatever files and memory
-abbrev pub NoAlarm : Type 0
-NoAlarm = (d r w : List ℕ) → played d r w .number ≡ 59 → ⊥
+-- what a run file plays: the records before the place where playing ends
+abbrev pub playedEntries : Domain → List ℕ → List Entry
+playedEntries D r = entriesBefore r (playRun D r .place)
 
--- and in a form without the number: for an accepted template and start weights at most 1, the answer's weight is at most 1
+-- for an accepted template, whatever run file is played on it: where no instance weighs more than 1 at the start, none does in any state reached
+abbrev pub NeverAboveOne : Type 0
+NeverAboveOne =
+    (d : List ℕ) (D : Domain) → decode d ≡ domain D → Accepted (decidedFile d) → (r : List ℕ)
+    → topWeight D (startOf (playedEntries D r) .facts) ≤ 1 → (s : State) → In s (statesOf D (playedEntries D r)) → topWeight D (s .facts) ≤ 1
+
+-- so the weight that a call answers is then at most 1
+abbrev pub StaysLow : List ℕ → List ℕ → ℕ → Type 0
+StaysLow d r weight =
+    (D : Domain) → decode d ≡ domain D → Accepted (decidedFile d) → topWeight D (startOf (playedEntries D r) .facts) ≤ 1 → weight ≤ 1
+
 abbrev pub WeightStaysLow : Type 0
-WeightStaysLow =
-    (d : List ℕ) (D : Domain) → decode d ≡ domain D → Accepted (decidedFile d) → (r w : List ℕ)
-    → topWeight D (startOf (entriesBefore r (playRun D r .place)) .facts) ≤ 1 → played d r w .weight ≤ 1
+WeightStaysLow = (d r w : List ℕ) → StaysLow d r (played d r w .weight)

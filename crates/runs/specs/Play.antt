@@ -11,7 +11,6 @@ use Rattle.records.specs.declared.Record.the-variants.{Whole, Cut, End}
 use Rattle.records.specs.Record.{recordAt, payload}
 use Rattle.literals.specs.Domain.{Fact, sameFact, Domain, arity, action}
 use Rattle.literals.specs.Decode.{Refusal, Decoded, refused, domain, decode, byte}
-use Rattle.verdict.specs.Decision.{decision}
 use Rattle.verdict.specs.Judged.{factBytes}
 use Rattle.verdict.specs.Machine.{Event, State, sameEvent, injective, isOpen, conditionsHold, overAllHold, interfere, independent, next, topWeight}
 use Rattle.runs.specs.RunFile.{RunKind, objectsRecord, factRecord, eventRecord, stepRecord, endRecord, otherRecord, runKindOf, factOf, eventOf}
@@ -40,8 +39,6 @@ workBytes = 8192
 pub record Tally : Type 0 where
   -- a record of kind 18 to 20 is met, so that the start counts
   pub begun : Bool
-  -- the start weights are at most 1
-  pub startSafe : Bool
   pub steps : ℕ
   -- the highest weight of any instance in any state reached
   pub weight : ℕ
@@ -67,7 +64,7 @@ beforeRun =
       objects = 0;
       state = record { facts = []; running = [] };
       waiting = [];
-      tally = record { begun = false; startSafe = false; steps = 0; weight = 0 };
+      tally = record { begun = false; steps = 0; weight = 0 };
     }
 
 -- the same, going on behind the record with this state, these events and this tally
@@ -96,7 +93,7 @@ stopAt n p = finish (outcomeAt n (p .at) (p .state) (p .tally))
 
 -- "start included once the first uncut record of kind 18 to 20 is met; steps and weight are 0 before"
 abbrev pub startTally : Tally → ℕ → Tally
-startTally t top = cond (t .begun) t (record { begun = true; startSafe = leb top 1; steps = 0; weight = top })
+startTally t top = cond (t .begun) t (record { begun = true; steps = 0; weight = top })
 
 unfoldable pub begin : Domain → Playing → Playing
 unfolding topWeight
@@ -178,26 +175,19 @@ tooLarge s = ltb maxFacts (length (s .facts)) || ltb maxRunning (length (s .runn
 
 -- one step more, and the highest weight after it
 abbrev pub tallied : Tally → ℕ → Tally
-tallied t top = record { begun = t .begun; startSafe = t .startSafe; steps = suc (t .steps); weight = max (t .weight) top }
+tallied t top = record { begun = t .begun; steps = suc (t .steps); weight = max (t .weight) top }
 
--- "template accepted": the decision is 0 or 1
-abbrev pub accepted : Domain → Bool
-accepted D = leb (decision D .number) 1
-
--- "59 template accepted, start weights at most 1, a weight now above 1"; "59 counts and keeps the step"
-abbrev pub afterStep : Domain → Playing → State → ℕ → ℕ → PlayTurn
-afterStep D p s top behind =
-    cond (p .tally .startSafe && ltb 1 top && accepted D)
-    (finish (outcomeAt 59 (p .at) s (tallied (p .tally) top)))
-    (goOn (onward p behind s [] (tallied (p .tally) top)))
+-- the step is made
+abbrev pub afterStep : Playing → State → ℕ → ℕ → PlayTurn
+afterStep p s top behind = goOn (onward p behind s [] (tallied (p .tally) top))
 
 -- "Each step hands the machine's state on and yields the state after it": taken where nothing forbids it and what follows isn't too large
 unfoldable pub closeStep : Domain → Playing → ℕ → PlayTurn
-unfolding next topWeight forbidden decision
+unfolding next topWeight forbidden
 closeStep D p behind =
     cond (eqb (forbidden D (p .state) (p .waiting)) 0)
     (let after = next D (p .state) (p .waiting) in
-    cond (tooLarge after) (stopAt 52 p) (afterStep D p after (topWeight D (after .facts)) behind))
+    cond (tooLarge after) (stopAt 52 p) (afterStep p after (topWeight D (after .facts)) behind))
     (stopAt (forbidden D (p .state) (p .waiting)) p)
 
 unfoldable pub stepStop : Playing → List ℕ → ℕ

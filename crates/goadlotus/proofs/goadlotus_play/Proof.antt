@@ -1,7 +1,7 @@
 -- `goadlotus_play` meets its contract: what `player::play::play_files` promises, with the answer's parts each in its place. Assumes nothing.
 use mathlib.Core.Path.{_∙_}
 use borrow.Author.Needs.{needs}
-use Rattle.player.proofs.PlayCalls.{number-is, place-is, steps-is, weight-is, file-is, offset-is, as-machine, never-59}
+use Rattle.player.proofs.PlayCalls.{number-is, place-is, steps-is, weight-is, file-is, offset-is, as-machine, stays-low}
 use Rattle.goadlotus.proofs.goadlotus_play.Statement.{statement}
 use Rattle.goadlotus.proofs.goadlotus_play.Tie as tie
 
@@ -39,7 +39,7 @@ returns c =
               f .ensures .1,
               (
                 c .before .file-of .ensures ∙ file-is d r w (f .result) e,
-                (c .offset-of .ensures ∙ offset-is d r w (f .result) e, (as-machine d r w _ _ _ _ n s h (f .ensures .1), never-59 d r w _ n)),
+                (c .offset-of .ensures ∙ offset-is d r w (f .result) e, (as-machine d r w _ _ _ _ n s h (f .ensures .1), stays-low d r w _ h)),
               ),
             ),
           ),

@@ -5,7 +5,8 @@ use borrow.Author.Needs.{needs}
 use Rattle.literals.proofs.Held.{shaped}
 use Rattle.reading.proofs.Turns.{rows-fit}
 use Rattle.verdict.proofs.Decodes.{decoded-well-formed}
-use Rattle.judging.proofs.FileCalls.{was-read, leaves-refused, leaves-read}
+use Rattle.reading.proofs.Files.{was-read}
+use Rattle.judging.proofs.FileCalls.{leaves-refused, leaves-read}
 use Rattle.judging.proofs.judge_in.Statement.{statement}
 use Rattle.judging.proofs.judge_in.Tie as tie
 

@@ -6,7 +6,7 @@ use borrow.Author.Needs.{needs}
 use Rattle.literals.proofs.Held.{shaped}
 use Rattle.reading.proofs.Turns.{rows-fit}
 use Rattle.naming.proofs.NamedRows.{shaped-with}
-use Rattle.judging.proofs.FileCalls.{was-read}
+use Rattle.reading.proofs.Files.{was-read}
 use Rattle.explaining.proofs.refused.print.Statement.{statement}
 use Rattle.explaining.proofs.refused.print.Tie as tie
 use Rattle.explaining.proofs.refused.print.Reads as reads

@@ -10,10 +10,10 @@ begin-requires : tie.Need-begin-requires
 begin-requires c κs = search needs
 
 returns : tie.Need-returns
-returns c D p entries moments events counts arities variables sorts starts old held components keys said st noted =
+returns c D p entries moments events counts arities variables sorts starts old held components keys st noted =
     let a = c .before .before .before .before .args in
     let player = wholeOf (a .self) entries moments events in
-    begun-player D p player (a .work .now) old st _ (c .begin .ensures D p player counts arities variables sorts starts old held components keys said st refl refl noted)
+    begun-player D p player (a .work .now) old st _ (c .begin .ensures D p player counts arities variables sorts starts old held components keys st refl refl noted)
 
 pub begin-spec : {M : Type 1} → statement M
 begin-spec = tie.close (tie.spec begin-requires returns)

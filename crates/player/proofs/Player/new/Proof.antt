@@ -7,7 +7,7 @@ use Rattle.player.proofs.Player.new.Tie as tie
 
 returns : tie.Need-returns
 unfolding playerOf openOf waitingOf
-returns c D = refl
+returns c = refl
 
 pub new-spec : {M : Type 1} → statement M
 new-spec = tie.close (tie.spec returns)

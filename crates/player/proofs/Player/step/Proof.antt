@@ -12,14 +12,14 @@ use Rattle.player.proofs.Player.step.Statement.{statement}
 use Rattle.player.proofs.Player.step.Tie as tie
 
 returns : tie.Need-returns
-returns c D q old lent said st noted =
+returns c D q old lent st noted =
     let a = c .before .before .before .before .before .before .before .before .before .before .before .before .before .before .before .before .args in
     let player = wholeOf (a .self) (a .entries .now) (a .moments .now) (a .events .now) in
     let l = turn-behind D (a .run .now) q player (a .work .now) old st (c .before .if1 .taken) (c .if2 .taken) in
     (l, noted-ended D (a .arities .now) (a .counts .keys) (rowsIn (a .counts .components) (a .parts .now)) (a .index .now) (playStep D (a .run .now) q) (record { number = 50; player = player }) (a .work .now) old l (λ z. omega arith))
 
 returns-2 : tie.Need-returns-2
-returns-2 c D q old lent said st noted =
+returns-2 c D q old lent st noted =
     let a = c .before .before .before .before .before .before .before .before .before .before .before .before .before .before .before .before .args in
     let player = wholeOf (a .self) (a .entries .now) (a .moments .now) (a .events .now) in
     let l = turn-end D (a .run .now) q player (a .work .now) old st (c .before .if1 .taken) (c .if2 .left) in
@@ -32,7 +32,7 @@ enum-known-kind : tie.Need-enum-known-kind
 enum-known-kind c = search needs
 
 add-end : tie.Need-add-end
-add-end c = let f = c .before .before .before .before .before .before .before .before .before .before .before .before .before .before .before .before .before .before .before .good .1 .1 .1 .1 .1 .1 .1 .1 .1 .0 in let w = whole-within _ _ (sym (c .before .before .before .record-at .ensures) ∙ c .before .kind .given .1) in omega arith
+add-end c = let f = c .before .before .before .before .before .before .before .before .before .before .before .before .before .before .before .before .before .before .before .good .1 .1 .1 .1 .1 .1 .1 .1 .0 in let w = whole-within _ _ (sym (c .before .before .before .record-at .ensures) ∙ c .before .kind .given .1) in omega arith
 
 sub-take-record : tie.Need-sub-take-record
 sub-take-record c = search needs
@@ -77,24 +77,24 @@ same-length-7 : tie.Need-same-length-7
 same-length-7 c = search needs
 
 returns-3 : tie.Need-returns-3
-returns-3 c D q old lent said st noted =
+returns-3 c D q old lent st noted =
     let a = c .before .before .before .before .before .before .before .before .before .before .before .before .before .before .before .before .before .before .before .before .before .before .before .before .before .before .before .before .before .before .before .before .before .before .before .before .before .before .before .before .before .before .args in
     let player = wholeOf (a .self) (a .entries .now) (a .moments .now) (a .events .now) in
-    let l = c .before .before .before .before .before .before .before .before .before .before .before .before .before .before .take-record .ensures D q old lent said st noted in
+    let l = c .before .before .before .before .before .before .before .before .before .before .before .before .before .before .take-record .ensures D q old lent st noted in
     let found = sym (c .before .before .before .before .before .before .before .before .before .before .before .before .before .before .before .before .before .before .before .before .before .before .before .before .before .before .record-at .ensures) ∙ c .before .before .before .before .before .before .before .before .before .before .before .before .before .before .before .before .before .before .before .before .before .before .before .before .kind .given .1 in (
       turn-whole D (a .run .now) q player (a .work .now) old st (c .before .before .before .before .before .before .before .before .before .before .before .before .before .before .before .before .before .before .before .before .before .before .before .before .before .before .before .if1 .left) _ _ _ found _ _ _ refl (l .0),
       turn-noted D (a .run .now) q player (a .work .now) old st (c .before .before .before .before .before .before .before .before .before .before .before .before .before .before .before .before .before .before .before .before .before .before .before .before .before .before .before .if1 .left) _ _ _ found _ refl (a .arities .now) (a .counts .keys) (rowsIn (a .counts .components) (a .parts .now)) _ (l .1),
     )
 
 returns-4 : tie.Need-returns-4
-returns-4 c D q old lent said st noted =
+returns-4 c D q old lent st noted =
     let a = c .before .before .before .before .before .before .before .before .before .before .before .before .before .before .before .before .before .before .args in
     let player = wholeOf (a .self) (a .entries .now) (a .moments .now) (a .events .now) in
     let l = turn-cut D (a .run .now) q player (a .work .now) old st (c .before .before .before .if1 .left) (sym (c .before .before .record-at .ensures) ∙ c .enum-told .given .1) in
     (l, noted-ended D (a .arities .now) (a .counts .keys) (rowsIn (a .counts .components) (a .parts .now)) (a .index .now) (playStep D (a .run .now) q) (record { number = 50; player = player }) (a .work .now) old l (λ z. omega arith))
 
 returns-5 : tie.Need-returns-5
-returns-5 c D q old lent said st noted =
+returns-5 c D q old lent st noted =
     let a = c .before .before .before .before .before .before .before .before .before .before .before .before .before .before .before .before .before .before .args in
     let player = wholeOf (a .self) (a .entries .now) (a .moments .now) (a .events .now) in
     let l = turn-none D (a .run .now) q player (a .work .now) old st (c .before .before .before .if1 .left) (sym (c .before .before .record-at .ensures) ∙ c .enum-told2 .given .1) in

@@ -47,7 +47,7 @@ take-end-requires : tie.Need-take-end-requires
 take-end-requires c κs = search needs
 
 returns : tie.Need-returns
-returns c D q old lent said st noted =
+returns c D q old lent st noted =
     let a = c .before .before .before .before .before .before .before .before .before .before .before .before .before .before .before .before .args in
     let l = c .take-objects .ensures D q (a .entries .now) (a .moments .now) (a .events .now) _ old st in
     (of-objects D q (a .kind) (a .p .now) (a .behind) _ _ old (kind-16 (a .kind) (omega arith)) l, noted-of D _ _ _ _ q (a .p .now) (a .behind) (a .kind) objectsRecord (kind-16 (a .kind) (omega arith)) (noted-objects D _ _ _ _ q (a .p .now) (a .behind) noted))
@@ -59,7 +59,7 @@ same-length-2 : tie.Need-same-length-2
 same-length-2 c = search needs
 
 returns-2 : tie.Need-returns-2
-returns-2 c D q old lent said st noted =
+returns-2 c D q old lent st noted =
     let a = c .before .before .before .before .before .before .before .before .before .before .before .before .before .before .before .before .before .before .before .before .before .before .args in
     let l = c .before .before .before .before .take-fact .ensures D q (a .entries .now) (a .moments .now) (a .events .now) (a .variables .now) (a .sorts .now) (a .starts .now) old (lent .held) st noted in
     (of-fact D q (a .kind) (a .p .now) (a .behind) _ _ old (kind-17 (a .kind) (omega arith)) (l .0), noted-of D _ _ _ _ q (a .p .now) (a .behind) (a .kind) factRecord (kind-17 (a .kind) (omega arith)) (noted-fact-record D _ _ _ _ q (a .p .now) (a .behind) (l .1)))
@@ -77,11 +77,11 @@ same-length-6 : tie.Need-same-length-6
 same-length-6 c = search needs
 
 returns-3 : tie.Need-returns-3
-returns-3 c D q old lent said st noted =
+returns-3 c D q old lent st noted =
     let a = c .before .before .before .before .before .before .before .before .before .before .before .before .before .before .before .before .before .before .before .before .before .before .before .before .before .args in
     let k = c .before .before .before .before .before .before .before .before .before .before .match .keys3 in
     let b = c .before .before .before .before .before .before .before .begin in
-    let s = stands-begun (c .before .before .before .before .before .before .before .before .before .before .before .before .before .before .before .before .before .before .before .before .before .before .before .before .before .pre .0) (wholeOf (b .result) (a .entries .now) (a .moments .now) (a .events .now)) (λ D p m ars vs ss ts old. b .ensures D p (a .entries .now) (a .moments .now) (a .events .now) m ars vs ss ts old) D lent said q old st noted in
+    let s = stands-begun (c .before .before .before .before .before .before .before .before .before .before .before .before .before .before .before .before .before .before .before .before .before .before .before .before .before .pre .0) (wholeOf (b .result) (a .entries .now) (a .moments .now) (a .events .now)) (λ D p m ars vs ss ts old. b .ensures D p (a .entries .now) (a .moments .now) (a .events .now) m ars vs ss ts old) D lent q old st noted in
     let l = c .before .before .before .before .take-event .ensures D (begin D q) (a .entries .now) (a .arities .now) (a .starts .now) (a .parts .now) _ old (lent .held) s in
     (of-event D q (a .kind) (a .p .now) (a .behind) _ _ old (kind-18 (a .kind) (omega (arith, k))) l, noted-of D _ _ _ _ q (a .p .now) (a .behind) (a .kind) eventRecord (kind-18 (a .kind) (omega (arith, k))) (noted-event D _ _ _ _ q (a .p .now) (a .behind) noted))
 
@@ -107,11 +107,11 @@ same-length-13 : tie.Need-same-length-13
 same-length-13 c = search needs
 
 returns-4 : tie.Need-returns-4
-returns-4 c D q old lent said st noted =
+returns-4 c D q old lent st noted =
     let a = c .before .before .before .before .before .before .before .before .before .before .before .before .before .before .before .before .before .before .before .before .before .before .before .before .before .before .before .before .before .before .before .before .before .before .before .before .before .before .before .before .args in
     let k = c .before .before .before .before .before .before .before .before .before .before .before .before .before .before .before .before .before .before .before .before .before .before .before .before .before .match .keys4 in
     let b = c .before .before .before .before .before .before .before .before .before .before .before .before .before .before .before .before .before .before .before .before .before .before .begin2 in
-    let s = stands-begun (c .before .before .before .before .before .before .before .before .before .before .before .before .before .before .before .before .before .before .before .before .before .before .before .before .before .before .before .before .before .before .before .before .before .before .before .before .before .before .before .before .pre .0) (wholeOf (b .result) (a .entries .now) (a .moments .now) (a .events .now)) (λ D p m ars vs ss ts old. b .ensures D p (a .entries .now) (a .moments .now) (a .events .now) m ars vs ss ts old) D lent said q old st noted in
+    let s = stands-begun (c .before .before .before .before .before .before .before .before .before .before .before .before .before .before .before .before .before .before .before .before .before .before .before .before .before .before .before .before .before .before .before .before .before .before .before .before .before .before .before .before .pre .0) (wholeOf (b .result) (a .entries .now) (a .moments .now) (a .events .now)) (λ D p m ars vs ss ts old. b .ensures D p (a .entries .now) (a .moments .now) (a .events .now) m ars vs ss ts old) D lent q old st noted in
     let l = c .before .before .before .before .before .before .before .before .before .before .before .before .before .before .take-step .ensures D (begin D q) (a .variables .now) old lent s (begun-tally D q) (noted-begun D _ _ _ _ q noted) in
     (of-step D q (a .kind) (a .p .now) (a .behind) _ _ old (kind-19 (a .kind) (omega (arith, k))) (l .0), noted-of D _ _ _ _ q (a .p .now) (a .behind) (a .kind) stepRecord (kind-19 (a .kind) (omega (arith, k))) (noted-step-record D _ _ _ _ q (a .p .now) (a .behind) (l .1)))
 
@@ -122,15 +122,15 @@ same-length-15 : tie.Need-same-length-15
 same-length-15 c = search needs
 
 returns-5 : tie.Need-returns-5
-returns-5 c D q old lent said st noted =
+returns-5 c D q old lent st noted =
     let a = c .before .before .before .before .before .before .before .before .before .before .before .before .before .before .before .before .before .before .before .args in
     let b = c .before .begin3 in
-    let s = stands-begun (c .before .before .before .before .before .before .before .before .before .before .before .before .before .before .before .before .before .before .before .pre .0) (wholeOf (b .result) (a .entries .now) (a .moments .now) (a .events .now)) (λ D p m ars vs ss ts old. b .ensures D p (a .entries .now) (a .moments .now) (a .events .now) m ars vs ss ts old) D lent said q old st noted in
+    let s = stands-begun (c .before .before .before .before .before .before .before .before .before .before .before .before .before .before .before .before .before .before .before .pre .0) (wholeOf (b .result) (a .entries .now) (a .moments .now) (a .events .now)) (λ D p m ars vs ss ts old. b .ensures D p (a .entries .now) (a .moments .now) (a .events .now) m ars vs ss ts old) D lent q old st noted in
     let l = c .take-end .ensures D (begin D q) (a .entries .now) (a .moments .now) (a .events .now) _ old s in
     (of-end D q (a .kind) (a .p .now) (a .behind) _ _ old (kind-20 (a .kind) (omega arith)) l, noted-of D _ _ _ _ q (a .p .now) (a .behind) (a .kind) endRecord (kind-20 (a .kind) (omega arith)) (noted-end D _ _ _ _ q (a .p .now) (a .behind) noted))
 
 returns-6 : tie.Need-returns-6
-returns-6 c D q old lent said st noted =
+returns-6 c D q old lent st noted =
     let a = c .before .before .before .before .before .before .before .before .before .before .before .before .before .before .before .args in
     let other = kind-other (a .kind) (omega arith) (omega arith) (omega arith) (omega arith) (omega arith) in
     (of-other D q (a .kind) (a .p .now) (a .behind) _ _ old other (stops-at D q (wholeOf (a .self) (a .entries .now) (a .moments .now) (a .events .now)) (a .work .now) old st 50 50 refl (λ z. omega arith)), noted-of D _ _ _ _ q (a .p .now) (a .behind) (a .kind) otherRecord other (noted-other D _ _ _ _ q (a .p .now) (a .behind)))

@@ -3,11 +3,10 @@ use borrow.Author.Needs.{needs}
 use mathlib.Core.Path.{refl, _∙_}
 use mathlib.Core.Bool.{false}
 use native.Mathlib.Omega.{arith}
-use Rattle.records.proofs.Lists.{clash}
 use Rattle.literals.specs.Table.{rowsIn}
 use Rattle.runs.specs.Play.{unless, stepStop, closeStep}
 use Rattle.player.specs.Player.{wholeOf}
-use Rattle.player.proofs.PlayTurns.{put-back, stops, passes, close-stops, close-alarms, close-on, objects-are, state-is, weight-under}
+use Rattle.player.proofs.PlayTurns.{put-back, stops, passes, close-stops, close-on, objects-are, state-is, weight-under}
 use Rattle.player.proofs.NotedTurns.{noted-ended, noted-unless, noted-closed}
 use Rattle.player.proofs.Player.take_step.Statement.{statement}
 use Rattle.player.proofs.Player.take_step.Tie as tie
@@ -93,84 +92,14 @@ same-length-14 c = search needs
 
 returns-3 : tie.Need-returns-3
 returns-3 c D q variables old lent st b noted =
-    let a = c .before .before .before .before .before .before .before .before .before .before .before .before .before .before .before .before .before .before .before .before .before .before .before .before .before .before .before .before .before .before .before .before .before .before .before .before .before .before .before .before .before .before .before .before .before .before .before .before .args in
+    let a = c .before .before .before .before .before .before .before .before .before .before .before .before .before .before .before .before .before .before .before .before .before .before .before .before .before .before .before .before .before .before .before .before .before .before .before .before .before .before .before .before .before .before .before .before .before .before .args in
     let player = wholeOf (a .self) (a .entries .now) (a .moments .now) (a .events .now) in
-    let is = c .before .before .before .before .before .before .before .before .before .before .before .before .before .before .before .before .before .before .before .before .before .before .before .before .before .before .before .before .held .ensures ∙ state-is D q st in
-    let put = c .before .before .before .before .before .before .before .before .before .put in
-    let l = c .before .before .before .before .before .before .before .before .before .before .before .before .before .before .before .before .before .before .before .before .before .before .before .step in
+    let is = c .before .before .before .before .before .before .before .before .before .before .before .before .before .before .before .before .before .before .before .before .before .before .before .before .before .before .held .ensures ∙ state-is D q st in
+    let put = c .before .before .before .before .before .before .before .put in
+    let l = c .before .before .before .before .before .before .before .before .before .before .before .before .before .before .before .before .before .before .before .before .before .step in
     let leaves = l .ensures .0 D variables (q .state) (q .waiting) old lent (st .sound .kept) is (st .memory) (weight-under D q st b) noted in (
-      passes D q (stepStop q (a .p .now)) (c .before .before .before .before .before .before .before .before .before .before .before .before .before .before .before .before .before .before .before .before .before .before .before .before .before .before .before .before .before .before .before .before .before .step-stop .result) (closeStep D q (a .behind)) _ _ old (c .before .before .before .before .before .before .before .before .before .before .before .before .before .before .before .before .before .before .before .before .before .before .before .before .before .before .before .before .before .before .before .before .before .step-stop .ensures q (objects-are D q st)) (c .before .before .before .before .before .before .before .before .before .before .before .before .before .before .before .before .before .before .before .before .before .before .before .before .before .before .before .before .before .before .before .before .if1 .left)
-          (close-alarms D q (a .behind) player (a .work .now) old st (l .result .number) (l .result .state) (l .result .weight) _ leaves (c .before .before .before .before .before .before .before .before .before .before .before .before .before .if2 .left) (c .before .if3 .taken) (c .if4 .taken) _ (refl, refl, refl)),
-      noted-unless D _ _ _ _ (stepStop q (a .p .now)) q (closeStep D q (a .behind))
-          (noted-closed D (a .arities .now) (a .counts .keys) (rowsIn (a .counts .components) (a .parts .now)) _ q (a .behind) (l .result .number) (leaves .number-is) (l .ensures .1 D variables (q .state) (q .waiting) old lent (st .sound .kept) is (st .memory) noted)),
-    )
-
-same-length-15 : tie.Need-same-length-15
-same-length-15 c = search needs
-
-same-length-16 : tie.Need-same-length-16
-same-length-16 c = search needs
-
-same-length-17 : tie.Need-same-length-17
-same-length-17 c = search needs
-
-same-length-18 : tie.Need-same-length-18
-same-length-18 c = search needs
-
-same-length-19 : tie.Need-same-length-19
-same-length-19 c = search needs
-
-same-length-20 : tie.Need-same-length-20
-same-length-20 c = search needs
-
-same-length-21 : tie.Need-same-length-21
-same-length-21 c = search needs
-
-returns-4 : tie.Need-returns-4
-returns-4 c D q variables old lent st b noted =
-    let a = c .before .before .before .before .before .before .before .before .before .before .before .before .before .before .before .before .before .before .before .before .before .before .before .before .before .before .before .before .before .before .before .before .before .before .before .before .before .before .before .before .before .before .before .before .before .before .before .before .args in
-    let player = wholeOf (a .self) (a .entries .now) (a .moments .now) (a .events .now) in
-    let is = c .before .before .before .before .before .before .before .before .before .before .before .before .before .before .before .before .before .before .before .before .before .before .before .before .before .before .before .before .held .ensures ∙ state-is D q st in
-    let put = c .before .before .before .before .before .before .before .before .before .put in
-    let l = c .before .before .before .before .before .before .before .before .before .before .before .before .before .before .before .before .before .before .before .before .before .before .before .step in
-    let leaves = l .ensures .0 D variables (q .state) (q .waiting) old lent (st .sound .kept) is (st .memory) (weight-under D q st b) noted in (
-      passes D q (stepStop q (a .p .now)) (c .before .before .before .before .before .before .before .before .before .before .before .before .before .before .before .before .before .before .before .before .before .before .before .before .before .before .before .before .before .before .before .before .before .step-stop .result) (closeStep D q (a .behind)) _ _ old (c .before .before .before .before .before .before .before .before .before .before .before .before .before .before .before .before .before .before .before .before .before .before .before .before .before .before .before .before .before .before .before .before .before .step-stop .ensures q (objects-are D q st)) (c .before .before .before .before .before .before .before .before .before .before .before .before .before .before .before .before .before .before .before .before .before .before .before .before .before .before .before .before .before .before .before .before .if1 .left)
-          (close-on D q (a .behind) player (a .work .now) old st (l .result .number) (l .result .state) (l .result .weight) _ leaves (c .before .before .before .before .before .before .before .before .before .before .before .before .before .if2 .left) (λ w. c .if4 .left) _ (put-back (a .behind) false (a .self .objects) _ (l .result .state) (put .last .1 .0) (put .last .1 .1 .0) (put .last .1 .1 .1 .0) (put .ensures .0) (put .ensures .1) (put .ensures .2))),
-      noted-unless D _ _ _ _ (stepStop q (a .p .now)) q (closeStep D q (a .behind))
-          (noted-closed D (a .arities .now) (a .counts .keys) (rowsIn (a .counts .components) (a .parts .now)) _ q (a .behind) (l .result .number) (leaves .number-is) (l .ensures .1 D variables (q .state) (q .waiting) old lent (st .sound .kept) is (st .memory) noted)),
-    )
-
-same-length-22 : tie.Need-same-length-22
-same-length-22 c = search needs
-
-same-length-23 : tie.Need-same-length-23
-same-length-23 c = search needs
-
-same-length-24 : tie.Need-same-length-24
-same-length-24 c = search needs
-
-same-length-25 : tie.Need-same-length-25
-same-length-25 c = search needs
-
-same-length-26 : tie.Need-same-length-26
-same-length-26 c = search needs
-
-same-length-27 : tie.Need-same-length-27
-same-length-27 c = search needs
-
-same-length-28 : tie.Need-same-length-28
-same-length-28 c = search needs
-
-returns-5 : tie.Need-returns-5
-returns-5 c D q variables old lent st b noted =
-    let a = c .before .before .before .before .before .before .before .before .before .before .before .before .before .before .before .before .before .before .before .before .before .before .before .before .before .before .before .before .before .before .before .before .before .before .before .before .before .before .before .before .before .before .before .before .before .before .before .args in
-    let player = wholeOf (a .self) (a .entries .now) (a .moments .now) (a .events .now) in
-    let is = c .before .before .before .before .before .before .before .before .before .before .before .before .before .before .before .before .before .before .before .before .before .before .before .before .before .before .before .held .ensures ∙ state-is D q st in
-    let put = c .before .before .before .before .before .before .before .before .put in
-    let l = c .before .before .before .before .before .before .before .before .before .before .before .before .before .before .before .before .before .before .before .before .before .before .step in
-    let leaves = l .ensures .0 D variables (q .state) (q .waiting) old lent (st .sound .kept) is (st .memory) (weight-under D q st b) noted in (
-      passes D q (stepStop q (a .p .now)) (c .before .before .before .before .before .before .before .before .before .before .before .before .before .before .before .before .before .before .before .before .before .before .before .before .before .before .before .before .before .before .before .before .step-stop .result) (closeStep D q (a .behind)) _ _ old (c .before .before .before .before .before .before .before .before .before .before .before .before .before .before .before .before .before .before .before .before .before .before .before .before .before .before .before .before .before .before .before .before .step-stop .ensures q (objects-are D q st)) (c .before .before .before .before .before .before .before .before .before .before .before .before .before .before .before .before .before .before .before .before .before .before .before .before .before .before .before .before .before .before .before .if1 .left)
-          (close-on D q (a .behind) player (a .work .now) old st (l .result .number) (l .result .state) (l .result .weight) _ leaves (c .before .before .before .before .before .before .before .before .before .before .before .before .if2 .left) (λ w. absurd (clash w (c .if3 .left))) _ (put-back (a .behind) false (a .self .objects) _ (l .result .state) (put .last .1 .0) (put .last .1 .1 .0) (put .last .1 .1 .1 .0) (put .ensures .0) (put .ensures .1) (put .ensures .2))),
+      passes D q (stepStop q (a .p .now)) (c .before .before .before .before .before .before .before .before .before .before .before .before .before .before .before .before .before .before .before .before .before .before .before .before .before .before .before .before .before .before .before .step-stop .result) (closeStep D q (a .behind)) _ _ old (c .before .before .before .before .before .before .before .before .before .before .before .before .before .before .before .before .before .before .before .before .before .before .before .before .before .before .before .before .before .before .before .step-stop .ensures q (objects-are D q st)) (c .before .before .before .before .before .before .before .before .before .before .before .before .before .before .before .before .before .before .before .before .before .before .before .before .before .before .before .before .before .before .if1 .left)
+          (close-on D q (a .behind) player (a .work .now) old st (l .result .number) (l .result .state) (l .result .weight) _ leaves (c .before .before .before .before .before .before .before .before .before .before .before .if2 .left) _ (put-back (a .behind) false (a .self .objects) _ (l .result .state) (put .last .1 .0) (put .last .1 .1 .0) (put .last .1 .1 .1 .0) (put .ensures .0) (put .ensures .1) (put .ensures .2))),
       noted-unless D _ _ _ _ (stepStop q (a .p .now)) q (closeStep D q (a .behind))
           (noted-closed D (a .arities .now) (a .counts .keys) (rowsIn (a .counts .components) (a .parts .now)) _ q (a .behind) (l .result .number) (leaves .number-is) (l .ensures .1 D variables (q .state) (q .waiting) old lent (st .sound .kept) is (st .memory) noted)),
     )
@@ -200,20 +129,4 @@ take-step-spec =
     same-length-12
     same-length-13
     same-length-14
-    returns-3
-    same-length-15
-    same-length-16
-    same-length-17
-    same-length-18
-    same-length-19
-    same-length-20
-    same-length-21
-    returns-4
-    same-length-22
-    same-length-23
-    same-length-24
-    same-length-25
-    same-length-26
-    same-length-27
-    same-length-28
-    returns-5)
+    returns-3)

@@ -1,10 +1,8 @@
 -- `Tally::begin` meets its contract. Assumes nothing.
 use borrow.Author.Needs.{needs}
 use mathlib.Core.Path.{_≡_, refl, sym, ap, _∙_}
-use mathlib.Core.Bool.{Bool, _&&_}
 use Prim.Native.Nat.{ℕ, max}
 use native.Mathlib.Omega.{arith}
-use lib.Dec.{leb}
 use Rattle.literals.specs.Table.{rowsIn, indexWith}
 use Rattle.verdict.specs.Machine.{topWeight}
 use Rattle.machine.proofs.TopWeights.{top-all}
@@ -14,23 +12,19 @@ use Rattle.player.proofs.Tally.begin.Statement.{statement}
 use Rattle.player.proofs.Tally.begin.Tie as tie
 
 returns : tie.Need-returns
-returns c D p player counts arities variables sorts starts old held components keys said st is facts noted = is ∙ begun-already D p player _ old st (sym (ap (λ (t : Tally). t .begun) is) ∙ c .if1 .taken)
+returns c D p player counts arities variables sorts starts old held components keys st is facts noted = is ∙ begun-already D p player _ old st (sym (ap (λ (t : Tally). t .begun) is) ∙ c .if1 .taken)
 
 top-from-requires : tie.Need-top-from-requires
 top-from-requires c κs = search needs
 
-is-watched-requires : tie.Need-is-watched-requires
-is-watched-requires c κs = search needs
-
 returns-2 : tie.Need-returns-2
-returns-2 c D p player counts arities variables sorts starts old held components keys said st is facts noted =
-    let a = c .before .before .before .before .before .before .args in
+returns-2 c D p player counts arities variables sorts starts old held components keys st is facts noted =
+    let a = c .before .before .before .before .before .args in
     let rows = ap (λ (n : ℕ). rowsIn n (a .work .now)) facts ∙ facts-rows D p player (a .work .now) old st (held .bounded) in
-    let t = c .before .top-from .ensures .1 D (indexWith counts arities variables sorts starts (a .parts .now)) (p .state .facts) arities held (sym components) (sym keys) refl (rw rows (noted .indexed)) rows (st .sound .kept .facts) in
+    let t = c .top-from .ensures .1 D (indexWith counts arities variables sorts starts (a .parts .now)) (p .state .facts) arities held (sym components) (sym keys) refl (rw rows (noted .indexed)) rows (st .sound .kept .facts) in
     let z : max 0 (topWeight D (p .state .facts)) ≡ topWeight D (p .state .facts) = omega arith in
-    begun-now D p player (a .work .now) old st (sym (ap (λ (t : Tally). t .begun) is) ∙ c .before .before .if1 .left) (c .is-watched .result) (c .before .top-from .result)
+    begun-now D p player (a .work .now) old st (sym (ap (λ (t : Tally). t .begun) is) ∙ c .before .if1 .left) (c .top-from .result)
     (t ∙ ap (max 0) (top-all D (p .state .facts)) ∙ z)
-    (c .is-watched .ensures ∙ ap (λ (b : Bool). leb (c .before .top-from .result) 1 && b) said)
 
 pub begin-spec : {M : Type 1} → statement M
-begin-spec = tie.close (tie.spec returns top-from-requires is-watched-requires returns-2)
+begin-spec = tie.close (tie.spec returns top-from-requires returns-2)

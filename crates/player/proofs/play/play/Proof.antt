@@ -1,6 +1,6 @@
 -- `play` meets its contract. Assumes nothing.
 use borrow.Author.Needs.{needs}
-use Rattle.player.proofs.PlayCalls.{number-is, place-is, steps-is, weight-is, part-is, as-machine, never-59}
+use Rattle.player.proofs.PlayCalls.{number-is, place-is, steps-is, weight-is, part-is, as-machine, stays-low}
 use Rattle.player.proofs.play.play.Statement.{statement}
 use Rattle.player.proofs.play.play.Tie as tie
 
@@ -31,7 +31,7 @@ returns c =
                 as-machine (a .domain .now) (a .run .now) (a .work .now) _ _ _ _ (number-is (a .domain .now) (a .run .now) (a .work .now) (f .result) e) (steps-is (a .domain .now) (a .run .now) (a .work .now) (f .result) e)
                     (weight-is (a .domain .now) (a .run .now) (a .work .now) (f .result) e) (f .ensures .1),
                 (
-                  never-59 (a .domain .now) (a .run .now) (a .work .now) _ (number-is (a .domain .now) (a .run .now) (a .work .now) (f .result) e),
+                  stays-low (a .domain .now) (a .run .now) (a .work .now) _ (weight-is (a .domain .now) (a .run .now) (a .work .now) (f .result) e),
                   part-is (a .domain .now) (a .run .now) (a .work .now) (f .result) e _ (c .part .ensures),
                 ),
               ),

@@ -5,14 +5,10 @@ use Rattle.player.proofs.PlayCalls.{call-run, runnable}
 use Rattle.player.proofs.play.play_domain.Statement.{statement}
 use Rattle.player.proofs.play.play_domain.Tie as tie
 
-accepts-requires : tie.Need-accepts-requires
-accepts-requires c κs = search needs
-
 play-run-requires : tie.Need-play-run-requires
 play-run-requires c κs =
-    let p = c .before .before .before .before .before .before .before .before .before .before .pre in
-    let l = p .0 in
-    runnable l (c .before .accepts .result) (c .before .accepts .ensures (l .said) (l .lent) (l .well)) (c .before .before .before .before .before .before .before .before .before .before .args .work .now) (p .1)
+    let p = c .before .before .before .before .before .before .before .before .before .pre in
+    runnable (p .0) (c .before .before .before .before .before .before .before .before .before .args .work .now) (p .1)
 
 answer-by-requires : tie.Need-answer-by-requires
 answer-by-requires c κs = search needs
@@ -21,12 +17,12 @@ same-length : tie.Need-same-length
 same-length c = search needs
 
 returns : tie.Need-returns
-returns c D lent well =
-    let a = c .before .before .before .before .before .before .before .before .before .before .before .before .before .before .args in
-    let e = c .before .before .before .play-run .ensures D lent (c .before .before .before .before .before .accepts .ensures D lent well) in
-    call-run D (a .run .now) (a .work .now) (c .before .before .before .before .before .before .before .before .before .before .before .before .before .before .pre .1) (c .answer-by .result) (c .answer-by .ensures (playRun D (a .run .now)) (e .0)) _ (e .1)
+returns c D lent =
+    let a = c .before .before .before .before .before .before .before .before .before .before .before .before .before .args in
+    let e = c .before .before .before .play-run .ensures D lent in
+    call-run D (a .run .now) (a .work .now) (c .before .before .before .before .before .before .before .before .before .before .before .before .before .pre .1) (c .answer-by .result) (c .answer-by .ensures (playRun D (a .run .now)) (e .0)) _ (e .1)
 
 pub play-domain-spec : {M : Type 1} → statement M
 play-domain-spec =
     tie.close
-    (tie.spec accepts-requires play-run-requires answer-by-requires same-length returns)
+    (tie.spec play-run-requires answer-by-requires same-length returns)

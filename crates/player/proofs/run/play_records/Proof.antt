@@ -7,7 +7,7 @@ use lib.ListN.{length, replicate, length-replicate}
 use Rattle.records.specs.Memory.{over}
 use Rattle.literals.specs.Domain.{Domain}
 use Rattle.literals.specs.Table.{rowsIn}
-use Rattle.runs.specs.Play.{accepted, heldBytes}
+use Rattle.runs.specs.Play.{heldBytes}
 use Rattle.events.specs.Coded.{Lent}
 use Rattle.player.specs.Player.{wholeOf, turnOf}
 use Rattle.player.proofs.PlayLoop.{Loop, begins, playable, loop-on, loop-falls, loop-ends}
@@ -15,14 +15,14 @@ use Rattle.player.proofs.run.play_records.Statement.{statement}
 use Rattle.player.proofs.run.play_records.Tie as tie
 
 abbrev Inv-loop : tie.InvT-loop
-Inv-loop counts arities variables sorts starts parts table accepts run work₀ index₀ entries₀ moments₀ events₀ spare₀ effects₀ turn₀ work index entries moments events spare effects turn =
+Inv-loop counts arities variables sorts starts parts table run work₀ index₀ entries₀ moments₀ events₀ spare₀ effects₀ turn₀ work index entries moments events spare effects turn =
     (length work ≡ length work₀) × (length index ≡ length index₀) × (length entries ≡ length entries₀) × (length moments ≡ length moments₀) × (length events ≡ length events₀) × (length spare ≡ length spare₀) × (length effects ≡ length effects₀)
-    × ((D : Domain) (old : List ℕ) → Lent D counts arities variables sorts starts parts table → accepts ≡ accepted D → work₀ ≡ over (heldBytes []) old → index₀ ≡ replicate 12289 0
+    × ((D : Domain) (old : List ℕ) → Lent D counts arities variables sorts starts parts table → work₀ ≡ over (heldBytes []) old → index₀ ≡ replicate 12289 0
     → entries₀ ≡ replicate 544 0 → moments₀ ≡ replicate 16 0 → events₀ ≡ replicate 272 0
     → Loop D arities (counts .keys) (rowsIn (counts .components) parts) run old (wholeOf (turn .player) entries moments events) work index)
 
 abbrev μ-loop : tie.MeasureT-loop
-μ-loop counts arities variables sorts starts parts table accepts run work₀ index₀ entries₀ moments₀ events₀ spare₀ effects₀ turn₀ work index entries moments events spare effects turn = length run - turn .player .at
+μ-loop counts arities variables sorts starts parts table run work₀ index₀ entries₀ moments₀ events₀ spare₀ effects₀ turn₀ work index entries moments events spare effects turn = length run - turn .player .at
 
 new-requires : tie.Need-new-requires Inv-loop μ-loop
 new-requires c κs = search needs
@@ -30,14 +30,14 @@ new-requires c κs = search needs
 loop-holds : tie.Need-loop-holds Inv-loop μ-loop
 loop-holds c =
     let a = c .before .before .before .before .before .before .before .before .before .before .before .before .before .before .before .args in
-    (refl, refl, refl, refl, refl, refl, refl, λ D old lent said clear zeros e m v. begins D (a .arities .now) (a .counts .keys) (rowsIn (a .counts .components) (a .parts .now)) (a .run .now) old (a .work .now) (a .index .now) (wholeOf (c .new .result) (a .entries .now) (a .moments .now) (a .events .now)) (rw (e, m, v) (c .new .ensures D)) clear zeros)
+    (refl, refl, refl, refl, refl, refl, refl, λ D old lent clear zeros e m v. begins D (a .arities .now) (a .counts .keys) (rowsIn (a .counts .components) (a .parts .now)) (a .run .now) old (a .work .now) (a .index .now) (wholeOf (c .new .result) (a .entries .now) (a .moments .now) (a .events .now)) (rw (e, m, v) (c .new .ensures)) clear zeros)
 
 step-requires : tie.Need-step-requires Inv-loop μ-loop
 step-requires c κs =
     let p = c .before .before .before .before .before .before .before .before .before .before .before .before .before .before .before .before .before .before .before .before .before .before .before .before .pre in
     let a = c .before .before .before .before .before .before .before .before .before .before .before .before .before .before .before .before .before .before .before .before .before .before .before .before .args in
     let l = c .before .before .before .before .before .before .before .before .loop in
-    (playable (p .0) (a .run .now) (wholeOf (l .turn .player) (l .entries) (l .moments) (l .events)) (l .work) (l .index) (l .inv .7 (p .0 .said) (a .work .now) (p .0 .lent) (p .0 .decided) (p .1) (p .2) (p .3) (p .4) (p .5)) (l .inv .1 ∙ ap length (p .2) ∙ length-replicate {A = ℕ} 12289 0), l .inv .2 ∙ ap length (p .3) ∙ length-replicate {A = ℕ} 544 0, l .inv .3 ∙ ap length (p .4) ∙ length-replicate {A = ℕ} 16 0, l .inv .4 ∙ ap length (p .5) ∙ length-replicate {A = ℕ} 272 0, l .inv .5 ∙ p .6, l .inv .6 ∙ p .7)
+    (playable (p .0) (a .run .now) (wholeOf (l .turn .player) (l .entries) (l .moments) (l .events)) (l .work) (l .index) (l .inv .7 (p .0 .said) (a .work .now) (p .0 .lent) (p .1) (p .2) (p .3) (p .4) (p .5)) (l .inv .1 ∙ ap length (p .2) ∙ length-replicate {A = ℕ} 12289 0), l .inv .2 ∙ ap length (p .3) ∙ length-replicate {A = ℕ} 544 0, l .inv .3 ∙ ap length (p .4) ∙ length-replicate {A = ℕ} 16 0, l .inv .4 ∙ ap length (p .5) ∙ length-replicate {A = ℕ} 272 0, l .inv .5 ∙ p .6, l .inv .6 ∙ p .7)
 
 loop-less : tie.Need-loop-less Inv-loop μ-loop
 loop-less c =
@@ -45,46 +45,46 @@ loop-less c =
     let a = c .before .before .before .before .before .before .before .before .before .before .before .before .before .before .before .before .before .before .before .before .before .before .before .before .before .before .before .before .before .before .before .before .before .before .before .before .before .before .before .before .args in
     let l = c .before .before .before .before .before .before .before .before .before .before .before .before .before .before .before .before .before .before .before .before .before .before .before .before .loop in
     let s = c .before .before .before .before .before .before .before .before .before .before .before .before .before .before .before .step in
-    loop-falls (p .0 .said) ((p .0 .lent) .held .bounded) (a .run .now) (a .work .now) (wholeOf (l .turn .player) (l .entries) (l .moments) (l .events)) (l .work) (l .inv .7 (p .0 .said) (a .work .now) (p .0 .lent) (p .0 .decided) (p .1) (p .2) (p .3) (p .4) (p .5)) (turnOf (s .result) (s .last .1 .1 .1 .1 .1 .1 .1 .1 .1 .1 .1 .1 .0) (s .last .1 .1 .1 .1 .1 .1 .1 .1 .1 .1 .1 .1 .1 .0) (s .last .1 .1 .1 .1 .1 .1 .1 .1 .1 .1 .1 .1 .1 .1 .0)) _ _ (λ q o st noted. s .ensures (p .0 .said) q o (p .0 .lent) (p .0 .decided) st noted .0) (λ q o st noted. s .ensures (p .0 .said) q o (p .0 .lent) (p .0 .decided) st noted .1) (c .if1 .taken)
+    loop-falls (p .0 .said) ((p .0 .lent) .held .bounded) (a .run .now) (a .work .now) (wholeOf (l .turn .player) (l .entries) (l .moments) (l .events)) (l .work) (l .inv .7 (p .0 .said) (a .work .now) (p .0 .lent) (p .1) (p .2) (p .3) (p .4) (p .5)) (turnOf (s .result) (s .last .1 .1 .1 .1 .1 .1 .1 .1 .1 .1 .1 .0) (s .last .1 .1 .1 .1 .1 .1 .1 .1 .1 .1 .1 .1 .0) (s .last .1 .1 .1 .1 .1 .1 .1 .1 .1 .1 .1 .1 .1 .0)) _ _ (λ q o st noted. s .ensures (p .0 .said) q o (p .0 .lent) st noted .0) (λ q o st noted. s .ensures (p .0 .said) q o (p .0 .lent) st noted .1) (c .if1 .taken)
 
 loop-again : tie.Need-loop-again Inv-loop μ-loop
 loop-again c =
     let a = c .before .before .before .before .before .before .before .before .before .before .before .before .before .before .before .before .before .before .before .before .before .before .before .before .before .before .before .before .before .before .before .before .before .before .before .before .before .before .before .before .args in
     let l = c .before .before .before .before .before .before .before .before .before .before .before .before .before .before .before .before .before .before .before .before .before .before .before .before .loop in
     let s = c .before .before .before .before .before .before .before .before .before .before .before .before .before .before .before .step in
-    (s .kept .1 .1 .1 .1 .1 .1 .1 .1 .1 .1 .0 ∙ l .inv .0, s .kept .1 .1 .1 .1 .1 .1 .1 .1 .1 .1 .1 .0 ∙ l .inv .1, s .kept .1 .1 .1 .1 .1 .1 .1 .1 .1 .1 .1 .1 .0 ∙ l .inv .2, s .kept .1 .1 .1 .1 .1 .1 .1 .1 .1 .1 .1 .1 .1 .0 ∙ l .inv .3, s .kept .1 .1 .1 .1 .1 .1 .1 .1 .1 .1 .1 .1 .1 .1 .0 ∙ l .inv .4, s .kept .1 .1 .1 .1 .1 .1 .1 .1 .1 .1 .1 .1 .1 .1 .1 .0 ∙ l .inv .5, s .kept .1 .1 .1 .1 .1 .1 .1 .1 .1 .1 .1 .1 .1 .1 .1 .1 .0 ∙ l .inv .6, λ D old lent said clear zeros e m v. loop-on D (lent .held .bounded) (a .run .now) old (wholeOf (l .turn .player) (l .entries) (l .moments) (l .events)) (l .work) (l .inv .7 D old lent said clear zeros e m v) (turnOf (s .result) (s .last .1 .1 .1 .1 .1 .1 .1 .1 .1 .1 .1 .1 .0) (s .last .1 .1 .1 .1 .1 .1 .1 .1 .1 .1 .1 .1 .1 .0) (s .last .1 .1 .1 .1 .1 .1 .1 .1 .1 .1 .1 .1 .1 .1 .0)) _ _ (λ q o st noted. s .ensures D q o lent said st noted .0) (λ q o st noted. s .ensures D q o lent said st noted .1) (c .if1 .taken))
+    (s .kept .1 .1 .1 .1 .1 .1 .1 .1 .1 .0 ∙ l .inv .0, s .kept .1 .1 .1 .1 .1 .1 .1 .1 .1 .1 .0 ∙ l .inv .1, s .kept .1 .1 .1 .1 .1 .1 .1 .1 .1 .1 .1 .0 ∙ l .inv .2, s .kept .1 .1 .1 .1 .1 .1 .1 .1 .1 .1 .1 .1 .0 ∙ l .inv .3, s .kept .1 .1 .1 .1 .1 .1 .1 .1 .1 .1 .1 .1 .1 .0 ∙ l .inv .4, s .kept .1 .1 .1 .1 .1 .1 .1 .1 .1 .1 .1 .1 .1 .1 .0 ∙ l .inv .5, s .kept .1 .1 .1 .1 .1 .1 .1 .1 .1 .1 .1 .1 .1 .1 .1 .0 ∙ l .inv .6, λ D old lent clear zeros e m v. loop-on D (lent .held .bounded) (a .run .now) old (wholeOf (l .turn .player) (l .entries) (l .moments) (l .events)) (l .work) (l .inv .7 D old lent clear zeros e m v) (turnOf (s .result) (s .last .1 .1 .1 .1 .1 .1 .1 .1 .1 .1 .1 .0) (s .last .1 .1 .1 .1 .1 .1 .1 .1 .1 .1 .1 .1 .0) (s .last .1 .1 .1 .1 .1 .1 .1 .1 .1 .1 .1 .1 .1 .0)) _ _ (λ q o st noted. s .ensures D q o lent st noted .0) (λ q o st noted. s .ensures D q o lent st noted .1) (c .if1 .taken))
 
 ended-by-requires : tie.Need-ended-by-requires Inv-loop μ-loop
 ended-by-requires c κs = search needs
 
 same-length : tie.Need-same-length Inv-loop μ-loop
-same-length c = c .before .before .before .before .before .before .before .before .before .before .before .before .before .before .before .before .before .before .step .kept .1 .1 .1 .1 .1 .1 .1 .1 .1 .1 .0 ∙ c .before .before .before .before .before .before .before .before .before .before .before .before .before .before .before .before .before .before .before .before .before .before .before .before .before .before .before .loop .inv .0
+same-length c = c .before .before .before .before .before .before .before .before .before .before .before .before .before .before .before .before .before .before .step .kept .1 .1 .1 .1 .1 .1 .1 .1 .1 .0 ∙ c .before .before .before .before .before .before .before .before .before .before .before .before .before .before .before .before .before .before .before .before .before .before .before .before .before .before .before .loop .inv .0
 
 same-length-2 : tie.Need-same-length-2 Inv-loop μ-loop
-same-length-2 c = c .before .before .before .before .before .before .before .before .before .before .before .before .before .before .before .before .before .before .step .kept .1 .1 .1 .1 .1 .1 .1 .1 .1 .1 .1 .0 ∙ c .before .before .before .before .before .before .before .before .before .before .before .before .before .before .before .before .before .before .before .before .before .before .before .before .before .before .before .loop .inv .1
+same-length-2 c = c .before .before .before .before .before .before .before .before .before .before .before .before .before .before .before .before .before .before .step .kept .1 .1 .1 .1 .1 .1 .1 .1 .1 .1 .0 ∙ c .before .before .before .before .before .before .before .before .before .before .before .before .before .before .before .before .before .before .before .before .before .before .before .before .before .before .before .loop .inv .1
 
 same-length-3 : tie.Need-same-length-3 Inv-loop μ-loop
-same-length-3 c = c .before .before .before .before .before .before .before .before .before .before .before .before .before .before .before .before .before .before .step .kept .1 .1 .1 .1 .1 .1 .1 .1 .1 .1 .1 .1 .0 ∙ c .before .before .before .before .before .before .before .before .before .before .before .before .before .before .before .before .before .before .before .before .before .before .before .before .before .before .before .loop .inv .2
+same-length-3 c = c .before .before .before .before .before .before .before .before .before .before .before .before .before .before .before .before .before .before .step .kept .1 .1 .1 .1 .1 .1 .1 .1 .1 .1 .1 .0 ∙ c .before .before .before .before .before .before .before .before .before .before .before .before .before .before .before .before .before .before .before .before .before .before .before .before .before .before .before .loop .inv .2
 
 same-length-4 : tie.Need-same-length-4 Inv-loop μ-loop
-same-length-4 c = c .before .before .before .before .before .before .before .before .before .before .before .before .before .before .before .before .before .before .step .kept .1 .1 .1 .1 .1 .1 .1 .1 .1 .1 .1 .1 .1 .0 ∙ c .before .before .before .before .before .before .before .before .before .before .before .before .before .before .before .before .before .before .before .before .before .before .before .before .before .before .before .loop .inv .3
+same-length-4 c = c .before .before .before .before .before .before .before .before .before .before .before .before .before .before .before .before .before .before .step .kept .1 .1 .1 .1 .1 .1 .1 .1 .1 .1 .1 .1 .0 ∙ c .before .before .before .before .before .before .before .before .before .before .before .before .before .before .before .before .before .before .before .before .before .before .before .before .before .before .before .loop .inv .3
 
 same-length-5 : tie.Need-same-length-5 Inv-loop μ-loop
-same-length-5 c = c .before .before .before .before .before .before .before .before .before .before .before .before .before .before .before .before .before .before .step .kept .1 .1 .1 .1 .1 .1 .1 .1 .1 .1 .1 .1 .1 .1 .0 ∙ c .before .before .before .before .before .before .before .before .before .before .before .before .before .before .before .before .before .before .before .before .before .before .before .before .before .before .before .loop .inv .4
+same-length-5 c = c .before .before .before .before .before .before .before .before .before .before .before .before .before .before .before .before .before .before .step .kept .1 .1 .1 .1 .1 .1 .1 .1 .1 .1 .1 .1 .1 .0 ∙ c .before .before .before .before .before .before .before .before .before .before .before .before .before .before .before .before .before .before .before .before .before .before .before .before .before .before .before .loop .inv .4
 
 same-length-6 : tie.Need-same-length-6 Inv-loop μ-loop
-same-length-6 c = c .before .before .before .before .before .before .before .before .before .before .before .before .before .before .before .before .before .before .step .kept .1 .1 .1 .1 .1 .1 .1 .1 .1 .1 .1 .1 .1 .1 .1 .0 ∙ c .before .before .before .before .before .before .before .before .before .before .before .before .before .before .before .before .before .before .before .before .before .before .before .before .before .before .before .loop .inv .5
+same-length-6 c = c .before .before .before .before .before .before .before .before .before .before .before .before .before .before .before .before .before .before .step .kept .1 .1 .1 .1 .1 .1 .1 .1 .1 .1 .1 .1 .1 .1 .0 ∙ c .before .before .before .before .before .before .before .before .before .before .before .before .before .before .before .before .before .before .before .before .before .before .before .before .before .before .before .loop .inv .5
 
 same-length-7 : tie.Need-same-length-7 Inv-loop μ-loop
-same-length-7 c = c .before .before .before .before .before .before .before .before .before .before .before .before .before .before .before .before .before .before .step .kept .1 .1 .1 .1 .1 .1 .1 .1 .1 .1 .1 .1 .1 .1 .1 .1 .0 ∙ c .before .before .before .before .before .before .before .before .before .before .before .before .before .before .before .before .before .before .before .before .before .before .before .before .before .before .before .loop .inv .6
+same-length-7 c = c .before .before .before .before .before .before .before .before .before .before .before .before .before .before .before .before .before .before .step .kept .1 .1 .1 .1 .1 .1 .1 .1 .1 .1 .1 .1 .1 .1 .1 .0 ∙ c .before .before .before .before .before .before .before .before .before .before .before .before .before .before .before .before .before .before .before .before .before .before .before .before .before .before .before .loop .inv .6
 
 returns : tie.Need-returns Inv-loop μ-loop
-returns c D old lent said clear =
+returns c D old lent clear =
     let p = c .before .before .before .before .before .before .before .before .before .before .before .before .before .before .before .before .before .before .before .before .before .before .before .before .before .before .before .before .before .before .before .before .before .before .before .before .before .before .before .before .before .before .before .pre in
     let a = c .before .before .before .before .before .before .before .before .before .before .before .before .before .before .before .before .before .before .before .before .before .before .before .before .before .before .before .before .before .before .before .before .before .before .before .before .before .before .before .before .before .before .before .args in
     let l = c .before .before .before .before .before .before .before .before .before .before .before .before .before .before .before .before .before .before .before .before .before .before .before .before .before .before .before .loop in
     let s = c .before .before .before .before .before .before .before .before .before .before .before .before .before .before .before .before .before .before .step in
-    loop-ends D (lent .held .bounded) (a .run .now) old (wholeOf (l .turn .player) (l .entries) (l .moments) (l .events)) (l .work) (l .inv .7 D old lent said clear (p .2) (p .3) (p .4) (p .5)) (turnOf (s .result) (s .last .1 .1 .1 .1 .1 .1 .1 .1 .1 .1 .1 .1 .0) (s .last .1 .1 .1 .1 .1 .1 .1 .1 .1 .1 .1 .1 .1 .0) (s .last .1 .1 .1 .1 .1 .1 .1 .1 .1 .1 .1 .1 .1 .1 .0)) _ _ (λ q o st noted. s .ensures D q o lent said st noted .0) (λ q o st noted. s .ensures D q o lent said st noted .1) (c .before .before .before .if1 .left) (c .ended-by .result) (c .ended-by .ensures)
+    loop-ends D (lent .held .bounded) (a .run .now) old (wholeOf (l .turn .player) (l .entries) (l .moments) (l .events)) (l .work) (l .inv .7 D old lent clear (p .2) (p .3) (p .4) (p .5)) (turnOf (s .result) (s .last .1 .1 .1 .1 .1 .1 .1 .1 .1 .1 .1 .0) (s .last .1 .1 .1 .1 .1 .1 .1 .1 .1 .1 .1 .1 .0) (s .last .1 .1 .1 .1 .1 .1 .1 .1 .1 .1 .1 .1 .1 .0)) _ _ (λ q o st noted. s .ensures D q o lent st noted .0) (λ q o st noted. s .ensures D q o lent st noted .1) (c .before .before .before .if1 .left) (c .ended-by .result) (c .ended-by .ensures)
 
 pub play-records-spec : {M : Type 1} → statement M
 play-records-spec =
