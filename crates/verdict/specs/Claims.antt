@@ -16,7 +16,7 @@ use Rattle.classes.specs.Classes.{classes, nameOf, journey}
 use Rattle.verdict.specs.Binding.{bindTuple, objectsFrom, sameNumbers}
 use Rattle.verdict.specs.Decision.{faultBy, classAt, witnessAt, witness}
 use Rattle.verdict.specs.Judged.{Answer, answerAt, decided, decidedFile, judged}
-use Rattle.verdict.specs.Machine.{GroundAction, Event, State, legal, legalStep, injective, allowed, next, startState, run, weight}
+use Rattle.verdict.specs.Machine.{GroundAction, Event, State, legal, legalStep, injective, isOpen, conditionsHold, ownHold, overAllHold, allowed, next, startState, run, weight}
 
 -- ---- what reading a file ensures of its domain
 
@@ -63,6 +63,14 @@ pub record Chosen (D : Domain) (objs : List Object) (fs : List Fact) (y : List O
   pub instance : isInstance D objs y ≡ true
   pub steps-legal : all (legalStep D) steps ≡ true
   pub events : all (all (isEvent D objs)) steps ≡ true
+
+-- ---- what an end asks
+
+-- the over-all conditions of an end are among those of everything open: where they hold, and every end is open, an event's own conditions are left to ask
+abbrev pub OwnIsEnough : Type 0
+OwnIsEnough =
+    (D : Domain) (s : State) (es : List Event) → all (isOpen (s .running)) es ≡ true → all (overAllHold D (s .facts)) (s .running) ≡ true
+    → all (conditionsHold D (s .facts)) es ≡ all (ownHold D (s .facts)) es
 
 -- ---- safety of an accepted template
 
