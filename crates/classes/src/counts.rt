@@ -300,7 +300,15 @@ pub fn first_uncovered(head: &Head, rows: &[u8], of: &[u8], clauses: &Marks, cla
 
 // The name of a class at the moment of these clauses: of its true conditions that are asked there (`reach`), which count towards unreachable alone, and of
 // its own true conditions and adds. What they do not decide is looked up.
-pub fn name_at(head: &Head, rows: &[u8], of: &[u8], clauses: &Marks, reach: u8, sole: Sole, class: u8) -> Name
+pub fn name_at(
+    head: &Head,
+    rows: &[u8],
+    of: &[u8],
+    clauses: &Marks,
+    reach: u8,
+    sole: Sole,
+    class: u8,
+) -> Name
     requires { ⌜ Sides (now rows) (now of) × (sole ≡ soleOf (now of) (now clauses) class) ⌝ }
     ensures { λ r. ⌜ ((D : Domain) (a : Action) (m : Moment) → MomentOf D a m (now (head .entry)) (now (rows .entry)) (now (of .entry)) (now (clauses .entry))
         → class < length (classes D a) → reach ≡ reachAt D a m class → r ≡ nameOf D a (getD (classes D a) class []) m) ⌝ }
