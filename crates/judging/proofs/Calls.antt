@@ -2,12 +2,12 @@
 use mathlib.Core.Path.{_≡_, refl, sym, ap, subst, _∙_}
 use mathlib.Core.Bool.{Bool, true, false, _&&_, not, cond, true≢false}
 use mathlib.Core.Option.{Option, none, some}
-use mathlib.Core.List.{List}
+use mathlib.Core.List.{List, []}
 use Prim.Native.Nat.{ℕ, _*_, _≤_, _<_}
 use native.Mathlib.Omega.{arith}
 use lib.Dec.{eqb, leb}
-use lib.ListN.{length}
-use borrow.Author.Tests.{lt-ltb, le-ltb, leb-true, leb-false, le-leb}
+use lib.ListN.{length, getD}
+use borrow.Author.Tests.{lt-ltb, le-ltb, leb-true, leb-false, le-leb, lt-leb}
 use Rattle.records.specs.Lists.{In, any}
 use Rattle.records.specs.Memory.{over}
 use Rattle.records.proofs.Lists.{and-l, and-r}
@@ -24,7 +24,8 @@ use Rattle.verdict.specs.Decision.{Row, rows, isUnbounded, faultBy, faultOf, is
 use Rattle.verdict.specs.Judged.{rowBytes, factBytes, Answer, answerAt, answerRow, decided, writesWitness, fillsReport, judgedDomain, reportBy, witnessMemoryBy}
 use Rattle.verdict.specs.Coded.{judgementOf, momentBy, notesOf}
 use Rattle.naming.specs.Named.{namingOf}
-use Rattle.showing.specs.Bytes.{fitsIn, shownIn}
+use Rattle.showing.specs.Bytes.{fitsIn, shownIn, RefusedAt, ShownAt}
+use Rattle.judging.specs.Reporting.{JudgedAs}
 use Rattle.verdict.proofs.Rows.{stands, filter-first}
 
 -- ---- the decision
@@ -155,15 +156,16 @@ module _ (D : Domain) (report wit : List ℕ) where
 
   -- all that a call leaves
   abbrev pub Leaves : Judgement → List ℕ → List ℕ → Type 0
-  Leaves r u w = (r ≡ judgementOf (judgedDomain D report wit)) × (u ≡ reportBy (domain D) report wit) × (w ≡ witnessMemoryBy (domain D) report wit)
+  Leaves r u w = JudgedAs (domain D) report wit r u w
 
   by-answer : {r : Judgement} {u w : List ℕ} (a : Answer) → judgedDomain D report wit ≡ a → r ≡ judgementOf a
       → u ≡ cond (fillsReport (a .number)) (over (rowBytes (rows D)) report) report → w ≡ cond (writesWitness D (a .number)) (over (factBytes (witness D)) wit) wit → Leaves r u w
-  by-answer a e x y z = (
-    x ∙ ap judgementOf (sym e),
-    y ∙ ap (λ (b : Answer). cond (fillsReport (b .number)) (over (rowBytes (rows D)) report) report) (sym e),
-    z ∙ ap (λ (b : Answer). cond (writesWitness D (b .number)) (over (factBytes (witness D)) wit) wit) (sym e),
-  )
+  by-answer a e x y z =
+      record {
+        answer = x ∙ ap judgementOf (sym e);
+        reported = y ∙ ap (λ (b : Answer). cond (fillsReport (b .number)) (over (rowBytes (rows D)) report) report) (sym e);
+        witnessed = z ∙ ap (λ (b : Answer). cond (writesWitness D (b .number)) (over (factBytes (witness D)) wit) wit) (sym e);
+      }
 
   pub leaves-30 : {r : Judgement} → length report < 4 * length (rows D) → r ≡ judgementOf (answerAt 30 0) → Leaves r report wit
   unfolding writesWitness
@@ -210,27 +212,34 @@ judged-placed D {j} is lo hi =
     let number : j .number ≡ decided D .number = ap (λ (q : Judgement). q .number) is in
     subst (Placed D) (sym same) (placed D (omega arith) (omega arith))
 
--- whether a refusal by 40 to 42 writes its witness, by what is asked of its place
-pub writes-at : (D : Domain) {j : Judgement} → j ≡ judgementOf (decided D) → 40 ≤ j .number → j .number ≤ 42
-    → writesWitness D (j .number) ≡ shownAt D (action D (j .first)) (classAt D (j .first) (j .second)) (momentBy (j .third))
+-- whether a witness is written: not by another number than 40 to 42, and by these as `is_shown` says of their place
+pub writes-below : (D : Domain) (n : ℕ) → n < 40 → writesWitness D n ≡ false
 unfolding writesWitness
-writes-at D {j} is lo hi = rw (le-leb 40 (j .number) lo, le-leb (j .number) 42 hi) (judged-placed D is lo hi .written)
+writes-below D n h = rw (lt-leb 40 n h)
 
--- no other number does
-pub writes-none : (D : Domain) (n : ℕ) → leb 40 n && leb n 42 ≡ false → writesWitness D n ≡ false
+pub writes-above : (D : Domain) (n : ℕ) → 42 < n → writesWitness D n ≡ false
 unfolding writesWitness
-writes-none D n h = rw h
+writes-above D n h = rw (le-leb 40 n (omega arith), lt-leb n 42 h)
+
+pub writes-at : (D : Domain) {j : Judgement} {r : Bool} → j ≡ judgementOf (decided D) → 40 ≤ j .number → j .number ≤ 42
+    → (j .first < length (D .actions) → j .second < length (classes D (action D (j .first)))
+    → r ≡ shownAt D (action D (j .first)) (getD (classes D (action D (j .first))) (j .second) []) (momentBy (j .third)))
+    → r ≡ writesWitness D (j .number)
+unfolding classAt writesWitness
+writes-at D {j} is lo hi s =
+    let p = judged-placed D is lo hi in
+    s (p .action-listed) (p .class-listed) ∙ sym (p .written) ∙ sym (rw (le-leb 40 (j .number) lo, le-leb (j .number) 42 hi) refl)
 
 -- what showing the place of a refusal by 40 to 42 leaves
-pub showing-of : (D : Domain) (wit : List ℕ) {j : Judgement} {r : Bool} {out : List ℕ} → j ≡ judgementOf (decided D) → leb 40 (j .number) && leb (j .number) 42 ≡ true
-    → ((e : Bool) → j .first < length (D .actions) → j .second < length (classes D (action D (j .first))) → (j .number ≡ 0 → ⊥)
-    → j .number ≡ faultBy (nameOf D (action D (j .first)) (classAt D (j .first) (j .second)) (momentBy (j .third))) e
-    → (r ≡ fitsIn (witnessAt D (action D (j .first)) (classAt D (j .first) (j .second)) (momentBy (j .third))) wit)
-    × (out ≡ shownIn (witnessAt D (action D (j .first)) (classAt D (j .first) (j .second)) (momentBy (j .third))) wit))
+pub showing-of : (D : Domain) (wit : List ℕ) {j : Judgement} {r : Bool} {out : List ℕ} → j ≡ judgementOf (decided D) → writesWitness D (j .number) ≡ true
+    → (j .first < length (D .actions) → RefusedAt D (action D (j .first)) (j .second) (momentBy (j .third)) (j .number)
+    → ShownAt D (action D (j .first)) (j .second) (momentBy (j .third)) wit out r)
     → (r ≡ fitsIn (witness D) wit) × (out ≡ shownIn (witness D) wit)
+unfolding classAt writesWitness
 showing-of D wit {j} is w h =
-    let lo = leb-true 40 (j .number) (and-l (leb 40 (j .number)) (leb (j .number) 42) w) in
-    let hi = leb-true (j .number) 42 (and-r (leb 40 (j .number)) (leb (j .number) 42) w) in
+    let in-range = and-l (leb 40 (j .number) && leb (j .number) 42) (isShown D) w in
+    let lo = leb-true 40 (j .number) (and-l (leb 40 (j .number)) (leb (j .number) 42) in-range) in
+    let hi = leb-true (j .number) 42 (and-r (leb 40 (j .number)) (leb (j .number) 42) in-range) in
     let p = judged-placed D is lo hi in
-    let l = h (p .ended) (p .action-listed) (p .class-listed) (λ z. omega arith) (p .fault) in
-    (l .0 ∙ ap (λ (fs : List Fact). fitsIn fs wit) (sym (p .shown)), l .1 ∙ ap (λ (fs : List Fact). shownIn fs wit) (sym (p .shown)))
+    let l = h (p .action-listed) (record { listed = p .class-listed; journeyEnd = p .ended; fault = p .fault; refused = λ z. omega arith }) in
+    (l .fits ∙ ap (λ (fs : List Fact). fitsIn fs wit) (sym (p .shown)), l .bytes ∙ ap (λ (fs : List Fact). shownIn fs wit) (sym (p .shown)))

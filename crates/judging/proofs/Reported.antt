@@ -1,17 +1,17 @@
 -- Laws of the report that is filled row by row. Assumes nothing.
 use mathlib.Core.Path.{_≡_, refl, sym, ap, _∙_, subst}
-use mathlib.Core.Bool.{Bool, true, false, cond}
+use mathlib.Core.Bool.{true, false}
 use mathlib.Core.List.{List, [], _∷_, _++_, map, flatMap, map-append, append-nil, append-assoc}
 use Prim.Native.Nat.{ℕ, _+_, _*_, _≤_, _<_}
 use native.Mathlib.Omega.{arith}
-use lib.Dec.{eqb}
 use lib.ListN.{length, getD, set, take, drop, length-append, length-map, drop-of-length-le, List·getD-map}
 use lib.Seq.{getD-at, take-all}
 use Rattle.records.specs.Memory.{over}
 use Rattle.records.proofs.Memory.{length-over, over-more}
 use Rattle.literals.specs.declared.Variable.{Variable}
-use Rattle.literals.specs.Domain.{Action, Domain, noAction}
-use Rattle.literals.specs.Table.{pad, sortNumber}
+use Rattle.literals.specs.Domain.{Action, Domain, noAction, action}
+use Rattle.literals.specs.Table.{pad}
+use Rattle.literals.specs.Held.{lastingIn, HeadOf}
 use Rattle.literals.proofs.Tables.{pad-at}
 use Rattle.classes.specs.declared.Moment.the-variants.{Start, End}
 use Rattle.classes.specs.Classes.{momentNumber, nameNumber, classes}
@@ -189,14 +189,10 @@ module _ (D : Domain) where
     unfolding rows
     actions-end k h R = R .bytes ∙ ap (λ (l : List Action). over (rowBytes (rowsFrom D 0 l)) old) (take-all k (D .actions) h)
 
--- what the sorts and the counts say of an action
-pub lasting-is : (D : Domain) (sorts : List ℕ) (i : ℕ) → sorts ≡ pad 64 (map sortNumber (D .actions)) → getD (D .actions) i noAction .lasting ≡ eqb (getD sorts i 0) 1
-lasting-is D sorts i e =
-    sym (ap (λ (l : List ℕ). eqb (getD l i 0) 1) e ∙ ap (λ (n : ℕ). eqb n 1) (pad-at 64 (map sortNumber (D .actions)) i ∙ List·getD-map sortNumber (D .actions) i noAction) ∙ go (getD (D .actions) i noAction .lasting))
-  where
-    go : (b : Bool) → eqb (cond b 1 0) 1 ≡ b
-    go true = refl
-    go false = refl
+-- what the head and the counts say of an action
+pub lasting-is : {D : Domain} {head : List ℕ} → HeadOf D head → (i : ℕ) → i < length (D .actions) → getD (D .actions) i noAction .lasting ≡ lastingIn head i
+unfolding action
+lasting-is H i h = sym (H .lasting i h)
 
 pub count-is : (D : Domain) (counts : List ℕ) (i : ℕ) → counts ≡ pad 64 (classCounts D (D .actions)) → length (classes D (getD (D .actions) i noAction)) ≡ getD counts i 0
 unfolding classes flatMap

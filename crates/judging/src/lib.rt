@@ -1,25 +1,25 @@
 // The call that judges: a domain file, a lent report and a lent witness.
 pub mod report;
 
-use literals::Counts;
+use literals::head::Head;
 use naming::name_all;
-use reading::read::read_into;
+use reading::domain::read_domain;
 use report::put_report;
+use showing::is_shown;
 use showing::show;
 use verdict::Judgement;
 ghost use mathlib.Core.Path.{_≡_};
 ghost use mathlib.Core.Bool.{true};
-ghost use mathlib.Core.List.{List};
-ghost use Prim.Native.Nat.{ℕ, _*_, _≤_};
+ghost use Prim.Native.Nat.{_*_, _≤_};
 ghost use lib.ListN.{length};
-ghost use Rattle.records.specs.Memory.{over};
 ghost use Rattle.literals.specs.Domain.{Domain};
-ghost use Rattle.literals.specs.Decode.{domain as domainRead};
+ghost use Rattle.literals.specs.Decode.{decode, domain as domainRead};
+ghost use Rattle.literals.specs.Held.{Held, Read};
 ghost use Rattle.reading.specs.Reading.{EnoughTable};
-ghost use Rattle.literals.specs.Table.{tableBytes, indexWith, Holds, Shaped};
-ghost use Rattle.verdict.specs.Judged.{answerAt, writesWitness, judgedDomain, reportBy, witnessMemoryBy, judged, reportAfter, witnessAfter};
+ghost use Rattle.verdict.specs.Judged.{answerAt, decided, writesWitness, judged, reportAfter, witnessAfter};
 ghost use Rattle.verdict.specs.Claims.{wellFormed, AcceptedSafe, RefusedHarmful, WitnessHarms};
 ghost use Rattle.verdict.specs.Coded.{judgementOf};
+ghost use Rattle.judging.specs.Reporting.{JudgedAs};
 
 fn at_offset(number: u64, place: usize) -> Judgement
     ensures { λ r. ⌜ r ≡ judgementOf (answerAt number place) ⌝ }
@@ -32,62 +32,51 @@ fn at_offset(number: u64, place: usize) -> Judgement
     }
 }
 
-// 40 to 42 come with a witness.
-fn has_witness(number: u64) -> bool
-    ensures { λ r. ⌜ r ≡ writesWitness number ⌝ }
+// Whether the decision of a domain that was read comes with a witness: 40 to 42 do, but not at an end whose class has an over-all literal.
+fn has_witness(head: &Head, table: &[u8], made: Judgement) -> bool
+    ensures { λ r. ⌜ ((D : Domain) → Held D (now (head .entry)) (now (table .entry)) → wellFormed D ≡ true → made ≡ judgementOf (decided D)
+        → r ≡ writesWitness D (made .number)) ⌝ }
 {
+    let number = made.number;
     if number < 40 {
         return false;
     }
-    number <= 42
+    if 42 < number {
+        return false;
+    }
+    is_shown(
+        head,
+        table,
+        made.first as usize,
+        made.second as usize,
+        made.third,
+    )
 }
 
 // A domain that was read, of the memories that hold it; `names` is room for a byte a moment.
 fn judge_with(
-    domain: Counts,
-    arities: &[u8],
-    variables: &[u8],
-    sorts: &[u8],
-    starts: &[usize],
-    parts: &[u8],
+    head: &Head,
     table: &[u8],
     names: &mut [u8],
     report: &mut [u8],
     witness: &mut [u8],
 ) -> Judgement
-    requires { ⌜ Shaped (indexWith domain (now arities) (now variables) (now sorts) (now starts) (now parts)) × (length (now variables) ≡ 64) × (length (now sorts) ≡ 64)
-        × (length (now starts) ≡ 64) × (8 * domain .rows ≤ length (now table)) × (2 * domain .rows ≤ length (now names)) ⌝ }
-    ensures { λ r. ⌜ ((D : Domain) (old : List ℕ)
-        → Holds D (indexWith domain (now (arities .entry)) (now (variables .entry)) (now (sorts .entry)) (now (starts .entry)) (now (parts .entry)))
-        → wellFormed D ≡ true → now (table .entry) ≡ over (tableBytes D) old
-        → (r ≡ judgementOf (judgedDomain D (now (report .entry)) (now (witness .entry))))
-        × (now (report .exit) ≡ reportBy (domainRead D) (now (report .entry)) (now (witness .entry)))
-        × (now (witness .exit) ≡ witnessMemoryBy (domainRead D) (now (report .entry)) (now (witness .entry)))) ⌝ }
+    requires read { ⌜ Read (now head) (now table) ⌝ }
+    requires room { ⌜ length (now table) ≤ 4 * length (now names) ⌝ }
+    ensures { λ r. ⌜ ((D : Domain) → Held D (now (head .entry)) (now (table .entry)) → wellFormed D ≡ true
+        → JudgedAs (domainRead D) (now (report .entry)) (now (witness .entry)) r (now (report .exit)) (now (witness .exit))) ⌝ }
 {
     let mut counts = [0u8; 64];
-    let naming = name_all(
-        domain,
-        arities,
-        sorts,
-        starts,
-        parts,
-        table,
-        names,
-        &mut counts,
-    );
+    let naming = name_all(head, table, names, &mut counts);
     if report.len() < 4 * naming.rows {
         return at_offset(30, 0);
     }
     let notes = naming.notes;
     let decided = notes.decide();
     let number = decided.number;
-    if has_witness(number) {
+    if has_witness(head, table, decided) {
         if show(
-            domain,
-            arities,
-            variables,
-            starts,
-            parts,
+            head,
             table,
             decided.first as usize,
             decided.second as usize,
@@ -95,12 +84,12 @@ fn judge_with(
             number,
             witness,
         ) {
-            put_report(domain.actions, sorts, &counts, names, report);
+            put_report(head, &counts, names, report);
             return decided;
         }
         return at_offset(31, 0);
     }
-    put_report(domain.actions, sorts, &counts, names, report);
+    put_report(head, &counts, names, report);
     decided
 }
 
@@ -112,48 +101,22 @@ fn judge_in(
     report: &mut [u8],
     witness: &mut [u8],
 ) -> Judgement
-    requires { ⌜ EnoughTable (now file) (now table) × (length (now table) ≤ 4 * length (now names)) ⌝ }
-    ensures { λ r. ⌜ (r ≡ judgementOf (judged (now (file .entry)) (now (report .entry)) (now (witness .entry))))
-        × (now (report .exit) ≡ reportAfter (now (file .entry)) (now (report .entry)) (now (witness .entry)))
-        × (now (witness .exit) ≡ witnessAfter (now (file .entry)) (now (report .entry)) (now (witness .entry))) ⌝ }
+    requires enough { ⌜ EnoughTable (now file) (now table) ⌝ }
+    requires room { ⌜ length (now table) ≤ 4 * length (now names) ⌝ }
+    ensures { λ r. ⌜ JudgedAs (decode (now (file .entry))) (now (report .entry)) (now (witness .entry)) r (now (report .exit)) (now (witness .exit)) ⌝ }
 {
-    let mut arities = [0u8; 64];
-    let mut variables = [0u8; 64];
-    let mut sorts = [0u8; 64];
-    let mut starts = [0usize; 64];
-    let mut parts = [0u8; 128];
-    let read = read_into(
-        file,
-        &mut arities,
-        &mut variables,
-        &mut sorts,
-        &mut starts,
-        &mut parts,
-        table,
-    );
+    let mut head = [0u8; 520];
+    let read = read_domain(file, &mut head, table);
     let number = read.number;
     if number != 0 {
         return at_offset(number, read.place);
     }
-    judge_with(
-        read.counts,
-        &arities,
-        &variables,
-        &sorts,
-        &starts,
-        &parts,
-        table,
-        names,
-        report,
-        witness,
-    )
+    judge_with(&head, table, names, report, witness)
 }
 
 // A file, of any length: a small one gets small memories, since to clear large ones takes longer than to judge it.
 fn judge_file(file: &[u8], report: &mut [u8], witness: &mut [u8]) -> Judgement
-    ensures { λ r. ⌜ (r ≡ judgementOf (judged (now (file .entry)) (now (report .entry)) (now (witness .entry))))
-        × (now (report .exit) ≡ reportAfter (now (file .entry)) (now (report .entry)) (now (witness .entry)))
-        × (now (witness .exit) ≡ witnessAfter (now (file .entry)) (now (report .entry)) (now (witness .entry))) ⌝ }
+    ensures { λ r. ⌜ JudgedAs (decode (now (file .entry))) (now (report .entry)) (now (witness .entry)) r (now (report .exit)) (now (witness .exit)) ⌝ }
 {
     if file.len() <= 384 {
         let mut table = [0u8; 512];

@@ -1,4 +1,8 @@
 // The report: 4 bytes a moment, in order of action, class and moment.
+use classes::Marks;
+use literals::head::Head;
+use literals::head::actions_in;
+use literals::head::is_lasting;
 ghost use mathlib.Core.Path.{_≡_};
 ghost use mathlib.Core.List.{List, [], _∷_, _++_, map};
 ghost use Prim.Native.Nat.{ℕ, _+_, _*_, _≤_, _<_};
@@ -6,14 +10,15 @@ ghost use lib.ListN.{length};
 ghost use Rattle.records.specs.Memory.{over};
 ghost use Rattle.literals.specs.declared.Variable.{Variable};
 ghost use Rattle.literals.specs.Domain.{Action, Domain};
-ghost use Rattle.literals.specs.Table.{pad, sortNumber};
+ghost use Rattle.literals.specs.Table.{pad};
+ghost use Rattle.literals.specs.Held.{HeadOf};
 ghost use Rattle.classes.specs.Classes.{momentNumber, momentsOf};
 ghost use Rattle.verdict.specs.Decision.{Row, rowAt, rowsOfClasses, rows};
 ghost use Rattle.verdict.specs.Judged.{rowBytes};
 ghost use Rattle.naming.specs.Named.{nameBytes, classCounts};
 ghost use Rattle.judging.specs.Reporting.{Reporting};
 
-// One row at a place, with the name that is stored for it. (That both memories have room is known of every domain; the tests keep it in sight.)
+// One row at a place, with the name that is stored for it. (Both memories have room for the rows of every domain; the tests say so to the checker.)
 fn put_row(report: &mut [u8], at: usize, action: u8, class: u8, moment: u8, names: &[u8])
     ensures { λ _. ⌜ ((rs rest : List Row) (r : Row) (old given : List ℕ) → Reporting rs (r ∷ rest) at (now (report .entry)) (now (names .entry)) old given
         → action ≡ r .action → class ≡ r .class → moment ≡ momentNumber (r .moment)
@@ -74,15 +79,14 @@ fn put_action(
     next
 }
 
-// All rows, of so many actions, their sorts, how many classes each has, and the names.
-pub fn put_report(actions: usize, sorts: &[u8], counts: &[u8], names: &[u8], report: &mut [u8])
-    requires { ⌜ (actions ≤ 64) × (length (now sorts) ≡ 64) × (length (now counts) ≡ 64) ⌝ }
-    ensures { λ _. ⌜ ((D : Domain) (old : List ℕ) → actions ≡ length (D .actions) → now (sorts .entry) ≡ pad 64 (map sortNumber (D .actions))
-        → now (counts .entry) ≡ pad 64 (classCounts D (D .actions)) → now (names .entry) ≡ over (nameBytes (rows D)) old
-        → 4 * length (rows D) ≤ length (now (report .entry)) → now (report .exit) ≡ over (rowBytes (rows D)) (now (report .entry))) ⌝ }
+// All rows of a domain, of how many classes each action has, and the names.
+pub fn put_report(head: &Head, counts: &Marks, names: &[u8], report: &mut [u8])
+    ensures { λ _. ⌜ ((D : Domain) (old : List ℕ) → HeadOf D (now (head .entry)) → now (counts .entry) ≡ pad 64 (classCounts D (D .actions))
+        → now (names .entry) ≡ over (nameBytes (rows D)) old → 4 * length (rows D) ≤ length (now (report .entry))
+        → now (report .exit) ≡ over (rowBytes (rows D)) (now (report .entry))) ⌝ }
 {
     let mut at = 0;
-    for i in 0..actions {
-        at = put_action(report, at, i as u8, counts[i], sorts[i] == 1, names);
+    for i in 0..actions_in(head) {
+        at = put_action(report, at, i as u8, counts[i], is_lasting(head, i), names);
     }
 }

@@ -4,3 +4,4 @@ pub mod Takes
 pub mod Written
 pub mod Turns
 pub mod Files
+pub mod Domains

@@ -12,10 +12,12 @@ use Rattle.literals.specs.declared.Counts.{Counts}
 use Rattle.reading.specs.declared.Took.{Took}
 use Rattle.reading.specs.declared.Progress.{Progress}
 use Rattle.reading.specs.declared.ReadEnd.{ReadEnd}
+use Rattle.reading.specs.declared.Refusal.{Refusal as FileRefusal}
 use Rattle.reading.specs.declared.read.Stepped.{Stepped}
 use Rattle.literals.specs.Domain.{Domain}
 use Rattle.literals.specs.Decode.{Decoded, refused, domain, Reading, ReadTurn, goOn, finish, readFile}
 use Rattle.literals.specs.Table.{indexOf, indexWith, Taken, Shaped, Sized, tableBytes}
+use Rattle.literals.specs.Held.{Held}
 
 -- ---- what one record leads to
 
@@ -131,3 +133,10 @@ answerWith e arities variables sorts starts parts = record { number = e .number;
 unfoldable pub tableAfter : List ℕ → List ℕ → List ℕ
 unfolding readFile tableBytes over
 tableAfter f table = over (tableBytes (readFile f .read)) table
+
+-- ---- the file's domain in memory
+
+-- "9 to 23" as the definition has it, or the domain
+abbrev pub ReadAs : Decoded → FileRefusal → List ℕ → List ℕ → Type 0
+ReadAs (refused x) r head table = (r .number ≡ x .number) × (r .place ≡ x .place) × (r .start ≡ x .start) × (r .number ≡ 0 → ⊥)
+ReadAs (domain D) r head table = (r .number ≡ 0) × Held D head table

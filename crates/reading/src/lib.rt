@@ -1,4 +1,6 @@
-// Reading a domain file: how far it has come (here), what one record adds to the domain (take), the file (read).
+// Reading a domain file: how far it has come (here), what one record adds to the domain (take), the file (read), the file into the memories that hold a domain
+// (domain).
+pub mod domain;
 pub mod read;
 pub mod take;
 
@@ -23,4 +25,11 @@ pub struct ReadEnd {
     pub place: usize,
     pub start: usize,
     pub counts: Counts,
+}
+
+// 0 for a file that was read, or the number that refuses it with its place, and where the record at fault starts.
+pub struct Refusal {
+    pub number: u64,
+    pub place: usize,
+    pub start: usize,
 }

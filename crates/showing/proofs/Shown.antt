@@ -30,13 +30,13 @@ use Rattle.classes.specs.declared.Moment.{Moment}
 use Rattle.classes.specs.declared.Moment.the-variants.{Start, End}
 use Rattle.classes.specs.declared.Name.{Name}
 use Rattle.classes.specs.declared.Name.the-variants.{Unreachable, Irrelevant, Heavy, Balanced, Unbalanced, Bounded as bounded, Unbounded}
-use Rattle.classes.specs.Classes.{required, classes, inClass, reachIn, changedBy, covered, excluding, nameNumber, nameBy, nameOf}
+use Rattle.classes.specs.Classes.{required, classes, inClass, reachIn, lastsIn, changedBy, covered, excluding, nameNumber, nameBy, nameOf}
 use Rattle.classes.specs.Coded.{ActionOf, position, tupleRow, classTuples, clausesBy, askedAt, uncoveredAt, numbersFrom}
 use Rattle.classes.proofs.Rows.{row-flat, noLiteral}
 use Rattle.classes.proofs.Clauses.{length-clauses, required-at}
 use Rattle.classes.proofs.Members.{classes-few}
 use Rattle.verdict.specs.Binding.{valueOf, bind, bindTuple, objectsFrom, sameNumbers, spare}
-use Rattle.verdict.specs.Decision.{faultBy, objectUnder, instanceFact, firstUncovered, witnessBy, witnessAt}
+use Rattle.verdict.specs.Decision.{faultBy, objectUnder, instanceFact, firstUncovered, witnessBy, witnessAt, shownAt}
 use Rattle.verdict.specs.Judged.{objectNumbers, factBytes}
 use Rattle.verdict.specs.Coded.{momentBy}
 use Rattle.showing.specs.Bytes.{fitsIn, shownIn, conditionFacts, RefusedAt, ShownAt, firstClauses, selectBy, isCondition, conditionOf, conditionsOf, objectByte, instanceBytes, instanceOf}
@@ -460,6 +460,14 @@ class-few {D} H i j h g =
     omega arith
 
 -- ---- a moment by its number
+
+-- whether a witness is written there
+module _ (D : Domain) (a : Action) (x : List Variable) (moment : ℕ) where
+  pub start-is-shown : moment ≡ 0 → true ≡ shownAt D a x (momentBy moment)
+  start-is-shown h = rw (eq-eqb moment 0 h)
+
+  pub end-is-shown : (moment ≡ 0 → ⊥) → {r : Bool} → r ≡ lastsIn D a x → not r ≡ shownAt D a x (momentBy moment)
+  end-is-shown h e = rw (ne-eqb moment 0 h) (ap not e)
 
 -- what is shown of a moment that is refused
 abbrev pub ShowsAt : Domain → ℕ → ℕ → ℕ → List ℕ → List ℕ → Bool → Moment → Type 0

@@ -265,12 +265,15 @@ fn lasting_class(head: &Head, rows: &[u8], of: &mut [u8], tuples: &mut [u8], cla
 }
 
 // Whether a witness is written for the place named: not at an end whose class has an over-all literal.
-// (The decision names a class of the action; the test says so to the checker.)
+// (The decision names an action and a class of the domain; the tests say so to the checker.)
 pub fn is_shown(head: &Head, table: &[u8], i: usize, j: usize, moment: u64) -> bool
     ensures { λ r. ⌜ ((D : Domain) → Held D (now (head .entry)) (now (table .entry)) → wellFormed D ≡ true → i < length (D .actions)
         → j < length (classes D (action D i)) → r ≡ shownAt D (action D i) (getD (classes D (action D i)) j []) (momentBy moment)) ⌝ }
 {
     if moment == 0 {
+        return true;
+    }
+    if actions_in(head) <= i {
         return true;
     }
     if 64 <= j {

@@ -1,32 +1,14 @@
--- `judging::judge_in` meets its contract: fresh arrays are all 0, and what was read fits the table and the names. Assumes nothing.
-use mathlib.Core.Path.{refl}
+-- `judging::judge_in` meets its contract. Assumes nothing.
 use native.Mathlib.Omega.{arith}
-use borrow.Author.Needs.{needs}
-use Rattle.literals.proofs.Held.{shaped}
-use Rattle.reading.proofs.Turns.{rows-fit}
+use Rattle.reading.proofs.Domains.{opened, refusal-is}
 use Rattle.verdict.proofs.Decodes.{decoded-well-formed}
-use Rattle.reading.proofs.Files.{was-read}
 use Rattle.judging.proofs.FileCalls.{leaves-refused, leaves-read}
+use borrow.Author.Needs.{needs}
 use Rattle.judging.proofs.judge_in.Statement.{statement}
 use Rattle.judging.proofs.judge_in.Tie as tie
 
-slice-aggregate-read-into : tie.Need-slice-aggregate-read-into
-slice-aggregate-read-into c = search needs
-
-slice-aggregate-read-into-2 : tie.Need-slice-aggregate-read-into-2
-slice-aggregate-read-into-2 c = search needs
-
-slice-aggregate-read-into-3 : tie.Need-slice-aggregate-read-into-3
-slice-aggregate-read-into-3 c = search needs
-
-slice-aggregate-read-into-4 : tie.Need-slice-aggregate-read-into-4
-slice-aggregate-read-into-4 c = search needs
-
-slice-aggregate-read-into-5 : tie.Need-slice-aggregate-read-into-5
-slice-aggregate-read-into-5 c = search needs
-
-read-into-requires : tie.Need-read-into-requires
-read-into-requires c κs = (record { arities = refl; variables = refl; sorts = refl; starts = refl; parts = refl }, c .before .before .before .before .before .before .before .before .before .before .before .pre .0)
+read-domain-requires : tie.Need-read-domain-requires
+read-domain-requires c κs = search needs
 
 at-offset-requires : tie.Need-at-offset-requires
 at-offset-requires c κs = search needs
@@ -35,34 +17,15 @@ same-length : tie.Need-same-length
 same-length c = search needs
 
 returns : tie.Need-returns
-returns c =
-    let start = c .before .before .before .before .before .before .before .before .before .before .before .before .before .before .before .before .before .before .before .before .before .args in
-    leaves-refused (start .file .now) (start .report .now) (start .witness .now) _ _ (c .before .before .before .before .before .before .before .before .before .read-into .ensures .0) (λ z. omega arith) (c .at-offset .ensures)
-
-slice-aggregate-judge-with : tie.Need-slice-aggregate-judge-with
-slice-aggregate-judge-with c = search needs
-
-slice-aggregate-judge-with-2 : tie.Need-slice-aggregate-judge-with-2
-slice-aggregate-judge-with-2 c = search needs
-
-slice-aggregate-judge-with-3 : tie.Need-slice-aggregate-judge-with-3
-slice-aggregate-judge-with-3 c = search needs
-
-slice-aggregate-judge-with-4 : tie.Need-slice-aggregate-judge-with-4
-slice-aggregate-judge-with-4 c = search needs
-
-slice-aggregate-judge-with-5 : tie.Need-slice-aggregate-judge-with-5
-slice-aggregate-judge-with-5 c = search needs
+returns c = leaves-refused _ (refusal-is (c .before .before .before .before .before .before .before .before .before .before .before .before .args .file .now) _ _ _ (c .before .before .before .before .read-domain .ensures) (λ z. omega arith)) (c .at-offset .ensures)
 
 judge-with-requires : tie.Need-judge-with-requires
 judge-with-requires c κs =
-    let s = c .before .before .before .before .before .before .before .before .before .before .before .before .before .before .before .before .before .before .before .before .before .before .before .before .before .before .before .before .before in
-    let r = c .before .before .before .before .before .before .before .before .before .before .before .before .before .before .before .before .before .read-into in
-    let read = was-read (s .args .file .now) _ (r .ensures .0) (omega arith) in
-    let fit = rows-fit (s .args .file .now) (s .args .table .now) (r .ensures .0) (s .pre .0) in
-    let same = r .kept .1 .1 .1 .1 .1 .1 .0 in
-    let names = s .pre .1 in
-    (shaped (read .holds), r .kept .1 .1 .0, r .kept .1 .1 .1 .0, r .kept .1 .1 .1 .1 .0, omega arith, omega arith)
+    let read = c .before .before .before .before .before .before .before .before .read-domain in
+    let o = opened (c .before .before .before .before .before .before .before .before .before .before .before .before .before .before .before .before .args .file .now) _ _ _ (read .ensures) (omega arith) in
+    let same = read .kept .1 .1 .0 in
+    let room = c .before .before .before .before .before .before .before .before .before .before .before .before .before .before .before .before .pre .1 in
+    ((o .said, o .held), omega arith)
 
 same-length-2 : tie.Need-same-length-2
 same-length-2 c = search needs
@@ -78,29 +41,18 @@ same-length-5 c = search needs
 
 returns-2 : tie.Need-returns-2
 returns-2 c =
-    let start = c .before .before .before .before .before .before .before .before .before .before .before .before .before .before .before .before .before .before .before .before .before .before .before .before .before .before .before .before .before .before .before .before .before .before .before .before .args in
-    let read = c .before .before .before .before .before .before .before .before .before .before .before .before .before .before .before .before .before .before .before .before .before .before .before .before .read-into .ensures in
-    let r = was-read (start .file .now) _ (read .0) (omega arith) in
-    leaves-read (start .file .now) (start .report .now) (start .witness .now) _ _ _ (r .said) (r .decoded) (c .before .before .before .before .before .before .judge-with .ensures (r .said) _ (r .holds) (decoded-well-formed (start .file .now) (r .said) (r .decoded)) (r .lists _ _ (read .1)))
+    let file = c .before .before .before .before .before .before .before .before .before .before .before .before .before .before .before .before .before .before .before .before .before .before .before .args .file .now in
+    let o = opened file _ _ _ (c .before .before .before .before .before .before .before .before .before .before .before .before .before .before .before .read-domain .ensures) (omega arith) in
+    leaves-read (o .said) (o .decoded) (c .before .before .before .before .before .before .judge-with .ensures (o .said) (o .held) (decoded-well-formed file (o .said) (o .decoded)))
 
 pub judge-in-spec : {M : Type 1} → statement M
 judge-in-spec =
     tie.close
     (tie.spec
-    slice-aggregate-read-into
-    slice-aggregate-read-into-2
-    slice-aggregate-read-into-3
-    slice-aggregate-read-into-4
-    slice-aggregate-read-into-5
-    read-into-requires
+    read-domain-requires
     at-offset-requires
     same-length
     returns
-    slice-aggregate-judge-with
-    slice-aggregate-judge-with-2
-    slice-aggregate-judge-with-3
-    slice-aggregate-judge-with-4
-    slice-aggregate-judge-with-5
     judge-with-requires
     same-length-2
     same-length-3

@@ -1,19 +1,14 @@
 -- `judging::judge_with` meets its contract. Assumes nothing.
 use mathlib.Core.Path.{refl, sym, ap, _∙_}
 use native.Mathlib.Omega.{arith}
-use borrow.Author.Needs.{needs}
-use Rattle.literals.proofs.Held.{actions-is, sorts-is}
 use Rattle.verdict.specs.Judged.{writesWitness}
-use Rattle.naming.proofs.NamedRows.{shaped-with}
 use Rattle.judging.proofs.Calls.{rows-of, decision-of, number-of, showing-of, leaves-30, leaves-31, leaves-shown, leaves-plain}
+use borrow.Author.Needs.{needs}
 use Rattle.judging.proofs.judge_with.Statement.{statement}
 use Rattle.judging.proofs.judge_with.Tie as tie
 
-slice-aggregate-name-all : tie.Need-slice-aggregate-name-all
-slice-aggregate-name-all c = search needs
-
 name-all-requires : tie.Need-name-all-requires
-name-all-requires c κs = let p = c .before .before .before .before .before .before .before .before .before .before .before .pre in (λ variables. shaped-with variables _ (p .0), p .2, p .3, p .4, p .5, refl)
+name-all-requires c κs = search needs
 
 mul-if1 : tie.Need-mul-if1
 mul-if1 c = search needs
@@ -25,11 +20,12 @@ same-length : tie.Need-same-length
 same-length c = search needs
 
 returns : tie.Need-returns
-returns c D old hold wf t =
-    let start = c .before .before .before .before .before .before .before .before .before .before .before .before .before .before .before .before .before .before .args in
-    let named = c .before .before .before .before .before .before .name-all .ensures .1 D old _ hold wf t refl in
+returns c D H wf =
+    let start = c .before .before .before .before .before .before .before .before .before .before .before .before .args in
+    let named = c .before .before .before .before .before .name-all .ensures .1 D H wf refl in
     let n = rows-of D (named .0) in
-    leaves-30 D (start .report .now) (start .witness .now) (omega (arith, c .before .if1)) (c .at-offset .ensures)
+    let t = c .before .if1 .taken in
+    leaves-30 D (start .report .now) (start .witness .now) (omega arith) (c .at-offset .ensures)
 
 decide-requires : tie.Need-decide-requires
 decide-requires c κs = search needs
@@ -38,13 +34,10 @@ has-witness-requires : tie.Need-has-witness-requires
 has-witness-requires c κs = search needs
 
 show-requires : tie.Need-show-requires
-show-requires c κs = let p = c .before .before .before .before .before .before .before .before .before .before .before .before .before .before .before .before .before .before .before .before .before .before .pre in (λ sorts. shaped-with _ sorts (p .0), p .1, p .3, p .4)
-
-slice-aggregate-put-report : tie.Need-slice-aggregate-put-report
-slice-aggregate-put-report c = search needs
+show-requires c κs = search needs
 
 put-report-requires : tie.Need-put-report-requires
-put-report-requires c κs = let p = c .before .before .before .before .before .before .before .before .before .before .before .before .before .before .before .before .before .before .before .before .before .before .before .before .before .before .before .before .before .pre in (p .0 .actions, p .2, c .before .before .before .before .before .before .before .before .before .before .before .before .before .before .before .before .before .name-all .kept .1 .1 .1 .1 .1 .1 .1 .0)
+put-report-requires c κs = search needs
 
 same-length-2 : tie.Need-same-length-2
 same-length-2 c = search needs
@@ -56,17 +49,17 @@ same-length-4 : tie.Need-same-length-4
 same-length-4 c = search needs
 
 returns-2 : tie.Need-returns-2
-returns-2 c D old hold wf t =
-    let start = c .before .before .before .before .before .before .before .before .before .before .before .before .before .before .before .before .before .before .before .before .before .before .before .before .before .before .before .before .before .before .before .before .args in
+returns-2 c D H wf =
+    let start = c .before .before .before .before .before .before .before .before .before .before .before .before .before .before .before .before .before .before .before .before .before .before .before .before .before .before .args in
     let wit = start .witness .now in
-    let named = c .before .before .before .before .before .before .before .before .before .before .before .before .before .before .before .before .before .before .before .before .name-all .ensures .1 D old _ hold wf t refl in
+    let named = c .before .before .before .before .before .before .before .before .before .before .before .before .before .before .before .before .before .before .before .name-all .ensures .1 D H wf refl in
     let n = rows-of D (named .0) in
     let is = decision-of D (named .0) (c .before .before .before .before .before .before .before .before .before .before .before .before .before .decide .ensures) in
-    let has = sym (c .before .before .before .before .before .before .before .before .before .before .before .before .has-witness .ensures) ∙ c .before .before .before .before .before .before .before .before .before .before .before .if2 .taken in
-    let number = ap writesWitness (number-of D is) in
-    let shown = showing-of D wit is has (λ e. c .before .before .before .before .before .before .before .before .before .show .ensures D old _ e hold wf t) in
+    let has = sym (c .before .before .before .before .before .before .before .before .before .before .before .before .has-witness .ensures D H wf is) ∙ c .before .before .before .before .before .before .before .before .before .before .before .if2 .taken in
+    let number = ap (writesWitness D) (number-of D is) in
     let l = c .before .before .before .before .before .before .before .before .before .before .before .before .before .before .before .if1 .left in
-    leaves-shown D (start .report .now) wit (omega arith) (sym number ∙ has) (sym (shown .0) ∙ c .before .before .before .before .before .before .if3 .taken) (shown .1) is (c .before .before .put-report .ensures D _ (actions-is hold) (sorts-is hold) (named .1) (named .2) (omega arith))
+    let shown = showing-of D wit is has (c .before .before .before .before .before .before .before .before .before .show .ensures D H wf) in
+    leaves-shown D (start .report .now) wit (omega arith) (sym number ∙ has) (sym (shown .0) ∙ c .before .before .before .before .before .before .if3 .taken) (shown .1) is (c .before .before .put-report .ensures D _ (H .says) (named .1) (named .2) (omega arith))
 
 at-offset-requires-2 : tie.Need-at-offset-requires-2
 at-offset-requires-2 c κs = search needs
@@ -78,23 +71,20 @@ same-length-6 : tie.Need-same-length-6
 same-length-6 c = search needs
 
 returns-3 : tie.Need-returns-3
-returns-3 c D old hold wf t =
-    let start = c .before .before .before .before .before .before .before .before .before .before .before .before .before .before .before .before .before .before .before .before .before .before .before .before .before .before .before .args in
+returns-3 c D H wf =
+    let start = c .before .before .before .before .before .before .before .before .before .before .before .before .before .before .before .before .before .before .before .before .before .args in
     let wit = start .witness .now in
-    let named = c .before .before .before .before .before .before .before .before .before .before .before .before .before .before .before .name-all .ensures .1 D old _ hold wf t refl in
+    let named = c .before .before .before .before .before .before .before .before .before .before .before .before .before .before .name-all .ensures .1 D H wf refl in
     let n = rows-of D (named .0) in
     let is = decision-of D (named .0) (c .before .before .before .before .before .before .before .before .decide .ensures) in
-    let has = sym (c .before .before .before .before .before .before .before .has-witness .ensures) ∙ c .before .before .before .before .before .before .if2 .taken in
-    let number = ap writesWitness (number-of D is) in
-    let shown = showing-of D wit is has (λ e. c .before .before .before .before .show .ensures D old _ e hold wf t) in
+    let has = sym (c .before .before .before .before .before .before .before .has-witness .ensures D H wf is) ∙ c .before .before .before .before .before .before .if2 .taken in
+    let number = ap (writesWitness D) (number-of D is) in
     let l = c .before .before .before .before .before .before .before .before .before .before .if1 .left in
+    let shown = showing-of D wit is has (c .before .before .before .before .show .ensures D H wf) in
     leaves-31 D (start .report .now) wit (omega arith) (sym number ∙ has) (sym (shown .0) ∙ c .before .if3 .left) (shown .1) (c .at-offset2 .ensures)
 
-slice-aggregate-put-report-2 : tie.Need-slice-aggregate-put-report-2
-slice-aggregate-put-report-2 c = search needs
-
 put-report-requires-2 : tie.Need-put-report-requires-2
-put-report-requires-2 c κs = let p = c .before .before .before .before .before .before .before .before .before .before .before .before .before .before .before .before .before .before .before .before .before .before .before .before .pre in (p .0 .actions, p .2, c .before .before .before .before .before .before .before .before .before .before .before .before .name-all .kept .1 .1 .1 .1 .1 .1 .1 .0)
+put-report-requires-2 c κs = search needs
 
 same-length-7 : tie.Need-same-length-7
 same-length-7 c = search needs
@@ -103,22 +93,21 @@ same-length-8 : tie.Need-same-length-8
 same-length-8 c = search needs
 
 returns-4 : tie.Need-returns-4
-returns-4 c D old hold wf t =
-    let start = c .before .before .before .before .before .before .before .before .before .before .before .before .before .before .before .before .before .before .before .before .before .before .before .before .before .before .before .args in
+returns-4 c D H wf =
+    let start = c .before .before .before .before .before .before .before .before .before .before .before .before .before .before .before .before .before .before .before .before .before .args in
     let wit = start .witness .now in
-    let named = c .before .before .before .before .before .before .before .before .before .before .before .before .before .before .before .name-all .ensures .1 D old _ hold wf t refl in
+    let named = c .before .before .before .before .before .before .before .before .before .before .before .before .before .before .name-all .ensures .1 D H wf refl in
     let n = rows-of D (named .0) in
     let is = decision-of D (named .0) (c .before .before .before .before .before .before .before .before .decide .ensures) in
-    let has = sym (c .before .before .before .before .before .before .before .has-witness .ensures) ∙ c .before .before .before .before .before .before .if2 .left in
-    let number = ap writesWitness (number-of D is) in
+    let has = sym (c .before .before .before .before .before .before .before .has-witness .ensures D H wf is) ∙ c .before .before .before .before .before .before .if2 .left in
+    let number = ap (writesWitness D) (number-of D is) in
     let l = c .before .before .before .before .before .before .before .before .before .before .if1 .left in
-    leaves-plain D (start .report .now) wit (omega arith) (sym number ∙ has) is (c .before .before .put-report2 .ensures D _ (actions-is hold) (sorts-is hold) (named .1) (named .2) (omega arith))
+    leaves-plain D (start .report .now) wit (omega arith) (sym number ∙ has) is (c .before .before .put-report2 .ensures D _ (H .says) (named .1) (named .2) (omega arith))
 
 pub judge-with-spec : {M : Type 1} → statement M
 judge-with-spec =
     tie.close
     (tie.spec
-    slice-aggregate-name-all
     name-all-requires
     mul-if1
     at-offset-requires
@@ -127,7 +116,6 @@ judge-with-spec =
     decide-requires
     has-witness-requires
     show-requires
-    slice-aggregate-put-report
     put-report-requires
     same-length-2
     same-length-3
@@ -137,7 +125,6 @@ judge-with-spec =
     same-length-5
     same-length-6
     returns-3
-    slice-aggregate-put-report-2
     put-report-requires-2
     same-length-7
     same-length-8

@@ -21,8 +21,8 @@ same-length-2 c = search needs
 
 returns : tie.Need-returns
 returns c D a A t h =
-    let q = c .before .before .before .before .before .before .before .before .before .before .number-classes .ensures .1 D a A t in
-    (q .1, c .first-uncovered .ensures D a _ (record { whole = A; numbers = q .2; clauses-are = c .before .before .before .before .clauses-at .ensures D a _ A refl }) h)
+    let q = c .before .before .before .before .before .before .before .before .before .number-classes .ensures .1 D a A t in
+    (q .1, c .first-uncovered .ensures D a _ (record { whole = A; numbers = q .2; clauses-are = c .before .before .before .clauses-at .ensures D a _ A refl }) h)
 
 pub open-class-spec : {M : Type 1} → statement M
 open-class-spec =
