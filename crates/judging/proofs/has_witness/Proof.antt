@@ -12,12 +12,6 @@ returns c D H wf is = sym (writes-below D _ (c .if1 .taken))
 returns-2 : tie.Need-returns-2
 returns-2 c D H wf is = sym (writes-above D _ (c .if2 .taken))
 
-cast-is-shown : tie.Need-cast-is-shown
-cast-is-shown c = search needs
-
-cast-is-shown-2 : tie.Need-cast-is-shown-2
-cast-is-shown-2 c = search needs
-
 is-shown-requires : tie.Need-is-shown-requires
 is-shown-requires c κs = search needs
 
@@ -28,4 +22,4 @@ returns-3 c D H wf is =
     writes-at D is lo hi (c .is-shown .ensures D H wf)
 
 pub has-witness-spec : {M : Type 1} → statement M
-has-witness-spec = tie.close (tie.spec returns returns-2 cast-is-shown cast-is-shown-2 is-shown-requires returns-3)
+has-witness-spec = tie.close (tie.spec returns returns-2 is-shown-requires returns-3)
