@@ -12,7 +12,7 @@ use borrow.Author.Tests.{ne-eqb, lt-ltb, le-ltb, ltb-true}
 use Rattle.records.specs.Lists.{In, keepIf, filterBy, any, pairwise, elem}
 use Rattle.records.proofs.Lists.{eqb-comm, getD-in, sameList-comm, all-map, any-append, any-map, allBelow, below-in}
 use Rattle.literals.specs.declared.Object.{Object}
-use Rattle.literals.specs.declared.Counts.{Counts}
+use Rattle.literals.specs.declared.span.Span.{Span}
 use Rattle.literals.specs.declared.Time.{Time}
 use Rattle.literals.specs.declared.Time.the-variants.{AtStart, OverAll, AtEnd}
 use Rattle.literals.specs.declared.Clause.{Clause}
@@ -20,6 +20,8 @@ use Rattle.literals.specs.declared.Clause.the-variants.{Positive, Negative, Add
 use Rattle.literals.specs.Domain.{object, sameObject, Fact, sameFact, clauseNumber, roleNumber, Literal, Domain, arity, action}
 use Rattle.literals.specs.Decode.{byte}
 use Rattle.literals.specs.Table.{literalRow, rowsIn}
+use Rattle.literals.specs.Held.{Held, SpanOf}
+use Rattle.literals.proofs.Heads.{action-in}
 use Rattle.literals.proofs.Tables.{Kept}
 use Rattle.classes.proofs.Indices.{any-agree, any-or, any-filter, getD-map}
 use Rattle.verdict.specs.Binding.{valueOf, bind}
@@ -27,10 +29,10 @@ use Rattle.verdict.specs.Machine.{GroundAction, Event, eventFacts, meet, distur
 use Rattle.store.specs.Index.{wordOf}
 use Rattle.events.specs.declared.Waiting.{Waiting}
 use Rattle.store.specs.Rows.{factRow}
-use Rattle.events.specs.Coded.{groundRow, waitingOf, GroundFits, EventsFit, Lent, endRow, boundRow, clauseFor, timeOf}
+use Rattle.events.specs.Coded.{groundRow, waitingOf, GroundFits, EventsFit, boundRow, clauseFor, timeOf}
 use Rattle.applicability.specs.Interference.{clashing, Mark, rowMarks, eventMarks, marksIn, clashes, marksClash, Laid}
 use Rattle.events.proofs.Members.{map-in}
-use Rattle.events.proofs.FactRows.{agree, agree-same, countsFor, clause-counts, lent-action, lent-kept, lent-bound, ground-rows, noEvent}
+use Rattle.events.proofs.FactRows.{agree, agree-same, countsFor, clause-counts, held-kept, held-bound, held-rows, noEvent}
 use Rattle.applicability.proofs.Asked.{all-agree, any-event}
 use Rattle.applicability.proofs.Marks.{any-never, laid-more}
 use Rattle.applicability.proofs.Words.{Worded, same-word}
@@ -241,16 +243,16 @@ module _ (D : Domain) (e f : Event) (E : Facing D e) (F : Facing D f) where
 -- ---- the events of a domain
 
 -- the marks of an action's rows are those of its literals
-mark-facts : (t : Time) (arities : List ℕ) (g : GroundAction) (ls : List Literal)
-    → ((l : Literal) → In l ls → boundRow arities (groundRow g) (literalRow l) ≡ factRow (bind (g .binding) (l .atom)))
-    → rowMarks t arities (groundRow g) (map literalRow ls)
+mark-facts : (t : Time) (head : List ℕ) (g : GroundAction) (ls : List Literal)
+    → ((l : Literal) → In l ls → boundRow head (groundRow g) (literalRow l) ≡ factRow (bind (g .binding) (l .atom)))
+    → rowMarks t head (groundRow g) (map literalRow ls)
     ≡ map (λ (l : Literal). record { clause = clauseFor t (roleNumber (l .role)); word = wordOf (factRow (bind (g .binding) (l .atom))) }) (filterBy (λ (l : Literal). not (eqb (clauseFor t (roleNumber (l .role))) 0)) ls)
 unfolding rowMarks
-mark-facts t arities g [] h = refl
-mark-facts t arities g (l ∷ ls) h = go (not (eqb (clauseFor t (roleNumber (l .role))) 0)) (mark-facts t arities g ls (λ l m. h l (List·Memᴰ·tail m)))
+mark-facts t head g [] h = refl
+mark-facts t head g (l ∷ ls) h = go (not (eqb (clauseFor t (roleNumber (l .role))) 0)) (mark-facts t head g ls (λ l m. h l (List·Memᴰ·tail m)))
   where
     byRow : List ℕ → Mark
-    byRow row = record { clause = clauseFor t (byte row 0); word = wordOf (boundRow arities (groundRow g) row) }
+    byRow row = record { clause = clauseFor t (byte row 0); word = wordOf (boundRow head (groundRow g) row) }
 
     byLiteral : Literal → Mark
     byLiteral l = record { clause = clauseFor t (roleNumber (l .role)); word = wordOf (factRow (bind (g .binding) (l .atom))) }
@@ -265,16 +267,16 @@ mark-facts t arities g (l ∷ ls) h = go (not (eqb (clauseFor t (roleNumber (l .
     go true e = ap₂ (λ (w : ℕ) (ms : List Mark). record { clause = clauseFor t (roleNumber (l .role)); word = w } ∷ ms) (ap wordOf (h l (List·Memᴰ·head refl))) e
     go false e = e
 
-module _ (D : Domain) (n : Counts) (arities variables sorts starts parts table : List ℕ) (L : Lent D n arities variables sorts starts parts table) where
+module _ {D : Domain} {head table : List ℕ} (H : Held D head table) where
   facing : (e : Event) → GroundFits D (e .ground) → Facing D e
   facing e F =
       record {
-        kept = lent-kept D n arities variables sorts starts parts table L (e .ground .action) (F .listed);
-        sized = L .held .bounded .literalArity (action D (e .ground .action)) (lent-action D n arities variables sorts starts parts table L (e .ground .action) (F .listed));
+        kept = held-kept H (e .ground .action) (F .listed);
+        sized = H .says .bounded .literalArity (action D (e .ground .action)) (action-in H (e .ground .action) (F .listed));
         objects =
             λ l m o k.
             let r = map-in (valueOf (e .ground .binding)) (l .atom .args) k in
-            let c = L .held .bounded .below (action D (e .ground .action)) (lent-action D n arities variables sorts starts parts table L (e .ground .action) (F .listed)) l m (r .0) (r .1) in
+            let c = H .says .bounded .below (action D (e .ground .action)) (action-in H (e .ground .action) (F .listed)) l m (r .0) (r .1) in
             let b = F .bound in
             let h = F .objects (valueOf (e .ground .binding) (r .0)) (getD-in (e .ground .binding) (r .0 .0) (object 0) (omega arith)) in
             let z = ap (λ (o : Object). o .0) (r .2) in
@@ -282,14 +284,14 @@ module _ (D : Domain) (n : Counts) (arities variables sorts starts parts table :
       }
 
   -- the rows of its action, as the code finds them
-  pub lent-marks : (e : Event) → GroundFits D (e .ground) → (t : Time) (ground : List ℕ) → t ≡ timeOf (e .moment) → ground ≡ groundRow (e .ground)
-      → (from to : ℕ) → from ≡ getD starts (getD ground 0 0) 0 → to ≡ endRow n starts (getD ground 0 0)
-      → rowMarks t arities ground (rowsIn (to - from) (take (8 * to - 8 * from) (drop (8 * from) table))) ≡ eventMarks D e
+  pub held-marks : (e : Event) → GroundFits D (e .ground) → (t : Time) (ground : List ℕ) → t ≡ timeOf (e .moment) → ground ≡ groundRow (e .ground)
+      → (r : Span) → SpanOf D (e .ground .action) table r
+      → rowMarks t head ground (rowsIn (r .to - r .from) (take (8 * r .to - 8 * r .from) (drop (8 * r .from) table))) ≡ eventMarks D e
   unfolding eventMarks
-  lent-marks e F t ground s f from to p q =
-      ap₂ (λ (u : Time) (x : List ℕ). rowMarks u arities x (rowsIn (to - from) (take (8 * to - 8 * from) (drop (8 * from) table)))) s f
-      ∙ ap (rowMarks (timeOf (e .moment)) arities (groundRow (e .ground))) (ground-rows D n arities variables sorts starts parts table L (e .ground) F ground f from to p q)
-      ∙ mark-facts (timeOf (e .moment)) arities (e .ground) (action D (e .ground .action) .lits) (lent-bound D n arities variables sorts starts parts table L (e .ground) F)
+  held-marks e F t ground s f r S =
+      ap₂ (λ (u : Time) (x : List ℕ). rowMarks u head x (rowsIn (r .to - r .from) (take (8 * r .to - 8 * r .from) (drop (8 * r .from) table)))) s f
+      ∙ ap (rowMarks (timeOf (e .moment)) head (groundRow (e .ground))) (held-rows H (e .ground .action) (F .listed) r S)
+      ∙ mark-facts (timeOf (e .moment)) head (e .ground) (action D (e .ground .action) .lits) (held-bound H (e .ground) F)
 
   -- no two interfere, by their marks
   pub apart-independent : (es : List Event) → EventsFit D es → pairwise (λ first later. not (marksClash first later)) (map (eventMarks D) es) ≡ independent D es
@@ -325,12 +327,12 @@ module _ (D : Domain) (es : List Event) (i : ℕ) {words clauses ends : List ℕ
       subst (λ (parts : List (List Mark)). Laid parts words clauses ends k) (take-all i (map (eventMarks D) es) (omega arith)) L
 
 -- where the loop over the waiting events stands
-pub record InWords (n : Counts) (arities starts table : List ℕ) (w : Waiting) (words₀ clauses₀ ends₀ words clauses ends : List ℕ) (k i : ℕ) : Type 0 where
+pub record InWords (head table : List ℕ) (w : Waiting) (words₀ clauses₀ ends₀ words clauses ends : List ℕ) (k i : ℕ) : Type 0 where
   pub reach : i ≤ w .count
   pub few : k ≤ 64 * i
   pub wordsKept : length words ≡ length words₀
   pub clausesKept : length clauses ≡ length clauses₀
   pub endsKept : length ends ≡ length ends₀
   pub within : (j : ℕ) → j < i → getD ends j 0 ≤ 1024
-  pub laid : (D : Domain) (variables sorts parts : List ℕ) (es : List Event) → Lent D n arities variables sorts starts parts table → w ≡ waitingOf es → EventsFit D es
+  pub laid : (D : Domain) (es : List Event) → Held D head table → w ≡ waitingOf es → EventsFit D es
       → Laid (take i (map (eventMarks D) es)) words clauses ends k

@@ -101,17 +101,17 @@ behind-first first more e f = e ∙ ap (λ (l : List Mark). first ++ l) f
 -- ---- the row of one literal
 
 abbrev rowMark : Time → List ℕ → List ℕ → List ℕ → Mark
-rowMark t arities ground row = record { clause = clauseFor t (byte row 0); word = wordOf (boundRow arities ground row) }
+rowMark t head ground row = record { clause = clauseFor t (byte row 0); word = wordOf (boundRow head ground row) }
 
 abbrev rowCounts : Time → List ℕ → Bool
 rowCounts t row = not (eqb (clauseFor t (byte row 0)) 0)
 
-module _ (t : Time) (arities ground rows : List ℕ) (at k : ℕ) (e : k ≡ clauseFor t (getD rows at 0)) (words clauses : List ℕ) (n : ℕ) where
+module _ (t : Time) (head ground rows : List ℕ) (at k : ℕ) (e : k ≡ clauseFor t (getD rows at 0)) (words clauses : List ℕ) (n : ℕ) where
   abbrev one : List Mark
-  one = rowMarks t arities ground (take 8 (drop at rows) ∷ [])
+  one = rowMarks t head ground (take 8 (drop at rows) ∷ [])
 
   abbrev oneIf : Bool → List Mark
-  oneIf b = map (rowMark t arities ground) (keepIf (not b) (take 8 (drop at rows)) [])
+  oneIf b = map (rowMark t head ground) (keepIf (not b) (take 8 (drop at rows)) [])
 
   clause-is : clauseFor t (byte (take 8 (drop at rows)) 0) ≡ k
   clause-is = ap (clauseFor t) (part-first rows at) ∙ sym e
@@ -123,7 +123,7 @@ module _ (t : Time) (arities ground rows : List ℕ) (at k : ℕ) (e : k ≡ cla
   pub put-none : k ≡ 0 → marksIn n words clauses ≡ marksIn n words clauses ++ one
   put-none h = sym (ap (λ (l : List Mark). marksIn n words clauses ++ l) (one-is ∙ ap oneIf (eq-eqb k 0 h)) ∙ append-nil (marksIn n words clauses))
 
-  pub put-one : (k ≡ 0 → ⊥) → n < length words → n < length clauses → (row : List ℕ) (w : ℕ) → row ≡ boundRow arities ground (take 8 (drop at rows)) → w ≡ wordOf row
+  pub put-one : (k ≡ 0 → ⊥) → n < length words → n < length clauses → (row : List ℕ) (w : ℕ) → row ≡ boundRow head ground (take 8 (drop at rows)) → w ≡ wordOf row
       → marksIn (n + 1) (set words n w) (set clauses n k) ≡ marksIn n words clauses ++ one
   put-one h l m row w f g =
       marks-more words clauses n w k l m
@@ -132,47 +132,47 @@ module _ (t : Time) (arities ground rows : List ℕ) (at k : ℕ) (e : k ≡ cla
 
 -- ---- the rows of an action's literals
 
-module _ (t : Time) (arities ground : List ℕ) where
-  row-marks-few : (l : List (List ℕ)) → length (rowMarks t arities ground l) ≤ length l
+module _ (t : Time) (head ground : List ℕ) where
+  row-marks-few : (l : List (List ℕ)) → length (rowMarks t head ground l) ≤ length l
   unfolding rowMarks
   row-marks-few l =
       let f = filter-few (rowCounts t) l in
-      let m = length-map (filterBy (rowCounts t) l) (rowMark t arities ground) in
+      let m = length-map (filterBy (rowCounts t) l) (rowMark t head ground) in
       omega arith
 
-  row-marks-snoc : (l : List (List ℕ)) (row : List ℕ) → rowMarks t arities ground (l ++ (row ∷ [])) ≡ rowMarks t arities ground l ++ rowMarks t arities ground (row ∷ [])
+  row-marks-snoc : (l : List (List ℕ)) (row : List ℕ) → rowMarks t head ground (l ++ (row ∷ [])) ≡ rowMarks t head ground l ++ rowMarks t head ground (row ∷ [])
   unfolding rowMarks
   row-marks-snoc l row =
-      ap (map (rowMark t arities ground)) (filter-append (rowCounts t) l (row ∷ []))
-      ∙ map-append (rowMark t arities ground) (filterBy (rowCounts t) l) (filterBy (rowCounts t) (row ∷ []))
+      ap (map (rowMark t head ground)) (filter-append (rowCounts t) l (row ∷ []))
+      ∙ map-append (rowMark t head ground) (filterBy (rowCounts t) l) (filterBy (rowCounts t) (row ∷ []))
 
   -- before the first, and one row more
   module _ (first : List Mark) (rows : List ℕ) where
-    pub rows-begin : first ≡ first ++ rowMarks t arities ground (rowsIn 0 rows)
+    pub rows-begin : first ≡ first ++ rowMarks t head ground (rowsIn 0 rows)
     unfolding rowMarks
     rows-begin = sym (append-nil first)
 
-    pub rows-more : (j : ℕ) {before after : List Mark} → before ≡ first ++ rowMarks t arities ground (rowsIn j rows) → after ≡ before ++ rowMarks t arities ground (take 8 (drop (8 * j) rows) ∷ [])
-        → after ≡ first ++ rowMarks t arities ground (rowsIn (j + 1) rows)
+    pub rows-more : (j : ℕ) {before after : List Mark} → before ≡ first ++ rowMarks t head ground (rowsIn j rows) → after ≡ before ++ rowMarks t head ground (take 8 (drop (8 * j) rows) ∷ [])
+        → after ≡ first ++ rowMarks t head ground (rowsIn (j + 1) rows)
     rows-more j e f =
         f
-        ∙ ap (λ (l : List Mark). l ++ rowMarks t arities ground (take 8 (drop (8 * j) rows) ∷ [])) e
-        ∙ append-assoc first (rowMarks t arities ground (rowsIn j rows)) (rowMarks t arities ground (take 8 (drop (8 * j) rows) ∷ []))
-        ∙ ap (λ (l : List Mark). first ++ l) (sym (ap (rowMarks t arities ground) (rows-snoc j rows) ∙ row-marks-snoc (rowsIn j rows) (take 8 (drop (8 * j) rows))))
+        ∙ ap (λ (l : List Mark). l ++ rowMarks t head ground (take 8 (drop (8 * j) rows) ∷ [])) e
+        ∙ append-assoc first (rowMarks t head ground (rowsIn j rows)) (rowMarks t head ground (take 8 (drop (8 * j) rows) ∷ []))
+        ∙ ap (λ (l : List Mark). first ++ l) (sym (ap (rowMarks t head ground) (rows-snoc j rows) ∙ row-marks-snoc (rowsIn j rows) (take 8 (drop (8 * j) rows))))
 
 -- where the loop over an action's rows stands
-pub record InRows (t : Time) (arities ground rows : List ℕ) (at k : ℕ) (words₀ clauses₀ words clauses : List ℕ) (n i : ℕ) : Type 0 where
+pub record InRows (t : Time) (head ground rows : List ℕ) (at k : ℕ) (words₀ clauses₀ words clauses : List ℕ) (n i : ℕ) : Type 0 where
   pub reach : i ≤ k
   pub wordsKept : length words ≡ length words₀
   pub clausesKept : length clauses ≡ length clauses₀
-  pub filled : marksIn n words clauses ≡ marksIn at words₀ clauses₀ ++ rowMarks t arities ground (rowsIn i rows)
+  pub filled : marksIn n words clauses ≡ marksIn at words₀ clauses₀ ++ rowMarks t head ground (rowsIn i rows)
 
 -- each row is one at most
-pub rows-few : (t : Time) (arities ground rows : List ℕ) (i at : ℕ) (words₀ clauses₀ words clauses : List ℕ) (n : ℕ)
-    → marksIn n words clauses ≡ marksIn at words₀ clauses₀ ++ rowMarks t arities ground (rowsIn i rows) → n ≤ at + i
-rows-few t arities ground rows i at words₀ clauses₀ words clauses n e =
-    let c = marks-count words clauses n words₀ clauses₀ at (rowMarks t arities ground (rowsIn i rows)) e in
-    let f = row-marks-few t arities ground (rowsIn i rows) in
+pub rows-few : (t : Time) (head ground rows : List ℕ) (i at : ℕ) (words₀ clauses₀ words clauses : List ℕ) (n : ℕ)
+    → marksIn n words clauses ≡ marksIn at words₀ clauses₀ ++ rowMarks t head ground (rowsIn i rows) → n ≤ at + i
+rows-few t head ground rows i at words₀ clauses₀ words clauses n e =
+    let c = marks-count words clauses n words₀ clauses₀ at (rowMarks t head ground (rowsIn i rows)) e in
+    let f = row-marks-few t head ground (rowsIn i rows) in
     let l = length-rows 8 i rows in
     omega arith
 

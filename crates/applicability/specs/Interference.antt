@@ -29,8 +29,8 @@ pub record Mark : Type 0 where
 -- those of an action's rows
 unfoldable pub rowMarks : Time → List ℕ → List ℕ → List (List ℕ) → List Mark
 unfolding clauseFor boundRow wordOf
-rowMarks t arities ground rows =
-    map (λ row. record { clause = clauseFor t (byte row 0); word = wordOf (boundRow arities ground row) }) (filterBy (λ row. not (eqb (clauseFor t (byte row 0)) 0)) rows)
+rowMarks t head ground rows =
+    map (λ row. record { clause = clauseFor t (byte row 0); word = wordOf (boundRow head ground row) }) (filterBy (λ row. not (eqb (clauseFor t (byte row 0)) 0)) rows)
 
 -- those of an event
 unfoldable pub eventMarks : Domain → Event → List Mark

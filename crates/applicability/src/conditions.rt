@@ -27,7 +27,9 @@ ghost use Rattle.applicability.specs.Conditions.{conditionMet, rowMet, a
 
 // Whether the first n rows of the work memory meet a condition: clause 1 asks for its fact, clause 2 for its absence.
 fn condition_met(clause: u8, row: [u8; 8], index: &[u64], work: &[u8], n: usize) -> bool
-    requires { ⌜ (length (now index) ≡ 12289) × (n ≤ 1024) × (8 * n ≤ length (now work)) ⌝ }
+    requires index { ⌜ length (now index) ≡ 12289 ⌝ }
+    requires few { ⌜ n ≤ 1024 ⌝ }
+    requires facts { ⌜ 8 * n ≤ length (now work) ⌝ }
     ensures { λ r. ⌜ ((head : List ℕ) → Indexed head (now (index .entry)) (rowsIn n (now (work .entry)))
         → byte row 1 ≡ arityIn head (byte row 0) → r ≡ conditionMet clause row (rowsIn n (now (work .entry)))) ⌝ }
 {
@@ -51,9 +53,14 @@ fn row_met(
     work: &[u8],
     n: usize,
 ) -> bool
-    requires { ⌜ (length (now ground) ≡ 17) × (row + 8 ≤ length (now rows)) × (length (now index) ≡ 12289) × (n ≤ 1024) × (8 * n ≤ length (now work)) ⌝ }
+    requires bound { ⌜ length (now ground) ≡ 17 ⌝ }
+    requires literal { ⌜ row + 8 ≤ length (now rows) ⌝ }
+    requires index { ⌜ length (now index) ≡ 12289 ⌝ }
+    requires few { ⌜ n ≤ 1024 ⌝ }
+    requires facts { ⌜ 8 * n ≤ length (now work) ⌝ }
     ensures { λ r. ⌜ (Indexed (now (head .entry)) (now (index .entry)) (rowsIn n (now (work .entry)))
-        → r ≡ rowMet time (now (head .entry)) (now (ground .entry)) (rowsIn n (now (work .entry))) (take 8 (drop row (now (rows .entry))))) ⌝ }
+        → r ≡ rowMet time (now (head .entry)) (now (ground .entry)) (rowsIn n (now (work .entry)))
+        (take 8 (drop row (now (rows .entry))))) ⌝ }
 {
     let clause = clause_for(time, rows[row]);
     if clause == 0 {
@@ -76,7 +83,11 @@ fn conditions_met(
     work: &[u8],
     n: usize,
 ) -> bool
-    requires { ⌜ (length (now ground) ≡ 17) × (8 * k ≤ length (now rows)) × (length (now index) ≡ 12289) × (n ≤ 1024) × (8 * n ≤ length (now work)) ⌝ }
+    requires bound { ⌜ length (now ground) ≡ 17 ⌝ }
+    requires literals { ⌜ 8 * k ≤ length (now rows) ⌝ }
+    requires index { ⌜ length (now index) ≡ 12289 ⌝ }
+    requires few { ⌜ n ≤ 1024 ⌝ }
+    requires facts { ⌜ 8 * n ≤ length (now work) ⌝ }
     ensures { λ r. ⌜ (Indexed (now (head .entry)) (now (index .entry)) (rowsIn n (now (work .entry)))
         → r ≡ all (rowMet time (now (head .entry)) (now (ground .entry)) (rowsIn n (now (work .entry)))) (rowsIn k (now (rows .entry)))) ⌝ }
 {
@@ -98,7 +109,10 @@ pub fn ground_met(
     work: &[u8],
     n: usize,
 ) -> bool
-    requires { ⌜ (length (now ground) ≡ 17) × (length (now index) ≡ 12289) × (n ≤ 1024) × (8 * n ≤ length (now work)) ⌝ }
+    requires bound { ⌜ length (now ground) ≡ 17 ⌝ }
+    requires index { ⌜ length (now index) ≡ 12289 ⌝ }
+    requires few { ⌜ n ≤ 1024 ⌝ }
+    requires facts { ⌜ 8 * n ≤ length (now work) ⌝ }
     ensures { λ r. ⌜ ((D : Domain) (g : GroundAction) (fs : List Fact)
         → Held D (now (head .entry)) (now (table .entry)) → GroundFits D g → now (ground .entry) ≡ groundRow g
         → rowsIn n (now (work .entry)) ≡ map factRow fs
@@ -134,7 +148,12 @@ fn event_met(
     work: &[u8],
     n: usize,
 ) -> bool
-    requires { ⌜ (length (now moments) ≡ 16) × (length (now rows) ≡ 272) × (i < 16) × (length (now index) ≡ 12289) × (n ≤ 1024) × (8 * n ≤ length (now work)) ⌝ }
+    requires moments { ⌜ length (now moments) ≡ 16 ⌝ }
+    requires events { ⌜ length (now rows) ≡ 272 ⌝ }
+    requires event { ⌜ i < 16 ⌝ }
+    requires index { ⌜ length (now index) ≡ 12289 ⌝ }
+    requires few { ⌜ n ≤ 1024 ⌝ }
+    requires facts { ⌜ 8 * n ≤ length (now work) ⌝ }
     ensures { λ r. ⌜ ((D : Domain) (e : Event) (fs : List Fact)
         → Held D (now (head .entry)) (now (table .entry)) → GroundFits D (e .ground)
         → getD (now (moments .entry)) i 0 ≡ momentNumber (e .moment) → take 17 (drop (17 * i) (now (rows .entry))) ≡ groundRow (e .ground)
@@ -165,11 +184,15 @@ pub fn events_met(
     work: &[u8],
     n: usize,
 ) -> bool
-    requires { ⌜ (length (now index) ≡ 12289) × (n ≤ 1024) × (8 * n ≤ length (now work))
-        × (length (now moments) ≡ 16) × (length (now rows) ≡ 272) ⌝ }
+    requires index { ⌜ length (now index) ≡ 12289 ⌝ }
+    requires few { ⌜ n ≤ 1024 ⌝ }
+    requires facts { ⌜ 8 * n ≤ length (now work) ⌝ }
+    requires moments { ⌜ length (now moments) ≡ 16 ⌝ }
+    requires events { ⌜ length (now rows) ≡ 272 ⌝ }
     ensures { λ r. ⌜ ((D : Domain) (es : List Event) (fs : List Fact)
         → Held D (now (head .entry)) (now (table .entry))
-        → record { count = count; moments = now (moments .entry); rows = now (rows .entry) } ≡ waitingOf es → EventsFit D es → length es ≤ 16 → rowsIn n (now (work .entry)) ≡ map factRow fs
+        → record { count = count; moments = now (moments .entry); rows = now (rows .entry) } ≡ waitingOf es → EventsFit D es
+        → length es ≤ 16 → rowsIn n (now (work .entry)) ≡ map factRow fs
         → Indexed (now (head .entry)) (now (index .entry)) (map factRow fs) → r ≡ all (ownHold D fs) es) ⌝ }
 {
     if 16 < count {
@@ -193,7 +216,11 @@ fn entry_met(
     work: &[u8],
     n: usize,
 ) -> bool
-    requires { ⌜ (length (now rows) ≡ 544) × (i < 32) × (length (now index) ≡ 12289) × (n ≤ 1024) × (8 * n ≤ length (now work)) ⌝ }
+    requires entries { ⌜ length (now rows) ≡ 544 ⌝ }
+    requires entry { ⌜ i < 32 ⌝ }
+    requires index { ⌜ length (now index) ≡ 12289 ⌝ }
+    requires few { ⌜ n ≤ 1024 ⌝ }
+    requires facts { ⌜ 8 * n ≤ length (now work) ⌝ }
     ensures { λ r. ⌜ ((D : Domain) (g : GroundAction) (fs : List Fact)
         → Held D (now (head .entry)) (now (table .entry)) → GroundFits D g
         → take 17 (drop (17 * i) (now (rows .entry))) ≡ groundRow g → rowsIn n (now (work .entry)) ≡ map factRow fs
@@ -214,10 +241,14 @@ pub fn open_met(
     work: &[u8],
     n: usize,
 ) -> bool
-    requires { ⌜ (length (now index) ≡ 12289) × (n ≤ 1024) × (8 * n ≤ length (now work)) × (length (now rows) ≡ 544) ⌝ }
+    requires index { ⌜ length (now index) ≡ 12289 ⌝ }
+    requires few { ⌜ n ≤ 1024 ⌝ }
+    requires facts { ⌜ 8 * n ≤ length (now work) ⌝ }
+    requires entries { ⌜ length (now rows) ≡ 544 ⌝ }
     ensures { λ r. ⌜ ((D : Domain) (gs : List GroundAction) (fs : List Fact)
         → Held D (now (head .entry)) (now (table .entry))
-        → record { count = count; rows = now (rows .entry) } ≡ openOf gs → GroundsFit D gs → length gs ≤ 32 → rowsIn n (now (work .entry)) ≡ map factRow fs
+        → record { count = count; rows = now (rows .entry) } ≡ openOf gs → GroundsFit D gs
+        → length gs ≤ 32 → rowsIn n (now (work .entry)) ≡ map factRow fs
         → Indexed (now (head .entry)) (now (index .entry)) (map factRow fs) → r ≡ all (overAllHold D fs) gs) ⌝ }
 {
     if 32 < count {

@@ -2,10 +2,11 @@
 use events::facts::bound_row;
 use events::facts::clause_for;
 use events::facts::time_at;
-use literals::Counts;
 use literals::Time;
 use literals::fields::wide;
-use literals::span::span_of;
+use literals::head::Head;
+use literals::head::actions_in;
+use literals::head::rows_of;
 use store::index::word_of;
 ghost use mathlib.Core.Path.{_≡_};
 ghost use mathlib.Core.Bool.{not};
@@ -15,9 +16,10 @@ ghost use lib.ListN.{length, getD, take, drop};
 ghost use Rattle.records.specs.Lists.{any, pairwise};
 ghost use Rattle.literals.specs.Domain.{Domain};
 ghost use Rattle.literals.specs.Table.{rowsIn};
+ghost use Rattle.literals.specs.Held.{Held};
 ghost use Rattle.classes.specs.Classes.{momentNumber};
 ghost use Rattle.verdict.specs.Machine.{Event, independent};
-ghost use Rattle.events.specs.Coded.{groundRow, waitingOf, GroundFits, EventsFit, Lent, Ready, timeOf};
+ghost use Rattle.events.specs.Coded.{groundRow, waitingOf, GroundFits, EventsFit, timeOf};
 ghost use Rattle.applicability.specs.Interference.{clashing, Mark, rowMarks, eventMarks, marksIn, clashes, marksClash, Laid};
 
 // Whether two clauses of one fact may not stand in two events: a condition with an add or delete, an add with a delete.
@@ -42,19 +44,24 @@ fn put_word(
     clauses: &mut [u8],
     n: usize,
     time: Time,
-    arities: &[u8],
+    head: &Head,
     ground: &[u8],
     rows: &[u8],
     row: usize,
 ) -> usize
-    requires { ⌜ (length (now arities) ≡ 64) × ((i : ℕ) → getD (now arities) i 0 ≤ 6) × (length (now ground) ≡ 17) × (row + 8 ≤ length (now rows)) × (n < length (now words)) × (n < length (now clauses)) ⌝ }
-    ensures { λ r. ⌜ marksIn r (now (words .exit)) (now (clauses .exit)) ≡ marksIn n (now (words .entry)) (now (clauses .entry)) ++ rowMarks time (now (arities .entry)) (now (ground .entry)) (take 8 (drop row (now (rows .entry))) ∷ []) ⌝ }
+    requires bound { ⌜ length (now ground) ≡ 17 ⌝ }
+    requires literal { ⌜ row + 8 ≤ length (now rows) ⌝ }
+    requires words_room { ⌜ n < length (now words) ⌝ }
+    requires clauses_room { ⌜ n < length (now clauses) ⌝ }
+    ensures { λ r. ⌜ marksIn r (now (words .exit)) (now (clauses .exit))
+        ≡ marksIn n (now (words .entry)) (now (clauses .entry))
+        ++ rowMarks time (now (head .entry)) (now (ground .entry)) (take 8 (drop row (now (rows .entry))) ∷ []) ⌝ }
 {
     let clause = clause_for(time, rows[row]);
     if clause == 0 {
         return n;
     }
-    words[n] = word_of(bound_row(arities, ground, rows, row));
+    words[n] = word_of(bound_row(head, ground, rows, row));
     clauses[n] = clause;
     n + 1
 }
@@ -65,26 +72,29 @@ fn put_words(
     clauses: &mut [u8],
     at: usize,
     time: Time,
-    arities: &[u8],
+    head: &Head,
     ground: &[u8],
     rows: &[u8],
     k: usize,
 ) -> usize
-    requires { ⌜ (length (now arities) ≡ 64) × ((i : ℕ) → getD (now arities) i 0 ≤ 6) × (length (now ground) ≡ 17) × (8 * k ≤ length (now rows)) × (at + k ≤ length (now words)) × (at + k ≤ length (now clauses)) ⌝ }
-    ensures { λ r. ⌜ marksIn r (now (words .exit)) (now (clauses .exit)) ≡ marksIn at (now (words .entry)) (now (clauses .entry)) ++ rowMarks time (now (arities .entry)) (now (ground .entry)) (rowsIn k (now (rows .entry))) ⌝ }
+    requires bound { ⌜ length (now ground) ≡ 17 ⌝ }
+    requires literals { ⌜ 8 * k ≤ length (now rows) ⌝ }
+    requires words_room { ⌜ at + k ≤ length (now words) ⌝ }
+    requires clauses_room { ⌜ at + k ≤ length (now clauses) ⌝ }
+    ensures { λ r. ⌜ marksIn r (now (words .exit)) (now (clauses .exit))
+        ≡ marksIn at (now (words .entry)) (now (clauses .entry))
+        ++ rowMarks time (now (head .entry)) (now (ground .entry)) (rowsIn k (now (rows .entry))) ⌝ }
 {
     let mut n = at;
     for i in 0..k {
-        n = put_word(words, clauses, n, time, arities, ground, rows, 8 * i);
+        n = put_word(words, clauses, n, time, head, ground, rows, 8 * i);
     }
     n
 }
 
 // Those of an action with its objects.
 fn ground_words(
-    counts: Counts,
-    arities: &[u8],
-    starts: &[usize],
+    head: &Head,
     table: &[u8],
     time: Time,
     ground: &[u8],
@@ -92,18 +102,21 @@ fn ground_words(
     clauses: &mut [u8],
     n: usize,
 ) -> usize
-    requires { ⌜ Ready counts (now arities) (now starts) (now table) × (length (now ground) ≡ 17) × (n + 64 ≤ length (now words)) × (n + 64 ≤ length (now clauses)) ⌝ }
+    requires bound { ⌜ length (now ground) ≡ 17 ⌝ }
+    requires words_room { ⌜ n + 64 ≤ length (now words) ⌝ }
+    requires clauses_room { ⌜ n + 64 ≤ length (now clauses) ⌝ }
     ensures few { λ r. ⌜ r ≤ n + 64 ⌝ }
-    ensures marks { λ r. ⌜ ((D : Domain) (variables sorts parts : List ℕ) (e : Event)
-        → Lent D counts (now (arities .entry)) variables sorts (now (starts .entry)) parts (now (table .entry)) → GroundFits D (e .ground)
+    ensures marks { λ r. ⌜ ((D : Domain) (e : Event)
+        → Held D (now (head .entry)) (now (table .entry)) → GroundFits D (e .ground)
         → time ≡ timeOf (e .moment) → now (ground .entry) ≡ groundRow (e .ground)
-        → marksIn r (now (words .exit)) (now (clauses .exit)) ≡ marksIn n (now (words .entry)) (now (clauses .entry)) ++ eventMarks D e) ⌝ }
+        → marksIn r (now (words .exit)) (now (clauses .exit))
+        ≡ marksIn n (now (words .entry)) (now (clauses .entry)) ++ eventMarks D e) ⌝ }
 {
     let action = wide(ground[0]);
-    if counts.actions <= action {
+    if actions_in(head) <= action {
         return n;
     }
-    let span = span_of(starts, counts.actions, counts.rows, action);
+    let span = rows_of(head, table, action);
     let from = 8 * span.from;
     let to = 8 * span.to;
     put_words(
@@ -111,7 +124,7 @@ fn ground_words(
         clauses,
         n,
         time,
-        arities,
+        head,
         ground,
         &table[from..to],
         span.to - span.from,
@@ -120,9 +133,7 @@ fn ground_words(
 
 // Those of the waiting event i.
 fn event_words(
-    counts: Counts,
-    arities: &[u8],
-    starts: &[usize],
+    head: &Head,
     table: &[u8],
     moments: &[u8],
     rows: &[u8],
@@ -131,20 +142,23 @@ fn event_words(
     clauses: &mut [u8],
     n: usize,
 ) -> usize
-    requires { ⌜ Ready counts (now arities) (now starts) (now table) × (length (now moments) ≡ 16) × (length (now rows) ≡ 272) × (i < 16)
-        × (n + 64 ≤ length (now words)) × (n + 64 ≤ length (now clauses)) ⌝ }
+    requires moments { ⌜ length (now moments) ≡ 16 ⌝ }
+    requires events { ⌜ length (now rows) ≡ 272 ⌝ }
+    requires event { ⌜ i < 16 ⌝ }
+    requires words_room { ⌜ n + 64 ≤ length (now words) ⌝ }
+    requires clauses_room { ⌜ n + 64 ≤ length (now clauses) ⌝ }
     ensures few { λ r. ⌜ r ≤ n + 64 ⌝ }
-    ensures marks { λ r. ⌜ ((D : Domain) (variables sorts parts : List ℕ) (e : Event)
-        → Lent D counts (now (arities .entry)) variables sorts (now (starts .entry)) parts (now (table .entry)) → GroundFits D (e .ground)
-        → getD (now (moments .entry)) i 0 ≡ momentNumber (e .moment) → take 17 (drop (17 * i) (now (rows .entry))) ≡ groundRow (e .ground)
-        → marksIn r (now (words .exit)) (now (clauses .exit)) ≡ marksIn n (now (words .entry)) (now (clauses .entry)) ++ eventMarks D e) ⌝ }
+    ensures marks { λ r. ⌜ ((D : Domain) (e : Event)
+        → Held D (now (head .entry)) (now (table .entry)) → GroundFits D (e .ground)
+        → getD (now (moments .entry)) i 0 ≡ momentNumber (e .moment)
+        → take 17 (drop (17 * i) (now (rows .entry))) ≡ groundRow (e .ground)
+        → marksIn r (now (words .exit)) (now (clauses .exit))
+        ≡ marksIn n (now (words .entry)) (now (clauses .entry)) ++ eventMarks D e) ⌝ }
 {
     let at = 17 * i;
     let end = at + 17;
     ground_words(
-        counts,
-        arities,
-        starts,
+        head,
         table,
         time_at(moments[i]),
         &rows[at..end],
@@ -156,9 +170,7 @@ fn event_words(
 
 // Those of every waiting event, in order; `ends` gets the count behind each. The count of all.
 fn step_words(
-    counts: Counts,
-    arities: &[u8],
-    starts: &[usize],
+    head: &Head,
     table: &[u8],
     moments: &[u8],
     rows: &[u8],
@@ -167,28 +179,21 @@ fn step_words(
     clauses: &mut [u8],
     ends: &mut [usize],
 ) -> usize
-    requires { ⌜ Ready counts (now arities) (now starts) (now table) × (count ≤ 16) × (length (now words) ≡ 1024) × (length (now clauses) ≡ 1024) × (length (now ends) ≡ 16)
-        × (length (now moments) ≡ 16) × (length (now rows) ≡ 272) ⌝ }
+    requires count { ⌜ count ≤ 16 ⌝ }
+    requires words { ⌜ length (now words) ≡ 1024 ⌝ }
+    requires clauses { ⌜ length (now clauses) ≡ 1024 ⌝ }
+    requires ends { ⌜ length (now ends) ≡ 16 ⌝ }
+    requires moments { ⌜ length (now moments) ≡ 16 ⌝ }
+    requires events { ⌜ length (now rows) ≡ 272 ⌝ }
     ensures few { λ r. ⌜ (r ≤ 1024) × ((i : ℕ) → i < count → getD (now (ends .exit)) i 0 ≤ 1024) ⌝ }
-    ensures laid { λ r. ⌜ ((D : Domain) (variables sorts parts : List ℕ) (es : List Event)
-        → Lent D counts (now (arities .entry)) variables sorts (now (starts .entry)) parts (now (table .entry))
+    ensures laid { λ r. ⌜ ((D : Domain) (es : List Event)
+        → Held D (now (head .entry)) (now (table .entry))
         → record { count = count; moments = now (moments .entry); rows = now (rows .entry) } ≡ waitingOf es → EventsFit D es
         → Laid (map (eventMarks D) es) (now (words .exit)) (now (clauses .exit)) (now (ends .exit)) r) ⌝ }
 {
     let mut n = 0;
     for i in 0..count {
-        n = event_words(
-            counts,
-            arities,
-            starts,
-            table,
-            moments,
-            rows,
-            i,
-            words,
-            clauses,
-            n,
-        );
+        n = event_words(head, table, moments, rows, i, words, clauses, n);
         ends[i] = n;
     }
     n
@@ -203,8 +208,10 @@ fn word_clashes(
     from: usize,
     to: usize,
 ) -> bool
-    requires { ⌜ (to ≤ length (now words)) × (to ≤ length (now clauses)) ⌝ }
-    ensures { λ r. ⌜ r ≡ any (clashes record { clause = clause; word = word }) (drop from (marksIn to (now (words .entry)) (now (clauses .entry)))) ⌝ }
+    requires words_room { ⌜ to ≤ length (now words) ⌝ }
+    requires clauses_room { ⌜ to ≤ length (now clauses) ⌝ }
+    ensures { λ r. ⌜ r ≡ any (clashes record { clause = clause; word = word })
+        (drop from (marksIn to (now (words .entry)) (now (clauses .entry)))) ⌝ }
 {
     let mut j = from;
     while j < to {
@@ -220,8 +227,12 @@ fn word_clashes(
 
 // Whether one of the literals from `from` up to `to` clashes with one of those behind, up to `total`.
 fn words_clash(words: &[u64], clauses: &[u8], from: usize, to: usize, total: usize) -> bool
-    requires { ⌜ (to ≤ length (now words)) × (to ≤ length (now clauses)) × (total ≤ length (now words)) × (total ≤ length (now clauses)) ⌝ }
-    ensures { λ r. ⌜ r ≡ marksClash (drop from (marksIn to (now (words .entry)) (now (clauses .entry)))) (drop to (marksIn total (now (words .entry)) (now (clauses .entry)))) ⌝ }
+    requires words_room { ⌜ to ≤ length (now words) ⌝ }
+    requires clauses_room { ⌜ to ≤ length (now clauses) ⌝ }
+    requires all_words { ⌜ total ≤ length (now words) ⌝ }
+    requires all_clauses { ⌜ total ≤ length (now clauses) ⌝ }
+    ensures { λ r. ⌜ r ≡ marksClash (drop from (marksIn to (now (words .entry)) (now (clauses .entry))))
+        (drop to (marksIn total (now (words .entry)) (now (clauses .entry)))) ⌝ }
 {
     let mut i = from;
     while i < to {
@@ -235,8 +246,14 @@ fn words_clash(words: &[u64], clauses: &[u8], from: usize, to: usize, total: usi
 
 // Whether no literal clashes with one of a later event: the literals of event i end at ends[i].
 fn all_apart(words: &[u64], clauses: &[u8], ends: &[usize], count: usize, total: usize) -> bool
-    requires { ⌜ (length (now words) ≡ 1024) × (length (now clauses) ≡ 1024) × (length (now ends) ≡ 16) × (count ≤ 16) × (total ≤ 1024) × ((i : ℕ) → i < count → getD (now ends) i 0 ≤ 1024) ⌝ }
-    ensures { λ r. ⌜ ((parts : List (List Mark)) → length parts ≡ count → Laid parts (now (words .entry)) (now (clauses .entry)) (now (ends .entry)) total
+    requires words { ⌜ length (now words) ≡ 1024 ⌝ }
+    requires clauses { ⌜ length (now clauses) ≡ 1024 ⌝ }
+    requires ends { ⌜ length (now ends) ≡ 16 ⌝ }
+    requires count { ⌜ count ≤ 16 ⌝ }
+    requires total { ⌜ total ≤ 1024 ⌝ }
+    requires ends_few { ⌜ ((i : ℕ) → i < count → getD (now ends) i 0 ≤ 1024) ⌝ }
+    ensures { λ r. ⌜ ((parts : List (List Mark)) → length parts ≡ count
+        → Laid parts (now (words .entry)) (now (clauses .entry)) (now (ends .entry)) total
         → r ≡ pairwise (λ first later. not (marksClash first later)) parts) ⌝ }
 {
     let mut from = 0;
@@ -251,19 +268,13 @@ fn all_apart(words: &[u64], clauses: &[u8], ends: &[usize], count: usize, total:
 }
 
 // Whether no two waiting events interfere: the literals of all are bound to their objects once, then compared by words.
-pub fn independent(
-    counts: Counts,
-    arities: &[u8],
-    starts: &[usize],
-    table: &[u8],
-    moments: &[u8],
-    rows: &[u8],
-    count: usize,
-) -> bool
-    requires { ⌜ Ready counts (now arities) (now starts) (now table) × (length (now moments) ≡ 16) × (length (now rows) ≡ 272) ⌝ }
-    ensures { λ r. ⌜ ((D : Domain) (variables sorts parts : List ℕ) (es : List Event)
-        → Lent D counts (now (arities .entry)) variables sorts (now (starts .entry)) parts (now (table .entry))
-        → record { count = count; moments = now (moments .entry); rows = now (rows .entry) } ≡ waitingOf es → EventsFit D es → length es ≤ 16 → r ≡ independent D es) ⌝ }
+pub fn independent(head: &Head, table: &[u8], moments: &[u8], rows: &[u8], count: usize) -> bool
+    requires moments { ⌜ length (now moments) ≡ 16 ⌝ }
+    requires events { ⌜ length (now rows) ≡ 272 ⌝ }
+    ensures { λ r. ⌜ ((D : Domain) (es : List Event)
+        → Held D (now (head .entry)) (now (table .entry))
+        → record { count = count; moments = now (moments .entry); rows = now (rows .entry) } ≡ waitingOf es → EventsFit D es
+        → length es ≤ 16 → r ≡ independent D es) ⌝ }
 {
     if 16 < count {
         return false;
@@ -275,9 +286,7 @@ pub fn independent(
     let mut clauses = [0u8; 1024];
     let mut ends = [0usize; 16];
     let total = step_words(
-        counts,
-        arities,
-        starts,
+        head,
         table,
         moments,
         rows,

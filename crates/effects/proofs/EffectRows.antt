@@ -13,13 +13,15 @@ use borrow.Author.Tests.{eq-eqb, ne-eqb}
 use Rattle.records.specs.Lists.{In, keepIf, filterBy, elem, dedup}
 use Rattle.records.specs.Memory.{over}
 use Rattle.records.proofs.Lists.{filter-append, filter-few, flatMap-snoc}
-use Rattle.literals.specs.declared.Counts.{Counts}
+use Rattle.literals.specs.declared.span.Span.{Span}
 use Rattle.literals.specs.declared.Time.{Time}
 use Rattle.literals.specs.declared.Clause.{Clause}
 use Rattle.literals.specs.declared.Role.{Role}
 use Rattle.literals.specs.Domain.{Fact, sameLiteral, sameFact, clauseNumber, Literal, Domain, action}
 use Rattle.literals.specs.Decode.{byte}
 use Rattle.literals.specs.Table.{rowsIn, literalRow}
+use Rattle.literals.specs.Held.{arityIn, Held, SpanOf}
+use Rattle.literals.proofs.Heads.{action-in, arity-limit}
 use Rattle.literals.proofs.Equality.{literal-eq, fact-eq, fact-self}
 use Rattle.literals.proofs.Rows.{part-first, rows-snoc}
 use Rattle.classes.specs.declared.Moment.{Moment}
@@ -31,10 +33,10 @@ use Rattle.verdict.specs.Machine.{Event, eventFacts, stepFacts, GroundAction}
 use Rattle.store.specs.Index.{Sized}
 use Rattle.events.specs.declared.Waiting.{Waiting}
 use Rattle.store.specs.Rows.{factRow}
-use Rattle.events.specs.Coded.{groundRow, waitingOf, GroundFits, EventsFit, Lent, endRow, boundRow, clauseFor, timeOf}
+use Rattle.events.specs.Coded.{groundRow, waitingOf, GroundFits, EventsFit, boundRow, clauseFor, timeOf}
 use Rattle.effects.specs.Effects.{effectRows, flat, eventEffects, stepEffects}
 use Rattle.events.proofs.RowLoops.{length-bound}
-use Rattle.events.proofs.FactRows.{length-fact-row, countsFor, lent-arity, lent-action, lent-kept, lent-bound, ground-rows, noEvent, clause-counts}
+use Rattle.events.proofs.FactRows.{length-fact-row, countsFor, held-kept, held-bound, held-rows, noEvent, clause-counts}
 use Rattle.effects.proofs.Joins.{dedup-map-dedup, same-append, same-elem}
 use Rattle.effects.proofs.FilledRows.{Whole, rows-own, Filled, filled-rows, filled-more, filled-own}
 use Rattle.literals.proofs.Tables.{Kept}
@@ -42,40 +44,40 @@ use Rattle.literals.proofs.Tables.{Kept}
 -- ---- the literals of a clause
 
 -- the facts of the rows of a clause are those of the literals that count with it
-pub effect-facts : (t : Time) (c : Clause) (arities : List ℕ) (g : GroundAction) (ls : List Literal) → ((l : Literal) → In l ls → Kept l)
-    → ((l : Literal) → In l ls → boundRow arities (groundRow g) (literalRow l) ≡ factRow (bind (g .binding) (l .atom)))
-    → effectRows t (suc (clauseNumber c)) arities (groundRow g) (map literalRow ls) ≡ map factRow (map (bind (g .binding)) (withRole (countsFor t c) ls))
+pub effect-facts : (t : Time) (c : Clause) (head : List ℕ) (g : GroundAction) (ls : List Literal) → ((l : Literal) → In l ls → Kept l)
+    → ((l : Literal) → In l ls → boundRow head (groundRow g) (literalRow l) ≡ factRow (bind (g .binding) (l .atom)))
+    → effectRows t (suc (clauseNumber c)) head (groundRow g) (map literalRow ls) ≡ map factRow (map (bind (g .binding)) (withRole (countsFor t c) ls))
 unfolding effectRows
-effect-facts t c arities g [] k h = refl
-effect-facts t c arities g (l ∷ ls) k h =
-    ap (λ (b : Bool). map (boundRow arities (groundRow g)) (keepIf b (literalRow l) (filterBy counted (map literalRow ls)))) (clause-counts t c l (k l (List·Memᴰ·head refl)))
-    ∙ go (countsFor t c (l .role)) (effect-facts t c arities g ls (λ l m. k l (List·Memᴰ·tail m)) (λ l m. h l (List·Memᴰ·tail m)))
+effect-facts t c head g [] k h = refl
+effect-facts t c head g (l ∷ ls) k h =
+    ap (λ (b : Bool). map (boundRow head (groundRow g)) (keepIf b (literalRow l) (filterBy counted (map literalRow ls)))) (clause-counts t c l (k l (List·Memᴰ·head refl)))
+    ∙ go (countsFor t c (l .role)) (effect-facts t c head g ls (λ l m. k l (List·Memᴰ·tail m)) (λ l m. h l (List·Memᴰ·tail m)))
   where
     counted : List ℕ → Bool
     counted row = eqb (clauseFor t (getD row 0 0)) (suc (clauseNumber c))
 
-    go : (b : Bool) → map (boundRow arities (groundRow g)) (filterBy counted (map literalRow ls)) ≡ map factRow (map (bind (g .binding)) (withRole (countsFor t c) ls))
-        → map (boundRow arities (groundRow g)) (keepIf b (literalRow l) (filterBy counted (map literalRow ls)))
+    go : (b : Bool) → map (boundRow head (groundRow g)) (filterBy counted (map literalRow ls)) ≡ map factRow (map (bind (g .binding)) (withRole (countsFor t c) ls))
+        → map (boundRow head (groundRow g)) (keepIf b (literalRow l) (filterBy counted (map literalRow ls)))
         ≡ map factRow (map (bind (g .binding)) (keepIf b (l .atom) (withRole (countsFor t c) ls)))
     go true e = ap₂ (λ (x : List ℕ) (y : List (List ℕ)). x ∷ y) (h l (List·Memᴰ·head refl)) e
     go false e = e
 
 -- ---- the row of one literal
 
-module _ (t : Time) (clause : ℕ) (arities ground rows : List ℕ) (at k : ℕ) (e : k ≡ clauseFor t (getD rows at 0)) where
+module _ (t : Time) (clause : ℕ) (head ground rows : List ℕ) (at k : ℕ) (e : k ≡ clauseFor t (getD rows at 0)) where
   abbrev one : List (List ℕ)
-  one = effectRows t clause arities ground (take 8 (drop at rows) ∷ [])
+  one = effectRows t clause head ground (take 8 (drop at rows) ∷ [])
 
   tested : eqb (clauseFor t (byte (take 8 (drop at rows)) 0)) clause ≡ eqb k clause
   tested = ap (λ (b : ℕ). eqb (clauseFor t b) clause) (part-first rows at) ∙ ap (λ (n : ℕ). eqb n clause) (sym e)
 
-  effect-in : k ≡ clause → one ≡ boundRow arities ground (take 8 (drop at rows)) ∷ []
+  effect-in : k ≡ clause → one ≡ boundRow head ground (take 8 (drop at rows)) ∷ []
   unfolding effectRows
-  effect-in h = ap (λ (b : Bool). map (boundRow arities ground) (keepIf b (take 8 (drop at rows)) [])) (tested ∙ eq-eqb k clause h)
+  effect-in h = ap (λ (b : Bool). map (boundRow head ground) (keepIf b (take 8 (drop at rows)) [])) (tested ∙ eq-eqb k clause h)
 
   effect-out : (k ≡ clause → ⊥) → one ≡ []
   unfolding effectRows
-  effect-out h = ap (λ (b : Bool). map (boundRow arities ground) (keepIf b (take 8 (drop at rows)) [])) (tested ∙ ne-eqb k clause h)
+  effect-out h = ap (λ (b : Bool). map (boundRow head ground) (keepIf b (take 8 (drop at rows)) [])) (tested ∙ ne-eqb k clause h)
 
   module _ (n : ℕ) (out : List ℕ) where
     pub none-count : (k ≡ clause → ⊥) → n ≡ n + length one
@@ -89,51 +91,51 @@ module _ (t : Time) (clause : ℕ) (arities ground rows : List ℕ) (at k : ℕ)
     pub one-count : k ≡ clause → n + 1 ≡ n + length one
     one-count h = let l = ap length (effect-in h) in omega arith
 
-    pub one-rows : k ≡ clause → {row next : List ℕ} → row ≡ boundRow arities ground (take 8 (drop at rows)) → next ≡ over (flat (rowsIn n out ++ (row ∷ []))) out
+    pub one-rows : k ≡ clause → {row next : List ℕ} → row ≡ boundRow head ground (take 8 (drop at rows)) → next ≡ over (flat (rowsIn n out ++ (row ∷ []))) out
         → next ≡ over (flat (rowsIn n out ++ one)) out
     one-rows h f g = g ∙ ap (λ (l : List (List ℕ)). over (flat (rowsIn n out ++ l)) out) (ap {B = List (List ℕ)} (λ r. r ∷ []) f ∙ sym (effect-in h))
 
 -- ---- the rows of an action's literals
 
-module _ (t : Time) (clause : ℕ) (arities ground : List ℕ) where
-  pub effects-few : (l : List (List ℕ)) → length (effectRows t clause arities ground l) ≤ length l
+module _ (t : Time) (clause : ℕ) (head ground : List ℕ) where
+  pub effects-few : (l : List (List ℕ)) → length (effectRows t clause head ground l) ≤ length l
   unfolding effectRows
   effects-few l =
       let f = filter-few (λ (row : List ℕ). eqb (clauseFor t (byte row 0)) clause) l in
-      let m = length-map (filterBy (λ (row : List ℕ). eqb (clauseFor t (byte row 0)) clause) l) (boundRow arities ground) in
+      let m = length-map (filterBy (λ (row : List ℕ). eqb (clauseFor t (byte row 0)) clause) l) (boundRow head ground) in
       omega arith
 
-  effects-snoc : (l : List (List ℕ)) (row : List ℕ) → effectRows t clause arities ground (l ++ (row ∷ [])) ≡ effectRows t clause arities ground l ++ effectRows t clause arities ground (row ∷ [])
+  effects-snoc : (l : List (List ℕ)) (row : List ℕ) → effectRows t clause head ground (l ++ (row ∷ [])) ≡ effectRows t clause head ground l ++ effectRows t clause head ground (row ∷ [])
   unfolding effectRows
   effects-snoc l row =
-      ap (map (boundRow arities ground)) (filter-append (λ (row : List ℕ). eqb (clauseFor t (byte row 0)) clause) l (row ∷ []))
-      ∙ map-append (boundRow arities ground) (filterBy (λ (row : List ℕ). eqb (clauseFor t (byte row 0)) clause) l) (filterBy (λ (row : List ℕ). eqb (clauseFor t (byte row 0)) clause) (row ∷ []))
+      ap (map (boundRow head ground)) (filter-append (λ (row : List ℕ). eqb (clauseFor t (byte row 0)) clause) l (row ∷ []))
+      ∙ map-append (boundRow head ground) (filterBy (λ (row : List ℕ). eqb (clauseFor t (byte row 0)) clause) l) (filterBy (λ (row : List ℕ). eqb (clauseFor t (byte row 0)) clause) (row ∷ []))
 
-  module _ (rows : List ℕ) (few : (i : ℕ) → getD arities i 0 ≤ 6) where
-    whole-one : (at : ℕ) → at + 8 ≤ length rows → Whole (effectRows t clause arities ground (take 8 (drop at rows) ∷ []))
+  module _ (rows : List ℕ) where
+    whole-one : (at : ℕ) → at + 8 ≤ length rows → Whole (effectRows t clause head ground (take 8 (drop at rows) ∷ []))
     unfolding effectRows boundRow
     whole-one at h = go (eqb (clauseFor t (byte (take 8 (drop at rows)) 0)) clause)
       where
-        go : (b : Bool) → Whole (map (boundRow arities ground) (keepIf b (take 8 (drop at rows)) []))
-        go true row (List·Memᴰ·head e) = ap length e ∙ length-bound (getD arities (byte (take 8 (drop at rows)) 1) 0) ground rows at h (few (byte (take 8 (drop at rows)) 1))
+        go : (b : Bool) → Whole (map (boundRow head ground) (keepIf b (take 8 (drop at rows)) []))
+        go true row (List·Memᴰ·head e) = ap length e ∙ length-bound (arityIn head (byte (take 8 (drop at rows)) 1)) ground rows at h (arity-limit head (byte (take 8 (drop at rows)) 1))
         go true row (List·Memᴰ·tail m) = absurd (List·Memᴰ·not-nil m)
         go false row m = absurd (List·Memᴰ·not-nil m)
 
     -- one row more
     pub effects-more : (first : List (List ℕ)) (j n : ℕ) {out old : List ℕ} → 8 * j + 8 ≤ length rows → 8 * n + 8 ≤ length old
-        → Filled (first ++ effectRows t clause arities ground (rowsIn j rows)) n out old
-        → {m : ℕ} {next : List ℕ} → m ≡ n + length (effectRows t clause arities ground (take 8 (drop (8 * j) rows) ∷ []))
-        → next ≡ over (flat (rowsIn n out ++ effectRows t clause arities ground (take 8 (drop (8 * j) rows) ∷ []))) out
-        → Filled (first ++ effectRows t clause arities ground (rowsIn (j + 1) rows)) m next old
+        → Filled (first ++ effectRows t clause head ground (rowsIn j rows)) n out old
+        → {m : ℕ} {next : List ℕ} → m ≡ n + length (effectRows t clause head ground (take 8 (drop (8 * j) rows) ∷ []))
+        → next ≡ over (flat (rowsIn n out ++ effectRows t clause head ground (take 8 (drop (8 * j) rows) ∷ []))) out
+        → Filled (first ++ effectRows t clause head ground (rowsIn (j + 1) rows)) m next old
     effects-more first j n {out} {old} h g F {m} {next} e f =
         let o = effects-few (take 8 (drop (8 * j) rows) ∷ []) in
         subst (λ (l : List (List ℕ)). Filled l m next old)
-        (append-assoc first (effectRows t clause arities ground (rowsIn j rows)) (effectRows t clause arities ground (take 8 (drop (8 * j) rows) ∷ []))
-        ∙ ap (λ (l : List (List ℕ)). first ++ l) (sym (ap (effectRows t clause arities ground) (rows-snoc j rows) ∙ effects-snoc (rowsIn j rows) (take 8 (drop (8 * j) rows)))))
-        (filled-more F (effectRows t clause arities ground (take 8 (drop (8 * j) rows) ∷ [])) (whole-one (8 * j) h) e (omega arith) f)
+        (append-assoc first (effectRows t clause head ground (rowsIn j rows)) (effectRows t clause head ground (take 8 (drop (8 * j) rows) ∷ []))
+        ∙ ap (λ (l : List (List ℕ)). first ++ l) (sym (ap (effectRows t clause head ground) (rows-snoc j rows) ∙ effects-snoc (rowsIn j rows) (take 8 (drop (8 * j) rows)))))
+        (filled-more F (effectRows t clause head ground (take 8 (drop (8 * j) rows) ∷ [])) (whole-one (8 * j) h) e (omega arith) f)
 
   -- before the first
-  pub effects-begin : (n : ℕ) (out rows : List ℕ) → 8 * n ≤ length out → Filled (rowsIn n out ++ effectRows t clause arities ground (rowsIn 0 rows)) n out out
+  pub effects-begin : (n : ℕ) (out rows : List ℕ) → 8 * n ≤ length out → Filled (rowsIn n out ++ effectRows t clause head ground (rowsIn 0 rows)) n out out
   unfolding effectRows
   effects-begin n out rows h = subst (λ (l : List (List ℕ)). Filled l n out out) (sym (append-nil (rowsIn n out))) (filled-own n out h)
 
@@ -162,49 +164,45 @@ whole-facts b p (l ∷ ls) h row m = go (p (l .role)) (λ r k. whole-facts b p l
     go true w row (List·Memᴰ·tail m) = w row m
     go false w row m = w row m
 
-module _ (D : Domain) (n : Counts) (arities variables sorts starts parts table : List ℕ) (L : Lent D n arities variables sorts starts parts table) (e : Event) (F : GroundFits D (e .ground)) (c : Clause) where
+module _ {D : Domain} {head table : List ℕ} (H : Held D head table) (e : Event) (F : GroundFits D (e .ground)) (c : Clause) where
   pub whole-event : Whole (map factRow (eventEffects D e c))
   whole-event =
       subst (λ (l : List Fact). Whole (map factRow l)) (sym (event-at D e c))
       (whole-facts (e .ground .binding) (countsFor (timeOf (e .moment)) c) (action D (e .ground .action) .lits)
-      (λ l m. lent-kept D n arities variables sorts starts parts table L (e .ground .action) (F .listed) l m .fits))
+      (λ l m. held-kept H (e .ground .action) (F .listed) l m .fits))
 
   -- the rows of its action, as the code finds them
-  pub lent-effects : (t : Time) (ground : List ℕ) (clause : ℕ) → t ≡ timeOf (e .moment) → ground ≡ groundRow (e .ground) → clause ≡ suc (clauseNumber c)
-      → (from to : ℕ) → from ≡ getD starts (getD ground 0 0) 0 → to ≡ endRow n starts (getD ground 0 0)
-      → effectRows t clause arities ground (rowsIn (to - from) (take (8 * to - 8 * from) (drop (8 * from) table))) ≡ map factRow (eventEffects D e c)
-  lent-effects t ground clause s f g from to p q =
+  pub held-effects : (t : Time) (ground : List ℕ) (clause : ℕ) → t ≡ timeOf (e .moment) → ground ≡ groundRow (e .ground) → clause ≡ suc (clauseNumber c)
+      → (r : Span) → SpanOf D (e .ground .action) table r
+      → effectRows t clause head ground (rowsIn (r .to - r .from) (take (8 * r .to - 8 * r .from) (drop (8 * r .from) table))) ≡ map factRow (eventEffects D e c)
+  held-effects t ground clause s f g r S =
       let ls = action D (e .ground .action) .lits in
-      ap₂ (λ (u : Time) (x : List ℕ). effectRows u clause arities x (rowsIn (to - from) (take (8 * to - 8 * from) (drop (8 * from) table)))) s f
-      ∙ ap₂ (λ (k : ℕ) (l : List (List ℕ)). effectRows (timeOf (e .moment)) k arities (groundRow (e .ground)) l) g
-      (ground-rows D n arities variables sorts starts parts table L (e .ground) F ground f from to p q)
-      ∙ effect-facts (timeOf (e .moment)) c arities (e .ground) ls
-      (lent-kept D n arities variables sorts starts parts table L (e .ground .action) (F .listed))
-      (lent-bound D n arities variables sorts starts parts table L (e .ground) F)
+      ap₂ (λ (u : Time) (x : List ℕ). effectRows u clause head x (rowsIn (r .to - r .from) (take (8 * r .to - 8 * r .from) (drop (8 * r .from) table)))) s f
+      ∙ ap₂ (λ (k : ℕ) (l : List (List ℕ)). effectRows (timeOf (e .moment)) k head (groundRow (e .ground)) l) g (held-rows H (e .ground .action) (F .listed) r S)
+      ∙ effect-facts (timeOf (e .moment)) c head (e .ground) ls (held-kept H (e .ground .action) (F .listed)) (held-bound H (e .ground) F)
       ∙ ap (map factRow) (sym (event-at D e c))
 
 -- each has the arity of its relation
-sized-facts : (arities : List ℕ) (b : Binding) (p : Role → Bool) (ls : List Literal) → ((l : Literal) → In l ls → length (l .atom .args) ≡ getD arities (l .atom .rel) 0)
-    → Sized arities (map factRow (map (bind b) (withRole p ls)))
-sized-facts arities b p [] h row m = absurd (List·Memᴰ·not-nil m)
-sized-facts arities b p (l ∷ ls) h row m = go (p (l .role)) (λ r k. sized-facts arities b p ls (λ k m. h k (List·Memᴰ·tail m)) r k) row m
+sized-facts : (head : List ℕ) (b : Binding) (p : Role → Bool) (ls : List Literal) → ((l : Literal) → In l ls → length (l .atom .args) ≡ arityIn head (l .atom .rel))
+    → Sized head (map factRow (map (bind b) (withRole p ls)))
+sized-facts head b p [] h row m = absurd (List·Memᴰ·not-nil m)
+sized-facts head b p (l ∷ ls) h row m = go (p (l .role)) (λ r k. sized-facts head b p ls (λ k m. h k (List·Memᴰ·tail m)) r k) row m
   where
-    go : (t : Bool) → Sized arities (map factRow (map (bind b) (withRole p ls))) → Sized arities (map factRow (map (bind b) (keepIf t (l .atom) (withRole p ls))))
+    go : (t : Bool) → Sized head (map factRow (map (bind b) (withRole p ls))) → Sized head (map factRow (map (bind b) (keepIf t (l .atom) (withRole p ls))))
     go true w row (List·Memᴰ·head e) =
-        ap (λ (r : List ℕ). byte r 1) e ∙ length-map (l .atom .args) (valueOf b) ∙ h l (List·Memᴰ·head refl) ∙ sym (ap (λ (r : List ℕ). getD arities (byte r 0) 0) e)
+        ap (λ (r : List ℕ). byte r 1) e ∙ length-map (l .atom .args) (valueOf b) ∙ h l (List·Memᴰ·head refl) ∙ sym (ap (λ (r : List ℕ). arityIn head (byte r 0)) e)
     go true w row (List·Memᴰ·tail m) = w row m
     go false w row m = w row m
 
-module _ (D : Domain) (n : Counts) (arities variables sorts starts parts table : List ℕ) (L : Lent D n arities variables sorts starts parts table) (c : Clause) where
-  event-sized : (e : Event) → GroundFits D (e .ground) → Sized arities (map factRow (eventEffects D e c))
+module _ {D : Domain} {head table : List ℕ} (H : Held D head table) (c : Clause) where
+  event-sized : (e : Event) → GroundFits D (e .ground) → Sized head (map factRow (eventEffects D e c))
   event-sized e F =
       let i = e .ground .action in
-      subst (λ (l : List Fact). Sized arities (map factRow l)) (sym (event-at D e c))
-      (sized-facts arities (e .ground .binding) (countsFor (timeOf (e .moment)) c) (action D i .lits)
-      (λ l m. L .held .bounded .literalArity (action D i) (lent-action D n arities variables sorts starts parts table L i (F .listed)) l m
-      ∙ sym (lent-arity D n arities variables sorts starts parts table L (l .atom .rel))))
+      subst (λ (l : List Fact). Sized head (map factRow l)) (sym (event-at D e c))
+      (sized-facts head (e .ground .binding) (countsFor (timeOf (e .moment)) c) (action D i .lits)
+      (λ l m. H .says .bounded .literalArity (action D i) (action-in H i (F .listed)) l m ∙ sym (H .says .arities (l .atom .rel))))
 
-  pub step-sized : (es : List Event) → EventsFit D es → Sized arities (map factRow (stepEffects D es c))
+  pub step-sized : (es : List Event) → EventsFit D es → Sized head (map factRow (stepEffects D es c))
   unfolding stepEffects flatMap
   step-sized [] F row m = absurd (List·Memᴰ·not-nil m)
   step-sized (e ∷ es) F row m =
@@ -253,11 +251,11 @@ module _ (D : Domain) (es : List Event) (c : Clause) where
       (F .count ∙ length-map (stepEffects D (take i es) c) factRow ∙ ap length e, filled-rows F ∙ ap (map factRow) e)
 
 -- where the loop over the waiting events stands
-pub record InEvents (n : Counts) (arities starts table : List ℕ) (clause : ℕ) (w : Waiting) (old out : List ℕ) (k i : ℕ) : Type 0 where
+pub record InEvents (head table : List ℕ) (clause : ℕ) (w : Waiting) (old out : List ℕ) (k i : ℕ) : Type 0 where
   pub reach : i ≤ w .count
   pub few : k ≤ 64 * i
   pub sized : length out ≡ length old
-  pub filled : (D : Domain) (variables sorts parts : List ℕ) (es : List Event) (c : Clause) → Lent D n arities variables sorts starts parts table → w ≡ waitingOf es → EventsFit D es → clause ≡ suc (clauseNumber c)
+  pub filled : (D : Domain) (es : List Event) (c : Clause) → Held D head table → w ≡ waitingOf es → EventsFit D es → clause ≡ suc (clauseNumber c)
       → Filled (map factRow (stepEffects D (take i es) c)) k out old
 
 -- ---- as the machine counts them: a literal that stands twice adds or strikes one fact

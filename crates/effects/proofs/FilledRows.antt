@@ -17,7 +17,7 @@ use Rattle.literals.proofs.Rows.{length-part, rows-snoc, rows-whole}
 use Rattle.literals.proofs.Tables.{length-flat, rows-flat}
 use Rattle.classes.proofs.KeyRows.{length-rows}
 use Rattle.store.specs.Rows.{hasRow}
-use Rattle.effects.specs.Effects.{flat, joinRow, joinRows, atMost}
+use Rattle.effects.specs.Effects.{flat, joinRow, joinRows, atMost, stays, keptOf}
 use Rattle.effects.proofs.Joins.{joined-rows, join-snoc, join-append}
 
 -- ---- the first rows of a memory
@@ -131,10 +131,6 @@ filled-own n out h = record { count = sym (length-rows 8 n out); room = h; whole
 
 -- ---- rows that are kept
 
--- the row is not among these
-abbrev pub stays : List (List ℕ) → List ℕ → Bool
-stays struck row = not (hasRow row struck)
-
 module _ (struck : List (List ℕ)) (row : List ℕ) where
   pub left-out : hasRow row struck ≡ true → filterBy (stays struck) (row ∷ []) ≡ []
   left-out t = ap (λ (b : Bool). keepIf (not b) row []) t
@@ -152,9 +148,6 @@ module _ (struck : List (List ℕ)) (row : List ℕ) where
         ∙ ap (λ (l : List (List ℕ)). over (flat l) out) (sym (ap (λ (l : List (List ℕ)). rowsIn k out ++ l) (left-out t) ∙ append-nil (rowsIn k out)))
 
 -- those kept of the first i rows
-abbrev pub keptOf : List (List ℕ) → List ℕ → ℕ → List (List ℕ)
-keptOf struck work i = filterBy (stays struck) (rowsIn i work)
-
 pub kept-few : (struck : List (List ℕ)) (work : List ℕ) (i : ℕ) → length (keptOf struck work i) ≤ i
 kept-few struck work i =
     let f = filter-few (stays struck) (rowsIn i work) in

@@ -18,8 +18,8 @@ use Rattle.literals.proofs.Rows.{part-at, rows-more, rows-end, rows-snoc}
 use Rattle.classes.proofs.KeyRows.{length-rows, rows-at}
 use Rattle.store.specs.Index.{Sized, Indexed}
 use Rattle.store.specs.Rows.{hasRow}
-use Rattle.effects.specs.Effects.{Marked, flat, joinRow, atMost}
-use Rattle.effects.proofs.FilledRows.{Filled, filled-rows, filled-own, stays, left-out, keptOf, kept-few, kept-next, kept-more, joinedOf, joined-next, joined-on, stopped-count, stopped-rows, joined-all, joined-out}
+use Rattle.effects.specs.Effects.{Marked, flat, joinRow, atMost, SizedRow, HoldsJoined, stays, keptOf}
+use Rattle.effects.proofs.FilledRows.{Filled, filled-rows, filled-own, left-out, kept-few, kept-next, kept-more, joinedOf, joined-next, joined-on, stopped-count, stopped-rows, joined-all, joined-out}
 
 -- ---- marks
 
@@ -42,43 +42,43 @@ unmarked marks rows row M z = sym (off (hasRow row rows) (λ t. let e = M row (e
 
 -- ---- the index beside rows that are kept
 
-module _ {arities : List ℕ} {keys : ℕ} {parts : List (List ℕ)} {index : List ℕ} (struck : List (List ℕ)) (row : List ℕ) (before after : List (List ℕ)) where
-  pub left-indexed : hasRow row struck ≡ true → Indexed arities keys parts index (before ++ after)
-      → Indexed arities keys parts index ((before ++ filterBy (stays struck) (row ∷ [])) ++ after)
+module _ {head index : List ℕ} (struck : List (List ℕ)) (row : List ℕ) (before after : List (List ℕ)) where
+  pub left-indexed : hasRow row struck ≡ true → Indexed head index (before ++ after)
+      → Indexed head index ((before ++ filterBy (stays struck) (row ∷ [])) ++ after)
   left-indexed t I =
-      subst (λ (l : List (List ℕ)). Indexed arities keys parts index (l ++ after))
+      subst (λ (l : List (List ℕ)). Indexed head index (l ++ after))
       (sym (ap (λ (l : List (List ℕ)). before ++ l) (left-out struck row t) ∙ append-nil before)) I
 
 -- where the loop over the rows of the work memory stands
-pub record Keeping (struck : List (List ℕ)) (work : List ℕ) (n keys : ℕ) (parts : List (List ℕ)) (out₀ index₀ out index : List ℕ) (k i : ℕ) : Type 0 where
+pub record Keeping (struck : List (List ℕ)) (work : List ℕ) (n : ℕ) (head out₀ index₀ out index : List ℕ) (k i : ℕ) : Type 0 where
   pub reach : i ≤ n
   pub few : k ≤ i
   pub filled : Filled (keptOf struck work i) k out out₀
   pub same : length index ≡ length index₀
-  pub indexed : (arities : List ℕ) → Indexed arities keys parts index₀ (rowsIn n work) → Indexed arities keys parts index (keptOf struck work i ++ rowsIn (n - i) (drop (8 * i) work))
+  pub indexed : Indexed head index₀ (rowsIn n work) → Indexed head index (keptOf struck work i ++ rowsIn (n - i) (drop (8 * i) work))
   pub beside : getD index 12288 0 ≡ getD index₀ 12288 0
 
-pub keeping-begin : (struck : List (List ℕ)) (work : List ℕ) (n keys : ℕ) (parts : List (List ℕ)) (out index : List ℕ) → Keeping struck work n keys parts out index out index 0 0
-keeping-begin struck work n keys parts out index =
+pub keeping-begin : (struck : List (List ℕ)) (work : List ℕ) (n : ℕ) (head out index : List ℕ) → Keeping struck work n head out index out index 0 0
+keeping-begin struck work n head out index =
     record {
       reach = omega arith;
       few = omega arith;
       filled = filled-own 0 out (omega arith);
       same = refl;
-      indexed = λ arities I. let e : n ≡ n - 0 = omega arith in subst (λ (k : ℕ). Indexed arities keys parts index (rowsIn k work)) e I;
+      indexed = λ I. let e : n ≡ n - 0 = omega arith in subst (λ (k : ℕ). Indexed head index (rowsIn k work)) e I;
       beside = refl;
     }
 
-module _ {struck : List (List ℕ)} {work : List ℕ} {n keys : ℕ} {parts : List (List ℕ)} {out₀ index₀ out index : List ℕ} {k i : ℕ} (K : Keeping struck work n keys parts out₀ index₀ out index k i) where
+module _ {struck : List (List ℕ)} {work : List ℕ} {n : ℕ} {head out₀ index₀ out index : List ℕ} {k i : ℕ} (K : Keeping struck work n head out₀ index₀ out index k i) where
   abbrev read : List ℕ
   read = take 8 (drop (8 * i) work)
 
   -- one row more
   pub keeping-more : i < n → 8 * n ≤ length work → 8 * n ≤ length out₀ → {m : ℕ} {next index′ : List ℕ} → m ≡ k + length (filterBy (stays struck) (read ∷ []))
       → next ≡ over (flat (rowsIn k out ++ filterBy (stays struck) (read ∷ []))) out
-      → ((arities : List ℕ) (before after : List (List ℕ)) → Indexed arities keys parts index (before ++ (read ∷ after))
-      → Indexed arities keys parts index′ ((before ++ filterBy (stays struck) (read ∷ [])) ++ after))
-      → length index′ ≡ length index → getD index′ 12288 0 ≡ getD index 12288 0 → Keeping struck work n keys parts out₀ index₀ next index′ m (i + 1)
+      → ((before after : List (List ℕ)) → Indexed head index (before ++ (read ∷ after))
+      → Indexed head index′ ((before ++ filterBy (stays struck) (read ∷ [])) ++ after))
+      → length index′ ≡ length index → getD index′ 12288 0 ≡ getD index 12288 0 → Keeping struck work n head out₀ index₀ next index′ m (i + 1)
   keeping-more h w o {m} {next} {index′} e f x s b =
       let q = K .few in
       let F = kept-more struck work i k (omega arith) q (omega arith) (K .filled) e f in
@@ -90,10 +90,10 @@ module _ {struck : List (List ℕ)} {work : List ℕ} {n keys : ℕ} {parts : Li
         filled = F;
         same = s ∙ K .same;
         indexed =
-            λ arities I.
-            subst (λ (l : List (List ℕ)). Indexed arities keys parts index′ (l ++ rowsIn (n - (i + 1)) (drop (8 * (i + 1)) work))) (sym (kept-next struck work i))
-            (x arities (keptOf struck work i) (rowsIn (n - (i + 1)) (drop (8 * (i + 1)) work))
-            (subst (λ (l : List (List ℕ)). Indexed arities keys parts index (keptOf struck work i ++ l)) (rows-more 8 work n i h) (K .indexed arities I)));
+            λ I.
+            subst (λ (l : List (List ℕ)). Indexed head index′ (l ++ rowsIn (n - (i + 1)) (drop (8 * (i + 1)) work))) (sym (kept-next struck work i))
+            (x (keptOf struck work i) (rowsIn (n - (i + 1)) (drop (8 * (i + 1)) work))
+            (subst (λ (l : List (List ℕ)). Indexed head index (keptOf struck work i ++ l)) (rows-more 8 work n i h) (K .indexed I)));
         beside = b ∙ K .beside;
       }
 
@@ -104,97 +104,99 @@ module _ {struck : List (List ℕ)} {work : List ℕ} {n keys : ℕ} {parts : Li
     pub keeping-rows : out ≡ over (flat (keptOf struck work n)) out₀
     keeping-rows = K .filled .bytes ∙ ap (λ (i : ℕ). over (flat (keptOf struck work i)) out₀) e
 
-    pub keeping-indexed : (arities : List ℕ) → Indexed arities keys parts index₀ (rowsIn n work) → Indexed arities keys parts index (keptOf struck work n)
-    keeping-indexed arities I =
-        subst (Indexed arities keys parts index)
+    pub keeping-indexed : Indexed head index₀ (rowsIn n work) → Indexed head index (keptOf struck work n)
+    keeping-indexed I =
+        subst (Indexed head index)
         (ap (λ (l : List (List ℕ)). keptOf struck work i ++ l) (rows-end 8 (drop (8 * i) work) n i (omega arith)) ∙ append-nil (keptOf struck work i) ∙ ap (keptOf struck work) e)
-        (K .indexed arities I)
+        (K .indexed I)
 
 -- ---- the index beside rows that join
 
 -- a row with the arity of its relation, by another name
-pub sized-as : (arities : List ℕ) {row at : List ℕ} → row ≡ at → byte at 1 ≡ getD arities (byte at 0) 0 → byte row 1 ≡ getD arities (byte row 0) 0
-sized-as arities e b = ap (λ (r : List ℕ). byte r 1) e ∙ b ∙ sym (ap (λ (r : List ℕ). getD arities (byte r 0) 0) e)
+pub sized-as : (head : List ℕ) {row at : List ℕ} → row ≡ at → SizedRow head at → SizedRow head row
+sized-as head e b = subst (SizedRow head) (sym e) b
 
-module _ {arities : List ℕ} {keys : ℕ} {parts : List (List ℕ)} {index : List ℕ} (rows : List (List ℕ)) {row at : List ℕ} (e : row ≡ at) where
-  pub there-indexed : hasRow row rows ≡ true → Indexed arities keys parts index rows → Indexed arities keys parts index (joinRow rows at)
-  there-indexed t I = subst (λ (b : Bool). Indexed arities keys parts index (cond b rows (rows ++ (at ∷ [])))) (sym (ap (λ (r : List ℕ). hasRow r rows) (sym e) ∙ t)) I
+module _ {head index : List ℕ} (rows : List (List ℕ)) {row at : List ℕ} (e : row ≡ at) where
+  pub there-indexed : hasRow row rows ≡ true → Indexed head index rows → Indexed head index (joinRow rows at)
+  there-indexed t I = subst (λ (b : Bool). Indexed head index (cond b rows (rows ++ (at ∷ [])))) (sym (ap (λ (r : List ℕ). hasRow r rows) (sym e) ∙ t)) I
 
-  pub new-indexed : hasRow row rows ≡ false → Indexed arities keys parts index (rows ++ (at ∷ [])) → Indexed arities keys parts index (joinRow rows at)
-  new-indexed t I = subst (λ (b : Bool). Indexed arities keys parts index (cond b rows (rows ++ (at ∷ [])))) (sym (ap (λ (r : List ℕ). hasRow r rows) (sym e) ∙ t)) I
+  pub new-indexed : hasRow row rows ≡ false → Indexed head index (rows ++ (at ∷ [])) → Indexed head index (joinRow rows at)
+  new-indexed t I = subst (λ (b : Bool). Indexed head index (cond b rows (rows ++ (at ∷ [])))) (sym (ap (λ (r : List ℕ). hasRow r rows) (sym e) ∙ t)) I
 
 -- what is told of a row that joins
-pub record Joined (row : List ℕ) (keys : ℕ) (parts : List (List ℕ)) (out index next index′ : List ℕ) (n r : ℕ) : Type 0 where
+pub record Joined (row head out index next index′ : List ℕ) (n r : ℕ) : Type 0 where
   pub few : (n ≤ r) × (r ≤ 1025)
-  pub count : (arities : List ℕ) → Indexed arities keys parts index (rowsIn n out) → byte row 1 ≡ getD arities (byte row 0) 0 → r ≡ atMost 1024 (length (joinRow (rowsIn n out) row))
-  pub bytes : (arities : List ℕ) → Indexed arities keys parts index (rowsIn n out) → byte row 1 ≡ getD arities (byte row 0) 0 → next ≡ over (flat (take 1024 (joinRow (rowsIn n out) row))) out
-  pub indexed : (arities : List ℕ) → Indexed arities keys parts index (rowsIn n out) → byte row 1 ≡ getD arities (byte row 0) 0 → r ≤ 1024
-      → Indexed arities keys parts index′ (joinRow (rowsIn n out) row)
+  pub joined : Indexed head index (rowsIn n out) → SizedRow head row → HoldsJoined head (joinRow (rowsIn n out) row) out r next index′
   pub beside : getD index′ 12288 0 ≡ getD index 12288 0
   pub room : length next ≡ length out
   pub same : length index′ ≡ length index
 
 -- where the loop over the rows that join stands
-pub record Joining (adds : List ℕ) (m count keys : ℕ) (parts : List (List ℕ)) (out₀ index₀ out index : List ℕ) (n j : ℕ) : Type 0 where
+pub record Joining (adds : List ℕ) (m count : ℕ) (head out₀ index₀ out index : List ℕ) (n j : ℕ) : Type 0 where
   pub reach : j ≤ m
   pub least : count ≤ n
   pub most : n ≤ 1024
   pub room : length out ≡ length out₀
   pub same : length index ≡ length index₀
-  pub filled : (arities : List ℕ) → Indexed arities keys parts index₀ (rowsIn count out₀) → Sized arities (rowsIn m adds) → Filled (joinedOf (rowsIn count out₀) adds j) n out out₀
-  pub indexed : (arities : List ℕ) → Indexed arities keys parts index₀ (rowsIn count out₀) → Sized arities (rowsIn m adds)
-      → Indexed arities keys parts index (joinedOf (rowsIn count out₀) adds j)
+  pub filled : Indexed head index₀ (rowsIn count out₀) → Sized head (rowsIn m adds) → Filled (joinedOf (rowsIn count out₀) adds j) n out out₀
+  pub indexed : Indexed head index₀ (rowsIn count out₀) → Sized head (rowsIn m adds)
+      → Indexed head index (joinedOf (rowsIn count out₀) adds j)
   pub beside : getD index 12288 0 ≡ getD index₀ 12288 0
 
-pub joining-begin : (adds : List ℕ) (m count keys : ℕ) (parts : List (List ℕ)) (out index : List ℕ) → count ≤ 1024 → length out ≡ 8192
-    → Joining adds m count keys parts out index out index count 0
-joining-begin adds m count keys parts out index h w =
+pub joining-begin : (adds : List ℕ) (m count : ℕ) (head out index : List ℕ) → count ≤ 1024 → length out ≡ 8192
+    → Joining adds m count head out index out index count 0
+joining-begin adds m count head out index h w =
     record {
       reach = omega arith;
       least = omega arith;
       most = h;
       room = refl;
       same = refl;
-      filled = λ arities I S. filled-own count out (omega arith);
-      indexed = λ arities I S. I;
+      filled = λ I S. filled-own count out (omega arith);
+      indexed = λ I S. I;
       beside = refl;
     }
 
-module _ {adds : List ℕ} {m count keys : ℕ} {parts : List (List ℕ)} {out₀ index₀ out index : List ℕ} {n j : ℕ} (K : Joining adds m count keys parts out₀ index₀ out index n j) where
+module _ {adds : List ℕ} {m count : ℕ} {head out₀ index₀ out index : List ℕ} {n j : ℕ} (K : Joining adds m count head out₀ index₀ out index n j) where
   abbrev first : List (List ℕ)
   first = rowsIn count out₀
 
-  module _ (h : j < m) (g : 8 * m ≤ length adds) (w : length out₀ ≡ 8192) {r : ℕ} {next index′ : List ℕ} (J : Joined (take 8 (drop (8 * j) adds)) keys parts out index next index′ n r) where
-    module _ (arities : List ℕ) (I : Indexed arities keys parts index₀ first) (S : Sized arities (rowsIn m adds)) where
+  module _ (h : j < m) (g : 8 * m ≤ length adds) (w : length out₀ ≡ 8192) {r : ℕ} {next index′ : List ℕ} (J : Joined (take 8 (drop (8 * j) adds)) head out index next index′ n r) where
+    module _ (I : Indexed head index₀ first) (S : Sized head (rowsIn m adds)) where
       F : Filled (joinedOf first adds j) n out out₀
-      F = K .filled arities I S
+      F = K .filled I S
 
-      held : Indexed arities keys parts index (rowsIn n out)
-      held = subst (Indexed arities keys parts index) (sym (filled-rows F)) (K .indexed arities I S)
+      held : Indexed head index (rowsIn n out)
+      held = subst (Indexed head index) (sym (filled-rows F)) (K .indexed I S)
 
-      row-sized : byte (take 8 (drop (8 * j) adds)) 1 ≡ getD arities (byte (take 8 (drop (8 * j) adds)) 0) 0
+      row-sized : SizedRow head (take 8 (drop (8 * j) adds))
       row-sized =
           S (take 8 (drop (8 * j) adds))
           (subst (λ (row : List ℕ). In row (rowsIn m adds)) (rows-at 8 m adds j [] h) (let l = length-rows 8 m adds in getD-in (rowsIn m adds) j [] (omega arith)))
 
-      -- without room: whatever comes later does not change the answer
-      pub joining-stop-count : 1024 < r → r ≡ atMost 1024 (length (joinedOf first adds m))
-      joining-stop-count k = stopped-count first adds j n (omega arith) (K .most) w F (J .count arities held row-sized) (J .bytes arities held row-sized) m (omega arith) k
+      H : HoldsJoined head (joinRow (rowsIn n out) (take 8 (drop (8 * j) adds))) out r next index′
+      H = J .joined held row-sized
 
-      pub joining-stop-rows : 1024 < r → next ≡ over (flat (take 1024 (joinedOf first adds m))) out₀
-      joining-stop-rows k = stopped-rows first adds j n (omega arith) (K .most) w F (J .count arities held row-sized) (J .bytes arities held row-sized) m (omega arith) k
+      -- without room: whatever comes later does not change the answer
+      pub joining-stop : 1024 < r → HoldsJoined head (joinedOf first adds m) out₀ r next index′
+      joining-stop k =
+          record {
+            count = stopped-count first adds j n (omega arith) (K .most) w F (H .count) (H .bytes) m (omega arith) k;
+            bytes = stopped-rows first adds j n (omega arith) (K .most) w F (H .count) (H .bytes) m (omega arith) k;
+            indexed = λ q. absurd (omega arith);
+          }
 
       filled-on : r ≤ 1024 → Filled (joinedOf first adds (j + 1)) r next out₀
-      filled-on k = joined-on first adds j n (omega arith) (K .most) w F (J .count arities held row-sized) (J .bytes arities held row-sized) k
+      filled-on k = joined-on first adds j n (omega arith) (K .most) w F (H .count) (H .bytes) k
 
-      indexed-on : r ≤ 1024 → Indexed arities keys parts index′ (joinedOf first adds (j + 1))
+      indexed-on : r ≤ 1024 → Indexed head index′ (joinedOf first adds (j + 1))
       indexed-on k =
-          subst (Indexed arities keys parts index′)
+          subst (Indexed head index′)
           (ap (λ (l : List (List ℕ)). joinRow l (take 8 (drop (8 * j) adds))) (filled-rows F) ∙ sym (joined-next first adds j))
-          (J .indexed arities held row-sized k)
+          (H .indexed k)
 
     -- with room for it
-    pub joining-more : r ≤ 1024 → Joining adds m count keys parts out₀ index₀ next index′ r (j + 1)
+    pub joining-more : r ≤ 1024 → Joining adds m count head out₀ index₀ next index′ r (j + 1)
     joining-more k =
         let l = K .least in
         let f = J .few .0 in
@@ -204,18 +206,16 @@ module _ {adds : List ℕ} {m count keys : ℕ} {parts : List (List ℕ)} {out�
           most = k;
           room = J .room ∙ K .room;
           same = J .same ∙ K .same;
-          filled = λ arities I S. filled-on arities I S k;
-          indexed = λ arities I S. indexed-on arities I S k;
+          filled = λ I S. filled-on I S k;
+          indexed = λ I S. indexed-on I S k;
           beside = J .beside ∙ K .beside;
         }
 
   -- all have joined
-  module _ (e : j ≡ m) (arities : List ℕ) (I : Indexed arities keys parts index₀ first) (S : Sized arities (rowsIn m adds)) where
-    pub joining-count : n ≡ atMost 1024 (length (joinedOf first adds m))
-    joining-count = joined-all (K .most) (K .filled arities I S) ∙ ap (λ (k : ℕ). atMost 1024 (length (joinedOf first adds k))) e
-
-    pub joining-rows : out ≡ over (flat (take 1024 (joinedOf first adds m))) out₀
-    joining-rows = joined-out (K .most) (K .filled arities I S) ∙ ap (λ (k : ℕ). over (flat (take 1024 (joinedOf first adds k))) out₀) e
-
-    pub joining-indexed : Indexed arities keys parts index (joinedOf first adds m)
-    joining-indexed = subst (λ (k : ℕ). Indexed arities keys parts index (joinedOf first adds k)) e (K .indexed arities I S)
+  pub joining-all : j ≡ m → Indexed head index₀ first → Sized head (rowsIn m adds) → HoldsJoined head (joinedOf first adds m) out₀ n out index
+  joining-all e I S =
+      record {
+        count = joined-all (K .most) (K .filled I S) ∙ ap (λ (k : ℕ). atMost 1024 (length (joinedOf first adds k))) e;
+        bytes = joined-out (K .most) (K .filled I S) ∙ ap (λ (k : ℕ). over (flat (take 1024 (joinedOf first adds k))) out₀) e;
+        indexed = λ q. subst (λ (k : ℕ). Indexed head index (joinedOf first adds k)) e (K .indexed I S);
+      }

@@ -18,9 +18,9 @@ use Rattle.literals.proofs.Rows.{rows-last, rows-whole}
 use Rattle.classes.proofs.KeyRows.{length-rows, rows-at}
 use Rattle.store.specs.Rows.{hasRow}
 use Rattle.store.specs.Index.{Indexed}
-use Rattle.effects.specs.Effects.{Once, struckOf, FirstStruck, flat}
+use Rattle.effects.specs.Effects.{Once, struckOf, FirstStruck, flat, stays, keptOf}
 use Rattle.effects.proofs.Joins.{none-left, row-sound, row-self}
-use Rattle.effects.proofs.FilledRows.{rows-rest, flat-rows, length-whole, rows-own, Filled, filled-length, filled-more, stays, kept-in, left-count, left-rows, keptOf, kept-next}
+use Rattle.effects.proofs.FilledRows.{rows-rest, flat-rows, length-whole, rows-own, Filled, filled-length, filled-more, kept-in, left-count, left-rows, kept-next}
 use Rattle.effects.proofs.IndexedRows.{left-indexed, Keeping, keeping-more}
 
 -- ---- the first struck row
@@ -60,7 +60,7 @@ all-gone struck work n from h o g =
     }
 
 -- those that are not kept are gone
-pub gone-count : {struck : List (List ℕ)} {work : List ℕ} {n keys : ℕ} {parts : List (List ℕ)} {out₀ index₀ out index : List ℕ} {k i : ℕ} → Keeping struck work n keys parts out₀ index₀ out index k i
+pub gone-count : {struck : List (List ℕ)} {work : List ℕ} {n : ℕ} {head out₀ index₀ out index : List ℕ} {k i : ℕ} → Keeping struck work n head out₀ index₀ out index k i
     → i - k ≡ struckOf struck work i
 gone-count {struck} {work} {i = i} K =
     let c = K .filled .count in
@@ -101,7 +101,7 @@ put-run k q out t h =
     ∙ ap (λ (b : List ℕ). over (flat (rowsIn k out) ++ b) out) (sym (flat-rows q t))
     ∙ ap (λ (b : List ℕ). over b out) (sym (flatMap-append (λ (row : List ℕ). row) (rowsIn k out) (rowsIn q t)))
 
-module _ {struck : List (List ℕ)} {work : List ℕ} {n keys : ℕ} {parts : List (List ℕ)} {out₀ index₀ out index : List ℕ} {k i : ℕ} (K : Keeping struck work n keys parts out₀ index₀ out index k i)
+module _ {struck : List (List ℕ)} {work : List ℕ} {n : ℕ} {head out₀ index₀ out index : List ℕ} {k i : ℕ} (K : Keeping struck work n head out₀ index₀ out index k i)
     (p : ℕ) (S : FirstStruck struck work n i p) (w : 8 * n ≤ length work) (o : 8 * n ≤ length out₀) {m : ℕ} {next : List ℕ} (c : m ≡ k + (p - i))
     (f : next ≡ paste out (8 * k) (take (8 * p - 8 * i) (drop (8 * i) work)) (length (take (8 * p - 8 * i) (drop (8 * i) work)))) where
   abbrev rest : List ℕ
@@ -114,7 +114,7 @@ module _ {struck : List (List ℕ)} {work : List ℕ} {n keys : ℕ} {parts : Li
       sym (run-kept struck work i (p - i) (λ j x y. S .others j x (omega arith))) ∙ ap (keptOf struck work) u
 
   -- the rows up to the first that is struck
-  pub keeping-run : Keeping struck work n keys parts out₀ index₀ next index m p
+  pub keeping-run : Keeping struck work n head out₀ index₀ next index m p
   keeping-run =
       let b = S .behind in
       let e = S .within in
@@ -134,23 +134,23 @@ module _ {struck : List (List ℕ)} {work : List ℕ} {n keys : ℕ} {parts : Li
             (f ∙ ap (λ (z : ℕ). paste out (8 * k) (take z rest) (length (take z rest))) v ∙ put-run k (p - i) out rest (omega arith)));
         same = K .same;
         indexed =
-            λ arities I.
-            subst (Indexed arities keys parts index)
+            λ I.
+            subst (Indexed head index)
             (ap (λ (l : List (List ℕ)). keptOf struck work i ++ l) (rows-rest (n - i) (p - i) rest (omega arith))
             ∙ sym (append-assoc (keptOf struck work i) (rowsIn (p - i) rest) (rowsIn (n - i - (p - i)) (drop (8 * (p - i)) rest)))
             ∙ ap₂ (λ (l r : List (List ℕ)). l ++ r) run-all (ap₂ rowsIn x (drop-drop (8 * (p - i)) (8 * i) work ∙ ap (λ (z : ℕ). drop z work) y)))
-            (K .indexed arities I);
+            (K .indexed I);
         beside = K .beside;
       }
 
   -- and that one, which leaves the index
   pub keeping-struck : p < n → {index′ : List ℕ}
-      → ((arities : List ℕ) (before after : List (List ℕ)) → Indexed arities keys parts index (before ++ (take 8 (drop (8 * p) work) ∷ after)) → Indexed arities keys parts index′ (before ++ after))
-      → length index′ ≡ length index → getD index′ 12288 0 ≡ getD index 12288 0 → Keeping struck work n keys parts out₀ index₀ next index′ m (p + 1)
+      → ((before after : List (List ℕ)) → Indexed head index (before ++ (take 8 (drop (8 * p) work) ∷ after)) → Indexed head index′ (before ++ after))
+      → length index′ ≡ length index → getD index′ 12288 0 ≡ getD index 12288 0 → Keeping struck work n head out₀ index₀ next index′ m (p + 1)
   keeping-struck h x s b =
       let row : List ℕ = take 8 (drop (8 * p) work) in
       let t = S .found h in
       let g = keeping-run .few in
       let r = filled-length (keeping-run .filled) in
       keeping-more keeping-run h w o (left-count struck row m next t) (left-rows struck row m next t (omega arith))
-      (λ arities before after I. left-indexed struck row before after t (x arities before after I)) s b
+      (λ before after I. left-indexed struck row before after t (x before after I)) s b

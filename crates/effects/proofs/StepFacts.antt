@@ -17,11 +17,11 @@ use Rattle.verdict.specs.Judged.{objectNumbers, factBytes}
 use Rattle.verdict.specs.Machine.{Event, stepFacts, factsAfter}
 use Rattle.store.specs.Index.{Sized, Indexed}
 use Rattle.store.specs.Rows.{factRow}
-use Rattle.effects.specs.Effects.{joinRows, Once, atMost, flat, stepEffects, HoldsAfter}
+use Rattle.effects.specs.Effects.{joinRows, Once, atMost, flat, stepEffects, HoldsJoined, HoldsAfter, stays, keptOf}
 use Rattle.events.proofs.FactRows.{same-row}
 use Rattle.effects.proofs.Joins.{outside-map, dedup-map, distinct-map, joined-rows}
 use Rattle.literals.proofs.Rows.{rows-whole}
-use Rattle.effects.proofs.FilledRows.{Whole, whole-append, length-whole, fill-again, Filled, filled-rows, stays, keptOf, kept-few, behind, most-inside}
+use Rattle.effects.proofs.FilledRows.{Whole, whole-append, length-whole, fill-again, Filled, filled-rows, kept-few, behind, most-inside}
 use Rattle.effects.proofs.EffectRows.{step-once, step-elem}
 
 -- ---- the rows of facts
@@ -82,23 +82,20 @@ module _ (D : Domain) (fs : List Fact) (es : List Event) where
 -- ---- as the code leaves it
 
 -- the rows that are struck and those that are added, the work memory, and out and the index before, after what is kept and after what joins
-pub record Done (keys : ℕ) (parts : List (List ℕ)) (struck work adds : List ℕ) (m n k : ℕ) (out₀ out₁ out₂ index₀ index₁ index₂ : List ℕ) (kept facts : ℕ) : Type 0 where
+pub record Done (head struck work adds : List ℕ) (m n k : ℕ) (out₀ out₁ out₂ index₀ index₁ index₂ : List ℕ) (kept facts : ℕ) : Type 0 where
   pub small : n ≤ 1024
   pub within : 8 * n ≤ length work
   pub addsWithin : 8 * k ≤ length adds
   pub room : length out₀ ≡ 8192
   pub keptCount : kept ≡ length (keptOf (rowsIn m struck) work n)
   pub keptBytes : out₁ ≡ over (flat (keptOf (rowsIn m struck) work n)) out₀
-  pub keptIndexed : (arities : List ℕ) → Indexed arities keys parts index₀ (rowsIn n work) → Indexed arities keys parts index₁ (keptOf (rowsIn m struck) work n)
+  pub keptIndexed : Indexed head index₀ (rowsIn n work) → Indexed head index₁ (keptOf (rowsIn m struck) work n)
   pub joinedFew : (kept ≤ facts) × (facts ≤ 1025)
-  pub joinedCount : (arities : List ℕ) → Indexed arities keys parts index₁ (rowsIn kept out₁) → Sized arities (rowsIn k adds) → facts ≡ atMost 1024 (length (joinRows (rowsIn kept out₁) (rowsIn k adds)))
-  pub joinedBytes : (arities : List ℕ) → Indexed arities keys parts index₁ (rowsIn kept out₁) → Sized arities (rowsIn k adds)
-      → out₂ ≡ over (flat (take 1024 (joinRows (rowsIn kept out₁) (rowsIn k adds)))) out₁
-  pub joinedIndexed : (arities : List ℕ) → Indexed arities keys parts index₁ (rowsIn kept out₁) → Sized arities (rowsIn k adds) → facts ≤ 1024
-      → Indexed arities keys parts index₂ (joinRows (rowsIn kept out₁) (rowsIn k adds))
+  pub joined : Indexed head index₁ (rowsIn kept out₁) → Sized head (rowsIn k adds)
+      → HoldsJoined head (joinRows (rowsIn kept out₁) (rowsIn k adds)) out₁ facts out₂ index₂
 
-module _ {keys : ℕ} {parts : List (List ℕ)} {struck work adds : List ℕ} {m n k : ℕ} {out₀ out₁ out₂ index₀ index₁ index₂ : List ℕ} {kept facts : ℕ}
-    (X : Done keys parts struck work adds m n k out₀ out₁ out₂ index₀ index₁ index₂ kept facts) where
+module _ {head struck work adds : List ℕ} {m n k : ℕ} {out₀ out₁ out₂ index₀ index₁ index₂ : List ℕ} {kept facts : ℕ}
+    (X : Done head struck work adds m n k out₀ out₁ out₂ index₀ index₁ index₂ kept facts) where
   abbrev keptRows : List (List ℕ)
   keptRows = keptOf (rowsIn m struck) work n
 
@@ -142,15 +139,18 @@ module _ {keys : ℕ} {parts : List (List ℕ)} {struck work adds : List ℕ} {m
         ∙ length-whole (map factRow (factsAfter D fs es)) (subst Whole (sym all-joined ∙ after-rows) (whole-append keptRows newRows (filled .whole) new-whole))
         ∙ ap (λ (i : ℕ). 8 * i) (length-map (factsAfter D fs es) factRow)
 
-    module _ (arities : List ℕ) (I : Indexed arities keys parts index₀ (map factRow fs)) (S : Sized arities (map factRow (stepEffects D es Add))) where
-      kept-held : Indexed arities keys parts index₁ (rowsIn kept out₁)
-      kept-held = subst (Indexed arities keys parts index₁) (sym (filled-rows filled)) (X .keptIndexed arities (subst (Indexed arities keys parts index₀) (sym u) I))
+    module _ (I : Indexed head index₀ (map factRow fs)) (S : Sized head (map factRow (stepEffects D es Add))) where
+      kept-held : Indexed head index₁ (rowsIn kept out₁)
+      kept-held = subst (Indexed head index₁) (sym (filled-rows filled)) (X .keptIndexed (subst (Indexed head index₀) (sym u) I))
 
-      added-sized : Sized arities (rowsIn k adds)
-      added-sized = subst (Sized arities) (sym t) S
+      added-sized : Sized head (rowsIn k adds)
+      added-sized = subst (Sized head) (sym t) S
+
+      H : HoldsJoined head (joinRows (rowsIn kept out₁) (rowsIn k adds)) out₁ facts out₂ index₂
+      H = X .joined kept-held added-sized
 
       after-count : facts ≡ atMost 1024 (length (factsAfter D fs es))
-      after-count = X .joinedCount arities kept-held added-sized ∙ ap (atMost 1024) (ap length after-rows ∙ length-map (factsAfter D fs es) factRow)
+      after-count = H .count ∙ ap (atMost 1024) (ap length after-rows ∙ length-map (factsAfter D fs es) factRow)
 
       after-written : out₂ ≡ over (factBytes (take 1024 (factsAfter D fs es))) out₀
       after-written =
@@ -158,7 +158,7 @@ module _ {keys : ℕ} {parts : List (List ℕ)} {struck work adds : List ℕ} {m
           let a = X .small in
           let z : 1024 ≡ length keptRows + (1024 - length keptRows) = omega arith in
           let first = ap (take 1024) all-joined ∙ ap (λ (i : ℕ). take i (keptRows ++ newRows)) z ∙ take-append-add keptRows newRows (1024 - length keptRows) in
-          X .joinedBytes arities kept-held added-sized
+          H .bytes
           ∙ ap₂ (λ (l : List (List ℕ)) (x : List ℕ). over (flat l) x) first (X .keptBytes)
           ∙ fill-again keptRows (take (1024 - length keptRows) newRows) out₀
           ∙ ap (λ (l : List (List ℕ)). over (flat l) out₀) (sym first ∙ ap (take 1024) after-rows ∙ take-map factRow 1024 (factsAfter D fs es))
@@ -169,10 +169,10 @@ module _ {keys : ℕ} {parts : List (List ℕ)} {struck work adds : List ℕ} {m
           ap (take (8 * length (factsAfter D fs es))) (after-written ∙ ap (λ (l : List Fact). over (factBytes l) out₀) (take-all 1024 (factsAfter D fs es) y))
           ∙ take-over (factBytes (factsAfter D fs es)) out₀ (8 * length (factsAfter D fs es)) after-length
 
-      after-indexed : length (factsAfter D fs es) ≤ 1024 → Indexed arities keys parts index₂ (map factRow (factsAfter D fs es))
+      after-indexed : length (factsAfter D fs es) ≤ 1024 → Indexed head index₂ (map factRow (factsAfter D fs es))
       after-indexed y =
           let c : facts ≡ length (factsAfter D fs es) = after-count ∙ sym (most-inside (length (factsAfter D fs es)) y) in
-          subst (Indexed arities keys parts index₂) after-rows (X .joinedIndexed arities kept-held added-sized (omega arith))
+          subst (Indexed head index₂) after-rows (H .indexed (omega arith))
 
-      pub holds-after : HoldsAfter D fs es arities keys parts out₀ (record { kept = kept; facts = facts }) out₂ index₂
+      pub holds-after : HoldsAfter D fs es head out₀ (record { kept = kept; facts = facts }) out₂ index₂
       holds-after = record { kept = after-kept; facts = after-count; written = after-written; held = after-held; indexed = after-indexed }

@@ -1,6 +1,6 @@
 -- What a step adds and strikes, by the rows of its events' literals. Assumes nothing.
 use mathlib.Core.Path.{_≡_}
-use mathlib.Core.Bool.{true, false, not, cond}
+use mathlib.Core.Bool.{Bool, true, false, not, cond}
 use mathlib.Core.List.{List, [], _∷_, _++_, map, flatMap}
 use Prim.Native.Nat.{ℕ, suc, _*_, _≤_, _<_}
 use lib.Dec.{eqb, ltb}
@@ -13,6 +13,7 @@ use Rattle.literals.specs.declared.Clause.the-variants.{Delete}
 use Rattle.literals.specs.Domain.{Fact, sameFact, Domain, action}
 use Rattle.literals.specs.Decode.{byte}
 use Rattle.literals.specs.Table.{rowsIn}
+use Rattle.literals.specs.Held.{arityIn}
 use Rattle.classes.specs.Classes.{own, withRole}
 use Rattle.verdict.specs.Binding.{bind}
 use Rattle.verdict.specs.Judged.{factBytes}
@@ -27,7 +28,7 @@ use Rattle.effects.specs.declared.After.{After}
 -- the facts of an event's literals of one clause
 unfoldable pub effectRows : Time → ℕ → List ℕ → List ℕ → List (List ℕ) → List (List ℕ)
 unfolding clauseFor boundRow
-effectRows t clause arities ground rows = map (boundRow arities ground) (filterBy (λ row. eqb (clauseFor t (byte row 0)) clause) rows)
+effectRows t clause head ground rows = map (boundRow head ground) (filterBy (λ row. eqb (clauseFor t (byte row 0)) clause) rows)
 
 -- a row more, where it is not there yet; several
 abbrev pub joinRow : List (List ℕ) → List ℕ → List (List ℕ)
@@ -37,6 +38,25 @@ abbrev pub joinRows : List (List ℕ) → List (List ℕ) → List (List ℕ)
 joinRows rows [] = rows
 joinRows rows (row ∷ more) = joinRows (joinRow rows row) more
 
+-- a count, or one more than the limit where it is above it
+abbrev pub atMost : ℕ → ℕ → ℕ
+atMost limit n = cond (ltb limit n) (suc limit) n
+
+-- the bytes of rows, one row behind the other
+abbrev pub flat : List (List ℕ) → List ℕ
+flat rows = flatMap (λ (row : List ℕ). row) rows
+
+-- a row with the arity of its relation
+abbrev pub SizedRow : List ℕ → List ℕ → Type 0
+SizedRow head row = byte row 1 ≡ arityIn head (byte row 0)
+
+-- what joining leaves where these are the rows then, in a memory that was `old` before: how many they are, their bytes, and
+-- their index where they fit
+pub record HoldsJoined (head : List ℕ) (rows : List (List ℕ)) (old : List ℕ) (r : ℕ) (out index : List ℕ) : Type 0 where
+  pub count : r ≡ atMost 1024 (length rows)
+  pub bytes : out ≡ over (flat (take 1024 rows)) old
+  pub indexed : r ≤ 1024 → Indexed head index rows
+
 -- no row stands twice
 abbrev pub Once : List (List ℕ) → Type 0
 Once rows = distinct (sameList eqb) rows ≡ true
@@ -44,6 +64,13 @@ Once rows = distinct (sameList eqb) rows ≡ true
 -- how many of the first n rows of a memory are one of these
 abbrev pub struckOf : List (List ℕ) → List ℕ → ℕ → ℕ
 struckOf struck work n = countBy (λ (row : List ℕ). hasRow row struck) (rowsIn n work)
+
+-- those that are none of these
+abbrev pub stays : List (List ℕ) → List ℕ → Bool
+stays struck row = not (hasRow row struck)
+
+abbrev pub keptOf : List (List ℕ) → List ℕ → ℕ → List (List ℕ)
+keptOf struck work n = filterBy (stays struck) (rowsIn n work)
 
 -- of the first n rows of a memory, the first from a row on that is one of these; n where there is none
 pub record FirstStruck (struck : List (List ℕ)) (work : List ℕ) (n from r : ℕ) : Type 0 where
@@ -56,15 +83,7 @@ pub record FirstStruck (struck : List (List ℕ)) (work : List ℕ) (n from r : 
 abbrev pub Marked : List ℕ → List (List ℕ) → Type 0
 Marked marks rows = (row : List ℕ) → In row rows → getD marks (byte row 2) 0 ≡ 1
 
--- a count, or one more than the limit where it is above it
-abbrev pub atMost : ℕ → ℕ → ℕ
-atMost limit n = cond (ltb limit n) (suc limit) n
-
 -- ---- effects
-
--- the bytes of rows, one row behind the other
-abbrev pub flat : List (List ℕ) → List ℕ
-flat rows = flatMap (λ (row : List ℕ). row) rows
 
 -- the facts of an event's literals of one clause, one for each literal: those of `eventFacts`, where a literal that stands twice counts twice
 unfoldable pub eventEffects : Domain → Event → Clause → List Fact
@@ -77,9 +96,10 @@ unfolding eventEffects flatMap
 stepEffects D es c = flatMap (λ e. eventEffects D e c) es
 
 -- what a step leaves of facts, in a memory that was `old` before: how many are kept and how many there are then, their bytes, and their index
-pub record HoldsAfter (D : Domain) (fs : List Fact) (es : List Event) (arities : List ℕ) (keys : ℕ) (parts : List (List ℕ)) (old : List ℕ) (r : After) (out index : List ℕ) : Type 0 where
+pub record HoldsAfter (D : Domain) (fs : List Fact) (es : List Event) (head old : List ℕ) (r : After) (out index : List ℕ)
+    : Type 0 where
   pub kept : r .kept ≡ length (filterBy (λ (f : Fact). not (elem sameFact f (stepFacts D es Delete))) fs)
   pub facts : r .facts ≡ atMost 1024 (length (factsAfter D fs es))
   pub written : out ≡ over (factBytes (take 1024 (factsAfter D fs es))) old
   pub held : length (factsAfter D fs es) ≤ 1024 → take (8 * length (factsAfter D fs es)) out ≡ factBytes (factsAfter D fs es)
-  pub indexed : length (factsAfter D fs es) ≤ 1024 → Indexed arities keys parts index (map factRow (factsAfter D fs es))
+  pub indexed : length (factsAfter D fs es) ≤ 1024 → Indexed head index (map factRow (factsAfter D fs es))

@@ -3,32 +3,32 @@ use events::facts::bound_row;
 use events::facts::clause_for;
 use events::facts::time_at;
 use events::waits::put_bytes;
-use literals::Counts;
 use literals::Time;
 use literals::fields::wide;
-use literals::span::span_of;
+use literals::head::Head;
+use literals::head::actions_in;
+use literals::head::rows_of;
 use store::index::enter;
 use store::index::is_held;
 use store::index::leave;
 use store::rows::has_row;
 use store::rows::row_at;
 ghost use mathlib.Core.Path.{_≡_};
-ghost use mathlib.Core.Bool.{not};
 ghost use mathlib.Core.List.{List, [], _∷_, _++_, map};
-ghost use Prim.Native.Nat.{ℕ, suc, _+_, _*_, _<_, _≤_};
+ghost use Prim.Native.Nat.{suc, _+_, _*_, _<_, _≤_};
 ghost use lib.ListN.{length, getD, take, drop};
-ghost use Rattle.records.specs.Lists.{filterBy};
 ghost use Rattle.records.specs.Memory.{over};
 ghost use Rattle.literals.specs.declared.Clause.{Clause};
 ghost use Rattle.literals.specs.Domain.{Fact, clauseNumber, Domain};
-ghost use Rattle.literals.specs.Decode.{byte};
 ghost use Rattle.literals.specs.Table.{rowsIn};
+ghost use Rattle.literals.specs.Held.{Held};
 ghost use Rattle.classes.specs.Classes.{momentNumber};
 ghost use Rattle.verdict.specs.Machine.{Event};
 ghost use Rattle.store.specs.Index.{Sized, Indexed};
 ghost use Rattle.store.specs.Rows.{factRow, hasRow};
-ghost use Rattle.events.specs.Coded.{groundRow, waitingOf, GroundFits, EventsFit, Lent, Ready, timeOf};
-ghost use Rattle.effects.specs.Effects.{Once, struckOf, FirstStruck, Marked, HoldsAfter, effectRows, joinRow, joinRows, atMost, flat, eventEffects, stepEffects};
+ghost use Rattle.events.specs.Coded.{groundRow, waitingOf, GroundFits, EventsFit, timeOf};
+ghost use Rattle.effects.specs.Effects.{effectRows, flat, eventEffects, stepEffects, HoldsAfter};
+ghost use Rattle.effects.specs.Effects.{Once, struckOf, FirstStruck, Marked, keptOf, SizedRow, joinRow, joinRows, HoldsJoined};
 
 // A row behind the first n.
 fn put_row(out: &mut [u8], n: usize, row: [u8; 8])
@@ -42,7 +42,8 @@ fn put_row(out: &mut [u8], n: usize, row: [u8; 8])
 
 // Marks the third bytes of the first m rows.
 fn put_marks(marks: &mut [u8], rows: &[u8], m: usize)
-    requires { ⌜ (length (now marks) ≡ 256) × (8 * m ≤ length (now rows)) ⌝ }
+    requires marks { ⌜ length (now marks) ≡ 256 ⌝ }
+    requires rows { ⌜ 8 * m ≤ length (now rows) ⌝ }
     ensures { λ _. ⌜ Marked (now (marks .exit)) (rowsIn m (now (rows .entry))) ⌝ }
 {
     for j in 0..m {
@@ -53,7 +54,10 @@ fn put_marks(marks: &mut [u8], rows: &[u8], m: usize)
 
 // Whether the row at an offset of the work memory is struck; most are told by their third byte, the first argument.
 fn is_struck(work: &[u8], at: usize, marks: &[u8], struck: &[u8], m: usize) -> bool
-    requires { ⌜ (at + 8 ≤ length (now work)) × (length (now marks) ≡ 256) × (8 * m ≤ length (now struck)) × Marked (now marks) (rowsIn m (now struck)) ⌝ }
+    requires row { ⌜ at + 8 ≤ length (now work) ⌝ }
+    requires marks { ⌜ length (now marks) ≡ 256 ⌝ }
+    requires struck { ⌜ 8 * m ≤ length (now struck) ⌝ }
+    requires marked { ⌜ Marked (now marks) (rowsIn m (now struck)) ⌝ }
     ensures { λ r. ⌜ r ≡ hasRow (take 8 (drop at (now (work .entry)))) (rowsIn m (now (struck .entry))) ⌝ }
 {
     let first = wide(work[at + 2]);
@@ -63,7 +67,8 @@ fn is_struck(work: &[u8], at: usize, marks: &[u8], struck: &[u8], m: usize) -> b
     has_row(struck, m, row_at(work, at))
 }
 
-// The first struck row of the work memory from a row on, of n; n where there is none. No row stands twice, so none is left to find once as many are gone as are struck.
+// The first struck row of the work memory from a row on, of n; n where there is none. No row stands twice, so none is left to
+// find once as many are gone as are struck.
 fn struck_from(
     work: &[u8],
     n: usize,
@@ -73,8 +78,14 @@ fn struck_from(
     struck: &[u8],
     m: usize,
 ) -> usize
-    requires { ⌜ (n ≤ 1024) × (8 * n ≤ length (now work)) × (from ≤ n) × (length (now marks) ≡ 256) × (8 * m ≤ length (now struck)) × Marked (now marks) (rowsIn m (now struck))
-        × Once (rowsIn n (now work)) × (gone ≡ struckOf (rowsIn m (now struck)) (now work) from) ⌝ }
+    requires few { ⌜ n ≤ 1024 ⌝ }
+    requires rows { ⌜ 8 * n ≤ length (now work) ⌝ }
+    requires from { ⌜ from ≤ n ⌝ }
+    requires marks { ⌜ length (now marks) ≡ 256 ⌝ }
+    requires struck { ⌜ 8 * m ≤ length (now struck) ⌝ }
+    requires marked { ⌜ Marked (now marks) (rowsIn m (now struck)) ⌝ }
+    requires once { ⌜ Once (rowsIn n (now work)) ⌝ }
+    requires gone { ⌜ gone ≡ struckOf (rowsIn m (now struck)) (now work) from ⌝ }
     ensures { λ r. ⌜ FirstStruck (rowsIn m (now (struck .entry))) (now (work .entry)) n from r ⌝ }
 {
     if m <= gone {
@@ -92,23 +103,25 @@ fn struck_from(
 
 // The rows of the work memory that are not struck, in order, to the front of out; how many they are. The others leave the index.
 fn keep_rows(
+    head: &Head,
     work: &[u8],
     n: usize,
     struck: &[u8],
     m: usize,
     out: &mut [u8],
     index: &mut [u64],
-    parts: &[u8],
-    components: usize,
-    keys: usize,
 ) -> usize
-    requires { ⌜ (n ≤ 1024) × (8 * n ≤ length (now work)) × (8 * m ≤ length (now struck)) × (8 * n ≤ length (now out))
-        × (length (now index) ≡ 12289) × (8 * components ≤ length (now parts)) × (keys ≤ 6) × Once (rowsIn n (now work)) ⌝ }
-    ensures count { λ r. ⌜ r ≡ length (filterBy (λ (row : List ℕ). not (hasRow row (rowsIn m (now (struck .entry))))) (rowsIn n (now (work .entry)))) ⌝ }
-    ensures rows { λ _. ⌜ now (out .exit) ≡ over (flat (filterBy (λ (row : List ℕ). not (hasRow row (rowsIn m (now (struck .entry))))) (rowsIn n (now (work .entry))))) (now (out .entry)) ⌝ }
-    ensures indexed { λ _. ⌜ ((arities : List ℕ)
-        → Indexed arities keys (rowsIn components (now (parts .entry))) (now (index .entry)) (rowsIn n (now (work .entry)))
-        → Indexed arities keys (rowsIn components (now (parts .entry))) (now (index .exit)) (filterBy (λ (row : List ℕ). not (hasRow row (rowsIn m (now (struck .entry))))) (rowsIn n (now (work .entry))))) ⌝ }
+    requires few { ⌜ n ≤ 1024 ⌝ }
+    requires rows { ⌜ 8 * n ≤ length (now work) ⌝ }
+    requires struck { ⌜ 8 * m ≤ length (now struck) ⌝ }
+    requires room { ⌜ 8 * n ≤ length (now out) ⌝ }
+    requires index { ⌜ length (now index) ≡ 12289 ⌝ }
+    requires once { ⌜ Once (rowsIn n (now work)) ⌝ }
+    ensures count { λ r. ⌜ r ≡ length (keptOf (rowsIn m (now (struck .entry))) (now (work .entry)) n) ⌝ }
+    ensures rows { λ _. ⌜ now (out .exit)
+        ≡ over (flat (keptOf (rowsIn m (now (struck .entry))) (now (work .entry)) n)) (now (out .entry)) ⌝ }
+    ensures indexed { λ _. ⌜ (Indexed (now (head .entry)) (now (index .entry)) (rowsIn n (now (work .entry)))
+        → Indexed (now (head .entry)) (now (index .exit)) (keptOf (rowsIn m (now (struck .entry))) (now (work .entry)) n)) ⌝ }
     ensures beside { λ _. ⌜ getD (now (index .exit)) 12288 0 ≡ getD (now (index .entry)) 12288 0 ⌝ }
 {
     let mut marks = [0u8; 256];
@@ -125,33 +138,30 @@ fn keep_rows(
         if n <= next {
             return k;
         }
-        leave(index, parts, components, keys, work, to);
+        leave(index, head, work, to);
         i = next + 1;
     }
 }
 
-// The row at an offset of what is added, behind the first n rows of out and into the index, where it is not there yet; the count then, or 1,025 where there is no room.
+// The row at an offset of what is added, behind the first n rows of out and into the index, where it is not there yet; the
+// count then, or 1,025 where there is no room.
 fn join_row(
+    head: &Head,
     adds: &[u8],
     at: usize,
     out: &mut [u8],
     n: usize,
     index: &mut [u64],
-    parts: &[u8],
-    components: usize,
-    keys: usize,
 ) -> usize
-    requires { ⌜ (at + 8 ≤ length (now adds)) × (n ≤ 1024) × (length (now out) ≡ 8192) × (length (now index) ≡ 12289) × (8 * components ≤ length (now parts)) × (keys ≤ 6) ⌝ }
+    requires row { ⌜ at + 8 ≤ length (now adds) ⌝ }
+    requires few { ⌜ n ≤ 1024 ⌝ }
+    requires room { ⌜ length (now out) ≡ 8192 ⌝ }
+    requires index { ⌜ length (now index) ≡ 12289 ⌝ }
     ensures few { λ r. ⌜ (n ≤ r) × (r ≤ 1025) ⌝ }
-    ensures count { λ r. ⌜ ((arities : List ℕ) → Indexed arities keys (rowsIn components (now (parts .entry))) (now (index .entry)) (rowsIn n (now (out .entry)))
-        → byte (take 8 (drop at (now (adds .entry)))) 1 ≡ getD arities (byte (take 8 (drop at (now (adds .entry)))) 0) 0
-        → r ≡ atMost 1024 (length (joinRow (rowsIn n (now (out .entry))) (take 8 (drop at (now (adds .entry))))))) ⌝ }
-    ensures rows { λ _. ⌜ ((arities : List ℕ) → Indexed arities keys (rowsIn components (now (parts .entry))) (now (index .entry)) (rowsIn n (now (out .entry)))
-        → byte (take 8 (drop at (now (adds .entry)))) 1 ≡ getD arities (byte (take 8 (drop at (now (adds .entry)))) 0) 0
-        → now (out .exit) ≡ over (flat (take 1024 (joinRow (rowsIn n (now (out .entry))) (take 8 (drop at (now (adds .entry))))))) (now (out .entry))) ⌝ }
-    ensures indexed { λ r. ⌜ ((arities : List ℕ) → Indexed arities keys (rowsIn components (now (parts .entry))) (now (index .entry)) (rowsIn n (now (out .entry)))
-        → byte (take 8 (drop at (now (adds .entry)))) 1 ≡ getD arities (byte (take 8 (drop at (now (adds .entry)))) 0) 0 → r ≤ 1024
-        → Indexed arities keys (rowsIn components (now (parts .entry))) (now (index .exit)) (joinRow (rowsIn n (now (out .entry))) (take 8 (drop at (now (adds .entry)))))) ⌝ }
+    ensures joined { λ r. ⌜ (Indexed (now (head .entry)) (now (index .entry)) (rowsIn n (now (out .entry)))
+        → SizedRow (now (head .entry)) (take 8 (drop at (now (adds .entry))))
+        → HoldsJoined (now (head .entry)) (joinRow (rowsIn n (now (out .entry))) (take 8 (drop at (now (adds .entry)))))
+        (now (out .entry)) r (now (out .exit)) (now (index .exit))) ⌝ }
     ensures beside { λ _. ⌜ getD (now (index .exit)) 12288 0 ≡ getD (now (index .entry)) 12288 0 ⌝ }
 {
     let row = row_at(adds, at);
@@ -162,34 +172,35 @@ fn join_row(
         return 1025;
     }
     put_row(out, n, row);
-    enter(index, parts, components, keys, adds, at);
+    enter(index, head, adds, at);
     n + 1
 }
 
-// Each of the first m rows of what is added, behind the first `count` rows of out, where it is not there yet; the count then, or 1,025 where there is no room.
+// Each of the first m rows of what is added, behind the first `count` rows of out, where it is not there yet; the count then,
+// or 1,025 where there is no room.
 fn join_rows(
+    head: &Head,
     adds: &[u8],
     m: usize,
     out: &mut [u8],
     count: usize,
     index: &mut [u64],
-    parts: &[u8],
-    components: usize,
-    keys: usize,
 ) -> usize
-    requires { ⌜ (m ≤ 1024) × (8 * m ≤ length (now adds)) × (count ≤ 1024) × (length (now out) ≡ 8192) × (length (now index) ≡ 12289) × (8 * components ≤ length (now parts)) × (keys ≤ 6) ⌝ }
+    requires few { ⌜ m ≤ 1024 ⌝ }
+    requires rows { ⌜ 8 * m ≤ length (now adds) ⌝ }
+    requires count { ⌜ count ≤ 1024 ⌝ }
+    requires room { ⌜ length (now out) ≡ 8192 ⌝ }
+    requires index { ⌜ length (now index) ≡ 12289 ⌝ }
     ensures few { λ r. ⌜ (count ≤ r) × (r ≤ 1025) ⌝ }
-    ensures count { λ r. ⌜ ((arities : List ℕ) → Indexed arities keys (rowsIn components (now (parts .entry))) (now (index .entry)) (rowsIn count (now (out .entry))) → Sized arities (rowsIn m (now (adds .entry)))
-        → r ≡ atMost 1024 (length (joinRows (rowsIn count (now (out .entry))) (rowsIn m (now (adds .entry)))))) ⌝ }
-    ensures rows { λ _. ⌜ ((arities : List ℕ) → Indexed arities keys (rowsIn components (now (parts .entry))) (now (index .entry)) (rowsIn count (now (out .entry))) → Sized arities (rowsIn m (now (adds .entry)))
-        → now (out .exit) ≡ over (flat (take 1024 (joinRows (rowsIn count (now (out .entry))) (rowsIn m (now (adds .entry)))))) (now (out .entry))) ⌝ }
-    ensures indexed { λ r. ⌜ ((arities : List ℕ) → Indexed arities keys (rowsIn components (now (parts .entry))) (now (index .entry)) (rowsIn count (now (out .entry))) → Sized arities (rowsIn m (now (adds .entry))) → r ≤ 1024
-        → Indexed arities keys (rowsIn components (now (parts .entry))) (now (index .exit)) (joinRows (rowsIn count (now (out .entry))) (rowsIn m (now (adds .entry))))) ⌝ }
+    ensures joined { λ r. ⌜ (Indexed (now (head .entry)) (now (index .entry)) (rowsIn count (now (out .entry)))
+        → Sized (now (head .entry)) (rowsIn m (now (adds .entry)))
+        → HoldsJoined (now (head .entry)) (joinRows (rowsIn count (now (out .entry))) (rowsIn m (now (adds .entry))))
+        (now (out .entry)) r (now (out .exit)) (now (index .exit))) ⌝ }
     ensures beside { λ _. ⌜ getD (now (index .exit)) 12288 0 ≡ getD (now (index .entry)) 12288 0 ⌝ }
 {
     let mut n = count;
     for j in 0..m {
-        n = join_row(adds, 8 * j, out, n, index, parts, components, keys);
+        n = join_row(head, adds, 8 * j, out, n, index);
         if 1024 < n {
             return n;
         }
@@ -197,23 +208,29 @@ fn join_rows(
     n
 }
 
-// The fact of the literal's row at an offset, behind the first n rows of out, where the literal is of this clause at this time; the count then.
+// The fact of the literal's row at an offset, behind the first n rows of out, where the literal is of this clause at this time;
+// the count then.
 fn put_effect(
     out: &mut [u8],
     n: usize,
     time: Time,
     clause: u8,
-    arities: &[u8],
+    head: &Head,
     ground: &[u8],
     rows: &[u8],
     row: usize,
 ) -> usize
-    requires { ⌜ (length (now arities) ≡ 64) × ((i : ℕ) → getD (now arities) i 0 ≤ 6) × (length (now ground) ≡ 17) × (row + 8 ≤ length (now rows)) × (8 * n + 8 ≤ length (now out)) ⌝ }
-    ensures count { λ r. ⌜ r ≡ n + length (effectRows time clause (now (arities .entry)) (now (ground .entry)) (take 8 (drop row (now (rows .entry))) ∷ [])) ⌝ }
-    ensures rows { λ _. ⌜ now (out .exit) ≡ over (flat (rowsIn n (now (out .entry)) ++ effectRows time clause (now (arities .entry)) (now (ground .entry)) (take 8 (drop row (now (rows .entry))) ∷ []))) (now (out .entry)) ⌝ }
+    requires bound { ⌜ length (now ground) ≡ 17 ⌝ }
+    requires literal { ⌜ row + 8 ≤ length (now rows) ⌝ }
+    requires room { ⌜ 8 * n + 8 ≤ length (now out) ⌝ }
+    ensures count { λ r. ⌜ r ≡ n
+        + length (effectRows time clause (now (head .entry)) (now (ground .entry)) (take 8 (drop row (now (rows .entry))) ∷ [])) ⌝ }
+    ensures rows { λ _. ⌜ now (out .exit) ≡ over (flat (rowsIn n (now (out .entry))
+        ++ effectRows time clause (now (head .entry)) (now (ground .entry)) (take 8 (drop row (now (rows .entry))) ∷ [])))
+        (now (out .entry)) ⌝ }
 {
     if clause_for(time, rows[row]) == clause {
-        put_row(out, n, bound_row(arities, ground, rows, row));
+        put_row(out, n, bound_row(head, ground, rows, row));
         return n + 1;
     }
     n
@@ -225,27 +242,30 @@ fn put_effects(
     at: usize,
     time: Time,
     clause: u8,
-    arities: &[u8],
+    head: &Head,
     ground: &[u8],
     rows: &[u8],
     k: usize,
 ) -> usize
-    requires { ⌜ (length (now arities) ≡ 64) × ((i : ℕ) → getD (now arities) i 0 ≤ 6) × (length (now ground) ≡ 17) × (8 * k ≤ length (now rows)) × (8 * (at + k) ≤ length (now out)) ⌝ }
-    ensures count { λ r. ⌜ r ≡ at + length (effectRows time clause (now (arities .entry)) (now (ground .entry)) (rowsIn k (now (rows .entry)))) ⌝ }
-    ensures rows { λ _. ⌜ now (out .exit) ≡ over (flat (rowsIn at (now (out .entry)) ++ effectRows time clause (now (arities .entry)) (now (ground .entry)) (rowsIn k (now (rows .entry))))) (now (out .entry)) ⌝ }
+    requires bound { ⌜ length (now ground) ≡ 17 ⌝ }
+    requires literals { ⌜ 8 * k ≤ length (now rows) ⌝ }
+    requires room { ⌜ 8 * (at + k) ≤ length (now out) ⌝ }
+    ensures count { λ r. ⌜ r ≡ at
+        + length (effectRows time clause (now (head .entry)) (now (ground .entry)) (rowsIn k (now (rows .entry)))) ⌝ }
+    ensures rows { λ _. ⌜ now (out .exit) ≡ over (flat (rowsIn at (now (out .entry))
+        ++ effectRows time clause (now (head .entry)) (now (ground .entry)) (rowsIn k (now (rows .entry)))))
+        (now (out .entry)) ⌝ }
 {
     let mut n = at;
     for j in 0..k {
-        n = put_effect(out, n, time, clause, arities, ground, rows, 8 * j);
+        n = put_effect(out, n, time, clause, head, ground, rows, 8 * j);
     }
     n
 }
 
 // Those of an action with its objects.
 fn ground_effects(
-    counts: Counts,
-    arities: &[u8],
-    starts: &[usize],
+    head: &Head,
     table: &[u8],
     time: Time,
     ground: &[u8],
@@ -253,18 +273,20 @@ fn ground_effects(
     out: &mut [u8],
     n: usize,
 ) -> usize
-    requires { ⌜ Ready counts (now arities) (now starts) (now table) × (length (now ground) ≡ 17) × (8 * (n + 64) ≤ length (now out)) ⌝ }
+    requires bound { ⌜ length (now ground) ≡ 17 ⌝ }
+    requires room { ⌜ 8 * (n + 64) ≤ length (now out) ⌝ }
     ensures few { λ r. ⌜ r ≤ n + 64 ⌝ }
-    ensures effects { λ r. ⌜ ((D : Domain) (variables sorts parts : List ℕ) (e : Event) (c : Clause)
-        → Lent D counts (now (arities .entry)) variables sorts (now (starts .entry)) parts (now (table .entry)) → GroundFits D (e .ground)
+    ensures effects { λ r. ⌜ ((D : Domain) (e : Event) (c : Clause)
+        → Held D (now (head .entry)) (now (table .entry)) → GroundFits D (e .ground)
         → time ≡ timeOf (e .moment) → now (ground .entry) ≡ groundRow (e .ground) → clause ≡ suc (clauseNumber c)
-        → (r ≡ n + length (eventEffects D e c)) × (now (out .exit) ≡ over (flat (rowsIn n (now (out .entry)) ++ map factRow (eventEffects D e c))) (now (out .entry)))) ⌝ }
+        → (r ≡ n + length (eventEffects D e c))
+        × (now (out .exit) ≡ over (flat (rowsIn n (now (out .entry)) ++ map factRow (eventEffects D e c))) (now (out .entry)))) ⌝ }
 {
     let action = wide(ground[0]);
-    if counts.actions <= action {
+    if actions_in(head) <= action {
         return n;
     }
-    let span = span_of(starts, counts.actions, counts.rows, action);
+    let span = rows_of(head, table, action);
     let from = 8 * span.from;
     let to = 8 * span.to;
     put_effects(
@@ -272,7 +294,7 @@ fn ground_effects(
         n,
         time,
         clause,
-        arities,
+        head,
         ground,
         &table[from..to],
         span.to - span.from,
@@ -281,9 +303,7 @@ fn ground_effects(
 
 // Those of the waiting event i.
 fn event_effects(
-    counts: Counts,
-    arities: &[u8],
-    starts: &[usize],
+    head: &Head,
     table: &[u8],
     moments: &[u8],
     rows: &[u8],
@@ -292,19 +312,22 @@ fn event_effects(
     out: &mut [u8],
     n: usize,
 ) -> usize
-    requires { ⌜ Ready counts (now arities) (now starts) (now table) × (length (now moments) ≡ 16) × (length (now rows) ≡ 272) × (i < 16) × (8 * (n + 64) ≤ length (now out)) ⌝ }
+    requires moments { ⌜ length (now moments) ≡ 16 ⌝ }
+    requires events { ⌜ length (now rows) ≡ 272 ⌝ }
+    requires event { ⌜ i < 16 ⌝ }
+    requires room { ⌜ 8 * (n + 64) ≤ length (now out) ⌝ }
     ensures few { λ r. ⌜ r ≤ n + 64 ⌝ }
-    ensures effects { λ r. ⌜ ((D : Domain) (variables sorts parts : List ℕ) (e : Event) (c : Clause)
-        → Lent D counts (now (arities .entry)) variables sorts (now (starts .entry)) parts (now (table .entry)) → GroundFits D (e .ground)
-        → getD (now (moments .entry)) i 0 ≡ momentNumber (e .moment) → take 17 (drop (17 * i) (now (rows .entry))) ≡ groundRow (e .ground) → clause ≡ suc (clauseNumber c)
-        → (r ≡ n + length (eventEffects D e c)) × (now (out .exit) ≡ over (flat (rowsIn n (now (out .entry)) ++ map factRow (eventEffects D e c))) (now (out .entry)))) ⌝ }
+    ensures effects { λ r. ⌜ ((D : Domain) (e : Event) (c : Clause)
+        → Held D (now (head .entry)) (now (table .entry)) → GroundFits D (e .ground)
+        → getD (now (moments .entry)) i 0 ≡ momentNumber (e .moment)
+        → take 17 (drop (17 * i) (now (rows .entry))) ≡ groundRow (e .ground) → clause ≡ suc (clauseNumber c)
+        → (r ≡ n + length (eventEffects D e c))
+        × (now (out .exit) ≡ over (flat (rowsIn n (now (out .entry)) ++ map factRow (eventEffects D e c))) (now (out .entry)))) ⌝ }
 {
     let at = 17 * i;
     let end = at + 17;
     ground_effects(
-        counts,
-        arities,
-        starts,
+        head,
         table,
         time_at(moments[i]),
         &rows[at..end],
@@ -314,11 +337,10 @@ fn event_effects(
     )
 }
 
-// Those of every waiting event, in order, at the front of out: what the step adds (clause 3) or strikes (clause 4). An event has at most 64.
+// Those of every waiting event, in order, at the front of out: what the step adds (clause 3) or strikes (clause 4). An event
+// has at most 64.
 fn step_effects(
-    counts: Counts,
-    arities: &[u8],
-    starts: &[usize],
+    head: &Head,
     table: &[u8],
     moments: &[u8],
     events: &[u8],
@@ -326,12 +348,14 @@ fn step_effects(
     clause: u8,
     out: &mut [u8],
 ) -> usize
-    requires { ⌜ Ready counts (now arities) (now starts) (now table) × (length (now moments) ≡ 16) × (length (now events) ≡ 272) × (length (now out) ≡ 8192) ⌝ }
+    requires moments { ⌜ length (now moments) ≡ 16 ⌝ }
+    requires events { ⌜ length (now events) ≡ 272 ⌝ }
+    requires room { ⌜ length (now out) ≡ 8192 ⌝ }
     ensures few { λ r. ⌜ r ≤ 1024 ⌝ }
-    ensures effects { λ r. ⌜ ((D : Domain) (variables sorts parts : List ℕ) (es : List Event) (c : Clause)
-        → Lent D counts (now (arities .entry)) variables sorts (now (starts .entry)) parts (now (table .entry))
-        → record { count = count; moments = now (moments .entry); rows = now (events .entry) } ≡ waitingOf es → EventsFit D es → length es ≤ 16
-        → clause ≡ suc (clauseNumber c)
+    ensures effects { λ r. ⌜ ((D : Domain) (es : List Event) (c : Clause)
+        → Held D (now (head .entry)) (now (table .entry))
+        → record { count = count; moments = now (moments .entry); rows = now (events .entry) } ≡ waitingOf es → EventsFit D es
+        → length es ≤ 16 → clause ≡ suc (clauseNumber c)
         → (r ≡ length (stepEffects D es c)) × (rowsIn r (now (out .exit)) ≡ map factRow (stepEffects D es c))) ⌝ }
 {
     if 16 < count {
@@ -339,18 +363,7 @@ fn step_effects(
     }
     let mut n = 0;
     for i in 0..count {
-        n = event_effects(
-            counts,
-            arities,
-            starts,
-            table,
-            moments,
-            events,
-            i,
-            clause,
-            out,
-            n,
-        );
+        n = event_effects(head, table, moments, events, i, clause, out, n);
     }
     n
 }
@@ -361,12 +374,11 @@ pub struct After {
     pub facts: usize,
 }
 
-// The facts after the waiting events, at the front of out: the first n rows of the work memory without those that a delete strikes, then what is added, each fact once; not beyond 1,024 facts.
+// The facts after the waiting events, at the front of out: the first n rows of the work memory without those that a delete
+// strikes, then what is added, each fact once; not beyond 1,024 facts.
 // `effects` is scratch memory, used twice: what is struck is done with before what is added is written.
 pub fn facts_after(
-    counts: Counts,
-    arities: &[u8],
-    starts: &[usize],
+    head: &Head,
     table: &[u8],
     moments: &[u8],
     events: &[u8],
@@ -374,64 +386,29 @@ pub fn facts_after(
     work: &[u8],
     n: usize,
     out: &mut [u8],
-    parts: &[u8],
     index: &mut [u64],
     effects: &mut [u8],
 ) -> After
-    requires { ⌜ Ready counts (now arities) (now starts) (now table) × (n ≤ 1024) × (8 * n ≤ length (now work)) × (length (now out) ≡ 8192)
-        × (length (now parts) ≡ 128) × (counts .components ≤ 16) × (counts .keys ≤ 6) × (length (now index) ≡ 12289) × Once (rowsIn n (now work))
-        × (length (now moments) ≡ 16) × (length (now events) ≡ 272) × (length (now effects) ≡ 8192) ⌝ }
+    requires few { ⌜ n ≤ 1024 ⌝ }
+    requires rows { ⌜ 8 * n ≤ length (now work) ⌝ }
+    requires room { ⌜ length (now out) ≡ 8192 ⌝ }
+    requires index { ⌜ length (now index) ≡ 12289 ⌝ }
+    requires once { ⌜ Once (rowsIn n (now work)) ⌝ }
+    requires moments { ⌜ length (now moments) ≡ 16 ⌝ }
+    requires events { ⌜ length (now events) ≡ 272 ⌝ }
+    requires effects { ⌜ length (now effects) ≡ 8192 ⌝ }
     ensures few { λ r. ⌜ (r .kept ≤ n) × (r .kept ≤ r .facts) × (r .facts ≤ 1025) ⌝ }
-    ensures after { λ r. ⌜ ((D : Domain) (variables sorts components : List ℕ) (es : List Event) (fs : List Fact)
-        → Lent D counts (now (arities .entry)) variables sorts (now (starts .entry)) components (now (table .entry))
-        → record { count = count; moments = now (moments .entry); rows = now (events .entry) } ≡ waitingOf es → EventsFit D es → length es ≤ 16
-        → rowsIn n (now (work .entry)) ≡ map factRow fs
-        → Indexed (now (arities .entry)) (counts .keys) (rowsIn (counts .components) (now (parts .entry))) (now (index .entry)) (map factRow fs)
-        → HoldsAfter D fs es (now (arities .entry)) (counts .keys) (rowsIn (counts .components) (now (parts .entry))) (now (out .entry)) r (now (out .exit)) (now (index .exit))) ⌝ }
+    ensures after { λ r. ⌜ ((D : Domain) (es : List Event) (fs : List Fact)
+        → Held D (now (head .entry)) (now (table .entry))
+        → record { count = count; moments = now (moments .entry); rows = now (events .entry) } ≡ waitingOf es → EventsFit D es
+        → length es ≤ 16 → rowsIn n (now (work .entry)) ≡ map factRow fs
+        → Indexed (now (head .entry)) (now (index .entry)) (map factRow fs)
+        → HoldsAfter D fs es (now (head .entry)) (now (out .entry)) r (now (out .exit)) (now (index .exit))) ⌝ }
     ensures beside { λ _. ⌜ getD (now (index .exit)) 12288 0 ≡ getD (now (index .entry)) 12288 0 ⌝ }
 {
-    let m = step_effects(
-        counts,
-        arities,
-        starts,
-        table,
-        moments,
-        events,
-        count,
-        4,
-        effects,
-    );
-    let kept = keep_rows(
-        work,
-        n,
-        effects,
-        m,
-        out,
-        index,
-        parts,
-        counts.components,
-        counts.keys,
-    );
-    let k = step_effects(
-        counts,
-        arities,
-        starts,
-        table,
-        moments,
-        events,
-        count,
-        3,
-        effects,
-    );
-    let facts = join_rows(
-        effects,
-        k,
-        out,
-        kept,
-        index,
-        parts,
-        counts.components,
-        counts.keys,
-    );
+    let m = step_effects(head, table, moments, events, count, 4, effects);
+    let kept = keep_rows(head, work, n, effects, m, out, index);
+    let k = step_effects(head, table, moments, events, count, 3, effects);
+    let facts = join_rows(head, effects, k, out, kept, index);
     After { kept, facts }
 }

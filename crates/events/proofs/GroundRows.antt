@@ -12,11 +12,12 @@ use lib.Seq.{paste, length-paste, take-paste, take-all, getD-drop, drop-drop}
 use borrow.Author.Tests.{ltb-true, ltb-false, lt-ltb, le-ltb, eq-eqb, ne-eqb}
 use Rattle.records.specs.Lists.{any, all, sameList}
 use Rattle.records.proofs.Lists.{bool-cases}
+use Rattle.literals.specs.Held.{actionsIn, lastingIn}
 use Rattle.literals.proofs.Rows.{first-at}
 use Rattle.classes.specs.Coded.{position}
 use Rattle.classes.proofs.KeyRows.{place-le, length-rows}
 use Rattle.events.specs.declared.Open.{Open}
-use Rattle.events.specs.Coded.{groundsIn, EventRow, eventsIn, endOpen, withoutEntry, closeEntry, closeEvent, closeEvents, joinEntry, opensBy, joinEvent, joinEvents, Opened}
+use Rattle.events.specs.Coded.{groundsIn, EventRow, eventAt, eventsIn, endOpen, withoutEntry, closeEntry, closeEvent, closeEvents, joinEntry, opensBy, joinEvent, joinEvents, Opened}
 use Rattle.store.specs.Rows.{hasRow}
 
 -- a part of 17 bytes
@@ -48,9 +49,6 @@ pub entry-le : (row t : List ℕ) (n k : ℕ) → k ≡ position (sameList eqb r
 entry-le row t n k e = omega (arith, place-le (sameList eqb row) (groundsIn n t), length-rows 17 n t)
 
 -- ---- the events that wait, from event i on
-
-abbrev pub eventAt : List ℕ → List ℕ → ℕ → EventRow
-eventAt moments rows i = record { moment = getD moments i 0; row = take 17 (drop (17 * i) rows) }
 
 module _ (moments rows : List ℕ) (n i : ℕ) where
   abbrev pub eventsFrom : List EventRow
@@ -93,19 +91,19 @@ module _ (moments rows : List ℕ) (n i : ℕ) where
     closes-more h r e = rw (events-more h, e)
 
   -- the starts among them join
-  module _ (sorts : List ℕ) (actions : ℕ) (o : Open) where
-    pub joins-end : n ≤ i → joinEvents sorts actions eventsFrom o ≡ record { fits = true; running = o }
+  module _ (head : List ℕ) (o : Open) where
+    pub joins-end : n ≤ i → joinEvents head eventsFrom o ≡ record { fits = true; running = o }
     joins-end h = rw (events-end h)
 
-    module _ (r : Opened) (e : r ≡ joinEvent sorts actions (eventAt moments rows i) o) (h : i < n) where
-      by-first : joinEvents sorts actions eventsFrom o ≡ cond (r .fits) (joinEvents sorts actions eventsBehind (r .running)) r
+    module _ (r : Opened) (e : r ≡ joinEvent head (eventAt moments rows i) o) (h : i < n) where
+      by-first : joinEvents head eventsFrom o ≡ cond (r .fits) (joinEvents head eventsBehind (r .running)) r
       by-first = rw (events-more h, e)
 
-      pub joins-more : r .fits ≡ true → joinEvents sorts actions eventsFrom o ≡ joinEvents sorts actions eventsBehind (r .running)
-      joins-more f = by-first ∙ ap (λ (b : Bool). cond b (joinEvents sorts actions eventsBehind (r .running)) r) f
+      pub joins-more : r .fits ≡ true → joinEvents head eventsFrom o ≡ joinEvents head eventsBehind (r .running)
+      joins-more f = by-first ∙ ap (λ (b : Bool). cond b (joinEvents head eventsBehind (r .running)) r) f
 
-      pub joins-full : r .fits ≡ false → joinEvents sorts actions eventsFrom o ≡ r
-      joins-full f = by-first ∙ ap (λ (b : Bool). cond b (joinEvents sorts actions eventsBehind (r .running)) r) f
+      pub joins-full : r .fits ≡ false → joinEvents head eventsFrom o ≡ r
+      joins-full f = by-first ∙ ap (λ (b : Bool). cond b (joinEvents head eventsBehind (r .running)) r) f
 
 pub events-first : (moments rows : List ℕ) (n : ℕ) → eventsIn (n - 0) (drop 0 moments) (drop (17 * 0) rows) ≡ eventsIn n moments rows
 events-first moments rows n = ap (λ (k : ℕ). eventsIn k moments rows) (sub-zero n)
@@ -203,42 +201,42 @@ join-is o row rows k h e = ap {B = Open} (λ t. record { count = o .count + 1; r
 
 -- ---- of an event
 
-module _ (sorts : List ℕ) (actions : ℕ) where
+module _ (head : List ℕ) where
   module _ (moment action : ℕ) where
-    pub opens-end : moment ≡ 1 → false ≡ opensBy sorts actions moment action
+    pub opens-end : moment ≡ 1 → false ≡ opensBy head moment action
     unfolding opensBy
     opens-end h = rw (eq-eqb moment 1 h)
 
-    pub opens-unlisted : (moment ≡ 1 → ⊥) → actions ≤ action → false ≡ opensBy sorts actions moment action
+    pub opens-unlisted : (moment ≡ 1 → ⊥) → actionsIn head ≤ action → false ≡ opensBy head moment action
     unfolding opensBy
-    opens-unlisted h l = rw (ne-eqb moment 1 h, le-ltb action actions l)
+    opens-unlisted h l = rw (ne-eqb moment 1 h, le-ltb action (actionsIn head) l)
 
-    pub opens-sort : (moment ≡ 1 → ⊥) → action < actions → eqb (getD sorts action 0) 1 ≡ opensBy sorts actions moment action
+    pub opens-sort : (moment ≡ 1 → ⊥) → action < actionsIn head → lastingIn head action ≡ opensBy head moment action
     unfolding opensBy
-    opens-sort h l = rw (ne-eqb moment 1 h, lt-ltb action actions l)
+    opens-sort h l = rw (ne-eqb moment 1 h, lt-ltb action (actionsIn head) l)
 
-  module _ (moments events : List ℕ) (i : ℕ) (o : Open) (b : Bool) (f : b ≡ opensBy sorts actions (getD moments i 0) (getD events (17 * i) 0)) where
+  module _ (moments events : List ℕ) (i : ℕ) (o : Open) (b : Bool) (f : b ≡ opensBy head (getD moments i 0) (getD events (17 * i) 0)) where
     abbrev e : EventRow
     e = eventAt moments events i
 
-    by-start : joinEvent sorts actions e o
+    by-start : joinEvent head e o
         ≡ cond b (cond (ltb (o .count) 32) (record { fits = true; running = joinEntry (e .row) o }) (record { fits = false; running = o })) (record { fits = true; running = o })
     unfolding joinEvent
     by-start = ap {B = Opened} (λ b. cond b (cond (ltb (o .count) 32) (record { fits = true; running = joinEntry (e .row) o }) (record { fits = false; running = o })) (record { fits = true; running = o }))
-        (ap (opensBy sorts actions (getD moments i 0)) (first-at 17 events (17 * i) (omega arith)) ∙ sym f)
+        (ap (opensBy head (getD moments i 0)) (first-at 17 events (17 * i) (omega arith)) ∙ sym f)
 
-    pub joins-not : b ≡ false → record { fits = true; running = o } ≡ joinEvent sorts actions e o
+    pub joins-not : b ≡ false → record { fits = true; running = o } ≡ joinEvent head e o
     joins-not h = sym (by-start ∙ rw h)
 
-    pub joins-no-room : b ≡ true → 32 ≤ o .count → record { fits = false; running = o } ≡ joinEvent sorts actions e o
+    pub joins-no-room : b ≡ true → 32 ≤ o .count → record { fits = false; running = o } ≡ joinEvent head e o
     joins-no-room h l = sym (by-start ∙ rw (h, le-ltb (o .count) 32 l))
 
-    pub joins-one : b ≡ true → o .count < 32 → (r : Open) → r ≡ joinEntry (e .row) o → record { fits = true; running = r } ≡ joinEvent sorts actions e o
+    pub joins-one : b ≡ true → o .count < 32 → (r : Open) → r ≡ joinEntry (e .row) o → record { fits = true; running = r } ≡ joinEvent head e o
     joins-one h l r g = ap {B = Opened} (λ t. record { fits = true; running = t }) g ∙ sym (by-start ∙ rw (h, lt-ltb (o .count) 32 l))
 
-  pub joins-few : (e : EventRow) (o : Open) → o .count ≤ 32 → (r : Opened) → r ≡ joinEvent sorts actions e o → r .running .count ≤ 32
+  pub joins-few : (e : EventRow) (o : Open) → o .count ≤ 32 → (r : Opened) → r ≡ joinEvent head e o → r .running .count ≤ 32
   unfolding joinEvent joinEntry
-  joins-few e o h r f = let k = go (opensBy sorts actions (e .moment) (getD (e .row) 0 0)) (ltb (o .count) 32) refl in let z = ap (λ (r : Opened). r .running .count) f in omega arith
+  joins-few e o h r f = let k = go (opensBy head (e .moment) (getD (e .row) 0 0)) (ltb (o .count) 32) refl in let z = ap (λ (r : Opened). r .running .count) f in omega arith
     where
       go : (a b : Bool) → ltb (o .count) 32 ≡ b
           → cond {A = Opened} a (cond b (record { fits = true; running = joinEntry (e .row) o }) (record { fits = false; running = o })) (record { fits = true; running = o }) .running .count ≤ 32

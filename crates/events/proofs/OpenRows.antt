@@ -6,17 +6,16 @@ use mathlib.Core.List.{List, [], _∷_, _++_, map, flatMap, append-nil, append-a
 use Prim.Native.Nat.{ℕ, zero, suc, _+_, _-_, _*_, _≤_}
 use native.Mathlib.Omega.{arith}
 use lib.Dec.{eqb, ltb, leb}
-use lib.ListN.{length, getD, take, drop, replicate, length-append, replicate-append-replicate, List·getD-map, drop-of-length-le}
+use lib.ListN.{length, getD, take, drop, replicate, length-append, replicate-append-replicate, drop-of-length-le}
 use lib.Seq.{paste, take-at, drop-at, take-all, split-at, length-take-le}
 use borrow.Author.Tests.{ltb-true, ltb-false, lt-ltb, le-leb, lt-leb, eqb-true, eqb-false}
 use Rattle.records.specs.Lists.{In, keepIf, all, sameList, elem}
 use Rattle.records.proofs.Lists.{bool-cases, flatMap-append, flatMap-snoc, in-snoc}
 use Rattle.literals.specs.declared.Object.{Object}
-use Rattle.literals.specs.declared.Index.{Index}
-use Rattle.literals.specs.Domain.{noAction, Domain, action}
-use Rattle.literals.specs.Table.{pad, sortNumber, Bounded, Holds}
-use Rattle.literals.proofs.Tables.{length-flat, rows-flat, pad-at, pad-paste, same-filled}
-use Rattle.literals.proofs.Held.{actions-is, sorts-is}
+use Rattle.literals.specs.Domain.{Domain, action}
+use Rattle.literals.specs.Table.{pad, Bounded}
+use Rattle.literals.specs.Held.{actionsIn, lastingIn, HeadOf}
+use Rattle.literals.proofs.Tables.{length-flat, rows-flat, pad-paste, same-filled}
 use Rattle.classes.specs.declared.Moment.{Moment}
 use Rattle.classes.specs.declared.Moment.the-variants.{Start, End}
 use Rattle.classes.specs.Classes.{momentNumber}
@@ -256,27 +255,22 @@ Tells r gs = (r .fits ≡ leb (length gs) 32) × (r .fits ≡ true → r .runnin
 
 -- ---- "starts join it": those of lasting actions
 
-module _ {D : Domain} {index : Index} (h : Holds D index) where
-  sort-is : (a : ℕ) → eqb (getD (index .sorts) a 0) 1 ≡ action D a .lasting
-  unfolding action
-  sort-is a =
-      ap (λ (l : List ℕ). eqb (getD l a 0) 1) (sorts-is h)
-      ∙ ap (λ (n : ℕ). eqb n 1) (pad-at 64 (map sortNumber (D .actions)) a ∙ List·getD-map sortNumber (D .actions) a noAction)
-      ∙ go (action D a .lasting)
-    where
-      go : (b : Bool) → eqb (cond b 1 0) 1 ≡ b
-      go true = refl
-      go false = refl
-
-  opens-is : (e : Event) → GroundFits D (e .ground) → opensBy (index .sorts) (index .actions) (momentNumber (e .moment)) (e .ground .action) ≡ opens (e .moment) (action D (e .ground .action))
+module _ {D : Domain} {head : List ℕ} (h : HeadOf D head) where
+  opens-is : (e : Event) → GroundFits D (e .ground)
+      → opensBy head (momentNumber (e .moment)) (e .ground .action) ≡ opens (e .moment) (action D (e .ground .action))
   unfolding opensBy
   opens-is e f = go (e .moment)
     where
-      go : (m : Moment) → not (eqb (momentNumber m) 1) && ltb (e .ground .action) (index .actions) && eqb (getD (index .sorts) (e .ground .action) 0) 1 ≡ opens m (action D (e .ground .action))
-      go Start = let l = f .listed in rw (lt-ltb (e .ground .action) (index .actions) (omega (arith, actions-is h))) (sort-is (e .ground .action))
+      go : (m : Moment)
+          → not (eqb (momentNumber m) 1) && ltb (e .ground .action) (actionsIn head) && lastingIn head (e .ground .action)
+          ≡ opens m (action D (e .ground .action))
+      go Start =
+          let l = f .listed in
+          let n = h .actions in
+          rw (lt-ltb (e .ground .action) (actionsIn head) (omega arith)) (h .lasting (e .ground .action) l)
       go End = refl
 
-  join-event-is : (e : Event) → GroundFits D (e .ground) → (gs : List GroundAction) → joinEvent (index .sorts) (index .actions) (eventRow e) (openOf gs)
+  join-event-is : (e : Event) → GroundFits D (e .ground) → (gs : List GroundAction) → joinEvent head (eventRow e) (openOf gs)
       ≡ cond (opens (e .moment) (action D (e .ground .action)))
       (cond (ltb (length gs) 32) (record { fits = true; running = joinEntry (groundRow (e .ground)) (openOf gs) }) (record { fits = false; running = openOf gs }))
       (record { fits = true; running = openOf gs })
@@ -287,7 +281,7 @@ module _ {D : Domain} {index : Index} (h : Holds D index) where
       (record { fits = true; running = openOf gs })) (opens-is e f)
 
   joins-are : (es : List Event) → EventsFit D es → (gs : List GroundAction) → GroundsFit D gs → length gs ≤ 32
-      → Tells (joinEvents (index .sorts) (index .actions) (map eventRow es) (openOf gs)) (gs ++ openedBy D es)
+      → Tells (joinEvents head (map eventRow es) (openOf gs)) (gs ++ openedBy D es)
   joins-are [] k gs l few = rw (append-nil gs) (sym (le-leb (length gs) 32 few), λ z. refl)
   joins-are (e ∷ es) k gs l few = rw (join-event-is e f gs) (go (opens (e .moment) (action D (e .ground .action))) (ltb (length gs) 32) refl (joins-are es (λ x m. k x (List·Memᴰ·tail m))))
     where
@@ -300,20 +294,20 @@ module _ {D : Domain} {index : Index} (h : Holds D index) where
           cond a (cond b (record { fits = true; running = joinEntry (groundRow (e .ground)) (openOf gs) }) (record { fits = false; running = openOf gs })) (record { fits = true; running = openOf gs })
 
       others : Opened → Opened
-      others r = cond (r .fits) (joinEvents (index .sorts) (index .actions) (map eventRow es) (r .running)) r
+      others r = cond (r .fits) (joinEvents head (map eventRow es) (r .running)) r
 
       more : List GroundAction
       more = gs ++ (e .ground ∷ [])
 
       go : (a b : Bool) → ltb (length gs) 32 ≡ b
-          → ((hs : List GroundAction) → GroundsFit D hs → length hs ≤ 32 → Tells (joinEvents (index .sorts) (index .actions) (map eventRow es) (openOf hs)) (hs ++ openedBy D es))
+          → ((hs : List GroundAction) → GroundsFit D hs → length hs ≤ 32 → Tells (joinEvents head (map eventRow es) (openOf hs)) (hs ++ openedBy D es))
           → Tells (others (first a b)) (gs ++ keepIf a (e .ground) (openedBy D es))
       go false b q ih = ih gs l few
       go true true q ih =
           let n = ltb-true (length gs) 32 q in
           let m = length-append gs (e .ground ∷ []) in
-          subst (λ (o : Open). Tells (joinEvents (index .sorts) (index .actions) (map eventRow es) o) (gs ++ (e .ground ∷ openedBy D es))) (sym (entry-in (h .bounded) gs l (e .ground) f))
-          (subst (Tells (joinEvents (index .sorts) (index .actions) (map eventRow es) (openOf more))) (append-assoc gs (e .ground ∷ []) (openedBy D es))
+          subst (λ (o : Open). Tells (joinEvents head (map eventRow es) o) (gs ++ (e .ground ∷ openedBy D es))) (sym (entry-in (h .bounded) gs l (e .ground) f))
+          (subst (Tells (joinEvents head (map eventRow es) (openOf more))) (append-assoc gs (e .ground ∷ []) (openedBy D es))
           (ih more (in-snoc {P = GroundFits D} gs (e .ground) l f) (omega arith)))
       go true false q ih =
           let n = ltb-false (length gs) 32 q in
@@ -331,7 +325,7 @@ pub entries-few : (gs : List GroundAction) (running : Open) → running ≡ open
 unfolding openOf
 entries-few gs running e h = let z = ap (λ (o : Open). o .count) e in omega arith
 
-module _ (D : Domain) (index : Index) (h : Holds D index) (gs : List GroundAction) (es : List Event) (k : GroundsFit D gs) (l : EventsFit D es) (few : length gs ≤ 32)
+module _ {D : Domain} {head : List ℕ} (h : HeadOf D head) (gs : List GroundAction) (es : List Event) (k : GroundsFit D gs) (l : EventsFit D es) (few : length gs ≤ 32)
     (running : Open) (waiting : Waiting) (e : running ≡ openOf gs) (f : waiting ≡ waitingOf es) where
   events-held : eventsIn (waiting .count) (waiting .moments) (waiting .rows) ≡ map eventRow es
   events-held = ap (λ (w : Waiting). eventsIn (w .count) (w .moments) (w .rows)) f ∙ events-are (h .bounded) es l
@@ -340,13 +334,10 @@ module _ (D : Domain) (index : Index) (h : Holds D index) (gs : List GroundActio
   closed-held closed c = c ∙ ap₂ closeEvents events-held e ∙ closes-are (h .bounded) es l gs k few
 
   pub after-held : (closed : Open) → closed ≡ closeEvents (eventsIn (waiting .count) (waiting .moments) (waiting .rows)) running
-      → (sorts : List ℕ) (actions : ℕ) → index .sorts ≡ sorts → index .actions ≡ actions
-      → (r : Opened) → r ≡ joinEvents sorts actions (eventsIn (waiting .count) (waiting .moments) (waiting .rows)) closed
+      → (r : Opened) → r ≡ joinEvents head (eventsIn (waiting .count) (waiting .moments) (waiting .rows)) closed
       → Tells r (closeAll es gs ++ openedBy D es)
-  after-held closed c sorts actions s a r j =
+  after-held closed c r j =
       let n = closed-few es gs in
       subst (λ (r : Opened). Tells r (closeAll es gs ++ openedBy D es))
-      (sym (j
-      ∙ ap₂ (λ (x : List ℕ) (y : ℕ). joinEvents x y (eventsIn (waiting .count) (waiting .moments) (waiting .rows)) closed) (sym s) (sym a)
-      ∙ ap₂ (joinEvents (index .sorts) (index .actions)) events-held (closed-held closed c)))
+      (sym (j ∙ ap₂ (joinEvents head) events-held (closed-held closed c)))
       (joins-are h es l (closeAll es gs) (λ g m. k g (closed-in es gs m)) (omega arith))

@@ -2,7 +2,7 @@
 use mathlib.Core.Path.{_≡_}
 use mathlib.Core.Bool.{Bool, true, false, _&&_, not, cond}
 use mathlib.Core.List.{List, [], _∷_, _++_, map, flatMap}
-use Prim.Native.Nat.{ℕ, zero, suc, _+_, _-_, _*_, _≤_, _<_}
+use Prim.Native.Nat.{ℕ, zero, suc, _+_, _-_, _*_, _<_}
 use lib.Dec.{eqb, ltb}
 use lib.ListN.{length, getD, take, drop, replicate}
 use lib.Seq.{paste}
@@ -13,7 +13,7 @@ use Rattle.literals.specs.declared.Time.the-variants.{AtStart, OverAll, AtEnd}
 use Rattle.literals.specs.Domain.{Domain, action}
 use Rattle.literals.specs.Decode.{byte}
 use Rattle.literals.specs.Table.{pad, rowsBy}
-use Rattle.literals.specs.Held.{arityIn}
+use Rattle.literals.specs.Held.{actionsIn, arityIn, lastingIn}
 use Rattle.classes.specs.declared.Moment.{Moment}
 use Rattle.classes.specs.declared.Moment.the-variants.{Start, End}
 use Rattle.classes.specs.Classes.{momentNumber}
@@ -99,7 +99,11 @@ pub record EventRow : Type 0 where
   pub moment : ℕ
   pub row : List ℕ
 
--- the first n events of these memories
+-- the event at a place of these memories
+abbrev pub eventAt : List ℕ → List ℕ → ℕ → EventRow
+eventAt moments rows i = record { moment = getD moments i 0; row = take 17 (drop (17 * i) rows) }
+
+-- the first n
 abbrev pub eventsIn : ℕ → List ℕ → List ℕ → List EventRow
 eventsIn zero moments rows = []
 eventsIn (suc n) moments rows = record { moment = getD moments 0 0; row = take 17 rows } ∷ eventsIn n (drop 1 moments) (drop 17 rows)
@@ -133,8 +137,9 @@ unfoldable pub joinEntry : List ℕ → Open → Open
 joinEntry row o = record { count = o .count + 1; rows = paste (o .rows) (17 * o .count) row 17 }
 
 -- an event of this moment and action is the start of a lasting action
-unfoldable pub opensBy : List ℕ → ℕ → ℕ → ℕ → Bool
-opensBy sorts actions moment action = not (eqb moment 1) && ltb action actions && eqb (getD sorts action 0) 1
+unfoldable pub opensBy : List ℕ → ℕ → ℕ → Bool
+unfolding actionsIn lastingIn
+opensBy head moment action = not (eqb moment 1) && ltb action (actionsIn head) && lastingIn head action
 
 -- what a step leaves open, where it fits
 pub record Opened : Type 0 where
@@ -142,16 +147,16 @@ pub record Opened : Type 0 where
   pub running : Open
 
 -- the entry of such a start joins, where there is room for it
-unfoldable pub joinEvent : List ℕ → ℕ → EventRow → Open → Opened
+unfoldable pub joinEvent : List ℕ → EventRow → Open → Opened
 unfolding opensBy joinEntry
-joinEvent sorts actions e o =
-    cond (opensBy sorts actions (e .moment) (byte (e .row) 0))
+joinEvent head e o =
+    cond (opensBy head (e .moment) (byte (e .row) 0))
     (cond (ltb (o .count) 32) (record { fits = true; running = joinEntry (e .row) o }) (record { fits = false; running = o }))
     (record { fits = true; running = o })
 
 -- those of several events, up to the first for which there is no room
-abbrev pub joinEvents : List ℕ → ℕ → List EventRow → Open → Opened
-joinEvents sorts actions [] o = record { fits = true; running = o }
-joinEvents sorts actions (e ∷ es) o =
-    let joined = joinEvent sorts actions e o in
-    cond (joined .fits) (joinEvents sorts actions es (joined .running)) joined
+abbrev pub joinEvents : List ℕ → List EventRow → Open → Opened
+joinEvents head [] o = record { fits = true; running = o }
+joinEvents head (e ∷ es) o =
+    let joined = joinEvent head e o in
+    cond (joined .fits) (joinEvents head es (joined .running)) joined

@@ -24,7 +24,10 @@ fn object_of(ground: &[u8], v: u8) -> u8
 
 // A byte of the fact of the literal's row at an offset; `arity` is its relation's.
 fn bound_byte(arity: u8, ground: &[u8], rows: &[u8], row: usize, i: usize) -> u8
-    requires { ⌜ (length (now ground) ≡ 17) × (row + 8 ≤ length (now rows)) × (i < 8) × (arity ≤ 6) ⌝ }
+    requires bound { ⌜ length (now ground) ≡ 17 ⌝ }
+    requires literal { ⌜ row + 8 ≤ length (now rows) ⌝ }
+    requires place { ⌜ i < 8 ⌝ }
+    requires arity { ⌜ arity ≤ 6 ⌝ }
     ensures { λ r. ⌜ r ≡ getD (boundBytes arity (now (ground .entry)) (take 8 (drop row (now (rows .entry))))) i 0 ⌝ }
 {
     if i == 0 {
@@ -41,7 +44,8 @@ fn bound_byte(arity: u8, ground: &[u8], rows: &[u8], row: usize, i: usize) -> u8
 
 // The fact of the literal's row at an offset.
 pub fn bound_row(head: &Head, ground: &[u8], rows: &[u8], row: usize) -> [u8; 8]
-    requires { ⌜ (length (now ground) ≡ 17) × (row + 8 ≤ length (now rows)) ⌝ }
+    requires bound { ⌜ length (now ground) ≡ 17 ⌝ }
+    requires literal { ⌜ row + 8 ≤ length (now rows) ⌝ }
     ensures { λ r. ⌜ r ≡ boundRow (now (head .entry)) (now (ground .entry)) (take 8 (drop row (now (rows .entry)))) ⌝ }
 {
     let arity = arity_of(head, rows[row + 1]);

@@ -1,5 +1,5 @@
-// Events and open entries as the code holds them (here); the literals of an action as rows (facts), events that wait for the close of their step (waits), the list of
-// open lasting actions (openings).
+// Events and open entries as the code holds them (here); the literals of an action as rows (facts), events that wait for the
+// close of their step (waits), the list of open lasting actions (openings).
 pub mod facts;
 pub mod openings;
 pub mod waits;

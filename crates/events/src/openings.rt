@@ -1,18 +1,25 @@
-// The list of open lasting actions: which ends are open, and what a step leaves of it. An entry is a row of 17 bytes: action, objects, FF to fill.
+// The list of open lasting actions: which ends are open, and what a step leaves of it. An entry is a row of 17 bytes: action,
+// objects, FF to fill.
 use super::waits::put_bytes;
+use literals::fields::wide;
+use literals::head::Head;
+use literals::head::actions_in;
+use literals::head::is_lasting;
 ghost use mathlib.Core.Path.{_≡_};
 ghost use mathlib.Core.Bool.{true};
 ghost use mathlib.Core.List.{List, _++_};
 ghost use Prim.Native.Nat.{_+_, _*_, _≤_, _<_};
 ghost use lib.Dec.{eqb, leb};
-ghost use lib.ListN.{length, getD, take, drop, replicate};
+ghost use lib.ListN.{length, take, drop, replicate};
 ghost use Rattle.records.specs.Lists.{all, sameList};
-ghost use Rattle.literals.specs.declared.Index.{Index};
 ghost use Rattle.literals.specs.Domain.{Domain};
-ghost use Rattle.literals.specs.Table.{Bounded, Holds};
+ghost use Rattle.literals.specs.Table.{Bounded};
+ghost use Rattle.literals.specs.Held.{HeadOf};
 ghost use Rattle.classes.specs.Coded.{position};
 ghost use Rattle.verdict.specs.Machine.{GroundAction, Event, isOpen, closeAll, openedBy};
-ghost use Rattle.events.specs.Coded.{groundsIn, openOf, waitingOf, GroundsFit, EventsFit, eventsIn, endOpen, closeEntry, closeEvent, closeEvents, joinEntry, opensBy, joinEvent, joinEvents};
+ghost use Rattle.events.specs.Coded.{groundsIn, openOf, waitingOf, GroundsFit, EventsFit};
+ghost use Rattle.events.specs.Coded.{eventAt, eventsIn, endOpen, closeEntry, closeEvent, closeEvents};
+ghost use Rattle.events.specs.Coded.{joinEntry, opensBy, joinEvent, joinEvents};
 ghost use Rattle.store.specs.Rows.{hasRow};
 
 // How many entries there are after starts joined, where they fit.
@@ -23,7 +30,8 @@ pub struct Joined {
 
 // Whether the entry at an offset is this one.
 pub fn same_ground(memory: &[u8], at: usize, ground: &[u8]) -> bool
-    requires { ⌜ (at + 17 ≤ length (now memory)) × (length (now ground) ≡ 17) ⌝ }
+    requires entry { ⌜ at + 17 ≤ length (now memory) ⌝ }
+    requires row { ⌜ length (now ground) ≡ 17 ⌝ }
     ensures { λ r. ⌜ r ≡ sameList eqb (now (ground .entry)) (take 17 (drop at (now (memory .entry)))) ⌝ }
 {
     let mut i = 0;
@@ -38,7 +46,8 @@ pub fn same_ground(memory: &[u8], at: usize, ground: &[u8]) -> bool
 
 // The number of the first of n entries that is this one, or n.
 fn entry_of(rows: &[u8], n: usize, ground: &[u8]) -> usize
-    requires { ⌜ (17 * n ≤ length (now rows)) × (length (now ground) ≡ 17) ⌝ }
+    requires entries { ⌜ 17 * n ≤ length (now rows) ⌝ }
+    requires row { ⌜ length (now ground) ≡ 17 ⌝ }
     ensures { λ r. ⌜ r ≡ position (sameList eqb (now (ground .entry))) (groundsIn n (now (rows .entry))) ⌝ }
 {
     let mut k = 0;
@@ -53,7 +62,8 @@ fn entry_of(rows: &[u8], n: usize, ground: &[u8]) -> usize
 
 // Whether one of n entries is this one.
 fn is_open(rows: &[u8], n: usize, ground: &[u8]) -> bool
-    requires { ⌜ (17 * n ≤ length (now rows)) × (length (now ground) ≡ 17) ⌝ }
+    requires entries { ⌜ 17 * n ≤ length (now rows) ⌝ }
+    requires row { ⌜ length (now ground) ≡ 17 ⌝ }
     ensures { λ r. ⌜ r ≡ hasRow (now (ground .entry)) (groundsIn n (now (rows .entry))) ⌝ }
 {
     entry_of(rows, n, ground) < n
@@ -61,9 +71,10 @@ fn is_open(rows: &[u8], n: usize, ground: &[u8]) -> bool
 
 // Whether the waiting event i, where it is an end, is open.
 fn end_open(rows: &[u8], n: usize, moments: &[u8], events: &[u8], i: usize) -> bool
-    requires { ⌜ (17 * n ≤ length (now rows)) × (i < length (now moments)) × (17 * i + 17 ≤ length (now events)) ⌝ }
-    ensures { λ r. ⌜ r ≡ endOpen (groundsIn n (now (rows .entry)))
-        (record { moment = getD (now (moments .entry)) i 0; row = take 17 (drop (17 * i) (now (events .entry))) }) ⌝ }
+    requires entries { ⌜ 17 * n ≤ length (now rows) ⌝ }
+    requires moment { ⌜ i < length (now moments) ⌝ }
+    requires event { ⌜ 17 * i + 17 ≤ length (now events) ⌝ }
+    ensures { λ r. ⌜ r ≡ endOpen (groundsIn n (now (rows .entry))) (eventAt (now (moments .entry)) (now (events .entry)) i) ⌝ }
 {
     if moments[i] != 1 {
         return true;
@@ -75,7 +86,9 @@ fn end_open(rows: &[u8], n: usize, moments: &[u8], events: &[u8], i: usize) -> b
 
 // Whether every end of the first `count` waiting events is open.
 fn all_open(rows: &[u8], n: usize, moments: &[u8], events: &[u8], count: usize) -> bool
-    requires { ⌜ (17 * n ≤ length (now rows)) × (count ≤ length (now moments)) × (17 * count ≤ length (now events)) ⌝ }
+    requires entries { ⌜ 17 * n ≤ length (now rows) ⌝ }
+    requires moments { ⌜ count ≤ length (now moments) ⌝ }
+    requires events { ⌜ 17 * count ≤ length (now events) ⌝ }
     ensures { λ r. ⌜ r ≡ all (endOpen (groundsIn n (now (rows .entry)))) (eventsIn count (now (moments .entry)) (now (events .entry))) ⌝ }
 {
     let mut i = 0;
@@ -90,8 +103,11 @@ fn all_open(rows: &[u8], n: usize, moments: &[u8], events: &[u8], count: usize) 
 
 // Whether every end of the step is open, by the entries and events of which there are so many.
 pub fn ends_open(rows: &[u8], n: usize, moments: &[u8], events: &[u8], count: usize) -> bool
-    requires { ⌜ (length (now rows) ≡ 544) × (length (now moments) ≡ 16) × (length (now events) ≡ 272) ⌝ }
-    ensures { λ r. ⌜ ((D : Domain) (gs : List GroundAction) (es : List Event) → Bounded D → GroundsFit D gs → EventsFit D es → length gs ≤ 32 → length es ≤ 16
+    requires entries { ⌜ length (now rows) ≡ 544 ⌝ }
+    requires moments { ⌜ length (now moments) ≡ 16 ⌝ }
+    requires events { ⌜ length (now events) ≡ 272 ⌝ }
+    ensures { λ r. ⌜ ((D : Domain) (gs : List GroundAction) (es : List Event) → Bounded D → GroundsFit D gs → EventsFit D es
+        → length gs ≤ 32 → length es ≤ 16
         → record { count = n; rows = now (rows .entry) } ≡ openOf gs
         → record { count = count; moments = now (moments .entry); rows = now (events .entry) } ≡ waitingOf es → r ≡ all (isOpen gs) es) ⌝ }
 {
@@ -105,23 +121,23 @@ pub fn ends_open(rows: &[u8], n: usize, moments: &[u8], events: &[u8], count: us
 }
 
 // Whether an event of this moment and action is the start of a lasting action.
-fn opens_entry(sorts: &[u8], actions: usize, moment: u8, action: u8) -> bool
-    requires { ⌜ actions ≤ length (now sorts) ⌝ }
-    ensures { λ r. ⌜ r ≡ opensBy (now (sorts .entry)) actions moment action ⌝ }
+fn opens_entry(head: &Head, moment: u8, action: u8) -> bool
+    ensures { λ r. ⌜ r ≡ opensBy (now (head .entry)) moment action ⌝ }
 {
     if moment == 1 {
         return false;
     }
-    let i = action as usize;
-    if actions <= i {
+    let i = wide(action);
+    if actions_in(head) <= i {
         return false;
     }
-    sorts[i] == 1
+    is_lasting(head, i)
 }
 
 // The rows without the entry k: the later ones forward, zeros behind.
 fn without(rows: &mut [u8], k: usize)
-    requires { ⌜ (length (now rows) ≡ 544) × (k < 32) ⌝ }
+    requires entries { ⌜ length (now rows) ≡ 544 ⌝ }
+    requires entry { ⌜ k < 32 ⌝ }
     ensures { λ _. ⌜ now (rows .exit) ≡ take (17 * k) (now (rows .entry)) ++ (drop (17 * k + 17) (now (rows .entry)) ++ replicate 17 0) ⌝ }
 {
     let mut old = [0u8; 544];
@@ -135,8 +151,11 @@ fn without(rows: &mut [u8], k: usize)
 
 // Takes the first of n entries that is this one out; the count afterwards.
 fn close(rows: &mut [u8], n: usize, ground: &[u8]) -> usize
-    requires { ⌜ (length (now rows) ≡ 544) × (n ≤ 32) × (length (now ground) ≡ 17) ⌝ }
-    ensures { λ r. ⌜ record { count = r; rows = now (rows .exit) } ≡ closeEntry (now (ground .entry)) (record { count = n; rows = now (rows .entry) }) ⌝ }
+    requires entries { ⌜ length (now rows) ≡ 544 ⌝ }
+    requires few { ⌜ n ≤ 32 ⌝ }
+    requires entry { ⌜ length (now ground) ≡ 17 ⌝ }
+    ensures { λ r. ⌜ record { count = r; rows = now (rows .exit) }
+        ≡ closeEntry (now (ground .entry)) (record { count = n; rows = now (rows .entry) }) ⌝ }
 {
     let k = entry_of(rows, n, ground);
     if k == n {
@@ -148,9 +167,12 @@ fn close(rows: &mut [u8], n: usize, ground: &[u8]) -> usize
 
 // Takes the entry of the event i out, where it is an end; the count afterwards.
 fn close_event(rows: &mut [u8], n: usize, moments: &[u8], events: &[u8], i: usize) -> usize
-    requires { ⌜ (length (now rows) ≡ 544) × (n ≤ 32) × (i < length (now moments)) × (17 * i + 17 ≤ length (now events)) ⌝ }
+    requires entries { ⌜ length (now rows) ≡ 544 ⌝ }
+    requires few { ⌜ n ≤ 32 ⌝ }
+    requires moment { ⌜ i < length (now moments) ⌝ }
+    requires event { ⌜ 17 * i + 17 ≤ length (now events) ⌝ }
     ensures { λ r. ⌜ record { count = r; rows = now (rows .exit) }
-        ≡ closeEvent (record { moment = getD (now (moments .entry)) i 0; row = take 17 (drop (17 * i) (now (events .entry))) }) (record { count = n; rows = now (rows .entry) }) ⌝ }
+        ≡ closeEvent (eventAt (now (moments .entry)) (now (events .entry)) i) (record { count = n; rows = now (rows .entry) }) ⌝ }
 {
     if moments[i] != 1 {
         return n;
@@ -162,7 +184,10 @@ fn close_event(rows: &mut [u8], n: usize, moments: &[u8], events: &[u8], i: usiz
 
 // Takes the entries of the ends among the first `count` events out; the count of entries afterwards.
 fn close_all(rows: &mut [u8], n: usize, moments: &[u8], events: &[u8], count: usize) -> usize
-    requires { ⌜ (length (now rows) ≡ 544) × (n ≤ 32) × (count ≤ length (now moments)) × (17 * count ≤ length (now events)) ⌝ }
+    requires entries { ⌜ length (now rows) ≡ 544 ⌝ }
+    requires few { ⌜ n ≤ 32 ⌝ }
+    requires moments { ⌜ count ≤ length (now moments) ⌝ }
+    requires events { ⌜ 17 * count ≤ length (now events) ⌝ }
     ensures { λ r. ⌜ record { count = r; rows = now (rows .exit) }
         ≡ closeEvents (eventsIn count (now (moments .entry)) (now (events .entry))) (record { count = n; rows = now (rows .entry) }) ⌝ }
 {
@@ -175,28 +200,34 @@ fn close_all(rows: &mut [u8], n: usize, moments: &[u8], events: &[u8], count: us
 
 // Puts an entry behind the first n.
 fn join(rows: &mut [u8], n: usize, ground: &[u8])
-    requires { ⌜ (length (now rows) ≡ 544) × (n < 32) × (length (now ground) ≡ 17) ⌝ }
-    ensures { λ _. ⌜ record { count = n + 1; rows = now (rows .exit) } ≡ joinEntry (now (ground .entry)) (record { count = n; rows = now (rows .entry) }) ⌝ }
+    requires entries { ⌜ length (now rows) ≡ 544 ⌝ }
+    requires few { ⌜ n < 32 ⌝ }
+    requires entry { ⌜ length (now ground) ≡ 17 ⌝ }
+    ensures { λ _. ⌜ record { count = n + 1; rows = now (rows .exit) }
+        ≡ joinEntry (now (ground .entry)) (record { count = n; rows = now (rows .entry) }) ⌝ }
 {
     put_bytes(rows, 17 * n, ground);
 }
 
 // Puts the entry of the event i behind the first n, where it is the start of a lasting action.
 fn join_event(
+    head: &Head,
     rows: &mut [u8],
     n: usize,
-    sorts: &[u8],
-    actions: usize,
     moments: &[u8],
     events: &[u8],
     i: usize,
 ) -> Joined
-    requires { ⌜ (length (now rows) ≡ 544) × (n ≤ 32) × (actions ≤ length (now sorts)) × (i < length (now moments)) × (17 * i + 17 ≤ length (now events)) ⌝ }
-    ensures { λ r. ⌜ record { fits = r .fits; running = record { count = r .count; rows = now (rows .exit) } } ≡ joinEvent (now (sorts .entry)) actions
-        (record { moment = getD (now (moments .entry)) i 0; row = take 17 (drop (17 * i) (now (events .entry))) }) (record { count = n; rows = now (rows .entry) }) ⌝ }
+    requires entries { ⌜ length (now rows) ≡ 544 ⌝ }
+    requires few { ⌜ n ≤ 32 ⌝ }
+    requires moment { ⌜ i < length (now moments) ⌝ }
+    requires event { ⌜ 17 * i + 17 ≤ length (now events) ⌝ }
+    ensures { λ r. ⌜ record { fits = r .fits; running = record { count = r .count; rows = now (rows .exit) } }
+        ≡ joinEvent (now (head .entry)) (eventAt (now (moments .entry)) (now (events .entry)) i)
+        (record { count = n; rows = now (rows .entry) }) ⌝ }
 {
     let at = 17 * i;
-    if !opens_entry(sorts, actions, moments[i], events[at]) {
+    if !opens_entry(head, moments[i], events[at]) {
         return Joined {
             fits: true,
             count: n,
@@ -216,23 +247,27 @@ fn join_event(
     }
 }
 
-// Puts the entries of the starts of lasting actions among the first `count` events behind the first n, up to the first for which there is no room.
+// Puts the entries of the starts of lasting actions among the first `count` events behind the first n, up to the first for
+// which there is no room.
 fn join_all(
+    head: &Head,
     rows: &mut [u8],
     n: usize,
-    sorts: &[u8],
-    actions: usize,
     moments: &[u8],
     events: &[u8],
     count: usize,
 ) -> Joined
-    requires { ⌜ (length (now rows) ≡ 544) × (n ≤ 32) × (actions ≤ length (now sorts)) × (count ≤ length (now moments)) × (17 * count ≤ length (now events)) ⌝ }
+    requires entries { ⌜ length (now rows) ≡ 544 ⌝ }
+    requires few { ⌜ n ≤ 32 ⌝ }
+    requires moments { ⌜ count ≤ length (now moments) ⌝ }
+    requires events { ⌜ 17 * count ≤ length (now events) ⌝ }
     ensures { λ r. ⌜ record { fits = r .fits; running = record { count = r .count; rows = now (rows .exit) } }
-        ≡ joinEvents (now (sorts .entry)) actions (eventsIn count (now (moments .entry)) (now (events .entry))) (record { count = n; rows = now (rows .entry) }) ⌝ }
+        ≡ joinEvents (now (head .entry)) (eventsIn count (now (moments .entry)) (now (events .entry)))
+        (record { count = n; rows = now (rows .entry) }) ⌝ }
 {
     let mut held = n;
     for i in 0..count {
-        let joined = join_event(rows, held, sorts, actions, moments, events, i);
+        let joined = join_event(head, rows, held, moments, events, i);
         if !joined.fits {
             return joined;
         }
@@ -244,19 +279,21 @@ fn join_all(
     }
 }
 
-// The entries after a step, in place of those before it: ends leave the list, starts of lasting actions join it. Where they do not fit, what is left there is of no use.
+// The entries after a step, in place of those before it: ends leave the list, starts of lasting actions join it. Where they do
+// not fit, what is left there is of no use.
 pub fn open_after(
+    head: &Head,
     rows: &mut [u8],
     n: usize,
     moments: &[u8],
     events: &[u8],
     count: usize,
-    sorts: &[u8],
-    actions: usize,
 ) -> Joined
-    requires { ⌜ (length (now rows) ≡ 544) × (length (now moments) ≡ 16) × (length (now events) ≡ 272) × (actions ≤ length (now sorts)) ⌝ }
-    ensures { λ r. ⌜ ((D : Domain) (index : Index) (gs : List GroundAction) (es : List Event) → Holds D index
-        → index .sorts ≡ now (sorts .entry) → index .actions ≡ actions → GroundsFit D gs → EventsFit D es → length gs ≤ 32 → length es ≤ 16
+    requires entries { ⌜ length (now rows) ≡ 544 ⌝ }
+    requires moments { ⌜ length (now moments) ≡ 16 ⌝ }
+    requires events { ⌜ length (now events) ≡ 272 ⌝ }
+    ensures { λ r. ⌜ ((D : Domain) (gs : List GroundAction) (es : List Event)
+        → HeadOf D (now (head .entry)) → GroundsFit D gs → EventsFit D es → length gs ≤ 32 → length es ≤ 16
         → record { count = n; rows = now (rows .entry) } ≡ openOf gs
         → record { count = count; moments = now (moments .entry); rows = now (events .entry) } ≡ waitingOf es
         → (r .fits ≡ leb (length (closeAll es gs ++ openedBy D es)) 32)
@@ -275,5 +312,5 @@ pub fn open_after(
         };
     }
     let left = close_all(rows, n, moments, events, count);
-    join_all(rows, left, sorts, actions, moments, events, count)
+    join_all(head, rows, left, moments, events, count)
 }

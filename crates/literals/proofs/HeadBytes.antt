@@ -14,7 +14,7 @@ use Rattle.records.specs.Lists.{In}
 use Rattle.records.proofs.Lists.{bool-cases, getD-in}
 use Rattle.literals.specs.Domain.{Action, Component, keysOf, Domain, noAction, action}
 use Rattle.literals.specs.Table.{componentRow, pad, startsFrom, sortNumber, allLiterals, Bounded}
-use Rattle.literals.specs.Held.{within, actionsIn, componentsIn, keysIn, arityIn, bytesFrom, partIn, partsFrom, partsIn, variablesIn, lastingIn, sizeIn, firstIn, countBytes, actionBytes, spanBytes, headOf, HeadOf}
+use Rattle.literals.specs.Held.{within, relationsIn, actionsIn, componentsIn, keysIn, arityIn, bytesFrom, partIn, partsFrom, partsIn, variablesIn, lastingIn, sizeIn, firstIn, countBytes, actionBytes, spanBytes, headOf, HeadOf}
 use Rattle.literals.proofs.Bounds.{arity-six}
 use Rattle.literals.proofs.Tables.{pad-at, length-pad, length-component-row, length-components}
 use Rattle.literals.proofs.Spans.{starts-at}
@@ -159,10 +159,11 @@ module _ (D : Domain) (B : Bounded D) where
       ∙ parts-here (countBytes D ++ pad 64 (D .arities)) (D .template) (replicate (128 - length parts) 0 ++ from-variables) 0 (omega arith) (λ d m. length-component-row d (B .labels d m))
 
   pub head-says : HeadOf D (headOf D)
-  unfolding actionsIn componentsIn keysIn variablesIn lastingIn sizeIn firstIn headOf spanBytes
+  unfolding relationsIn actionsIn componentsIn keysIn variablesIn lastingIn sizeIn firstIn headOf spanBytes
   head-says =
       record {
         bounded = B;
+        relations = within-is 64 (length (D .arities)) (B .relations);
         actions = within-is 64 (length (D .actions)) (B .actions);
         keys = within-is 6 (keysOf (D .template)) (keys-few (D .template) (B .labels));
         arities = arity-says;

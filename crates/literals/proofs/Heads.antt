@@ -6,7 +6,7 @@ use mathlib.Core.List.{List, [], _∷_, _++_, map, flatMap}
 use Prim.Native.Nat.{ℕ, zero, suc, _+_, _-_, _*_, _≤_, _<_}
 use native.Mathlib.Numerals.{add-one}
 use native.Mathlib.Omega.{arith}
-use lib.Dec.{leb}
+use lib.Dec.{ltb, leb}
 use lib.ListN.{length, take, drop, getD, length-append}
 use borrow.Author.Tests.{le-leb, lt-leb, lt-ltb, le-ltb, leb-true, leb-false}
 use Rattle.records.specs.Lists.{In}
@@ -15,7 +15,7 @@ use Rattle.records.proofs.Lists.{bool-cases, getD-in, flatMap-in}
 use Rattle.literals.specs.declared.span.Span.{Span}
 use Rattle.literals.specs.Domain.{Literal, Action, Component, Domain, noAction, action}
 use Rattle.literals.specs.Table.{literalRow, componentRow, allLiterals, tableBytes}
-use Rattle.literals.specs.Held.{within, keysIn, componentsIn, arityIn, bytesFrom, partIn, partsFrom, partsIn, sizeIn, firstIn, HeadOf, Held, SpanOf}
+use Rattle.literals.specs.Held.{within, keysIn, componentsIn, arityIn, bytesFrom, partIn, partsFrom, partsIn, variablesIn, sizeIn, firstIn, HeadOf, Held, SpanOf}
 use Rattle.literals.proofs.Tables.{length-literal-row, length-flat}
 use Rattle.literals.proofs.Spans.{part-flat, literals-split, literals-next}
 
@@ -179,3 +179,17 @@ module _ {D : Domain} {head table : List ℕ} (H : Held D head table) (i : ℕ) 
               ∙ part-flat literalRow before (action D i .lits) behind (H .old) eights;
         },
       )
+
+-- ---- limits of what a head says, whatever its bytes are
+
+pub arity-limit : (head : List ℕ) (r : ℕ) → arityIn head r ≤ 6
+unfolding arityIn
+arity-limit head r = go (ltb r 64)
+  where
+    go : (b : Bool) → cond b (within 6 (getD head (8 + r) 0)) 0 ≤ 6
+    go true = within-le 6 (getD head (8 + r) 0)
+    go false = omega arith
+
+pub variables-limit : (head : List ℕ) (i : ℕ) → variablesIn head i ≤ 16
+unfolding variablesIn
+variables-limit head i = within-le 16 (getD head (200 + i) 0)

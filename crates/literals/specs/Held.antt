@@ -16,6 +16,9 @@ use Rattle.literals.specs.Table.{literalRow, componentRow, pad, startsFr
 abbrev pub within : ℕ → ℕ → ℕ
 within limit n = cond (leb n limit) n 0
 
+unfoldable pub relationsIn : List ℕ → ℕ
+relationsIn head = within 64 (getD head 0 0)
+
 unfoldable pub actionsIn : List ℕ → ℕ
 actionsIn head = within 64 (getD head 1 0)
 
@@ -91,6 +94,7 @@ headOf D =
 
 pub record HeadOf (D : Domain) (head : List ℕ) : Type 0 where
   pub bounded : Bounded D
+  pub relations : relationsIn head ≡ length (D .arities)
   pub actions : actionsIn head ≡ length (D .actions)
   pub keys : keysIn head ≡ keysOf (D .template)
   pub arities : (r : ℕ) → arityIn head r ≡ arity D r

@@ -11,13 +11,15 @@ ghost use Prim.Native.Nat.{ℕ, _<_, _≤_};
 ghost use lib.ListN.{length, getD};
 ghost use Rattle.literals.specs.Domain.{Domain};
 ghost use Rattle.literals.specs.Table.{indexWith, Holds};
-ghost use Rattle.literals.specs.Held.{CountsFit, SpansFit, Packable, countBytes, spanBytes, headOf, within, actionsIn, componentsIn, keysIn, arityIn, partIn, variablesIn, lastingIn, Held, SpanFits, SpanOf};
+ghost use Rattle.literals.specs.Held.{CountsFit, SpansFit, Packable, countBytes, spanBytes, headOf, within, relationsIn, actionsIn, componentsIn, keysIn, arityIn, partIn, variablesIn, lastingIn, Held, SpanFits, SpanOf};
 
 pub const HEAD: usize = 520;
 
 pub type Head = [u8; HEAD];
 
 // How many there are of each: relations, actions, components, keys; then the literals, in two bytes, the lower first.
+const RELATIONS: usize = 0;
+
 const ACTIONS: usize = 1;
 
 const COMPONENTS: usize = 2;
@@ -46,6 +48,12 @@ fn limited(n: u8, limit: u8) -> u8
         return n;
     }
     0
+}
+
+pub fn relations_in(head: &Head) -> usize
+    ensures { λ r. ⌜ (r ≡ relationsIn (now (head .entry))) × (r ≤ 64) ⌝ }
+{
+    wide(limited(head[RELATIONS], 64))
 }
 
 pub fn actions_in(head: &Head) -> usize

@@ -154,8 +154,8 @@ module _ (D : Domain) (B : Bounded D) (s : State) (es : List Event) (old : List 
     unfolding closeState
     facts-taken = let f : eqb (closeStop D s es) 0 ≡ true = rw (stop-large D s es old w free false (not-large D s es after-few running-short)) in rw f facts-next
 
-    pub taken-indexed : (arities : List ℕ) (keys : ℕ) (parts : List (List ℕ)) (index : List ℕ) → Indexed arities keys parts index (map factRow after) → Indexed arities keys parts index (map factRow (closeState D s es .facts))
-    taken-indexed arities keys parts index h = rw facts-taken h
+    pub taken-indexed : (head index : List ℕ) → Indexed head index (map factRow after) → Indexed head index (map factRow (closeState D s es .facts))
+    taken-indexed head index h = rw facts-taken h
 
     -- the rows that are put together beside the work memory, put there
     module _ (work work′ memory : List ℕ) (held : ℕ) (he : held ≡ length (s .facts)) (b : work ≡ over (heldBytes (s .facts)) old) (m : take (8 * length after) memory ≡ factBytes after)
@@ -170,8 +170,8 @@ module _ (D : Domain) (B : Bounded D) (s : State) (es : List Event) (old : List 
       pub taken-rows : rowsIn n work′ ≡ map factRow after
       taken-rows = ap₂ rowsIn size-is work-taken ∙ work-rows after (fits-few B after after-fits) after-few old
 
-      pub rows-indexed : (arities : List ℕ) (keys : ℕ) (parts : List (List ℕ)) (index : List ℕ) → Indexed arities keys parts index (map factRow after) → Indexed arities keys parts index (rowsIn n work′)
-      rows-indexed arities keys parts index h = rw taken-rows h
+      pub rows-indexed : (head index : List ℕ) → Indexed head index (map factRow after) → Indexed head index (rowsIn n work′)
+      rows-indexed head index h = rw taken-rows h
 
       pub leaves-taken : (o : Open) → o ≡ openOf running → (weight k : ℕ)
           → k ≡ length (filterBy (λ (f : Fact). not (elem sameFact f (stepFacts D es Delete))) (s .facts)) → topWeight D (s .facts) ≤ w → weight ≡ max w (topFrom D after k)

@@ -96,9 +96,9 @@ module _ (D : Domain) (s : State) where
 
 -- ---- what stands beside the facts
 
-module _ (arities : List ℕ) (keys : ℕ) (parts : List (List ℕ)) where
+module _ (head : List ℕ) where
   -- the index says nothing of the number behind it
-  pub indexed-set : (index : List ℕ) (v : ℕ) (rows : List (List ℕ)) → Indexed arities keys parts index rows → Indexed arities keys parts (set index 12288 v) rows
+  pub indexed-set : (index : List ℕ) (v : ℕ) (rows : List (List ℕ)) → Indexed head index rows → Indexed head (set index 12288 v) rows
   indexed-set index v rows h =
       record {
         totals = λ place l. getD-set-other index 12288 place v 0 (λ e. omega arith) ∙ h .totals place l;
@@ -106,15 +106,15 @@ module _ (arities : List ℕ) (keys : ℕ) (parts : List (List ℕ)) where
       }
 
   module _ (D : Domain) where
-    pub noted-rest : (index : List ℕ) (s : State) → Noted D arities keys parts index s → Noted D arities keys parts index (closeState D s [])
+    pub noted-rest : (index : List ℕ) (s : State) → Noted D head index s → Noted D head index (closeState D s [])
     noted-rest index s h = rw (rest-state D s) h
 
     -- noted that the over-all conditions hold
-    pub noted-set : (index : List ℕ) (s : State) → Noted D arities keys parts index s → all (overAllHold D (s .facts)) (s .running) ≡ true → Noted D arities keys parts (set index 12288 1) (closeState D s [])
+    pub noted-set : (index : List ℕ) (s : State) → Noted D head index s → all (overAllHold D (s .facts)) (s .running) ≡ true → Noted D head (set index 12288 1) (closeState D s [])
     noted-set index s n h = noted-rest (set index 12288 1) s (record { indexed = indexed-set index 1 (map factRow (s .facts)) (n .indexed); settled = λ e. h })
 
     -- nothing is noted yet
-    pub noted-anew : (index : List ℕ) (s : State) → Indexed arities keys parts index (map factRow (s .facts)) → getD index 12288 0 ≡ 0 → Noted D arities keys parts index s
+    pub noted-anew : (index : List ℕ) (s : State) → Indexed head index (map factRow (s .facts)) → getD index 12288 0 ≡ 0 → Noted D head index s
     noted-anew index s h z = record { indexed = h; settled = λ e. absurd (omega arith) }
 
 pub unset : (index : List ℕ) → length index ≡ 12289 → getD (set index 12288 0) 12288 0 ≡ 0

@@ -7,15 +7,15 @@ use lib.Dec.{eqb}
 use lib.ListN.{length, getD}
 use Rattle.records.specs.Lists.{In, all, distinct}
 use Rattle.records.specs.Memory.{over}
-use Rattle.literals.specs.declared.Counts.{Counts}
 use Rattle.literals.specs.Domain.{Fact, sameFact, Domain}
 use Rattle.literals.specs.Table.{rowsIn}
+use Rattle.literals.specs.Held.{Held}
 use Rattle.verdict.specs.Machine.{Event, State, next, topWeight, overAllHold}
 use Rattle.store.specs.Index.{Indexed}
 use Rattle.machine.specs.declared.State.{State as Holding}
 use Rattle.runs.specs.Play.{maxFacts, maxRunning, maxEvents, workBytes, forbidden, tooLarge, heldBytes}
 use Rattle.store.specs.Rows.{factRow, FactFits}
-use Rattle.events.specs.Coded.{openOf, waitingOf, GroundsFit, EventsFit, Ready}
+use Rattle.events.specs.Coded.{openOf, waitingOf, GroundsFit, EventsFit}
 use Rattle.effects.specs.Effects.{Once}
 
 -- ---- what the code holds
@@ -42,24 +42,26 @@ pub record Kept (D : Domain) (s : State) (es : List Event) : Type 0 where
   pub waiting : EventsFit D es
   pub waiting-few : length es ≤ maxEvents
 
--- what stands beside the facts: their index, whose last number is 1 only where the over-all conditions of everything open are known to hold
-pub record Noted (D : Domain) (arities : List ℕ) (keys : ℕ) (parts : List (List ℕ)) (index : List ℕ) (s : State) : Type 0 where
-  pub indexed : Indexed arities keys parts index (map factRow (s .facts))
+-- what the memories hold when a step is closed: a domain, a state, and the events that wait, in work memory that was `old` before
+-- the run
+pub record StepHeld (D : Domain) (s : State) (es : List Event) (head table : List ℕ) (state : Holding) (work old : List ℕ) : Type 0 where
+  pub domain : Held D head table
+  pub kept : Kept D s es
+  pub state-is : state ≡ holdingOf s es
+  pub facts-are : work ≡ over (heldBytes (s .facts)) old
+
+-- what stands beside the facts: their index, whose last number is 1 only where the over-all conditions of everything open are
+-- known to hold
+pub record Noted (D : Domain) (head index : List ℕ) (s : State) : Type 0 where
+  pub indexed : Indexed head index (map factRow (s .facts))
   pub settled : getD index 12288 0 ≡ 1 → all (overAllHold D (s .facts)) (s .running) ≡ true
 
 -- ---- what the code relies on
 
 -- to close a step, whatever is held
-pub record Closable (n : Counts) (arities sorts starts parts table : List ℕ) (state : Holding) (work : List ℕ) : Type 0 where
-  pub ready : Ready n arities starts table
-  pub sorts-length : length sorts ≡ 64
-  pub parts-length : length parts ≡ 128
-  pub components : n .components ≤ 16
-  pub keys : n .keys ≤ 6
+pub record Closable (state : Holding) (work : List ℕ) : Type 0 where
   pub facts : state .facts ≤ maxFacts
   pub facts-once : Once (rowsIn (state .facts) work)
-  pub running : state .running .count ≤ maxRunning
-  pub waiting : state .waiting .count ≤ maxEvents
   pub room : workBytes ≤ length work
 
 -- ---- the step's close

@@ -1,4 +1,5 @@
-// The state's entries and events in memories: between two steps they stand there, so that an event that is read costs no copy of the state.
+// The state's entries and events in memories: between two steps they stand there, so that an event that is read costs no copy
+// of the state.
 use super::State;
 use events::Open;
 use events::Waiting;
@@ -43,7 +44,8 @@ impl State {
     // Its entries and events, put into such memories.
     pub fn put(self, entries: &mut [u8], moments: &mut [u8], events: &mut [u8])
         requires { ⌜ (length (now entries) ≡ 544) × (length (now moments) ≡ 16) × (length (now events) ≡ 272) ⌝ }
-        ensures { λ _. ⌜ (now (entries .exit) ≡ self .running .rows) × (now (moments .exit) ≡ self .waiting .moments) × (now (events .exit) ≡ self .waiting .rows) ⌝ }
+        ensures { λ _. ⌜ (now (entries .exit) ≡ self .running .rows) × (now (moments .exit) ≡ self .waiting .moments)
+            × (now (events .exit) ≡ self .waiting .rows) ⌝ }
     {
         let running = self.running;
         let waiting = self.waiting;

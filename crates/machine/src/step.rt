@@ -10,7 +10,7 @@ use events::openings::ends_open;
 use events::openings::open_after;
 use events::waits::put_bytes;
 use events::waits::put_zeros;
-use literals::Counts;
+use literals::head::Head;
 use store::weighing::top_from;
 ghost use mathlib.Core.Path.{_≡_};
 ghost use mathlib.Core.List.{List, [], _++_, map};
@@ -19,12 +19,13 @@ ghost use lib.ListN.{length, getD, take, replicate};
 ghost use Rattle.records.specs.Memory.{over};
 ghost use Rattle.literals.specs.Domain.{Domain};
 ghost use Rattle.literals.specs.Table.{rowsIn};
+ghost use Rattle.literals.specs.Held.{Held};
 ghost use Rattle.verdict.specs.Machine.{Event, State as MachineState, topWeight};
 ghost use Rattle.store.specs.Index.{Indexed};
-ghost use Rattle.runs.specs.Play.{forbidden, heldBytes};
+ghost use Rattle.runs.specs.Play.{forbidden};
 ghost use Rattle.store.specs.Rows.{factRow};
-ghost use Rattle.events.specs.Coded.{openOf, Lent, Ready};
-ghost use Rattle.machine.specs.Stepping.{holdingOf, heldAs, Kept, Noted, Closable, closeStop, closeState, thenHeld, Leaves};
+ghost use Rattle.events.specs.Coded.{openOf};
+ghost use Rattle.machine.specs.Stepping.{holdingOf, heldAs, Kept, StepHeld, Noted, Closable, closeStop, closeState, thenHeld, Leaves};
 
 // What closing a step led to: 0 and the state after it, or the number that refuses it and the state as it was; and the highest weight.
 pub struct Closed {
@@ -43,8 +44,13 @@ struct Advanced {
 
 // The first n rows of a memory in place of the rows that the work memory holds; zeros where it held more.
 fn settle(work: &mut [u8], held: usize, rows: &[u8], n: usize)
-    requires { ⌜ (held ≤ 1024) × (8 * held ≤ length (now work)) × (n ≤ 1024) × (8 * n ≤ length (now work)) × (8 * n ≤ length (now rows)) ⌝ }
-    ensures { λ _. ⌜ now (work .exit) ≡ over (take (8 * n) (now (rows .entry)) ++ replicate (8 * held - 8 * n) 0) (now (work .entry)) ⌝ }
+    requires held_few { ⌜ held ≤ 1024 ⌝ }
+    requires held { ⌜ 8 * held ≤ length (now work) ⌝ }
+    requires few { ⌜ n ≤ 1024 ⌝ }
+    requires room { ⌜ 8 * n ≤ length (now work) ⌝ }
+    requires rows { ⌜ 8 * n ≤ length (now rows) ⌝ }
+    ensures { λ _. ⌜ now (work .exit)
+        ≡ over (take (8 * n) (now (rows .entry)) ++ replicate (8 * held - 8 * n) 0) (now (work .entry)) ⌝ }
 {
     let end = 8 * n;
     put_bytes(work, 0, &rows[..end]);
@@ -55,9 +61,7 @@ fn settle(work: &mut [u8], held: usize, rows: &[u8], n: usize)
 
 // The number that forbids a step, or 0: an end that is not open, a condition that fails, interference.
 fn forbidden(
-    counts: Counts,
-    arities: &[u8],
-    starts: &[usize],
+    head: &Head,
     table: &[u8],
     rows: &[u8],
     n: usize,
@@ -68,48 +72,37 @@ fn forbidden(
     work: &[u8],
     facts: usize,
 ) -> u64
-    requires { ⌜ Ready counts (now arities) (now starts) (now table) × (length (now rows) ≡ 544) × (length (now moments) ≡ 16) × (length (now events) ≡ 272)
-        × (length (now index) ≡ 12289) × (facts ≤ 1024) × (8 * facts ≤ length (now work)) ⌝ }
-    ensures { λ r. ⌜ ((D : Domain) (variables sorts parts : List ℕ) (s : MachineState) (es : List Event)
-        → Lent D counts (now (arities .entry)) variables sorts (now (starts .entry)) parts (now (table .entry)) → Kept D s es
+    requires entries { ⌜ length (now rows) ≡ 544 ⌝ }
+    requires moments { ⌜ length (now moments) ≡ 16 ⌝ }
+    requires events { ⌜ length (now events) ≡ 272 ⌝ }
+    requires index { ⌜ length (now index) ≡ 12289 ⌝ }
+    requires few { ⌜ facts ≤ 1024 ⌝ }
+    requires facts { ⌜ 8 * facts ≤ length (now work) ⌝ }
+    ensures { λ r. ⌜ ((D : Domain) (s : MachineState) (es : List Event)
+        → Held D (now (head .entry)) (now (table .entry)) → Kept D s es
         → heldAs facts n (now (rows .entry)) count (now (moments .entry)) (now (events .entry)) ≡ holdingOf s es
         → rowsIn facts (now (work .entry)) ≡ map factRow (s .facts)
-        → ((keys : ℕ) (held : List (List ℕ)) → Indexed (now (arities .entry)) keys held (now (index .entry)) (map factRow (s .facts)) → r ≡ forbidden D s es)) ⌝ }
+        → Indexed (now (head .entry)) (now (index .entry)) (map factRow (s .facts)) → r ≡ forbidden D s es) ⌝ }
 {
     if !ends_open(rows, n, moments, events, count) {
         return 57;
     }
-    if !events_met(
-        counts,
-        arities,
-        starts,
-        table,
-        moments,
-        events,
-        count,
-        index,
-        work,
-        facts,
-    ) {
+    if !events_met(head, table, moments, events, count, index, work, facts) {
         return 55;
     }
-    if !open_met(counts, arities, starts, table, rows, n, index, work, facts) {
+    if !open_met(head, table, rows, n, index, work, facts) {
         return 55;
     }
-    if !independent(counts, arities, starts, table, moments, events, count) {
+    if !independent(head, table, moments, events, count) {
         return 56;
     }
     0
 }
 
-// The step that nothing forbids: its facts in the work memory and its entries in `rows`; 52 where either are too many, and the work memory is as it was.
-// The facts are put together in `spare` first.
+// The step that nothing forbids: its facts in the work memory and its entries in `rows`; 52 where either are too many, and the
+// work memory is as it was. The facts are put together in `spare` first.
 fn advance(
-    counts: Counts,
-    arities: &[u8],
-    sorts: &[u8],
-    starts: &[usize],
-    parts: &[u8],
+    head: &Head,
     table: &[u8],
     rows: &mut [u8],
     n: usize,
@@ -123,29 +116,32 @@ fn advance(
     spare: &mut [u8],
     effects: &mut [u8],
 ) -> Advanced
-    requires { ⌜ Closable counts (now arities) (now sorts) (now starts) (now parts) (now table) (heldAs facts n (now rows) count (now moments) (now events)) (now work)
-        × (length (now index) ≡ 12289) × (length (now rows) ≡ 544) × (length (now moments) ≡ 16) × (length (now events) ≡ 272)
-        × (length (now spare) ≡ 8192) × (length (now effects) ≡ 8192) ⌝ }
-    ensures leaves { λ r. ⌜ ((D : Domain) (variables : List ℕ) (s : MachineState) (es : List Event) (old : List ℕ)
-        → Lent D counts (now (arities .entry)) variables (now (sorts .entry)) (now (starts .entry)) (now (parts .entry)) (now (table .entry)) → Kept D s es
-        → heldAs facts n (now (rows .entry)) count (now (moments .entry)) (now (events .entry)) ≡ holdingOf s es
-        → now (work .entry) ≡ over (heldBytes (s .facts)) old → topWeight D (s .facts) ≤ weight → forbidden D s es ≡ 0
-        → Indexed (now (arities .entry)) (counts .keys) (rowsIn (counts .components) (now (parts .entry))) (now (index .entry)) (map factRow (s .facts))
+    requires closable { ⌜ Closable (heldAs facts n (now rows) count (now moments) (now events)) (now work) ⌝ }
+    requires index { ⌜ length (now index) ≡ 12289 ⌝ }
+    requires entries { ⌜ length (now rows) ≡ 544 ⌝ }
+    requires moments { ⌜ length (now moments) ≡ 16 ⌝ }
+    requires events { ⌜ length (now events) ≡ 272 ⌝ }
+    requires spare { ⌜ length (now spare) ≡ 8192 ⌝ }
+    requires effects { ⌜ length (now effects) ≡ 8192 ⌝ }
+    ensures leaves { λ r. ⌜ ((D : Domain) (s : MachineState) (es : List Event) (old : List ℕ)
+        → StepHeld D s es (now (head .entry)) (now (table .entry))
+        (heldAs facts n (now (rows .entry)) count (now (moments .entry)) (now (events .entry))) (now (work .entry)) old
+        → topWeight D (s .facts) ≤ weight → forbidden D s es ≡ 0
+        → Indexed (now (head .entry)) (now (index .entry)) (map factRow (s .facts))
         → Leaves D s es old weight (r .number)
-        (thenHeld (r .number) (r .facts) (r .open) (now (rows .exit)) (heldAs facts n (now (rows .entry)) count (now (moments .entry)) (now (events .entry))))
+        (thenHeld (r .number) (r .facts) (r .open) (now (rows .exit))
+        (heldAs facts n (now (rows .entry)) count (now (moments .entry)) (now (events .entry))))
         (r .weight) (now (work .exit))) ⌝ }
-    ensures indexed { λ r. ⌜ ((D : Domain) (variables : List ℕ) (s : MachineState) (es : List Event) (old : List ℕ)
-        → Lent D counts (now (arities .entry)) variables (now (sorts .entry)) (now (starts .entry)) (now (parts .entry)) (now (table .entry)) → Kept D s es
-        → heldAs facts n (now (rows .entry)) count (now (moments .entry)) (now (events .entry)) ≡ holdingOf s es
-        → now (work .entry) ≡ over (heldBytes (s .facts)) old → forbidden D s es ≡ 0
-        → Indexed (now (arities .entry)) (counts .keys) (rowsIn (counts .components) (now (parts .entry))) (now (index .entry)) (map factRow (s .facts))
-        → r .number ≡ 0 → Indexed (now (arities .entry)) (counts .keys) (rowsIn (counts .components) (now (parts .entry))) (now (index .exit)) (map factRow (closeState D s es .facts))) ⌝ }
+    ensures indexed { λ r. ⌜ ((D : Domain) (s : MachineState) (es : List Event) (old : List ℕ)
+        → StepHeld D s es (now (head .entry)) (now (table .entry))
+        (heldAs facts n (now (rows .entry)) count (now (moments .entry)) (now (events .entry))) (now (work .entry)) old
+        → forbidden D s es ≡ 0
+        → Indexed (now (head .entry)) (now (index .entry)) (map factRow (s .facts))
+        → r .number ≡ 0 → Indexed (now (head .entry)) (now (index .exit)) (map factRow (closeState D s es .facts))) ⌝ }
     ensures beside { λ _. ⌜ getD (now (index .exit)) 12288 0 ≡ getD (now (index .entry)) 12288 0 ⌝ }
 {
     let after = facts_after(
-        counts,
-        arities,
-        starts,
+        head,
         table,
         moments,
         events,
@@ -153,7 +149,6 @@ fn advance(
         work,
         facts,
         spare,
-        parts,
         index,
         effects,
     );
@@ -166,7 +161,7 @@ fn advance(
             weight,
         };
     }
-    let opened = open_after(rows, n, moments, events, count, sorts, counts.actions);
+    let opened = open_after(head, rows, n, moments, events, count);
     if !opened.fits {
         return Advanced {
             number: 52,
@@ -176,16 +171,7 @@ fn advance(
         };
     }
     settle(work, facts, spare, then);
-    let highest = top_from(
-        parts,
-        counts.components,
-        counts.keys,
-        work,
-        then,
-        after.kept,
-        weight,
-        index,
-    );
+    let highest = top_from(head, work, then, after.kept, weight, index);
     Advanced {
         number: 0,
         facts: then,
@@ -194,11 +180,10 @@ fn advance(
     }
 }
 
-// A step without events, which changes nothing: the over-all conditions of everything open are asked, unless the index's last number says that they hold. 55 where they do not.
+// A step without events, which changes nothing: the over-all conditions of everything open are asked, unless the index's last
+// number says that they hold. 55 where they do not.
 fn rest(
-    counts: Counts,
-    arities: &[u8],
-    starts: &[usize],
+    head: &Head,
     table: &[u8],
     rows: &[u8],
     n: usize,
@@ -206,15 +191,19 @@ fn rest(
     work: &[u8],
     facts: usize,
 ) -> u64
-    requires { ⌜ Ready counts (now arities) (now starts) (now table) × (length (now rows) ≡ 544) × (length (now index) ≡ 12289) × (facts ≤ 1024) × (8 * facts ≤ length (now work)) ⌝ }
-    ensures { λ r. ⌜ ((D : Domain) (variables sorts parts : List ℕ) (s : MachineState) (keys : ℕ) (held : List (List ℕ))
-        → Lent D counts (now (arities .entry)) variables sorts (now (starts .entry)) parts (now (table .entry)) → Kept D s []
-        → record { count = n; rows = now (rows .entry) } ≡ openOf (s .running) → rowsIn facts (now (work .entry)) ≡ map factRow (s .facts)
-        → Noted D (now (arities .entry)) keys held (now (index .entry)) s
-        → (r ≡ closeStop D s []) × (r ≡ 0 → Noted D (now (arities .entry)) keys held (now (index .exit)) (closeState D s []))) ⌝ }
+    requires entries { ⌜ length (now rows) ≡ 544 ⌝ }
+    requires index { ⌜ length (now index) ≡ 12289 ⌝ }
+    requires few { ⌜ facts ≤ 1024 ⌝ }
+    requires facts { ⌜ 8 * facts ≤ length (now work) ⌝ }
+    ensures { λ r. ⌜ ((D : Domain) (s : MachineState)
+        → Held D (now (head .entry)) (now (table .entry)) → Kept D s []
+        → record { count = n; rows = now (rows .entry) } ≡ openOf (s .running)
+        → rowsIn facts (now (work .entry)) ≡ map factRow (s .facts)
+        → Noted D (now (head .entry)) (now (index .entry)) s
+        → (r ≡ closeStop D s []) × (r ≡ 0 → Noted D (now (head .entry)) (now (index .exit)) (closeState D s []))) ⌝ }
 {
     if index[12288] != 1 {
-        if !open_met(counts, arities, starts, table, rows, n, index, work, facts) {
+        if !open_met(head, table, rows, n, index, work, facts) {
             return 55;
         }
         index[12288] = 1;
@@ -223,15 +212,12 @@ fn rest(
 }
 
 impl State {
-    // Closes the step that is read: takes it, or refuses it by 57, 55, 56 or 52 and changes nothing. `spare` and `effects` are memory to work in.
+    // Closes the step that is read: takes it, or refuses it by 57, 55, 56 or 52 and changes nothing. `spare` and `effects` are
+    // memory to work in.
     // Entries and events are each lent from one local, since every local of its own would be one copy more of them for each step.
     pub fn step(
         self,
-        counts: Counts,
-        arities: &[u8],
-        sorts: &[u8],
-        starts: &[usize],
-        parts: &[u8],
+        head: &Head,
         table: &[u8],
         work: &mut [u8],
         weight: usize,
@@ -239,34 +225,24 @@ impl State {
         spare: &mut [u8],
         effects: &mut [u8],
     ) -> Closed
-        requires { ⌜ Closable counts (now arities) (now sorts) (now starts) (now parts) (now table) self (now work) × (length (now index) ≡ 12289)
-            × (length (now spare) ≡ 8192) × (length (now effects) ≡ 8192) ⌝ }
-        ensures leaves { λ r. ⌜ ((D : Domain) (variables : List ℕ) (s : MachineState) (es : List Event) (old : List ℕ)
-            → Lent D counts (now (arities .entry)) variables (now (sorts .entry)) (now (starts .entry)) (now (parts .entry)) (now (table .entry)) → Kept D s es → self ≡ holdingOf s es
-            → now (work .entry) ≡ over (heldBytes (s .facts)) old → topWeight D (s .facts) ≤ weight
-            → Noted D (now (arities .entry)) (counts .keys) (rowsIn (counts .components) (now (parts .entry))) (now (index .entry)) s
+        requires closable { ⌜ Closable self (now work) ⌝ }
+        requires index { ⌜ length (now index) ≡ 12289 ⌝ }
+        requires spare { ⌜ length (now spare) ≡ 8192 ⌝ }
+        requires effects { ⌜ length (now effects) ≡ 8192 ⌝ }
+        ensures leaves { λ r. ⌜ ((D : Domain) (s : MachineState) (es : List Event) (old : List ℕ)
+            → StepHeld D s es (now (head .entry)) (now (table .entry)) self (now (work .entry)) old
+            → topWeight D (s .facts) ≤ weight → Noted D (now (head .entry)) (now (index .entry)) s
             → Leaves D s es old weight (r .number) (r .state) (r .weight) (now (work .exit))) ⌝ }
-        ensures noted { λ r. ⌜ ((D : Domain) (variables : List ℕ) (s : MachineState) (es : List Event) (old : List ℕ)
-            → Lent D counts (now (arities .entry)) variables (now (sorts .entry)) (now (starts .entry)) (now (parts .entry)) (now (table .entry)) → Kept D s es → self ≡ holdingOf s es
-            → now (work .entry) ≡ over (heldBytes (s .facts)) old
-            → Noted D (now (arities .entry)) (counts .keys) (rowsIn (counts .components) (now (parts .entry))) (now (index .entry)) s
-            → r .number ≡ 0 → Noted D (now (arities .entry)) (counts .keys) (rowsIn (counts .components) (now (parts .entry))) (now (index .exit)) (closeState D s es)) ⌝ }
+        ensures noted { λ r. ⌜ ((D : Domain) (s : MachineState) (es : List Event) (old : List ℕ)
+            → StepHeld D s es (now (head .entry)) (now (table .entry)) self (now (work .entry)) old
+            → Noted D (now (head .entry)) (now (index .entry)) s
+            → r .number ≡ 0 → Noted D (now (head .entry)) (now (index .exit)) (closeState D s es)) ⌝ }
     {
         let running = self.running;
         let waiting = self.waiting;
         let mut rows = running.rows;
         if waiting.count == 0 {
-            let number = rest(
-                counts,
-                arities,
-                starts,
-                table,
-                &rows,
-                running.count,
-                index,
-                work,
-                self.facts,
-            );
+            let number = rest(head, table, &rows, running.count, index, work, self.facts);
             return Closed {
                 number,
                 state: self,
@@ -277,9 +253,7 @@ impl State {
         let moments = waiting.moments;
         let events = waiting.rows;
         let number = forbidden(
-            counts,
-            arities,
-            starts,
+            head,
             table,
             &rows,
             running.count,
@@ -298,11 +272,7 @@ impl State {
             };
         }
         let advanced = advance(
-            counts,
-            arities,
-            sorts,
-            starts,
-            parts,
+            head,
             table,
             &mut rows,
             running.count,

@@ -14,13 +14,10 @@ use Rattle.records.specs.Lists.{all, any, empty, countBy, addIf, distinct, elem
 use Rattle.records.proofs.Lists.{not-false, any-out, all-map, empty-no, empty-yes}
 use Rattle.records.proofs.Numbers.{numberOf, testOf, none-passes, rows-split}
 use Rattle.literals.specs.declared.Object.{Object}
-use Rattle.literals.specs.declared.Counts.{Counts}
 use Rattle.literals.specs.Domain.{object, sameObject, Fact, sameFact, Domain, arity, action}
 use Rattle.literals.specs.Decode.{byte}
-use Rattle.literals.specs.Table.{indexWith, Holds}
-use Rattle.literals.proofs.Tables.{pad-at}
-use Rattle.literals.proofs.Spans.{vars-at, sort-at}
-use Rattle.literals.proofs.Held.{relations-is, actions-is, arities-is}
+use Rattle.literals.specs.Held.{relationsIn, actionsIn, arityIn, variablesIn, lastingIn, HeadOf}
+use Rattle.literals.proofs.Heads.{arity-limit, variables-limit}
 use Rattle.classes.specs.Classes.{momentNumber}
 use Rattle.classes.specs.Coded.{below}
 use Rattle.verdict.specs.Machine.{Event, sameEvent, injective}
@@ -78,90 +75,111 @@ module _ (s : List ℕ) (i : ℕ) where
 
 -- ---- the tests of a start fact up to 51, in the order of the code
 
-module _ (n : Counts) (arities : List ℕ) (objects : ℕ) (begun : Bool) (b : List ℕ) where
-  pub fact-early : objects ≡ 0 → 50 ≡ factFields n arities objects begun b
+module _ (head : List ℕ) (objects : ℕ) (begun : Bool) (b : List ℕ) where
+  pub fact-early : objects ≡ 0 → 50 ≡ factFields head objects begun b
   unfolding factFields
   fact-early e = rw (eq-eqb objects 0 e)
 
   module _ (o : objects ≡ 0 → ⊥) where
-    pub fact-late : begun ≡ true → 50 ≡ factFields n arities objects begun b
+    pub fact-late : begun ≡ true → 50 ≡ factFields head objects begun b
     unfolding factFields
     fact-late e = rw (ne-eqb objects 0 o, e)
 
     module _ (t : begun ≡ false) where
-      pub fact-short : length b < 1 → 50 ≡ factFields n arities objects begun b
+      pub fact-short : length b < 1 → 50 ≡ factFields head objects begun b
       unfolding factFields
       fact-short l = rw (ne-eqb objects 0 o, t, lt-ltb (length b) 1 l)
 
       module _ (l : 1 ≤ length b) (r : ℕ) (e : r ≡ byte b 0) where
-        pub fact-unknown : n .relations ≤ r → 51 ≡ factFields n arities objects begun b
+        pub fact-unknown : relationsIn head ≤ r → 51 ≡ factFields head objects begun b
         unfolding factFields
-        fact-unknown k = rw (ne-eqb objects 0 o, t, le-ltb (length b) 1 l, ← e, le-leb (n .relations) r k)
+        fact-unknown k = rw (ne-eqb objects 0 o, t, le-ltb (length b) 1 l, ← e, le-leb (relationsIn head) r k)
 
-        module _ (k : r < n .relations) (a : ℕ) (f : a ≡ getD arities r 0) where
-          pub fact-length : (length b ≡ 1 + a → ⊥) → 50 ≡ factFields n arities objects begun b
+        module _ (k : r < relationsIn head) (a : ℕ) (f : a ≡ arityIn head (byte b 0)) where
+          pub fact-length : (length b ≡ 1 + a → ⊥) → 50 ≡ factFields head objects begun b
           unfolding factFields
-          fact-length g = rw (ne-eqb objects 0 o, t, le-ltb (length b) 1 l, ← e, lt-leb (n .relations) r k, ← f, ne-eqb (length b) (1 + a) g)
+          fact-length g = rw (ne-eqb objects 0 o, t, le-ltb (length b) 1 l, ← f, ← e, lt-leb (relationsIn head) r k, ne-eqb (length b) (1 + a) g)
 
           module _ (g : length b ≡ 1 + a) where
-            pub fact-objects : (out : Bool) → out ≡ any (leb objects) (drop 1 b) → cond out 51 0 ≡ factFields n arities objects begun b
+            pub fact-objects : (out : Bool) → out ≡ any (leb objects) (drop 1 b) → cond out 51 0 ≡ factFields head objects begun b
             unfolding factFields
-            fact-objects out h = rw (ne-eqb objects 0 o, t, le-ltb (length b) 1 l, ← e, lt-leb (n .relations) r k, ← f, eq-eqb (length b) (1 + a) g, ← h)
+            fact-objects out h = rw (ne-eqb objects 0 o, t, le-ltb (length b) 1 l, ← f, ← e, lt-leb (relationsIn head) r k, eq-eqb (length b) (1 + a) g, ← h)
 
 -- ---- the same of an event
 
-module _ (n : Counts) (variables sorts : List ℕ) (objects : ℕ) (b : List ℕ) where
-  pub event-early : objects ≡ 0 → 50 ≡ eventFields n variables sorts objects b
+module _ (head : List ℕ) (objects : ℕ) (b : List ℕ) where
+  pub event-early : objects ≡ 0 → 50 ≡ eventFields head objects b
   unfolding eventFields
   event-early e = rw (eq-eqb objects 0 e)
 
   module _ (o : objects ≡ 0 → ⊥) where
-    pub event-short : length b < 2 → 50 ≡ eventFields n variables sorts objects b
+    pub event-short : length b < 2 → 50 ≡ eventFields head objects b
     unfolding eventFields
     event-short l = rw (ne-eqb objects 0 o, lt-ltb (length b) 2 l)
 
     module _ (l : 2 ≤ length b) where
-      pub event-moment : 1 < byte b 0 → 51 ≡ eventFields n variables sorts objects b
+      pub event-moment : 1 < byte b 0 → 51 ≡ eventFields head objects b
       unfolding eventFields
       event-moment m = rw (ne-eqb objects 0 o, le-ltb (length b) 2 l, lt-ltb 1 (byte b 0) m)
 
       module _ (m : byte b 0 ≤ 1) (a : ℕ) (e : a ≡ byte b 1) where
-        pub event-unknown : n .actions ≤ a → 51 ≡ eventFields n variables sorts objects b
+        pub event-unknown : actionsIn head ≤ a → 51 ≡ eventFields head objects b
         unfolding eventFields
-        event-unknown k = rw (ne-eqb objects 0 o, le-ltb (length b) 2 l, le-ltb 1 (byte b 0) m, ← e, le-leb (n .actions) a k)
+        event-unknown k = rw (ne-eqb objects 0 o, le-ltb (length b) 2 l, le-ltb 1 (byte b 0) m, ← e, le-leb (actionsIn head) a k)
 
-        module _ (k : a < n .actions) (v : ℕ) (f : v ≡ getD variables a 0) where
-          pub event-length : (length b ≡ 2 + v → ⊥) → 50 ≡ eventFields n variables sorts objects b
+        module _ (k : a < actionsIn head) (v : ℕ) (f : v ≡ variablesIn head a) where
+          pub event-length : (length b ≡ 2 + v → ⊥) → 50 ≡ eventFields head objects b
           unfolding eventFields
-          event-length g = rw (ne-eqb objects 0 o, le-ltb (length b) 2 l, le-ltb 1 (byte b 0) m, ← e, lt-leb (n .actions) a k, ← f, ne-eqb (length b) (2 + v) g)
+          event-length g = rw (ne-eqb objects 0 o, le-ltb (length b) 2 l, le-ltb 1 (byte b 0) m, ← e, lt-leb (actionsIn head) a k, ← f, ne-eqb (length b) (2 + v) g)
 
-          module _ (g : length b ≡ 2 + v) where
-            pub event-sort : getD sorts a 0 < byte b 0 → 51 ≡ eventFields n variables sorts objects b
+          module _ (g : length b ≡ 2 + v) (late : Bool) (s : late ≡ eqb (byte b 0) 1 && not (lastingIn head a)) where
+            pub event-sort : late ≡ true → 51 ≡ eventFields head objects b
             unfolding eventFields
-            event-sort s =
-                rw (ne-eqb objects 0 o, le-ltb (length b) 2 l, le-ltb 1 (byte b 0) m, ← e, lt-leb (n .actions) a k, ← f, eq-eqb (length b) (2 + v) g, lt-ltb (getD sorts a 0) (byte b 0) s)
+            event-sort t =
+                rw (
+                  ne-eqb objects 0 o,
+                  le-ltb (length b) 2 l,
+                  le-ltb 1 (byte b 0) m,
+                  ← e,
+                  lt-leb (actionsIn head) a k,
+                  ← f,
+                  eq-eqb (length b) (2 + v) g,
+                  ← s,
+                  t,
+                )
 
-            pub event-objects : byte b 0 ≤ getD sorts a 0 → (out : Bool) → out ≡ any (leb objects) (drop 2 b) → cond out 51 0 ≡ eventFields n variables sorts objects b
+            pub event-objects : late ≡ false → (out : Bool) → out ≡ any (leb objects) (drop 2 b) → cond out 51 0 ≡ eventFields head objects b
             unfolding eventFields
-            event-objects s out h =
-                rw (ne-eqb objects 0 o, le-ltb (length b) 2 l, le-ltb 1 (byte b 0) m, ← e, lt-leb (n .actions) a k, ← f, eq-eqb (length b) (2 + v) g, le-ltb (getD sorts a 0) (byte b 0) s, ← h)
+            event-objects t out h =
+                rw (
+                  ne-eqb objects 0 o,
+                  le-ltb (length b) 2 l,
+                  le-ltb 1 (byte b 0) m,
+                  ← e,
+                  lt-leb (actionsIn head) a k,
+                  ← f,
+                  eq-eqb (length b) (2 + v) g,
+                  ← s,
+                  t,
+                  ← h,
+                )
 
 -- ---- what holds where no number up to 51 stops a start fact
 
-pub fact-short-row : (n : Counts) (arities : List ℕ) (objects : ℕ) (begun : Bool) (b : List ℕ) → ((i : ℕ) → getD arities i 0 ≤ 6) → factFields n arities objects begun b ≡ 0
+pub fact-short-row : (head : List ℕ) (objects : ℕ) (begun : Bool) (b : List ℕ) → factFields head objects begun b ≡ 0
     → (1 ≤ length b) × (length b ≤ 7)
 unfolding factFields
-fact-short-row n arities objects begun b h e =
+fact-short-row head objects begun b e =
     let r = none-passes (
     (eqb objects 0 || begun, 50)
     ∷ (ltb (length b) 1, 50)
-    ∷ (leb (n .relations) (byte b 0), 51)
-    ∷ (not (eqb (length b) (1 + getD arities (byte b 0) 0)), 50)
+    ∷ (leb (relationsIn head) (byte b 0), 51)
+    ∷ (not (eqb (length b) (1 + arityIn head (byte b 0))), 50)
     ∷ (any (leb objects) (drop 1 b), 51)
     ∷ []) 0 refl e .0
     in
-    let l : length b ≡ 1 + getD arities (byte b 0) 0 = eqb-true _ _ (not-false _ (r 3)) in
-    let k = h (byte b 0) in
+    let l : length b ≡ 1 + arityIn head (byte b 0) = eqb-true _ _ (not-false _ (r 3)) in
+    let k = arity-limit head (byte b 0) in
     (ltb-false _ _ (r 1), omega arith)
 
 -- a row is one of the facts' rows exactly where its fact is one of them
@@ -170,7 +188,7 @@ fact-found f fs row rows r p q e = sym (e ∙ ap₂ hasRow p q ∙ has-fact f fs
 
 -- ---- the number that stops a start fact, by the bytes of the domain
 
-module _ (D : Domain) (q : Playing) (n : Counts) (arities variables sorts starts parts : List ℕ) (H : Holds D (indexWith n arities variables sorts starts parts)) (objects : ℕ) (begun : Bool)
+module _ (D : Domain) (q : Playing) (head : List ℕ) (H : HeadOf D head) (objects : ℕ) (begun : Bool)
     (e : q .objects ≡ objects) (t : q .tally .begun ≡ begun) (b : List ℕ) where
   -- the tests up to 51
   fact-rows : List (Bool × ℕ)
@@ -182,21 +200,18 @@ module _ (D : Domain) (q : Playing) (n : Counts) (arities variables sorts starts
       ∷ (outside q (drop 1 b), 51)
       ∷ []
 
-  arity-is : getD arities (byte b 0) 0 ≡ arity D (byte b 0)
-  arity-is = ap (λ (l : List ℕ). getD l (byte b 0) 0) (arities-is H) ∙ pad-at 64 (D .arities) (byte b 0)
-
-  fact-fields-is : factFields n arities objects begun b ≡ numberOf fact-rows 0
+  fact-fields-is : factFields head objects begun b ≡ numberOf fact-rows 0
   unfolding factFields fact-rows
-  fact-fields-is = rw (relations-is H, arity-is, e, t)
+  fact-fields-is = rw (H .relations, H .arities (byte b 0), e, t)
 
   fact-split : factStop D q b
-      ≡ cond (eqb (factFields n arities objects begun b) 0) (cond (not (elem sameFact (factOf b) (q .state .facts)) && leb maxFacts (length (q .state .facts))) 52 0) (factFields n arities objects begun b)
+      ≡ cond (eqb (factFields head objects begun b) 0) (cond (not (elem sameFact (factOf b) (q .state .facts)) && leb maxFacts (length (q .state .facts))) 52 0) (factFields head objects begun b)
   unfolding factStop fact-rows
   fact-split =
       rows-split fact-rows (cond (not (elem sameFact (factOf b) (q .state .facts)) && leb maxFacts (length (q .state .facts))) 52 0) refl
       ∙ ap (λ (m : ℕ). cond (eqb m 0) (cond (not (elem sameFact (factOf b) (q .state .facts)) && leb maxFacts (length (q .state .facts))) 52 0) m) (sym fact-fields-is)
 
-  module _ (stop : ℕ) (s : stop ≡ factFields n arities objects begun b) where
+  module _ (stop : ℕ) (s : stop ≡ factFields head objects begun b) where
     pub fact-stopped : (stop ≡ 0 → ⊥) → stop ≡ factStop D q b
     fact-stopped z = sym (fact-split ∙ rw (← s, ne-eqb stop 0 z))
 
@@ -224,16 +239,16 @@ byte-moment zero h = refl
 byte-moment (suc zero) h = refl
 byte-moment (suc (suc m)) h = absurd (omega arith)
 
-module _ (n : Counts) (variables sorts : List ℕ) (objects : ℕ) (b : List ℕ) (e : eventFields n variables sorts objects b ≡ 0) where
+module _ (head : List ℕ) (objects : ℕ) (b : List ℕ) (e : eventFields head objects b ≡ 0) where
   -- no test passes
   event-none : (i : ℕ)
       → testOf (
       (eqb objects 0, 50)
       ∷ (ltb (length b) 2, 50)
       ∷ (ltb 1 (byte b 0), 51)
-      ∷ (leb (n .actions) (byte b 1), 51)
-      ∷ (not (eqb (length b) (2 + getD variables (byte b 1) 0)), 50)
-      ∷ (ltb (getD sorts (byte b 1) 0) (byte b 0), 51)
+      ∷ (leb (actionsIn head) (byte b 1), 51)
+      ∷ (not (eqb (length b) (2 + variablesIn head (byte b 1))), 50)
+      ∷ (eqb (byte b 0) 1 && not (lastingIn head (byte b 1)), 51)
       ∷ (any (leb objects) (drop 2 b), 51)
       ∷ []) i
       ≡ false
@@ -243,31 +258,31 @@ module _ (n : Counts) (variables sorts : List ℕ) (objects : ℕ) (b : List ℕ
       (eqb objects 0, 50)
       ∷ (ltb (length b) 2, 50)
       ∷ (ltb 1 (byte b 0), 51)
-      ∷ (leb (n .actions) (byte b 1), 51)
-      ∷ (not (eqb (length b) (2 + getD variables (byte b 1) 0)), 50)
-      ∷ (ltb (getD sorts (byte b 1) 0) (byte b 0), 51)
+      ∷ (leb (actionsIn head) (byte b 1), 51)
+      ∷ (not (eqb (length b) (2 + variablesIn head (byte b 1))), 50)
+      ∷ (eqb (byte b 0) 1 && not (lastingIn head (byte b 1)), 51)
       ∷ (any (leb objects) (drop 2 b), 51)
       ∷ []) 0 refl e .0
 
-  event-size : length b ≡ 2 + getD variables (byte b 1) 0
-  event-size = eqb-true (length b) (2 + getD variables (byte b 1) 0) (not-false _ (event-none 4))
+  event-size : length b ≡ 2 + variablesIn head (byte b 1)
+  event-size = eqb-true (length b) (2 + variablesIn head (byte b 1)) (not-false _ (event-none 4))
 
-  pub event-short-row : ((i : ℕ) → getD variables i 0 ≤ 16) → (2 ≤ length b) × (length b ≤ 18)
-  event-short-row h = let k = h (byte b 1) in let l = event-size in (ltb-false _ _ (event-none 1), omega arith)
+  pub event-short-row : (2 ≤ length b) × (length b ≤ 18)
+  event-short-row = let k = variables-limit head (byte b 1) in let l = event-size in (ltb-false _ _ (event-none 1), omega arith)
 
   -- the byte of its moment
   event-byte : byte b 0 ≡ momentNumber (eventOf b .moment)
   event-byte = byte-moment (byte b 0) (ltb-false 1 (byte b 0) (event-none 2))
 
   -- it is an event of the domain, with an object below 64 for each variable
-  event-fits : (D : Domain) (arities starts parts : List ℕ) → Holds D (indexWith n arities variables sorts starts parts) → objects ≤ 64 → GroundFits D (eventOf b .ground)
-  event-fits D arities starts parts H h =
+  event-fits : (D : Domain) → HeadOf D head → objects ≤ 64 → GroundFits D (eventOf b .ground)
+  event-fits D H h =
       let l = event-size in
-      let v = vars-at H (byte b 1) in
       let k = length-map (drop 2 b) object in
       let d = length-drop 2 b in
-      let a = actions-is H in
-      let m = leb-false (n .actions) (byte b 1) (event-none 3) in
+      let a = H .actions in
+      let m = leb-false (actionsIn head) (byte b 1) (event-none 3) in
+      let v = H .variables (byte b 1) (omega arith) in
       record {
         listed = omega arith;
         bound = omega arith;
@@ -279,11 +294,11 @@ module _ (n : Counts) (variables sorts : List ℕ) (objects : ℕ) (b : List ℕ
       }
 
   -- and it waits exactly where one of the rows is its row
-  pub event-waits : (D : Domain) (arities starts parts : List ℕ) → Holds D (indexWith n arities variables sorts starts parts) → objects ≤ 64 → (es : List Event) → EventsFit D es
+  pub event-waits : (D : Domain) → HeadOf D head → objects ≤ 64 → (es : List Event) → EventsFit D es
       → (w : Waiting) → w ≡ waitingOf es → (ground : List ℕ) → ground ≡ groundRow (eventOf b .ground)
       → (r : Bool) → r ≡ any (waitsAt (w .moments) (w .rows) (byte b 0) ground) (below (w .count)) → elem sameEvent (eventOf b) es ≡ r
-  event-waits D arities starts parts H h es F w p ground g r q =
-      sym (q ∙ waiting-elem (H .bounded) es F w p (eventOf b) (event-fits D arities starts parts H h) (byte b 0) ground event-byte g)
+  event-waits D H h es F w p ground g r q =
+      sym (q ∙ waiting-elem (H .bounded) es F w p (eventOf b) (event-fits D H h) (byte b 0) ground event-byte g)
 
 -- ---- the number that stops an event, by the bytes of the domain
 
@@ -292,20 +307,12 @@ pub objects-once : (l : List ℕ) → distinct sameObject (map object l) ≡ dis
 objects-once [] = refl
 objects-once (x ∷ xs) = ap₂ _&&_ (all-map object (λ y. not (sameObject (object x) y)) xs) (objects-once xs)
 
--- moment 1 of an action at once, by the byte of its sort
-sort-test : (l : Bool) (m : ℕ) → m ≤ 1 → ltb (cond l 1 0) m ≡ eqb m 1 && not l
-sort-test true zero h = refl
-sort-test false zero h = refl
-sort-test true (suc zero) h = refl
-sort-test false (suc zero) h = refl
-sort-test l (suc (suc m)) h = absurd (omega arith)
-
 -- behind a test only what holds where it fails counts
 cond-else : (t : Bool) (m : ℕ) {x y : ℕ} → (t ≡ false → x ≡ y) → cond t m x ≡ cond t m y
 cond-else true m h = refl
 cond-else false m h = h refl
 
-module _ (D : Domain) (q : Playing) (n : Counts) (arities variables sorts starts parts : List ℕ) (H : Holds D (indexWith n arities variables sorts starts parts)) (objects : ℕ)
+module _ (D : Domain) (q : Playing) (head : List ℕ) (H : HeadOf D head) (objects : ℕ)
     (e : q .objects ≡ objects) (b : List ℕ) where
   -- the tests up to 51
   event-rows : List (Bool × ℕ)
@@ -319,15 +326,13 @@ module _ (D : Domain) (q : Playing) (n : Counts) (arities variables sorts starts
       ∷ (outside q (drop 2 b), 51)
       ∷ []
 
-  sort-is : byte b 0 ≤ 1 → ltb (getD sorts (byte b 1) 0) (byte b 0) ≡ eqb (byte b 0) 1 && not (action D (byte b 1) .lasting)
-  sort-is h = ap (λ (s : ℕ). ltb s (byte b 0)) (sort-at H (byte b 1)) ∙ sort-test (action D (byte b 1) .lasting) (byte b 0) h
-
-  event-fields-is : eventFields n variables sorts objects b ≡ numberOf event-rows 0
+  event-fields-is : eventFields head objects b ≡ numberOf event-rows 0
   unfolding eventFields event-rows
   event-fields-is =
-      rw e
-      (ap (λ (m : ℕ). cond (eqb objects 0) 50 (cond (ltb (length b) 2) 50 m))
-      (cond-else (ltb 1 (byte b 0)) 51 (λ f. rw (actions-is H, vars-at H (byte b 1), sort-is (ltb-false 1 (byte b 0) f)))))
+      rw (e, H .actions)
+      (ap (λ (m : ℕ). cond (eqb objects 0) 50 (cond (ltb (length b) 2) 50 (cond (ltb 1 (byte b 0)) 51 m)))
+      (cond-else (leb (length (D .actions)) (byte b 1)) 51
+      (λ f. let l = leb-false (length (D .actions)) (byte b 1) f in rw (H .variables (byte b 1) l, H .lasting (byte b 1) l))))
 
   -- the tests behind them
   abbrev event-last : ℕ
@@ -336,11 +341,11 @@ module _ (D : Domain) (q : Playing) (n : Counts) (arities variables sorts starts
       (cond (elem sameEvent (eventOf b) (q .waiting)) 54
       (cond (leb maxEvents (length (q .waiting))) 52 0))
 
-  event-split : eventStop D q b ≡ cond (eqb (eventFields n variables sorts objects b) 0) event-last (eventFields n variables sorts objects b)
+  event-split : eventStop D q b ≡ cond (eqb (eventFields head objects b) 0) event-last (eventFields head objects b)
   unfolding eventStop event-rows
   event-split = rows-split event-rows event-last refl ∙ ap (λ (m : ℕ). cond (eqb m 0) event-last m) (sym event-fields-is)
 
-  module _ (stop : ℕ) (s : stop ≡ eventFields n variables sorts objects b) where
+  module _ (stop : ℕ) (s : stop ≡ eventFields head objects b) where
     pub event-stopped : (stop ≡ 0 → ⊥) → stop ≡ eventStop D q b
     event-stopped z = sym (event-split ∙ rw (← s, ne-eqb stop 0 z))
 

@@ -5,27 +5,29 @@ use Prim.Native.Nat.{ℕ, _+_, _*_}
 use lib.Dec.{eqb, ltb, leb}
 use lib.ListN.{length, getD, take, drop}
 use Rattle.records.specs.Lists.{any, sameList}
-use Rattle.literals.specs.declared.Counts.{Counts}
 use Rattle.literals.specs.Decode.{byte}
+use Rattle.literals.specs.Held.{relationsIn, actionsIn, arityIn, variablesIn, lastingIn}
 
 -- a start fact, up to 51: of the number of objects, and whether the start is over
-unfoldable pub factFields : Counts → List ℕ → ℕ → Bool → List ℕ → ℕ
-factFields n arities objects begun b =
+unfoldable pub factFields : List ℕ → ℕ → Bool → List ℕ → ℕ
+unfolding relationsIn arityIn
+factFields head objects begun b =
     cond (eqb objects 0 || begun) 50
     (cond (ltb (length b) 1) 50
-    (cond (leb (n .relations) (byte b 0)) 51
-    (cond (not (eqb (length b) (1 + getD arities (byte b 0) 0))) 50
+    (cond (leb (relationsIn head) (byte b 0)) 51
+    (cond (not (eqb (length b) (1 + arityIn head (byte b 0)))) 50
     (cond (any (leb objects) (drop 1 b)) 51 0))))
 
 -- an event, up to 51
-unfoldable pub eventFields : Counts → List ℕ → List ℕ → ℕ → List ℕ → ℕ
-eventFields n variables sorts objects b =
+unfoldable pub eventFields : List ℕ → ℕ → List ℕ → ℕ
+unfolding actionsIn variablesIn lastingIn
+eventFields head objects b =
     cond (eqb objects 0) 50
     (cond (ltb (length b) 2) 50
     (cond (ltb 1 (byte b 0)) 51
-    (cond (leb (n .actions) (byte b 1)) 51
-    (cond (not (eqb (length b) (2 + getD variables (byte b 1) 0))) 50
-    (cond (ltb (getD sorts (byte b 1) 0) (byte b 0)) 51
+    (cond (leb (actionsIn head) (byte b 1)) 51
+    (cond (not (eqb (length b) (2 + variablesIn head (byte b 1)))) 50
+    (cond (eqb (byte b 0) 1 && not (lastingIn head (byte b 1))) 51
     (cond (any (leb objects) (drop 2 b)) 51 0))))))
 
 -- the event at a place of those that wait is this one, by the byte of its moment and the row of its action

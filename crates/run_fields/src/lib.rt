@@ -1,21 +1,28 @@
-// The fields of a run file's records: each check answers the number that stops its record, or 0. And what a record that passes adds: a row of a fact, an event that waits.
+// The fields of a run file's records: each check answers the number that stops its record, or 0. And what a record that passes
+// adds: a row of a fact, an event that waits.
 use events::openings::same_ground;
 use events::waits::put_bytes;
-use literals::Counts;
 use literals::fields::any_from;
 use literals::fields::count_from;
 use literals::fields::wide;
+use literals::head::Head;
+use literals::head::actions_in;
+use literals::head::arity_of;
+use literals::head::is_lasting;
+use literals::head::relations_in;
+use literals::head::variables_of;
 use store::rows::has_row;
 ghost use mathlib.Core.Path.{_≡_};
-ghost use mathlib.Core.Bool.{not};
-ghost use mathlib.Core.List.{List, map};
-ghost use Prim.Native.Nat.{ℕ, _+_, _*_, _<_, _≤_};
+ghost use mathlib.Core.Bool.{_&&_, not};
+ghost use mathlib.Core.List.{map};
+ghost use Prim.Native.Nat.{_+_, _*_, _<_, _≤_};
 ghost use lib.Dec.{eqb};
 ghost use lib.ListN.{length, getD, drop};
 ghost use lib.Seq.{paste};
 ghost use Rattle.records.specs.Lists.{any, distinct};
 ghost use Rattle.literals.specs.Domain.{Domain};
-ghost use Rattle.literals.specs.Table.{rowsIn, indexWith, Holds};
+ghost use Rattle.literals.specs.Table.{rowsIn};
+ghost use Rattle.literals.specs.Held.{lastingIn, HeadOf};
 ghost use Rattle.classes.specs.Coded.{below};
 ghost use Rattle.runs.specs.RunFile.{factOf, eventOf};
 ghost use Rattle.runs.specs.Play.{Playing, objectsStop, factStop, eventStop, stepStop, endStop};
@@ -76,7 +83,8 @@ pub fn end_stop(objects: u8, waiting: usize, p: &[u8]) -> u64
 
 // The row of a start fact: relation, how many objects, objects, FF to fill.
 pub fn fact_row(p: &[u8]) -> [u8; 8]
-    requires { ⌜ (1 ≤ length (now p)) × (length (now p) ≤ 7) ⌝ }
+    requires relation { ⌜ 1 ≤ length (now p) ⌝ }
+    requires objects { ⌜ length (now p) ≤ 7 ⌝ }
     ensures { λ r. ⌜ r ≡ factRow (factOf (now (p .entry))) ⌝ }
 {
     let mut row = [255u8; 8];
@@ -88,7 +96,8 @@ pub fn fact_row(p: &[u8]) -> [u8; 8]
 
 // The row of an event's action: action, objects, FF to fill.
 pub fn ground_row(p: &[u8]) -> [u8; 17]
-    requires { ⌜ (2 ≤ length (now p)) × (length (now p) ≤ 18) ⌝ }
+    requires action { ⌜ 2 ≤ length (now p) ⌝ }
+    requires objects { ⌜ length (now p) ≤ 18 ⌝ }
     ensures { λ r. ⌜ r ≡ groundRow (eventOf (now (p .entry)) .ground) ⌝ }
 {
     let mut row = [255u8; 17];
@@ -107,9 +116,8 @@ pub fn put_fact(work: &mut [u8], n: usize, row: [u8; 8])
 // ---- a start fact
 
 // Kind 17, up to 51: relation, objects. `begun` where a record of kind 18 to 20 came before.
-fn fact_fields(counts: Counts, arities: &[u8], objects: u8, begun: bool, p: &[u8]) -> u64
-    requires { ⌜ (length (now arities) ≡ 64) × (counts .relations ≤ 64) ⌝ }
-    ensures { λ r. ⌜ r ≡ factFields counts (now (arities .entry)) objects begun (now (p .entry)) ⌝ }
+fn fact_fields(head: &Head, objects: u8, begun: bool, p: &[u8]) -> u64
+    ensures { λ r. ⌜ r ≡ factFields (now (head .entry)) objects begun (now (p .entry)) ⌝ }
 {
     if objects == 0 {
         return 50;
@@ -121,10 +129,10 @@ fn fact_fields(counts: Counts, arities: &[u8], objects: u8, begun: bool, p: &[u8
         return 50;
     }
     let relation = wide(p[0]);
-    if counts.relations <= relation {
+    if relations_in(head) <= relation {
         return 51;
     }
-    if p.len() != 1 + wide(arities[relation]) {
+    if p.len() != 1 + wide(arity_of(head, p[0])) {
         return 50;
     }
     if any_from(p, 1, objects) {
@@ -134,22 +142,15 @@ fn fact_fields(counts: Counts, arities: &[u8], objects: u8, begun: bool, p: &[u8
 }
 
 // Kind 17: a start fact, where the first n rows of the work memory are the facts so far; 52 is the 1,025th different one.
-pub fn fact_stop(
-    counts: Counts,
-    arities: &[u8],
-    objects: u8,
-    begun: bool,
-    work: &[u8],
-    n: usize,
-    p: &[u8],
-) -> u64
-    requires { ⌜ (length (now arities) ≡ 64) × ((i : ℕ) → getD (now arities) i 0 ≤ 6) × (counts .relations ≤ 64) × (8 * n ≤ length (now work)) ⌝ }
-    ensures is { λ r. ⌜ ((D : Domain) (q : Playing) (variables sorts starts parts : List ℕ) → Holds D (indexWith counts (now (arities .entry)) variables sorts starts parts)
-        → q .objects ≡ objects → q .tally .begun ≡ begun → rowsIn n (now (work .entry)) ≡ map factRow (q .state .facts) → n ≡ length (q .state .facts) → Few (q .state .facts)
+pub fn fact_stop(head: &Head, objects: u8, begun: bool, work: &[u8], n: usize, p: &[u8]) -> u64
+    requires { ⌜ 8 * n ≤ length (now work) ⌝ }
+    ensures is { λ r. ⌜ ((D : Domain) (q : Playing) → HeadOf D (now (head .entry))
+        → q .objects ≡ objects → q .tally .begun ≡ begun
+        → rowsIn n (now (work .entry)) ≡ map factRow (q .state .facts) → n ≡ length (q .state .facts) → Few (q .state .facts)
         → r ≡ factStop D q (now (p .entry))) ⌝ }
     ensures fits { λ r. ⌜ (r ≡ 0 → (1 ≤ length (now (p .entry))) × (length (now (p .entry)) ≤ 7)) ⌝ }
 {
-    let stop = fact_fields(counts, arities, objects, begun, p);
+    let stop = fact_fields(head, objects, begun, p);
     if stop != 0 {
         return stop;
     }
@@ -164,10 +165,20 @@ pub fn fact_stop(
 
 // ---- an event
 
+// Whether a moment is the end of an action that does not last.
+fn ends_at_once(head: &Head, moment: u8, action: usize) -> bool
+    requires { ⌜ action < 64 ⌝ }
+    ensures { λ r. ⌜ r ≡ eqb moment 1 && not (lastingIn (now (head .entry)) action) ⌝ }
+{
+    if moment != 1 {
+        return false;
+    }
+    !is_lasting(head, action)
+}
+
 // Kind 18, up to 51: moment, action, objects. Moment 1 is the end of a lasting action.
-fn event_fields(counts: Counts, variables: &[u8], sorts: &[u8], objects: u8, p: &[u8]) -> u64
-    requires { ⌜ (length (now variables) ≡ 64) × (length (now sorts) ≡ 64) × (counts .actions ≤ 64) ⌝ }
-    ensures { λ r. ⌜ r ≡ eventFields counts (now (variables .entry)) (now (sorts .entry)) objects (now (p .entry)) ⌝ }
+fn event_fields(head: &Head, objects: u8, p: &[u8]) -> u64
+    ensures { λ r. ⌜ r ≡ eventFields (now (head .entry)) objects (now (p .entry)) ⌝ }
 {
     if objects == 0 {
         return 50;
@@ -179,13 +190,13 @@ fn event_fields(counts: Counts, variables: &[u8], sorts: &[u8], objects: u8, p: 
         return 51;
     }
     let action = wide(p[1]);
-    if counts.actions <= action {
+    if actions_in(head) <= action {
         return 51;
     }
-    if p.len() != 2 + wide(variables[action]) {
+    if p.len() != 2 + wide(variables_of(head, action)) {
         return 50;
     }
-    if sorts[action] < p[0] {
+    if ends_at_once(head, p[0], action) {
         return 51;
     }
     if any_from(p, 2, objects) {
@@ -210,7 +221,9 @@ fn twice_from(p: &[u8], from: usize) -> bool
 
 // Whether the event at a place of those that wait is this one.
 fn waits_at(moments: &[u8], rows: &[u8], moment: u8, ground: &[u8], i: usize) -> bool
-    requires { ⌜ (i < length (now moments)) × (17 * i + 17 ≤ length (now rows)) × (length (now ground) ≡ 17) ⌝ }
+    requires moment { ⌜ i < length (now moments) ⌝ }
+    requires event { ⌜ 17 * i + 17 ≤ length (now rows) ⌝ }
+    requires row { ⌜ length (now ground) ≡ 17 ⌝ }
     ensures { λ r. ⌜ r ≡ waitsAt (now (moments .entry)) (now (rows .entry)) moment (now (ground .entry)) i ⌝ }
 {
     if moment == moments[i] {
@@ -221,7 +234,9 @@ fn waits_at(moments: &[u8], rows: &[u8], moment: u8, ground: &[u8], i: usize) ->
 
 // Whether this event waits: an action with objects, at the moment of this byte.
 fn is_waiting(moments: &[u8], rows: &[u8], count: usize, moment: u8, ground: [u8; 17]) -> bool
-    requires { ⌜ (count ≤ 16) × (length (now moments) ≡ 16) × (length (now rows) ≡ 272) ⌝ }
+    requires few { ⌜ count ≤ 16 ⌝ }
+    requires moments { ⌜ length (now moments) ≡ 16 ⌝ }
+    requires events { ⌜ length (now rows) ≡ 272 ⌝ }
     ensures { λ r. ⌜ r ≡ any (waitsAt (now (moments .entry)) (now (rows .entry)) moment ground) (below count) ⌝ }
 {
     for i in 0..count {
@@ -234,23 +249,22 @@ fn is_waiting(moments: &[u8], rows: &[u8], count: usize, moment: u8, ground: [u8
 
 // Kind 18: an event, where so many wait already.
 pub fn event_stop(
-    counts: Counts,
-    variables: &[u8],
-    sorts: &[u8],
+    head: &Head,
     objects: u8,
     moments: &[u8],
     rows: &[u8],
     count: usize,
     p: &[u8],
 ) -> u64
-    requires { ⌜ (length (now variables) ≡ 64) × ((i : ℕ) → getD (now variables) i 0 ≤ 16) × (length (now sorts) ≡ 64) × (counts .actions ≤ 64) × (count ≤ 16)
-        × (length (now moments) ≡ 16) × (length (now rows) ≡ 272) ⌝ }
-    ensures is { λ r. ⌜ ((D : Domain) (q : Playing) (arities starts parts : List ℕ) → Holds D (indexWith counts arities (now (variables .entry)) (now (sorts .entry)) starts parts)
-        → q .objects ≡ objects → objects ≤ 64 → record { count = count; moments = now (moments .entry); rows = now (rows .entry) } ≡ waitingOf (q .waiting) → EventsFit D (q .waiting)
-        → r ≡ eventStop D q (now (p .entry))) ⌝ }
+    requires few { ⌜ count ≤ 16 ⌝ }
+    requires moments { ⌜ length (now moments) ≡ 16 ⌝ }
+    requires events { ⌜ length (now rows) ≡ 272 ⌝ }
+    ensures is { λ r. ⌜ ((D : Domain) (q : Playing) → HeadOf D (now (head .entry)) → q .objects ≡ objects → objects ≤ 64
+        → record { count = count; moments = now (moments .entry); rows = now (rows .entry) } ≡ waitingOf (q .waiting)
+        → EventsFit D (q .waiting) → r ≡ eventStop D q (now (p .entry))) ⌝ }
     ensures fits { λ r. ⌜ (r ≡ 0 → (2 ≤ length (now (p .entry))) × (length (now (p .entry)) ≤ 18) × (count < 16)) ⌝ }
 {
-    let stop = event_fields(counts, variables, sorts, objects, p);
+    let stop = event_fields(head, objects, p);
     if stop != 0 {
         return stop;
     }

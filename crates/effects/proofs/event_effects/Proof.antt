@@ -40,10 +40,10 @@ returns : tie.Need-returns
 returns c =
     let r = c .before .before .ground-effects .ensures in (
       r .0,
-      λ D variables sorts parts e k L F m f h.
-          let a = c .before .before .before .before .before .before .before .before .before .before .before .before .before .args in
+      λ D e k H F m f h.
+          let a = c .before .before .before .before .before .before .before .before .before .before .before .args in
           let t = c .before .before .before .before .before .time-at .ensures in
-          r .1 D variables sorts parts e k L F (t ∙ ap (λ (j : ℕ). timeOf (momentOf j)) m ∙ ap timeOf (moment-back (e .moment))) (part-ground (a .rows .now) (17 * a .i) ∙ f) h,
+          r .1 D e k H F (t ∙ ap (λ (j : ℕ). timeOf (momentOf j)) m ∙ ap timeOf (moment-back (e .moment))) (part-ground (a .rows .now) (17 * a .i) ∙ f) h,
     )
 
 pub event-effects-spec : {M : Type 1} → statement M

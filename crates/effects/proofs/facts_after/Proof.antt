@@ -14,29 +14,34 @@ step-effects-requires : tie.Need-step-effects-requires
 step-effects-requires c κs = search needs
 
 keep-rows-requires : tie.Need-keep-rows-requires
-keep-rows-requires c κs = search needs
+keep-rows-requires c κs =
+    let p = c .before .before .before .before .before .before .before .before .before .before .before .before .before .before .pre in
+    let struck = c .before .before .before .before .before .step-effects in
+    let l = struck .kept .1 .1 .1 .1 .1 .1 .0 ∙ p .1 .1 .1 .1 .1 .1 .1 in
+    let m = struck .ensures .0 in
+    let o = p .1 .1 .0 in
+    let n = p .0 in
+    (n, (p .1 .0, (omega arith, (omega arith, (p .1 .1 .1 .0, p .1 .1 .1 .1 .0)))))
 
 step-effects-requires-2 : tie.Need-step-effects-requires-2
 step-effects-requires-2 c κs =
-    let p = c .before .before .before .before .before .before .before .before .before .before .before .before .before .before .before .before .before .before .before .before .before .before .before .pre in
-    let l = c .before .before .before .before .before .before .before .before .before .before .before .step-effects .kept .1 .1 .1 .1 .1 .1 .1 .1 .0 in
-    (p .0, p .9, p .10, l ∙ p .11)
+    let p = c .before .before .before .before .before .before .before .before .before .before .before .before .before .before .before .before .before .before .before .before .pre in
+    let l = c .before .before .before .before .before .before .before .before .before .before .before .step-effects .kept .1 .1 .1 .1 .1 .1 .0 in
+    (p .1 .1 .1 .1 .1 .0, (p .1 .1 .1 .1 .1 .1 .0, l ∙ p .1 .1 .1 .1 .1 .1 .1))
 
 join-rows-requires : tie.Need-join-rows-requires
 join-rows-requires c κs =
-    let a = c .before .before .before .before .before .before .before .before .before .before .before .before .before .before .before .before .before .before .before .before .before .before .before .before .before .before .before .before .before .args in
-    let p = c .before .before .before .before .before .before .before .before .before .before .before .before .before .before .before .before .before .before .before .before .before .before .before .before .before .before .before .before .before .pre in
+    let a = c .before .before .before .before .before .before .before .before .before .before .before .before .before .before .before .before .before .before .before .before .before .before .before .before .before .before .args in
+    let p = c .before .before .before .before .before .before .before .before .before .before .before .before .before .before .before .before .before .before .before .before .before .before .before .before .before .before .pre in
     let struck = c .before .before .before .before .before .before .before .before .before .before .before .before .before .before .before .before .before .step-effects in
     let keeps = c .before .before .before .before .before .before .before .before .before .before .before .keep-rows in
     let added = c .before .before .before .before .before .step-effects2 in
-    let q = kept-few (rowsIn (struck .result) (struck .last .1 .1 .1 .1 .1 .1 .1 .1 .0)) (a .work .now) (a .n) in
+    let q = kept-few (rowsIn (struck .result) (struck .last .1 .1 .1 .1 .1 .1 .0)) (a .work .now) (a .n) in
     let e = keeps .ensures .0 in
-    let n = p .1 in
-    let x = p .4 in
-    let y = p .5 in
-    let l = added .kept .1 .1 .1 .1 .1 .1 .1 .1 .0 ∙ struck .kept .1 .1 .1 .1 .1 .1 .1 .1 .0 ∙ p .11 in
+    let n = p .0 in
+    let l = added .kept .1 .1 .1 .1 .1 .1 .0 ∙ struck .kept .1 .1 .1 .1 .1 .1 .0 ∙ p .1 .1 .1 .1 .1 .1 .1 in
     let r = added .ensures .0 in
-    (r, omega arith, omega arith, keeps .kept .1 .1 .1 .1 .0 ∙ p .3, keeps .kept .1 .1 .1 .1 .1 .0 ∙ p .7, omega arith, p .6)
+    (r, (omega arith, (omega arith, (keeps .kept .1 .1 .1 .1 .1 .0 ∙ p .1 .1 .0, keeps .kept .1 .1 .1 .1 .1 .1 .0 ∙ p .1 .1 .1 .0))))
 
 same-length : tie.Need-same-length
 same-length c = search needs
@@ -49,35 +54,34 @@ same-length-3 c = search needs
 
 returns : tie.Need-returns
 returns c =
-    let a = c .before .before .before .before .before .before .before .before .before .before .before .before .before .before .before .before .before .before .before .before .before .before .before .before .before .before .before .before .before .before .before .before .before .before .args in
-    let p = c .before .before .before .before .before .before .before .before .before .before .before .before .before .before .before .before .before .before .before .before .before .before .before .before .before .before .before .before .before .before .before .before .before .before .pre in
+    let a = c .before .before .before .before .before .before .before .before .before .before .before .before .before .before .before .before .before .before .before .before .before .before .before .before .before .before .before .before .before .before .before .args in
+    let p = c .before .before .before .before .before .before .before .before .before .before .before .before .before .before .before .before .before .before .before .before .before .before .before .before .before .before .before .before .before .before .before .pre in
     let struck = c .before .before .before .before .before .before .before .before .before .before .before .before .before .before .before .before .before .before .before .before .before .before .step-effects in
     let keeps = c .before .before .before .before .before .before .before .before .before .before .before .before .before .before .before .before .keep-rows in
     let added = c .before .before .before .before .before .before .before .before .before .before .step-effects2 in
     let joins = c .before .before .before .before .join-rows in
     let kept = keeps .ensures in
     let joined = joins .ensures in
-    let X : Done (a .counts .keys) (rowsIn (a .counts .components) (a .parts .now)) (struck .last .1 .1 .1 .1 .1 .1 .1 .1 .0) (a .work .now) (added .last .1 .1 .1 .1 .1 .1 .1 .1 .0) (struck .result) (a .n) (added .result)
-    (a .out .now) (keeps .last .1 .1 .1 .1 .0) (joins .last .1 .1 .0) (a .index .now) (keeps .last .1 .1 .1 .1 .1 .0) (joins .last .1 .1 .1 .1 .0) (keeps .result) (joins .result)
+    let X : Done (a .head .now) (struck .last .1 .1 .1 .1 .1 .1 .0) (a .work .now) (added .last .1 .1 .1 .1 .1 .1 .0) (struck .result) (a .n) (added .result)
+    (a .out .now) (keeps .last .1 .1 .1 .1 .1 .0) (joins .last .1 .1 .1 .0) (a .index .now) (keeps .last .1 .1 .1 .1 .1 .1 .0) (joins .last .1 .1 .1 .1 .1 .0) (keeps .result) (joins .result)
     = record {
-      small = p .1;
-      within = p .2;
-      addsWithin = let l = added .kept .1 .1 .1 .1 .1 .1 .1 .1 .0 ∙ struck .kept .1 .1 .1 .1 .1 .1 .1 .1 .0 ∙ p .11 in let r = added .ensures .0 in omega arith;
-      room = p .3;
+      small = p .0;
+      within = p .1 .0;
+      addsWithin =
+          let l = added .kept .1 .1 .1 .1 .1 .1 .0 ∙ struck .kept .1 .1 .1 .1 .1 .1 .0 ∙ p .1 .1 .1 .1 .1 .1 .1 in
+          let r = added .ensures .0 in omega arith;
+      room = p .1 .1 .0;
       keptCount = kept .0;
       keptBytes = kept .1 .0;
       keptIndexed = kept .1 .1 .0;
       joinedFew = joined .0;
-      joinedCount = joined .1 .0;
-      joinedBytes = joined .1 .1 .0;
-      joinedIndexed = joined .1 .1 .1 .0;
+      joined = joined .1 .0;
     } in (
       after-few X,
       (
-        λ D variables sorts parts es fs L w F h u I.
-            holds-after X D es fs (struck .ensures .1 D variables sorts parts es Delete L w F h refl .1) (added .ensures .1 D variables sorts parts es Add L w F h refl .1) u (a .arities .now) I
-            (step-sized D (a .counts) (a .arities .now) variables sorts (a .starts .now) parts (a .table .now) L Add es F),
-        joined .1 .1 .1 .1 ∙ kept .1 .1 .1,
+        λ D es fs H w F h u I.
+            holds-after X D es fs (struck .ensures .1 D es Delete H w F h refl .1) (added .ensures .1 D es Add H w F h refl .1) u I (step-sized H Add es F),
+        joined .1 .1 ∙ kept .1 .1 .1,
       ),
     )
 

@@ -22,14 +22,14 @@ wide-requires : tie.Need-wide-requires
 wide-requires c κs = search needs
 
 shared-slice-read-if1 : tie.Need-shared-slice-read-if1
-shared-slice-read-if1 c = let w = c .before .wide .ensures .1 in let p = c .before .before .before .before .before .before .pre .1 in omega arith
+shared-slice-read-if1 c = let w = c .before .wide .ensures .1 in let p = c .before .before .before .before .before .before .pre .1 .0 in omega arith
 
 returns : tie.Need-returns
 returns c =
     let a = c .before .before .before .before .before .before .before .args in
     let p = c .before .before .before .before .before .before .before .pre in
     let w = c .before .before .wide .ensures .0 in
-    unmarked (a .marks .now) (rowsIn (a .m) (a .struck .now)) (take 8 (drop (a .at) (a .work .now))) (p .3)
+    unmarked (a .marks .now) (rowsIn (a .m) (a .struck .now)) (take 8 (drop (a .at) (a .work .now))) (p .1 .1 .1)
     (ap (λ (i : ℕ). getD (a .marks .now) i 0) (part-at 8 (a .work .now) (a .at) (p .0) 2 (omega arith) ∙ sym w) ∙ c .if1 .taken)
 
 row-at-requires : tie.Need-row-at-requires

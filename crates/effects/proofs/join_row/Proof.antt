@@ -1,15 +1,14 @@
 -- `join_row` meets its contract: the index tells whether the row is there. Assumes nothing.
 use mathlib.Core.Path.{_≡_, refl, sym, _∙_}
 use mathlib.Core.Bool.{true, false}
-use mathlib.Core.List.{List}
-use Prim.Native.Nat.{ℕ, _≤_, _<_}
+use Prim.Native.Nat.{_≤_, _<_}
 use native.Mathlib.Omega.{arith}
-use lib.ListN.{getD, take, drop}
+use lib.ListN.{take, drop}
 use borrow.Author.Needs.{needs}
-use Rattle.literals.specs.Decode.{byte}
 use Rattle.literals.specs.Table.{rowsIn}
 use Rattle.store.specs.Index.{Indexed}
 use Rattle.store.specs.Rows.{hasRow}
+use Rattle.effects.specs.Effects.{SizedRow}
 use Rattle.effects.proofs.FilledRows.{there-count, there-rows, full-count, full-rows, new-count, new-rows}
 use Rattle.effects.proofs.IndexedRows.{sized-as, there-indexed, new-indexed}
 use Rattle.effects.proofs.join_row.Statement.{statement}
@@ -29,21 +28,22 @@ same-length-2 c = search needs
 
 returns : tie.Need-returns
 returns c =
-    let a = c .before .before .before .before .before .before .before .before .before .args in
-    let p = c .before .before .before .before .before .before .before .before .before .pre in
+    let a = c .before .before .before .before .before .before .before .before .args in
+    let p = c .before .before .before .before .before .before .before .before .pre in
     let rows = rowsIn (a .n) (a .out .now) in
-    let at = take 8 (drop (a .at) (a .adds .now)) in
     let e = c .before .before .before .before .row-at .ensures in
-    let t : (arities : List ℕ) → Indexed arities (a .keys) (rowsIn (a .components) (a .parts .now)) (a .index .now) rows → byte at 1 ≡ getD arities (byte at 0) 0 → hasRow (c .before .before .before .before .row-at .result) rows ≡ true
-    = λ arities I b. sym (c .before .is-held .ensures arities (a .keys) (rowsIn (a .components) (a .parts .now)) I (sized-as arities e b)) ∙ c .if1 .taken in
-    let g = p .1 in (
+    let g = p .1 .0 in
+    let w = p .1 .1 .0 in
+    let t : Indexed (a .head .now) (a .index .now) rows → SizedRow (a .head .now) (take 8 (drop (a .at) (a .adds .now))) → hasRow (c .before .before .before .before .row-at .result) rows ≡ true
+    = λ I b. sym (c .before .is-held .ensures (a .head .now) I (sized-as (a .head .now) e b)) ∙ c .if1 .taken in (
       (omega arith, omega arith),
       (
-        λ arities I b. there-count (a .n) (a .out .now) g (p .2) e (t arities I b),
-        (
-          λ arities I b. there-rows (a .n) (a .out .now) g (p .2) e (t arities I b),
-          (λ arities I b q. there-indexed rows e (t arities I b) I, refl),
-        ),
+        λ I b. record {
+          count = there-count (a .n) (a .out .now) g w e (t I b);
+          bytes = there-rows (a .n) (a .out .now) g w e (t I b);
+          indexed = λ q. there-indexed rows e (t I b) I;
+        },
+        refl,
       ),
     )
 
@@ -55,22 +55,23 @@ same-length-4 c = search needs
 
 returns-2 : tie.Need-returns-2
 returns-2 c =
-    let a = c .before .before .before .before .before .before .before .before .before .before .args in
-    let p = c .before .before .before .before .before .before .before .before .before .before .pre in
+    let a = c .before .before .before .before .before .before .before .before .before .args in
+    let p = c .before .before .before .before .before .before .before .before .before .pre in
     let rows = rowsIn (a .n) (a .out .now) in
-    let at = take 8 (drop (a .at) (a .adds .now)) in
     let e = c .before .before .before .before .before .row-at .ensures in
-    let t : (arities : List ℕ) → Indexed arities (a .keys) (rowsIn (a .components) (a .parts .now)) (a .index .now) rows → byte at 1 ≡ getD arities (byte at 0) 0 → hasRow (c .before .before .before .before .before .row-at .result) rows ≡ false
-    = λ arities I b. sym (c .before .before .is-held .ensures arities (a .keys) (rowsIn (a .components) (a .parts .now)) I (sized-as arities e b)) ∙ c .before .if1 .left in
-    let g = p .1 in
-    let f : 1024 ≤ a .n = c .if2 .taken in (
+    let g = p .1 .0 in
+    let w = p .1 .1 .0 in
+    let f : 1024 ≤ a .n = c .if2 .taken in
+    let t : Indexed (a .head .now) (a .index .now) rows → SizedRow (a .head .now) (take 8 (drop (a .at) (a .adds .now))) → hasRow (c .before .before .before .before .before .row-at .result) rows ≡ false
+    = λ I b. sym (c .before .before .is-held .ensures (a .head .now) I (sized-as (a .head .now) e b)) ∙ c .before .if1 .left in (
       (omega arith, omega arith),
       (
-        λ arities I b. full-count (a .n) (a .out .now) g (p .2) e (t arities I b) f,
-        (
-          λ arities I b. full-rows (a .n) (a .out .now) g (p .2) e (t arities I b) f,
-          (λ arities I b q. absurd (omega arith), refl),
-        ),
+        λ I b. record {
+          count = full-count (a .n) (a .out .now) g w e (t I b) f;
+          bytes = full-rows (a .n) (a .out .now) g w e (t I b) f;
+          indexed = λ q. absurd (omega arith);
+        },
+        refl,
       ),
     )
 
@@ -91,23 +92,24 @@ same-length-6 c = search needs
 
 returns-3 : tie.Need-returns-3
 returns-3 c =
-    let a = c .before .before .before .before .before .before .before .before .before .before .before .before .before .before .before .before .before .before .args in
-    let p = c .before .before .before .before .before .before .before .before .before .before .before .before .before .before .before .before .before .before .pre in
+    let a = c .before .before .before .before .before .before .before .before .before .before .before .before .before .before .before .before .before .args in
+    let p = c .before .before .before .before .before .before .before .before .before .before .before .before .before .before .before .before .before .pre in
     let rows = rowsIn (a .n) (a .out .now) in
-    let at = take 8 (drop (a .at) (a .adds .now)) in
     let e = c .before .before .before .before .before .before .before .before .before .before .before .before .before .row-at .ensures in
-    let t : (arities : List ℕ) → Indexed arities (a .keys) (rowsIn (a .components) (a .parts .now)) (a .index .now) rows → byte at 1 ≡ getD arities (byte at 0) 0 → hasRow (c .before .before .before .before .before .before .before .before .before .before .before .before .before .row-at .result) rows ≡ false
-    = λ arities I b. sym (c .before .before .before .before .before .before .before .before .before .before .is-held .ensures arities (a .keys) (rowsIn (a .components) (a .parts .now)) I (sized-as arities e b)) ∙ c .before .before .before .before .before .before .before .before .before .if1 .left in
-    let g = p .1 in
+    let g = p .1 .0 in
+    let w = p .1 .1 .0 in
     let f : a .n < 1024 = c .before .before .before .before .before .before .before .before .if2 .left in
-    let v = c .before .before .enter .ensures in (
+    let v = c .before .before .enter .ensures in
+    let t : Indexed (a .head .now) (a .index .now) rows → SizedRow (a .head .now) (take 8 (drop (a .at) (a .adds .now))) → hasRow (c .before .before .before .before .before .before .before .before .before .before .before .before .before .row-at .result) rows ≡ false
+    = λ I b. sym (c .before .before .before .before .before .before .before .before .before .before .is-held .ensures (a .head .now) I (sized-as (a .head .now) e b)) ∙ c .before .before .before .before .before .before .before .before .before .if1 .left in (
       (omega arith, omega arith),
       (
-        λ arities I b. new-count (a .n) (a .out .now) g (p .2) e (t arities I b) f,
-        (
-          λ arities I b. new-rows (a .n) (a .out .now) g (p .2) e (t arities I b) f (c .before .before .before .before .before .before .put-row .ensures),
-          (λ arities I b q. new-indexed rows e (t arities I b) (v .0 arities rows I b), v .1),
-        ),
+        λ I b. record {
+          count = new-count (a .n) (a .out .now) g w e (t I b) f;
+          bytes = new-rows (a .n) (a .out .now) g w e (t I b) f (c .before .before .before .before .before .before .put-row .ensures);
+          indexed = λ q. new-indexed rows e (t I b) (v .0 rows I b);
+        },
+        v .1,
       ),
     )
 

@@ -25,18 +25,18 @@ same-length c = search needs
 
 returns : tie.Need-returns
 returns c =
-    let a = c .before .before .before .before .before .before .before .before .before .before .before .before .args in
+    let a = c .before .before .before .before .before .before .before .before .before .before .before .args in
     let e = c .before .before .before .before .before .before .clause-for .ensures in (
-      one-count (a .time) (a .clause) (a .arities .now) (a .ground .now) (a .rows .now) (a .row) _ e (a .n) (a .out .now) (c .before .before .before .before .before .if1 .taken),
-      one-rows (a .time) (a .clause) (a .arities .now) (a .ground .now) (a .rows .now) (a .row) _ e (a .n) (a .out .now) (c .before .before .before .before .before .if1 .taken) (c .before .before .before .bound-row .ensures) (c .before .before .put-row .ensures),
+      one-count (a .time) (a .clause) (a .head .now) (a .ground .now) (a .rows .now) (a .row) _ e (a .n) (a .out .now) (c .before .before .before .before .before .if1 .taken),
+      one-rows (a .time) (a .clause) (a .head .now) (a .ground .now) (a .rows .now) (a .row) _ e (a .n) (a .out .now) (c .before .before .before .before .before .if1 .taken) (c .before .before .before .bound-row .ensures) (c .before .before .put-row .ensures),
     )
 
 returns-2 : tie.Need-returns-2
 returns-2 c =
-    let a = c .before .before .before .before .before .before .before .args in
+    let a = c .before .before .before .before .before .before .args in
     let e = c .before .clause-for .ensures in (
-      none-count (a .time) (a .clause) (a .arities .now) (a .ground .now) (a .rows .now) (a .row) _ e (a .n) (a .out .now) (c .if1 .left),
-      none-rows (a .time) (a .clause) (a .arities .now) (a .ground .now) (a .rows .now) (a .row) _ e (a .n) (a .out .now) (c .if1 .left) (omega arith),
+      none-count (a .time) (a .clause) (a .head .now) (a .ground .now) (a .rows .now) (a .row) _ e (a .n) (a .out .now) (c .if1 .left),
+      none-rows (a .time) (a .clause) (a .head .now) (a .ground .now) (a .rows .now) (a .row) _ e (a .n) (a .out .now) (c .if1 .left) (omega arith),
     )
 
 pub put-effect-spec : {M : Type 1} → statement M

@@ -23,10 +23,10 @@ returns : tie.Need-returns Inv-loop μ-loop
 returns c =
     let a = c .before .before .before .before .args in
     let p = c .before .before .before .before .pre in
-    let g = p .7 in
+    let g = p .1 .1 .1 .1 .1 .1 .1 in
     let t = c .if1 .taken in
     let l = length-rows 8 (a .m) (a .struck .now) in
-    all-gone (rowsIn (a .m) (a .struck .now)) (a .work .now) (a .n) (a .from) (p .2) (p .6) (omega arith)
+    all-gone (rowsIn (a .m) (a .struck .now)) (a .work .now) (a .n) (a .from) (p .1 .1 .0) (p .1 .1 .1 .1 .1 .1 .0) (omega arith)
 
 loop-holds : tie.Need-loop-holds Inv-loop μ-loop
 loop-holds c = (omega arith, omega arith, λ j a b. absurd (omega arith))

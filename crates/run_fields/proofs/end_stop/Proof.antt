@@ -1,4 +1,4 @@
--- `fields::end_stop` meets its contract. Assumes nothing.
+-- `end_stop` meets its contract. Assumes nothing.
 use native.Mathlib.Omega.{arith}
 use borrow.Author.Needs.{needs}
 use Rattle.run_fields.proofs.RunFields.{end-stopped, end-waiting, end-passed}

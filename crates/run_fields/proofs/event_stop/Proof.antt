@@ -1,4 +1,4 @@
--- `fields::event_stop` meets its contract. Assumes nothing.
+-- `event_stop` meets its contract. Assumes nothing.
 use mathlib.Core.Path.{sym, _∙_}
 use native.Mathlib.Omega.{arith}
 use borrow.Author.Needs.{needs}
@@ -11,22 +11,22 @@ event-fields-requires : tie.Need-event-fields-requires
 event-fields-requires c κs = search needs
 
 returns : tie.Need-returns
-returns c = (λ D q ar st pa H e o w F. event-stopped D q _ ar _ _ st pa H _ e _ _ (c .before .event-fields .ensures) (c .if1 .taken), λ y. absurd (c .if1 .taken y))
+returns c = (λ D q H e o w F. event-stopped D q _ H _ e _ _ (c .before .event-fields .ensures) (c .if1 .taken), λ y. absurd (c .if1 .taken y))
 
 twice-from-requires : tie.Need-twice-from-requires
 twice-from-requires c κs = search needs
 
 returns-2 : tie.Need-returns-2
 returns-2 c = (
-  λ D q ar st pa H e o w F. event-twice D q _ ar _ _ st pa H _ e _ _ (c .before .before .before .event-fields .ensures) (c .before .before .if1 .left) _ (c .before .twice-from .ensures) (c .if2 .taken),
+  λ D q H e o w F. event-twice D q _ H _ e _ _ (c .before .before .before .event-fields .ensures) (c .before .before .if1 .left) _ (c .before .twice-from .ensures) (c .if2 .taken),
   λ y. absurd (omega arith),
 )
 
 shared-slice-read-is-waiting : tie.Need-shared-slice-read-is-waiting
-shared-slice-read-is-waiting c = let l = event-short-row _ _ _ _ _ (sym (c .before .before .before .before .event-fields .ensures) ∙ c .before .before .before .if1 .left) (c .before .before .before .before .before .before .before .before .before .before .pre .1) in omega arith
+shared-slice-read-is-waiting c = let l = event-short-row _ _ _ (sym (c .before .before .before .before .event-fields .ensures) ∙ c .before .before .before .if1 .left) in omega arith
 
 ground-row-requires : tie.Need-ground-row-requires
-ground-row-requires c κs = event-short-row _ _ _ _ _ (sym (c .before .before .before .before .event-fields .ensures) ∙ c .before .before .before .if1 .left) (c .before .before .before .before .before .before .before .before .before .before .pre .1)
+ground-row-requires c κs = event-short-row _ _ _ (sym (c .before .before .before .before .event-fields .ensures) ∙ c .before .before .before .if1 .left)
 
 is-waiting-requires : tie.Need-is-waiting-requires
 is-waiting-requires c κs = search needs
@@ -35,9 +35,9 @@ returns-3 : tie.Need-returns-3
 returns-3 c =
     let f = c .before .before .before .before .before .before .before .event-fields .ensures in
     let z = c .before .before .before .before .before .before .if1 .left in (
-      λ D q ar st pa H e o w F.
-          event-repeated D q _ ar _ _ st pa H _ e _ _ f z _ (c .before .before .before .before .before .twice-from .ensures) (c .before .before .before .before .if2 .left) _
-          (event-waits _ _ _ _ _ (sym f ∙ z) D ar st pa H o (q .waiting) F _ w _ (c .before .before .ground-row .ensures) _ (c .before .is-waiting .ensures))
+      λ D q H e o w F.
+          event-repeated D q _ H _ e _ _ f z _ (c .before .before .before .before .before .twice-from .ensures) (c .before .before .before .before .if2 .left) _
+          (event-waits _ _ _ (sym f ∙ z) D H o (q .waiting) F _ w _ (c .before .before .ground-row .ensures) _ (c .before .is-waiting .ensures))
           (c .if3 .taken),
       λ y. absurd (omega arith),
     )
@@ -46,10 +46,10 @@ returns-4 : tie.Need-returns-4
 returns-4 c =
     let f = c .before .before .before .before .before .before .before .before .event-fields .ensures in
     let z = c .before .before .before .before .before .before .before .if1 .left in (
-      λ D q ar st pa H e o w F.
+      λ D q H e o w F.
           let k = waiting-count (q .waiting) _ w in
-          event-full D q _ ar _ _ st pa H _ e _ _ f z _ (c .before .before .before .before .before .before .twice-from .ensures) (c .before .before .before .before .before .if2 .left) _
-          (event-waits _ _ _ _ _ (sym f ∙ z) D ar st pa H o (q .waiting) F _ w _ (c .before .before .before .ground-row .ensures) _ (c .before .before .is-waiting .ensures))
+          event-full D q _ H _ e _ _ f z _ (c .before .before .before .before .before .before .twice-from .ensures) (c .before .before .before .before .before .if2 .left) _
+          (event-waits _ _ _ (sym f ∙ z) D H o (q .waiting) F _ w _ (c .before .before .before .ground-row .ensures) _ (c .before .before .is-waiting .ensures))
           (c .before .if3 .left) (omega arith),
       λ y. absurd (omega arith),
     )
@@ -58,12 +58,12 @@ returns-5 : tie.Need-returns-5
 returns-5 c =
     let f = c .before .before .before .before .before .before .before .before .event-fields .ensures in
     let z = c .before .before .before .before .before .before .before .if1 .left in (
-      λ D q ar st pa H e o w F.
+      λ D q H e o w F.
           let k = waiting-count (q .waiting) _ w in
-          event-room D q _ ar _ _ st pa H _ e _ _ f z _ (c .before .before .before .before .before .before .twice-from .ensures) (c .before .before .before .before .before .if2 .left) _
-          (event-waits _ _ _ _ _ (sym f ∙ z) D ar st pa H o (q .waiting) F _ w _ (c .before .before .before .ground-row .ensures) _ (c .before .before .is-waiting .ensures))
+          event-room D q _ H _ e _ _ f z _ (c .before .before .before .before .before .before .twice-from .ensures) (c .before .before .before .before .before .if2 .left) _
+          (event-waits _ _ _ (sym f ∙ z) D H o (q .waiting) F _ w _ (c .before .before .before .ground-row .ensures) _ (c .before .before .is-waiting .ensures))
           (c .before .if3 .left) (omega arith),
-      λ y. let l = event-short-row _ _ _ _ _ (sym f ∙ z) (c .before .before .before .before .before .before .before .before .before .before .before .before .before .before .pre .1) in (l .0, l .1, c .if4 .left),
+      λ y. let l = event-short-row _ _ _ (sym f ∙ z) in (l .0, l .1, c .if4 .left),
     )
 
 pub event-stop-spec : {M : Type 1} → statement M

@@ -1,19 +1,20 @@
--- `fields::fact_fields` meets its contract. Assumes nothing.
+-- `fact_fields` meets its contract. Assumes nothing.
 use mathlib.Core.Path.{sym, ap, _∙_}
 use mathlib.Core.Bool.{cond}
+use native.Mathlib.Omega.{arith}
 use borrow.Author.Needs.{needs}
 use Rattle.run_fields.proofs.RunFields.{fact-early, fact-late, fact-short, fact-unknown, fact-length, fact-objects}
 use Rattle.run_fields.proofs.fact_fields.Statement.{statement}
 use Rattle.run_fields.proofs.fact_fields.Tie as tie
 
 returns : tie.Need-returns
-returns c = fact-early _ _ _ _ _ (c .if1 .taken)
+returns c = fact-early _ _ _ _ (c .if1 .taken)
 
 returns-2 : tie.Need-returns-2
-returns-2 c = fact-late _ _ _ _ _ (c .before .if1 .left) (c .if2 .taken)
+returns-2 c = fact-late _ _ _ _ (c .before .if1 .left) (c .if2 .taken)
 
 returns-3 : tie.Need-returns-3
-returns-3 c = fact-short _ _ _ _ _ (c .before .before .if1 .left) (c .before .if2 .left) (c .if3 .taken)
+returns-3 c = fact-short _ _ _ _ (c .before .before .if1 .left) (c .before .if2 .left) (c .if3 .taken)
 
 shared-slice-read-wide : tie.Need-shared-slice-read-wide
 shared-slice-read-wide c = search needs
@@ -21,11 +22,20 @@ shared-slice-read-wide c = search needs
 wide-requires : tie.Need-wide-requires
 wide-requires c κs = search needs
 
-returns-4 : tie.Need-returns-4
-returns-4 c = fact-unknown _ _ _ _ _ (c .before .before .before .before .before .before .if1 .left) (c .before .before .before .before .before .if2 .left) (c .before .before .before .before .if3 .left) _ (c .before .before .wide .ensures .0) (c .if4 .taken)
+relations-in-requires : tie.Need-relations-in-requires
+relations-in-requires c κs = search needs
 
-shared-slice-read-wide-2 : tie.Need-shared-slice-read-wide-2
-shared-slice-read-wide-2 c = search needs
+returns-4 : tie.Need-returns-4
+returns-4 c =
+    let n = c .before .relations-in .ensures .0 in
+    let t = c .if4 .taken in
+    fact-unknown _ _ _ _ (c .before .before .before .before .before .before .if1 .left) (c .before .before .before .before .before .if2 .left) (c .before .before .before .before .if3 .left) _ (c .before .before .wide .ensures .0) (omega arith)
+
+shared-slice-read-arity-of : tie.Need-shared-slice-read-arity-of
+shared-slice-read-arity-of c = search needs
+
+arity-of-requires : tie.Need-arity-of-requires
+arity-of-requires c κs = search needs
 
 wide-requires-2 : tie.Need-wide-requires-2
 wide-requires-2 c κs = search needs
@@ -35,23 +45,26 @@ add-if5 c = search needs
 
 returns-5 : tie.Need-returns-5
 returns-5 c =
-    let r = c .before .before .before in
-    fact-length _ _ _ _ _ (r .before .before .before .before .before .before .if1 .left) (r .before .before .before .before .before .if2 .left) (r .before .before .before .before .if3 .left) _ (r .before .before .wide .ensures .0) (r .if4 .left) _ (c .before .wide2 .ensures .0) (c .if5 .taken)
+    let n = c .before .before .before .before .before .relations-in .ensures .0 in
+    let t = c .before .before .before .before .if4 .left in
+    fact-length _ _ _ _ (c .before .before .before .before .before .before .before .before .before .before .if1 .left) (c .before .before .before .before .before .before .before .before .before .if2 .left) (c .before .before .before .before .before .before .before .before .if3 .left) _ (c .before .before .before .before .before .before .wide .ensures .0) (omega arith) _ (c .before .wide2 .ensures .0 ∙ c .before .before .arity-of .ensures .0) (c .if5 .taken)
 
 any-from-requires : tie.Need-any-from-requires
 any-from-requires c κs = search needs
 
 returns-6 : tie.Need-returns-6
 returns-6 c =
-    let r = c .before .before .before .before .before in
+    let n = c .before .before .before .before .before .before .before .relations-in .ensures .0 in
+    let t = c .before .before .before .before .before .before .if4 .left in
     sym (ap (λ out. cond out 51 0) (c .if6 .taken))
-    ∙ fact-objects _ _ _ _ _ (r .before .before .before .before .before .before .if1 .left) (r .before .before .before .before .before .if2 .left) (r .before .before .before .before .if3 .left) _ (r .before .before .wide .ensures .0) (r .if4 .left) _ (c .before .before .before .wide2 .ensures .0) (c .before .before .if5 .left) _ (c .before .any-from .ensures)
+    ∙ fact-objects _ _ _ _ (c .before .before .before .before .before .before .before .before .before .before .before .before .if1 .left) (c .before .before .before .before .before .before .before .before .before .before .before .if2 .left) (c .before .before .before .before .before .before .before .before .before .before .if3 .left) _ (c .before .before .before .before .before .before .before .before .wide .ensures .0) (omega arith) _ (c .before .before .before .wide2 .ensures .0 ∙ c .before .before .before .before .arity-of .ensures .0) (c .before .before .if5 .left) _ (c .before .any-from .ensures)
 
 returns-7 : tie.Need-returns-7
 returns-7 c =
-    let r = c .before .before .before .before .before in
+    let n = c .before .before .before .before .before .before .before .relations-in .ensures .0 in
+    let t = c .before .before .before .before .before .before .if4 .left in
     sym (ap (λ out. cond out 51 0) (c .if6 .left))
-    ∙ fact-objects _ _ _ _ _ (r .before .before .before .before .before .before .if1 .left) (r .before .before .before .before .before .if2 .left) (r .before .before .before .before .if3 .left) _ (r .before .before .wide .ensures .0) (r .if4 .left) _ (c .before .before .before .wide2 .ensures .0) (c .before .before .if5 .left) _ (c .before .any-from .ensures)
+    ∙ fact-objects _ _ _ _ (c .before .before .before .before .before .before .before .before .before .before .before .before .if1 .left) (c .before .before .before .before .before .before .before .before .before .before .before .if2 .left) (c .before .before .before .before .before .before .before .before .before .before .if3 .left) _ (c .before .before .before .before .before .before .before .before .wide .ensures .0) (omega arith) _ (c .before .before .before .wide2 .ensures .0 ∙ c .before .before .before .before .arity-of .ensures .0) (c .before .before .if5 .left) _ (c .before .any-from .ensures)
 
 pub fact-fields-spec : {M : Type 1} → statement M
 fact-fields-spec =
@@ -62,8 +75,10 @@ fact-fields-spec =
     returns-3
     shared-slice-read-wide
     wide-requires
+    relations-in-requires
     returns-4
-    shared-slice-read-wide-2
+    shared-slice-read-arity-of
+    arity-of-requires
     wide-requires-2
     add-if5
     returns-5

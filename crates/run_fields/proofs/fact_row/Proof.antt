@@ -1,4 +1,4 @@
--- `fields::fact_row` meets its contract. Assumes nothing.
+-- `fact_row` meets its contract. Assumes nothing.
 use borrow.Author.Needs.{needs}
 use Rattle.run_fields.proofs.PutRows.{fact-put}
 use Rattle.run_fields.proofs.fact_row.Statement.{statement}

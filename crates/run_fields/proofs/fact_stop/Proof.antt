@@ -1,4 +1,4 @@
--- `fields::fact_stop` meets its contract. Assumes nothing.
+-- `fact_stop` meets its contract. Assumes nothing.
 use mathlib.Core.Path.{sym, _∙_}
 use native.Mathlib.Omega.{arith}
 use borrow.Author.Needs.{needs}
@@ -11,18 +11,18 @@ fact-fields-requires : tie.Need-fact-fields-requires
 fact-fields-requires c κs = search needs
 
 returns : tie.Need-returns
-returns c = (λ D q v s st pa H e t r l few. fact-stopped D q _ _ v s st pa H _ _ e t _ _ (c .before .fact-fields .ensures) (c .if1 .taken), λ z. absurd (c .if1 .taken z))
+returns c = (λ D q H e t r l few. fact-stopped D q _ H _ _ e t _ _ (c .before .fact-fields .ensures) (c .if1 .taken), λ z. absurd (c .if1 .taken z))
 
 returns-2 : tie.Need-returns-2
 returns-2 c =
     let f = c .before .before .fact-fields in
     let z = c .before .if1 .left in (
-      λ D q v s st pa H e t r l few. let k = c .if2 .taken in fact-room D q _ _ v s st pa H _ _ e t _ _ (f .ensures) z (omega arith),
-      λ y. fact-short-row _ _ _ _ _ (c .before .before .before .before .before .before .pre .1) (sym (f .ensures) ∙ z),
+      λ D q H e t r l few. let k = c .if2 .taken in fact-room D q _ H _ _ e t _ _ (f .ensures) z (omega arith),
+      λ y. fact-short-row _ _ _ _ (sym (f .ensures) ∙ z),
     )
 
 fact-row-requires : tie.Need-fact-row-requires
-fact-row-requires c κs = fact-short-row _ _ _ _ _ (c .before .before .before .before .before .before .pre .1) (sym (c .before .before .fact-fields .ensures) ∙ c .before .if1 .left)
+fact-row-requires c κs = fact-short-row _ _ _ _ (sym (c .before .before .fact-fields .ensures) ∙ c .before .if1 .left)
 
 has-row-requires : tie.Need-has-row-requires
 has-row-requires c κs = search needs
@@ -31,20 +31,20 @@ returns-3 : tie.Need-returns-3
 returns-3 c =
     let f = c .before .before .before .before .before .fact-fields in
     let z = c .before .before .before .before .if1 .left in (
-      λ D q v s st pa H e t r l few.
-          fact-known D q _ _ v s st pa H _ _ e t _ _ (f .ensures) z
-          (fact-found (factOf (c .before .before .before .before .before .before .before .before .before .args .p .now)) (q .state .facts) _ _ _ (c .before .before .fact-row .ensures) r (c .before .has-row .ensures) ∙ c .if3 .taken),
-      λ y. fact-short-row _ _ _ _ _ (c .before .before .before .before .before .before .before .before .before .pre .1) (sym (f .ensures) ∙ z),
+      λ D q H e t r l few.
+          fact-known D q _ H _ _ e t _ _ (f .ensures) z
+          (fact-found (factOf (c .before .before .before .before .before .before .before .before .args .p .now)) (q .state .facts) _ _ _ (c .before .before .fact-row .ensures) r (c .before .has-row .ensures) ∙ c .if3 .taken),
+      λ y. fact-short-row _ _ _ _ (sym (f .ensures) ∙ z),
     )
 
 returns-4 : tie.Need-returns-4
 returns-4 c =
     let f = c .before .before .before .before .before .fact-fields in
     let z = c .before .before .before .before .if1 .left in (
-      λ D q v s st pa H e t r l few.
+      λ D q H e t r l few.
           let k = c .before .before .before .if2 .left in
-          fact-full D q _ _ v s st pa H _ _ e t _ _ (f .ensures) z
-          (fact-found (factOf (c .before .before .before .before .before .before .before .before .before .args .p .now)) (q .state .facts) _ _ _ (c .before .before .fact-row .ensures) r (c .before .has-row .ensures) ∙ c .if3 .left) (omega arith),
+          fact-full D q _ H _ _ e t _ _ (f .ensures) z
+          (fact-found (factOf (c .before .before .before .before .before .before .before .before .args .p .now)) (q .state .facts) _ _ _ (c .before .before .fact-row .ensures) r (c .before .has-row .ensures) ∙ c .if3 .left) (omega arith),
       λ y. absurd (omega arith),
     )
 

@@ -1,4 +1,4 @@
--- `fields::ground_row` meets its contract. Assumes nothing.
+-- `ground_row` meets its contract. Assumes nothing.
 use borrow.Author.Needs.{needs}
 use Rattle.run_fields.proofs.PutRows.{ground-put}
 use Rattle.run_fields.proofs.ground_row.Statement.{statement}

@@ -1,4 +1,4 @@
--- `fields::is_waiting` meets its contract. The loop's invariant: the places left answer as all do. Assumes nothing.
+-- `is_waiting` meets its contract. The loop's invariant: the places left answer as all do. Assumes nothing.
 use mathlib.Core.Path.{_≡_, sym, ap, _∙_}
 use Prim.Native.Nat.{_-_, _≤_}
 use native.Mathlib.Omega.{arith}
@@ -27,7 +27,7 @@ waits-at-requires : tie.Need-waits-at-requires Inv-loop μ-loop
 waits-at-requires c κs =
     let p = c .before .before .before .before .before .pre in
     let g : length (c .before .before .before .before .before .args .t5) ≡ 17 = search needs in
-    (omega arith, omega arith, omega arith)
+    (omega arith, (omega arith, omega arith))
 
 returns : tie.Need-returns Inv-loop μ-loop
 returns c =

@@ -1,4 +1,4 @@
--- `fields::objects_stop` meets its contract. Assumes nothing.
+-- `objects_stop` meets its contract. Assumes nothing.
 use native.Mathlib.Omega.{arith}
 use borrow.Author.Needs.{needs}
 use borrow.Author.Tests.{lt-ltb, le-ltb, eq-eqb, ne-eqb}

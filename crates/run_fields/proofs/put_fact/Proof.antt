@@ -1,4 +1,4 @@
--- `fields::put_fact` meets its contract. Assumes nothing.
+-- `put_fact` meets its contract. Assumes nothing.
 use borrow.Author.Needs.{needs}
 use mathlib.Core.Path.{_≡_, ap, _∙_}
 use Prim.Native.Nat.{_*_}

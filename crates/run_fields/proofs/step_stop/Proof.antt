@@ -1,4 +1,4 @@
--- `fields::step_stop` meets its contract. Assumes nothing.
+-- `step_stop` meets its contract. Assumes nothing.
 use borrow.Author.Tests.{eq-eqb, ne-eqb}
 use lib.ListN.{length}
 use Rattle.runs.specs.Play.{stepStop}

@@ -1,4 +1,4 @@
--- `fields::twice_from` meets its contract. The loop's invariant: the bytes left answer as all do. Assumes nothing.
+-- `twice_from` meets its contract. The loop's invariant: the bytes left answer as all do. Assumes nothing.
 use mathlib.Core.Path.{_≡_, refl, sym, _∙_}
 use mathlib.Core.Bool.{not}
 use Prim.Native.Nat.{_-_}

@@ -1,4 +1,4 @@
--- `fields::waits_at` meets its contract. Assumes nothing.
+-- `waits_at` meets its contract. Assumes nothing.
 use borrow.Author.Needs.{needs}
 use borrow.Author.Tests.{eq-eqb, ne-eqb}
 use Rattle.run_fields.specs.Fields.{waitsAt}

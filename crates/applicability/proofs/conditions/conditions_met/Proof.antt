@@ -1,8 +1,7 @@
 -- `conditions_met` meets its contract: no row before i fails, so the test is that of the rows from i on. Assumes nothing.
 use borrow.Author.Tests.{not-true, not-false}
 use mathlib.Core.Path.{_≡_, sym, _∙_}
-use mathlib.Core.List.{List}
-use Prim.Native.Nat.{ℕ, _-_, _*_, _≤_}
+use Prim.Native.Nat.{_-_, _*_, _≤_}
 use native.Mathlib.Omega.{arith}
 use lib.ListN.{drop}
 use Rattle.records.specs.Lists.{all}
@@ -32,7 +31,7 @@ mul-row-met c = omega arith
 row-met-requires : tie.Need-row-met-requires Inv-loop μ-loop
 row-met-requires c κs =
     let p = c .before .before .before .before .before .before .pre in
-    (p .0, omega arith, p .2, p .3, p .4)
+    (p .0, (omega arith, p .1 .1))
 
 returns : tie.Need-returns Inv-loop μ-loop
 returns c I =

@@ -2,7 +2,7 @@
 use borrow.Author.Tests.{not-true, not-false}
 use mathlib.Core.Path.{_≡_, refl, sym, _∙_}
 use mathlib.Core.List.{List, map}
-use Prim.Native.Nat.{ℕ, _-_, _≤_, _<_}
+use Prim.Native.Nat.{_-_, _≤_, _<_}
 use native.Mathlib.Omega.{arith}
 use lib.ListN.{length, getD, drop}
 use Rattle.records.specs.Lists.{all}
@@ -42,7 +42,7 @@ loop-holds c = (omega arith, λ D es fs L w F f I. refl)
 event-met-requires : tie.Need-event-met-requires Inv-loop μ-loop
 event-met-requires c κs =
     let p = c .before .before .before .before .before .before .before .before .pre in
-    (p .3, p .4, omega arith, p .0, p .1, p .2)
+    (p .1 .1 .1 .0, (p .1 .1 .1 .1, (omega arith, (p .0, (p .1 .0, p .1 .1 .0)))))
 
 -- the event of this turn
 event-at : (b : tie.After-event-met Inv-loop μ-loop) (D : Domain) (es : List Event) (fs : List Fact)

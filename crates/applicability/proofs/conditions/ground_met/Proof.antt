@@ -4,7 +4,6 @@ use mathlib.Core.List.{List}
 use Prim.Native.Nat.{ℕ, _<_}
 use native.Mathlib.Omega.{arith}
 use lib.ListN.{length, getD}
-use Rattle.literals.specs.Domain.{Domain}
 use Rattle.literals.specs.Table.{rowsIn}
 use Rattle.literals.specs.Held.{SpanOf}
 use Rattle.literals.proofs.Spans.{part-length}
@@ -59,7 +58,7 @@ conditions-met-requires c κs =
     let p = s .pre in
     let r = c .before .before .before .before .rows-of in
     let l = part-length (s .args .table .now) (r .result .from) (r .result .to) (r .ensures .0 .order) (r .ensures .0 .room) in
-    (p .0, omega arith, p .1, p .2, p .3)
+    (p .0, (omega arith, p .1))
 
 returns-2 : tie.Need-returns-2
 returns-2 c D g fs H F e f I =

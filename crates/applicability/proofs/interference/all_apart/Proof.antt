@@ -33,8 +33,8 @@ shared-slice-read-to c = search needs
 words-clash-requires : tie.Need-words-clash-requires Inv-loop μ-loop
 words-clash-requires c κs =
     let p = c .before .before .before .before .before .before .pre in
-    let g = p .5 (c .before .before .loop .i) (omega arith) in
-    (omega arith, omega arith, omega arith, omega arith)
+    let g = p .1 .1 .1 .1 .1 (c .before .before .loop .i) (omega arith) in
+    (omega arith, (omega arith, (omega arith, omega arith)))
 
 returns : tie.Need-returns Inv-loop μ-loop
 returns c parts e L =

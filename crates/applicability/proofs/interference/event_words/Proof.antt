@@ -43,10 +43,10 @@ returns : tie.Need-returns
 returns c =
     let r = c .before .before .before .before .ground-words .ensures in (
       r .0,
-      λ D variables sorts parts e L F m f.
-          let a = c .before .before .before .before .before .before .before .before .before .before .before .before .before .before .before .before .before .args in
+      λ D e H F m f.
+          let a = c .before .before .before .before .before .before .before .before .before .before .before .before .before .before .before .args in
           let t = c .before .before .before .before .before .before .before .before .time-at .ensures in
-          r .1 D variables sorts parts e L F (t ∙ ap (λ (j : ℕ). timeOf (momentOf j)) m ∙ ap timeOf (moment-back (e .moment))) (part-ground (a .rows .now) (17 * a .i) ∙ f),
+          r .1 D e H F (t ∙ ap (λ (j : ℕ). timeOf (momentOf j)) m ∙ ap timeOf (moment-back (e .moment))) (part-ground (a .rows .now) (17 * a .i) ∙ f),
     )
 
 pub event-words-spec : {M : Type 1} → statement M

@@ -11,15 +11,15 @@ use Rattle.applicability.proofs.interference.independent.Statement.{sta
 use Rattle.applicability.proofs.interference.independent.Tie as tie
 
 returns : tie.Need-returns
-returns c D variables sorts parts es L w F h =
-    let a = c .before .before .before .before .before .before .args in
+returns c D es H w F h =
+    let a = c .before .before .before .before .args in
     let k = waiting-count es (record { count = a .count; moments = a .moments .now; rows = a .rows .now }) w in
     let t = c .if1 .taken in
     absurd (omega arith)
 
 returns-2 : tie.Need-returns-2
-returns-2 c D variables sorts parts es L w F h =
-    let a = c .before .before .before .before .before .before .before .args in
+returns-2 c D es H w F h =
+    let a = c .before .before .before .before .before .args in
     let k = waiting-count es (record { count = a .count; moments = a .moments .now; rows = a .rows .now }) w in
     let t = c .if2 .taken in
     few-independent D es (omega arith)
@@ -46,14 +46,17 @@ slice-aggregate-all-apart-3 : tie.Need-slice-aggregate-all-apart-3
 slice-aggregate-all-apart-3 c = search needs
 
 all-apart-requires : tie.Need-all-apart-requires
-all-apart-requires c κs = search needs
+all-apart-requires c κs =
+    let k = c .before .before .before .before .before .before .step-words .ensures .0 in
+    let t = c .before .before .before .before .before .before .before .before .before .before .before .if1 .left in
+    (search needs, (search needs, (search needs, (omega arith, (k .0, k .1)))))
 
 returns-3 : tie.Need-returns-3
-returns-3 c D variables sorts parts es L w F h =
-    let a = c .before .before .before .before .before .before .before .before .before .before .before .before .before .before .before .before .before .before .args in
+returns-3 c D es H w F h =
+    let a = c .before .before .before .before .before .before .before .before .before .before .before .before .before .before .before .before .args in
     let k = waiting-count es (record { count = a .count; moments = a .moments .now; rows = a .rows .now }) w in
-    c .all-apart .ensures (map (eventMarks D) es) (length-map es (eventMarks D) ∙ sym k) (c .before .before .before .before .before .before .before .step-words .ensures .1 D variables sorts parts es L w F)
-    ∙ apart-independent D (a .counts) (a .arities .now) variables sorts (a .starts .now) parts (a .table .now) L es F
+    c .all-apart .ensures (map (eventMarks D) es) (length-map es (eventMarks D) ∙ sym k) (c .before .before .before .before .before .before .before .step-words .ensures .1 D es H w F)
+    ∙ apart-independent H es F
 
 pub independent-spec : {M : Type 1} → statement M
 independent-spec =

@@ -13,8 +13,8 @@ clause-for-requires c κs = search needs
 
 returns : tie.Need-returns
 returns c =
-    let a = c .before .before .before .before .before .before .before .before .args in
-    put-none (a .time) (a .arities .now) (a .ground .now) (a .rows .now) (a .row) _ (c .before .clause-for .ensures) (a .words .now) (a .clauses .now) (a .n) (c .if1 .taken)
+    let a = c .before .before .before .before .before .before .before .args in
+    put-none (a .time) (a .head .now) (a .ground .now) (a .rows .now) (a .row) _ (c .before .clause-for .ensures) (a .words .now) (a .clauses .now) (a .n) (c .if1 .taken)
 
 bound-row-requires : tie.Need-bound-row-requires
 bound-row-requires c κs = search needs
@@ -42,9 +42,9 @@ same-length-2 c = search needs
 
 returns-2 : tie.Need-returns-2
 returns-2 c =
-    let a = c .before .before .before .before .before .before .before .before .before .before .args in
-    let p = c .before .before .before .before .before .before .before .before .before .before .pre in
-    put-one (a .time) (a .arities .now) (a .ground .now) (a .rows .now) (a .row) _ (c .before .before .before .clause-for .ensures) (a .words .now) (a .clauses .now) (a .n) (c .before .before .if1 .left) (omega arith) (omega arith)
+    let a = c .before .before .before .before .before .before .before .before .before .args in
+    let p = c .before .before .before .before .before .before .before .before .before .pre in
+    put-one (a .time) (a .head .now) (a .ground .now) (a .rows .now) (a .row) _ (c .before .before .before .clause-for .ensures) (a .words .now) (a .clauses .now) (a .n) (c .before .before .if1 .left) (omega arith) (omega arith)
     (c .before .bound-row .result) (c .word-of .result) (c .before .bound-row .ensures) (c .word-of .ensures .0)
 
 pub put-word-spec : {M : Type 1} → statement M

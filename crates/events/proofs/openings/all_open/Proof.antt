@@ -22,7 +22,7 @@ loop-holds c = let a = c .before .before .before .args in
     (omega arith, ap (all (endOpen (groundsIn (a .n) (a .rows .now)))) (events-first (a .moments .now) (a .events .now) (a .count)))
 
 end-open-requires : tie.Need-end-open-requires Inv-loop μ-loop
-end-open-requires c κs = (omega arith, omega arith, omega arith)
+end-open-requires c κs = (omega arith, (omega arith, omega arith))
 
 returns : tie.Need-returns Inv-loop μ-loop
 returns c = let a = c .before .before .before .before .before .before .before .args in

@@ -5,8 +5,8 @@ use Prim.Native.Nat.{_-_, _*_, _≤_}
 use native.Mathlib.Omega.{arith}
 use lib.ListN.{length, drop}
 use Rattle.events.specs.declared.Open.{Open}
-use Rattle.events.specs.Coded.{EventRow, eventsIn, closeEvents}
-use Rattle.events.proofs.GroundRows.{eventAt, events-first, close-fewer, closes-more, closes-end}
+use Rattle.events.specs.Coded.{EventRow, eventAt, eventsIn, closeEvents}
+use Rattle.events.proofs.GroundRows.{events-first, close-fewer, closes-more, closes-end}
 use Rattle.events.proofs.openings.close_all.Statement.{statement}
 use Rattle.events.proofs.openings.close_all.Tie as tie
 
@@ -23,7 +23,7 @@ loop-holds c =
     (omega arith, omega arith, refl, ap (λ (es : List EventRow). closeEvents es (record { count = a .n; rows = a .rows .now })) (events-first (a .moments .now) (a .events .now) (a .count)))
 
 close-event-requires : tie.Need-close-event-requires Inv-loop μ-loop
-close-event-requires c κs = (c .before .before .loop .inv .2 ∙ c .before .before .before .before .before .before .pre .0, omega arith, omega arith, omega arith)
+close-event-requires c κs = (c .before .before .loop .inv .2 ∙ c .before .before .before .before .before .before .pre .0, (omega arith, (omega arith, omega arith)))
 
 add-i : tie.Need-add-i Inv-loop μ-loop
 add-i c = omega arith

@@ -2,9 +2,9 @@
 use mathlib.Core.Path.{ap, _∙_}
 use mathlib.Core.List.{List}
 use Prim.Native.Nat.{ℕ, _*_}
-use Rattle.events.specs.Coded.{groundsIn}
+use Rattle.events.specs.Coded.{groundsIn, eventAt}
 use Rattle.store.specs.Rows.{hasRow}
-use Rattle.events.proofs.GroundRows.{eventAt, part-ground, open-start, open-end}
+use Rattle.events.proofs.GroundRows.{part-ground, open-start, open-end}
 use borrow.Author.Needs.{needs}
 use Rattle.events.proofs.openings.end_open.Statement.{statement}
 use Rattle.events.proofs.openings.end_open.Tie as tie

@@ -17,7 +17,7 @@ returns-2 c D gs es B k l few small e f =
     let g = c .if2 .taken in absurd (omega arith)
 
 all-open-requires : tie.Need-all-open-requires
-all-open-requires c κs = let p = c .before .before .before .before .before .pre in (omega arith, omega arith, omega arith)
+all-open-requires c κs = let p = c .before .before .before .before .before .pre in (omega arith, (omega arith, omega arith))
 
 returns-3 : tie.Need-returns-3
 returns-3 c D gs es B k l few small e f =

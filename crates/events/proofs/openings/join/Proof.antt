@@ -18,7 +18,12 @@ returns : tie.Need-returns
 returns c =
     let a = c .before .before .before .before .before .before .args in
     let s = c .before .before .put-bytes in
-    join-is (record { count = a .n; rows = a .rows .now }) (a .ground .now) (s .last .0) (length (a .ground .now)) (c .before .before .before .before .before .before .pre .2) (s .ensures)
+    join-is (record { count = a .n; rows = a .rows .now }) (a .ground .now) (s .last .0) (length (a .ground .now)) (c .before .before .before .before .before .before .pre .1 .1) (s .ensures)
 
 pub join-spec : {M : Type 1} → statement M
-join-spec = tie.close (tie.spec mul-put-bytes put-bytes-requires same-length returns)
+join-spec = tie.close
+    (tie.spec
+    mul-put-bytes
+    put-bytes-requires
+    same-length
+    returns)

@@ -24,15 +24,15 @@ opens-entry-requires c κs = search needs
 
 returns : tie.Need-returns
 returns c =
-    let a = c .before .before .before .before .before .before .before .before .args in
+    let a = c .before .before .before .before .before .before .before .args in
     let o = c .before .opens-entry in
-    joins-not (a .sorts .now) (a .actions) (a .moments .now) (a .events .now) (a .i) (record { count = a .n; rows = a .rows .now }) (o .result) (o .ensures) (not-true (o .result) (c .if1 .taken))
+    joins-not (a .head .now) (a .moments .now) (a .events .now) (a .i) (record { count = a .n; rows = a .rows .now }) (o .result) (o .ensures) (not-true (o .result) (c .if1 .taken))
 
 returns-2 : tie.Need-returns-2
 returns-2 c =
-    let a = c .before .before .before .before .before .before .before .before .before .args in
+    let a = c .before .before .before .before .before .before .before .before .args in
     let o = c .before .before .opens-entry in
-    joins-no-room (a .sorts .now) (a .actions) (a .moments .now) (a .events .now) (a .i) (record { count = a .n; rows = a .rows .now }) (o .result) (o .ensures) (not-false (o .result) (c .before .if1 .left)) (omega arith)
+    joins-no-room (a .head .now) (a .moments .now) (a .events .now) (a .i) (record { count = a .n; rows = a .rows .now }) (o .result) (o .ensures) (not-false (o .result) (c .before .if1 .left)) (omega arith)
 
 add-end : tie.Need-add-end
 add-end c = search needs
@@ -49,19 +49,19 @@ part-join-end c = search needs
 join-requires : tie.Need-join-requires
 join-requires c κs = search needs
 
-add-t20 : tie.Need-add-t20
-add-t20 c = search needs
-
 same-length : tie.Need-same-length
 same-length c = search needs
 
 returns-3 : tie.Need-returns-3
 returns-3 c =
-    let a = c .before .before .before .before .before .before .before .before .before .before .before .before .before .before .args in
+    let a = c .before .before .before .before .before .before .before .before .before .before .before .before .before .args in
     let o = c .before .before .before .before .before .before .before .opens-entry in
     let s = c .before .before .join in
-    joins-one (a .sorts .now) (a .actions) (a .moments .now) (a .events .now) (a .i) (record { count = a .n; rows = a .rows .now }) (o .result) (o .ensures) (not-false (o .result) (c .before .before .before .before .before .before .if1 .left)) (omega arith) (record { count = a .n + 1; rows = s .last .0 })
+    joins-one (a .head .now) (a .moments .now) (a .events .now) (a .i) (record { count = a .n; rows = a .rows .now }) (o .result) (o .ensures) (not-false (o .result) (c .before .before .before .before .before .before .if1 .left)) (omega arith) (record { count = a .n + 1; rows = s .last .0 })
     (s .ensures ∙ ap (λ (t : List ℕ). joinEntry t (record { count = a .n; rows = a .rows .now })) (part-ground (a .events .now) (17 * a .i)))
+
+add-t19 : tie.Need-add-t19
+add-t19 c = search needs
 
 pub join-event-spec : {M : Type 1} → statement M
 join-event-spec =
@@ -78,6 +78,6 @@ join-event-spec =
     part-join-start
     part-join-end
     join-requires
-    add-t20
+    add-t19
     same-length
     returns-3)

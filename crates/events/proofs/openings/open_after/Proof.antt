@@ -9,39 +9,39 @@ use Rattle.events.proofs.openings.open_after.Statement.{statement}
 use Rattle.events.proofs.openings.open_after.Tie as tie
 
 returns : tie.Need-returns
-returns c D index gs es h s n k l few small e f =
-    let a = c .before .before .before .before .before .args in
+returns c D gs es h k l few small e f =
+    let a = c .before .before .before .before .args in
     let z = events-few es (record { count = a .count; moments = a .moments .now; rows = a .events .now }) f small in
     let g = c .if1 .taken in absurd (omega arith)
 
 returns-2 : tie.Need-returns-2
-returns-2 c D index gs es h s n k l few small e f =
-    let a = c .before .before .before .before .before .before .args in
+returns-2 c D gs es h k l few small e f =
+    let a = c .before .before .before .before .before .args in
     let z = entries-few gs (record { count = a .n; rows = a .rows .now }) e few in
     let g = c .if2 .taken in absurd (omega arith)
 
 close-all-requires : tie.Need-close-all-requires
-close-all-requires c κs = let p = c .before .before .before .before .before .before .before .pre in (p .0, omega arith, omega arith, omega arith)
+close-all-requires c κs = let p = c .before .before .before .before .before .before .pre in (p .0, (omega arith, (omega arith, omega arith)))
 
 join-all-requires : tie.Need-join-all-requires
 join-all-requires c κs =
-    let a = c .before .before .before .before .before .before .before .before .before .before .before .args in
-    let p = c .before .before .before .before .before .before .before .before .before .before .before .pre in
+    let a = c .before .before .before .before .before .before .before .before .before .before .args in
+    let p = c .before .before .before .before .before .before .before .before .before .before .pre in
     let o = c .before .before .before .close-all in
     let z = closes-fewer (eventsIn (a .count) (a .moments .now) (a .events .now)) (record { count = a .n; rows = a .rows .now }) (record { count = o .result; rows = o .last .0 }) (o .ensures) in
-    (o .kept .0 ∙ p .0, omega arith, omega arith, omega arith, omega arith)
+    (o .kept .0 ∙ p .0, (omega arith, (omega arith, omega arith)))
 
 same-length : tie.Need-same-length
 same-length c = search needs
 
 returns-3 : tie.Need-returns-3
-returns-3 c D index gs es h s n k l few small e f =
-    let a = c .before .before .before .before .before .before .before .before .before .before .before .before .before .before .args in
+returns-3 c D gs es h k l few small e f =
+    let a = c .before .before .before .before .before .before .before .before .before .before .before .before .before .args in
     let o = c .before .before .before .before .before .before .close-all in
     let j = c .before .before .join-all in
-    after-held D index h gs es k l few (record { count = a .n; rows = a .rows .now }) (record { count = a .count; moments = a .moments .now; rows = a .events .now }) e f
-    (record { count = o .result; rows = o .last .0 }) (o .ensures) (a .sorts .now) (a .actions) s n
-    (record { fits = j .result .fits; running = record { count = j .result .count; rows = j .last .0 } }) (j .ensures)
+    after-held h gs es k l few (record { count = a .n; rows = a .rows .now }) (record { count = a .count; moments = a .moments .now; rows = a .events .now }) e f
+    (record { count = o .result; rows = o .last .0 }) (o .ensures)
+    (record { fits = j .result .fits; running = record { count = j .result .count; rows = j .last .1 .0 } }) (j .ensures)
 
 pub open-after-spec : {M : Type 1} → statement M
 open-after-spec =

@@ -1,9 +1,8 @@
 -- `advance` meets its contract: too many facts, too many open, or the step is taken. Assumes nothing.
 use borrow.Author.Needs.{needs}
-use mathlib.Core.Path.{refl, sym, ap, _∙_}
+use mathlib.Core.Path.{sym, ap, _∙_}
 use native.Mathlib.Omega.{arith}
 use Rattle.records.proofs.Lists.{not-true, not-false}
-use Rattle.literals.specs.Table.{rowsIn, indexWith}
 use Rattle.machine.specs.declared.State.{State as Holding}
 use Rattle.machine.specs.Stepping.{heldAs}
 use Rattle.machine.proofs.HeldBytes.{state-rows}
@@ -13,11 +12,11 @@ use Rattle.machine.proofs.step.advance.Tie as tie
 
 facts-after-requires : tie.Need-facts-after-requires
 facts-after-requires c κs =
-    let p = c .before .before .before .before .before .before .before .before .before .before .before .before .before .before .before .before .pre in
+    let p = c .before .before .before .before .before .before .before .before .before .before .before .before .pre in
     let q = p .0 in
     let r = q .room in
     let f = q .facts in
-    (q .ready, f, omega arith, p .5, q .parts-length, q .components, q .keys, p .1, q .facts-once, p .3, p .4, p .6)
+    (f, (omega arith, (p .1 .1 .1 .1 .1 .0, (p .1 .0, (q .facts-once, (p .1 .1 .1 .0, (p .1 .1 .1 .1 .0, p .1 .1 .1 .1 .1 .1)))))))
 
 same-length : tie.Need-same-length
 same-length c = search needs
@@ -33,22 +32,24 @@ same-length-4 c = search needs
 
 returns : tie.Need-returns
 returns c =
-    let a = c .before .before .before .before .before .before .before .before .before .before .before .before .before .before .before .before .before .before .before .before .before .before .before .before .args in
+    let a = c .before .before .before .before .before .before .before .before .before .before .before .before .before .before .before .before .before .before .before .before .args in
     let x = c .before .before .before .before .before .before .before .facts-after in (
-      λ D variables s es old lent kept is memory under free held.
+      λ D s es old S under free held.
+          let lent = S .domain in
+          let kept = S .kept in
+          let is = S .state-is in
+          let memory = S .facts-are in
           let w = ap (λ (h : Holding). h .waiting) is in
-          let rows = state-rows D (lent .held .bounded) s es kept (heldAs (a .facts) (a .n) (a .rows .now) (a .count) (a .moments .now) (a .events .now)) is (a .work .now) old memory in
-          let e = x .ensures .1 .0 D variables (a .sorts .now) (a .parts .now) es (s .facts) lent w (kept .waiting) (kept .waiting-few) rows held in
+          let rows = state-rows D (lent .says .bounded) s es kept (heldAs (a .facts) (a .n) (a .rows .now) (a .count) (a .moments .now) (a .events .now)) is (a .work .now) old memory in
+          let e = x .ensures .1 .0 D es (s .facts) lent w (kept .waiting) (kept .waiting-few) rows held in
           leaves-large D s es old (a .weight) free (many-facts D s es (x .result .facts) (e .facts) (c .if1 .taken)) (heldAs (a .facts) (a .n) (a .rows .now) (a .count) (a .moments .now) (a .events .now)) is (a .work .now) memory,
-      (λ D variables s es old lent kept is memory free held z. absurd (omega arith), x .ensures .1 .1),
+      (λ D s es old S free held z. absurd (omega arith), x .ensures .1 .1),
     )
 
 open-after-requires : tie.Need-open-after-requires
 open-after-requires c κs =
-    let p = c .before .before .before .before .before .before .before .before .before .before .before .before .before .before .before .before .before .before .before .before .before .before .before .before .before .pre in
-    let l = p .0 .sorts-length in
-    let r = p .0 .ready .actions in
-    (p .2, p .3, p .4, omega arith)
+    let p = c .before .before .before .before .before .before .before .before .before .before .before .before .before .before .before .before .before .before .before .before .before .pre in
+    (p .1 .1 .0, (p .1 .1 .1 .0, p .1 .1 .1 .1 .0))
 
 same-length-5 : tie.Need-same-length-5
 same-length-5 c = search needs
@@ -67,33 +68,35 @@ same-length-9 c = search needs
 
 returns-2 : tie.Need-returns-2
 returns-2 c =
-    let a = c .before .before .before .before .before .before .before .before .before .before .before .before .before .before .before .before .before .before .before .before .before .before .before .before .before .before .before .before .before .before .args in
+    let a = c .before .before .before .before .before .before .before .before .before .before .before .before .before .before .before .before .before .before .before .before .before .before .before .before .before .before .args in
     let x = c .before .before .before .before .before .before .before .before .before .before .before .before .before .facts-after in (
-      λ D variables s es old lent kept is memory under free held.
+      λ D s es old S under free held.
+          let lent = S .domain in
+          let kept = S .kept in
+          let is = S .state-is in
+          let memory = S .facts-are in
           let w = ap (λ (h : Holding). h .waiting) is in
-          let f = c .before .before .before .before .open-after .ensures D (indexWith (a .counts) (a .arities .now) variables (a .sorts .now) (a .starts .now) (a .parts .now)) (s .running) es (lent .held) refl refl (kept .running) (kept .waiting) (kept .running-few) (kept .waiting-few) (ap (λ (h : Holding). h .running) is) w in
+          let f = c .before .before .before .before .open-after .ensures D (s .running) es (lent .says) (kept .running) (kept .waiting) (kept .running-few) (kept .waiting-few) (ap (λ (h : Holding). h .running) is) w in
           leaves-large D s es old (a .weight) free (many-open D s es (sym (not-true _ (c .if2 .taken)) ∙ f .0)) (heldAs (a .facts) (a .n) (a .rows .now) (a .count) (a .moments .now) (a .events .now)) is (a .work .now) memory,
-      (λ D variables s es old lent kept is memory free held z. absurd (omega arith), x .ensures .1 .1),
+      (λ D s es old S free held z. absurd (omega arith), x .ensures .1 .1),
     )
 
 settle-requires : tie.Need-settle-requires
 settle-requires c κs =
-    let q = c .before .before .before .before .before .before .before .before .before .before .before .before .before .before .before .before .before .before .before .before .before .before .before .before .before .before .before .before .before .before .before .before .pre .0 in
+    let q = c .before .before .before .before .before .before .before .before .before .before .before .before .before .before .before .before .before .before .before .before .before .before .before .before .before .before .before .before .pre .0 in
     let r = q .room in
     let f = q .facts in
     let n = c .before .before .before .before .before .before .before .before .if1 .left in
-    let k = c .before .before .before .before .before .before .before .before .before .before .before .before .before .before .before .facts-after .kept .1 .1 .1 .1 .1 .1 .1 .1 .1 .0 in
-    let p = c .before .before .before .before .before .before .before .before .before .before .before .before .before .before .before .before .before .before .before .before .before .before .before .before .before .before .before .before .before .before .before .before .pre .5 in
-    (f, omega arith, n, omega arith, omega arith)
+    let k = c .before .before .before .before .before .before .before .before .before .before .before .before .before .before .before .facts-after .kept .1 .1 .1 .1 .1 .1 .1 .0 in
+    let p = c .before .before .before .before .before .before .before .before .before .before .before .before .before .before .before .before .before .before .before .before .before .before .before .before .before .before .before .before .pre .1 .1 .1 .1 .1 .0 in
+    (f, (omega arith, (n, (omega arith, omega arith))))
 
 top-from-requires : tie.Need-top-from-requires
 top-from-requires c κs =
-    let p = c .before .before .before .before .before .before .before .before .before .before .before .before .before .before .before .before .before .before .before .before .before .before .before .before .before .before .before .before .before .before .before .before .before .before .before .before .before .pre in
-    let q = p .0 in
-    let l = q .parts-length in
-    let n = q .components in
-    let r = q .room in
-    (omega arith, q .keys, c .before .before .before .before .before .before .before .before .before .before .before .before .before .if1 .left, omega arith, c .before .before .before .before .before .before .before .before .before .before .before .before .before .before .before .before .before .before .before .before .facts-after .kept .1 .1 .1 .1 .1 .1 .1 .1 .1 .1 .1 .0 ∙ p .1)
+    let p = c .before .before .before .before .before .before .before .before .before .before .before .before .before .before .before .before .before .before .before .before .before .before .before .before .before .before .before .before .before .before .before .before .before .pre in
+    let r = p .0 .room in
+    let n = c .before .before .before .before .before .before .before .before .before .before .before .before .before .if1 .left in
+    (n, omega arith, c .before .before .before .before .before .before .before .before .before .before .before .before .before .before .before .before .before .before .before .before .facts-after .kept .1 .1 .1 .1 .1 .1 .1 .1 .0 ∙ p .1 .0)
 
 same-length-10 : tie.Need-same-length-10
 same-length-10 c = search needs
@@ -112,34 +115,42 @@ same-length-14 c = search needs
 
 returns-3 : tie.Need-returns-3
 returns-3 c =
-    let a = c .before .before .before .before .before .before .before .before .before .before .before .before .before .before .before .before .before .before .before .before .before .before .before .before .before .before .before .before .before .before .before .before .before .before .before .before .before .before .args in
+    let a = c .before .before .before .before .before .before .before .before .before .before .before .before .before .before .before .before .before .before .before .before .before .before .before .before .before .before .before .before .before .before .before .before .before .before .args in
     let x = c .before .before .before .before .before .before .before .before .before .before .before .before .before .before .before .before .before .before .before .before .before .facts-after in
     let small = c .before .before .before .before .before .before .before .before .before .before .before .before .before .before .if1 .left in
     let o = c .before .before .before .before .before .before .before .before .before .before .before .before .open-after in
     let yes = not-false _ (c .before .before .before .before .before .before .before .before .if2 .left) in
     let t = c .before .before .before .before .before .settle in (
-      λ D variables s es old lent kept is memory under free held.
+      λ D s es old S under free held.
+          let lent = S .domain in
+          let kept = S .kept in
+          let is = S .state-is in
+          let memory = S .facts-are in
           let w = ap (λ (h : Holding). h .waiting) is in
-          let B = lent .held .bounded in
+          let B = lent .says .bounded in
           let rows = state-rows D B s es kept (heldAs (a .facts) (a .n) (a .rows .now) (a .count) (a .moments .now) (a .events .now)) is (a .work .now) old memory in
-          let e = x .ensures .1 .0 D variables (a .sorts .now) (a .parts .now) es (s .facts) lent w (kept .waiting) (kept .waiting-few) rows held in
-          let f = o .ensures D (indexWith (a .counts) (a .arities .now) variables (a .sorts .now) (a .starts .now) (a .parts .now)) (s .running) es (lent .held) refl refl (kept .running) (kept .waiting) (kept .running-few) (kept .waiting-few) (ap (λ (h : Holding). h .running) is) w in
+          let e = x .ensures .1 .0 D es (s .facts) lent w (kept .waiting) (kept .waiting-few) rows held in
+          let f = o .ensures D (s .running) es (lent .says) (kept .running) (kept .waiting) (kept .running-few) (kept .waiting-few) (ap (λ (h : Holding). h .running) is) w in
           let few = after-few D B s es old (a .weight) kept free (x .result .facts) (e .facts) small (sym yes ∙ f .0) in
           leaves-taken D B s es old (a .weight) kept free (x .result .facts) (e .facts) small (sym yes ∙ f .0) (a .work .now) _ _ (a .facts) (ap (λ (h : Holding). h .facts) is) memory (e .held few) (t .ensures)
-          (record { count = o .result .count; rows = o .last .0 }) (f .1 yes) (c .top-from .result) (x .result .kept) (e .kept) under
-          (c .top-from .ensures .1 D (indexWith (a .counts) (a .arities .now) variables (a .sorts .now) (a .starts .now) (a .parts .now)) _ (a .arities .now) (lent .held) refl refl refl
-          (rows-indexed D B s es old (a .weight) kept free (x .result .facts) (e .facts) small (sym yes ∙ f .0) (a .work .now) _ _ (a .facts) (ap (λ (h : Holding). h .facts) is) memory (e .held few) (t .ensures) (a .arities .now) (a .counts .keys) (rowsIn (a .counts .components) (a .parts .now)) _ (e .indexed few))
+          (record { count = o .result .count; rows = o .last .1 .0 }) (f .1 yes) (c .top-from .result) (x .result .kept) (e .kept) under
+          (c .top-from .ensures .1 D _ (lent .says)
+          (rows-indexed D B s es old (a .weight) kept free (x .result .facts) (e .facts) small (sym yes ∙ f .0) (a .work .now) _ _ (a .facts) (ap (λ (h : Holding). h .facts) is) memory (e .held few) (t .ensures) (a .head .now) _ (e .indexed few))
           (taken-rows D B s es old (a .weight) kept free (x .result .facts) (e .facts) small (sym yes ∙ f .0) (a .work .now) _ _ (a .facts) (ap (λ (h : Holding). h .facts) is) memory (e .held few) (t .ensures))
           (after-fits D B s es old (a .weight) kept free (x .result .facts) (e .facts) small (sym yes ∙ f .0))),
       (
-        λ D variables s es old lent kept is memory free held z.
+        λ D s es old S free held z.
+            let lent = S .domain in
+            let kept = S .kept in
+            let is = S .state-is in
+            let memory = S .facts-are in
             let w = ap (λ (h : Holding). h .waiting) is in
-            let B = lent .held .bounded in
+            let B = lent .says .bounded in
             let rows = state-rows D B s es kept (heldAs (a .facts) (a .n) (a .rows .now) (a .count) (a .moments .now) (a .events .now)) is (a .work .now) old memory in
-            let e = x .ensures .1 .0 D variables (a .sorts .now) (a .parts .now) es (s .facts) lent w (kept .waiting) (kept .waiting-few) rows held in
-            let f = o .ensures D (indexWith (a .counts) (a .arities .now) variables (a .sorts .now) (a .starts .now) (a .parts .now)) (s .running) es (lent .held) refl refl (kept .running) (kept .waiting) (kept .running-few) (kept .waiting-few) (ap (λ (h : Holding). h .running) is) w in
+            let e = x .ensures .1 .0 D es (s .facts) lent w (kept .waiting) (kept .waiting-few) rows held in
+            let f = o .ensures D (s .running) es (lent .says) (kept .running) (kept .waiting) (kept .running-few) (kept .waiting-few) (ap (λ (h : Holding). h .running) is) w in
             let few = after-few D B s es old (a .weight) kept free (x .result .facts) (e .facts) small (sym yes ∙ f .0) in
-            taken-indexed D B s es old (a .weight) kept free (x .result .facts) (e .facts) small (sym yes ∙ f .0) (a .arities .now) (a .counts .keys) (rowsIn (a .counts .components) (a .parts .now)) _ (e .indexed few),
+            taken-indexed D B s es old (a .weight) kept free (x .result .facts) (e .facts) small (sym yes ∙ f .0) (a .head .now) _ (e .indexed few),
         x .ensures .1 .1,
       ),
     )

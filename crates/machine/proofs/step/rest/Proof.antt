@@ -17,8 +17,8 @@ same-length : tie.Need-same-length
 same-length c = search needs
 
 returns : tie.Need-returns
-returns c D variables sorts parts s keys held lent kept entries rows noted =
-    let met = c .before .open-met .ensures D variables sorts parts (s .running) (s .facts) lent entries (kept .running) (kept .running-few) rows keys held (noted .indexed) in
+returns c D s lent kept entries rows noted =
+    let met = c .before .open-met .ensures D (s .running) (s .facts) lent entries (kept .running) (kept .running-few) rows (noted .indexed) in
     (unrest D s (sym met ∙ not-true _ (c .if2 .taken)), λ z. absurd (omega arith))
 
 slice-write-index : tie.Need-slice-write-index
@@ -28,16 +28,16 @@ same-length-2 : tie.Need-same-length-2
 same-length-2 c = search needs
 
 returns-2 : tie.Need-returns-2
-returns-2 c D variables sorts parts s keys held lent kept entries rows noted =
-    let a = c .before .before .before .before .before .before .before .before .before .before .before .args in
-    let met = c .before .open-met .ensures D variables sorts parts (s .running) (s .facts) lent entries (kept .running) (kept .running-few) rows keys held (noted .indexed) in
+returns-2 c D s lent kept entries rows noted =
+    let a = c .before .before .before .before .before .before .before .before .before .args in
+    let met = c .before .open-met .ensures D (s .running) (s .facts) lent entries (kept .running) (kept .running-few) rows (noted .indexed) in
     let all-hold = sym met ∙ not-false _ (c .if2 .left) in
-    (rests D s kept all-hold, λ z. noted-set (a .arities .now) keys held D (a .index .now) s noted all-hold)
+    (rests D s kept all-hold, λ z. noted-set (a .head .now) D (a .index .now) s noted all-hold)
 
 returns-3 : tie.Need-returns-3
-returns-3 c D variables sorts parts s keys held lent kept entries rows noted =
-    let a = c .before .before .before .before .before .before .before .before .args in
-    (rests D s kept (noted .settled (c .if1 .left)), λ z. noted-rest (a .arities .now) keys held D (a .index .now) s noted)
+returns-3 c D s lent kept entries rows noted =
+    let a = c .before .before .before .before .before .before .args in
+    (rests D s kept (noted .settled (c .if1 .left)), λ z. noted-rest (a .head .now) D (a .index .now) s noted)
 
 pub rest-spec : {M : Type 1} → statement M
 rest-spec =

@@ -18,15 +18,15 @@ slice-aggregate-put-bytes : tie.Need-slice-aggregate-put-bytes
 slice-aggregate-put-bytes c =
     let a = c .before .before .before .before .args in
     let p = c .before .before .before .before .pre in
-    let l = length-take-le (8 * a .n) (a .rows .now) (p .4) in
+    let l = length-take-le (8 * a .n) (a .rows .now) (p .1 .1 .1 .1) in
     omega arith
 
 put-bytes-requires : tie.Need-put-bytes-requires
 put-bytes-requires c κs =
     let a = c .before .before .before .before .args in
     let p = c .before .before .before .before .pre in
-    let l = length-take-le (8 * a .n) (a .rows .now) (p .4) in
-    let r = p .3 in
+    let l = length-take-le (8 * a .n) (a .rows .now) (p .1 .1 .1 .1) in
+    let r = p .1 .1 .1 .0 in
     omega arith
 
 mul-put-zeros : tie.Need-mul-put-zeros
@@ -47,7 +47,7 @@ returns c =
     let p = c .before .before .before .before .before .before .before .before .before .before .before .before .pre in
     let rows : List ℕ = take (8 * a .n) (a .rows .now) in
     let more : ℕ = 8 * a .held - 8 * a .n in
-    let l = length-take-le (8 * a .n) (a .rows .now) (p .4) in
+    let l = length-take-le (8 * a .n) (a .rows .now) (p .1 .1 .1 .1) in
     c .before .before .put-zeros .ensures
     ∙ ap (λ (w : List ℕ). paste w (8 * a .n) (replicate more 0) more) (c .before .before .before .before .before .before .before .put-bytes .ensures ∙ paste-front rows (a .work .now) _ refl)
     ∙ over-paste rows (a .work .now) (replicate more 0) (8 * a .n) more l (length-replicate more 0)
