@@ -20,7 +20,7 @@ extern "C" {
  *    9 to 23  not well-formed. First place: the offset of the faulty record (9: 0; no closing record:
  *             file_len).
  *   30        report_len is under 4 bytes a moment. Places 0, 0, 0.
- *   31        witness_len is under 8 bytes a fact. Places 0, 0, 0.
+ *   31        witness_len is under 8 bytes a fact, where a witness is written. Places 0, 0, 0.
  *   40 to 43  refused: heavy, unbalanced, unbounded, bounded beside an unbounded journey's end. Places:
  *             action, class, moment.
  *
@@ -29,7 +29,8 @@ extern "C" {
  *    0, 1, 43  the report: 4 bytes a moment (action, class, moment, name 1 to 7), in that order of
  *              sorting, from report[0] on
  *   40 to 42   the report, and the witness: 8 bytes a fact (relation, arity, arguments, FF to fill),
- *              from witness[0] on
+ *              from witness[0] on; but the report alone where the place named is an end whose class
+ *              has an over-all literal
  *    9 to 31   nothing
  *
  * All other bytes of report and witness stay as they were, and the file stays as it was. No length is

@@ -27,7 +27,7 @@ use Rattle.classes.specs.Classes.{withRole, literalsAt, overAll}
 use Rattle.classes.proofs.Clauses.{any-role}
 use Rattle.classes.proofs.Indices.{all-filter}
 use Rattle.verdict.specs.Binding.{bind}
-use Rattle.verdict.specs.Machine.{GroundAction, Event, eventFacts, conditionsHold, overAllHold}
+use Rattle.verdict.specs.Machine.{GroundAction, Event, eventFacts, ownHold, overAllHold}
 use Rattle.store.specs.Rows.{factRow}
 use Rattle.events.specs.Coded.{groundRow, GroundFits, boundRow, clauseFor, timeOf}
 use Rattle.applicability.specs.Conditions.{conditionMet, rowMet, asked}
@@ -136,8 +136,8 @@ row-asks t arities g fs l k h =
 -- ---- what an action asks
 
 module _ (D : Domain) (g : GroundAction) (fs : List Fact) where
-  event-asks : (m : Moment) → conditionsHold D fs (record { moment = m; ground = g }) ≡ all (asks (timeOf m) g fs) (action D (g .action) .lits)
-  unfolding conditionsHold
+  event-asks : (m : Moment) → ownHold D fs (record { moment = m; ground = g }) ≡ all (asks (timeOf m) g fs) (action D (g .action) .lits)
+  unfolding ownHold
   event-asks m =
       let e : Event = record { moment = m; ground = g } in
       let ls = action D (g .action) .lits in
@@ -160,11 +160,11 @@ module _ (D : Domain) (g : GroundAction) (fs : List Fact) where
   asked-all AtEnd = event-asks End
 
 -- an event's conditions are what its action asks at its time
-pub asked-event : (D : Domain) (e : Event) (fs : List Fact) → asked D (timeOf (e .moment)) (e .ground) fs ≡ conditionsHold D fs e
+pub asked-event : (D : Domain) (e : Event) (fs : List Fact) → asked D (timeOf (e .moment)) (e .ground) fs ≡ ownHold D fs e
 unfolding asked
 asked-event D e fs = go (e .moment)
   where
-    go : (m : Moment) → asked D (timeOf m) (e .ground) fs ≡ conditionsHold D fs (record { moment = m; ground = e .ground })
+    go : (m : Moment) → asked D (timeOf m) (e .ground) fs ≡ ownHold D fs (record { moment = m; ground = e .ground })
     go Start = refl
     go End = refl
 

@@ -8,7 +8,7 @@ use Rattle.literals.specs.declared.Time.the-variants.{AtStart, OverAll, AtEnd}
 use Rattle.literals.specs.Domain.{Fact, Domain}
 use Rattle.literals.specs.Decode.{byte}
 use Rattle.classes.specs.declared.Moment.the-variants.{Start, End}
-use Rattle.verdict.specs.Machine.{GroundAction, conditionsHold, overAllHold}
+use Rattle.verdict.specs.Machine.{GroundAction, ownHold, overAllHold}
 use Rattle.store.specs.Rows.{hasRow}
 use Rattle.events.specs.Coded.{boundRow, clauseFor}
 
@@ -22,9 +22,9 @@ unfoldable pub rowMet : Time → List ℕ → List ℕ → List (List ℕ) → L
 unfolding clauseFor boundRow conditionMet
 rowMet t head ground facts row = conditionMet (clauseFor t (byte row 0)) (boundRow head ground row) facts
 
--- the same without rows: what an action asks of the facts at the start, over all, or at the end
+-- the same without rows: what an action asks of the facts at the start, over all, or at the end, each its own
 unfoldable pub asked : Domain → Time → GroundAction → List Fact → Bool
-unfolding conditionsHold overAllHold
-asked D AtStart g fs = conditionsHold D fs (record { moment = Start; ground = g })
+unfolding ownHold overAllHold
+asked D AtStart g fs = ownHold D fs (record { moment = Start; ground = g })
 asked D OverAll g fs = overAllHold D fs g
-asked D AtEnd g fs = conditionsHold D fs (record { moment = End; ground = g })
+asked D AtEnd g fs = ownHold D fs (record { moment = End; ground = g })

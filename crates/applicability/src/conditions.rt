@@ -19,7 +19,7 @@ ghost use Rattle.literals.specs.Decode.{byte};
 ghost use Rattle.literals.specs.Table.{rowsIn};
 ghost use Rattle.literals.specs.Held.{arityIn, Held};
 ghost use Rattle.classes.specs.Classes.{momentNumber};
-ghost use Rattle.verdict.specs.Machine.{GroundAction, Event, conditionsHold, overAllHold};
+ghost use Rattle.verdict.specs.Machine.{GroundAction, Event, ownHold, overAllHold};
 ghost use Rattle.store.specs.Index.{Indexed};
 ghost use Rattle.store.specs.Rows.{factRow};
 ghost use Rattle.events.specs.Coded.{groundRow, openOf, waitingOf, GroundFits, GroundsFit, EventsFit};
@@ -137,7 +137,7 @@ pub fn ground_met(
     )
 }
 
-// Whether they meet the conditions of the waiting event i.
+// Whether they meet the waiting event i's own conditions.
 fn event_met(
     head: &Head,
     table: &[u8],
@@ -158,7 +158,7 @@ fn event_met(
         → Held D (now (head .entry)) (now (table .entry)) → GroundFits D (e .ground)
         → getD (now (moments .entry)) i 0 ≡ momentNumber (e .moment) → take 17 (drop (17 * i) (now (rows .entry))) ≡ groundRow (e .ground)
         → rowsIn n (now (work .entry)) ≡ map factRow fs
-        → Indexed (now (head .entry)) (now (index .entry)) (map factRow fs) → r ≡ conditionsHold D fs e) ⌝ }
+        → Indexed (now (head .entry)) (now (index .entry)) (map factRow fs) → r ≡ ownHold D fs e) ⌝ }
 {
     let at = 17 * i;
     let end = at + 17;
@@ -173,7 +173,7 @@ fn event_met(
     )
 }
 
-// Whether they meet the conditions of every waiting event.
+// Whether they meet every waiting event's own conditions. (An end's over-all ones are asked of everything open.)
 pub fn events_met(
     head: &Head,
     table: &[u8],
@@ -193,7 +193,7 @@ pub fn events_met(
         → Held D (now (head .entry)) (now (table .entry))
         → record { count = count; moments = now (moments .entry); rows = now (rows .entry) } ≡ waitingOf es → EventsFit D es
         → length es ≤ 16 → rowsIn n (now (work .entry)) ≡ map factRow fs
-        → Indexed (now (head .entry)) (now (index .entry)) (map factRow fs) → r ≡ all (conditionsHold D fs) es) ⌝ }
+        → Indexed (now (head .entry)) (now (index .entry)) (map factRow fs) → r ≡ all (ownHold D fs) es) ⌝ }
 {
     if 16 < count {
         return false;

@@ -41,23 +41,38 @@ pub record Names : Type 0 where
       ≡ role AtStart Positive ∷ role AtStart Negative ∷ role AtStart Add ∷ role AtStart Delete
       ∷ role OverAll Positive ∷ role OverAll Negative
       ∷ role AtEnd Positive ∷ role AtEnd Negative ∷ role AtEnd Add ∷ role AtEnd Delete ∷ []
-  -- an over-all true condition counts at the end: without it this end would be unbounded
+  -- an over-all true condition doesn't balance the end, which its own would; no witness is written for an end whose class has an over-all literal
   pub over-all-at-end : judge (library (lasting 3 ++ holdsOverAll (at 0 1) ++ addsAtEnd (at 0 2) ++ deletesAtEnd (at 0 1)))
-      ≡ answers 0 0 0 0 (row 0 0 0 irrelevant ++ row 0 0 1 balanced) []
-  -- it doesn't count at the start, which would be balanced by it, nor is it in the start's witness
+      ≡ answers 42 0 0 1 (row 0 0 0 irrelevant ++ row 0 0 1 unbounded) []
+  -- nor does it count at the start, or stand in the start's witness, which is written
   pub over-all-not-at-start : judge (library (lasting 2 ++ adds (at 0 1) ++ holdsOverAll (at 0 1)))
       ≡ answers 42 0 0 0 (row 0 0 0 unbounded ++ row 0 0 1 irrelevant) (held (at 0 2))
-  -- a literal in roles 4 and 6 counts once: twice would make the end unreachable; its fact is in the witness once
+  -- a literal in roles 4 and 6 counts once: twice would make the end unreachable
   pub over-all-and-end-once : judge (library (lasting 3 ++ holdsOverAll (at 0 1) ++ holdsAtEnd (at 0 1) ++ addsAtEnd (at 0 2)))
-      ≡ answers 41 0 0 1 (row 0 0 0 irrelevant ++ row 0 0 1 unbalanced) (held (at 0 1))
+      ≡ answers 41 0 0 1 (row 0 0 0 irrelevant ++ row 0 0 1 unbalanced) []
   -- two over-all true conditions of the class make its end unreachable
   pub over-all-unreachable : judge (library (lasting 3 ++ holdsOverAll (at 0 1) ++ holdsOverAll (at 0 2) ++ addsAtEnd (at 0 2)))
       ≡ answers 0 0 0 0 (row 0 0 0 irrelevant ++ row 0 0 1 unreachable) []
+  -- so does one with an own one: without it this end would be balanced
+  pub over-all-and-own-unreachable : judge (library (lasting 3 ++ holdsOverAll (at 0 1) ++ holdsAtEnd (at 0 2) ++ deletesAtEnd (at 0 2) ++ addsAtEnd (at 0 1)))
+      ≡ answers 0 0 0 0 (row 0 0 0 irrelevant ++ row 0 0 1 unreachable) []
+  -- an over-all true condition leaves an end's own balance as it is: here they are of two classes
+  pub over-all-beside-balanced : judge (library (lasting 4 ++ holdsOverAll (at 3 1) ++ holdsAtEnd (at 0 1) ++ deletesAtEnd (at 0 1) ++ addsAtEnd (at 0 2)))
+      ≡ answers 0 0 0 0 (row 0 0 0 irrelevant ++ row 0 0 1 irrelevant ++ row 0 1 0 irrelevant ++ row 0 1 1 balanced) []
+  -- a heavy end writes no witness either
+  pub over-all-heavy : judge (library (lasting 4 ++ holdsOverAll (at 0 1) ++ addsAtEnd (at 0 2) ++ addsAtEnd (at 0 3)))
+      ≡ answers 40 0 0 1 (row 0 0 0 irrelevant ++ row 0 0 1 heavy) []
+  -- an over-all literal of another class: the witness is written, and the over-all true condition is in it
+  pub over-all-elsewhere : judge (library (lasting 4 ++ holdsOverAll (at 2 3) ++ addsAtEnd (at 0 1)))
+      ≡ answers 42 0 1 1 (row 0 0 0 irrelevant ++ row 0 0 1 irrelevant ++ row 0 1 0 irrelevant ++ row 0 1 1 unbounded) (held (at 2 3) ++ held (at 0 4))
+  -- a journey's end looks at its own conditions only
+  pub journey-over-all : judge (vessels (lasting 1 ++ holds (full 0) ++ deletes (full 0) ++ holdsOverAll (full 0) ++ addsAtEnd (empty 0)))
+      ≡ answers 1 0 0 0 (row 0 0 0 irrelevant ++ row 0 0 1 unbounded) []
   -- a false condition covers its component
   pub false-covers : judge (vessels (atOnce 1 ++ adds (full 0) ++ lacks (empty 0))) ≡ answers 0 0 0 0 (row 0 0 0 bounded) []
-  -- at the end an over-all one does
-  pub over-all-false-covers : judge (vessels (lasting 1 ++ lacksOverAll (empty 0) ++ addsAtEnd (full 0)))
-      ≡ answers 0 0 0 0 (row 0 0 0 irrelevant ++ row 0 0 1 bounded) []
+  -- an over-all one doesn't, and it too is an over-all literal of the class: no witness is written
+  pub over-all-false-covers-not : judge (vessels (lasting 1 ++ lacksOverAll (empty 0) ++ addsAtEnd (full 0)))
+      ≡ answers 42 0 0 1 (row 0 0 0 irrelevant ++ row 0 0 1 unbounded) []
   -- "a name that stands only at the other moment doesn't exclude its fact"
   pub other-moment-covers-not : judge (vessels (lasting 1 ++ deletes (empty 0) ++ addsAtEnd (full 0)))
       ≡ answers 42 0 0 1 (row 0 0 0 irrelevant ++ row 0 0 1 unbounded) (held (empty 0))
@@ -161,8 +176,13 @@ names =
       over-all-not-at-start = refl;
       over-all-and-end-once = refl;
       over-all-unreachable = refl;
+      over-all-and-own-unreachable = refl;
+      over-all-beside-balanced = refl;
+      over-all-heavy = refl;
+      over-all-elsewhere = refl;
+      journey-over-all = refl;
       false-covers = refl;
-      over-all-false-covers = refl;
+      over-all-false-covers-not = refl;
       other-moment-covers-not = refl;
       other-class-covers-not = refl;
       two-volumes = refl;
@@ -209,6 +229,11 @@ pub record Room : Type 0 where
   -- a witness without facts, and 43, which writes none, need no room for it
   pub no-fact : judging m4 (lent 4) [] ≡ leaves 40 0 0 0 (row 0 0 0 heavy) []
   pub no-witness : judging m10 (lent 12) [] ≡ leaves 43 0 0 0 (row 0 0 0 bounded ++ row 1 0 0 irrelevant ++ row 1 0 1 unbounded) []
+  -- so does an end whose class has an over-all literal: 31 isn't tested
+  pub no-witness-over-all : judging (library (lasting 3 ++ holdsOverAll (at 0 1) ++ addsAtEnd (at 0 2))) (lent 8) []
+      ≡ leaves 42 0 0 1 (row 0 0 0 irrelevant ++ row 0 0 1 unbounded) []
+  -- but for its report: 30
+  pub over-all-report-short : judging (library (lasting 3 ++ holdsOverAll (at 0 1) ++ addsAtEnd (at 0 2))) (lent 7) [] ≡ leaves 30 0 0 0 (lent 7) []
   -- 43 is decided after 30
   pub bounded-short : judging m10 (lent 11) [] ≡ leaves 30 0 0 0 (lent 11) []
   -- a file that isn't well-formed is refused whatever is lent
@@ -226,6 +251,8 @@ room =
       just-enough = refl;
       no-fact = refl;
       no-witness = refl;
+      no-witness-over-all = refl;
+      over-all-report-short = refl;
       bounded-short = refl;
       refused-first = refl;
       nothing-lent = refl;

@@ -69,6 +69,38 @@ watched x = event 1 6 (x ∷ [])
 abbrev sleep : ℕ → List ℕ
 sleep x = event 0 7 (x ∷ [])
 
+abbrev slept : ℕ → List ℕ
+slept x = event 1 7 (x ∷ [])
+
+-- a lasting job of two variables that has lit(x) true over all and deletes it at its end; its events have 8 bytes
+abbrev jobs : List ℕ
+jobs = relation 1 ++ (lasting 2 ++ holdsOverAll (lit 0) ++ deletesAtEnd (lit 0)) ++ component (lit 0) ++ closing
+
+-- a held move: a volume is at(x,from) over all, which the end deletes, adding at(x,to); its events have 9 bytes
+abbrev moves : List ℕ
+moves = relation 2 ++ (lasting 3 ++ holdsOverAll (at 0 1) ++ deletesAtEnd (at 0 1) ++ addsAtEnd (at 0 2)) ++ component (at 0 FF) ++ closing
+
+abbrev carry : ℕ → ℕ → ℕ → ℕ → List ℕ
+carry m x from to = event m 0 (x ∷ from ∷ to ∷ [])
+
+-- lit[FF]: a lasting action lacks lit(x) over all and adds it at its end
+abbrev counted : List ℕ
+counted = relation 1 ++ (lasting 1 ++ lacksOverAll (lit 0) ++ addsAtEnd (lit 0)) ++ component (lit FF) ++ closing
+
+-- full[0], empty[0]: filling lacks empty(x) over all and adds full(x) at its end, emptying the other way round
+abbrev fillings : List ℕ
+fillings =
+    relation 1
+    ++ relation 1
+    ++ (lasting 1 ++ lacksOverAll (1 ∷ 0 ∷ []) ++ addsAtEnd (0 ∷ 0 ∷ []))
+    ++ (lasting 1 ++ lacksOverAll (0 ∷ 0 ∷ []) ++ addsAtEnd (1 ∷ 0 ∷ []))
+    ++ component (0 ∷ 0 ∷ [])
+    ++ component (1 ∷ 0 ∷ [])
+    ++ closing
+
+abbrev work : ℕ → ℕ → ℕ → List ℕ
+work m x worker = event m 0 (x ∷ worker ∷ [])
+
 -- one step of these events, from these start facts, with three objects
 abbrev step : List ℕ → List ℕ → List ℕ
 step facts events = objects 3 ++ facts ++ events ++ closeStep ++ closeRun
@@ -146,9 +178,29 @@ pub record Steps : Type 0 where
   pub other-objects : play lamps (step (fact (lit 1)) (light 0 ++ snuff 1)) ≡ plays 1 1 (held (lit 0)) 33
   pub conditions-alone : play lamps (step (fact (lit 1)) (hide 0 ++ see 1)) ≡ plays 1 1 (held (lit 1)) 33
   pub added-twice : play lamps (step [] (both 0 1 ++ light 0)) ≡ plays 1 1 (held (lit 1) ++ held (lit 0)) 28
-  -- an end's over-all conditions interfere; a start's don't, nor need they hold
-  pub end-interferes : play lamps (objects 3 ++ fact (lit 0) ++ watch 0 ++ closeStep ++ watched 0 ++ snuff 0 ++ closeStep ++ closeRun)
-      ≡ stops 56 36 1 1 (held (lit 0)) rest
+  -- an end's over-all conditions don't interfere: they must hold before the step; a start's don't either, nor need they hold
+  pub end-over-all-free : play lamps (objects 3 ++ fact (lit 0) ++ watch 0 ++ closeStep ++ watched 0 ++ snuff 0 ++ closeStep ++ closeRun)
+      ≡ plays 2 1 [] 44
+  pub end-over-all-added : play lamps (objects 3 ++ sleep 0 ++ closeStep ++ slept 0 ++ light 0 ++ closeStep ++ closeRun) ≡ plays 2 1 (held (lit 0)) 38
+  -- 55 where they don't, at the end's own step
+  pub end-over-all-fails : play lamps (objects 3 ++ fact (lit 0) ++ watch 0 ++ closeStep ++ snuff 0 ++ closeStep ++ watched 0 ++ closeStep ++ closeRun)
+      ≡ stops 55 40 2 1 [] rest
+  -- two jobs that need an entry throughout, and strike it at their ends, may end together
+  pub jobs-accepted : decidedFile jobs ≡ record { number = 0; first = 0; second = 0; third = 0 }
+  pub ends-together : play jobs (objects 3 ++ fact (lit 0) ++ work 0 0 1 ++ work 0 0 2 ++ closeStep ++ work 1 0 1 ++ work 1 0 2 ++ closeStep ++ closeRun) ≡ plays 2 1 [] 55
+  -- but not one after the other
+  pub ends-apart : play jobs (objects 3 ++ fact (lit 0) ++ work 0 0 1 ++ work 0 0 2 ++ closeStep ++ work 1 0 1 ++ closeStep ++ work 1 0 2 ++ closeStep ++ closeRun)
+      ≡ stops 55 51 2 1 [] rest
+  -- an over-all condition balances no end and covers nothing: two ends together would break such templates
+  pub moves-refused : decidedFile moves ≡ record { number = 42; first = 0; second = 0; third = 1 }
+  pub moved-together : play moves (objects 4 ++ fact (at 0 1) ++ carry 0 0 1 2 ++ carry 0 0 1 3 ++ closeStep ++ carry 1 0 1 2 ++ carry 1 0 1 3 ++ closeStep ++ closeRun)
+      ≡ plays 2 2 (held (at 0 2) ++ held (at 0 3)) 60
+  pub fillings-refused : decidedFile fillings ≡ record { number = 42; first = 0; second = 0; third = 1 }
+  pub filled-and-emptied : play fillings (objects 1 ++ event 0 0 (0 ∷ []) ++ event 0 1 (0 ∷ []) ++ closeStep ++ event 1 0 (0 ∷ []) ++ event 1 1 (0 ∷ []) ++ closeStep ++ closeRun)
+      ≡ plays 2 2 (held (0 ∷ 0 ∷ []) ++ held (1 ∷ 0 ∷ [])) 45
+  pub counted-refused : decidedFile counted ≡ record { number = 42; first = 0; second = 0; third = 1 }
+  pub counted-together : play counted (objects 2 ++ event 0 0 (0 ∷ []) ++ event 0 0 (1 ∷ []) ++ closeStep ++ event 1 0 (0 ∷ []) ++ event 1 0 (1 ∷ []) ++ closeStep ++ closeRun)
+      ≡ plays 2 2 (held (lit 0) ++ held (lit 1)) 45
   pub start-free : play lamps (step [] (watch 0 ++ light 0)) ≡ plays 1 1 (held (lit 0)) 27
   -- 55: a true condition, a false condition
   pub true-fails : play lamps (step [] (see 0)) ≡ stops 55 12 0 0 [] rest
@@ -252,7 +304,18 @@ steps =
       other-objects = refl;
       conditions-alone = refl;
       added-twice = refl;
-      end-interferes = refl;
+      end-over-all-free = refl;
+      end-over-all-added = refl;
+      end-over-all-fails = refl;
+      jobs-accepted = refl;
+      ends-together = refl;
+      ends-apart = refl;
+      moves-refused = refl;
+      moved-together = refl;
+      fillings-refused = refl;
+      filled-and-emptied = refl;
+      counted-refused = refl;
+      counted-together = refl;
       start-free = refl;
       true-fails = refl;
       false-fails = refl;

@@ -5,17 +5,19 @@ use mathlib.Core.Logic.{_⊎_, inl, inr}
 use mathlib.Core.List.{List, [], _++_, map, flatMap}
 use Prim.Native.Nat.{ℕ, suc, _+_, _-_, _*_, _≤_, _<_}
 use native.Mathlib.Omega.{arith}
-use lib.Dec.{eqb, leb}
+use lib.Dec.{eqb, ltb, leb}
 use lib.ListN.{length, getD, replicate, length-map, List·getD-append}
-use borrow.Author.Tests.{eq-eqb, ne-eqb, eqb-true, eqb-false, le-leb, lt-leb, ltb-true}
+use borrow.Author.Tests.{eq-eqb, ne-eqb, eqb-true, eqb-false, le-leb, lt-leb, leb-true, leb-false, ltb-true}
 use Rattle.records.specs.Lists.{In, filterBy, countBy, any, all, elem}
-use Rattle.records.proofs.Lists.{below-in, bool-cases, not-true, getD-in, all-in, any-map, all-map, any-append, count-filter}
+use Rattle.records.proofs.Lists.{allBelow, below-in, bool-cases, not-true, getD-in, all-in, any-map, all-map, any-append, count-filter}
 use Rattle.literals.specs.declared.Variable.{Variable}
 use Rattle.literals.specs.declared.Label.{Label}
 use Rattle.literals.specs.declared.Label.the-variants.{Key as keyed, Counted}
+use Rattle.literals.specs.declared.Time.the-variants.{OverAll}
 use Rattle.literals.specs.declared.Clause.{Clause}
 use Rattle.literals.specs.declared.Clause.the-variants.{Positive, Negative, Add, Delete}
-use Rattle.literals.specs.Domain.{Atom, sameLiteral, clauseNumber, Literal, Action, Component, isCounted, keyBelow, keysOf, Domain}
+use Rattle.literals.specs.declared.Role.{Role}
+use Rattle.literals.specs.Domain.{Atom, sameLiteral, clauseNumber, roleNumber, roleOf, sameTime, Literal, Action, Component, isCounted, keyBelow, keysOf, Domain}
 use Rattle.literals.specs.Table.{literalRow, labelNumber, pad, Bounded as BoundedDomain}
 use Rattle.literals.specs.Held.{arityIn, partIn, HeadOf}
 use Rattle.literals.proofs.Bytes.{keys-below}
@@ -26,11 +28,12 @@ use Rattle.classes.specs.declared.Moment.{Moment}
 use Rattle.classes.specs.declared.Moment.the-variants.{Start, End}
 use Rattle.classes.specs.declared.Name.the-variants.{Unreachable, Irrelevant, Heavy, Balanced, Unbalanced, Bounded, Unbounded}
 use Rattle.classes.specs.declared.Sole.{Sole}
-use Rattle.classes.specs.Classes.{tuplesOf, belongs, classes, inClass, deletedBy, changedBy, covered, excluding, nameBy, nameOf, journey}
-use Rattle.classes.specs.Coded.{MomentOf, position, classNumberBy, classNumbers, clausesAt, uncoveredAt, below, isAt, isSameAt, sameIn, changedAt, excludesAt, coveredAt, lackingAt, soleBy, soleAt, soleOf}
+use Rattle.classes.specs.Classes.{required, tuplesOf, belongs, classes, inClass, reachIn, lastsIn, deletedBy, changedBy, covered, excluding, nameBy, nameOf, journey}
+use Rattle.classes.specs.Coded.{ActionOf, MomentOf, position, classNumberBy, classNumbers, clausesAt, askedAt, uncoveredAt, below, isAt, isSameAt, sameIn, changedAt, excludesAt, coveredAt, lackingAt, lastsAt, soleBy, soleAt, soleOf, reachAt}
 use Rattle.classes.proofs.Indices.{at-all, any-below, filter-below, position-below, any-filter, all-filter, filter-filter, filter-map, any-or, position-map, position-none, getD-map}
-use Rattle.classes.proofs.Rows.{literalAt, relation-at, atoms-at}
-use Rattle.classes.proofs.Clauses.{literals-at, clauses-few}
+use Rattle.classes.proofs.Rows.{noLiteral, literalAt, kept-at, role-at, relation-at, atoms-at}
+use Rattle.classes.proofs.Clauses.{clauses-few, literals-at, required-at, asked-start}
+use Rattle.classes.proofs.Roles.{own-few}
 use Rattle.classes.proofs.Members.{member}
 use Rattle.classes.proofs.Soles.{sole-none, sole-many, sole-one, sole-less, sole-passes, sole-all}
 
@@ -140,21 +143,38 @@ module _ (D : Domain) (a : Action) (B : BoundedDomain D) (i : In a (D .actions))
   abbrev isMember : ℕ → ℕ → Bool
   isMember clause = isAt (classNumbers D a) clauses k clause
 
-  in-class : (c : Clause) → inClass D a x m c ≡ map atom (filterBy (isMember (suc (clauseNumber c))) (below n))
-  unfolding inClass isAt
-  in-class c =
-      ap (filterBy (belongs D x)) (literals-at a m c)
+  -- of literals that are those with the clause d
+  class-members : (d : ℕ) (is : List ℕ) (ls : List (Atom Variable)) → ls ≡ map atom (filterBy (λ j. eqb (getD is j 0) d) (below n))
+      → filterBy (belongs D x) ls ≡ map atom (filterBy (isAt (classNumbers D a) (pad 64 is) k d) (below n))
+  unfolding isAt
+  class-members d is ls e =
+      ap (filterBy (belongs D x)) e
       ∙ filter-map atom (belongs D x) (filterBy counted (below n))
       ∙ ap (map atom) (filter-filter counted (λ j. belongs D x (atom j)) (below n))
-      ∙ ap (map atom) (filter-below (λ j. counted j && belongs D x (atom j)) (isMember (suc (clauseNumber c))) n agree)
+      ∙ ap (map atom) (filter-below (λ j. counted j && belongs D x (atom j)) (isAt (classNumbers D a) (pad 64 is) k d) n agree)
     where
       counted : ℕ → Bool
-      counted j = eqb (getD (clausesAt a m) j 0) (suc (clauseNumber c))
+      counted j = eqb (getD is j 0) d
 
-      agree : (j : ℕ) → j < n → counted j && belongs D x (atom j) ≡ isMember (suc (clauseNumber c)) j
+      agree : (j : ℕ) → j < n → counted j && belongs D x (atom j) ≡ isAt (classNumbers D a) (pad 64 is) k d j
       agree j g =
           and-comm (counted j) (belongs D x (atom j))
-          ∙ ap₂ _&&_ (sym (member k B i h j g)) (ap (λ (d : ℕ). eqb d (suc (clauseNumber c))) (sym (pad-at 64 (clausesAt a m) j)))
+          ∙ ap₂ _&&_ (sym (member k B i h j g)) (ap (λ (c : ℕ). eqb c d) (sym (pad-at 64 is j)))
+
+  in-class : (c : Clause) → inClass D a x m c ≡ map atom (filterBy (isMember (suc (clauseNumber c))) (below n))
+  unfolding inClass
+  in-class c = class-members (suc (clauseNumber c)) (clausesAt a m) _ (literals-at a m c)
+
+  -- those towards unreachable
+  abbrev isAsked : ℕ → Bool
+  isAsked = isAt (classNumbers D a) (pad 64 (askedAt a m)) k 1
+
+  reach-in : reachIn D a x m ≡ map atom (filterBy isAsked (below n))
+  unfolding reachIn
+  reach-in = class-members 1 (askedAt a m) (required a m Positive) (required-at a m Positive)
+
+  reach-count : countBy isAsked (below n) ≡ length (reachIn D a x m)
+  reach-count = count-filter isAsked (below n) ∙ sym (length-map (filterBy isAsked (below n)) atom) ∙ ap length (sym reach-in)
 
   -- how many there are
   count-in : (c : Clause) → countBy (isMember (suc (clauseNumber c))) (below n) ≡ length (inClass D a x m c)
@@ -203,6 +223,21 @@ module _ (D : Domain) (a : Action) (B : BoundedDomain D) (i : In a (D .actions))
 
   pub many-in : (c : Clause) → soleAt (classNumbers D a) clauses k (suc (clauseNumber c)) ≡ 255 → 2 ≤ length (inClass D a x m c)
   many-in c e = let h = sole-many (isMember (suc (clauseNumber c))) n few (sym (sole-in c) ∙ e) in let g = count-in c in omega arith
+
+  -- two or more towards unreachable, or fewer
+  reach-sole : soleAt (classNumbers D a) (pad 64 (askedAt a m)) k 1 ≡ soleBy isAsked n
+  unfolding soleAt
+  reach-sole = ap (soleBy isAsked) length-numbers
+
+  pub reach-many : soleAt (classNumbers D a) (pad 64 (askedAt a m)) k 1 ≡ 255 → 2 ≤ length (reachIn D a x m)
+  reach-many e = let u = sole-many isAsked n few (sym reach-sole ∙ e) in let g = reach-count in omega arith
+
+  pub reach-few : (soleAt (classNumbers D a) (pad 64 (askedAt a m)) k 1 ≡ 255 → ⊥) → length (reachIn D a x m) ≤ 1
+  reach-few e = go (bool-cases (eqb (soleBy isAsked n) 0))
+    where
+      go : (eqb (soleBy isAsked n) 0 ≡ true) ⊎ (eqb (soleBy isAsked n) 0 ≡ false) → length (reachIn D a x m) ≤ 1
+      go (inl t) = let u = sole-none isAsked n few (eqb-true _ _ t) in let g = reach-count in omega arith
+      go (inr t) = let u = sole-one isAsked n few (eqb-false _ _ t) (λ z. e (reach-sole ∙ z)) in let g = reach-count in omega arith
 
   module _ (c : Clause) (some : soleAt (classNumbers D a) clauses k (suc (clauseNumber c)) ≡ 0 → ⊥) (not-many : soleAt (classNumbers D a) clauses k (suc (clauseNumber c)) ≡ 255 → ⊥) where
     counted-one : countBy (isMember (suc (clauseNumber c))) (below n) ≡ 1
@@ -256,7 +291,7 @@ module _ (D : Domain) (a : Action) (B : BoundedDomain D) (i : In a (D .actions))
 
       agree : (j : ℕ) → j < n → excludesAt rows (classNumbers D a) clauses k r j ≡ with 2 j || (with 3 j || with 4 j)
       agree j g =
-          let s : getD clauses j 0 ≤ 4 = rw (pad-at 64 (clausesAt a m) j) (clauses-few a m j g) in
+          let s : getD clauses j 0 ≤ 4 = rw (pad-at 64 (clausesAt a m) j) (clauses-few false a m j g) in
           ap₂ (λ (e t : Bool). eqb (getD (classNumbers D a) j 0) k && (e && t)) (clause-excludes (getD clauses j 0) s) (ap (eqb r) (relation-at (a .lits) kept-in j g))
           ∙ each-clause (eqb (getD (classNumbers D a) j 0) k) (eqb (getD clauses j 0) 2) (eqb (getD clauses j 0) 3) (eqb (getD clauses j 0) 4) (q (atom j))
 
@@ -353,71 +388,127 @@ sole-inside of clauses class h e some few =
     let c = ap (λ (r : Sole). r .conditions) e in
     rw c (sole-less (isAt of clauses class 1) (length of) h (λ w. some (c ∙ w)) (λ w. few (c ∙ w)))
 
--- ---- names, by how many true conditions and adds there are
+-- ---- whether a class has an over-all literal
 
-module _ (c n : ℕ) (ch v : Bool) where
-  by-unreachable : 2 ≤ c → nameBy c c n ch v ≡ Unreachable
-  unfolding nameBy
-  by-unreachable h = rw (le-leb 2 c h)
+lasts-byte : (l : Literal) → Kept l → leb 4 (roleNumber (l .role)) && ltb (roleNumber (l .role)) 6 ≡ sameTime OverAll (l .role .time)
+unfolding roleOf
+lasts-byte l k =
+    let g = k .small in
+    bool-eq _ _ (below-in 10 (λ b. sameBool (leb 4 b && ltb b 6) (sameTime OverAll (roleOf b .time))) ranges (roleNumber (l .role)) (omega arith))
+    ∙ ap (λ (r : Role). sameTime OverAll (r .time)) (k .back)
+  where
+    ranges : allBelow 10 (λ b. sameBool (leb 4 b && ltb b 6) (sameTime OverAll (roleOf b .time))) ≡ true
+    ranges = refl
 
-  by-irrelevant : c ≤ 1 → n ≡ 0 → nameBy c c n ch v ≡ Irrelevant
-  unfolding nameBy
-  by-irrelevant h e = rw (lt-leb 2 c (omega arith), eq-eqb n 0 e)
+pub lasts-held : {D : Domain} {a : Action} {head rows of : List ℕ} → ActionOf D a head rows → of ≡ classNumbers D a → {k : ℕ} → k < length (classes D a)
+    → any (lastsAt rows of k) (below (length of)) ≡ lastsIn D a (getD (classes D a) k [])
+unfolding lastsAt lastsIn
+lasts-held {D} {a} {head} {rows} {of} A f {k} h =
+    ap₂ (λ (r o : List ℕ). any (lastsAt r o k) (below (length o))) (A .literals) f
+    ∙ ap (λ (l : ℕ). any (lastsAt (flatMap literalRow (a .lits)) (classNumbers D a) k) (below l)) (length-numbers D a B i Start k h)
+    ∙ any-below (lastsAt (flatMap literalRow (a .lits)) (classNumbers D a) k) (λ j. test (literalAt (a .lits) j)) (length (a .lits)) agree
+    ∙ sym (any-map (literalAt (a .lits)) test (below (length (a .lits))))
+    ∙ ap (any test) (at-all noLiteral (a .lits))
+  where
+    B : BoundedDomain D
+    B = A .says .bounded
 
-  by-heavy : c ≤ 1 → 2 ≤ n → nameBy c c n ch v ≡ Heavy
-  unfolding nameBy
-  by-heavy h g = rw (lt-leb 2 c (omega arith), ne-eqb n 0 (λ e. omega arith), le-leb 2 n g)
+    i : In a (D .actions)
+    i = A .listed
 
-  by-changed : c ≡ 1 → n ≡ 1 → nameBy c c n ch v ≡ cond ch Balanced Unbalanced
-  unfolding nameBy
-  by-changed h g = rw (lt-leb 2 c (omega arith), ne-eqb n 0 (λ e. omega arith), lt-leb 2 n (omega arith), eq-eqb c 1 h)
+    test : Literal → Bool
+    test l = sameTime OverAll (l .role .time) && belongs D (getD (classes D a) k []) (l .atom)
 
-  by-covered : c ≡ 0 → n ≡ 1 → nameBy c c n ch v ≡ cond v Bounded Unbounded
+    agree : (j : ℕ) → j < length (a .lits) → lastsAt (flatMap literalRow (a .lits)) (classNumbers D a) k j ≡ test (literalAt (a .lits) j)
+    agree j g =
+        ap₂ _&&_ (member k B i h j g)
+        (ap (λ (b : ℕ). leb 4 b && ltb b 6) (role-at (a .lits) (λ l n. kept B i n) j g) ∙ lasts-byte (literalAt (a .lits) j) (kept-at (a .lits) (λ l n. kept B i n) j g))
+        ∙ and-comm (belongs D (getD (classes D a) k []) (literalAt (a .lits) j .atom)) (sameTime OverAll (literalAt (a .lits) j .role .time))
+
+-- ---- names, by how many true conditions towards unreachable, own true conditions and adds there are
+
+module _ (r c n : ℕ) (ch v : Bool) where
+  by-unreachable : 2 ≤ r → nameBy r c n ch v ≡ Unreachable
   unfolding nameBy
-  by-covered h g = rw (lt-leb 2 c (omega arith), ne-eqb n 0 (λ e. omega arith), lt-leb 2 n (omega arith), ne-eqb c 1 (λ e. omega arith))
+  by-unreachable h = rw (le-leb 2 r h)
+
+  by-irrelevant : r ≤ 1 → n ≡ 0 → nameBy r c n ch v ≡ Irrelevant
+  unfolding nameBy
+  by-irrelevant h e = rw (lt-leb 2 r (omega arith), eq-eqb n 0 e)
+
+  by-heavy : r ≤ 1 → 2 ≤ n → nameBy r c n ch v ≡ Heavy
+  unfolding nameBy
+  by-heavy h g = rw (lt-leb 2 r (omega arith), ne-eqb n 0 (λ e. omega arith), le-leb 2 n g)
+
+  by-changed : r ≤ 1 → c ≡ 1 → n ≡ 1 → nameBy r c n ch v ≡ cond ch Balanced Unbalanced
+  unfolding nameBy
+  by-changed f h g = rw (lt-leb 2 r (omega arith), ne-eqb n 0 (λ e. omega arith), lt-leb 2 n (omega arith), eq-eqb c 1 h)
+
+  by-covered : r ≤ 1 → c ≡ 0 → n ≡ 1 → nameBy r c n ch v ≡ cond v Bounded Unbounded
+  unfolding nameBy
+  by-covered f h g = rw (lt-leb 2 r (omega arith), ne-eqb n 0 (λ e. omega arith), lt-leb 2 n (omega arith), ne-eqb c 1 (λ e. omega arith))
 
 name-is : (D : Domain) (a : Action) (x : List Variable) (m : Moment) → nameOf D a x m
-    ≡ nameBy (length (inClass D a x m Positive)) (length (inClass D a x m Positive)) (length (inClass D a x m Add))
+    ≡ nameBy (length (reachIn D a x m)) (length (inClass D a x m Positive)) (length (inClass D a x m Add))
     (all (changedBy (inClass D a x m Add) (inClass D a x m Delete)) (inClass D a x m Positive)) (eqb (uncoveredAt D a x m) (length (D .template)))
-unfolding nameOf uncoveredAt inClass
+unfolding nameOf uncoveredAt
 name-is D a x m =
-    ap (nameBy (length (inClass D a x m Positive)) (length (inClass D a x m Positive)) (length (inClass D a x m Add))
+    ap (nameBy (length (reachIn D a x m)) (length (inClass D a x m Positive)) (length (inClass D a x m Add))
     (all (changedBy (inClass D a x m Add) (inClass D a x m Delete)) (inClass D a x m Positive)))
     (sym (position-none (covered (excluding D a x m)) (D .template)))
 
--- ---- the name of a class, as the code finds it
+-- ---- the name of a class, as the code finds it: `reach` tells which of its literals is asked as a true condition
 
-module _ {D : Domain} {a : Action} {m : Moment} {head rows of clauses : List ℕ} (M : MomentOf D a m head rows of clauses) {k : ℕ} (h : k < length (classes D a)) {sole : Sole} (s : sole ≡ soleOf of clauses k) where
-  pub unreachable-named : sole .conditions ≡ 255 → Unreachable ≡ nameOf D a (getD (classes D a) k []) m
-  unreachable-named z = sym (name-is D a (getD (classes D a) k []) m ∙ by-unreachable _ _ _ _ (many-conditions M h s z))
+module _ {D : Domain} {a : Action} {m : Moment} {head rows of clauses : List ℕ} (M : MomentOf D a m head rows of clauses) {k : ℕ} (h : k < length (classes D a)) {sole : Sole} (s : sole ≡ soleOf of clauses k)
+    {reach : ℕ} (r : reach ≡ reachAt D a m k) where
+  pub unreachable-named : reach ≡ 255 → Unreachable ≡ nameOf D a (getD (classes D a) k []) m
+  unfolding reachAt
+  unreachable-named z = sym (name-is D a (getD (classes D a) k []) m ∙ by-unreachable _ _ _ _ _ (reach-many D a (its-bounds M) (M .whole .listed) m k h (sym r ∙ z)))
 
-  module _ (few : sole .conditions ≡ 255 → ⊥) where
-    few-conditions : length (inClass D a (getD (classes D a) k []) m Positive) ≤ 1
-    few-conditions = go (bool-cases (eqb (sole .conditions) 0))
-      where
-        go : (eqb (sole .conditions) 0 ≡ true) ⊎ (eqb (sole .conditions) 0 ≡ false) → length (inClass D a (getD (classes D a) k []) m Positive) ≤ 1
-        go (inl t) = let n = no-conditions M h s (eqb-true _ _ t) in omega arith
-        go (inr t) = let n = one-condition M h s (eqb-false _ _ t) few in omega arith
+  -- two own true conditions are enough
+  pub own-unreachable-named : sole .conditions ≡ 255 → Unreachable ≡ nameOf D a (getD (classes D a) k []) m
+  own-unreachable-named z =
+      sym (name-is D a (getD (classes D a) k []) m ∙ by-unreachable _ _ _ _ _ (go (bool-cases (leb 2 (length (reachIn D a (getD (classes D a) k []) m))))))
+    where
+      go : (leb 2 (length (reachIn D a (getD (classes D a) k []) m)) ≡ true) ⊎ (leb 2 (length (reachIn D a (getD (classes D a) k []) m)) ≡ false) → 2 ≤ length (reachIn D a (getD (classes D a) k []) m)
+      go (inl t) = leb-true _ _ t
+      go (inr t) =
+          let u = leb-false 2 (length (reachIn D a (getD (classes D a) k []) m)) t in
+          let v = own-few D a (getD (classes D a) k []) m (omega arith) in
+          let w = many-conditions M h s z in absurd (omega arith)
+
+  module _ (rare : reach ≡ 255 → ⊥) (few : sole .conditions ≡ 255 → ⊥) where
+    few-asked : length (reachIn D a (getD (classes D a) k []) m) ≤ 1
+    unfolding reachAt
+    few-asked = reach-few D a (its-bounds M) (M .whole .listed) m k h (λ z. rare (r ∙ z))
 
     pub irrelevant-named : sole .adds ≡ 0 → Irrelevant ≡ nameOf D a (getD (classes D a) k []) m
-    irrelevant-named z = sym (name-is D a (getD (classes D a) k []) m ∙ by-irrelevant _ _ _ _ few-conditions (no-adds M h s z))
+    irrelevant-named z = sym (name-is D a (getD (classes D a) k []) m ∙ by-irrelevant _ _ _ _ _ few-asked (no-adds M h s z))
 
     pub heavy-named : sole .adds ≡ 255 → Heavy ≡ nameOf D a (getD (classes D a) k []) m
-    heavy-named z = sym (name-is D a (getD (classes D a) k []) m ∙ by-heavy _ _ _ _ few-conditions (many-adds M h s z))
+    heavy-named z = sym (name-is D a (getD (classes D a) k []) m ∙ by-heavy _ _ _ _ _ few-asked (many-adds M h s z))
 
     module _ (added : sole .adds ≡ 0 → ⊥) (light : sole .adds ≡ 255 → ⊥) where
       pub changed-named : (sole .conditions ≡ 0 → ⊥) → (t : Bool) → changedAt rows of clauses k (sole .conditions - 1) ≡ t → cond t Balanced Unbalanced ≡ nameOf D a (getD (classes D a) k []) m
       changed-named some t c =
           sym (name-is D a (getD (classes D a) k []) m
-          ∙ by-changed _ _ _ _ (one-condition M h s some few) (one-add M h s added light)
+          ∙ by-changed _ _ _ _ _ few-asked (one-condition M h s some few) (one-add M h s added light)
           ∙ ap (λ (b : Bool). cond b Balanced Unbalanced) (sym (changed-held M h s some few) ∙ c))
 
       pub covered-named : sole .conditions ≡ 0 → (u n : ℕ) → u ≡ uncoveredAt D a (getD (classes D a) k []) m → n ≡ length (D .template) → (t : Bool) → eqb u n ≡ t
           → cond t Bounded Unbounded ≡ nameOf D a (getD (classes D a) k []) m
-      covered-named none u n p q t c =
+      covered-named none u n p z t c =
           sym (name-is D a (getD (classes D a) k []) m
-          ∙ by-covered _ _ _ _ (no-conditions M h s none) (one-add M h s added light)
-          ∙ ap (λ (b : Bool). cond b Bounded Unbounded) (ap₂ eqb (sym p) (sym q) ∙ c))
+          ∙ by-covered _ _ _ _ _ few-asked (no-conditions M h s none) (one-add M h s added light)
+          ∙ ap (λ (b : Bool). cond b Bounded Unbounded) (ap₂ eqb (sym p) (sym z) ∙ c))
+
+-- what is asked at a start is its own
+pub asked-at-start : {D : Domain} {a : Action} {head rows of clauses : List ℕ} → MomentOf D a Start head rows of clauses → (k : ℕ) {sole : Sole} → sole ≡ soleOf of clauses k
+    → sole .conditions ≡ reachAt D a Start k
+unfolding reachAt
+asked-at-start {D} {a} M k s =
+    ap (λ (r : Sole). r .conditions) s
+    ∙ ap₂ (λ (o c : List ℕ). soleAt o c k 1) (M .numbers) (M .clauses-are ∙ ap (pad 64) (sym (asked-start a)))
 
 -- ---- whether it is a journey
 

@@ -5,6 +5,7 @@ pub mod Numbering
 pub mod Indices
 pub mod Rows
 pub mod Clauses
+pub mod Roles
 pub mod Members
 pub mod Soles
 pub mod Decides

@@ -1,5 +1,5 @@
 -- Classes of an action: matching, key tuples, moments, the seven names, journeys. Assumes nothing.
-use mathlib.Core.Bool.{Bool, true, false, _&&_, _||_, not, cond}
+use mathlib.Core.Bool.{Bool, _&&_, _||_, not, cond}
 use mathlib.Core.List.{List, [], _∷_, _++_, flatMap}
 use Prim.Native.Nat.{ℕ, zero, suc}
 use lib.Dec.{eqb, leb}
@@ -74,11 +74,6 @@ abbrev pub ownTime : Moment → Time
 ownTime Start = AtStart
 ownTime End = AtEnd
 
--- whether a moment's conditions include the over-all ones
-abbrev pub endsOverAll : Moment → Bool
-endsOverAll Start = false
-endsOverAll End = true
-
 -- a role of a moment's own
 abbrev pub own : Moment → Clause → Role → Bool
 own m c r = sameTime (ownTime m) (r .time) && sameClause c (r .clause)
@@ -87,23 +82,29 @@ own m c r = sameTime (ownTime m) (r .time) && sameClause c (r .clause)
 abbrev pub overAll : Clause → Role → Bool
 overAll c r = sameTime OverAll (r .time) && sameClause c (r .clause)
 
+-- a role that is asked at a moment: "An end's conditions are its own and the over-all ones"
+abbrev pub asked : Moment → Clause → Role → Bool
+asked Start c r = own Start c r
+asked End c r = own End c r || overAll c r
+
 -- the atoms of the literals whose role passes a test, in file order
 abbrev pub withRole : (Role → Bool) → List Literal → List (Atom Variable)
 withRole p [] = []
 withRole p (l ∷ ls) = keepIf (p (l .role)) (l .atom) (withRole p ls)
 
--- the action's literals of one clause at one moment, in file order: "An end's conditions are its own and the over-all ones, a literal in both counting once." Adds and deletes have no over-all role
+-- the action's own literals of one clause at one moment, in file order
 unfoldable pub literalsAt : Action → Moment → Clause → List (Atom Variable)
-literalsAt a m c = dedup sameLiteral (withRole (λ r. own m c r || (endsOverAll m && overAll c r)) (a .lits))
+literalsAt a m c = dedup sameLiteral (withRole (own m c) (a .lits))
 
--- the conditions that a witness lists
-abbrev pub required : Action → Moment → Clause → List (Atom Variable)
-required = literalsAt
+-- what is asked at a moment, in file order, "a literal in both counting once": what must hold in the state that the step is taken from, and what a witness lists. Adds and deletes have no over-all role
+unfoldable pub required : Action → Moment → Clause → List (Atom Variable)
+required a m c = dedup sameLiteral (withRole (asked m c) (a .lits))
 
--- the true conditions that count towards unreachable, and the literals that count towards every other name
+-- the true conditions that count towards unreachable: "they count towards unreachable and towards nothing else"
 abbrev pub countedForReach : Action → Moment → List (Atom Variable)
-countedForReach a m = literalsAt a m Positive
+countedForReach a m = required a m Positive
 
+-- the literals that count towards every other name, and for journeys: the moment's own
 abbrev pub countedForName : Action → Moment → Clause → List (Atom Variable)
 countedForName = literalsAt
 
@@ -122,6 +123,16 @@ classes D a = dedup (sameList sameVariable) (flatMap (λ (l : Literal). tuplesOf
 unfoldable pub inClass : Domain → Action → List Variable → Moment → Clause → List (Atom Variable)
 unfolding hasTuple literalsAt
 inClass D a x m c = filterBy (belongs D x) (countedForName a m c)
+
+-- the class's true conditions towards unreachable
+unfoldable pub reachIn : Domain → Action → List Variable → Moment → List (Atom Variable)
+unfolding hasTuple required
+reachIn D a x m = filterBy (belongs D x) (countedForReach a m)
+
+-- the class has an over-all literal
+unfoldable pub lastsIn : Domain → Action → List Variable → Bool
+unfolding hasTuple
+lastsIn D a x = any (λ (l : Literal). sameTime OverAll (l .role .time) && belongs D x (l .atom)) (a .lits)
 
 -- ---- the seven names
 
@@ -162,9 +173,9 @@ excluding D a x m = inClass D a x m Negative ++ (inClass D a x m Add ++ inClass 
 
 -- the name of the class x at a moment
 unfoldable pub nameOf : Domain → Action → List Variable → Moment → Name
-unfolding inClass excluding nameBy literalsAt hasTuple
+unfolding inClass reachIn excluding nameBy
 nameOf D a x m =
-    nameBy (length (filterBy (belongs D x) (countedForReach a m))) (length (inClass D a x m Positive)) (length (inClass D a x m Add))
+    nameBy (length (reachIn D a x m)) (length (inClass D a x m Positive)) (length (inClass D a x m Add))
     (all (changedBy (inClass D a x m Add) (inClass D a x m Delete)) (inClass D a x m Positive))
     (all (covered (excluding D a x m)) (D .template))
 

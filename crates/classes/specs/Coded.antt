@@ -8,6 +8,7 @@ use lib.ListN.{length, getD, take, drop, replicate}
 use lib.Seq.{paste}
 use Rattle.records.specs.Lists.{In, any, pairwise, sameList}
 use Rattle.literals.specs.declared.Variable.{Variable}
+use Rattle.literals.specs.declared.Clause.{Clause}
 use Rattle.literals.specs.declared.Role.{Role}
 use Rattle.literals.specs.Domain.{sameVariable, sameLiteral, clauseNumber, Literal, Action, Domain}
 use Rattle.literals.specs.Decode.{byte, repeats}
@@ -17,7 +18,7 @@ use Rattle.classes.specs.declared.Moment.{Moment}
 use Rattle.classes.specs.declared.Moment.the-variants.{Start, End}
 use Rattle.classes.specs.declared.Sole.{Sole}
 use Rattle.classes.specs.declared.number.Numbered.{Numbered}
-use Rattle.classes.specs.Classes.{tuplesOf, own, overAll, endsOverAll, classes, covered, excluding}
+use Rattle.classes.specs.Classes.{tuplesOf, own, asked, classes, covered, excluding}
 
 -- ---- class numbers
 
@@ -87,24 +88,36 @@ unfoldable pub tuplesAfter : List (List ℕ) → ℕ → List ℕ → List ℕ
 tuplesAfter [] count tuples = tuples
 tuplesAfter (t ∷ ts) count tuples = cond (eqb (position (sameList eqb t) (rowsIn count tuples)) count) (paste tuples (8 * count) t 8) tuples
 
--- ---- what a literal is at a moment
+-- ---- what a literal is at a moment: of a moment's own literals, or (wide) of all that are asked there, an end's over-all conditions too
+
+-- the roles that count in a clause
+abbrev pub counts : Bool → Moment → Clause → Role → Bool
+counts wide m c r = cond wide (asked m c r) (own m c r)
 
 -- 1 to 4 for a true condition, false condition, add or delete of the moment, 0 for none
-abbrev pub clauseAt : Moment → Role → ℕ
-clauseAt m r = cond (own m (r .clause) r || (endsOverAll m && overAll (r .clause) r)) (suc (clauseNumber (r .clause))) 0
+abbrev pub clauseAt : Bool → Moment → Role → ℕ
+clauseAt wide m r = cond (counts wide m (r .clause) r) (suc (clauseNumber (r .clause))) 0
 
 -- the same, 0 where an earlier literal of the same clause at that moment has the same atom: "a literal in both counting once"
-abbrev pub clauseOnce : Moment → List Literal → Literal → ℕ
-clauseOnce m earlier l =
-    cond (any (λ (k : Literal). eqb (clauseAt m (k .role)) (clauseAt m (l .role)) && sameLiteral (k .atom) (l .atom)) earlier) 0 (clauseAt m (l .role))
+abbrev pub clauseOnce : Bool → Moment → List Literal → Literal → ℕ
+clauseOnce wide m earlier l =
+    cond (any (λ (k : Literal). eqb (clauseAt wide m (k .role)) (clauseAt wide m (l .role)) && sameLiteral (k .atom) (l .atom)) earlier) 0 (clauseAt wide m (l .role))
 
-abbrev pub clausesFrom : Moment → List Literal → List Literal → List ℕ
-clausesFrom m earlier [] = []
-clausesFrom m earlier (l ∷ ls) = clauseOnce m earlier l ∷ clausesFrom m (earlier ++ (l ∷ [])) ls
+abbrev pub clausesFrom : Bool → Moment → List Literal → List Literal → List ℕ
+clausesFrom wide m earlier [] = []
+clausesFrom wide m earlier (l ∷ ls) = clauseOnce wide m earlier l ∷ clausesFrom wide m (earlier ++ (l ∷ [])) ls
 
 -- for each literal of an action, in file order
-unfoldable pub clausesAt : Action → Moment → List ℕ
-clausesAt a m = clausesFrom m [] (a .lits)
+unfoldable pub clausesBy : Bool → Action → Moment → List ℕ
+clausesBy wide a m = clausesFrom wide m [] (a .lits)
+
+-- of its own: what names, journeys and components are told by
+abbrev pub clausesAt : Action → Moment → List ℕ
+clausesAt = clausesBy false
+
+-- of those that are asked: what unreachable is told by, and what a witness lists
+abbrev pub askedAt : Action → Moment → List ℕ
+askedAt = clausesBy true
 
 -- no literal is "repeated in its role", as reading has it
 abbrev pub noRepeats : Action → Bool
@@ -126,9 +139,9 @@ abbrev pub below : ℕ → List ℕ
 below n = numbersFrom 0 n
 
 -- the clause at a moment of a role byte
-unfoldable pub clauseByte : Moment → ℕ → ℕ
-clauseByte Start r = cond (ltb r 4) (r + 1) 0
-clauseByte End r = cond (ltb r 4) 0 (cond (ltb r 6) (r - 3) (cond (ltb r 10) (r - 5) 0))
+unfoldable pub clauseByte : Bool → Moment → ℕ → ℕ
+clauseByte wide Start r = cond (ltb r 4) (r + 1) 0
+clauseByte wide End r = cond (ltb r 4) 0 (cond (ltb r 6) (cond wide (r - 3) 0) (cond (ltb r 10) (r - 5) 0))
 
 abbrev pub rowAt : List ℕ → ℕ → List ℕ
 rowAt rows i = take 8 (drop (8 * i) rows)
@@ -138,21 +151,21 @@ unfoldable pub sameAtomAt : List ℕ → ℕ → ℕ → Bool
 sameAtomAt rows i j = sameList eqb (drop 1 (rowAt rows i)) (drop 1 (rowAt rows j))
 
 -- the row i has this clause at the moment, and the atom of the row j
-unfoldable pub saysAt : List ℕ → Moment → ℕ → ℕ → ℕ → Bool
+unfoldable pub saysAt : Bool → List ℕ → Moment → ℕ → ℕ → ℕ → Bool
 unfolding clauseByte sameAtomAt
-saysAt rows m clause j i = eqb (clauseByte m (getD rows (8 * i) 0)) clause && sameAtomAt rows i j
+saysAt wide rows m clause j i = eqb (clauseByte wide m (getD rows (8 * i) 0)) clause && sameAtomAt rows i j
 
--- whether literals of different roles have this clause at the moment: an end's conditions are its own and the over-all ones
-abbrev pub mayMeet : Moment → ℕ → Bool
-mayMeet Start clause = false
-mayMeet End clause = not (eqb clause 0) && ltb clause 3
+-- whether literals of different roles have this clause at the moment: what is asked at an end are its own conditions and the over-all ones
+abbrev pub mayMeet : Bool → Moment → ℕ → Bool
+mayMeet wide Start clause = false
+mayMeet wide End clause = wide && (not (eqb clause 0) && ltb clause 3)
 
 -- the clause of the row j at the moment, 0 where an earlier row says it, which is asked of such clauses alone
-unfoldable pub clauseIn : List ℕ → Moment → ℕ → ℕ
+unfoldable pub clauseIn : Bool → List ℕ → Moment → ℕ → ℕ
 unfolding clauseByte saysAt
-clauseIn rows m j =
-    let clause = clauseByte m (getD rows (8 * j) 0) in
-    cond (mayMeet m clause && any (saysAt rows m clause j) (below j)) 0 clause
+clauseIn wide rows m j =
+    let clause = clauseByte wide m (getD rows (8 * j) 0) in
+    cond (mayMeet wide m clause && any (saysAt wide rows m clause j) (below j)) 0 clause
 
 -- the row j is in this class with this clause
 unfoldable pub isAt : List ℕ → List ℕ → ℕ → ℕ → ℕ → Bool
@@ -188,6 +201,10 @@ unfoldable pub lackingAt : List ℕ → List ℕ → List ℕ → List ℕ → �
 unfolding componentsIn coveredAt
 lackingAt head rows of clauses class = position (λ c. not (coveredAt head rows of clauses class c)) (below (componentsIn head))
 
+-- the row j is an over-all literal of the class: roles 4 and 5
+unfoldable pub lastsAt : List ℕ → List ℕ → ℕ → ℕ → Bool
+lastsAt rows of class j = eqb (getD of j 0) class && (leb 4 (getD rows (8 * j) 0) && ltb (getD rows (8 * j) 0) 6)
+
 -- ---- which literals pass a test: 0 for none, k + 1 for the literal k alone, 255 for more
 
 -- with the literal j, which passes or does not
@@ -208,6 +225,11 @@ soleAt of clauses class clause = soleBy (isAt of clauses class clause) (length o
 -- the true conditions and the adds of a class
 abbrev pub soleOf : List ℕ → List ℕ → ℕ → Sole
 soleOf of clauses class = record { conditions = soleAt of clauses class 1; adds = soleAt of clauses class 3 }
+
+-- which literal of a class is asked as a true condition at a moment: 255 says that it is unreachable there
+unfoldable pub reachAt : Domain → Action → Moment → ℕ → ℕ
+unfolding classNumbers clausesBy soleAt
+reachAt D a m class = soleAt (classNumbers D a) (pad 64 (askedAt a m)) class 1
 
 -- ---- what the code's memories hold of an action
 

@@ -21,18 +21,21 @@ ghost use Rattle.literals.specs.Table.{pad};
 ghost use Rattle.literals.specs.Held.{partIn};
 ghost use Rattle.classes.specs.declared.Moment.{Moment};
 ghost use Rattle.classes.specs.declared.Moment.the-variants.{Start, End};
-ghost use Rattle.classes.specs.Classes.{classes, nameOf, journey};
-ghost use Rattle.classes.specs.Coded.{ActionOf, MomentOf, Sides, clausesAt, classNumbers, uncoveredAt, below, clauseByte, mayMeet, sameAtomAt, saysAt, clauseIn, isAt, isSameAt, sameIn, changedAt, excludesAt, coveredAt, lackingAt, soleMore, soleAt, soleOf};
+ghost use Rattle.classes.specs.Classes.{classes, lastsIn, nameOf, journey};
+ghost use Rattle.classes.specs.Coded.{ActionOf, MomentOf, Sides, clausesBy, clausesAt, classNumbers, uncoveredAt, below, clauseByte, mayMeet, sameAtomAt, saysAt, clauseIn, isAt, isSameAt, sameIn, changedAt, excludesAt, coveredAt, lackingAt, lastsAt, soleMore, soleAt, soleOf, reachAt};
 
-// The clause of a role byte at the end.
-fn clause_at_end(role: u8) -> u8
-    ensures { λ r. ⌜ r ≡ clauseByte End role ⌝ }
+// The clause of a role byte at the end: of the end's own literals, or (wide) of all that is asked there, the over-all conditions too.
+fn clause_at_end(wide: bool, role: u8) -> u8
+    ensures { λ r. ⌜ r ≡ clauseByte wide End role ⌝ }
 {
     if role < 4 {
         return 0;
     }
     if role < 6 {
-        return role - 3;
+        if wide {
+            return role - 3;
+        }
+        return 0;
     }
     if role < 10 {
         return role - 5;
@@ -40,9 +43,9 @@ fn clause_at_end(role: u8) -> u8
     0
 }
 
-// 1 to 4 for a true condition, false condition, add or delete of the moment, 0 for none: of a role byte.
-pub fn clause_at(m: Moment, role: u8) -> u8
-    ensures { λ r. ⌜ r ≡ clauseByte m role ⌝ }
+// 1 to 4 for a true condition, false condition, add or delete of the moment, 0 for none: of a role byte. Wide or of its own as above.
+pub fn clause_at(wide: bool, m: Moment, role: u8) -> u8
+    ensures { λ r. ⌜ r ≡ clauseByte wide m role ⌝ }
 {
     match m {
         Moment::Start => {
@@ -51,7 +54,7 @@ pub fn clause_at(m: Moment, role: u8) -> u8
             }
             0
         },
-        Moment::End => clause_at_end(role),
+        Moment::End => clause_at_end(wide, role),
     }
 }
 
@@ -67,36 +70,39 @@ fn rows_agree(rows: &[u8], i: usize, j: usize) -> bool
 }
 
 // Whether the row `i` has this clause at the moment, and the atom of the row `j`.
-fn says(rows: &[u8], m: Moment, clause: u8, j: usize, i: usize) -> bool
+fn says(wide: bool, rows: &[u8], m: Moment, clause: u8, j: usize, i: usize) -> bool
     requires { ⌜ (8 * i + 8 ≤ length (now rows)) × (8 * j + 8 ≤ length (now rows)) ⌝ }
-    ensures { λ r. ⌜ r ≡ saysAt (now (rows .entry)) m clause j i ⌝ }
+    ensures { λ r. ⌜ r ≡ saysAt wide (now (rows .entry)) m clause j i ⌝ }
 {
-    if clause_at(m, rows[8 * i]) == clause {
+    if clause_at(wide, m, rows[8 * i]) == clause {
         return rows_agree(rows, i, j);
     }
     false
 }
 
 // Whether a row before `j` says the same.
-fn earlier_same(rows: &[u8], m: Moment, clause: u8, j: usize) -> bool
+fn earlier_same(wide: bool, rows: &[u8], m: Moment, clause: u8, j: usize) -> bool
     requires { ⌜ 8 * j + 8 ≤ length (now rows) ⌝ }
-    ensures { λ r. ⌜ r ≡ any (saysAt (now (rows .entry)) m clause j) (below j) ⌝ }
+    ensures { λ r. ⌜ r ≡ any (saysAt wide (now (rows .entry)) m clause j) (below j) ⌝ }
 {
     for i in 0..j {
-        if says(rows, m, clause, j, i) {
+        if says(wide, rows, m, clause, j, i) {
             return true;
         }
     }
     false
 }
 
-// Whether literals of different roles have this clause at the moment: an end's conditions are its own and the over-all ones.
-fn may_meet(m: Moment, clause: u8) -> bool
-    ensures { λ r. ⌜ r ≡ mayMeet m clause ⌝ }
+// Whether literals of different roles have this clause at the moment: what is asked at an end is its own conditions and the over-all ones.
+fn may_meet(wide: bool, m: Moment, clause: u8) -> bool
+    ensures { λ r. ⌜ r ≡ mayMeet wide m clause ⌝ }
 {
     match m {
         Moment::Start => false,
         Moment::End => {
+            if !wide {
+                return false;
+            }
             if clause == 0 {
                 return false;
             }
@@ -106,28 +112,29 @@ fn may_meet(m: Moment, clause: u8) -> bool
 }
 
 // The clause of the row `j` at the moment, 0 where an earlier row says it. (Literals of one role are never the same.)
-fn clause_once(rows: &[u8], m: Moment, j: usize) -> u8
+fn clause_once(wide: bool, rows: &[u8], m: Moment, j: usize) -> u8
     requires { ⌜ 8 * j + 8 ≤ length (now rows) ⌝ }
-    ensures { λ r. ⌜ r ≡ clauseIn (now (rows .entry)) m j ⌝ }
+    ensures { λ r. ⌜ r ≡ clauseIn wide (now (rows .entry)) m j ⌝ }
 {
-    let clause = clause_at(m, rows[8 * j]);
-    if !may_meet(m, clause) {
+    let clause = clause_at(wide, m, rows[8 * j]);
+    if !may_meet(wide, m, clause) {
         return clause;
     }
-    if earlier_same(rows, m, clause, j) {
+    if earlier_same(wide, rows, m, clause, j) {
         return 0;
     }
     clause
 }
 
-// The clause of each literal at a moment, 0 for none and for one that an earlier literal says already; `clauses` is all 0 before.
-pub fn clauses_at(rows: &[u8], n: usize, m: Moment, clauses: &mut Marks)
+// The clause of each literal at a moment, 0 for none and for one that an earlier literal says already; `clauses` is all 0 before. Of the moment's own
+// literals, which names and journeys are told by, or (wide) of all that is asked there: what unreachable is told by, and what a witness lists.
+pub fn clauses_at(wide: bool, rows: &[u8], n: usize, m: Moment, clauses: &mut Marks)
     requires { ⌜ (length (now rows) ≡ 8 * n) × (n ≤ 64) ⌝ }
     ensures { λ _. ⌜ ((D : Domain) (a : Action) (head : List ℕ) → ActionOf D a head (now (rows .entry))
-        → now (clauses .entry) ≡ pad 64 [] → now (clauses .exit) ≡ pad 64 (clausesAt a m)) ⌝ }
+        → now (clauses .entry) ≡ pad 64 [] → now (clauses .exit) ≡ pad 64 (clausesBy wide a m)) ⌝ }
 {
     for j in 0..n {
-        clauses[j] = clause_once(rows, m, j);
+        clauses[j] = clause_once(wide, rows, m, j);
     }
 }
 
@@ -291,14 +298,26 @@ pub fn first_uncovered(head: &Head, rows: &[u8], of: &[u8], clauses: &Marks, cla
     first_lacking(head, rows, of, clauses, class)
 }
 
-// The name of a class at the moment of these clauses, of its true conditions and adds there. What they do not decide is looked up.
-pub fn name_at(head: &Head, rows: &[u8], of: &[u8], clauses: &Marks, sole: Sole, class: u8) -> Name
+// The name of a class at the moment of these clauses: of its true conditions that are asked there (`reach`), which count towards unreachable alone, and of
+// its own true conditions and adds. What they do not decide is looked up.
+pub fn name_at(
+    head: &Head,
+    rows: &[u8],
+    of: &[u8],
+    clauses: &Marks,
+    reach: u8,
+    sole: Sole,
+    class: u8,
+) -> Name
     requires { ⌜ Sides (now rows) (now of) × (sole ≡ soleOf (now of) (now clauses) class) ⌝ }
     ensures { λ r. ⌜ ((D : Domain) (a : Action) (m : Moment) → MomentOf D a m (now (head .entry)) (now (rows .entry)) (now (of .entry)) (now (clauses .entry))
-        → class < length (classes D a) → r ≡ nameOf D a (getD (classes D a) class []) m) ⌝ }
+        → class < length (classes D a) → reach ≡ reachAt D a m class → r ≡ nameOf D a (getD (classes D a) class []) m) ⌝ }
 {
     let conditions = sole.conditions;
     let adds = sole.adds;
+    if reach == 255 {
+        return Name::Unreachable;
+    }
     if conditions == 255 {
         return Name::Unreachable;
     }
@@ -318,6 +337,43 @@ pub fn name_at(head: &Head, rows: &[u8], of: &[u8], clauses: &Marks, sole: Sole,
         return Name::Balanced;
     }
     Name::Unbalanced
+}
+
+// Whether the row `j` is an over-all literal of a class.
+fn is_lasting_at(rows: &[u8], of: &[u8], class: u8, j: usize) -> bool
+    requires { ⌜ Sides (now rows) (now of) × (j < length (now of)) ⌝ }
+    ensures { λ r. ⌜ r ≡ lastsAt (now (rows .entry)) (now (of .entry)) class j ⌝ }
+{
+    if of[j] != class {
+        return false;
+    }
+    let role = rows[8 * j];
+    if role < 4 {
+        return false;
+    }
+    role < 6
+}
+
+// Whether a row is an over-all literal of a class.
+fn any_lasting(rows: &[u8], of: &[u8], class: u8) -> bool
+    requires { ⌜ Sides (now rows) (now of) ⌝ }
+    ensures { λ r. ⌜ r ≡ any (lastsAt (now (rows .entry)) (now (of .entry)) class) (below (length (now (of .entry)))) ⌝ }
+{
+    for j in 0..of.len() {
+        if is_lasting_at(rows, of, class, j) {
+            return true;
+        }
+    }
+    false
+}
+
+// Whether a class of an action has an over-all literal: at its end nothing is shown then.
+pub fn lasts_at(rows: &[u8], of: &[u8], class: u8) -> bool
+    requires { ⌜ Sides (now rows) (now of) ⌝ }
+    ensures { λ r. ⌜ ((D : Domain) (a : Action) (head : List ℕ) → ActionOf D a head (now (rows .entry)) → now (of .entry) ≡ classNumbers D a
+        → class < length (classes D a) → r ≡ lastsIn D a (getD (classes D a) class [])) ⌝ }
+{
+    any_lasting(rows, of, class)
 }
 
 // Whether a class of a lasting action is a journey, of its true conditions and adds at the start, whose clauses these are, and at the end.

@@ -1,6 +1,6 @@
 -- What the events of a step add or strike: the rows that the code collects are those of the machine's facts. Assumes nothing.
 use mathlib.Core.Path.{_≡_, refl, sym, ap, ap₂, _∙_, subst}
-use mathlib.Core.Bool.{Bool, true, false, _||_, _&&_}
+use mathlib.Core.Bool.{Bool, true, false}
 use mathlib.Core.Logic.{_⊎_, inl, inr}
 use mathlib.Core.List.{List, [], _∷_, _++_, map, flatMap, map-append, append-nil, append-assoc, List·Memᴰ·head, List·Memᴰ·tail, List·Memᴰ·not-nil, List·Memᴰ·append-cases}
 use Prim.Native.Nat.{ℕ, suc, _+_, _-_, _*_, _≤_, _<_}
@@ -26,7 +26,7 @@ use Rattle.literals.proofs.Equality.{literal-eq, fact-eq, fact-self}
 use Rattle.literals.proofs.Rows.{part-first, rows-snoc}
 use Rattle.classes.specs.declared.Moment.{Moment}
 use Rattle.classes.specs.declared.Moment.the-variants.{Start, End}
-use Rattle.classes.specs.Classes.{own, endsOverAll, overAll, withRole, literalsAt}
+use Rattle.classes.specs.Classes.{own, withRole, literalsAt}
 use Rattle.classes.proofs.KeyRows.{length-rows}
 use Rattle.verdict.specs.Binding.{Binding, valueOf, bind}
 use Rattle.verdict.specs.Machine.{Event, eventFacts, stepFacts, GroundAction}
@@ -150,7 +150,7 @@ event-at : (D : Domain) (e : Event) (c : Clause) → eventEffects D e c ≡ map 
 unfolding eventEffects
 event-at D e c = go (e .moment)
   where
-    go : (m : Moment) → map (bind (e .ground .binding)) (withRole (λ (r : Role). own m c r || (endsOverAll m && overAll c r)) (action D (e .ground .action) .lits))
+    go : (m : Moment) → map (bind (e .ground .binding)) (withRole (own m c) (action D (e .ground .action) .lits))
         ≡ map (bind (e .ground .binding)) (withRole (countsFor (timeOf m) c) (action D (e .ground .action) .lits))
     go Start = refl
     go End = refl
@@ -264,7 +264,7 @@ event-once : (D : Domain) (e : Event) (c : Clause) → dedup sameFact (eventFact
 unfolding eventFacts eventEffects literalsAt
 event-once D e c =
     dedup-map-dedup (bind (e .ground .binding)) sameLiteral literal-eq sameFact fact-eq fact-self
-    (withRole (λ (r : Role). own (e .moment) c r || (endsOverAll (e .moment) && overAll c r)) (action D (e .ground .action) .lits))
+    (withRole (own (e .moment) c) (action D (e .ground .action) .lits))
 
 pub step-once : (D : Domain) (es : List Event) (c : Clause) → dedup sameFact (stepFacts D es c) ≡ dedup sameFact (stepEffects D es c)
 unfolding stepFacts stepEffects flatMap

@@ -1,6 +1,6 @@
 -- What a step adds and strikes, by the rows of its events' literals. Assumes nothing.
 use mathlib.Core.Path.{_≡_}
-use mathlib.Core.Bool.{Bool, true, false, _&&_, _||_, not, cond}
+use mathlib.Core.Bool.{Bool, true, false, not, cond}
 use mathlib.Core.List.{List, [], _∷_, _++_, map, flatMap}
 use Prim.Native.Nat.{ℕ, suc, _*_, _≤_, _<_}
 use lib.Dec.{eqb, ltb}
@@ -14,7 +14,7 @@ use Rattle.literals.specs.Domain.{Fact, sameFact, Domain, action}
 use Rattle.literals.specs.Decode.{byte}
 use Rattle.literals.specs.Table.{rowsIn}
 use Rattle.literals.specs.Held.{arityIn}
-use Rattle.classes.specs.Classes.{own, endsOverAll, overAll, withRole}
+use Rattle.classes.specs.Classes.{own, withRole}
 use Rattle.verdict.specs.Binding.{bind}
 use Rattle.verdict.specs.Judged.{factBytes}
 use Rattle.verdict.specs.Machine.{Event, stepFacts, factsAfter}
@@ -88,7 +88,7 @@ Marked marks rows = (row : List ℕ) → In row rows → getD marks (byte row 2)
 -- the facts of an event's literals of one clause, one for each literal: those of `eventFacts`, where a literal that stands twice counts twice
 unfoldable pub eventEffects : Domain → Event → Clause → List Fact
 unfolding action
-eventEffects D e c = map (bind (e .ground .binding)) (withRole (λ r. own (e .moment) c r || (endsOverAll (e .moment) && overAll c r)) (action D (e .ground .action) .lits))
+eventEffects D e c = map (bind (e .ground .binding)) (withRole (own (e .moment) c) (action D (e .ground .action) .lits))
 
 -- those of the events of a step
 unfoldable pub stepEffects : Domain → List Event → Clause → List Fact

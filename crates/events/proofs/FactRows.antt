@@ -28,8 +28,7 @@ use Rattle.literals.proofs.Tables.{Kept, kept, length-literal-row, rows-flat, p
 use Rattle.literals.proofs.Spans.{action-listed, span-size, part-literals}
 use Rattle.classes.specs.declared.Moment.{Moment}
 use Rattle.classes.specs.declared.Moment.the-variants.{Start, End}
-use Rattle.classes.specs.Classes.{momentNumber, overAll, withRole, literalsAt}
-use Rattle.classes.proofs.Clauses.{counts}
+use Rattle.classes.specs.Classes.{momentNumber, own, overAll, withRole, literalsAt}
 use Rattle.classes.proofs.Rows.{row-flat}
 use Rattle.classes.proofs.Indices.{any-agree}
 use Rattle.verdict.specs.Binding.{Binding, valueOf, bind}
@@ -134,9 +133,9 @@ bound-fact head g l e k h =
 
 -- the roles that count with a clause at the start, over all, or at the end
 abbrev pub countsFor : Time → Clause → Role → Bool
-countsFor AtStart c r = counts Start c r
+countsFor AtStart c r = own Start c r
 countsFor OverAll c r = overAll c r
-countsFor AtEnd c r = counts End c r
+countsFor AtEnd c r = own End c r
 
 abbrev pub agree : Bool → Bool → Bool
 agree true b = b
@@ -189,13 +188,13 @@ all-once q l = go (bool-cases (all q l))
 -- the literals of a moment, as a test of them sees them
 pub any-literals : (a : Action) (m : Moment) (c : Clause) (q : Atom Variable → Bool) → any q (literalsAt a m c) ≡ any q (withRole (countsFor (timeOf m) c) (a .lits))
 unfolding literalsAt
-any-literals a Start c q = any-once q (withRole (counts Start c) (a .lits))
-any-literals a End c q = any-once q (withRole (counts End c) (a .lits))
+any-literals a Start c q = any-once q (withRole (own Start c) (a .lits))
+any-literals a End c q = any-once q (withRole (own End c) (a .lits))
 
 pub all-literals : (a : Action) (m : Moment) (c : Clause) (q : Atom Variable → Bool) → all q (literalsAt a m c) ≡ all q (withRole (countsFor (timeOf m) c) (a .lits))
 unfolding literalsAt
-all-literals a Start c q = all-once q (withRole (counts Start c) (a .lits))
-all-literals a End c q = all-once q (withRole (counts End c) (a .lits))
+all-literals a Start c q = all-once q (withRole (own Start c) (a .lits))
+all-literals a End c q = all-once q (withRole (own End c) (a .lits))
 
 -- ---- head and table of a domain
 

@@ -2,7 +2,7 @@
 use mathlib.Core.Path.{_≡_}
 use mathlib.Core.Bool.{Bool, true, false, _&&_, not, cond}
 use mathlib.Core.List.{List, [], _∷_, _++_, map, flatMap}
-use Prim.Native.Nat.{ℕ, zero, suc, _+_, _-_, _*_, _≤_, _<_}
+use Prim.Native.Nat.{ℕ, zero, suc, _+_, _-_, _*_, _<_}
 use lib.Dec.{eqb, ltb}
 use lib.ListN.{length, getD, take, drop, replicate}
 use lib.Seq.{paste}
@@ -80,12 +80,12 @@ unfoldable pub boundRow : List ℕ → List ℕ → List ℕ → List ℕ
 unfolding arityIn
 boundRow head ground row = boundBytes (arityIn head (byte row 1)) ground row
 
--- 1 to 4 for a true condition, false condition, add or delete that counts at the start, over all, or at the end; 0 for none
+-- 1 to 4 for a true condition, false condition, add or delete of the start, of over all, or of the end, each its own; 0 for none
 unfoldable pub clauseFor : Time → ℕ → ℕ
 unfolding clauseByte
-clauseFor AtStart r = clauseByte Start r
+clauseFor AtStart r = clauseByte false Start r
 clauseFor OverAll r = cond (ltb r 4) 0 (cond (ltb r 6) (r - 3) 0)
-clauseFor AtEnd r = clauseByte End r
+clauseFor AtEnd r = clauseByte false End r
 
 -- the time of an event's literals, by its moment
 abbrev pub timeOf : Moment → Time

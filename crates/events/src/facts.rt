@@ -69,15 +69,14 @@ fn clause_over_all(role: u8) -> u8
     0
 }
 
-// 1 to 4 for a true condition, false condition, add or delete that counts then, 0 for none: of a role byte. At the end the
-// over-all conditions count too.
+// 1 to 4 for a true condition, false condition, add or delete of that time's own, 0 for none: of a role byte.
 pub fn clause_for(time: Time, role: u8) -> u8
     ensures { λ r. ⌜ r ≡ clauseFor time role ⌝ }
 {
     match time {
-        Time::AtStart => clause_at(Moment::Start, role),
+        Time::AtStart => clause_at(false, Moment::Start, role),
         Time::OverAll => clause_over_all(role),
-        Time::AtEnd => clause_at(Moment::End, role),
+        Time::AtEnd => clause_at(false, Moment::End, role),
     }
 }
 

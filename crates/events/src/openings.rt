@@ -10,7 +10,7 @@ ghost use mathlib.Core.Bool.{true};
 ghost use mathlib.Core.List.{List, _++_};
 ghost use Prim.Native.Nat.{_+_, _*_, _≤_, _<_};
 ghost use lib.Dec.{eqb, leb};
-ghost use lib.ListN.{length, getD, take, drop, replicate};
+ghost use lib.ListN.{length, take, drop, replicate};
 ghost use Rattle.records.specs.Lists.{all, sameList};
 ghost use Rattle.literals.specs.Domain.{Domain};
 ghost use Rattle.literals.specs.Table.{Bounded};
@@ -18,7 +18,7 @@ ghost use Rattle.literals.specs.Held.{HeadOf};
 ghost use Rattle.classes.specs.Coded.{position};
 ghost use Rattle.verdict.specs.Machine.{GroundAction, Event, isOpen, closeAll, openedBy};
 ghost use Rattle.events.specs.Coded.{groundsIn, openOf, waitingOf, GroundsFit, EventsFit};
-ghost use Rattle.events.specs.Coded.{EventRow, eventAt, eventsIn, endOpen, closeEntry, closeEvent, closeEvents};
+ghost use Rattle.events.specs.Coded.{eventAt, eventsIn, endOpen, closeEntry, closeEvent, closeEvents};
 ghost use Rattle.events.specs.Coded.{joinEntry, opensBy, joinEvent, joinEvents};
 ghost use Rattle.store.specs.Rows.{hasRow};
 

@@ -1,13 +1,13 @@
 -- The call of judging, in the shape of the code: what each of its answers leaves. Assumes nothing.
 use mathlib.Core.Path.{_≡_, refl, sym, ap, subst, _∙_}
-use mathlib.Core.Bool.{Bool, true, false, not, cond, true≢false}
+use mathlib.Core.Bool.{Bool, true, false, _&&_, not, cond, true≢false}
 use mathlib.Core.Option.{Option, none, some}
-use mathlib.Core.List.{List}
+use mathlib.Core.List.{List, []}
 use Prim.Native.Nat.{ℕ, _*_, _≤_, _<_}
 use native.Mathlib.Omega.{arith}
 use lib.Dec.{eqb, leb}
-use lib.ListN.{length}
-use borrow.Author.Tests.{lt-ltb, le-ltb, leb-true, leb-false}
+use lib.ListN.{length, getD}
+use borrow.Author.Tests.{lt-ltb, le-ltb, leb-true, leb-false, le-leb, lt-leb}
 use Rattle.records.specs.Lists.{In, any}
 use Rattle.records.specs.Memory.{over}
 use Rattle.records.proofs.Lists.{and-l, and-r}
@@ -20,7 +20,7 @@ use Rattle.classes.specs.declared.Name.the-variants.{Unreachable, Irrelevant, H
 use Rattle.classes.specs.Classes.{momentNumber, classes, nameOf}
 use Rattle.verdict.specs.declared.Judgement.{Judgement}
 use Rattle.naming.specs.declared.Naming.{Naming}
-use Rattle.verdict.specs.Decision.{Row, rows, isUnbounded, faultBy, faultOf, isFaulty, isBoundedOutside, firstRow, accept, decideBounded, decideBy, decideRows, decision, classAt, witnessAt, witnessOf, witness}
+use Rattle.verdict.specs.Decision.{Row, rows, isUnbounded, faultBy, faultOf, isFaulty, isBoundedOutside, firstRow, accept, decideBounded, decideBy, decideRows, decision, classAt, witnessAt, witnessOf, witness, shownAt, shownOf, isShown}
 use Rattle.verdict.specs.Judged.{rowBytes, factBytes, Answer, answerAt, answerRow, decided, writesWitness, fillsReport, judgedDomain, reportBy, witnessMemoryBy}
 use Rattle.verdict.specs.Coded.{judgementOf, momentBy, notesOf}
 use Rattle.naming.specs.Named.{namingOf}
@@ -75,10 +75,15 @@ pub record Placed (D : Domain) (a : Answer) : Type 0 where
   pub ended : Bool
   pub fault : a .number ≡ faultBy (nameOf D (action D (a .first)) (classAt D (a .first) (a .second)) (momentBy (a .third))) ended
   pub shown : witness D ≡ witnessAt D (action D (a .first)) (classAt D (a .first) (a .second)) (momentBy (a .third))
+  pub written : isShown D ≡ shownAt D (action D (a .first)) (classAt D (a .first) (a .second)) (momentBy (a .third))
 
 witness-by : (D : Domain) → witness D ≡ witnessOf D (decideRows (rows D) .place)
 unfolding witness decision
 witness-by D = refl
+
+shown-by : (D : Domain) → isShown D ≡ shownOf D (decideRows (rows D) .place)
+unfolding isShown decision
+shown-by D = refl
 
 pub placed : (D : Domain) → 40 ≤ decided D .number → decided D .number ≤ 42 → Placed D (decided D)
 placed D lo hi = at (faulty (rows D) (rw (number-is D) at lo) (rw (number-is D) at hi))
@@ -97,6 +102,7 @@ placed D lo hi = at (faulty (rows D) (rw (number-is D) at lo) (rw (number-is D) 
           ended = r .journeyEnd;
           fault = f .number ∙ ap (λ n. faultBy n (r .journeyEnd)) (ap (λ (q : Row). q .name) (s .is) ∙ ap (nameOf D a x) (sym (moment-back (r .moment))));
           shown = witness-by D ∙ ap (witnessOf D) (f .place) ∙ ap (witnessAt D a x) (sym (moment-back (r .moment)));
+          written = shown-by D ∙ ap (shownOf D) (f .place) ∙ ap (shownAt D a x) (sym (moment-back (r .moment)));
         })
 
 -- a decision is 0, 1 or 40 to 43
@@ -136,15 +142,15 @@ module _ (D : Domain) (report wit : List ℕ) where
   unfolding judgedDomain
   short-report h = rw (lt-ltb (length report) (4 * length (rows D)) h)
 
-  short-witness : 4 * length (rows D) ≤ length report → writesWitness (decided D .number) ≡ true → length wit < 8 * length (witness D) → judgedDomain D report wit ≡ answerAt 31 0
+  short-witness : 4 * length (rows D) ≤ length report → writesWitness D (decided D .number) ≡ true → length wit < 8 * length (witness D) → judgedDomain D report wit ≡ answerAt 31 0
   unfolding judgedDomain
   short-witness h w g = rw (le-ltb (length report) (4 * length (rows D)) h, w, lt-ltb (length wit) (8 * length (witness D)) g)
 
-  long-witness : 4 * length (rows D) ≤ length report → writesWitness (decided D .number) ≡ true → 8 * length (witness D) ≤ length wit → judgedDomain D report wit ≡ decided D
+  long-witness : 4 * length (rows D) ≤ length report → writesWitness D (decided D .number) ≡ true → 8 * length (witness D) ≤ length wit → judgedDomain D report wit ≡ decided D
   unfolding judgedDomain
   long-witness h w g = rw (le-ltb (length report) (4 * length (rows D)) h, w, le-ltb (length wit) (8 * length (witness D)) g)
 
-  no-witness : 4 * length (rows D) ≤ length report → writesWitness (decided D .number) ≡ false → judgedDomain D report wit ≡ decided D
+  no-witness : 4 * length (rows D) ≤ length report → writesWitness D (decided D .number) ≡ false → judgedDomain D report wit ≡ decided D
   unfolding judgedDomain
   no-witness h w = rw (le-ltb (length report) (4 * length (rows D)) h, w)
 
@@ -153,21 +159,23 @@ module _ (D : Domain) (report wit : List ℕ) where
   Leaves r u w = JudgedAs (domain D) report wit r u w
 
   by-answer : {r : Judgement} {u w : List ℕ} (a : Answer) → judgedDomain D report wit ≡ a → r ≡ judgementOf a
-      → u ≡ cond (fillsReport (a .number)) (over (rowBytes (rows D)) report) report → w ≡ cond (writesWitness (a .number)) (over (factBytes (witness D)) wit) wit → Leaves r u w
+      → u ≡ cond (fillsReport (a .number)) (over (rowBytes (rows D)) report) report → w ≡ cond (writesWitness D (a .number)) (over (factBytes (witness D)) wit) wit → Leaves r u w
   by-answer a e x y z =
       record {
         answer = x ∙ ap judgementOf (sym e);
         reported = y ∙ ap (λ (b : Answer). cond (fillsReport (b .number)) (over (rowBytes (rows D)) report) report) (sym e);
-        witnessed = z ∙ ap (λ (b : Answer). cond (writesWitness (b .number)) (over (factBytes (witness D)) wit) wit) (sym e);
+        witnessed = z ∙ ap (λ (b : Answer). cond (writesWitness D (b .number)) (over (factBytes (witness D)) wit) wit) (sym e);
       }
 
   pub leaves-30 : {r : Judgement} → length report < 4 * length (rows D) → r ≡ judgementOf (answerAt 30 0) → Leaves r report wit
+  unfolding writesWitness
   leaves-30 h x = by-answer (answerAt 30 0) (short-report h) x refl refl
 
   module _ (h : 4 * length (rows D) ≤ length report) where
     -- 40 to 42: the witness of the named place, which fits or not
-    module _ (writes : writesWitness (decided D .number) ≡ true) where
+    module _ (writes : writesWitness D (decided D .number) ≡ true) where
       pub leaves-31 : {r : Judgement} {w : List ℕ} → fitsIn (witness D) wit ≡ false → w ≡ shownIn (witness D) wit → r ≡ judgementOf (answerAt 31 0) → Leaves r report w
+      unfolding writesWitness
       leaves-31 g q x = by-answer (answerAt 31 0) (short-witness h writes (leb-false (8 * length (witness D)) (length wit) g)) x refl (q ∙ rw g)
 
       pub leaves-shown : {r : Judgement} {u w : List ℕ} → fitsIn (witness D) wit ≡ true → w ≡ shownIn (witness D) wit → r ≡ judgementOf (decided D) → u ≡ over (rowBytes (rows D)) report → Leaves r u w
@@ -175,7 +183,7 @@ module _ (D : Domain) (report wit : List ℕ) where
           by-answer (decided D) (long-witness h writes (leb-true (8 * length (witness D)) (length wit) g)) x (y ∙ rw (decided-fills D)) (q ∙ rw (g, writes))
 
     -- 0, 1 and 43: no witness
-    pub leaves-plain : {r : Judgement} {u : List ℕ} → writesWitness (decided D .number) ≡ false → r ≡ judgementOf (decided D) → u ≡ over (rowBytes (rows D)) report → Leaves r u wit
+    pub leaves-plain : {r : Judgement} {u : List ℕ} → writesWitness D (decided D .number) ≡ false → r ≡ judgementOf (decided D) → u ≡ over (rowBytes (rows D)) report → Leaves r u wit
     leaves-plain w x y = by-answer (decided D) (no-witness h w) x (y ∙ rw (decided-fills D)) (rw w)
 
 -- ---- by what the calls within leave
@@ -196,18 +204,42 @@ module _ (D : Domain) {n : Naming} (e : n ≡ namingOf D) where
 pub number-of : (D : Domain) {j : Judgement} → j ≡ judgementOf (decided D) → j .number ≡ decided D .number
 number-of D e = ap (λ (j : Judgement). j .number) e
 
--- what showing the place of a refusal by 40 to 42 leaves
-pub showing-of : (D : Domain) (wit : List ℕ) {j : Judgement} {r : Bool} {out : List ℕ} → j ≡ judgementOf (decided D) → writesWitness (j .number) ≡ true
-    → (j .first < length (D .actions) → RefusedAt D (action D (j .first)) (j .second) (momentBy (j .third)) (j .number)
-    → ShownAt D (action D (j .first)) (j .second) (momentBy (j .third)) wit out r)
-    → (r ≡ fitsIn (witness D) wit) × (out ≡ shownIn (witness D) wit)
-unfolding classAt
-showing-of D wit {j} is w h =
-    let lo = leb-true 40 (j .number) (and-l (leb 40 (j .number)) (leb (j .number) 42) w) in
-    let hi = leb-true (j .number) 42 (and-r (leb 40 (j .number)) (leb (j .number) 42) w) in
+-- the decision's places, of a judgement that is it
+judged-placed : (D : Domain) {j : Judgement} → j ≡ judgementOf (decided D) → 40 ≤ j .number → j .number ≤ 42 → Placed D (record { number = j .number; first = j .first; second = j .second; third = j .third })
+judged-placed D {j} is lo hi =
     let answer : Answer = record { number = j .number; first = j .first; second = j .second; third = j .third } in
     let same : answer ≡ decided D = ap (λ (q : Judgement). record { number = q .number; first = q .first; second = q .second; third = q .third }) is in
     let number : j .number ≡ decided D .number = ap (λ (q : Judgement). q .number) is in
-    let p = subst (Placed D) (sym same) (placed D (omega arith) (omega arith)) in
+    subst (Placed D) (sym same) (placed D (omega arith) (omega arith))
+
+-- whether a witness is written: not by another number than 40 to 42, and by these as `is_shown` says of their place
+pub writes-below : (D : Domain) (n : ℕ) → n < 40 → writesWitness D n ≡ false
+unfolding writesWitness
+writes-below D n h = rw (lt-leb 40 n h)
+
+pub writes-above : (D : Domain) (n : ℕ) → 42 < n → writesWitness D n ≡ false
+unfolding writesWitness
+writes-above D n h = rw (le-leb 40 n (omega arith), lt-leb n 42 h)
+
+pub writes-at : (D : Domain) {j : Judgement} {r : Bool} → j ≡ judgementOf (decided D) → 40 ≤ j .number → j .number ≤ 42
+    → (j .first < length (D .actions) → j .second < length (classes D (action D (j .first)))
+    → r ≡ shownAt D (action D (j .first)) (getD (classes D (action D (j .first))) (j .second) []) (momentBy (j .third)))
+    → r ≡ writesWitness D (j .number)
+unfolding classAt writesWitness
+writes-at D {j} is lo hi s =
+    let p = judged-placed D is lo hi in
+    s (p .action-listed) (p .class-listed) ∙ sym (p .written) ∙ sym (rw (le-leb 40 (j .number) lo, le-leb (j .number) 42 hi) refl)
+
+-- what showing the place of a refusal by 40 to 42 leaves
+pub showing-of : (D : Domain) (wit : List ℕ) {j : Judgement} {r : Bool} {out : List ℕ} → j ≡ judgementOf (decided D) → writesWitness D (j .number) ≡ true
+    → (j .first < length (D .actions) → RefusedAt D (action D (j .first)) (j .second) (momentBy (j .third)) (j .number)
+    → ShownAt D (action D (j .first)) (j .second) (momentBy (j .third)) wit out r)
+    → (r ≡ fitsIn (witness D) wit) × (out ≡ shownIn (witness D) wit)
+unfolding classAt writesWitness
+showing-of D wit {j} is w h =
+    let in-range = and-l (leb 40 (j .number) && leb (j .number) 42) (isShown D) w in
+    let lo = leb-true 40 (j .number) (and-l (leb 40 (j .number)) (leb (j .number) 42) in-range) in
+    let hi = leb-true (j .number) 42 (and-r (leb 40 (j .number)) (leb (j .number) 42) in-range) in
+    let p = judged-placed D is lo hi in
     let l = h (p .action-listed) (record { listed = p .class-listed; journeyEnd = p .ended; fault = p .fault; refused = λ z. omega arith }) in
     (l .fits ∙ ap (λ (fs : List Fact). fitsIn fs wit) (sym (p .shown)), l .bytes ∙ ap (λ (fs : List Fact). shownIn fs wit) (sym (p .shown)))

@@ -5,6 +5,7 @@ use literals::head::Head;
 use naming::name_all;
 use reading::domain::read_domain;
 use report::put_report;
+use showing::is_shown;
 use showing::show;
 use verdict::Judgement;
 ghost use mathlib.Core.Path.{_≡_};
@@ -15,7 +16,7 @@ ghost use Rattle.literals.specs.Domain.{Domain};
 ghost use Rattle.literals.specs.Decode.{decode, domain as domainRead};
 ghost use Rattle.literals.specs.Held.{Held, Read};
 ghost use Rattle.reading.specs.Reading.{EnoughTable};
-ghost use Rattle.verdict.specs.Judged.{answerAt, writesWitness, judged, reportAfter, witnessAfter};
+ghost use Rattle.verdict.specs.Judged.{answerAt, decided, writesWitness, judged, reportAfter, witnessAfter};
 ghost use Rattle.verdict.specs.Claims.{wellFormed, AcceptedSafe, RefusedHarmful, WitnessHarms};
 ghost use Rattle.verdict.specs.Coded.{judgementOf};
 ghost use Rattle.judging.specs.Reporting.{JudgedAs};
@@ -31,14 +32,25 @@ fn at_offset(number: u64, place: usize) -> Judgement
     }
 }
 
-// 40 to 42 come with a witness.
-fn has_witness(number: u64) -> bool
-    ensures { λ r. ⌜ r ≡ writesWitness number ⌝ }
+// Whether the decision of a domain that was read comes with a witness: 40 to 42 do, but not at an end whose class has an over-all literal.
+fn has_witness(head: &Head, table: &[u8], made: Judgement) -> bool
+    ensures { λ r. ⌜ ((D : Domain) → Held D (now (head .entry)) (now (table .entry)) → wellFormed D ≡ true → made ≡ judgementOf (decided D)
+        → r ≡ writesWitness D (made .number)) ⌝ }
 {
+    let number = made.number;
     if number < 40 {
         return false;
     }
-    number <= 42
+    if 42 < number {
+        return false;
+    }
+    is_shown(
+        head,
+        table,
+        made.first as usize,
+        made.second as usize,
+        made.third,
+    )
 }
 
 // A domain that was read, of the memories that hold it; `names` is room for a byte a moment.
@@ -62,7 +74,7 @@ fn judge_with(
     let notes = naming.notes;
     let decided = notes.decide();
     let number = decided.number;
-    if has_witness(number) {
+    if has_witness(head, table, decided) {
         if show(
             head,
             table,

@@ -14,13 +14,14 @@ use Rattle.literals.specs.declared.Clause.the-variants.{Delete}
 use Rattle.literals.specs.Domain.{Fact, sameFact, Domain}
 use Rattle.literals.specs.Table.{rowsIn, Bounded}
 use Rattle.verdict.specs.Judged.{factBytes}
-use Rattle.verdict.specs.Machine.{GroundAction, Event, State, isOpen, conditionsHold, overAllHold, independent, stepFacts, factsAfter, closeAll, openedBy, next, topWeight}
+use Rattle.verdict.specs.Machine.{GroundAction, Event, State, isOpen, ownHold, overAllHold, independent, stepFacts, factsAfter, closeAll, openedBy, next, topWeight}
 use Rattle.store.specs.Index.{Indexed}
 use Rattle.events.specs.declared.Open.{Open}
 use Rattle.events.specs.declared.Waiting.{Waiting}
 use Rattle.machine.specs.declared.State.{State as Holding}
 use Rattle.runs.specs.RunFile.{maxFacts, maxRunning}
 use Rattle.runs.specs.Play.{forbidden, tooLarge, heldBytes}
+use Rattle.runs.proofs.Allowed.{forbidden-by-own}
 use Rattle.store.specs.Rows.{factRow, topFrom, FactFits}
 use Rattle.events.specs.Coded.{openOf, waitingOf}
 use Rattle.effects.specs.Effects.{atMost}
@@ -32,25 +33,24 @@ use Rattle.machine.proofs.NextKept.{kept-next}
 -- ---- what forbids a step
 
 module _ (D : Domain) (s : State) (es : List Event) where
-  -- by the tests in their order
-  tested : (a b c i : Bool) → all (isOpen (s .running)) es ≡ a → all (conditionsHold D (s .facts)) es ≡ b → all (overAllHold D (s .facts)) (s .running) ≡ c → independent D es ≡ i
+  -- by the tests in their order: an event's own conditions are asked, an end's over-all ones are among those of everything open
+  tested : (a b c i : Bool) → all (isOpen (s .running)) es ≡ a → all (ownHold D (s .facts)) es ≡ b → all (overAllHold D (s .facts)) (s .running) ≡ c → independent D es ≡ i
       → cond (not a) 57 (cond (not (b && c)) 55 (cond (not i) 56 0)) ≡ forbidden D s es
-  unfolding forbidden
-  tested a b c i p q r t = rw (p, q, r, t)
+  tested a b c i p q r t = rw (forbidden-by-own, p, q, r, t)
 
   pub not-open : all (isOpen (s .running)) es ≡ false → 57 ≡ forbidden D s es
   not-open p = tested false _ _ _ p refl refl refl
 
-  pub not-met : all (isOpen (s .running)) es ≡ true → all (conditionsHold D (s .facts)) es ≡ false → 55 ≡ forbidden D s es
+  pub not-met : all (isOpen (s .running)) es ≡ true → all (ownHold D (s .facts)) es ≡ false → 55 ≡ forbidden D s es
   not-met p q = tested true false _ _ p q refl refl
 
-  pub not-kept : all (isOpen (s .running)) es ≡ true → all (conditionsHold D (s .facts)) es ≡ true → all (overAllHold D (s .facts)) (s .running) ≡ false → 55 ≡ forbidden D s es
+  pub not-kept : all (isOpen (s .running)) es ≡ true → all (ownHold D (s .facts)) es ≡ true → all (overAllHold D (s .facts)) (s .running) ≡ false → 55 ≡ forbidden D s es
   not-kept p q r = tested true true false _ p q r refl
 
-  pub not-apart : all (isOpen (s .running)) es ≡ true → all (conditionsHold D (s .facts)) es ≡ true → all (overAllHold D (s .facts)) (s .running) ≡ true → independent D es ≡ false → 56 ≡ forbidden D s es
+  pub not-apart : all (isOpen (s .running)) es ≡ true → all (ownHold D (s .facts)) es ≡ true → all (overAllHold D (s .facts)) (s .running) ≡ true → independent D es ≡ false → 56 ≡ forbidden D s es
   not-apart p q r t = tested true true true false p q r t
 
-  pub nothing-forbids : all (isOpen (s .running)) es ≡ true → all (conditionsHold D (s .facts)) es ≡ true → all (overAllHold D (s .facts)) (s .running) ≡ true → independent D es ≡ true → 0 ≡ forbidden D s es
+  pub nothing-forbids : all (isOpen (s .running)) es ≡ true → all (ownHold D (s .facts)) es ≡ true → all (overAllHold D (s .facts)) (s .running) ≡ true → independent D es ≡ true → 0 ≡ forbidden D s es
   nothing-forbids p q r t = tested true true true true p q r t
 
 -- ---- what a close leaves

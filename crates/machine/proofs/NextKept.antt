@@ -15,7 +15,7 @@ use Rattle.literals.specs.Table.{Bounded}
 use Rattle.classes.specs.Classes.{literalsAt}
 use Rattle.verdict.specs.Binding.{valueOf, bind}
 use Rattle.verdict.specs.Machine.{GroundAction, Event, State, eventFacts, factsAfter, closeAll, opens, openedBy, next}
-use Rattle.verdict.proofs.Acts.{literalsAt-in}
+use Rattle.classes.proofs.Roles.{literalsAt-in}
 use Rattle.verdict.proofs.Steps.{After}
 use Rattle.verdict.proofs.Events.{after-in}
 use Rattle.verdict.proofs.Weight.{distinct-after}

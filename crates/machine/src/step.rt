@@ -22,7 +22,7 @@ ghost use Rattle.literals.specs.Table.{rowsIn};
 ghost use Rattle.literals.specs.Held.{Held};
 ghost use Rattle.verdict.specs.Machine.{Event, State as MachineState, topWeight};
 ghost use Rattle.store.specs.Index.{Indexed};
-ghost use Rattle.runs.specs.Play.{forbidden, heldBytes};
+ghost use Rattle.runs.specs.Play.{forbidden};
 ghost use Rattle.store.specs.Rows.{factRow};
 ghost use Rattle.events.specs.Coded.{openOf};
 ghost use Rattle.machine.specs.Stepping.{holdingOf, heldAs, Kept, StepHeld, Noted, Closable, closeStop, closeState, thenHeld, Leaves};

@@ -20,12 +20,12 @@ use Rattle.literals.proofs.Heads.{literals-after}
 use Rattle.classes.specs.declared.Moment.the-variants.{Start, End}
 use Rattle.classes.specs.declared.Name.{Name}
 use Rattle.classes.specs.Classes.{momentsOf, nameNumber, classes, nameOf, journey}
-use Rattle.classes.specs.Coded.{MomentOf, soleOf}
+use Rattle.classes.specs.Coded.{MomentOf, classNumbers, askedAt, soleAt, soleOf, reachAt}
 use Rattle.naming.specs.declared.Naming.{Naming}
 use Rattle.verdict.specs.Decision.{Row, rowAt, rowsOfClasses, rowsFrom, rows}
 use Rattle.verdict.specs.Claims.{wellFormed}
 use Rattle.verdict.specs.Coded.{rowFor, notesOf}
-use Rattle.naming.specs.Named.{nameBytes, classCounts, SolesIn, Named, namingOf}
+use Rattle.naming.specs.Named.{nameBytes, classCounts, SolesIn, EndOf, Named, namingOf}
 
 -- ---- one class or one action more
 
@@ -199,13 +199,18 @@ module _ (D : Domain) where
 pub sole-at : {of clauses conditions adds : List ℕ} → SolesIn of clauses conditions adds → (k : ℕ) → k < 64 → record { conditions = getD conditions k 0; adds = getD adds k 0 } ≡ soleOf of clauses k
 sole-at S k h = λ i. record { conditions = S .conditions-are k h i; adds = S .adds-are k h i }
 
+-- which literal of a class is asked as a true condition at the end, by the clauses of what is asked there
+pub reach-is : (D : Domain) (a : Action) {of asked : List ℕ} → of ≡ classNumbers D a → asked ≡ pad 64 (askedAt a End) → (k : ℕ) → soleAt of asked k 1 ≡ reachAt D a End k
+unfolding reachAt
+reach-is D a f g k = ap₂ (λ (o c : List ℕ). soleAt o c k 1) f g
+
 -- in an action, after k of its classes
-pub record InClasses (head rows of at-start at-end : List ℕ) (count i : ℕ) (lasting : Bool) (names₀ : List ℕ) (next₀ : Naming) (names : List ℕ) (next : Naming) (k : ℕ) : Type 0 where
+pub record InClasses (head rows of at-start at-end asked : List ℕ) (count i : ℕ) (lasting : Bool) (names₀ : List ℕ) (next₀ : Naming) (names : List ℕ) (next : Naming) (k : ℕ) : Type 0 where
   pub reach : k ≤ count
   pub few : next .rows ≤ next₀ .rows + 2 * k
   pub room : length names ≡ length names₀
   pub named : (rs : List Row) (old : List ℕ) (D : Domain) (a : Action) → Named rs next₀ names₀ old → MomentOf D a Start head rows of at-start → a .lasting ≡ lasting
-      → (lasting ≡ true → MomentOf D a End head rows of at-end) → count ≡ length (classes D a) → Named (rs ++ rowsOfClasses D a i 0 (take k (classes D a))) next names old
+      → (lasting ≡ true → EndOf D a head rows of at-end asked) → count ≡ length (classes D a) → Named (rs ++ rowsOfClasses D a i 0 (take k (classes D a))) next names old
 
 -- the first n of an array, where a call has put xs there
 module _ (xs ys : List ℕ) (n : ℕ) (e : length xs ≡ n) where

@@ -5,8 +5,9 @@ use Prim.Native.Nat.{ℕ, _≤_, _<_}
 use lib.ListN.{length, getD}
 use Rattle.records.specs.Memory.{over}
 use Rattle.literals.specs.Domain.{Action, Domain}
+use Rattle.classes.specs.declared.Moment.the-variants.{End}
 use Rattle.classes.specs.Classes.{nameNumber, classes}
-use Rattle.classes.specs.Coded.{soleAt}
+use Rattle.classes.specs.Coded.{MomentOf, soleAt, reachAt}
 use Rattle.naming.specs.declared.Naming.{Naming}
 use Rattle.verdict.specs.Decision.{Row, rows}
 use Rattle.verdict.specs.Coded.{notesOf}
@@ -23,6 +24,11 @@ classCounts D as′ = map (λ (a : Action). length (classes D a)) as′
 pub record SolesIn (of clauses conditions adds : List ℕ) : Type 0 where
   pub conditions-are : (k : ℕ) → k < 64 → getD conditions k 0 ≡ soleAt of clauses k 1
   pub adds-are : (k : ℕ) → k < 64 → getD adds k 0 ≡ soleAt of clauses k 3
+
+-- an end of an action: the clauses of its own literals there, and which literal of each class is asked as a true condition
+pub record EndOf (D : Domain) (a : Action) (head rows of clauses reach : List ℕ) : Type 0 where
+  pub own : MomentOf D a End head rows of clauses
+  pub reaches : (k : ℕ) → k < 64 → getD reach k 0 ≡ reachAt D a End k
 
 -- where naming stands: rs are the rows named so far, their names in a memory that has room for them
 pub record Named (rs : List Row) (naming : Naming) (names old : List ℕ) : Type 0 where

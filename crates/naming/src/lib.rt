@@ -26,11 +26,11 @@ ghost use Rattle.literals.specs.Table.{pad};
 ghost use Rattle.literals.specs.Held.{Held, Read};
 ghost use Rattle.classes.specs.declared.Moment.the-variants.{Start, End};
 ghost use Rattle.classes.specs.Classes.{momentsOf, classes, nameOf, journey};
-ghost use Rattle.classes.specs.Coded.{ActionOf, MomentOf, Sides, classNumbers, soleOf};
+ghost use Rattle.classes.specs.Coded.{ActionOf, MomentOf, Sides, classNumbers, soleOf, reachAt};
 ghost use Rattle.verdict.specs.Decision.{Row, rowAt, rowsOfClasses, rows};
 ghost use Rattle.verdict.specs.Claims.{wellFormed};
 ghost use Rattle.verdict.specs.Coded.{rowFor};
-ghost use Rattle.naming.specs.Named.{nameBytes, classCounts, SolesIn, Named, namingOf};
+ghost use Rattle.naming.specs.Named.{nameBytes, classCounts, SolesIn, EndOf, Named, namingOf};
 
 // The names of one class: at its start, and at its end where the action lasts.
 pub struct ClassNames {
@@ -45,7 +45,8 @@ pub struct Naming {
     pub notes: Notes,
 }
 
-// The names of a class, of the clauses of the action's literals at its start and at its end, and of the class's true conditions and adds there.
+// The names of a class, of the clauses of the action's literals at its start and at its end, and of the class's own true conditions and adds there; `reach`
+// tells which of its literals is asked as a true condition at the end, over all or of its own. (What is asked at a start is its own.)
 fn name_class(
     head: &Head,
     rows: &[u8],
@@ -53,6 +54,7 @@ fn name_class(
     at_start: &Marks,
     at_end: &Marks,
     first: Sole,
+    reach: u8,
     last: Sole,
     class: u8,
     lasting: bool,
@@ -61,14 +63,15 @@ fn name_class(
     ensures start { λ r. ⌜ ((D : Domain) (a : Action) → MomentOf D a Start (now (head .entry)) (now (rows .entry)) (now (of .entry)) (now («at_start» .entry))
         → class < length (classes D a) → r .start ≡ nameOf D a (getD (classes D a) class []) Start) ⌝ }
     ensures end { λ r. ⌜ ((D : Domain) (a : Action) → MomentOf D a Start (now (head .entry)) (now (rows .entry)) (now (of .entry)) (now («at_start» .entry))
-        → MomentOf D a End (now (head .entry)) (now (rows .entry)) (now (of .entry)) (now («at_end» .entry)) → class < length (classes D a) → lasting ≡ true → a .lasting ≡ true
+        → MomentOf D a End (now (head .entry)) (now (rows .entry)) (now (of .entry)) (now («at_end» .entry)) → class < length (classes D a) → reach ≡ reachAt D a End class
+        → lasting ≡ true → a .lasting ≡ true
         → (r .end ≡ nameOf D a (getD (classes D a) class []) End) × (r .journey ≡ journey D a (getD (classes D a) class []))) ⌝ }
 {
-    let start = name_at(head, rows, of, at_start, first, class);
+    let start = name_at(head, rows, of, at_start, first.conditions, first, class);
     if lasting {
         return ClassNames {
             start,
-            end: name_at(head, rows, of, at_end, last, class),
+            end: name_at(head, rows, of, at_end, reach, last, class),
             journey: is_journey(rows, of, at_start, first, last, class),
         };
     }
@@ -148,7 +151,8 @@ impl Naming {
         started
     }
 
-    // The rows of the classes of an action, of the clauses of its literals at both moments, and of each class's true conditions and adds there.
+    // The rows of the classes of an action, of the clauses of its literals at both moments, of each class's own true conditions and adds there, and of the
+    // true conditions that are asked at the end.
     fn with_each(
         self,
         head: &Head,
@@ -158,6 +162,7 @@ impl Naming {
         at_end: &Marks,
         conditions: &Marks,
         adds: &Marks,
+        reach: &Marks,
         end_conditions: &Marks,
         end_adds: &Marks,
         count: usize,
@@ -170,7 +175,7 @@ impl Naming {
         ensures rows { λ r. ⌜ r .rows ≤ self .rows + 2 * count ⌝ }
         ensures named { λ r. ⌜ ((rs : List Row) (old : List ℕ) (D : Domain) (a : Action) → Named rs self (now (names .entry)) old
             → MomentOf D a Start (now (head .entry)) (now (rows .entry)) (now (of .entry)) (now («at_start» .entry)) → a .lasting ≡ lasting
-            → (lasting ≡ true → MomentOf D a End (now (head .entry)) (now (rows .entry)) (now (of .entry)) (now («at_end» .entry))) → count ≡ length (classes D a)
+            → (lasting ≡ true → EndOf D a (now (head .entry)) (now (rows .entry)) (now (of .entry)) (now («at_end» .entry)) (now (reach .entry))) → count ≡ length (classes D a)
             → Named (rs ++ rowsOfClasses D a i 0 (classes D a)) r (now (names .exit)) old) ⌝ }
     {
         let mut next = self;
@@ -185,6 +190,7 @@ impl Naming {
                     conditions: conditions[class],
                     adds: adds[class],
                 },
+                reach[class],
                 Sole {
                     conditions: end_conditions[class],
                     adds: end_adds[class],
@@ -218,7 +224,7 @@ impl Naming {
         let mut at_start = [0u8; 64];
         let mut conditions = [0u8; 64];
         let mut adds = [0u8; 64];
-        clauses_at(rows, n, Moment::Start, &mut at_start);
+        clauses_at(false, rows, n, Moment::Start, &mut at_start);
         soles_at(of, &at_start, 1, &mut conditions);
         soles_at(of, &at_start, 3, &mut adds);
         if !lasting {
@@ -231,6 +237,7 @@ impl Naming {
                 &conditions,
                 &adds,
                 &conditions,
+                &conditions,
                 &adds,
                 count,
                 i,
@@ -241,9 +248,13 @@ impl Naming {
         let mut at_end = [0u8; 64];
         let mut end_conditions = [0u8; 64];
         let mut end_adds = [0u8; 64];
-        clauses_at(rows, n, Moment::End, &mut at_end);
+        clauses_at(false, rows, n, Moment::End, &mut at_end);
         soles_at(of, &at_end, 1, &mut end_conditions);
         soles_at(of, &at_end, 3, &mut end_adds);
+        let mut asked = [0u8; 64];
+        let mut reach = [0u8; 64];
+        clauses_at(true, rows, n, Moment::End, &mut asked);
+        soles_at(of, &asked, 1, &mut reach);
         self.with_each(
             head,
             rows,
@@ -252,6 +263,7 @@ impl Naming {
             &at_end,
             &conditions,
             &adds,
+            &reach,
             &end_conditions,
             &end_adds,
             count,

@@ -1,11 +1,13 @@
 -- What the player tests at a step's close is what the machine allows. Assumes nothing.
-use mathlib.Core.Path.{_≡_, refl}
+use mathlib.Core.Path.{_≡_, refl, sym, ap, _∙_}
 use mathlib.Core.Bool.{Bool, true, false, _&&_, not, cond}
+use Prim.Native.Nat.{ℕ}
 use lib.Dec.{eqb}
 use Rattle.records.specs.Lists.{all}
-use Rattle.verdict.specs.Machine.{isOpen, conditionsHold, overAllHold, independent, allowed}
+use Rattle.verdict.specs.Machine.{isOpen, conditionsHold, ownHold, overAllHold, independent, allowed}
+use Rattle.verdict.proofs.Asking.{own-is-enough}
 use Rattle.runs.specs.Play.{forbidden}
-use Rattle.runs.specs.Claims.{AllowedIsNotForbidden}
+use Rattle.runs.specs.Claims.{AllowedIsNotForbidden, ForbiddenByOwn}
 
 pub allowed-not-forbidden : AllowedIsNotForbidden
 unfolding allowed forbidden
@@ -18,3 +20,18 @@ allowed-not-forbidden D s es =
     four true true false d = refl
     four true true true false = refl
     four true true true true = refl
+
+pub forbidden-by-own : ForbiddenByOwn
+unfolding forbidden
+forbidden-by-own D s es =
+    go (all (isOpen (s .running)) es) (all (overAllHold D (s .facts)) (s .running)) (all (conditionsHold D (s .facts)) es) (all (ownHold D (s .facts)) es)
+    (cond (not (independent D es)) 56 0) (own-is-enough D s es)
+  where
+    go : (o v c w : Bool) (n : ℕ) → (o ≡ true → v ≡ true → c ≡ w) → cond (not o) 57 (cond (not (c && v)) 55 n) ≡ cond (not o) 57 (cond (not (w && v)) 55 n)
+    go false v c w n same = refl
+    go true true c w n same = ap (λ (t : Bool). cond (not (t && true)) 55 n) (same refl refl)
+    go true false c w n same = none c ∙ sym (none w)
+      where
+        none : (t : Bool) → cond (not (t && false)) 55 n ≡ 55
+        none true = refl
+        none false = refl

@@ -1,6 +1,6 @@
 -- Demand 2 of a run, "played exactly as the written-out machine plays it", and what demand 3 says of it. The claims, each proved in proofs/. Assumes nothing.
 use mathlib.Core.Path.{_≡_}
-use mathlib.Core.Bool.{true, cond}
+use mathlib.Core.Bool.{true, _&&_, not, cond}
 use mathlib.Core.List.{List, map}
 use Prim.Native.Nat.{ℕ, suc, _≤_}
 use lib.Dec.{eqb, ltb}
@@ -14,7 +14,7 @@ use Rattle.literals.specs.Domain.{Domain}
 use Rattle.literals.specs.Decode.{domain, decode}
 use Rattle.verdict.specs.Binding.{objectsFrom}
 use Rattle.verdict.specs.Judged.{decidedFile}
-use Rattle.verdict.specs.Machine.{Event, State, legalStep, allowed, next, startState, run, lastState, largest, topWeight}
+use Rattle.verdict.specs.Machine.{Event, State, legalStep, isOpen, ownHold, overAllHold, independent, allowed, next, startState, run, lastState, largest, topWeight}
 use Rattle.verdict.specs.Claims.{Accepted, isEvent, isFact}
 use Rattle.runs.specs.RunFile.{RunKind, objectsRecord, factRecord, eventRecord, stepRecord, endRecord, otherRecord, runKindOf, Entry, entriesBefore, entriesUpTo, behindIn, objectsIn, startFactsIn, stepsIn, waitingIn, begunIn, closedIn, recordStop}
 use Rattle.runs.specs.Play.{workBytes, Outcome, playRun, heldBytes, played, forbidden, tooLarge}
@@ -108,6 +108,15 @@ PlaysAsMachine d r w number place steps weight memory =
 -- a step is allowed exactly where none of 57, 55 and 56 comes
 abbrev pub AllowedIsNotForbidden : Type 0
 AllowedIsNotForbidden = (D : Domain) (s : State) (es : List Event) → allowed D s es ≡ eqb (forbidden D s es) 0
+
+-- of a step whose ends are open the player need ask an event's own conditions alone: an end's over-all ones are asked of everything open
+abbrev pub ForbiddenByOwn : Type 0
+ForbiddenByOwn =
+    (D : Domain) (s : State) (es : List Event)
+    → forbidden D s es
+    ≡ cond (not (all (isOpen (s .running)) es)) 57
+    (cond (not (all (ownHold D (s .facts)) es && all (overAllHold D (s .facts)) (s .running))) 55
+    (cond (not (independent D es)) 56 0))
 
 -- ---- what demand 3 says of the player
 

@@ -30,13 +30,13 @@ use Rattle.classes.specs.declared.Moment.{Moment}
 use Rattle.classes.specs.declared.Moment.the-variants.{Start, End}
 use Rattle.classes.specs.declared.Name.{Name}
 use Rattle.classes.specs.declared.Name.the-variants.{Unreachable, Irrelevant, Heavy, Balanced, Unbalanced, Bounded as bounded, Unbounded}
-use Rattle.classes.specs.Classes.{belongs, literalsAt, required, countedForReach, classes, inClass, changedBy, covered, excluding, nameNumber, nameBy, nameOf}
-use Rattle.classes.specs.Coded.{ActionOf, position, tupleRow, classTuples, clausesAt, uncoveredAt, numbersFrom}
+use Rattle.classes.specs.Classes.{required, classes, inClass, reachIn, lastsIn, changedBy, covered, excluding, nameNumber, nameBy, nameOf}
+use Rattle.classes.specs.Coded.{ActionOf, position, tupleRow, classTuples, clausesBy, askedAt, uncoveredAt, numbersFrom}
 use Rattle.classes.proofs.Rows.{row-flat, noLiteral}
-use Rattle.classes.proofs.Clauses.{length-clauses, literals-at}
+use Rattle.classes.proofs.Clauses.{length-clauses, required-at}
 use Rattle.classes.proofs.Members.{classes-few}
 use Rattle.verdict.specs.Binding.{valueOf, bind, bindTuple, objectsFrom, sameNumbers, spare}
-use Rattle.verdict.specs.Decision.{faultBy, objectUnder, instanceFact, firstUncovered, witnessBy, witnessAt}
+use Rattle.verdict.specs.Decision.{faultBy, objectUnder, instanceFact, firstUncovered, witnessBy, witnessAt, shownAt}
 use Rattle.verdict.specs.Judged.{objectNumbers, factBytes}
 use Rattle.verdict.specs.Coded.{momentBy}
 use Rattle.showing.specs.Bytes.{fitsIn, shownIn, conditionFacts, RefusedAt, ShownAt, firstClauses, selectBy, isCondition, conditionOf, conditionsOf, objectByte, instanceBytes, instanceOf}
@@ -207,7 +207,7 @@ module _ (D : Domain) (a : Action) (x : List Variable) (m : Moment) (number : �
     some-open : all (covered (excluding D a x m)) (D .template) ≡ false
     unfolding nameOf
     some-open =
-        name-open (length (filterBy (belongs D x) (countedForReach a m))) (length (inClass D a x m Positive)) (length (inClass D a x m Add))
+        name-open (length (reachIn D a x m)) (length (inClass D a x m Positive)) (length (inClass D a x m Add))
         (all (changedBy (inClass D a x m Add) (inClass D a x m Delete)) (inClass D a x m Positive)) (all (covered (excluding D a x m)) (D .template))
         (fault-42 (nameOf D a x m) e number f t)
 
@@ -241,14 +241,14 @@ module _ {D : Domain} {a : Action} {j : ℕ} {m : Moment} {fs : List Fact} (e : 
         bytes = s .1 ∙ ap (λ (gs : List Fact). shownIn gs out) (sym e);
       }
 
--- ---- what the code holds of an action at a moment
+-- ---- what the code holds of an action at a moment: the clauses of what is asked there
 
 pub record Given (D : Domain) (a : Action) (head : List ℕ) (m : Moment) (rows clauses : List ℕ) (n : ℕ) : Type 0 where
   pub action : ActionOf D a head rows
-  pub clauses-are : clauses ≡ pad 64 (clausesAt a m)
+  pub clauses-are : clauses ≡ pad 64 (askedAt a m)
   pub count : n ≡ length (a .lits)
   -- the true conditions by what each literal is
-  pub selected : selectBy isCondition (clausesAt a m) (map (λ (l : Literal). l .atom) (a .lits)) ≡ literalsAt a m Positive
+  pub selected : selectBy isCondition (askedAt a m) (map (λ (l : Literal). l .atom) (a .lits)) ≡ required a m Positive
 
 module _ {D : Domain} {a : Action} {head : List ℕ} {m : Moment} {rows clauses : List ℕ} {n : ℕ} (G : Given D a head m rows clauses n) where
   H : HeadOf D head
@@ -257,12 +257,12 @@ module _ {D : Domain} {a : Action} {head : List ℕ} {m : Moment} {rows clauses 
   B : Bounded D
   B = H .bounded
 
-  clauses-length : length (clausesAt a m) ≡ n
-  unfolding clausesAt
-  clauses-length = length-clauses m [] (a .lits) ∙ sym (G .count)
+  clauses-length : length (askedAt a m) ≡ n
+  unfolding clausesBy
+  clauses-length = length-clauses true m [] (a .lits) ∙ sym (G .count)
 
-  clauses-taken : firstClauses n clauses ≡ clausesAt a m
-  clauses-taken = ap₂ firstClauses (sym clauses-length) (G .clauses-are) ∙ bytes-front (clausesAt a m) (replicate (64 - length (clausesAt a m)) 0)
+  clauses-taken : firstClauses n clauses ≡ askedAt a m
+  clauses-taken = ap₂ firstClauses (sym clauses-length) (G .clauses-are) ∙ bytes-front (askedAt a m) (replicate (64 - length (askedAt a m)) 0)
 
   rows-taken : rowsIn n rows ≡ map literalRow (a .lits)
   rows-taken =
@@ -279,7 +279,7 @@ module _ {D : Domain} {a : Action} {head : List ℕ} {m : Moment} {rows clauses 
   pub conditions-are : conditionsOf head (firstClauses n clauses) (rowsIn n rows) ≡ factBytes (conditionFacts a m)
   conditions-are =
       ap₂ (conditionsOf head) clauses-taken rows-taken
-      ∙ conditions-facts a head (clausesAt a m) (a .lits) (λ l k. (H .arities (l .atom .rel) ∙ sym (B .literalArity a (G .action .listed) l k), B .below a (G .action .listed) l k))
+      ∙ conditions-facts a head (askedAt a m) (a .lits) (λ l k. (H .arities (l .atom .rel) ∙ sym (B .literalArity a (G .action .listed) l k), B .below a (G .action .listed) l k))
       ∙ ap (λ (ps : List (Atom Variable)). factBytes (map (bind (sameNumbers a)) ps)) (G .selected)
 
   -- how many they are
@@ -289,7 +289,7 @@ module _ {D : Domain} {a : Action} {head : List ℕ} {m : Moment} {rows clauses 
       let l = G .count in
       let k = length-map (a .lits) (λ (l : Literal). l .atom) in
       ap (countBy isCondition) clauses-taken
-      ∙ sym (length-select isCondition (clausesAt a m) (map (λ (l : Literal). l .atom) (a .lits)) (omega arith))
+      ∙ sym (length-select isCondition (askedAt a m) (map (λ (l : Literal). l .atom) (a .lits)) (omega arith))
       ∙ ap length (G .selected)
       ∙ sym (length-map (required a m Positive) (bind (sameNumbers a)))
 
@@ -435,21 +435,21 @@ module _ (from : ℕ → ℕ → List ℕ) (none : (i : ℕ) → from i zero ≡
 
   -- the true conditions by index, as a `Given` wants them
   pub selected-by : (a : Action) (m : Moment) (d : Literal)
-      → literalsAt a m Positive ≡ map (λ k. getD (a .lits) k d .atom) (filterBy (λ k. isCondition (getD (clausesAt a m) k 0)) (from 0 (length (a .lits))))
-      → selectBy isCondition (clausesAt a m) (map (λ (l : Literal). l .atom) (a .lits)) ≡ literalsAt a m Positive
-  unfolding clausesAt
-  selected-by a m d e = sym (e ∙ select-indexed isCondition (λ (l : Literal). l .atom) d (clausesAt a m) (a .lits) (length-clauses m [] (a .lits)))
+      → required a m Positive ≡ map (λ k. getD (a .lits) k d .atom) (filterBy (λ k. isCondition (getD (askedAt a m) k 0)) (from 0 (length (a .lits))))
+      → selectBy isCondition (askedAt a m) (map (λ (l : Literal). l .atom) (a .lits)) ≡ required a m Positive
+  unfolding clausesBy
+  selected-by a m d e = sym (e ∙ select-indexed isCondition (λ (l : Literal). l .atom) d (askedAt a m) (a .lits) (length-clauses true m [] (a .lits)))
 
--- what the code holds, by what `clauses_at` ensures
+-- what the code holds, by what `clauses_at` ensures of what is asked
 pub given : {D : Domain} {a : Action} {head : List ℕ} (m : Moment) {rows clauses : List ℕ} {n : ℕ} → ActionOf D a head rows → length rows ≡ 8 * n
-    → ((D : Domain) (a : Action) (head : List ℕ) → ActionOf D a head rows → pad 64 [] ≡ pad 64 [] → clauses ≡ pad 64 (clausesAt a m))
+    → ((D : Domain) (a : Action) (head : List ℕ) → ActionOf D a head rows → pad 64 [] ≡ pad 64 [] → clauses ≡ pad 64 (askedAt a m))
     → Given D a head m rows clauses n
 given {D} {a} m {rows} {clauses} {n} A l c =
     record {
       action = A;
       clauses-are = c D a _ A refl;
       count = (let k = sym (ap length (A .literals)) ∙ l in let g = length-literals (a .lits) (A .says .bounded .arguments a (A .listed)) in omega arith);
-      selected = selected-by numbersFrom (λ i. refl) (λ i n. refl) a m noLiteral (literals-at a m Positive);
+      selected = selected-by numbersFrom (λ i. refl) (λ i n. refl) a m noLiteral (required-at a m Positive);
     }
 
 -- a class of an action has a number below 64
@@ -460,6 +460,14 @@ class-few {D} H i j h g =
     omega arith
 
 -- ---- a moment by its number
+
+-- whether a witness is written there
+module _ (D : Domain) (a : Action) (x : List Variable) (moment : ℕ) where
+  pub start-is-shown : moment ≡ 0 → true ≡ shownAt D a x (momentBy moment)
+  start-is-shown h = rw (eq-eqb moment 0 h)
+
+  pub end-is-shown : (moment ≡ 0 → ⊥) → {r : Bool} → r ≡ lastsIn D a x → not r ≡ shownAt D a x (momentBy moment)
+  end-is-shown h e = rw (ne-eqb moment 0 h) (ap not e)
 
 -- what is shown of a moment that is refused
 abbrev pub ShowsAt : Domain → ℕ → ℕ → ℕ → List ℕ → List ℕ → Bool → Moment → Type 0

@@ -3,6 +3,7 @@ use classes::Marks;
 use classes::Moment;
 use classes::counts::clauses_at;
 use classes::counts::first_uncovered;
+use classes::counts::lasts_at;
 use classes::number::number_classes;
 use literals::head::Head;
 use literals::head::actions_in;
@@ -20,12 +21,13 @@ ghost use lib.Seq.{paste};
 ghost use Rattle.records.specs.Lists.{countBy};
 ghost use Rattle.records.specs.Memory.{over};
 ghost use Rattle.literals.specs.Domain.{Domain, Action, action};
-ghost use Rattle.literals.specs.Table.{rowsIn, pad};
+ghost use Rattle.literals.specs.Table.{rowsIn};
 ghost use Rattle.literals.specs.Held.{partIn, Held};
-ghost use Rattle.classes.specs.Classes.{classes};
-ghost use Rattle.classes.specs.Coded.{ActionOf, classTuples, clausesAt, uncoveredAt};
+ghost use Rattle.classes.specs.Classes.{classes, lastsIn};
+ghost use Rattle.classes.specs.Coded.{ActionOf, classTuples, uncoveredAt};
 ghost use Rattle.verdict.specs.Claims.{wellFormed};
 ghost use Rattle.verdict.specs.Coded.{momentBy};
+ghost use Rattle.verdict.specs.Decision.{shownAt};
 ghost use Rattle.showing.specs.Bytes.{RefusedAt, ShownAt, firstClauses, isCondition, conditionBytes, conditionIf, conditionsOf, objectByte, instanceBytes, instanceOf};
 
 // How many literals are true conditions at the moment.
@@ -155,45 +157,47 @@ fn put_instance(
     }
 }
 
-// The witness of a moment that is not unbounded: its true conditions. Whether they fit; nothing is written where they do not.
+// The witness of a moment that is not unbounded: the true conditions that are asked there. Whether they fit; nothing is written where they do not.
 fn put_plain(head: &Head, rows: &[u8], n: usize, m: Moment, out: &mut [u8]) -> bool
     requires few { ⌜ n ≤ 64 ⌝ }
     requires rowed { ⌜ length (now rows) ≡ 8 * n ⌝ }
     ensures { λ r. ⌜ ((D : Domain) (a : Action) (j number : ℕ) → ActionOf D a (now (head .entry)) (now (rows .entry))
         → RefusedAt D a j m number → (number ≡ 42 → ⊥) → ShownAt D a j m (now (out .entry)) (now (out .exit)) r) ⌝ }
 {
-    let mut clauses = [0u8; 64];
-    clauses_at(rows, n, m, &mut clauses);
-    let k = count_conditions(&clauses, n);
+    let mut asked = [0u8; 64];
+    clauses_at(true, rows, n, m, &mut asked);
+    let k = count_conditions(&asked, n);
     if out.len() < 8 * k {
         return false;
     }
-    put_conditions(out, head, rows, &clauses, n);
+    put_conditions(out, head, rows, &asked, n);
     true
 }
 
-// The first component that a class leaves uncovered at the moment of these clauses, or the number of components; `tuples`, which is all FF, gets the key
-// tuples of the action's classes, and `of` is room for a number for each literal.
+// The first component that a class leaves uncovered at a moment, or the number of components; `tuples`, which is all FF, gets the key tuples of the
+// action's classes, and `of` is room for a number for each literal.
 fn open_class(
     head: &Head,
     rows: &[u8],
     of: &mut [u8],
     tuples: &mut [u8],
-    clauses: &Marks,
+    m: Moment,
     class: u8,
 ) -> usize
     requires few { ⌜ length (now of) ≤ 64 ⌝ }
     requires rowed { ⌜ length (now rows) ≡ 8 * length (now of) ⌝ }
     requires room { ⌜ length (now tuples) ≡ 512 ⌝ }
-    ensures { λ r. ⌜ ((D : Domain) (a : Action) (m : Moment) → ActionOf D a (now (head .entry)) (now (rows .entry))
-        → now (tuples .entry) ≡ replicate 512 255 → now (clauses .entry) ≡ pad 64 (clausesAt a m) → class < length (classes D a)
+    ensures { λ r. ⌜ ((D : Domain) (a : Action) → ActionOf D a (now (head .entry)) (now (rows .entry))
+        → now (tuples .entry) ≡ replicate 512 255 → class < length (classes D a)
         → (now (tuples .exit) ≡ classTuples D a) × (r ≡ uncoveredAt D a (getD (classes D a) class []) m)) ⌝ }
 {
     number_classes(head, rows, of, tuples);
-    first_uncovered(head, rows, of, clauses, class)
+    let mut clauses = [0u8; 64];
+    clauses_at(false, rows, of.len(), m, &mut clauses);
+    first_uncovered(head, rows, of, &clauses, class)
 }
 
-// The witness of an unbounded moment of the class j: its true conditions, then the instance fact of the first uncovered component. Whether they fit;
+// The witness of an unbounded moment of the class j: the true conditions that are asked there, then the instance fact of the first uncovered component. Whether they fit;
 // nothing is written where they do not. (An unbounded moment has an uncovered component; the test says so to the checker.)
 fn put_open(
     head: &Head,
@@ -209,19 +213,19 @@ fn put_open(
     ensures { λ r. ⌜ ((D : Domain) (a : Action) → ActionOf D a (now (head .entry)) (now (rows .entry))
         → spare ≡ a .vars → RefusedAt D a j m 42 → ShownAt D a j m (now (out .entry)) (now (out .exit)) r) ⌝ }
 {
-    let mut clauses = [0u8; 64];
-    clauses_at(rows, n, m, &mut clauses);
-    let k = count_conditions(&clauses, n);
+    let mut asked = [0u8; 64];
+    clauses_at(true, rows, n, m, &mut asked);
+    let k = count_conditions(&asked, n);
     if out.len() < 8 * k + 8 {
         return false;
     }
     let mut of = [0u8; 64];
     let mut tuples = [255u8; 512];
-    let u = open_class(head, rows, &mut of[0..n], &mut tuples, &clauses, j as u8);
+    let u = open_class(head, rows, &mut of[0..n], &mut tuples, m, j as u8);
     if components_in(head) <= u {
         return false;
     }
-    put_conditions(out, head, rows, &clauses, n);
+    put_conditions(out, head, rows, &asked, n);
     put_instance(out, 8 * k, head, u, &tuples, j, spare);
     true
 }
@@ -246,6 +250,42 @@ fn put_witness(
         return put_open(head, rows, n, spare, j, m, out);
     }
     put_plain(head, rows, n, m, out)
+}
+
+// Whether a class of the action with these rows has an over-all literal; `of` and `tuples` are room for what `number_classes` finds.
+fn lasting_class(head: &Head, rows: &[u8], of: &mut [u8], tuples: &mut [u8], class: u8) -> bool
+    requires few { ⌜ length (now of) ≤ 64 ⌝ }
+    requires rowed { ⌜ length (now rows) ≡ 8 * length (now of) ⌝ }
+    requires room { ⌜ length (now tuples) ≡ 512 ⌝ }
+    ensures { λ r. ⌜ ((D : Domain) (a : Action) → ActionOf D a (now (head .entry)) (now (rows .entry))
+        → now (tuples .entry) ≡ replicate 512 255 → class < length (classes D a) → r ≡ lastsIn D a (getD (classes D a) class [])) ⌝ }
+{
+    number_classes(head, rows, of, tuples);
+    lasts_at(rows, of, class)
+}
+
+// Whether a witness is written for the place named: not at an end whose class has an over-all literal.
+// (The decision names an action and a class of the domain; the tests say so to the checker.)
+pub fn is_shown(head: &Head, table: &[u8], i: usize, j: usize, moment: u64) -> bool
+    ensures { λ r. ⌜ ((D : Domain) → Held D (now (head .entry)) (now (table .entry)) → wellFormed D ≡ true → i < length (D .actions)
+        → j < length (classes D (action D i)) → r ≡ shownAt D (action D i) (getD (classes D (action D i)) j []) (momentBy moment)) ⌝ }
+{
+    if moment == 0 {
+        return true;
+    }
+    if actions_in(head) <= i {
+        return true;
+    }
+    if 64 <= j {
+        return true;
+    }
+    let span = rows_of(head, table, i);
+    let from = 8 * span.from;
+    let to = 8 * span.to;
+    let n = span.to - span.from;
+    let mut of = [0u8; 64];
+    let mut tuples = [255u8; 512];
+    !lasting_class(head, &table[from..to], &mut of[0..n], &mut tuples, j as u8)
 }
 
 // The witness of the place named: the class j of the action i at a moment, refused by `number`. Whether it fits; nothing is written where it does not.

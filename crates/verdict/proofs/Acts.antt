@@ -7,45 +7,29 @@ use Prim.Native.Nat.{ℕ, suc}
 use native.Mathlib.Omega.{arith}
 use lib.Dec.{eqb, leb, leb·zero, leb·suc-suc, eqb·suc-zero}
 use lib.ListN.{length}
-use borrow.Author.Tests.{eqb-true}
+use borrow.Author.Tests.{ne-eqb, eqb-true}
 use Rattle.records.specs.Lists.{In, all, any, sameList, elem, distinct}
-use Rattle.records.proofs.Lists.{and-l, and-r, or-cases, not-true, clash, in-keepIf, filter-in, in-filter, any-in, all-in, elem-in, in-dedup, dedup-in, flatMap-in, in-flatMap, pairwise-filter, distinct-dedup}
+use Rattle.records.proofs.Lists.{and-l, and-r, or-cases, not-true, clash, filter-in, in-filter, any-in, all-in, elem-in, in-dedup, dedup-in, flatMap-in, in-flatMap}
 use Rattle.literals.specs.declared.Variable.{Variable}
 use Rattle.literals.specs.declared.Object.{Object}
 use Rattle.literals.specs.declared.Clause.{Clause}
 use Rattle.literals.specs.declared.Clause.the-variants.{Positive, Negative, Add, Delete}
-use Rattle.literals.specs.declared.Role.{Role}
 use Rattle.literals.specs.Domain.{sameVariable, sameObject, Atom, Fact, sameLiteral, Literal, Action, isCounted, Domain}
 use Rattle.classes.specs.declared.Moment.{Moment}
 use Rattle.classes.specs.declared.Moment.the-variants.{Start, End}
 use Rattle.classes.specs.declared.Name.{Name}
 use Rattle.classes.specs.declared.Name.the-variants.{Unreachable, Irrelevant, Heavy, Balanced, Unbalanced, Bounded, Unbounded}
-use Rattle.classes.specs.Classes.{withRole, literalsAt, tuplesOf, belongs, matches, classes, inClass, nameBy, deletedBy, changedBy, covered, excluding, nameOf, journey}
-use Rattle.classes.proofs.Clauses.{counts}
+use Rattle.classes.specs.Classes.{literalsAt, required, tuplesOf, belongs, matches, classes, inClass, reachIn, nameBy, deletedBy, changedBy, covered, excluding, nameOf, journey}
+use Rattle.classes.proofs.Roles.{literalsAt-in, required-in, own-reach, class-distinct, reach-distinct}
 use Rattle.verdict.specs.Binding.{Binding, bind, bindTuple}
 use Rattle.verdict.specs.Claims.{wellFormedAction, wellFormedTemplate}
 use Rattle.verdict.proofs.Equality.{literal-eq, literal-self, variables-eq}
-use Rattle.verdict.proofs.Steps.{Effect, Act, idle, dead, moves, fills, leaves, arrives}
+use Rattle.verdict.proofs.Steps.{Effect, Act, idle, moves, fills, leaves, arrives}
 use Rattle.verdict.proofs.Tuples.{belongs-of, matches-bind, bound-tuple, matches-tuple, component-of, Below, tuple-below, bindTuple-inj, bind-inj}
 use Rattle.verdict.proofs.WellFormed.{literal-below}
 use Rattle.verdict.proofs.Arguments.{same-fact}
 
--- ---- the literals of an action, and its classes
-
-withRole-in : (rs : Role → Bool) (ls : List Literal) {p : Atom Variable} → In p (withRole rs ls) → (l : Literal) × In l ls × (rs (l .role) ≡ true) × (p ≡ l .atom)
-withRole-in rs [] m = absurd (List·Memᴰ·not-nil m)
-withRole-in rs (l ∷ ls) {p} m = go (λ k. withRole-in rs ls k) (in-keepIf (rs (l .role)) (l .atom) (withRole rs ls) m)
-  where
-    go : (In p (withRole rs ls) → (l : Literal) × In l ls × (rs (l .role) ≡ true) × (p ≡ l .atom))
-        → ((rs (l .role) ≡ true) × (p ≡ l .atom)) ⊎ In p (withRole rs ls)
-        → (k : Literal) × In k (l ∷ ls) × (rs (k .role) ≡ true) × (p ≡ k .atom)
-    go ih (inl h) = (l, List·Memᴰ·head refl, h .0, h .1)
-    go ih (inr k) = let r = ih k in (r .0, List·Memᴰ·tail (r .1), r .2, r .3)
-
-pub literalsAt-in : (a : Action) (m : Moment) (c : Clause) {p : Atom Variable} → In p (literalsAt a m c)
-    → (l : Literal) × In l (a .lits) × (counts m c (l .role) ≡ true) × (p ≡ l .atom)
-unfolding literalsAt
-literalsAt-in a m c h = withRole-in (counts m c) (a .lits) (dedup-in sameLiteral _ h)
+-- ---- the classes of an action
 
 pub class-in : (D : Domain) (a : Action) {u : List Variable} → In u (classes D a) → (l : Literal) × In l (a .lits) × In u (tuplesOf D (l .atom))
 unfolding classes
@@ -57,33 +41,40 @@ in-class D a h m = in-dedup (sameList sameVariable) variables-eq (in-flatMap (λ
 
 -- ---- the names as a table, by the lists themselves
 
-abbrev pub nameTable : List (Atom Variable) → List (Atom Variable) → Bool → Bool → Name
-nameTable (p ∷ q ∷ ps) as′ ch cov = Unreachable
-nameTable [] [] ch cov = Irrelevant
-nameTable [] (a ∷ []) ch cov = cond cov Bounded Unbounded
-nameTable [] (a ∷ b ∷ as′) ch cov = Heavy
-nameTable (p ∷ []) [] ch cov = Irrelevant
-nameTable (p ∷ []) (a ∷ []) ch cov = cond ch Balanced Unbalanced
-nameTable (p ∷ []) (a ∷ b ∷ as′) ch cov = Heavy
+-- dd: two or more true conditions count towards unreachable. (Two or more own ones do, so that the table's last line is never met without it.)
+abbrev pub nameTable : Bool → List (Atom Variable) → List (Atom Variable) → Bool → Bool → Name
+nameTable true ps as′ ch cov = Unreachable
+nameTable false ps [] ch cov = Irrelevant
+nameTable false ps (a ∷ b ∷ as′) ch cov = Heavy
+nameTable false [] (a ∷ []) ch cov = cond cov Bounded Unbounded
+nameTable false (p ∷ []) (a ∷ []) ch cov = cond ch Balanced Unbalanced
+nameTable false (p ∷ q ∷ ps) (a ∷ []) ch cov = cond cov Bounded Unbounded
 
-two-or-more : (n : ℕ) → leb 2 (suc (suc n)) ≡ true
+pub two-or-more : (n : ℕ) → leb 2 (suc (suc n)) ≡ true
 two-or-more n = leb·suc-suc 1 (suc n) ∙ leb·suc-suc 0 n ∙ leb·zero n
 
-name-table : (ps as′ : List (Atom Variable)) (ch cov : Bool) → nameBy (length ps) (length ps) (length as′) ch cov ≡ nameTable ps as′ ch cov
+more-than-one : (n : ℕ) → eqb (suc (suc n)) 1 ≡ false
+more-than-one n = ne-eqb (suc (suc n)) 1 (λ e. omega arith)
+
+list-two : {A : Type 0} (l : List A) → leb 2 (length l) ≡ true → (x y : A) × ((zs : List A) × (l ≡ x ∷ y ∷ zs))
+list-two [] e = absurd (false≢true e)
+list-two (x ∷ []) e = absurd (false≢true e)
+list-two (x ∷ y ∷ zs) e = (x, y, (zs, refl))
+
+name-table : (n : ℕ) (dd : Bool) → leb 2 n ≡ dd → (ps as′ : List (Atom Variable)) (ch cov : Bool) → nameBy n (length ps) (length as′) ch cov ≡ nameTable dd ps as′ ch cov
 unfolding nameBy
-name-table (p ∷ q ∷ ps) as′ ch cov = rw (two-or-more (length ps))
-name-table [] [] ch cov = refl
-name-table [] (c ∷ []) ch cov = refl
-name-table [] (c ∷ d ∷ cs) ch cov = rw (two-or-more (length cs), eqb·suc-zero (suc (length cs)))
-name-table (p ∷ []) [] ch cov = refl
-name-table (p ∷ []) (c ∷ []) ch cov = refl
-name-table (p ∷ []) (c ∷ d ∷ cs) ch cov = rw (two-or-more (length cs), eqb·suc-zero (suc (length cs)))
+name-table n true e ps as′ ch cov = rw e
+name-table n false e ps [] ch cov = rw e
+name-table n false e ps (c ∷ d ∷ cs) ch cov = rw (e, two-or-more (length cs), eqb·suc-zero (suc (length cs)))
+name-table n false e [] (c ∷ []) ch cov = rw e
+name-table n false e (p ∷ []) (c ∷ []) ch cov = rw e
+name-table n false e (p ∷ q ∷ ps) (c ∷ []) ch cov = rw (e, more-than-one (length ps))
 
 pub name-of : (D : Domain) (a : Action) (x : List Variable) (m : Moment)
-    → nameOf D a x m ≡ nameTable (inClass D a x m Positive) (inClass D a x m Add)
+    → nameOf D a x m ≡ nameTable (leb 2 (length (reachIn D a x m))) (inClass D a x m Positive) (inClass D a x m Add)
     (all (changedBy (inClass D a x m Add) (inClass D a x m Delete)) (inClass D a x m Positive)) (all (covered (excluding D a x m)) (D .template))
-unfolding nameOf inClass
-name-of D a x m = name-table (inClass D a x m Positive) (inClass D a x m Add) _ _
+unfolding nameOf
+name-of D a x m = name-table (length (reachIn D a x m)) (leb 2 (length (reachIn D a x m))) refl (inClass D a x m Positive) (inClass D a x m Add) _ _
 
 -- ---- names that keep an instance safe; v: bounded moments may add
 
@@ -155,8 +146,17 @@ journey-of D a x e = go (list-one positive (and-r test1 _ upTo2)) (list-one (inC
 
 -- ---- an action with an injective binding, and an instance
 
+-- the facts of its own literals
 abbrev pub effect : Action → Binding → Moment → Effect
 effect a b m c = map (bind b) (literalsAt a m c)
+
+-- the facts of all that is asked, an end's over-all conditions too
+abbrev pub asks : Action → Binding → Moment → Effect
+asks a b m c = map (bind b) (required a m c)
+
+-- no two of these facts are facts of the instance: of what an event asks, it is so where all of it holds in a state with at most one fact of the instance
+abbrev pub Alive : (Fact → Bool) → List Fact → Type 0
+Alive fit fs = (f g : Fact) → In f fs → In g fs → fit f ≡ true → fit g ≡ true → f ≡ g
 
 module _ (D : Domain) (a : Action) (ok : wellFormedAction D a ≡ true) (b : Binding) (len : length b ≡ a .vars) (d : distinct sameObject b ≡ true) (y : List Object) where
   lit-below : (l : Literal) → In l (a .lits) → Below (length b) (l .atom .args)
@@ -164,6 +164,19 @@ module _ (D : Domain) (a : Action) (ok : wellFormedAction D a ≡ true) (b : Bin
 
   pub at-below : (m : Moment) (c : Clause) (p : Atom Variable) → In p (literalsAt a m c) → Below (length b) (p .args)
   at-below m c p h = let r = literalsAt-in a m c h in rw (r .3) (lit-below (r .0) (r .1))
+
+  asked-below : (m : Moment) (c : Clause) (p : Atom Variable) → In p (required a m c) → Below (length b) (p .args)
+  asked-below m c p h = let r = required-in a m c h in rw (r .3) (lit-below (r .0) (r .1))
+
+  -- two of some different literals are bound to two facts
+  two-facts : (l : List (Atom Variable)) → distinct sameLiteral l ≡ true → ((p : Atom Variable) → In p l → Below (length b) (p .args))
+      → (p q : Atom Variable) (ps : List (Atom Variable)) → l ≡ p ∷ q ∷ ps → bind b p ≡ bind b q → ⊥
+  two-facts l dl below p q ps e h =
+      let hp : In p l = rw e (List·Memᴰ·head refl) in
+      let hq : In q l = rw e (List·Memᴰ·tail (List·Memᴰ·head refl)) in
+      let pq : p ≡ q = bind-inj b d p q (below p hp) (below q hq) h in
+      let o : distinct sameLiteral (p ∷ q ∷ ps) ≡ true = rw e at dl in
+      clash (sym (ap (sameLiteral p) pq) ∙ literal-self p) (not-true (sameLiteral p q) (and-l _ _ (and-l _ _ o)))
 
   pub class-below : (x : List Variable) → In x (classes D a) → Below (length b) x
   class-below x h = let r = class-in D a h in tuple-below D (length b) (r .0 .atom) (lit-below (r .0) (r .1)) (r .2)
@@ -212,18 +225,38 @@ module _ (D : Domain) (a : Action) (ok : wellFormedAction D a ≡ true) (b : Bin
     one-in : (c : Clause) {q : Atom Variable} {l : List (Atom Variable)} → inClass D a x m c ≡ q ∷ l → In q (inClass D a x m c)
     one-in c e = rw e (List·Memᴰ·head refl)
 
-    class-distinct : (c : Clause) → distinct sameLiteral (inClass D a x m c) ≡ true
-    unfolding inClass literalsAt
-    class-distinct c = pairwise-filter (λ p q. not (sameLiteral p q)) (belongs D x) (literalsAt a m c) (distinct-dedup sameLiteral (withRole (counts m c) (a .lits)))
-
     -- two literals of a clause are bound to two facts
     pub twice : (c : Clause) (p q : Atom Variable) (ps : List (Atom Variable)) → inClass D a x m c ≡ p ∷ q ∷ ps → bind b p ≡ bind b q → ⊥
-    twice c p q ps e h =
-        let hp : In p (inClass D a x m c) = rw e (List·Memᴰ·head refl) in
-        let hq : In q (inClass D a x m c) = rw e (List·Memᴰ·tail (List·Memᴰ·head refl)) in
-        let pq : p ≡ q = bind-inj b d p q (at-below m c p (class-at c p hp)) (at-below m c q (class-at c q hq)) h in
-        let o : distinct sameLiteral (p ∷ q ∷ ps) ≡ true = rw e at (class-distinct c) in
-        clash (sym (ap (sameLiteral p) pq) ∙ literal-self p) (not-true (sameLiteral p q) (and-l _ _ (and-l _ _ o)))
+    twice c = two-facts (inClass D a x m c) (class-distinct D a x m c) (λ p h. at-below m c p (class-at c p h))
+
+    -- ---- what is asked: an event with two true conditions in the class never happens where the instance has at most one fact
+
+    module _ (alive : Alive (matches D y) (asks a b m Positive)) where
+      reach-one : (p q : Atom Variable) → In p (reachIn D a x m) → In q (reachIn D a x m) → bind b p ≡ bind b q
+      unfolding reachIn
+      reach-one p q hp hq =
+          let fp = filter-in (belongs D x) (required a m Positive) hp in
+          let fq = filter-in (belongs D x) (required a m Positive) hq in
+          alive (bind b p) (bind b q) (Memᴰ·map (bind b) (fp .0)) (Memᴰ·map (bind b) (fq .0))
+          (rw (← ex) (matches-bind D b x p (fp .1))) (rw (← ex) (matches-bind D b x q (fq .1)))
+
+      reach-below : (p : Atom Variable) → In p (reachIn D a x m) → Below (length b) (p .args)
+      unfolding reachIn
+      reach-below p h = asked-below m Positive p (filter-in (belongs D x) (required a m Positive) h .0)
+
+      -- it is not unreachable
+      never-two : leb 2 (length (reachIn D a x m)) ≡ true → ⊥
+      never-two t = go (list-two (reachIn D a x m) t)
+        where
+          go : (p q : Atom Variable) × ((ps : List (Atom Variable)) × (reachIn D a x m ≡ p ∷ q ∷ ps)) → ⊥
+          go (p, q, (ps, e)) =
+              two-facts (reachIn D a x m) (reach-distinct D a x m) reach-below p q ps e
+              (reach-one p q (rw e (List·Memᴰ·head refl)) (rw e (List·Memᴰ·tail (List·Memᴰ·head refl))))
+
+      -- nor has it two own true conditions
+      never-two-own : (p q : Atom Variable) (ps : List (Atom Variable)) → inClass D a x m Positive ≡ p ∷ q ∷ ps → ⊥
+      never-two-own p q ps e =
+          twice Positive p q ps e (reach-one p q (own-reach D a x m (rw e (List·Memᴰ·head refl))) (own-reach D a x m (rw e (List·Memᴰ·tail (List·Memᴰ·head refl)))))
 
     module _ (v : Bool) (okT : wellFormedTemplate D ≡ true) (s t : ℕ) where
       excluded : (q : Atom Variable) → inClass D a x m Add ≡ q ∷ [] → all (covered (excluding D a x m)) (D .template) ≡ true
@@ -249,19 +282,17 @@ module _ (D : Domain) (a : Action) (ok : wellFormedAction D a ≡ true) (b : Bin
               rest (inl h) = inr (is Add p e h ∙ ap (bind b) (List·Memᴰ·eq-of-singleton (rw ea at h)))
               rest (inr h) = inl (Memᴰ·cast (is Delete p e h) (forth Delete p h))
 
-      by-name : s ≡ 0 → t ≡ 0 → (ps as′ : List (Atom Variable)) (ch cov : Bool) → inClass D a x m Positive ≡ ps → inClass D a x m Add ≡ as′
+      by-name : Alive (matches D y) (asks a b m Positive) → s ≡ 0 → t ≡ 0 → (dd : Bool) (ps as′ : List (Atom Variable)) (ch cov : Bool)
+          → leb 2 (length (reachIn D a x m)) ≡ dd → inClass D a x m Positive ≡ ps → inClass D a x m Add ≡ as′
           → all (changedBy (inClass D a x m Add) (inClass D a x m Delete)) (inClass D a x m Positive) ≡ ch
-          → all (covered (excluding D a x m)) (D .template) ≡ cov → Harmless v (nameTable ps as′ ch cov) → Act (matches D y) v (effect a b m) s t
-      by-name s0 t0 (p ∷ q ∷ ps) as′ ch cov ep ea ec ev hl =
-          let hp : In p (inClass D a x m Positive) = rw ep (List·Memᴰ·head refl) in
-          let hq : In q (inClass D a x m Positive) = rw ep (List·Memᴰ·tail (List·Memᴰ·head refl)) in
-          dead (bind b p) (bind b q) (forth Positive p hp) (forth Positive q hq) (forth-matches Positive p hp) (forth-matches Positive q hq) (twice Positive p q ps ep)
-      by-name s0 t0 [] [] ch cov ep ea ec ev hl = idle s0 t0 (gone Add ea)
-      by-name s0 t0 [] (c ∷ []) ch true ep ea ec ev hl = fills (bind b c) hl s0 t0 (only Add c ea) (excluded c ea ev)
-      by-name s0 t0 [] (c ∷ []) ch false ep ea ec ev hl = absurd hl
-      by-name s0 t0 [] (c ∷ c′ ∷ cs) ch cov ep ea ec ev hl = absurd hl
-      by-name s0 t0 (p ∷ []) [] ch cov ep ea ec ev hl = idle s0 t0 (gone Add ea)
-      by-name s0 t0 (p ∷ []) (c ∷ []) true cov ep ea ec ev hl =
+          → all (covered (excluding D a x m)) (D .template) ≡ cov → Harmless v (nameTable dd ps as′ ch cov) → Act (matches D y) v (effect a b m) s t
+      by-name alive s0 t0 true ps as′ ch cov ed ep ea ec ev hl = absurd (never-two alive ed)
+      by-name alive s0 t0 false ps [] ch cov ed ep ea ec ev hl = idle s0 t0 (gone Add ea)
+      by-name alive s0 t0 false ps (c ∷ c′ ∷ cs) ch cov ed ep ea ec ev hl = absurd hl
+      by-name alive s0 t0 false [] (c ∷ []) ch true ed ep ea ec ev hl = fills (bind b c) hl s0 t0 (only Add c ea) (excluded c ea ev)
+      by-name alive s0 t0 false [] (c ∷ []) ch false ed ep ea ec ev hl = absurd hl
+      by-name alive s0 t0 false (p ∷ q ∷ ps) (c ∷ []) ch cov ed ep ea ec ev hl = absurd (never-two-own alive p q ps ep)
+      by-name alive s0 t0 false (p ∷ []) (c ∷ []) true cov ed ep ea ec ev hl =
           let hp = one-in Positive ep in
           moves (bind b p) (bind b c) s0 t0 (forth Positive p hp) (forth-matches Positive p hp) (only Add c ea)
           (changed (or-cases _ _ (all-in (changedBy (inClass D a x m Add) (inClass D a x m Delete)) (inClass D a x m Positive) ec hp)))
@@ -270,12 +301,11 @@ module _ (D : Domain) (a : Action) (ok : wellFormedAction D a ≡ true) (b : Bin
               → In (bind b p) (effect a b m Delete) ⊎ (bind b p ≡ bind b c)
           changed (inl h) = inr (ap (bind b) (List·Memᴰ·eq-of-singleton (rw ea at (elem-in sameLiteral literal-eq p (inClass D a x m Add) h))))
           changed (inr h) = inl (forth Delete p (elem-in sameLiteral literal-eq p _ h))
-      by-name s0 t0 (p ∷ []) (c ∷ []) false cov ep ea ec ev hl = absurd hl
-      by-name s0 t0 (p ∷ []) (c ∷ c′ ∷ cs) ch cov ep ea ec ev hl = absurd hl
+      by-name alive s0 t0 false (p ∷ []) (c ∷ []) false cov ed ep ea ec ev hl = absurd hl
 
-      pub harmless-act : s ≡ 0 → t ≡ 0 → Harmless v (nameOf D a x m) → Act (matches D y) v (effect a b m) s t
-      harmless-act s0 t0 hl =
-          by-name s0 t0 (inClass D a x m Positive) (inClass D a x m Add) _ _ refl refl refl refl (rw (name-of D a x m) at hl)
+      pub harmless-act : Alive (matches D y) (asks a b m Positive) → s ≡ 0 → t ≡ 0 → Harmless v (nameOf D a x m) → Act (matches D y) v (effect a b m) s t
+      harmless-act alive s0 t0 hl =
+          by-name alive s0 t0 (leb 2 (length (reachIn D a x m))) (inClass D a x m Positive) (inClass D a x m Add) _ _ refl refl refl refl refl (rw (name-of D a x m) at hl)
 
   -- no class is bound to the instance
   pub apart-act : (v : Bool) (s t : ℕ) (m : Moment) → s ≡ 0 → t ≡ 0 → ((x : List Variable) → In x (classes D a) → bindTuple b x ≡ y → ⊥)

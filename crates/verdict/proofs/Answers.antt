@@ -22,7 +22,7 @@ by : (d : Decoded) (report wit : List ℕ)
 unfolding judgedDomain
 by (refused r) report wit = inl refl
 by (domain D) report wit =
-    one-of (ltb (length report) (4 * length (rows D))) (writesWitness (decided D .number) && ltb (length wit) (8 * length (witness D))) (answerAt 30 0) (answerAt 31 0) (decided D)
+    one-of (ltb (length report) (4 * length (rows D))) (writesWitness D (decided D .number) && ltb (length wit) (8 * length (witness D))) (answerAt 30 0) (answerAt 31 0) (decided D)
 
 pub judging-decides : JudgingDecides
 unfolding judged decidedFile

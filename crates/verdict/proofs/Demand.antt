@@ -17,7 +17,7 @@ use Rattle.classes.specs.declared.Moment.the-variants.{Start}
 use Rattle.classes.specs.declared.Name.{Name}
 use Rattle.classes.specs.declared.Name.the-variants.{Unreachable, Irrelevant, Heavy, Balanced, Unbalanced, Bounded, Unbounded}
 use Rattle.classes.specs.Classes.{momentNumber, momentsOf, nameOf}
-use Rattle.verdict.specs.Decision.{Row, journeyEndAt, rows, isUnbounded, faultBy, faultOf, isFaulty, isBoundedOutside, firstRow, Decision, accept, refuseAt, decideBounded, decideBy, decideRows, decision, classAt, witnessAt, witnessOf, witness}
+use Rattle.verdict.specs.Decision.{Row, journeyEndAt, rows, isUnbounded, faultBy, faultOf, isFaulty, isBoundedOutside, firstRow, Decision, accept, refuseAt, decideBounded, decideBy, decideRows, decision, classAt, witnessAt, witnessOf, witness, shownAt, shownOf, isShown}
 use Rattle.verdict.specs.Judged.{answerRow, decided}
 use Rattle.verdict.specs.Claims.{wellFormed, noneLasts, refusedForClass, Harmful, FaultyClass, ClassAtOnce, Exactness, Shown, WitnessShows, plainObjects, plainInstance, plainEvent}
 use Rattle.verdict.proofs.WellFormed.{action-in}
@@ -88,6 +88,16 @@ module _ (D : Domain) (nl : noneLasts D ≡ true) where
 
   class-of : (r : Row) → In r (rows D) → ClassAtOnce D (r .action) (r .class)
   class-of r m = let s = stands D r m in record { listed = s .action-listed; at-once = at-once (r .action) (s .action-listed); numbered = s .class-listed }
+
+  -- ---- the witness is written
+
+  pub always-shown : isShown D ≡ true
+  unfolding isShown decision
+  always-shown = go (outcome (rows D) no-end)
+    where
+      go : Outcome (rows D) (decision D) → shownOf D (decision D .place) ≡ true
+      go (inl e) = ap (λ (d : Decision). shownOf D (d .place)) e
+      go (inr (r, m, f, e)) = ap (λ (d : Decision). shownOf D (d .place)) e ∙ ap (shownAt D (action D (r .action)) (classAt D (r .action) (r .class))) (starts r m)
 
   -- ---- the answer, by the outcome
 

@@ -1,8 +1,8 @@
 -- The machine's lists as facts: membership after a step, the conditions, no interference. Assumes nothing.
-use mathlib.Core.Path.{_≡_, ap}
+use mathlib.Core.Path.{_≡_, sym, ap}
 use mathlib.Core.Bool.{true, false, not, _&&_}
 use mathlib.Core.Logic.{_⊎_, inl, inr}
-use mathlib.Core.List.{List, [], _∷_, _++_, Memᴰ·append-left, Memᴰ·append-right, List·Memᴰ·append-cases}
+use mathlib.Core.List.{List, [], _∷_, _++_, Memᴰ·append-left, Memᴰ·append-right, List·Memᴰ·append-cases, Memᴰ·map, Memᴰ·of-map, Memᴰ·cast}
 use Prim.Native.Nat.{_<_}
 use lib.Dec.{ltb}
 use lib.ListN.{length}
@@ -12,7 +12,10 @@ use Rattle.records.proofs.Lists.{and-l, and-r, or-l, or-r, not-true, off, bool-
 use Rattle.literals.specs.declared.Clause.{Clause}
 use Rattle.literals.specs.declared.Clause.the-variants.{Positive, Negative, Add, Delete}
 use Rattle.literals.specs.Domain.{Fact, sameFact, Domain, action}
-use Rattle.verdict.specs.Machine.{Event, eventFacts, stepFacts, factsAfter, conditionsHold, interfere, disturbs, independent, meet, hasMoment, legal}
+use Rattle.classes.specs.Classes.{literalsAt}
+use Rattle.classes.proofs.Roles.{own-required}
+use Rattle.verdict.specs.Binding.{bind}
+use Rattle.verdict.specs.Machine.{Event, eventFacts, requiredFacts, stepFacts, factsAfter, conditionsHold, interfere, disturbs, independent, meet, hasMoment, legal}
 use Rattle.verdict.proofs.Equality.{fact-eq, fact-self}
 use Rattle.verdict.proofs.Steps.{Holds, Quiet, Quiets, alone, beside, After}
 
@@ -85,12 +88,27 @@ module _ (D : Domain) (e : Event) (ok : legal D e ≡ true) where
 
 -- ---- an allowed step
 
-pub holds-of : (D : Domain) (s : List Fact) (e : Event) → conditionsHold D s e ≡ true → Holds (λ f. In f s) (eventFacts D e)
+-- all that is asked, an end's over-all conditions too
+pub asked-holds : (D : Domain) (s : List Fact) (e : Event) → conditionsHold D s e ≡ true → Holds (λ f. In f s) (requiredFacts D e)
 unfolding conditionsHold
-holds-of D s e c = record {
+asked-holds D s e c = record {
   yes = λ f m. elem-fact f s (all-in (λ g. elem sameFact g s) _ (and-l _ _ c) m);
-  no = λ f m. not-fact f s (all-in (λ g. not (elem sameFact g s)) _ (and-r (all (λ g. elem sameFact g s) (eventFacts D e Positive)) _ c) m);
+  no = λ f m. not-fact f s (all-in (λ g. not (elem sameFact g s)) _ (and-r (all (λ g. elem sameFact g s) (requiredFacts D e Positive)) _ c) m);
 }
+
+-- the event's own conditions are among it
+pub own-asked-facts : (D : Domain) (e : Event) (c : Clause) {f : Fact} → In f (eventFacts D e c) → In f (requiredFacts D e c)
+unfolding eventFacts requiredFacts
+own-asked-facts D e c m =
+    let a = action D (e .ground .action) in
+    let b = e .ground .binding in
+    let r = Memᴰ·of-map (bind b) (literalsAt a (e .moment) c) m in
+    Memᴰ·cast (sym (r .2)) (Memᴰ·map (bind b) (own-required a (e .moment) c (r .1)))
+
+pub holds-of : (D : Domain) (s : List Fact) (e : Event) → conditionsHold D s e ≡ true → Holds (λ f. In f s) (eventFacts D e)
+holds-of D s e c =
+    let h = asked-holds D s e c in
+    record { yes = λ f m. h .yes f (own-asked-facts D e Positive m); no = λ f m. h .no f (own-asked-facts D e Negative m) }
 
 pub quiet-of : (D : Domain) (e d : Event) → not (interfere D e d) ≡ true → Quiet (eventFacts D e) (eventFacts D d)
 unfolding interfere disturbs

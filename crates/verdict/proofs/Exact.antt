@@ -5,11 +5,11 @@ use mathlib.Core.Logic.{_⊎_, inl, inr}
 use mathlib.Core.List.{List, [], _∷_, _++_, map, List·Memᴰ·head, List·Memᴰ·tail, List·Memᴰ·append-cases, Memᴰ·append-left, Memᴰ·append-right, Memᴰ·of-map, Memᴰ·cast, List·Memᴰ·eq-of-singleton}
 use Prim.Native.Nat.{ℕ, suc, _≤_, _<_}
 use native.Mathlib.Omega.{arith}
-use lib.Dec.{eqb}
+use lib.Dec.{eqb, leb}
 use lib.ListN.{length, length-map}
 use borrow.Author.Tests.{eqb-true, eq-eqb, lt-ltb}
 use Rattle.records.specs.Lists.{In, all, any, countBy, elem, distinct, dedup}
-use Rattle.records.proofs.Lists.{and-l, and-r, and-i, or-l, or-r, or-cases, off, not-true, bool-cases, clash, eqb-comm, in-any, all-of, all-append, getD-in, in-elem, in-dedup, dedup-in, distinct-dedup, pairwise-in, count-single, single-count}
+use Rattle.records.proofs.Lists.{and-l, and-r, and-i, or-l, or-r, off, not-true, bool-cases, clash, eqb-comm, in-any, all-of, all-append, getD-in, in-elem, in-dedup, dedup-in, distinct-dedup, pairwise-in, count-single, single-count}
 use Rattle.literals.specs.declared.Variable.{Variable}
 use Rattle.literals.specs.declared.Object.{Object}
 use Rattle.literals.specs.declared.Time.{Time}
@@ -20,17 +20,17 @@ use Rattle.literals.specs.declared.Role.{Role}
 use Rattle.literals.specs.Domain.{object, sameObject, Atom, Fact, sameFact, sameLiteral, firstRole, clauseNumber, sameTime, sameClause, Literal, Action, Component, isCounted, keysOf, Domain, action}
 use Rattle.literals.specs.Decode.{repeats, contrary, together, contradicts}
 use Rattle.classes.specs.declared.Moment.the-variants.{Start}
-use Rattle.classes.specs.Classes.{own, literalsAt, matches, classes, inClass, excluding, covered, changedBy, nameOf}
-use Rattle.classes.proofs.Clauses.{counts}
+use Rattle.classes.specs.Classes.{own, literalsAt, required, matches, classes, inClass, reachIn, excluding, covered, changedBy, nameOf}
+use Rattle.classes.proofs.Roles.{literalsAt-in}
 use Rattle.verdict.specs.Binding.{Binding, valueOf, bind, bindTuple, sameNumbers, spare}
 use Rattle.verdict.specs.Decision.{faultBy, objectUnder, instanceFact, firstUncovered, witnessBy, witnessAt}
-use Rattle.verdict.specs.Machine.{Event, eventFacts, conditionsHold, allowed, factsAfter, next, weight, legal}
+use Rattle.verdict.specs.Machine.{Event, eventFacts, requiredFacts, conditionsHold, allowed, factsAfter, next, weight, legal}
 use Rattle.verdict.specs.Claims.{hasArity, among, isFact, wellFormedAction, wellFormedTemplate, wellFormed, Harm, plainObjects, plainEvent}
 use Rattle.verdict.proofs.Equality.{object-self, literal-self, fact-eq, fact-self}
 use Rattle.verdict.proofs.Events.{elem-fact, fact-elem, in-after}
 use Rattle.verdict.proofs.Tuples.{Below, bind-inj}
 use Rattle.verdict.proofs.WellFormed.{literal-arity, literals-apart, action-well-formed, template-well-formed, component-arity}
-use Rattle.verdict.proofs.Acts.{literalsAt-in, nameTable, name-of, effect, at-below, class-below, back, class-at, forth, forth-matches, gone, only, twice}
+use Rattle.verdict.proofs.Acts.{nameTable, two-or-more, name-of, effect, at-below, class-below, back, class-at, forth, forth-matches, gone, only, twice}
 use Rattle.verdict.proofs.Objects.{objects-length, objects-range, object-in, objects-distinct}
 use Rattle.verdict.proofs.Instances.{class-length, instance-matches, instance-objects, spare-in, first-uncovered}
 
@@ -48,12 +48,8 @@ contrary-of Delete d s t = absurd (false≢true s)
 together-of : (t u : Time) → sameTime AtStart t ≡ true → sameTime AtStart u ≡ true → together t u ≡ true
 together-of t u s r = rw (eqb-comm (firstRole t) 0, s, eqb-comm (firstRole u) 0, r)
 
-own-of : (c : Clause) (r : Role) → counts Start c r ≡ true → (sameTime AtStart (r .time) ≡ true) × (sameClause c (r .clause) ≡ true)
-own-of c r h = go (or-cases (own Start c r) false h)
-  where
-    go : (own Start c r ≡ true) ⊎ (false ≡ true) → (sameTime AtStart (r .time) ≡ true) × (sameClause c (r .clause) ≡ true)
-    go (inl k) = (and-l _ _ k, and-r (sameTime AtStart (r .time)) _ k)
-    go (inr k) = absurd (false≢true k)
+own-of : (c : Clause) (r : Role) → own Start c r ≡ true → (sameTime AtStart (r .time) ≡ true) × (sameClause c (r .clause) ≡ true)
+own-of c r k = (and-l _ _ k, and-r (sameTime AtStart (r .time)) _ k)
 
 never-both : (D : Domain) (a : Action) → wellFormedAction D a ≡ true → (p : Atom Variable)
     → In p (literalsAt a Start Positive) → In p (literalsAt a Start Negative) → ⊥
@@ -145,7 +141,7 @@ module _ (D : Domain) (wf : wellFormed D ≡ true) (i : ℕ) (idx : i < length (
         → ((f g : Fact) → In f seen → In g seen → matches D y f ≡ true → matches D y g ≡ true → f ≡ g) → (f g : Fact)
         → In f (effect act b Start Add) → In g (effect act b Start Add) ⊎ (In g seen × (In g (effect act b Start Delete) → ⊥))
         → matches D y f ≡ true → matches D y g ≡ true → (f ≡ g → ⊥) → Harm D (plainObjects D i) seen y ev
-    unfolding weight next allowed conditionsHold eventFacts
+    unfolding weight next allowed conditionsHold requiredFacts eventFacts required literalsAt
     does-harm seen fo held lacked single f g mf mg ff fg ne = record {
       facts-over = fo;
       instance = and-i (eq-eqb (length y) (keysOf (D .template)) size) (among-of (plainObjects D i) y over);
@@ -305,22 +301,36 @@ module _ (D : Domain) (wf : wellFormed D ≡ true) (i : ℕ) (idx : i < length (
             lacking g m (inr n) = bad Negative (λ q j. Memᴰ·append-left _ j) (Memᴰ·cast (sym (List·Memᴰ·eq-of-singleton n)) m)
 
     -- a faulty class: its witness does harm
-    by-fault : (ps as′ : List (Atom Variable)) (ch cov : Bool) → inClass D act x Start Positive ≡ ps → inClass D act x Start Add ≡ as′
+    by-fault : (dd : Bool) (ps as′ : List (Atom Variable)) (ch cov : Bool) → leb 2 (length ps) ≡ dd → inClass D act x Start Positive ≡ ps → inClass D act x Start Add ≡ as′
         → all (changedBy (inClass D act x Start Add) (inClass D act x Start Delete)) (inClass D act x Start Positive) ≡ ch
-        → all (covered (excluding D act x Start)) (D .template) ≡ cov → (faultBy (nameTable ps as′ ch cov) false ≡ 0 → ⊥)
+        → all (covered (excluding D act x Start)) (D .template) ≡ cov → (faultBy (nameTable dd ps as′ ch cov) false ≡ 0 → ⊥)
         → Harm D (plainObjects D i)
-        (witnessBy (nameTable ps as′ ch cov) (effect act b Start Positive) (map (instanceFact (spare act) y) (firstUncovered (excluding D act x Start) (D .template)))) y ev
-    by-fault (p ∷ q ∷ ps) as′ ch cov ep ea ec eu ne = absurd (ne refl)
-    by-fault [] [] ch cov ep ea ec eu ne = absurd (ne refl)
-    by-fault [] (c ∷ []) ch true ep ea ec eu ne = absurd (ne refl)
-    by-fault [] (c ∷ []) ch false ep ea ec eu ne = open-place c ep ea eu
-    by-fault [] (c ∷ c′ ∷ cs) ch cov ep ea ec eu ne = two-adds c c′ cs ea (no-hold ep)
-    by-fault (p ∷ []) [] ch cov ep ea ec eu ne = absurd (ne refl)
-    by-fault (p ∷ []) (c ∷ []) true cov ep ea ec eu ne = absurd (ne refl)
-    by-fault (p ∷ []) (c ∷ []) false cov ep ea ec eu ne = stays p c ep ea ec
-    by-fault (p ∷ []) (c ∷ c′ ∷ cs) ch cov ep ea ec eu ne = two-adds c c′ cs ea (one-hold p ep)
+        (witnessBy (nameTable dd ps as′ ch cov) (effect act b Start Positive) (map (instanceFact (spare act) y) (firstUncovered (excluding D act x Start) (D .template)))) y ev
+    by-fault true ps as′ ch cov ed ep ea ec eu ne = absurd (ne refl)
+    by-fault false (p ∷ q ∷ ps) as′ ch cov ed ep ea ec eu ne = absurd (clash (two-or-more (length ps)) ed)
+    by-fault false [] [] ch cov ed ep ea ec eu ne = absurd (ne refl)
+    by-fault false [] (c ∷ []) ch true ed ep ea ec eu ne = absurd (ne refl)
+    by-fault false [] (c ∷ []) ch false ed ep ea ec eu ne = open-place c ep ea eu
+    by-fault false [] (c ∷ c′ ∷ cs) ch cov ed ep ea ec eu ne = two-adds c c′ cs ea (no-hold ep)
+    by-fault false (p ∷ []) [] ch cov ed ep ea ec eu ne = absurd (ne refl)
+    by-fault false (p ∷ []) (c ∷ []) true cov ed ep ea ec eu ne = absurd (ne refl)
+    by-fault false (p ∷ []) (c ∷ []) false cov ed ep ea ec eu ne = stays p c ep ea ec
+    by-fault false (p ∷ []) (c ∷ c′ ∷ cs) ch cov ed ep ea ec eu ne = two-adds c c′ cs ea (one-hold p ep)
+
+    -- over all counts at ends alone
+    reach-start : reachIn D act x Start ≡ inClass D act x Start Positive
+    unfolding reachIn inClass required literalsAt
+    reach-start = refl
+
+    name-start : nameOf D act x Start ≡ nameTable (leb 2 (length (inClass D act x Start Positive))) (inClass D act x Start Positive) (inClass D act x Start Add)
+        (all (changedBy (inClass D act x Start Add) (inClass D act x Start Delete)) (inClass D act x Start Positive)) (all (covered (excluding D act x Start)) (D .template))
+    name-start =
+        name-of D act x Start
+        ∙ ap (λ (l : List (Atom Variable)). nameTable (leb 2 (length l)) (inClass D act x Start Positive) (inClass D act x Start Add)
+        (all (changedBy (inClass D act x Start Add) (inClass D act x Start Delete)) (inClass D act x Start Positive)) (all (covered (excluding D act x Start)) (D .template))) reach-start
 
     pub fault-harms : (faultBy (nameOf D act x Start) false ≡ 0 → ⊥) → Harm D (plainObjects D i) (witnessAt D act x Start) y ev
-    unfolding witnessAt
+    unfolding witnessAt required literalsAt
     fault-harms ne =
-        rw (name-of D act x Start) (by-fault (inClass D act x Start Positive) (inClass D act x Start Add) _ _ refl refl refl refl (rw (name-of D act x Start) at ne))
+        rw name-start
+        (by-fault (leb 2 (length (inClass D act x Start Positive))) (inClass D act x Start Positive) (inClass D act x Start Add) _ _ refl refl refl refl refl (rw name-start at ne))

@@ -7,9 +7,10 @@ use Prim.Native.Nat.{ℕ, _≤_, _<_}
 use native.Mathlib.Omega.{arith}
 use lib.ListN.{length}
 use Rattle.records.specs.Lists.{In, all, any, sameList, distinct, dedup}
-use Rattle.records.proofs.Lists.{and-l, and-r, bool-cases, clash, in-any, any-in, all-in, getD-in, in-getD, count-single, single-count, distinct-dedup}
+use Rattle.records.proofs.Lists.{and-l, and-r, and-i, bool-cases, clash, in-any, any-in, all-in, getD-in, in-getD, count-single, single-count, distinct-dedup}
 use Rattle.literals.specs.declared.Variable.{Variable}
 use Rattle.literals.specs.declared.Object.{Object}
+use Rattle.literals.specs.declared.Clause.the-variants.{Positive}
 use Rattle.literals.specs.Domain.{sameObject, Fact, sameFact, Action, Domain, action}
 use Rattle.classes.specs.declared.Moment.{Moment}
 use Rattle.classes.specs.declared.Moment.the-variants.{Start, End}
@@ -18,14 +19,14 @@ use Rattle.classes.specs.declared.Name.the-variants.{Unreachable, Irrelevant, H
 use Rattle.classes.specs.Classes.{matches, classes, nameOf}
 use Rattle.verdict.specs.Binding.{Binding, bindTuple}
 use Rattle.verdict.specs.Decision.{faultBy, classAt, witnessAt}
-use Rattle.verdict.specs.Machine.{Event, eventFacts, hasMoment, legal, isOpen, conditionsHold, allowed, factsAfter, next, startState, weight}
+use Rattle.verdict.specs.Machine.{Event, eventFacts, requiredFacts, hasMoment, legal, isOpen, conditionsHold, allowed, factsAfter, next, startState, weight}
 use Rattle.verdict.specs.Claims.{wellFormedAction, wellFormed, Harm, plainObjects, plainInstance, plainEvent, ClassExactness, HarmIsOfFaultyClass}
 use Rattle.verdict.proofs.Equality.{fact-self, objects-eq, objects-self}
 use Rattle.verdict.proofs.Steps.{Inv, Act, inv-after, inv-less}
-use Rattle.verdict.proofs.Events.{after-in, legal-listed, legal-moment, legal-length, holds-of, quiets-of}
+use Rattle.verdict.proofs.Events.{after-in, legal-listed, legal-moment, legal-length, asked-holds, holds-of, quiets-of}
 use Rattle.verdict.proofs.Weight.{distinct-after}
 use Rattle.verdict.proofs.WellFormed.{action-well-formed, template-well-formed}
-use Rattle.verdict.proofs.Acts.{Harmless, effect, harmless-act, apart-act}
+use Rattle.verdict.proofs.Acts.{Alive, Harmless, effect, harmless-act, apart-act}
 use Rattle.verdict.proofs.Exact.{fault-harms}
 
 -- outside a journey's end, bounded moments allowed, what is not faulty is harmless
@@ -38,10 +39,22 @@ harmless-fault Unbalanced z = absurd (omega arith)
 harmless-fault Bounded z = refl
 harmless-fault Unbounded z = absurd (omega arith)
 
+-- the conditions of one allowed event hold
+met : (D : Domain) (fs : List Fact) (e : Event) → allowed D (startState fs) (e ∷ []) ≡ true → conditionsHold D (startState fs .facts) e ≡ true
+unfolding allowed
+met D fs e al = and-l _ _ (and-r (all (isOpen []) (e ∷ [])) _ (and-l _ _ (and-l _ _ al)))
+
+-- what it asks has at most one fact of an instance that weighs at most one
+alive-of : (D : Domain) (y : List Object) (fs : List Fact) (e : Event) → weight D y (startState fs .facts) ≤ 1 → allowed D (startState fs) (e ∷ []) ≡ true
+    → Alive (matches D y) (requiredFacts D e Positive)
+unfolding weight
+alive-of D y fs e w al f g mf mg =
+    let h = asked-holds D (startState fs .facts) e (met D fs e al) in count-single (matches D y) (startState fs .facts) w f g (h .yes f mf) (h .yes g mg)
+
 -- one event that starts and ends no journey keeps the weight at most one
 one-event : (D : Domain) (y : List Object) (fs : List Fact) (e : Event) → Act (matches D y) true (eventFacts D e) 0 0
     → weight D y (startState fs .facts) ≤ 1 → allowed D (startState fs) (e ∷ []) ≡ true → weight D y (next D (startState fs) (e ∷ []) .facts) ≤ 1
-unfolding weight next allowed
+unfolding weight next
 one-event D y fs e act w al =
     single-count (matches D y) sameFact fact-self (factsAfter D s (e ∷ [])) (distinct-after D s (e ∷ []) (distinct-dedup sameFact fs)) (after .single)
   where
@@ -49,7 +62,7 @@ one-event D y fs e act w al =
     s = dedup sameFact fs
 
     holds : all (conditionsHold D s) (e ∷ []) ≡ true
-    holds = and-r (all (isOpen []) (e ∷ [])) _ (and-l _ _ (and-l _ _ al))
+    holds = and-i (met D fs e al) refl
 
     before : Inv (matches D y) true (λ f. In f s) 0
     before = record { single = count-single (matches D y) s w; free = λ f m t. refl; few = omega arith; none-open = λ _. refl }
@@ -91,8 +104,9 @@ module _ (D : Domain) (wf : wellFormed D ≡ true) (objs : List Object) (fs : Li
   not-kept act = let w = one-event D y fs e act (h .before) (h .can) in let z = h .after in omega arith
 
   faulty : (x : List Variable) → In x (classes D a) → bindTuple b x ≡ y → faultBy (nameOf D a x (e .moment)) false ≡ 0 → ⊥
+  unfolding requiredFacts
   faulty x hx ex z =
-      not-kept (harmless-act D a ok b len dis y x hx ex (e .moment) true (template-well-formed D wf) 0 0 refl refl (harmless-fault (nameOf D a x (e .moment)) z))
+      not-kept (harmless-act D a ok b len dis y x hx ex (e .moment) true (template-well-formed D wf) 0 0 (alive-of D y fs e (h .before) (h .can)) refl refl (harmless-fault (nameOf D a x (e .moment)) z))
 
   -- some class is bound to the instance
   bound : (x : List Variable) × In x (classes D a) × (bindTuple b x ≡ y)

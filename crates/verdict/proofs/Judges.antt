@@ -19,8 +19,9 @@ use Rattle.literals.specs.Decode.{Decoded, domain, decode}
 use Rattle.literals.proofs.Bounds.{arity-six, decoded-bounded}
 use Rattle.verdict.specs.Decision.{rows, witness}
 use Rattle.verdict.specs.Judged.{objectNumbers, factBytes, Answer, answerAt, decided, decidedFile, writesWitness, judgedDomain, judgedBy, judged, witnessMemoryBy, witnessAfter}
-use Rattle.verdict.specs.Claims.{hasArity, isFact, plainObjects, Shown, readFacts, AcceptedSafe, RefusedHarmful, ShownBy, WitnessHarms}
+use Rattle.verdict.specs.Claims.{hasArity, isFact, plainObjects, noneLasts, Shown, readFacts, AcceptedSafe, RefusedHarmful, ShownBy, WitnessHarms}
 use Rattle.verdict.proofs.Answers.{judging-decides}
+use Rattle.verdict.proofs.Demand.{always-shown}
 use Rattle.verdict.proofs.Files.{decided-file, file-safe, file-exact, file-witness}
 
 -- an answer that is neither 30 nor 31 is the file's decision
@@ -98,15 +99,20 @@ few-objects f D e objs fs t g m =
     let s = arity-six D (decoded-bounded f D e .arities) (g .rel) in
     omega arith
 
+-- where no action lasts, 40 to 42 write one
+writes : (D : Domain) (n : ℕ) → noneLasts D ≡ true → 40 ≤ n → n ≤ 42 → writesWitness D n ≡ true
+unfolding writesWitness
+writes D n nl lo hi = and-i (and-i (le-leb 40 n lo) (le-leb n 42 hi)) (always-shown D nl)
+
 -- a witness that judging writes fits, and is what the definition says
-written : (D : Domain) (report wit : List ℕ) → leb 40 (judgedDomain D report wit .number) ≡ true → writesWitness (decided D .number) ≡ true
+written : (D : Domain) (report wit : List ℕ) → leb 40 (judgedDomain D report wit .number) ≡ true → writesWitness D (decided D .number) ≡ true
     → (witnessMemoryBy (domain D) report wit ≡ over (factBytes (witness D)) wit) × (8 * length (witness D) ≤ length wit)
 unfolding judgedDomain
 written D report wit = go (ltb (length report) (4 * length (rows D))) (ltb (length wit) (8 * length (witness D))) refl
   where
     go : (b c : Bool) → ltb (length wit) (8 * length (witness D)) ≡ c
-        → leb 40 (cond b (answerAt 30 0) (cond (writesWitness (decided D .number) && c) (answerAt 31 0) (decided D)) .number) ≡ true → writesWitness (decided D .number) ≡ true
-        → (cond (writesWitness (cond b (answerAt 30 0) (cond (writesWitness (decided D .number) && c) (answerAt 31 0) (decided D)) .number)) (over (factBytes (witness D)) wit) wit ≡ over (factBytes (witness D)) wit)
+        → leb 40 (cond b (answerAt 30 0) (cond (writesWitness D (decided D .number) && c) (answerAt 31 0) (decided D)) .number) ≡ true → writesWitness D (decided D .number) ≡ true
+        → (cond (writesWitness D (cond b (answerAt 30 0) (cond (writesWitness D (decided D .number) && c) (answerAt 31 0) (decided D)) .number)) (over (factBytes (witness D)) wit) wit ≡ over (factBytes (witness D)) wit)
         × (8 * length (witness D) ≤ length wit)
     go true c q t w = absurd (false≢true t)
     go false true q t w = let z : leb 40 31 ≡ true = rw w at t in absurd (false≢true z)
@@ -135,7 +141,7 @@ judged-shown f report wit D e nl t =
         let hi = s .numbered .1 in
         let w = written D report wit
         (ap (λ (x : Answer). leb 40 (x .number)) (sym (judged-of f D e report wit) ∙ is) ∙ le-leb 40 (decidedFile f .number) lo)
-        (and-i (le-leb 40 (decided D .number) (omega arith)) (le-leb (decided D .number) 42 (omega arith))) in
+        (writes D (decided D .number) nl (omega arith) (omega arith)) in
         let few = few-objects f D e (plainObjects D (decidedFile f .first)) (witness D) (s .harm .facts-over) in
         let l = bytes-length (witness D) few in
         let r = w .1 in

@@ -2,6 +2,8 @@
 pub mod Equality
 pub mod Steps
 pub mod Events
+pub mod Asking
+pub mod Wider
 pub mod Weight
 pub mod Tuples
 pub mod WellFormed

@@ -13,6 +13,7 @@ use Rattle.records.specs.Lists.{In, all, any, countBy, sameList, distinct, dedu
 use Rattle.records.proofs.Lists.{and-l, and-r, and-i, bool-cases, clash, in-any, any-in, all-in, all-of, count-pos, count-none, count-some, count-single, single-count, distinct-dedup}
 use Rattle.literals.specs.declared.Variable.{Variable}
 use Rattle.literals.specs.declared.Object.{Object}
+use Rattle.literals.specs.declared.Clause.the-variants.{Positive}
 use Rattle.literals.specs.Domain.{sameVariable, sameObject, Fact, sameFact, Action, Domain, action}
 use Rattle.classes.specs.declared.Moment.{Moment}
 use Rattle.classes.specs.declared.Moment.the-variants.{Start, End}
@@ -21,14 +22,14 @@ use Rattle.classes.proofs.Members.{classes-distinct}
 use Rattle.verdict.specs.Binding.{Binding, bindTuple}
 use Rattle.verdict.specs.Decision.{Row, journeyEndAt, rows, decision}
 use Rattle.verdict.specs.Judged.{answerRow, decided}
-use Rattle.verdict.specs.Machine.{GroundAction, Event, State, sameEvent, eventFacts, hasMoment, legal, legalStep, injective, isOpen, conditionsHold, overAllHold, independent, allowed, factsAfter, closeAll, openedBy, next, startState, run, weight}
+use Rattle.verdict.specs.Machine.{GroundAction, Event, State, sameEvent, eventFacts, requiredFacts, hasMoment, legal, legalStep, injective, isOpen, conditionsHold, overAllHold, independent, allowed, factsAfter, closeAll, openedBy, next, startState, run, weight}
 use Rattle.verdict.specs.Claims.{wellFormedAction, wellFormed, isEvent, Chosen, Safe, Safety, journeysFor, total, neverRising, NeverRises}
 use Rattle.verdict.proofs.Equality.{fact-self, variables-self, objects-eq, objects-self}
 use Rattle.verdict.proofs.Steps.{Inv, Act, sum, inv-after, inv-less, none-after}
-use Rattle.verdict.proofs.Events.{after-in, legal-listed, legal-moment, legal-length, holds-of, quiets-of}
+use Rattle.verdict.proofs.Events.{after-in, legal-listed, legal-moment, legal-length, asked-holds, holds-of, quiets-of}
 use Rattle.verdict.proofs.Weight.{distinct-after}
 use Rattle.verdict.proofs.WellFormed.{action-well-formed, template-well-formed}
-use Rattle.verdict.proofs.Acts.{Harmless, journey-lasts, journey-of, one-class, harmless-act, apart-act, start-act, end-act}
+use Rattle.verdict.proofs.Acts.{Alive, Harmless, journey-lasts, journey-of, one-class, harmless-act, apart-act, start-act, end-act}
 use Rattle.verdict.proofs.Open.{endsAt, startsAt, ends, starts, closeAll-sum, running-sum}
 use Rattle.verdict.proofs.Rows.{RowOf, row-of, fine-rows, harmless-of}
 
@@ -111,11 +112,12 @@ module _ (D : Domain) (wf : wellFormed D ≡ true) (v : Bool) (acc : decision D 
   harmless-row : (a : Action) (x : List Variable) (m : Moment) → RowOf D a x m (rows D) → (v ≡ false → journey D a x ≡ false) → Harmless v (nameOf D a x m)
   harmless-row a x m r j = harmless-of v (nameOf D a x m) (journeyEndAt D a x m) (fine-rows D v acc _ (r .2)) (λ vf. end-only a x m (j vf))
 
-  -- what an event of the domain does to the instance
+  -- what an event of the domain does to the instance, where what it asks has at most one fact of the instance
   event-act : (m : Moment) (g : GroundAction) → legal D (record { moment = m; ground = g }) ≡ true → distinct sameObject (g .binding) ≡ true
+      → Alive (matches D y) (requiredFacts D (record { moment = m; ground = g }) Positive)
       → Act (matches D y) v (eventFacts D (record { moment = m; ground = g })) (startsAt c m g) (endsAt c m g)
-  unfolding eventFacts
-  event-act m g h dis = by-class (bool-cases (any (λ x. sameList sameObject (bindTuple b x) y) (classes D a)))
+  unfolding eventFacts requiredFacts
+  event-act m g h dis alive = by-class (bool-cases (any (λ x. sameList sameObject (bindTuple b x) y) (classes D a)))
     where
       a : Action
       a = action D (g .action)
@@ -152,7 +154,7 @@ module _ (D : Domain) (wf : wellFormed D ≡ true) (v : Bool) (acc : decision D 
       elsewhere x hx ex nj =
           let z : c g ≡ 0 = none-counted g (λ vf u j.
           clash (sym (ap (journey D a) (one-class D a ok b len dis y u x (j .listed) hx (j .bound) ex)) ∙ j .is-journey) (nj vf)) in
-          harmless-act D a ok b len dis y x hx ex m v (template-well-formed D wf) _ _ (none-starts m g z) (none-ends m g z)
+          harmless-act D a ok b len dis y x hx ex m v (template-well-formed D wf) _ _ alive (none-starts m g z) (none-ends m g z)
           (harmless-row a x m (row-of D (g .action) x m idx has hx) nj)
 
       by-journey : (x : List Variable) → In x (classes D a) → bindTuple b x ≡ y → (v ≡ true) ⊎ (v ≡ false) → (journey D a x ≡ true) ⊎ (journey D a x ≡ false)
@@ -187,14 +189,18 @@ module _ (D : Domain) (wf : wellFormed D ≡ true) (v : Bool) (acc : decision D 
     ended : sum c (closeAll es (s .running)) + sum (ends c) es ≡ sum c (s .running)
     moved : sum c (closeAll es (s .running) ++ openedBy D es) + sum (ends c) es ≡ sum c (s .running) + sum (starts c) es
 
-  taken : (s : State) (es : List Event) → InjectiveStep D es → allowed D s es ≡ true → Taken s es
+  -- the over-all conditions of an end are used here, in the state that the step is taken from: `alive`
+  taken : (s : State) (es : List Event) → InjectiveStep D es → allowed D s es ≡ true → Guarded s → Taken s es
   unfolding allowed
-  taken s es l al =
+  taken s es l al k =
       let op : (e : Event) → In e es → isOpen (s .running) e ≡ true = λ e m. all-in (isOpen (s .running)) es (and-l _ _ (and-l _ _ (and-l _ _ al))) m in
+      let met : all (conditionsHold D (s .facts)) es ≡ true = and-r (all (isOpen (s .running)) es) _ (and-l _ _ (and-l _ _ al)) in
+      let alive : (e : Event) → In e es → Alive (matches D y) (requiredFacts D e Positive)
+      = λ e m. let h = asked-holds D (s .facts) e (all-in (conditionsHold D (s .facts)) es met m) in λ f g mf mg. k .inv .single f g (h .yes f mf) (h .yes g mg) in
       record {
-        conditions = and-r (all (isOpen (s .running)) es) _ (and-l _ _ (and-l _ _ al));
+        conditions = met;
         apart = and-r (all (isOpen (s .running)) es && all (conditionsHold D (s .facts)) es && all (overAllHold D (s .facts)) (s .running)) _ al;
-        acts = λ e m. event-act (e .moment) (e .ground) (all-in (legal D) es (l .legal-events) m) (all-in injective es (l .injective-events) m);
+        acts = λ e m. event-act (e .moment) (e .ground) (all-in (legal D) es (l .legal-events) m) (all-in injective es (l .injective-events) m) (alive e m);
         ended = closeAll-sum c es (s .running) op (l .different);
         moved = running-sum c D not-lasting es (s .running) op (l .different);
       }
@@ -202,7 +208,7 @@ module _ (D : Domain) (wf : wellFormed D ≡ true) (v : Bool) (acc : decision D 
   guarded-next : (s : State) (es : List Event) → InjectiveStep D es → allowed D s es ≡ true → Guarded s → Guarded (next D s es)
   unfolding next
   guarded-next s es l al k =
-      let t = taken s es l al in
+      let t = taken s es l al k in
       let ended = t .ended in
       record {
         facts-once = distinct-after D (s .facts) es (k .facts-once);
@@ -262,7 +268,7 @@ module _ (D : Domain) (wf : wellFormed D ≡ true) (v : Bool) (acc : decision D 
       go : (n : ℕ) → counted s ≡ n → counted (next D s es) ≤ counted s
       go (suc n) e = let f = counted-few (next D s es) (guarded-next s es l al k) in omega arith
       go zero e =
-          let t = taken s es l al in
+          let t = taken s es l al k in
           let ended = t .ended in
           let moved = t .moved in
           let na = none-after (matches D y) v (eventFacts D) (starts c) (ends c) (λ f. In f (s .facts)) es vf (λ f m t. let p = count-pos (matches D y) m t in omega arith)

@@ -1,5 +1,7 @@
 -- Steps of events that do not interfere, and what they do to one instance. Facts are a predicate here, so that no list of facts is taken apart.
--- The facts of the instance and its journeys under way (j) are together at most one; each event is one of six kinds, and each kind keeps that.
+-- The conditions here are an event's own: those that interference guards. (What is asked in the state that the step is taken from besides, an end's over-all conditions, need not survive an
+-- earlier event, and is used before the events are put one after the other: `Alive` in Acts.)
+-- The facts of the instance and its journeys under way (j) are together at most one; each event is one of five kinds, and each kind keeps that.
 -- Assumes nothing.
 use mathlib.Core.Path.{_≡_, refl, sym, _∙_}
 use mathlib.Core.Bool.{Bool, true, false, true≢false}
@@ -72,7 +74,6 @@ module _ (fit : Fact → Bool) (v : Bool) where
   -- what an event does to the instance; s journeys start, t journeys end
   pub data Act (e : Effect) (s t : ℕ) : Type 0 where
     idle : s ≡ 0 → t ≡ 0 → ((f : Fact) → In f (e Add) → fit f ≡ true → ⊥) → Act e s t
-    dead : (p q : Fact) → In p (e Positive) → In q (e Positive) → fit p ≡ true → fit q ≡ true → (p ≡ q → ⊥) → Act e s t
     moves : (p a : Fact) → s ≡ 0 → t ≡ 0 → In p (e Positive) → fit p ≡ true → ((f : Fact) → In f (e Add) → fit f ≡ true → f ≡ a)
         → In p (e Delete) ⊎ (p ≡ a) → Act e s t
     fills : (a : Fact) → v ≡ true → s ≡ 0 → t ≡ 0 → ((f : Fact) → In f (e Add) → fit f ≡ true → f ≡ a)
@@ -112,7 +113,6 @@ module _ (fit : Fact → Bool) (v : Bool) where
     few = let z = h .few in omega arith;
     none-open = λ y. let z = h .none-open y in omega arith;
   }
-  kept {S} {e} h c (dead p q hp hq fp fq ne) le eq = absurd (ne (h .single p q (c .yes p hp) (c .yes q hq) fp fq))
   kept {S} {e} {i = i} {j = j} h c (moves p a s0 t0 hp fp only or) le eq =
       let z : i ≡ 0 = h .free p (c .yes p hp) fp in
       let y : j ≡ 0 = omega arith in record {
@@ -192,7 +192,6 @@ module _ (fit : Fact → Bool) (v : Bool) where
       where
         quiet : (e : E) → Holds S (eff e) → t e ≤ 0 → Act (eff e) (s e) (t e) → ((f : Fact) → In f (eff e Add) → fit f ≡ true → ⊥) × (s e ≡ 0)
         quiet e h l (idle s0 t0 none) = (none, s0)
-        quiet e h l (dead p q hp hq fp fq ne) = absurd (bare p (h .yes p hp) fp)
         quiet e h l (moves p b s0 t0 hp fp only or) = absurd (bare p (h .yes p hp) fp)
         quiet e h l (fills b vt s0 t0 only cov) = absurd (true≢false (sym vt ∙ vf))
         quiet e h l (leaves p vf s1 t0 hp dp fp none) = absurd (bare p (h .yes p hp) fp)

@@ -1,14 +1,15 @@
 -- Demand 3, and what judging answers: the claims, each proved in proofs/ (docs/PROOFS.md names the theorems). Assumes nothing.
 use mathlib.Core.Path.{_≡_}
-use mathlib.Core.Bool.{Bool, true, false, not, _&&_}
+use mathlib.Core.Bool.{Bool, true, false, not, _&&_, _||_}
 use mathlib.Core.Logic.{_⊎_, _↔_}
-use mathlib.Core.List.{List, [], _∷_, map, foldr}
+use mathlib.Core.List.{List, [], _∷_, _++_, map, foldr}
 use Prim.Native.Nat.{ℕ, zero, suc, _+_, _*_, _≤_, _<_}
 use lib.Dec.{eqb, ltb, leb}
 use lib.ListN.{length, take, drop}
 use Rattle.records.specs.Lists.{In, all, countBy, pairwise, sameList, elem, distinct}
 use Rattle.literals.specs.declared.Variable.{Variable}
 use Rattle.literals.specs.declared.Object.{Object}
+use Rattle.literals.specs.declared.Clause.the-variants.{Positive, Negative}
 use Rattle.literals.specs.Domain.{object, sameObject, Fact, Literal, Action, Component, keysOf, labelsFit, Domain, arity, action}
 use Rattle.literals.specs.Decode.{byte, repeats, contradicts, domain, decode}
 use Rattle.classes.specs.declared.Moment.the-variants.{Start}
@@ -16,7 +17,7 @@ use Rattle.classes.specs.Classes.{classes, nameOf, journey}
 use Rattle.verdict.specs.Binding.{bindTuple, objectsFrom, sameNumbers}
 use Rattle.verdict.specs.Decision.{faultBy, classAt, witnessAt, witness}
 use Rattle.verdict.specs.Judged.{Answer, answerAt, decided, decidedFile, judged}
-use Rattle.verdict.specs.Machine.{GroundAction, Event, State, legal, legalStep, injective, allowed, next, startState, run, weight}
+use Rattle.verdict.specs.Machine.{GroundAction, Event, State, legal, legalStep, injective, requiredFacts, addedFacts, struckFacts, meet, isOpen, conditionsHold, ownHold, overAllHold, allowed, next, startState, run, weight}
 
 -- ---- what reading a file ensures of its domain
 
@@ -63,6 +64,29 @@ pub record Chosen (D : Domain) (objs : List Object) (fs : List Fact) (y : List O
   pub instance : isInstance D objs y ≡ true
   pub steps-legal : all (legalStep D) steps ≡ true
   pub events : all (all (isEvent D objs)) steps ≡ true
+
+-- ---- what an end asks
+
+-- the over-all conditions of an end are among those of everything open: where they hold, and every end is open, an event's own conditions are left to ask
+abbrev pub OwnIsEnough : Type 0
+OwnIsEnough =
+    (D : Domain) (s : State) (es : List Event) → all (isOpen (s .running)) es ≡ true → all (overAllHold D (s .facts)) (s .running) ≡ true
+    → all (conditionsHold D (s .facts)) es ≡ all (ownHold D (s .facts)) es
+
+-- interference, where all that an end asks counts for it, over all too
+abbrev pub disturbsWithOverAll : Domain → Event → Event → Bool
+disturbsWithOverAll D e f = meet (requiredFacts D e Positive ++ requiredFacts D e Negative) (addedFacts D f ++ struckFacts D f) || meet (addedFacts D e) (struckFacts D f)
+
+abbrev pub interfereWithOverAll : Domain → Event → Event → Bool
+interfereWithOverAll D e f = disturbsWithOverAll D e f || disturbsWithOverAll D f e
+
+-- "so both may end together": every step that is allowed by that interference is allowed. (That more is, a case shows: crates/cases, `ends-together`)
+abbrev pub Wider : Type 0
+Wider =
+    (D : Domain) (s : State) (es : List Event)
+    → all (isOpen (s .running)) es && all (conditionsHold D (s .facts)) es && all (overAllHold D (s .facts)) (s .running)
+    && pairwise (λ e f. not (interfereWithOverAll D e f)) es ≡ true
+    → allowed D s es ≡ true
 
 -- ---- safety of an accepted template
 

@@ -16,7 +16,7 @@ use Rattle.classes.specs.declared.Moment.{Moment}
 use Rattle.classes.specs.declared.Moment.the-variants.{Start, End}
 use Rattle.classes.specs.declared.Name.{Name}
 use Rattle.classes.specs.declared.Name.the-variants.{Unreachable, Irrelevant, Heavy, Balanced, Unbalanced, Bounded, Unbounded}
-use Rattle.classes.specs.Classes.{momentsOf, required, classes, excluding, covered, nameOf, journey}
+use Rattle.classes.specs.Classes.{momentsOf, required, classes, lastsIn, excluding, covered, nameOf, journey}
 use Rattle.verdict.specs.Binding.{bind, bindTuple, sameNumbers, spare}
 
 -- ---- the report
@@ -150,7 +150,7 @@ witnessBy Unbounded cs fs = cs ++ fs
 
 -- "the facts are all true conditions of the action at that moment, matching or not, in file order, once each", of the class x, with "variable i is object i"
 unfoldable pub witnessAt : Domain → Action → List Variable → Moment → List Fact
-unfolding nameOf excluding
+unfolding nameOf excluding required
 witnessAt D a x m =
     let b = sameNumbers a in
     witnessBy (nameOf D a x m) (map (bind b) (required a m Positive))
@@ -169,3 +169,19 @@ witnessOf D (some r) = witnessAt D (action D (r .action)) (classAt D (r .action)
 unfoldable pub witness : Domain → List Fact
 unfolding witnessAt decision action classAt
 witness D = witnessOf D (decision D .place)
+
+-- ---- whether it is written
+
+-- "No witness is written .. for an end whose class has an over-all literal"
+abbrev pub shownAt : Domain → Action → List Variable → Moment → Bool
+shownAt D a x Start = true
+shownAt D a x End = not (lastsIn D a x)
+
+abbrev pub shownOf : Domain → Option Row → Bool
+shownOf D none = true
+shownOf D (some r) = shownAt D (action D (r .action)) (classAt D (r .action) (r .class)) (r .moment)
+
+-- of the place that the decision names
+unfoldable pub isShown : Domain → Bool
+unfolding lastsIn decision action classAt
+isShown D = shownOf D (decision D .place)

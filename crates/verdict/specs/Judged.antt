@@ -10,7 +10,7 @@ use Rattle.literals.specs.declared.Object.{Object}
 use Rattle.literals.specs.Domain.{Fact, Domain}
 use Rattle.literals.specs.Decode.{Refusal, Decoded, refused, domain, decode}
 use Rattle.classes.specs.Classes.{momentNumber, nameNumber}
-use Rattle.verdict.specs.Decision.{Row, rows, decision, witness}
+use Rattle.verdict.specs.Decision.{Row, rows, decision, witness, isShown}
 
 -- ---- bytes
 
@@ -64,16 +64,17 @@ decidedFile f = decidedBy (decode f)
 
 -- ---- with lent memory
 
--- "40 to 42 write a witness"
-abbrev pub writesWitness : ℕ → Bool
-writesWitness n = leb 40 n && leb n 42
+-- "40 to 42 write a witness", but for an end whose class has an over-all literal
+unfoldable pub writesWitness : Domain → ℕ → Bool
+unfolding isShown
+writesWitness D n = leb 40 n && leb n 42 && isShown D
 
--- "30 report under 4 bytes a moment; then 40 to 43 decided; 31 witness under 8 bytes a fact"
+-- "30 report under 4 bytes a moment; then 40 to 43 decided; 31 witness under 8 bytes a fact", which isn't tested where none is written
 unfoldable pub judgedDomain : Domain → List ℕ → List ℕ → Answer
-unfolding rows decided witness
+unfolding rows decided witness writesWitness
 judgedDomain D report wit =
     cond (ltb (length report) (4 * length (rows D))) (answerAt 30 0)
-    (cond (writesWitness (decided D .number) && ltb (length wit) (8 * length (witness D))) (answerAt 31 0)
+    (cond (writesWitness D (decided D .number) && ltb (length wit) (8 * length (witness D))) (answerAt 31 0)
     (decided D))
 
 abbrev pub judgedBy : Decoded → List ℕ → List ℕ → Answer
@@ -100,9 +101,9 @@ reportAfter f report wit = reportBy (decode f) report wit
 
 abbrev pub witnessMemoryBy : Decoded → List ℕ → List ℕ → List ℕ
 witnessMemoryBy (refused r) report wit = wit
-witnessMemoryBy (domain D) report wit = cond (writesWitness (judgedDomain D report wit .number)) (over (factBytes (witness D)) wit) wit
+witnessMemoryBy (domain D) report wit = cond (writesWitness D (judgedDomain D report wit .number)) (over (factBytes (witness D)) wit) wit
 
 -- the witness memory afterwards
 unfoldable pub witnessAfter : List ℕ → List ℕ → List ℕ → List ℕ
-unfolding decode judgedDomain factBytes witness over
+unfolding decode judgedDomain factBytes witness writesWitness over
 witnessAfter f report wit = witnessMemoryBy (decode f) report wit

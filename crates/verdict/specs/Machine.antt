@@ -11,7 +11,7 @@ use Rattle.literals.specs.declared.Clause.the-variants.{Positive, Negative, Add
 use Rattle.literals.specs.Domain.{sameObject, Fact, sameFact, Action, Domain, action}
 use Rattle.classes.specs.declared.Moment.{Moment}
 use Rattle.classes.specs.declared.Moment.the-variants.{Start, End}
-use Rattle.classes.specs.Classes.{momentNumber, literalsAt, overAllLiterals, tuplesOf, hasTuple, matches}
+use Rattle.classes.specs.Classes.{momentNumber, literalsAt, required, overAllLiterals, tuplesOf, hasTuple, matches}
 use Rattle.verdict.specs.Binding.{Binding, bind}
 
 -- ---- states and events
@@ -40,16 +40,17 @@ sameMoment m n = eqb (momentNumber m) (momentNumber n)
 abbrev pub sameEvent : Event → Event → Bool
 sameEvent e f = sameMoment (e .moment) (f .moment) && sameGround (e .ground) (f .ground)
 
--- the facts of an event's literals of one clause
+-- the facts of an event's own literals of one clause
 unfoldable pub eventFacts : Domain → Event → Clause → List Fact
 unfolding literalsAt action
 eventFacts D e c = map (bind (e .ground .binding)) (literalsAt (action D (e .ground .action)) (e .moment) c)
 
--- the facts that an event's conditions require or forbid
-abbrev pub requiredFacts : Domain → Event → Clause → List Fact
-requiredFacts = eventFacts
+-- the facts that an event's conditions require or forbid in the state that the step is taken from: an end's own and over-all ones
+unfoldable pub requiredFacts : Domain → Event → Clause → List Fact
+unfolding required action
+requiredFacts D e c = map (bind (e .ground .binding)) (required (action D (e .ground .action)) (e .moment) c)
 
--- the facts of its conditions that count for interference
+-- the facts of its conditions that count for interference: "An end's conditions for interference become its own only"
 abbrev pub guardedFacts : Domain → Event → Clause → List Fact
 guardedFacts = eventFacts
 
@@ -93,11 +94,17 @@ isOpenAt End gs g = elem sameGround g gs
 abbrev pub isOpen : List GroundAction → Event → Bool
 isOpen gs e = isOpenAt (e .moment) gs (e .ground)
 
--- "every event's conditions hold"
+-- "every event's conditions hold"; "Its over-all conditions must still hold in the state the step is taken from"
 unfoldable pub conditionsHold : Domain → List Fact → Event → Bool
-unfolding eventFacts
+unfolding requiredFacts
 conditionsHold D s e =
     all (λ f. elem sameFact f s) (requiredFacts D e Positive) && all (λ f. not (elem sameFact f s)) (requiredFacts D e Negative)
+
+-- its own hold. In a step whose ends are open and with the over-all conditions of everything open this is the same (Claims, `OwnIsEnough`)
+unfoldable pub ownHold : Domain → List Fact → Event → Bool
+unfolding eventFacts
+ownHold D s e =
+    all (λ f. elem sameFact f s) (eventFacts D e Positive) && all (λ f. not (elem sameFact f s)) (eventFacts D e Negative)
 
 -- "the over-all conditions of everything open hold"
 unfoldable pub overAllHold : Domain → List Fact → GroundAction → Bool

@@ -185,16 +185,22 @@ fn the_readme_counts_them() {
 /// the instance are those held. (No other instance has any in these runs.)
 #[test]
 fn the_page_shows_the_deciding_runs() {
-    let (files, rovers) = (stored(), Named::read(ROVERS));
+    let (files, rovers, depots) = (stored(), Named::read(ROVERS), Named::read(DEPOTS));
     let page = text(&files, PAGE);
-    for run in ["rovers-soil", "rovers-rock", "rovers-sample-or-store"] {
+    for (run, named) in [
+        ("rovers-soil", &rovers),
+        ("rovers-rock", &rovers),
+        ("rovers-sample-or-store", &rovers),
+        ("depots-stacked", &depots),
+        ("depots-clear", &depots),
+    ] {
         let shown = shown(&page, run).unwrap_or_else(|| panic!("{run} isn't shown"));
         let domain = model::read(&files[&format!("{run}.domain")]).expect("a domain");
         let counts = |fact: &&Vec<u8>| domain.template.components.iter().any(|component| component.relation == fact[0]);
         let held = states_of(&files, run);
         assert_eq!(shown.len(), held.len(), "{run}");
         for (cells, state) in shown.iter().zip(&held) {
-            let told: Vec<Vec<u8>> = cells[2].split(", ").map(|fact| fact_of(&rovers, fact)).collect();
+            let told: Vec<Vec<u8>> = cells[2].split(", ").map(|fact| fact_of(named, fact)).collect();
             assert_eq!(told.iter().collect::<Vec<_>>(), state.facts.iter().filter(counts).collect::<Vec<_>>(), "{run}");
         }
     }
@@ -213,7 +219,7 @@ fn the_page_has_the_templates() {
     let files = stored();
     let page = text(&files, PAGE);
     let domains = [
-        ("depots", DEPOTS, 2),
+        ("depots", DEPOTS, 5),
         ("driverlog", DRIVERLOG, 2),
         ("floortile", FLOORTILE, 3),
         ("rovers", ROVERS, 7),
@@ -339,5 +345,5 @@ fn a_wrong_answer_is_noticed() {
     };
     let weighs_two = |name: &&str| text(&stored, &format!("{name}.played")).lines().next().unwrap().ends_with(" 2");
     let heavy = names(&stored, ".run").filter(weighs_two).count();
-    assert_eq!((wrong_texts(judge, light, &stored).len(), heavy), (14, 14));
+    assert_eq!((wrong_texts(judge, light, &stored).len(), heavy), (21, 21));
 }

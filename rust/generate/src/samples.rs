@@ -1,7 +1,10 @@
 //! The domain files and run files of the folder samples/ at the repository's root. Its page, samples/README.md, says
 //! what each of them teaches; `write_samples` of the package `differential` writes them.
 
-use crate::literature::{rovers_dropping, rovers_sampling, Named, DEPOTS, DRIVERLOG, FLOORTILE, ROVERS, SATELLITE};
+use crate::literature::{
+    depots_dropping_and_loading, depots_dropping_twice, rovers_dropping, rovers_sampling, Named, DEPOTS, DRIVERLOG,
+    FLOORTILE, ROVERS, SATELLITE,
+};
 use crate::proved::{Call, Cases};
 use crate::records::encode;
 
@@ -93,11 +96,13 @@ lasting lend volume shelf reader
 ";
 
 /// What M1 to M12 leave open, from roles over all to six arguments.
-const RULES: [&str; 16] = [
+const RULES: [&str; 18] = [
     "over-all-at-end",
     "over-all-not-at-start",
     "over-all-and-end-once",
-    "over-all-false-covers",
+    "over-all-false-covers-not",
+    "over-all-elsewhere",
+    "journey-over-all",
     "second-class",
     "class-before-moment",
     "no-row",
@@ -134,7 +139,7 @@ const BROKEN: [&str; 17] = [
 ];
 
 /// What a step asks and leaves: the domain, and its runs.
-const STEPS: [(&str, &[&str]); 3] = [
+const STEPS: [(&str, &[&str]); 7] = [
     (
         "lamps",
         &[
@@ -148,9 +153,14 @@ const STEPS: [(&str, &[&str]); 3] = [
             "over-all-true-fails",
             "not-yet-open",
             "added-deleted",
-            "end-interferes",
+            "end-over-all-free",
+            "end-over-all-fails",
         ],
     ),
+    ("jobs", &["ends-together", "ends-apart"]),
+    ("moves", &["moved-together"]),
+    ("fillings", &["filled-and-emptied"]),
+    ("counted", &["counted-together"]),
     ("m1", &["weight-highest"]),
     ("m3", &["refused-template"]),
 ];
@@ -168,7 +178,7 @@ fn proved(samples: &mut Samples) {
             samples.domains.push(Domain { name, file: file.clone() });
         }
     }
-    for name in ["lamps", "calm"] {
+    for name in ["lamps", "jobs", "moves", "fillings", "counted", "calm"] {
         samples.domains.push(Domain { name, file: cases.file(name).to_vec() });
     }
     for (group, runs) in [("Steps", &STEPS[..]), ("RunFiles", &RUN_FILES)] {
@@ -279,6 +289,9 @@ fn depots(samples: &mut Samples) {
     let domain = Named::read(DEPOTS);
     samples.domain("depots-crate", &domain, "in[0,FF], at[0,FF], lifting[FF,0]");
     samples.domain("depots-place-and-stack", &domain, "at[0,FF], on[0,FF]");
+    samples.domain("depots-clear", &domain, "clear[FF]");
+    samples.domain("depots-surface", &domain, "clear[0], in[0,FF], on[FF,0], lifting[FF,0]");
+    samples.domain("depots-stacked", &domain, "in[0,FF], on[0,FF], lifting[FF,0]");
     // Truck 0, crate 1, hoists 2 and 3, pallets 4 and 5, depots 6 and 7.
     samples.run(
         "depots-delivery",
@@ -318,6 +331,15 @@ fn depots(samples: &mut Samples) {
         &["at 0 3", "at 2 3", "clear 2", "lifting 0 1"],
         &["start drop 0 1 2 3", "end drop 0 1 2 3"],
     );
+    let (twice, loading) = (depots_dropping_twice(), depots_dropping_and_loading());
+    for (name, told) in [
+        ("depots-clear", &twice),
+        ("depots-surface", &twice),
+        ("depots-stacked", &loading),
+        ("depots-crate", &loading),
+    ] {
+        samples.run(name, (name, &domain), 7, &told.facts(), &told.events());
+    }
 }
 
 fn rovers(samples: &mut Samples) {
@@ -330,7 +352,7 @@ fn rovers(samples: &mut Samples) {
     samples.domain("rovers-sample-or-store", &domain, "at_rock_sample[FF], at_soil_sample[FF], full[FF]");
     samples.domain("rovers-store", &domain, "full[0], empty[0]");
     let drop = "lasting drop rover store\n";
-    let mended = Named::read(&ROVERS.replace(drop, &format!("{drop}    all true full store\n")));
+    let mended = Named::read(&ROVERS.replace(drop, &format!("{drop}    end true full store\n")));
     samples.domain("rovers-store-mended", &mended, "full[0], empty[0]");
 
     let (soil, rock, dropping) = (rovers_sampling("soil"), rovers_sampling("rock"), rovers_dropping());

@@ -3,7 +3,6 @@ use mathlib.Core.Path.{_≡_, _∙_}
 use Prim.Native.Nat.{_-_, _*_, _<_, _≤_}
 use native.Mathlib.Omega.{arith}
 use lib.ListN.{take, drop}
-use Rattle.literals.specs.Table.{rowsIn}
 use Rattle.effects.proofs.IndexedRows.{Joined, Joining, joining-begin, joining-stop, joining-more, joining-all}
 use Rattle.effects.proofs.join_rows.Statement.{statement}
 use Rattle.effects.proofs.join_rows.Tie as tie

@@ -55,8 +55,8 @@ returns-2 c D H wf =
     let named = c .before .before .before .before .before .before .before .before .before .before .before .before .before .before .before .before .before .before .before .name-all .ensures .1 D H wf refl in
     let n = rows-of D (named .0) in
     let is = decision-of D (named .0) (c .before .before .before .before .before .before .before .before .before .before .before .before .before .decide .ensures) in
-    let has = sym (c .before .before .before .before .before .before .before .before .before .before .before .before .has-witness .ensures) ∙ c .before .before .before .before .before .before .before .before .before .before .before .if2 .taken in
-    let number = ap writesWitness (number-of D is) in
+    let has = sym (c .before .before .before .before .before .before .before .before .before .before .before .before .has-witness .ensures D H wf is) ∙ c .before .before .before .before .before .before .before .before .before .before .before .if2 .taken in
+    let number = ap (writesWitness D) (number-of D is) in
     let l = c .before .before .before .before .before .before .before .before .before .before .before .before .before .before .before .if1 .left in
     let shown = showing-of D wit is has (c .before .before .before .before .before .before .before .before .before .show .ensures D H wf) in
     leaves-shown D (start .report .now) wit (omega arith) (sym number ∙ has) (sym (shown .0) ∙ c .before .before .before .before .before .before .if3 .taken) (shown .1) is (c .before .before .put-report .ensures D _ (H .says) (named .1) (named .2) (omega arith))
@@ -77,8 +77,8 @@ returns-3 c D H wf =
     let named = c .before .before .before .before .before .before .before .before .before .before .before .before .before .before .name-all .ensures .1 D H wf refl in
     let n = rows-of D (named .0) in
     let is = decision-of D (named .0) (c .before .before .before .before .before .before .before .before .decide .ensures) in
-    let has = sym (c .before .before .before .before .before .before .before .has-witness .ensures) ∙ c .before .before .before .before .before .before .if2 .taken in
-    let number = ap writesWitness (number-of D is) in
+    let has = sym (c .before .before .before .before .before .before .before .has-witness .ensures D H wf is) ∙ c .before .before .before .before .before .before .if2 .taken in
+    let number = ap (writesWitness D) (number-of D is) in
     let l = c .before .before .before .before .before .before .before .before .before .before .if1 .left in
     let shown = showing-of D wit is has (c .before .before .before .before .show .ensures D H wf) in
     leaves-31 D (start .report .now) wit (omega arith) (sym number ∙ has) (sym (shown .0) ∙ c .before .if3 .left) (shown .1) (c .at-offset2 .ensures)
@@ -99,8 +99,8 @@ returns-4 c D H wf =
     let named = c .before .before .before .before .before .before .before .before .before .before .before .before .before .before .name-all .ensures .1 D H wf refl in
     let n = rows-of D (named .0) in
     let is = decision-of D (named .0) (c .before .before .before .before .before .before .before .before .decide .ensures) in
-    let has = sym (c .before .before .before .before .before .before .before .has-witness .ensures) ∙ c .before .before .before .before .before .before .if2 .left in
-    let number = ap writesWitness (number-of D is) in
+    let has = sym (c .before .before .before .before .before .before .before .has-witness .ensures D H wf is) ∙ c .before .before .before .before .before .before .if2 .left in
+    let number = ap (writesWitness D) (number-of D is) in
     let l = c .before .before .before .before .before .before .before .before .before .before .if1 .left in
     leaves-plain D (start .report .now) wit (omega arith) (sym number ∙ has) is (c .before .before .put-report2 .ensures D _ (H .says) (named .1) (named .2) (omega arith))
 

@@ -6,6 +6,7 @@ use mathlib.Core.List.{List}
 use Prim.Native.Nat.{ℕ}
 use Rattle.classes.specs.declared.Moment.the-variants.{Start, End}
 use Rattle.classes.specs.Coded.{soleOf}
+use Rattle.classes.proofs.Decides.{asked-at-start}
 use Rattle.naming.proofs.name_class.Statement.{statement}
 use Rattle.naming.proofs.name_class.Tie as tie
 
@@ -21,17 +22,17 @@ is-journey-requires c κs = search needs
 returns : tie.Need-returns
 returns c =
     let s = c .before .before .before .before .before .before in (
-      λ D a M h. c .before .before .before .name-at .ensures D a Start M h,
-      λ D a M N h t l. (
-        c .before .name-at2 .ensures D a End N h,
+      λ D a M h. c .before .before .before .name-at .ensures D a Start M h (asked-at-start M (s .args .class) (s .pre .1)),
+      λ D a M N h r t l. (
+        c .before .name-at2 .ensures D a End N h r,
         c .is-journey .ensures D a _ M l (s .pre .2 ∙ ap₂ (λ (o d : List ℕ). soleOf o d (s .args .class)) (N .numbers) (N .clauses-are)) h,
       ),
     )
 
 returns-2 : tie.Need-returns-2
 returns-2 c = (
-  λ D a M h. c .before .name-at .ensures D a Start M h,
-  λ D a M N h t l. absurd (clash t (c .if1 .left)),
+  λ D a M h. c .before .name-at .ensures D a Start M h (asked-at-start M (c .before .before .before .before .args .class) (c .before .before .before .before .pre .1)),
+  λ D a M N h r t l. absurd (clash t (c .if1 .left)),
 )
 
 pub name-class-spec : {M : Type 1} → statement M

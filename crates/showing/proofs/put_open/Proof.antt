@@ -47,10 +47,10 @@ components-in-requires c κs = search needs
 
 returns-2 : tie.Need-returns-2
 returns-2 c D a A v R =
-    let s = c .before .before .before .before .before .before .before .before .before .before .before .before .before .before .before in
-    let k = c .before .before .before .before .before .before .before .before .before .count-conditions in
-    let G = given (s .args .m) A (s .pre .1) (c .before .before .before .before .before .before .before .before .before .before .before .clauses-at .ensures) in
-    let o = c .before .before .before .before .open-class .ensures D a (s .args .m) A refl (G .clauses-are) (R .listed) .1 in
+    let s = c .before .before .before .before .before .before .before .before .before .before .before .before .before .before in
+    let k = c .before .before .before .before .before .before .before .before .count-conditions in
+    let G = given (s .args .m) A (s .pre .1) (c .before .before .before .before .before .before .before .before .before .before .clauses-at .ensures) in
+    let o = c .before .before .before .before .open-class .ensures D a A refl (R .listed) .1 in
     let l = open-inside G R (k .result) (k .ensures .0) (s .args .out .now) refl in
     let n = A .says .components in
     let e = c .before .components-in .ensures .0 in
@@ -73,14 +73,14 @@ same-length c = search needs
 
 returns-3 : tie.Need-returns-3
 returns-3 c D a A v R =
-    let s = c .before .before .before .before .before .before .before .before .before .before .before .before .before .before .before .before .before .before .before .before .before .before .before .before .before in
-    let k = c .before .before .before .before .before .before .before .before .before .before .before .before .before .before .before .before .before .before .before .count-conditions in
+    let s = c .before .before .before .before .before .before .before .before .before .before .before .before .before .before .before .before .before .before .before .before .before .before .before .before in
+    let k = c .before .before .before .before .before .before .before .before .before .before .before .before .before .before .before .before .before .before .count-conditions in
     let o = c .before .before .before .before .before .before .before .before .before .before .before .before .before .before .open-class in
     let w = c .before .before .before .before .before .before .before .put-conditions in
     let p = c .before .before .put-instance in
-    let G = given (s .args .m) A (s .pre .1) (c .before .before .before .before .before .before .before .before .before .before .before .before .before .before .before .before .before .before .before .before .before .clauses-at .ensures) in
-    let t = o .ensures D a (s .args .m) A refl (G .clauses-are) (R .listed) in
-    let g = c .before .before .before .before .before .before .before .before .before .before .before .before .before .before .before .before .before .before .if1 .left in
+    let G = given (s .args .m) A (s .pre .1) (c .before .before .before .before .before .before .before .before .before .before .before .before .before .before .before .before .before .before .before .before .clauses-at .ensures) in
+    let t = o .ensures D a A refl (R .listed) in
+    let g = c .before .before .before .before .before .before .before .before .before .before .before .before .before .before .before .before .before .if1 .left in
     open-shown G R (k .result) (k .ensures .0) (s .args .out .now) refl (omega arith) (o .last .1 .1 .1 .0) (s .args .spare) (o .result) (t .0) (t .1) v (w .last .0) (p .last .0) (w .ensures) (p .ensures)
 
 pub put-open-spec : {M : Type 1} → statement M

@@ -2,7 +2,7 @@
 use borrow.Author.Tests.{not-true, not-false}
 use mathlib.Core.Path.{_≡_, refl, sym, _∙_}
 use mathlib.Core.List.{List, map}
-use Prim.Native.Nat.{ℕ, _-_, _≤_, _<_}
+use Prim.Native.Nat.{_-_, _≤_, _<_}
 use native.Mathlib.Omega.{arith}
 use lib.ListN.{length, getD, drop}
 use Rattle.records.specs.Lists.{all}
@@ -10,7 +10,7 @@ use Rattle.records.proofs.Lists.{all-hit, all-miss, all-end}
 use Rattle.literals.specs.Domain.{Fact, Domain}
 use Rattle.literals.specs.Table.{rowsIn}
 use Rattle.literals.specs.Held.{Held}
-use Rattle.verdict.specs.Machine.{Event, conditionsHold}
+use Rattle.verdict.specs.Machine.{Event, ownHold}
 use Rattle.store.specs.Index.{Indexed}
 use Rattle.events.specs.declared.Waiting.{Waiting}
 use Rattle.store.specs.Rows.{factRow}
@@ -24,7 +24,7 @@ abbrev Inv-loop : tie.InvT-loop
 Inv-loop head table moments rows count index work n i₀ i =
     (i ≤ count) × ((D : Domain) (es : List Event) (fs : List Fact) → Held D head table
     → _≡_ {A = Waiting} (record { count = count; moments = moments; rows = rows }) (waitingOf es) → EventsFit D es → rowsIn n work ≡ map factRow fs
-    → Indexed head index (map factRow fs) → all (conditionsHold D fs) (drop i es) ≡ all (conditionsHold D fs) es)
+    → Indexed head index (map factRow fs) → all (ownHold D fs) (drop i es) ≡ all (ownHold D fs) es)
 
 abbrev μ-loop : tie.MeasureT-loop
 μ-loop head table moments rows count index work n i₀ i = count - i
@@ -49,7 +49,7 @@ event-at : (b : tie.After-event-met Inv-loop μ-loop) (D : Domain) (es : List Ev
     → Held D (b .before .before .before .before .before .before .before .before .before .args .head .now) (b .before .before .before .before .before .before .before .before .before .args .table .now)
     → _≡_ {A = Waiting} (record { count = b .before .before .before .before .before .before .before .before .before .args .count; moments = b .before .before .before .before .before .before .before .before .before .args .moments .now; rows = b .before .before .before .before .before .before .before .before .before .args .rows .now }) (waitingOf es) → EventsFit D es → rowsIn (b .before .before .before .before .before .before .before .before .before .args .n) (b .before .before .before .before .before .before .before .before .before .args .work .now) ≡ map factRow fs
     → Indexed (b .before .before .before .before .before .before .before .before .before .args .head .now) (b .before .before .before .before .before .before .before .before .before .args .index .now) (map factRow fs)
-    → (b .before .before .loop .i < length es) × (b .event-met .result ≡ conditionsHold D fs (getD es (b .before .before .loop .i) noEvent))
+    → (b .before .before .loop .i < length es) × (b .event-met .result ≡ ownHold D fs (getD es (b .before .before .loop .i) noEvent))
 event-at b D es fs L w F f I =
     let a = b .before .before .before .before .before .before .before .before .before .args in
     let i = b .before .before .loop .i in
@@ -66,7 +66,7 @@ returns-2 : tie.Need-returns-2 Inv-loop μ-loop
 returns-2 c D es fs L w F h f I =
     let l = c .before .before .before .loop in
     let e = event-at (c .before) D es fs L w F f I in
-    sym (all-miss es (l .i) noEvent (e .0) (conditionsHold D fs) (sym (e .1) ∙ not-true _ (c .if2 .taken))) ∙ l .inv .1 D es fs L w F f I
+    sym (all-miss es (l .i) noEvent (e .0) (ownHold D fs) (sym (e .1) ∙ not-true _ (c .if2 .taken))) ∙ l .inv .1 D es fs L w F f I
 
 add-i : tie.Need-add-i Inv-loop μ-loop
 add-i c = omega arith
@@ -80,7 +80,7 @@ loop-again c =
       omega arith,
       λ D es fs L w F f I.
           let e = event-at (c .before) D es fs L w F f I in
-          sym (all-hit es (l .i) noEvent (e .0) (conditionsHold D fs) (sym (e .1) ∙ not-false _ (c .if2 .left))) ∙ l .inv .1 D es fs L w F f I,
+          sym (all-hit es (l .i) noEvent (e .0) (ownHold D fs) (sym (e .1) ∙ not-false _ (c .if2 .left))) ∙ l .inv .1 D es fs L w F f I,
     )
 
 returns-3 : tie.Need-returns-3 Inv-loop μ-loop
@@ -88,7 +88,7 @@ returns-3 c D es fs L w F h f I =
     let l = c .before .loop in
     let a = c .before .before .before .before .before .before .before .before .args in
     let k = waiting-count es (record { count = a .count; moments = a .moments .now; rows = a .rows .now }) w in
-    sym (all-end es (l .i) noEvent (conditionsHold D fs) (omega arith)) ∙ l .inv .1 D es fs L w F f I
+    sym (all-end es (l .i) noEvent (ownHold D fs) (omega arith)) ∙ l .inv .1 D es fs L w F f I
 
 pub events-met-spec : {M : Type 1} → statement M
 events-met-spec =

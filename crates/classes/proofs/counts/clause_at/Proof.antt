@@ -30,7 +30,7 @@ returns-2 c = rw (c .before .enum-told .given .1) (simp (le-ltb _ _ (c .if1 .lef
 returns-3 : tie.Need-returns-3
 returns-3 c =
     let a = c .before .before .before .args in
-    c .clause-at-end .ensures ∙ sym (ap (λ (m : Moment). clauseByte m (a .role)) (c .before .enum-told2 .given .1))
+    c .clause-at-end .ensures ∙ sym (ap (λ (m : Moment). clauseByte (a .wide) m (a .role)) (c .before .enum-told2 .given .1))
 
 pub clause-at-spec : {M : Type 1} → statement M
 clause-at-spec =

@@ -12,18 +12,18 @@ use borrow.Author.Needs.{needs}
 use Rattle.classes.proofs.counts.clause_once.Statement.{statement}
 use Rattle.classes.proofs.counts.clause_once.Tie as tie
 
-module _ (rows : List ℕ) (m : Moment) (j clause : ℕ) (e : clause ≡ clauseByte m (getD rows (8 * j) 0)) where
-  by-test : cond (mayMeet m clause && any (saysAt rows m clause j) (below j)) 0 clause ≡ clauseIn rows m j
+module _ (wide : Bool) (rows : List ℕ) (m : Moment) (j clause : ℕ) (e : clause ≡ clauseByte wide m (getD rows (8 * j) 0)) where
+  by-test : cond (mayMeet wide m clause && any (saysAt wide rows m clause j) (below j)) 0 clause ≡ clauseIn wide rows m j
   unfolding clauseIn
-  by-test = ap (λ (k : ℕ). cond (mayMeet m k && any (saysAt rows m k j) (below j)) 0 k) e
+  by-test = ap (λ (k : ℕ). cond (mayMeet wide m k && any (saysAt wide rows m k j) (below j)) 0 k) e
 
-  apart : mayMeet m clause ≡ false → clause ≡ clauseIn rows m j
-  apart g = sym (ap (λ (b : Bool). cond (b && any (saysAt rows m clause j) (below j)) 0 clause) g) ∙ by-test
+  apart : mayMeet wide m clause ≡ false → clause ≡ clauseIn wide rows m j
+  apart g = sym (ap (λ (b : Bool). cond (b && any (saysAt wide rows m clause j) (below j)) 0 clause) g) ∙ by-test
 
-  said : mayMeet m clause ≡ true → any (saysAt rows m clause j) (below j) ≡ true → 0 ≡ clauseIn rows m j
+  said : mayMeet wide m clause ≡ true → any (saysAt wide rows m clause j) (below j) ≡ true → 0 ≡ clauseIn wide rows m j
   said g h = sym (ap₂ (λ (b d : Bool). cond (b && d) 0 clause) g h) ∙ by-test
 
-  new : mayMeet m clause ≡ true → any (saysAt rows m clause j) (below j) ≡ false → clause ≡ clauseIn rows m j
+  new : mayMeet wide m clause ≡ true → any (saysAt wide rows m clause j) (below j) ≡ false → clause ≡ clauseIn wide rows m j
   new g h = sym (ap₂ (λ (b d : Bool). cond (b && d) 0 clause) g h) ∙ by-test
 
 mul-clause-at : tie.Need-mul-clause-at
@@ -41,7 +41,7 @@ may-meet-requires c κs = search needs
 returns : tie.Need-returns
 returns c =
     let a = c .before .before .before .before .before .args in
-    apart (a .rows .now) (a .m) (a .j) (c .before .before .clause-at .result) (c .before .before .clause-at .ensures) (sym (c .before .may-meet .ensures) ∙ not-true _ (c .if1 .taken))
+    apart (a .wide) (a .rows .now) (a .m) (a .j) (c .before .before .clause-at .result) (c .before .before .clause-at .ensures) (sym (c .before .may-meet .ensures) ∙ not-true _ (c .if1 .taken))
 
 earlier-same-requires : tie.Need-earlier-same-requires
 earlier-same-requires c κs = search needs
@@ -49,12 +49,12 @@ earlier-same-requires c κs = search needs
 returns-2 : tie.Need-returns-2
 returns-2 c =
     let a = c .before .before .before .before .before .before .before .args in
-    said (a .rows .now) (a .m) (a .j) (c .before .before .before .before .clause-at .result) (c .before .before .before .before .clause-at .ensures) (sym (c .before .before .before .may-meet .ensures) ∙ not-false _ (c .before .before .if1 .left)) (sym (c .before .earlier-same .ensures) ∙ c .if2 .taken)
+    said (a .wide) (a .rows .now) (a .m) (a .j) (c .before .before .before .before .clause-at .result) (c .before .before .before .before .clause-at .ensures) (sym (c .before .before .before .may-meet .ensures) ∙ not-false _ (c .before .before .if1 .left)) (sym (c .before .earlier-same .ensures) ∙ c .if2 .taken)
 
 returns-3 : tie.Need-returns-3
 returns-3 c =
     let a = c .before .before .before .before .before .before .before .args in
-    new (a .rows .now) (a .m) (a .j) (c .before .before .before .before .clause-at .result) (c .before .before .before .before .clause-at .ensures) (sym (c .before .before .before .may-meet .ensures) ∙ not-false _ (c .before .before .if1 .left)) (sym (c .before .earlier-same .ensures) ∙ c .if2 .left)
+    new (a .wide) (a .rows .now) (a .m) (a .j) (c .before .before .before .before .clause-at .result) (c .before .before .before .before .clause-at .ensures) (sym (c .before .before .before .may-meet .ensures) ∙ not-false _ (c .before .before .if1 .left)) (sym (c .before .earlier-same .ensures) ∙ c .if2 .left)
 
 pub clause-once-spec : {M : Type 1} → statement M
 clause-once-spec =

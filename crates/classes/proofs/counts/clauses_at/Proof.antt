@@ -11,10 +11,10 @@ use Rattle.classes.proofs.counts.clauses_at.Statement.{statement}
 use Rattle.classes.proofs.counts.clauses_at.Tie as tie
 
 abbrev Inv-loop : tie.InvT-loop
-Inv-loop rows n m clauses₀ j₀ clauses j = (j ≤ n) × (clauses₀ ≡ pad 64 [] → clauses ≡ pad 64 (map (clauseIn rows m) (below j)))
+Inv-loop wide rows n m clauses₀ j₀ clauses j = (j ≤ n) × (clauses₀ ≡ pad 64 [] → clauses ≡ pad 64 (map (clauseIn wide rows m) (below j)))
 
 abbrev μ-loop : tie.MeasureT-loop
-μ-loop rows n m clauses₀ j₀ clauses j = n - j
+μ-loop wide rows n m clauses₀ j₀ clauses j = n - j
 
 loop-holds : tie.Need-loop-holds Inv-loop μ-loop
 loop-holds c = (omega arith, λ e. e)
@@ -36,7 +36,7 @@ loop-again c =
     let a = c .before .before .before .before .args in
     let l = c .before .before .loop in (
       omega arith,
-      λ e. clauses-more (a .rows .now) (a .m) (l .clauses) (l .j) (c .clause-once .result) (omega arith) (l .inv .1 e) (c .clause-once .ensures),
+      λ e. clauses-more (a .wide) (a .rows .now) (a .m) (l .clauses) (l .j) (c .clause-once .result) (omega arith) (l .inv .1 e) (c .clause-once .ensures),
     )
 
 returns : tie.Need-returns Inv-loop μ-loop
@@ -45,7 +45,7 @@ returns c D a head A z =
     let l = c .before .loop in
     let j : l .j ≡ s .args .n = omega arith in
     l .inv .1 z
-    ∙ ap (pad 64) (ap (λ (k : ℕ). map (clauseIn (s .args .rows .now) (s .args .m)) (below k)) j ∙ clauses-held (s .args .m) (s .args .rows .now) (s .args .n) (A .says .bounded) (A .listed) (A .apart) (A .literals) (s .pre .0))
+    ∙ ap (pad 64) (ap (λ (k : ℕ). map (clauseIn (s .args .wide) (s .args .rows .now) (s .args .m)) (below k)) j ∙ clauses-held (s .args .wide) (s .args .m) (s .args .rows .now) (s .args .n) (A .says .bounded) (A .listed) (A .apart) (A .literals) (s .pre .0))
 
 pub clauses-at-spec : {M : Type 1} → statement M
 clauses-at-spec =

@@ -1,6 +1,6 @@
 -- `advance` meets its contract: too many facts, too many open, or the step is taken. Assumes nothing.
 use borrow.Author.Needs.{needs}
-use mathlib.Core.Path.{refl, sym, ap, _∙_}
+use mathlib.Core.Path.{sym, ap, _∙_}
 use native.Mathlib.Omega.{arith}
 use Rattle.records.proofs.Lists.{not-true, not-false}
 use Rattle.machine.specs.declared.State.{State as Holding}

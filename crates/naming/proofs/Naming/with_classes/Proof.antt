@@ -1,8 +1,9 @@
 -- `Naming::with_classes` meets its contract: each class by the clauses of both moments. Assumes nothing.
-use mathlib.Core.Path.{refl}
+use mathlib.Core.Path.{refl, _∙_}
 use native.Mathlib.Omega.{arith}
 use borrow.Author.Needs.{needs}
 use Rattle.records.proofs.Lists.{not-true, clash}
+use Rattle.naming.proofs.NamedRows.{reach-is}
 use Rattle.naming.proofs.Naming.with_classes.Statement.{statement}
 use Rattle.naming.proofs.Naming.with_classes.Tie as tie
 
@@ -23,10 +24,12 @@ soles-at-requires-2 c κs = search needs
 
 with-each-requires : tie.Need-with-each-requires
 with-each-requires c κs =
-    let p = c .before .before .before .before .before .before .before .before .before .before .before .before .before .before .before .before .before .before .before .before .before .pre in (
+    let p = c .before .before .before .before .before .before .before .before .before .before .before .before .before .before .before .before .before .before .before .before .before .before .pre in
+    let first = c .before .before .before .before .before .before .before .before .before .before .before .before .before .before .soles-at .ensures refl in
+    let second = c .before .before .before .before .before .before .before .before .before .before .soles-at2 .ensures refl in (
       record { rowed = omega arith; few = p .1 },
-      record { conditions-are = c .before .before .before .before .before .before .before .before .before .before .before .before .before .soles-at .ensures refl; adds-are = c .before .before .before .before .before .before .before .before .before .soles-at2 .ensures refl },
-      record { conditions-are = c .before .before .before .before .before .before .before .before .before .before .before .before .before .soles-at .ensures refl; adds-are = c .before .before .before .before .before .before .before .before .before .soles-at2 .ensures refl },
+      record { conditions-are = first; adds-are = second },
+      record { conditions-are = first; adds-are = second },
       p .2,
       p .3,
       p .4,
@@ -40,7 +43,7 @@ returns c =
     let w = c .before .before .with-each .ensures in (
       w .0,
       λ rs old D a N A t f g.
-          w .1 rs old D a N (record { whole = A; numbers = f; clauses-are = c .before .before .before .before .before .before .before .before .before .before .before .before .before .before .before .before .before .before .before .clauses-at .ensures D a _ A refl }) t (λ k. absurd (clash k (not-true _ (c .before .before .before .before .before .before .before .before .before .before .if1 .taken)))) g,
+          w .1 rs old D a N (record { whole = A; numbers = f; clauses-are = c .before .before .before .before .before .before .before .before .before .before .before .before .before .before .before .before .before .before .before .before .clauses-at .ensures D a _ A refl }) t (λ k. absurd (clash k (not-true _ (c .before .before .before .before .before .before .before .before .before .before .before .if1 .taken)))) g,
     )
 
 clauses-at-requires-2 : tie.Need-clauses-at-requires-2
@@ -58,12 +61,21 @@ slice-aggregate-soles-at-4 c = search needs
 soles-at-requires-4 : tie.Need-soles-at-requires-4
 soles-at-requires-4 c κs = search needs
 
+clauses-at-requires-3 : tie.Need-clauses-at-requires-3
+clauses-at-requires-3 c κs = let p = c .before .before .before .before .before .before .before .before .before .before .before .before .before .before .before .before .before .before .before .before .before .before .before .before .before .pre in (omega arith, omega arith)
+
+slice-aggregate-soles-at-5 : tie.Need-slice-aggregate-soles-at-5
+slice-aggregate-soles-at-5 c = search needs
+
+soles-at-requires-5 : tie.Need-soles-at-requires-5
+soles-at-requires-5 c κs = let p = c .before .before .before .before .before .before .before .before .before .before .before .before .before .before .before .before .before .before .before .before .before .before .before .before .before .before .before .before .pre in (p .1, omega arith)
+
 with-each-requires-2 : tie.Need-with-each-requires-2
 with-each-requires-2 c κs =
-    let p = c .before .before .before .before .before .before .before .before .before .before .before .before .before .before .before .before .before .before .before .before .before .before .before .before .before .before .before .before .before .before .before .pre in (
+    let p = c .before .before .before .before .before .before .before .before .before .before .before .before .before .before .before .before .before .before .before .before .before .before .before .before .before .before .before .before .before .before .before .before .before .before .before .before .before .before .pre in (
       record { rowed = omega arith; few = p .1 },
-      record { conditions-are = c .before .before .before .before .before .before .before .before .before .before .before .before .before .before .before .before .before .before .before .before .before .before .before .soles-at .ensures refl; adds-are = c .before .before .before .before .before .before .before .before .before .before .before .before .before .before .before .before .before .before .before .soles-at2 .ensures refl },
-      record { conditions-are = c .before .before .before .before .before .before .before .before .before .before .before .before .soles-at3 .ensures refl; adds-are = c .before .before .before .before .before .before .before .before .soles-at4 .ensures refl },
+      record { conditions-are = c .before .before .before .before .before .before .before .before .before .before .before .before .before .before .before .before .before .before .before .before .before .before .before .before .before .before .before .before .before .before .soles-at .ensures refl; adds-are = c .before .before .before .before .before .before .before .before .before .before .before .before .before .before .before .before .before .before .before .before .before .before .before .before .before .before .soles-at2 .ensures refl },
+      record { conditions-are = c .before .before .before .before .before .before .before .before .before .before .before .before .before .before .before .before .before .before .before .soles-at3 .ensures refl; adds-are = c .before .before .before .before .before .before .before .before .before .before .before .before .before .before .before .soles-at4 .ensures refl },
       p .2,
       p .3,
       p .4,
@@ -77,8 +89,11 @@ returns-2 c =
     let w = c .before .before .with-each2 .ensures in (
       w .0,
       λ rs old D a N A t f g.
-          w .1 rs old D a N (record { whole = A; numbers = f; clauses-are = c .before .before .before .before .before .before .before .before .before .before .before .before .before .before .before .before .before .before .before .before .before .before .before .before .before .before .before .before .before .clauses-at .ensures D a _ A refl }) t
-          (λ k. record { whole = A; numbers = f; clauses-are = c .before .before .before .before .before .before .before .before .before .before .before .before .before .before .before .before .before .before .clauses-at2 .ensures D a _ A refl }) g,
+          w .1 rs old D a N (record { whole = A; numbers = f; clauses-are = c .before .before .before .before .before .before .before .before .before .before .before .before .before .before .before .before .before .before .before .before .before .before .before .before .before .before .before .before .before .before .before .before .before .before .before .before .clauses-at .ensures D a _ A refl }) t
+          (λ k. record {
+            own = record { whole = A; numbers = f; clauses-are = c .before .before .before .before .before .before .before .before .before .before .before .before .before .before .before .before .before .before .before .before .before .before .before .before .before .clauses-at2 .ensures D a _ A refl };
+            reaches = λ j h. c .before .before .before .before .before .before .before .before .before .before .before .before .soles-at5 .ensures refl j h ∙ reach-is D a f (c .before .before .before .before .before .before .before .before .before .before .before .before .before .before .before .clauses-at3 .ensures D a _ A refl) j;
+          }) g,
     )
 
 pub with-classes-spec : {M : Type 1} → statement M
@@ -98,6 +113,9 @@ with-classes-spec =
     soles-at-requires-3
     slice-aggregate-soles-at-4
     soles-at-requires-4
+    clauses-at-requires-3
+    slice-aggregate-soles-at-5
+    soles-at-requires-5
     with-each-requires-2
     same-length-2
     returns-2)

@@ -10,11 +10,11 @@ use Rattle.naming.proofs.Naming.with_each.Statement.{statement}
 use Rattle.naming.proofs.Naming.with_each.Tie as tie
 
 abbrev Inv-loop : tie.InvT-loop
-Inv-loop head rows of at-start at-end conditions adds end-conditions end-adds count i lasting names₀ next₀ class₀ names next class =
-    InClasses head rows of at-start at-end count i lasting names₀ next₀ names next class
+Inv-loop head rows of at-start at-end conditions adds reach end-conditions end-adds count i lasting names₀ next₀ class₀ names next class =
+    InClasses head rows of at-start at-end reach count i lasting names₀ next₀ names next class
 
 abbrev μ-loop : tie.MeasureT-loop
-μ-loop head rows of at-start at-end conditions adds end-conditions end-adds count i lasting names₀ next₀ class₀ names next class = count - class
+μ-loop head rows of at-start at-end conditions adds reach end-conditions end-adds count i lasting names₀ next₀ class₀ names next class = count - class
 
 loop-holds : tie.Need-loop-holds Inv-loop μ-loop
 loop-holds c =
@@ -28,22 +28,25 @@ loop-holds c =
 element-copy-out-with-class : tie.Need-element-copy-out-with-class Inv-loop μ-loop
 element-copy-out-with-class c = omega arith
 
-element-copy-out-t24 : tie.Need-element-copy-out-t24 Inv-loop μ-loop
-element-copy-out-t24 c = omega arith
+element-copy-out-t25 : tie.Need-element-copy-out-t25 Inv-loop μ-loop
+element-copy-out-t25 c = omega arith
 
-element-copy-out-t28 : tie.Need-element-copy-out-t28 Inv-loop μ-loop
-element-copy-out-t28 c = omega arith
+element-copy-out-name-class : tie.Need-element-copy-out-name-class Inv-loop μ-loop
+element-copy-out-name-class c = omega arith
 
-element-copy-out-t31 : tie.Need-element-copy-out-t31 Inv-loop μ-loop
-element-copy-out-t31 c = omega arith
+element-copy-out-t32 : tie.Need-element-copy-out-t32 Inv-loop μ-loop
+element-copy-out-t32 c = omega arith
+
+element-copy-out-t35 : tie.Need-element-copy-out-t35 Inv-loop μ-loop
+element-copy-out-t35 c = omega arith
 
 cast-name-class : tie.Need-cast-name-class Inv-loop μ-loop
 cast-name-class c = omega arith
 
 name-class-requires : tie.Need-name-class-requires Inv-loop μ-loop
 name-class-requires c κs =
-    let p = c .before .before .before .before .before .before .before .before .before .pre in
-    let k = c .before .before .before .before .before .loop .class in
+    let p = c .before .before .before .before .before .before .before .before .before .before .pre in
+    let k = c .before .before .before .before .before .before .loop .class in
     let h : k < 64 = omega arith in
     (p .0, sole-at (p .1) k h, sole-at (p .2) k h)
 
@@ -52,14 +55,14 @@ cast-with-class c = omega arith
 
 with-class-requires : tie.Need-with-class-requires Inv-loop μ-loop
 with-class-requires c κs =
-    let w = c .before .before .before .before .before .before .before .loop .inv .few in
-    let r = c .before .before .before .before .before .before .before .loop .inv .room in
-    (omega arith, c .before .before .before .before .before .before .before .before .before .before .before .pre .4)
+    let w = c .before .before .before .before .before .before .before .before .loop .inv .few in
+    let r = c .before .before .before .before .before .before .before .before .loop .inv .room in
+    (omega arith, c .before .before .before .before .before .before .before .before .before .before .before .before .pre .4)
 
 add-class : tie.Need-add-class Inv-loop μ-loop
 add-class c =
-    let t = c .before .before .before .before .before .before .before .before .before .loop-test .taken in
-    let p = c .before .before .before .before .before .before .before .before .before .before .before .before .before .before .pre in
+    let t = c .before .before .before .before .before .before .before .before .before .before .loop-test .taken in
+    let p = c .before .before .before .before .before .before .before .before .before .before .before .before .before .before .before .pre in
     let m = p .3 in
     let s = p .0 .few in
     omega arith
@@ -69,7 +72,8 @@ loop-less c = omega arith
 
 loop-again : tie.Need-loop-again Inv-loop μ-loop
 loop-again c =
-    let l = c .before .before .before .before .before .before .before .before .before .before .loop in
+    let l = c .before .before .before .before .before .before .before .before .before .before .before .loop in
+    let below = c .before .before .before .before .before .before .before .before .before .before .loop-test .taken in
     let w = l .inv .few in
     let named = c .before .before .before .before .name-class .ensures in
     let called = c .before .before .with-class in
@@ -80,8 +84,12 @@ loop-again c =
       named =
           λ rs old D a N M t E g.
           let h : l .class < length (classes D a) = omega arith in
-          named-next D a (c .before .before .before .before .before .before .before .before .before .before .before .before .before .before .args .i) (classes D a) rs (l .class) h
-          (called .ensures .1 _ old D a (l .inv .named rs old D a N M t E g) t (named .0 D a M h) (λ k. named .1 D a M (E k) h k (t ∙ k)));
+          let p = c .before .before .before .before .before .before .before .before .before .before .before .before .before .before .before .pre in
+          let m = p .3 in
+          let s = p .0 .few in
+          let few : l .class < 64 = omega arith in
+          named-next D a (c .before .before .before .before .before .before .before .before .before .before .before .before .before .before .before .args .i) (classes D a) rs (l .class) h
+          (called .ensures .1 _ old D a (l .inv .named rs old D a N M t E g) t (named .0 D a M h) (λ k. named .1 D a M (E k .own) h (E k .reaches (l .class) few) k (t ∙ k)));
     }
 
 same-length : tie.Need-same-length Inv-loop μ-loop
@@ -104,9 +112,10 @@ with-each-spec =
     μ-loop
     loop-holds
     element-copy-out-with-class
-    element-copy-out-t24
-    element-copy-out-t28
-    element-copy-out-t31
+    element-copy-out-t25
+    element-copy-out-name-class
+    element-copy-out-t32
+    element-copy-out-t35
     cast-name-class
     name-class-requires
     cast-with-class
