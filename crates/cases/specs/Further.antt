@@ -316,13 +316,18 @@ pub record Refusals : Type 0 where
       ≡ answers 0 0 0 0 (row 0 0 0 irrelevant ++ row 0 0 1 irrelevant) []
   pub start-and-over-all : judge (startLasting ++ lacks (full 0) ++ holdsOverAll (full 0) ++ component (full 0) ++ closing)
       ≡ answers 0 0 0 0 (row 0 0 0 irrelevant ++ row 0 0 1 irrelevant) []
-  -- 21: two FF; a key twice, another missing; a key that isn't below n; another n than the first component's, more and fewer
-  pub two-counted : judge (relation 3 ++ component (0 ∷ 0 ∷ FF ∷ FF ∷ [])) ≡ refuses 21 5
-  pub key-twice : judge (relation 2 ++ component (at 0 0)) ≡ refuses 21 5
-  pub key-missing : judge (relation 1 ++ component (full 1)) ≡ refuses 21 5
-  pub more-keys : judge (relation 1 ++ relation 2 ++ component (full 0) ++ component (out 0 1)) ≡ refuses 21 16
+  -- 25: the second FF, before a key twice and a key too high; the offset is the label's
+  pub two-counted : judge (relation 3 ++ component (0 ∷ 0 ∷ FF ∷ FF ∷ [])) ≡ refuses 25 12
+  pub counted-first : judge (relation 5 ++ component (0 ∷ FF ∷ 0 ∷ 0 ∷ FF ∷ FF ∷ [])) ≡ refuses 25 13
+  -- 24: the first key equal to an earlier one, before a key too high
+  pub key-twice : judge (relation 2 ++ component (at 0 0)) ≡ refuses 24 11
+  pub key-before-high : judge (relation 5 ++ component (0 ∷ 9 ∷ 1 ∷ 9 ∷ 1 ∷ FF ∷ [])) ≡ refuses 24 12
+  -- 21: the first key not below n; another n than the first component's; a key that is only missing keeps the record's offset
+  pub key-high : judge (relation 1 ++ component (full 1)) ≡ refuses 21 10
+  pub high-after : judge (relation 3 ++ component (0 ∷ 0 ∷ FF ∷ 7 ∷ [])) ≡ refuses 21 12
+  pub more-keys : judge (relation 1 ++ relation 2 ++ component (full 0) ++ component (out 0 1)) ≡ refuses 21 22
   pub fewer-keys : judge (relation 1 ++ relation 1 ++ component (full 0) ++ component (empty FF)) ≡ refuses 21 16
-  -- 22: before 21
+  -- 22: before 25, 24 and 21
   pub used-before : judge (startAtOnce ++ component (full 0) ++ component (full 9)) ≡ refuses 22 17
   -- 23
   pub no-component : judge (startAtOnce ++ closing) ≡ refuses 23 11
@@ -344,8 +349,8 @@ pub record Refusals : Type 0 where
   -- no 20: the same relation with other variables
   pub other-variables : judge (relation 1 ++ atOnce 2 ++ holds (full 0) ++ lacks (full 1) ++ component (full 0) ++ closing)
       ≡ answers 0 0 0 0 (row 0 0 0 irrelevant ++ row 0 1 0 irrelevant) []
-  -- 21: a key twice, with none missing and none too high
-  pub key-twice-later : judge (relation 1 ++ relation 2 ++ component (full 0) ++ component (out 0 0)) ≡ refuses 21 16
+  -- 24: a key twice, with none missing and none too high
+  pub key-twice-later : judge (relation 1 ++ relation 2 ++ component (full 0) ++ component (out 0 0)) ≡ refuses 24 22
 
 pub refusals : Refusals
 unfolding judged reportAfter witnessAfter
@@ -399,8 +404,11 @@ refusals =
       start-and-end = refl;
       start-and-over-all = refl;
       two-counted = refl;
+      counted-first = refl;
       key-twice = refl;
-      key-missing = refl;
+      key-before-high = refl;
+      key-high = refl;
+      high-after = refl;
       more-keys = refl;
       fewer-keys = refl;
       used-before = refl;
