@@ -228,6 +228,7 @@ module _ (n : ℕ) (p : List ℕ) (few : n ≤ 6) where
 
         pub missing-key : eachOnce n labels ≡ false → atRecord 21 ≡ labelFault n (map labelOf labels)
         missing-key t = sym (by-keys ∙ rw t)
+
 -- a label is a key or FF
 pub keys-and-counted : (bs : List ℕ) → countBy (λ l. not (isCounted l)) (map labelOf bs) + countBy (eqb 255) bs ≡ length bs
 keys-and-counted bs =

@@ -273,6 +273,7 @@ too-long s t p is h = rw (read-long s h) (λ i. record { number = 9; place = 0; 
 
 -- where the loop stands: it has read a part of the file as `readFile` does, and the fuel that is left suffices
 pub record Loop (s old : List ℕ) (p : Standing) (t : List ℕ) : Type 0 where
+  pub short : length s ≤ 65535
   pub reading : Reading
   pub is : p ≡ standingOf reading
   pub grown : Grown reading
@@ -290,6 +291,7 @@ at-start e c = λ i. standingWith (e i) (c .arities i) (c .variables i) (c .sort
 pub begins : (s t : List ℕ) (p : Standing) → p ≡ standingOf fromStart → length s ≤ 65535 → Loop s t p t
 begins s t p is h =
     record {
+      short = h;
       reading = fromStart;
       is = is;
       grown = grown-none;
@@ -320,6 +322,7 @@ module _ {s old : List ℕ} {p : Standing} {t : List ℕ} (i : Loop s old p t) (
   loop-ready =
       let h = held (i .is) (i .grown .bounded) in
       record {
+        short = i .short;
         shaped = shaped h;
         sized = sized h;
         enough = go e;
@@ -358,6 +361,7 @@ module _ (s old : List ℕ) (p : Standing) (t : List ℕ) (i : Loop s old p t) (
           record {
             next =
                 record {
+                  short = i .short;
                   reading = n;
                   is = ap (λ (x : Turn). x .standing) eo;
                   grown = grows s q n (i .grown) e;

@@ -14,7 +14,7 @@ use Rattle.reading.specs.declared.Progress.{Progress}
 use Rattle.reading.specs.declared.ReadEnd.{ReadEnd}
 use Rattle.reading.specs.declared.read.Stepped.{Stepped}
 use Rattle.literals.specs.Domain.{Domain}
-use Rattle.literals.specs.Decode.{Decoded, refused, domain, Reading, ReadTurn, goOn, finish, readFile}
+use Rattle.literals.specs.Decode.{maxFile, Decoded, refused, domain, Reading, ReadTurn, goOn, finish, readFile}
 use Rattle.literals.specs.Table.{indexOf, indexWith, Taken, Shaped, Sized, tableBytes}
 
 -- ---- what one record leads to
@@ -85,8 +85,9 @@ soFar q (finish d) = q .sofar
 abbrev pub EnoughTable : List ℕ → List ℕ → Type 0
 EnoughTable file table = (32768 ≤ length table) ⊎ (4 * length file ≤ 3 * length table)
 
--- what a turn asks of where reading stands and of the table
+-- what a turn asks of the file, of where reading stands and of the table
 pub record StepReady (file table : List ℕ) (p : Standing) : Type 0 where
+  pub short : length file ≤ maxFile
   pub shaped : Shaped (p .index)
   pub sized : Sized (p .index)
   pub enough : EnoughTable file table

@@ -29,13 +29,25 @@ pub fn take_relation(counts: Counts, arities: &mut [u8], p: &[u8]) -> Took
 {
     let n = counts.relations;
     if 0 < counts.actions {
-        return Took { number: 13, within: 0, counts };
+        return Took {
+            number: 13,
+            within: 0,
+            counts,
+        };
     }
     if 0 < counts.components {
-        return Took { number: 13, within: 0, counts };
+        return Took {
+            number: 13,
+            within: 0,
+            counts,
+        };
     }
     if 64 <= n {
-        return Took { number: 14, within: 0, counts };
+        return Took {
+            number: 14,
+            within: 0,
+            counts,
+        };
     }
     let number = relation_fields(p);
     if number == 0 {
@@ -48,7 +60,11 @@ pub fn take_relation(counts: Counts, arities: &mut [u8], p: &[u8]) -> Took
             counts: next,
         };
     }
-    Took { number, within: 0, counts }
+    Took {
+        number,
+        within: 0,
+        counts,
+    }
 }
 
 pub fn take_action(
@@ -64,10 +80,18 @@ pub fn take_action(
 {
     let n = counts.actions;
     if 0 < counts.components {
-        return Took { number: 13, within: 0, counts };
+        return Took {
+            number: 13,
+            within: 0,
+            counts,
+        };
     }
     if 64 <= n {
-        return Took { number: 14, within: 0, counts };
+        return Took {
+            number: 14,
+            within: 0,
+            counts,
+        };
     }
     let number = action_fields(p);
     if number == 0 {
@@ -82,7 +106,11 @@ pub fn take_action(
             counts: next,
         };
     }
-    Took { number, within: 0, counts }
+    Took {
+        number,
+        within: 0,
+        counts,
+    }
 }
 
 // The number that stops a literal of the action `last`, the latest.
@@ -133,14 +161,26 @@ pub fn take_literal(
     let n = counts.actions;
     let rows = counts.rows;
     if n == 0 {
-        return Took { number: 13, within: 0, counts };
+        return Took {
+            number: 13,
+            within: 0,
+            counts,
+        };
     }
     if 0 < counts.components {
-        return Took { number: 13, within: 0, counts };
+        return Took {
+            number: 13,
+            within: 0,
+            counts,
+        };
     }
     let last = n - 1;
     if 64 <= rows - starts[last] {
-        return Took { number: 14, within: 0, counts };
+        return Took {
+            number: 14,
+            within: 0,
+            counts,
+        };
     }
     let number = literal_number(counts, last, arities, variables, sorts, starts, table, p);
     if number == 0 {
@@ -153,7 +193,11 @@ pub fn take_literal(
             counts: next,
         };
     }
-    Took { number, within: 0, counts }
+    Took {
+        number,
+        within: 0,
+        counts,
+    }
 }
 
 // The number of keys of the template with this component.
@@ -199,7 +243,11 @@ pub fn take_component(counts: Counts, arities: &[u8], parts: &mut [u8], p: &[u8]
 {
     let n = counts.components;
     if 16 <= n {
-        return Took { number: 14, within: 0, counts };
+        return Took {
+            number: 14,
+            within: 0,
+            counts,
+        };
     }
     let fault = component_fault(counts, arities, parts, p);
     let number = fault.number;
@@ -215,7 +263,11 @@ pub fn take_component(counts: Counts, arities: &[u8], parts: &mut [u8], p: &[u8]
             counts: next,
         };
     }
-    Took { number, within, counts }
+    Took {
+        number,
+        within,
+        counts,
+    }
 }
 
 pub fn take_closing(counts: Counts, p: &[u8]) -> Took
@@ -223,12 +275,24 @@ pub fn take_closing(counts: Counts, p: &[u8]) -> Took
         → takenWith r arities variables sorts starts parts ≡ takenOf D closingRecord (now (p .entry))) ⌝ }
 {
     if p.len() != 0 {
-        return Took { number: 12, within: 0, counts };
+        return Took {
+            number: 12,
+            within: 0,
+            counts,
+        };
     }
     if counts.components == 0 {
-        return Took { number: 23, within: 0, counts };
+        return Took {
+            number: 23,
+            within: 0,
+            counts,
+        };
     }
-    Took { number: 0, within: 0, counts }
+    Took {
+        number: 0,
+        within: 0,
+        counts,
+    }
 }
 
 // A record of any kind.
@@ -256,6 +320,10 @@ pub fn take_record(
         3 => take_literal(counts, arities, variables, sorts, starts, table, p),
         4 => take_component(counts, arities, parts, p),
         5 => take_closing(counts, p),
-        _ => Took { number: 11, within: 0, counts },
+        _ => Took {
+            number: 11,
+            within: 0,
+            counts,
+        },
     }
 }
