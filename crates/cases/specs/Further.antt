@@ -231,7 +231,7 @@ room =
       nothing-lent = refl;
     }
 
--- ---- refusals, 9 to 23
+-- ---- refusals, 9 to 25
 
 -- full/1 and an action of one variable, 11 bytes; a literal of full has 7, a component 6
 abbrev startAtOnce : List ℕ
@@ -316,19 +316,27 @@ pub record Refusals : Type 0 where
       ≡ answers 0 0 0 0 (row 0 0 0 irrelevant ++ row 0 0 1 irrelevant) []
   pub start-and-over-all : judge (startLasting ++ lacks (full 0) ++ holdsOverAll (full 0) ++ component (full 0) ++ closing)
       ≡ answers 0 0 0 0 (row 0 0 0 irrelevant ++ row 0 0 1 irrelevant) []
-  -- 25: the second FF, before a key twice and a key too high; the offset is the label's
+  -- 25, at the second FF: of three FF too; before a key that stands twice, and before one that isn't below n
   pub two-counted : judge (relation 3 ++ component (0 ∷ 0 ∷ FF ∷ FF ∷ [])) ≡ refuses 25 12
-  pub counted-first : judge (relation 5 ++ component (0 ∷ FF ∷ 0 ∷ 0 ∷ FF ∷ FF ∷ [])) ≡ refuses 25 13
-  -- 24: the first key equal to an earlier one, before a key too high
+  pub three-counted : judge (relation 3 ++ component (0 ∷ FF ∷ FF ∷ FF ∷ [])) ≡ refuses 25 11
+  pub counted-before-twice : judge (relation 5 ++ component (0 ∷ FF ∷ 0 ∷ 0 ∷ FF ∷ FF ∷ [])) ≡ refuses 25 13
+  pub counted-before-high : judge (relation 3 ++ component (0 ∷ 9 ∷ FF ∷ FF ∷ [])) ≡ refuses 25 12
+  -- 24, at the first key equal to an earlier one: before a key that isn't below n, and itself at any number
   pub key-twice : judge (relation 2 ++ component (at 0 0)) ≡ refuses 24 11
-  pub key-before-high : judge (relation 5 ++ component (0 ∷ 9 ∷ 1 ∷ 9 ∷ 1 ∷ FF ∷ [])) ≡ refuses 24 12
-  -- 21: the first key not below n; another n than the first component's; a key that is only missing keeps the record's offset
+  pub twice-before-high : judge (relation 5 ++ component (0 ∷ 9 ∷ 1 ∷ 8 ∷ 1 ∷ FF ∷ [])) ≡ refuses 24 13
+  pub high-twice : judge (relation 5 ++ component (0 ∷ 9 ∷ 1 ∷ 9 ∷ 1 ∷ FF ∷ [])) ≡ refuses 24 12
+  -- 21, at the first key that isn't below n, though another is missing; n is the first component's
   pub key-high : judge (relation 1 ++ component (full 1)) ≡ refuses 21 10
-  pub high-after : judge (relation 3 ++ component (0 ∷ 0 ∷ FF ∷ 7 ∷ [])) ≡ refuses 21 12
+  pub high-behind : judge (relation 3 ++ component (0 ∷ 0 ∷ FF ∷ 7 ∷ [])) ≡ refuses 21 12
   pub more-keys : judge (relation 1 ++ relation 2 ++ component (full 0) ++ component (out 0 1)) ≡ refuses 21 22
+  pub high-later : judge (relations ++ component (at 0 FF) ++ component (out FF 3)) ≡ refuses 21 23
+  pub high-before-missing : judge (relations ++ component (at 0 1) ++ component (out 0 2)) ≡ refuses 21 23
+  -- 21, at the record where a key is only missing
+  pub key-missing : judge (relations ++ component (at 0 1) ++ component (out 0 FF)) ≡ refuses 21 17
   pub fewer-keys : judge (relation 1 ++ relation 1 ++ component (full 0) ++ component (empty FF)) ≡ refuses 21 16
   -- 22: before 25, 24 and 21
   pub used-before : judge (startAtOnce ++ component (full 0) ++ component (full 9)) ≡ refuses 22 17
+  pub used-before-counted : judge (relation 2 ++ component (at 0 FF) ++ component (at FF FF)) ≡ refuses 22 12
   -- 23
   pub no-component : judge (startAtOnce ++ closing) ≡ refuses 23 11
   -- 12: a relation's length, before 15
@@ -404,14 +412,21 @@ refusals =
       start-and-end = refl;
       start-and-over-all = refl;
       two-counted = refl;
-      counted-first = refl;
+      three-counted = refl;
+      counted-before-twice = refl;
+      counted-before-high = refl;
       key-twice = refl;
-      key-before-high = refl;
+      twice-before-high = refl;
+      high-twice = refl;
       key-high = refl;
-      high-after = refl;
+      high-behind = refl;
       more-keys = refl;
+      high-later = refl;
+      high-before-missing = refl;
+      key-missing = refl;
       fewer-keys = refl;
       used-before = refl;
+      used-before-counted = refl;
       no-component = refl;
       relation-long = refl;
       relation-empty = refl;

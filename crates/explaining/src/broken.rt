@@ -1,4 +1,4 @@
-// The sentence of a domain file that is not well-formed: 9 to 23.
+// The sentence of a domain file that is not well-formed: 9 to 25.
 use super::say;
 use listing::put;
 ghost use mathlib.Core.Path.{_≡_};
@@ -39,7 +39,7 @@ fn form_words(number: u64) {
     }
 }
 
-// What is wrong, 16 to 23.
+// What is wrong, 16 to 25; the offset of 24 and 25, and of a key in 21, is the label's.
 fn meaning_words(number: u64) {
     match number {
         16 => {
@@ -58,10 +58,16 @@ fn meaning_words(number: u64) {
             say(b"literal made both a true and a false condition by the record");
         }
         21 => {
-            say(b"wrong labels in the record");
+            say(b"a key that there is not, or a component that lacks one,");
         }
         22 => {
             say(b"relation given a second component by the record");
+        }
+        24 => {
+            say(b"a key that stands in its component before");
+        }
+        25 => {
+            say(b"a second counted label (FF) in its component");
         }
         _ => {
             say(b"no component before the closing record");

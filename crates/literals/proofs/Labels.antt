@@ -1,4 +1,4 @@
--- Which label is at fault: the place found is the first, labels that nothing stops fit, and those that fit pass. Assumes nothing.
+-- Which label is at fault: the place found is the first, labels that nothing stops fit, those that fit pass, and what each number tells. Assumes nothing.
 use mathlib.Core.Path.{_≡_, refl, sym, ap, ap₂, _∙_}
 use mathlib.Core.Bool.{Bool, true, false, _&&_, cond, false≢true}
 use mathlib.Core.Logic.{_⊎_, inl, inr}
@@ -7,10 +7,10 @@ use Prim.Native.Nat.{ℕ, zero, suc, _≤_, _<_}
 use native.Mathlib.Omega.{arith}
 use lib.Dec.{eqb, ltb}
 use lib.ListN.{length, getD, take, length-map}
-use borrow.Author.Tests.{eqb-true, eqb-false, ltb-true, le-ltb, leb-true}
+use borrow.Author.Tests.{eqb-true, eqb-false, ltb-true, ltb-false, le-ltb, leb-true}
 use Rattle.records.specs.Lists.{In, addIf, countBy, all, any, firstAt, found}
 use Rattle.records.proofs.Lists.{and-l, and-r, bool-cases, off, eqb-same, any-in, all-in, count-append, count-pos}
-use Rattle.literals.specs.declared.Fault.{Fault}
+use Rattle.literals.specs.declared.RecordFault.{RecordFault}
 use Rattle.literals.specs.declared.Key.{Key}
 use Rattle.literals.specs.declared.Label.{Label}
 use Rattle.literals.specs.declared.Label.the-variants.{Key as keyed, Counted}
@@ -146,4 +146,43 @@ passes-fit n ls = go (found countedAgain ls) (found keyAgain ls) (found (keyTooH
 
 -- and then there is no place
 pub passes-place : (n : ℕ) (ls : List Label) → labelFault n ls .number ≡ 0 → labelFault n ls .within ≡ 0
-passes-place n ls e = ap (λ (f : Fault). f .within) (fit-passes n ls (passes-fit n ls e))
+passes-place n ls e = ap (λ (f : RecordFault). f .within) (fit-passes n ls (passes-fit n ls e))
+
+-- ---- what a fault tells of the labels
+
+-- the first label that passes a test of those before it stands at i
+pub record First (p : List Label → Label → Bool) (ls : List Label) (i : ℕ) : Type 0 where
+  pub listed : i < length ls
+  pub passes : p (take i ls) (getD ls i Counted) ≡ true
+  pub none : (j : ℕ) → j < i → p (take j ls) (getD ls j Counted) ≡ false
+
+-- no label does
+abbrev pub None : (List Label → Label → Bool) → List Label → Type 0
+None p ls = (j : ℕ) → j < length ls → p (take j ls) (getD ls j Counted) ≡ false
+
+first-found : (p : List Label → Label → Bool) (ls : List Label) → found p ls ≡ true → First p ls (firstAt p [] ls)
+first-found p ls t = let l = ltb-true (firstAt p [] ls) (length ls) t in record { listed = l; passes = first-passes p Counted [] ls l; none = none-earlier p Counted [] ls }
+
+none-found : (p : List Label → Label → Bool) (ls : List Label) → found p ls ≡ false → None p ls
+none-found p ls t j h = let l = ltb-false (firstAt p [] ls) (length ls) t in none-earlier p Counted [] ls j (omega arith)
+
+-- "Two FF labels give 25, a repeated key 24, the rest 21, checked in that order", at the second FF, the first key equal to an earlier one, the first key not below n, else at the record
+pub label-cases : (n : ℕ) (ls : List Label) (P : ℕ → ℕ → Type 0)
+    → ((i : ℕ) → First countedAgain ls i → P 25 (5 + i))
+    → (None countedAgain ls → (i : ℕ) → First keyAgain ls i → P 24 (5 + i))
+    → (None countedAgain ls → None keyAgain ls → (i : ℕ) → First (keyTooHigh n) ls i → P 21 (5 + i))
+    → (None countedAgain ls → None keyAgain ls → None (keyTooHigh n) ls → labelsFit n ls ≡ false → P 21 0)
+    → (labelsFit n ls ≡ true → P 0 0)
+    → P (labelFault n ls .number) (labelFault n ls .within)
+unfolding labelFault
+label-cases n ls P counted again high missing fit = go (found countedAgain ls) refl (found keyAgain ls) refl (found (keyTooHigh n) ls) refl (labelsFit n ls) refl
+  where
+    by : Bool → Bool → Bool → Bool → RecordFault
+    by x y z b = cond x (atLabel 25 (firstAt countedAgain [] ls)) (cond y (atLabel 24 (firstAt keyAgain [] ls)) (cond z (atLabel 21 (firstAt (keyTooHigh n) [] ls)) (cond b (atRecord 0) (atRecord 21))))
+
+    go : (x : Bool) → found countedAgain ls ≡ x → (y : Bool) → found keyAgain ls ≡ y → (z : Bool) → found (keyTooHigh n) ls ≡ z → (b : Bool) → labelsFit n ls ≡ b → P (by x y z b .number) (by x y z b .within)
+    go true d y e z f b g = counted (firstAt countedAgain [] ls) (first-found countedAgain ls d)
+    go false d true e z f b g = again (none-found countedAgain ls d) (firstAt keyAgain [] ls) (first-found keyAgain ls e)
+    go false d false e true f b g = high (none-found countedAgain ls d) (none-found keyAgain ls e) (firstAt (keyTooHigh n) [] ls) (first-found (keyTooHigh n) ls f)
+    go false d false e false f true g = fit g
+    go false d false e false f false g = missing (none-found countedAgain ls d) (none-found keyAgain ls e) (none-found (keyTooHigh n) ls f) g

@@ -15,7 +15,7 @@ use Rattle.records.specs.Record.{recordAt, payload}
 use Rattle.records.proofs.Numbers.{numberOf, numbered, by-numbers}
 use Rattle.literals.specs.declared.Label.{Label}
 use Rattle.literals.specs.Domain.{keysOf, labelsFit, Domain}
-use Rattle.literals.specs.Decode.{maxFile, RecordKind, relationRecord, actionRecord, literalRecord, componentRecord, closingRecord, unknownRecord, kindOf, isUnknown, isClosing, outOfOrder, atLimit, headStop, byte, relationStop, actionStop, literalStop, atRecord, atLabel, componentOf, countedAgain, keyAgain, keyTooHigh, labelFault, closingStop, fieldStop, stopOf, faultOf, refuseAt, extend, Refusal, refuse, Decoded, refused, domain, Reading, ReadTurn, goOn, finish, readRecord, readFound, readStep, Finished, readFrom, fromStart, readFile, decode}
+use Rattle.literals.specs.Decode.{maxFile, RecordKind, relationRecord, actionRecord, literalRecord, componentRecord, closingRecord, unknownRecord, kindOf, isUnknown, isClosing, outOfOrder, atLimit, headStop, byte, relationStop, actionStop, literalStop, atRecord, atLabel, componentOf, countedAgain, keyAgain, keyTooHigh, labelFault, closingStop, fieldStop, stopOf, stopAt, refuseAt, extend, Refusal, refuse, Decoded, refused, domain, Reading, ReadTurn, goOn, finish, readRecord, readFound, readStep, Finished, readFrom, fromStart, readFile, decode}
 use Rattle.literals.proofs.Stops.{literalRows, componentRows, labelsFault, component-number}
 
 -- ---- the number that stops a record
@@ -76,11 +76,11 @@ RefusesAt (goOn q) = Unit {0}
 RefusesAt (finish d) = RefusesBy d
 
 refuses-record : (r : Reading) (k : RecordKind) (p : List ℕ) (behind : ℕ) → RefusesAt (readRecord r k p behind)
-unfolding readRecord faultOf
+unfolding readRecord stopAt
 refuses-record r k p behind = go (eqb (stopOf (r .sofar) k p) 0) refl (stop-of (r .sofar) k p)
   where
     go : (b : Bool) → eqb (stopOf (r .sofar) k p) 0 ≡ b → Stop (stopOf (r .sofar) k p)
-        → RefusesAt (cond b (goOn (record { at = behind; closed = isClosing k; sofar = extend (r .sofar) k p })) (finish (refused (refuseAt (faultOf (r .sofar) k p) (r .at)))))
+        → RefusesAt (cond b (goOn (record { at = behind; closed = isClosing k; sofar = extend (r .sofar) k p })) (finish (refused (refuseAt (stopAt (r .sofar) k p) (r .at)))))
     go true e h = tt
     go false e (inl z) = absurd (eqb-false (stopOf (r .sofar) k p) 0 e z)
     go false e (inr h) = h

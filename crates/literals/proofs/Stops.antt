@@ -10,7 +10,7 @@ use borrow.Author.Tests.{ltb-true, ltb-false, leb-false, eqb-true, eq-eqb, ne-eq
 use Rattle.records.specs.Lists.{any}
 use Rattle.records.proofs.Lists.{and-l, and-r, not-false, clash, or-out}
 use Rattle.records.proofs.Numbers.{numberOf, numbered, none-passes}
-use Rattle.literals.specs.declared.Fault.{Fault}
+use Rattle.literals.specs.declared.RecordFault.{RecordFault}
 use Rattle.literals.specs.Domain.{Action, Component, keysOf, labelsFit, Domain, arity}
 use Rattle.literals.specs.Decode.{RecordKind, relationRecord, actionRecord, literalRecord, componentRecord, closingRecord, unknownRecord, latest, isUnknown, outOfOrder, atLimit, headStop, byte, relationStop, actionStop, literalOf, repeats, contradicts, noRole, literalStop, atRecord, componentOf, labelFault, componentFault, componentStop, fieldStop, fieldPlace, stopOf, stopPlace}
 use Rattle.literals.proofs.Labels.{passes-fit, passes-place}
@@ -103,15 +103,15 @@ componentRows D p =
     ∷ []
 
 -- the labels of a component, of the template with it
-abbrev pub labelsFault : Domain → List ℕ → Fault
+abbrev pub labelsFault : Domain → List ℕ → RecordFault
 labelsFault D p = labelFault (keysOf (D .template ++ (componentOf p ∷ []))) (componentOf p .labels)
 
 -- rows at the record, and a fault behind them
-abbrev pub faultBy : List (Bool × ℕ) → Fault → Fault
+abbrev pub faultBy : List (Bool × ℕ) → RecordFault → RecordFault
 faultBy [] f = f
 faultBy (row ∷ rows) f = cond (row .0) (atRecord (row .1)) (faultBy rows f)
 
-pub fault-number : (rows : List (Bool × ℕ)) (f : Fault) → faultBy rows f .number ≡ numberOf rows (f .number)
+pub fault-number : (rows : List (Bool × ℕ)) (f : RecordFault) → faultBy rows f .number ≡ numberOf rows (f .number)
 fault-number [] f = refl
 fault-number (row ∷ rows) f = go (row .0) (fault-number rows f)
   where
@@ -120,7 +120,7 @@ fault-number (row ∷ rows) f = go (row .0) (fault-number rows f)
     go false ih = ih
 
 -- the rows by themselves, and the fault behind them
-pub faults-split : (rows : List (Bool × ℕ)) (f : Fault) → numbered (ltb 0) rows ≡ true → faultBy rows f ≡ cond (eqb (numberOf rows 0) 0) f (atRecord (numberOf rows 0))
+pub faults-split : (rows : List (Bool × ℕ)) (f : RecordFault) → numbered (ltb 0) rows ≡ true → faultBy rows f ≡ cond (eqb (numberOf rows 0) 0) f (atRecord (numberOf rows 0))
 faults-split [] f t = refl
 faults-split (row ∷ rows) f t = go (row .0) (faults-split rows f (and-r (ltb 0 (row .1)) _ t))
   where
@@ -130,7 +130,7 @@ faults-split (row ∷ rows) f t = go (row .0) (faults-split rows f (and-r (ltb 0
     go false ih = ih
 
 -- where nothing stops it there is no place
-pub faults-none : (rows : List (Bool × ℕ)) (f : Fault) → numbered (ltb 0) rows ≡ true → (f .number ≡ 0 → f .within ≡ 0) → faultBy rows f .number ≡ 0 → faultBy rows f .within ≡ 0
+pub faults-none : (rows : List (Bool × ℕ)) (f : RecordFault) → numbered (ltb 0) rows ≡ true → (f .number ≡ 0 → f .within ≡ 0) → faultBy rows f .number ≡ 0 → faultBy rows f .within ≡ 0
 faults-none [] f t h e = h e
 faults-none (row ∷ rows) f t h e = go (row .0) e (faults-none rows f (and-r (ltb 0 (row .1)) _ t) h)
   where

@@ -8,7 +8,7 @@ use Rattle.records.specs.Lists.{any, firstAt, found, empty}
 use Rattle.records.specs.declared.Record.{Record}
 use Rattle.records.specs.declared.Record.the-variants.{Whole, Cut, End}
 use Rattle.records.specs.Record.{recordAt, payload}
-use Rattle.literals.specs.declared.Fault.{Fault}
+use Rattle.literals.specs.declared.RecordFault.{RecordFault}
 use Rattle.literals.specs.declared.Label.{Label}
 use Rattle.literals.specs.declared.Label.the-variants.{Key as keyed, Counted}
 use Rattle.literals.specs.declared.Time.{Time}
@@ -172,14 +172,14 @@ abbrev pub keyTooHigh : ℕ → List Label → Label → Bool
 keyTooHigh n before l = not (keyBelow n l)
 
 -- a fault at the record itself, and at its label i: the labels stand behind the 4 bytes of the head and the relation
-abbrev pub atRecord : ℕ → Fault
+abbrev pub atRecord : ℕ → RecordFault
 atRecord n = record { number = n; within = 0 }
 
-abbrev pub atLabel : ℕ → ℕ → Fault
+abbrev pub atLabel : ℕ → ℕ → RecordFault
 atLabel n i = record { number = n; within = 5 + i }
 
 -- "Two FF labels give 25, a repeated key 24, the rest 21", "checked in that order": of a template that has n keys. "The offset given is that of the label byte"; "Where a key is only missing it stays the record's."
-unfoldable pub labelFault : ℕ → List Label → Fault
+unfoldable pub labelFault : ℕ → List Label → RecordFault
 unfolding labelsFit
 labelFault n ls =
     cond (found countedAgain ls) (atLabel 25 (firstAt countedAgain [] ls))
@@ -188,7 +188,7 @@ labelFault n ls =
     (cond (labelsFit n ls) (atRecord 0) (atRecord 21))))
 
 -- "22 relation used before", then the labels
-unfoldable pub componentFault : Domain → List ℕ → Fault
+unfoldable pub componentFault : Domain → List ℕ → RecordFault
 unfolding labelFault
 componentFault D p =
     let c = componentOf p in
@@ -234,10 +234,10 @@ unfoldable pub stopPlace : Domain → RecordKind → List ℕ → ℕ
 unfolding headStop fieldPlace
 stopPlace D k p = cond (eqb (headStop D k) 0) (fieldPlace D k p) 0
 
--- the number with its place
-unfoldable pub faultOf : Domain → RecordKind → List ℕ → Fault
+-- the number with its place: what the test of a whole record answers
+unfoldable pub stopAt : Domain → RecordKind → List ℕ → RecordFault
 unfolding stopOf stopPlace
-faultOf D k p = record { number = stopOf D k p; within = stopPlace D k p }
+stopAt D k p = record { number = stopOf D k p; within = stopPlace D k p }
 
 -- ---- the domain with one record more
 
@@ -272,7 +272,7 @@ abbrev pub refuse : ℕ → ℕ → Refusal
 refuse n start = record { number = n; place = start; start = start }
 
 -- a record at fault, from its start on: a label gives the label's offset
-abbrev pub refuseAt : Fault → ℕ → Refusal
+abbrev pub refuseAt : RecordFault → ℕ → Refusal
 refuseAt f start = record { number = f .number; place = start + f .within; start = start }
 
 pub data Decoded : Type 0 where
@@ -292,11 +292,11 @@ pub data ReadTurn : Type 0 where
 
 -- a whole record, of this kind and payload, and the offset behind it
 unfoldable pub readRecord : Reading → RecordKind → List ℕ → ℕ → ReadTurn
-unfolding stopOf extend faultOf
+unfolding stopOf extend stopAt
 readRecord r k p behind =
     cond (eqb (stopOf (r .sofar) k p) 0)
     (goOn (record { at = behind; closed = isClosing k; sofar = extend (r .sofar) k p }))
-    (finish (refused (refuseAt (faultOf (r .sofar) k p) (r .at))))
+    (finish (refused (refuseAt (stopAt (r .sofar) k p) (r .at))))
 
 -- "10 cut short or no closing record"
 unfoldable pub readFound : List ℕ → Reading → Record → ReadTurn

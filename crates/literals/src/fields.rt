@@ -1,5 +1,5 @@
 // The fields of a record: each check answers the number that stops it, or 0.
-use super::Fault;
+use super::RecordFault;
 ghost use mathlib.Core.Path.{_≡_};
 ghost use mathlib.Core.Bool.{_&&_, _||_, not};
 ghost use mathlib.Core.List.{[], map};
@@ -218,38 +218,38 @@ pub fn each_once(p: &[u8], n: usize) -> bool
 
 // The labels of a component of a template that has n keys: the second FF, then a key that stands twice, then a key not below n, each at its label, then a
 // key that is missing. A label stands 4 bytes, those of the head, further behind the record's start than in the payload.
-pub fn label_fields(p: &[u8], n: usize) -> Fault
+pub fn label_fields(p: &[u8], n: usize) -> RecordFault
     requires { ⌜ (n ≤ 6) × (length (now p) ≤ 7) ⌝ }
     ensures { λ r. ⌜ r ≡ labelFault n (map labelOf (drop 1 (now (p .entry)))) ⌝ }
 {
     let second = first_again(p, true);
     if second < p.len() {
-        return Fault {
+        return RecordFault {
             number: 25,
             within: 4 + second as u8,
         };
     }
     let repeated = first_again(p, false);
     if repeated < p.len() {
-        return Fault {
+        return RecordFault {
             number: 24,
             within: 4 + repeated as u8,
         };
     }
     let high = first_high(p, n);
     if high < p.len() {
-        return Fault {
+        return RecordFault {
             number: 21,
             within: 4 + high as u8,
         };
     }
     if each_once(p, n) {
-        return Fault {
+        return RecordFault {
             number: 0,
             within: 0,
         };
     }
-    Fault {
+    RecordFault {
         number: 21,
         within: 0,
     }

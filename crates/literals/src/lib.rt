@@ -41,7 +41,7 @@ pub struct Role {
 }
 
 // What stops a record: its number, and how far behind the record's start the fault stands, 0 for the record itself. Number 0 where nothing stops it.
-pub struct Fault {
+pub struct RecordFault {
     pub number: u64,
     pub within: u8,
 }

@@ -11,7 +11,7 @@ use Rattle.records.specs.Lists.{In, any, countBy, empty}
 use Rattle.records.specs.Memory.{over}
 use Rattle.records.proofs.Lists.{not-false, any-out, empty-no, empty-yes, count-le}
 use Rattle.records.proofs.Numbers.{none-passes, rows-split, cond-or}
-use Rattle.literals.specs.declared.Fault.{Fault}
+use Rattle.literals.specs.declared.RecordFault.{RecordFault}
 use Rattle.literals.specs.declared.Index.{Index}
 use Rattle.literals.specs.Domain.{Literal, Action, Component, isCounted, keysOf, Domain}
 use Rattle.literals.specs.Decode.{relationRecord, actionRecord, literalRecord, componentRecord, closingRecord, unknownRecord, latest, outOfOrder, headStop, byte, relationStop, actionStop, literalOf, repeats, contradicts, literalStop, atLimit, atRecord, labelFault, componentFault, componentStop, closingStop, fieldStop, fieldPlace, stopOf, stopPlace, extend, actionOf, labelOf, componentOf}
@@ -172,7 +172,7 @@ module _ {D : Domain} {index : Index} (h : Holds D index) (p : List ℕ) {n : �
     pub component-used : u ≡ true → atRecord 22 ≡ componentFault D p
     component-used t = sym (component-split D p ∙ rw (eq-eqb (componentFields (D .arities) p) 0 (sym fields-are ∙ z), sym used-is ∙ t))
 
-    pub component-labels : u ≡ false → {k : ℕ} {m : Fault} → k ≡ keysOf (D .template ++ (componentOf p ∷ [])) → m ≡ labelFault k (componentOf p .labels) → m ≡ componentFault D p
+    pub component-labels : u ≡ false → {k : ℕ} {m : RecordFault} → k ≡ keysOf (D .template ++ (componentOf p ∷ [])) → m ≡ labelFault k (componentOf p .labels) → m ≡ componentFault D p
     component-labels t q r =
         r ∙ ap (λ (k : ℕ). labelFault k (componentOf p .labels)) q
         ∙ sym (component-split D p ∙ rw (eq-eqb (componentFields (D .arities) p) 0 (sym fields-are ∙ z), sym used-is ∙ t))
@@ -206,17 +206,17 @@ module _ {D : Domain} {index : Index} (h : Holds D index) (p : List ℕ) where
       let l = le-leb 16 (length (D .template)) (omega arith) in
       stopped-at h componentRecord p (stop-limit D componentRecord p refl refl l) (not-zero 13) (place-limit D componentRecord p refl refl l)
 
-  module _ (f : index .components < 16) {r : Fault} (e : r ≡ componentFault D p) where
+  module _ (f : index .components < 16) {r : RecordFault} (e : r ≡ componentFault D p) where
     room : atLimit D componentRecord ≡ false
     room = let r = components-is h in lt-leb 16 (length (D .template)) (omega arith)
 
     component-stop : stopOf D componentRecord p ≡ r .number
     unfolding fieldStop componentStop
-    component-stop = stop-field D componentRecord p refl refl room ∙ sym (ap (λ (x : Fault). x .number) e)
+    component-stop = stop-field D componentRecord p refl refl room ∙ sym (ap (λ (x : RecordFault). x .number) e)
 
     component-at : stopPlace D componentRecord p ≡ r .within
     unfolding fieldPlace
-    component-at = place-field D componentRecord p refl refl room ∙ sym (ap (λ (x : Fault). x .within) e)
+    component-at = place-field D componentRecord p refl refl room ∙ sym (ap (λ (x : RecordFault). x .within) e)
 
     pub component-refused : (r .number ≡ 0 → ⊥) → record { number = r .number; within = r .within; index = index } ≡ takenOf D componentRecord p
     component-refused z = stopped-at h componentRecord p component-stop z component-at

@@ -16,7 +16,7 @@ use Rattle.records.proofs.Laws.{whole-within}
 use Rattle.records.proofs.Memory.{length-over}
 use Rattle.reading.specs.declared.Progress.{Progress}
 use Rattle.literals.specs.Domain.{Action, Domain}
-use Rattle.literals.specs.Decode.{RecordKind, relationRecord, actionRecord, literalRecord, componentRecord, closingRecord, unknownRecord, kindOf, isClosing, literalOf, withLiteral, actionOf, fieldStop, stopOf, stopPlace, faultOf, extend, Refusal, refuse, refuseAt, Decoded, refused, domain, Reading, ReadTurn, goOn, finish, readRecord, readFound, readStep, Finished, readFrom, noDomain, fromStart, readFile}
+use Rattle.literals.specs.Decode.{RecordKind, relationRecord, actionRecord, literalRecord, componentRecord, closingRecord, unknownRecord, kindOf, isClosing, literalOf, withLiteral, actionOf, fieldStop, stopOf, stopPlace, stopAt, extend, Refusal, refuse, refuseAt, Decoded, refused, domain, Reading, ReadTurn, goOn, finish, readRecord, readFound, readStep, Finished, readFrom, noDomain, fromStart, readFile}
 use Rattle.literals.specs.Table.{allLiterals, tableBytes, indexOf, Bounded, Holds, behind, Taken, takenOf}
 use Rattle.reading.specs.Reading.{Standing, standingOf, standingWith, atStart, Turn, turnOf, EnoughTable, StepReady, Cleared, finishedOf, soFar, ReadAnswer, readBy, readOf, tableAfter}
 use Rattle.literals.proofs.Bounds.{bounded-extend, bounded-none}
@@ -198,7 +198,7 @@ module _ (s : List ℕ) (p : Standing) (q : Reading) (old : List ℕ) (is : p �
         turn = record-is ∙ simp (eq-eqb (stopOf (q .sofar) (kindOf k) (payload s start len)) 0 passes)
 
     pub step-stop : (o .number ≡ 0 → ⊥) → {w : ℕ} → w ≡ o .within → StepsTo s q old (record { number = o .number; place = p .at + w; standing = record { at = p .at; closed = p .closed; index = o .index } }) t
-    unfolding readRecord faultOf
+    unfolding readRecord stopAt
     step-stop z d = rw turn (λ i. record { number = o .number; place = ap₂ _+_ at-is d i; standing = record { at = is i .at; closed = is i .closed; index = (index-is ∙ ap indexOf stopped) i } }, table-is stopped)
       where
         stopped : behind (q .sofar) (kindOf k) (payload s start len) ≡ q .sofar
@@ -210,7 +210,7 @@ module _ (s : List ℕ) (p : Standing) (q : Reading) (old : List ℕ) (is : p �
         turn : readStep s q ≡ finish (refused (refusal (o .number) (o .within)))
         turn =
             let b = ne-eqb (stopOf (q .sofar) (kindOf k) (payload s start len)) 0 (λ x. z (sym number-is ∙ x)) in
-            let r : readRecord q (kindOf k) (payload s start len) (start + len) ≡ finish (refused (refuseAt (faultOf (q .sofar) (kindOf k) (payload s start len)) (q .at))) = simp b in
+            let r : readRecord q (kindOf k) (payload s start len) (start + len) ≡ finish (refused (refuseAt (stopAt (q .sofar) (kindOf k) (payload s start len)) (q .at))) = simp b in
             record-is ∙ r ∙ ap₂ (λ (n w : ℕ). finish (refused (refusal n w))) number-is within-is
 
 -- ---- the answer
@@ -225,11 +225,11 @@ unfolding finishedOf
 answers-refused q n place h = (λ z. omega arith, simp (ne-eqb n 1 (λ z. omega arith)))
 
 answers-record : (q : Reading) (k : RecordKind) (b : List ℕ) (behind : ℕ) → Answers q (readRecord q k b behind)
-unfolding readRecord faultOf
+unfolding readRecord stopAt
 answers-record q k b behind = go (eqb (stopOf (q .sofar) k b) 0) refl (stop-of (q .sofar) k b)
   where
     go : (t : Bool) → eqb (stopOf (q .sofar) k b) 0 ≡ t → Stop (stopOf (q .sofar) k b)
-        → Answers q (cond t (goOn (record { at = behind; closed = isClosing k; sofar = extend (q .sofar) k b })) (finish (refused (refuseAt (faultOf (q .sofar) k b) (q .at)))))
+        → Answers q (cond t (goOn (record { at = behind; closed = isClosing k; sofar = extend (q .sofar) k b })) (finish (refused (refuseAt (stopAt (q .sofar) k b) (q .at)))))
     go true e h = tt
     go false e (inl z) = absurd (eqb-false (stopOf (q .sofar) k b) 0 e z)
     go false e (inr h) = answers-refused q (stopOf (q .sofar) k b) (q .at + stopPlace (q .sofar) k b) (h .0)

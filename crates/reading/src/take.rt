@@ -2,7 +2,7 @@
 // lent memories, and only the counts go by value: an index is too large to be copied for each record.
 use super::Took;
 use literals::Counts;
-use literals::Fault;
+use literals::RecordFault;
 use literals::fields::action_fields;
 use literals::fields::component_fields;
 use literals::fields::count_keys;
@@ -214,7 +214,7 @@ fn keys_with(counts: Counts, p: &[u8]) -> usize
 }
 
 // What stops a component.
-fn component_fault(counts: Counts, arities: &[u8], parts: &[u8], p: &[u8]) -> Fault
+fn component_fault(counts: Counts, arities: &[u8], parts: &[u8], p: &[u8]) -> RecordFault
     requires { ⌜ ComponentReady counts (now arities) (now parts) ⌝ }
     ensures fault { λ r. ⌜ ((D : Domain) (variables sorts starts : List ℕ) → Holds D (indexWith counts (now (arities .entry)) variables sorts starts (now (parts .entry)))
         → r ≡ componentFault D (now (p .entry))) ⌝ }
@@ -222,13 +222,13 @@ fn component_fault(counts: Counts, arities: &[u8], parts: &[u8], p: &[u8]) -> Fa
 {
     let fields = component_fields(counts.relations, arities, p);
     if fields != 0 {
-        return Fault {
+        return RecordFault {
             number: fields,
             within: 0,
         };
     }
     if any_row(parts, counts.components, p[0]) {
-        return Fault {
+        return RecordFault {
             number: 22,
             within: 0,
         };

@@ -2,7 +2,7 @@
 use mathlib.Core.Path.{sym, ap, _∙_}
 use native.Mathlib.Omega.{arith}
 use borrow.Author.Needs.{needs}
-use Rattle.literals.specs.declared.Fault.{Fault}
+use Rattle.literals.specs.declared.RecordFault.{RecordFault}
 use Rattle.literals.specs.Decode.{componentStop}
 use Rattle.reading.proofs.Indexed.{index-component}
 use Rattle.literals.proofs.Stops.{component-passes}
@@ -37,7 +37,7 @@ returns-2 c D variables sorts starts h =
     let e = c .before .before .before .before .before .before .component-fault .ensures in
     let z = c .before .before .before .before .before .if2 .taken in
     let n = e .0 D variables sorts starts h in
-    let q = component-passes D (c .before .before .before .before .before .before .before .before .before .before .before .before .args .p .now) (sym (ap (λ (x : Fault). x .number) n) ∙ z) in
+    let q = component-passes D (c .before .before .before .before .before .before .before .before .before .before .before .before .args .p .now) (sym (ap (λ (x : RecordFault). x .number) n) ∙ z) in
     component-taken h _ (omega arith) n z (index-component h _ _ _ (c .before .before .before .put-row .ensures) (c .keys-with .ensures .0 D _ variables sorts starts _ h) (omega arith) (q .long) (e .1 z))
 
 same-length-2 : tie.Need-same-length-2
