@@ -258,7 +258,7 @@ room =
       nothing-lent = refl;
     }
 
--- ---- refusals, 9 to 23
+-- ---- refusals, 9 to 25
 
 -- full/1 and an action of one variable, 11 bytes; a literal of full has 7, a component 6
 abbrev startAtOnce : List ℕ
@@ -343,14 +343,27 @@ pub record Refusals : Type 0 where
       ≡ answers 0 0 0 0 (row 0 0 0 irrelevant ++ row 0 0 1 irrelevant) []
   pub start-and-over-all : judge (startLasting ++ lacks (full 0) ++ holdsOverAll (full 0) ++ component (full 0) ++ closing)
       ≡ answers 0 0 0 0 (row 0 0 0 irrelevant ++ row 0 0 1 irrelevant) []
-  -- 21: two FF; a key twice, another missing; a key that isn't below n; another n than the first component's, more and fewer
-  pub two-counted : judge (relation 3 ++ component (0 ∷ 0 ∷ FF ∷ FF ∷ [])) ≡ refuses 21 5
-  pub key-twice : judge (relation 2 ++ component (at 0 0)) ≡ refuses 21 5
-  pub key-missing : judge (relation 1 ++ component (full 1)) ≡ refuses 21 5
-  pub more-keys : judge (relation 1 ++ relation 2 ++ component (full 0) ++ component (out 0 1)) ≡ refuses 21 16
+  -- 25, at the second FF: of three FF too; before a key that stands twice, and before one that isn't below n
+  pub two-counted : judge (relation 3 ++ component (0 ∷ 0 ∷ FF ∷ FF ∷ [])) ≡ refuses 25 12
+  pub three-counted : judge (relation 3 ++ component (0 ∷ FF ∷ FF ∷ FF ∷ [])) ≡ refuses 25 11
+  pub counted-before-twice : judge (relation 5 ++ component (0 ∷ FF ∷ 0 ∷ 0 ∷ FF ∷ FF ∷ [])) ≡ refuses 25 13
+  pub counted-before-high : judge (relation 3 ++ component (0 ∷ 9 ∷ FF ∷ FF ∷ [])) ≡ refuses 25 12
+  -- 24, at the first key equal to an earlier one: before a key that isn't below n, and itself at any number
+  pub key-twice : judge (relation 2 ++ component (at 0 0)) ≡ refuses 24 11
+  pub twice-before-high : judge (relation 5 ++ component (0 ∷ 9 ∷ 1 ∷ 8 ∷ 1 ∷ FF ∷ [])) ≡ refuses 24 13
+  pub high-twice : judge (relation 5 ++ component (0 ∷ 9 ∷ 1 ∷ 9 ∷ 1 ∷ FF ∷ [])) ≡ refuses 24 12
+  -- 21, at the first key that isn't below n, though another is missing; n is the first component's
+  pub key-high : judge (relation 1 ++ component (full 1)) ≡ refuses 21 10
+  pub high-behind : judge (relation 3 ++ component (0 ∷ 0 ∷ FF ∷ 7 ∷ [])) ≡ refuses 21 12
+  pub more-keys : judge (relation 1 ++ relation 2 ++ component (full 0) ++ component (out 0 1)) ≡ refuses 21 22
+  pub high-later : judge (relations ++ component (at 0 FF) ++ component (out FF 3)) ≡ refuses 21 23
+  pub high-before-missing : judge (relations ++ component (at 0 1) ++ component (out 0 2)) ≡ refuses 21 23
+  -- 21, at the record where a key is only missing
+  pub key-missing : judge (relations ++ component (at 0 1) ++ component (out 0 FF)) ≡ refuses 21 17
   pub fewer-keys : judge (relation 1 ++ relation 1 ++ component (full 0) ++ component (empty FF)) ≡ refuses 21 16
-  -- 22: before 21
+  -- 22: before 25, 24 and 21
   pub used-before : judge (startAtOnce ++ component (full 0) ++ component (full 9)) ≡ refuses 22 17
+  pub used-before-counted : judge (relation 2 ++ component (at 0 FF) ++ component (at FF FF)) ≡ refuses 22 12
   -- 23
   pub no-component : judge (startAtOnce ++ closing) ≡ refuses 23 11
   -- 12: a relation's length, before 15
@@ -371,8 +384,8 @@ pub record Refusals : Type 0 where
   -- no 20: the same relation with other variables
   pub other-variables : judge (relation 1 ++ atOnce 2 ++ holds (full 0) ++ lacks (full 1) ++ component (full 0) ++ closing)
       ≡ answers 0 0 0 0 (row 0 0 0 irrelevant ++ row 0 1 0 irrelevant) []
-  -- 21: a key twice, with none missing and none too high
-  pub key-twice-later : judge (relation 1 ++ relation 2 ++ component (full 0) ++ component (out 0 0)) ≡ refuses 21 16
+  -- 24: a key twice, with none missing and none too high
+  pub key-twice-later : judge (relation 1 ++ relation 2 ++ component (full 0) ++ component (out 0 0)) ≡ refuses 24 22
 
 pub refusals : Refusals
 unfolding judged reportAfter witnessAfter
@@ -426,11 +439,21 @@ refusals =
       start-and-end = refl;
       start-and-over-all = refl;
       two-counted = refl;
+      three-counted = refl;
+      counted-before-twice = refl;
+      counted-before-high = refl;
       key-twice = refl;
-      key-missing = refl;
+      twice-before-high = refl;
+      high-twice = refl;
+      key-high = refl;
+      high-behind = refl;
       more-keys = refl;
+      high-later = refl;
+      high-before-missing = refl;
+      key-missing = refl;
       fewer-keys = refl;
       used-before = refl;
+      used-before-counted = refl;
       no-component = refl;
       relation-long = refl;
       relation-empty = refl;

@@ -525,6 +525,9 @@ pub record Parts : Type 0 where
   -- it comes before 58
   pub domain-fault-short : playing faulty [] (lent 8191)
       ≡ record { answer = reply 15 5 0 0; memory = lent 8191; part = ofDomain 5; bytes = relation 7 ++ closing }
+  -- a label at fault: its own offset, and the rest from the record on
+  pub label-fault : playing (relation 2 ++ component (0 ∷ 0 ∷ 0 ∷ []) ++ closing) [] (lent 8200)
+      ≡ record { answer = reply 24 11 0 0; memory = lent 8200; part = ofDomain 5; bytes = component (0 ∷ 0 ∷ 0 ∷ []) ++ closing }
   -- no closing record: the domain file's empty end
   pub domain-not-closed : playing (relation 1) [] (lent 8200) ≡ record { answer = reply 10 5 0 0; memory = lent 8200; part = ofDomain 5; bytes = [] }
   -- 58: one byte too few; it comes before 50 of the first record, and the run file's empty end comes back
@@ -541,6 +544,7 @@ parts =
     record {
       domain-fault = refl;
       domain-fault-short = refl;
+      label-fault = refl;
       domain-not-closed = refl;
       memory-short = refl;
       memory-enough = refl;

@@ -93,7 +93,7 @@ fn judge_with(
     decided
 }
 
-// A file, read or refused 9 to 23; `table` is room for its literals, and `names` for two names a literal.
+// A file, read or refused 9 to 25; `table` is room for its literals, and `names` for two names a literal.
 fn judge_in(
     file: &[u8],
     table: &mut [u8],

@@ -1,23 +1,24 @@
 -- Laws for the checks of a record's fields: arguments, and labels as bytes. Assumes nothing.
 use mathlib.Core.Path.{_≡_, refl, sym, ap, ap₂, _∙_}
-use mathlib.Core.Bool.{Bool, true, false, _&&_, _||_, not, cond}
+use mathlib.Core.Bool.{Bool, true, false, _&&_, _||_, not, cond, and-true}
 use mathlib.Core.Logic.{_⊎_, inl, inr}
-use mathlib.Core.List.{List, [], _∷_, map}
+use mathlib.Core.List.{List, [], _∷_, _++_, map}
 use Prim.Native.Nat.{ℕ, zero, suc, _+_, _≤_, _<_}
 use native.Mathlib.Numerals.{add-one}
 use native.Mathlib.Omega.{arith}
 use lib.Dec.{eqb, ltb, leb}
-use lib.ListN.{length, take, drop, getD}
-use lib.Seq.{length-take-le, getD-take}
-use borrow.Author.Tests.{eq-eqb, ne-eqb, eqb-true, eqb-false, le-leb, lt-leb}
-use Rattle.records.specs.Lists.{all, any, countBy}
-use Rattle.records.proofs.Lists.{and-l, and-r, and-i, bool-cases, eqb-comm, count-not, count-map}
+use lib.ListN.{length, take, drop, getD, length-drop}
+use lib.Seq.{length-take-le, getD-take, take-suc}
+use borrow.Author.Tests.{eq-eqb, ne-eqb, eqb-true, eqb-false, le-leb, lt-leb, lt-ltb, le-ltb}
+use Rattle.records.specs.Lists.{addIf, all, any, countBy, firstAt, found}
+use Rattle.records.proofs.Lists.{and-l, and-r, and-i, bool-cases, or-r, eqb-comm, any-map, any-same, any-append, count-not, count-map, first-hit, first-miss, first-end}
 use Rattle.records.proofs.Numbers.{rows-split, cond-or}
 use Rattle.literals.specs.declared.Label.{Label}
 use Rattle.literals.specs.declared.Label.the-variants.{Key as keyed, Counted}
 use Rattle.literals.specs.Domain.{key, isKey, isCounted, keyBelow, eachKeyOnce, labelsFit}
-use Rattle.literals.specs.Decode.{byte, labelOf, labelStop}
-use Rattle.literals.specs.Table.{argumentsStop, literalFields, keysBelow, eachOnce}
+use Rattle.literals.specs.Decode.{byte, labelOf, countedAgain, sameLabelKey, keyAgain, keyTooHigh, atRecord, atLabel, labelFault}
+use Rattle.literals.specs.Table.{argumentsStop, literalFields, again, highKey, keysBelow, eachOnce}
+use Rattle.literals.proofs.Labels.{first-map, found-map}
 
 -- ---- a relation that is known, and its arguments
 
@@ -84,10 +85,149 @@ once-labels zero bs h = refl
 once-labels (suc n) bs h =
     ap₂ (λ (a : Bool) (m : ℕ). a && eqb m 1) (once-labels n bs (omega arith)) (count-map labelOf (isKey (key n)) (eqb n) (label-key n (omega arith)) bs)
 
--- labels fit by their bytes: a key below n is never FF
-pub label-stop : (n : ℕ) (bs : List ℕ) → n ≤ 6 → labelStop n (map labelOf bs) ≡ cond (keysBelow n bs && eachOnce n bs && leb (countBy (eqb 255) bs) 1) 0 21
-unfolding labelStop labelsFit
-label-stop n bs h = rw (below-labels n bs, once-labels n bs (omega arith), count-map labelOf isCounted (eqb 255) label-counted bs)
+-- a second FF, and a key again, of the bytes
+counted-again : (before : List ℕ) (b : ℕ) → countedAgain (map labelOf before) (labelOf b) ≡ again true before b
+counted-again before b = go (eqb b 255) refl
+  where
+    go : (t : Bool) → eqb b 255 ≡ t → isCounted (cond t Counted (keyed (key b))) && any isCounted (map labelOf before) ≡ cond t true false && any (eqb b) before
+    go true e =
+        any-map labelOf isCounted before
+        ∙ any-same (λ c. isCounted (labelOf c)) (eqb b) before (λ c. label-counted c ∙ ap (λ (m : ℕ). eqb m c) (sym (eqb-true b 255 e)))
+    go false e = refl
+
+key-again : (before : List ℕ) (b : ℕ) → keyAgain (map labelOf before) (labelOf b) ≡ again false before b
+key-again before b = any-map labelOf (sameLabelKey (labelOf b)) before ∙ go (eqb b 255) refl
+  where
+    other : (c : ℕ) (u : Bool) → eqb b 255 ≡ false → eqb c 255 ≡ u → isKey (key b) (cond u Counted (keyed (key c))) ≡ eqb b c
+    other c true e f = let d = eqb-false b 255 e in let g = eqb-true c 255 f in sym (ne-eqb b c (λ h. omega arith))
+    other c false e f = refl
+
+    none : (l : List ℕ) → any (λ c. false) l ≡ false
+    none [] = refl
+    none (c ∷ cs) = none cs
+
+    go : (t : Bool) → eqb b 255 ≡ t → any (λ c. sameLabelKey (cond t Counted (keyed (key b))) (labelOf c)) before ≡ cond t false true && any (eqb b) before
+    go true e = none before
+    go false e = any-same (λ c. isKey (key b) (labelOf c)) (eqb b) before (λ c. other c (eqb c 255) e refl)
+
+high-key : (n : ℕ) (before : List ℕ) (b : ℕ) → keyTooHigh n (map labelOf before) (labelOf b) ≡ highKey n before b
+high-key n before b = ap not (label-below n b)
+
+-- the fault of labels by their bytes: a key below n is never FF
+label-fault : (n : ℕ) (bs : List ℕ) → n ≤ 6
+    → labelFault n (map labelOf bs)
+    ≡ cond (found (again true) bs) (atLabel 25 (firstAt (again true) [] bs))
+    (cond (found (again false) bs) (atLabel 24 (firstAt (again false) [] bs))
+    (cond (found (highKey n) bs) (atLabel 21 (firstAt (highKey n) [] bs))
+    (cond (keysBelow n bs && eachOnce n bs && leb (countBy (eqb 255) bs) 1) (atRecord 0) (atRecord 21))))
+unfolding labelFault labelsFit
+label-fault n bs h =
+    rw (
+      found-map labelOf countedAgain (again true) counted-again bs,
+      first-map labelOf countedAgain (again true) counted-again [] bs,
+      found-map labelOf keyAgain (again false) key-again bs,
+      first-map labelOf keyAgain (again false) key-again [] bs,
+      found-map labelOf (keyTooHigh n) (highKey n) (high-key n) bs,
+      first-map labelOf (keyTooHigh n) (highKey n) (high-key n) [] bs,
+      below-labels n bs,
+      once-labels n bs (omega arith),
+      count-map labelOf isCounted (eqb 255) label-counted bs,
+    )
+
+-- no key too high: all are below
+none-high : (n : ℕ) (before bs : List ℕ) → length bs ≤ firstAt (highKey n) before bs → keysBelow n bs ≡ true
+none-high n before [] h = refl
+none-high n before (b ∷ bs) h = go (eqb b 255 || ltb b n) h (λ g. none-high n (before ++ (b ∷ [])) bs g)
+  where
+    go : (t : Bool) → suc (length bs) ≤ cond (not t) zero (suc (firstAt (highKey n) (before ++ (b ∷ [])) bs))
+        → (length bs ≤ firstAt (highKey n) (before ++ (b ∷ [])) bs → keysBelow n bs ≡ true) → t && keysBelow n bs ≡ true
+    go true g ih = ih (omega arith)
+    go false g ih = absurd (omega arith)
+
+-- no second FF: at most one
+none-behind : (before bs : List ℕ) → any (eqb 255) before ≡ true → length bs ≤ firstAt (again true) before bs → countBy (eqb 255) bs ≡ 0
+none-behind before [] t h = refl
+none-behind before (b ∷ bs) t h =
+    go (eqb b 255) refl h (λ g. none-behind (before ++ (b ∷ [])) bs (any-append (eqb 255) before (b ∷ []) ∙ rw t) g)
+  where
+    go : (u : Bool) → eqb b 255 ≡ u → suc (length bs) ≤ cond (cond u true false && any (eqb b) before) zero (suc (firstAt (again true) (before ++ (b ∷ [])) bs))
+        → (length bs ≤ firstAt (again true) (before ++ (b ∷ [])) bs → countBy (eqb 255) bs ≡ 0) → addIf (eqb 255 b) (countBy (eqb 255) bs) ≡ 0
+    go true e g ih =
+        let same : any (eqb b) before ≡ true = ap (λ (m : ℕ). any (eqb m) before) (eqb-true b 255 e) ∙ t in
+        let never : suc (length bs) ≤ 0 = rw same at g in absurd (omega arith)
+    go false e g ih = rw (eqb-comm 255 b ∙ e) (ih (omega arith))
+
+one-counted : (before bs : List ℕ) → length bs ≤ firstAt (again true) before bs → countBy (eqb 255) bs ≤ 1
+one-counted before [] h = omega arith
+one-counted before (b ∷ bs) h =
+    go (eqb b 255) refl h (λ g. one-counted (before ++ (b ∷ [])) bs g) (λ t g. none-behind (before ++ (b ∷ [])) bs t g)
+  where
+    behind : List ℕ
+    behind = before ++ (b ∷ [])
+
+    clear : (a : Bool) → suc (length bs) ≤ cond a zero (suc (firstAt (again true) behind bs)) → length bs ≤ firstAt (again true) behind bs
+    clear true g = absurd (omega arith)
+    clear false g = omega arith
+
+    go : (u : Bool) → eqb b 255 ≡ u → suc (length bs) ≤ cond (cond u true false && any (eqb b) before) zero (suc (firstAt (again true) behind bs))
+        → (length bs ≤ firstAt (again true) behind bs → countBy (eqb 255) bs ≤ 1)
+        → (any (eqb 255) behind ≡ true → length bs ≤ firstAt (again true) behind bs → countBy (eqb 255) bs ≡ 0) → addIf (eqb 255 b) (countBy (eqb 255) bs) ≤ 1
+    go true e g ih last =
+        let here = eqb-comm 255 b ∙ e in
+        let t : any (eqb 255) behind ≡ true = any-append (eqb 255) before (b ∷ []) ∙ rw here (or-r (any (eqb 255) before) refl) in
+        let z = last t (clear (any (eqb b) before) g) in
+        rw here (let y : suc (countBy (eqb 255) bs) ≤ 1 = omega arith in y)
+    go false e g ih last = rw (eqb-comm 255 b ∙ e) (ih (clear false g))
+
+-- what the code's tests of the labels of a payload lead to, one after the other
+module _ (n : ℕ) (p : List ℕ) (few : n ≤ 6) where
+  abbrev labels : List ℕ
+  labels = drop 1 p
+
+  found-is : (q : List ℕ → ℕ → Bool) {i : ℕ} → i ≡ 1 + firstAt q [] labels → i < length p → found q labels ≡ true
+  found-is q e h = let d = length-drop 1 p in lt-ltb (firstAt q [] labels) (length labels) (omega arith)
+
+  none-is : (q : List ℕ → ℕ → Bool) {i : ℕ} → i ≡ 1 + firstAt q [] labels → length p ≤ i → length labels ≤ firstAt q [] labels
+  none-is q e h = let d = length-drop 1 p in omega arith
+
+  none-found : (q : List ℕ → ℕ → Bool) {i : ℕ} → i ≡ 1 + firstAt q [] labels → length p ≤ i → found q labels ≡ false
+  none-found q e h = le-ltb (firstAt q [] labels) (length labels) (none-is q e h)
+
+  at-place : (m : ℕ) (q : List ℕ → ℕ → Bool) {i : ℕ} → i ≡ 1 + firstAt q [] labels → record { number = m; within = 4 + i } ≡ atLabel m (firstAt q [] labels)
+  at-place m q {i} e = let w : 4 + i ≡ 5 + firstAt q [] labels = omega arith in λ j. record { number = m; within = w j }
+
+  pub second-counted : {i : ℕ} → i ≡ 1 + firstAt (again true) [] labels → i < length p → record { number = 25; within = 4 + i } ≡ labelFault n (map labelOf labels)
+  second-counted e h = at-place 25 (again true) e ∙ sym (label-fault n labels few ∙ rw (found-is (again true) e h))
+
+  module _ {i : ℕ} (counted : i ≡ 1 + firstAt (again true) [] labels) (once : length p ≤ i) where
+    pub repeated-key : {j : ℕ} → j ≡ 1 + firstAt (again false) [] labels → j < length p → record { number = 24; within = 4 + j } ≡ labelFault n (map labelOf labels)
+    repeated-key e h = at-place 24 (again false) e ∙ sym (label-fault n labels few ∙ rw (none-found (again true) counted once, found-is (again false) e h))
+
+    module _ {j : ℕ} (keys : j ≡ 1 + firstAt (again false) [] labels) (apart : length p ≤ j) where
+      pub first-high : {k : ℕ} → k ≡ 1 + firstAt (highKey n) [] labels → k < length p → record { number = 21; within = 4 + k } ≡ labelFault n (map labelOf labels)
+      first-high e h =
+          at-place 21 (highKey n) e
+          ∙ sym (label-fault n labels few ∙ rw (none-found (again true) counted once, none-found (again false) keys apart, found-is (highKey n) e h))
+
+      -- no label is at fault: a key is missing, or they fit
+      module _ {k : ℕ} (high : k ≡ 1 + firstAt (highKey n) [] labels) (below : length p ≤ k) where
+        by-keys : labelFault n (map labelOf labels) ≡ cond (eachOnce n labels) (atRecord 0) (atRecord 21)
+        by-keys =
+            label-fault n labels few
+            ∙ rw (
+              none-found (again true) counted once,
+              none-found (again false) keys apart,
+              none-found (highKey n) high below,
+              none-high n [] labels (none-is (highKey n) high below),
+              le-leb (countBy (eqb 255) labels) 1 (one-counted [] labels (none-is (again true) counted once)),
+            )
+            (ap (λ (b : Bool). cond b (atRecord 0) (atRecord 21)) (and-true (eachOnce n labels)))
+
+        pub labels-fit : eachOnce n labels ≡ true → atRecord 0 ≡ labelFault n (map labelOf labels)
+        labels-fit t = sym (by-keys ∙ rw t)
+
+        pub missing-key : eachOnce n labels ≡ false → atRecord 21 ≡ labelFault n (map labelOf labels)
+        missing-key t = sym (by-keys ∙ rw t)
 
 -- a label is a key or FF
 pub keys-and-counted : (bs : List ℕ) → countBy (λ l. not (isCounted l)) (map labelOf bs) + countBy (eqb 255) bs ≡ length bs
@@ -103,6 +243,46 @@ module _ (n : ℕ) (ls : List Label) (h : labelsFit n ls ≡ true) where
   pub keys-once : eachKeyOnce n ls ≡ true
   unfolding labelsFit
   keys-once = and-r (all (keyBelow n) ls) _ (and-l _ _ h)
+
+-- ---- a label that equals one before it
+
+module _ (before : List ℕ) {b : ℕ} {counted : Bool} where
+  pub again-counted : b ≡ 255 → counted ≡ true → {r : Bool} → r ≡ any (eqb b) before → r ≡ again counted before b
+  again-counted e t f = f ∙ sym (rw (eq-eqb b 255 e, t))
+
+  pub again-no-key : b ≡ 255 → counted ≡ false → false ≡ again counted before b
+  again-no-key e t = sym (rw (eq-eqb b 255 e, t))
+
+  pub again-not-counted : (b ≡ 255 → ⊥) → counted ≡ true → false ≡ again counted before b
+  again-not-counted e t = sym (rw (ne-eqb b 255 e, t))
+
+  pub again-key : (b ≡ 255 → ⊥) → counted ≡ false → {r : Bool} → r ≡ any (eqb b) before → r ≡ again counted before b
+  again-key e t f = f ∙ sym (rw (ne-eqb b 255 e, t))
+
+-- ---- the labels before one, with one more
+
+pub before-more : (p : List ℕ) (i : ℕ) → 1 ≤ i → i < length p → drop 1 (take i p) ++ (getD p i 0 ∷ []) ≡ drop 1 (take (i + 1) p)
+before-more p zero l h = absurd (omega arith)
+before-more [] (suc i) l h = absurd (omega arith)
+before-more (x ∷ xs) (suc i) l h = sym (rw (add-one (suc i)) (take-suc xs i 0 (omega arith)))
+
+-- a search among the labels that has come to i
+pub search-start : (q : List ℕ → ℕ → Bool) (p : List ℕ) → 1 + firstAt q (drop 1 (take 1 p)) (drop 1 p) ≡ 1 + firstAt q [] (drop 1 p)
+search-start q [] = refl
+search-start q (x ∷ xs) = refl
+
+pub search-hit : (q : List ℕ → ℕ → Bool) (p : List ℕ) (i : ℕ) {r : ℕ} → i < length p → i + firstAt q (drop 1 (take i p)) (drop i p) ≡ r → q (drop 1 (take i p)) (getD p i 0) ≡ true → i ≡ r
+search-hit q p i h e t = let f = first-hit p i 0 h q (drop 1 (take i p)) t in omega arith
+
+pub search-miss : (q : List ℕ → ℕ → Bool) (p : List ℕ) (i : ℕ) {r : ℕ} → 1 ≤ i → i < length p → i + firstAt q (drop 1 (take i p)) (drop i p) ≡ r → q (drop 1 (take i p)) (getD p i 0) ≡ false
+    → i + 1 + firstAt q (drop 1 (take (i + 1) p)) (drop (i + 1) p) ≡ r
+search-miss q p i l h e t =
+    let f = first-miss p i 0 h q (drop 1 (take i p)) t in
+    let g = ap (λ (b : List ℕ). firstAt q b (drop (i + 1) p)) (before-more p i l h) in
+    omega arith
+
+pub search-end : (q : List ℕ → ℕ → Bool) (p : List ℕ) (i : ℕ) {r : ℕ} → length p ≤ i → i + firstAt q (drop 1 (take i p)) (drop i p) ≡ r → i ≡ r
+search-end q p i h e = let f = first-end p i 0 q (drop 1 (take i p)) h in omega arith
 
 -- ---- each number below n once
 

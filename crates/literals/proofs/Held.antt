@@ -11,8 +11,9 @@ use Rattle.records.specs.Lists.{In}
 use Rattle.records.proofs.Lists.{flatMap-in, flatMap-snoc, count-le}
 use Rattle.literals.specs.declared.Index.{Index}
 use Rattle.literals.specs.Domain.{Literal, Action, Component, isCounted, keysOf, Domain}
-use Rattle.literals.specs.Decode.{RecordKind, isUnknown, latest, outOfOrder, atLimit, headStop, withLiteral, fieldStop, stopOf, extend}
+use Rattle.literals.specs.Decode.{RecordKind, isUnknown, latest, outOfOrder, atLimit, headStop, withLiteral, fieldStop, fieldPlace, stopOf, stopPlace, extend}
 use Rattle.literals.specs.Table.{allLiterals, componentRow, pad, startsFrom, sortNumber, indexOf, Holds, Shaped, Sized, behind, takenOf}
+use Rattle.literals.proofs.Stops.{place-none}
 use Rattle.literals.proofs.Bounds.{arity-six}
 use Rattle.literals.proofs.Tables.{pad-at, take-pad, length-pad, length-components}
 use Rattle.literals.proofs.Spans.{spanned}
@@ -31,6 +32,15 @@ module _ (D : Domain) (k : RecordKind) (p : List ℕ) (known : isUnknown k ≡ f
   pub stop-field : outOfOrder D k ≡ false → atLimit D k ≡ false → stopOf D k p ≡ fieldStop D k p
   unfolding stopOf headStop
   stop-field o l = simp (known, o, l)
+
+  -- and its place
+  pub place-limit : outOfOrder D k ≡ false → atLimit D k ≡ true → stopPlace D k p ≡ 0
+  unfolding stopPlace headStop
+  place-limit o l = simp (known, o, l)
+
+  pub place-field : outOfOrder D k ≡ false → atLimit D k ≡ false → stopPlace D k p ≡ fieldPlace D k p
+  unfolding stopPlace headStop
+  place-field o l = simp (known, o, l)
 
 -- ---- one record
 
@@ -193,13 +203,13 @@ module _ {D : Domain} {index : Index} (h : Holds D index) where
       ∙ ap (λ (i : ℕ). getD (startsFrom 0 (D .actions)) (i - 1) 0) actions-is
       ∙ latest-start (D .actions)
 
-  pub stopped-at : (k : RecordKind) (p : List ℕ) {n : ℕ} → stopOf D k p ≡ n → (n ≡ 0 → ⊥) → record { number = n; index = index } ≡ takenOf D k p
+  pub stopped-at : (k : RecordKind) (p : List ℕ) {n w : ℕ} → stopOf D k p ≡ n → (n ≡ 0 → ⊥) → stopPlace D k p ≡ w → record { number = n; within = w; index = index } ≡ takenOf D k p
   unfolding takenOf
-  stopped-at k p {n} e g = λ i. record { number = sym e i; index = (h .is ∙ ap indexOf (sym (behind-stop D k p e g))) i }
+  stopped-at k p {n} e g q = λ i. record { number = sym e i; within = sym q i; index = (h .is ∙ ap indexOf (sym (behind-stop D k p e g))) i }
 
-  pub done : (k : RecordKind) (p : List ℕ) {i : Index} → stopOf D k p ≡ 0 → i ≡ indexOf (extend D k p) → record { number = 0; index = i } ≡ takenOf D k p
+  pub done : (k : RecordKind) (p : List ℕ) {i : Index} → stopOf D k p ≡ 0 → i ≡ indexOf (extend D k p) → record { number = 0; within = 0; index = i } ≡ takenOf D k p
   unfolding takenOf
-  done k p {i} e q = λ j. record { number = sym e j; index = (q ∙ ap indexOf (sym (behind-done D k p e))) j }
+  done k p {i} e q = λ j. record { number = sym e j; within = sym (place-none D k p e) j; index = (q ∙ ap indexOf (sym (behind-done D k p e))) j }
 
   pub shaped : Shaped index
   shaped =

@@ -1,4 +1,4 @@
--- A file that is not well-formed is refused with a number from 9 to 23. Assumes nothing.
+-- A file that is not well-formed is refused with a number from 9 to 25. Assumes nothing.
 use mathlib.Core.Path.{_≡_, refl}
 use mathlib.Core.Bool.{Bool, true, false, not, _&&_, cond}
 use mathlib.Core.Logic.{_⊎_, inl, inr}
@@ -8,45 +8,52 @@ use native.Mathlib.Omega.{arith}
 use lib.Dec.{eqb, ltb, leb}
 use lib.ListN.{length}
 use borrow.Author.Tests.{eqb-false}
-use Rattle.records.specs.Lists.{empty}
+use Rattle.records.specs.Lists.{empty, firstAt, found}
 use Rattle.records.specs.declared.Record.{Record}
 use Rattle.records.specs.declared.Record.the-variants.{Whole, Cut, End}
 use Rattle.records.specs.Record.{recordAt, payload}
 use Rattle.records.proofs.Numbers.{numberOf, numbered, by-numbers}
+use Rattle.literals.specs.declared.Label.{Label}
 use Rattle.literals.specs.Domain.{keysOf, labelsFit, Domain}
-use Rattle.literals.specs.Decode.{maxFile, RecordKind, relationRecord, actionRecord, literalRecord, componentRecord, closingRecord, unknownRecord, kindOf, isUnknown, isClosing, outOfOrder, atLimit, headStop, byte, relationStop, actionStop, literalStop, componentOf, labelStop, componentStop, closingStop, fieldStop, stopOf, extend, Refusal, refuse, Decoded, refused, domain, Reading, ReadTurn, goOn, finish, readRecord, readFound, readStep, Finished, readFrom, fromStart, readFile, decode}
-use Rattle.literals.proofs.Stops.{literalRows, componentRows}
+use Rattle.literals.specs.Decode.{maxFile, RecordKind, relationRecord, actionRecord, literalRecord, componentRecord, closingRecord, unknownRecord, kindOf, isUnknown, isClosing, outOfOrder, atLimit, headStop, byte, relationStop, actionStop, literalStop, atRecord, atLabel, componentOf, countedAgain, keyAgain, keyTooHigh, labelFault, closingStop, fieldStop, stopOf, stopAt, refuseAt, extend, Refusal, refuse, Decoded, refused, domain, Reading, ReadTurn, goOn, finish, readRecord, readFound, readStep, Finished, readFrom, fromStart, readFile, decode}
+use Rattle.literals.proofs.Stops.{literalRows, componentRows, labelsFault, component-number}
 
 -- ---- the number that stops a record
 
--- a number of the table down to the row "closing"
+-- a number of the table down to the row "closing", and of the labels
 abbrev pub Refuses : ℕ → Type 0
-Refuses n = (9 ≤ n) × (n ≤ 23)
+Refuses n = (9 ≤ n) × (n ≤ 25)
 
 -- such a number, or 0 where nothing stops the record
 abbrev pub Stop : ℕ → Type 0
 Stop n = (n ≡ 0) ⊎ Refuses n
 
 -- rows with such numbers stop a record by one of them
-stop-rows : (rows : List (Bool × ℕ)) (n : ℕ) → numbered (λ m. leb 9 m && leb m 23) rows ≡ true → Stop n → Stop (numberOf rows n)
-stop-rows rows n t h = by-numbers 9 23 Stop (λ m l u. inr (l, u)) rows n t (λ g. h)
+stop-rows : (rows : List (Bool × ℕ)) (n : ℕ) → numbered (λ m. leb 9 m && leb m 25) rows ≡ true → Stop n → Stop (numberOf rows n)
+stop-rows rows n t h = by-numbers 9 25 Stop (λ m l u. inr (l, u)) rows n t (λ g. h)
 
 stop-head : (D : Domain) (k : RecordKind) → Stop (headStop D k)
 unfolding headStop
 stop-head D k = stop-rows ((isUnknown k, 11) ∷ (outOfOrder D k, 13) ∷ (atLimit D k, 14) ∷ []) 0 refl (inl refl)
 
-stop-label : (b : Bool) → Stop (cond b 0 21)
-stop-label true = inl refl
-stop-label false = inr (omega arith, omega arith)
+stop-label : (n : ℕ) (ls : List Label) → Stop (labelFault n ls .number)
+unfolding labelFault
+stop-label n ls = go (found countedAgain ls) (found keyAgain ls) (found (keyTooHigh n) ls) (labelsFit n ls)
+  where
+    go : (x y z b : Bool) → Stop (cond x (atLabel 25 (firstAt countedAgain [] ls)) (cond y (atLabel 24 (firstAt keyAgain [] ls)) (cond z (atLabel 21 (firstAt (keyTooHigh n) [] ls)) (cond b (atRecord 0) (atRecord 21)))) .number)
+    go true y z b = inr (omega arith, omega arith)
+    go false true z b = inr (omega arith, omega arith)
+    go false false true b = inr (omega arith, omega arith)
+    go false false false true = inl refl
+    go false false false false = inr (omega arith, omega arith)
 
 stop-field : (D : Domain) (k : RecordKind) (p : List ℕ) → Stop (fieldStop D k p)
-unfolding fieldStop relationStop actionStop literalStop componentStop labelStop closingStop
+unfolding fieldStop relationStop actionStop literalStop closingStop
 stop-field D relationRecord p = stop-rows ((not (eqb (length p) 1), 12) ∷ (ltb 6 (byte p 0), 15) ∷ []) 0 refl (inl refl)
 stop-field D actionRecord p = stop-rows ((not (eqb (length p) 2), 12) ∷ (ltb 16 (byte p 0), 15) ∷ (ltb 1 (byte p 1), 15) ∷ []) 0 refl (inl refl)
 stop-field D literalRecord p = stop-rows (literalRows D p) 0 refl (inl refl)
 stop-field D componentRecord p =
-    let n = keysOf (D .template ++ (componentOf p ∷ [])) in
-    stop-rows (componentRows D p) (labelStop n (componentOf p .labels)) refl (stop-label (labelsFit n (componentOf p .labels)))
+    rw (component-number D p) (stop-rows (componentRows D p) (labelsFault D p .number) refl (stop-label (keysOf (D .template ++ (componentOf p ∷ []))) (componentOf p .labels)))
 stop-field D closingRecord p = stop-rows ((not (eqb (length p) 0), 12) ∷ (empty (D .template), 23) ∷ []) 0 refl (inl refl)
 stop-field D unknownRecord p = inl refl
 
@@ -69,11 +76,11 @@ RefusesAt (goOn q) = Unit {0}
 RefusesAt (finish d) = RefusesBy d
 
 refuses-record : (r : Reading) (k : RecordKind) (p : List ℕ) (behind : ℕ) → RefusesAt (readRecord r k p behind)
-unfolding readRecord
+unfolding readRecord stopAt
 refuses-record r k p behind = go (eqb (stopOf (r .sofar) k p) 0) refl (stop-of (r .sofar) k p)
   where
     go : (b : Bool) → eqb (stopOf (r .sofar) k p) 0 ≡ b → Stop (stopOf (r .sofar) k p)
-        → RefusesAt (cond b (goOn (record { at = behind; closed = isClosing k; sofar = extend (r .sofar) k p })) (finish (refused (refuse (stopOf (r .sofar) k p) (r .at)))))
+        → RefusesAt (cond b (goOn (record { at = behind; closed = isClosing k; sofar = extend (r .sofar) k p })) (finish (refused (refuseAt (stopAt (r .sofar) k p) (r .at)))))
     go true e h = tt
     go false e (inl z) = absurd (eqb-false (stopOf (r .sofar) k p) 0 e z)
     go false e (inr h) = h
@@ -103,7 +110,7 @@ refuses-from (suc fuel) s r = go (readStep s r) (refuses-step s r) (λ q. refuse
     go (goOn q) h ih = ih q
     go (finish d) h ih = h
 
--- "9 to 23"
+-- "9 to 23", and 24 and 25
 pub refusal-number : (d : List ℕ) (f : Refusal) → decode d ≡ refused f → Refuses (f .number)
 unfolding decode readFile
 refusal-number d f e = rw e at (go (ltb maxFile (length d)))

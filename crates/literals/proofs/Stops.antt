@@ -1,17 +1,19 @@
 -- What is known of a record that no number stops. Assumes nothing.
-use mathlib.Core.Path.{_≡_, refl}
+use mathlib.Core.Path.{_≡_, refl, sym, _∙_}
 use mathlib.Core.Bool.{Bool, true, false, not, cond}
 use mathlib.Core.List.{List, [], _∷_, _++_}
 use Prim.Native.Nat.{ℕ, _+_, _≤_, _<_}
-use native.Mathlib.Omega.{arith}
 use lib.Dec.{eqb, ltb, leb}
 use lib.ListN.{length, drop}
-use borrow.Author.Tests.{ltb-false, leb-false, eqb-true, eq-eqb}
+use native.Mathlib.Omega.{arith}
+use borrow.Author.Tests.{ltb-true, ltb-false, leb-false, eqb-true, eq-eqb, ne-eqb}
 use Rattle.records.specs.Lists.{any}
-use Rattle.records.proofs.Lists.{not-false, clash, or-out}
-use Rattle.records.proofs.Numbers.{none-passes}
+use Rattle.records.proofs.Lists.{and-l, and-r, not-false, clash, or-out}
+use Rattle.records.proofs.Numbers.{numberOf, numbered, none-passes}
+use Rattle.literals.specs.declared.RecordFault.{RecordFault}
 use Rattle.literals.specs.Domain.{Action, Component, keysOf, labelsFit, Domain, arity}
-use Rattle.literals.specs.Decode.{RecordKind, latest, isUnknown, outOfOrder, atLimit, headStop, byte, relationStop, actionStop, literalOf, repeats, contradicts, noRole, literalStop, componentOf, labelStop, componentStop, fieldStop, stopOf}
+use Rattle.literals.specs.Decode.{RecordKind, relationRecord, actionRecord, literalRecord, componentRecord, closingRecord, unknownRecord, latest, isUnknown, outOfOrder, atLimit, headStop, byte, relationStop, actionStop, literalOf, repeats, contradicts, noRole, literalStop, atRecord, componentOf, labelFault, componentFault, componentStop, fieldStop, fieldPlace, stopOf, stopPlace}
+use Rattle.literals.proofs.Labels.{passes-fit, passes-place}
 
 -- ---- head and fields
 
@@ -100,18 +102,97 @@ componentRows D p =
     ∷ (any (λ (d : Component). eqb (byte p 0) (d .rel)) (D .template), 22)
     ∷ []
 
+-- the labels of a component, of the template with it
+abbrev pub labelsFault : Domain → List ℕ → RecordFault
+labelsFault D p = labelFault (keysOf (D .template ++ (componentOf p ∷ []))) (componentOf p .labels)
+
+-- rows at the record, and a fault behind them
+abbrev pub faultBy : List (Bool × ℕ) → RecordFault → RecordFault
+faultBy [] f = f
+faultBy (row ∷ rows) f = cond (row .0) (atRecord (row .1)) (faultBy rows f)
+
+pub fault-number : (rows : List (Bool × ℕ)) (f : RecordFault) → faultBy rows f .number ≡ numberOf rows (f .number)
+fault-number [] f = refl
+fault-number (row ∷ rows) f = go (row .0) (fault-number rows f)
+  where
+    go : (b : Bool) → faultBy rows f .number ≡ numberOf rows (f .number) → cond b (atRecord (row .1)) (faultBy rows f) .number ≡ cond b (row .1) (numberOf rows (f .number))
+    go true ih = refl
+    go false ih = ih
+
+-- the rows by themselves, and the fault behind them
+pub faults-split : (rows : List (Bool × ℕ)) (f : RecordFault) → numbered (ltb 0) rows ≡ true → faultBy rows f ≡ cond (eqb (numberOf rows 0) 0) f (atRecord (numberOf rows 0))
+faults-split [] f t = refl
+faults-split (row ∷ rows) f t = go (row .0) (faults-split rows f (and-r (ltb 0 (row .1)) _ t))
+  where
+    go : (b : Bool) → faultBy rows f ≡ cond (eqb (numberOf rows 0) 0) f (atRecord (numberOf rows 0))
+        → cond b (atRecord (row .1)) (faultBy rows f) ≡ cond (eqb (cond b (row .1) (numberOf rows 0)) 0) f (atRecord (cond b (row .1) (numberOf rows 0)))
+    go true ih = let l = ltb-true 0 (row .1) (and-l _ _ t) in rw (ne-eqb (row .1) 0 (λ e. omega arith))
+    go false ih = ih
+
+-- where nothing stops it there is no place
+pub faults-none : (rows : List (Bool × ℕ)) (f : RecordFault) → numbered (ltb 0) rows ≡ true → (f .number ≡ 0 → f .within ≡ 0) → faultBy rows f .number ≡ 0 → faultBy rows f .within ≡ 0
+faults-none [] f t h e = h e
+faults-none (row ∷ rows) f t h e = go (row .0) e (faults-none rows f (and-r (ltb 0 (row .1)) _ t) h)
+  where
+    go : (b : Bool) → cond b (atRecord (row .1)) (faultBy rows f) .number ≡ 0 → (faultBy rows f .number ≡ 0 → faultBy rows f .within ≡ 0)
+        → cond b (atRecord (row .1)) (faultBy rows f) .within ≡ 0
+    go true e ih = refl
+    go false e ih = ih e
+
+pub component-number : (D : Domain) (p : List ℕ) → componentStop D p ≡ numberOf (componentRows D p) (labelsFault D p .number)
+unfolding componentStop componentFault
+component-number D p = fault-number (componentRows D p) (labelsFault D p)
+
+pub component-place : (D : Domain) (p : List ℕ) → componentStop D p ≡ 0 → componentFault D p .within ≡ 0
+unfolding componentStop componentFault
+component-place D p = faults-none (componentRows D p) (labelsFault D p) refl (passes-place (keysOf (D .template ++ (componentOf p ∷ []))) (componentOf p .labels))
+
 pub component-passes : (D : Domain) (p : List ℕ) → componentStop D p ≡ 0 → ComponentPasses D p
-unfolding componentStop labelStop
 component-passes D p e =
-    let r = none-passes (componentRows D p) (labelStop (keysOf (D .template ++ (componentOf p ∷ []))) (componentOf p .labels)) refl e in
+    let r = none-passes (componentRows D p) (labelsFault D p .number) refl (sym (component-number D p) ∙ e) in
     record {
       long = ltb-false _ _ (r .0 0);
       relation = leb-false _ _ (r .0 1);
       arguments = eqb-true _ _ (not-false _ (r .0 2));
       once = r .0 3;
-      labels = fit (labelsFit (keysOf (D .template ++ (componentOf p ∷ []))) (componentOf p .labels)) (r .1);
+      labels = passes-fit (keysOf (D .template ++ (componentOf p ∷ []))) (componentOf p .labels) (r .1);
     }
+
+-- ---- the place
+
+-- a record whose fields have no place of their own, or whose head stops it, is at fault itself
+by-fields : (D : Domain) (k : RecordKind) (p : List ℕ) → fieldPlace D k p ≡ 0 → stopPlace D k p ≡ 0
+unfolding stopPlace
+by-fields D k p e = go (eqb (headStop D k) 0)
   where
-    fit : (b : Bool) → _≡_ {A = ℕ} (cond b 0 21) 0 → b ≡ true
-    fit true z = refl
-    fit false z = absurd (omega arith)
+    go : (b : Bool) → cond b (fieldPlace D k p) 0 ≡ 0
+    go true = e
+    go false = refl
+
+-- only components have labels
+abbrev pub hasLabels : RecordKind → Bool
+hasLabels relationRecord = false
+hasLabels actionRecord = false
+hasLabels literalRecord = false
+hasLabels componentRecord = true
+hasLabels closingRecord = false
+hasLabels unknownRecord = false
+
+pub place-record : (D : Domain) (k : RecordKind) (p : List ℕ) → hasLabels k ≡ false → stopPlace D k p ≡ 0
+unfolding fieldPlace
+place-record D relationRecord p e = by-fields D relationRecord p refl
+place-record D actionRecord p e = by-fields D actionRecord p refl
+place-record D literalRecord p e = by-fields D literalRecord p refl
+place-record D componentRecord p e = absurd (clash refl e)
+place-record D closingRecord p e = by-fields D closingRecord p refl
+place-record D unknownRecord p e = by-fields D unknownRecord p refl
+
+-- where nothing stops the record there is no place
+pub place-none : (D : Domain) (k : RecordKind) (p : List ℕ) → stopOf D k p ≡ 0 → stopPlace D k p ≡ 0
+unfolding fieldStop fieldPlace
+place-none D relationRecord p e = place-record D relationRecord p refl
+place-none D actionRecord p e = place-record D actionRecord p refl
+place-none D literalRecord p e = place-record D literalRecord p refl
+place-none D componentRecord p e = by-fields D componentRecord p (component-place D p (passes D componentRecord p e .fields))
+place-none D closingRecord p e = place-record D closingRecord p refl
+place-none D unknownRecord p e = place-record D unknownRecord p refl

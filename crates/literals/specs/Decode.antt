@@ -4,17 +4,18 @@ use mathlib.Core.List.{List, [], _∷_, _++_, map}
 use Prim.Native.Nat.{ℕ, zero, suc, _+_}
 use lib.Dec.{eqb, ltb, leb}
 use lib.ListN.{length, getD, drop}
-use Rattle.records.specs.Lists.{any, empty}
+use Rattle.records.specs.Lists.{any, firstAt, found, empty}
 use Rattle.records.specs.declared.Record.{Record}
 use Rattle.records.specs.declared.Record.the-variants.{Whole, Cut, End}
 use Rattle.records.specs.Record.{recordAt, payload}
+use Rattle.literals.specs.declared.RecordFault.{RecordFault}
 use Rattle.literals.specs.declared.Label.{Label}
 use Rattle.literals.specs.declared.Label.the-variants.{Key as keyed, Counted}
 use Rattle.literals.specs.declared.Time.{Time}
 use Rattle.literals.specs.declared.Time.the-variants.{AtStart}
 use Rattle.literals.specs.declared.Clause.{Clause}
 use Rattle.literals.specs.declared.Clause.the-variants.{Positive, Negative, Add, Delete}
-use Rattle.literals.specs.Domain.{variable, key, sameLiteral, roleOf, sameTime, sameClause, sameRole, Literal, Action, Component, keysOf, labelsFit, Domain, arity, noAction}
+use Rattle.literals.specs.Domain.{variable, key, sameLiteral, roleOf, sameTime, sameClause, sameRole, Literal, Action, Component, isKey, isCounted, keyBelow, keysOf, labelsFit, Domain, arity, noAction}
 
 -- ---- "Limits: file 65,535 bytes; 64 relations; 64 actions; 64 literals an action; 16 components."
 
@@ -154,21 +155,52 @@ labelOf b = cond (eqb b 255) Counted (keyed (key b))
 abbrev pub componentOf : List ℕ → Component
 componentOf p = record { rel = byte p 0; labels = map labelOf (drop 1 p) }
 
--- "21 labels": of a template that has n keys
-unfoldable pub labelStop : ℕ → List Label → ℕ
-unfolding labelsFit
-labelStop n ls = cond (labelsFit n ls) 0 21
+-- "the second FF"
+abbrev pub countedAgain : List Label → Label → Bool
+countedAgain before l = isCounted l && any isCounted before
 
--- "22 relation used before; 21 labels"
-unfoldable pub componentStop : Domain → List ℕ → ℕ
-unfolding labelStop
-componentStop D p =
+abbrev pub sameLabelKey : Label → Label → Bool
+sameLabelKey (keyed k) m = isKey k m
+sameLabelKey Counted m = false
+
+-- "the first key equal to an earlier one"
+abbrev pub keyAgain : List Label → Label → Bool
+keyAgain before l = any (sameLabelKey l) before
+
+-- "the first key not below n"
+abbrev pub keyTooHigh : ℕ → List Label → Label → Bool
+keyTooHigh n before l = not (keyBelow n l)
+
+-- a fault at the record itself, and at its label i: the labels stand behind the 4 bytes of the head and the relation
+abbrev pub atRecord : ℕ → RecordFault
+atRecord n = record { number = n; within = 0 }
+
+abbrev pub atLabel : ℕ → ℕ → RecordFault
+atLabel n i = record { number = n; within = 5 + i }
+
+-- "Two FF labels give 25, a repeated key 24, the rest 21", "checked in that order": of a template that has n keys. "The offset given is that of the label byte"; "Where a key is only missing it stays the record's."
+unfoldable pub labelFault : ℕ → List Label → RecordFault
+unfolding labelsFit
+labelFault n ls =
+    cond (found countedAgain ls) (atLabel 25 (firstAt countedAgain [] ls))
+    (cond (found keyAgain ls) (atLabel 24 (firstAt keyAgain [] ls))
+    (cond (found (keyTooHigh n) ls) (atLabel 21 (firstAt (keyTooHigh n) [] ls))
+    (cond (labelsFit n ls) (atRecord 0) (atRecord 21))))
+
+-- "22 relation used before", then the labels
+unfoldable pub componentFault : Domain → List ℕ → RecordFault
+unfolding labelFault
+componentFault D p =
     let c = componentOf p in
-    cond (ltb (length p) 1) 12
-    (cond (leb (length (D .arities)) (byte p 0)) 17
-    (cond (not (eqb (length p) (1 + arity D (byte p 0)))) 12
-    (cond (any (λ (d : Component). eqb (c .rel) (d .rel)) (D .template)) 22
-    (labelStop (keysOf (D .template ++ (c ∷ []))) (c .labels)))))
+    cond (ltb (length p) 1) (atRecord 12)
+    (cond (leb (length (D .arities)) (byte p 0)) (atRecord 17)
+    (cond (not (eqb (length p) (1 + arity D (byte p 0)))) (atRecord 12)
+    (cond (any (λ (d : Component). eqb (c .rel) (d .rel)) (D .template)) (atRecord 22)
+    (labelFault (keysOf (D .template ++ (c ∷ []))) (c .labels)))))
+
+unfoldable pub componentStop : Domain → List ℕ → ℕ
+unfolding componentFault
+componentStop D p = componentFault D p .number
 
 -- "no payload", "23 no component"
 unfoldable pub closingStop : Domain → List ℕ → ℕ
@@ -183,10 +215,29 @@ fieldStop D componentRecord p = componentStop D p
 fieldStop D closingRecord p = closingStop D p
 fieldStop D unknownRecord p = 0
 
+-- how far behind the record's start what stops its fields stands: a label has a place of its own
+unfoldable pub fieldPlace : Domain → RecordKind → List ℕ → ℕ
+unfolding componentFault
+fieldPlace D relationRecord p = 0
+fieldPlace D actionRecord p = 0
+fieldPlace D literalRecord p = 0
+fieldPlace D componentRecord p = componentFault D p .within
+fieldPlace D closingRecord p = 0
+fieldPlace D unknownRecord p = 0
+
 -- "each down the rows": the number that stops a whole record, or 0
 unfoldable pub stopOf : Domain → RecordKind → List ℕ → ℕ
 unfolding headStop fieldStop
 stopOf D k p = cond (eqb (headStop D k) 0) (fieldStop D k p) (headStop D k)
+
+unfoldable pub stopPlace : Domain → RecordKind → List ℕ → ℕ
+unfolding headStop fieldPlace
+stopPlace D k p = cond (eqb (headStop D k) 0) (fieldPlace D k p) 0
+
+-- the number with its place: what the test of a whole record answers
+unfoldable pub stopAt : Domain → RecordKind → List ℕ → RecordFault
+unfolding stopOf stopPlace
+stopAt D k p = record { number = stopOf D k p; within = stopPlace D k p }
 
 -- ---- the domain with one record more
 
@@ -220,6 +271,10 @@ pub record Refusal : Type 0 where
 abbrev pub refuse : ℕ → ℕ → Refusal
 refuse n start = record { number = n; place = start; start = start }
 
+-- a record at fault, from its start on: a label gives the label's offset
+abbrev pub refuseAt : RecordFault → ℕ → Refusal
+refuseAt f start = record { number = f .number; place = start + f .within; start = start }
+
 pub data Decoded : Type 0 where
   refused : Refusal → Decoded
   domain : Domain → Decoded
@@ -237,11 +292,11 @@ pub data ReadTurn : Type 0 where
 
 -- a whole record, of this kind and payload, and the offset behind it
 unfoldable pub readRecord : Reading → RecordKind → List ℕ → ℕ → ReadTurn
-unfolding stopOf extend
+unfolding stopOf extend stopAt
 readRecord r k p behind =
     cond (eqb (stopOf (r .sofar) k p) 0)
     (goOn (record { at = behind; closed = isClosing k; sofar = extend (r .sofar) k p }))
-    (finish (refused (refuse (stopOf (r .sofar) k p) (r .at))))
+    (finish (refused (refuseAt (stopAt (r .sofar) k p) (r .at))))
 
 -- "10 cut short or no closing record"
 unfoldable pub readFound : List ℕ → Reading → Record → ReadTurn

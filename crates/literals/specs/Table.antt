@@ -12,7 +12,7 @@ use Rattle.literals.specs.declared.Label.the-variants.{Key as keyed, Cou
 use Rattle.literals.specs.declared.Index.{Index}
 use Rattle.literals.specs.declared.Counts.{Counts}
 use Rattle.literals.specs.Domain.{roleNumber, roleOf, Literal, Action, Component, keysOf, labelsFit, Domain, arity}
-use Rattle.literals.specs.Decode.{byte, RecordKind, stopOf, extend}
+use Rattle.literals.specs.Decode.{byte, RecordKind, stopOf, stopPlace, extend}
 
 -- ---- rows of 8 bytes
 
@@ -153,6 +153,14 @@ componentFields arities p =
 
 -- ---- labels, as bytes
 
+-- a label that equals one before it: of those that are FF, or of the keys
+abbrev pub again : Bool → List ℕ → ℕ → Bool
+again counted before b = cond (eqb b 255) counted (not counted) && any (eqb b) before
+
+-- a key that is not below n
+abbrev pub highKey : ℕ → List ℕ → ℕ → Bool
+highKey n before b = not (eqb b 255 || ltb b n)
+
 -- every label other than FF is below n
 abbrev pub keysBelow : ℕ → List ℕ → Bool
 keysBelow n bs = all (λ b. eqb b 255 || ltb b n) bs
@@ -223,11 +231,12 @@ unfoldable pub behind : Domain → RecordKind → List ℕ → Domain
 unfolding stopOf extend
 behind D k p = cond (eqb (stopOf D k p) 0) (extend D k p) D
 
--- the number that stops it, or 0, and the index then
+-- the number that stops it, or 0, how far behind the record's start, and the index then
 pub record Taken : Type 0 where
   pub number : ℕ
+  pub within : ℕ
   pub index : Index
 
 unfoldable pub takenOf : Domain → RecordKind → List ℕ → Taken
-unfolding stopOf behind indexOf
-takenOf D k p = record { number = stopOf D k p; index = indexOf (behind D k p) }
+unfolding stopOf stopPlace behind indexOf
+takenOf D k p = record { number = stopOf D k p; within = stopPlace D k p; index = indexOf (behind D k p) }

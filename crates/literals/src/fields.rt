@@ -1,14 +1,15 @@
 // The fields of a record: each check answers the number that stops it, or 0.
+use super::RecordFault;
 ghost use mathlib.Core.Path.{_≡_};
 ghost use mathlib.Core.Bool.{_&&_, _||_, not};
-ghost use mathlib.Core.List.{map};
+ghost use mathlib.Core.List.{[], map};
 ghost use Prim.Native.Nat.{_+_, _<_, _≤_};
 ghost use lib.Dec.{eqb, ltb, leb};
 ghost use lib.ListN.{length, drop, take};
-ghost use Rattle.records.specs.Lists.{any, countBy};
+ghost use Rattle.records.specs.Lists.{any, countBy, firstAt};
 ghost use Rattle.literals.specs.Domain.{isCounted};
-ghost use Rattle.literals.specs.Decode.{relationStop, actionStop, labelOf, labelStop};
-ghost use Rattle.literals.specs.Table.{argumentsStop, literalFields, componentFields, keysBelow, eachOnce};
+ghost use Rattle.literals.specs.Decode.{relationStop, actionStop, labelOf, labelFault};
+ghost use Rattle.literals.specs.Table.{argumentsStop, literalFields, componentFields, again, highKey, eachOnce};
 
 pub fn wide(b: u8) -> usize
     ensures { λ r. ⌜ (r ≡ b) × (r < 256) ⌝ }
@@ -144,18 +145,62 @@ fn label_below(b: u8, n: usize) -> bool
     wide(b) < n
 }
 
-// Whether every label but FF is below n.
-pub fn keys_below(p: &[u8], n: usize) -> bool
-    ensures { λ r. ⌜ r ≡ keysBelow n (drop 1 (now (p .entry))) ⌝ }
+// The first key that is not below n, counted in the payload; its length or more where there is none.
+fn first_high(p: &[u8], n: usize) -> usize
+    ensures { λ r. ⌜ r ≡ 1 + firstAt (highKey n) [] (drop 1 (now (p .entry))) ⌝ }
 {
     let mut i = 1;
     while i < p.len() {
         if !label_below(p[i], n) {
-            return false;
+            return i;
         }
         i += 1;
     }
-    true
+    i
+}
+
+// Whether a byte from `from` on equals b.
+fn any_equal(s: &[u8], from: usize, b: u8) -> bool
+    ensures { λ r. ⌜ r ≡ any (eqb b) (drop from (now (s .entry))) ⌝ }
+{
+    let mut i = from;
+    while i < s.len() {
+        if s[i] == b {
+            return true;
+        }
+        i += 1;
+    }
+    false
+}
+
+// Whether a label equals one of the labels of the payload that ends before it: of those that are FF, or of the keys.
+fn is_again(earlier: &[u8], label: u8, counted: bool) -> bool
+    ensures { λ r. ⌜ r ≡ again counted (drop 1 (now (earlier .entry))) label ⌝ }
+{
+    if label == 255 {
+        if counted {
+            return any_equal(earlier, 1, label);
+        }
+        return false;
+    }
+    if counted {
+        return false;
+    }
+    any_equal(earlier, 1, label)
+}
+
+// The first label that equals an earlier one, of those that are FF, or of the keys; counted in the payload, its length or more where there is none.
+fn first_again(p: &[u8], counted: bool) -> usize
+    ensures { λ r. ⌜ r ≡ 1 + firstAt (again counted) [] (drop 1 (now (p .entry))) ⌝ }
+{
+    let mut i = 1;
+    while i < p.len() {
+        if is_again(&p[..i], p[i], counted) {
+            return i;
+        }
+        i += 1;
+    }
+    i
 }
 
 // Whether each key below n stands once.
@@ -171,21 +216,43 @@ pub fn each_once(p: &[u8], n: usize) -> bool
     true
 }
 
-// The labels of a component of a template that has n keys.
-pub fn label_fields(p: &[u8], n: usize) -> u64
-    requires { ⌜ n ≤ 6 ⌝ }
-    ensures { λ r. ⌜ r ≡ labelStop n (map labelOf (drop 1 (now (p .entry)))) ⌝ }
+// The labels of a component of a template that has n keys: the second FF, then a key that stands twice, then a key not below n, each at its label, then a
+// key that is missing. A label stands 4 bytes, those of the head, further behind the record's start than in the payload.
+pub fn label_fields(p: &[u8], n: usize) -> RecordFault
+    requires { ⌜ (n ≤ 6) × (length (now p) ≤ 7) ⌝ }
+    ensures { λ r. ⌜ r ≡ labelFault n (map labelOf (drop 1 (now (p .entry)))) ⌝ }
 {
-    if !keys_below(p, n) {
-        return 21;
+    let second = first_again(p, true);
+    if second < p.len() {
+        return RecordFault {
+            number: 25,
+            within: 4 + second as u8,
+        };
     }
-    if !each_once(p, n) {
-        return 21;
+    let repeated = first_again(p, false);
+    if repeated < p.len() {
+        return RecordFault {
+            number: 24,
+            within: 4 + repeated as u8,
+        };
     }
-    if count_from(p, 1, 255) <= 1 {
-        return 0;
+    let high = first_high(p, n);
+    if high < p.len() {
+        return RecordFault {
+            number: 21,
+            within: 4 + high as u8,
+        };
     }
-    21
+    if each_once(p, n) {
+        return RecordFault {
+            number: 0,
+            within: 0,
+        };
+    }
+    RecordFault {
+        number: 21,
+        within: 0,
+    }
 }
 
 // The number of labels other than FF.

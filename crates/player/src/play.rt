@@ -102,7 +102,7 @@ fn unplayed(number: u64, place: usize, fault: Fault) -> PlayAnswer
     }
 }
 
-// A domain file, read or refused 9 to 23, then 58 where the work memory is too small, then the run file.
+// A domain file, read or refused 9 to 25, then 58 where the work memory is too small, then the run file.
 pub fn play_files(domain: &[u8], run: &[u8], work: &mut [u8]) -> PlayAnswer
     ensures answer { λ r. ⌜ r ≡ answerOf (call (now («domain» .entry)) (now (run .entry)) (now (work .entry))) ⌝ }
     ensures work { λ _. ⌜ now (work .exit) ≡ workAfter (now («domain» .entry)) (now (run .entry)) (now (work .entry)) ⌝ }

@@ -11,14 +11,15 @@ use Rattle.records.specs.Lists.{In, any, countBy, empty}
 use Rattle.records.specs.Memory.{over}
 use Rattle.records.proofs.Lists.{not-false, any-out, empty-no, empty-yes, count-le}
 use Rattle.records.proofs.Numbers.{none-passes, rows-split, cond-or}
+use Rattle.literals.specs.declared.RecordFault.{RecordFault}
 use Rattle.literals.specs.declared.Index.{Index}
 use Rattle.literals.specs.Domain.{Literal, Action, Component, isCounted, keysOf, Domain}
-use Rattle.literals.specs.Decode.{relationRecord, actionRecord, literalRecord, componentRecord, closingRecord, unknownRecord, latest, outOfOrder, headStop, byte, relationStop, actionStop, literalOf, repeats, contradicts, literalStop, labelStop, componentStop, closingStop, fieldStop, stopOf, extend, actionOf, labelOf, componentOf}
+use Rattle.literals.specs.Decode.{relationRecord, actionRecord, literalRecord, componentRecord, closingRecord, unknownRecord, latest, outOfOrder, headStop, byte, relationStop, actionStop, literalOf, repeats, contradicts, literalStop, atLimit, atRecord, labelFault, componentFault, componentStop, closingStop, fieldStop, fieldPlace, stopOf, stopPlace, extend, actionOf, labelOf, componentOf}
 use Rattle.literals.specs.Table.{literalRow, allLiterals, tableBytes, pad, rowsIn, rowsRank, sortNumber, indexOf, literalFields, componentFields, Holds, takenOf}
-use Rattle.literals.proofs.Stops.{action-passes}
+use Rattle.literals.proofs.Stops.{action-passes, faults-split, place-record}
 use Rattle.literals.proofs.Bounds.{arity-six}
 use Rattle.literals.proofs.Tables.{pad-at, rows-components, any-component, Comparable, kept, rows-literals, literals-stop}
-use Rattle.literals.proofs.Held.{stop-order, stop-limit, stop-field, latest-rows, relations-is, actions-is, rows-is, components-is, keys-is, parts-is, variables-is, sorts-is, arities-taken, literals-in, start-is, stopped-at, done}
+use Rattle.literals.proofs.Held.{stop-order, stop-limit, stop-field, place-limit, place-field, latest-rows, relations-is, actions-is, rows-is, components-is, keys-is, parts-is, variables-is, sorts-is, arities-taken, literals-in, start-is, stopped-at, done}
 
 -- a bound on the numbers of a list holds of what is taken of it
 six-taken : (l : List ℕ) (n i : ℕ) → ((i : ℕ) → getD l i 0 ≤ 6) → getD (take n l) i 0 ≤ 6
@@ -47,78 +48,78 @@ module _ {D : Domain} {index : Index} (h : Holds D index) (p : List ℕ) where
 
   -- ---- a relation
 
-  pub relation-behind-actions : 0 < index .actions → record { number = 13; index = index } ≡ takenOf D relationRecord p
-  relation-behind-actions g = stopped-at h relationRecord p (stop-order D relationRecord p refl (rw (some-actions g))) (not-zero 12)
+  pub relation-behind-actions : 0 < index .actions → record { number = 13; within = 0; index = index } ≡ takenOf D relationRecord p
+  relation-behind-actions g = stopped-at h relationRecord p (stop-order D relationRecord p refl (rw (some-actions g))) (not-zero 12) (place-record D relationRecord p refl)
 
   module _ (a : index .actions ≤ 0) where
-    pub relation-behind-components : 0 < index .components → record { number = 13; index = index } ≡ takenOf D relationRecord p
-    relation-behind-components g = stopped-at h relationRecord p (stop-order D relationRecord p refl (rw (no-actions a, some-components g))) (not-zero 12)
+    pub relation-behind-components : 0 < index .components → record { number = 13; within = 0; index = index } ≡ takenOf D relationRecord p
+    relation-behind-components g = stopped-at h relationRecord p (stop-order D relationRecord p refl (rw (no-actions a, some-components g))) (not-zero 12) (place-record D relationRecord p refl)
 
     module _ (c : index .components ≤ 0) where
       relation-order : outOfOrder D relationRecord ≡ false
       relation-order = rw (no-actions a, no-components c)
 
-      pub relation-full : 64 ≤ index .relations → record { number = 14; index = index } ≡ takenOf D relationRecord p
+      pub relation-full : 64 ≤ index .relations → record { number = 14; within = 0; index = index } ≡ takenOf D relationRecord p
       relation-full g =
           let r = relations-is h in
-          stopped-at h relationRecord p (stop-limit D relationRecord p refl relation-order (le-leb 64 (length (D .arities)) (omega arith))) (not-zero 13)
+          stopped-at h relationRecord p (stop-limit D relationRecord p refl relation-order (le-leb 64 (length (D .arities)) (omega arith))) (not-zero 13) (place-record D relationRecord p refl)
 
       module _ (f : index .relations < 64) {n : ℕ} (e : n ≡ relationStop p) where
         relation-number : stopOf D relationRecord p ≡ n
         unfolding fieldStop
         relation-number = let r = relations-is h in stop-field D relationRecord p refl relation-order (lt-leb 64 (length (D .arities)) (omega arith)) ∙ sym e
 
-        pub relation-refused : (n ≡ 0 → ⊥) → record { number = n; index = index } ≡ takenOf D relationRecord p
-        relation-refused z = stopped-at h relationRecord p relation-number z
+        pub relation-refused : (n ≡ 0 → ⊥) → record { number = n; within = 0; index = index } ≡ takenOf D relationRecord p
+        relation-refused z = stopped-at h relationRecord p relation-number z (place-record D relationRecord p refl)
 
-        pub relation-taken : {i : Index} → n ≡ 0 → i ≡ indexOf (extend D relationRecord p) → record { number = 0; index = i } ≡ takenOf D relationRecord p
+        pub relation-taken : {i : Index} → n ≡ 0 → i ≡ indexOf (extend D relationRecord p) → record { number = 0; within = 0; index = i } ≡ takenOf D relationRecord p
         relation-taken z q = done h relationRecord p (relation-number ∙ z) q
 
   -- ---- an action
 
-  pub action-behind-components : 0 < index .components → record { number = 13; index = index } ≡ takenOf D actionRecord p
-  action-behind-components g = stopped-at h actionRecord p (stop-order D actionRecord p refl (rw (some-components g))) (not-zero 12)
+  pub action-behind-components : 0 < index .components → record { number = 13; within = 0; index = index } ≡ takenOf D actionRecord p
+  action-behind-components g = stopped-at h actionRecord p (stop-order D actionRecord p refl (rw (some-components g))) (not-zero 12) (place-record D actionRecord p refl)
 
   module _ (c : index .components ≤ 0) where
     action-order : outOfOrder D actionRecord ≡ false
     action-order = rw (no-components c)
 
-    pub action-full : 64 ≤ index .actions → record { number = 14; index = index } ≡ takenOf D actionRecord p
+    pub action-full : 64 ≤ index .actions → record { number = 14; within = 0; index = index } ≡ takenOf D actionRecord p
     action-full g =
         let r = actions-is h in
-        stopped-at h actionRecord p (stop-limit D actionRecord p refl action-order (le-leb 64 (length (D .actions)) (omega arith))) (not-zero 13)
+        stopped-at h actionRecord p (stop-limit D actionRecord p refl action-order (le-leb 64 (length (D .actions)) (omega arith))) (not-zero 13) (place-record D actionRecord p refl)
 
     module _ (f : index .actions < 64) {n : ℕ} (e : n ≡ actionStop p) where
       action-number : stopOf D actionRecord p ≡ n
       unfolding fieldStop
       action-number = let r = actions-is h in stop-field D actionRecord p refl action-order (lt-leb 64 (length (D .actions)) (omega arith)) ∙ sym e
 
-      pub action-refused : (n ≡ 0 → ⊥) → record { number = n; index = index } ≡ takenOf D actionRecord p
-      action-refused z = stopped-at h actionRecord p action-number z
+      pub action-refused : (n ≡ 0 → ⊥) → record { number = n; within = 0; index = index } ≡ takenOf D actionRecord p
+      action-refused z = stopped-at h actionRecord p action-number z (place-record D actionRecord p refl)
 
-      pub action-taken : {i : Index} → n ≡ 0 → i ≡ indexOf (extend D actionRecord p) → record { number = 0; index = i } ≡ takenOf D actionRecord p
+      pub action-taken : {i : Index} → n ≡ 0 → i ≡ indexOf (extend D actionRecord p) → record { number = 0; within = 0; index = i } ≡ takenOf D actionRecord p
       action-taken z q = done h actionRecord p (action-number ∙ z) q
 
   -- ---- the closing record
 
-  pub closing-long : (length p ≡ 0 → ⊥) → record { number = 12; index = index } ≡ takenOf D closingRecord p
+  pub closing-long : (length p ≡ 0 → ⊥) → record { number = 12; within = 0; index = index } ≡ takenOf D closingRecord p
   unfolding fieldStop closingStop
-  closing-long g = stopped-at h closingRecord p (stop-field D closingRecord p refl refl refl ∙ simp (ne-eqb (length p) 0 g)) (not-zero 11)
+  closing-long g = stopped-at h closingRecord p (stop-field D closingRecord p refl refl refl ∙ simp (ne-eqb (length p) 0 g)) (not-zero 11) (place-record D closingRecord p refl)
 
-  pub closing-alone : length p ≡ 0 → index .components ≡ 0 → record { number = 23; index = index } ≡ takenOf D closingRecord p
+  pub closing-alone : length p ≡ 0 → index .components ≡ 0 → record { number = 23; within = 0; index = index } ≡ takenOf D closingRecord p
   unfolding fieldStop closingStop
   closing-alone g c =
-      stopped-at h closingRecord p (stop-field D closingRecord p refl refl refl ∙ simp (eq-eqb (length p) 0 g, no-components (omega arith))) (not-zero 22)
+      stopped-at h closingRecord p (stop-field D closingRecord p refl refl refl ∙ simp (eq-eqb (length p) 0 g, no-components (omega arith))) (not-zero 22) (place-record D closingRecord p refl)
 
-  pub closing-taken : length p ≡ 0 → (index .components ≡ 0 → ⊥) → record { number = 0; index = index } ≡ takenOf D closingRecord p
+  pub closing-taken : length p ≡ 0 → (index .components ≡ 0 → ⊥) → record { number = 0; within = 0; index = index } ≡ takenOf D closingRecord p
   unfolding fieldStop closingStop extend
   closing-taken g c =
       done h closingRecord p (stop-field D closingRecord p refl refl refl ∙ simp (eq-eqb (length p) 0 g, some-components (omega arith))) (h .is)
 
   -- a record of no known kind
-  pub unknown-refused : record { number = 11; index = index } ≡ takenOf D unknownRecord p
+  pub unknown-refused : record { number = 11; within = 0; index = index } ≡ takenOf D unknownRecord p
   unfolding stopOf headStop
-  unknown-refused = stopped-at h unknownRecord p refl (not-zero 10)
+  unknown-refused = stopped-at h unknownRecord p refl (not-zero 10) (place-record D unknownRecord p refl)
 
 -- the sort byte of an action that passes
 pub sort-is : (p : List ℕ) → actionStop p ≡ 0 → byte p 1 ≡ sortNumber (actionOf p)
@@ -137,12 +138,12 @@ componentFieldRows arities p =
 
 -- the rows "fields" and "component" of a component record
 component-split : (D : Domain) (p : List ℕ)
-    → componentStop D p
+    → componentFault D p
     ≡ cond (eqb (componentFields (D .arities) p) 0)
-    (cond (any (λ (d : Component). eqb (byte p 0) (d .rel)) (D .template)) 22 (labelStop (keysOf (D .template ++ (componentOf p ∷ []))) (componentOf p .labels)))
-    (componentFields (D .arities) p)
-unfolding componentStop componentFields
-component-split D p = rows-split (componentFieldRows (D .arities) p) _ refl
+    (cond (any (λ (d : Component). eqb (byte p 0) (d .rel)) (D .template)) (atRecord 22) (labelFault (keysOf (D .template ++ (componentOf p ∷ []))) (componentOf p .labels)))
+    (atRecord (componentFields (D .arities) p))
+unfolding componentFault componentFields
+component-split D p = faults-split (componentFieldRows (D .arities) p) _ refl
 
 -- a component whose fields pass has at most 6 labels
 pub component-short : (arities : List ℕ) (n : ℕ) (p : List ℕ) → componentFields (take n arities) p ≡ 0 → ((i : ℕ) → getD arities i 0 ≤ 6) → (1 ≤ length p) × (length p ≤ 7)
@@ -157,8 +158,8 @@ module _ {D : Domain} {index : Index} (h : Holds D index) (p : List ℕ) {n : �
   fields-are : n ≡ componentFields (D .arities) p
   fields-are = e ∙ ap (λ (l : List ℕ). componentFields l p) (arities-taken h)
 
-  pub component-fields-stop : (n ≡ 0 → ⊥) → n ≡ componentStop D p
-  component-fields-stop z = fields-are ∙ sym (component-split D p ∙ rw (ne-eqb (componentFields (D .arities) p) 0 (λ q. z (fields-are ∙ q))))
+  pub component-fields-stop : (n ≡ 0 → ⊥) → atRecord n ≡ componentFault D p
+  component-fields-stop z = ap atRecord fields-are ∙ sym (component-split D p ∙ rw (ne-eqb (componentFields (D .arities) p) 0 (λ q. z (fields-are ∙ q))))
 
   module _ (z : n ≡ 0) {u : Bool} (f : u ≡ any (λ row. eqb (byte p 0) (byte row 0)) (rowsIn (index .components) (index .parts))) where
     used-is : u ≡ any (λ (d : Component). eqb (byte p 0) (d .rel)) (D .template)
@@ -168,12 +169,12 @@ module _ {D : Domain} {index : Index} (h : Holds D index) (p : List ℕ) {n : �
         ∙ ap (λ (rs : List (List ℕ)). any (λ row. eqb (byte p 0) (byte row 0)) rs) (rows-components (D .template) (h .bounded .labels) _)
         ∙ any-component (byte p 0) (D .template)
 
-    pub component-used : u ≡ true → 22 ≡ componentStop D p
+    pub component-used : u ≡ true → atRecord 22 ≡ componentFault D p
     component-used t = sym (component-split D p ∙ rw (eq-eqb (componentFields (D .arities) p) 0 (sym fields-are ∙ z), sym used-is ∙ t))
 
-    pub component-labels : u ≡ false → {k m : ℕ} → k ≡ keysOf (D .template ++ (componentOf p ∷ [])) → m ≡ labelStop k (componentOf p .labels) → m ≡ componentStop D p
+    pub component-labels : u ≡ false → {k : ℕ} {m : RecordFault} → k ≡ keysOf (D .template ++ (componentOf p ∷ [])) → m ≡ labelFault k (componentOf p .labels) → m ≡ componentFault D p
     component-labels t q r =
-        r ∙ ap (λ (k : ℕ). labelStop k (componentOf p .labels)) q
+        r ∙ ap (λ (k : ℕ). labelFault k (componentOf p .labels)) q
         ∙ sym (component-split D p ∙ rw (eq-eqb (componentFields (D .arities) p) 0 (sym fields-are ∙ z), sym used-is ∙ t))
 
 -- the number of keys with a component more
@@ -199,21 +200,29 @@ keys-later {D} h c e = keys-is h ∙ go (D .template) (let a = components-is h i
     go (d ∷ ds) z = refl
 
 module _ {D : Domain} {index : Index} (h : Holds D index) (p : List ℕ) where
-  pub component-full : 16 ≤ index .components → record { number = 14; index = index } ≡ takenOf D componentRecord p
+  pub component-full : 16 ≤ index .components → record { number = 14; within = 0; index = index } ≡ takenOf D componentRecord p
   component-full g =
       let r = components-is h in
-      stopped-at h componentRecord p (stop-limit D componentRecord p refl refl (le-leb 16 (length (D .template)) (omega arith))) (not-zero 13)
+      let l = le-leb 16 (length (D .template)) (omega arith) in
+      stopped-at h componentRecord p (stop-limit D componentRecord p refl refl l) (not-zero 13) (place-limit D componentRecord p refl refl l)
 
-  module _ (f : index .components < 16) {n : ℕ} (e : n ≡ componentStop D p) where
-    component-number : stopOf D componentRecord p ≡ n
-    unfolding fieldStop
-    component-number = let r = components-is h in stop-field D componentRecord p refl refl (lt-leb 16 (length (D .template)) (omega arith)) ∙ sym e
+  module _ (f : index .components < 16) {r : RecordFault} (e : r ≡ componentFault D p) where
+    room : atLimit D componentRecord ≡ false
+    room = let r = components-is h in lt-leb 16 (length (D .template)) (omega arith)
 
-    pub component-refused : (n ≡ 0 → ⊥) → record { number = n; index = index } ≡ takenOf D componentRecord p
-    component-refused z = stopped-at h componentRecord p component-number z
+    component-stop : stopOf D componentRecord p ≡ r .number
+    unfolding fieldStop componentStop
+    component-stop = stop-field D componentRecord p refl refl room ∙ sym (ap (λ (x : RecordFault). x .number) e)
 
-    pub component-taken : {i : Index} → n ≡ 0 → i ≡ indexOf (extend D componentRecord p) → record { number = 0; index = i } ≡ takenOf D componentRecord p
-    component-taken z q = done h componentRecord p (component-number ∙ z) q
+    component-at : stopPlace D componentRecord p ≡ r .within
+    unfolding fieldPlace
+    component-at = place-field D componentRecord p refl refl room ∙ sym (ap (λ (x : RecordFault). x .within) e)
+
+    pub component-refused : (r .number ≡ 0 → ⊥) → record { number = r .number; within = r .within; index = index } ≡ takenOf D componentRecord p
+    component-refused z = stopped-at h componentRecord p component-stop z component-at
+
+    pub component-taken : {i : Index} → r .number ≡ 0 → i ≡ indexOf (extend D componentRecord p) → record { number = 0; within = 0; index = i } ≡ takenOf D componentRecord p
+    component-taken z q = done h componentRecord p (component-stop ∙ z) q
 
 -- ---- a literal
 

@@ -1,5 +1,5 @@
 -- The code that reads a file against its definition: what one record leads to, the loop over the file, and the answer. Assumes nothing.
-use mathlib.Core.Path.{_≡_, refl, sym, ap, _∙_}
+use mathlib.Core.Path.{_≡_, refl, sym, ap, ap₂, _∙_}
 use mathlib.Core.Bool.{Bool, true, false, cond}
 use mathlib.Core.Logic.{inl, inr}
 use mathlib.Core.List.{List, [], _∷_, flatMap, append-nil}
@@ -16,7 +16,7 @@ use Rattle.records.proofs.Laws.{whole-within}
 use Rattle.records.proofs.Memory.{length-over}
 use Rattle.reading.specs.declared.Progress.{Progress}
 use Rattle.literals.specs.Domain.{Action, Domain}
-use Rattle.literals.specs.Decode.{RecordKind, relationRecord, actionRecord, literalRecord, componentRecord, closingRecord, unknownRecord, kindOf, isClosing, literalOf, withLiteral, actionOf, fieldStop, stopOf, extend, refuse, Decoded, refused, domain, Reading, ReadTurn, goOn, finish, readRecord, readFound, readStep, Finished, readFrom, noDomain, fromStart, readFile}
+use Rattle.literals.specs.Decode.{RecordKind, relationRecord, actionRecord, literalRecord, componentRecord, closingRecord, unknownRecord, kindOf, isClosing, literalOf, withLiteral, actionOf, fieldStop, stopOf, stopPlace, stopAt, extend, Refusal, refuse, refuseAt, Decoded, refused, domain, Reading, ReadTurn, goOn, finish, readRecord, readFound, readStep, Finished, readFrom, noDomain, fromStart, readFile}
 use Rattle.literals.specs.Table.{allLiterals, tableBytes, indexOf, Bounded, Holds, behind, Taken, takenOf}
 use Rattle.reading.specs.Reading.{Standing, standingOf, standingWith, atStart, Turn, turnOf, EnoughTable, StepReady, Cleared, finishedOf, soFar, ReadAnswer, readBy, readOf, tableAfter}
 use Rattle.literals.proofs.Bounds.{bounded-extend, bounded-none}
@@ -126,33 +126,37 @@ module _ (s : List ℕ) (p : Standing) (q : Reading) (old : List ℕ) (is : p �
   found r c e = let f : recordAt s (q .at) ≡ r = ap (recordAt s) (sym at-is) ∙ e in simp (closed-is c, f)
 
   -- where reading finishes, it stands where it stood
-  stays : {n : ℕ} (d : Decoded) (t : List ℕ) → readStep s q ≡ finish d → record { number = n; standing = standingOf q } ≡ turnOf q (finish d) → t ≡ over (tableBytes (q .sofar)) old
-      → StepsTo s q old (record { number = n; standing = p }) t
+  stays : {n w : ℕ} (d : Decoded) (t : List ℕ) → readStep s q ≡ finish d → record { number = n; place = w; standing = standingOf q } ≡ turnOf q (finish d) → t ≡ over (tableBytes (q .sofar)) old
+      → StepsTo s q old (record { number = n; place = w; standing = p }) t
   stays d t f g memory = rw (f, is) (g, memory)
+
+  -- at the record
+  here : (n : ℕ) → record { number = n; place = p .at; standing = standingOf q } ≡ turnOf q (finish (refused (refuse n (q .at))))
+  here n = λ i. record { number = n; place = at-is i; standing = standingOf q }
 
   -- of the table as it was
   module _ (t : List ℕ) (memory : t ≡ over (tableBytes (q .sofar)) old) where
-    pub step-behind : p .closed ≡ true → p .at < length s → StepsTo s q old (record { number = 13; standing = p }) t
+    pub step-behind : p .closed ≡ true → p .at < length s → StepsTo s q old (record { number = 13; place = p .at; standing = p }) t
     unfolding readStep
     step-behind c h =
         let a = at-is in
         let l : q .at < length s = omega arith in
-        stays (refused (refuse 13 (q .at))) t (simp (closed-is c, lt-ltb (q .at) (length s) l)) refl memory
+        stays (refused (refuse 13 (q .at))) t (simp (closed-is c, lt-ltb (q .at) (length s) l)) (here 13) memory
 
-    pub step-end : p .closed ≡ true → length s ≤ p .at → StepsTo s q old (record { number = 1; standing = p }) t
+    pub step-end : p .closed ≡ true → length s ≤ p .at → StepsTo s q old (record { number = 1; place = 0; standing = p }) t
     unfolding readStep
     step-end c h =
         let a = at-is in
         let l : length s ≤ q .at = omega arith in
         stays (domain (q .sofar)) t (simp (closed-is c, le-ltb (q .at) (length s) l)) refl memory
 
-    pub step-cut : p .closed ≡ false → recordAt s (p .at) ≡ Cut → StepsTo s q old (record { number = 10; standing = p }) t
+    pub step-cut : p .closed ≡ false → recordAt s (p .at) ≡ Cut → StepsTo s q old (record { number = 10; place = p .at; standing = p }) t
     unfolding readFound
-    step-cut c e = stays (refused (refuse 10 (q .at))) t (found Cut c e) refl memory
+    step-cut c e = stays (refused (refuse 10 (q .at))) t (found Cut c e) (here 10) memory
 
-    pub step-none : p .closed ≡ false → recordAt s (p .at) ≡ End → StepsTo s q old (record { number = 10; standing = p }) t
+    pub step-none : p .closed ≡ false → recordAt s (p .at) ≡ End → StepsTo s q old (record { number = 10; place = p .at; standing = p }) t
     unfolding readFound
-    step-none c e = stays (refused (refuse 10 (q .at))) t (found End c e) refl memory
+    step-none c e = stays (refused (refuse 10 (q .at))) t (found End c e) (here 10) memory
 
   -- of a whole record, what taking it leads to: the part of the file from `start` to its end is its payload
   module _ {k start len : ℕ} (c : p .closed ≡ false) (e : recordAt s (p .at) ≡ Whole k start len) (o : Taken) (t : List ℕ)
@@ -169,6 +173,10 @@ module _ (s : List ℕ) (p : Standing) (q : Reading) (old : List ℕ) (is : p �
     unfolding takenOf
     number-is = sym (ap (λ (x : Taken). x .number) (taken .0) ∙ ap (stopOf (q .sofar) (kindOf k)) part-is)
 
+    within-is : stopPlace (q .sofar) (kindOf k) (payload s start len) ≡ o .within
+    unfolding takenOf
+    within-is = sym (ap (λ (x : Taken). x .within) (taken .0) ∙ ap (stopPlace (q .sofar) (kindOf k)) part-is)
+
     index-is : o .index ≡ indexOf (behind (q .sofar) (kindOf k) (payload s start len))
     unfolding takenOf
     index-is = ap (λ (x : Taken). x .index) (taken .0) ∙ ap (λ (b : List ℕ). indexOf (behind (q .sofar) (kindOf k) b)) part-is
@@ -176,9 +184,9 @@ module _ (s : List ℕ) (p : Standing) (q : Reading) (old : List ℕ) (is : p �
     table-is : {D : Domain} → behind (q .sofar) (kindOf k) (payload s start len) ≡ D → t ≡ over (tableBytes D) old
     table-is {D} z = taken .1 ∙ ap (λ (b : List ℕ). over (tableBytes (behind (q .sofar) (kindOf k) b)) old) part-is ∙ ap (λ (x : Domain). over (tableBytes x) old) z
 
-    pub step-on : o .number ≡ 0 → StepsTo s q old (record { number = 0; standing = record { at = start + len; closed = eqb k 5; index = o .index } }) t
+    pub step-on : o .number ≡ 0 → StepsTo s q old (record { number = 0; place = 0; standing = record { at = start + len; closed = eqb k 5; index = o .index } }) t
     unfolding readRecord
-    step-on z = rw turn (λ i. record { number = 0; standing = record { at = start + len; closed = closing-five k i; index = (index-is ∙ ap indexOf done) i } }, table-is done)
+    step-on z = rw turn (λ i. record { number = 0; place = 0; standing = record { at = start + len; closed = closing-five k i; index = (index-is ∙ ap indexOf done) i } }, table-is done)
       where
         passes : stopOf (q .sofar) (kindOf k) (payload s start len) ≡ 0
         passes = number-is ∙ z
@@ -189,18 +197,21 @@ module _ (s : List ℕ) (p : Standing) (q : Reading) (old : List ℕ) (is : p �
         turn : readStep s q ≡ goOn (record { at = start + len; closed = isClosing (kindOf k); sofar = extend (q .sofar) (kindOf k) (payload s start len) })
         turn = record-is ∙ simp (eq-eqb (stopOf (q .sofar) (kindOf k) (payload s start len)) 0 passes)
 
-    pub step-stop : (o .number ≡ 0 → ⊥) → StepsTo s q old (record { number = o .number; standing = record { at = p .at; closed = p .closed; index = o .index } }) t
-    unfolding readRecord
-    step-stop z = rw turn (λ i. record { number = o .number; standing = record { at = is i .at; closed = is i .closed; index = (index-is ∙ ap indexOf stopped) i } }, table-is stopped)
+    pub step-stop : (o .number ≡ 0 → ⊥) → {w : ℕ} → w ≡ o .within → StepsTo s q old (record { number = o .number; place = p .at + w; standing = record { at = p .at; closed = p .closed; index = o .index } }) t
+    unfolding readRecord stopAt
+    step-stop z d = rw turn (λ i. record { number = o .number; place = ap₂ _+_ at-is d i; standing = record { at = is i .at; closed = is i .closed; index = (index-is ∙ ap indexOf stopped) i } }, table-is stopped)
       where
         stopped : behind (q .sofar) (kindOf k) (payload s start len) ≡ q .sofar
         stopped = behind-stop (q .sofar) (kindOf k) (payload s start len) number-is z
 
-        turn : readStep s q ≡ finish (refused (refuse (o .number) (q .at)))
+        refusal : ℕ → ℕ → Refusal
+        refusal n w = record { number = n; place = q .at + w; start = q .at }
+
+        turn : readStep s q ≡ finish (refused (refusal (o .number) (o .within)))
         turn =
             let b = ne-eqb (stopOf (q .sofar) (kindOf k) (payload s start len)) 0 (λ x. z (sym number-is ∙ x)) in
-            let r : readRecord q (kindOf k) (payload s start len) (start + len) ≡ finish (refused (refuse (stopOf (q .sofar) (kindOf k) (payload s start len)) (q .at))) = simp b in
-            record-is ∙ r ∙ ap (λ (n : ℕ). finish (refused (refuse n (q .at)))) number-is
+            let r : readRecord q (kindOf k) (payload s start len) (start + len) ≡ finish (refused (refuseAt (stopAt (q .sofar) (kindOf k) (payload s start len)) (q .at))) = simp b in
+            record-is ∙ r ∙ ap₂ (λ (n w : ℕ). finish (refused (refusal n w))) number-is within-is
 
 -- ---- the answer
 
@@ -209,32 +220,32 @@ abbrev Answers : Reading → ReadTurn → Type 0
 Answers q (goOn r) = Unit {0}
 Answers q (finish d) = (turnOf q (finish d) .number ≡ 0 → ⊥) × (finishedOf (turnOf q (finish d)) ≡ readBy d (indexOf (q .sofar)))
 
-answers-refused : (q : Reading) (n : ℕ) → 9 ≤ n → Answers q (finish (refused (refuse n (q .at))))
+answers-refused : (q : Reading) (n place : ℕ) → 9 ≤ n → Answers q (finish (refused (record { number = n; place = place; start = q .at })))
 unfolding finishedOf
-answers-refused q n h = (λ z. omega arith, simp (ne-eqb n 1 (λ z. omega arith)))
+answers-refused q n place h = (λ z. omega arith, simp (ne-eqb n 1 (λ z. omega arith)))
 
 answers-record : (q : Reading) (k : RecordKind) (b : List ℕ) (behind : ℕ) → Answers q (readRecord q k b behind)
-unfolding readRecord
+unfolding readRecord stopAt
 answers-record q k b behind = go (eqb (stopOf (q .sofar) k b) 0) refl (stop-of (q .sofar) k b)
   where
     go : (t : Bool) → eqb (stopOf (q .sofar) k b) 0 ≡ t → Stop (stopOf (q .sofar) k b)
-        → Answers q (cond t (goOn (record { at = behind; closed = isClosing k; sofar = extend (q .sofar) k b })) (finish (refused (refuse (stopOf (q .sofar) k b) (q .at)))))
+        → Answers q (cond t (goOn (record { at = behind; closed = isClosing k; sofar = extend (q .sofar) k b })) (finish (refused (refuseAt (stopAt (q .sofar) k b) (q .at)))))
     go true e h = tt
     go false e (inl z) = absurd (eqb-false (stopOf (q .sofar) k b) 0 e z)
-    go false e (inr h) = answers-refused q (stopOf (q .sofar) k b) (h .0)
+    go false e (inr h) = answers-refused q (stopOf (q .sofar) k b) (q .at + stopPlace (q .sofar) k b) (h .0)
 
 answers-found : (s : List ℕ) (q : Reading) (f : Record) → Answers q (readFound s q f)
 unfolding readFound
 answers-found s q (Whole k start len) = answers-record q (kindOf k) (payload s start len) (start + len)
-answers-found s q Cut = answers-refused q 10 (omega arith)
-answers-found s q End = answers-refused q 10 (omega arith)
+answers-found s q Cut = answers-refused q 10 (q .at) (omega arith)
+answers-found s q End = answers-refused q 10 (q .at) (omega arith)
 
 answers : (s : List ℕ) (q : Reading) → Answers q (readStep s q)
 unfolding readStep finishedOf
 answers s q = go (q .closed) (ltb (q .at) (length s))
   where
     go : (b c : Bool) → Answers q (cond b (cond c (finish (refused (refuse 13 (q .at)))) (finish (domain (q .sofar)))) (readFound s q (recordAt s (q .at))))
-    go true true = answers-refused q 13 (omega arith)
+    go true true = answers-refused q 13 (q .at) (omega arith)
     go true false = (λ z. omega arith, refl)
     go false c = answers-found s q (recordAt s (q .at))
 
@@ -262,6 +273,7 @@ too-long s t p is h = rw (read-long s h) (λ i. record { number = 9; place = 0; 
 
 -- where the loop stands: it has read a part of the file as `readFile` does, and the fuel that is left suffices
 pub record Loop (s old : List ℕ) (p : Standing) (t : List ℕ) : Type 0 where
+  pub short : length s ≤ 65535
   pub reading : Reading
   pub is : p ≡ standingOf reading
   pub grown : Grown reading
@@ -279,6 +291,7 @@ at-start e c = λ i. standingWith (e i) (c .arities i) (c .variables i) (c .sort
 pub begins : (s t : List ℕ) (p : Standing) → p ≡ standingOf fromStart → length s ≤ 65535 → Loop s t p t
 begins s t p is h =
     record {
+      short = h;
       reading = fromStart;
       is = is;
       grown = grown-none;
@@ -309,6 +322,7 @@ module _ {s old : List ℕ} {p : Standing} {t : List ℕ} (i : Loop s old p t) (
   loop-ready =
       let h = held (i .is) (i .grown .bounded) in
       record {
+        short = i .short;
         shaped = shaped h;
         sized = sized h;
         enough = go e;
@@ -347,6 +361,7 @@ module _ (s old : List ℕ) (p : Standing) (t : List ℕ) (i : Loop s old p t) (
           record {
             next =
                 record {
+                  short = i .short;
                   reading = n;
                   is = ap (λ (x : Turn). x .standing) eo;
                   grown = grows s q n (i .grown) e;

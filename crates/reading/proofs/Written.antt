@@ -15,7 +15,7 @@ use Rattle.literals.specs.declared.Index.{Index}
 use Rattle.literals.specs.Domain.{variable, Domain}
 use Rattle.literals.specs.Decode.{RecordKind, relationRecord, actionRecord, literalRecord, componentRecord, closingRecord, unknownRecord, kindOf, latest, byte, literalOf, literalStop, actionOf, stopOf, extend}
 use Rattle.literals.specs.Table.{rowOf, literalRow, allLiterals, tableBytes, indexOf, Bounded, Holds, behind, Taken, takenOf}
-use Rattle.literals.proofs.Stops.{literal-passes, role-nine}
+use Rattle.literals.proofs.Stops.{literal-passes, role-nine, place-record}
 use Rattle.literals.proofs.Bounds.{role-number}
 use Rattle.literals.proofs.Tables.{over-row, length-literals}
 use Rattle.literals.proofs.Held.{literals-snoc, literals-more, literals-in, behind-stop, behind-done, rows-is, actions-is, stopped-at, done}
@@ -69,8 +69,8 @@ length-table {D} b = length-literals (allLiterals (D .actions)) (λ l m. let o =
 
 module _ {D : Domain} {index : Index} (h : Holds D index) (p : List ℕ) {t : List ℕ} (old : List ℕ) (q : t ≡ over (tableBytes D) old) where
   stopped-both : {n : ℕ} → stopOf D literalRecord p ≡ n → (n ≡ 0 → ⊥)
-      → (record { number = n; index = index } ≡ takenOf D literalRecord p) × (t ≡ over (tableBytes (behind D literalRecord p)) old)
-  stopped-both e z = (stopped-at h literalRecord p e z, table-stopped D literalRecord p old e z q)
+      → (record { number = n; within = 0; index = index } ≡ takenOf D literalRecord p) × (t ≡ over (tableBytes (behind D literalRecord p)) old)
+  stopped-both e z = (stopped-at h literalRecord p e z (place-record D literalRecord p refl), table-stopped D literalRecord p old e z q)
 
   table-length : length (tableBytes D) ≡ 8 * index .rows
   table-length = length-table (h .bounded) ∙ ap (λ (n : ℕ). 8 * n) (sym (rows-is h))
@@ -84,22 +84,22 @@ module _ {D : Domain} {index : Index} (h : Holds D index) (p : List ℕ) {t : Li
       ∙ sym (flatMap-snoc literalRow (allLiterals (D .actions)) (literalOf p))
       ∙ ap (flatMap literalRow) (sym (literals-more (literalOf p) (D .actions) (omega arith)))
 
-  pub literal-13 : index .actions ≡ 0 → (record { number = 13; index = index } ≡ takenOf D literalRecord p) × (t ≡ over (tableBytes (behind D literalRecord p)) old)
+  pub literal-13 : index .actions ≡ 0 → (record { number = 13; within = 0; index = index } ≡ takenOf D literalRecord p) × (t ≡ over (tableBytes (behind D literalRecord p)) old)
   literal-13 g = stopped-both (literal-early h p g) (λ e. omega arith)
 
-  pub literal-13-late : 0 < index .components → (record { number = 13; index = index } ≡ takenOf D literalRecord p) × (t ≡ over (tableBytes (behind D literalRecord p)) old)
+  pub literal-13-late : 0 < index .components → (record { number = 13; within = 0; index = index } ≡ takenOf D literalRecord p) × (t ≡ over (tableBytes (behind D literalRecord p)) old)
   literal-13-late g = stopped-both (literal-late h p g) (λ e. omega arith)
 
   module _ (a : index .actions ≡ 0 → ⊥) (c : index .components ≤ 0) (last : ℕ) (w : last ≡ index .actions - 1) where
-    pub literal-14 : 64 ≤ index .rows - getD (index .starts) last 0 → (record { number = 14; index = index } ≡ takenOf D literalRecord p) × (t ≡ over (tableBytes (behind D literalRecord p)) old)
+    pub literal-14 : 64 ≤ index .rows - getD (index .starts) last 0 → (record { number = 14; within = 0; index = index } ≡ takenOf D literalRecord p) × (t ≡ over (tableBytes (behind D literalRecord p)) old)
     literal-14 g = stopped-both (literal-full h p a c (rw w at g)) (λ e. omega arith)
 
     module _ (f : index .rows - getD (index .starts) last 0 < 64) {n : ℕ} (e : n ≡ literalStop D p) where
-      pub literal-refused : (n ≡ 0 → ⊥) → (record { number = n; index = index } ≡ takenOf D literalRecord p) × (t ≡ over (tableBytes (behind D literalRecord p)) old)
+      pub literal-refused : (n ≡ 0 → ⊥) → (record { number = n; within = 0; index = index } ≡ takenOf D literalRecord p) × (t ≡ over (tableBytes (behind D literalRecord p)) old)
       literal-refused z = stopped-both (literal-number h p a c (rw w at f) ∙ sym e) z
 
       pub literal-taken : {i : Index} {u : List ℕ} → n ≡ 0 → i ≡ indexOf (extend D literalRecord p) → length p ≤ 8 → u ≡ paste t (8 * index .rows) (rowOf p) 8
-          → (record { number = 0; index = i } ≡ takenOf D literalRecord p) × (u ≡ over (tableBytes (behind D literalRecord p)) old)
+          → (record { number = 0; within = 0; index = i } ≡ takenOf D literalRecord p) × (u ≡ over (tableBytes (behind D literalRecord p)) old)
       literal-taken z k l v =
           let s = literal-number h p a c (rw w at f) ∙ sym e ∙ z in (
             done h literalRecord p s k,

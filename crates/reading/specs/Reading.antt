@@ -15,7 +15,7 @@ use Rattle.reading.specs.declared.ReadEnd.{ReadEnd}
 use Rattle.reading.specs.declared.Refusal.{Refusal as FileRefusal}
 use Rattle.reading.specs.declared.read.Stepped.{Stepped}
 use Rattle.literals.specs.Domain.{Domain}
-use Rattle.literals.specs.Decode.{Decoded, refused, domain, Reading, ReadTurn, goOn, finish, readFile}
+use Rattle.literals.specs.Decode.{maxFile, Decoded, refused, domain, Reading, ReadTurn, goOn, finish, readFile}
 use Rattle.literals.specs.Table.{indexOf, indexWith, Taken, Shaped, Sized, tableBytes}
 use Rattle.literals.specs.Held.{Held}
 
@@ -23,7 +23,7 @@ use Rattle.literals.specs.Held.{Held}
 
 -- what the code answers, with the memories of the lists
 abbrev pub takenWith : Took → List ℕ → List ℕ → List ℕ → List ℕ → List ℕ → Taken
-takenWith r arities variables sorts starts parts = record { number = r .number; index = indexWith (r .counts) arities variables sorts starts parts }
+takenWith r arities variables sorts starts parts = record { number = r .number; within = r .within; index = indexWith (r .counts) arities variables sorts starts parts }
 
 -- what taking a literal asks of the counts and of the arities, variables, sorts and starts
 pub record LiteralReady (n : Counts) (as′ vs ss bs : List ℕ) : Type 0 where
@@ -64,18 +64,19 @@ standingWith p arities variables sorts starts parts = record { at = p .at; close
 abbrev pub atStart : Progress
 atStart = record { at = 0; closed = false; counts = record { relations = 0; actions = 0; rows = 0; components = 0; keys = 0 } }
 
--- what a turn of reading leads to: 0 where it goes on, 1 where the file is read, else the number that refuses it
+-- what a turn of reading leads to: 0 where it goes on, 1 where the file is read, else the number that refuses it, with its place
 pub record Turn : Type 0 where
   pub number : ℕ
+  pub place : ℕ
   pub standing : Standing
 
 abbrev pub turnOf : Reading → ReadTurn → Turn
-turnOf q (goOn r) = record { number = 0; standing = standingOf r }
-turnOf q (finish (refused r)) = record { number = r .number; standing = standingOf q }
-turnOf q (finish (domain D)) = record { number = 1; standing = standingOf q }
+turnOf q (goOn r) = record { number = 0; place = 0; standing = standingOf r }
+turnOf q (finish (refused r)) = record { number = r .number; place = r .place; standing = standingOf q }
+turnOf q (finish (domain D)) = record { number = 1; place = 0; standing = standingOf q }
 
 abbrev pub turnWith : Stepped → List ℕ → List ℕ → List ℕ → List ℕ → List ℕ → Turn
-turnWith o arities variables sorts starts parts = record { number = o .number; standing = standingWith (o .progress) arities variables sorts starts parts }
+turnWith o arities variables sorts starts parts = record { number = o .number; place = o .place; standing = standingWith (o .progress) arities variables sorts starts parts }
 
 -- the domain that is then read
 abbrev pub soFar : Reading → ReadTurn → Domain
@@ -86,8 +87,9 @@ soFar q (finish d) = q .sofar
 abbrev pub EnoughTable : List ℕ → List ℕ → Type 0
 EnoughTable file table = (32768 ≤ length table) ⊎ (4 * length file ≤ 3 * length table)
 
--- what a turn asks of where reading stands and of the table
+-- what a turn asks of the file, of where reading stands and of the table
 pub record StepReady (file table : List ℕ) (p : Standing) : Type 0 where
+  pub short : length file ≤ maxFile
   pub shaped : Shaped (p .index)
   pub sized : Sized (p .index)
   pub enough : EnoughTable file table
@@ -115,11 +117,11 @@ abbrev pub readBy : Decoded → Index → ReadAnswer
 readBy (refused r) i = record { number = r .number; place = r .place; start = r .start; index = i }
 readBy (domain D) i = record { number = 0; place = 0; start = 0; index = i }
 
--- where a record ends reading: its number with the offset of the record, or 0 where the file is read
+-- where a record ends reading: its number with its place and the offset of the record, or 0 where the file is read
 unfoldable pub finishedOf : Turn → ReadAnswer
 finishedOf o =
     cond (eqb (o .number) 1) (record { number = 0; place = 0; start = 0; index = o .standing .index })
-    (record { number = o .number; place = o .standing .at; start = o .standing .at; index = o .standing .index })
+    (record { number = o .number; place = o .place; start = o .standing .at; index = o .standing .index })
 
 unfoldable pub readOf : List ℕ → ReadAnswer
 unfolding readFile indexOf

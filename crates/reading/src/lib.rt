@@ -6,9 +6,10 @@ pub mod take;
 
 use literals::Counts;
 
-// What one record led to: 0 and the counts with it, or the number that stopped it and the counts before it.
+// What one record led to: 0 and the counts with it, or the number that stopped it, how far behind its start (0: the record itself), and the counts before it.
 pub struct Took {
     pub number: u64,
+    pub within: u8,
     pub counts: Counts,
 }
 

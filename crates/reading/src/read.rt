@@ -3,6 +3,7 @@ use super::Progress;
 use super::ReadEnd;
 use super::take::take_record;
 use literals::Counts;
+use literals::fields::wide;
 use records::Record;
 use records::record_at;
 ghost use mathlib.Core.Path.{_≡_};
@@ -13,9 +14,10 @@ ghost use Rattle.literals.specs.Decode.{Reading, readStep};
 ghost use Rattle.literals.specs.Table.{Bounded, tableBytes};
 ghost use Rattle.reading.specs.Reading.{Cleared, EnoughTable, StepReady, answerWith, atStart, finishedOf, readOf, soFar, standingOf, standingWith, tableAfter, turnOf, turnWith};
 
-// What one record led to: 0 where reading goes on, 1 where the file is read, else the number that refuses it.
+// What one record led to: 0 where reading goes on, 1 where the file is read, else the number that refuses it, with its place.
 pub struct Stepped {
     pub number: u64,
+    pub place: usize,
     pub progress: Progress,
 }
 
@@ -61,11 +63,13 @@ impl Progress {
             if at < s.len() {
                 return Stepped {
                     number: 13,
+                    place: at,
                     progress: self,
                 };
             }
             return Stepped {
                 number: 1,
+                place: 0,
                 progress: self,
             };
         }
@@ -84,10 +88,12 @@ impl Progress {
                     &s[start..end],
                 );
                 let number = took.number;
+                let within = took.within;
                 let next = took.counts;
                 if number == 0 {
                     return Stepped {
                         number: 0,
+                        place: 0,
                         progress: Progress {
                             at: end,
                             closed: kind == 5,
@@ -98,6 +104,7 @@ impl Progress {
                 // A refused record has left the counts as they were.
                 Stepped {
                     number,
+                    place: at + wide(within),
                     progress: Progress {
                         at,
                         closed,
@@ -107,10 +114,12 @@ impl Progress {
             }
             Record::Cut => Stepped {
                 number: 10,
+                place: at,
                 progress: self,
             },
             Record::End => Stepped {
                 number: 10,
+                place: at,
                 progress: self,
             },
         }
@@ -122,6 +131,7 @@ fn end_of(stepped: Stepped) -> ReadEnd
     ensures { λ r. ⌜ ((arities variables sorts starts parts : List ℕ) → answerWith r arities variables sorts starts parts ≡ finishedOf (turnWith stepped arities variables sorts starts parts)) ⌝ }
 {
     let number = stepped.number;
+    let place = stepped.place;
     let progress = stepped.progress;
     let at = progress.at;
     let counts = progress.counts;
@@ -135,7 +145,7 @@ fn end_of(stepped: Stepped) -> ReadEnd
     }
     ReadEnd {
         number,
-        place: at,
+        place,
         start: at,
         counts,
     }

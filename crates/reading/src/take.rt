@@ -2,6 +2,7 @@
 // lent memories, and only the counts go by value: an index is too large to be copied for each record.
 use super::Took;
 use literals::Counts;
+use literals::RecordFault;
 use literals::fields::action_fields;
 use literals::fields::component_fields;
 use literals::fields::count_keys;
@@ -17,7 +18,7 @@ ghost use Prim.Native.Nat.{ℕ, _+_, _-_, _*_, _<_, _≤_};
 ghost use lib.ListN.{length};
 ghost use Rattle.records.specs.Memory.{over};
 ghost use Rattle.literals.specs.Domain.{Domain, keysOf};
-ghost use Rattle.literals.specs.Decode.{relationRecord, actionRecord, literalRecord, componentRecord, closingRecord, kindOf, literalStop, componentOf, componentStop};
+ghost use Rattle.literals.specs.Decode.{relationRecord, actionRecord, literalRecord, componentRecord, closingRecord, kindOf, literalStop, componentOf, componentFault};
 ghost use Rattle.literals.specs.Table.{indexWith, Holds, Shaped, Sized, tableBytes, takenOf, behind};
 ghost use Rattle.reading.specs.Reading.{takenWith, LiteralReady, RowRoom, ComponentReady};
 
@@ -28,13 +29,25 @@ pub fn take_relation(counts: Counts, arities: &mut [u8], p: &[u8]) -> Took
 {
     let n = counts.relations;
     if 0 < counts.actions {
-        return Took { number: 13, counts };
+        return Took {
+            number: 13,
+            within: 0,
+            counts,
+        };
     }
     if 0 < counts.components {
-        return Took { number: 13, counts };
+        return Took {
+            number: 13,
+            within: 0,
+            counts,
+        };
     }
     if 64 <= n {
-        return Took { number: 14, counts };
+        return Took {
+            number: 14,
+            within: 0,
+            counts,
+        };
     }
     let number = relation_fields(p);
     if number == 0 {
@@ -43,10 +56,15 @@ pub fn take_relation(counts: Counts, arities: &mut [u8], p: &[u8]) -> Took
         next.relations = n + 1;
         return Took {
             number: 0,
+            within: 0,
             counts: next,
         };
     }
-    Took { number, counts }
+    Took {
+        number,
+        within: 0,
+        counts,
+    }
 }
 
 pub fn take_action(
@@ -62,10 +80,18 @@ pub fn take_action(
 {
     let n = counts.actions;
     if 0 < counts.components {
-        return Took { number: 13, counts };
+        return Took {
+            number: 13,
+            within: 0,
+            counts,
+        };
     }
     if 64 <= n {
-        return Took { number: 14, counts };
+        return Took {
+            number: 14,
+            within: 0,
+            counts,
+        };
     }
     let number = action_fields(p);
     if number == 0 {
@@ -76,10 +102,15 @@ pub fn take_action(
         next.actions = n + 1;
         return Took {
             number: 0,
+            within: 0,
             counts: next,
         };
     }
-    Took { number, counts }
+    Took {
+        number,
+        within: 0,
+        counts,
+    }
 }
 
 // The number that stops a literal of the action `last`, the latest.
@@ -130,14 +161,26 @@ pub fn take_literal(
     let n = counts.actions;
     let rows = counts.rows;
     if n == 0 {
-        return Took { number: 13, counts };
+        return Took {
+            number: 13,
+            within: 0,
+            counts,
+        };
     }
     if 0 < counts.components {
-        return Took { number: 13, counts };
+        return Took {
+            number: 13,
+            within: 0,
+            counts,
+        };
     }
     let last = n - 1;
     if 64 <= rows - starts[last] {
-        return Took { number: 14, counts };
+        return Took {
+            number: 14,
+            within: 0,
+            counts,
+        };
     }
     let number = literal_number(counts, last, arities, variables, sorts, starts, table, p);
     if number == 0 {
@@ -146,10 +189,15 @@ pub fn take_literal(
         next.rows = rows + 1;
         return Took {
             number: 0,
+            within: 0,
             counts: next,
         };
     }
-    Took { number, counts }
+    Took {
+        number,
+        within: 0,
+        counts,
+    }
 }
 
 // The number of keys of the template with this component.
@@ -165,19 +213,25 @@ fn keys_with(counts: Counts, p: &[u8]) -> usize
     counts.keys
 }
 
-// The number that stops a component.
-fn component_number(counts: Counts, arities: &[u8], parts: &[u8], p: &[u8]) -> u64
+// What stops a component.
+fn component_fault(counts: Counts, arities: &[u8], parts: &[u8], p: &[u8]) -> RecordFault
     requires { ⌜ ComponentReady counts (now arities) (now parts) ⌝ }
-    ensures number { λ r. ⌜ ((D : Domain) (variables sorts starts : List ℕ) → Holds D (indexWith counts (now (arities .entry)) variables sorts starts (now (parts .entry)))
-        → r ≡ componentStop D (now (p .entry))) ⌝ }
-    ensures fits { λ r. ⌜ (r ≡ 0 → length (now (p .entry)) ≤ 7) ⌝ }
+    ensures fault { λ r. ⌜ ((D : Domain) (variables sorts starts : List ℕ) → Holds D (indexWith counts (now (arities .entry)) variables sorts starts (now (parts .entry)))
+        → r ≡ componentFault D (now (p .entry))) ⌝ }
+    ensures fits { λ r. ⌜ (r .number ≡ 0 → length (now (p .entry)) ≤ 7) ⌝ }
 {
     let fields = component_fields(counts.relations, arities, p);
     if fields != 0 {
-        return fields;
+        return RecordFault {
+            number: fields,
+            within: 0,
+        };
     }
     if any_row(parts, counts.components, p[0]) {
-        return 22;
+        return RecordFault {
+            number: 22,
+            within: 0,
+        };
     }
     label_fields(p, keys_with(counts, p))
 }
@@ -189,9 +243,15 @@ pub fn take_component(counts: Counts, arities: &[u8], parts: &mut [u8], p: &[u8]
 {
     let n = counts.components;
     if 16 <= n {
-        return Took { number: 14, counts };
+        return Took {
+            number: 14,
+            within: 0,
+            counts,
+        };
     }
-    let number = component_number(counts, arities, parts, p);
+    let fault = component_fault(counts, arities, parts, p);
+    let number = fault.number;
+    let within = fault.within;
     if number == 0 {
         put_row(parts, 8 * n, p);
         let mut next = counts;
@@ -199,10 +259,15 @@ pub fn take_component(counts: Counts, arities: &[u8], parts: &mut [u8], p: &[u8]
         next.keys = keys_with(counts, p);
         return Took {
             number: 0,
+            within: 0,
             counts: next,
         };
     }
-    Took { number, counts }
+    Took {
+        number,
+        within,
+        counts,
+    }
 }
 
 pub fn take_closing(counts: Counts, p: &[u8]) -> Took
@@ -210,12 +275,24 @@ pub fn take_closing(counts: Counts, p: &[u8]) -> Took
         → takenWith r arities variables sorts starts parts ≡ takenOf D closingRecord (now (p .entry))) ⌝ }
 {
     if p.len() != 0 {
-        return Took { number: 12, counts };
+        return Took {
+            number: 12,
+            within: 0,
+            counts,
+        };
     }
     if counts.components == 0 {
-        return Took { number: 23, counts };
+        return Took {
+            number: 23,
+            within: 0,
+            counts,
+        };
     }
-    Took { number: 0, counts }
+    Took {
+        number: 0,
+        within: 0,
+        counts,
+    }
 }
 
 // A record of any kind.
@@ -243,6 +320,10 @@ pub fn take_record(
         3 => take_literal(counts, arities, variables, sorts, starts, table, p),
         4 => take_component(counts, arities, parts, p),
         5 => take_closing(counts, p),
-        _ => Took { number: 11, counts },
+        _ => Took {
+            number: 11,
+            within: 0,
+            counts,
+        },
     }
 }

@@ -10,7 +10,7 @@ use lib.Dec.{eqb}
 use lib.ListN.{length, getD, take, drop, length-append, drop-of-length-le}
 use lib.Seq.{drop-cons}
 use borrow.Author.Tests.{eqb-true, eqb-false, eq-eqb}
-use Rattle.records.specs.Lists.{addIf, keepIf, filterBy, countBy, all, any, pairwise, empty, In, sameList, elem, distinct, dedup}
+use Rattle.records.specs.Lists.{addIf, keepIf, filterBy, countBy, all, any, pairwise, firstAt, empty, In, sameList, elem, distinct, dedup}
 
 -- ---- tests
 
@@ -408,6 +408,10 @@ pub any-map : {A B : Type 0} (f : A → B) (p : B → Bool) (l : List A) → any
 any-map f p [] = refl
 any-map f p (x ∷ xs) = ap (λ (b : Bool). p (f x) || b) (any-map f p xs)
 
+pub any-same : {A : Type 0} (p q : A → Bool) (l : List A) → ((a : A) → p a ≡ q a) → any p l ≡ any q l
+any-same p q [] h = refl
+any-same p q (x ∷ xs) h = ap₂ _||_ (h x) (any-same p q xs h)
+
 pub flatMap-append : {A B : Type 0} (f : A → List B) (xs ys : List A) → flatMap f (xs ++ ys) ≡ flatMap f xs ++ flatMap f ys
 unfolding flatMap
 flatMap-append f [] ys = refl
@@ -516,8 +520,18 @@ module _ {A : Type 0} (l : List A) (i : ℕ) (d : A) where
   pub count-end : (p : A → Bool) → length l ≤ i → countBy p (drop i l) ≡ 0
   count-end p h = rw (drop-of-length-le l h)
 
+  pub first-end : (p : List A → A → Bool) (before : List A) → length l ≤ i → firstAt p before (drop i l) ≡ 0
+  first-end p before h = rw (drop-of-length-le l h)
+
   -- the element at i comes first
   module _ (h : i < length l) where
+    pub first-hit : (p : List A → A → Bool) (before : List A) → p before (getD l i d) ≡ true → firstAt p before (drop i l) ≡ 0
+    first-hit p before t = rw (drop-cons l i d h, t)
+
+    pub first-miss : (p : List A → A → Bool) (before : List A) → p before (getD l i d) ≡ false
+        → firstAt p before (drop i l) ≡ suc (firstAt p (before ++ (getD l i d ∷ [])) (drop (i + 1) l))
+    first-miss p before t = rw (drop-cons l i d h, t, add-one i)
+
     pub all-hit : (p : A → Bool) → p (getD l i d) ≡ true → all p (drop i l) ≡ all p (drop (i + 1) l)
     all-hit p t = rw (drop-cons l i d h, t, add-one i)
 

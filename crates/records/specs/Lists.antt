@@ -1,8 +1,10 @@
 -- Tests on lists that compute. The library's `filter` and `countP` take a decision for each element and do not compute from a test, so `filterBy` and `countBy` stand here.
 -- Assumes nothing.
-use mathlib.Core.Bool.{Bool, true, false, _&&_, _||_, not}
-use mathlib.Core.List.{List, [], _∷_, List·Memᴰ}
+use mathlib.Core.Bool.{Bool, true, false, _&&_, _||_, not, cond}
+use mathlib.Core.List.{List, [], _∷_, _++_, List·Memᴰ}
 use Prim.Native.Nat.{ℕ, zero, suc}
+use lib.Dec.{ltb}
+use lib.ListN.{length}
 
 -- one more where the test passes
 abbrev pub addIf : Bool → ℕ → ℕ
@@ -37,6 +39,15 @@ module _ {A : Type 0} where
   abbrev pub pairwise : (A → A → Bool) → List A → Bool
   pairwise r [] = true
   pairwise r (x ∷ xs) = all (r x) xs && pairwise r xs
+
+  -- the first place at which an element passes a test of the elements before it and itself; the length if none does
+  abbrev pub firstAt : (List A → A → Bool) → List A → List A → ℕ
+  firstAt p before [] = zero
+  firstAt p before (x ∷ xs) = cond (p before x) zero (suc (firstAt p (before ++ (x ∷ [])) xs))
+
+  -- there is such a place in the list
+  abbrev pub found : (List A → A → Bool) → List A → Bool
+  found p l = ltb (firstAt p [] l) (length l)
 
   abbrev pub empty : List A → Bool
   empty [] = true

@@ -57,7 +57,7 @@ abbrev pub decidedBy : Decoded → Answer
 decidedBy (refused r) = answerRefusal r
 decidedBy (domain D) = decided D
 
--- "decided as above for the file alone, whatever memory is lent"; 9 to 23 for a file that isn't well-formed
+-- "decided as above for the file alone, whatever memory is lent"; 9 to 25 for a file that isn't well-formed
 unfoldable pub decidedFile : List ℕ → Answer
 unfolding decode decided
 decidedFile f = decidedBy (decode f)

@@ -117,8 +117,8 @@ const RULES: [&str; 18] = [
     "first-of-three",
 ];
 
-/// A broken file for each number, 9 to 23.
-const BROKEN: [&str; 17] = [
+/// A broken file for each number, 9 to 25.
+const BROKEN: [&str; 20] = [
     "too-long",
     "head-cut",
     "not-closed",
@@ -133,9 +133,12 @@ const BROKEN: [&str; 17] = [
     "variable-1",
     "repeated",
     "over-all-and-end",
+    "key-high",
     "key-missing",
     "used-before",
     "no-component",
+    "key-twice",
+    "two-counted",
 ];
 
 /// What a step asks and leaves: the domain, and its runs.

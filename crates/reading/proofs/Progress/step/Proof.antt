@@ -57,6 +57,12 @@ returns-3 c q old is bounded memory =
     step-on _ _ q old is (c .before .before .before .before .before .before .before .before .before .before .before .before .before .before .before .before .before .before .before .before .before .before .before .before .before .before .if1 .left) (sym (c .before .before .before .before .before .before .before .before .before .before .before .before .before .before .before .before .before .before .before .before .before .before .before .before .before .record-at .ensures) ∙ c .before .before .before .before .before .before .before .before .before .before .before .before .before .before .before .before .before .before .before .before .before .before .before .kind .given .1) _ _
     (c .before .before .before .before .before .before .before .before .before .before .before .before .before .before .take-record .ensures (q .sofar) old (held is bounded) memory) (c .if3 .taken)
 
+wide-requires : tie.Need-wide-requires
+wide-requires c κs = search needs
+
+add-t44 : tie.Need-add-t44
+add-t44 c = let w = whole-within _ _ (sym (c .before .before .before .before .before .before .before .before .before .before .before .before .before .before .before .before .before .before .before .before .before .before .before .before .before .before .record-at .ensures) ∙ c .before .before .before .before .before .before .before .before .before .before .before .before .before .before .before .before .before .before .before .before .before .before .before .before .kind .given .1) in omega (arith, c .wide .ensures .1, c .before .before .before .before .before .before .before .before .before .before .before .before .before .before .before .before .before .before .before .before .before .before .before .before .before .before .before .before .before .before .before .before .before .before .before .before .pre .short)
+
 enum-told : tie.Need-enum-told
 enum-told c = search needs
 
@@ -83,8 +89,8 @@ same-length-12 c = search needs
 
 returns-4 : tie.Need-returns-4
 returns-4 c q old is bounded memory =
-    step-stop _ _ q old is (c .before .before .before .before .before .before .before .before .before .before .before .before .before .before .before .before .before .before .before .before .before .before .before .before .before .before .if1 .left) (sym (c .before .before .before .before .before .before .before .before .before .before .before .before .before .before .before .before .before .before .before .before .before .before .before .before .before .record-at .ensures) ∙ c .before .before .before .before .before .before .before .before .before .before .before .before .before .before .before .before .before .before .before .before .before .before .before .kind .given .1) _ _
-    (c .before .before .before .before .before .before .before .before .before .before .before .before .before .before .take-record .ensures (q .sofar) old (held is bounded) memory) (c .if3 .left)
+    step-stop _ _ q old is (c .before .before .before .before .before .before .before .before .before .before .before .before .before .before .before .before .before .before .before .before .before .before .before .before .before .before .before .if1 .left) (sym (c .before .before .before .before .before .before .before .before .before .before .before .before .before .before .before .before .before .before .before .before .before .before .before .before .before .before .record-at .ensures) ∙ c .before .before .before .before .before .before .before .before .before .before .before .before .before .before .before .before .before .before .before .before .before .before .before .before .kind .given .1) _ _
+    (c .before .before .before .before .before .before .before .before .before .before .before .before .before .before .before .take-record .ensures (q .sofar) old (held is bounded) memory) (c .before .if3 .left) (c .wide .ensures .0)
 
 returns-5 : tie.Need-returns-5
 returns-5 c q old is bounded memory = step-cut _ _ q old is _ memory (c .before .before .before .if1 .left) (sym (c .before .before .record-at .ensures) ∙ c .enum-told .given .1)
@@ -112,6 +118,8 @@ step-spec =
     same-length-5
     same-length-6
     returns-3
+    wide-requires
+    add-t44
     enum-told
     enum-told-2
     same-length-7

@@ -1,4 +1,4 @@
--- `component_number` meets its contract. Assumes nothing.
+-- `component_fault` meets its contract. Assumes nothing.
 use mathlib.Core.List.{List}
 use mathlib.Core.Path.{_≡_, sym, _∙_}
 use Prim.Native.Nat.{ℕ, _≤_}
@@ -9,8 +9,8 @@ use Rattle.literals.specs.Table.{componentFields}
 use Rattle.reading.specs.Reading.{ComponentReady}
 use Rattle.literals.specs.declared.Counts.{Counts}
 use Rattle.reading.proofs.Takes.{component-short, component-fields-stop, component-used, component-labels}
-use Rattle.reading.proofs.take.component_number.Statement.{statement}
-use Rattle.reading.proofs.take.component_number.Tie as tie
+use Rattle.reading.proofs.take.component_fault.Statement.{statement}
+use Rattle.reading.proofs.take.component_fault.Tie as tie
 
 -- fields that pass leave at most 6 labels
 short : {n : Counts} {arities parts : List ℕ} → ComponentReady n arities parts → (p : List ℕ) {m : ℕ} → m ≡ componentFields (take (n .relations) arities) p → m ≡ 0 → (1 ≤ length p) × (length p ≤ 7)
@@ -35,7 +35,7 @@ keys-with-requires : tie.Need-keys-with-requires
 keys-with-requires c κs = (c .before .before .before .before .before .before .before .before .pre .keys, short (c .before .before .before .before .before .before .before .before .pre) _ (c .before .before .before .before .component-fields .ensures) (c .before .before .before .if1 .left) .1)
 
 label-fields-requires : tie.Need-label-fields-requires
-label-fields-requires c κs = search needs
+label-fields-requires c κs = (c .keys-with .ensures .1, short (c .before .before .before .before .before .before .before .before .before .pre) _ (c .before .before .before .before .before .component-fields .ensures) (c .before .before .before .before .if1 .left) .1)
 
 returns-3 : tie.Need-returns-3
 returns-3 c = (
@@ -43,8 +43,8 @@ returns-3 c = (
   λ z. short (c .before .before .before .before .before .before .before .before .before .before .pre) _ (c .before .before .before .before .before .before .component-fields .ensures) (c .before .before .before .before .before .if1 .left) .1,
 )
 
-pub component-number-spec : {M : Type 1} → statement M
-component-number-spec =
+pub component-fault-spec : {M : Type 1} → statement M
+component-fault-spec =
     tie.close
     (tie.spec
     component-fields-requires

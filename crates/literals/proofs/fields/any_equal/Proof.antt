@@ -1,0 +1,56 @@
+-- `literals::fields::any_equal` meets its contract. The loop's invariant: the bytes left answer as all do. Assumes nothing.
+use mathlib.Core.Path.{_≡_, refl, sym, _∙_}
+use Prim.Native.Nat.{_-_}
+use native.Mathlib.Omega.{arith}
+use borrow.Author.Tests.{eq-eqb, ne-eqb}
+use lib.Dec.{eqb}
+use lib.ListN.{length, drop}
+use Rattle.records.specs.Lists.{any}
+use Rattle.records.proofs.Lists.{any-hit, any-miss, any-end}
+use Rattle.literals.proofs.fields.any_equal.Statement.{statement}
+use Rattle.literals.proofs.fields.any_equal.Tie as tie
+
+abbrev Inv-loop : tie.InvT-loop
+Inv-loop s from b i₀ i = any (eqb b) (drop i s) ≡ any (eqb b) (drop from s)
+
+abbrev μ-loop : tie.MeasureT-loop
+μ-loop s from b i₀ i = length s - i
+
+loop-holds : tie.Need-loop-holds Inv-loop μ-loop
+loop-holds c = refl
+
+shared-slice-read-if1 : tie.Need-shared-slice-read-if1 Inv-loop μ-loop
+shared-slice-read-if1 c = omega arith
+
+returns : tie.Need-returns Inv-loop μ-loop
+returns c =
+    let turn = c .before .before .before in
+    sym (any-hit (turn .before .args .s .now) (turn .loop .i) 0 (omega arith) _ (eq-eqb _ _ (sym (c .if1 .taken)))) ∙ turn .loop .inv
+
+add-i : tie.Need-add-i Inv-loop μ-loop
+add-i c = omega arith
+
+loop-less : tie.Need-loop-less Inv-loop μ-loop
+loop-less c = omega arith
+
+loop-again : tie.Need-loop-again Inv-loop μ-loop
+loop-again c =
+    let turn = c .before .before .before in
+    sym (any-miss (turn .before .args .s .now) (turn .loop .i) 0 (omega arith) _ (ne-eqb _ _ (λ g. c .if1 .left (sym g)))) ∙ turn .loop .inv
+
+returns-2 : tie.Need-returns-2 Inv-loop μ-loop
+returns-2 c = sym (any-end (c .before .before .args .s .now) (c .before .loop .i) 0 _ (omega arith)) ∙ c .before .loop .inv
+
+pub any-equal-spec : {M : Type 1} → statement M
+any-equal-spec =
+    tie.close
+    (tie.spec
+    Inv-loop
+    μ-loop
+    loop-holds
+    shared-slice-read-if1
+    returns
+    add-i
+    loop-less
+    loop-again
+    returns-2)
