@@ -1,4 +1,6 @@
 // The fields of a record: each check answers the number that stops it, or 0.
+use super::limits::MAX_ARGUMENTS;
+use super::limits::MAX_VARIABLES;
 ghost use mathlib.Core.Path.{_≡_};
 ghost use mathlib.Core.Bool.{_&&_, _||_, not};
 ghost use mathlib.Core.List.{map};
@@ -7,7 +9,7 @@ ghost use lib.Dec.{eqb, ltb, leb};
 ghost use lib.ListN.{length, drop, take};
 ghost use Rattle.records.specs.Lists.{any, countBy};
 ghost use Rattle.literals.specs.Domain.{isCounted};
-ghost use Rattle.literals.specs.Decode.{relationStop, actionStop, labelOf, labelStop};
+ghost use Rattle.literals.specs.Decode.{maxArguments, relationStop, actionStop, labelOf, labelStop};
 ghost use Rattle.literals.specs.Table.{argumentsStop, literalFields, componentFields, keysBelow, eachOnce};
 
 pub fn wide(b: u8) -> usize
@@ -21,7 +23,7 @@ pub fn relation_fields(p: &[u8]) -> u64
     ensures { λ r. ⌜ r ≡ relationStop (now (p .entry)) ⌝ }
 {
     if p.len() == 1 {
-        if 6 < p[0] {
+        if (MAX_ARGUMENTS as u8) < p[0] {
             return 15;
         }
         return 0;
@@ -34,7 +36,7 @@ pub fn action_fields(p: &[u8]) -> u64
     ensures { λ r. ⌜ r ≡ actionStop (now (p .entry)) ⌝ }
 {
     if p.len() == 2 {
-        if 16 < p[0] {
+        if (MAX_VARIABLES as u8) < p[0] {
             return 15;
         }
         if 1 < p[1] {
@@ -160,7 +162,7 @@ pub fn keys_below(p: &[u8], n: usize) -> bool
 
 // Whether each key below n stands once.
 pub fn each_once(p: &[u8], n: usize) -> bool
-    requires { ⌜ n ≤ 6 ⌝ }
+    requires { ⌜ n ≤ maxArguments ⌝ }
     ensures { λ r. ⌜ r ≡ eachOnce n (drop 1 (now (p .entry))) ⌝ }
 {
     for k in 0..n {
@@ -173,7 +175,7 @@ pub fn each_once(p: &[u8], n: usize) -> bool
 
 // The labels of a component of a template that has n keys.
 pub fn label_fields(p: &[u8], n: usize) -> u64
-    requires { ⌜ n ≤ 6 ⌝ }
+    requires { ⌜ n ≤ maxArguments ⌝ }
     ensures { λ r. ⌜ r ≡ labelStop n (map labelOf (drop 1 (now (p .entry)))) ⌝ }
 {
     if !keys_below(p, n) {
