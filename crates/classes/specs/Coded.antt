@@ -11,7 +11,7 @@ use Rattle.literals.specs.declared.Variable.{Variable}
 use Rattle.literals.specs.declared.Clause.{Clause}
 use Rattle.literals.specs.declared.Role.{Role}
 use Rattle.literals.specs.Domain.{sameVariable, sameLiteral, clauseNumber, Literal, Action, Domain}
-use Rattle.literals.specs.Decode.{byte, repeats}
+use Rattle.literals.specs.Decode.{maxLiterals, byte, repeats}
 use Rattle.literals.specs.Table.{rowOf, rowsIn, literalRow, pad}
 use Rattle.literals.specs.Held.{componentsIn, keysIn, arityIn, partIn, partsIn, HeadOf}
 use Rattle.classes.specs.declared.Moment.{Moment}
@@ -41,12 +41,12 @@ classNumbers D a = map (λ (l : Literal). classNumberBy (classes D a) (tuplesOf 
 abbrev pub tupleRow : List Variable → List ℕ
 tupleRow x = rowOf (map (λ (v : Variable). v .0) x)
 
--- the key tuples of the classes, 8 bytes each, in a memory for 64, FF behind them
+-- the key tuples of the classes, 8 bytes each, in a memory for as many as an action has literals, FF behind them
 unfoldable pub classTuples : Domain → Action → List ℕ
 unfolding classes flatMap
 classTuples D a =
     let b = flatMap tupleRow (classes D a) in
-    b ++ replicate (512 - length b) 255
+    b ++ replicate (8 * maxLiterals - length b) 255
 
 -- ---- class numbers, by the bytes of rows
 
@@ -233,10 +233,10 @@ reachAt D a m class = soleAt (classNumbers D a) (pad 64 (askedAt a m)) class 1
 
 -- ---- what the code's memories hold of an action
 
--- a row for each class number, and no more than 64
+-- a row for each class number, and no more than an action has literals
 pub record Sides (rows of : List ℕ) : Type 0 where
   pub rowed : 8 * length of ≤ length rows
-  pub few : length of ≤ 64
+  pub few : length of ≤ maxLiterals
 
 -- an action of the domain of a head, by the rows of its literals, none of which is repeated in its role
 pub record ActionOf (D : Domain) (a : Action) (head rows : List ℕ) : Type 0 where
@@ -249,4 +249,4 @@ pub record ActionOf (D : Domain) (a : Action) (head rows : List ℕ) : Type 0 wh
 pub record MomentOf (D : Domain) (a : Action) (m : Moment) (head rows of clauses : List ℕ) : Type 0 where
   pub whole : ActionOf D a head rows
   pub numbers : of ≡ classNumbers D a
-  pub clauses-are : clauses ≡ pad 64 (clausesAt a m)
+  pub clauses-are : clauses ≡ pad maxLiterals (clausesAt a m)

@@ -17,6 +17,7 @@ ghost use lib.Dec.{eqb};
 ghost use lib.ListN.{length, getD};
 ghost use Rattle.records.specs.Lists.{any};
 ghost use Rattle.literals.specs.Domain.{Domain, Action};
+ghost use Rattle.literals.specs.Decode.{maxArguments, maxLiterals, maxComponents};
 ghost use Rattle.literals.specs.Table.{pad};
 ghost use Rattle.literals.specs.Held.{partIn};
 ghost use Rattle.classes.specs.declared.Moment.{Moment};
@@ -129,9 +130,9 @@ fn clause_once(wide: bool, rows: &[u8], m: Moment, j: usize) -> u8
 // The clause of each literal at a moment, 0 for none and for one that an earlier literal says already; `clauses` is all 0 before. Of the moment's own
 // literals, which names and journeys are told by, or (wide) of all that is asked there: what unreachable is told by, and what a witness lists.
 pub fn clauses_at(wide: bool, rows: &[u8], n: usize, m: Moment, clauses: &mut Marks)
-    requires { ⌜ (length (now rows) ≡ 8 * n) × (n ≤ 64) ⌝ }
+    requires { ⌜ (length (now rows) ≡ 8 * n) × (n ≤ maxLiterals) ⌝ }
     ensures { λ _. ⌜ ((D : Domain) (a : Action) (head : List ℕ) → ActionOf D a head (now (rows .entry))
-        → now (clauses .entry) ≡ pad 64 [] → now (clauses .exit) ≡ pad 64 (clausesBy wide a m)) ⌝ }
+        → now (clauses .entry) ≡ pad maxLiterals [] → now (clauses .exit) ≡ pad maxLiterals (clausesBy wide a m)) ⌝ }
 {
     for j in 0..n {
         clauses[j] = clause_once(wide, rows, m, j);
@@ -140,7 +141,7 @@ pub fn clauses_at(wide: bool, rows: &[u8], n: usize, m: Moment, clauses: &mut Ma
 
 // Whether the row `j` is in a class with this clause.
 fn is_at(of: &[u8], clauses: &Marks, class: u8, clause: u8, j: usize) -> bool
-    requires { ⌜ (j < length (now of)) × (length (now of) ≤ 64) ⌝ }
+    requires { ⌜ (j < length (now of)) × (length (now of) ≤ maxLiterals) ⌝ }
     ensures { λ r. ⌜ r ≡ isAt (now (of .entry)) (now (clauses .entry)) class clause j ⌝ }
 {
     if of[j] == class {
@@ -151,7 +152,7 @@ fn is_at(of: &[u8], clauses: &Marks, class: u8, clause: u8, j: usize) -> bool
 
 // Notes the literal `j`, of a class, where what it is here is this clause.
 fn mark(soles: &mut [u8], class: u8, here: u8, clause: u8, j: usize)
-    requires { ⌜ j < 64 ⌝ }
+    requires { ⌜ j < maxLiterals ⌝ }
     ensures { λ _. ⌜ ((k : ℕ) → k < length (now (soles .entry))
         → getD (now (soles .exit)) k 0 ≡ soleMore (eqb class k && eqb here clause) j (getD (now (soles .entry)) k 0)) ⌝ }
 {
@@ -171,8 +172,8 @@ fn mark(soles: &mut [u8], class: u8, here: u8, clause: u8, j: usize)
 
 // For each class number, which of its literals has this clause: 0 for none, k + 1 for the literal k alone, 255 for more; `soles` is all 0 before.
 pub fn soles_at(of: &[u8], clauses: &Marks, clause: u8, soles: &mut [u8])
-    requires { ⌜ (length (now of) ≤ 64) × (length (now soles) ≡ 64) ⌝ }
-    ensures { λ _. ⌜ (now (soles .entry) ≡ pad 64 [] → (k : ℕ) → k < 64 → getD (now (soles .exit)) k 0 ≡ soleAt (now (of .entry)) (now (clauses .entry)) k clause) ⌝ }
+    requires { ⌜ (length (now of) ≤ maxLiterals) × (length (now soles) ≡ maxLiterals) ⌝ }
+    ensures { λ _. ⌜ (now (soles .entry) ≡ pad maxLiterals [] → (k : ℕ) → k < maxLiterals → getD (now (soles .exit)) k 0 ≡ soleAt (now (of .entry)) (now (clauses .entry)) k clause) ⌝ }
 {
     for j in 0..of.len() {
         mark(soles, of[j], clauses[j], clause, j);
@@ -251,7 +252,7 @@ fn any_excluding(rows: &[u8], of: &[u8], clauses: &Marks, class: u8, relation: u
 
 // Whether one of the first n labels of the component `c` is FF.
 fn any_counted(head: &Head, c: usize, n: usize) -> bool
-    requires { ⌜ (c < 16) × (n ≤ 6) ⌝ }
+    requires { ⌜ (c < maxComponents) × (n ≤ maxArguments) ⌝ }
     ensures { λ r. ⌜ r ≡ any (λ i. eqb (getD (partIn (now (head .entry)) c) (1 + i) 0) 255) (below n) ⌝ }
 {
     for i in 0..n {
@@ -264,7 +265,7 @@ fn any_counted(head: &Head, c: usize, n: usize) -> bool
 
 // Whether a class covers the component `c`.
 fn covers(head: &Head, rows: &[u8], of: &[u8], clauses: &Marks, class: u8, c: usize) -> bool
-    requires { ⌜ (c < 16) × Sides (now rows) (now of) ⌝ }
+    requires { ⌜ (c < maxComponents) × Sides (now rows) (now of) ⌝ }
     ensures { λ r. ⌜ r ≡ coveredAt (now (head .entry)) (now (rows .entry)) (now (of .entry)) (now (clauses .entry)) class c ⌝ }
 {
     let relation = part_byte(head, c, 0);
@@ -387,7 +388,7 @@ pub fn is_journey(
 ) -> bool
     requires { ⌜ Sides (now rows) (now of) × (start ≡ soleOf (now of) (now clauses) class) ⌝ }
     ensures { λ r. ⌜ ((D : Domain) (a : Action) (head : List ℕ) → MomentOf D a Start head (now (rows .entry)) (now (of .entry)) (now (clauses .entry)) → a .lasting ≡ true
-        → end ≡ soleOf (classNumbers D a) (pad 64 (clausesAt a End)) class → class < length (classes D a) → r ≡ journey D a (getD (classes D a) class [])) ⌝ }
+        → end ≡ soleOf (classNumbers D a) (pad maxLiterals (clausesAt a End)) class → class < length (classes D a) → r ≡ journey D a (getD (classes D a) class [])) ⌝ }
 {
     let condition = start.conditions;
     if start.adds != 0 {

@@ -2,6 +2,7 @@
 pub mod counts;
 pub mod number;
 
+use literals::limits::MAX_LITERALS;
 ghost use mathlib.Core.Path.{_≡_};
 ghost use Rattle.classes.specs.Classes.{momentNumber, nameNumber};
 
@@ -23,7 +24,7 @@ pub enum Name {
 }
 
 // A byte for each literal of an action, or for each of its classes.
-pub type Marks = [u8; 64];
+pub type Marks = [u8; MAX_LITERALS];
 
 // The true conditions and the adds of a class at a moment: 0 for none, k + 1 for the literal k alone, 255 for more.
 pub struct Sole {

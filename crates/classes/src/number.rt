@@ -3,6 +3,7 @@ use literals::head::Head;
 use literals::head::components_in;
 use literals::head::keys_in;
 use literals::head::part_byte;
+use literals::limits::MAX_ARGUMENTS;
 use literals::row::put_row;
 use literals::row::same_four;
 ghost use mathlib.Core.Path.{_≡_};
@@ -11,7 +12,7 @@ ghost use lib.Dec.{eqb};
 ghost use lib.ListN.{length, take, drop, replicate};
 ghost use Rattle.records.specs.Lists.{sameList};
 ghost use Rattle.literals.specs.Domain.{Domain, Action};
-ghost use Rattle.literals.specs.Decode.{byte};
+ghost use Rattle.literals.specs.Decode.{maxLiterals, maxComponents, byte};
 ghost use Rattle.literals.specs.Table.{rowsIn};
 ghost use Rattle.literals.specs.Held.{keysIn, partIn, partsIn};
 ghost use Rattle.classes.specs.Classes.{classes};
@@ -40,11 +41,11 @@ pub fn component_of(head: &Head, relation: u8) -> usize
 
 // The argument of the row at `at` under the first label k of the component `c`, or FF.
 fn under_key(head: &Head, c: usize, rows: &[u8], at: usize, k: u8) -> u8
-    requires { ⌜ (c < 16) × (at + 8 ≤ length (now rows)) ⌝ }
+    requires { ⌜ (c < maxComponents) × (at + 8 ≤ length (now rows)) ⌝ }
     ensures { λ r. ⌜ r ≡ underKey k (drop 1 (partIn (now (head .entry)) c)) (drop 2 (take 8 (drop at (now (rows .entry))))) ⌝ }
 {
     let mut i = 0;
-    while i < 6 {
+    while i < MAX_ARGUMENTS {
         if part_byte(head, c, i + 1) == k {
             return rows[at + 2 + i];
         }
@@ -55,7 +56,7 @@ fn under_key(head: &Head, c: usize, rows: &[u8], at: usize, k: u8) -> u8
 
 // The key tuple of the row at `at` under the component `c`.
 pub fn key_tuple(head: &Head, c: usize, rows: &[u8], at: usize) -> [u8; 8]
-    requires { ⌜ (c < 16) × (at + 8 ≤ length (now rows)) ⌝ }
+    requires { ⌜ (c < maxComponents) × (at + 8 ≤ length (now rows)) ⌝ }
     ensures { λ r. ⌜ r ≡ keyRow (keysIn (now (head .entry))) (partIn (now (head .entry)) c) (take 8 (drop at (now (rows .entry)))) ⌝ }
 {
     let mut t = [255u8; 8];
@@ -93,7 +94,7 @@ fn class_of(tuples: &[u8], n: usize, t: [u8; 8]) -> usize
 
 // The class of the literal whose row is at `at`; `tuples` has the key tuples of the `count` classes so far, and gets that of a new one.
 fn number_literal(head: &Head, rows: &[u8], at: usize, tuples: &mut [u8], count: usize) -> Numbered
-    requires { ⌜ (at + 8 ≤ length (now rows)) × (8 * count + 8 ≤ length (now tuples)) × (count < 64) ⌝ }
+    requires { ⌜ (at + 8 ≤ length (now rows)) × (8 * count + 8 ≤ length (now tuples)) × (count < maxLiterals) ⌝ }
     ensures { λ r. ⌜ (r ≡ numberedBy (keyRowsIn (now (head .entry)) (take 8 (drop at (now (rows .entry))))) count (now (tuples .entry)))
         × (now (tuples .exit) ≡ tuplesAfter (keyRowsIn (now (head .entry)) (take 8 (drop at (now (rows .entry))))) count (now (tuples .entry))) ⌝ }
 {
@@ -119,9 +120,9 @@ fn number_literal(head: &Head, rows: &[u8], at: usize, tuples: &mut [u8], count:
 // How many classes an action has whose literals are these rows; `of` gets the class number of each literal, and `tuples`, which is all FF, the key tuples
 // of the classes, 8 bytes each: variables in the order of the keys, FF to fill.
 pub fn number_classes(head: &Head, rows: &[u8], of: &mut [u8], tuples: &mut [u8]) -> usize
-    requires { ⌜ (length (now rows) ≡ 8 * length (now of)) × (length (now of) ≤ 64) × (length (now tuples) ≡ 512) ⌝ }
+    requires { ⌜ (length (now rows) ≡ 8 * length (now of)) × (length (now of) ≤ maxLiterals) × (length (now tuples) ≡ 8 * maxLiterals) ⌝ }
     ensures few { λ r. ⌜ r ≤ length (now (of .entry)) ⌝ }
-    ensures classes { λ r. ⌜ ((D : Domain) (a : Action) → ActionOf D a (now (head .entry)) (now (rows .entry)) → now (tuples .entry) ≡ replicate 512 255
+    ensures classes { λ r. ⌜ ((D : Domain) (a : Action) → ActionOf D a (now (head .entry)) (now (rows .entry)) → now (tuples .entry) ≡ replicate (8 * maxLiterals) 255
         → (r ≡ length (classes D a)) × (now (tuples .exit) ≡ classTuples D a) × (now (of .exit) ≡ classNumbers D a)) ⌝ }
 {
     let mut count: usize = 0;

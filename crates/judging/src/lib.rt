@@ -1,7 +1,10 @@
 // The call that judges: a domain file, a lent report and a lent witness.
 pub mod report;
 
+use literals::head::HEAD;
 use literals::head::Head;
+use literals::limits::MAX_ACTIONS;
+use literals::limits::MAX_LITERALS;
 use naming::name_all;
 use reading::domain::read_domain;
 use report::put_report;
@@ -66,7 +69,7 @@ fn judge_with(
     ensures { λ r. ⌜ ((D : Domain) → Held D (now (head .entry)) (now (table .entry)) → wellFormed D ≡ true
         → JudgedAs (domainRead D) (now (report .entry)) (now (witness .entry)) r (now (report .exit)) (now (witness .exit))) ⌝ }
 {
-    let mut counts = [0u8; 64];
+    let mut counts = [0u8; MAX_ACTIONS];
     let naming = name_all(head, table, names, &mut counts);
     if report.len() < 4 * naming.rows {
         return at_offset(30, 0);
@@ -105,7 +108,7 @@ fn judge_in(
     requires room { ⌜ length (now table) ≤ 4 * length (now names) ⌝ }
     ensures { λ r. ⌜ JudgedAs (decode (now (file .entry))) (now (report .entry)) (now (witness .entry)) r (now (report .exit)) (now (witness .exit)) ⌝ }
 {
-    let mut head = [0u8; 520];
+    let mut head = [0u8; HEAD];
     let read = read_domain(file, &mut head, table);
     let number = read.number;
     if number != 0 {
@@ -128,8 +131,8 @@ fn judge_file(file: &[u8], report: &mut [u8], witness: &mut [u8]) -> Judgement
         let mut names = [0u8; 1024];
         return judge_in(file, &mut table, &mut names, report, witness);
     }
-    let mut table = [0u8; 32768];
-    let mut names = [0u8; 8192];
+    let mut table = [0u8; 8 * MAX_LITERALS * MAX_ACTIONS];
+    let mut names = [0u8; 2 * MAX_LITERALS * MAX_ACTIONS];
     judge_in(file, &mut table, &mut names, report, witness)
 }
 

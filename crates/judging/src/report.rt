@@ -1,8 +1,8 @@
 // The report: 4 bytes a moment, in order of action, class and moment.
-use classes::Marks;
 use literals::head::Head;
 use literals::head::actions_in;
 use literals::head::is_lasting;
+use naming::ClassCounts;
 ghost use mathlib.Core.Path.{_≡_};
 ghost use mathlib.Core.List.{List, [], _∷_, _++_, map};
 ghost use Prim.Native.Nat.{ℕ, _+_, _*_, _≤_, _<_};
@@ -10,6 +10,7 @@ ghost use lib.ListN.{length};
 ghost use Rattle.records.specs.Memory.{over};
 ghost use Rattle.literals.specs.declared.Variable.{Variable};
 ghost use Rattle.literals.specs.Domain.{Action, Domain};
+ghost use Rattle.literals.specs.Decode.{maxActions};
 ghost use Rattle.literals.specs.Table.{pad};
 ghost use Rattle.literals.specs.Held.{HeadOf};
 ghost use Rattle.classes.specs.Classes.{momentNumber, momentsOf};
@@ -80,8 +81,8 @@ fn put_action(
 }
 
 // All rows of a domain, of how many classes each action has, and the names.
-pub fn put_report(head: &Head, counts: &Marks, names: &[u8], report: &mut [u8])
-    ensures { λ _. ⌜ ((D : Domain) (old : List ℕ) → HeadOf D (now (head .entry)) → now (counts .entry) ≡ pad 64 (classCounts D (D .actions))
+pub fn put_report(head: &Head, counts: &ClassCounts, names: &[u8], report: &mut [u8])
+    ensures { λ _. ⌜ ((D : Domain) (old : List ℕ) → HeadOf D (now (head .entry)) → now (counts .entry) ≡ pad maxActions (classCounts D (D .actions))
         → now (names .entry) ≡ over (nameBytes (rows D)) old → 4 * length (rows D) ≤ length (now (report .entry))
         → now (report .exit) ≡ over (rowBytes (rows D)) (now (report .entry))) ⌝ }
 {

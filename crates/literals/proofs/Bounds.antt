@@ -12,7 +12,7 @@ use Rattle.records.specs.Lists.{In, any, empty, distinct}
 use Rattle.records.proofs.Lists.{any-out, any-none, getD-in, in-snoc, below-in, and-l, and-r, not-false, clash, eqb-comm, pairwise-snoc}
 use Rattle.literals.specs.declared.Variable.{Variable}
 use Rattle.literals.specs.Domain.{variable, roleOf, roleNumber, Literal, Action, Component, Template, keysOf, labelsFit, Domain, arity}
-use Rattle.literals.specs.Decode.{RecordKind, relationRecord, actionRecord, literalRecord, componentRecord, closingRecord, unknownRecord, latest, byte, literalOf, labelOf, componentOf, actionOf, withLiteral, fieldStop, stopOf, extend, noDomain, domain, decode}
+use Rattle.literals.specs.Decode.{maxRelations, maxArguments, maxActions, maxVariables, maxLiterals, maxComponents, RecordKind, relationRecord, actionRecord, literalRecord, componentRecord, closingRecord, unknownRecord, latest, byte, literalOf, labelOf, componentOf, actionOf, withLiteral, fieldStop, stopOf, extend, noDomain, domain, decode}
 use Rattle.literals.specs.Table.{Bounded}
 use Rattle.literals.proofs.Loop.{decoded-by}
 use Rattle.literals.proofs.Stops.{Passes, passes, relation-passes, action-passes, LiteralPasses, literal-passes, role-nine, ComponentPasses, component-passes}
@@ -31,10 +31,10 @@ empty-none [] e m = List·Memᴰ·not-nil m
 empty-none (x ∷ xs) e m = clash e refl
 
 -- the arity of a relation of the domain is one of its arities, or 0
-pub arity-six : (D : Domain) → ((n : ℕ) → In n (D .arities) → n ≤ 6) → (r : ℕ) → arity D r ≤ 6
+pub arity-six : (D : Domain) → ((n : ℕ) → In n (D .arities) → n ≤ maxArguments) → (r : ℕ) → arity D r ≤ maxArguments
 arity-six D h r = go (leb (length (D .arities)) r) refl
   where
-    go : (b : Bool) → leb (length (D .arities)) r ≡ b → arity D r ≤ 6
+    go : (b : Bool) → leb (length (D .arities)) r ≡ b → arity D r ≤ maxArguments
     go true q = let z = List·getD-eq-default (D .arities) 0 (leb-true (length (D .arities)) r q) in omega arith
     go false q = h (arity D r) (getD-in (D .arities) r 0 (leb-false (length (D .arities)) r q))
 
@@ -42,9 +42,9 @@ arity-six D h r = go (leb (length (D .arities)) r) refl
 
 -- what an action gives the index
 record Fits (D : Domain) (a : Action) : Type 0 where
-  counts : a .vars ≤ 16
-  sizes : length (a .lits) ≤ 64
-  arguments : (l : Literal) → In l (a .lits) → length (l .atom .args) ≤ 6
+  counts : a .vars ≤ maxVariables
+  sizes : length (a .lits) ≤ maxLiterals
+  arguments : (l : Literal) → In l (a .lits) → length (l .atom .args) ≤ maxArguments
   variables : (l : Literal) → In l (a .lits) → (v : Variable) → In v (l .atom .args) → v .0 < 255
   below : (l : Literal) → In l (a .lits) → (v : Variable) → In v (l .atom .args) → v .0 < a .vars
   roles : (l : Literal) → In l (a .lits) → (roleNumber (l .role) ≤ 9) × (roleOf (roleNumber (l .role)) ≡ l .role)
@@ -62,7 +62,7 @@ fits-of D h a m =
       literalArity = h .literalArity a m;
     }
 
-bounded-actions : (D : Domain) (as′ : List Action) → Bounded D → length as′ ≤ 64 → ((a : Action) → In a as′ → Fits D a)
+bounded-actions : (D : Domain) (as′ : List Action) → Bounded D → length as′ ≤ maxActions → ((a : Action) → In a as′ → Fits D a)
     → Bounded (record { arities = D .arities; actions = as′; template = D .template })
 bounded-actions D as′ h n f =
     record {
@@ -109,8 +109,8 @@ unfolding fieldStop
 literal-fits D p h e f =
     record {
       counts = f .counts;
-      sizes = let n = length-append (last .lits) (literalOf p ∷ []) in let r = leb-false 64 (length (last .lits)) (ok .room) in omega arith;
-      arguments = in-snoc {P = λ l. length (l .atom .args) ≤ 6} (last .lits) (literalOf p) (f .arguments) six;
+      sizes = let n = length-append (last .lits) (literalOf p ∷ []) in let r = leb-false maxLiterals (length (last .lits)) (ok .room) in omega arith;
+      arguments = in-snoc {P = λ l. length (l .atom .args) ≤ maxArguments} (last .lits) (literalOf p) (f .arguments) six;
       variables = in-snoc {P = λ l. (v : Variable) → In v (l .atom .args) → v .0 < 255} (last .lits) (literalOf p) (f .variables) low;
       below = in-snoc {P = λ l. (v : Variable) → In v (l .atom .args) → v .0 < last .vars} (last .lits) (literalOf p) (f .below) lower;
       roles = in-snoc {P = λ l. (roleNumber (l .role) ≤ 9) × (roleOf (roleNumber (l .role)) ≡ l .role)} (last .lits) (literalOf p) (f .roles) ranged;
@@ -126,7 +126,7 @@ literal-fits D p h e f =
     q : LiteralPasses D p
     q = literal-passes D p (ok .fields)
 
-    six : length (map variable (drop 2 p)) ≤ 6
+    six : length (map variable (drop 2 p)) ≤ maxArguments
     six = let a = arity-six D (h .arities) (byte p 1) in let n = length-map (drop 2 p) variable in let d = length-drop 2 p in let g = q .arguments in omega arith
 
     same : length (map variable (drop 2 p)) ≡ arity D (byte p 1)
@@ -177,11 +177,11 @@ unfolding extend fieldStop
 bounded-extend D relationRecord p h e =
     let ok = passes D relationRecord p e in
     let n = length-append (D .arities) (byte p 0 ∷ []) in
-    let r = leb-false 64 (length (D .arities)) (ok .room) in
+    let r = leb-false maxRelations (length (D .arities)) (ok .room) in
     let first = not-false _ (ok .order) in
     record {
       relations = omega arith;
-      arities = in-snoc {P = λ n. n ≤ 6} (D .arities) (byte p 0) (h .arities) (relation-passes p (ok .fields) .1);
+      arities = in-snoc {P = λ n. n ≤ maxArguments} (D .arities) (byte p 0) (h .arities) (relation-passes p (ok .fields) .1);
       actions = h .actions;
       counts = h .counts;
       sizes = h .sizes;
@@ -199,7 +199,7 @@ bounded-extend D relationRecord p h e =
 bounded-extend D actionRecord p h e =
     let ok = passes D actionRecord p e in
     let n = length-append (D .actions) (actionOf p ∷ []) in
-    let r = leb-false 64 (length (D .actions)) (ok .room) in
+    let r = leb-false maxActions (length (D .actions)) (ok .room) in
     bounded-actions D (D .actions ++ (actionOf p ∷ [])) h (omega arith)
     (in-snoc {P = Fits D} (D .actions) (actionOf p) (fits-of D h)
     (record {
@@ -222,7 +222,7 @@ bounded-extend D literalRecord p h e =
 bounded-extend D componentRecord p h e =
     let ok = passes D componentRecord p e in
     let n = length-append (D .template) (componentOf p ∷ []) in
-    let r = leb-false 16 (length (D .template)) (ok .room) in
+    let r = leb-false maxComponents (length (D .template)) (ok .room) in
     record {
       relations = h .relations;
       arities = h .arities;
@@ -234,7 +234,7 @@ bounded-extend D componentRecord p h e =
       below = h .below;
       roles = h .roles;
       components = omega arith;
-      labels = in-snoc {P = λ c. length (c .labels) ≤ 6} (D .template) (componentOf p) (h .labels) (six (component-passes D p (ok .fields)));
+      labels = in-snoc {P = λ c. length (c .labels) ≤ maxArguments} (D .template) (componentOf p) (h .labels) (six (component-passes D p (ok .fields)));
       literalArity = h .literalArity;
       componentArity = in-snoc {P = λ c. length (c .labels) ≡ arity D (c .rel)} (D .template) (componentOf p) (h .componentArity) (same (component-passes D p (ok .fields)));
       keysFit = fit-snoc (D .template) (componentOf p) (h .keysFit) (component-passes D p (ok .fields) .labels);
@@ -244,7 +244,7 @@ bounded-extend D componentRecord p h e =
     same : ComponentPasses D p → length (map labelOf (drop 1 p)) ≡ arity D (byte p 0)
     same q = let n = length-map (drop 1 p) labelOf in let d = length-drop 1 p in let g = q .arguments in omega arith
 
-    six : ComponentPasses D p → length (map labelOf (drop 1 p)) ≤ 6
+    six : ComponentPasses D p → length (map labelOf (drop 1 p)) ≤ maxArguments
     six q = let a = arity-six D (h .arities) (byte p 0) in let n = length-map (drop 1 p) labelOf in let d = length-drop 1 p in let g = q .arguments in omega arith
 bounded-extend D closingRecord p h e = h
 bounded-extend D unknownRecord p h e = h

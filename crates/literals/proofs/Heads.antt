@@ -12,10 +12,11 @@ use borrow.Author.Tests.{le-leb, lt-leb, lt-ltb, le-ltb, leb-true, leb-false}
 use Rattle.records.specs.Lists.{In}
 use Rattle.records.specs.Memory.{over}
 use Rattle.records.proofs.Lists.{bool-cases, getD-in, flatMap-in}
+use Rattle.literals.specs.Decode.{maxRelations, maxArguments}
 use Rattle.literals.specs.declared.span.Span.{Span}
 use Rattle.literals.specs.Domain.{Literal, Action, Component, Domain, noAction, action}
 use Rattle.literals.specs.Table.{literalRow, componentRow, allLiterals, tableBytes}
-use Rattle.literals.specs.Held.{within, keysIn, componentsIn, arityIn, bytesFrom, partIn, partsFrom, partsIn, variablesIn, sizeIn, firstIn, HeadOf, Held, SpanOf}
+use Rattle.literals.specs.Held.{within, keysIn, componentsIn, arityIn, bytesFrom, partIn, partsFrom, partsIn, variablesIn, sizeIn, firstIn, HeadOf, Held, SpanOf, atArities, atParts}
 use Rattle.literals.proofs.Tables.{length-literal-row, length-flat}
 use Rattle.literals.proofs.Spans.{part-flat, literals-split, literals-next}
 
@@ -35,20 +36,20 @@ within-le limit n = go (bool-cases (leb n limit))
     go (inl t) = let h : n ≤ limit = leb-true n limit t in let e = within-is limit n h in omega arith
     go (inr t) = let h : limit < n = leb-false n limit t in let e = within-none limit n h in omega arith
 
-pub keys-limit : (head : List ℕ) → keysIn head ≤ 6
+pub keys-limit : (head : List ℕ) → keysIn head ≤ maxArguments
 unfolding keysIn
-keys-limit head = within-le 6 (getD head 3 0)
+keys-limit head = within-le maxArguments (getD head 3 0)
 
 -- ---- arities
 
 module _ (head : List ℕ) (r n : ℕ) (e : n ≡ r) where
-  pub arity-inside : n < 64 → {m : ℕ} → m ≡ within 6 (getD head (8 + n) 0) → m ≡ arityIn head r
+  pub arity-inside : n < maxRelations → {m : ℕ} → m ≡ within maxArguments (getD head (atArities + n) 0) → m ≡ arityIn head r
   unfolding arityIn
-  arity-inside h f = rw (lt-ltb r 64 (omega arith)) (f ∙ ap (λ (k : ℕ). within 6 (getD head (8 + k) 0)) e)
+  arity-inside h f = rw (lt-ltb r maxRelations (omega arith)) (f ∙ ap (λ (k : ℕ). within maxArguments (getD head (atArities + k) 0)) e)
 
-  pub arity-outside : 64 ≤ n → 0 ≡ arityIn head r
+  pub arity-outside : maxRelations ≤ n → 0 ≡ arityIn head r
   unfolding arityIn
-  arity-outside h = rw (le-ltb r 64 (omega arith))
+  arity-outside h = rw (le-ltb r maxRelations (omega arith))
 
 -- ---- components
 
@@ -79,11 +80,11 @@ bytes-front (x ∷ xs) rest = ap {B = List ℕ} (λ r. x ∷ r) (bytes-behind x 
 
 pub part-length : (head : List ℕ) (c : ℕ) → length (partIn head c) ≡ 8
 unfolding partIn
-part-length head c = length-bytes head (72 + 8 * c) 8
+part-length head c = length-bytes head (atParts + 8 * c) 8
 
-pub part-at : (head : List ℕ) (c i : ℕ) → i < 8 → getD (partIn head c) i 0 ≡ getD head (72 + 8 * c + i) 0
+pub part-at : (head : List ℕ) (c i : ℕ) → i < 8 → getD (partIn head c) i 0 ≡ getD head (atParts + 8 * c + i) 0
 unfolding partIn
-part-at head c i h = bytes-at head (72 + 8 * c) 8 i h
+part-at head c i h = bytes-at head (atParts + 8 * c) 8 i h
 
 -- one by one
 module _ (head : List ℕ) (n c : ℕ) where

@@ -11,7 +11,7 @@ use Rattle.records.specs.Lists.{In}
 use Rattle.records.proofs.Lists.{flatMap-in, flatMap-snoc, count-le}
 use Rattle.literals.specs.declared.Index.{Index}
 use Rattle.literals.specs.Domain.{Literal, Action, Component, isCounted, keysOf, Domain}
-use Rattle.literals.specs.Decode.{RecordKind, isUnknown, latest, outOfOrder, atLimit, headStop, withLiteral, fieldStop, fieldPlace, stopOf, stopPlace, extend}
+use Rattle.literals.specs.Decode.{RecordKind, isUnknown, latest, outOfOrder, atLimit, headStop, withLiteral, fieldStop, fieldPlace, stopOf, stopPlace, extend, maxRelations, maxArguments, maxActions, maxLiterals, maxComponents}
 use Rattle.literals.specs.Table.{allLiterals, componentRow, pad, startsFrom, sortNumber, indexOf, Holds, Shaped, Sized, behind, takenOf}
 use Rattle.literals.proofs.Stops.{place-none}
 use Rattle.literals.proofs.Bounds.{arity-six}
@@ -119,8 +119,8 @@ pub literals-in : (as′ : List Action) {l : Literal} → In l (allLiterals as�
 unfolding allLiterals
 literals-in as′ m = flatMap-in (λ (a : Action). a .lits) as′ m
 
--- at most 64 literals an action
-pub rows-few : (as′ : List Action) → ((a : Action) → In a as′ → length (a .lits) ≤ 64) → length (allLiterals as′) ≤ 64 * length as′
+-- at most so many literals an action
+pub rows-few : (as′ : List Action) → ((a : Action) → In a as′ → length (a .lits) ≤ maxLiterals) → length (allLiterals as′) ≤ maxLiterals * length as′
 unfolding allLiterals flatMap
 rows-few [] h = omega arith
 rows-few (a ∷ as′) h =
@@ -130,7 +130,7 @@ rows-few (a ∷ as′) h =
     omega arith
 
 -- the same for all but the latest
-earlier-few : (n : ℕ) (as′ : List Action) → ((a : Action) → In a as′ → length (a .lits) ≤ 64) → length (latest-rows n as′ .earlier) ≤ 64 * (length as′ - 1)
+earlier-few : (n : ℕ) (as′ : List Action) → ((a : Action) → In a as′ → length (a .lits) ≤ maxLiterals) → length (latest-rows n as′ .earlier) ≤ maxLiterals * (length as′ - 1)
 unfolding latest-rows
 earlier-few n [] h = omega arith
 earlier-few n (a ∷ []) h = omega arith
@@ -141,7 +141,7 @@ earlier-few n (a ∷ b ∷ bs) h =
     let z : length {A = Action} (a ∷ b ∷ bs) - 1 ≡ suc (length {A = Action} (b ∷ bs) - 1) = omega arith in
     omega arith
 
-pub keys-few : (cs : List Component) → ((c : Component) → In c cs → length (c .labels) ≤ 6) → keysOf cs ≤ 6
+pub keys-few : (cs : List Component) → ((c : Component) → In c cs → length (c .labels) ≤ maxArguments) → keysOf cs ≤ maxArguments
 keys-few [] h = omega arith
 keys-few (c ∷ cs) h =
     let k = h c (List·Memᴰ·head refl) in
@@ -171,35 +171,35 @@ module _ {D : Domain} {index : Index} (h : Holds D index) where
   unfolding indexOf
   keys-is = ap (λ (i : Index). i .keys) (h .is)
 
-  pub arities-is : index .arities ≡ pad 64 (D .arities)
+  pub arities-is : index .arities ≡ pad maxRelations (D .arities)
   unfolding indexOf
   arities-is = ap (λ (i : Index). i .arities) (h .is)
 
-  pub starts-is : index .starts ≡ pad 64 (startsFrom 0 (D .actions))
+  pub starts-is : index .starts ≡ pad maxActions (startsFrom 0 (D .actions))
   unfolding indexOf
   starts-is = ap (λ (i : Index). i .starts) (h .is)
 
-  pub parts-is : index .parts ≡ pad 128 (flatMap componentRow (D .template))
+  pub parts-is : index .parts ≡ pad (8 * maxComponents) (flatMap componentRow (D .template))
   unfolding indexOf
   parts-is = ap (λ (i : Index). i .parts) (h .is)
 
-  pub variables-is : index .variables ≡ pad 64 (map (λ (a : Action). a .vars) (D .actions))
+  pub variables-is : index .variables ≡ pad maxActions (map (λ (a : Action). a .vars) (D .actions))
   unfolding indexOf
   variables-is = ap (λ (i : Index). i .variables) (h .is)
 
-  pub sorts-is : index .sorts ≡ pad 64 (map sortNumber (D .actions))
+  pub sorts-is : index .sorts ≡ pad maxActions (map sortNumber (D .actions))
   unfolding indexOf
   sorts-is = ap (λ (i : Index). i .sorts) (h .is)
 
   -- the arities that count
   pub arities-taken : take (index .relations) (index .arities) ≡ D .arities
-  arities-taken = ap₂ take relations-is arities-is ∙ take-pad 64 (D .arities)
+  arities-taken = ap₂ take relations-is arities-is ∙ take-pad maxRelations (D .arities)
 
   -- the first row of the latest action
   pub start-is : getD (index .starts) (index .actions - 1) 0 ≡ length (latest-rows 0 (D .actions) .earlier)
   start-is =
       ap (λ (l : List ℕ). getD l (index .actions - 1) 0) starts-is
-      ∙ pad-at 64 (startsFrom 0 (D .actions)) (index .actions - 1)
+      ∙ pad-at maxActions (startsFrom 0 (D .actions)) (index .actions - 1)
       ∙ ap (λ (i : ℕ). getD (startsFrom 0 (D .actions)) (i - 1) 0) actions-is
       ∙ latest-start (D .actions)
 
@@ -215,7 +215,7 @@ module _ {D : Domain} {index : Index} (h : Holds D index) where
   shaped =
       record {
         relations = let a = relations-is in let b = h .bounded .relations in omega arith;
-        arities = λ i. let a = ap (λ (l : List ℕ). getD l i 0) arities-is ∙ pad-at 64 (D .arities) i in let b = arity-six D (h .bounded .arities) i in omega arith;
+        arities = λ i. let a = ap (λ (l : List ℕ). getD l i 0) arities-is ∙ pad-at maxRelations (D .arities) i in let b = arity-six D (h .bounded .arities) i in omega arith;
         actions = let a = actions-is in let b = h .bounded .actions in omega arith;
         rows = let a = actions-is in let b = rows-is in let c = rows-few (D .actions) (h .bounded .sizes) in omega arith;
         order =
@@ -229,7 +229,7 @@ module _ {D : Domain} {index : Index} (h : Holds D index) where
         parts =
             let a = length-components (D .template) (h .bounded .labels) in
             let b = h .bounded .components in
-            ap length parts-is ∙ length-pad 128 (flatMap componentRow (D .template)) (omega arith);
+            ap length parts-is ∙ length-pad (8 * maxComponents) (flatMap componentRow (D .template)) (omega arith);
         keys = let a = keys-is in let b = keys-few (D .template) (h .bounded .labels) in omega arith;
       }
 
@@ -237,8 +237,8 @@ module _ {D : Domain} {index : Index} (h : Holds D index) where
   sized =
       let b = h .bounded .actions in
       record {
-        arities = ap length arities-is ∙ length-pad 64 (D .arities) (h .bounded .relations);
-        variables = ap length variables-is ∙ length-pad 64 (map (λ (a : Action). a .vars) (D .actions)) (let l = length-map (D .actions) (λ (a : Action). a .vars) in omega arith);
-        sorts = ap length sorts-is ∙ length-pad 64 (map sortNumber (D .actions)) (let l = length-map (D .actions) sortNumber in omega arith);
-        starts = ap length starts-is ∙ length-pad 64 (startsFrom 0 (D .actions)) (let l = starts-length 0 (D .actions) in omega arith);
+        arities = ap length arities-is ∙ length-pad maxRelations (D .arities) (h .bounded .relations);
+        variables = ap length variables-is ∙ length-pad maxActions (map (λ (a : Action). a .vars) (D .actions)) (let l = length-map (D .actions) (λ (a : Action). a .vars) in omega arith);
+        sorts = ap length sorts-is ∙ length-pad maxActions (map sortNumber (D .actions)) (let l = length-map (D .actions) sortNumber in omega arith);
+        starts = ap length starts-is ∙ length-pad maxActions (startsFrom 0 (D .actions)) (let l = starts-length 0 (D .actions) in omega arith);
       }

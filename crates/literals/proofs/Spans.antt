@@ -13,6 +13,7 @@ use borrow.Author.Tests.{ltb-true, ltb-false, lt-ltb, le-ltb}
 use Rattle.records.specs.Lists.{In}
 use Rattle.records.specs.Memory.{over}
 use Rattle.records.proofs.Lists.{getD-in, flatMap-in, flatMap-append}
+use Rattle.literals.specs.Decode.{maxActions, maxLiterals}
 use Rattle.literals.specs.declared.Index.{Index}
 use Rattle.literals.specs.Domain.{Literal, Action, Domain, noAction, action}
 use Rattle.literals.specs.Table.{literalRow, allLiterals, tableBytes, startsFrom, sortNumber, indexOf, Holds, Shaped, endOf, Spanned}
@@ -85,14 +86,14 @@ module _ {D : Domain} {index : Index} (h : Holds D index) where
   unfolding indexOf action
   vars-at i =
       ap (λ (x : Index). getD (x .variables) i 0) (h .is)
-      ∙ pad-at 64 (map (λ (a : Action). a .vars) (D .actions)) i
+      ∙ pad-at maxActions (map (λ (a : Action). a .vars) (D .actions)) i
       ∙ List·getD-map (λ (a : Action). a .vars) (D .actions) i noAction
 
   pub sort-at : (i : ℕ) → getD (index .sorts) i 0 ≡ sortNumber (action D i)
   unfolding indexOf action
   sort-at i =
       ap (λ (x : Index). getD (x .sorts) i 0) (h .is)
-      ∙ pad-at 64 (map sortNumber (D .actions)) i
+      ∙ pad-at maxActions (map sortNumber (D .actions)) i
       ∙ List·getD-map sortNumber (D .actions) i noAction
 
   -- every literal of all has its row of 8 bytes
@@ -109,7 +110,7 @@ module _ {D : Domain} {index : Index} (h : Holds D index) where
     unfolding indexOf
     span-start =
         ap (λ (x : Index). getD (x .starts) i 0) (h .is)
-        ∙ pad-at 64 (startsFrom 0 (D .actions)) i
+        ∙ pad-at maxActions (startsFrom 0 (D .actions)) i
         ∙ starts-at 0 (D .actions) i b
         ∙ zero-add (length (allLiterals (take i (D .actions))))
 
@@ -117,7 +118,7 @@ module _ {D : Domain} {index : Index} (h : Holds D index) where
     unfolding indexOf action
     span-end =
         ap (λ (x : Index). endOf x i) (h .is)
-        ∙ ap (λ (n : ℕ). cond (ltb (i + 1) (length (D .actions))) n (length (allLiterals (D .actions)))) (pad-at 64 (startsFrom 0 (D .actions)) (i + 1))
+        ∙ ap (λ (n : ℕ). cond (ltb (i + 1) (length (D .actions))) n (length (allLiterals (D .actions)))) (pad-at maxActions (startsFrom 0 (D .actions)) (i + 1))
         ∙ ends-at (D .actions) i
         ∙ literals-next (D .actions) i b
         ∙ ap (λ (n : ℕ). n + length (getD (D .actions) i noAction .lits)) (sym span-start)
@@ -175,8 +176,8 @@ part-literals H i b table old e from to p q = ap₂ (λ (f t : ℕ). take (8 * t
 pub record PartBounds (rows from to : ℕ) : Type 0 where
   pub order : from ≤ to
   pub listed : to ≤ rows
-  pub within : to ≤ 4096
-  pub few : to ≤ from + 64
+  pub within : to ≤ maxLiterals * maxActions
+  pub few : to ≤ from + maxLiterals
 
 pub part-bounds : {index : Index} → Shaped index → (i : ℕ) → i < index .actions → (from to : ℕ) → from ≡ getD (index .starts) i 0 → to ≡ endOf index i → PartBounds (index .rows) from to
 part-bounds {index} S i h from to p q =

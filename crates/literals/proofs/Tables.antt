@@ -16,7 +16,7 @@ use Rattle.records.proofs.Memory.{over-more, over-paste, drop-replicate, getD-f
 use Rattle.literals.specs.declared.Variable.{Variable}
 use Rattle.literals.specs.declared.Role.{Role}
 use Rattle.literals.specs.Domain.{variable, sameLiteral, roleOf, roleNumber, sameRole, Literal, Action, Component, Domain}
-use Rattle.literals.specs.Decode.{byte, literalOf, repeats, contrary, together, contradicts}
+use Rattle.literals.specs.Decode.{maxArguments, byte, literalOf, repeats, contrary, together, contradicts}
 use Rattle.literals.specs.Table.{rowOf, literalRow, labelNumber, componentRow, pad, roleRank, rowRank, rowsBy, rowsIn, rowsRank, Bounded}
 use Rattle.literals.proofs.Rows.{length-row}
 
@@ -61,21 +61,21 @@ module _ {A : Type 0} (f : A → List ℕ) where
 
 -- ---- of literals and of components
 
-pub length-literal-row : (l : Literal) → length (l .atom .args) ≤ 6 → length (literalRow l) ≡ 8
+pub length-literal-row : (l : Literal) → length (l .atom .args) ≤ maxArguments → length (literalRow l) ≡ 8
 length-literal-row l h = length-row (roleNumber (l .role) ∷ l .atom .rel ∷ map (λ (v : Variable). v .0) (l .atom .args)) (rw length-map (omega arith))
 
-pub length-component-row : (c : Component) → length (c .labels) ≤ 6 → length (componentRow c) ≡ 8
+pub length-component-row : (c : Component) → length (c .labels) ≤ maxArguments → length (componentRow c) ≡ 8
 length-component-row c h = length-row (c .rel ∷ map labelNumber (c .labels)) (rw length-map (omega arith))
 
-module _ (ls : List Literal) (h : (l : Literal) → In l ls → length (l .atom .args) ≤ 6) where
+module _ (ls : List Literal) (h : (l : Literal) → In l ls → length (l .atom .args) ≤ maxArguments) where
   pub length-literals : length (flatMap literalRow ls) ≡ 8 * length ls
   length-literals = length-flat literalRow ls (λ l m. length-literal-row l (h l m))
 
-pub rows-literals : (xs ys : List Literal) (old : List ℕ) → ((l : Literal) → In l (xs ++ ys) → length (l .atom .args) ≤ 6)
+pub rows-literals : (xs ys : List Literal) (old : List ℕ) → ((l : Literal) → In l (xs ++ ys) → length (l .atom .args) ≤ maxArguments)
     → rowsIn (length ys) (drop (8 * length xs) (over (flatMap literalRow (xs ++ ys)) old)) ≡ map literalRow ys
 rows-literals xs ys old h = rows-behind literalRow xs ys old (λ l m. length-literal-row l (h l m))
 
-module _ (cs : List Component) (h : (c : Component) → In c cs → length (c .labels) ≤ 6) where
+module _ (cs : List Component) (h : (c : Component) → In c cs → length (c .labels) ≤ maxArguments) where
   pub length-components : length (flatMap componentRow cs) ≡ 8 * length cs
   length-components = length-flat componentRow cs (λ c m. length-component-row c (h c m))
 
@@ -122,7 +122,7 @@ pub record Comparable (p : List ℕ) : Type 0 where
 
 -- and what it has kept of a literal
 pub record Kept (l : Literal) : Type 0 where
-  pub fits : length (l .atom .args) ≤ 6
+  pub fits : length (l .atom .args) ≤ maxArguments
   pub arguments : (v : Variable) → In v (l .atom .args) → v .0 < 255
   pub small : roleNumber (l .role) ≤ 9
   pub back : roleOf (roleNumber (l .role)) ≡ l .role

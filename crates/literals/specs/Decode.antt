@@ -25,8 +25,16 @@ maxFile = 65535
 abbrev pub maxRelations : ℕ
 maxRelations = 64
 
+-- "arity, 0 to 6"
+abbrev pub maxArguments : ℕ
+maxArguments = 6
+
 abbrev pub maxActions : ℕ
 maxActions = 64
+
+-- "variable count, 0 to 16"
+abbrev pub maxVariables : ℕ
+maxVariables = 16
 
 abbrev pub maxLiterals : ℕ
 maxLiterals = 64

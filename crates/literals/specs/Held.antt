@@ -1,4 +1,4 @@
--- How the code holds a domain that was read: a head of 520 bytes, in sections, and the table of its literals. Assumes nothing.
+-- How the code holds a domain that was read: a head, in sections, and the table of its literals. Assumes nothing.
 use mathlib.Core.Path.{_≡_}
 use mathlib.Core.Bool.{Bool, cond}
 use mathlib.Core.List.{List, [], _∷_, _++_, map, flatMap}
@@ -9,7 +9,31 @@ use Rattle.records.specs.Memory.{over}
 use Rattle.literals.specs.declared.span.Span.{Span}
 use Rattle.literals.specs.declared.Counts.{Counts}
 use Rattle.literals.specs.Domain.{Action, keysOf, Domain, arity, action}
+use Rattle.literals.specs.Decode.{maxRelations, maxArguments, maxActions, maxVariables, maxLiterals, maxComponents}
 use Rattle.literals.specs.Table.{literalRow, componentRow, pad, startsFrom, sortNumber, allLiterals, tableBytes, Bounded}
+
+-- ---- where a head has what: a byte for each relation, 8 for each component, and a byte for each action in each of the columns behind
+
+abbrev pub atArities : ℕ
+atArities = 8
+
+abbrev pub atParts : ℕ
+atParts = atArities + maxRelations
+
+abbrev pub atVariables : ℕ
+atVariables = atParts + 8 * maxComponents
+
+abbrev pub atSorts : ℕ
+atSorts = atVariables + maxActions
+
+abbrev pub atSizes : ℕ
+atSizes = atSorts + maxActions
+
+abbrev pub atLows : ℕ
+atLows = atSizes + maxActions
+
+abbrev pub atHighs : ℕ
+atHighs = atLows + maxActions
 
 -- ---- what a head says, whatever its bytes are: each number within its limit, 0 for one above it
 
@@ -20,17 +44,17 @@ unfoldable pub relationsIn : List ℕ → ℕ
 relationsIn head = within 64 (getD head 0 0)
 
 unfoldable pub actionsIn : List ℕ → ℕ
-actionsIn head = within 64 (getD head 1 0)
+actionsIn head = within maxActions (getD head 1 0)
 
 unfoldable pub componentsIn : List ℕ → ℕ
-componentsIn head = within 16 (getD head 2 0)
+componentsIn head = within maxComponents (getD head 2 0)
 
 unfoldable pub keysIn : List ℕ → ℕ
-keysIn head = within 6 (getD head 3 0)
+keysIn head = within maxArguments (getD head 3 0)
 
 -- 0 for a relation that there is not
 unfoldable pub arityIn : List ℕ → ℕ → ℕ
-arityIn head r = cond (ltb r 64) (within 6 (getD head (8 + r) 0)) 0
+arityIn head r = cond (ltb r maxRelations) (within maxArguments (getD head (atArities + r) 0)) 0
 
 -- n bytes from k on
 abbrev pub bytesFrom : List ℕ → ℕ → ℕ → List ℕ
@@ -39,7 +63,7 @@ bytesFrom t k (suc n) = getD t k 0 ∷ bytesFrom t (suc k) n
 
 -- the row of a component: relation, labels, FF to fill
 unfoldable pub partIn : List ℕ → ℕ → List ℕ
-partIn head c = bytesFrom head (72 + 8 * c) 8
+partIn head c = bytesFrom head (atParts + 8 * c) 8
 
 -- those of n components from c on
 abbrev pub partsFrom : List ℕ → ℕ → ℕ → List (List ℕ)
@@ -53,16 +77,16 @@ partsIn head = partsFrom head 0 (componentsIn head)
 
 -- of an action: its variables, whether it lasts, how many literals it has, and the table's row of the first
 unfoldable pub variablesIn : List ℕ → ℕ → ℕ
-variablesIn head i = within 16 (getD head (200 + i) 0)
+variablesIn head i = within maxVariables (getD head (atVariables + i) 0)
 
 unfoldable pub lastingIn : List ℕ → ℕ → Bool
-lastingIn head i = eqb (getD head (264 + i) 0) 1
+lastingIn head i = eqb (getD head (atSorts + i) 0) 1
 
 unfoldable pub sizeIn : List ℕ → ℕ → ℕ
-sizeIn head i = within 64 (getD head (328 + i) 0)
+sizeIn head i = within maxLiterals (getD head (atSizes + i) 0)
 
 unfoldable pub firstIn : List ℕ → ℕ → ℕ
-firstIn head i = getD head (392 + i) 0 + 256 * getD head (456 + i) 0
+firstIn head i = getD head (atLows + i) 0 + 256 * getD head (atHighs + i) 0
 
 -- ---- the bytes of a domain's head: how many there are of each, then the sections
 
@@ -73,20 +97,20 @@ countBytes D =
 
 -- of each action
 abbrev pub actionBytes : (Action → ℕ) → Domain → List ℕ
-actionBytes f D = pad 64 (map f (D .actions))
+actionBytes f D = pad maxActions (map f (D .actions))
 
 -- how many literals each action has, and the row of the first
 unfoldable pub spanBytes : Domain → List ℕ
 spanBytes D =
     actionBytes (λ (a : Action). length (a .lits)) D
-    ++ (pad 64 (map (λ n. n % 256) (startsFrom 0 (D .actions))) ++ pad 64 (map (λ n. n / 256) (startsFrom 0 (D .actions))))
+    ++ (pad maxActions (map (λ n. n % 256) (startsFrom 0 (D .actions))) ++ pad maxActions (map (λ n. n / 256) (startsFrom 0 (D .actions))))
 
 unfoldable pub headOf : Domain → List ℕ
 unfolding flatMap allLiterals spanBytes
 headOf D =
     countBytes D
-    ++ (pad 64 (D .arities)
-    ++ (pad 128 (flatMap componentRow (D .template))
+    ++ (pad maxRelations (D .arities)
+    ++ (pad (8 * maxComponents) (flatMap componentRow (D .template))
     ++ (actionBytes (λ (a : Action). a .vars) D
     ++ (actionBytes sortNumber D ++ spanBytes D))))
 
@@ -116,10 +140,10 @@ Read head table = (D : Domain) × Held D head table
 
 -- ---- the rows of an action's literals
 
--- they lie in a table of n bytes, and are at most 64
+-- they lie in a table of n bytes, and are at most as many as an action has
 pub record SpanFits (n : ℕ) (r : Span) : Type 0 where
   pub order : r .from ≤ r .to
-  pub few : r .to ≤ r .from + 64
+  pub few : r .to ≤ r .from + maxLiterals
   pub room : 8 * r .to ≤ n
 
 -- they are those of the action i
@@ -131,22 +155,22 @@ pub record SpanOf (D : Domain) (i : ℕ) (table : List ℕ) (r : Span) : Type 0 
 -- ---- what packing asks of the memories that reading fills
 
 pub record CountsFit (n : Counts) : Type 0 where
-  pub relations : n .relations ≤ 64
-  pub actions : n .actions ≤ 64
-  pub components : n .components ≤ 16
-  pub keys : n .keys ≤ 6
-  pub rows : n .rows ≤ 4096
+  pub relations : n .relations ≤ maxRelations
+  pub actions : n .actions ≤ maxActions
+  pub components : n .components ≤ maxComponents
+  pub keys : n .keys ≤ maxArguments
+  pub rows : n .rows ≤ maxLiterals * maxActions
 
 pub record SpansFit (n : Counts) (starts : List ℕ) : Type 0 where
   pub counted : CountsFit n
-  pub room : length starts ≡ 64
+  pub room : length starts ≡ maxActions
   pub order : (i : ℕ) → i < n .actions → getD starts i 0 ≤ cond (ltb (i + 1) (n .actions)) (getD starts (i + 1) 0) (n .rows)
   pub within-rows : (i : ℕ) → i < n .actions → cond (ltb (i + 1) (n .actions)) (getD starts (i + 1) 0) (n .rows) ≤ n .rows
-  pub few : (i : ℕ) → i < n .actions → cond (ltb (i + 1) (n .actions)) (getD starts (i + 1) 0) (n .rows) ≤ getD starts i 0 + 64
+  pub few : (i : ℕ) → i < n .actions → cond (ltb (i + 1) (n .actions)) (getD starts (i + 1) 0) (n .rows) ≤ getD starts i 0 + maxLiterals
 
 pub record Packable (n : Counts) (arities variables sorts starts parts : List ℕ) : Type 0 where
   pub spans : SpansFit n starts
-  pub arities-room : length arities ≡ 64
-  pub variables-room : length variables ≡ 64
-  pub sorts-room : length sorts ≡ 64
-  pub parts-room : length parts ≡ 128
+  pub arities-room : length arities ≡ maxRelations
+  pub variables-room : length variables ≡ maxActions
+  pub sorts-room : length sorts ≡ maxActions
+  pub parts-room : length parts ≡ 8 * maxComponents

@@ -12,7 +12,7 @@ use Rattle.literals.specs.declared.Label.the-variants.{Key as keyed, Cou
 use Rattle.literals.specs.declared.Index.{Index}
 use Rattle.literals.specs.declared.Counts.{Counts}
 use Rattle.literals.specs.Domain.{roleNumber, roleOf, Literal, Action, Component, keysOf, labelsFit, Domain, arity}
-use Rattle.literals.specs.Decode.{byte, RecordKind, stopOf, stopPlace, extend}
+use Rattle.literals.specs.Decode.{byte, RecordKind, stopOf, stopPlace, extend, maxRelations, maxArguments, maxActions, maxVariables, maxLiterals, maxComponents}
 
 -- ---- rows of 8 bytes
 
@@ -61,14 +61,14 @@ unfolding allLiterals flatMap
 indexOf D =
     record {
       relations = length (D .arities);
-      arities = pad 64 (D .arities);
+      arities = pad maxRelations (D .arities);
       actions = length (D .actions);
-      variables = pad 64 (map (λ (a : Action). a .vars) (D .actions));
-      sorts = pad 64 (map sortNumber (D .actions));
-      starts = pad 64 (startsFrom 0 (D .actions));
+      variables = pad maxActions (map (λ (a : Action). a .vars) (D .actions));
+      sorts = pad maxActions (map sortNumber (D .actions));
+      starts = pad maxActions (startsFrom 0 (D .actions));
       rows = length (allLiterals (D .actions));
       components = length (D .template);
-      parts = pad 128 (flatMap componentRow (D .template));
+      parts = pad (8 * maxComponents) (flatMap componentRow (D .template));
       keys = keysOf (D .template);
     }
 
@@ -174,17 +174,17 @@ eachOnce (suc n) bs = eachOnce n bs && eqb (countBy (eqb n) bs) 1
 
 -- what reading keeps of every domain, so that it fits the index and the table, and that its literals have variables below the count, and its literals and components the arities of their relations, each relation one component, and each component the keys once each
 pub record Bounded (D : Domain) : Type 0 where
-  pub relations : length (D .arities) ≤ 64
-  pub arities : (n : ℕ) → In n (D .arities) → n ≤ 6
-  pub actions : length (D .actions) ≤ 64
-  pub counts : (a : Action) → In a (D .actions) → a .vars ≤ 16
-  pub sizes : (a : Action) → In a (D .actions) → length (a .lits) ≤ 64
-  pub arguments : (a : Action) → In a (D .actions) → (l : Literal) → In l (a .lits) → length (l .atom .args) ≤ 6
+  pub relations : length (D .arities) ≤ maxRelations
+  pub arities : (n : ℕ) → In n (D .arities) → n ≤ maxArguments
+  pub actions : length (D .actions) ≤ maxActions
+  pub counts : (a : Action) → In a (D .actions) → a .vars ≤ maxVariables
+  pub sizes : (a : Action) → In a (D .actions) → length (a .lits) ≤ maxLiterals
+  pub arguments : (a : Action) → In a (D .actions) → (l : Literal) → In l (a .lits) → length (l .atom .args) ≤ maxArguments
   pub variables : (a : Action) → In a (D .actions) → (l : Literal) → In l (a .lits) → (v : Variable) → In v (l .atom .args) → v .0 < 255
   pub below : (a : Action) → In a (D .actions) → (l : Literal) → In l (a .lits) → (v : Variable) → In v (l .atom .args) → v .0 < a .vars
   pub roles : (a : Action) → In a (D .actions) → (l : Literal) → In l (a .lits) → (roleNumber (l .role) ≤ 9) × (roleOf (roleNumber (l .role)) ≡ l .role)
-  pub components : length (D .template) ≤ 16
-  pub labels : (c : Component) → In c (D .template) → length (c .labels) ≤ 6
+  pub components : length (D .template) ≤ maxComponents
+  pub labels : (c : Component) → In c (D .template) → length (c .labels) ≤ maxArguments
   pub literalArity : (a : Action) → In a (D .actions) → (l : Literal) → In l (a .lits) → length (l .atom .args) ≡ arity D (l .atom .rel)
   pub componentArity : (c : Component) → In c (D .template) → length (c .labels) ≡ arity D (c .rel)
   pub keysFit : (c : Component) → In c (D .template) → labelsFit (keysOf (D .template)) (c .labels) ≡ true
@@ -202,27 +202,27 @@ endOf index i = cond (ltb (i + 1) (index .actions)) (getD (index .starts) (i + 1
 pub record Spanned (index : Index) (i : ℕ) : Type 0 where
   pub order : getD (index .starts) i 0 ≤ endOf index i
   pub within : endOf index i ≤ index .rows
-  pub few : endOf index i ≤ getD (index .starts) i 0 + 64
+  pub few : endOf index i ≤ getD (index .starts) i 0 + maxLiterals
 
 -- the bounds of an index that holds a domain
 pub record Shaped (index : Index) : Type 0 where
-  pub relations : index .relations ≤ 64
-  pub arities : (i : ℕ) → getD (index .arities) i 0 ≤ 6
-  pub actions : index .actions ≤ 64
-  pub rows : index .rows ≤ 64 * index .actions
+  pub relations : index .relations ≤ maxRelations
+  pub arities : (i : ℕ) → getD (index .arities) i 0 ≤ maxArguments
+  pub actions : index .actions ≤ maxActions
+  pub rows : index .rows ≤ maxLiterals * index .actions
   pub order : getD (index .starts) (index .actions - 1) 0 ≤ index .rows
-  pub last : getD (index .starts) (index .actions - 1) 0 ≤ 64 * (index .actions - 1)
+  pub last : getD (index .starts) (index .actions - 1) 0 ≤ maxLiterals * (index .actions - 1)
   pub spans : (i : ℕ) → i < index .actions → Spanned index i
-  pub components : index .components ≤ 16
-  pub parts : length (index .parts) ≡ 128
-  pub keys : index .keys ≤ 6
+  pub components : index .components ≤ maxComponents
+  pub parts : length (index .parts) ≡ 8 * maxComponents
+  pub keys : index .keys ≤ maxArguments
 
 -- the memories of its lists
 pub record Sized (index : Index) : Type 0 where
-  pub arities : length (index .arities) ≡ 64
-  pub variables : length (index .variables) ≡ 64
-  pub sorts : length (index .sorts) ≡ 64
-  pub starts : length (index .starts) ≡ 64
+  pub arities : length (index .arities) ≡ maxRelations
+  pub variables : length (index .variables) ≡ maxActions
+  pub sorts : length (index .sorts) ≡ maxActions
+  pub starts : length (index .starts) ≡ maxActions
 
 -- ---- what one record leads to
 

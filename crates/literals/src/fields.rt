@@ -1,5 +1,7 @@
 // The fields of a record: each check answers the number that stops it, or 0.
 use super::RecordFault;
+use super::limits::MAX_ARGUMENTS;
+use super::limits::MAX_VARIABLES;
 ghost use mathlib.Core.Path.{_≡_};
 ghost use mathlib.Core.Bool.{_&&_, _||_, not};
 ghost use mathlib.Core.List.{[], map};
@@ -8,7 +10,7 @@ ghost use lib.Dec.{eqb, ltb, leb};
 ghost use lib.ListN.{length, drop, take};
 ghost use Rattle.records.specs.Lists.{any, countBy, firstAt};
 ghost use Rattle.literals.specs.Domain.{isCounted};
-ghost use Rattle.literals.specs.Decode.{relationStop, actionStop, labelOf, labelFault};
+ghost use Rattle.literals.specs.Decode.{maxArguments, relationStop, actionStop, labelOf, labelFault};
 ghost use Rattle.literals.specs.Table.{argumentsStop, literalFields, componentFields, again, highKey, eachOnce};
 
 pub fn wide(b: u8) -> usize
@@ -22,7 +24,7 @@ pub fn relation_fields(p: &[u8]) -> u64
     ensures { λ r. ⌜ r ≡ relationStop (now (p .entry)) ⌝ }
 {
     if p.len() == 1 {
-        if 6 < p[0] {
+        if (MAX_ARGUMENTS as u8) < p[0] {
             return 15;
         }
         return 0;
@@ -35,7 +37,7 @@ pub fn action_fields(p: &[u8]) -> u64
     ensures { λ r. ⌜ r ≡ actionStop (now (p .entry)) ⌝ }
 {
     if p.len() == 2 {
-        if 16 < p[0] {
+        if (MAX_VARIABLES as u8) < p[0] {
             return 15;
         }
         if 1 < p[1] {
@@ -205,7 +207,7 @@ fn first_again(p: &[u8], counted: bool) -> usize
 
 // Whether each key below n stands once.
 pub fn each_once(p: &[u8], n: usize) -> bool
-    requires { ⌜ n ≤ 6 ⌝ }
+    requires { ⌜ n ≤ maxArguments ⌝ }
     ensures { λ r. ⌜ r ≡ eachOnce n (drop 1 (now (p .entry))) ⌝ }
 {
     for k in 0..n {
@@ -219,7 +221,7 @@ pub fn each_once(p: &[u8], n: usize) -> bool
 // The labels of a component of a template that has n keys: the second FF, then a key that stands twice, then a key not below n, each at its label, then a
 // key that is missing. A label stands 4 bytes, those of the head, further behind the record's start than in the payload.
 pub fn label_fields(p: &[u8], n: usize) -> RecordFault
-    requires { ⌜ (n ≤ 6) × (length (now p) ≤ 7) ⌝ }
+    requires { ⌜ (n ≤ maxArguments) × (length (now p) ≤ 1 + maxArguments) ⌝ }
     ensures { λ r. ⌜ r ≡ labelFault n (map labelOf (drop 1 (now (p .entry)))) ⌝ }
 {
     let second = first_again(p, true);

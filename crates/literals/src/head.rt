@@ -2,6 +2,12 @@
 // Every function here answers within the limits of the format, whatever the head's bytes are, so that none asks anything of them.
 use super::Counts;
 use super::fields::wide;
+use super::limits::MAX_ACTIONS;
+use super::limits::MAX_ARGUMENTS;
+use super::limits::MAX_COMPONENTS;
+use super::limits::MAX_LITERALS;
+use super::limits::MAX_RELATIONS;
+use super::limits::MAX_VARIABLES;
 use super::row::put_bytes;
 use super::span::Span;
 use super::span::span_of;
@@ -10,10 +16,11 @@ ghost use mathlib.Core.List.{List};
 ghost use Prim.Native.Nat.{ℕ, _<_, _≤_};
 ghost use lib.ListN.{length, getD};
 ghost use Rattle.literals.specs.Domain.{Domain};
+ghost use Rattle.literals.specs.Decode.{maxActions, maxVariables, maxArguments, maxComponents};
 ghost use Rattle.literals.specs.Table.{indexWith, Holds};
 ghost use Rattle.literals.specs.Held.{CountsFit, SpansFit, Packable, countBytes, spanBytes, headOf, within, relationsIn, actionsIn, componentsIn, keysIn, arityIn, partIn, variablesIn, lastingIn, Held, SpanFits, SpanOf};
 
-pub const HEAD: usize = 520;
+pub const HEAD: usize = HIGHS + MAX_ACTIONS;
 
 pub type Head = [u8; HEAD];
 
@@ -25,20 +32,26 @@ const ACTIONS: usize = 1;
 const COMPONENTS: usize = 2;
 
 const KEYS: usize = 3;
-// A byte for each of 64 relations.
+// A byte for each relation.
 const ARITIES: usize = 8;
-// 8 bytes for each of 16 components: relation, labels, FF to fill.
-const PARTS: usize = 72;
-// A byte for each of 64 actions: variables, 1 for a lasting one, how many literals, and the row of the first, whose two bytes stand apart.
-const VARIABLES: usize = 200;
+// 8 bytes for each component: relation, labels, FF to fill.
+const PARTS: usize = ARITIES + MAX_RELATIONS;
+// A byte for each action: variables, 1 for a lasting one, how many literals, and the row of the first, whose two bytes stand apart.
+const VARIABLES: usize = PARTS + 8 * MAX_COMPONENTS;
 
-const SORTS: usize = 264;
+const SORTS: usize = VARIABLES + MAX_ACTIONS;
 
-const SIZES: usize = 328;
+const SIZES: usize = SORTS + MAX_ACTIONS;
 
-const LOWS: usize = 392;
+const LOWS: usize = SIZES + MAX_ACTIONS;
 
-const HIGHS: usize = 456;
+const HIGHS: usize = LOWS + MAX_ACTIONS;
+// The last three columns by themselves.
+const SPAN_LOWS: usize = LOWS - SIZES;
+
+const SPAN_HIGHS: usize = HIGHS - SIZES;
+
+const SPANS: usize = HEAD - SIZES;
 
 // The number of a byte, 0 above the limit.
 fn limited(n: u8, limit: u8) -> u8
@@ -57,51 +70,51 @@ pub fn relations_in(head: &Head) -> usize
 }
 
 pub fn actions_in(head: &Head) -> usize
-    ensures { λ r. ⌜ (r ≡ actionsIn (now (head .entry))) × (r ≤ 64) ⌝ }
+    ensures { λ r. ⌜ (r ≡ actionsIn (now (head .entry))) × (r ≤ maxActions) ⌝ }
 {
-    wide(limited(head[ACTIONS], 64))
+    wide(limited(head[ACTIONS], MAX_ACTIONS as u8))
 }
 
 pub fn components_in(head: &Head) -> usize
-    ensures { λ r. ⌜ (r ≡ componentsIn (now (head .entry))) × (r ≤ 16) ⌝ }
+    ensures { λ r. ⌜ (r ≡ componentsIn (now (head .entry))) × (r ≤ maxComponents) ⌝ }
 {
-    wide(limited(head[COMPONENTS], 16))
+    wide(limited(head[COMPONENTS], MAX_COMPONENTS as u8))
 }
 
 pub fn keys_in(head: &Head) -> usize
-    ensures { λ r. ⌜ (r ≡ keysIn (now (head .entry))) × (r ≤ 6) ⌝ }
+    ensures { λ r. ⌜ (r ≡ keysIn (now (head .entry))) × (r ≤ maxArguments) ⌝ }
 {
-    wide(limited(head[KEYS], 6))
+    wide(limited(head[KEYS], MAX_ARGUMENTS as u8))
 }
 
 // The arity of a relation, 0 where there is none.
 pub fn arity_of(head: &Head, relation: u8) -> u8
-    ensures { λ r. ⌜ (r ≡ arityIn (now (head .entry)) relation) × (r ≤ 6) ⌝ }
+    ensures { λ r. ⌜ (r ≡ arityIn (now (head .entry)) relation) × (r ≤ maxArguments) ⌝ }
 {
     let at = wide(relation);
-    if at < 64 {
-        return limited(head[ARITIES + at], 6);
+    if at < MAX_RELATIONS {
+        return limited(head[ARITIES + at], MAX_ARGUMENTS as u8);
     }
     0
 }
 
 // A byte of a component: its relation, then its labels.
 pub fn part_byte(head: &Head, c: usize, i: usize) -> u8
-    requires { ⌜ (c < 16) × (i < 8) ⌝ }
+    requires { ⌜ (c < maxComponents) × (i < 8) ⌝ }
     ensures { λ r. ⌜ r ≡ getD (partIn (now (head .entry)) c) i 0 ⌝ }
 {
     head[PARTS + 8 * c + i]
 }
 
 pub fn variables_of(head: &Head, i: usize) -> u8
-    requires { ⌜ i < 64 ⌝ }
-    ensures { λ r. ⌜ (r ≡ variablesIn (now (head .entry)) i) × (r ≤ 16) ⌝ }
+    requires { ⌜ i < maxActions ⌝ }
+    ensures { λ r. ⌜ (r ≡ variablesIn (now (head .entry)) i) × (r ≤ maxVariables) ⌝ }
 {
-    limited(head[VARIABLES + i], 16)
+    limited(head[VARIABLES + i], MAX_VARIABLES as u8)
 }
 
 pub fn is_lasting(head: &Head, i: usize) -> bool
-    requires { ⌜ i < 64 ⌝ }
+    requires { ⌜ i < maxActions ⌝ }
     ensures { λ r. ⌜ r ≡ lastingIn (now (head .entry)) i ⌝ }
 {
     head[SORTS + i] == 1
@@ -109,29 +122,29 @@ pub fn is_lasting(head: &Head, i: usize) -> bool
 
 // The rows of an action's literals in the table.
 pub fn rows_of(head: &Head, table: &[u8], i: usize) -> Span
-    requires { ⌜ i < 64 ⌝ }
+    requires { ⌜ i < maxActions ⌝ }
     ensures fits { λ r. ⌜ SpanFits (length (now (table .entry))) r ⌝ }
     ensures rows { λ r. ⌜ ((D : Domain) → Held D (now (head .entry)) (now (table .entry)) → i < length (D .actions) → SpanOf D i (now (table .entry)) r) ⌝ }
 {
     let from = wide(head[LOWS + i]) + 256 * wide(head[HIGHS + i]);
-    let to = from + wide(limited(head[SIZES + i], 64));
+    let to = from + wide(limited(head[SIZES + i], MAX_LITERALS as u8));
     if table.len() < 8 * to {
         return Span { from: 0, to: 0 };
     }
     Span { from, to }
 }
 
-// Of each action how many literals it has, and the row of the first: a byte each for 64 actions, then the lower bytes, then the higher.
-fn spans_of(counts: Counts, starts: &[usize]) -> [u8; 192]
+// Of each action how many literals it has, and the row of the first: a byte for each action, then the lower bytes, then the higher.
+fn spans_of(counts: Counts, starts: &[usize]) -> [u8; SPANS]
     requires { ⌜ SpansFit counts (now starts) ⌝ }
     ensures { λ r. ⌜ ((D : Domain) (arities variables sorts parts : List ℕ) → Holds D (indexWith counts arities variables sorts (now (starts .entry)) parts) → r ≡ spanBytes D) ⌝ }
 {
-    let mut spans = [0u8; 192];
+    let mut spans = [0u8; SPANS];
     for i in 0..counts.actions {
         let span = span_of(starts, counts.actions, counts.rows, i);
         spans[i] = (span.to - span.from) as u8;
-        spans[64 + i] = (span.from % 256) as u8;
-        spans[128 + i] = (span.from / 256) as u8;
+        spans[SPAN_LOWS + i] = (span.from % 256) as u8;
+        spans[SPAN_HIGHS + i] = (span.from / 256) as u8;
     }
     spans
 }
@@ -165,7 +178,7 @@ pub fn pack(
 {
     let first = counts_of(counts);
     let spans = spans_of(counts, starts);
-    let mut head = [0u8; 520];
+    let mut head = [0u8; HEAD];
     put_bytes(&mut head, 0, &first);
     put_bytes(&mut head, ARITIES, arities);
     put_bytes(&mut head, PARTS, parts);

@@ -1,9 +1,13 @@
 // A domain: numberings, roles and labels, and how the code holds it (here); the fields of a record (fields); the rows of the literal table (row), and those of one action (span).
 pub mod fields;
 pub mod head;
+pub mod limits;
 pub mod row;
 pub mod span;
 
+use limits::MAX_ACTIONS;
+use limits::MAX_COMPONENTS;
+use limits::MAX_RELATIONS;
 ghost use mathlib.Core.Path.{_≡_};
 ghost use Rattle.literals.specs.Domain.{clauseOf, roleOf};
 ghost use Rattle.literals.specs.Table.{conditionGroup, roleRank};
@@ -51,17 +55,17 @@ pub struct RecordFault {
 // code passes its counts by value (`Counts`) and lends its lists.
 pub struct Index {
     pub relations: usize,
-    pub arities: [u8; 64],
+    pub arities: [u8; MAX_RELATIONS],
     pub actions: usize,
-    pub variables: [u8; 64],
+    pub variables: [u8; MAX_ACTIONS],
     // 0 at once, 1 lasting
-    pub sorts: [u8; 64],
+    pub sorts: [u8; MAX_ACTIONS],
     // the first row of each action's literals
-    pub starts: [usize; 64],
+    pub starts: [usize; MAX_ACTIONS],
     pub rows: usize,
     pub components: usize,
     // 8 bytes a component: relation, labels, FF to fill
-    pub parts: [u8; 128],
+    pub parts: [u8; 8 * MAX_COMPONENTS],
     // the number of keys, 0 before the first component
     pub keys: usize,
 }

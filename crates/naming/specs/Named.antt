@@ -4,6 +4,7 @@ use mathlib.Core.List.{List, map}
 use Prim.Native.Nat.{ℕ, _≤_, _<_}
 use lib.ListN.{length, getD}
 use Rattle.records.specs.Memory.{over}
+use Rattle.literals.specs.Decode.{maxLiterals}
 use Rattle.literals.specs.Domain.{Action, Domain}
 use Rattle.classes.specs.declared.Moment.the-variants.{End}
 use Rattle.classes.specs.Classes.{nameNumber, classes}
@@ -22,8 +23,8 @@ classCounts D as′ = map (λ (a : Action). length (classes D a)) as′
 
 -- the true conditions and the adds of each class at the moment of these clauses
 pub record SolesIn (of clauses conditions adds : List ℕ) : Type 0 where
-  pub conditions-are : (k : ℕ) → k < 64 → getD conditions k 0 ≡ soleAt of clauses k 1
-  pub adds-are : (k : ℕ) → k < 64 → getD adds k 0 ≡ soleAt of clauses k 3
+  pub conditions-are : (k : ℕ) → k < maxLiterals → getD conditions k 0 ≡ soleAt of clauses k 1
+  pub adds-are : (k : ℕ) → k < maxLiterals → getD adds k 0 ≡ soleAt of clauses k 3
 
 -- an end of an action: the clauses of its own literals there, and which literal of each class is asked as a true condition
 pub record EndOf (D : Domain) (a : Action) (head rows of clauses reach : List ℕ) : Type 0 where

@@ -13,6 +13,8 @@ use literals::head::Head;
 use literals::head::actions_in;
 use literals::head::is_lasting;
 use literals::head::rows_of;
+use literals::limits::MAX_ACTIONS;
+use literals::limits::MAX_LITERALS;
 use verdict::Notes;
 use verdict::Place;
 ghost use mathlib.Core.Path.{_≡_};
@@ -22,6 +24,7 @@ ghost use Prim.Native.Nat.{ℕ, _+_, _*_, _≤_, _<_};
 ghost use lib.ListN.{length, getD, set};
 ghost use Rattle.records.specs.Memory.{over};
 ghost use Rattle.literals.specs.Domain.{Domain, Action};
+ghost use Rattle.literals.specs.Decode.{maxActions, maxLiterals};
 ghost use Rattle.literals.specs.Table.{pad};
 ghost use Rattle.literals.specs.Held.{Held, Read};
 ghost use Rattle.classes.specs.declared.Moment.the-variants.{Start, End};
@@ -31,6 +34,9 @@ ghost use Rattle.verdict.specs.Decision.{Row, rowAt, rowsOfClasses, rows};
 ghost use Rattle.verdict.specs.Claims.{wellFormed};
 ghost use Rattle.verdict.specs.Coded.{rowFor};
 ghost use Rattle.naming.specs.Named.{nameBytes, classCounts, SolesIn, EndOf, Named, namingOf};
+
+// How many classes each action has.
+pub type ClassCounts = [u8; MAX_ACTIONS];
 
 // The names of one class: at its start, and at its end where the action lasts.
 pub struct ClassNames {
@@ -117,7 +123,7 @@ impl Naming {
         named: ClassNames,
         names: &mut [u8],
     ) -> Naming
-        requires { ⌜ (self .rows + 2 ≤ length (now names)) × (action < 64) ⌝ }
+        requires { ⌜ (self .rows + 2 ≤ length (now names)) × (action < maxActions) ⌝ }
         ensures rows { λ r. ⌜ r .rows ≤ self .rows + 2 ⌝ }
         ensures named { λ r. ⌜ ((rs : List Row) (old : List ℕ) (D : Domain) (a : Action) → Named rs self (now (names .entry)) old → a .lasting ≡ lasting
             → named .start ≡ nameOf D a (getD (classes D a) class []) Start
@@ -171,7 +177,7 @@ impl Naming {
         names: &mut [u8],
     ) -> Naming
         requires { ⌜ Sides (now rows) (now of) × SolesIn (now of) (now «at_start») (now conditions) (now adds) × SolesIn (now of) (now «at_end») (now «end_conditions») (now «end_adds»)
-            × (count ≤ length (now of)) × (i < 64) × (self .rows + 2 * count ≤ length (now names)) ⌝ }
+            × (count ≤ length (now of)) × (i < maxActions) × (self .rows + 2 * count ≤ length (now names)) ⌝ }
         ensures rows { λ r. ⌜ r .rows ≤ self .rows + 2 * count ⌝ }
         ensures named { λ r. ⌜ ((rs : List Row) (old : List ℕ) (D : Domain) (a : Action) → Named rs self (now (names .entry)) old
             → MomentOf D a Start (now (head .entry)) (now (rows .entry)) (now (of .entry)) (now («at_start» .entry)) → a .lasting ≡ lasting
@@ -214,16 +220,16 @@ impl Naming {
         lasting: bool,
         names: &mut [u8],
     ) -> Naming
-        requires { ⌜ (length (now rows) ≡ 8 * length (now of)) × (length (now of) ≤ 64) × (count ≤ length (now of)) × (i < 64) × (self .rows + 2 * count ≤ length (now names)) ⌝ }
+        requires { ⌜ (length (now rows) ≡ 8 * length (now of)) × (length (now of) ≤ maxLiterals) × (count ≤ length (now of)) × (i < maxActions) × (self .rows + 2 * count ≤ length (now names)) ⌝ }
         ensures rows { λ r. ⌜ r .rows ≤ self .rows + 2 * count ⌝ }
         ensures named { λ r. ⌜ ((rs : List Row) (old : List ℕ) (D : Domain) (a : Action) → Named rs self (now (names .entry)) old
             → ActionOf D a (now (head .entry)) (now (rows .entry)) → a .lasting ≡ lasting
             → now (of .entry) ≡ classNumbers D a → count ≡ length (classes D a) → Named (rs ++ rowsOfClasses D a i 0 (classes D a)) r (now (names .exit)) old) ⌝ }
     {
         let n = of.len();
-        let mut at_start = [0u8; 64];
-        let mut conditions = [0u8; 64];
-        let mut adds = [0u8; 64];
+        let mut at_start = [0u8; MAX_LITERALS];
+        let mut conditions = [0u8; MAX_LITERALS];
+        let mut adds = [0u8; MAX_LITERALS];
         clauses_at(false, rows, n, Moment::Start, &mut at_start);
         soles_at(of, &at_start, 1, &mut conditions);
         soles_at(of, &at_start, 3, &mut adds);
@@ -245,9 +251,9 @@ impl Naming {
                 names,
             );
         }
-        let mut at_end = [0u8; 64];
-        let mut end_conditions = [0u8; 64];
-        let mut end_adds = [0u8; 64];
+        let mut at_end = [0u8; MAX_LITERALS];
+        let mut end_conditions = [0u8; MAX_LITERALS];
+        let mut end_adds = [0u8; MAX_LITERALS];
         clauses_at(false, rows, n, Moment::End, &mut at_end);
         soles_at(of, &at_end, 1, &mut end_conditions);
         soles_at(of, &at_end, 3, &mut end_adds);
@@ -282,17 +288,17 @@ impl Naming {
         i: usize,
         lasting: bool,
         names: &mut [u8],
-        counts: &mut Marks,
+        counts: &mut ClassCounts,
     ) -> Naming
-        requires { ⌜ (length (now rows) ≡ 8 * n) × (n ≤ 64) × (i < 64) × (self .rows + 2 * n ≤ length (now names)) ⌝ }
+        requires { ⌜ (length (now rows) ≡ 8 * n) × (n ≤ maxLiterals) × (i < maxActions) × (self .rows + 2 * n ≤ length (now names)) ⌝ }
         ensures rows { λ r. ⌜ r .rows ≤ self .rows + 2 * n ⌝ }
         ensures named { λ r. ⌜ ((rs : List Row) (old : List ℕ) (D : Domain) (a : Action) → Named rs self (now (names .entry)) old
             → ActionOf D a (now (head .entry)) (now (rows .entry)) → a .lasting ≡ lasting
             → (now (counts .exit) ≡ set (now (counts .entry)) i (length (classes D a)))
             × Named (rs ++ rowsOfClasses D a i 0 (classes D a)) r (now (names .exit)) old) ⌝ }
     {
-        let mut of = [0u8; 64];
-        let mut tuples = [255u8; 512];
+        let mut of = [0u8; MAX_LITERALS];
+        let mut tuples = [255u8; 8 * MAX_LITERALS];
         let count = number_classes(head, rows, &mut of[0..n], &mut tuples);
         counts[i] = count as u8;
         self.with_classes(head, rows, &of[0..n], count, i, lasting, names)
@@ -300,11 +306,11 @@ impl Naming {
 }
 
 // The names of all moments of a domain that was read; `counts` gets how many classes each action has.
-pub fn name_all(head: &Head, table: &[u8], names: &mut [u8], counts: &mut Marks) -> Naming
+pub fn name_all(head: &Head, table: &[u8], names: &mut [u8], counts: &mut ClassCounts) -> Naming
     requires { ⌜ Read (now head) (now table) × (length (now table) ≤ 4 * length (now names)) ⌝ }
-    ensures rows { λ r. ⌜ r .rows ≤ 8192 ⌝ }
-    ensures named { λ r. ⌜ ((D : Domain) → Held D (now (head .entry)) (now (table .entry)) → wellFormed D ≡ true → now (counts .entry) ≡ pad 64 []
-        → (r ≡ namingOf D) × (now (counts .exit) ≡ pad 64 (classCounts D (D .actions))) × (now (names .exit) ≡ over (nameBytes (rows D)) (now (names .entry)))) ⌝ }
+    ensures rows { λ r. ⌜ r .rows ≤ 2 * (maxLiterals * maxActions) ⌝ }
+    ensures named { λ r. ⌜ ((D : Domain) → Held D (now (head .entry)) (now (table .entry)) → wellFormed D ≡ true → now (counts .entry) ≡ pad maxActions []
+        → (r ≡ namingOf D) × (now (counts .exit) ≡ pad maxActions (classCounts D (D .actions))) × (now (names .exit) ≡ over (nameBytes (rows D)) (now (names .entry)))) ⌝ }
 {
     let mut naming = Naming::new();
     for i in 0..actions_in(head) {

@@ -15,7 +15,7 @@ use Rattle.reading.specs.declared.ReadEnd.{ReadEnd}
 use Rattle.reading.specs.declared.Refusal.{Refusal as FileRefusal}
 use Rattle.reading.specs.declared.read.Stepped.{Stepped}
 use Rattle.literals.specs.Domain.{Domain}
-use Rattle.literals.specs.Decode.{maxFile, Decoded, refused, domain, Reading, ReadTurn, goOn, finish, readFile}
+use Rattle.literals.specs.Decode.{maxFile, Decoded, refused, domain, Reading, ReadTurn, goOn, finish, readFile, maxRelations, maxArguments, maxActions, maxLiterals, maxComponents}
 use Rattle.literals.specs.Table.{indexOf, indexWith, Taken, Shaped, Sized, tableBytes}
 use Rattle.literals.specs.Held.{Held}
 
@@ -28,7 +28,7 @@ takenWith r arities variables sorts starts parts = record { number = r .number; 
 -- what taking a literal asks of the counts and of the arities, variables, sorts and starts
 pub record LiteralReady (n : Counts) (as′ vs ss bs : List ℕ) : Type 0 where
   pub relations : n .relations ≤ length as′
-  pub arities : (i : ℕ) → getD as′ i 0 ≤ 6
+  pub arities : (i : ℕ) → getD as′ i 0 ≤ maxArguments
   pub variables : n .actions ≤ length vs
   pub sorts : n .actions ≤ length ss
   pub starts : n .actions ≤ length bs
@@ -36,15 +36,15 @@ pub record LiteralReady (n : Counts) (as′ vs ss bs : List ℕ) : Type 0 where
 
 -- and of the table: where the literal is long enough and its action not full, there is room for its row
 abbrev pub RowRoom : Counts → List ℕ → List ℕ → List ℕ → Type 0
-RowRoom n starts table p = 2 ≤ length p → n .rows < getD starts (n .actions - 1) 0 + 64 → 8 * (n .rows + 1) ≤ length table
+RowRoom n starts table p = 2 ≤ length p → n .rows < getD starts (n .actions - 1) 0 + maxLiterals → 8 * (n .rows + 1) ≤ length table
 
 -- what taking a component asks of the counts and of the arities and parts
 pub record ComponentReady (n : Counts) (as′ ps : List ℕ) : Type 0 where
   pub relations : n .relations ≤ length as′
-  pub arities : (i : ℕ) → getD as′ i 0 ≤ 6
-  pub components : n .components ≤ 16
-  pub parts : length ps ≡ 128
-  pub keys : n .keys ≤ 6
+  pub arities : (i : ℕ) → getD as′ i 0 ≤ maxArguments
+  pub components : n .components ≤ maxComponents
+  pub parts : length ps ≡ 8 * maxComponents
+  pub keys : n .keys ≤ maxArguments
 
 -- ---- where reading stands
 
@@ -83,9 +83,9 @@ abbrev pub soFar : Reading → ReadTurn → Domain
 soFar q (goOn r) = r .sofar
 soFar q (finish d) = q .sofar
 
--- a table that is enough for a file: 64 actions have at most 64 literals each, and a literal takes at least 6 bytes of the file and 8 of the table
+-- a table that is enough for a file: for all literals that all actions can have, or by the file, of which a literal takes at least 6 bytes, and 8 of the table
 abbrev pub EnoughTable : List ℕ → List ℕ → Type 0
-EnoughTable file table = (32768 ≤ length table) ⊎ (4 * length file ≤ 3 * length table)
+EnoughTable file table = (8 * (maxLiterals * maxActions) ≤ length table) ⊎ (4 * length file ≤ 3 * length table)
 
 -- what a turn asks of the file, of where reading stands and of the table
 pub record StepReady (file table : List ℕ) (p : Standing) : Type 0 where
@@ -97,11 +97,11 @@ pub record StepReady (file table : List ℕ) (p : Standing) : Type 0 where
 
 -- the memories of arities, variables, sorts, starts and parts, all 0
 pub record Cleared (as′ vs ss bs ps : List ℕ) : Type 0 where
-  pub arities : as′ ≡ replicate 64 0
-  pub variables : vs ≡ replicate 64 0
-  pub sorts : ss ≡ replicate 64 0
-  pub starts : bs ≡ replicate 64 0
-  pub parts : ps ≡ replicate 128 0
+  pub arities : as′ ≡ replicate maxRelations 0
+  pub variables : vs ≡ replicate maxActions 0
+  pub sorts : ss ≡ replicate maxActions 0
+  pub starts : bs ≡ replicate maxActions 0
+  pub parts : ps ≡ replicate (8 * maxComponents) 0
 
 -- ---- the answer
 

@@ -4,6 +4,7 @@ use super::ReadEnd;
 use super::take::take_record;
 use literals::Counts;
 use literals::fields::wide;
+use literals::limits::MAX_FILE;
 use records::Record;
 use records::record_at;
 ghost use mathlib.Core.Path.{_≡_};
@@ -166,7 +167,7 @@ pub fn read_into(
         × (now (table .exit) ≡ tableAfter (now (s .entry)) (now (table .entry))) ⌝ }
 {
     let mut progress = Progress::new();
-    if 65535 < s.len() {
+    if MAX_FILE < s.len() {
         let counts = progress.counts;
         return ReadEnd {
             number: 9,

@@ -9,6 +9,10 @@ use literals::fields::count_keys;
 use literals::fields::label_fields;
 use literals::fields::literal_fields;
 use literals::fields::relation_fields;
+use literals::limits::MAX_ACTIONS;
+use literals::limits::MAX_COMPONENTS;
+use literals::limits::MAX_LITERALS;
+use literals::limits::MAX_RELATIONS;
 use literals::row::any_row;
 use literals::row::put_row;
 use literals::row::rows_rank;
@@ -18,12 +22,12 @@ ghost use Prim.Native.Nat.{ℕ, _+_, _-_, _*_, _<_, _≤_};
 ghost use lib.ListN.{length};
 ghost use Rattle.records.specs.Memory.{over};
 ghost use Rattle.literals.specs.Domain.{Domain, keysOf};
-ghost use Rattle.literals.specs.Decode.{relationRecord, actionRecord, literalRecord, componentRecord, closingRecord, kindOf, literalStop, componentOf, componentFault};
+ghost use Rattle.literals.specs.Decode.{maxRelations, maxArguments, maxActions, relationRecord, actionRecord, literalRecord, componentRecord, closingRecord, kindOf, literalStop, componentOf, componentFault};
 ghost use Rattle.literals.specs.Table.{indexWith, Holds, Shaped, Sized, tableBytes, takenOf, behind};
 ghost use Rattle.reading.specs.Reading.{takenWith, LiteralReady, RowRoom, ComponentReady};
 
 pub fn take_relation(counts: Counts, arities: &mut [u8], p: &[u8]) -> Took
-    requires { ⌜ length (now arities) ≡ 64 ⌝ }
+    requires { ⌜ length (now arities) ≡ maxRelations ⌝ }
     ensures { λ r. ⌜ ((D : Domain) (variables sorts starts parts : List ℕ) → Holds D (indexWith counts (now (arities .entry)) variables sorts starts parts)
         → takenWith r (now (arities .exit)) variables sorts starts parts ≡ takenOf D relationRecord (now (p .entry))) ⌝ }
 {
@@ -42,7 +46,7 @@ pub fn take_relation(counts: Counts, arities: &mut [u8], p: &[u8]) -> Took
             counts,
         };
     }
-    if 64 <= n {
+    if MAX_RELATIONS <= n {
         return Took {
             number: 14,
             within: 0,
@@ -74,7 +78,7 @@ pub fn take_action(
     starts: &mut [usize],
     p: &[u8],
 ) -> Took
-    requires { ⌜ (length (now variables) ≡ 64) × (length (now sorts) ≡ 64) × (length (now starts) ≡ 64) ⌝ }
+    requires { ⌜ (length (now variables) ≡ maxActions) × (length (now sorts) ≡ maxActions) × (length (now starts) ≡ maxActions) ⌝ }
     ensures { λ r. ⌜ ((D : Domain) (arities parts : List ℕ) → Holds D (indexWith counts arities (now (variables .entry)) (now (sorts .entry)) (now (starts .entry)) parts)
         → takenWith r arities (now (variables .exit)) (now (sorts .exit)) (now (starts .exit)) parts ≡ takenOf D actionRecord (now (p .entry))) ⌝ }
 {
@@ -86,7 +90,7 @@ pub fn take_action(
             counts,
         };
     }
-    if 64 <= n {
+    if MAX_ACTIONS <= n {
         return Took {
             number: 14,
             within: 0,
@@ -175,7 +179,7 @@ pub fn take_literal(
         };
     }
     let last = n - 1;
-    if 64 <= rows - starts[last] {
+    if MAX_LITERALS <= rows - starts[last] {
         return Took {
             number: 14,
             within: 0,
@@ -202,10 +206,10 @@ pub fn take_literal(
 
 // The number of keys of the template with this component.
 fn keys_with(counts: Counts, p: &[u8]) -> usize
-    requires { ⌜ (counts .keys ≤ 6) × (length (now p) ≤ 7) ⌝ }
+    requires { ⌜ (counts .keys ≤ maxArguments) × (length (now p) ≤ 1 + maxArguments) ⌝ }
     ensures number { λ r. ⌜ ((D : Domain) (arities variables sorts starts parts : List ℕ) → Holds D (indexWith counts arities variables sorts starts parts)
         → r ≡ keysOf (D .template ++ (componentOf (now (p .entry)) ∷ []))) ⌝ }
-    ensures few { λ r. ⌜ r ≤ 6 ⌝ }
+    ensures few { λ r. ⌜ r ≤ maxArguments ⌝ }
 {
     if counts.components == 0 {
         return count_keys(p);
@@ -218,7 +222,7 @@ fn component_fault(counts: Counts, arities: &[u8], parts: &[u8], p: &[u8]) -> Re
     requires { ⌜ ComponentReady counts (now arities) (now parts) ⌝ }
     ensures fault { λ r. ⌜ ((D : Domain) (variables sorts starts : List ℕ) → Holds D (indexWith counts (now (arities .entry)) variables sorts starts (now (parts .entry)))
         → r ≡ componentFault D (now (p .entry))) ⌝ }
-    ensures fits { λ r. ⌜ (r .number ≡ 0 → length (now (p .entry)) ≤ 7) ⌝ }
+    ensures fits { λ r. ⌜ (r .number ≡ 0 → length (now (p .entry)) ≤ 1 + maxArguments) ⌝ }
 {
     let fields = component_fields(counts.relations, arities, p);
     if fields != 0 {
@@ -242,7 +246,7 @@ pub fn take_component(counts: Counts, arities: &[u8], parts: &mut [u8], p: &[u8]
         → takenWith r (now (arities .entry)) variables sorts starts (now (parts .exit)) ≡ takenOf D componentRecord (now (p .entry))) ⌝ }
 {
     let n = counts.components;
-    if 16 <= n {
+    if MAX_COMPONENTS <= n {
         return Took {
             number: 14,
             within: 0,

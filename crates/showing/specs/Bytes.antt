@@ -9,6 +9,7 @@ use Rattle.records.specs.Lists.{keepIf}
 use Rattle.records.specs.Memory.{over}
 use Rattle.literals.specs.declared.Clause.the-variants.{Positive}
 use Rattle.literals.specs.Domain.{Fact, Action, Domain}
+use Rattle.literals.specs.Decode.{maxArguments}
 use Rattle.literals.specs.Held.{bytesFrom, arityIn, partIn}
 use Rattle.classes.specs.declared.Moment.{Moment}
 use Rattle.classes.specs.Classes.{required, classes, nameOf}
@@ -79,7 +80,7 @@ objectByte spare tuple label = cond (ltb label 8) (getD tuple label 0) spare
 
 -- the instance fact of a component by its row
 abbrev pub instanceBytes : ℕ → ℕ → List ℕ → List ℕ → List ℕ
-instanceBytes arity spare tuple row = getD row 0 0 ∷ arity ∷ (map (objectByte spare tuple) (take arity (drop 1 row)) ++ replicate (6 - arity) 255)
+instanceBytes arity spare tuple row = getD row 0 0 ∷ arity ∷ (map (objectByte spare tuple) (take arity (drop 1 row)) ++ replicate (maxArguments - arity) 255)
 
 -- the same, by the head of a domain
 abbrev pub instanceOf : List ℕ → ℕ → ℕ → List ℕ → List ℕ

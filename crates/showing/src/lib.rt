@@ -12,6 +12,7 @@ use literals::head::components_in;
 use literals::head::part_byte;
 use literals::head::rows_of;
 use literals::head::variables_of;
+use literals::limits::MAX_LITERALS;
 ghost use mathlib.Core.Path.{_≡_};
 ghost use mathlib.Core.Bool.{true};
 ghost use mathlib.Core.List.{[]};
@@ -21,6 +22,7 @@ ghost use lib.Seq.{paste};
 ghost use Rattle.records.specs.Lists.{countBy};
 ghost use Rattle.records.specs.Memory.{over};
 ghost use Rattle.literals.specs.Domain.{Domain, Action, action};
+ghost use Rattle.literals.specs.Decode.{maxArguments, maxLiterals, maxComponents};
 ghost use Rattle.literals.specs.Table.{rowsIn};
 ghost use Rattle.literals.specs.Held.{partIn, Held};
 ghost use Rattle.classes.specs.Classes.{classes, lastsIn};
@@ -32,8 +34,8 @@ ghost use Rattle.showing.specs.Bytes.{RefusedAt, ShownAt, firstClauses, 
 
 // How many literals are true conditions at the moment.
 fn count_conditions(clauses: &Marks, n: usize) -> usize
-    requires { ⌜ n ≤ 64 ⌝ }
-    ensures { λ r. ⌜ (r ≡ countBy isCondition (firstClauses n (now (clauses .entry)))) × (r ≤ 64) ⌝ }
+    requires { ⌜ n ≤ maxLiterals ⌝ }
+    ensures { λ r. ⌜ (r ≡ countBy isCondition (firstClauses n (now (clauses .entry)))) × (r ≤ maxLiterals) ⌝ }
 {
     let mut k: usize = 0;
     for j in 0..n {
@@ -85,7 +87,7 @@ fn put_if(out: &mut [u8], at: usize, head: &Head, rows: &[u8], row: usize, claus
 
 // The facts of the true conditions, in file order.
 fn put_conditions(out: &mut [u8], head: &Head, rows: &[u8], clauses: &Marks, n: usize)
-    requires few { ⌜ n ≤ 64 ⌝ }
+    requires few { ⌜ n ≤ maxLiterals ⌝ }
     requires rowed { ⌜ 8 * n ≤ length (now rows) ⌝ }
     requires room { ⌜ 8 * countBy isCondition (firstClauses n (now clauses)) ≤ length (now out) ⌝ }
     ensures { λ _. ⌜ now (out .exit)
@@ -118,7 +120,7 @@ fn instance_byte(
     spare: u8,
     i: usize,
 ) -> u8
-    requires component { ⌜ (c < 16) × (arity ≤ 6) ⌝ }
+    requires component { ⌜ (c < maxComponents) × (arity ≤ maxArguments) ⌝ }
     requires inside { ⌜ i < 8 ⌝ }
     requires tuple { ⌜ 8 * class + 8 ≤ length (now tuples) ⌝ }
     ensures { λ r. ⌜ r ≡ getD (instanceBytes arity spare (take 8 (drop (8 * class) (now (tuples .entry)))) (partIn (now (head .entry)) c)) i 0 ⌝ }
@@ -145,7 +147,7 @@ fn put_instance(
     class: usize,
     spare: u8,
 )
-    requires component { ⌜ c < 16 ⌝ }
+    requires component { ⌜ c < maxComponents ⌝ }
     requires room { ⌜ at + 8 ≤ length (now out) ⌝ }
     requires tuple { ⌜ 8 * class + 8 ≤ length (now tuples) ⌝ }
     ensures { λ _. ⌜ now (out .exit)
@@ -159,12 +161,12 @@ fn put_instance(
 
 // The witness of a moment that is not unbounded: the true conditions that are asked there. Whether they fit; nothing is written where they do not.
 fn put_plain(head: &Head, rows: &[u8], n: usize, m: Moment, out: &mut [u8]) -> bool
-    requires few { ⌜ n ≤ 64 ⌝ }
+    requires few { ⌜ n ≤ maxLiterals ⌝ }
     requires rowed { ⌜ length (now rows) ≡ 8 * n ⌝ }
     ensures { λ r. ⌜ ((D : Domain) (a : Action) (j number : ℕ) → ActionOf D a (now (head .entry)) (now (rows .entry))
         → RefusedAt D a j m number → (number ≡ 42 → ⊥) → ShownAt D a j m (now (out .entry)) (now (out .exit)) r) ⌝ }
 {
-    let mut asked = [0u8; 64];
+    let mut asked = [0u8; MAX_LITERALS];
     clauses_at(true, rows, n, m, &mut asked);
     let k = count_conditions(&asked, n);
     if out.len() < 8 * k {
@@ -184,11 +186,11 @@ fn open_class(
     m: Moment,
     class: u8,
 ) -> usize
-    requires few { ⌜ length (now of) ≤ 64 ⌝ }
+    requires few { ⌜ length (now of) ≤ maxLiterals ⌝ }
     requires rowed { ⌜ length (now rows) ≡ 8 * length (now of) ⌝ }
-    requires room { ⌜ length (now tuples) ≡ 512 ⌝ }
+    requires room { ⌜ length (now tuples) ≡ 8 * maxLiterals ⌝ }
     ensures { λ r. ⌜ ((D : Domain) (a : Action) → ActionOf D a (now (head .entry)) (now (rows .entry))
-        → now (tuples .entry) ≡ replicate 512 255 → class < length (classes D a)
+        → now (tuples .entry) ≡ replicate (8 * maxLiterals) 255 → class < length (classes D a)
         → (now (tuples .exit) ≡ classTuples D a) × (r ≡ uncoveredAt D a (getD (classes D a) class []) m)) ⌝ }
 {
     number_classes(head, rows, of, tuples);
@@ -208,19 +210,19 @@ fn put_open(
     m: Moment,
     out: &mut [u8],
 ) -> bool
-    requires few { ⌜ (n ≤ 64) × (j < 64) ⌝ }
+    requires few { ⌜ (n ≤ maxLiterals) × (j < maxLiterals) ⌝ }
     requires rowed { ⌜ length (now rows) ≡ 8 * n ⌝ }
     ensures { λ r. ⌜ ((D : Domain) (a : Action) → ActionOf D a (now (head .entry)) (now (rows .entry))
         → spare ≡ a .vars → RefusedAt D a j m 42 → ShownAt D a j m (now (out .entry)) (now (out .exit)) r) ⌝ }
 {
-    let mut asked = [0u8; 64];
+    let mut asked = [0u8; MAX_LITERALS];
     clauses_at(true, rows, n, m, &mut asked);
     let k = count_conditions(&asked, n);
     if out.len() < 8 * k + 8 {
         return false;
     }
-    let mut of = [0u8; 64];
-    let mut tuples = [255u8; 512];
+    let mut of = [0u8; MAX_LITERALS];
+    let mut tuples = [255u8; 8 * MAX_LITERALS];
     let u = open_class(head, rows, &mut of[0..n], &mut tuples, m, j as u8);
     if components_in(head) <= u {
         return false;
@@ -241,7 +243,7 @@ fn put_witness(
     number: u64,
     out: &mut [u8],
 ) -> bool
-    requires few { ⌜ (n ≤ 64) × (j < 64) ⌝ }
+    requires few { ⌜ (n ≤ maxLiterals) × (j < maxLiterals) ⌝ }
     requires rowed { ⌜ length (now rows) ≡ 8 * n ⌝ }
     ensures { λ r. ⌜ ((D : Domain) (a : Action) → ActionOf D a (now (head .entry)) (now (rows .entry))
         → spare ≡ a .vars → RefusedAt D a j m number → ShownAt D a j m (now (out .entry)) (now (out .exit)) r) ⌝ }
@@ -305,7 +307,7 @@ pub fn show(
     if actions_in(head) <= i {
         return false;
     }
-    if 64 <= j {
+    if MAX_LITERALS <= j {
         return false;
     }
     let span = rows_of(head, table, i);

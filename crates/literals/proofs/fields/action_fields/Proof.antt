@@ -7,6 +7,9 @@ use Rattle.literals.specs.Decode.{actionStop}
 use Rattle.literals.proofs.fields.action_fields.Statement.{statement}
 use Rattle.literals.proofs.fields.action_fields.Tie as tie
 
+cast-if2 : tie.Need-cast-if2
+cast-if2 c = search needs
+
 shared-slice-read-if2 : tie.Need-shared-slice-read-if2
 shared-slice-read-if2 c = search needs
 
@@ -36,4 +39,5 @@ returns-4 c = simp (ne-eqb (length (c .before .args .p .now)) 2 (omega arith))
 pub action-fields-spec : {M : Type 1} → statement M
 action-fields-spec =
     tie.close
-    (tie.spec shared-slice-read-if2 returns shared-slice-read-if3 returns-2 returns-3 returns-4)
+    (tie.spec cast-if2
+    shared-slice-read-if2 returns shared-slice-read-if3 returns-2 returns-3 returns-4)

@@ -7,6 +7,9 @@ use Rattle.literals.specs.Decode.{relationStop}
 use Rattle.literals.proofs.fields.relation_fields.Statement.{statement}
 use Rattle.literals.proofs.fields.relation_fields.Tie as tie
 
+cast-if2 : tie.Need-cast-if2
+cast-if2 c = search needs
+
 shared-slice-read-if2 : tie.Need-shared-slice-read-if2
 shared-slice-read-if2 c = search needs
 
@@ -23,4 +26,5 @@ unfolding relationStop
 returns-3 c = simp (ne-eqb (length (c .before .args .p .now)) 1 (omega arith))
 
 pub relation-fields-spec : {M : Type 1} → statement M
-relation-fields-spec = tie.close (tie.spec shared-slice-read-if2 returns returns-2 returns-3)
+relation-fields-spec = tie.close (tie.spec cast-if2
+    shared-slice-read-if2 returns returns-2 returns-3)

@@ -14,6 +14,9 @@ add-limited c = search needs
 element-copy-out-limited : tie.Need-element-copy-out-limited
 element-copy-out-limited c = search needs
 
+cast-limited : tie.Need-cast-limited
+cast-limited c = search needs
+
 limited-requires : tie.Need-limited-requires
 limited-requires c κs = search needs
 
@@ -33,6 +36,7 @@ arity-of-spec =
     wide-requires
     add-limited
     element-copy-out-limited
+    cast-limited
     limited-requires
     returns
     returns-2)

@@ -9,6 +9,9 @@ use Rattle.literals.proofs.head.keys_in.Tie as tie
 element-copy-out-limited : tie.Need-element-copy-out-limited
 element-copy-out-limited c = search needs
 
+cast-limited : tie.Need-cast-limited
+cast-limited c = search needs
+
 limited-requires : tie.Need-limited-requires
 limited-requires c κs = search needs
 
@@ -20,4 +23,5 @@ unfolding keysIn
 returns c = let l = c .before .limited .ensures in (c .wide .ensures .0 ∙ l .0, omega arith)
 
 pub keys-in-spec : {M : Type 1} → statement M
-keys-in-spec = tie.close (tie.spec element-copy-out-limited limited-requires wide-requires returns)
+keys-in-spec = tie.close (tie.spec element-copy-out-limited cast-limited
+    limited-requires wide-requires returns)

@@ -1,10 +1,12 @@
 -- `pack` meets its contract: the sections one behind the other. Assumes nothing.
 use mathlib.Core.Path.{_≡_, ap, _∙_}
 use mathlib.Core.List.{List}
-use Prim.Native.Nat.{ℕ}
+use Prim.Native.Nat.{ℕ, _*_}
 use borrow.Author.Needs.{needs}
 use lib.ListN.{length}
 use lib.Seq.{paste}
+use Rattle.literals.specs.Held.{atArities, atParts, atVariables, atSorts, atSizes}
+use Rattle.literals.specs.Decode.{maxActions}
 use Rattle.literals.proofs.Held.{arities-is, variables-is, sorts-is, parts-is}
 use Rattle.literals.proofs.Packs.{length-spans, packed}
 use Rattle.literals.proofs.head.pack.Statement.{statement}
@@ -66,13 +68,13 @@ returns c D H =
     let first = c .before .before .before .before .before .before .before .before .before .before .before .before .before .before .before .before .before .before .before .before .before .counts-of .result in
     let spans = c .before .before .before .before .before .before .before .before .before .before .before .before .before .before .before .before .before .before .before .before .spans-of .result in
     let few : length first ≡ 8 = ap length (c .before .before .before .before .before .before .before .before .before .before .before .before .before .before .before .before .before .before .before .before .before .counts-of .ensures D _ _ _ _ _ H) in
-    let all : length spans ≡ 192 = ap length (c .before .before .before .before .before .before .before .before .before .before .before .before .before .before .before .before .before .before .before .before .spans-of .ensures D _ _ _ _ H) ∙ length-spans D (H .bounded) in
+    let all : length spans ≡ 3 * maxActions = ap length (c .before .before .before .before .before .before .before .before .before .before .before .before .before .before .before .before .before .before .before .before .spans-of .ensures D _ _ _ _ H) ∙ length-spans D (H .bounded) in
     c .before .put-bytes6 .ensures
-    ∙ ap (λ (t : List ℕ). paste t 328 spans (length spans)) (c .before .before .before .before .before .put-bytes5 .ensures
-    ∙ ap (λ (t : List ℕ). paste t 264 (a .sorts .now) (length (a .sorts .now))) (c .before .before .before .before .before .before .before .before .put-bytes4 .ensures
-    ∙ ap (λ (t : List ℕ). paste t 200 (a .variables .now) (length (a .variables .now))) (c .before .before .before .before .before .before .before .before .before .before .before .put-bytes3 .ensures
-    ∙ ap (λ (t : List ℕ). paste t 72 (a .parts .now) (length (a .parts .now))) (c .before .before .before .before .before .before .before .before .before .before .before .before .before .before .put-bytes2 .ensures
-    ∙ ap (λ (t : List ℕ). paste t 8 (a .arities .now) (length (a .arities .now))) (c .before .before .before .before .before .before .before .before .before .before .before .before .before .before .before .before .before .put-bytes .ensures)))))
+    ∙ ap (λ (t : List ℕ). paste t atSizes spans (length spans)) (c .before .before .before .before .before .put-bytes5 .ensures
+    ∙ ap (λ (t : List ℕ). paste t atSorts (a .sorts .now) (length (a .sorts .now))) (c .before .before .before .before .before .before .before .before .put-bytes4 .ensures
+    ∙ ap (λ (t : List ℕ). paste t atVariables (a .variables .now) (length (a .variables .now))) (c .before .before .before .before .before .before .before .before .before .before .before .put-bytes3 .ensures
+    ∙ ap (λ (t : List ℕ). paste t atParts (a .parts .now) (length (a .parts .now))) (c .before .before .before .before .before .before .before .before .before .before .before .before .before .before .put-bytes2 .ensures
+    ∙ ap (λ (t : List ℕ). paste t atArities (a .arities .now) (length (a .arities .now))) (c .before .before .before .before .before .before .before .before .before .before .before .before .before .before .before .before .before .put-bytes .ensures)))))
     ∙ packed D first (a .arities .now) (a .parts .now) (a .variables .now) (a .sorts .now) spans
     (c .before .before .before .before .before .before .before .before .before .before .before .before .before .before .before .before .before .before .before .before .before .counts-of .ensures D _ _ _ _ _ H) (arities-is H) (parts-is H) (variables-is H) (sorts-is H) (c .before .before .before .before .before .before .before .before .before .before .before .before .before .before .before .before .before .before .before .before .spans-of .ensures D _ _ _ _ H)
     few (p .arities-room) (p .parts-room) (p .variables-room) (p .sorts-room) all

@@ -38,6 +38,9 @@ add-limited c = search needs
 element-copy-out-limited : tie.Need-element-copy-out-limited
 element-copy-out-limited c = search needs
 
+cast-limited : tie.Need-cast-limited
+cast-limited c = search needs
+
 limited-requires : tie.Need-limited-requires
 limited-requires c κs = search needs
 
@@ -79,6 +82,7 @@ rows-of-spec =
     add-from
     add-limited
     element-copy-out-limited
+    cast-limited
     limited-requires
     wide-requires-3
     add-to

@@ -7,6 +7,7 @@ use native.Mathlib.Omega.{arith}
 use borrow.Author.Needs.{needs}
 use lib.Dec.{ltb}
 use lib.ListN.{length, getD}
+use Rattle.literals.specs.Decode.{maxActions, maxLiterals}
 use Rattle.literals.specs.Domain.{Domain, action}
 use Rattle.literals.specs.Table.{startsFrom, indexWith, Holds}
 use Rattle.literals.proofs.Tables.{pad-at}
@@ -24,7 +25,7 @@ abbrev μ-loop : tie.MeasureT-loop
 μ-loop counts starts spans₀ i₀ i-end spans i = counts .actions - i
 
 -- the bounds of a span
-fits : (b : tie.After-span-of Inv-loop μ-loop) → (b .span-of .result .from ≤ b .span-of .result .to) × (b .span-of .result .to ≤ b .span-of .result .from + 64) × (b .span-of .result .to ≤ 4096)
+fits : (b : tie.After-span-of Inv-loop μ-loop) → (b .span-of .result .from ≤ b .span-of .result .to) × (b .span-of .result .to ≤ b .span-of .result .from + maxLiterals) × (b .span-of .result .to ≤ 4096)
 fits b =
     let p = b .before .before .before .before .pre in
     let i = b .before .before .loop .i in
@@ -88,7 +89,7 @@ loop-again c =
           let h : l .i < length (D .actions) = omega arith in
           let m = ap₂ _-_ (b .ensures .1) (b .ensures .0) ∙ span-size H (l .i) h in
           spans-next D (H .bounded) (l .i) h (l .spans) (l .inv .1 D arities variables sorts parts H) _ _ m
-          (b .ensures .0 ∙ ap (λ (s : List ℕ). getD s (l .i) 0) (starts-is H) ∙ pad-at 64 (startsFrom 0 (D .actions)) (l .i)),
+          (b .ensures .0 ∙ ap (λ (s : List ℕ). getD s (l .i) 0) (starts-is H) ∙ pad-at maxActions (startsFrom 0 (D .actions)) (l .i)),
     )
 
 returns : tie.Need-returns Inv-loop μ-loop

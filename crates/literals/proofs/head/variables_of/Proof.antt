@@ -10,6 +10,9 @@ add-limited c = search needs
 element-copy-out-limited : tie.Need-element-copy-out-limited
 element-copy-out-limited c = search needs
 
+cast-limited : tie.Need-cast-limited
+cast-limited c = search needs
+
 limited-requires : tie.Need-limited-requires
 limited-requires c κs = search needs
 
@@ -19,4 +22,5 @@ returns c = c .limited .ensures
 
 pub variables-of-spec : {M : Type 1} → statement M
 variables-of-spec =
-    tie.close (tie.spec add-limited element-copy-out-limited limited-requires returns)
+    tie.close (tie.spec add-limited element-copy-out-limited cast-limited
+    limited-requires returns)
