@@ -4,9 +4,10 @@ use crate::domain::{Domain, Names};
 use crate::library::{judge, Judged};
 use crate::notation::source::{tell, Fault};
 use crate::notation::written::Written;
-use crate::notation::{domain_text, refused, run_text, source};
+use crate::notation::{domain_text, refused, run_text};
 use crate::numbers::says;
 use crate::records::{Record, EVENT, OBJECTS};
+use std::ffi::OsStr;
 use std::fs;
 use std::io::{self, Read};
 
@@ -20,16 +21,15 @@ pub enum Trouble {
 }
 
 /// The name of a file for people; standard input has none.
-pub fn shown_name(name: &str) -> &str {
+pub fn shown_name(name: &OsStr) -> String {
     if name == "-" {
-        "standard input"
-    } else {
-        name
+        return "standard input".to_string();
     }
+    name.to_string_lossy().chars().map(|sign| if sign.is_control() { '?' } else { sign }).collect()
 }
 
 /// The bytes of a file; `-` is standard input.
-pub fn load(name: &str) -> Result<Vec<u8>, Trouble> {
+pub fn load(name: &OsStr) -> Result<Vec<u8>, Trouble> {
     let read = if name == "-" {
         let mut bytes = Vec::new();
         io::stdin().lock().read_to_end(&mut bytes).map(|_| bytes)
@@ -83,18 +83,16 @@ impl LoadedDomain {
                     written: written.clone(),
                     names: self.names.clone(),
                 });
-                tell(shown_name(&self.name), text, &faults)
+                tell(&self.name, text, &faults)
             }
-            None => {
-                refusal_of_bytes(shown_name(&self.name), &self.file, self.judged.number, self.judged.places[0] as usize)
-            }
+            None => refusal_of_bytes(&self.name, &self.file, self.judged.number, self.judged.places[0] as usize),
         }
     }
 }
 
 /// Reads a domain. Words that can't be written are broken; bytes that the library refuses are for the caller to tell.
-pub fn load_domain(name: &str) -> Result<LoadedDomain, Trouble> {
-    domain_of(name, load(name)?)
+pub fn load_domain(name: &OsStr) -> Result<LoadedDomain, Trouble> {
+    domain_of(&shown_name(name), load(name)?)
 }
 
 /// The same of a file's content.
@@ -105,7 +103,7 @@ pub fn domain_of(name: &str, content: Vec<u8>) -> Result<LoadedDomain, Trouble> 
     }
     let text = text_of(name, content)?;
     if run_text::is_run(&text) {
-        let said = format!("{}: this is a run; a domain is expected here\n", shown_name(name));
+        let said = format!("{name}: this is a run; a domain is expected here\n");
         return Err(Trouble::Broken(said));
     }
     let read = domain_text::read(&text).map_err(|faults| broken_text(name, &text, &faults))?;
@@ -139,8 +137,8 @@ impl LoadedRun {
 }
 
 /// Reads a run of a domain.
-pub fn load_run(name: &str, domain: Option<&Domain>) -> Result<LoadedRun, Trouble> {
-    run_of(name, load(name)?, domain)
+pub fn load_run(name: &OsStr, domain: Option<&Domain>) -> Result<LoadedRun, Trouble> {
+    run_of(&shown_name(name), load(name)?, domain)
 }
 
 /// The same of a file's content.
@@ -150,7 +148,7 @@ pub fn run_of(name: &str, content: Vec<u8>, domain: Option<&Domain>) -> Result<L
     }
     let text = text_of(name, content)?;
     if !run_text::is_run(&text) {
-        let said = format!("{}: this is no run: its first word should be `objects`\n", shown_name(name));
+        let said = format!("{name}: this is no run: its first word should be `objects`\n");
         return Err(Trouble::Broken(said));
     }
     let read = run_text::read(&text, domain).map_err(|faults| broken_text(name, &text, &faults))?;
@@ -168,7 +166,6 @@ pub fn is_run(content: &[u8]) -> bool {
 
 /// A file that begins as a text, as one; told is what it is where it can't be words of the notation.
 fn text_of(name: &str, content: Vec<u8>) -> Result<String, Trouble> {
-    let name = shown_name(name);
     let text = String::from_utf8(content).map_err(|error| {
         let at = error.utf8_error().valid_up_to();
         let line = error.as_bytes()[..at].iter().filter(|&&byte| byte == b'\n').count() + 1;
@@ -191,7 +188,7 @@ fn is_hexadecimal(text: &str) -> bool {
 }
 
 fn broken_text(name: &str, text: &str, faults: &[Fault]) -> Trouble {
-    Trouble::Broken(tell(shown_name(name), text, faults))
+    Trouble::Broken(tell(name, text, faults))
 }
 
 /// Why the library refuses a file in bytes, by the record at fault, and what the file may be instead.
@@ -225,9 +222,4 @@ fn looks_like(file: &[u8]) -> Option<&'static str> {
         return Some("it looks like a text in UTF-16: save it as UTF-8");
     }
     None
-}
-
-/// The width of a text on a terminal, for columns.
-pub fn width(text: &str) -> usize {
-    source::columns(text)
 }

@@ -1,9 +1,18 @@
 //! The command `goadlotus`: carries the verified library's answers to people. It takes domains and runs in words and in
 //! bytes, and every verdict, name, witness, state, weight and number that it shows is the library's.
 
+pub mod arguments;
 pub mod domain;
+pub mod explain;
 pub mod files;
+pub mod folder;
+pub mod help;
 pub mod library;
 pub mod notation;
 pub mod numbers;
+pub mod output;
+pub mod prose;
+pub mod reasons;
 pub mod records;
+pub mod table;
+pub mod words;
