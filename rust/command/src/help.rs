@@ -12,6 +12,7 @@ runs of the procedures that change them
   goadlotus judge FILE ..       the verdict of a domain and the name of each class;
                                 of many files or a folder a table
   goadlotus explain FILE        the verdict in sentences, with the reason for each name
+  goadlotus play DOMAIN RUN     a run step by step, where it stops and why
   goadlotus show FILE           a file in words
   goadlotus write FILE -o OUT   a file in bytes, from words
   goadlotus --help, goadlotus WORD --help, goadlotus --version
@@ -31,6 +32,7 @@ pub fn of(word: &str) -> String {
     match word {
         "judge" => JUDGE,
         "explain" => EXPLAIN,
+        "play" => PLAY,
         "show" => SHOW,
         "write" => WRITE,
         _ => "",
@@ -58,6 +60,19 @@ which literals count, why it has its name, and why not the one before it in the
 list. For a refusal the witness: facts, the event, and the facts after it.
 
 Status: 0 accepted, 3 refused, 4 a broken file, 1 it can't be read.
+";
+
+const PLAY: &str = "\
+goadlotus play [--all] DOMAIN RUN
+
+A run in sentences. For each step: its events, the facts that go and come, what is
+open, and the weight of each instance that loses or gets a fact. Where it stops:
+which condition fails, what isn't open, or which two events interfere. Last a line
+of time: * at once, [ start, ] end, = open, and the highest weight after each step.
+Of more than 60 steps only the last 20 are told, unless --all stands there.
+
+Status: 0 played to the end, 3 a step that isn't allowed, 4 a broken file, 1 a file
+can't be read.
 ";
 
 const SHOW: &str = "\

@@ -9,7 +9,7 @@ pub fn wrap(first: &str, others: &str, sentence: &str) -> String {
     let mut text = String::new();
     let mut line = first.to_string();
     let mut is_empty = true;
-    for word in sentence.split(' ').filter(|word| !word.is_empty()) {
+    for word in words(sentence) {
         if !is_empty && columns(&line) + 1 + columns(word) > WIDTH {
             text += line.trim_end();
             text.push('\n');
@@ -23,6 +23,26 @@ pub fn wrap(first: &str, others: &str, sentence: &str) -> String {
         is_empty = false;
     }
     text + line.trim_end() + "\n"
+}
+
+/// The words of a sentence; a literal or a fact, `at(volume, shelf)`, is one word.
+fn words(sentence: &str) -> Vec<&str> {
+    let (mut words, mut from, mut depth, mut before) = (Vec::new(), 0, 0, ' ');
+    for (at, sign) in sentence.char_indices() {
+        match sign {
+            '(' if depth > 0 || before != ' ' => depth += 1,
+            ')' if depth > 0 => depth -= 1,
+            ' ' if depth == 0 => {
+                words.push(&sentence[from..at]);
+                from = at + 1;
+            }
+            _ => {}
+        }
+        before = sign;
+    }
+    words.push(&sentence[from..]);
+    words.retain(|word| !word.is_empty());
+    words
 }
 
 /// A sentence with the same indent on all lines.
@@ -56,6 +76,7 @@ mod tests {
         assert_eq!(text.split_whitespace().filter(|word| *word == "word").count(), 60);
         let long = "x".repeat(100);
         assert_eq!(paragraph("  ", &long), format!("  {long}\n"));
+        assert_eq!(words("if at(a, b) (or so) goes, c(d)."), ["if", "at(a, b)", "(or", "so)", "goes,", "c(d)."]);
         assert_eq!(listed(&["a".into(), "b".into(), "c".into()]), "a, b and c");
     }
 }

@@ -2,6 +2,7 @@
 
 pub mod explain;
 pub mod judge;
+pub mod play;
 pub mod show;
 pub mod write;
 
@@ -20,9 +21,10 @@ struct Word {
 
 const NONE: Options = Options { form: false, output: false, rows: false, all: false };
 
-const WORDS: [Word; 4] = [
+const WORDS: [Word; 5] = [
     Word { name: "judge", options: Options { form: true, rows: true, ..NONE }, run: judge::run },
     Word { name: "explain", options: NONE, run: explain::run },
+    Word { name: "play", options: Options { all: true, ..NONE }, run: play::run },
     Word { name: "show", options: Options { output: true, ..NONE }, run: show::run },
     Word { name: "write", options: Options { output: true, ..NONE }, run: write::run },
 ];
