@@ -4,8 +4,9 @@ use crate::domain::{Action, Domain, Literal, Time};
 use crate::files::LoadedDomain;
 use crate::library::{play, weight, Fact, Judged, Name, Played, Row};
 use crate::prose::{listed, paragraph, wrap};
-use crate::reasons::{classes, counting, is_journey, why, Class, Counting, Lack, Why};
+use crate::reasons::{classes, is_journey, Class, Counting};
 use crate::records::{put, CLOSE_RUN, CLOSE_STEP, EVENT, OBJECTS, START_FACT};
+use crate::sentences::{about, moment_word, Sentences};
 
 /// Everything about a domain that the library reads.
 pub fn explain(loaded: &LoadedDomain) -> String {
@@ -24,23 +25,6 @@ pub fn verdict_word(number: u64) -> &'static str {
         0 | 1 => "accepted",
         40..=43 => "refused",
         _ => "not read",
-    }
-}
-
-/// When the event of a row happens.
-pub fn moment_word(action: &Action, moment: u8) -> &'static str {
-    match moment {
-        _ if !action.lasting => "at once",
-        0 => "at the start",
-        _ => "at the end",
-    }
-}
-
-/// What a class is about: the variables under its keys; without keys there is one class, about the template itself.
-pub fn about(action: &Action, class: &Class) -> String {
-    match &class.key_tuple[..] {
-        [] => "the template".to_string(),
-        tuple => listed(&tuple.iter().map(|&variable| action.variable(variable)).collect::<Vec<_>>()),
     }
 }
 
@@ -118,15 +102,14 @@ impl Explained<'_> {
         if self.judged().named() == Some(row) {
             text += "    THE FAULT\n";
         }
-        let counting = counting(class, row.moment);
-        text += &self.literals(action, class, &counting);
-        let why = why(self.domain, &counting);
-        if why.name() != row.name {
+        let sentences = Sentences::new(self.domain, action, class, row.moment);
+        text += &self.literals(action, class, &sentences.counting);
+        if sentences.name() != row.name {
             return text + &no_reason(row);
         }
-        text += &wrap("    ", "      ", &format!("{}: {}", row.name.word(), self.reason(action, class, &why)));
-        if let Some((before, reason)) = self.reason_not_before(action, class, &counting, &why) {
-            text += &wrap("    ", "      ", &format!("not {}: {reason}", before.word()));
+        text += &wrap("    ", "      ", &format!("{}: {}", row.name.word(), sentences.reason()));
+        if let Some(before) = row.name.before() {
+            text += &wrap("    ", "      ", &format!("not {}: {}", before.word(), sentences.reason_not(before)));
         }
         if is_end_of_journey && row.name >= Name::Bounded {
             let said = "its start takes the fact away that it asks for, so the end fills what is empty.";
@@ -158,95 +141,6 @@ impl Explained<'_> {
     fn literal_line(&self, action: &Action, literal: &Literal) -> String {
         let over_all = if literal.time == Time::All { "  (over all)" } else { "" };
         format!("      {:6} {}{over_all}\n", literal.list.word(), self.domain.literal(action, literal))
-    }
-
-    fn words(&self, action: &Action, literals: &[&Literal]) -> String {
-        listed(&literals.iter().map(|literal| self.domain.literal(action, literal)).collect::<Vec<_>>())
-    }
-
-    /// Why the name fits.
-    fn reason(&self, action: &Action, class: &Class, why: &Why) -> String {
-        let about = about(action, class);
-        let literal = |literal: &Literal| self.domain.literal(action, literal);
-        match why {
-            Why::Unreachable { trues } => format!(
-                "it asks for {} facts of {about} at once, {}; where {about} has at most one, it never happens.",
-                trues.len(),
-                self.words(action, trues)
-            ),
-            Why::Irrelevant { .. } => format!("it adds no fact of {about}."),
-            Why::Heavy { adds } => format!("it adds {} facts of {about}: {}.", adds.len(), self.words(action, adds)),
-            Why::Balanced { add, added: true, .. } => {
-                format!("the one fact of {about} that it adds, {}, is the one that it asks for.", literal(add))
-            }
-            Why::Balanced { condition, add, .. } => {
-                format!("it asks for {} and deletes it, and {} comes in its place.", literal(condition), literal(add))
-            }
-            Why::Unbalanced { condition, add } => format!(
-                "it asks for {} and leaves it true, and adds {}: then both are true of {about}.",
-                literal(condition),
-                literal(add)
-            ),
-            Why::Bounded { add, covered } => {
-                let covering: Vec<String> = covered.iter().map(|cover| self.covering(action, cover)).collect();
-                format!(
-                    "it adds {} and asks for no fact of {about}, and every component is covered, so no other fact of {about} is true then: {}.",
-                    literal(add),
-                    covering.join(", ")
-                )
-            }
-            Why::Unbounded { add, component, lack } => format!(
-                "it adds {} and asks for no fact of {about}, so {about} may have one already: {}.",
-                literal(add),
-                self.lack(&about, *component, *lack)
-            ),
-        }
-    }
-
-    fn covering(&self, action: &Action, (component, literal): &(usize, &Literal)) -> String {
-        let component = self.domain.component_words(&self.domain.components[*component]);
-        format!("{component} by {} {}", literal.list.word(), self.domain.literal(action, literal))
-    }
-
-    fn lack(&self, about: &str, component: usize, lack: Lack) -> String {
-        let component = &self.domain.components[component];
-        let words = self.domain.component_words(component);
-        let relation = self.domain.relation_name(component.relation);
-        match lack {
-            Lack::Counted => {
-                format!("the component {words} has a counted place, so there are facts of it that no literal names")
-            }
-            Lack::Unnamed => format!(
-                "the component {words} is not covered, as no false, add or delete here is of {relation} and {about}"
-            ),
-        }
-    }
-
-    /// The name before in the list, and why it doesn't fit.
-    fn reason_not_before(
-        &self,
-        action: &Action,
-        class: &Class,
-        counting: &Counting,
-        why: &Why,
-    ) -> Option<(Name, String)> {
-        let before = why.name().before()?;
-        let about = about(action, class);
-        let reason = match why {
-            Why::Unreachable { .. } => return None,
-            Why::Irrelevant { condition: Some(condition) } => {
-                format!("it asks for no more than one fact of {about}, {}.", self.domain.literal(action, condition))
-            }
-            Why::Irrelevant { condition: None } => format!("it asks for no fact of {about}."),
-            Why::Heavy { .. } => "it adds facts.".to_string(),
-            Why::Balanced { .. } => format!("it adds only {}.", self.words(action, &counting.adds)),
-            Why::Unbalanced { condition, .. } => {
-                format!("{} is neither deleted nor added.", self.domain.literal(action, condition))
-            }
-            Why::Bounded { .. } => format!("it asks for no fact of {about}."),
-            Why::Unbounded { .. } => "for that every component would have to be covered.".to_string(),
-        };
-        Some((before, reason))
     }
 
     /// What shows the refusal, where something does.

@@ -218,7 +218,10 @@ fn looks_like(file: &[u8]) -> Option<&'static str> {
     if file.iter().all(u8::is_ascii_whitespace) {
         return Some("the file has nothing but blanks");
     }
-    if file.starts_with(&[0xFF, 0xFE]) || file.starts_with(&[0xFE, 0xFF]) {
+    let has_mark = file.starts_with(&[0xFF, 0xFE]) || file.starts_with(&[0xFE, 0xFF]);
+    // a text of plain letters has a zero in every second byte
+    let is_letter = |pair: &[u8]| pair.contains(&0) && pair.iter().any(|&byte| byte >= b' ');
+    if has_mark || file.len() >= 16 && file[..16].chunks(2).all(is_letter) {
         return Some("it looks like a text in UTF-16: save it as UTF-8");
     }
     None

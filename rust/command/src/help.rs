@@ -6,15 +6,17 @@ pub fn version() -> String {
 
 pub fn all() -> String {
     "\
-goadlotus: says whether a family of facts may be joined into one field, and plays
-runs of the procedures that change them
+goadlotus: says whether a family of facts may be joined into one field, and
+plays runs of the procedures that change them
 
-  goadlotus judge FILE ..       the verdict of a domain and the name of each class;
-                                of many files or a folder a table
-  goadlotus explain FILE        the verdict in sentences, with the reason for each name
-  goadlotus play DOMAIN RUN     a run step by step, where it stops and why
-  goadlotus show FILE           a file in words
-  goadlotus write FILE -o OUT   a file in bytes, from words
+  goadlotus judge FILE ..      the verdict of a domain and the name of each
+                               class; of many files or a folder a table
+  goadlotus explain FILE       the verdict in sentences, with every reason
+  goadlotus play DOMAIN RUN    a run step by step, where it stops and why
+  goadlotus mark DOMAIN FILE   a student's names against the program's; of many
+                               hand-ins or a folder a table
+  goadlotus show FILE          a file in words
+  goadlotus write FILE -o OUT  a file in bytes, from words
   goadlotus --help, goadlotus WORD --help, goadlotus --version
 
 A FILE is in words or in bytes, which is told by its first bytes; - is standard
@@ -32,6 +34,7 @@ pub fn of(word: &str) -> String {
     match word {
         "judge" => JUDGE,
         "explain" => EXPLAIN,
+        "mark" => MARK,
         "play" => PLAY,
         "show" => SHOW,
         "write" => WRITE,
@@ -49,7 +52,8 @@ what the class is about, moment, name. Several files, or a folder with all in it
 but hidden files: a table with a line for each file, as columns, as TSV for a
 spreadsheet, or as JSON lines. --rows: a line for each row of each file instead.
 
-Status: 0 all are accepted, 3 one is refused, 4 one is broken, 1 one can't be read.
+Status: 0 all are accepted, 3 one is refused, 4 one is broken, 1 one can't be
+read.
 ";
 
 const EXPLAIN: &str = "\
@@ -62,17 +66,40 @@ list. For a refusal the witness: facts, the event, and the facts after it.
 Status: 0 accepted, 3 refused, 4 a broken file, 1 it can't be read.
 ";
 
+const MARK: &str = "\
+goadlotus mark DOMAIN FILE
+goadlotus mark [--tsv | --json] [--rows] DOMAIN FILE-OR-FOLDER ..
+
+A student's names against the program's: right, wrong or missing, with the
+reason for each that is wrong. Several files, or a folder: a table with a line
+for each hand-in. --rows: a line for each row of each hand-in instead. A hand-in
+is a text:
+
+  verdict: accepted
+  move: balanced
+  lend start: irrelevant
+  lend end: unbounded
+
+Where an action has several classes a line tells which, as lend(volume) start,
+or lend class 0 start. The verdict need not be told; lines of the listing, as
+row 1 0 1 unbounded, are taken, too.
+
+Status: 0 all are right, 3 something is wrong or missing, 4 a file is broken,
+1 one can't be read.
+";
+
 const PLAY: &str = "\
 goadlotus play [--all] DOMAIN RUN
 
-A run in sentences. For each step: its events, the facts that go and come, what is
-open, and the weight of each instance that loses or gets a fact. Where it stops:
-which condition fails, what isn't open, or which two events interfere. Last a line
-of time: * at once, [ start, ] end, = open, and the highest weight after each step.
-Of more than 60 steps only the last 20 are told, unless --all stands there.
+A run in sentences. For each step: its events, the facts that go and come, what
+is open, and the weight of each instance that loses or gets a fact. Where it
+stops: which condition fails, what isn't open, or which two events interfere.
+Last a line of time: * at once, [ start, ] end, = open, and the highest weight
+after each step. Of more than 60 steps only the last 20 are told, unless --all
+stands there.
 
-Status: 0 played to the end, 3 a step that isn't allowed, 4 a broken file, 1 a file
-can't be read.
+Status: 0 played to the end, 3 a step that isn't allowed, 4 a broken file, 1 a
+file can't be read.
 ";
 
 const SHOW: &str = "\
@@ -91,9 +118,9 @@ const WRITE: &str = "\
 goadlotus write FILE [-o OUT]
 goadlotus write DOMAIN RUN [-o OUT]
 
-A domain or a run in bytes, on standard output or in the file OUT. A run in words
-needs its domain, unless it has numbers in place of names. What reading refuses is
-written too, and told by its line and its number.
+A domain or a run in bytes, on standard output or in the file OUT. A run in
+words needs its domain, unless it has numbers in place of names. What reading
+refuses is written too, and told by its line and its number.
 
 Status: 0 written, 4 a slip in the words, or a file that reading refuses, 1 it
 can't be read or written.

@@ -1,6 +1,14 @@
 //! Standard output, where a write that fails is noticed.
 
 use std::io::{self, Write};
+use std::sync::atomic::{AtomicBool, Ordering};
+
+static CLOSED: AtomicBool = AtomicBool::new(false);
+
+/// Notes that standard output is closed, where that is known: writing to it then fails, as it should.
+pub fn note_closed(closed: bool) {
+    CLOSED.store(closed, Ordering::Relaxed);
+}
 
 /// How a use of the command ends.
 #[derive(Clone, Copy, PartialEq, Eq, PartialOrd, Ord, Debug)]
@@ -47,6 +55,10 @@ impl Status {
 /// Prints on standard output. A pipe that its reader has closed ends the command without a word, as that is the reader's
 /// wish; its status is still 1, since not all was written.
 pub fn print(bytes: &[u8]) -> Result<(), Status> {
+    if CLOSED.load(Ordering::Relaxed) {
+        complain("can't write to standard output: it is closed");
+        return Err(Status::Access);
+    }
     let mut out = io::stdout().lock();
     out.write_all(bytes).and_then(|()| out.flush()).map_err(|error| {
         if error.kind() != io::ErrorKind::BrokenPipe {

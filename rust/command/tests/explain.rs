@@ -196,7 +196,7 @@ fn each_name_has_its_words() {
         (
             "add at(v, a), at(v, b)",
             "heavy: it adds 2 facts of v: at(v, a) and at(v, b).",
-            "not irrelevant: it adds facts.",
+            "not irrelevant: it adds at(v, a) and at(v, b).",
         ),
         (
             "true and delete at(v, a), add at(v, b)",

@@ -2,13 +2,14 @@
 
 use super::{misused, troubled};
 use crate::arguments::Arguments;
-use crate::explain::{about, moment_word, verdict_word};
+use crate::explain::verdict_word;
 use crate::files::{load_domain, shown_name, LoadedDomain, Trouble};
 use crate::folder::{files_of, Progress};
 use crate::library::Row;
 use crate::output::{print, tell, Status};
 use crate::prose::paragraph;
 use crate::reasons::{classes, is_journey, Class};
+use crate::sentences::{about, moment_word};
 use crate::table::{Cell, Form, Table};
 
 pub fn run(arguments: &Arguments) -> Result<Status, Status> {

@@ -2,6 +2,7 @@
 
 pub mod explain;
 pub mod judge;
+pub mod mark;
 pub mod play;
 pub mod show;
 pub mod write;
@@ -21,9 +22,10 @@ struct Word {
 
 const NONE: Options = Options { form: false, output: false, rows: false, all: false };
 
-const WORDS: [Word; 5] = [
+const WORDS: [Word; 6] = [
     Word { name: "judge", options: Options { form: true, rows: true, ..NONE }, run: judge::run },
     Word { name: "explain", options: NONE, run: explain::run },
+    Word { name: "mark", options: Options { form: true, rows: true, ..NONE }, run: mark::run },
     Word { name: "play", options: Options { all: true, ..NONE }, run: play::run },
     Word { name: "show", options: Options { output: true, ..NONE }, run: show::run },
     Word { name: "write", options: Options { output: true, ..NONE }, run: write::run },
