@@ -630,8 +630,8 @@ fn rovers() {
 /// that the template is an invariant then; so does the paper.
 #[test]
 fn rovers_mended() {
-    let drop = "lasting drop rover store\n";
-    let mended = ROVERS.replace(drop, &format!("{drop}    all true full store\n"));
+    let drop = "lasting drop(rover, store)\n";
+    let mended = ROVERS.replace(drop, &format!("{drop}    all true full(store)\n"));
     assert_ne!(mended, ROVERS);
     let case = Case {
         template: "full[0], empty[0]",
