@@ -5,7 +5,7 @@ use crate::library::{judge, Judged};
 use crate::notation::source::{tell, Fault};
 use crate::notation::written::Written;
 use crate::notation::{domain_text, refused, run_text};
-use crate::numbers::says;
+use crate::numbers::says_at;
 use crate::records::{Record, EVENT, OBJECTS};
 use std::ffi::OsStr;
 use std::fs;
@@ -193,12 +193,7 @@ fn broken_text(name: &str, text: &str, faults: &[Fault]) -> Trouble {
 
 /// Why the library refuses a file in bytes, by the record at fault, and what the file may be instead.
 pub fn refusal_of_bytes(name: &str, file: &[u8], number: u64, offset: usize) -> String {
-    let said = match number {
-        10 if offset == file.len() => "the closing record is missing",
-        10 => "a record is cut short",
-        number => says(number),
-    };
-    let mut told = format!("{name}: at offset {offset}: {said} ({number})\n");
+    let mut told = format!("{name}: at offset {offset}: {} ({number})\n", says_at(number, file, offset));
     if let Some(record) = Record::read(file, offset) {
         let payload: String = record.payload.iter().take(16).map(|byte| format!(" {byte:02X}")).collect();
         let payload = if payload.is_empty() { " nothing".to_string() } else { payload };

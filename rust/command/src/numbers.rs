@@ -32,3 +32,12 @@ pub fn says(number: u64) -> &'static str {
         _ => "an answer that this command doesn't know",
     }
 }
+
+/// The same of a place in a file, where more is known.
+pub fn says_at(number: u64, file: &[u8], offset: usize) -> &'static str {
+    match number {
+        10 if offset == file.len() => "the closing record is missing",
+        10 => "a record is cut short",
+        number => says(number),
+    }
+}

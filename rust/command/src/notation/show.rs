@@ -2,24 +2,49 @@
 
 use super::raw::hexadecimal;
 use crate::domain::{labels, role_of, Domain, Names};
+use crate::prose::wrap;
 use crate::records::{
     split, Record, ACTION, CLOSE_RUN, CLOSE_STEP, CLOSING, COMPONENT, EVENT, FF, LITERAL, OBJECTS, RELATION, START_FACT,
 };
 
 const WIDEST: usize = 76;
 
-/// A text with the offset in its file of what each line is about.
+/// A text with the offset in its file of what each line is about; the closing record has no line of its own.
 #[derive(Default)]
 struct Lines {
-    lines: Vec<(usize, String)>,
+    lines: Vec<(usize, Option<String>)>,
 }
 
 impl Lines {
     fn push(&mut self, at: usize, line: String) {
-        self.lines.push((at, line));
+        self.lines.push((at, Some(line)));
     }
 
-    /// A record without words; equal ones in a row are told once.
+    /// Adds to the last line, if that begins with this word; whether it does.
+    fn add_to_last(&mut self, word: &str, more: &str) -> bool {
+        match self.lines.last_mut() {
+            Some((_, Some(line))) if line.trim_start().starts_with(word) => {
+                *line += more;
+                true
+            }
+            _ => false,
+        }
+    }
+
+    /// The end of the file: closed by the record at this offset, or not closed.
+    fn end(&mut self, file: &[u8], close: Option<usize>) {
+        let line = close.is_none().then(|| "not closed".to_string());
+        self.lines.push((close.unwrap_or(file.len()), line));
+    }
+
+    /// The first of some records, which has no words; equal ones in a row are told once. How many these are.
+    fn raws(&mut self, records: &[Record]) -> usize {
+        let is_equal = |other: &&Record| (other.kind, other.payload) == (records[0].kind, records[0].payload);
+        let equal = records.iter().take_while(is_equal).count().min(u16::MAX as usize);
+        self.raw(&records[0], equal);
+        equal
+    }
+
     fn raw(&mut self, record: &Record, times: usize) {
         let times = if times > 1 { format!(" times {times}") } else { String::new() };
         self.push(record.at, format!("record {}{}{times}", record.kind, hexadecimal(record.payload)));
@@ -30,8 +55,9 @@ impl Lines {
         let Some((first, others)) = bytes.split_first() else { return };
         if others.len() > 3 && others.iter().all(|byte| byte == first) {
             // a count has two bytes at most
-            for part in bytes.chunks(u16::MAX as usize) {
-                self.push(at, format!("bytes {first:02X} times {}", part.len()));
+            const MOST: usize = u16::MAX as usize;
+            for (count, part) in bytes.chunks(MOST).enumerate() {
+                self.push(at + MOST * count, format!("bytes {first:02X} times {}", part.len()));
             }
             return;
         }
@@ -40,53 +66,56 @@ impl Lines {
         }
     }
 
-    /// The text, with a remark above the line that a number is about.
+    /// The text, with a remark above the line that an offset is in.
     fn text(self, remark: Option<(usize, &str)>) -> String {
-        let mut text = String::new();
         let told = remark.and_then(|(at, _)| self.lines.iter().rposition(|(line, _)| *line <= at));
+        let mut text = String::new();
         for (count, (_, line)) in self.lines.iter().enumerate() {
+            let line = line.as_deref().unwrap_or_default();
+            // an empty line comes before the remark
+            let (empty, line) = line.strip_prefix('\n').map_or(("", line), |line| ("\n", line));
+            text += empty;
             if let (true, Some((_, words))) = (told == Some(count), remark) {
-                text += &format!("# {words}\n");
+                text += &wrap("# ", "# ", words);
             }
-            text += line;
-            text.push('\n');
-        }
-        if let (None, Some((_, words))) = (told, remark) {
-            text = format!("# {words}\n{text}");
+            if !line.is_empty() {
+                text += &format!("{line}\n");
+            }
         }
         text
     }
 }
 
+/// The most bytes of a record that are told as one; a longer one, and what follows it, is told as bytes.
+const LONGEST: usize = 64;
+
 /// A domain file in words; `remark` is an offset in it and what there is to say about it.
 pub fn domain(file: &[u8], names: &Names, remark: Option<(usize, &str)>) -> String {
-    let (records, end) = split(file);
-    let mut shown =
-        ShownDomain { names, lines: Lines::default(), arities: Vec::new(), actions: Vec::new(), template: false };
-    let closed =
-        end == file.len() && records.last().is_some_and(|last| last.kind == CLOSING && last.payload.is_empty());
-    let told = if closed { &records[..records.len() - 1] } else { &records[..] };
+    let (records, end) = whole(file);
+    let closing = records.last().filter(|last| end == file.len() && last.kind == CLOSING && last.payload.is_empty());
+    let told = if closing.is_some() { &records[..records.len() - 1] } else { &records[..] };
+    let (arities, actions) = (Vec::new(), Vec::new());
+    let mut shown = ShownDomain { names, lines: Lines::default(), arities, actions };
     let mut at = 0;
     while at < told.len() {
-        let record = &told[at];
-        let equal = told[at..].iter().take_while(|other| (other.kind, other.payload) == (record.kind, record.payload));
-        let equal = equal.count().min(u16::MAX as usize);
-        match shown.words(record) {
-            Some(line) => {
-                shown.lines.push(record.at, line);
-                at += 1;
-            }
-            None => {
-                shown.lines.raw(record, equal);
-                at += equal;
-            }
-        }
+        at += match shown.say(&told[at]) {
+            Some(()) => 1,
+            None => shown.lines.raws(&told[at..]),
+        };
     }
     shown.lines.rest(end, &file[end..]);
-    if !closed {
-        shown.lines.push(file.len(), "not closed".to_string());
-    }
+    shown.lines.end(file, closing.map(|closing| closing.at));
     shown.lines.text(remark)
+}
+
+/// The records of a file up to one that is too long to be told as one, and the offset behind them.
+fn whole(file: &[u8]) -> (Vec<Record<'_>>, usize) {
+    let (mut records, mut end) = split(file);
+    if let Some(long) = records.iter().position(|record| record.payload.len() > LONGEST) {
+        end = records[long].at;
+        records.truncate(long);
+    }
+    (records, end)
 }
 
 struct ShownDomain<'n> {
@@ -96,22 +125,29 @@ struct ShownDomain<'n> {
     arities: Vec<u8>,
     /// Variable count and sort of the actions told so far.
     actions: Vec<(u8, bool)>,
-    template: bool,
 }
 
 impl ShownDomain<'_> {
-    /// The line for a record that has one.
-    fn words(&mut self, record: &Record) -> Option<String> {
-        match (record.kind, record.payload) {
+    /// Tells a record, if it has words.
+    fn say(&mut self, record: &Record) -> Option<()> {
+        let line = match (record.kind, record.payload) {
             (RELATION, &[arity]) if arity < FF => {
                 self.arities.push(arity);
-                Some(format!("relation {}/{arity}", self.names.relation(self.arities.len() - 1)))
+                format!("relation {}/{arity}", self.names.relation(self.arities.len() - 1))
             }
-            (ACTION, &[variables, sort @ 0..=1]) if variables < FF => Some(self.action(variables, sort == 1)),
-            (LITERAL, &[role, relation, ref arguments @ ..]) => self.literal(role, relation, arguments),
-            (COMPONENT, &[relation, ref labels @ ..]) => self.component(relation, labels),
-            _ => None,
-        }
+            (ACTION, &[variables, sort @ 0..=1]) if variables < FF => self.action(variables, sort == 1),
+            (LITERAL, &[role, relation, ref arguments @ ..]) => self.literal(role, relation, arguments)?,
+            (COMPONENT, &[relation, ref labels @ ..]) => {
+                let component = self.component(relation, labels)?;
+                if self.lines.add_to_last("template ", &format!(" {component}")) {
+                    return Some(());
+                }
+                format!("\ntemplate {component}")
+            }
+            _ => return None,
+        };
+        self.lines.push(record.at, line);
+        Some(())
     }
 
     fn action(&mut self, variables: u8, lasting: bool) -> String {
@@ -141,28 +177,24 @@ impl ShownDomain<'_> {
         Some(format!("    {time}{} {}({})", list.word(), self.names.relation(relation as usize), arguments.join(", ")))
     }
 
-    /// Components stand a line each, the first behind an empty line.
-    fn component(&mut self, relation: u8, of: &[u8]) -> Option<String> {
+    fn component(&self, relation: u8, of: &[u8]) -> Option<String> {
         if *self.arities.get(relation as usize)? as usize != of.len() {
             return None;
         }
-        let above = if self.template { "" } else { "\n" };
-        self.template = true;
-        Some(format!("{above}template {}[{}]", self.names.relation(relation as usize), labels(of)))
+        Some(format!("{}[{}]", self.names.relation(relation as usize), labels(of)))
     }
 }
 
 /// A run file in words, with the names of its domain if that is at hand.
 pub fn run(file: &[u8], domain: Option<&Domain>, objects: &[String], remark: Option<(usize, &str)>) -> String {
-    let (records, end) = split(file);
+    let (records, end) = whole(file);
     let count = match records.first() {
         Some(Record { kind: OBJECTS, payload: &[count], .. }) if count < FF => Some(count),
         _ => None,
     };
+    let closing = records.last().filter(|last| end == file.len() && last.kind == CLOSE_RUN && last.payload.is_empty());
+    let mut told = if closing.is_some() { &records[..records.len() - 1] } else { &records[..] };
     let mut shown = ShownRun { domain, objects, count: count.unwrap_or(0), lines: Lines::default() };
-    let closed =
-        end == file.len() && records.last().is_some_and(|last| last.kind == CLOSE_RUN && last.payload.is_empty());
-    let mut told = if closed { &records[..records.len() - 1] } else { &records[..] };
     match count {
         Some(_) => {
             shown.objects();
@@ -172,9 +204,7 @@ pub fn run(file: &[u8], domain: Option<&Domain>, objects: &[String], remark: Opt
     }
     shown.records(told);
     shown.lines.rest(end, &file[end..]);
-    if !closed {
-        shown.lines.push(file.len(), "not closed".to_string());
-    }
+    shown.lines.end(file, closing.map(|closing| closing.at));
     shown.lines.text(remark)
 }
 
@@ -219,10 +249,7 @@ impl ShownRun<'_> {
             self.lines.push(record.at, line);
             return 1;
         }
-        let equal = records.iter().take_while(|other| (other.kind, other.payload) == (record.kind, record.payload));
-        let equal = equal.count().min(u16::MAX as usize);
-        self.lines.raw(record, equal);
-        equal
+        self.lines.raws(records)
     }
 
     fn fact(&self, record: &Record) -> Option<String> {

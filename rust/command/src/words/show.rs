@@ -7,7 +7,7 @@ use crate::domain::Domain;
 use crate::files::{domain_of, is_run, load, load_domain, load_run, run_of, shown_name, LoadedDomain, LoadedRun};
 use crate::library::play;
 use crate::notation::show;
-use crate::numbers::says;
+use crate::numbers::{says, says_at};
 use crate::output::{tell, Status};
 
 pub fn run(arguments: &Arguments) -> Result<Status, Status> {
@@ -40,7 +40,7 @@ fn shown_domain(loaded: &LoadedDomain) -> (String, Status) {
         return (show::domain(&loaded.file, &loaded.names, None), Status::Done);
     }
     let (number, offset) = (loaded.judged.number, loaded.judged.places[0] as usize);
-    let remark = format!("refused ({number}), at offset {offset}: {}", says(number));
+    let remark = format!("refused ({number}), at offset {offset}: {}", says_at(number, &loaded.file, offset));
     (show::domain(&loaded.file, &loaded.names, Some((offset, &remark))), Status::Broken)
 }
 
