@@ -106,7 +106,7 @@ impl Reader<'_> {
 
     /// `row 1 0 1 unbounded`
     fn listed_row(&mut self) -> Parsed<()> {
-        let span = self.cursor.advance().span;
+        let span = self.cursor.advance();
         let mut place = [0; 3];
         for number in &mut place {
             *number = self.cursor.expect_number("a number", u16::MAX)?.0 as usize;

@@ -67,8 +67,8 @@ impl Explained<'_> {
             return format!("{whose}, in every run that starts with at most one.");
         }
         let is_exact = !self.domain.actions.iter().any(|action| action.lasting);
-        let doubt = if is_exact { "wrong" } else { "not certain" };
-        format!("The claim of the template {} is {doubt}: \"{whose}.\"", self.domain.template_words())
+        let doubt = if is_exact { "is wrong" } else { "can't be relied on" };
+        format!("The claim of the template {} {doubt}: \"{whose}.\"", self.domain.template_words())
     }
 
     fn fault(&self) -> String {

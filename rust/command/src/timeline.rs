@@ -35,14 +35,9 @@ const MOST: usize = 40;
 pub fn timeline(columns: &[Column], lines: &[Line]) -> String {
     let label = lines.iter().map(|line| self::columns(&line.label)).max().unwrap_or(0).clamp(6, LABEL);
     let in_block = (WIDTH - label - 2) / CELL;
-    let mut text = String::new();
-    let mut from = 0;
-    while from < columns.len() {
-        let to = (from + in_block).min(columns.len());
-        text += &block(label, &columns[from..to], lines, from);
-        from = to;
-    }
-    text
+    let blocks = columns.chunks(in_block).enumerate();
+    let blocks: Vec<String> = blocks.map(|(count, part)| block(label, part, lines, count * in_block)).collect();
+    blocks.join("\n")
 }
 
 fn block(label: usize, columns: &[Column], lines: &[Line], from: usize) -> String {
@@ -64,7 +59,7 @@ fn block(label: usize, columns: &[Column], lines: &[Line], from: usize) -> Strin
     if busy.len() > MOST {
         text += &format!("and {} more\n", busy.len() - MOST);
     }
-    text + "\n"
+    text
 }
 
 /// A label in so many columns.

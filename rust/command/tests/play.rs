@@ -155,7 +155,6 @@ weight                          1   1   1   -
 lend(volume7, shelf2, reader5)      [===]
 move(volume8, shelf2, shelf3)       *
 move(volume7, shelf2, shelf3)               *
-
 "
     );
 }

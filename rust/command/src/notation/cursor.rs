@@ -33,10 +33,11 @@ impl Cursor {
         &self.tokens[(self.at + count).min(self.tokens.len() - 1)]
     }
 
-    pub fn advance(&mut self) -> Token {
-        let token = self.peek().clone();
+    /// Passes a token, and tells where it stands.
+    pub fn advance(&mut self) -> Span {
+        let span = self.peek().span;
         self.at = (self.at + 1).min(self.tokens.len() - 1);
-        token
+        span
     }
 
     /// The word so many tokens ahead.
@@ -67,16 +68,15 @@ impl Cursor {
 
     pub fn expect_sign(&mut self, sign: char, what: &str) -> Parsed<Span> {
         if self.sign_ahead(0, sign) {
-            return Ok(self.advance().span);
+            return Ok(self.advance());
         }
         Err(self.unexpected(what))
     }
 
     pub fn expect_word(&mut self, what: &str) -> Parsed<Name> {
-        let token = self.peek().clone();
-        let Kind::Word(text) = token.kind else { return Err(self.unexpected(what)) };
-        self.advance();
-        Ok(Name { text, span: token.span })
+        let Kind::Word(text) = &self.peek().kind else { return Err(self.unexpected(what)) };
+        let text = text.clone();
+        Ok(Name { text, span: self.advance() })
     }
 
     /// A name that is declared: any word but `_`.

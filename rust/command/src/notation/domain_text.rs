@@ -233,7 +233,9 @@ impl Reader {
         loop {
             if let Some((found, count)) = self.time() {
                 let span = self.cursor.peek().span;
-                (0..count).for_each(|_| drop(self.cursor.advance()));
+                for _ in 0..count {
+                    self.cursor.advance();
+                }
                 time = Some((found, span));
                 lists.clear();
             }
@@ -259,7 +261,7 @@ impl Reader {
         let mut lists = Vec::new();
         loop {
             let Some(list) = self.list() else { return Err(self.no_list()) };
-            lists.push((list, self.cursor.advance().span));
+            lists.push((list, self.cursor.advance()));
             if !self.cursor.comes(&["and"]) {
                 return Ok(lists);
             }

@@ -130,7 +130,7 @@ impl Reader {
     }
 
     fn objects(&mut self) -> Parsed<()> {
-        let span = self.cursor.advance().span;
+        let span = self.cursor.advance();
         let mut names = Vec::new();
         self.cursor.take_sign(':');
         while !self.cursor.is_item_end() {
@@ -153,7 +153,7 @@ impl Reader {
     }
 
     fn step(&mut self) -> Parsed<()> {
-        let span = self.cursor.advance().span;
+        let span = self.cursor.advance();
         self.items.push(Item::Step(span));
         self.cursor.take_sign(':');
         if self.cursor.is_item_end() {
