@@ -2,6 +2,7 @@
 
 use super::{misused, troubled};
 use crate::arguments::Arguments;
+use crate::domain::Domain;
 use crate::explain::verdict_word;
 use crate::files::{load_domain, shown_name, LoadedDomain, Trouble};
 use crate::folder::{files_of, Progress};
@@ -70,7 +71,7 @@ fn one(loaded: &LoadedDomain) -> Result<Status, Status> {
     let mut text = paragraph("", &format!("{} ({number}): {}", verdict_word(number), domain.template_words()));
     let mut table = Table::new(&ROWS[1..]);
     for row in &loaded.judged.rows {
-        table.push(row_cells(loaded, row));
+        table.push(row_cells(loaded, &domain, row));
     }
     if !loaded.judged.rows.is_empty() {
         text += &table.text(Form::Columns);
@@ -83,10 +84,9 @@ fn one(loaded: &LoadedDomain) -> Result<Status, Status> {
 }
 
 /// A row of the report: action, class, what it is about, moment, name, remark.
-fn row_cells(loaded: &LoadedDomain, row: &Row) -> Vec<Cell> {
-    let domain = loaded.domain();
+fn row_cells(loaded: &LoadedDomain, domain: &Domain, row: &Row) -> Vec<Cell> {
     let action = &domain.actions[row.action];
-    let classes = classes(&domain, action);
+    let classes = classes(domain, action);
     let class = classes.get(row.class);
     let is_journeys_end = class.is_some_and(|class| row.moment == 1 && is_journey(action, class));
     let remark = match (loaded.judged.named() == Some(row), is_journeys_end) {
@@ -107,9 +107,10 @@ fn row_cells(loaded: &LoadedDomain, row: &Row) -> Vec<Cell> {
 }
 
 fn push_rows(table: &mut Table, loaded: &LoadedDomain) {
+    let domain = loaded.domain();
     for row in &loaded.judged.rows {
         let mut cells = vec![Cell::from(loaded.name.as_str())];
-        cells.extend(row_cells(loaded, row));
+        cells.extend(row_cells(loaded, &domain, row));
         table.push(cells);
     }
 }
@@ -124,7 +125,7 @@ fn file_row(name: &str, loaded: Result<LoadedDomain, Trouble>) -> Vec<Cell> {
     let mut cells = vec![Cell::from(name), number.into(), verdict_word(number).into()];
     match judged.judged.named() {
         Some(row) => {
-            let row = row_cells(&judged, row);
+            let row = row_cells(&judged, &judged.domain(), row);
             cells.extend([row[0].clone(), row[2].clone(), row[3].clone(), row[4].clone(), "".into()]);
         }
         None => cells.extend([Cell::Nothing, Cell::Nothing, Cell::Nothing, Cell::Nothing, "".into()]),
