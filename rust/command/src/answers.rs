@@ -44,7 +44,7 @@ pub struct Answers {
 }
 
 /// Reads a student's names for a domain.
-pub fn read(text: &str, domain: &Domain) -> Answers {
+pub fn read<'d>(text: &'d str, domain: &'d Domain) -> Answers {
     let (tokens, faults) = words(text);
     let mut reader = Reader { cursor: Cursor::new(tokens), domain, answers: Answers { faults, ..Answers::default() } };
     reader.cursor.skip_separators();
@@ -59,7 +59,7 @@ pub fn read(text: &str, domain: &Domain) -> Answers {
 }
 
 struct Reader<'d> {
-    cursor: Cursor,
+    cursor: Cursor<'d>,
     domain: &'d Domain,
     answers: Answers,
 }

@@ -8,7 +8,7 @@ use crate::notation::{domain_text, refused, run_text};
 use crate::numbers::says_at;
 use crate::records::{Record, EVENT, OBJECTS};
 use std::ffi::OsStr;
-use std::fs;
+use std::fs::File;
 use std::io::{self, Read};
 
 /// Why there is nothing to go on with.
@@ -28,15 +28,21 @@ pub fn shown_name(name: &OsStr) -> String {
     name.to_string_lossy().chars().map(|sign| if sign.is_control() { '?' } else { sign }).collect()
 }
 
+/// The most bytes that are read; more than any run that a person writes, and less than a device that never ends.
+const MOST: u64 = 256 << 20;
+
 /// The bytes of a file; `-` is standard input.
 pub fn load(name: &OsStr) -> Result<Vec<u8>, Trouble> {
-    let read = if name == "-" {
-        let mut bytes = Vec::new();
-        io::stdin().lock().read_to_end(&mut bytes).map(|_| bytes)
-    } else {
-        fs::read(name)
+    let mut bytes = Vec::new();
+    let read = match name == "-" {
+        true => io::stdin().lock().take(MOST + 1).read_to_end(&mut bytes),
+        false => File::open(name).and_then(|file| file.take(MOST + 1).read_to_end(&mut bytes)),
     };
-    read.map_err(|error| Trouble::Access(format!("can't read {}: {}", shown_name(name), reason(&error))))
+    match read {
+        Ok(count) if count as u64 <= MOST => Ok(bytes),
+        Ok(_) => Err(Trouble::Access(format!("can't read {}: it has more than {MOST} bytes", shown_name(name)))),
+        Err(error) => Err(Trouble::Access(format!("can't read {}: {}", shown_name(name), reason(&error)))),
+    }
 }
 
 /// What an error of the system says, without its number.

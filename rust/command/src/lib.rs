@@ -4,6 +4,7 @@
 pub mod answers;
 pub mod arguments;
 pub mod domain;
+pub mod evidence;
 pub mod explain;
 pub mod files;
 pub mod folder;

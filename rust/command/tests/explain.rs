@@ -90,13 +90,14 @@ fn weights(text: &str) -> Option<(u64, u64)> {
 
 #[test]
 fn witnesses_lead_to_two_facts() {
-    let (mut exact, mut ends) = (0, 0);
+    let (mut exact, mut ends, mut beside) = (0, 0, 0);
     for loaded in generated(12_000) {
         let text = explain(&loaded);
         assert!(!text.contains("no reason was found"), "{text}");
         let lasting = loaded.domain().actions.iter().any(|action| action.lasting);
         if !(40..=42).contains(&loaded.judged.number) {
             assert!(!text.contains("\nwitness"), "{text}");
+            beside += u32::from(loaded.judged.number == 43 && text.contains("The player makes a run that breaks"));
             continue;
         }
         assert!(text.contains("\nwitness: ") && text.contains("\n    THE FAULT\n"), "{text}");
@@ -107,11 +108,11 @@ fn witnesses_lead_to_two_facts() {
         if !lasting {
             assert!(text.contains("the refusal is exact: the template is"), "{text}");
             exact += 1;
-        } else if text.contains("The player makes its start and its end") {
+        } else if text.contains("The player makes a run that breaks the template") {
             ends += 1;
         }
     }
-    assert!(exact > 500 && ends > 50, "{exact} {ends}");
+    assert!(exact > 500 && ends > 50 && beside > 50, "{exact} {ends} {beside}");
 }
 
 #[test]
@@ -171,9 +172,28 @@ witness: take different objects volume and shelf, and one more, other.
   facts    at(volume, other)
   event    shelve(volume, shelf)
   after it at(volume, other), at(volume, shelf)
-  weight: volume has 1 of the facts before and 2 after it.
+  weight: volume has 1 of the facts before and 2 after.
   This event alone is an allowed step, so the refusal is exact: the template is
   broken.
+"
+    );
+}
+
+/// Where an open journey makes a bounded row a fault, the player makes the run that shows it.
+#[test]
+fn a_run_beside_a_journey() {
+    let text = "full/1, empty/1; fill(jug, tap): add full(jug), delete empty(jug); \
+                lasting pour(cup): start true and delete full(cup), end add empty(cup); full[0], empty[0]";
+    let (_, shown) =
+        explained(text).split_once("\n\nThe player").map(|(a, b)| (a.to_string(), b.to_string())).expect("a run");
+    assert_eq!(
+        shown,
+        " makes a run that breaks the template:
+  facts    full(cup)
+  step 1   start pour(cup); then: none
+  step 2   fill(cup, tap); then: full(cup)
+  step 3   end pour(cup); then: full(cup), empty(cup)
+  weight: cup has 1 of the facts before and 2 after.
 "
     );
 }

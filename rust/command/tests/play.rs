@@ -2,7 +2,7 @@
 //! right.
 
 use command::domain::{Domain, Names};
-use command::files::{domain_of, run_of, LoadedRun};
+use command::files::{domain_of, is_words, run_of, LoadedRun};
 use command::library::judge;
 use command::notation::source::columns;
 use command::run::Entry;
@@ -84,6 +84,19 @@ fn story(domain: &[u8], run: &[u8], all: bool) -> String {
     let run: LoadedRun = run_of("r", run.to_vec(), Some(&of)).unwrap_or_else(|trouble| panic!("{trouble:?}"));
     let trace = Trace::of(&of, &loaded.file, &run.file);
     Story { trace: &trace, run: &run, all }.text()
+}
+
+/// Every run has its story, a damaged one too.
+#[test]
+fn every_run_has_its_story() {
+    let mut told = BTreeMap::new();
+    for (domain, run) in pairs(1_200).filter(|(_, run)| !is_words(run)) {
+        let text = story(&domain, &run, false);
+        let first = text.split(|sign: char| sign == '(').next().unwrap_or_default().to_string();
+        assert!(!text.contains("please report"), "{text}");
+        *told.entry(first.split(" at ").next().unwrap_or_default().to_string()).or_insert(0) += 1;
+    }
+    assert!(["played to the end ", "stopped", "the run is"].iter().all(|first| told[*first] > 50), "{told:?}");
 }
 
 #[test]

@@ -14,23 +14,23 @@ pub struct Name {
 /// What a part of a text is read as, or the fault that stops it.
 pub type Parsed<T> = Result<T, Fault>;
 
-pub struct Cursor {
-    tokens: Vec<Token>,
+pub struct Cursor<'t> {
+    tokens: Vec<Token<'t>>,
     at: usize,
 }
 
-impl Cursor {
+impl<'t> Cursor<'t> {
     /// The tokens end with `End`, which is never passed.
-    pub fn new(tokens: Vec<Token>) -> Cursor {
+    pub fn new(tokens: Vec<Token<'t>>) -> Cursor<'t> {
         Cursor { tokens, at: 0 }
     }
 
-    pub fn peek(&self) -> &Token {
+    pub fn peek(&self) -> Token<'t> {
         self.ahead(0)
     }
 
-    pub fn ahead(&self, count: usize) -> &Token {
-        &self.tokens[(self.at + count).min(self.tokens.len() - 1)]
+    pub fn ahead(&self, count: usize) -> Token<'t> {
+        self.tokens[(self.at + count).min(self.tokens.len() - 1)]
     }
 
     /// Passes a token, and tells where it stands.
@@ -41,8 +41,8 @@ impl Cursor {
     }
 
     /// The word so many tokens ahead.
-    pub fn word_ahead(&self, count: usize) -> Option<&str> {
-        match &self.ahead(count).kind {
+    pub fn word_ahead(&self, count: usize) -> Option<&'t str> {
+        match self.ahead(count).kind {
             Kind::Word(word) => Some(word),
             _ => None,
         }
@@ -74,9 +74,8 @@ impl Cursor {
     }
 
     pub fn expect_word(&mut self, what: &str) -> Parsed<Name> {
-        let Kind::Word(text) = &self.peek().kind else { return Err(self.unexpected(what)) };
-        let text = text.clone();
-        Ok(Name { text, span: self.advance() })
+        let Kind::Word(text) = self.peek().kind else { return Err(self.unexpected(what)) };
+        Ok(Name { text: text.to_string(), span: self.advance() })
     }
 
     /// A name that is declared: any word but `_`.
@@ -105,7 +104,7 @@ impl Cursor {
     /// That something else stands here than what is expected.
     pub fn unexpected(&self, what: &str) -> Fault {
         let token = self.peek();
-        let found = match &token.kind {
+        let found = match token.kind {
             Kind::Word(word) => format!("`{word}`"),
             Kind::Sign(sign) => format!("`{sign}`"),
             Kind::NewLine => "the end of the line".to_string(),
@@ -153,7 +152,7 @@ impl Cursor {
         &mut self,
         close: char,
         what: &str,
-        mut one: impl FnMut(&mut Cursor) -> Parsed<T>,
+        mut one: impl FnMut(&mut Cursor<'t>) -> Parsed<T>,
     ) -> Parsed<Vec<T>> {
         let mut all = Vec::new();
         if self.take_sign(close) {

@@ -69,13 +69,13 @@ enum Item {
 const ITEMS: &str = "relation, at once, lasting, template, or a literal (true, false, add, delete)";
 const LISTS: &str = "true, false, add or delete";
 
-struct Reader {
-    cursor: Cursor,
+struct Reader<'t> {
+    cursor: Cursor<'t>,
     items: Vec<Item>,
     faults: Vec<Fault>,
 }
 
-impl Reader {
+impl Reader<'_> {
     fn items(&mut self) {
         self.cursor.skip_separators();
         while !self.cursor.is_at_end() {

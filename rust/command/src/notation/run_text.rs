@@ -5,7 +5,7 @@ use super::domain_text::counted;
 use super::nearest::nearest;
 use super::raw::{self, Raw};
 use super::source::{Fault, Span};
-use super::words::{words, Kind};
+use super::words::{first_word, words};
 use super::written::Written;
 use crate::domain::Domain;
 use crate::records::{CLOSE_RUN, CLOSE_STEP, EVENT, FF, OBJECTS, START_FACT};
@@ -19,11 +19,7 @@ pub struct RunText {
 
 /// Whether a text is a run: its first word is `objects` or `run`. Every other text is a domain.
 pub fn is_run(text: &str) -> bool {
-    let first = words(text).0.into_iter().find_map(|token| match token.kind {
-        Kind::Word(word) => Some(word),
-        _ => None,
-    });
-    matches!(first.as_deref(), Some("objects" | "run"))
+    matches!(first_word(text), Some("objects" | "run"))
 }
 
 /// Reads a run in words, or tells everything in it that can't be written. Without a domain relations are r0, r1, .. and
@@ -71,13 +67,13 @@ enum Item {
     NotClosed,
 }
 
-struct Reader {
-    cursor: Cursor,
+struct Reader<'t> {
+    cursor: Cursor<'t>,
     items: Vec<Item>,
     faults: Vec<Fault>,
 }
 
-impl Reader {
+impl Reader<'_> {
     fn items(&mut self) {
         self.cursor.skip_separators();
         while !self.cursor.is_at_end() {

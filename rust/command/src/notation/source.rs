@@ -133,3 +133,28 @@ pub fn width(sign: char) -> usize {
 pub fn columns(text: &str) -> usize {
     text.chars().map(width).sum()
 }
+
+#[cfg(test)]
+mod tests {
+    use super::*;
+
+    /// Of a long line the part around the mark is shown, and the mark stands under its place.
+    #[test]
+    fn long_lines_fit() {
+        let line = format!("{}HERE{}", "left ".repeat(40), " right".repeat(40));
+        for from in [0, 100, 200, 300, 437] {
+            let told = tell("f", &line, &[Fault::new(Span { line: 0, from, to: from + 4 }, "wrong")]);
+            let lines: Vec<&str> = told.lines().collect();
+            assert!(lines[1..].iter().all(|line| columns(line) <= 80), "{told}");
+            let mark = lines[2].find('^').unwrap_or_default();
+            assert_eq!(lines[1][mark..mark + 4], line[from..from + 4], "{told}");
+        }
+    }
+
+    #[test]
+    fn tabs_and_wide_letters() {
+        let told =
+            tell("f", "\ta\u{301} \u{672C} x", &[Fault::new(Span { line: 0, from: 6, to: 7 }, "wrong").beside("here")]);
+        assert_eq!(told, "f:1:7: wrong\n  1 |  a\u{301} \u{672C} x\n    |       ^ here\n");
+    }
+}

@@ -14,10 +14,9 @@ pub struct Written {
 impl Written {
     /// Appends a record. The bytes behind the first `skipped` of the payload have places of their own, as far as told.
     pub fn record(&mut self, kind: u16, payload: &[u8], span: Span, skipped: usize, own: &[Span]) {
-        let at = self.file.len();
-        self.places.push((at, span));
+        self.places.push((self.file.len(), span));
         put(&mut self.file, kind, payload);
-        let first = at + self.file.len() - at - payload.len() + skipped;
+        let first = self.file.len() - payload.len() + skipped;
         self.places.extend(own.iter().enumerate().map(|(count, &span)| (first + count, span)));
     }
 
