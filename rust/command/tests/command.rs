@@ -385,8 +385,9 @@ fn two_hundred_hand_ins_are_marked_at_once() {
 #[test]
 fn slips_in_a_hand_in() {
     let folder = Folder::new("slips");
-    let two = "at/2; swap(a, b, x, y): true and delete at(a, x), at(b, y), add at(a, y), at(b, x); lasting wait(): start add at(x, x)";
-    let archive = folder.put("swap.txt", format!("{}; at[0,_]", two.replace("wait()", "wait(x)")));
+    let swap = "swap(a, b, x, y): true and delete at(a, x), at(b, y), add at(a, y), at(b, x)";
+    let wait = "lasting wait(x): start add at(x, x)";
+    let archive = folder.put("swap.txt", format!("at/2; {swap}; {wait}; at[0,_]"));
     let slips = [
         ("swap: balanced", "`swap` has several classes, so the line needs what it is about"),
         ("swap(x): balanced", "`swap` has no class about x"),

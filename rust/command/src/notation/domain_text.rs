@@ -4,7 +4,7 @@ use super::cursor::{unknown, Cursor, Name, Parsed};
 use super::nearest::nearest;
 use super::raw::{self, Raw};
 use super::source::{Fault, Span};
-use super::words::words;
+use super::words::{words, Kind};
 use super::written::Written;
 use crate::domain::{role_number, ActionNames, List, Names, Time};
 use crate::records::{ACTION, CLOSING, COMPONENT, FF, LITERAL, RELATION};
@@ -202,15 +202,18 @@ impl Reader<'_> {
 
     /// `move(0,1,2): ..`, an action at once as the paper writes it. Without the colon it may be a literal, too.
     fn action_of_the_paper(&mut self) -> Parsed<()> {
-        let close = (2..).take_while(|&count| {
-            !matches!(self.cursor.ahead(count).kind, super::words::Kind::NewLine | super::words::Kind::End)
-        });
-        let mut close = close.skip_while(|&count| !self.cursor.sign_ahead(count, ')'));
-        if close.next().is_some_and(|count| self.cursor.sign_ahead(count + 1, ':')) {
+        if self.heads_an_action() {
             return self.action(false);
         }
         let fault = self.cursor.unexpected(&format!("{LISTS} before a literal, at once or lasting before an action"));
         Err(fault.beside("a literal or an action?"))
+    }
+
+    /// Whether the parenthesis behind the next word is closed on its line, with `:` behind it.
+    fn heads_an_action(&self) -> bool {
+        let kinds = (2..).map(|count| self.cursor.ahead(count).kind);
+        let of_line = kinds.take_while(|kind| !matches!(kind, Kind::NewLine | Kind::End));
+        of_line.skip_while(|kind| *kind != Kind::Sign(')')).nth(1) == Some(Kind::Sign(':'))
     }
 
     /// The word for a time that comes next, and how many tokens it has.
