@@ -156,7 +156,7 @@ impl<'d> Named<'d> {
     }
 }
 
-/// What some events ask for before the first of them: their true conditions, over all too, that none of them adds.
+/// What the starts and the actions at once among some events ask for: their true conditions, those over all too.
 fn asked(domain: &Domain, events: &[&Event]) -> Vec<Fact> {
     let mut facts = Vec::new();
     for event in events.iter().filter(|event| event.moment == 0) {
