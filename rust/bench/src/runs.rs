@@ -5,28 +5,28 @@ use generate::literature::{Named, ROVERS};
 use generate::records::{encode, rec, Rec};
 
 const ARCHIVE: &str = "
-relation stands 3
-relation lent 3
-relation present 1
-relation closed 1
+relation stands/3
+relation lent/3
+relation present/1
+relation closed/1
 
-at-once move left right from to
-    start true stands left right from
-    start add stands left right to
-    start delete stands left right from
+at once move(left, right, from, to)
+    true stands(left, right, from)
+    add stands(left, right, to)
+    delete stands(left, right, from)
 
-lasting lend left right from reader
-    start true stands left right from
-    start delete stands left right from
-    all true present reader
-    all false closed left
-    end add lent left right reader
+lasting lend(left, right, from, reader)
+    start true stands(left, right, from)
+    start delete stands(left, right, from)
+    all true present(reader)
+    all false closed(left)
+    end add lent(left, right, reader)
 
-lasting give-back left right reader to
-    start true lent left right reader
-    start delete lent left right reader
-    all true present reader
-    end add stands left right to
+lasting give-back(left, right, reader, to)
+    start true lent(left, right, reader)
+    start delete lent(left, right, reader)
+    all true present(reader)
+    end add stands(left, right, to)
 ";
 
 const TEMPLATE: &str = "stands[0,1,FF], lent[0,1,FF]";

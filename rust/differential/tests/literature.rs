@@ -648,9 +648,9 @@ fn rovers() {
 /// of the end.
 #[test]
 fn rovers_mended() {
-    let drop = "lasting drop rover store\n";
-    let over_all = ROVERS.replace(drop, &format!("{drop}    all true full store\n"));
-    let at_end = ROVERS.replace(drop, &format!("{drop}    end true full store\n"));
+    let drop = "lasting drop(rover, store)\n";
+    let over_all = ROVERS.replace(drop, &format!("{drop}    all true full(store)\n"));
+    let at_end = ROVERS.replace(drop, &format!("{drop}    end true full(store)\n"));
     assert!(over_all != ROVERS && at_end != ROVERS);
     let template = "full[0], empty[0]";
     let not_mended = Case {

@@ -12,10 +12,10 @@ use std::fs;
 
 const PAGE: &str = "README.md";
 
-/// The folder as it stands.
+/// The folder as it stands, but for the texts in words: these are the command's, and its tests look at them.
 fn stored() -> Files {
     let entries = fs::read_dir(folder()).expect("the folder samples/");
-    let paths = entries.map(|entry| entry.expect("an entry").path());
+    let paths = entries.map(|entry| entry.expect("an entry").path()).filter(|path| !name_of(path).ends_with(".txt"));
     paths.map(|path| (name_of(&path), fs::read(&path).expect("a file"))).collect()
 }
 

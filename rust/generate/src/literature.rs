@@ -1,8 +1,10 @@
 //! Domains of the planning literature, from the texts in cases/literature.
 //!
-//! A text has one thing a line: `relation NAME ARITY`; `lasting NAME VARIABLE ..` and `at-once NAME VARIABLE ..`,
-//! each followed by its literals; a literal is its time (`start`, `all`, `end`), its list (`true`, `false`, `add`,
-//! `delete`), its relation and its variables. A line that starts with # is a remark.
+//! The texts are in the notation of the command (`rust/command/src/notation`). Read here are its plain lines alone, so
+//! that the two readers can be compared: `relation NAME/ARITY`; `lasting NAME(VARIABLE, ..)` and `at once NAME(..)`, each
+//! followed by its literals; a literal is its time (`start`, `all`, `end`; none at once), its list (`true`, `false`,
+//! `add`, `delete`), and its relation with its variables. The template is passed over, since each domain is tried with
+//! several. A line that starts with # is a remark.
 
 use crate::domains::{Plan, PlanAction, FF};
 use crate::records::{rec, Rec};
@@ -31,38 +33,38 @@ impl Named {
         let mut domain = Named::default();
         let mut variables: Vec<&str> = Vec::new();
         for line in text.lines().filter(|line| !line.starts_with('#') && !line.is_empty()) {
-            let words: Vec<&str> = line.split_whitespace().collect();
+            let words: Vec<&str> = line.split(&[' ', '(', ')', ',', '/']).filter(|word| !word.is_empty()).collect();
             match words[..] {
                 ["relation", name, arity] => {
                     let arity = arity.parse().unwrap_or_else(|_| panic!("no arity: {line:?}"));
                     domain.relations.push((name.to_string(), arity));
                 }
-                [sort @ ("lasting" | "at-once"), name, ref of @ ..] => {
+                ["lasting", name, ref of @ ..] | ["at", "once", name, ref of @ ..] => {
                     variables = of.to_vec();
-                    let action = PlanAction::new(variables.len() as u8, sort == "lasting");
+                    let action = PlanAction::new(variables.len() as u8, words[0] == "lasting");
                     domain.actions.push((name.to_string(), action));
                 }
-                [time, list, relation, ref of @ ..] => {
-                    let first = match time {
-                        "start" => 0,
-                        "all" => 4,
-                        "end" => 6,
-                        _ => panic!("no time: {line:?}"),
-                    };
-                    let lists = ["true", "false", "add", "delete"];
-                    let role = first + lists.iter().position(|&other| other == list).expect("a list") as u8;
-                    let relation = place(&domain.relations, relation) as u8;
-                    let of =
-                        of.iter().map(|name| variables.iter().position(|other| other == name).expect("a variable"));
-                    let of: Vec<u8> = of.map(|number| number as u8).collect();
-                    assert_eq!(of.len(), domain.relations[relation as usize].1 as usize, "{line:?}");
-                    let (_, action) = domain.actions.last_mut().expect("an action before its literals");
-                    action.literals.push((role, relation, of));
-                }
-                _ => panic!("not a line of a domain: {line:?}"),
+                ["template", ..] => {}
+                ["start", ref literal @ ..] => domain.literal(0, literal, &variables),
+                ["all", ref literal @ ..] => domain.literal(4, literal, &variables),
+                ["end", ref literal @ ..] => domain.literal(6, literal, &variables),
+                ref literal => domain.literal(0, literal, &variables),
             }
         }
         domain
+    }
+
+    /// A literal of the latest action: its list, its relation and its variables; `first` is the first role of its time.
+    fn literal(&mut self, first: u8, words: &[&str], variables: &[&str]) {
+        let [list, relation, of @ ..] = words else { panic!("not a line of a domain: {words:?}") };
+        let lists = ["true", "false", "add", "delete"];
+        let role = first + lists.iter().position(|other| other == list).expect("a list") as u8;
+        let relation = place(&self.relations, relation) as u8;
+        let of = of.iter().map(|name| variables.iter().position(|other| other == name).expect("a variable"));
+        let of: Vec<u8> = of.map(|number| number as u8).collect();
+        assert_eq!(of.len(), self.relations[relation as usize].1 as usize, "{words:?}");
+        let (_, action) = self.actions.last_mut().expect("an action before its literals");
+        action.literals.push((role, relation, of));
     }
 
     /// The same domain with every action at once: what is true or false at any time is a condition, all effects come

@@ -81,18 +81,18 @@ fn specification() -> Samples {
 
 /// M1 with names. Its file is the stored one.
 const M1: &str = "
-relation at 2
-relation out 2
+relation at/2
+relation out/2
 
-at-once move volume from to
-    start true at volume from
-    start add at volume to
-    start delete at volume from
+at once move(volume, from, to)
+    true at(volume, from)
+    add at(volume, to)
+    delete at(volume, from)
 
-lasting lend volume shelf reader
-    start true at volume shelf
-    start delete at volume shelf
-    end add out volume reader
+lasting lend(volume, shelf, reader)
+    start true at(volume, shelf)
+    start delete at(volume, shelf)
+    end add out(volume, reader)
 ";
 
 /// What M1 to M12 leave open, from roles over all to six arguments.
@@ -195,51 +195,51 @@ fn proved(samples: &mut Samples) {
 
 /// The start of lend takes `in` away, and its end doesn't speak of it.
 const BOUNDED_ANYWHERE: &str = "
-relation in 1
-relation out 1
+relation in/1
+relation out/1
 
-lasting lend volume
-    start delete in volume
-    end add out volume
+lasting lend(volume)
+    start delete in(volume)
+    end add out(volume)
 
-at-once take-back volume
-    start add in volume
-    start delete out volume
+at once take-back(volume)
+    add in(volume)
+    delete out(volume)
 ";
 
 /// The start of lend needs the volume on its shelf, but doesn't take it away.
 const HARMLESS_START: &str = "
-relation at 2
-relation out 2
+relation at/2
+relation out/2
 
-lasting lend volume shelf reader
-    start true at volume shelf
-    end add out volume reader
+lasting lend(volume, shelf, reader)
+    start true at(volume, shelf)
+    end add out(volume, reader)
 ";
 
 /// One volume goes off its shelf, another one comes on a shelf.
 const BY_RELATION_ALONE: &str = "
-relation at 2
+relation at/2
 
-at-once exchange volume shelf other-volume other-shelf
-    start true at volume shelf
-    start delete at volume shelf
-    start add at other-volume other-shelf
+at once exchange(volume, shelf, other-volume, other-shelf)
+    true at(volume, shelf)
+    delete at(volume, shelf)
+    add at(other-volume, other-shelf)
 ";
 
 /// lend is a journey; take-back is bounded.
 const BOUNDED_BESIDE_JOURNEY: &str = "
-relation in 1
-relation out 1
+relation in/1
+relation out/1
 
-lasting lend volume
-    start true in volume
-    start delete in volume
-    end add out volume
+lasting lend(volume)
+    start true in(volume)
+    start delete in(volume)
+    end add out(volume)
 
-at-once take-back volume
-    start add in volume
-    start delete out volume
+at once take-back(volume)
+    add in(volume)
+    delete out(volume)
 ";
 
 /// A domain for each misreading that the specification rules out, and a run that breaks the template.
@@ -354,8 +354,8 @@ fn rovers(samples: &mut Samples) {
     samples.domain("rovers-rock", &domain, "at_rock_sample[0], have_rock_analysis[FF,0]");
     samples.domain("rovers-sample-or-store", &domain, "at_rock_sample[FF], at_soil_sample[FF], full[FF]");
     samples.domain("rovers-store", &domain, "full[0], empty[0]");
-    let drop = "lasting drop rover store\n";
-    let mended = Named::read(&ROVERS.replace(drop, &format!("{drop}    end true full store\n")));
+    let drop = "lasting drop(rover, store)\n";
+    let mended = Named::read(&ROVERS.replace(drop, &format!("{drop}    end true full(store)\n")));
     samples.domain("rovers-store-mended", &mended, "full[0], empty[0]");
 
     let (soil, rock, dropping) = (rovers_sampling("soil"), rovers_sampling("rock"), rovers_dropping());

@@ -1,0 +1,127 @@
+//! The texts of `--help`.
+
+pub fn version() -> String {
+    format!("goadlotus {}\n", env!("CARGO_PKG_VERSION"))
+}
+
+pub fn all() -> String {
+    "\
+goadlotus: says whether a family of facts may be joined into one field, and
+plays runs of the procedures that change them
+
+  goadlotus judge FILE ..      the verdict of a domain and the name of each
+                               class; of many files or a folder a table
+  goadlotus explain FILE       the verdict in sentences, with every reason
+  goadlotus play DOMAIN RUN    a run step by step, where it stops and why
+  goadlotus mark DOMAIN FILE   a student's names against the program's; of many
+                               hand-ins or a folder a table
+  goadlotus show FILE          a file in words
+  goadlotus write FILE -o OUT  a file in bytes, from words
+  goadlotus --help, goadlotus WORD --help, goadlotus --version
+
+A FILE is in words or in bytes, which is told by its first bytes; - is standard
+input. docs/COURSE.md shows how a domain and a run are written, docs/FORMAT.md
+has the bytes and every number.
+
+Status: 0 accepted, or played to the end; 3 refused for a class, or a step that
+isn't allowed; 4 a broken file; 1 something can't be read or written; 2 wrong
+usage.
+"
+    .to_string()
+}
+
+pub fn of(word: &str) -> String {
+    match word {
+        "judge" => JUDGE,
+        "explain" => EXPLAIN,
+        "mark" => MARK,
+        "play" => PLAY,
+        "show" => SHOW,
+        "write" => WRITE,
+        _ => "",
+    }
+    .to_string()
+}
+
+const JUDGE: &str = "\
+goadlotus judge FILE
+goadlotus judge [--tsv | --json] [--rows] FILE-OR-FOLDER ..
+
+One file: its verdict, and a line for each moment of each class: action, class,
+what the class is about, moment, name. Several files, or a folder with all in it
+but hidden files: a table with a line for each file, as columns, as TSV for a
+spreadsheet, or as JSON lines. --rows: a line for each row of each file instead.
+
+Status: 0 all are accepted, 3 one is refused, 4 one is broken, 1 one can't be
+read.
+";
+
+const EXPLAIN: &str = "\
+goadlotus explain FILE
+
+The verdict of a domain in sentences. For each row: what the class is about,
+which literals count, why it has its name, and why not the one before it in the
+list. For a refusal the witness: facts, the event, and the facts after it.
+
+Status: 0 accepted, 3 refused, 4 a broken file, 1 it can't be read.
+";
+
+const MARK: &str = "\
+goadlotus mark DOMAIN FILE
+goadlotus mark [--tsv | --json] [--rows] DOMAIN FILE-OR-FOLDER ..
+
+A student's names against the program's: right, wrong or missing, with the
+reason for each that is wrong. Several files, or a folder: a table with a line
+for each hand-in. --rows: a line for each row of each hand-in instead. A hand-in
+is a text:
+
+  verdict: accepted
+  move: balanced
+  lend start: irrelevant
+  lend end: unbounded
+
+Where an action has several classes a line tells which, as lend(volume) start,
+or lend class 0 start. The verdict need not be told; lines of the listing, as
+row 1 0 1 unbounded, are taken, too.
+
+Status: 0 all are right, 3 something is wrong or missing, 4 a file is broken,
+1 one can't be read.
+";
+
+const PLAY: &str = "\
+goadlotus play [--all] DOMAIN RUN
+
+A run in sentences. For each step: its events, the facts that go and come, what
+is open, and the weight of each instance that loses or gets a fact. Where it
+stops: which condition fails, what isn't open, or which two events interfere.
+Last a line of time: * at once, [ start, ] end, = open, and the highest weight
+after each step. Of more than 60 steps only the last 20 are told, unless --all
+stands there.
+
+Status: 0 played to the end, 3 a step that isn't allowed, 4 a broken file, 1 a
+file can't be read.
+";
+
+const SHOW: &str = "\
+goadlotus show FILE [-o OUT]
+goadlotus show DOMAIN RUN [-o OUT]
+
+A domain or a run in words. A file in bytes has no names, so they are r0, a0, v0
+and o0; with a domain in words its names are used for the run. A broken file is
+shown too, with a remark above the record at fault, and what has no words as
+records and bytes: write makes the same file of it again.
+
+Status: 0 shown, 4 a broken file, 1 it can't be read or written.
+";
+
+const WRITE: &str = "\
+goadlotus write FILE [-o OUT]
+goadlotus write DOMAIN RUN [-o OUT]
+
+A domain or a run in bytes, on standard output or in the file OUT. A run in
+words needs its domain, unless it has numbers in place of names. What reading
+refuses is written too, and told by its line and its number.
+
+Status: 0 written, 4 a slip in the words, or a file that reading refuses, 1 it
+can't be read or written.
+";
