@@ -1,5 +1,5 @@
-//! The examples that README.md shows: both programs are compiled, judge M1, and stand in README.md as they are; and what
-//! it says that the command prints is what is stored.
+//! The examples that README.md shows: both programs are compiled, list the samples, and stand in README.md as they are; and what it says
+//! that the command prints is what is stored.
 
 use std::env;
 use std::fs;
@@ -10,36 +10,92 @@ fn root() -> PathBuf {
     Path::new(env!("CARGO_MANIFEST_DIR")).join("../..").canonicalize().expect("the repository's root")
 }
 
-/// What a program prints of M1.
-fn judges_m1(program: &Path) -> String {
-    let out = Command::new(program).arg(root().join("crates/samples/data/m1")).output();
-    let out = out.unwrap_or_else(|e| panic!("{} doesn't start: {e}", program.display()));
-    assert!(out.status.success(), "{}: {out:?}", program.display());
-    String::from_utf8(out.stdout).expect("UTF-8")
+/// A program prints the listing of every domain file of samples/, and says which file is missing.
+fn lists_the_samples(program: &Path) {
+    let run = |file: &Path| {
+        let out = Command::new(program).arg(file).output();
+        out.unwrap_or_else(|e| panic!("{} doesn't start: {e}", program.display()))
+    };
+    let mut tried = 0;
+    for entry in fs::read_dir(root().join("samples")).expect("samples") {
+        let file = entry.expect("a file").path();
+        if file.extension().is_some_and(|e| e == "domain") {
+            let out = run(&file);
+            assert!(out.status.success(), "{}: {out:?}", file.display());
+            let listing = fs::read_to_string(file.with_extension("listing")).expect("its listing");
+            assert_eq!(String::from_utf8_lossy(&out.stdout), listing, "{}", file.display());
+            tried += 1;
+        }
+    }
+    assert!(tried >= 60, "only {tried} files of samples/ were found");
+    let out = run(Path::new("no such.domain"));
+    assert_eq!((out.status.code(), out.stdout.len()), (Some(1), 0));
+    let said = String::from_utf8_lossy(&out.stderr);
+    assert!(said.starts_with("no such.domain: ") && said.lines().count() == 1, "{said}");
 }
 
-/// M1's first line in crates/samples/stdout.
-fn expected() -> String {
-    let samples = fs::read_to_string(root().join("crates/samples/stdout")).expect("crates/samples/stdout");
-    let line = samples.strip_prefix("m1\n").and_then(|s| s.lines().next()).expect("M1 comes first");
-    format!("{line}\n")
+/// A program in C over the library, in a folder that goes with it.
+struct Compiled {
+    folder: PathBuf,
+    program: PathBuf,
+}
+
+impl Compiled {
+    fn of(source: &str) -> Compiled {
+        let root = root();
+        let name = Path::new(source).file_stem().and_then(|name| name.to_str()).expect("a name");
+        let folder = env::temp_dir().join(format!("goadlotus-{name}-{}", std::process::id()));
+        fs::create_dir_all(&folder).expect("a temporary folder");
+        let program = folder.join(name);
+        let out = Command::new("cc")
+            .args(["-std=c99", "-pedantic", "-Wall", "-Wextra", "-Werror", "-I"])
+            .args([&root.join("include"), Path::new("-o"), &program])
+            .args([root.join(source), root.join("target/staticlib/libgoadlotus.a")])
+            .output()
+            .unwrap_or_else(|e| panic!("cc doesn't start, and this test needs a C compiler of that name: {e}"));
+        assert!(out.status.success(), "cc refuses {source}:\n{}", String::from_utf8_lossy(&out.stderr));
+        Compiled { folder, program }
+    }
+}
+
+impl Drop for Compiled {
+    fn drop(&mut self) {
+        let _ = fs::remove_dir_all(&self.folder);
+    }
 }
 
 #[test]
 fn c() {
-    let root = root();
-    let folder = env::temp_dir().join(format!("goadlotus-examples-{}", std::process::id()));
-    fs::create_dir_all(&folder).expect("a temporary folder");
-    let program = folder.join("example");
-    let out = Command::new("cc")
-        .args(["-std=c99", "-Wall", "-Wextra", "-Werror", "-o"])
-        .arg(&program)
-        .args([root.join("include/example.c"), root.join("target/staticlib/libgoadlotus.a")])
-        .output()
-        .unwrap_or_else(|e| panic!("cc doesn't start, and this test needs a C compiler of that name: {e}"));
-    assert!(out.status.success(), "cc refuses include/example.c:\n{}", String::from_utf8_lossy(&out.stderr));
-    assert_eq!(judges_m1(&program), expected());
-    fs::remove_dir_all(folder).expect("the folder goes");
+    lists_the_samples(&Compiled::of("include/example.c").program);
+}
+
+/// The header's own functions count as this crate does.
+#[test]
+fn c_counts() {
+    let counting = Compiled::of("rust/goadlotus/tests/counts.c");
+    let samples = root().join("samples");
+    let mut tried = 0;
+    for entry in fs::read_dir(&samples).expect("samples") {
+        let run = entry.expect("a file").path();
+        if run.extension().is_none_or(|e| e != "run") {
+            continue;
+        }
+        let domain = samples.join(fs::read_to_string(run.with_extension("of")).expect("its domain").trim_end());
+        let out = Command::new(&counting.program).args([&domain, &run]).output().expect("it starts");
+        let (domain, run) = (fs::read(domain).expect("a domain file"), fs::read(run).expect("a run file"));
+        let (judged, played) = (goadlotus::judge_file(&domain), goadlotus::play_files(&domain, &run));
+        let counts = [
+            judged.answer.number,
+            judged.rows().len() as u64,
+            judged.facts().len() as u64,
+            played.answer.number,
+            played.facts().len() as u64,
+        ];
+        let told: Vec<u64> = String::from_utf8_lossy(&out.stdout).split_whitespace().flat_map(str::parse).collect();
+        assert_eq!(told, counts);
+        tried += 1;
+    }
+    assert!(tried >= 30, "only {tried} run files of samples/ were found");
 }
 
 #[test]
@@ -48,7 +104,7 @@ fn rust() {
     let here = env::current_exe().expect("this test's own file");
     let program = here.parent().and_then(Path::parent).expect("the profile's folder").join("examples/judge");
     assert!(program.exists(), "{} isn't built: run cargo test without --test", program.display());
-    assert_eq!(judges_m1(&program), expected());
+    lists_the_samples(&program);
 }
 
 #[test]
