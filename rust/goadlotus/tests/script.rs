@@ -294,11 +294,17 @@ fn signals_end_the_provers() {
     for (signal, to_all, status) in [("INT", true, 130), ("TERM", false, 143), ("HUP", false, 129)] {
         let place = Place::with_tools(signal);
         place.tool("rt", SLOW_RT);
-        let script: Child = place.told(&["judge", "0"]).process_group(0).spawn().expect("the script starts");
+        let mut script: Child = place.told(&["judge", "0"]).process_group(0).spawn().expect("the script starts");
         let provers = place.at("provers");
         within(20, "a prover starts", || fs::read_to_string(&provers).is_ok_and(|text| text.ends_with('\n')));
         let provers = fs::read_to_string(provers).expect("their numbers");
         assert!(provers.split_whitespace().all(runs), "{provers}");
+        // whoever reads the progress may be gone first, and there is some
+        if signal == "TERM" {
+            drop(script.stderr.take());
+            write(place.at("target/log/list.out"), "");
+            sleep(Duration::from_secs(1));
+        }
         // a terminal sends an interrupt to everything in the foreground, kill to one process
         kill(signal, &format!("{}{}", if to_all { "-" } else { "" }, script.id()));
         let (ended, out, said) = answer(script.wait_with_output().expect("the script ends"));
