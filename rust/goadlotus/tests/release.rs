@@ -115,7 +115,7 @@ fn words() {
         (&["mark", m1, "samples/m1.listing"], 0),
     ] {
         let (ended, out, said) = release.told(words);
-        assert!(ended == status && !out.is_empty(), "{words:?}: status {ended}\n{out}{said}");
+        assert!(ended == status && !(out + &said).is_empty(), "{words:?}: status {ended}\n{said}");
     }
     for (words, status) in [(&["judge", "no such"][..], 1), (&["list", "no such"], 1), (&["judge"], 2), (&["list"], 2)]
     {
