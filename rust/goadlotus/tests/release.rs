@@ -1,5 +1,5 @@
 //! The release, where the programs are built: it is packed, unpacked in an empty folder, and tried there with an empty environment but for
-//! the system's own PATH, as it comes and installed; C and Rust programs are built over it.
+//! the system's own PATH, as it comes and installed; programs in C and Rust are built over it.
 
 use std::fs::{self, Permissions};
 use std::os::unix::fs::PermissionsExt;
@@ -202,38 +202,55 @@ fn installed() {
     assert!(status == 1 && said.contains("no release") && !nowhere.exists(), "{said}");
 }
 
-/// The example in C, and a Rust project outside that finds the library by GOADLOTUS_LIB.
+/// The examples in C and Rust, in the release's own folder.
 #[test]
-fn built_over_it() {
-    let Some(release) = Release::packed("built over") else { return };
+fn examples() {
+    let Some(release) = Release::packed("examples") else { return };
     let here = &release.unpacked;
     let listing = fs::read_to_string(here.join("samples/m1.listing")).expect("a listing");
     let mut cc = bare("cc", here);
     cc.args(["-o", "example", "include/example.c", "lib/libgoadlotus.a"]);
     done(cc);
     assert_eq!(tried("./example", here, &["samples/m1.domain"]), (0, listing.clone(), String::new()));
+    let mut cargo = cargo("run", here);
+    cargo.args(["--manifest-path", "rust/goadlotus/Cargo.toml", "--example", "judge", "samples/m1.domain"]);
+    assert_eq!(done(cargo), listing);
+}
 
-    let project = release.folder.join("project");
+/// cargo in a folder, with a place of its own for what it builds.
+fn cargo(word: &str, folder: &Path) -> Command {
+    let mut cargo = Command::new(env!("CARGO"));
+    cargo.current_dir(folder).args([word, "--offline", "--quiet"]);
+    cargo.env("CARGO_TARGET_DIR", folder.join("built")).env_remove("GOADLOTUS_LIB");
+    cargo
+}
+
+/// A Rust project over a copy of the crate that stands in no release finds the library by GOADLOTUS_LIB.
+#[test]
+fn a_project_outside() {
+    let Some(release) = Release::packed("outside") else { return };
+    let (here, project) = (&release.unpacked, release.folder.join("project"));
     fs::create_dir_all(project.join("src")).expect("a folder");
+    let mut copy = bare("cp", &project);
+    copy.arg("-R").arg(here.join("rust/goadlotus")).arg("wrapper");
+    done(copy);
     let manifest = "[package]\nname = \"project\"\nedition = \"2021\"\n[workspace]\n[dependencies]\n";
-    let manifest = format!("{manifest}goadlotus = {{ path = {:?} }}\n", here.join("rust/goadlotus"));
-    fs::write(project.join("Cargo.toml"), manifest).expect("a file");
+    fs::write(project.join("Cargo.toml"), format!("{manifest}goadlotus = {{ path = \"wrapper\" }}\n")).expect("a file");
     fs::copy(here.join("rust/goadlotus/examples/judge.rs"), project.join("src/main.rs")).expect("a copy");
-    let cargo = |library: Option<PathBuf>| {
-        let mut cargo = Command::new(env!("CARGO"));
-        cargo.current_dir(&project).args(["build", "--offline"]).env("CARGO_TARGET_DIR", project.join("target"));
-        match library {
-            Some(folder) => cargo.env("GOADLOTUS_LIB", folder),
-            None => cargo.env_remove("GOADLOTUS_LIB"),
-        };
-        cargo
+    let build = |library: Option<&Path>| {
+        let mut build = cargo("build", &project);
+        build.envs(library.map(|folder| ("GOADLOTUS_LIB", folder)));
+        build
     };
-    for (library, advice) in [(None, "set GOADLOTUS_LIB"), (Some(project.clone()), "GOADLOTUS_LIB names the folder")] {
-        let (status, _, said) = answer(cargo(library).output().expect("cargo starts"));
-        assert!(status != 0 && said.contains("libgoadlotus.a is missing") && said.contains(advice), "{said}");
+    for (library, why) in
+        [(None, "or set GOADLOTUS_LIB to"), (Some(project.as_path()), "and libgoadlotus.a is missing there")]
+    {
+        let (status, _, said) = answer(build(library).output().expect("cargo starts"));
+        assert!(status != 0 && said.contains(why), "{said}");
     }
-    done(cargo(Some(here.join("lib"))));
+    done(build(Some(&here.join("lib"))));
     let m1 = here.join("samples/m1.domain");
-    let listed = tried(project.join("target/debug/project"), &project, &[m1.to_str().expect("UTF-8")]);
+    let listing = fs::read_to_string(here.join("samples/m1.listing")).expect("a listing");
+    let listed = tried(project.join("built/debug/project"), &project, &[m1.to_str().expect("UTF-8")]);
     assert_eq!(listed, (0, listing, String::new()));
 }
