@@ -280,10 +280,12 @@ fn kill(signal: &str, process: &str) {
     assert!(Command::new("kill").args(["-s", signal, "--", process]).status().expect("kill").success());
 }
 
-/// A prover that doesn't care for an interrupt, as those that a shell starts in the background, below one more process; and a folder of rt's.
+/// A prover that doesn't care for an interrupt, as those that a shell starts in the background, below one more process; a folder of rt's; and
+/// programs that look new.
 const SLOW_RT: &str = r#"#!/bin/sh
 mktemp -d >/dev/null
 mkdir -p target/log && : >target/log/records.out
+touch target/bin/list target/bin/play target/staticlib/libgoadlotus.a
 sh -c 'sleep 1000; :' &
 echo $$ $! >>provers
 sleep 1000
@@ -293,6 +295,9 @@ sleep 1000
 fn signals_end_the_provers() {
     for (signal, to_all, status) in [("INT", true, 130), ("TERM", false, 143), ("HUP", false, 129)] {
         let place = Place::with_tools(signal);
+        assert_eq!(place.tried(&["judge", "0"]).0, 0);
+        place.touch("crates/records/src/lib.rt");
+        place.calls();
         place.tool("rt", SLOW_RT);
         let mut script: Child = place.told(&["judge", "0"]).process_group(0).spawn().expect("the script starts");
         let provers = place.at("provers");
