@@ -312,6 +312,7 @@ fn signals_end_the_provers() {
         }
         // a terminal sends an interrupt to everything in the foreground, kill to one process
         kill(signal, &format!("{}{}", if to_all { "-" } else { "" }, script.id()));
+        within(20, "the script ends", || script.try_wait().expect("a status").is_some());
         let (ended, out, said) = answer(script.wait_with_output().expect("the script ends"));
         assert_eq!((ended, out.as_str()), (status, ""), "{signal}: {said}");
         within(5, "no prover runs", || !provers.split_whitespace().any(runs));
