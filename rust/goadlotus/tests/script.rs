@@ -193,7 +193,9 @@ fn first_use() {
     // one build for every word, which tells where it is: the crate, how many are left, the time
     let (status, out, said) = place.tried(&["judge", "a name", "3"]);
     assert_eq!((status, out.as_str()), (3, "command judge a name 3\n"), "{said}");
-    for part in ["the first use proves", "proving records, 4 of 4 crates left, 0 min ", "proved and built in 0 min "] {
+    for part in
+        ["the first use proves", "4 of 4 crates left, 0 min 0 s: proving records\n", "proved and built in 0 min "]
+    {
         assert!(said.contains(part), "{part:?} isn't in\n{said}");
     }
     assert_eq!(place.calls(), PROVING);
