@@ -194,7 +194,7 @@ fn first_use() {
     let (status, out, said) = place.tried(&["judge", "a name", "3"]);
     assert_eq!((status, out.as_str()), (3, "command judge a name 3\n"), "{said}");
     for part in
-        ["the first use proves", "4 of 4 crates left, 0 min 0 s: proving records\n", "proved and built in 0 min "]
+        ["the first use proves", "4 of 4 crates left, 0 min ", " s: proving records\n", "proved and built in 0 min "]
     {
         assert!(said.contains(part), "{part:?} isn't in\n{said}");
     }
