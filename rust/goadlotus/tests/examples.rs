@@ -124,6 +124,7 @@ fn printed(readme: &str) -> Vec<(Vec<&str>, &str)> {
     shown.map(|next| (next[0].split_whitespace().skip(1).collect(), next[2])).collect()
 }
 
+/// Where GOADLOTUS_FILL is set, README.md gets what is printed instead.
 #[test]
 fn readme_shows_what_is_printed() {
     let root = root();
@@ -137,11 +138,21 @@ fn readme_shows_what_is_printed() {
         eprintln!("the command isn't built, so it isn't tried");
         return;
     }
+    let mut filled = readme.clone();
     for (words, output) in shown {
         // no rt: if something is older than its sources, run ./goadlotus list
         let mut command = Command::new("./goadlotus");
         let out = command.args(&words).current_dir(&root).env("PATH", "/usr/bin:/bin").output().expect("it starts");
-        assert_eq!(String::from_utf8_lossy(&out.stdout), output, "{words:?}: {}", String::from_utf8_lossy(&out.stderr));
+        let now = String::from_utf8(out.stdout).expect("UTF-8");
+        assert!(!now.is_empty(), "{words:?}: {}", String::from_utf8_lossy(&out.stderr));
+        if env::var_os("GOADLOTUS_FILL").is_some() {
+            filled = filled.replacen(output, &now, 1);
+        } else {
+            assert_eq!(now, output, "{words:?}; to write it anew: GOADLOTUS_FILL=1");
+        }
+    }
+    if filled != readme {
+        fs::write(root.join("README.md"), filled).expect("README.md is written");
     }
 }
 
