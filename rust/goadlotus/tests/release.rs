@@ -98,6 +98,8 @@ fn words() {
         assert!(help.contains(&format!("goadlotus {word} ")), "the help lacks {word}:\n{help}");
         assert_eq!(release.told(&[word, "--help"]).0, 0, "{word}");
     }
+    // it fits a terminal of 80 columns
+    assert!(help.lines().all(|line| line.chars().count() < 80), "{help}");
     let (m1, m5, m12) = ("samples/m1.domain", "samples/m5.domain", "samples/m12.run");
     assert_eq!(release.told(&["list", m1]), (0, sample("m1.listing"), String::new()));
     assert_eq!(release.told(&["list", m5]), (3, sample("m5.listing"), String::new()));

@@ -157,6 +157,11 @@ impl Drop for Place {
 
 const PROVING: [&str; 3] = ["rt check records list play", "rt staticlib goadlotus", "cargo build"];
 
+/// Does a text fit a terminal of 80 columns?
+fn fits(text: &str) -> bool {
+    text.lines().all(|line| line.chars().count() < 80)
+}
+
 #[test]
 fn without_a_build() {
     let place = Place::with_tools("without a build");
@@ -166,11 +171,16 @@ fn without_a_build() {
         help.contains("goadlotus list FILE") && help.contains("judge, explain, play, show, write or mark"),
         "{help}"
     );
+    assert!(fits(&help), "{help}");
     assert_eq!(place.tried(&[]), (2, String::new(), help));
     assert_eq!(place.tried(&["--version"]), (0, "goadlotus 7.8.9\n".into(), String::new()));
     let (status, help, said) = place.tried(&["list", "--help"]);
     assert_eq!((status, said.as_str()), (0, ""));
-    assert!(help.contains("Exit status: 0 accepted; 3 refused; 4 a broken file; 1 ") && help.contains("2 wrong usage"));
+    assert!(
+        help.contains("Status: 0 accepted, 3 refused, 4 a broken file, 1 ") && help.contains("2 wrong usage"),
+        "{help}"
+    );
+    assert!(fits(&help), "{help}");
     let missing = "goadlotus: can't read no such: there is no such file\n";
     assert_eq!(place.tried(&["list", "no such"]), (1, String::new(), missing.into()));
     assert_eq!(place.tried(&["list", "bin"]).0, 1);
