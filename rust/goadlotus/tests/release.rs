@@ -58,19 +58,21 @@ impl Release {
             }
         }
         let folder = std::env::temp_dir().join(format!("goadlotus {name} релиз {}", std::process::id()));
-        fs::create_dir_all(folder.join("empty")).expect("a folder");
+        let empty = folder.join("empty");
+        fs::create_dir_all(&empty).expect("a folder");
+        let mut release = Release { folder, unpacked: empty.clone(), version: String::new() };
+        let folder = &release.folder;
         // no rt: if something is older than its sources, run ./goadlotus list
-        let out = tried(root.join("release"), &root, &[folder.to_str().expect("UTF-8")]);
-        assert_eq!(out.0, 0, "{}", out.2);
-        let packed = out.1.trim_end();
-        let unpack = tried("tar", &folder.join("empty"), &["-xzf", packed]);
-        assert_eq!(unpack, (0, String::new(), String::new()));
-        assert_eq!(tried("sha256sum", &folder, &["--quiet", "-c", &format!("{packed}.sha256")]).0, 0);
-        let name = Path::new(packed).file_name().and_then(|n| n.to_str()).expect("a name").to_string();
+        let (status, packed, said) = tried(root.join("release"), &root, &[folder.to_str().expect("UTF-8")]);
+        assert_eq!(status, 0, "{said}");
+        let packed = packed.trim_end();
+        assert_eq!(tried("tar", &empty, &["-xzf", packed]), (0, String::new(), String::new()));
+        assert_eq!(tried("sha256sum", folder, &["--quiet", "-c", &format!("{packed}.sha256")]).0, 0);
+        let name = Path::new(packed).file_name().and_then(|n| n.to_str()).expect("a name");
         let version = name.strip_prefix("goadlotus-").and_then(|n| n.strip_suffix("-linux-x86_64.tar.gz"));
-        let version = version.unwrap_or_else(|| panic!("{name} is no name of a release")).to_string();
-        let unpacked = folder.join("empty").join(name.strip_suffix(".tar.gz").expect("a packed file"));
-        Some(Release { folder, unpacked, version })
+        release.version = version.unwrap_or_else(|| panic!("{name} is no name of a release")).to_string();
+        release.unpacked = empty.join(name.strip_suffix(".tar.gz").expect("a packed file"));
+        Some(release)
     }
 
     fn told(&self, words: &[&str]) -> Answer {
