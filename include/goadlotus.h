@@ -1,12 +1,75 @@
 /*
- * goadlotus: judging a domain file, and playing a run. The library is
- * target/staticlib/libgoadlotus.a, written by `rt staticlib goadlotus`; it links into x86-64 programs.
+ * goadlotus: judging a domain file, and playing a run. The library is libgoadlotus.a, in lib/ of a
+ * release, and in target/staticlib/ of a checkout, where `rt staticlib goadlotus` writes it; it links
+ * into x86-64 programs.
+ *
+ * goadlotus_judge_file and goadlotus_play_files, at the end, bring the memory and say how many rows and
+ * facts were written; goadlotus_judge and goadlotus_play work in memory that the caller lends.
  */
 #ifndef GOADLOTUS_H
 #define GOADLOTUS_H
 
 #include <stddef.h>
 #include <stdint.h>
+#include <string.h>
+
+/* Sizes in bytes. */
+#define GOADLOTUS_FILE_LIMIT   65535 /* the longest domain file that is read */
+#define GOADLOTUS_REPORT_SIZE  32768 /* memory for the report that is enough for every file */
+#define GOADLOTUS_WITNESS_SIZE   512 /* memory for the witness that is enough for every file */
+#define GOADLOTUS_WORK_SIZE     8192 /* work memory that playing needs */
+#define GOADLOTUS_ROW_SIZE         4 /* a row of the report */
+#define GOADLOTUS_FACT_SIZE        8 /* a fact of the witness or of work memory */
+
+/* The numbers that the calls return. */
+enum goadlotus_number {
+    GOADLOTUS_ACCEPTED           = 0,  /* accepted; no moment is unbounded */
+    GOADLOTUS_ACCEPTED_UNBOUNDED = 1,  /* accepted; some journey's end is unbounded */
+    GOADLOTUS_PLAYED             = 2,  /* played to the end */
+    GOADLOTUS_FILE_TOO_LONG      = 9,  /* domain file too long */
+    GOADLOTUS_CUT_SHORT          = 10, /* record cut short, or closing record missing */
+    GOADLOTUS_UNKNOWN_KIND       = 11, /* unknown kind */
+    GOADLOTUS_WRONG_LENGTH       = 12, /* wrong payload length */
+    GOADLOTUS_OUT_OF_ORDER       = 13, /* kind out of order, or bytes behind the closing record */
+    GOADLOTUS_OVER_LIMIT         = 14, /* over a limit */
+    GOADLOTUS_OUT_OF_RANGE       = 15, /* arity, variable count or sort out of range */
+    GOADLOTUS_WRONG_ROLE         = 16, /* role unknown, or not for an action at once */
+    GOADLOTUS_NO_RELATION        = 17, /* no such relation */
+    GOADLOTUS_NO_VARIABLE        = 18, /* no such variable */
+    GOADLOTUS_LITERAL_REPEATED   = 19, /* literal repeated in its role */
+    GOADLOTUS_CONTRADICTION      = 20, /* literal both true and false condition */
+    GOADLOTUS_WRONG_LABELS       = 21, /* labels wrong */
+    GOADLOTUS_COMPONENT_REPEATED = 22, /* relation has a component already */
+    GOADLOTUS_NO_COMPONENT       = 23, /* no component */
+    GOADLOTUS_KEY_TWICE          = 24, /* a key twice in a component */
+    GOADLOTUS_COUNTED_TWICE      = 25, /* FF twice in a component */
+    GOADLOTUS_REPORT_TOO_SMALL   = 30, /* report memory too small */
+    GOADLOTUS_WITNESS_TOO_SMALL  = 31, /* witness memory too small */
+    GOADLOTUS_REFUSED_HEAVY      = 40, /* refused: heavy */
+    GOADLOTUS_REFUSED_UNBALANCED = 41, /* refused: unbalanced */
+    GOADLOTUS_REFUSED_UNBOUNDED  = 42, /* refused: unbounded outside a journey's end */
+    GOADLOTUS_REFUSED_BOUNDED    = 43, /* refused: bounded beside an unbounded journey's end */
+    GOADLOTUS_RUN_MALFORMED      = 50, /* run file: form, order or length */
+    GOADLOTUS_RUN_OUT_OF_RANGE   = 51, /* number out of range, or moment 1 of an action at once */
+    GOADLOTUS_RUN_OVER_LIMIT     = 52, /* over a limit of the player: 1,024 facts, 16 events in a step, 32 open */
+    GOADLOTUS_OBJECT_TWICE       = 53, /* one object bound twice */
+    GOADLOTUS_EVENT_REPEATED     = 54, /* event repeated in its step */
+    GOADLOTUS_CONDITION_FAILS    = 55, /* a condition fails */
+    GOADLOTUS_INTERFERENCE       = 56, /* interference */
+    GOADLOTUS_NOT_OPEN           = 57, /* end of something that is not open */
+    GOADLOTUS_WORK_TOO_SMALL     = 58, /* work memory too small */
+};
+
+/* The names of a report's rows. */
+enum goadlotus_name {
+    GOADLOTUS_UNREACHABLE = 1,
+    GOADLOTUS_IRRELEVANT  = 2,
+    GOADLOTUS_HEAVY       = 3,
+    GOADLOTUS_BALANCED    = 4,
+    GOADLOTUS_UNBALANCED  = 5,
+    GOADLOTUS_BOUNDED     = 6,
+    GOADLOTUS_UNBOUNDED   = 7
+};
 
 #ifdef __cplusplus
 extern "C" {
@@ -39,7 +102,8 @@ extern "C" {
  * ever exceeded, in reading or in writing, whatever the file says. The answer depends on the file and
  * on the two lengths alone, not on what the lent memory held.
  *
- * All lengths may be any, 0 too; 32,768 bytes of report and 512 of witness are enough for every file.
+ * All lengths may be any, 0 too; GOADLOTUS_REPORT_SIZE bytes of report and GOADLOTUS_WITNESS_SIZE of
+ * witness are enough for every file.
  * file, report, witness, first, second and third must not overlap. No pointer may be null, not even
  * one to 0 bytes, and first, second and third must be aligned.
  */
@@ -107,5 +171,66 @@ uint64_t goadlotus_play(const uint8_t *domain, size_t domain_len,
 #ifdef __cplusplus
 }
 #endif
+
+/*
+ * How many rows, or facts, stand at the start of memory that held zeros before a call wrote to it: up to
+ * the first that is none. (A row's name is 1 to 7, and what a fact's objects leave of its 8 bytes is FF,
+ * so zeros are neither. goadlotus_play itself writes zeros behind the facts held.)
+ */
+static inline size_t goadlotus_count_rows(const uint8_t *report, size_t report_len) {
+    size_t n = 0;
+    while (n < report_len / GOADLOTUS_ROW_SIZE && report[n * GOADLOTUS_ROW_SIZE + 3] != 0) n++;
+    return n;
+}
+
+static inline size_t goadlotus_count_facts(const uint8_t *facts, size_t facts_len) {
+    size_t n = 0;
+    while (n < facts_len / GOADLOTUS_FACT_SIZE
+           && (facts[n * GOADLOTUS_FACT_SIZE + 1] != 0 || facts[n * GOADLOTUS_FACT_SIZE + 7] != 0)) n++;
+    return n;
+}
+
+/* A judgement, in memory that is enough for every file. */
+struct goadlotus_judged {
+    uint64_t number, first, second, third;
+    size_t rows, facts;                      /* how many were written */
+    uint8_t report[GOADLOTUS_REPORT_SIZE];   /* the rows: action, class, moment, name */
+    uint8_t witness[GOADLOTUS_WITNESS_SIZE]; /* the facts: relation, arity, objects, FF to fill */
+};
+
+/* Judges a domain file; the number is also returned, and is never 30 or 31. */
+static inline uint64_t goadlotus_judge_file(const uint8_t *file, size_t file_len, struct goadlotus_judged *judged) {
+    memset(judged, 0, sizeof *judged);
+    judged->number = goadlotus_judge(file, file_len, judged->report, sizeof judged->report, judged->witness,
+                                     sizeof judged->witness, &judged->first, &judged->second, &judged->third);
+    judged->rows = goadlotus_count_rows(judged->report, sizeof judged->report);
+    judged->facts = goadlotus_count_facts(judged->witness, sizeof judged->witness);
+    return judged->number;
+}
+
+/* A run played. */
+struct goadlotus_played {
+    uint64_t number, place, steps, weight, part_file, part_at;
+    size_t facts;                      /* how many are held */
+    uint8_t work[GOADLOTUS_WORK_SIZE]; /* the facts held, then zeros */
+};
+
+/* Plays a run file on a domain file; the number is also returned, and is never 58. */
+static inline uint64_t goadlotus_play_files(const uint8_t *domain, size_t domain_len, const uint8_t *run,
+                                            size_t run_len, struct goadlotus_played *played) {
+    memset(played, 0, sizeof *played);
+    played->number = goadlotus_play(domain, domain_len, run, run_len, played->work, sizeof played->work,
+                                    &played->place, &played->steps, &played->weight, &played->part_file,
+                                    &played->part_at);
+    played->facts = goadlotus_count_facts(played->work, sizeof played->work);
+    return played->number;
+}
+
+/* The word of a name, as the listing prints it; "" where it is not 1 to 7. */
+static inline const char *goadlotus_name_word(uint8_t name) {
+    static const char *const words[] = {"", "unreachable", "irrelevant", "heavy", "balanced", "unbalanced", "bounded",
+                                        "unbounded"};
+    return name < sizeof words / sizeof words[0] ? words[name] : "";
+}
 
 #endif

@@ -1,5 +1,5 @@
-//! The examples that README.md shows: both programs are compiled, judge M1, and stand in README.md as they are; and what
-//! it says that the command prints is what is stored.
+//! The examples that README.md shows: both programs are compiled, list the samples, and stand in README.md as they are; and what it says
+//! that the command prints is what is stored.
 
 use std::env;
 use std::fs;
@@ -10,36 +10,92 @@ fn root() -> PathBuf {
     Path::new(env!("CARGO_MANIFEST_DIR")).join("../..").canonicalize().expect("the repository's root")
 }
 
-/// What a program prints of M1.
-fn judges_m1(program: &Path) -> String {
-    let out = Command::new(program).arg(root().join("crates/samples/data/m1")).output();
-    let out = out.unwrap_or_else(|e| panic!("{} doesn't start: {e}", program.display()));
-    assert!(out.status.success(), "{}: {out:?}", program.display());
-    String::from_utf8(out.stdout).expect("UTF-8")
+/// A program prints the listing of every domain file of samples/, and says which file is missing.
+fn lists_the_samples(program: &Path) {
+    let run = |file: &Path| {
+        let out = Command::new(program).arg(file).output();
+        out.unwrap_or_else(|e| panic!("{} doesn't start: {e}", program.display()))
+    };
+    let mut tried = 0;
+    for entry in fs::read_dir(root().join("samples")).expect("samples") {
+        let file = entry.expect("a file").path();
+        if file.extension().is_some_and(|e| e == "domain") {
+            let out = run(&file);
+            assert!(out.status.success(), "{}: {out:?}", file.display());
+            let listing = fs::read_to_string(file.with_extension("listing")).expect("its listing");
+            assert_eq!(String::from_utf8_lossy(&out.stdout), listing, "{}", file.display());
+            tried += 1;
+        }
+    }
+    assert!(tried >= 60, "only {tried} files of samples/ were found");
+    let out = run(Path::new("no such.domain"));
+    assert_eq!((out.status.code(), out.stdout.len()), (Some(1), 0));
+    let said = String::from_utf8_lossy(&out.stderr);
+    assert!(said.starts_with("no such.domain: ") && said.lines().count() == 1, "{said}");
 }
 
-/// M1's first line in crates/samples/stdout.
-fn expected() -> String {
-    let samples = fs::read_to_string(root().join("crates/samples/stdout")).expect("crates/samples/stdout");
-    let line = samples.strip_prefix("m1\n").and_then(|s| s.lines().next()).expect("M1 comes first");
-    format!("{line}\n")
+/// A program in C over the library, in a folder that goes with it.
+struct Compiled {
+    folder: PathBuf,
+    program: PathBuf,
+}
+
+impl Compiled {
+    fn of(source: &str) -> Compiled {
+        let root = root();
+        let name = Path::new(source).file_stem().and_then(|name| name.to_str()).expect("a name");
+        let folder = env::temp_dir().join(format!("goadlotus-{name}-{}", std::process::id()));
+        fs::create_dir_all(&folder).expect("a temporary folder");
+        let program = folder.join(name);
+        let out = Command::new("cc")
+            .args(["-std=c99", "-pedantic", "-Wall", "-Wextra", "-Werror", "-I"])
+            .args([&root.join("include"), Path::new("-o"), &program])
+            .args([root.join(source), root.join("target/staticlib/libgoadlotus.a")])
+            .output()
+            .unwrap_or_else(|e| panic!("cc doesn't start, and this test needs a C compiler of that name: {e}"));
+        assert!(out.status.success(), "cc refuses {source}:\n{}", String::from_utf8_lossy(&out.stderr));
+        Compiled { folder, program }
+    }
+}
+
+impl Drop for Compiled {
+    fn drop(&mut self) {
+        let _ = fs::remove_dir_all(&self.folder);
+    }
 }
 
 #[test]
 fn c() {
-    let root = root();
-    let folder = env::temp_dir().join(format!("goadlotus-examples-{}", std::process::id()));
-    fs::create_dir_all(&folder).expect("a temporary folder");
-    let program = folder.join("example");
-    let out = Command::new("cc")
-        .args(["-std=c99", "-Wall", "-Wextra", "-Werror", "-o"])
-        .arg(&program)
-        .args([root.join("include/example.c"), root.join("target/staticlib/libgoadlotus.a")])
-        .output()
-        .unwrap_or_else(|e| panic!("cc doesn't start, and this test needs a C compiler of that name: {e}"));
-    assert!(out.status.success(), "cc refuses include/example.c:\n{}", String::from_utf8_lossy(&out.stderr));
-    assert_eq!(judges_m1(&program), expected());
-    fs::remove_dir_all(folder).expect("the folder goes");
+    lists_the_samples(&Compiled::of("include/example.c").program);
+}
+
+/// The header's own functions count as this crate does.
+#[test]
+fn c_counts() {
+    let counting = Compiled::of("rust/goadlotus/tests/counts.c");
+    let samples = root().join("samples");
+    let mut tried = 0;
+    for entry in fs::read_dir(&samples).expect("samples") {
+        let run = entry.expect("a file").path();
+        if run.extension().is_none_or(|e| e != "run") {
+            continue;
+        }
+        let domain = samples.join(fs::read_to_string(run.with_extension("of")).expect("its domain").trim_end());
+        let out = Command::new(&counting.program).args([&domain, &run]).output().expect("it starts");
+        let (domain, run) = (fs::read(domain).expect("a domain file"), fs::read(run).expect("a run file"));
+        let (judged, played) = (goadlotus::judge_file(&domain), goadlotus::play_files(&domain, &run));
+        let counts = [
+            judged.answer.number,
+            judged.rows().len() as u64,
+            judged.facts().len() as u64,
+            played.answer.number,
+            played.facts().len() as u64,
+        ];
+        let told: Vec<u64> = String::from_utf8_lossy(&out.stdout).split_whitespace().flat_map(str::parse).collect();
+        assert_eq!(told, counts);
+        tried += 1;
+    }
+    assert!(tried >= 30, "only {tried} run files of samples/ were found");
 }
 
 #[test]
@@ -48,7 +104,7 @@ fn rust() {
     let here = env::current_exe().expect("this test's own file");
     let program = here.parent().and_then(Path::parent).expect("the profile's folder").join("examples/judge");
     assert!(program.exists(), "{} isn't built: run cargo test without --test", program.display());
-    assert_eq!(judges_m1(&program), expected());
+    lists_the_samples(&program);
 }
 
 #[test]
@@ -61,24 +117,50 @@ fn readme_shows_them() {
     }
 }
 
-/// What README.md says that a command prints: the block behind the one with the command alone.
-fn printed<'a>(readme: &'a str, command: &str) -> &'a str {
-    let (_, behind) = readme.split_once(&format!("```\n{command}\n```\n```\n")).expect(command);
-    behind.split_once("```\n").expect("the block ends").0
+/// What README.md says that the command prints: its words, from a block with them alone, and the block behind it.
+fn printed(readme: &str) -> Vec<(Vec<&str>, &str)> {
+    let parts: Vec<&str> = readme.split("```\n").collect();
+    let shown = parts.windows(3).filter(|next| next[0].starts_with("./goadlotus ") && next[1].is_empty());
+    shown.map(|next| (next[0].split_whitespace().skip(1).collect(), next[2])).collect()
 }
 
-/// The gate compares the stored texts with what the programs print.
+/// Where GOADLOTUS_FILL is set, README.md gets what is printed instead.
 #[test]
 fn readme_shows_what_is_printed() {
     let root = root();
-    let read = |path: &str| fs::read_to_string(root.join(path)).expect(path);
-    let readme = read("README.md");
-    assert_eq!(printed(&readme, "./goadlotus list samples/m1.domain"), read("samples/m1.listing"));
-    assert_eq!(printed(&readme, "./goadlotus play samples/m1.domain samples/m12.run"), read("samples/m12.played"));
-    let explained = read("crates/explain_samples/stdout");
-    let m5 = explained.split_once("m5\n").and_then(|(_, m5)| m5.split_once("m6\n")).expect("M5, then M6").0;
-    assert_eq!(printed(&readme, "./goadlotus explain samples/m5.domain"), m5);
-    // it is the same file
-    let bytes = |path: &str| fs::read(root.join(path)).expect(path);
-    assert_eq!(bytes("crates/explain_samples/data/m5"), bytes("samples/m5.domain"));
+    let readme = fs::read_to_string(root.join("README.md")).expect("README.md");
+    let shown = printed(&readme);
+    let words: Vec<&str> = shown.iter().map(|(words, _)| words[0]).collect();
+    assert_eq!(words, ["list", "judge", "explain", "play"]);
+    let listing = fs::read_to_string(root.join("samples/m1.listing")).expect("a listing");
+    assert_eq!(shown[0], (vec!["list", "samples/m1.domain"], listing.as_str()));
+    if !root.join("target/bin/list").exists() || !root.join("rust/target/release/goadlotus").exists() {
+        eprintln!("the command isn't built, so it isn't tried");
+        return;
+    }
+    let mut filled = readme.clone();
+    for (words, output) in shown {
+        // no rt: if something is older than its sources, run ./goadlotus list
+        let mut command = Command::new("./goadlotus");
+        let out = command.args(&words).current_dir(&root).env("PATH", "/usr/bin:/bin").output().expect("it starts");
+        let now = String::from_utf8(out.stdout).expect("UTF-8");
+        assert!(!now.is_empty(), "{words:?}: {}", String::from_utf8_lossy(&out.stderr));
+        if env::var_os("GOADLOTUS_FILL").is_some() {
+            filled = filled.replacen(output, &now, 1);
+        } else {
+            assert_eq!(now, output, "{words:?}; to write it anew: GOADLOTUS_FILL=1");
+        }
+    }
+    if filled != readme {
+        fs::write(root.join("README.md"), filled).expect("README.md is written");
+    }
+}
+
+/// The domain in words that README.md shows.
+#[test]
+fn readme_shows_m1_in_words() {
+    let root = root();
+    let readme = fs::read_to_string(root.join("README.md")).expect("README.md");
+    let m1 = fs::read_to_string(root.join("samples/m1.domain.txt")).expect("M1 in words");
+    assert!(readme.contains(&format!("```\n{m1}```\n")), "README.md doesn't show samples/m1.domain.txt as it is");
 }

@@ -1,0 +1,121 @@
+//! The calls in memory that the caller lends.
+
+mod raw {
+    extern "C" {
+        pub fn goadlotus_judge(
+            file: *const u8,
+            file_len: usize,
+            report: *mut u8,
+            report_len: usize,
+            witness: *mut u8,
+            witness_len: usize,
+            first: *mut u64,
+            second: *mut u64,
+            third: *mut u64,
+        ) -> u64;
+
+        pub fn goadlotus_play(
+            domain: *const u8,
+            domain_len: usize,
+            run: *const u8,
+            run_len: usize,
+            work: *mut u8,
+            work_len: usize,
+            place: *mut u64,
+            steps: *mut u64,
+            weight: *mut u64,
+            part_file: *mut u64,
+            part_at: *mut u64,
+        ) -> u64;
+    }
+}
+
+/// The answer of judging: the number with its three places.
+#[derive(Clone, Copy, PartialEq, Eq, Debug)]
+pub struct Judgement {
+    /// 0, 1, 9 to 25, 30, 31, or 40 to 43.
+    pub number: u64,
+    pub first: u64,
+    pub second: u64,
+    pub third: u64,
+}
+
+/// Judges a domain file.
+///
+/// 0, 1 and 43 write the report, 40 to 42 the report and the witness, both from their first byte on.
+/// All other bytes stay as they were; 9 to 31 write nothing. Every length will do, 0 too.
+pub fn judge(file: &[u8], report: &mut [u8], witness: &mut [u8]) -> Judgement {
+    // The call writes every place, an unused one as 0. One that it left alone wouldn't look unused.
+    let (mut first, mut second, mut third) = (u64::MAX, u64::MAX, u64::MAX);
+    // SAFETY: each slice is passed with its own length, which the call never exceeds; no pointer is
+    // null; what is written is borrowed mutably, so nothing overlaps.
+    let number = unsafe {
+        raw::goadlotus_judge(
+            file.as_ptr(),
+            file.len(),
+            report.as_mut_ptr(),
+            report.len(),
+            witness.as_mut_ptr(),
+            witness.len(),
+            &mut first,
+            &mut second,
+            &mut third,
+        )
+    };
+    Judgement { number, first, second, third }
+}
+
+/// The answer of playing.
+#[derive(Clone, Copy, PartialEq, Eq, Debug)]
+pub struct Played<'a> {
+    /// 2, 9 to 25, or 50 to 58.
+    pub number: u64,
+    /// The offset of the faulty record; 0 for 2, 9 and 58.
+    pub place: u64,
+    /// The steps made.
+    pub steps: u64,
+    /// The highest weight of any instance in any state reached.
+    pub weight: u64,
+    pub part: Part<'a>,
+}
+
+/// From the faulty record to the end of its file; the empty end of the run file if there is none, the whole domain
+/// file for 9.
+#[derive(Clone, Copy, PartialEq, Eq, Debug)]
+pub enum Part<'a> {
+    Domain(&'a [u8]),
+    Run(&'a [u8]),
+}
+
+/// Plays a run file on a domain file.
+///
+/// 2 and 50 to 57 write the first 8,192 bytes of work memory: the facts held, 8 bytes each, then zeros. All other
+/// bytes stay as they were; 9 to 25 and 58 write nothing. Every length will do, 0 too.
+pub fn play<'a>(domain: &'a [u8], run: &'a [u8], work: &mut [u8]) -> Played<'a> {
+    // As in `judge`: what the call left alone wouldn't look like an answer.
+    let (mut place, mut steps, mut weight) = (u64::MAX, u64::MAX, u64::MAX);
+    let (mut part_file, mut part_at) = (u64::MAX, u64::MAX);
+    // SAFETY: each slice is passed with its own length, which the call never exceeds; no pointer is null; what is
+    // written is borrowed mutably, so it overlaps nothing. The two files are only read.
+    let number = unsafe {
+        raw::goadlotus_play(
+            domain.as_ptr(),
+            domain.len(),
+            run.as_ptr(),
+            run.len(),
+            work.as_mut_ptr(),
+            work.len(),
+            &mut place,
+            &mut steps,
+            &mut weight,
+            &mut part_file,
+            &mut part_at,
+        )
+    };
+    let part = match part_file {
+        0 => Part::Domain(&domain[part_at as usize..]),
+        1 => Part::Run(&run[part_at as usize..]),
+        other => panic!("goadlotus_play answers file {other}, which is neither 0 nor 1"),
+    };
+    Played { number, place, steps, weight, part }
+}

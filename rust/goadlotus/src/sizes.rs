@@ -1,0 +1,19 @@
+//! Sizes in bytes; `include/goadlotus.h` has the same.
+
+/// The longest domain file that is read; a longer one is refused by 9.
+pub const FILE_LIMIT: usize = 65_535;
+
+/// Memory for the report that is enough for every file.
+pub const REPORT: usize = 32_768;
+
+/// Memory for the witness that is enough for every file.
+pub const WITNESS: usize = 512;
+
+/// The bytes of work memory that playing needs.
+pub const WORK: usize = 8_192;
+
+/// A row of the report.
+pub const ROW: usize = 4;
+
+/// A fact of the witness or of work memory.
+pub const FACT: usize = 8;
