@@ -38,7 +38,7 @@ enum goadlotus_number {
     GOADLOTUS_NO_VARIABLE        = 18, /* no such variable */
     GOADLOTUS_LITERAL_REPEATED   = 19, /* literal repeated in its role */
     GOADLOTUS_CONTRADICTION      = 20, /* literal both true and false condition */
-    GOADLOTUS_WRONG_LABELS       = 21, /* labels wrong */
+    GOADLOTUS_WRONG_LABELS       = 21, /* a key not below n, or a key missing */
     GOADLOTUS_COMPONENT_REPEATED = 22, /* relation has a component already */
     GOADLOTUS_NO_COMPONENT       = 23, /* no component */
     GOADLOTUS_KEY_TWICE          = 24, /* a key twice in a component */

@@ -3,3 +3,4 @@ pub mod Written
 pub mod Samples
 pub mod Further
 pub mod FurtherRuns
+pub mod Refuted

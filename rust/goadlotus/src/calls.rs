@@ -42,7 +42,8 @@ pub struct Judgement {
 
 /// Judges a domain file.
 ///
-/// 0, 1 and 43 write the report, 40 to 42 the report and the witness, both from their first byte on.
+/// 0, 1 and 43 write the report, 40 to 42 the report and the witness, both from their first byte on. (No witness is
+/// written for an end whose class has an over-all literal.)
 /// All other bytes stay as they were; 9 to 31 write nothing. Every length will do, 0 too.
 pub fn judge(file: &[u8], report: &mut [u8], witness: &mut [u8]) -> Judgement {
     // The call writes every place, an unused one as 0. One that it left alone wouldn't look unused.

@@ -65,7 +65,7 @@ numbers! {
     18 NoVariable BrokenDomain "no such variable"
     19 LiteralRepeated BrokenDomain "literal repeated in its role"
     20 Contradiction BrokenDomain "literal both true and false condition"
-    21 WrongLabels BrokenDomain "labels wrong"
+    21 WrongLabels BrokenDomain "a key not below n, or a key missing"
     22 ComponentRepeated BrokenDomain "relation has a component already"
     23 NoComponent BrokenDomain "no component"
     24 KeyTwice BrokenDomain "a key twice in a component"
