@@ -405,8 +405,10 @@ impl Value {
 
     /// What the records of a result, `AfterJudging` and `AfterPlaying`, say.
     fn left(&self) -> Left {
-        let answer = |name| self.field("answer").field(name).number();
-        let (number, places) = (answer("number"), ["first", "second", "third"].map(answer));
+        let Value::Record(answer) = self.field("answer") else { panic!("no record") };
+        // Playing answers the first place alone: the others are always 0.
+        let place = |name| answer.get(name).map_or(0, Value::number);
+        let (number, places) = (answer["number"].number(), ["first", "second", "third"].map(place));
         let Value::Record(fields) = self else { panic!("no record") };
         if fields.contains_key("report") {
             let (report, witness) = (self.field("report").bytes(), self.field("witness").bytes());
@@ -417,8 +419,8 @@ impl Value {
         Left::Played {
             number,
             places,
-            steps: answer("steps"),
-            weight: answer("weight"),
+            steps: answer["steps"].number(),
+            weight: answer["weight"].number(),
             work: self.field("memory").bytes(),
             part,
         }
