@@ -23,7 +23,9 @@ ghost use Rattle.literals.specs.Held.{partIn};
 ghost use Rattle.classes.specs.declared.Moment.{Moment};
 ghost use Rattle.classes.specs.declared.Moment.the-variants.{Start, End};
 ghost use Rattle.classes.specs.Classes.{classes, lastsIn, nameOf, journey};
-ghost use Rattle.classes.specs.Coded.{ActionOf, MomentOf, Sides, clausesBy, clausesAt, classNumbers, uncoveredAt, below, clauseByte, mayMeet, sameAtomAt, saysAt, clauseIn, isAt, isSameAt, sameIn, changedAt, excludesAt, coveredAt, lackingAt, lastsAt, soleMore, soleAt, soleOf, reachAt};
+ghost use Rattle.classes.specs.Coded.{ActionOf, MomentOf, Sides, clausesBy, clausesAt, classNumbers, uncoveredAt, below, clauseByte};
+ghost use Rattle.classes.specs.Coded.{mayMeet, sameAtomAt, saysAt, clauseIn, isAt, isSameAt, sameIn, changedAt, excludesAt};
+ghost use Rattle.classes.specs.Coded.{coveredAt, lackingAt, lastsAt, soleMore, soleAt, soleOf, reachAt};
 
 // The clause of a role byte at the end: of the end's own literals, or (wide) of all that is asked there, the over-all conditions too.
 fn clause_at_end(wide: bool, role: u8) -> u8
@@ -127,10 +129,12 @@ fn clause_once(wide: bool, rows: &[u8], m: Moment, j: usize) -> u8
     clause
 }
 
-// The clause of each literal at a moment, 0 for none and for one that an earlier literal says already; `clauses` is all 0 before. Of the moment's own
-// literals, which names and journeys are told by, or (wide) of all that is asked there: what unreachable is told by, and what a witness lists.
+// The clause of each literal at a moment, 0 for none and for one that an earlier literal says already; `clauses` is all 0 before. Of the
+// moment's own literals, which names and journeys are told by, or (wide) of all that is asked there: what unreachable is told by, and
+// what a witness lists.
 pub fn clauses_at(wide: bool, rows: &[u8], n: usize, m: Moment, clauses: &mut Marks)
-    requires { ⌜ (length (now rows) ≡ 8 * n) × (n ≤ maxLiterals) ⌝ }
+    requires rowed { ⌜ length (now rows) ≡ 8 * n ⌝ }
+    requires few { ⌜ n ≤ maxLiterals ⌝ }
     ensures { λ _. ⌜ ((D : Domain) (a : Action) (head : List ℕ) → ActionOf D a head (now (rows .entry))
         → now (clauses .entry) ≡ pad maxLiterals [] → now (clauses .exit) ≡ pad maxLiterals (clausesBy wide a m)) ⌝ }
 {
@@ -170,10 +174,13 @@ fn mark(soles: &mut [u8], class: u8, here: u8, clause: u8, j: usize)
     soles[k] = 255;
 }
 
-// For each class number, which of its literals has this clause: 0 for none, k + 1 for the literal k alone, 255 for more; `soles` is all 0 before.
+// For each class number, which of its literals has this clause: 0 for none, k + 1 for the literal k alone, 255 for more; `soles` is all 0
+// before.
 pub fn soles_at(of: &[u8], clauses: &Marks, clause: u8, soles: &mut [u8])
-    requires { ⌜ (length (now of) ≤ maxLiterals) × (length (now soles) ≡ maxLiterals) ⌝ }
-    ensures { λ _. ⌜ (now (soles .entry) ≡ pad maxLiterals [] → (k : ℕ) → k < maxLiterals → getD (now (soles .exit)) k 0 ≡ soleAt (now (of .entry)) (now (clauses .entry)) k clause) ⌝ }
+    requires few { ⌜ length (now of) ≤ maxLiterals ⌝ }
+    requires room { ⌜ length (now soles) ≡ maxLiterals ⌝ }
+    ensures { λ _. ⌜ (now (soles .entry) ≡ pad maxLiterals [] → (k : ℕ) → k < maxLiterals
+        → getD (now (soles .exit)) k 0 ≡ soleAt (now (of .entry)) (now (clauses .entry)) k clause) ⌝ }
 {
     for j in 0..of.len() {
         mark(soles, of[j], clauses[j], clause, j);
@@ -240,7 +247,8 @@ fn excludes(rows: &[u8], of: &[u8], clauses: &Marks, class: u8, relation: u8, j:
 // Whether a false condition, add or delete of a class has this relation.
 fn any_excluding(rows: &[u8], of: &[u8], clauses: &Marks, class: u8, relation: u8) -> bool
     requires { ⌜ Sides (now rows) (now of) ⌝ }
-    ensures { λ r. ⌜ r ≡ any (excludesAt (now (rows .entry)) (now (of .entry)) (now (clauses .entry)) class relation) (below (length (now (of .entry)))) ⌝ }
+    ensures { λ r. ⌜ r ≡ any (excludesAt (now (rows .entry)) (now (of .entry)) (now (clauses .entry)) class relation)
+        (below (length (now (of .entry)))) ⌝ }
 {
     for j in 0..of.len() {
         if excludes(rows, of, clauses, class, relation, j) {
@@ -275,8 +283,8 @@ fn covers(head: &Head, rows: &[u8], of: &[u8], clauses: &Marks, class: u8, c: us
     any_excluding(rows, of, clauses, class, relation)
 }
 
-// The first component that a class does not cover at the moment of these clauses, or the number of components; `of` holds the class numbers of the
-// action's literals, which are these rows.
+// The first component that a class does not cover at the moment of these clauses, or the number of components; `of` holds the class
+// numbers of the action's literals, which are these rows.
 fn first_lacking(head: &Head, rows: &[u8], of: &[u8], clauses: &Marks, class: u8) -> usize
     requires { ⌜ Sides (now rows) (now of) ⌝ }
     ensures { λ r. ⌜ r ≡ lackingAt (now (head .entry)) (now (rows .entry)) (now (of .entry)) (now (clauses .entry)) class ⌝ }
@@ -293,14 +301,15 @@ fn first_lacking(head: &Head, rows: &[u8], of: &[u8], clauses: &Marks, class: u8
 // The same, of a domain that is held.
 pub fn first_uncovered(head: &Head, rows: &[u8], of: &[u8], clauses: &Marks, class: u8) -> usize
     requires { ⌜ Sides (now rows) (now of) ⌝ }
-    ensures { λ r. ⌜ ((D : Domain) (a : Action) (m : Moment) → MomentOf D a m (now (head .entry)) (now (rows .entry)) (now (of .entry)) (now (clauses .entry))
+    ensures { λ r. ⌜ ((D : Domain) (a : Action) (m : Moment)
+        → MomentOf D a m (now (head .entry)) (now (rows .entry)) (now (of .entry)) (now (clauses .entry))
         → class < length (classes D a) → r ≡ uncoveredAt D a (getD (classes D a) class []) m) ⌝ }
 {
     first_lacking(head, rows, of, clauses, class)
 }
 
-// The name of a class at the moment of these clauses: of its true conditions that are asked there (`reach`), which count towards unreachable alone, and of
-// its own true conditions and adds. What they do not decide is looked up.
+// The name of a class at the moment of these clauses: of its true conditions that are asked there (`reach`), which count towards
+// unreachable alone, and of its own true conditions and adds. What they do not decide is looked up.
 pub fn name_at(
     head: &Head,
     rows: &[u8],
@@ -310,8 +319,10 @@ pub fn name_at(
     sole: Sole,
     class: u8,
 ) -> Name
-    requires { ⌜ Sides (now rows) (now of) × (sole ≡ soleOf (now of) (now clauses) class) ⌝ }
-    ensures { λ r. ⌜ ((D : Domain) (a : Action) (m : Moment) → MomentOf D a m (now (head .entry)) (now (rows .entry)) (now (of .entry)) (now (clauses .entry))
+    requires sides { ⌜ Sides (now rows) (now of) ⌝ }
+    requires counted { ⌜ sole ≡ soleOf (now of) (now clauses) class ⌝ }
+    ensures { λ r. ⌜ ((D : Domain) (a : Action) (m : Moment)
+        → MomentOf D a m (now (head .entry)) (now (rows .entry)) (now (of .entry)) (now (clauses .entry))
         → class < length (classes D a) → reach ≡ reachAt D a m class → r ≡ nameOf D a (getD (classes D a) class []) m) ⌝ }
 {
     let conditions = sole.conditions;
@@ -386,9 +397,12 @@ pub fn is_journey(
     end: Sole,
     class: u8,
 ) -> bool
-    requires { ⌜ Sides (now rows) (now of) × (start ≡ soleOf (now of) (now clauses) class) ⌝ }
-    ensures { λ r. ⌜ ((D : Domain) (a : Action) (head : List ℕ) → MomentOf D a Start head (now (rows .entry)) (now (of .entry)) (now (clauses .entry)) → a .lasting ≡ true
-        → end ≡ soleOf (classNumbers D a) (pad maxLiterals (clausesAt a End)) class → class < length (classes D a) → r ≡ journey D a (getD (classes D a) class [])) ⌝ }
+    requires sides { ⌜ Sides (now rows) (now of) ⌝ }
+    requires counted { ⌜ start ≡ soleOf (now of) (now clauses) class ⌝ }
+    ensures { λ r. ⌜ ((D : Domain) (a : Action) (head : List ℕ)
+        → MomentOf D a Start head (now (rows .entry)) (now (of .entry)) (now (clauses .entry)) → a .lasting ≡ true
+        → end ≡ soleOf (classNumbers D a) (pad maxLiterals (clausesAt a End)) class → class < length (classes D a)
+        → r ≡ journey D a (getD (classes D a) class [])) ⌝ }
 {
     let condition = start.conditions;
     if start.adds != 0 {

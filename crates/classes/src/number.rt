@@ -16,7 +16,8 @@ ghost use Rattle.literals.specs.Decode.{maxLiterals, maxComponents, byte};
 ghost use Rattle.literals.specs.Table.{rowsIn};
 ghost use Rattle.literals.specs.Held.{keysIn, partIn, partsIn};
 ghost use Rattle.classes.specs.Classes.{classes};
-ghost use Rattle.classes.specs.Coded.{ActionOf, position, underKey, keyRow, keyRowsIn, numberedBy, tuplesAfter, classNumbers, classTuples};
+ghost use Rattle.classes.specs.Coded.{ActionOf, position, underKey, keyRow, keyRowsIn, numberedBy, tuplesAfter, classNumbers};
+ghost use Rattle.classes.specs.Coded.{classTuples};
 
 // The number of a literal's class, FF where it does not match, and the number of classes with it.
 struct Numbered {
@@ -95,8 +96,10 @@ fn class_of(tuples: &[u8], n: usize, t: [u8; 8]) -> usize
 // The class of the literal whose row is at `at`; `tuples` has the key tuples of the `count` classes so far, and gets that of a new one.
 fn number_literal(head: &Head, rows: &[u8], at: usize, tuples: &mut [u8], count: usize) -> Numbered
     requires { ⌜ (at + 8 ≤ length (now rows)) × (8 * count + 8 ≤ length (now tuples)) × (count < maxLiterals) ⌝ }
-    ensures { λ r. ⌜ (r ≡ numberedBy (keyRowsIn (now (head .entry)) (take 8 (drop at (now (rows .entry))))) count (now (tuples .entry)))
-        × (now (tuples .exit) ≡ tuplesAfter (keyRowsIn (now (head .entry)) (take 8 (drop at (now (rows .entry))))) count (now (tuples .entry))) ⌝ }
+    ensures number { λ r. ⌜ r
+        ≡ numberedBy (keyRowsIn (now (head .entry)) (take 8 (drop at (now (rows .entry))))) count (now (tuples .entry)) ⌝ }
+    ensures tuples { λ _. ⌜ now (tuples .exit)
+        ≡ tuplesAfter (keyRowsIn (now (head .entry)) (take 8 (drop at (now (rows .entry))))) count (now (tuples .entry)) ⌝ }
 {
     let c = component_of(head, rows[at + 1]);
     if c == components_in(head) {
@@ -117,12 +120,13 @@ fn number_literal(head: &Head, rows: &[u8], at: usize, tuples: &mut [u8], count:
     }
 }
 
-// How many classes an action has whose literals are these rows; `of` gets the class number of each literal, and `tuples`, which is all FF, the key tuples
-// of the classes, 8 bytes each: variables in the order of the keys, FF to fill.
+// How many classes an action has whose literals are these rows; `of` gets the class number of each literal, and `tuples`, which is all
+// FF, the key tuples of the classes, 8 bytes each: variables in the order of the keys, FF to fill.
 pub fn number_classes(head: &Head, rows: &[u8], of: &mut [u8], tuples: &mut [u8]) -> usize
     requires { ⌜ (length (now rows) ≡ 8 * length (now of)) × (length (now of) ≤ maxLiterals) × (length (now tuples) ≡ 8 * maxLiterals) ⌝ }
     ensures few { λ r. ⌜ r ≤ length (now (of .entry)) ⌝ }
-    ensures classes { λ r. ⌜ ((D : Domain) (a : Action) → ActionOf D a (now (head .entry)) (now (rows .entry)) → now (tuples .entry) ≡ replicate (8 * maxLiterals) 255
+    ensures classes { λ r. ⌜ ((D : Domain) (a : Action) → ActionOf D a (now (head .entry)) (now (rows .entry))
+        → now (tuples .entry) ≡ replicate (8 * maxLiterals) 255
         → (r ≡ length (classes D a)) × (now (tuples .exit) ≡ classTuples D a) × (now (of .exit) ≡ classNumbers D a)) ⌝ }
 {
     let mut count: usize = 0;

@@ -106,7 +106,8 @@ fn judge_in(
 ) -> Judgement
     requires enough { ⌜ EnoughTable (now file) (now table) ⌝ }
     requires room { ⌜ length (now table) ≤ 4 * length (now names) ⌝ }
-    ensures { λ r. ⌜ JudgedAs (decode (now (file .entry))) (now (report .entry)) (now (witness .entry)) r (now (report .exit)) (now (witness .exit)) ⌝ }
+    ensures { λ r. ⌜ JudgedAs (decode (now (file .entry))) (now (report .entry)) (now (witness .entry))
+        r (now (report .exit)) (now (witness .exit)) ⌝ }
 {
     let mut head = [0u8; HEAD];
     let read = read_domain(file, &mut head, table);
@@ -119,7 +120,8 @@ fn judge_in(
 
 // A file, of any length: a small one gets small memories, since to clear large ones takes longer than to judge it.
 fn judge_file(file: &[u8], report: &mut [u8], witness: &mut [u8]) -> Judgement
-    ensures { λ r. ⌜ JudgedAs (decode (now (file .entry))) (now (report .entry)) (now (witness .entry)) r (now (report .exit)) (now (witness .exit)) ⌝ }
+    ensures { λ r. ⌜ JudgedAs (decode (now (file .entry))) (now (report .entry)) (now (witness .entry))
+        r (now (report .exit)) (now (witness .exit)) ⌝ }
 {
     if file.len() <= 384 {
         let mut table = [0u8; 512];
@@ -136,8 +138,9 @@ fn judge_file(file: &[u8], report: &mut [u8], witness: &mut [u8]) -> Judgement
     judge_in(file, &mut table, &mut names, report, witness)
 }
 
-// Judges a domain file, with demand 3 of the answer: an accepted template is safe for every catalogue and every run; where no action lasts, a template
-// is refused for a class exactly when a single event can do harm, and the bytes of the witness show it for the action and class named.
+// Judges a domain file, with demand 3 of the answer: an accepted template is safe for every catalogue and every run; where no action
+// lasts, a template is refused for a class exactly when a single event can do harm, and the bytes of the witness show it for the action
+// and class named.
 pub fn judge(file: &[u8], report: &mut [u8], witness: &mut [u8]) -> Judgement
     ensures answer { λ r. ⌜ r ≡ judgementOf (judged (now (file .entry)) (now (report .entry)) (now (witness .entry))) ⌝ }
     ensures reported { λ _. ⌜ now (report .exit) ≡ reportAfter (now (file .entry)) (now (report .entry)) (now (witness .entry)) ⌝ }

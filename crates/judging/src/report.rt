@@ -19,9 +19,11 @@ ghost use Rattle.verdict.specs.Judged.{rowBytes};
 ghost use Rattle.naming.specs.Named.{nameBytes, classCounts};
 ghost use Rattle.judging.specs.Reporting.{Reporting};
 
-// One row at a place, with the name that is stored for it. (Both memories have room for the rows of every domain; the tests say so to the checker.)
+// One row at a place, with the name that is stored for it. (Both memories have room for the rows of every domain; the tests say so to the
+// checker.)
 fn put_row(report: &mut [u8], at: usize, action: u8, class: u8, moment: u8, names: &[u8])
-    ensures { λ _. ⌜ ((rs rest : List Row) (r : Row) (old given : List ℕ) → Reporting rs (r ∷ rest) at (now (report .entry)) (now (names .entry)) old given
+    ensures { λ _. ⌜ ((rs rest : List Row) (r : Row) (old given : List ℕ)
+        → Reporting rs (r ∷ rest) at (now (report .entry)) (now (names .entry)) old given
         → action ≡ r .action → class ≡ r .class → moment ≡ momentNumber (r .moment)
         → Reporting (rs ++ (r ∷ [])) rest (at + 1) (now (report .exit)) (now (names .entry)) old given) ⌝ }
 {
@@ -69,7 +71,8 @@ fn put_action(
 ) -> usize
     requires { ⌜ at ≤ 65000 ⌝ }
     ensures few { λ r. ⌜ r ≤ at + 510 ⌝ }
-    ensures rows { λ r. ⌜ ((D : Domain) (a : Action) (xs : List (List Variable)) (rs rest : List Row) (old given : List ℕ) → a .lasting ≡ lasting → length xs ≡ count
+    ensures rows { λ r. ⌜ ((D : Domain) (a : Action) (xs : List (List Variable)) (rs rest : List Row) (old given : List ℕ)
+        → a .lasting ≡ lasting → length xs ≡ count
         → Reporting rs (rowsOfClasses D a action 0 xs ++ rest) at (now (report .entry)) (now (names .entry)) old given
         → Reporting (rs ++ rowsOfClasses D a action 0 xs) rest r (now (report .exit)) (now (names .entry)) old given) ⌝ }
 {
@@ -82,7 +85,8 @@ fn put_action(
 
 // All rows of a domain, of how many classes each action has, and the names.
 pub fn put_report(head: &Head, counts: &ClassCounts, names: &[u8], report: &mut [u8])
-    ensures { λ _. ⌜ ((D : Domain) (old : List ℕ) → HeadOf D (now (head .entry)) → now (counts .entry) ≡ pad maxActions (classCounts D (D .actions))
+    ensures { λ _. ⌜ ((D : Domain) (old : List ℕ) → HeadOf D (now (head .entry))
+        → now (counts .entry) ≡ pad maxActions (classCounts D (D .actions))
         → now (names .entry) ≡ over (nameBytes (rows D)) old → 4 * length (rows D) ≤ length (now (report .entry))
         → now (report .exit) ≡ over (rowBytes (rows D)) (now (report .entry))) ⌝ }
 {

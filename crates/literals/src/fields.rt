@@ -191,7 +191,8 @@ fn is_again(earlier: &[u8], label: u8, counted: bool) -> bool
     any_equal(earlier, 1, label)
 }
 
-// The first label that equals an earlier one, of those that are FF, or of the keys; counted in the payload, its length or more where there is none.
+// The first label that equals an earlier one, of those that are FF, or of the keys; counted in the payload, its length or more where
+// there is none.
 fn first_again(p: &[u8], counted: bool) -> usize
     ensures { λ r. ⌜ r ≡ 1 + firstAt (again counted) [] (drop 1 (now (p .entry))) ⌝ }
 {
@@ -218,8 +219,9 @@ pub fn each_once(p: &[u8], n: usize) -> bool
     true
 }
 
-// The labels of a component of a template that has n keys: the second FF, then a key that stands twice, then a key not below n, each at its label, then a
-// key that is missing. A label stands 4 bytes, those of the head, further behind the record's start than in the payload.
+// The labels of a component of a template that has n keys: the second FF, then a key that stands twice, then a key not below n, each at
+// its label, then a key that is missing. A label stands 4 bytes, those of the head, further behind the record's start than in the
+// payload.
 pub fn label_fields(p: &[u8], n: usize) -> RecordFault
     requires { ⌜ (n ≤ maxArguments) × (length (now p) ≤ 1 + maxArguments) ⌝ }
     ensures { λ r. ⌜ r ≡ labelFault n (map labelOf (drop 1 (now (p .entry)))) ⌝ }

@@ -1,5 +1,6 @@
-// A domain that was read: a head of numbers and rows, in sections, beside the table of its literals (8 bytes a row: role, relation, variables, FF to fill).
-// Every function here answers within the limits of the format, whatever the head's bytes are, so that none asks anything of them.
+// A domain that was read: a head of numbers and rows, in sections, beside the table of its literals (8 bytes a row: role, relation,
+// variables, FF to fill). Every function here answers within the limits of the format, whatever the head's bytes are, so that none asks
+// anything of them.
 use super::Counts;
 use super::fields::wide;
 use super::limits::MAX_ACTIONS;
@@ -18,7 +19,8 @@ ghost use lib.ListN.{length, getD};
 ghost use Rattle.literals.specs.Domain.{Domain};
 ghost use Rattle.literals.specs.Decode.{maxActions, maxVariables, maxArguments, maxComponents};
 ghost use Rattle.literals.specs.Table.{indexWith, Holds};
-ghost use Rattle.literals.specs.Held.{CountsFit, SpansFit, Packable, countBytes, spanBytes, headOf, within, relationsIn, actionsIn, componentsIn, keysIn, arityIn, partIn, variablesIn, lastingIn, Held, SpanFits, SpanOf};
+ghost use Rattle.literals.specs.Held.{CountsFit, SpansFit, Packable, countBytes, spanBytes, headOf, within, relationsIn, actionsIn};
+ghost use Rattle.literals.specs.Held.{componentsIn, keysIn, arityIn, partIn, variablesIn, lastingIn, Held, SpanFits, SpanOf};
 
 pub const HEAD: usize = HIGHS + MAX_ACTIONS;
 
@@ -124,7 +126,8 @@ pub fn is_lasting(head: &Head, i: usize) -> bool
 pub fn rows_of(head: &Head, table: &[u8], i: usize) -> Span
     requires { ⌜ i < maxActions ⌝ }
     ensures fits { λ r. ⌜ SpanFits (length (now (table .entry))) r ⌝ }
-    ensures rows { λ r. ⌜ ((D : Domain) → Held D (now (head .entry)) (now (table .entry)) → i < length (D .actions) → SpanOf D i (now (table .entry)) r) ⌝ }
+    ensures rows { λ r. ⌜ ((D : Domain) → Held D (now (head .entry)) (now (table .entry)) → i < length (D .actions)
+        → SpanOf D i (now (table .entry)) r) ⌝ }
 {
     let from = wide(head[LOWS + i]) + 256 * wide(head[HIGHS + i]);
     let to = from + wide(limited(head[SIZES + i], MAX_LITERALS as u8));
@@ -137,7 +140,8 @@ pub fn rows_of(head: &Head, table: &[u8], i: usize) -> Span
 // Of each action how many literals it has, and the row of the first: a byte for each action, then the lower bytes, then the higher.
 fn spans_of(counts: Counts, starts: &[usize]) -> [u8; SPANS]
     requires { ⌜ SpansFit counts (now starts) ⌝ }
-    ensures { λ r. ⌜ ((D : Domain) (arities variables sorts parts : List ℕ) → Holds D (indexWith counts arities variables sorts (now (starts .entry)) parts) → r ≡ spanBytes D) ⌝ }
+    ensures { λ r. ⌜ ((D : Domain) (arities variables sorts parts : List ℕ)
+        → Holds D (indexWith counts arities variables sorts (now (starts .entry)) parts) → r ≡ spanBytes D) ⌝ }
 {
     let mut spans = [0u8; SPANS];
     for i in 0..counts.actions {
@@ -152,7 +156,8 @@ fn spans_of(counts: Counts, starts: &[usize]) -> [u8; SPANS]
 // How many there are of each.
 fn counts_of(counts: Counts) -> [u8; 8]
     requires { ⌜ CountsFit counts ⌝ }
-    ensures { λ r. ⌜ ((D : Domain) (arities variables sorts starts parts : List ℕ) → Holds D (indexWith counts arities variables sorts starts parts) → r ≡ countBytes D) ⌝ }
+    ensures { λ r. ⌜ ((D : Domain) (arities variables sorts starts parts : List ℕ)
+        → Holds D (indexWith counts arities variables sorts starts parts) → r ≡ countBytes D) ⌝ }
 {
     let mut first = [0u8; 8];
     first[0] = counts.relations as u8;
@@ -174,7 +179,8 @@ pub fn pack(
     parts: &[u8],
 ) -> Head
     requires { ⌜ Packable counts (now arities) (now variables) (now sorts) (now starts) (now parts) ⌝ }
-    ensures { λ r. ⌜ ((D : Domain) → Holds D (indexWith counts (now (arities .entry)) (now (variables .entry)) (now (sorts .entry)) (now (starts .entry)) (now (parts .entry))) → r ≡ headOf D) ⌝ }
+    ensures { λ r. ⌜ ((D : Domain) → Holds D (indexWith counts (now (arities .entry)) (now (variables .entry)) (now (sorts .entry))
+        (now (starts .entry)) (now (parts .entry))) → r ≡ headOf D) ⌝ }
 {
     let first = counts_of(counts);
     let spans = spans_of(counts, starts);

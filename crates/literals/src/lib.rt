@@ -1,4 +1,5 @@
-// A domain: numberings, roles and labels, and how the code holds it (here); the fields of a record (fields); the rows of the literal table (row), and those of one action (span).
+// A domain: numberings, roles and labels, and how the code holds it (here); the fields of a record (fields); the rows of the literal
+// table (row), and those of one action (span).
 pub mod fields;
 pub mod head;
 pub mod limits;
@@ -45,14 +46,15 @@ pub struct Role {
     pub clause: Clause,
 }
 
-// What stops a record: its number, and how far behind the record's start the fault stands, 0 for the record itself. Number 0 where nothing stops it.
+// What stops a record: its number, and how far behind the record's start the fault stands, 0 for the record itself. Number 0 where
+// nothing stops it.
 pub struct RecordFault {
     pub number: u64,
     pub within: u8,
 }
 
-// A domain as the code holds it, beside the table of its literals (8 bytes a row: role, relation, variables, FF to fill). Contracts speak of it as one; the
-// code passes its counts by value (`Counts`) and lends its lists.
+// A domain as the code holds it, beside the table of its literals (8 bytes a row: role, relation, variables, FF to fill). Contracts speak
+// of it as one; the code passes its counts by value (`Counts`) and lends its lists.
 pub struct Index {
     pub relations: usize,
     pub arities: [u8; MAX_RELATIONS],

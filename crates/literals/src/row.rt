@@ -58,7 +58,8 @@ fn four_at(s: &[u8], at: usize) -> u32
     first + 256 * second + 65536 * third + 16777216 * fourth
 }
 
-// Whether the four bytes at an offset are the same as those at an offset of another memory. They are compared as one number, which is much quicker than byte by byte.
+// Whether the four bytes at an offset are the same as those at an offset of another memory. They are compared as one number, which is
+// much quicker than byte by byte.
 pub fn same_four(x: &[u8], i: usize, y: &[u8], j: usize) -> bool
     requires { ⌜ (i + 4 ≤ length (now x)) × (j + 4 ≤ length (now y)) ⌝ }
     ensures { λ r. ⌜ r ≡ sameList eqb (take 4 (drop i (now (x .entry)))) (take 4 (drop j (now (y .entry)))) ⌝ }
@@ -114,7 +115,8 @@ fn highest_rank(table: &[u8], from: usize, to: usize, row: &[u8]) -> u64
     rank
 }
 
-// The highest rank of a payload with the rows from `from` to `to`. Its row is filled once, so that no comparison asks how long the payload is.
+// The highest rank of a payload with the rows from `from` to `to`. Its row is filled once, so that no comparison asks how long the
+// payload is.
 pub fn rows_rank(table: &[u8], from: usize, to: usize, p: &[u8]) -> u64
     requires { ⌜ (from ≤ to) × (8 * to ≤ length (now table)) × (0 < length (now p)) × (length (now p) ≤ 8) ⌝ }
     ensures { λ r. ⌜ r ≡ rowsRank (now (p .entry)) (rowsIn (to - from) (drop (8 * from) (now (table .entry)))) ⌝ }

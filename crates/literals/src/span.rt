@@ -14,7 +14,8 @@ pub struct Span {
 // Those of the action i, of so many actions, which have so many rows.
 pub fn span_of(starts: &[usize], actions: usize, rows: usize, i: usize) -> Span
     requires { ⌜ (i < actions) × (actions ≤ length (now starts)) ⌝ }
-    ensures { λ r. ⌜ (r .from ≡ getD (now (starts .entry)) i 0) × (r .to ≡ cond (ltb (i + 1) actions) (getD (now (starts .entry)) (i + 1) 0) rows) ⌝ }
+    ensures from { λ r. ⌜ r .from ≡ getD (now (starts .entry)) i 0 ⌝ }
+    ensures to { λ r. ⌜ r .to ≡ cond (ltb (i + 1) actions) (getD (now (starts .entry)) (i + 1) 0) rows ⌝ }
 {
     let from = starts[i];
     if i + 1 < actions {

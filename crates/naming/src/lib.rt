@@ -51,8 +51,9 @@ pub struct Naming {
     pub notes: Notes,
 }
 
-// The names of a class, of the clauses of the action's literals at its start and at its end, and of the class's own true conditions and adds there; `reach`
-// tells which of its literals is asked as a true condition at the end, over all or of its own. (What is asked at a start is its own.)
+// The names of a class, of the clauses of the action's literals at its start and at its end, and of the class's own true conditions and
+// adds there; `reach` tells which of its literals is asked as a true condition at the end, over all or of its own. (What is asked at a
+// start is its own.)
 fn name_class(
     head: &Head,
     rows: &[u8],
@@ -65,11 +66,16 @@ fn name_class(
     class: u8,
     lasting: bool,
 ) -> ClassNames
-    requires { ⌜ Sides (now rows) (now of) × (first ≡ soleOf (now of) (now «at_start») class) × (last ≡ soleOf (now of) (now «at_end») class) ⌝ }
-    ensures start { λ r. ⌜ ((D : Domain) (a : Action) → MomentOf D a Start (now (head .entry)) (now (rows .entry)) (now (of .entry)) (now («at_start» .entry))
+    requires sides { ⌜ Sides (now rows) (now of) ⌝ }
+    requires first { ⌜ first ≡ soleOf (now of) (now «at_start») class ⌝ }
+    requires last { ⌜ last ≡ soleOf (now of) (now «at_end») class ⌝ }
+    ensures start { λ r. ⌜ ((D : Domain) (a : Action)
+        → MomentOf D a Start (now (head .entry)) (now (rows .entry)) (now (of .entry)) (now («at_start» .entry))
         → class < length (classes D a) → r .start ≡ nameOf D a (getD (classes D a) class []) Start) ⌝ }
-    ensures end { λ r. ⌜ ((D : Domain) (a : Action) → MomentOf D a Start (now (head .entry)) (now (rows .entry)) (now (of .entry)) (now («at_start» .entry))
-        → MomentOf D a End (now (head .entry)) (now (rows .entry)) (now (of .entry)) (now («at_end» .entry)) → class < length (classes D a) → reach ≡ reachAt D a End class
+    ensures end { λ r. ⌜ ((D : Domain) (a : Action)
+        → MomentOf D a Start (now (head .entry)) (now (rows .entry)) (now (of .entry)) (now («at_start» .entry))
+        → MomentOf D a End (now (head .entry)) (now (rows .entry)) (now (of .entry)) (now («at_end» .entry))
+        → class < length (classes D a) → reach ≡ reachAt D a End class
         → lasting ≡ true → a .lasting ≡ true
         → (r .end ≡ nameOf D a (getD (classes D a) class []) End) × (r .journey ≡ journey D a (getD (classes D a) class []))) ⌝ }
 {
@@ -123,11 +129,14 @@ impl Naming {
         named: ClassNames,
         names: &mut [u8],
     ) -> Naming
-        requires { ⌜ (self .rows + 2 ≤ length (now names)) × (action < maxActions) ⌝ }
+        requires room { ⌜ self .rows + 2 ≤ length (now names) ⌝ }
+        requires listed { ⌜ action < maxActions ⌝ }
         ensures rows { λ r. ⌜ r .rows ≤ self .rows + 2 ⌝ }
-        ensures named { λ r. ⌜ ((rs : List Row) (old : List ℕ) (D : Domain) (a : Action) → Named rs self (now (names .entry)) old → a .lasting ≡ lasting
+        ensures named { λ r. ⌜ ((rs : List Row) (old : List ℕ) (D : Domain) (a : Action) → Named rs self (now (names .entry)) old
+            → a .lasting ≡ lasting
             → named .start ≡ nameOf D a (getD (classes D a) class []) Start
-            → (lasting ≡ true → (named .end ≡ nameOf D a (getD (classes D a) class []) End) × (named .journey ≡ journey D a (getD (classes D a) class [])))
+            → (lasting ≡ true → (named .end ≡ nameOf D a (getD (classes D a) class []) End)
+            × (named .journey ≡ journey D a (getD (classes D a) class [])))
             → Named (rs ++ map (rowAt D a action class (getD (classes D a) class [])) (momentsOf a)) r (now (names .exit)) old) ⌝ }
     {
         let start = named.start;
@@ -157,8 +166,8 @@ impl Naming {
         started
     }
 
-    // The rows of the classes of an action, of the clauses of its literals at both moments, of each class's own true conditions and adds there, and of the
-    // true conditions that are asked at the end.
+    // The rows of the classes of an action, of the clauses of its literals at both moments, of each class's own true conditions and adds
+    // there, and of the true conditions that are asked at the end.
     fn with_each(
         self,
         head: &Head,
@@ -176,12 +185,17 @@ impl Naming {
         lasting: bool,
         names: &mut [u8],
     ) -> Naming
-        requires { ⌜ Sides (now rows) (now of) × SolesIn (now of) (now «at_start») (now conditions) (now adds) × SolesIn (now of) (now «at_end») (now «end_conditions») (now «end_adds»)
-            × (count ≤ length (now of)) × (i < maxActions) × (self .rows + 2 * count ≤ length (now names)) ⌝ }
+        requires sides { ⌜ Sides (now rows) (now of) ⌝ }
+        requires first { ⌜ SolesIn (now of) (now «at_start») (now conditions) (now adds) ⌝ }
+        requires last { ⌜ SolesIn (now of) (now «at_end») (now «end_conditions») (now «end_adds») ⌝ }
+        requires few { ⌜ count ≤ length (now of) ⌝ }
+        requires listed { ⌜ i < maxActions ⌝ }
+        requires room { ⌜ self .rows + 2 * count ≤ length (now names) ⌝ }
         ensures rows { λ r. ⌜ r .rows ≤ self .rows + 2 * count ⌝ }
         ensures named { λ r. ⌜ ((rs : List Row) (old : List ℕ) (D : Domain) (a : Action) → Named rs self (now (names .entry)) old
             → MomentOf D a Start (now (head .entry)) (now (rows .entry)) (now (of .entry)) (now («at_start» .entry)) → a .lasting ≡ lasting
-            → (lasting ≡ true → EndOf D a (now (head .entry)) (now (rows .entry)) (now (of .entry)) (now («at_end» .entry)) (now (reach .entry))) → count ≡ length (classes D a)
+            → (lasting ≡ true → EndOf D a (now (head .entry)) (now (rows .entry)) (now (of .entry)) (now («at_end» .entry))
+            (now (reach .entry))) → count ≡ length (classes D a)
             → Named (rs ++ rowsOfClasses D a i 0 (classes D a)) r (now (names .exit)) old) ⌝ }
     {
         let mut next = self;
@@ -209,7 +223,8 @@ impl Naming {
         next
     }
 
-    // The rows of the classes of an action: `of` holds the class number of each of its literals, which are these rows. (An action at once has no end.)
+    // The rows of the classes of an action: `of` holds the class number of each of its literals, which are these rows. (An action at once
+    // has no end.)
     fn with_classes(
         self,
         head: &Head,
@@ -220,11 +235,16 @@ impl Naming {
         lasting: bool,
         names: &mut [u8],
     ) -> Naming
-        requires { ⌜ (length (now rows) ≡ 8 * length (now of)) × (length (now of) ≤ maxLiterals) × (count ≤ length (now of)) × (i < maxActions) × (self .rows + 2 * count ≤ length (now names)) ⌝ }
+        requires rowed { ⌜ length (now rows) ≡ 8 * length (now of) ⌝ }
+        requires literals { ⌜ length (now of) ≤ maxLiterals ⌝ }
+        requires few { ⌜ count ≤ length (now of) ⌝ }
+        requires listed { ⌜ i < maxActions ⌝ }
+        requires room { ⌜ self .rows + 2 * count ≤ length (now names) ⌝ }
         ensures rows { λ r. ⌜ r .rows ≤ self .rows + 2 * count ⌝ }
         ensures named { λ r. ⌜ ((rs : List Row) (old : List ℕ) (D : Domain) (a : Action) → Named rs self (now (names .entry)) old
             → ActionOf D a (now (head .entry)) (now (rows .entry)) → a .lasting ≡ lasting
-            → now (of .entry) ≡ classNumbers D a → count ≡ length (classes D a) → Named (rs ++ rowsOfClasses D a i 0 (classes D a)) r (now (names .exit)) old) ⌝ }
+            → now (of .entry) ≡ classNumbers D a → count ≡ length (classes D a)
+            → Named (rs ++ rowsOfClasses D a i 0 (classes D a)) r (now (names .exit)) old) ⌝ }
     {
         let n = of.len();
         let mut at_start = [0u8; MAX_LITERALS];
@@ -290,7 +310,10 @@ impl Naming {
         names: &mut [u8],
         counts: &mut ClassCounts,
     ) -> Naming
-        requires { ⌜ (length (now rows) ≡ 8 * n) × (n ≤ maxLiterals) × (i < maxActions) × (self .rows + 2 * n ≤ length (now names)) ⌝ }
+        requires rowed { ⌜ length (now rows) ≡ 8 * n ⌝ }
+        requires literals { ⌜ n ≤ maxLiterals ⌝ }
+        requires listed { ⌜ i < maxActions ⌝ }
+        requires room { ⌜ self .rows + 2 * n ≤ length (now names) ⌝ }
         ensures rows { λ r. ⌜ r .rows ≤ self .rows + 2 * n ⌝ }
         ensures named { λ r. ⌜ ((rs : List Row) (old : List ℕ) (D : Domain) (a : Action) → Named rs self (now (names .entry)) old
             → ActionOf D a (now (head .entry)) (now (rows .entry)) → a .lasting ≡ lasting
@@ -307,10 +330,13 @@ impl Naming {
 
 // The names of all moments of a domain that was read; `counts` gets how many classes each action has.
 pub fn name_all(head: &Head, table: &[u8], names: &mut [u8], counts: &mut ClassCounts) -> Naming
-    requires { ⌜ Read (now head) (now table) × (length (now table) ≤ 4 * length (now names)) ⌝ }
+    requires read { ⌜ Read (now head) (now table) ⌝ }
+    requires room { ⌜ length (now table) ≤ 4 * length (now names) ⌝ }
     ensures rows { λ r. ⌜ r .rows ≤ 2 * (maxLiterals * maxActions) ⌝ }
-    ensures named { λ r. ⌜ ((D : Domain) → Held D (now (head .entry)) (now (table .entry)) → wellFormed D ≡ true → now (counts .entry) ≡ pad maxActions []
-        → (r ≡ namingOf D) × (now (counts .exit) ≡ pad maxActions (classCounts D (D .actions))) × (now (names .exit) ≡ over (nameBytes (rows D)) (now (names .entry)))) ⌝ }
+    ensures named { λ r. ⌜ ((D : Domain) → Held D (now (head .entry)) (now (table .entry)) → wellFormed D ≡ true
+        → now (counts .entry) ≡ pad maxActions []
+        → (r ≡ namingOf D) × (now (counts .exit) ≡ pad maxActions (classCounts D (D .actions)))
+        × (now (names .exit) ≡ over (nameBytes (rows D)) (now (names .entry)))) ⌝ }
 {
     let mut naming = Naming::new();
     for i in 0..actions_in(head) {

@@ -30,7 +30,8 @@ ghost use Rattle.classes.specs.Coded.{ActionOf, classTuples, uncoveredAt};
 ghost use Rattle.verdict.specs.Claims.{wellFormed};
 ghost use Rattle.verdict.specs.Coded.{momentBy};
 ghost use Rattle.verdict.specs.Decision.{shownAt};
-ghost use Rattle.showing.specs.Bytes.{RefusedAt, ShownAt, firstClauses, isCondition, conditionBytes, conditionIf, conditionsOf, objectByte, instanceBytes, instanceOf};
+ghost use Rattle.showing.specs.Bytes.{RefusedAt, ShownAt, firstClauses, isCondition, conditionBytes, conditionIf, conditionsOf};
+ghost use Rattle.showing.specs.Bytes.{objectByte, instanceBytes, instanceOf};
 
 // How many literals are true conditions at the moment.
 fn count_conditions(clauses: &Marks, n: usize) -> usize
@@ -74,7 +75,8 @@ fn put_condition(out: &mut [u8], at: usize, rows: &[u8], row: usize, arity: u8)
 fn put_if(out: &mut [u8], at: usize, head: &Head, rows: &[u8], row: usize, clause: u8) -> usize
     requires rowed { ⌜ row + 8 ≤ length (now rows) ⌝ }
     requires room { ⌜ (clause ≡ 1 → at + 8 ≤ length (now out)) ⌝ }
-    ensures written { λ _. ⌜ now (out .exit) ≡ paste (now (out .entry)) at (conditionIf (now (head .entry)) clause (take 8 (drop row (now (rows .entry)))))
+    ensures written { λ _. ⌜ now (out .exit)
+        ≡ paste (now (out .entry)) at (conditionIf (now (head .entry)) clause (take 8 (drop row (now (rows .entry)))))
         (length (conditionIf (now (head .entry)) clause (take 8 (drop row (now (rows .entry)))))) ⌝ }
     ensures behind { λ r. ⌜ r ≡ at + length (conditionIf (now (head .entry)) clause (take 8 (drop row (now (rows .entry))))) ⌝ }
 {
@@ -91,7 +93,8 @@ fn put_conditions(out: &mut [u8], head: &Head, rows: &[u8], clauses: &Marks, n: 
     requires rowed { ⌜ 8 * n ≤ length (now rows) ⌝ }
     requires room { ⌜ 8 * countBy isCondition (firstClauses n (now clauses)) ≤ length (now out) ⌝ }
     ensures { λ _. ⌜ now (out .exit)
-        ≡ over (conditionsOf (now (head .entry)) (firstClauses n (now (clauses .entry))) (rowsIn n (now (rows .entry)))) (now (out .entry)) ⌝ }
+        ≡ over (conditionsOf (now (head .entry)) (firstClauses n (now (clauses .entry))) (rowsIn n (now (rows .entry))))
+        (now (out .entry)) ⌝ }
 {
     let mut at: usize = 0;
     for j in 0..n {
@@ -123,7 +126,8 @@ fn instance_byte(
     requires component { ⌜ (c < maxComponents) × (arity ≤ maxArguments) ⌝ }
     requires inside { ⌜ i < 8 ⌝ }
     requires tuple { ⌜ 8 * class + 8 ≤ length (now tuples) ⌝ }
-    ensures { λ r. ⌜ r ≡ getD (instanceBytes arity spare (take 8 (drop (8 * class) (now (tuples .entry)))) (partIn (now (head .entry)) c)) i 0 ⌝ }
+    ensures { λ r. ⌜ r
+        ≡ getD (instanceBytes arity spare (take 8 (drop (8 * class) (now (tuples .entry)))) (partIn (now (head .entry)) c)) i 0 ⌝ }
 {
     if i == 0 {
         return part_byte(head, c, 0);
@@ -159,7 +163,8 @@ fn put_instance(
     }
 }
 
-// The witness of a moment that is not unbounded: the true conditions that are asked there. Whether they fit; nothing is written where they do not.
+// The witness of a moment that is not unbounded: the true conditions that are asked there. Whether they fit; nothing is written where
+// they do not.
 fn put_plain(head: &Head, rows: &[u8], n: usize, m: Moment, out: &mut [u8]) -> bool
     requires few { ⌜ n ≤ maxLiterals ⌝ }
     requires rowed { ⌜ length (now rows) ≡ 8 * n ⌝ }
@@ -176,8 +181,8 @@ fn put_plain(head: &Head, rows: &[u8], n: usize, m: Moment, out: &mut [u8]) -> b
     true
 }
 
-// The first component that a class leaves uncovered at a moment, or the number of components; `tuples`, which is all FF, gets the key tuples of the
-// action's classes, and `of` is room for a number for each literal.
+// The first component that a class leaves uncovered at a moment, or the number of components; `tuples`, which is all FF, gets the key
+// tuples of the action's classes, and `of` is room for a number for each literal.
 fn open_class(
     head: &Head,
     rows: &[u8],
@@ -199,8 +204,9 @@ fn open_class(
     first_uncovered(head, rows, of, &clauses, class)
 }
 
-// The witness of an unbounded moment of the class j: the true conditions that are asked there, then the instance fact of the first uncovered component. Whether they fit;
-// nothing is written where they do not. (An unbounded moment has an uncovered component; the test says so to the checker.)
+// The witness of an unbounded moment of the class j: the true conditions that are asked there, then the instance fact of the first
+// uncovered component. Whether they fit; nothing is written where they do not. (An unbounded moment has an uncovered component; the test
+// says so to the checker.)
 fn put_open(
     head: &Head,
     rows: &[u8],
@@ -256,9 +262,9 @@ fn put_witness(
 
 // Whether a class of the action with these rows has an over-all literal; `of` and `tuples` are room for what `number_classes` finds.
 fn lasting_class(head: &Head, rows: &[u8], of: &mut [u8], tuples: &mut [u8], class: u8) -> bool
-    requires few { ⌜ length (now of) ≤ 64 ⌝ }
+    requires few { ⌜ length (now of) ≤ maxLiterals ⌝ }
     requires rowed { ⌜ length (now rows) ≡ 8 * length (now of) ⌝ }
-    requires room { ⌜ length (now tuples) ≡ 512 ⌝ }
+    requires room { ⌜ length (now tuples) ≡ 8 * maxLiterals ⌝ }
     ensures { λ r. ⌜ ((D : Domain) (a : Action) → ActionOf D a (now (head .entry)) (now (rows .entry))
         → now (tuples .entry) ≡ replicate 512 255 → class < length (classes D a) → r ≡ lastsIn D a (getD (classes D a) class [])) ⌝ }
 {
@@ -290,8 +296,8 @@ pub fn is_shown(head: &Head, table: &[u8], i: usize, j: usize, moment: u64) -> b
     !lasting_class(head, &table[from..to], &mut of[0..n], &mut tuples, j as u8)
 }
 
-// The witness of the place named: the class j of the action i at a moment, refused by `number`. Whether it fits; nothing is written where it does not.
-// (The decision names an action and a class of the domain; the tests say so to the checker.)
+// The witness of the place named: the class j of the action i at a moment, refused by `number`. Whether it fits; nothing is written where
+// it does not. (The decision names an action and a class of the domain; the tests say so to the checker.)
 pub fn show(
     head: &Head,
     table: &[u8],
@@ -302,7 +308,8 @@ pub fn show(
     out: &mut [u8],
 ) -> bool
     ensures { λ r. ⌜ ((D : Domain) → Held D (now (head .entry)) (now (table .entry)) → wellFormed D ≡ true → i < length (D .actions)
-        → RefusedAt D (action D i) j (momentBy moment) number → ShownAt D (action D i) j (momentBy moment) (now (out .entry)) (now (out .exit)) r) ⌝ }
+        → RefusedAt D (action D i) j (momentBy moment) number
+        → ShownAt D (action D i) j (momentBy moment) (now (out .entry)) (now (out .exit)) r) ⌝ }
 {
     if actions_in(head) <= i {
         return false;

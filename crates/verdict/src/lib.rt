@@ -22,8 +22,8 @@ pub struct Place {
     pub moment: u64,
 }
 
-// What the decision is made of: the first faulty moment with its number (0 for none), whether a moment is unbounded, and the first bounded moment
-// outside a journey's end.
+// What the decision is made of: the first faulty moment with its number (0 for none), whether a moment is unbounded, and the first
+// bounded moment outside a journey's end.
 pub struct Notes {
     pub fault: u64,
     pub faulty: Place,
@@ -130,7 +130,8 @@ impl Notes {
 
     // The decision.
     pub fn decide(self) -> Judgement
-        ensures { λ r. ⌜ ((rs : List Row) → self ≡ notesOf rs → r ≡ judgementOf (answerRow (decideRows rs .number) (decideRows rs .place))) ⌝ }
+        ensures { λ r. ⌜ ((rs : List Row) → self ≡ notesOf rs
+            → r ≡ judgementOf (answerRow (decideRows rs .number) (decideRows rs .place))) ⌝ }
     {
         let faulty = self.faulty;
         let outside = self.outside;

@@ -72,7 +72,7 @@ with-action-requires c κs =
     let f = F .few in
     let h : l .i < length (s .pre .0 .0 .actions) = omega arith in
     let r : length (s .args .table .now) ≤ 4 * length (l .names) = (let q = l .inv .room in let u = s .pre .1 in omega arith) in
-    (part-length (s .args .table .now) (b .result .from) (b .result .to) o (F .room), omega arith, omega arith, names-room H (l .i) h (b .ensures .1 _ H h) F _ (l .inv .few _ H) _ r)
+    (part-length (s .args .table .now) (b .result .from) (b .result .to) o (F .room), (omega arith, (omega arith, names-room H (l .i) h (b .ensures .1 _ H h) F _ (l .inv .few _ H) _ r)))
 
 add-i : tie.Need-add-i Inv-loop μ-loop
 add-i c = search needs

@@ -22,16 +22,16 @@ is-journey-requires c κs = search needs
 returns : tie.Need-returns
 returns c =
     let s = c .before .before .before .before .before .before in (
-      λ D a M h. c .before .before .before .name-at .ensures D a Start M h (asked-at-start M (s .args .class) (s .pre .1)),
+      λ D a M h. c .before .before .before .name-at .ensures D a Start M h (asked-at-start M (s .args .class) (s .pre .1 .0)),
       λ D a M N h r t l. (
         c .before .name-at2 .ensures D a End N h r,
-        c .is-journey .ensures D a _ M l (s .pre .2 ∙ ap₂ (λ (o d : List ℕ). soleOf o d (s .args .class)) (N .numbers) (N .clauses-are)) h,
+        c .is-journey .ensures D a _ M l (s .pre .1 .1 ∙ ap₂ (λ (o d : List ℕ). soleOf o d (s .args .class)) (N .numbers) (N .clauses-are)) h,
       ),
     )
 
 returns-2 : tie.Need-returns-2
 returns-2 c = (
-  λ D a M h. c .before .name-at .ensures D a Start M h (asked-at-start M (c .before .before .before .before .args .class) (c .before .before .before .before .pre .1)),
+  λ D a M h. c .before .name-at .ensures D a Start M h (asked-at-start M (c .before .before .before .before .args .class) (c .before .before .before .before .pre .1 .0)),
   λ D a M N h r t l. absurd (clash t (c .if1 .left)),
 )
 

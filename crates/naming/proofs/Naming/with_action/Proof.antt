@@ -49,7 +49,7 @@ with-classes-requires c κs =
     let f = b .number-classes .kept .1 .1 .0 ∙ sym g ∙ sub-zero _ in
     let e = ap length (part-again (b .number-classes .last .1 .1 .0) _ _ f) ∙ f in
     let k = b .number-classes .ensures .0 in
-    (p .0 ∙ ap (λ (n : ℕ). 8 * n) (sym e), omega arith, omega arith, p .2, omega arith)
+    (p .0 ∙ ap (λ (n : ℕ). 8 * n) (sym e), (omega arith, (omega arith, (p .1 .1 .0, omega arith))))
 
 same-length : tie.Need-same-length
 same-length c = search needs

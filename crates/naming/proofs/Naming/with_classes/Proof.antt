@@ -26,14 +26,8 @@ with-each-requires : tie.Need-with-each-requires
 with-each-requires c κs =
     let p = c .before .before .before .before .before .before .before .before .before .before .before .before .before .before .before .before .before .before .before .before .before .before .pre in
     let first = c .before .before .before .before .before .before .before .before .before .before .before .before .before .before .soles-at .ensures refl in
-    let second = c .before .before .before .before .before .before .before .before .before .before .soles-at2 .ensures refl in (
-      record { rowed = omega arith; few = p .1 },
-      record { conditions-are = first; adds-are = second },
-      record { conditions-are = first; adds-are = second },
-      p .2,
-      p .3,
-      p .4,
-    )
+    let second = c .before .before .before .before .before .before .before .before .before .before .soles-at2 .ensures refl in
+    (record { rowed = omega arith; few = p .1 .0 }, (record { conditions-are = first; adds-are = second }, (record { conditions-are = first; adds-are = second }, (p .1 .1 .0, (p .1 .1 .1 .0, p .1 .1 .1 .1)))))
 
 same-length : tie.Need-same-length
 same-length c = search needs
@@ -68,18 +62,12 @@ slice-aggregate-soles-at-5 : tie.Need-slice-aggregate-soles-at-5
 slice-aggregate-soles-at-5 c = search needs
 
 soles-at-requires-5 : tie.Need-soles-at-requires-5
-soles-at-requires-5 c κs = let p = c .before .before .before .before .before .before .before .before .before .before .before .before .before .before .before .before .before .before .before .before .before .before .before .before .before .before .before .before .pre in (p .1, omega arith)
+soles-at-requires-5 c κs = let p = c .before .before .before .before .before .before .before .before .before .before .before .before .before .before .before .before .before .before .before .before .before .before .before .before .before .before .before .before .pre in (p .1 .0, omega arith)
 
 with-each-requires-2 : tie.Need-with-each-requires-2
 with-each-requires-2 c κs =
-    let p = c .before .before .before .before .before .before .before .before .before .before .before .before .before .before .before .before .before .before .before .before .before .before .before .before .before .before .before .before .before .before .before .before .before .before .before .before .before .before .pre in (
-      record { rowed = omega arith; few = p .1 },
-      record { conditions-are = c .before .before .before .before .before .before .before .before .before .before .before .before .before .before .before .before .before .before .before .before .before .before .before .before .before .before .before .before .before .before .soles-at .ensures refl; adds-are = c .before .before .before .before .before .before .before .before .before .before .before .before .before .before .before .before .before .before .before .before .before .before .before .before .before .before .soles-at2 .ensures refl },
-      record { conditions-are = c .before .before .before .before .before .before .before .before .before .before .before .before .before .before .before .before .before .before .before .soles-at3 .ensures refl; adds-are = c .before .before .before .before .before .before .before .before .before .before .before .before .before .before .before .soles-at4 .ensures refl },
-      p .2,
-      p .3,
-      p .4,
-    )
+    let p = c .before .before .before .before .before .before .before .before .before .before .before .before .before .before .before .before .before .before .before .before .before .before .before .before .before .before .before .before .before .before .before .before .before .before .before .before .before .before .pre in
+    (record { rowed = omega arith; few = p .1 .0 }, (record { conditions-are = c .before .before .before .before .before .before .before .before .before .before .before .before .before .before .before .before .before .before .before .before .before .before .before .before .before .before .before .before .before .before .soles-at .ensures refl; adds-are = c .before .before .before .before .before .before .before .before .before .before .before .before .before .before .before .before .before .before .before .before .before .before .before .before .before .before .soles-at2 .ensures refl }, (record { conditions-are = c .before .before .before .before .before .before .before .before .before .before .before .before .before .before .before .before .before .before .before .soles-at3 .ensures refl; adds-are = c .before .before .before .before .before .before .before .before .before .before .before .before .before .before .before .soles-at4 .ensures refl }, (p .1 .1 .0, (p .1 .1 .1 .0, p .1 .1 .1 .1)))))
 
 same-length-2 : tie.Need-same-length-2
 same-length-2 c = search needs

@@ -48,7 +48,7 @@ name-class-requires c κs =
     let p = c .before .before .before .before .before .before .before .before .before .before .pre in
     let k = c .before .before .before .before .before .before .loop .class in
     let h : k < 64 = omega arith in
-    (p .0, sole-at (p .1) k h, sole-at (p .2) k h)
+    (p .0, (sole-at (p .1 .0) k h, sole-at (p .1 .1 .0) k h))
 
 cast-with-class : tie.Need-cast-with-class Inv-loop μ-loop
 cast-with-class c = omega arith
@@ -57,13 +57,13 @@ with-class-requires : tie.Need-with-class-requires Inv-loop μ-loop
 with-class-requires c κs =
     let w = c .before .before .before .before .before .before .before .before .loop .inv .few in
     let r = c .before .before .before .before .before .before .before .before .loop .inv .room in
-    (omega arith, c .before .before .before .before .before .before .before .before .before .before .before .before .pre .4)
+    (omega arith, c .before .before .before .before .before .before .before .before .before .before .before .before .pre .1 .1 .1 .1 .0)
 
 add-class : tie.Need-add-class Inv-loop μ-loop
 add-class c =
     let t = c .before .before .before .before .before .before .before .before .before .before .loop-test .taken in
     let p = c .before .before .before .before .before .before .before .before .before .before .before .before .before .before .before .pre in
-    let m = p .3 in
+    let m = p .1 .1 .1 .0 in
     let s = p .0 .few in
     omega arith
 
@@ -85,7 +85,7 @@ loop-again c =
           λ rs old D a N M t E g.
           let h : l .class < length (classes D a) = omega arith in
           let p = c .before .before .before .before .before .before .before .before .before .before .before .before .before .before .before .pre in
-          let m = p .3 in
+          let m = p .1 .1 .1 .0 in
           let s = p .0 .few in
           let few : l .class < 64 = omega arith in
           named-next D a (c .before .before .before .before .before .before .before .before .before .before .before .before .before .before .before .args .i) (classes D a) rs (l .class) h
