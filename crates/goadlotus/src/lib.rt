@@ -6,6 +6,7 @@ use player::play::play_files;
 ghost use mathlib.Core.Path.{_≡_};
 ghost use Rattle.verdict.specs.Judged.{judged, reportAfter, witnessAfter};
 ghost use Rattle.verdict.specs.Claims.{AcceptedSafe, RefusedHarmful, WitnessHarms};
+ghost use Rattle.judging.specs.Reporting.{DecidesFile};
 ghost use Rattle.runs.specs.Play.{played, workAfter, returned};
 ghost use Rattle.player.specs.Called.{fileOf, offsetOf};
 ghost use Rattle.runs.specs.Claims.{PlaysAsMachine, StaysLow};
@@ -26,6 +27,7 @@ pub extern "C" fn goadlotus_judge(
     ensures third { λ _. ⌜ now (third .exit) ≡ judged (now (file .entry)) (now (report .entry)) (now (witness .entry)) .third ⌝ }
     ensures report { λ _. ⌜ now (report .exit) ≡ reportAfter (now (file .entry)) (now (report .entry)) (now (witness .entry)) ⌝ }
     ensures witness { λ _. ⌜ now (witness .exit) ≡ witnessAfter (now (file .entry)) (now (report .entry)) (now (witness .entry)) ⌝ }
+    ensures decides { λ r. ⌜ DecidesFile (now (file .entry)) r (now (first .exit)) (now (second .exit)) (now (third .exit)) ⌝ }
     ensures safe { λ r. ⌜ AcceptedSafe (now (file .entry)) r ⌝ }
     ensures exact { λ r. ⌜ RefusedHarmful (now (file .entry)) r ⌝ }
     ensures shown { λ r. ⌜ WitnessHarms (now (file .entry)) r (now (witness .exit)) (now (first .exit)) (now (second .exit)) (now (third .exit)) ⌝ }

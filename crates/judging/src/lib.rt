@@ -22,7 +22,7 @@ ghost use Rattle.reading.specs.Reading.{EnoughTable};
 ghost use Rattle.verdict.specs.Judged.{answerAt, decided, writesWitness, judged, reportAfter, witnessAfter};
 ghost use Rattle.verdict.specs.Claims.{wellFormed, AcceptedSafe, RefusedHarmful, WitnessHarms};
 ghost use Rattle.verdict.specs.Coded.{judgementOf};
-ghost use Rattle.judging.specs.Reporting.{JudgedAs};
+ghost use Rattle.judging.specs.Reporting.{JudgedAs, DecidesFile};
 
 fn at_offset(number: u64, place: usize) -> Judgement
     ensures { λ r. ⌜ r ≡ judgementOf (answerAt number place) ⌝ }
@@ -145,6 +145,7 @@ pub fn judge(file: &[u8], report: &mut [u8], witness: &mut [u8]) -> Judgement
     ensures answer { λ r. ⌜ r ≡ judgementOf (judged (now (file .entry)) (now (report .entry)) (now (witness .entry))) ⌝ }
     ensures reported { λ _. ⌜ now (report .exit) ≡ reportAfter (now (file .entry)) (now (report .entry)) (now (witness .entry)) ⌝ }
     ensures witnessed { λ _. ⌜ now (witness .exit) ≡ witnessAfter (now (file .entry)) (now (report .entry)) (now (witness .entry)) ⌝ }
+    ensures decides { λ r. ⌜ DecidesFile (now (file .entry)) (r .number) (r .first) (r .second) (r .third) ⌝ }
     ensures safe { λ r. ⌜ AcceptedSafe (now (file .entry)) (r .number) ⌝ }
     ensures exact { λ r. ⌜ RefusedHarmful (now (file .entry)) (r .number) ⌝ }
     ensures shown { λ r. ⌜ WitnessHarms (now (file .entry)) (r .number) (now (witness .exit)) (r .first) (r .second) (r .third) ⌝ }

@@ -19,13 +19,13 @@ same-length-2 c = search needs
 
 returns : tie.Need-returns
 returns c =
-    let (is, (told, (shown, (safe, (exact, harms))))) = c .before .before .before .before .judge .ensures in (
+    let (is, (told, (shown, (decided, (safe, (exact, harms)))))) = c .before .before .before .before .judge .ensures in (
       ap (λ (j : Judgement). j .number) is,
       (
         ap (λ (j : Judgement). j .first) is,
         (
           ap (λ (j : Judgement). j .second) is,
-          (ap (λ (j : Judgement). j .third) is, (told, (shown, (safe, (exact, harms))))),
+          (ap (λ (j : Judgement). j .third) is, (told, (shown, (decided, (safe, (exact, harms)))))),
         ),
       ),
     )
