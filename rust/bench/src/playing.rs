@@ -1,8 +1,12 @@
 //! Playing, timed.
 
+use crate::files;
 use crate::runs;
 use crate::timing::{take_turns, Timed};
 use std::hint::black_box;
+
+const PLAYED: u64 = 2;
+const CONDITION_FAILS: u64 = 55;
 
 /// Answers with number, place, steps, weight, and the length of the part.
 type Play = fn(&[u8], &[u8], &mut [u8]) -> [u64; 5];
@@ -35,13 +39,13 @@ fn by_model(domain: &[u8], run: &[u8], work: &mut [u8]) -> [u64; 5] {
     [played.number.into(), played.first as u64, played.steps as u64, played.weight.into(), part as u64]
 }
 
-/// The times, and the steps made.
-fn time(name: &str, domain: &[u8], run: &[u8]) -> (Timed, f64) {
+/// The times, and the steps made; the run must come to this number.
+fn time(name: &str, domain: &[u8], run: &[u8], number: u64) -> (Timed, f64) {
     let (mut library, mut model) = (Side::new(by_library), Side::new(by_model));
     let played = library.play(domain, run);
     let same = played == model.play(domain, run) && library.work == model.work;
     assert!(same, "{name}: library and model differ");
-    assert_eq!(played[0], 2, "{name}: not played to the end");
+    assert_eq!(played[0], number, "{name}: another number");
     let timed = take_turns(
         || {
             black_box(library.play(domain, run));
@@ -59,13 +63,16 @@ fn single_runs(domain: &[u8]) {
         "{:24} {:>7} {:>6} {:>12} {:>12} {:>7} {:>9} {:>9} {:>9} {:>9} {:>7}",
         "run", "bytes", "steps", "library", "model", "ratio", "lib/step", "mod/step", "lib/byte", "mod/byte", "rounds"
     );
-    for (name, run) in [
-        ("5,000 steps of 1 event", runs::single_events(5_000)),
-        ("1,000 steps of 16 events", runs::full_steps(1_000)),
-        ("10,000 empty, 32 open", runs::empty_steps(10_000)),
-        ("lending, 1 MB", runs::lending(1_000_000)),
+    let (m1, rovers) = (files::m1(), files::rovers());
+    for (name, domain, run, number) in [
+        ("M12, refused", &m1[..], runs::m12(), CONDITION_FAILS),
+        ("Rovers, 20 steps", &rovers, runs::rovers_20(), PLAYED),
+        ("5,000 steps of 1 event", domain, runs::single_events(5_000), PLAYED),
+        ("1,000 steps of 16 events", domain, runs::full_steps(1_000), PLAYED),
+        ("10,000 empty, 32 open", domain, runs::empty_steps(10_000), PLAYED),
+        ("lending, 1 MB", domain, runs::lending(1_000_000), PLAYED),
     ] {
-        let (timed, steps) = time(name, domain, &run);
+        let (timed, steps) = time(name, domain, &run, number);
         let bytes = run.len() as f64;
         println!(
             "{name:24} {bytes:>7} {steps:>6} {:>12.0} {:>12.0} {:>7.2} {:>9.1} {:>9.1} {:>9.2} {:>9.2} {:>7}",
@@ -90,7 +97,7 @@ fn growth(domain: &[u8]) {
     println!("{:>6} {:>6} {:>12} {:>12} {:>7}", "facts", "events", "library", "model", "ratio");
     for (facts, events) in SIZES {
         // each volume is moved 16 times
-        let (timed, steps) = time("moves", domain, &runs::moves(facts, 16 * facts / events, events));
+        let (timed, steps) = time("moves", domain, &runs::moves(facts, 16 * facts / events, events), PLAYED);
         let (library, model) = (timed.library / steps, timed.model / steps);
         println!("{facts:>6} {events:>6} {library:>12.1} {model:>12.1} {:>7.2}", library / model);
     }

@@ -1,7 +1,7 @@
-//! The run files that are timed, over one archive. Its volumes are told by two objects each, so that 64 objects are
-//! enough for about a thousand of them.
+//! The run files that are timed: long ones over one archive, whose volumes are told by two objects each, so that 64
+//! objects are enough for about a thousand of them; and short ones, for what a run costs before its first step.
 
-use generate::literature::Named;
+use generate::literature::{Named, ROVERS};
 use generate::records::{encode, rec, Rec};
 
 const ARCHIVE: &str = "
@@ -149,6 +149,23 @@ pub fn lending(bytes: usize) -> Vec<u8> {
     close(records)
 }
 
+/// The paper's M12, a run of M1: at(0,1), start lend(0,1,2), then move(0,1,3), which is refused.
+pub fn m12() -> Vec<u8> {
+    let step = |event: [u8; 5]| [rec(18, event), rec(19, [])];
+    let mut records = vec![rec(16, [4]), rec(17, [0, 0, 1])];
+    records.extend(step([0, 1, 0, 1, 2]));
+    records.extend(step([0, 0, 0, 1, 3]));
+    close(records)
+}
+
+/// A rover goes to and fro between two waypoints: 20 steps on Rovers.
+pub fn rovers_20() -> Vec<u8> {
+    const TRIPS: usize = 5;
+    let facts = ["available 0", "at 0 1", "visible 1 2", "visible 2 1", "can_traverse 0 1 2", "can_traverse 0 2 1"];
+    let there_and_back = ["start navigate 0 1 2", "end navigate 0 1 2", "start navigate 0 2 1", "end navigate 0 2 1"];
+    encode(&Named::read(ROVERS).run(3, &facts, &[there_and_back; TRIPS].concat()))
+}
+
 #[cfg(test)]
 mod tests {
     use super::*;
@@ -172,5 +189,18 @@ mod tests {
             assert_eq!(held, facts);
         }
         assert!((1_000_000..1_001_000).contains(&lending(1_000_000).len()));
+    }
+
+    /// The short ones: M12 comes to what the paper says, and the rover is where it began.
+    #[test]
+    fn short_ones_are_played() {
+        let mut work = [0; WORK];
+        let played = play(&crate::files::m1(), &m12(), &mut work);
+        assert_eq!((played.number, played.first, played.steps, played.weight), (55, 34, 1, 1));
+        let rovers = crate::files::rovers();
+        assert_eq!(rovers.len(), 771);
+        let played = play(&rovers, &rovers_20(), &mut work);
+        assert_eq!((played.number, played.steps, played.weight), (2, 20, 1));
+        assert!(work.chunks_exact(8).any(|fact| fact[..4] == [0, 2, 0, 1]));
     }
 }

@@ -25,19 +25,15 @@ impl Counted for Counts {
     }
 }
 
-/// The number that playing must never answer.
-const NEVER: u64 = 59;
-
 impl Counts {
     /// How often each number occurred, judging and playing; '-' where the call can't answer it.
     pub fn table(&self) -> String {
-        let mut numbers: BTreeSet<u64> = judging::NUMBERS.into_iter().chain(playing::NUMBERS).chain([NEVER]).collect();
+        let mut numbers: BTreeSet<u64> = judging::NUMBERS.into_iter().chain(playing::NUMBERS).collect();
         numbers.extend(self.judging.numbers.keys().chain(self.playing.numbers.keys()));
         let mut text = format!("{:>6} {:>12} {:>12}\n", "number", "judging", "playing");
         for number in numbers {
             let judged = column(self.judging.numbers.get(&number), judging::NUMBERS.contains(&number));
-            let may_play = number == NEVER || playing::NUMBERS.contains(&number);
-            let played = column(self.playing.numbers.get(&number), may_play);
+            let played = column(self.playing.numbers.get(&number), playing::NUMBERS.contains(&number));
             text += &format!("{number:>6} {judged:>12} {played:>12}\n");
         }
         text + &format!("{:>6} {:>12} {:>12}\n", "cases", self.judging.cases(), self.playing.cases())

@@ -55,7 +55,7 @@ pub fn library(domain: &[u8], run: &[u8], work: &mut [u8]) -> Played {
     Played { number, place, steps, weight, file, at, length: part.len() }
 }
 
-/// The numbers that playing may answer, all but 59; a run of cases must meet each, and 59 never.
+/// The numbers that playing may answer; a run of cases must meet each.
 pub const NUMBERS: [u64; 25] =
     [2, 9, 10, 11, 12, 13, 14, 15, 16, 17, 18, 19, 20, 21, 22, 23, 50, 51, 52, 53, 54, 55, 56, 57, 58];
 

@@ -6,7 +6,7 @@ use std::collections::BTreeMap;
 
 const CASES: u64 = 20_000;
 
-/// Numbers that must occur: all of the paper's but 59.
+/// Numbers that must occur, and no others may: the paper's, but for what the requests took away.
 const EXPECTED: [u8; 33] = [
     0, 1, 2, 9, 10, 11, 12, 13, 14, 15, 16, 17, 18, 19, 20, 21, 22, 23, 30, 31, 40, 41, 42, 43, 50, 51, 52, 53, 54, 55,
     56, 57, 58,
@@ -44,7 +44,6 @@ fn every_number_occurs() {
             Case::Play { domain, run, work } => {
                 let mut memory = pattern(work);
                 let answer = play(&domain, &run, &mut memory);
-                assert_ne!(answer.number, 59, "seed {seed}: 59 must never occur");
                 *played.entry(answer.number).or_default() += 1;
                 steps += answer.steps;
                 longest = longest.max(answer.steps);
@@ -60,7 +59,7 @@ fn every_number_occurs() {
     }
     println!("{CASES} cases");
     println!("number  judged  played");
-    for number in 0..=59 {
+    for number in 0..=63 {
         let (j, p) = (judged.get(&number).copied().unwrap_or(0), played.get(&number).copied().unwrap_or(0));
         if j + p > 0 || EXPECTED.contains(&number) {
             println!("{number:6} {j:7} {p:7}");
@@ -78,7 +77,7 @@ fn every_number_occurs() {
         assert!(count > 0, "number {number} is missing");
     }
     for number in judged.keys().chain(played.keys()) {
-        assert!(EXPECTED.contains(number), "number {number} isn't one of the paper's, or is 59");
+        assert!(EXPECTED.contains(number), "number {number} isn't one of these");
     }
     // Every verdict and every name occurs often.
     for number in [0, 1, 40, 41, 42, 43] {

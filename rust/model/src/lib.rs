@@ -1,5 +1,6 @@
-//! A model of "One field per volume: templates, classes and runs" (the paper), written from the
-//! paper alone. Sentences of the paper stand in quotation marks beside the code that follows them.
+//! A model of "One field per volume: templates, classes and runs" (the paper) with the customers'
+//! requests that have landed, written from these texts alone. Sentences of the paper stand in
+//! quotation marks beside the code that follows them, those of a request with its name (P6).
 //!
 //! - [`records`]: the record form that both files share
 //! - [`domain`]: reading a domain file, numbers 9 to 23
@@ -8,6 +9,9 @@
 //! - [`machine`]: state, events, steps
 //! - [`player`]: the run file, [`play`]
 //! - [`listing`]: what the listing program prints
+//!
+//! The requests so far:
+//! - P6: the player's alarm is gone, and with it the judging that the player did only for it.
 //!
 //! The paper leaves some places open; these are the readings taken.
 //! - Zero relations and zero actions are well-formed. An action without matching literals has no

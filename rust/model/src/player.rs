@@ -3,7 +3,7 @@
 use crate::domain::{read, Atom, Domain, Object, VARIABLES};
 use crate::machine::{binding, Event, State};
 use crate::records::Record;
-use crate::verdict::{decide, rows, FACT_BYTES};
+use crate::verdict::FACT_BYTES;
 
 /// Which of the two files a returned part is of.
 #[derive(Clone, Copy, PartialEq, Eq, Debug)]
@@ -64,8 +64,7 @@ pub fn play(domain_file: &[u8], run_file: &[u8], work: &mut [u8]) -> Played {
     if work.len() < WORK {
         return refused(58, 0, no_record);
     }
-    let accepted = decide(&rows(&domain)).is_accepted();
-    let mut player = Player::new(&domain, accepted);
+    let mut player = Player::new(&domain);
     let fault = player.run(run_file);
     player.write(&mut work[..WORK]);
     // "9 to 23, and any later number for a record, give the record's offset as first place"
@@ -78,13 +77,11 @@ pub fn play(domain_file: &[u8], run_file: &[u8], work: &mut [u8]) -> Played {
 
 struct Player<'d> {
     domain: &'d Domain,
-    /// "template accepted"
-    accepted: bool,
     /// The object count, once its record is read.
     objects: Option<u8>,
     state: State,
-    /// The highest weight at the start, once it is met.
-    start_weight: Option<u32>,
+    /// Whether the start facts are all read and weighed.
+    started: bool,
     /// The events waiting for the close of their step.
     events: Vec<Event>,
     steps: usize,
@@ -92,13 +89,12 @@ struct Player<'d> {
 }
 
 impl<'d> Player<'d> {
-    fn new(domain: &'d Domain, accepted: bool) -> Player<'d> {
+    fn new(domain: &'d Domain) -> Player<'d> {
         Player {
             domain,
-            accepted,
             objects: None,
             state: State::default(),
-            start_weight: None,
+            started: false,
             events: Vec::new(),
             steps: 0,
             weight: 0,
@@ -126,13 +122,12 @@ impl<'d> Player<'d> {
     fn take(&mut self, record: &Record) -> Result<(), u8> {
         // "start included once the first uncut record of kind 18 to 20 is met; steps and weight are 0
         // before"
-        if (EVENT..=CLOSE_RUN).contains(&record.kind) && self.start_weight.is_none() {
+        if (EVENT..=CLOSE_RUN).contains(&record.kind) && !self.started {
             self.weight = self.state.highest_weight();
-            self.start_weight = Some(self.weight);
+            self.started = true;
         }
         // "The order is one 16, any number of 17, then 18 and 19 mixed, one 20."
-        let counted = self.objects.is_some();
-        let started = self.start_weight.is_some();
+        let (counted, started) = (self.objects.is_some(), self.started);
         match record.kind {
             OBJECT_COUNT if !counted && !started => self.object_count(record.payload),
             START_FACT if counted && !started => self.start_fact(record.payload),
@@ -234,16 +229,11 @@ impl<'d> Player<'d> {
         if facts > FACTS || open > OPEN {
             return Err(52);
         }
+        // Only an instance that got a fact in this step can weigh more than before.
         let weight_now = self.state.advance(&self.domain.template, &change);
         self.events.clear();
         self.steps += 1;
         self.weight = self.weight.max(weight_now);
-        // "59 template accepted, start weights at most 1, a weight now above 1"; "59 counts and keeps
-        // the step". As each earlier step would have stopped here too, only an instance that got a
-        // fact in this step can weigh above 1.
-        if self.accepted && self.start_weight.is_some_and(|weight| weight <= 1) && weight_now > 1 {
-            return Err(59);
-        }
         Ok(())
     }
 
