@@ -1,6 +1,8 @@
 //! The comparison itself: judges that are wrong in one thing each must be caught by it.
 
 use differential::judging::{model, run, Judge, Judgement, NUMBERS};
+use generate::plain_judge::{self, Misjudge, MISJUDGEMENTS};
+use model::domain::Fact;
 
 const FIRST: u64 = 1;
 const FILES: u64 = 3_000;
@@ -181,5 +183,39 @@ fn a_wrong_name() {
             }
             answer
         });
+    }
+}
+
+/// The plain judge with one sentence misread, wherever a file is well-formed.
+fn misjudging(misread: Option<Misjudge>) -> impl Judge {
+    move |file: &[u8], report: &mut [u8], witness: &mut [u8]| {
+        let Ok(domain) = model::read(file) else { return model(file, report, witness) };
+        let judged = plain_judge::judge(&domain, misread);
+        let (rows, facts) = (judged.rows.concat(), judged.witness.iter().flat_map(Fact::bytes).collect::<Vec<u8>>());
+        let nothing = |number| Judgement { number, first: 0, second: 0, third: 0 };
+        if report.len() < rows.len() {
+            return nothing(30);
+        }
+        if witness.len() < facts.len() {
+            return nothing(31);
+        }
+        report[..rows.len()].copy_from_slice(&rows);
+        witness[..facts.len()].copy_from_slice(&facts);
+        let [first, second, third] = judged.places.map(u64::from);
+        Judgement { number: judged.number.into(), first, second, third }
+    }
+}
+
+#[test]
+fn the_plain_judge_passes() {
+    if let Err(text) = run(misjudging(None), FIRST, FILES) {
+        panic!("{text}");
+    }
+}
+
+#[test]
+fn every_misjudgement() {
+    for misread in MISJUDGEMENTS {
+        caught(misjudging(Some(misread)));
     }
 }

@@ -269,9 +269,12 @@ fn action(rng: &mut Rng, plan: &Plan, mood: Mood, size: Size) -> PlanAction {
     let classes = if plan.n() == 0 { 1 } else { rng.small(1, size.classes) };
     let special = rng.below(classes);
     for class in 0..classes {
-        let mut tuple: Vec<u8> = Vec::new();
-        for _ in 0..plan.n() {
-            tuple.push(rng.below(variables.max(1)) as u8);
+        let mut any_tuple = || -> Vec<u8> { (0..plan.n()).map(|_| rng.below(variables.max(1)) as u8).collect() };
+        let (tuple, other) = (any_tuple(), any_tuple());
+        // of this class, or of another one
+        if lasting && rng.chance(12) {
+            let under = if rng.chance(50) { &tuple } else { &other };
+            over_all(rng, plan, &mut action, under);
         }
         if lasting && (mood == Mood::Accepted1 || rng.chance(15)) && (mood != Mood::Accepted0 || uncounted) {
             journey(rng, plan, &mut action, &tuple, mood == Mood::Accepted0);
@@ -302,13 +305,15 @@ fn action(rng: &mut Rng, plan: &Plan, mood: Mood, size: Size) -> PlanAction {
     action
 }
 
-/// A true or false condition, in the roles that it may have at this moment.
+/// A true or false condition, in the roles that it may have at this moment: an end's is its own, or its own and an
+/// over-all one, at times only an over-all one, which counts for less.
 fn condition(rng: &mut Rng, action: &mut PlanAction, end: bool, truth: bool, atom: &PlanAtom) {
     let role = if truth { 0 } else { 1 };
-    let roles: &[u8] = match (end, rng.below(4)) {
+    let roles: &[u8] = match (end, rng.below(12)) {
         (false, _) => &[0],
         (true, 0) => &[4],
-        (true, 1) => &[4, 6],
+        (true, 1..=2) => &[4, 6],
+        (true, 3) => &[6, 4],
         (true, _) => &[6],
     };
     for base in roles {
@@ -430,8 +435,23 @@ fn journey(rng: &mut Rng, plan: &Plan, action: &mut PlanAction, tuple: &[u8], bo
             2 => action.push(5, first.0, first.1),
             3 => action.push(1, last.0, last.1),
             4 => action.push(3, last.0, last.1),
+            // over-all conditions don't unmake a journey, two true ones name its end all the same
+            5 => action.push(4, last.0, last.1),
+            6..=8 => {
+                for _ in 0..rng.range(1, 2) {
+                    over_all(rng, plan, action, tuple);
+                }
+            }
             _ => {}
         }
+    }
+}
+
+/// An over-all condition under a key tuple.
+fn over_all(rng: &mut Rng, plan: &Plan, action: &mut PlanAction, tuple: &[u8]) {
+    let role = if rng.chance(60) { 4 } else { 5 };
+    if let Some((relation, arguments)) = any_atom(rng, plan, action, tuple) {
+        action.push(role, relation, arguments);
     }
 }
 

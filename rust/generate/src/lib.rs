@@ -8,6 +8,7 @@ pub mod domains;
 pub mod literature;
 pub mod met;
 pub mod plain;
+pub mod plain_judge;
 pub mod proved;
 pub mod records;
 pub mod rng;

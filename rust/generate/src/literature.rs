@@ -166,7 +166,7 @@ mod tests {
     }
 }
 
-/// Start facts and events of a run, in words.
+/// Start facts and steps of a run, in words.
 pub struct Told {
     pub facts: Vec<String>,
     pub events: Vec<String>,
@@ -207,5 +207,19 @@ pub fn rovers_dropping() -> Told {
         "end drop 0 1",
         "end sample_soil 0 1 2",
     ];
+    Told { facts: facts.map(String::from).to_vec(), events: events.map(String::from).to_vec() }
+}
+
+/// Hoist 0 with crate 1 and hoist 5 with crate 6 drop them on pallet 2 in depot 3, and both end in one step.
+pub fn depots_dropping_twice() -> Told {
+    let facts = ["at 0 3", "at 5 3", "at 2 3", "clear 2", "lifting 0 1", "lifting 5 6"];
+    let events = ["start drop 0 1 2 3, start drop 5 6 2 3", "end drop 0 1 2 3, end drop 5 6 2 3"];
+    Told { facts: facts.map(String::from).to_vec(), events: events.map(String::from).to_vec() }
+}
+
+/// Hoist 0 drops crate 1 on pallet 2 and loads it into truck 4, and both end in one step.
+pub fn depots_dropping_and_loading() -> Told {
+    let facts = ["at 0 3", "at 2 3", "at 4 3", "clear 2", "lifting 0 1"];
+    let events = ["start drop 0 1 2 3, start load 0 1 4 3", "end drop 0 1 2 3, end load 0 1 4 3"];
     Told { facts: facts.map(String::from).to_vec(), events: events.map(String::from).to_vec() }
 }

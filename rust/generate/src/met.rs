@@ -23,9 +23,14 @@ pub enum Met {
     DeleteMeetsCondition,
     AddMeetsDelete,
     DeleteMeetsAdd,
-    /// 56: by a false condition, or by an end's over-all condition.
+    /// 56: by a false condition, or by an end's condition that is its own and an over-all one.
     FalseMeetsEffect,
-    OverAllMeetsEffect,
+    OwnAndOverAllMeetsEffect,
+    /// A step made although an over-all condition of an end, true or false, is an effect of another event; and although
+    /// two ends strike out what both need over all.
+    OverAllTrueMeetsEffect,
+    OverAllFalseMeetsEffect,
+    BothStrikeOut,
     /// As many as may be, and 52 for one more.
     StartFacts1024,
     StartFact1025,
@@ -68,7 +73,7 @@ pub enum Met {
     WeightFalls,
 }
 
-pub const ALL: [Met; 41] = [
+pub const ALL: [Met; 44] = [
     Met::EndNotOpen,
     Met::TrueFails,
     Met::FalseFails,
@@ -81,7 +86,10 @@ pub const ALL: [Met; 41] = [
     Met::AddMeetsDelete,
     Met::DeleteMeetsAdd,
     Met::FalseMeetsEffect,
-    Met::OverAllMeetsEffect,
+    Met::OwnAndOverAllMeetsEffect,
+    Met::OverAllTrueMeetsEffect,
+    Met::OverAllFalseMeetsEffect,
+    Met::BothStrikeOut,
     Met::StartFacts1024,
     Met::StartFact1025,
     Met::Facts1024,
@@ -134,6 +142,10 @@ pub fn met(domain_file: &[u8], run: &[u8]) -> Vec<Met> {
     watch.met
 }
 
+fn meet(some: &[Fact], others: &[Fact]) -> bool {
+    some.iter().any(|fact| others.contains(fact))
+}
+
 struct Watch<'d> {
     domain: &'d Domain,
     state: State,
@@ -162,6 +174,13 @@ impl Watch<'_> {
 
     fn facts(&self, event: &Event, set: impl Fn(&Moment) -> Literals) -> Vec<Fact> {
         self.bound(event.action, &event.binding, set(self.moment(event)))
+    }
+
+    /// The over-all conditions of an event, true and false.
+    fn over_all(&self, event: &Event) -> (Vec<Fact>, Vec<Fact>) {
+        let over_all = self.domain.actions[event.action as usize].over_all;
+        let bound = |set| self.bound(event.action, &event.binding, set);
+        (bound(over_all.trues), bound(over_all.falses))
     }
 
     /// Takes in a record, with its number if it is the faulty one.
@@ -223,6 +242,7 @@ impl Watch<'_> {
             adds.extend(added);
             deletes.extend(deleted);
         }
+        self.ends_together(&events);
         let held = |fact: &Fact| self.state.holds(fact);
         let (again, although): (Vec<Fact>, Vec<Fact>) =
             adds.iter().filter(|fact| held(fact)).partition(|fact| deletes.contains(fact));
@@ -244,6 +264,21 @@ impl Watch<'_> {
         self.note(Met::Facts1024, facts == FACTS && !events.is_empty());
         self.note(Met::Come1024, facts == FACTS && held_before == 0);
         self.note(Met::Open32, open == OPEN);
+    }
+
+    fn ends_together(&mut self, events: &[Event]) {
+        for event in events.iter().filter(|event| event.moment == 1) {
+            let (trues, falses) = self.over_all(event);
+            for other in events.iter().filter(|other| *other != event) {
+                let deletes = self.facts(other, |m| m.deletes);
+                let effects = [deletes.clone(), self.facts(other, |m| m.adds)].concat();
+                self.note(Met::OverAllTrueMeetsEffect, meet(&trues, &effects));
+                self.note(Met::OverAllFalseMeetsEffect, meet(&falses, &effects));
+                let mut both = self.facts(event, |m| m.deletes);
+                both.retain(|fact| deletes.contains(fact) && trues.contains(fact));
+                self.note(Met::BothStrikeOut, other.moment == 1 && meet(&both, &self.over_all(other).0));
+            }
+        }
     }
 
     fn failing(&mut self) {
@@ -270,7 +305,6 @@ impl Watch<'_> {
 
     fn interfering(&mut self) {
         let events = std::mem::take(&mut self.events);
-        let meet = |some: &[Fact], others: &[Fact]| some.iter().any(|fact| others.contains(fact));
         for (number, later) in events.iter().enumerate() {
             for earlier in &events[..number] {
                 let [a, b] = [earlier, later].map(|event| {
@@ -286,9 +320,13 @@ impl Watch<'_> {
                 for (event, other) in [(earlier, later), (later, earlier)] {
                     let effects = self.facts(other, |m| m.adds.or(m.deletes));
                     self.note(Met::FalseMeetsEffect, meet(&self.facts(event, |m| m.falses), &effects));
-                    let over_all = self.domain.actions[event.action as usize].over_all;
-                    let conditions = self.bound(event.action, &event.binding, over_all.trues.or(over_all.falses));
-                    self.note(Met::OverAllMeetsEffect, event.moment == 1 && meet(&conditions, &effects));
+                    if event.moment == 1 {
+                        let (trues, falses) = self.over_all(event);
+                        let own = self.facts(event, |m| m.trues.or(m.falses));
+                        let mut both = [trues, falses].concat();
+                        both.retain(|fact| own.contains(fact));
+                        self.note(Met::OwnAndOverAllMeetsEffect, meet(&both, &effects));
+                    }
                 }
             }
         }

@@ -11,14 +11,16 @@ use model::player::{EVENTS, FACTS, OPEN};
 pub enum Misread {
     /// Over-all conditions of what is open aren't looked at.
     OverAllForgotten,
+    /// Over-all conditions of what the step ends aren't looked at.
+    OverAllOfEnds,
     /// Over-all conditions of what the step starts must hold before it.
     OverAllOfStarts,
     /// Only an earlier event's condition and a later one's effects interfere.
     OneWay,
     /// Conditions that are false don't interfere.
     TrueOnly,
-    /// An end interferes by its own conditions only.
-    WithoutOverAll,
+    /// An end interferes by its over-all conditions too.
+    WithOverAll,
     /// Adds and deletes don't interfere with each other.
     ConditionsOnly,
     /// Two adds of one fact interfere.
@@ -61,12 +63,13 @@ pub enum Misread {
     SeventeenthFirst,
 }
 
-pub const MISREADINGS: [Misread; 25] = [
+pub const MISREADINGS: [Misread; 26] = [
     Misread::OverAllForgotten,
     Misread::OverAllOfStarts,
     Misread::OneWay,
     Misread::TrueOnly,
-    Misread::WithoutOverAll,
+    Misread::WithOverAll,
+    Misread::OverAllOfEnds,
     Misread::ConditionsOnly,
     Misread::AddsAlike,
     Misread::DeletesAlike,
@@ -129,21 +132,15 @@ impl<'d> Machine<'d> {
         &self.domain.actions[event.1 as usize]
     }
 
-    /// The facts of an event's literals in these lists, straight from the literals.
+    /// The facts of an event's own literals in these lists, straight from the literals.
     fn facts_of(&self, event: &Event, lists: &[List]) -> Vec<Fact> {
-        let mut facts = Vec::new();
-        for literal in &self.action(event).literals {
-            let now = match (event.0, literal.when) {
-                (0, When::Start) => true,
-                // "An end's conditions are its own and the over-all ones"
-                (1, When::OverAll | When::End) => true,
-                _ => false,
-            };
-            if now && lists.contains(&literal.list) {
-                facts.push(fact(&literal.atom, &event.2));
-            }
-        }
-        facts
+        let now = if event.0 == 0 { When::Start } else { When::End };
+        self.facts_when(event, now, lists)
+    }
+
+    fn facts_when(&self, event: &Event, when: When, lists: &[List]) -> Vec<Fact> {
+        let so = |literal: &&Literal| literal.when == when && lists.contains(&literal.list);
+        self.action(event).literals.iter().filter(so).map(|literal| fact(&literal.atom, &event.2)).collect()
     }
 
     fn over_all_holds(&self, action: u8, objects: &[u8]) -> bool {
@@ -158,11 +155,8 @@ impl<'d> Machine<'d> {
             let lists: &[List] =
                 if self.misreads(Misread::TrueOnly) { &[List::True] } else { &[List::True, List::False] };
             let mut facts = self.facts_of(event, lists);
-            if self.misreads(Misread::WithoutOverAll) {
-                let own = |literal: &&Literal| literal.when != When::OverAll && lists.contains(&literal.list);
-                let literals = self.action(event).literals.iter().filter(own);
-                let own: Vec<Fact> = literals.map(|literal| fact(&literal.atom, &event.2)).collect();
-                facts.retain(|fact| own.contains(fact));
+            if event.0 == 1 && self.misreads(Misread::WithOverAll) {
+                facts.extend(self.facts_when(event, When::OverAll, lists));
             }
             facts
         };
@@ -192,7 +186,9 @@ impl<'d> Machine<'d> {
             let (trues, falses) = (self.facts_of(event, &[List::True]), self.facts_of(event, &[List::False]));
             trues.iter().any(|fact| !self.facts.contains(fact)) || meet(&falses, &self.facts)
         };
-        let over_all_fails = self.open.iter().any(|open| !self.over_all_holds(open.0, &open.1));
+        let ended = |open: &Entry| events.iter().any(|event| event.0 == 1 && entry(event) == *open);
+        let asked = |open: &&Entry| !self.misreads(Misread::OverAllOfEnds) || !ended(open);
+        let over_all_fails = self.open.iter().filter(asked).any(|open| !self.over_all_holds(open.0, &open.1));
         let started_fails = self.misreads(Misread::OverAllOfStarts)
             && events.iter().any(|event| event.0 == 0 && !self.over_all_holds(event.1, &event.2));
         let end_not_open = events.iter().any(not_open) && !self.misreads(Misread::EndsAlways);

@@ -197,9 +197,9 @@ fn start_facts(rng: &mut Rng, script: &mut Script) {
         } else if let Some(event) = any_event(rng, script) {
             let action = &script.domain.actions[event.action as usize];
             let bound = |literal| action.atom(literal).bind(|variable| event.binding[variable.0 as usize]);
-            facts.extend(action.moments[0].trues.map(bound));
+            facts.extend(action.trues_at[0].map(bound));
             if rng.chance(30) {
-                facts.extend(action.moments[1].trues.map(bound));
+                facts.extend(action.trues_at[1].map(bound));
             }
         }
         for fact in facts {
@@ -709,6 +709,70 @@ pub fn duel(rng: &mut Rng) -> (Vec<u8>, Vec<u8>) {
     (file, encode(&script.records))
 }
 
+/// Jobs that last, each needing entries throughout and at its end adding or striking out entries, and runs in which
+/// several of them end together: with an over-all condition that another one's end strikes out, with the same literal
+/// over all and at the end, and with what is needed over all gone before.
+pub fn jobs(rng: &mut Rng) -> (Vec<u8>, Vec<u8>) {
+    let mut plan = Plan { relations: vec![1, 1, 0], ..Plan::default() };
+    plan.components = rng
+        .pick(&[&[(0, &[0][..])][..], &[(0, &[FF]), (2, &[])], &[(1, &[FF])], &[(0, &[0]), (1, &[0])]])
+        .iter()
+        .map(|&(relation, labels)| (relation, labels.to_vec()))
+        .collect();
+    for _ in 0..rng.range(2, 4) {
+        let mut action = PlanAction::new(rng.range(1, 2) as u8, true);
+        for _ in 0..rng.range(1, 2) {
+            let relation = rng.pick(&[0, 0, 1, 2]);
+            let arguments: Vec<u8> =
+                (0..plan.relations[relation as usize]).map(|_| rng.below(action.variables as usize) as u8).collect();
+            let roles: &[u8] =
+                rng.pick(&[&[4, 9][..], &[4, 9], &[4], &[4, 6, 9], &[4, 6], &[5, 8], &[5], &[5, 7, 8], &[8], &[9]]);
+            for &role in roles {
+                action.push(role, relation, arguments.clone());
+            }
+        }
+        plan.actions.push(action);
+    }
+    let file = plan.file();
+    let Ok(domain) = model::read(&file) else { return (file, Vec::new()) };
+    let mut script = Script::new(&domain, rng.range(1, 3) as u8);
+    let started = |rng: &mut Rng, script: &Script| -> Vec<Event> {
+        (0..rng.range(2, 5)).filter_map(|_| any_event(rng, script)).filter(|event| event.moment == 0).collect()
+    };
+    // most of what the first jobs need throughout is there
+    let mut first = started(rng, &script);
+    for event in &first {
+        let action = &domain.actions[event.action as usize];
+        for fact in action.trues_at[1].map(|literal| action.atom(literal).bind(|v| event.binding[v.0 as usize])) {
+            if rng.chance(90) {
+                script.start(fact);
+            }
+        }
+    }
+    for _ in 0..rng.range(1, 3) {
+        for event in std::mem::take(&mut first) {
+            if !script.events.contains(&event) {
+                script.event(event);
+            }
+        }
+        first = started(rng, &script);
+        script.close();
+        // what is open ends, most of it in one step
+        let open = script.state.open().to_vec();
+        for entry in open {
+            let event = Event { moment: 1, action: entry.action, binding: entry.binding };
+            let refused = !script.allows_also(event);
+            if script.events.contains(&event) || rng.chance(20) || (refused && rng.chance(80)) {
+                continue;
+            }
+            script.event(event);
+        }
+        script.close();
+    }
+    script.close_run();
+    (file, encode(&script.records))
+}
+
 /// A domain of relations of arity 4 to 6 and actions of 6 to 16 variables, and a run on it, with all six arguments
 /// different objects.
 pub fn wide(rng: &mut Rng) -> (Vec<u8>, Vec<u8>) {
@@ -898,6 +962,7 @@ pub fn random(rng: &mut Rng) -> Vec<u8> {
 pub enum Origin {
     NearLimit,
     Duel,
+    Jobs,
     Wide,
     Heavy,
     Burst,
@@ -915,7 +980,8 @@ pub fn pair(rng: &mut Rng) -> (Origin, Vec<u8>, Vec<u8>) {
     let told = |origin, (domain, run)| (origin, domain, run);
     match rng.below(100) {
         0..=6 => return told(Origin::NearLimit, near_limit(rng)),
-        7..=24 => return told(Origin::Duel, duel(rng)),
+        7..=20 => return told(Origin::Duel, duel(rng)),
+        21..=24 => return told(Origin::Jobs, jobs(rng)),
         25..=28 => return told(Origin::Wide, wide(rng)),
         29 => {
             return match rng.below(20) {

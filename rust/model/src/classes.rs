@@ -29,9 +29,6 @@ pub fn classes(template: &Template, action: &Action) -> Vec<Class> {
 
 impl Class {
     /// "Only the class's literals of that moment count"
-    ///
-    /// An end's literal that stands both in its own role and over all has one tuple, so both are of
-    /// one class and it counts once here as it does in the action's moment.
     pub fn at(&self, moment: &Moment) -> Moment {
         Moment {
             trues: moment.trues.and(self.literals),
@@ -39,6 +36,11 @@ impl Class {
             adds: moment.adds.and(self.literals),
             deletes: moment.deletes.and(self.literals),
         }
+    }
+
+    /// Whether an over-all condition, true or false, is of this class.
+    pub fn has_over_all(&self, action: &Action) -> bool {
+        !action.over_all.trues.or(action.over_all.falses).and(self.literals).is_empty()
     }
 }
 
@@ -68,12 +70,15 @@ impl Name {
     }
 }
 
-/// "the first line that fits names it", of the class's literals of one moment
-pub fn name(template: &Template, action: &Action, class: &Moment) -> Name {
-    // "unreachable: two or more true conditions in the class"
-    if class.trues.count() >= 2 {
+/// "the first line that fits names it", of a class at a moment
+pub fn name(template: &Template, action: &Action, class: &Class, moment: usize) -> Name {
+    // "unreachable: two or more true conditions in the class"; P2: over-all conditions "count towards
+    // unreachable and towards nothing else". A literal both an end's own and over all has one tuple, so
+    // both are of one class and it counts once here as it does in the action.
+    if action.trues_at[moment].and(class.literals).count() >= 2 {
         return Name::Unreachable;
     }
+    let class = &class.at(&action.moments[moment]);
     // "irrelevant: no add"
     if class.adds.is_empty() {
         return Name::Irrelevant;
@@ -112,7 +117,8 @@ pub fn first_uncovered(template: &Template, action: &Action, class: &Moment) -> 
 }
 
 /// "A journey is a class of a lasting action whose start has no add and exactly one true condition,
-/// which the start deletes, and whose end has no true condition and one add."
+/// which the start deletes, and whose end has no true condition and one add." P2: "A journey's end
+/// likewise looks at its own conditions only."
 pub fn is_journey(action: &Action, class: &Class) -> bool {
     if !action.lasting {
         return false;

@@ -157,7 +157,7 @@ impl Iterator for Literals {
     }
 }
 
-/// The literals of an action that count at one moment.
+/// The literals of an action at one moment, or over all.
 #[derive(Clone, Copy, Debug, Default)]
 pub struct Moment {
     pub trues: Literals,
@@ -182,10 +182,14 @@ pub struct Action {
     pub variables: u8,
     pub lasting: bool,
     pub literals: Vec<Literal>,
-    /// Moment 0: at once, or the start. Moment 1: the end of a lasting action.
+    /// Moment 0: at once, or the start. Moment 1: the end of a lasting action, with its own
+    /// conditions only.
     pub moments: [Moment; 2],
-    /// The over-all conditions, by themselves.
+    /// The over-all conditions.
     pub over_all: Moment,
+    /// The true conditions that hold where a moment comes: an end's are its own and the over-all ones,
+    /// "a literal in both counting once". The one that stands first in the file is the one that counts.
+    pub trues_at: [Literals; 2],
 }
 
 impl Action {
@@ -196,6 +200,7 @@ impl Action {
             literals: Vec::new(),
             moments: [Moment::default(); 2],
             over_all: Moment::default(),
+            trues_at: [Literals::default(); 2],
         }
     }
 
@@ -217,18 +222,17 @@ impl Action {
         set.any(|literal| self.atom(literal) == atom)
     }
 
-    /// "An end's conditions are its own and the over-all ones, a literal in both counting once."
-    /// The one that stands first in the file is the one that counts.
     fn push(&mut self, literal: Literal) {
         let number = self.literals.len();
         self.literals.push(literal);
-        if literal.when == When::OverAll {
-            self.over_all.list(literal.list).insert(number);
-        }
-        let moment = if literal.when == When::Start { 0 } else { 1 };
-        let counted = *self.moments[moment].list(literal.list);
-        if !self.among(counted, &literal.atom) {
-            self.moments[moment].list(literal.list).insert(number);
+        let (of, moment) = match literal.when {
+            When::Start => (&mut self.moments[0], 0),
+            When::OverAll => (&mut self.over_all, 1),
+            When::End => (&mut self.moments[1], 1),
+        };
+        of.list(literal.list).insert(number);
+        if literal.list == List::True && !self.among(self.trues_at[moment], &literal.atom) {
+            self.trues_at[moment].insert(number);
         }
     }
 }

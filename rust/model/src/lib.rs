@@ -11,14 +11,15 @@
 //! - [`listing`]: what the listing program prints
 //!
 //! The requests so far:
+//! - P2: over all ends just before the end. An end's over-all conditions must hold in the state that
+//!   its step is taken from, count towards unreachable, and stand in a witness that is written; they
+//!   count neither for any other name nor for interference.
 //! - P6: the player's alarm is gone, and with it the judging that the player did only for it.
 //!
 //! The paper leaves some places open; these are the readings taken.
 //! - Zero relations and zero actions are well-formed. An action without matching literals has no
 //!   class and no row, also where n = 0.
 //! - A record is cut short where its head or its payload runs past the end of the file.
-//! - An end's conditions are its own and the over-all ones everywhere, so also where events
-//!   interfere.
 //! - Over-all conditions are checked for what is open before the step: not for a start in it, but
 //!   still for an end in it.
 //! - The start weights count as soon as a whole record of kind 18 to 20 stands in the run file,

@@ -133,7 +133,8 @@ impl State {
 
     /// Whether a step, a list of different events, is allowed. "It is allowed if every end is open;
     /// every event's conditions hold; the over-all conditions of everything open hold; and no two of
-    /// its events interfere." Of several refusals the player's first comes: 57, 55, 56.
+    /// its events interfere." An end is open, so its over-all conditions are among those of everything
+    /// open. Of several refusals the player's first comes: 57, 55, 56.
     pub fn allows(&self, domain: &Domain, events: &[Event]) -> Result<(), Refusal> {
         for event in events {
             if event.is_end() && !self.open.contains(&event.entry()) {
@@ -257,7 +258,8 @@ impl Events {
 }
 
 /// "Two events interfere if a condition of one, true or false, is an add or delete of the other, or
-/// an add of one is a delete of the other." Told for each fact that the events name, instead of for
+/// an add of one is a delete of the other." P2: "An end's conditions for interference become its own
+/// only." Told for each fact that the events name, instead of for
 /// each pair of events.
 fn some_interfere(domain: &Domain, events: &[Event]) -> bool {
     if events.len() < 2 {

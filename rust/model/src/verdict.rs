@@ -26,7 +26,7 @@ pub fn rows(domain: &Domain) -> Vec<Row> {
                     action: number as u8,
                     class: class_number as u8,
                     moment: moment as u8,
-                    name: name(&domain.template, action, &class.at(&action.moments[moment])),
+                    name: name(&domain.template, action, class, moment),
                     journeys_end: journey && moment == 1,
                 });
             }
@@ -80,18 +80,23 @@ pub fn decide(rows: &[Row]) -> Decision {
 pub fn witness(domain: &Domain, decision: &Decision) -> Vec<Fact> {
     let Decision::Refused(number @ 40..=42, row) = decision else { return Vec::new() };
     let action = &domain.actions[row.action as usize];
-    let moment = &action.moments[row.moment as usize];
+    let class = classes(&domain.template, action)[row.class as usize];
+    // P2: "No witness is written (31 isn't tested) for an end whose class has an over-all literal."
+    if row.moment == 1 && class.has_over_all(action) {
+        return Vec::new();
+    }
     // "variable i is object i, the spare object is the variable count"
     let object = |Var(number)| Object(number);
     let spare = Object(action.variables);
     // "the facts are all true conditions of the action at that moment, matching or not, in file
     // order, once each"
-    let mut facts: Vec<Fact> = moment.trues.map(|literal| action.atom(literal).bind(object)).collect();
+    let trues = action.trues_at[row.moment as usize];
+    let mut facts: Vec<Fact> = trues.map(|literal| action.atom(literal).bind(object)).collect();
     // "then for 42 the instance fact of the first uncovered component, the spare object in its FF
     // place"
     if *number == 42 {
-        let class = classes(&domain.template, action)[row.class as usize];
-        if let Some(uncovered) = first_uncovered(&domain.template, action, &class.at(moment)) {
+        let own = class.at(&action.moments[row.moment as usize]);
+        if let Some(uncovered) = first_uncovered(&domain.template, action, &own) {
             let component = &domain.template.components[uncovered];
             let mut fact = Atom::new(component.relation, (0..component.arity).map(|_| spare));
             for key in (0..domain.template.n).map(Key) {

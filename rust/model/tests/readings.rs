@@ -29,24 +29,65 @@ fn over_all() -> Vec<u8> {
     file(&[(1, &[1]), (2, &[1, 1]), (3, &[4, 0, 0]), (2, &[1, 0]), (3, &[3, 0, 0]), (4, &[0, 0]), (5, &[])])
 }
 
-/// "An end's conditions are its own and the over-all ones", so an end interferes with an event that
-/// deletes what it needs over all.
+/// P2: "An end's conditions for interference become its own only. Its over-all conditions must still hold
+/// in the state the step is taken from."
 #[test]
-fn an_end_interferes_by_its_over_all_conditions() {
+fn an_end_interferes_by_its_own_conditions_only() {
+    let together = |first: &[(u16, &[u8])]| {
+        let ends: [(u16, &[u8]); 4] = [(18, &[1, 0, 0]), (18, &[0, 1, 0]), (19, &[]), (20, &[])];
+        run(&over_all(), &[first, &ends].concat())
+    };
+    let (played, facts) = together(&[(16, &[2]), (17, &[0, 0]), (18, &[0, 0, 0]), (19, &[])]);
+    assert_eq!((played.number, played.steps, facts), (2, 2, vec![]));
+    let (played, _) = together(&[(16, &[2]), (18, &[0, 0, 0]), (19, &[])]);
+    assert_eq!((played.number, played.steps), (55, 1));
+}
+
+/// p/1; a lasting action, over all false p(0), end add p(0); p[FF]. If the over-all condition counted for
+/// names, the template would be accepted; two ends together weigh two.
+#[test]
+fn over_all_conditions_cover_nothing() {
+    let domain = file(&[(1, &[1]), (2, &[1, 1]), (3, &[5, 0, 0]), (3, &[8, 0, 0]), (4, &[0, 0xFF]), (5, &[])]);
+    let (mut report, mut witness) = ([0xA5; 8], [0xA5; 8]);
+    let answer = judge(&domain, &mut report, &mut witness);
+    assert_eq!([answer.number as usize, answer.first, answer.second, answer.third], [42, 0, 0, 1]);
+    assert_eq!((report, witness), ([0, 0, 0, 2, 0, 0, 1, 7], [0xA5; 8]));
     let (played, facts) = run(
-        &over_all(),
+        &domain,
         &[
             (16, &[2]),
-            (17, &[0, 0]),
             (18, &[0, 0, 0]),
+            (18, &[0, 0, 1]),
             (19, &[]),
             (18, &[1, 0, 0]),
-            (18, &[0, 1, 0]),
+            (18, &[1, 0, 1]),
             (19, &[]),
             (20, &[]),
         ],
     );
-    assert_eq!((played.number, played.steps, facts), (56, 1, vec![p(0)]));
+    assert_eq!((played.number, played.steps, played.weight), (2, 2, 2));
+    assert_eq!(facts, vec![p(0), p(1)]);
+}
+
+/// p/1 with p[0]: over all true p(1), end add p(0) under another relation's component: the over-all literal
+/// is of another class, so it suppresses no witness and stands in it.
+#[test]
+fn an_over_all_literal_of_another_class() {
+    let domain = file(&[
+        (1, &[1]),
+        (1, &[1]),
+        (2, &[2, 1]),
+        (3, &[4, 0, 1]),
+        (3, &[8, 0, 0]),
+        (4, &[0, 0]),
+        (4, &[1, 0]),
+        (5, &[]),
+    ]);
+    let (mut report, mut witness) = ([0xA5; 16], [0xA5; 16]);
+    let answer = judge(&domain, &mut report, &mut witness);
+    assert_eq!([answer.number as usize, answer.first, answer.second, answer.third], [42, 0, 1, 1]);
+    assert_eq!(witness[..8], p(1));
+    assert_eq!(witness[8..], [1, 1, 0, 0xFF, 0xFF, 0xFF, 0xFF, 0xFF]);
 }
 
 /// A start has no over-all conditions: neither must they hold, nor do they interfere. From the next
