@@ -733,13 +733,13 @@ pub fn random(rng: &mut Rng) -> Vec<u8> {
     }
 }
 
-/// A valid file damaged anyhow, or so that it stops with a number from 10 to 23.
+/// A valid file damaged anyhow, or so that it stops with a number from 10 to 25.
 pub fn damaged(rng: &mut Rng) -> Vec<u8> {
     let plan = valid(rng);
     if rng.chance(50) {
         return damage(rng, &plan.records());
     }
-    let number = rng.range(10, 23) as u8;
+    let number = rng.range(10, 25) as u8;
     damaged_for(rng, plan, number)
 }
 
@@ -863,26 +863,16 @@ pub fn damaged_for(rng: &mut Rng, mut plan: Plan, number: u8) -> Vec<u8> {
             }
             records = plan.records();
         }
-        21 | 22 => {
+        21 | 22 | 24 | 25 => {
             let at = rng.below(plan.components.len());
             if number == 22 {
                 let copy = plan.components[at].clone();
                 let to = rng.below(plan.components.len() + 1);
                 plan.components.insert(to, copy);
             }
-            if number == 21 || rng.chance(30) {
-                let n = plan.n() as u8;
-                let labels = &mut plan.components[at].1;
-                if !labels.is_empty() {
-                    let place = rng.below(labels.len());
-                    labels[place] = match rng.below(6) {
-                        0 | 5 => FF,
-                        1 => n,
-                        2 => 0,
-                        3 => labels[rng.below(labels.len())],
-                        _ => near(rng, labels[place]),
-                    };
-                }
+            // one label, and at times a second, so that it shows which comes first
+            for fault in [number, rng.pick(&[0, 0, 0, 21, 24, 25])] {
+                label_fault(rng, &mut plan, at, fault);
             }
             // a second fault, so that it shows which comes first
             let at = rng.below(plan.components.len());
@@ -912,4 +902,66 @@ pub fn damaged_for(rng: &mut Rng, mut plan: Plan, number: u8) -> Vec<u8> {
         }
     }
     encode(&records)
+}
+
+/// Changes a label of a component, so that it mostly stops with this number: 25 another FF, 24 a key that stands twice,
+/// 21 a key that isn't below n, or one that is missing.
+fn label_fault(rng: &mut Rng, plan: &mut Plan, at: usize, number: u8) {
+    let n = plan.n() as u8;
+    let labels = &mut plan.components[at].1;
+    if labels.is_empty() {
+        return;
+    }
+    let (place, other) = (rng.below(labels.len()), rng.below(labels.len()));
+    labels[place] = match number {
+        25 => FF,
+        24 => labels[other],
+        21 => match rng.below(4) {
+            0 => n,
+            1 => FF,
+            2 => rng.pick(&[n.saturating_add(1), 6, 0x80, 0xFE]),
+            _ => near(rng, labels[place]),
+        },
+        _ => return,
+    };
+    if number == 25 && rng.chance(70) {
+        labels[other] = FF;
+    }
+}
+
+/// A file whose only fault, if it has one, is the labels of its last component.
+pub struct Labelled {
+    pub file: Vec<u8>,
+    /// The labels of the component before it, if there is one, and its own.
+    pub first: Option<Vec<u8>>,
+    pub labels: Vec<u8>,
+    /// The offset of its record.
+    pub record: usize,
+}
+
+/// Every row of up to four labels out of 0, 1, 2, 3 and FF, as first component and behind right ones of up to three
+/// keys, with and without FF. (It takes four to have two FF and a key that stands twice.)
+pub fn all_labels() -> Vec<Labelled> {
+    let mut rows: Vec<Vec<u8>> = vec![Vec::new()];
+    for shorter in 0..1 + 5 + 25 + 125 {
+        let longer = [0, 1, 2, 3, FF].map(|label| [&rows[shorter][..], &[label]].concat());
+        rows.extend(longer);
+    }
+    let mut before: Vec<Option<Vec<u8>>> = vec![None];
+    for n in 0..=3 {
+        let keys: Vec<u8> = (0..n).collect();
+        before.extend([Some([&[FF], &keys[..]].concat()), Some(keys)]);
+    }
+    let mut files = Vec::new();
+    for first in &before {
+        for labels in &rows {
+            let all: Vec<&Vec<u8>> = first.iter().chain([labels]).collect();
+            let mut plan = Plan { relations: all.iter().map(|labels| labels.len() as u8).collect(), ..Plan::default() };
+            plan.components = all.iter().enumerate().map(|(at, labels)| (at as u8, labels.to_vec())).collect();
+            let records = plan.records();
+            let record = encode(&records[..records.len() - 2]).len();
+            files.push(Labelled { file: plan.file(), first: first.clone(), labels: labels.clone(), record });
+        }
+    }
+    files
 }

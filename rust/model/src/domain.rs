@@ -1,4 +1,4 @@
-//! The domain file: what it says, and where reading it stops (numbers 9 to 23).
+//! The domain file: what it says, and where reading it stops (numbers 9 to 25).
 
 use crate::records::Record;
 use std::hash::{Hash, Hasher};
@@ -288,11 +288,32 @@ pub struct Domain {
     pub template: Template,
 }
 
-/// Where reading stops: a number from 9 to 23, and the offset of the record.
+/// Where reading stops: a number from 9 to 25, its place, and the offset of the record. The place is
+/// the record's offset but where a label is at fault, then it is the label's.
 #[derive(Clone, Copy, PartialEq, Eq, Debug)]
 pub struct Stop {
     pub number: u8,
     pub place: usize,
+    pub record: usize,
+}
+
+impl Stop {
+    fn at(number: u8, record: usize) -> Stop {
+        Stop { number, place: record, record }
+    }
+}
+
+/// Why a record is refused: the number, and the byte of the payload that is at fault if that is to be
+/// told.
+struct Fault {
+    number: u8,
+    byte: Option<usize>,
+}
+
+impl From<u8> for Fault {
+    fn from(number: u8) -> Fault {
+        Fault { number, byte: None }
+    }
 }
 
 // "Limits: file 65,535 bytes; 64 relations; 64 actions; 64 literals an action; 16 components."
@@ -318,7 +339,7 @@ const CLOSING: u16 = 5;
 pub fn read(file: &[u8]) -> Result<Domain, Stop> {
     // "whole file: 9 too long"; "(9: 0 ...)"
     if file.len() > FILE {
-        return Err(Stop { number: 9, place: 0 });
+        return Err(Stop::at(9, 0));
     }
     let mut domain = Domain {
         relations: Vec::new(),
@@ -328,27 +349,32 @@ pub fn read(file: &[u8]) -> Result<Domain, Stop> {
     let mut at = 0;
     loop {
         // "10 cut short or no closing record"; "(... missing closing: file length)"
-        let record = Record::read(file, at).ok_or(Stop { number: 10, place: at })?;
-        domain.take(&record).map_err(|number| Stop { number, place: at })?;
+        let record = Record::read(file, at).ok_or(Stop::at(10, at))?;
+        domain.take(&record).map_err(|Fault { number, byte }| Stop {
+            number,
+            place: byte.map_or(at, |byte| record.byte(byte)),
+            record: at,
+        })?;
         at = record.end();
         if record.kind == CLOSING {
             // "anything behind the closing record: 13, before all else there"
-            return if at < file.len() { Err(Stop { number: 13, place: at }) } else { Ok(domain) };
+            return if at < file.len() { Err(Stop::at(13, at)) } else { Ok(domain) };
         }
     }
 }
 
 impl Domain {
-    /// Takes in one whole record, or tells its number.
-    fn take(&mut self, record: &Record) -> Result<(), u8> {
+    /// Takes in one whole record, or tells its fault.
+    fn take(&mut self, record: &Record) -> Result<(), Fault> {
         self.head(record.kind)?;
         match record.kind {
-            RELATION => self.relation(record.payload),
-            ACTION => self.action(record.payload),
-            LITERAL => self.literal(record.payload),
-            COMPONENT => self.component(record.payload),
-            _ => self.closing(record.payload),
+            RELATION => self.relation(record.payload)?,
+            ACTION => self.action(record.payload)?,
+            LITERAL => self.literal(record.payload)?,
+            COMPONENT => self.component(record.payload)?,
+            _ => self.closing(record.payload)?,
         }
+        Ok(())
     }
 
     /// "record head: ... 11 unknown kind; 13 kind out of order; 14 over a limit"
@@ -435,37 +461,34 @@ impl Domain {
     }
 
     /// "Kind 4, component: relation, one label per argument."
-    fn component(&mut self, payload: &[u8]) -> Result<(), u8> {
+    fn component(&mut self, payload: &[u8]) -> Result<(), Fault> {
         let (&relation, labels) = payload.split_first().ok_or(12)?;
         let arity = *self.relations.get(relation as usize).ok_or(17)?;
         if labels.len() != arity as usize {
-            return Err(12);
+            return Err(12.into());
         }
         // "22 relation used before; 21 labels"
         if self.template.component(relation).is_some() {
-            return Err(22);
+            return Err(22.into());
         }
         // "The first component's labels other than FF number n; each component has the keys 0 to n-1
         // once each and at most one FF."
         let keys = labels.iter().filter(|&&label| label != COUNTED).count();
         let n = if self.template.components.is_empty() { keys } else { self.template.n as usize };
+        if let Some((number, label)) = label_at_fault(labels, n) {
+            return Err(Fault { number, byte: Some(1 + label) });
+        }
+        // P1: "Where a key is only missing it stays the record's."
+        if keys != n {
+            return Err(21.into());
+        }
         let mut place_of = [COUNTED; ARITY];
         let mut counted = None;
         for (place, &label) in labels.iter().enumerate() {
-            if label == COUNTED {
-                if counted.is_some() {
-                    return Err(21);
-                }
-                counted = Some(place as u8);
-            } else {
-                if label as usize >= n || place_of[label as usize] != COUNTED {
-                    return Err(21);
-                }
-                place_of[label as usize] = place as u8;
+            match label {
+                COUNTED => counted = Some(place as u8),
+                key => place_of[key as usize] = place as u8,
             }
-        }
-        if keys != n {
-            return Err(21);
         }
         self.template.n = n as u8;
         self.template.component_of[relation as usize] = Some(self.template.components.len() as u8);
@@ -483,4 +506,20 @@ impl Domain {
         }
         Ok(())
     }
+}
+
+/// The number and the index of the label that is at fault. P1: "a second FF told first, then a key that
+/// stands twice, then everything else about labels": 25 at "the second FF", 24 at "the first key equal to
+/// an earlier one", 21 at "the first key not below n". Every label but FF is a key number, also one that
+/// isn't below n.
+fn label_at_fault(labels: &[u8], n: usize) -> Option<(u8, usize)> {
+    let is_key = |label: u8| label != COUNTED;
+    let repeated = |place: &usize| labels[..*place].contains(&labels[*place]);
+    let mut places = 0..labels.len();
+    let second_counted = places.clone().find(|place| !is_key(labels[*place]) && repeated(place));
+    let repeated_key = places.clone().find(|place| is_key(labels[*place]) && repeated(place));
+    let not_below = places.find(|place| is_key(labels[*place]) && labels[*place] as usize >= n);
+    None.or(second_counted.map(|place| (25, place)))
+        .or(repeated_key.map(|place| (24, place)))
+        .or(not_below.map(|place| (21, place)))
 }

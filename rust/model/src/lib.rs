@@ -3,7 +3,7 @@
 //! quotation marks beside the code that follows them, those of a request with its name (P6).
 //!
 //! - [`records`]: the record form that both files share
-//! - [`domain`]: reading a domain file, numbers 9 to 23
+//! - [`domain`]: reading a domain file, numbers 9 to 25
 //! - [`classes`]: classes, names, journeys
 //! - [`verdict`]: rows, decision, witness, [`judge`]
 //! - [`machine`]: state, events, steps
@@ -11,6 +11,8 @@
 //! - [`listing`]: what the listing program prints
 //!
 //! The requests so far:
+//! - P1: which label of a component is at fault; the part that playing hands back still begins at the
+//!   record.
 //! - P2: over all ends just before the end. An end's over-all conditions must hold in the state that
 //!   its step is taken from, count towards unreachable, and stand in a witness that is written; they
 //!   count neither for any other name nor for interference.

@@ -22,6 +22,11 @@ impl<'a> Record<'a> {
         Some(Record { at, kind, payload })
     }
 
+    /// The offset of a byte of the payload in the file.
+    pub fn byte(&self, of_payload: usize) -> usize {
+        self.at + HEAD + of_payload
+    }
+
     /// The offset behind the record.
     pub fn end(&self) -> usize {
         self.at + HEAD + self.payload.len()
