@@ -36,12 +36,15 @@ pub fn play_lines() -> Vec<Playing> {
     lines("play", playing_line)
 }
 
+/// What a line may begin with. Classes are looked at in the model alone.
+const KINDS: [&str; 3] = ["judge", "play", "classes"];
+
 fn lines<T>(kind: &str, read: impl Fn(usize, &[&str]) -> Option<T>) -> Vec<T> {
     let text = include_str!("../../cases/edges.txt");
     let mut edges = Vec::new();
     for (at, line) in text.lines().enumerate().filter(|(_, line)| !line.starts_with('#')) {
         let fields: Vec<&str> = line.split(" | ").map(str::trim).collect();
-        assert!(["judge", "play"].contains(&fields[0]), "line {} of edges.txt: {line}", at + 1);
+        assert!(KINDS.contains(&fields[0]), "line {} of edges.txt: {line}", at + 1);
         if fields[0] == kind {
             let edge = read(at + 1, &fields[1..]);
             edges.push(edge.unwrap_or_else(|| panic!("line {} of edges.txt isn't a {kind} line: {line}", at + 1)));

@@ -2,7 +2,7 @@
 //!
 //! A text has one thing a line: `relation NAME ARITY`; `lasting NAME VARIABLE ..` and `at-once NAME VARIABLE ..`,
 //! each followed by its literals; a literal is its time (`start`, `all`, `end`), its list (`true`, `false`, `add`,
-//! `delete`), its relation and its variables. A line that starts with # is a remark.
+//! `delete`), its relation and its variables, or FF for every object. A line that starts with # is a remark.
 
 use crate::domains::{Plan, PlanAction, FF};
 use crate::records::{rec, Rec};
@@ -52,9 +52,11 @@ impl Named {
                     let lists = ["true", "false", "add", "delete"];
                     let role = first + lists.iter().position(|&other| other == list).expect("a list") as u8;
                     let relation = place(&domain.relations, relation) as u8;
-                    let of =
-                        of.iter().map(|name| variables.iter().position(|other| other == name).expect("a variable"));
-                    let of: Vec<u8> = of.map(|number| number as u8).collect();
+                    let argument = |name: &&str| match *name {
+                        "FF" => FF,
+                        name => variables.iter().position(|other| *other == name).expect("a variable") as u8,
+                    };
+                    let of: Vec<u8> = of.iter().map(argument).collect();
                     assert_eq!(of.len(), domain.relations[relation as usize].1 as usize, "{line:?}");
                     let (_, action) = domain.actions.last_mut().expect("an action before its literals");
                     action.literals.push((role, relation, of));

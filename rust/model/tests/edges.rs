@@ -109,10 +109,23 @@ fn play_line(fields: &[&str]) {
     }
 }
 
+fn classes_line(fields: &[&str]) {
+    let &[_, name, domain, numbers] = fields else { panic!("not 4 fields") };
+    let domain = model::read(&bytes(domain)).unwrap_or_else(|stop| panic!("{name}: {stop:?}"));
+    let mut of_actions: Vec<Vec<u8>> = Vec::new();
+    for action in &domain.actions {
+        let classes = model::classes::classes(&domain.template, action);
+        let number = |literal: usize| classes.iter().position(|class| class.literals.into_iter().any(|l| l == literal));
+        of_actions.push((0..action.literals.len()).map(|literal| number(literal).map_or(0xFF, |n| n as u8)).collect());
+    }
+    let told: Vec<Vec<u8>> = numbers.split(' ').map(bytes).collect();
+    assert_eq!(of_actions, told, "{name}");
+}
+
 #[test]
 fn every_edge() {
     let text = include_str!("../../cases/edges.txt");
-    let (mut remarks, mut judged, mut played) = (0, 0, 0);
+    let (mut remarks, mut judged, mut played, mut others) = (0, 0, 0, 0);
     for (line_number, line) in text.lines().enumerate() {
         if line.starts_with('#') {
             remarks += 1;
@@ -123,15 +136,19 @@ fn every_edge() {
         let outcome = std::panic::catch_unwind(|| match kind {
             "judge" => judge_line(&fields),
             "play" => play_line(&fields),
-            _ => panic!("neither judge nor play: {kind:?}"),
+            "classes" => classes_line(&fields),
+            _ => panic!("no such kind: {kind:?}"),
         });
         assert!(outcome.is_ok(), "line {} of edges.txt fails", line_number + 1);
         match kind {
             "judge" => judged += 1,
-            _ => played += 1,
+            "play" => played += 1,
+            _ => others += 1,
         }
     }
-    println!("edges.txt: {remarks} lines of explanation, {judged} judge lines run, {played} play lines run");
-    assert!(judged > 0 && played > 0);
-    assert_eq!(remarks + judged + played, text.lines().count());
+    println!(
+        "edges.txt: {remarks} lines of explanation, {judged} judge lines run, {played} play lines run, {others} others"
+    );
+    assert!(judged > 0 && played > 0 && others > 0);
+    assert_eq!(remarks + judged + played + others, text.lines().count());
 }
