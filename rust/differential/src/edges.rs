@@ -37,7 +37,7 @@ pub fn play_lines() -> Vec<Playing> {
 }
 
 /// What a line may begin with. Classes are looked at in the model alone.
-const KINDS: [&str; 3] = ["judge", "play", "classes"];
+const KINDS: [&str; 4] = ["judge", "play", "classes", "templates"];
 
 fn lines<T>(kind: &str, read: impl Fn(usize, &[&str]) -> Option<T>) -> Vec<T> {
     let text = include_str!("../../cases/edges.txt");

@@ -8,6 +8,8 @@
 //! - [`verdict`]: rows, decision, witness, [`judge`]
 //! - [`machine`]: state, events, steps
 //! - [`player`]: the run file, [`play`]
+//! - [`templates`]: every one-relation template of a file
+//! - [`service`]: what the services on one file have in common
 //! - [`listing`]: what the listing program prints
 //!
 //! The requests so far:
@@ -17,6 +19,7 @@
 //!   its step is taken from, count towards unreachable, and stand in a witness that is written; they
 //!   count neither for any other name nor for interference.
 //! - P4: FF in a false condition or a delete means every object.
+//! - P5: every one-relation template, listed.
 //! - P6: the player's alarm is gone, and with it the judging that the player did only for it.
 //! - P8: of the refusals by class the worst is named, 40 before 41 before 42.
 //!
@@ -35,9 +38,13 @@ pub mod listing;
 pub mod machine;
 pub mod player;
 pub mod records;
+pub mod service;
+pub mod templates;
 pub mod verdict;
 
 pub use domain::{read, Domain, Fact, Key, Object, Stop, Var};
 pub use listing::listing;
 pub use player::{play, Part, Played, Source, WORK};
+pub use service::Served;
+pub use templates::templates;
 pub use verdict::{judge, Answer};
