@@ -4,6 +4,7 @@
 
 use differential::judging::{compare, expect, expect_at_all_lengths, Judgement};
 use differential::playing::{self, Played, WORK};
+use differential::serving::{self, Service, TEMPLATES};
 use differential::{edges, exact};
 
 const JUDGES: [fn(&[u8], &mut [u8], &mut [u8]) -> Judgement; 2] = [goadlotus::judge, exact::judge];
@@ -117,4 +118,33 @@ fn every_work_length_every_cut_and_every_flip_of_a_run() {
         }
     }
     println!("{cases} cases");
+}
+
+/// The services, with what their lines begin with.
+const SERVICES: [(&str, Service); 1] = [("templates", TEMPLATES)];
+
+#[test]
+fn every_line_of_a_service() {
+    for (kind, service) in SERVICES {
+        let lines = edges::service_lines(kind);
+        for (salt, edge) in lines.iter().enumerate() {
+            let name = format!("line {}, {}", edge.line, edge.name);
+            let exactly = |file: &[u8], memory: &mut [u8]| exact::serve(service, file, memory);
+            serving::expect(service.library, &name, &edge.file, edge.lent, edge.served, &edge.written);
+            serving::expect(exactly, &name, &edge.file, edge.lent, edge.served, &edge.written);
+            // every length, and every cut of the file
+            for lent in 0..=edge.written.len() + 9 {
+                if let Err(text) = service.compare(exactly, &edge.file, lent, salt) {
+                    panic!("{name}\n{text}");
+                }
+            }
+            for cut in 0..edge.file.len() {
+                if let Err(text) = service.compare(exactly, &edge.file[..cut], edge.lent, salt) {
+                    panic!("{name}, cut at {cut}\n{text}");
+                }
+            }
+        }
+        println!("edges.txt: {} {kind} lines run", lines.len());
+        assert!(!lines.is_empty());
+    }
 }

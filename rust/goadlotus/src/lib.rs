@@ -27,6 +27,14 @@ mod raw {
             part_file: *mut u64,
             part_at: *mut u64,
         ) -> u64;
+
+        pub fn goadlotus_templates(
+            file: *const u8,
+            file_len: usize,
+            list: *mut u8,
+            list_len: usize,
+            first: *mut u64,
+        ) -> u64;
     }
 }
 
@@ -121,4 +129,33 @@ pub fn play<'a>(domain: &'a [u8], run: &'a [u8], work: &mut [u8]) -> Played<'a> 
         other => panic!("goadlotus_play answers file {other}, which is neither 0 nor 1"),
     };
     Played { number, place, steps, weight, part }
+}
+
+/// The answer of a service: 0 with the bytes written as first place, or a refusal with its place.
+#[derive(Clone, Copy, PartialEq, Eq, Debug)]
+pub struct Served {
+    pub number: u64,
+    pub first: u64,
+}
+
+/// A call of the library that reads one file and writes one memory.
+type Service = unsafe extern "C" fn(*const u8, usize, *mut u8, usize, *mut u64) -> u64;
+
+fn serve(service: Service, file: &[u8], memory: &mut [u8]) -> Served {
+    // As in `judge`: what the call left alone wouldn't look like an answer.
+    let mut first = u64::MAX;
+    // SAFETY: each slice is passed with its own length, which the call never exceeds; no pointer is null; what is
+    // written is borrowed mutably, so it overlaps nothing.
+    let number = unsafe { service(file.as_ptr(), file.len(), memory.as_mut_ptr(), memory.len(), &mut first) };
+    Served { number, first }
+}
+
+/// The bytes that the list of every file has room in: 64 relations of 7 templates, 3 bytes each.
+pub const TEMPLATES: usize = 64 * 7 * 3;
+
+/// Lists every template of a single relation: relation, counted place (FF for none) and verdict, a byte each.
+///
+/// 9 to 27 refuse the file, 30 a list that is too short; both write nothing.
+pub fn templates(file: &[u8], list: &mut [u8]) -> Served {
+    serve(raw::goadlotus_templates, file, list)
 }
