@@ -178,6 +178,7 @@ fn every_edge() {
             "track" => track_line(&fields),
             "classes" => classes_line(&fields),
             "templates" => service_line(&fields, model::templates),
+            "try" => service_line(&fields, model::try_facts),
             _ => panic!("no such kind: {kind:?}"),
         });
         assert!(outcome.is_ok(), "line {} of edges.txt fails", line_number + 1);
