@@ -22,6 +22,9 @@ pub struct Service {
 pub const TEMPLATES: Service =
     Service { library: goadlotus::templates, model: model::templates, most: goadlotus::TEMPLATES };
 
+/// P10: trying the facts themselves.
+pub const TRY: Service = Service { library: goadlotus::try_facts, model: model::try_facts, most: goadlotus::TRIED };
+
 /// The kind of the record that closes a domain file.
 const CLOSING: u8 = 5;
 

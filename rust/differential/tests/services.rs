@@ -4,8 +4,11 @@
 //! `GOADLOTUS_CASES` is the least number of cases of each service, `GOADLOTUS_SEED` the first seed.
 
 use differential::judging::file;
-use differential::seeds::{run, setting, show, Counted};
-use differential::serving::{Counts, Serve, Served, Service, TEMPLATES};
+use differential::seeds::{run, setting, show, Counted as _};
+use differential::serving::{Counts, Serve, Served, Service, TEMPLATES, TRY};
+use generate::domains::tiny;
+use generate::plain_try::{answers, Counted, MISTRIES};
+use generate::rng::Rng;
 
 /// The least number of cases that one file gives.
 const CASES_A_FILE: u64 = 3;
@@ -101,6 +104,40 @@ fn wrong_ones_are_caught(service: Service) {
 #[test]
 fn templates_agree() {
     agree("templates", TEMPLATES, 30_000);
+}
+
+#[test]
+fn trying_agrees() {
+    agree("try", TRY, 30_000);
+}
+
+/// Small domains of actions at once, many of them with clearing literals.
+#[test]
+fn trying_agrees_on_tiny_files() {
+    let of_seed = |seed: u64| {
+        let file = tiny(&mut Rng::new(seed)).file();
+        TRY.compare_all(TRY.library, &file, seed as usize % 1_000).map_err(|text| format!("seed {seed}\n{text}"))
+    };
+    let counts = run(of_seed, setting("GOADLOTUS_SEED", 0), 20_000).unwrap_or_else(|text| panic!("{text}"));
+    show(&format!("\ntry on tiny files: {} cases", counts.cases()));
+}
+
+#[test]
+fn wrong_tries_are_caught() {
+    wrong_ones_are_caught(TRY);
+    for misread in MISTRIES {
+        caught(TRY, |file: &[u8], memory: &mut [u8]| {
+            let Ok(domain) = model::read(file) else { return TRY.model(file, memory) };
+            let answers = answers(&domain, Counted::Every, Some(misread));
+            match memory.get_mut(..answers.len()) {
+                None => Served { number: 30, first: 0 },
+                Some(front) => {
+                    front.copy_from_slice(&answers);
+                    Served { number: 0, first: answers.len() as u64 }
+                }
+            }
+        });
+    }
 }
 
 #[test]

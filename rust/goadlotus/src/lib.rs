@@ -52,6 +52,14 @@ mod raw {
             list_len: usize,
             first: *mut u64,
         ) -> u64;
+
+        pub fn goadlotus_try(
+            file: *const u8,
+            file_len: usize,
+            tried: *mut u8,
+            tried_len: usize,
+            first: *mut u64,
+        ) -> u64;
     }
 }
 
@@ -218,4 +226,15 @@ pub const TEMPLATES: usize = 64 * 7 * 3;
 /// 9 to 27 refuse the file, 30 a list that is too short; both write nothing.
 pub fn templates(file: &[u8], list: &mut [u8]) -> Served {
     serve(raw::goadlotus_templates, file, list)
+}
+
+/// The bytes that the answers for every file have room in: 64 actions of 64 classes.
+pub const TRIED: usize = 64 * 64;
+
+/// Tries the facts of every class of every action at once: a byte each, 1 where some set of facts shows two or more facts of
+/// the instance after one step, 0 where none does.
+///
+/// 9 to 27 refuse the file, 30 a memory that is too short; both write nothing.
+pub fn try_facts(file: &[u8], tried: &mut [u8]) -> Served {
+    serve(raw::goadlotus_try, file, tried)
 }
