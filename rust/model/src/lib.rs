@@ -10,6 +10,7 @@
 //! - [`player`]: the run file, [`play`], [`track`]
 //! - [`templates`]: every one-relation template of a file
 //! - [`trying`]: what the facts themselves show of actions at once
+//! - [`totals`]: figures for a box of files
 //! - [`service`]: what the services on one file have in common
 //! - [`listing`]: what the listing program prints
 //!
@@ -24,6 +25,7 @@
 //! - P6: the player's alarm is gone, and with it the judging that the player did only for it.
 //! - P8: of the refusals by class the worst is named, 40 before 41 before 42.
 //! - P10: trying the facts themselves.
+//! - P11: figures for a whole term.
 //! - P13: playing with an instance tells its weight and its open journeys together.
 //!
 //! The paper leaves some places open; these are the readings taken.
@@ -43,6 +45,7 @@ pub mod player;
 pub mod records;
 pub mod service;
 pub mod templates;
+pub mod totals;
 pub mod trying;
 pub mod verdict;
 
@@ -51,5 +54,6 @@ pub use listing::listing;
 pub use player::{play, track, Part, Played, Source, Tracked, WORK};
 pub use service::Served;
 pub use templates::templates;
+pub use totals::totals;
 pub use trying::try_facts;
 pub use verdict::{judge, Answer};

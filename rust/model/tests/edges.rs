@@ -179,6 +179,7 @@ fn every_edge() {
             "classes" => classes_line(&fields),
             "templates" => service_line(&fields, model::templates),
             "try" => service_line(&fields, model::try_facts),
+            "totals" => service_line(&fields, model::totals),
             _ => panic!("no such kind: {kind:?}"),
         });
         assert!(outcome.is_ok(), "line {} of edges.txt fails", line_number + 1);
