@@ -25,6 +25,9 @@ pub const TEMPLATES: Service =
 /// P10: trying the facts themselves.
 pub const TRY: Service = Service { library: goadlotus::try_facts, model: model::try_facts, most: goadlotus::TRIED };
 
+/// P11: figures for a box of files.
+pub const TOTALS: Service = Service { library: goadlotus::totals, model: model::totals, most: goadlotus::TOTALS };
+
 /// The kind of the record that closes a domain file.
 const CLOSING: u8 = 5;
 

@@ -5,7 +5,7 @@
 use differential::judging::{compare, expect, expect_at_all_lengths, Judgement};
 use differential::memory::{after, pattern};
 use differential::playing::{self, Played, WORK};
-use differential::serving::{self, Service, TEMPLATES, TRY};
+use differential::serving::{self, Service, TEMPLATES, TOTALS, TRY};
 use differential::tracking::{self, Tracked};
 use differential::{edges, exact};
 
@@ -153,7 +153,7 @@ fn every_work_length_every_cut_and_every_flip_of_a_run() {
 }
 
 /// The services, with what their lines begin with.
-const SERVICES: [(&str, Service); 2] = [("templates", TEMPLATES), ("try", TRY)];
+const SERVICES: [(&str, Service); 3] = [("templates", TEMPLATES), ("try", TRY), ("totals", TOTALS)];
 
 #[test]
 fn every_line_of_a_service() {

@@ -5,7 +5,8 @@
 
 use differential::judging::file;
 use differential::seeds::{run, setting, show, Counted as _};
-use differential::serving::{Counts, Serve, Served, Service, TEMPLATES, TRY};
+use differential::serving::{Counts, Serve, Served, Service, TEMPLATES, TOTALS, TRY};
+use generate::boxes::{any_box, any_file, packed};
 use generate::domains::tiny;
 use generate::plain_try::{answers, Counted, MISTRIES};
 use generate::rng::Rng;
@@ -15,12 +16,31 @@ const CASES_A_FILE: u64 = 3;
 const FIRST: u64 = 1;
 const FILES: u64 = 3_000;
 
-/// The service on the files of so many seeds, those that judging is tried on.
-fn over(service: Service, serve: impl Serve, first: u64, files: u64) -> Result<Counts, String> {
+/// What a service is tried on: the file of a seed, and the numbers that must occur.
+struct Tried {
+    service: Service,
+    file: fn(u64) -> Vec<u8>,
+    numbers: &'static [u64],
+}
+
+/// Those that judging is tried on.
+fn domain_file(seed: u64) -> Vec<u8> {
+    file(seed).1
+}
+
+fn box_of_files(seed: u64) -> Vec<u8> {
+    any_box(&mut Rng::new(seed))
+}
+
+const OF_TEMPLATES: Tried = Tried { service: TEMPLATES, file: domain_file, numbers: &NUMBERS };
+const OF_TRY: Tried = Tried { service: TRY, file: domain_file, numbers: &NUMBERS };
+const OF_TOTALS: Tried = Tried { service: TOTALS, file: box_of_files, numbers: &[0, 30, 33] };
+
+/// The service on the files of so many seeds.
+fn over(tried: &Tried, serve: impl Serve, first: u64, files: u64) -> Result<Counts, String> {
     let of_seed = |seed: u64| {
-        let (origin, file, _) = file(seed);
-        let counts = service.compare_all(&serve, &file, seed as usize % 1_000);
-        counts.map_err(|text| format!("seed {seed}, {origin:?}\n{text}"))
+        let counts = tried.service.compare_all(&serve, &(tried.file)(seed), seed as usize % 1_000);
+        counts.map_err(|text| format!("seed {seed}\n{text}"))
     };
     run(of_seed, first, files)
 }
@@ -28,32 +48,32 @@ fn over(service: Service, serve: impl Serve, first: u64, files: u64) -> Result<C
 /// The numbers that refuse a file, what a short memory gives, and done.
 const NUMBERS: [u64; 21] = [0, 9, 10, 11, 12, 13, 14, 15, 16, 17, 18, 19, 20, 21, 22, 23, 24, 25, 26, 27, 30];
 
-fn agree(name: &str, service: Service, cases: u64) {
+fn agree(name: &str, tried: Tried, cases: u64) {
     let least = setting("GOADLOTUS_CASES", cases);
     let first = setting("GOADLOTUS_SEED", 0);
-    let counts = match over(service, service.library, first, least.div_ceil(CASES_A_FILE)) {
+    let counts = match over(&tried, tried.service.library, first, least.div_ceil(CASES_A_FILE)) {
         Ok(counts) => counts,
         Err(text) => panic!("the library ({name}) and the model differ\n{text}"),
     };
     show(&format!("\n{name}: {} cases, {:?}", counts.cases(), counts.numbers));
     assert!(counts.cases() >= least);
-    assert!(NUMBERS.iter().all(|number| counts.numbers.contains_key(number)), "a number that didn't occur");
-    assert!(counts.numbers.keys().all(|number| NUMBERS.contains(number)), "a number that no service has");
+    assert!(counts.numbers.keys().eq(tried.numbers), "numbers that didn't occur, or that the service doesn't have");
 }
 
 #[track_caller]
-fn caught(service: Service, serve: impl Serve) {
-    match over(service, serve, FIRST, FILES) {
+fn caught(tried: &Tried, serve: impl Serve) {
+    match over(tried, serve, FIRST, FILES) {
         Ok(counts) => panic!("not caught in {} cases", counts.cases()),
         Err(text) => assert!(text.contains("DIFFERENT") && text.contains("seed "), "{text}"),
     }
 }
 
 /// Services that every comparison must notice.
-fn wrong_ones_are_caught(service: Service) {
+fn wrong_ones_are_caught(tried: &Tried) {
+    let service = tried.service;
     let model = move |file: &[u8], memory: &mut [u8]| service.model(file, memory);
-    assert!(over(service, model, FIRST, 300).is_ok());
-    for number in NUMBERS {
+    assert!(over(tried, model, FIRST, 300).is_ok());
+    for &number in tried.numbers {
         let changed = |change: fn(&mut Served)| {
             move |file: &[u8], memory: &mut [u8]| {
                 let mut served = model(file, memory);
@@ -63,36 +83,36 @@ fn wrong_ones_are_caught(service: Service) {
                 served
             }
         };
-        caught(service, changed(|served| served.number ^= 1));
-        caught(service, changed(|served| served.first += 1));
+        caught(tried, changed(|served| served.number ^= 1));
+        caught(tried, changed(|served| served.first += 1));
     }
     // one byte more demanded, and one less
-    caught(service, |file: &[u8], memory: &mut [u8]| {
+    caught(tried, |file: &[u8], memory: &mut [u8]| {
         let end = memory.len().saturating_sub(1);
         model(file, &mut memory[..end])
     });
-    caught(service, |file: &[u8], memory: &mut [u8]| {
+    caught(tried, |file: &[u8], memory: &mut [u8]| {
         let mut longer = [&*memory, &[0]].concat();
         let served = model(file, &mut longer);
         memory.copy_from_slice(&longer[..memory.len()]);
         served
     });
     // a byte written by a refusal, one behind the answer, and a last byte that is wrong
-    caught(service, |file: &[u8], memory: &mut [u8]| {
+    caught(tried, |file: &[u8], memory: &mut [u8]| {
         let served = model(file, memory);
         if let (true, Some(first)) = (served.number > 0, memory.first_mut()) {
             *first = !*first;
         }
         served
     });
-    caught(service, |file: &[u8], memory: &mut [u8]| {
+    caught(tried, |file: &[u8], memory: &mut [u8]| {
         let served = model(file, memory);
         if let (0, Some(behind)) = (served.number, memory.get_mut(served.first as usize)) {
             *behind = 0;
         }
         served
     });
-    caught(service, |file: &[u8], memory: &mut [u8]| {
+    caught(tried, |file: &[u8], memory: &mut [u8]| {
         let served = model(file, memory);
         if served.number == 0 && served.first > 0 {
             memory[served.first as usize - 1] ^= 1;
@@ -103,12 +123,12 @@ fn wrong_ones_are_caught(service: Service) {
 
 #[test]
 fn templates_agree() {
-    agree("templates", TEMPLATES, 30_000);
+    agree("templates", OF_TEMPLATES, 15_000);
 }
 
 #[test]
 fn trying_agrees() {
-    agree("try", TRY, 30_000);
+    agree("try", OF_TRY, 15_000);
 }
 
 /// Small domains of actions at once, many of them with clearing literals.
@@ -118,15 +138,15 @@ fn trying_agrees_on_tiny_files() {
         let file = tiny(&mut Rng::new(seed)).file();
         TRY.compare_all(TRY.library, &file, seed as usize % 1_000).map_err(|text| format!("seed {seed}\n{text}"))
     };
-    let counts = run(of_seed, setting("GOADLOTUS_SEED", 0), 20_000).unwrap_or_else(|text| panic!("{text}"));
+    let counts = run(of_seed, setting("GOADLOTUS_SEED", 0), 10_000).unwrap_or_else(|text| panic!("{text}"));
     show(&format!("\ntry on tiny files: {} cases", counts.cases()));
 }
 
 #[test]
 fn wrong_tries_are_caught() {
-    wrong_ones_are_caught(TRY);
+    wrong_ones_are_caught(&OF_TRY);
     for misread in MISTRIES {
-        caught(TRY, |file: &[u8], memory: &mut [u8]| {
+        caught(&OF_TRY, |file: &[u8], memory: &mut [u8]| {
             let Ok(domain) = model::read(file) else { return TRY.model(file, memory) };
             let answers = answers(&domain, Counted::Every, Some(misread));
             match memory.get_mut(..answers.len()) {
@@ -142,5 +162,62 @@ fn wrong_tries_are_caught() {
 
 #[test]
 fn wrong_templates_are_caught() {
-    wrong_ones_are_caught(TEMPLATES);
+    wrong_ones_are_caught(&OF_TEMPLATES);
+}
+
+#[test]
+fn totals_agree() {
+    agree("totals", OF_TOTALS, 8_000);
+}
+
+/// Boxes of no file, of one and of a thousand, with a length that goes far beyond the box, and cut everywhere.
+#[test]
+fn totals_of_large_and_cut_boxes() {
+    let rng = &mut Rng::new(setting("GOADLOTUS_SEED", 0));
+    let compare = |of: &[u8], lent: usize| {
+        if let Err(text) = TOTALS.compare(TOTALS.library, of, lent, lent) {
+            panic!("{text}");
+        }
+    };
+    for files in [0, 1, 1_000] {
+        let mut of = packed(&(0..files).map(|_| any_file(rng)).collect::<Vec<_>>());
+        for lent in [0, 567, 568, 569, 4_096] {
+            compare(&of, lent);
+        }
+        of.extend([0xFF; 4]);
+        compare(&of, 568);
+        compare(&of, 0);
+    }
+    let small = packed(&(0..6).map(|_| tiny(rng).file()).collect::<Vec<_>>());
+    for cut in 0..small.len() {
+        compare(&small[..cut], 568);
+        compare(&small[..cut], 567);
+    }
+}
+
+#[test]
+fn wrong_totals_are_caught() {
+    wrong_ones_are_caught(&OF_TOTALS);
+    // 30 before 33
+    caught(&OF_TOTALS, |of: &[u8], memory: &mut [u8]| match memory.len() {
+        0..568 => Served { number: 30, first: 0 },
+        _ => TOTALS.model(of, memory),
+    });
+    // the files before the cut counted and written
+    caught(&OF_TOTALS, |of: &[u8], memory: &mut [u8]| {
+        let served = TOTALS.model(of, memory);
+        if served.number == 33 {
+            TOTALS.model(&of[..served.first as usize], memory);
+        }
+        served
+    });
+    // a file left out, and one counted twice
+    caught(&OF_TOTALS, |of: &[u8], memory: &mut [u8]| match model::totals::files(of) {
+        Ok(files) if files.len() > 1 => TOTALS.model(&of[4 + files[0].len()..], memory),
+        _ => TOTALS.model(of, memory),
+    });
+    caught(&OF_TOTALS, |of: &[u8], memory: &mut [u8]| match model::totals::files(of) {
+        Ok(files) if !files.is_empty() => TOTALS.model(&[of, &of[..4 + files[0].len()]].concat(), memory),
+        _ => TOTALS.model(of, memory),
+    });
 }

@@ -60,6 +60,14 @@ mod raw {
             tried_len: usize,
             first: *mut u64,
         ) -> u64;
+
+        pub fn goadlotus_totals(
+            files: *const u8,
+            files_len: usize,
+            totals: *mut u8,
+            totals_len: usize,
+            first: *mut u64,
+        ) -> u64;
     }
 }
 
@@ -237,4 +245,16 @@ pub const TRIED: usize = 64 * 64;
 /// 9 to 27 refuse the file, 30 a memory that is too short; both write nothing.
 pub fn try_facts(file: &[u8], tried: &mut [u8]) -> Served {
     serve(raw::goadlotus_try, file, tried)
+}
+
+/// The bytes of the totals: 71 numbers of 8 bytes.
+pub const TOTALS: usize = 71 * 8;
+
+/// Counts a box of domain files, each behind its length in 4 bytes, little-endian: how many met each number from 0 to 63, then
+/// how many moments had each of the seven names, 8 bytes each, little-endian.
+///
+/// 33 tells a box that is cut, with the offset of the length it is cut in or behind; 30 totals of under 568 bytes; both
+/// write nothing.
+pub fn totals(files: &[u8], totals: &mut [u8]) -> Served {
+    serve(raw::goadlotus_totals, files, totals)
 }
