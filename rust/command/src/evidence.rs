@@ -3,7 +3,7 @@
 use crate::domain::{Action, Domain, List, Time};
 use crate::library::{play, weight, Fact, Judged, Name, Played, Row};
 use crate::prose::{listed, paragraph, wrap};
-use crate::reasons::{classes, is_journey, Class};
+use crate::reasons::{classes, has_over_all, is_journey, Class};
 use crate::records::{put, CLOSE_RUN, CLOSE_STEP, EVENT, OBJECTS, START_FACT};
 use crate::run::{Entry, Event};
 use crate::stops::bind;
@@ -20,6 +20,7 @@ pub fn evidence(domain: &Domain, file: &[u8], judged: &Judged) -> String {
     let named = Named { domain, file, row, action, class };
     match judged.number {
         43 => format!("\n{}", shown_or_open("", named.beside_journeys(judged))),
+        _ if row.moment == 1 && has_over_all(class) => named.without_witness(),
         _ => named.witness(&judged.witness),
     }
 }
@@ -62,6 +63,12 @@ impl<'d> Named<'d> {
             return text;
         }
         text + &paragraph("  ", "This event alone is an allowed step, so the refusal is exact: the template is broken.")
+    }
+
+    /// What is shown for an end whose class has a condition over all, for which no witness is written.
+    fn without_witness(&self) -> String {
+        let said = "none is written for an end whose class has a condition over all.";
+        wrap("\nwitness: ", "    ", said) + &shown_or_open("  ", self.start_and_end(&[]))
     }
 
     /// An object for each variable, with its name, and one more.

@@ -31,6 +31,8 @@ pub struct Counting<'d> {
     pub falses: Vec<&'d Literal>,
     pub adds: Vec<&'d Literal>,
     pub deletes: Vec<&'d Literal>,
+    /// At an end the true conditions over all that are not its own, too. They count towards unreachable alone.
+    pub over_all: Vec<&'d Literal>,
 }
 
 impl<'d> Counting<'d> {
@@ -43,26 +45,41 @@ impl<'d> Counting<'d> {
         }
     }
 
+    /// The true conditions by which a class may be unreachable.
+    pub fn asked(&self) -> Vec<&'d Literal> {
+        self.trues.iter().chain(&self.over_all).copied().collect()
+    }
+
     /// All of them, in the order of the file.
     pub fn all(&self, class: &Class<'d>) -> Vec<&'d Literal> {
         let is_among = |literal: &&&Literal| {
-            let lists = [&self.trues, &self.falses, &self.adds, &self.deletes];
+            let lists = [&self.trues, &self.falses, &self.adds, &self.deletes, &self.over_all];
             lists.into_iter().flatten().any(|other| std::ptr::eq(*other, **literal))
         };
         class.literals.iter().filter(is_among).copied().collect()
     }
 }
 
-/// The literals of a class that count at a moment: at an end its own and the conditions over all, one in both once.
+/// The literals of a class that count at a moment: its own, and at an end what is asked over all.
 pub fn counting<'d>(class: &Class<'d>, moment: u8) -> Counting<'d> {
+    let own = if moment == 0 { Time::Start } else { Time::End };
     let mut counting = Counting::default();
-    for &literal in &class.literals {
-        let list = counting.list(literal.list);
-        if (literal.time == Time::Start) == (moment == 0) && !list.iter().any(|other| other.is_about_same(literal)) {
-            list.push(literal);
-        }
+    for &literal in class.literals.iter().filter(|literal| literal.time == own) {
+        counting.list(literal.list).push(literal);
     }
+    let is_own = |literal: &&Literal| counting.trues.iter().any(|other| other.is_about_same(literal));
+    let over_all = class.literals.iter().copied().filter(|literal| moment == 1 && is_over_all(literal));
+    counting.over_all = over_all.filter(|literal| literal.list == List::True && !is_own(literal)).collect();
     counting
+}
+
+fn is_over_all(literal: &Literal) -> bool {
+    literal.time == Time::All
+}
+
+/// Whether a class has a condition over all; for its end no witness is written.
+pub fn has_over_all(class: &Class) -> bool {
+    class.literals.iter().any(|literal| is_over_all(literal))
 }
 
 /// Why a component isn't covered.
@@ -102,8 +119,9 @@ impl Why<'_> {
 
 /// The first line of the list of names that fits, with what makes it fit.
 pub fn why<'d>(domain: &Domain, counting: &Counting<'d>) -> Why<'d> {
-    if counting.trues.len() >= 2 {
-        return Why::Unreachable { trues: counting.trues.clone() };
+    let asked = counting.asked();
+    if asked.len() >= 2 {
+        return Why::Unreachable { trues: asked };
     }
     let condition = counting.trues.first().copied();
     let Some(&add) = counting.adds.first() else { return Why::Irrelevant { condition } };
@@ -144,7 +162,7 @@ fn covered<'d>(domain: &Domain, counting: &Counting<'d>) -> Vec<(usize, &'d Lite
 }
 
 /// Whether a class of a lasting action is a journey: its start takes the one fact away that it asks for and adds none,
-/// its end asks for none and gives one back.
+/// its end asks for none itself and gives one back.
 pub fn is_journey(action: &Action, class: &Class) -> bool {
     let (start, end) = (counting(class, 0), counting(class, 1));
     let taken = |condition: &&Literal| start.deletes.iter().any(|delete| delete.is_about_same(condition));

@@ -78,11 +78,23 @@ impl<'d> Sentences<'d> {
                 let (add, covering) = (self.literal(add), covering.join(", "));
                 let covered =
                     format!("every component is covered, so no other fact of {about} is true then: {covering}");
-                format!("it adds {add} and asks for no fact of {about}, and {covered}.")
+                format!("it adds {add} and {}, and {covered}.", self.asks_for_none())
             }
             Why::Unbounded { add, component, lack } => {
                 let (add, lack) = (self.literal(add), self.lack(*component, *lack));
-                format!("it adds {add} and asks for no fact of {about}, so {about} may have one already: {lack}.")
+                let asks_for_none = self.asks_for_none();
+                format!("it adds {add} and {asks_for_none}, so {about} may have one already: {lack}.")
+            }
+        }
+    }
+
+    /// That the moment itself asks for no fact; what is asked over all ends just before an end.
+    fn asks_for_none(&self) -> String {
+        match &self.counting.over_all[..] {
+            [] => format!("asks for no fact of {}", self.about),
+            over_all => {
+                let over_all = self.literals(over_all);
+                format!("asks for no fact of {} itself ({over_all} over all counts for unreachable alone)", self.about)
             }
         }
     }
@@ -112,15 +124,13 @@ impl<'d> Sentences<'d> {
         if other > self.name() {
             return format!("{} comes before it in the list, and fits.", self.name().word());
         }
-        let condition = self.counting.trues.first();
-        match (other, condition) {
-            (Name::Unreachable, Some(condition)) => {
-                format!("it asks for no more than one fact of {}, {}.", self.about, self.literal(condition))
+        let asked = self.counting.asked();
+        match (other, self.counting.trues.first()) {
+            (Name::Unreachable, _) if !asked.is_empty() => {
+                format!("it asks for no more than one fact of {}, {}.", self.about, self.literals(&asked))
             }
             (Name::Balanced, Some(condition)) => format!("{} is neither deleted nor added.", self.literal(condition)),
-            (Name::Unreachable | Name::Balanced | Name::Unbalanced, _) => {
-                format!("it asks for no fact of {}.", self.about)
-            }
+            (Name::Unreachable | Name::Balanced | Name::Unbalanced, _) => format!("it {}.", self.asks_for_none()),
             (Name::Irrelevant, _) => format!("it adds {}.", self.literals(&self.counting.adds)),
             (Name::Heavy, _) => format!("it adds only {}.", self.literals(&self.counting.adds)),
             (Name::Bounded | Name::Unbounded, _) => "for that every component would have to be covered.".to_string(),

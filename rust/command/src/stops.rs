@@ -82,10 +82,9 @@ pub fn bind(entry: &Entry, literal: &Literal) -> Fact {
     Fact { relation: literal.relation, objects: literal.arguments.iter().map(object).collect() }
 }
 
-/// The literals of an event by which it interferes with others: an end has its conditions over all among them.
-fn touching<'d>(domain: &'d Domain, event: &Event) -> Vec<(List, Fact)> {
-    let counts = |literal: &&'d Literal| (literal.time == Time::Start) == (event.moment == 0);
-    let literals = event.entry.action(domain).literals.iter().filter(counts);
+/// The literals of an event by which it interferes with others: its own. What an end asks over all ends just before it.
+fn touching(domain: &Domain, event: &Event) -> Vec<(List, Fact)> {
+    let literals = own(event.entry.action(domain), event.moment);
     literals.map(|literal| (literal.list, bind(&event.entry, literal))).collect()
 }
 

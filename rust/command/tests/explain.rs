@@ -6,7 +6,7 @@ use command::explain::explain;
 use command::files::{domain_of, LoadedDomain};
 use command::library::{judge, Name};
 use command::notation::source::columns;
-use command::reasons::{classes, counting, is_journey, why};
+use command::reasons::{classes, counting, has_over_all, is_journey, why};
 use generate::{case, domains, rng::Rng, samples, Case};
 
 /// The names by their reasons, and which rows are ends of journeys: action, class, moment, name.
@@ -105,6 +105,12 @@ fn witnesses_lead_to_two_facts() {
             Some((before, after)) => assert!(before <= 1 && after >= 2, "{text}"),
             None => assert!(loaded.judged.places[2] == 1, "{text}"),
         }
+        let (action, class) = (loaded.judged.places[0] as usize, loaded.judged.places[1] as usize);
+        let domain = loaded.domain();
+        let has_over_all = has_over_all(&classes(&domain, &domain.actions[action])[class]);
+        let is_written = !(loaded.judged.places[2] == 1 && has_over_all);
+        assert_eq!(text.contains("witness: none is written"), !is_written, "{text}");
+        assert!(is_written || loaded.judged.witness.is_empty(), "{text}");
         if !lasting {
             assert!(text.contains("the refusal is exact: the template is"), "{text}");
             exact += 1;
@@ -196,6 +202,30 @@ fn a_run_beside_a_journey() {
   weight: cup has 1 of the facts before and 2 after.
 "
     );
+}
+
+/// Conditions over all count towards unreachable, and towards nothing else.
+#[test]
+fn over_all_counts_for_unreachable_alone() {
+    let flat = |text: &str| text.split_whitespace().collect::<Vec<_>>().join(" ");
+    let ends: [(&str, &str); 4] = [
+        ("all true at(v, a), end true at(v, b), end add at(v, c)", "at the end: unreachable"),
+        ("all true at(v, a), end delete at(v, a), end add at(v, b)", "at the end: unbounded"),
+        ("all true at(v, a), end true at(v, a), end add at(v, b)", "at the end: unbalanced"),
+        (
+            "start true and delete at(v, a), all true at(v, b), end add at(v, c)",
+            "at the end: unbounded, the end of a journey",
+        ),
+    ];
+    for (literals, named) in ends {
+        let text = flat(&explained(&format!("at/2; lasting go(v, a, b, c): {literals}; at[0,_]")));
+        assert!(text.contains(named) && !text.contains("no reason was found"), "{literals}: {text}");
+    }
+    let held = flat(&explained(
+        "at/2; lasting go(v, a, b): all true at(v, a), end delete at(v, a), end add at(v, b); at[0,_]",
+    ));
+    assert!(held.contains("asks for no fact of v itself (at(v, a) over all counts for unreachable alone)"), "{held}");
+    assert!(held.contains("witness: none is written for an end whose class has a condition over all."), "{held}");
 }
 
 /// Every name has words of its own, for why it fits and why the one before doesn't.

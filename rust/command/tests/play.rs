@@ -123,6 +123,8 @@ lasting lend(volume, shelf, reader)
     end add out(volume, reader)
 lasting watch(volume, shelf)
     all true at(volume, shelf)
+lasting check(volume, shelf)
+    end true at(volume, shelf)
 template at[0,_] out[0,_]
 ";
 
@@ -190,8 +192,8 @@ fn each_stop_has_its_words() {
             "interfere about at(volume7, shelf3): one adds it, the other deletes it.",
         ),
         (
-            "step start watch(volume7, shelf2)\nstep end watch(volume7, shelf2), tidy(volume7, shelf2)",
-            "end watch(volume7, shelf2) and tidy(volume7, shelf2) interfere about at(volume7, shelf2): one asks for it, the other deletes it.",
+            "step start check(volume7, shelf2)\nstep end check(volume7, shelf2), tidy(volume7, shelf2)",
+            "end check(volume7, shelf2) and tidy(volume7, shelf2) interfere about at(volume7, shelf2): one asks for it, the other deletes it.",
         ),
     ];
     let flat = |text: &str| text.split_whitespace().collect::<Vec<_>>().join(" ");
@@ -199,6 +201,13 @@ fn each_stop_has_its_words() {
         let text = flat(&archive(steps));
         assert!(text.contains(said), "{steps}\n{text}");
     }
+}
+
+/// What is asked over all ends just before the end, so an end is free to meet what takes it away.
+#[test]
+fn over_all_ends_before_the_end() {
+    let text = archive("step start watch(volume7, shelf2)\nstep end watch(volume7, shelf2), tidy(volume7, shelf2)");
+    assert!(text.starts_with("played to the end (2): 2 steps made"), "{text}");
 }
 
 /// Of a long run the last steps are told, unless all are asked for.
