@@ -6,7 +6,7 @@ use crate::notation::source::{tell, Fault};
 use crate::notation::written::Written;
 use crate::notation::{domain_text, refused, run_text};
 use crate::numbers::says_at;
-use crate::records::{Record, EVENT, OBJECTS};
+use crate::records::{split, Record, EVENT, OBJECTS};
 use std::ffi::OsStr;
 use std::fs::File;
 use std::io::{self, Read};
@@ -200,15 +200,21 @@ fn broken_text(name: &str, text: &str, faults: &[Fault]) -> Trouble {
 /// Why the library refuses a file in bytes, by the record at fault, and what the file may be instead.
 pub fn refusal_of_bytes(name: &str, file: &[u8], number: u64, offset: usize) -> String {
     let mut told = format!("{name}: at offset {offset}: {} ({number})\n", says_at(number, file, offset));
-    if let Some(record) = Record::read(file, offset) {
+    if let Some(record) = record_around(file, offset) {
         let payload: String = record.payload.iter().take(16).map(|byte| format!(" {byte:02X}")).collect();
         let payload = if payload.is_empty() { " nothing".to_string() } else { payload };
-        told += &format!("    = the record there has kind {} and holds{payload}\n", record.kind);
+        let there = if record.at == offset { "there".to_string() } else { format!("at offset {}", record.at) };
+        told += &format!("    = the record {there} has kind {} and holds{payload}\n", record.kind);
     }
     if let Some(guess) = looks_like(file) {
         told += &format!("    = {guess}\n");
     }
     told
+}
+
+/// The whole record that an offset is in; of a label at fault the offset is that of its byte.
+fn record_around(file: &[u8], offset: usize) -> Option<Record<'_>> {
+    split(file).0.into_iter().find(|record| (record.at..record.end()).contains(&offset))
 }
 
 /// What bytes look like that are no records.

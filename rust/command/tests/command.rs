@@ -205,6 +205,18 @@ fn what_is_refused_is_written_and_told() {
     assert!(complained(&judged).contains("(19)"), "{}", complained(&judged));
 }
 
+/// In bytes the offset is that of the label at fault, and the record around it is told.
+#[test]
+fn a_label_at_fault_in_bytes() {
+    let file = [1, 0, 1, 0, 4, 5, 0, 4, 0, 0, 0, 0, 0xFF, 0xFF, 0, 0, 5, 0];
+    let output = run_with(["judge", "-"], &file);
+    let said = complained(&output);
+    assert!(said.starts_with("standard input: at offset 13: a second `_` in a component"), "{said}");
+    assert!(said.contains("= the record at offset 5 has kind 4 and holds 00 00 00 FF FF"), "{said}");
+    let shown = run_with(["show", "-"], &file);
+    assert!(self::said(&shown).contains("# refused (25), at offset 13: "), "{}", self::said(&shown));
+}
+
 /// What is no file of ours is named as what it is.
 #[test]
 fn strangers_are_recognised() {

@@ -235,8 +235,8 @@ fn refusals_are_told_by_number_and_line() {
         ("true at(volume, from)", "true at(volume, _)".to_string(), 18, 6),
         ("add at(volume, to)", "true at(volume, from)".to_string(), 19, 7),
         ("add at(volume, to)", "false at(volume, from)".to_string(), 20, 7),
-        ("at[0,_] out", "at[_,_] out".to_string(), 21, 14),
-        ("at[0,_] out", "at[0,0] out".to_string(), 21, 14),
+        ("at[0,_] out", "at[_,_] out".to_string(), 25, 14),
+        ("at[0,_] out", "at[0,0] out".to_string(), 24, 14),
         ("out[0,_]", "out[0,1]".to_string(), 21, 14),
         ("out[0,_]", "at[0,_]".to_string(), 22, 14),
         ("template at[0,_] out[0,_]\n", String::new(), 23, 13),
@@ -252,6 +252,27 @@ fn refusals_are_told_by_number_and_line() {
             "{wrong}:\n{told}"
         );
         assert_eq!(judge(&domain(&text)).number, number, "{wrong}");
+    }
+}
+
+/// A label at fault is marked itself: the second `_`, the repeated key, the key that is too high. Where a key is only
+/// missing, the component is.
+#[test]
+fn the_label_at_fault_is_marked() {
+    let slips: [(&str, &str, u64, usize); 5] = [
+        ("at[0,_] out", "at[_,_] out", 25, 15),
+        ("at[0,_] out", "at[0,0] out", 24, 15),
+        ("at[0,_] out", "at[1,_] out", 21, 13),
+        ("out[0,_]", "out[0,1]", 21, 24),
+        ("at[0,_] out[0,_]", "at[0,1] out[0,_]", 21, 18),
+    ];
+    for (right, wrong, number, column) in slips {
+        let told = told(&M1.replacen(right, wrong, 1));
+        let first = told.lines().next().unwrap_or_default();
+        assert!(
+            first.starts_with(&format!("d.txt:14:{column}: ")) && first.ends_with(&format!("({number})")),
+            "{told}"
+        );
     }
 }
 
