@@ -2,12 +2,12 @@
 use events::facts::bound_row;
 use events::facts::clause_for;
 use events::facts::time_at;
-use events::waits::put_bytes;
 use literals::Time;
-use literals::fields::wide;
 use literals::head::Head;
 use literals::head::actions_in;
 use literals::head::rows_of;
+use records::bytes::put_bytes;
+use records::bytes::wide;
 use store::index::enter;
 use store::index::is_held;
 use store::index::leave;

@@ -1,10 +1,10 @@
 // The list of open lasting actions: which ends are open, and what a step leaves of it. An entry is a row of 17 bytes: action,
 // objects, FF to fill.
-use super::waits::put_bytes;
-use literals::fields::wide;
 use literals::head::Head;
 use literals::head::actions_in;
 use literals::head::is_lasting;
+use records::bytes::put_bytes;
+use records::bytes::wide;
 ghost use mathlib.Core.Path.{_≡_};
 ghost use mathlib.Core.Bool.{true};
 ghost use mathlib.Core.List.{List, _++_};

@@ -1,5 +1,6 @@
 // Events that wait for the close of their step, one behind the other; bytes and zeros written at an offset.
 use super::Waiting;
+use records::bytes::put_bytes;
 ghost use mathlib.Core.Path.{_≡_};
 ghost use mathlib.Core.List.{List, [], _∷_, _++_};
 ghost use Prim.Native.Nat.{_+_, _*_, _<_, _≤_};
@@ -10,26 +11,6 @@ ghost use Rattle.literals.specs.Table.{Bounded};
 ghost use Rattle.classes.specs.Classes.{momentNumber};
 ghost use Rattle.verdict.specs.Machine.{Event};
 ghost use Rattle.events.specs.Coded.{groundRow, waitingOf, EventsFit};
-
-// The bytes of a slice, written at an offset.
-pub fn put_bytes(out: &mut [u8], at: usize, p: &[u8])
-    requires { ⌜ at + length (now p) ≤ length (now out) ⌝ }
-    ensures { λ _. ⌜ now (out .exit) ≡ paste (now (out .entry)) at (now (p .entry)) (length (now (p .entry))) ⌝ }
-{
-    for i in 0..p.len() {
-        out[at + i] = p[i];
-    }
-}
-
-// So many zeros, written at an offset.
-pub fn put_zeros(out: &mut [u8], at: usize, n: usize)
-    requires { ⌜ at + n ≤ length (now out) ⌝ }
-    ensures { λ _. ⌜ now (out .exit) ≡ paste (now (out .entry)) at (replicate n 0) n ⌝ }
-{
-    for i in 0..n {
-        out[at + i] = 0;
-    }
-}
 
 impl Waiting {
     // No event waits.

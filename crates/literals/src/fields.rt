@@ -2,6 +2,9 @@
 use super::RecordFault;
 use super::limits::MAX_ARGUMENTS;
 use super::limits::MAX_VARIABLES;
+use records::bytes::any_from;
+use records::bytes::count_from;
+use records::bytes::wide;
 ghost use mathlib.Core.Path.{_≡_};
 ghost use mathlib.Core.Bool.{_&&_, _||_, not};
 ghost use mathlib.Core.List.{[], map};
@@ -12,12 +15,6 @@ ghost use Rattle.records.specs.Lists.{any, countBy, firstAt};
 ghost use Rattle.literals.specs.Domain.{isCounted};
 ghost use Rattle.literals.specs.Decode.{maxArguments, relationStop, actionStop, labelOf, labelFault};
 ghost use Rattle.literals.specs.Table.{argumentsStop, literalFields, componentFields, again, highKey, eachOnce};
-
-pub fn wide(b: u8) -> usize
-    ensures { λ r. ⌜ (r ≡ b) × (r < 256) ⌝ }
-{
-    b as usize
-}
 
 // A relation: its arity.
 pub fn relation_fields(p: &[u8]) -> u64
@@ -46,35 +43,6 @@ pub fn action_fields(p: &[u8]) -> u64
         return 0;
     }
     12
-}
-
-// Whether a byte from `from` on is not below the limit.
-pub fn any_from(s: &[u8], from: usize, limit: u8) -> bool
-    ensures { λ r. ⌜ r ≡ any (leb limit) (drop from (now (s .entry))) ⌝ }
-{
-    let mut i = from;
-    while i < s.len() {
-        if limit <= s[i] {
-            return true;
-        }
-        i += 1;
-    }
-    false
-}
-
-// How many bytes from `from` on equal b.
-pub fn count_from(s: &[u8], from: usize, b: u8) -> usize
-    ensures { λ r. ⌜ r ≡ countBy (eqb b) (drop from (now (s .entry))) ⌝ }
-{
-    let mut n: usize = 0;
-    let mut i = from;
-    while i < s.len() {
-        if s[i] == b {
-            n += 1;
-        }
-        i += 1;
-    }
-    n
 }
 
 // Whether an action of this sort has no such role.

@@ -2,16 +2,16 @@
 // variables, FF to fill). Every function here answers within the limits of the format, whatever the head's bytes are, so that none asks
 // anything of them.
 use super::Counts;
-use super::fields::wide;
 use super::limits::MAX_ACTIONS;
 use super::limits::MAX_ARGUMENTS;
 use super::limits::MAX_COMPONENTS;
 use super::limits::MAX_LITERALS;
 use super::limits::MAX_RELATIONS;
 use super::limits::MAX_VARIABLES;
-use super::row::put_bytes;
 use super::span::Span;
 use super::span::span_of;
+use records::bytes::put_bytes;
+use records::bytes::wide;
 ghost use mathlib.Core.Path.{_≡_};
 ghost use mathlib.Core.List.{List};
 ghost use Prim.Native.Nat.{ℕ, _<_, _≤_};

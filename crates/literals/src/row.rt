@@ -30,16 +30,6 @@ pub fn put_row(out: &mut [u8], at: usize, p: &[u8])
     }
 }
 
-// The bytes of a slice, written at an offset.
-pub fn put_bytes(out: &mut [u8], at: usize, p: &[u8])
-    requires { ⌜ at + length (now p) ≤ length (now out) ⌝ }
-    ensures { λ _. ⌜ now (out .exit) ≡ paste (now (out .entry)) at (now (p .entry)) (length (now (p .entry))) ⌝ }
-{
-    for i in 0..p.len() {
-        out[at + i] = p[i];
-    }
-}
-
 fn widened(b: u8) -> u32
     ensures { λ r. ⌜ (r ≡ b) × (r < 256) ⌝ }
 {

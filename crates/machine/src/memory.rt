@@ -3,7 +3,7 @@
 use super::State;
 use events::Open;
 use events::Waiting;
-use events::waits::put_bytes;
+use records::bytes::put_bytes;
 ghost use mathlib.Core.Path.{_≡_};
 ghost use lib.ListN.{length};
 ghost use Rattle.machine.specs.Stepping.{heldAs};

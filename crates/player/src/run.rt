@@ -2,8 +2,8 @@
 use super::Player;
 use super::Tally;
 use super::Turn;
-use events::waits::put_bytes;
 use literals::head::Head;
+use records::bytes::put_bytes;
 ghost use mathlib.Core.Path.{_≡_};
 ghost use mathlib.Core.List.{List, []};
 ghost use Prim.Native.Nat.{ℕ, _≤_};

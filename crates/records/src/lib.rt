@@ -1,4 +1,6 @@
-// A file is a row of records: payload length (2 bytes, little-endian), kind (2 bytes), payload.
+// A file is a row of records: payload length (2 bytes, little-endian), kind (2 bytes), payload. Bytes stand by themselves (bytes).
+pub mod bytes;
+
 ghost use mathlib.Core.Path.{_≡_};
 ghost use Prim.Native.Nat.{_+_, _<_};
 ghost use lib.ListN.{length};

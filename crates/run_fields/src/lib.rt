@@ -1,16 +1,16 @@
 // The fields of a run file's records: each check answers the number that stops its record, or 0. And what a record that passes
 // adds: a row of a fact, an event that waits.
 use events::openings::same_ground;
-use events::waits::put_bytes;
-use literals::fields::any_from;
-use literals::fields::count_from;
-use literals::fields::wide;
 use literals::head::Head;
 use literals::head::actions_in;
 use literals::head::arity_of;
 use literals::head::is_lasting;
 use literals::head::relations_in;
 use literals::head::variables_of;
+use records::bytes::any_from;
+use records::bytes::count_from;
+use records::bytes::put_bytes;
+use records::bytes::wide;
 use store::rows::has_row;
 ghost use mathlib.Core.Path.{_≡_};
 ghost use mathlib.Core.Bool.{_&&_, not};

@@ -2,8 +2,8 @@
 use super::keys::key_of;
 use super::rows::has_row;
 use super::rows::row_at;
-use literals::fields::wide;
 use literals::head::Head;
+use records::bytes::wide;
 ghost use mathlib.Core.Path.{_≡_};
 ghost use mathlib.Core.List.{List, [], _∷_, _++_};
 ghost use Prim.Native.Nat.{ℕ, _+_, _-_, _*_, _≤_, _<_, _%_};

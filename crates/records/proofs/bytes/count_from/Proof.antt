@@ -1,4 +1,4 @@
--- `literals::fields::count_from` meets its contract. The loop's invariant: those counted and those among the bytes left are all. Assumes nothing.
+-- `count_from` meets its contract. The loop's invariant: those counted and those among the bytes left are all. Assumes nothing.
 use mathlib.Core.Path.{_≡_, sym}
 use mathlib.Core.Logic.{⊎-elim}
 use Prim.Native.Nat.{_+_, _-_, _≤_}
@@ -6,10 +6,10 @@ use native.Mathlib.Omega.{arith}
 use borrow.Author.Tests.{eq-eqb, ne-eqb}
 use lib.Dec.{eqb}
 use lib.ListN.{length, drop}
 use Rattle.records.specs.Lists.{countBy}
 use Rattle.records.proofs.Lists.{count-hit, count-miss, count-end}
-use Rattle.literals.proofs.fields.count_from.Statement.{statement}
-use Rattle.literals.proofs.fields.count_from.Tie as tie
+use Rattle.records.proofs.bytes.count_from.Statement.{statement}
+use Rattle.records.proofs.bytes.count_from.Tie as tie
 
 abbrev Inv-loop : tie.InvT-loop
 Inv-loop s from b n₀ i₀ n i = (n ≤ i) × (n + countBy (eqb b) (drop i s) ≡ countBy (eqb b) (drop from s))

@@ -5,9 +5,9 @@ use Prim.Native.Nat.{_-_, _≤_}
 use native.Mathlib.Omega.{arith}
 use lib.ListN.{replicate, length-replicate}
 use lib.Seq.{paste, paste-zero}
 use Rattle.records.proofs.Memory.{paste-more, paste-length, getD-fill}
-use Rattle.events.proofs.waits.put_zeros.Statement.{statement}
-use Rattle.events.proofs.waits.put_zeros.Tie as tie
+use Rattle.records.proofs.bytes.put_zeros.Statement.{statement}
+use Rattle.records.proofs.bytes.put_zeros.Tie as tie
 
 abbrev Inv-loop : tie.InvT-loop
 Inv-loop out₀ at n i₀ out i = (i ≤ n) × (out ≡ paste out₀ at (replicate n 0) i)

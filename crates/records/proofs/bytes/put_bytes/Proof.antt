@@ -1,12 +1,12 @@
--- `fields::put_bytes` meets its contract: after i turns the first i bytes are written. Assumes nothing.
+-- `put_bytes` meets its contract: after i turns the first i bytes are written. Assumes nothing.
 use mathlib.Core.Path.{_≡_, refl}
 use Prim.Native.Nat.{_-_, _≤_}
 use native.Mathlib.Omega.{arith}
 use lib.ListN.{length}
 use lib.Seq.{paste, paste-zero}
 use Rattle.records.proofs.Memory.{paste-more, paste-length}
-use Rattle.events.proofs.waits.put_bytes.Statement.{statement}
-use Rattle.events.proofs.waits.put_bytes.Tie as tie
+use Rattle.records.proofs.bytes.put_bytes.Statement.{statement}
+use Rattle.records.proofs.bytes.put_bytes.Tie as tie
 
 abbrev Inv-loop : tie.InvT-loop
 Inv-loop out₀ at p i₀ i-end out i = (i ≤ length p) × (out ≡ paste out₀ at p i)

@@ -1,14 +1,14 @@
--- `literals::fields::any_from` meets its contract. The loop's invariant: the bytes left answer as all do. Assumes nothing.
+-- `any_from` meets its contract. The loop's invariant: the bytes left answer as all do. Assumes nothing.
 use mathlib.Core.Path.{_≡_, refl, sym, _∙_}
 use Prim.Native.Nat.{_-_}
 use native.Mathlib.Omega.{arith}
 use borrow.Author.Tests.{le-leb, lt-leb}
 use lib.Dec.{leb}
 use lib.ListN.{length, drop}
 use Rattle.records.specs.Lists.{any}
 use Rattle.records.proofs.Lists.{any-hit, any-miss, any-end}
-use Rattle.literals.proofs.fields.any_from.Statement.{statement}
-use Rattle.literals.proofs.fields.any_from.Tie as tie
+use Rattle.records.proofs.bytes.any_from.Statement.{statement}
+use Rattle.records.proofs.bytes.any_from.Tie as tie
 
 abbrev Inv-loop : tie.InvT-loop
 Inv-loop s from limit i₀ i = any (leb limit) (drop i s) ≡ any (leb limit) (drop from s)
