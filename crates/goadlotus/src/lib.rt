@@ -30,7 +30,8 @@ pub extern "C" fn goadlotus_judge(
     ensures decides { λ r. ⌜ DecidesFile (now (file .entry)) r (now (first .exit)) (now (second .exit)) (now (third .exit)) ⌝ }
     ensures safe { λ r. ⌜ AcceptedSafe (now (file .entry)) r ⌝ }
     ensures exact { λ r. ⌜ RefusedHarmful (now (file .entry)) r ⌝ }
-    ensures shown { λ r. ⌜ WitnessHarms (now (file .entry)) r (now (witness .exit)) (now (first .exit)) (now (second .exit)) (now (third .exit)) ⌝ }
+    ensures shown { λ r. ⌜ WitnessHarms (now (file .entry)) r (now (witness .exit))
+        (now (first .exit)) (now (second .exit)) (now (third .exit)) ⌝ }
 {
     let answer = judge(file, report, witness);
     *first = answer.first;
@@ -39,8 +40,8 @@ pub extern "C" fn goadlotus_judge(
     answer.number
 }
 
-// Plays a run file on a domain file: answers the number, and leaves its place, the steps made, the highest weight, the facts in the work memory, and
-// where the record at fault comes back from: the file (0 the domain file, 1 the run file) and the offset.
+// Plays a run file on a domain file: answers the number, and leaves its place, the steps made, the highest weight, the facts in the work
+// memory, and where the record at fault comes back from: the file (0 the domain file, 1 the run file) and the offset.
 #[no_mangle]
 pub extern "C" fn goadlotus_play(
     domain: &[u8],
@@ -59,7 +60,8 @@ pub extern "C" fn goadlotus_play(
     ensures work { λ _. ⌜ now (work .exit) ≡ workAfter (now («domain» .entry)) (now (run .entry)) (now (work .entry)) ⌝ }
     ensures file { λ _. ⌜ now («part_file» .exit) ≡ fileOf (returned (now («domain» .entry)) (now (run .entry)) (now (work .entry))) ⌝ }
     ensures offset { λ _. ⌜ now («part_at» .exit) ≡ offsetOf (returned (now («domain» .entry)) (now (run .entry)) (now (work .entry))) ⌝ }
-    ensures machine { λ r. ⌜ PlaysAsMachine (now («domain» .entry)) (now (run .entry)) (now (work .entry)) r (now (place .exit)) (now (steps .exit)) (now (weight .exit)) (now (work .exit)) ⌝ }
+    ensures machine { λ r. ⌜ PlaysAsMachine (now («domain» .entry)) (now (run .entry)) (now (work .entry)) r
+        (now (place .exit)) (now (steps .exit)) (now (weight .exit)) (now (work .exit)) ⌝ }
     ensures low { λ _. ⌜ StaysLow (now («domain» .entry)) (now (run .entry)) (now (weight .exit)) ⌝ }
 {
     let answer = play_files(domain, run, work);

@@ -25,7 +25,8 @@ fn refuse_name(program: &[u8], name: &[u8]) {
     refuse(program, b": cannot open ", name);
 }
 
-// Whether reading can go on, at the end of a file too. `read_full` stops at a read that fails (of a directory, say) as it does at the end; one read more tells which.
+// Whether reading can go on, at the end of a file too. `read_full` stops at a read that fails (of a directory, say) as it does at the
+// end; one read more tells which.
 fn is_readable(fd: i32) -> bool {
     let mut next = [0u8; 1];
     libc::read(fd, &mut next) >= 0

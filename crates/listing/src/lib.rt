@@ -1,4 +1,5 @@
-// What the programs share: the verdict of a domain file printed with its rows, and lines of words and numbers (here); a file read by its name (files).
+// What the programs share: the verdict of a domain file printed with its rows, and lines of words and numbers (here); a file read by its
+// name (files).
 pub mod files;
 
 use libc::STDOUT_FILENO;

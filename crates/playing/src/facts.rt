@@ -4,7 +4,8 @@ use listing::put_byte;
 ghost use Prim.Native.Nat.{_+_, _≤_};
 ghost use lib.ListN.{length};
 
-// Whether a row of this arity and this last byte holds no fact. A fact without objects ends in FF, and one whose last byte is an object has an arity.
+// Whether a row of this arity and this last byte holds no fact. A fact without objects ends in FF, and one whose last byte is an object
+// has an arity.
 fn is_unused(arity: u8, last: u8) -> bool {
     if arity != 0 {
         return false;

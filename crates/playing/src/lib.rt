@@ -29,7 +29,8 @@ fn fault_line(number: u64, fault: Fault) {
     io::write_all(STDOUT_FILENO, b"\n");
 }
 
-// The answer, then each fact held, then the record at fault. (Work memory is lent as zeros: where nothing is written to it, no fact is held.)
+// The answer, then each fact held, then the record at fault. (Work memory is lent as zeros: where nothing is written to it, no fact is
+// held.)
 fn show(domain: &[u8], run: &[u8]) {
     let mut work = [0u8; 8192];
     let answer = play_files(domain, run, &mut work);
@@ -44,7 +45,8 @@ fn show(domain: &[u8], run: &[u8]) {
     fault_line(number, fault);
 }
 
-// Room for a run file. Run files have no limit, but the program holds one whole: it plays up to 1,048,576 bytes, and one byte more tells a longer file.
+// Room for a run file. Run files have no limit, but the program holds one whole: it plays up to 1,048,576 bytes, and one byte more tells
+// a longer file.
 fn run_buffer() -> [u8; 1048577]
     ensures { λ r. ⌜ 1048577 ≡ length r ⌝ }
 {
