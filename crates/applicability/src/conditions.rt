@@ -1,8 +1,8 @@
 // Conditions: whether the facts meet what an action asks at the start, over all, or at the end.
 use events::facts::bound_row;
-use events::facts::clause_for;
 use events::facts::time_at;
 use literals::Time;
+use literals::clause_for;
 use literals::fields::wide;
 use literals::head::Head;
 use literals::head::actions_in;
@@ -18,7 +18,7 @@ ghost use Rattle.literals.specs.Domain.{Fact, Domain};
 ghost use Rattle.literals.specs.Decode.{byte};
 ghost use Rattle.literals.specs.Table.{rowsIn};
 ghost use Rattle.literals.specs.Held.{arityIn, Held};
-ghost use Rattle.classes.specs.Classes.{momentNumber};
+ghost use Rattle.literals.specs.Matching.{momentNumber};
 ghost use Rattle.verdict.specs.Machine.{GroundAction, Event, ownHold, overAllHold};
 ghost use Rattle.store.specs.Index.{Indexed};
 ghost use Rattle.store.specs.Rows.{factRow};
