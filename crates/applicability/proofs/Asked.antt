@@ -21,15 +21,16 @@ use Rattle.literals.specs.Domain.{Atom, Fact, sameFact, roleNumber, Literal, Do
 use Rattle.literals.specs.Table.{literalRow, rowsIn}
 use Rattle.literals.proofs.Rows.{part-first}
 use Rattle.literals.proofs.Tables.{Kept}
-use Rattle.classes.specs.declared.Moment.{Moment}
-use Rattle.classes.specs.declared.Moment.the-variants.{Start, End}
-use Rattle.classes.specs.Classes.{withRole, literalsAt, overAll}
+use Rattle.literals.specs.declared.Moment.{Moment}
+use Rattle.literals.specs.declared.Moment.the-variants.{Start, End}
+use Rattle.literals.specs.Matching.{withRole, literalsAt, overAll}
 use Rattle.classes.proofs.Clauses.{any-role}
-use Rattle.classes.proofs.Indices.{all-filter}
+use Rattle.literals.proofs.Indices.{all-filter}
 use Rattle.verdict.specs.Binding.{bind}
 use Rattle.verdict.specs.Machine.{GroundAction, Event, eventFacts, ownHold, overAllHold}
 use Rattle.store.specs.Rows.{factRow}
-use Rattle.events.specs.Coded.{groundRow, GroundFits, boundRow, clauseFor, timeOf}
+use Rattle.literals.specs.Keys.{clauseFor}
+use Rattle.events.specs.Coded.{groundRow, GroundFits, boundRow, timeOf}
 use Rattle.applicability.specs.Conditions.{conditionMet, rowMet, asked}
 use Rattle.events.proofs.FactRows.{has-fact, countsFor, clause-counts, any-literals, all-literals, held-kept, held-rows, held-bound}
 

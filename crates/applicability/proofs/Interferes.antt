@@ -23,13 +23,14 @@ use Rattle.literals.specs.Table.{literalRow, rowsIn}
 use Rattle.literals.specs.Held.{Held, SpanOf}
 use Rattle.literals.proofs.Heads.{action-in}
 use Rattle.literals.proofs.Tables.{Kept}
-use Rattle.classes.proofs.Indices.{any-agree, any-or, any-filter, getD-map}
+use Rattle.literals.proofs.Indices.{any-agree, any-or, any-filter, getD-map}
 use Rattle.verdict.specs.Binding.{valueOf, bind}
 use Rattle.verdict.specs.Machine.{GroundAction, Event, eventFacts, meet, disturbs, interfere, independent}
 use Rattle.store.specs.Index.{wordOf}
 use Rattle.events.specs.declared.Waiting.{Waiting}
 use Rattle.store.specs.Rows.{factRow}
-use Rattle.events.specs.Coded.{groundRow, waitingOf, GroundFits, EventsFit, boundRow, clauseFor, timeOf}
+use Rattle.literals.specs.Keys.{clauseFor}
+use Rattle.events.specs.Coded.{groundRow, waitingOf, GroundFits, EventsFit, boundRow, timeOf}
 use Rattle.applicability.specs.Interference.{clashing, Mark, rowMarks, eventMarks, marksIn, clashes, marksClash, Laid}
 use Rattle.events.proofs.Members.{map-in}
 use Rattle.events.proofs.FactRows.{agree, agree-same, countsFor, clause-counts, held-kept, held-bound, held-rows, noEvent}

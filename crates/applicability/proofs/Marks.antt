@@ -15,10 +15,11 @@ use Rattle.literals.specs.declared.Time.{Time}
 use Rattle.literals.specs.Decode.{byte}
 use Rattle.literals.specs.Table.{rowsIn}
 use Rattle.literals.proofs.Rows.{part-first, rows-snoc}
-use Rattle.classes.proofs.Indices.{any-agree, any-or}
-use Rattle.classes.proofs.KeyRows.{length-rows}
+use Rattle.literals.proofs.Indices.{any-agree, any-or}
+use Rattle.literals.proofs.KeyRows.{length-rows}
 use Rattle.store.specs.Index.{wordOf}
-use Rattle.events.specs.Coded.{boundRow, clauseFor}
+use Rattle.literals.specs.Keys.{clauseFor}
+use Rattle.events.specs.Coded.{boundRow}
 use Rattle.applicability.specs.Interference.{clashing, Mark, rowMarks, markAt, marksIn, clashes, marksClash, inOne, Laid}
 
 -- ---- the first n in memory

@@ -7,10 +7,11 @@ use Rattle.literals.specs.declared.Time.{Time}
 use Rattle.literals.specs.declared.Time.the-variants.{AtStart, OverAll, AtEnd}
 use Rattle.literals.specs.Domain.{Fact, Domain}
 use Rattle.literals.specs.Decode.{byte}
-use Rattle.classes.specs.declared.Moment.the-variants.{Start, End}
+use Rattle.literals.specs.declared.Moment.the-variants.{Start, End}
 use Rattle.verdict.specs.Machine.{GroundAction, ownHold, overAllHold}
 use Rattle.store.specs.Rows.{hasRow}
-use Rattle.events.specs.Coded.{boundRow, clauseFor}
+use Rattle.literals.specs.Keys.{clauseFor}
+use Rattle.events.specs.Coded.{boundRow}
 
 -- ---- conditions, by rows
 

@@ -13,7 +13,8 @@ use Rattle.verdict.specs.Binding.{bind}
 use Rattle.verdict.specs.Machine.{Event}
 use Rattle.store.specs.Rows.{factRow}
 use Rattle.store.specs.Index.{wordOf}
-use Rattle.events.specs.Coded.{boundRow, clauseFor, timeOf}
+use Rattle.literals.specs.Keys.{clauseFor}
+use Rattle.events.specs.Coded.{boundRow, timeOf}
 
 -- ---- interference, by words
 

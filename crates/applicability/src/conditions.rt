@@ -1,12 +1,12 @@
 // Conditions: whether the facts meet what an action asks at the start, over all, or at the end.
 use events::facts::bound_row;
-use events::facts::clause_for;
 use events::facts::time_at;
 use literals::Time;
+use literals::clause_for;
+use records::bytes::wide;
 use literals::head::Head;
 use literals::head::actions_in;
 use literals::head::rows_of;
-use records::bytes::wide;
 use store::index::is_held;
 ghost use mathlib.Core.Path.{_≡_};
 ghost use mathlib.Core.List.{List, map};
@@ -18,7 +18,7 @@ ghost use Rattle.literals.specs.Domain.{Fact, Domain};
 ghost use Rattle.literals.specs.Decode.{byte};
 ghost use Rattle.literals.specs.Table.{rowsIn};
 ghost use Rattle.literals.specs.Held.{arityIn, Held};
-ghost use Rattle.classes.specs.Classes.{momentNumber};
+ghost use Rattle.literals.specs.Matching.{momentNumber};
 ghost use Rattle.verdict.specs.Machine.{GroundAction, Event, ownHold, overAllHold};
 ghost use Rattle.store.specs.Index.{Indexed};
 ghost use Rattle.store.specs.Rows.{factRow};

@@ -1,12 +1,12 @@
 // Interference: whether two events of a step have literals of one fact that may not stand together.
 use events::facts::bound_row;
-use events::facts::clause_for;
 use events::facts::time_at;
 use literals::Time;
+use literals::clause_for;
+use records::bytes::wide;
 use literals::head::Head;
 use literals::head::actions_in;
 use literals::head::rows_of;
-use records::bytes::wide;
 use store::index::word_of;
 ghost use mathlib.Core.Path.{_≡_};
 ghost use mathlib.Core.Bool.{not};
@@ -17,7 +17,7 @@ ghost use Rattle.records.specs.Lists.{any, pairwise};
 ghost use Rattle.literals.specs.Domain.{Domain};
 ghost use Rattle.literals.specs.Table.{rowsIn};
 ghost use Rattle.literals.specs.Held.{Held};
-ghost use Rattle.classes.specs.Classes.{momentNumber};
+ghost use Rattle.literals.specs.Matching.{momentNumber};
 ghost use Rattle.verdict.specs.Machine.{Event, independent};
 ghost use Rattle.events.specs.Coded.{groundRow, waitingOf, GroundFits, EventsFit, timeOf};
 ghost use Rattle.applicability.specs.Interference.{clashing, Mark, rowMarks, eventMarks, marksIn, clashes, marksClash, Laid};

@@ -23,11 +23,12 @@ use Rattle.literals.specs.Decode.{repeats}
 use Rattle.literals.specs.Table.{literalRow, pad, Bounded}
 use Rattle.literals.proofs.Equality.{literal-eq, literal-self, literal-comm}
 use Rattle.literals.proofs.Tables.{Kept, kept, length-literals, pad-more}
-use Rattle.classes.specs.declared.Moment.{Moment}
-use Rattle.classes.specs.declared.Moment.the-variants.{Start, End}
-use Rattle.classes.specs.Classes.{withRole, literalsAt, required}
-use Rattle.classes.specs.Coded.{counts, clauseAt, clauseOnce, clausesFrom, clausesBy, clausesAt, askedAt, noRepeats, below, clauseByte, mayMeet, saysAt, clauseIn}
-use Rattle.classes.proofs.Indices.{at-take, at-all, any-agree, any-below, map-agree, below-snoc, length-from, pick-snoc}
+use Rattle.literals.specs.declared.Moment.{Moment}
+use Rattle.literals.specs.declared.Moment.the-variants.{Start, End}
+use Rattle.literals.specs.Matching.{withRole, literalsAt, required}
+use Rattle.literals.specs.Keys.{below}
+use Rattle.classes.specs.Coded.{counts, clauseAt, clauseOnce, clausesFrom, clausesBy, clausesAt, askedAt, noRepeats, timed, clauseByte, mayMeet, saysAt, clauseIn}
+use Rattle.literals.proofs.Indices.{at-take, at-all, any-agree, any-below, map-agree, below-snoc, length-from, pick-snoc}
 use Rattle.classes.proofs.Rows.{noLiteral, literalAt, kept-at, role-at, atoms-at}
 
 -- ---- literals with some roles, each once
@@ -68,16 +69,6 @@ dedup-keep true x l = dedup-snoc sameLiteral literal-eq literal-self l x ∙ ap 
 
 -- ---- roles, by bytes
 
-abbrev agrees : Bool → Moment → ℕ → Bool
-agrees w m b = eqb (clauseByte w m b) (clauseAt w m (roleOf b))
-
-all-agree : (w : Bool) (m : Moment) → allBelow 10 (agrees w m) ≡ true
-unfolding clauseByte roleOf
-all-agree true Start = refl
-all-agree true End = refl
-all-agree false Start = refl
-all-agree false End = refl
-
 -- two role bytes with the same clause, which is not one that may meet, are the same
 abbrev apartAt : Bool → Moment → ℕ → ℕ → Bool
 apartAt w m b d = not (eqb (clauseByte w m b) (clauseByte w m d)) || (mayMeet w m (clauseByte w m d) || (eqb (clauseByte w m d) 0 || eqb b d))
@@ -89,32 +80,40 @@ all-apart true End = refl
 all-apart false Start = refl
 all-apart false End = refl
 
--- the times whose roles count
-abbrev timed : Bool → Moment → Time → Bool
-timed w Start t = sameTime AtStart t
-timed false End t = sameTime AtEnd t
-timed true End t = sameTime AtEnd t || sameTime OverAll t
-
 counts-timed : (w : Bool) (m : Moment) (c : Clause) (r : Role) → counts w m c r ≡ timed w m (r .time) && sameClause c (r .clause)
 counts-timed true Start c r = refl
 counts-timed false Start c r = refl
-counts-timed false End c r = refl
-counts-timed true End c r = both (sameTime AtEnd (r .time)) (sameTime OverAll (r .time)) (sameClause c (r .clause))
+counts-timed false End c r = ends (r .time) (sameClause c (r .clause))
   where
-    both : (o v b : Bool) → (o && b) || (v && b) ≡ (o || v) && b
-    both true v true = refl
-    both true true false = refl
-    both true false false = refl
-    both false v b = refl
+    ends : (t : Time) (b : Bool) → sameTime AtEnd t && b ≡ timed false End t && b
+    ends AtStart b = refl
+    ends OverAll b = refl
+    ends AtEnd b = refl
+counts-timed true End c r = both (r .time) (sameClause c (r .clause))
+  where
+    both : (t : Time) (b : Bool) → (sameTime AtEnd t && b) || (sameTime OverAll t && b) ≡ timed true End t && b
+    both AtStart b = refl
+    both OverAll b = refl
+    both AtEnd true = refl
+    both AtEnd false = refl
+
+-- the clause of a role at a moment, by its time
+pub clause-timed : (w : Bool) (m : Moment) (r : Role) → clauseAt w m r ≡ cond (timed w m (r .time)) (suc (clauseNumber (r .clause))) 0
+clause-timed w m r =
+    ap (λ (b : Bool). cond b (suc (clauseNumber (r .clause))) 0)
+    (counts-timed w m (r .clause) r ∙ ap (λ (b : Bool). timed w m (r .time) && b) (eqb-same (clauseNumber (r .clause))) ∙ whole (timed w m (r .time)))
+  where
+    whole : (b : Bool) → b && true ≡ b
+    whole true = refl
+    whole false = refl
 
 -- w: of the literals that are asked at a moment, or of its own
 module _ (w : Bool) where
   -- ---- by bytes
 
   clause-byte : (m : Moment) (l : Literal) → Kept l → clauseByte w m (roleNumber (l .role)) ≡ clauseAt w m (l .role)
-  clause-byte m l k =
-      let h = k .small in
-      eqb-true _ _ (below-in 10 (agrees w m) (all-agree w m) (roleNumber (l .role)) (omega arith)) ∙ ap (clauseAt w m) (k .back)
+  unfolding clauseByte
+  clause-byte m l k = ap (clauseAt w m) (k .back)
 
   same-role : (m : Moment) (b d : ℕ) → b < 10 → d < 10 → clauseByte w m b ≡ clauseByte w m d → mayMeet w m (clauseByte w m d) ≡ false → (clauseByte w m d ≡ 0 → ⊥) → b ≡ d
   same-role m b d h g e f n =

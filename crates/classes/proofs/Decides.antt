@@ -3,13 +3,13 @@ use mathlib.Core.Path.{_≡_, refl, sym, ap, ap₂, _∙_}
 use mathlib.Core.Bool.{Bool, true, false, _&&_, _||_, not, cond}
 use mathlib.Core.Logic.{_⊎_, inl, inr}
 use mathlib.Core.List.{List, [], _++_, map, flatMap}
-use Prim.Native.Nat.{ℕ, suc, _+_, _-_, _*_, _≤_, _<_}
+use Prim.Native.Nat.{ℕ, suc, _+_, _-_, _≤_, _<_}
 use native.Mathlib.Omega.{arith}
-use lib.Dec.{eqb, ltb, leb}
+use lib.Dec.{eqb, leb}
 use lib.ListN.{length, getD, replicate, length-map, List·getD-append}
 use borrow.Author.Tests.{eq-eqb, ne-eqb, eqb-true, eqb-false, le-leb, lt-leb, leb-true, leb-false, ltb-true}
 use Rattle.records.specs.Lists.{In, filterBy, countBy, any, all, elem}
-use Rattle.records.proofs.Lists.{allBelow, below-in, bool-cases, not-true, getD-in, all-in, any-map, all-map, any-append, count-filter}
+use Rattle.records.proofs.Lists.{below-in, bool-cases, not-true, getD-in, all-in, any-map, all-map, any-append, count-filter}
 use Rattle.literals.specs.declared.Variable.{Variable}
 use Rattle.literals.specs.declared.Label.{Label}
 use Rattle.literals.specs.declared.Label.the-variants.{Key as keyed, Counted}
@@ -24,13 +24,15 @@ use Rattle.literals.proofs.Bytes.{keys-below}
 use Rattle.literals.proofs.Tables.{Kept, kept, pad-at}
 use Rattle.literals.proofs.Heads.{part-is}
 use Rattle.literals.proofs.Held.{keys-few}
-use Rattle.classes.specs.declared.Moment.{Moment}
-use Rattle.classes.specs.declared.Moment.the-variants.{Start, End}
+use Rattle.literals.specs.declared.Moment.{Moment}
+use Rattle.literals.specs.declared.Moment.the-variants.{Start, End}
 use Rattle.classes.specs.declared.Name.the-variants.{Unreachable, Irrelevant, Heavy, Balanced, Unbalanced, Bounded, Unbounded}
 use Rattle.classes.specs.declared.Sole.{Sole}
-use Rattle.classes.specs.Classes.{required, tuplesOf, belongs, classes, inClass, reachIn, lastsIn, deletedBy, changedBy, covered, excluding, nameBy, nameOf, journey}
-use Rattle.classes.specs.Coded.{ActionOf, MomentOf, position, classNumberBy, classNumbers, clausesAt, askedAt, uncoveredAt, below, isAt, isSameAt, sameIn, changedAt, excludesAt, coveredAt, lackingAt, lastsAt, soleBy, soleAt, soleOf, reachAt}
-use Rattle.classes.proofs.Indices.{at-all, any-below, filter-below, position-below, any-filter, all-filter, filter-filter, filter-map, any-or, position-map, position-none, getD-map}
+use Rattle.literals.specs.Matching.{required, tuplesOf}
+use Rattle.classes.specs.Classes.{belongs, classes, inClass, reachIn, lastsIn, deletedBy, changedBy, covered, excluding, nameBy, nameOf, journey}
+use Rattle.literals.specs.Keys.{position, below}
+use Rattle.classes.specs.Coded.{ActionOf, MomentOf, classNumberBy, classNumbers, clausesAt, askedAt, uncoveredAt, isAt, isSameAt, sameIn, changedAt, excludesAt, coveredAt, lackingAt, lastsAt, soleBy, soleAt, soleOf, reachAt}
+use Rattle.literals.proofs.Indices.{at-all, any-below, filter-below, position-below, any-filter, all-filter, filter-filter, filter-map, any-or, position-map, position-none, getD-map}
 use Rattle.classes.proofs.Rows.{noLiteral, literalAt, kept-at, role-at, relation-at, atoms-at}
 use Rattle.classes.proofs.Clauses.{clauses-few, literals-at, required-at, asked-start}
 use Rattle.classes.proofs.Roles.{own-few}
@@ -390,15 +392,8 @@ sole-inside of clauses class h e some few =
 
 -- ---- whether a class has an over-all literal
 
-lasts-byte : (l : Literal) → Kept l → leb 4 (roleNumber (l .role)) && ltb (roleNumber (l .role)) 6 ≡ sameTime OverAll (l .role .time)
-unfolding roleOf
-lasts-byte l k =
-    let g = k .small in
-    bool-eq _ _ (below-in 10 (λ b. sameBool (leb 4 b && ltb b 6) (sameTime OverAll (roleOf b .time))) ranges (roleNumber (l .role)) (omega arith))
-    ∙ ap (λ (r : Role). sameTime OverAll (r .time)) (k .back)
-  where
-    ranges : allBelow 10 (λ b. sameBool (leb 4 b && ltb b 6) (sameTime OverAll (roleOf b .time))) ≡ true
-    ranges = refl
+lasts-byte : (l : Literal) → Kept l → sameTime OverAll (roleOf (roleNumber (l .role)) .time) ≡ sameTime OverAll (l .role .time)
+lasts-byte l k = ap (λ (r : Role). sameTime OverAll (r .time)) (k .back)
 
 pub lasts-held : {D : Domain} {a : Action} {head rows of : List ℕ} → ActionOf D a head rows → of ≡ classNumbers D a → {k : ℕ} → k < length (classes D a)
     → any (lastsAt rows of k) (below (length of)) ≡ lastsIn D a (getD (classes D a) k [])
@@ -422,7 +417,7 @@ lasts-held {D} {a} {head} {rows} {of} A f {k} h =
     agree : (j : ℕ) → j < length (a .lits) → lastsAt (flatMap literalRow (a .lits)) (classNumbers D a) k j ≡ test (literalAt (a .lits) j)
     agree j g =
         ap₂ _&&_ (member k B i h j g)
-        (ap (λ (b : ℕ). leb 4 b && ltb b 6) (role-at (a .lits) (λ l n. kept B i n) j g) ∙ lasts-byte (literalAt (a .lits) j) (kept-at (a .lits) (λ l n. kept B i n) j g))
+        (ap (λ (b : ℕ). sameTime OverAll (roleOf b .time)) (role-at (a .lits) (λ l n. kept B i n) j g) ∙ lasts-byte (literalAt (a .lits) j) (kept-at (a .lits) (λ l n. kept B i n) j g))
         ∙ and-comm (belongs D (getD (classes D a) k []) (literalAt (a .lits) j .atom)) (sameTime OverAll (literalAt (a .lits) j .role .time))
 
 -- ---- names, by how many true conditions towards unreachable, own true conditions and adds there are

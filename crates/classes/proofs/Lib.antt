@@ -1,8 +1,7 @@
 -- Laws of classes: class numbers by rows, tests and rows by index, the clauses of literals at a moment, the members of a class, which literals of a class have a clause, and what decides its name.
-pub mod KeyRows
+pub mod NewClasses
 pub mod Numbers
 pub mod Numbering
-pub mod Indices
 pub mod Rows
 pub mod Clauses
 pub mod Roles

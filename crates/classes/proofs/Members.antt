@@ -13,9 +13,11 @@ use Rattle.literals.specs.declared.Variable.{Variable}
 use Rattle.literals.specs.Domain.{sameVariable, Atom, Literal, Action, Component, keysOf, Domain}
 use Rattle.literals.specs.Table.{Bounded}
 use Rattle.literals.proofs.Equality.{variables-eq}
-use Rattle.classes.specs.Classes.{isOf, keyTuple, tuplesBy, tuplesOf, hasTuple, belongs, classes}
-use Rattle.classes.specs.Coded.{position, classNumberBy, classNumbers}
-use Rattle.classes.proofs.Indices.{getD-map}
+use Rattle.literals.specs.Matching.{isOf, keyTuple, tuplesBy, tuplesOf, hasTuple}
+use Rattle.classes.specs.Classes.{belongs, classes}
+use Rattle.literals.specs.Keys.{position}
+use Rattle.classes.specs.Coded.{classNumberBy, classNumbers}
+use Rattle.literals.proofs.Indices.{getD-map}
 use Rattle.classes.proofs.Rows.{noLiteral, literalAt}
 
 -- ---- a literal has at most one key tuple

@@ -19,8 +19,10 @@ use Rattle.literals.proofs.Bytes.{keys-once}
 use Rattle.literals.proofs.Tables.{kept, length-literals}
 use Rattle.literals.proofs.Held.{keys-few}
 use Rattle.classes.specs.declared.number.Numbered.{Numbered}
-use Rattle.classes.specs.Classes.{tuplesOf, classes}
-use Rattle.classes.specs.Coded.{ActionOf, rowAt, position, classNumberBy, classNumbers, tupleRow, classTuples, keyRows, keyRowsIn, numberedBy, tuplesAfter}
+use Rattle.literals.specs.Matching.{tuplesOf}
+use Rattle.classes.specs.Classes.{classes}
+use Rattle.literals.specs.Keys.{position, keyRows, keyRowsIn}
+use Rattle.classes.specs.Coded.{ActionOf, rowAt, classNumberBy, classNumbers, tupleRow, classTuples, numberedBy, tuplesAfter}
 use Rattle.classes.proofs.Rows.{noLiteral, row-at}
 use Rattle.classes.proofs.Numbers.{One, Fits, tuples-one, tuples-rows, found, numbers, numbers-more, rowsOf, numbered-more, tuples-more}
 

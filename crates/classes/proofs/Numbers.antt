@@ -21,9 +21,10 @@ use Rattle.literals.specs.Table.{rowOf, literalRow, labelNumber, componentRow, 
 use Rattle.literals.proofs.Equality.{variables-eq, variables-self}
 use Rattle.literals.proofs.Rows.{length-row}
 use Rattle.literals.proofs.Tables.{over-row, length-flat, rows-flat, value}
-use Rattle.classes.specs.Classes.{under, keyTuple, tuplesBy}
-use Rattle.classes.specs.Coded.{position, classNumberBy, tupleRow, underKey, underKeys, keyRow, keyRows, numberedBy, tuplesAfter}
-use Rattle.classes.proofs.KeyRows.{length-keys}
+use Rattle.literals.specs.Matching.{under, keyTuple, tuplesBy}
+use Rattle.literals.specs.Keys.{position, underKey, underKeys, keyRow, keyRows}
+use Rattle.classes.specs.Coded.{classNumberBy, tupleRow, numberedBy, tuplesAfter}
+use Rattle.literals.proofs.KeyRows.{length-keys}
 
 abbrev pub same : List Variable → List Variable → Bool
 same = sameList sameVariable

@@ -13,9 +13,10 @@ use Rattle.literals.specs.declared.Clause.{Clause}
 use Rattle.literals.specs.declared.Clause.the-variants.{Positive}
 use Rattle.literals.specs.declared.Role.{Role}
 use Rattle.literals.specs.Domain.{Atom, sameLiteral, Literal, Action, Domain}
-use Rattle.classes.specs.declared.Moment.{Moment}
-use Rattle.classes.specs.declared.Moment.the-variants.{Start, End}
-use Rattle.classes.specs.Classes.{own, overAll, asked, withRole, literalsAt, required, overAllLiterals, belongs, inClass, reachIn}
+use Rattle.literals.specs.declared.Moment.{Moment}
+use Rattle.literals.specs.declared.Moment.the-variants.{Start, End}
+use Rattle.literals.specs.Matching.{own, overAll, asked, withRole, literalsAt, required, overAllLiterals}
+use Rattle.classes.specs.Classes.{belongs, inClass, reachIn}
 use Rattle.literals.proofs.Equality.{literal-eq, literal-self}
 
 withRole-in : (rs : Role → Bool) (ls : List Literal) {p : Atom Variable} → In p (withRole rs ls) → (l : Literal) × In l ls × (rs (l .role) ≡ true) × (p ≡ l .atom)

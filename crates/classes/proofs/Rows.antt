@@ -15,8 +15,8 @@ use Rattle.literals.specs.Table.{literalRow}
 use Rattle.literals.proofs.Rows.{seven-by-four, part-at}
 use Rattle.literals.proofs.Tables.{Kept, length-flat, rows-flat, length-literal-row, value, same-filled}
 use Rattle.classes.specs.Coded.{rowAt, sameAtomAt}
-use Rattle.classes.proofs.Indices.{getD-map}
-use Rattle.classes.proofs.KeyRows.{rows-at}
+use Rattle.literals.proofs.Indices.{getD-map}
+use Rattle.literals.proofs.KeyRows.{rows-at}
 
 -- ---- comparing two rows, four bytes at a time
 

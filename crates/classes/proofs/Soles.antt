@@ -14,8 +14,9 @@ use Rattle.records.specs.Lists.{In, addIf, countBy, all}
 use Rattle.records.proofs.Lists.{bool-cases, clash, count-append}
 use Rattle.records.proofs.Memory.{getD-fill}
 use Rattle.literals.specs.Table.{pad}
-use Rattle.classes.specs.Coded.{below, isAt, soleMore, soleBy, soleAt}
-use Rattle.classes.proofs.Indices.{below-snoc, below-in}
+use Rattle.literals.specs.Keys.{below}
+use Rattle.classes.specs.Coded.{isAt, soleMore, soleBy, soleAt}
+use Rattle.literals.proofs.Indices.{below-snoc, below-in}
 
 module _ (p : ℕ → Bool) where
   count-next : (n : ℕ) → countBy p (below (suc n)) ≡ countBy p (below n) + addIf (p n) 0

@@ -1,104 +1,26 @@
--- Classes of an action: matching, key tuples, moments, the seven names, journeys. Assumes nothing.
+-- Classes of an action: their moments, the seven names, journeys. Assumes nothing.
 use mathlib.Core.Bool.{Bool, _&&_, _||_, not, cond}
 use mathlib.Core.List.{List, [], _∷_, _++_, flatMap}
-use Prim.Native.Nat.{ℕ, zero, suc}
+use Prim.Native.Nat.{ℕ}
 use lib.Dec.{eqb, leb}
 use lib.ListN.{length}
-use Rattle.records.specs.Lists.{keepIf, filterBy, all, any, sameList, elem, dedup}
+use Rattle.records.specs.Lists.{filterBy, all, any, sameList, elem, dedup}
 use Rattle.literals.specs.declared.Variable.{Variable}
-use Rattle.literals.specs.declared.Object.{Object}
-use Rattle.literals.specs.declared.Key.{Key}
-use Rattle.literals.specs.declared.Label.{Label}
-use Rattle.literals.specs.declared.Time.{Time}
-use Rattle.literals.specs.declared.Time.the-variants.{AtStart, OverAll, AtEnd}
+use Rattle.literals.specs.declared.Time.the-variants.{OverAll}
 use Rattle.literals.specs.declared.Clause.{Clause}
 use Rattle.literals.specs.declared.Clause.the-variants.{Positive, Negative, Add, Delete}
-use Rattle.literals.specs.declared.Role.{Role}
-use Rattle.literals.specs.Domain.{key, sameVariable, sameObject, Atom, Fact, sameLiteral, sameTime, sameClause, Literal, Action, Component, isKey, isCounted, keysOf, Domain}
-use Rattle.classes.specs.declared.Moment.{Moment}
-use Rattle.classes.specs.declared.Moment.the-variants.{Start, End}
+use Rattle.literals.specs.Domain.{sameVariable, Atom, sameLiteral, sameTime, Literal, Action, Component, isCounted, Domain}
+use Rattle.literals.specs.Matching.{tuplesOf, hasTuple, literalsAt, required}
+use Rattle.literals.specs.declared.Moment.{Moment}
+use Rattle.literals.specs.declared.Moment.the-variants.{Start, End}
 use Rattle.classes.specs.declared.Name.{Name}
 use Rattle.classes.specs.declared.Name.the-variants.{Unreachable, Irrelevant, Heavy, Balanced, Unbalanced, Bounded, Unbounded}
-
--- ---- matching and key tuples, of literals and of facts alike
-
-module _ {A : Type 0} where
-  -- the arguments under a key
-  abbrev pub under : Key → List Label → List A → List A
-  under k [] vs = []
-  under k (l ∷ ls) [] = []
-  under k (l ∷ ls) (v ∷ vs) = keepIf (isKey k l) v (under k ls vs)
-
-  -- "Its key tuple is the variables under keys 0, 1, .. n-1."
-  abbrev pub keyTuple : ℕ → List Label → List A → List A
-  keyTuple zero ls vs = []
-  keyTuple (suc n) ls vs = keyTuple n ls vs ++ under (key n) ls vs
-
-  -- c is the component of f's relation. That there is a label for each argument holds of every literal and fact of a domain; facts that somebody chooses are not asked for it, so it is tested here
-  abbrev pub isOf : Component → Atom A → Bool
-  isOf c f = eqb (c .rel) (f .rel) && eqb (length (c .labels)) (length (f .args))
-
-  -- "A literal matches if its relation has a component." The key tuples of an atom: one where it matches, else none
-  abbrev pub tuplesBy : ℕ → List Component → Atom A → List (List A)
-  tuplesBy n [] f = []
-  tuplesBy n (c ∷ cs) f = keepIf (isOf c f) (keyTuple n (c .labels) (f .args)) (tuplesBy n cs f)
-
-  unfoldable pub tuplesOf : Domain → Atom A → List (List A)
-  tuplesOf D f = tuplesBy (keysOf (D .template)) (D .template) f
-
-  -- the atom matches, and its key tuple is x
-  unfoldable pub hasTuple : (A → A → Bool) → Domain → List A → Atom A → Bool
-  unfolding tuplesOf
-  hasTuple eq D x f = any (λ t. sameList eq t x) (tuplesOf D f)
-
--- the literal belongs to the class of the key tuple x
-abbrev pub belongs : Domain → List Variable → Atom Variable → Bool
-belongs D x p = hasTuple sameVariable D x p
-
--- "An instance gives each key an object": the instance y matches the fact
-abbrev pub matches : Domain → List Object → Fact → Bool
-matches D y f = hasTuple sameObject D y f
 
 -- ---- moments, and the literals that count there
 
 -- "Each class has one moment (0), or for a lasting action start (0) and end (1)."
-abbrev pub momentNumber : Moment → ℕ
-momentNumber Start = 0
-momentNumber End = 1
-
 abbrev pub momentsOf : Action → List Moment
 momentsOf a = cond (a .lasting) (Start ∷ End ∷ []) (Start ∷ [])
-
--- the time of a moment's own literals
-abbrev pub ownTime : Moment → Time
-ownTime Start = AtStart
-ownTime End = AtEnd
-
--- a role of a moment's own
-abbrev pub own : Moment → Clause → Role → Bool
-own m c r = sameTime (ownTime m) (r .time) && sameClause c (r .clause)
-
--- an over-all role
-abbrev pub overAll : Clause → Role → Bool
-overAll c r = sameTime OverAll (r .time) && sameClause c (r .clause)
-
--- a role that is asked at a moment: "An end's conditions are its own and the over-all ones"
-abbrev pub asked : Moment → Clause → Role → Bool
-asked Start c r = own Start c r
-asked End c r = own End c r || overAll c r
-
--- the atoms of the literals whose role passes a test, in file order
-abbrev pub withRole : (Role → Bool) → List Literal → List (Atom Variable)
-withRole p [] = []
-withRole p (l ∷ ls) = keepIf (p (l .role)) (l .atom) (withRole p ls)
-
--- the action's own literals of one clause at one moment, in file order
-unfoldable pub literalsAt : Action → Moment → Clause → List (Atom Variable)
-literalsAt a m c = dedup sameLiteral (withRole (own m c) (a .lits))
-
--- what is asked at a moment, in file order, "a literal in both counting once": what must hold in the state that the step is taken from, and what a witness lists. Adds and deletes have no over-all role
-unfoldable pub required : Action → Moment → Clause → List (Atom Variable)
-required a m c = dedup sameLiteral (withRole (asked m c) (a .lits))
 
 -- the true conditions that count towards unreachable: "they count towards unreachable and towards nothing else"
 abbrev pub countedForReach : Action → Moment → List (Atom Variable)
@@ -108,16 +30,16 @@ countedForReach a m = required a m Positive
 abbrev pub countedForName : Action → Moment → Clause → List (Atom Variable)
 countedForName = literalsAt
 
--- the action's over-all conditions
-abbrev pub overAllLiterals : Action → Clause → List (Atom Variable)
-overAllLiterals a c = withRole (overAll c) (a .lits)
-
 -- ---- classes: each is its key tuple
 
 -- "Literals of one action with equal tuples form a class; with n = 0 all matching literals form one. Classes are numbered by first literal in the file."
 unfoldable pub classes : Domain → Action → List (List Variable)
 unfolding tuplesOf flatMap
 classes D a = dedup (sameList sameVariable) (flatMap (λ (l : Literal). tuplesOf D (l .atom)) (a .lits))
+
+-- the literal belongs to the class of the key tuple x
+abbrev pub belongs : Domain → List Variable → Atom Variable → Bool
+belongs D x p = hasTuple sameVariable D x p
 
 -- "Only the class's literals of that moment count"
 unfoldable pub inClass : Domain → Action → List Variable → Moment → Clause → List (Atom Variable)

@@ -8,24 +8,23 @@ use lib.ListN.{length, getD, take, drop, replicate}
 use lib.Seq.{paste}
 use Rattle.records.specs.Lists.{In, any, pairwise, sameList}
 use Rattle.literals.specs.declared.Variable.{Variable}
+use Rattle.literals.specs.declared.Time.{Time}
+use Rattle.literals.specs.declared.Time.the-variants.{AtStart, OverAll, AtEnd}
 use Rattle.literals.specs.declared.Clause.{Clause}
 use Rattle.literals.specs.declared.Role.{Role}
-use Rattle.literals.specs.Domain.{sameVariable, sameLiteral, clauseNumber, Literal, Action, Domain}
-use Rattle.literals.specs.Decode.{maxLiterals, byte, repeats}
+use Rattle.literals.specs.Domain.{sameVariable, sameLiteral, clauseNumber, roleOf, sameTime, Literal, Action, Domain}
+use Rattle.literals.specs.Decode.{maxLiterals, repeats}
 use Rattle.literals.specs.Table.{rowOf, rowsIn, literalRow, pad}
-use Rattle.literals.specs.Held.{componentsIn, keysIn, arityIn, partIn, partsIn, HeadOf}
-use Rattle.classes.specs.declared.Moment.{Moment}
-use Rattle.classes.specs.declared.Moment.the-variants.{Start, End}
+use Rattle.literals.specs.Held.{componentsIn, arityIn, partIn, HeadOf}
+use Rattle.literals.specs.declared.Moment.{Moment}
+use Rattle.literals.specs.declared.Moment.the-variants.{Start, End}
 use Rattle.classes.specs.declared.Sole.{Sole}
 use Rattle.classes.specs.declared.number.Numbered.{Numbered}
-use Rattle.classes.specs.Classes.{tuplesOf, own, asked, classes, covered, excluding}
+use Rattle.literals.specs.Matching.{tuplesOf, own, asked}
+use Rattle.literals.specs.Keys.{position, below}
+use Rattle.classes.specs.Classes.{classes, covered, excluding}
 
 -- ---- class numbers
-
--- the place of the first element that passes, or the length
-abbrev pub position : {A : Type 0} → (A → Bool) → List A → ℕ
-position p [] = zero
-position p (x ∷ xs) = cond (p x) zero (suc (position p xs))
 
 -- the number of a literal's class among these, FF where it does not match
 abbrev pub classNumberBy : List (List Variable) → List (List Variable) → ℕ
@@ -50,32 +49,6 @@ classTuples D a =
 
 -- ---- class numbers, by the bytes of rows
 
--- the first argument under the label k, or FF
-abbrev pub underKey : ℕ → List ℕ → List ℕ → ℕ
-underKey k [] vs = 255
-underKey k (b ∷ bs) [] = 255
-underKey k (b ∷ bs) (v ∷ vs) = cond (eqb k b) v (underKey k bs vs)
-
--- those under the keys 0 to n-1
-abbrev pub underKeys : ℕ → List ℕ → List ℕ → List ℕ
-underKeys zero bs vs = []
-underKeys (suc n) bs vs = underKeys n bs vs ++ (underKey n bs vs ∷ [])
-
--- the key tuple, as a row, of a literal's row under a component's row
-unfoldable pub keyRow : ℕ → List ℕ → List ℕ → List ℕ
-keyRow n part row = rowOf (underKeys n (drop 1 part) (drop 2 row))
-
--- that of a literal's row under the first component's row with its relation, or none
-unfoldable pub keyRows : ℕ → List (List ℕ) → List ℕ → List (List ℕ)
-unfolding keyRow
-keyRows n [] row = []
-keyRows n (part ∷ parts) row = cond (eqb (byte row 1) (byte part 0)) (keyRow n part row ∷ []) (keyRows n parts row)
-
--- the same, by the head of a domain
-unfoldable pub keyRowsIn : List ℕ → List ℕ → List (List ℕ)
-unfolding keysIn partsIn keyRows
-keyRowsIn head row = keyRows (keysIn head) (partsIn head) row
-
 -- the class number of a literal with these key tuples, none or one, and how many classes there then are: `tuples` has the rows of `count` classes
 unfoldable pub numberedBy : List (List ℕ) → ℕ → List ℕ → Numbered
 numberedBy [] count tuples = record { class = 255; count = count }
@@ -93,6 +66,13 @@ tuplesAfter (t ∷ ts) count tuples = cond (eqb (position (sameList eqb t) (rows
 -- the roles that count in a clause
 abbrev pub counts : Bool → Moment → Clause → Role → Bool
 counts wide m c r = cond wide (asked m c r) (own m c r)
+
+-- the times whose roles count
+abbrev pub timed : Bool → Moment → Time → Bool
+timed wide Start t = sameTime AtStart t
+timed wide End AtStart = false
+timed wide End OverAll = wide
+timed wide End AtEnd = true
 
 -- 1 to 4 for a true condition, false condition, add or delete of the moment, 0 for none
 abbrev pub clauseAt : Bool → Moment → Role → ℕ
@@ -130,18 +110,10 @@ uncoveredAt D a x m = position (λ c. not (covered (excluding D a x m) c)) (D .t
 
 -- ---- the same by index: of rows of 8 bytes, class numbers and clauses
 
--- the n numbers from i on
-abbrev pub numbersFrom : ℕ → ℕ → List ℕ
-numbersFrom i zero = []
-numbersFrom i (suc n) = i ∷ numbersFrom (suc i) n
-
-abbrev pub below : ℕ → List ℕ
-below n = numbersFrom 0 n
-
 -- the clause at a moment of a role byte
 unfoldable pub clauseByte : Bool → Moment → ℕ → ℕ
-clauseByte wide Start r = cond (ltb r 4) (r + 1) 0
-clauseByte wide End r = cond (ltb r 4) 0 (cond (ltb r 6) (cond wide (r - 3) 0) (cond (ltb r 10) (r - 5) 0))
+unfolding roleOf
+clauseByte wide m r = clauseAt wide m (roleOf r)
 
 abbrev pub rowAt : List ℕ → ℕ → List ℕ
 rowAt rows i = take 8 (drop (8 * i) rows)
@@ -201,9 +173,10 @@ unfoldable pub lackingAt : List ℕ → List ℕ → List ℕ → List ℕ → �
 unfolding componentsIn coveredAt
 lackingAt head rows of clauses class = position (λ c. not (coveredAt head rows of clauses class c)) (below (componentsIn head))
 
--- the row j is an over-all literal of the class: roles 4 and 5
+-- the row j is an over-all literal of the class
 unfoldable pub lastsAt : List ℕ → List ℕ → ℕ → ℕ → Bool
-lastsAt rows of class j = eqb (getD of j 0) class && (leb 4 (getD rows (8 * j) 0) && ltb (getD rows (8 * j) 0) 6)
+unfolding roleOf
+lastsAt rows of class j = eqb (getD of j 0) class && sameTime OverAll (roleOf (getD rows (8 * j) 0) .time)
 
 -- ---- which literals pass a test: 0 for none, k + 1 for the literal k alone, 255 for more
 

@@ -1,14 +1,18 @@
 // What a class has at a moment: the clause of each literal there, its true conditions and adds, and the name that they decide.
 use super::Marks;
-use super::Moment;
 use super::Name;
 use super::Sole;
+use literals::Moment;
+use literals::Time;
+use literals::clause_number;
+use records::bytes::wide;
 use literals::head::Head;
 use literals::head::arity_of;
 use literals::head::components_in;
 use literals::head::part_byte;
+use literals::role_of;
 use literals::row::same_four;
-use records::bytes::wide;
+use literals::same_time;
 ghost use mathlib.Core.Path.{_≡_};
 ghost use mathlib.Core.Bool.{true, _&&_};
 ghost use mathlib.Core.List.{List, []};
@@ -20,45 +24,46 @@ ghost use Rattle.literals.specs.Domain.{Domain, Action};
 ghost use Rattle.literals.specs.Decode.{maxArguments, maxLiterals, maxComponents};
 ghost use Rattle.literals.specs.Table.{pad};
 ghost use Rattle.literals.specs.Held.{partIn};
-ghost use Rattle.classes.specs.declared.Moment.{Moment};
-ghost use Rattle.classes.specs.declared.Moment.the-variants.{Start, End};
+ghost use Rattle.literals.specs.declared.Moment.{Moment};
+ghost use Rattle.literals.specs.declared.Moment.the-variants.{Start, End};
 ghost use Rattle.classes.specs.Classes.{classes, lastsIn, nameOf, journey};
-ghost use Rattle.classes.specs.Coded.{ActionOf, MomentOf, Sides, clausesBy, clausesAt, classNumbers, uncoveredAt, below, clauseByte};
+ghost use Rattle.literals.specs.Keys.{below};
+ghost use Rattle.classes.specs.Coded.{ActionOf, MomentOf, Sides, clausesBy, clausesAt, classNumbers, uncoveredAt, timed, clauseByte};
 ghost use Rattle.classes.specs.Coded.{mayMeet, sameAtomAt, saysAt, clauseIn, isAt, isSameAt, sameIn, changedAt, excludesAt};
 ghost use Rattle.classes.specs.Coded.{coveredAt, lackingAt, lastsAt, soleMore, soleAt, soleOf, reachAt};
 
-// The clause of a role byte at the end: of the end's own literals, or (wide) of all that is asked there, the over-all conditions too.
-fn clause_at_end(wide: bool, role: u8) -> u8
-    ensures { λ r. ⌜ r ≡ clauseByte wide End role ⌝ }
+// Whether the literals of a time count at an end: its own, or (wide) all that is asked there, the over-all conditions too.
+fn counts_at_end(wide: bool, time: Time) -> bool
+    ensures { λ r. ⌜ r ≡ timed wide End time ⌝ }
 {
-    if role < 4 {
-        return 0;
+    match time {
+        Time::AtStart => false,
+        Time::OverAll => wide,
+        Time::AtEnd => true,
     }
-    if role < 6 {
-        if wide {
-            return role - 3;
-        }
-        return 0;
+}
+
+// The same at any moment.
+fn counts_at(wide: bool, m: Moment, time: Time) -> bool
+    ensures { λ r. ⌜ r ≡ timed wide m time ⌝ }
+{
+    match m {
+        Moment::Start => same_time(Time::AtStart, time),
+        Moment::End => counts_at_end(wide, time),
     }
-    if role < 10 {
-        return role - 5;
-    }
-    0
 }
 
 // 1 to 4 for a true condition, false condition, add or delete of the moment, 0 for none: of a role byte. Wide or of its own as above.
-pub fn clause_at(wide: bool, m: Moment, role: u8) -> u8
+fn clause_at(wide: bool, m: Moment, role: u8) -> u8
     ensures { λ r. ⌜ r ≡ clauseByte wide m role ⌝ }
 {
-    match m {
-        Moment::Start => {
-            if role < 4 {
-                return role + 1;
-            }
-            0
-        },
-        Moment::End => clause_at_end(wide, role),
+    let sorted = role_of(role);
+    let when = sorted.time;
+    if counts_at(wide, m, when) {
+        let clause = sorted.clause;
+        return clause_number(clause) + 1;
     }
+    0
 }
 
 // Whether two rows have the same relation and arguments: the bytes 1 to 4, and 4 to 7.
@@ -359,11 +364,9 @@ fn is_lasting_at(rows: &[u8], of: &[u8], class: u8, j: usize) -> bool
     if of[j] != class {
         return false;
     }
-    let role = rows[8 * j];
-    if role < 4 {
-        return false;
-    }
-    role < 6
+    let sorted = role_of(rows[8 * j]);
+    let when = sorted.time;
+    same_time(Time::OverAll, when)
 }
 
 // Whether a row is an over-all literal of a class.

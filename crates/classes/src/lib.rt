@@ -1,16 +1,10 @@
-// Classes of an action: their moments and names (here), their numbers (number), and what a class has at a moment (counts).
+// Classes of an action: their names (here), their numbers (number), and what a class has at a moment (counts).
 pub mod counts;
 pub mod number;
 
 use literals::limits::MAX_LITERALS;
 ghost use mathlib.Core.Path.{_≡_};
-ghost use Rattle.classes.specs.Classes.{momentNumber, nameNumber};
-
-// A moment of an action: an action at once has its start alone.
-pub enum Moment {
-    Start,
-    End,
-}
+ghost use Rattle.classes.specs.Classes.{nameNumber};
 
 // The names of a class at a moment, in the order of their tests.
 pub enum Name {
@@ -30,16 +24,6 @@ pub type Marks = [u8; MAX_LITERALS];
 pub struct Sole {
     pub conditions: u8,
     pub adds: u8,
-}
-
-// The byte of a moment in the report.
-pub fn moment_number(m: Moment) -> u8
-    ensures { λ r. ⌜ r ≡ momentNumber m ⌝ }
-{
-    match m {
-        Moment::Start => 0,
-        Moment::End => 1,
-    }
 }
 
 // The byte of a name in the report.

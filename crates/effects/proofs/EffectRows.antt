@@ -24,16 +24,17 @@ use Rattle.literals.specs.Held.{arityIn, Held, SpanOf}
 use Rattle.literals.proofs.Heads.{action-in, arity-limit}
 use Rattle.literals.proofs.Equality.{literal-eq, fact-eq, fact-self}
 use Rattle.literals.proofs.Rows.{part-first, rows-snoc}
-use Rattle.classes.specs.declared.Moment.{Moment}
-use Rattle.classes.specs.declared.Moment.the-variants.{Start, End}
-use Rattle.classes.specs.Classes.{own, withRole, literalsAt}
-use Rattle.classes.proofs.KeyRows.{length-rows}
+use Rattle.literals.specs.declared.Moment.{Moment}
+use Rattle.literals.specs.declared.Moment.the-variants.{Start, End}
+use Rattle.literals.specs.Matching.{own, withRole, literalsAt}
+use Rattle.literals.proofs.KeyRows.{length-rows}
 use Rattle.verdict.specs.Binding.{Binding, valueOf, bind}
 use Rattle.verdict.specs.Machine.{Event, eventFacts, stepFacts, GroundAction}
 use Rattle.store.specs.Index.{Sized}
 use Rattle.events.specs.declared.Waiting.{Waiting}
 use Rattle.store.specs.Rows.{factRow}
-use Rattle.events.specs.Coded.{groundRow, waitingOf, GroundFits, EventsFit, boundRow, clauseFor, timeOf}
+use Rattle.literals.specs.Keys.{clauseFor}
+use Rattle.events.specs.Coded.{groundRow, waitingOf, GroundFits, EventsFit, boundRow, timeOf}
 use Rattle.effects.specs.Effects.{effectRows, flat, eventEffects, stepEffects}
 use Rattle.events.proofs.RowLoops.{length-bound}
 use Rattle.events.proofs.FactRows.{length-fact-row, countsFor, held-kept, held-bound, held-rows, noEvent, clause-counts}

@@ -15,7 +15,7 @@ use Rattle.records.proofs.Memory.{length-over, over-paste}
 use Rattle.literals.specs.Table.{rowsIn}
 use Rattle.literals.proofs.Rows.{length-part, rows-snoc, rows-whole}
 use Rattle.literals.proofs.Tables.{length-flat, rows-flat}
-use Rattle.classes.proofs.KeyRows.{length-rows}
+use Rattle.literals.proofs.KeyRows.{length-rows}
 use Rattle.store.specs.Rows.{hasRow}
 use Rattle.effects.specs.Effects.{flat, joinRow, joinRows, atMost, stays, keptOf}
 use Rattle.effects.proofs.Joins.{joined-rows, join-snoc, join-append}

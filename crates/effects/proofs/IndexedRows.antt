@@ -15,7 +15,7 @@ use Rattle.records.proofs.Lists.{bool-cases, off, sameList-eq, elem-in, in-snoc
 use Rattle.literals.specs.Decode.{byte}
 use Rattle.literals.specs.Table.{rowsIn}
 use Rattle.literals.proofs.Rows.{part-at, rows-more, rows-end, rows-snoc}
-use Rattle.classes.proofs.KeyRows.{length-rows, rows-at}
+use Rattle.literals.proofs.KeyRows.{length-rows, rows-at}
 use Rattle.store.specs.Index.{Sized, Indexed}
 use Rattle.store.specs.Rows.{hasRow}
 use Rattle.effects.specs.Effects.{Marked, flat, joinRow, atMost, SizedRow, HoldsJoined, stays, keptOf}

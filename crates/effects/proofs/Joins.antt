@@ -10,7 +10,7 @@ use lib.ListN.{length}
 use borrow.Author.Tests.{eqb-true}
 use Rattle.records.specs.Lists.{In, addIf, keepIf, filterBy, countBy, all, sameList, elem, distinct, dedup}
 use Rattle.records.proofs.Lists.{bool-cases, off, clash, eqb-same, sameList-eq, sameList-self, in-elem, elem-in, in-dedup, dedup-in, filter-append, filter-agree, any-append, count-append, count-pos, count-none, single-count}
-use Rattle.classes.proofs.Indices.{filter-filter, filter-map}
+use Rattle.literals.proofs.Indices.{filter-filter, filter-map}
 use Rattle.store.specs.Rows.{hasRow}
 use Rattle.effects.specs.Effects.{joinRow, joinRows}
 

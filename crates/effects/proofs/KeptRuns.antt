@@ -15,7 +15,7 @@ use Rattle.records.proofs.Lists.{bool-cases, getD-in, count-filter, count-not, 
 use Rattle.records.proofs.Memory.{over-paste}
 use Rattle.literals.specs.Table.{rowsIn}
 use Rattle.literals.proofs.Rows.{rows-last, rows-whole}
-use Rattle.classes.proofs.KeyRows.{length-rows, rows-at}
+use Rattle.literals.proofs.KeyRows.{length-rows, rows-at}
 use Rattle.store.specs.Rows.{hasRow}
 use Rattle.store.specs.Index.{Indexed}
 use Rattle.effects.specs.Effects.{Once, struckOf, FirstStruck, flat, stays, keptOf}

@@ -14,13 +14,14 @@ use Rattle.literals.specs.Domain.{Fact, sameFact, Domain, action}
 use Rattle.literals.specs.Decode.{byte}
 use Rattle.literals.specs.Table.{rowsIn}
 use Rattle.literals.specs.Held.{arityIn}
-use Rattle.classes.specs.Classes.{own, withRole}
+use Rattle.literals.specs.Matching.{own, withRole}
 use Rattle.verdict.specs.Binding.{bind}
 use Rattle.verdict.specs.Judged.{factBytes}
 use Rattle.verdict.specs.Machine.{Event, stepFacts, factsAfter}
 use Rattle.store.specs.Index.{Indexed}
 use Rattle.store.specs.Rows.{factRow, hasRow}
-use Rattle.events.specs.Coded.{boundRow, clauseFor}
+use Rattle.literals.specs.Keys.{clauseFor}
+use Rattle.events.specs.Coded.{boundRow}
 use Rattle.effects.specs.declared.After.{After}
 
 -- ---- effects, by rows

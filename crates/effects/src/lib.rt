@@ -1,13 +1,13 @@
 // The facts after a step: what it strikes goes out, then what it adds joins, each fact once.
 use events::facts::bound_row;
-use events::facts::clause_for;
 use events::facts::time_at;
 use literals::Time;
+use literals::clause_for;
+use records::bytes::wide;
 use literals::head::Head;
 use literals::head::actions_in;
 use literals::head::rows_of;
 use records::bytes::put_bytes;
-use records::bytes::wide;
 use store::index::enter;
 use store::index::is_held;
 use store::index::leave;
@@ -22,7 +22,7 @@ ghost use Rattle.literals.specs.declared.Clause.{Clause};
 ghost use Rattle.literals.specs.Domain.{Fact, clauseNumber, Domain};
 ghost use Rattle.literals.specs.Table.{rowsIn};
 ghost use Rattle.literals.specs.Held.{Held};
-ghost use Rattle.classes.specs.Classes.{momentNumber};
+ghost use Rattle.literals.specs.Matching.{momentNumber};
 ghost use Rattle.verdict.specs.Machine.{Event};
 ghost use Rattle.store.specs.Index.{Sized, Indexed};
 ghost use Rattle.store.specs.Rows.{factRow, hasRow};

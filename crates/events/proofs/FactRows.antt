@@ -26,11 +26,11 @@ use Rattle.literals.specs.Table.{literalRow, rowsIn, indexOf, Bounded}
 use Rattle.literals.proofs.Equality.{literal-eq}
 use Rattle.literals.proofs.Tables.{Kept, kept, length-literal-row, rows-flat, pad-at}
 use Rattle.literals.proofs.Spans.{action-listed, span-size, part-literals}
-use Rattle.classes.specs.declared.Moment.{Moment}
-use Rattle.classes.specs.declared.Moment.the-variants.{Start, End}
-use Rattle.classes.specs.Classes.{momentNumber, own, overAll, withRole, literalsAt}
+use Rattle.literals.specs.declared.Moment.{Moment}
+use Rattle.literals.specs.declared.Moment.the-variants.{Start, End}
+use Rattle.literals.specs.Matching.{momentNumber, own, overAll, withRole, literalsAt}
 use Rattle.classes.proofs.Rows.{row-flat}
-use Rattle.classes.proofs.Indices.{any-agree}
+use Rattle.literals.proofs.Indices.{any-agree}
 use Rattle.verdict.specs.Binding.{Binding, valueOf, bind}
 use Rattle.verdict.specs.Judged.{objectNumbers}
 use Rattle.verdict.specs.Machine.{GroundAction, Event}
@@ -42,7 +42,8 @@ use Rattle.literals.specs.Held.{actionsIn, arityIn, Held, SpanOf}
 use Rattle.literals.proofs.Heads.{action-in}
 use Rattle.store.specs.Rows.{factRow, hasRow}
 use Rattle.store.proofs.InstanceRows.{same-numbers}
-use Rattle.events.specs.Coded.{groundRow, GroundFits, objectOf, boundRow, clauseFor, timeOf, openOf, waitingOf}
+use Rattle.literals.specs.Keys.{clauseFor}
+use Rattle.events.specs.Coded.{groundRow, GroundFits, objectOf, boundRow, timeOf, openOf, waitingOf}
 
 -- ---- equal rows are rows of equal facts
 

@@ -14,8 +14,8 @@ use Rattle.records.specs.Lists.{any, all, sameList}
 use Rattle.records.proofs.Lists.{bool-cases}
 use Rattle.literals.specs.Held.{actionsIn, lastingIn}
 use Rattle.literals.proofs.Rows.{first-at}
-use Rattle.classes.specs.Coded.{position}
-use Rattle.classes.proofs.KeyRows.{place-le, length-rows}
+use Rattle.literals.specs.Keys.{position}
+use Rattle.literals.proofs.KeyRows.{place-le, length-rows}
 use Rattle.events.specs.declared.Open.{Open}
 use Rattle.events.specs.Coded.{groundsIn, EventRow, eventAt, eventsIn, endOpen, withoutEntry, closeEntry, closeEvent, closeEvents, joinEntry, opensBy, joinEvent, joinEvents, Opened}
 use Rattle.store.specs.Rows.{hasRow}

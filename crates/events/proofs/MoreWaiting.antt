@@ -9,7 +9,7 @@ use Rattle.records.proofs.Lists.{flatMap-snoc}
 use Rattle.literals.specs.Domain.{Domain}
 use Rattle.literals.specs.Table.{pad, Bounded}
 use Rattle.literals.proofs.Tables.{length-flat, pad-more, pad-paste}
-use Rattle.classes.specs.Classes.{momentNumber}
+use Rattle.literals.specs.Matching.{momentNumber}
 use Rattle.verdict.specs.Machine.{Event}
 use Rattle.events.specs.declared.Waiting.{Waiting}
 use Rattle.events.specs.Coded.{groundRow, waitingOf, EventsFit}

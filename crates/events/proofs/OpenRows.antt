@@ -16,11 +16,11 @@ use Rattle.literals.specs.Domain.{Domain, action}
 use Rattle.literals.specs.Table.{pad, Bounded}
 use Rattle.literals.specs.Held.{actionsIn, lastingIn, HeadOf}
 use Rattle.literals.proofs.Tables.{length-flat, rows-flat, pad-paste, same-filled}
-use Rattle.classes.specs.declared.Moment.{Moment}
-use Rattle.classes.specs.declared.Moment.the-variants.{Start, End}
-use Rattle.classes.specs.Classes.{momentNumber}
-use Rattle.classes.specs.Coded.{position}
-use Rattle.classes.proofs.KeyRows.{place-le}
+use Rattle.literals.specs.declared.Moment.{Moment}
+use Rattle.literals.specs.declared.Moment.the-variants.{Start, End}
+use Rattle.literals.specs.Matching.{momentNumber}
+use Rattle.literals.specs.Keys.{position}
+use Rattle.literals.proofs.KeyRows.{place-le}
 use Rattle.verdict.specs.Machine.{GroundAction, Event, sameGround, isOpenAt, isOpen, closeOne, closeAt, closeAll, opens, openedBy}
 use Rattle.events.specs.declared.Open.{Open}
 use Rattle.events.specs.declared.Waiting.{Waiting}

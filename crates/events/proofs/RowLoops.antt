@@ -9,7 +9,7 @@ use borrow.Author.Tests.{lt-ltb, le-ltb}
 use Rattle.records.proofs.Memory.{paste-more}
 use Rattle.literals.specs.Decode.{byte}
 use Rattle.literals.proofs.Rows.{length-part, part-at}
-use Rattle.classes.proofs.Indices.{getD-map}
+use Rattle.literals.proofs.Indices.{getD-map}
 use Rattle.literals.specs.Held.{arityIn}
 use Rattle.events.specs.Coded.{objectOf, boundBytes, boundRow}
 

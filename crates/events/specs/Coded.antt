@@ -9,15 +9,15 @@ use lib.Seq.{paste}
 use Rattle.records.specs.Lists.{In, sameList}
 use Rattle.literals.specs.declared.Object.{Object}
 use Rattle.literals.specs.declared.Time.{Time}
-use Rattle.literals.specs.declared.Time.the-variants.{AtStart, OverAll, AtEnd}
+use Rattle.literals.specs.declared.Time.the-variants.{AtStart, AtEnd}
 use Rattle.literals.specs.Domain.{Domain, action}
 use Rattle.literals.specs.Decode.{byte}
 use Rattle.literals.specs.Table.{pad, rowsBy}
 use Rattle.literals.specs.Held.{actionsIn, arityIn, lastingIn}
-use Rattle.classes.specs.declared.Moment.{Moment}
-use Rattle.classes.specs.declared.Moment.the-variants.{Start, End}
-use Rattle.classes.specs.Classes.{momentNumber}
-use Rattle.classes.specs.Coded.{position, clauseByte}
+use Rattle.literals.specs.declared.Moment.{Moment}
+use Rattle.literals.specs.declared.Moment.the-variants.{Start, End}
+use Rattle.literals.specs.Matching.{momentNumber}
+use Rattle.literals.specs.Keys.{position}
 use Rattle.verdict.specs.Judged.{objectNumbers}
 use Rattle.verdict.specs.Machine.{GroundAction, Event}
 use Rattle.store.specs.Rows.{hasRow}
@@ -79,13 +79,6 @@ boundBytes n ground row = byte row 1 ∷ n ∷ (map (objectOf ground) (take n (d
 unfoldable pub boundRow : List ℕ → List ℕ → List ℕ → List ℕ
 unfolding arityIn
 boundRow head ground row = boundBytes (arityIn head (byte row 1)) ground row
-
--- 1 to 4 for a true condition, false condition, add or delete of the start, of over all, or of the end, each its own; 0 for none
-unfoldable pub clauseFor : Time → ℕ → ℕ
-unfolding clauseByte
-clauseFor AtStart r = clauseByte false Start r
-clauseFor OverAll r = cond (ltb r 4) 0 (cond (ltb r 6) (r - 3) 0)
-clauseFor AtEnd r = clauseByte false End r
 
 -- the time of an event's literals, by its moment
 abbrev pub timeOf : Moment → Time

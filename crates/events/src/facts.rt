@@ -1,15 +1,12 @@
-// The literals of an action as rows: the facts that its objects make of them, and what each is at the start, over all, or at the end.
-use classes::Moment;
-use classes::counts::clause_at;
+// The literals of an action as rows: the facts that its objects make of them, and the time that an event's moment asks of them.
 use literals::Time;
 use literals::head::Head;
 use literals::head::arity_of;
 ghost use mathlib.Core.Path.{_≡_};
 ghost use Prim.Native.Nat.{_+_, _<_, _≤_};
 ghost use lib.ListN.{length, getD, take, drop};
-ghost use Rattle.literals.specs.declared.Time.the-variants.{OverAll};
 ghost use Rattle.runs.specs.RunFile.{momentOf};
-ghost use Rattle.events.specs.Coded.{objectOf, boundBytes, boundRow, clauseFor, timeOf};
+ghost use Rattle.events.specs.Coded.{objectOf, boundBytes, boundRow, timeOf};
 
 // The object that an action's row has for a variable.
 fn object_of(ground: &[u8], v: u8) -> u8
@@ -54,30 +51,6 @@ pub fn bound_row(head: &Head, ground: &[u8], rows: &[u8], row: usize) -> [u8; 8]
         fact[i] = bound_byte(arity, ground, rows, row, i);
     }
     fact
-}
-
-// The clause of a role byte over all.
-fn clause_over_all(role: u8) -> u8
-    ensures { λ r. ⌜ r ≡ clauseFor OverAll role ⌝ }
-{
-    if role < 4 {
-        return 0;
-    }
-    if role < 6 {
-        return role - 3;
-    }
-    0
-}
-
-// 1 to 4 for a true condition, false condition, add or delete of that time's own, 0 for none: of a role byte.
-pub fn clause_for(time: Time, role: u8) -> u8
-    ensures { λ r. ⌜ r ≡ clauseFor time role ⌝ }
-{
-    match time {
-        Time::AtStart => clause_at(false, Moment::Start, role),
-        Time::OverAll => clause_over_all(role),
-        Time::AtEnd => clause_at(false, Moment::End, role),
-    }
 }
 
 // The time of an event's literals, by the byte of its moment: 1 is an end.

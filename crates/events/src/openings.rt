@@ -15,7 +15,7 @@ ghost use Rattle.records.specs.Lists.{all, sameList};
 ghost use Rattle.literals.specs.Domain.{Domain};
 ghost use Rattle.literals.specs.Table.{Bounded};
 ghost use Rattle.literals.specs.Held.{HeadOf};
-ghost use Rattle.classes.specs.Coded.{position};
+ghost use Rattle.literals.specs.Keys.{position};
 ghost use Rattle.verdict.specs.Machine.{GroundAction, Event, isOpen, closeAll, openedBy};
 ghost use Rattle.events.specs.Coded.{groundsIn, openOf, waitingOf, GroundsFit, EventsFit};
 ghost use Rattle.events.specs.Coded.{eventAt, eventsIn, endOpen, closeEntry, closeEvent, closeEvents};

@@ -8,7 +8,7 @@ ghost use lib.ListN.{length, replicate};
 ghost use lib.Seq.{paste};
 ghost use Rattle.literals.specs.Domain.{Domain};
 ghost use Rattle.literals.specs.Table.{Bounded};
-ghost use Rattle.classes.specs.Classes.{momentNumber};
+ghost use Rattle.literals.specs.Matching.{momentNumber};
 ghost use Rattle.verdict.specs.Machine.{Event};
 ghost use Rattle.events.specs.Coded.{groundRow, waitingOf, EventsFit};
 

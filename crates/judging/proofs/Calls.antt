@@ -13,11 +13,12 @@ use Rattle.records.specs.Memory.{over}
 use Rattle.records.proofs.Lists.{and-l, and-r}
 use Rattle.literals.specs.Domain.{Fact, Domain, action}
 use Rattle.literals.specs.Decode.{domain}
-use Rattle.classes.specs.declared.Moment.{Moment}
-use Rattle.classes.specs.declared.Moment.the-variants.{Start, End}
+use Rattle.literals.specs.declared.Moment.{Moment}
+use Rattle.literals.specs.declared.Moment.the-variants.{Start, End}
 use Rattle.classes.specs.declared.Name.{Name}
 use Rattle.classes.specs.declared.Name.the-variants.{Unreachable, Irrelevant, Heavy, Balanced, Unbalanced, Bounded, Unbounded}
-use Rattle.classes.specs.Classes.{momentNumber, classes, nameOf}
+use Rattle.literals.specs.Matching.{momentNumber}
+use Rattle.classes.specs.Classes.{classes, nameOf}
 use Rattle.verdict.specs.declared.Judgement.{Judgement}
 use Rattle.naming.specs.declared.Naming.{Naming}
 use Rattle.verdict.specs.Decision.{Row, rows, isUnbounded, faultBy, faultOf, isFaulty, isBoundedOutside, firstRow, accept, decideBounded, decideBy, decideRows, decision, classAt, witnessAt, witnessOf, witness, shownAt, shownOf, isShown}

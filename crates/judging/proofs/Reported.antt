@@ -13,8 +13,9 @@ use Rattle.literals.specs.Domain.{Action, Domain, noAction, action}
 use Rattle.literals.specs.Table.{pad}
 use Rattle.literals.specs.Held.{lastingIn, HeadOf}
 use Rattle.literals.proofs.Tables.{pad-at}
-use Rattle.classes.specs.declared.Moment.the-variants.{Start, End}
-use Rattle.classes.specs.Classes.{momentNumber, nameNumber, classes}
+use Rattle.literals.specs.declared.Moment.the-variants.{Start, End}
+use Rattle.literals.specs.Matching.{momentNumber}
+use Rattle.classes.specs.Classes.{nameNumber, classes}
 use Rattle.verdict.specs.Decision.{Row, rowAt, rowsOfClasses, rowsFrom, rows}
 use Rattle.verdict.specs.Judged.{rowBytes}
 use Rattle.naming.specs.Named.{nameBytes, classCounts}

@@ -1,7 +1,8 @@
-// A domain: numberings, roles and labels, and how the code holds it (here); the fields of a record (fields); the rows of the literal
-// table (row), and those of one action (span).
+// A domain: numberings, moments, roles and labels, and how the code holds it (here); the fields of a record (fields); the rows of the
+// literal table (row), and those of one action (span); key tuples (keys).
 pub mod fields;
 pub mod head;
+pub mod keys;
 pub mod limits;
 pub mod row;
 pub mod span;
@@ -10,7 +11,9 @@ use limits::MAX_ACTIONS;
 use limits::MAX_COMPONENTS;
 use limits::MAX_RELATIONS;
 ghost use mathlib.Core.Path.{_≡_};
-ghost use Rattle.literals.specs.Domain.{clauseOf, roleOf};
+ghost use Prim.Native.Nat.{_<_};
+ghost use Rattle.literals.specs.Domain.{clauseOf, roleOf, clauseNumber, firstRole, sameTime};
+ghost use Rattle.literals.specs.Keys.{clauseFor};
 ghost use Rattle.literals.specs.Table.{conditionGroup, roleRank};
 
 // Variables, objects and keys are three separate numberings, each from 0.
@@ -24,6 +27,12 @@ pub struct Key(pub u8);
 pub enum Label {
     Key(Key),
     Counted,
+}
+
+// A moment of an action: an action at once has its start alone.
+pub enum Moment {
+    Start,
+    End,
 }
 
 // When a literal of a lasting action counts; a literal of an action at once counts at the start.
@@ -110,6 +119,49 @@ pub fn role_of(role: u8) -> Role
             clause: clause_of(role - 6),
         },
     }
+}
+
+// The number of a clause: the role byte of a literal of it at the start.
+pub fn clause_number(c: Clause) -> u8
+    ensures number { λ r. ⌜ r ≡ clauseNumber c ⌝ }
+    ensures few { λ r. ⌜ r < 4 ⌝ }
+{
+    match c {
+        Clause::Positive => 0,
+        Clause::Negative => 1,
+        Clause::Add => 2,
+        Clause::Delete => 3,
+    }
+}
+
+// The first role byte of a time.
+fn first_role(t: Time) -> u8
+    ensures { λ r. ⌜ r ≡ firstRole t ⌝ }
+{
+    match t {
+        Time::AtStart => 0,
+        Time::OverAll => 4,
+        Time::AtEnd => 6,
+    }
+}
+
+pub fn same_time(t: Time, u: Time) -> bool
+    ensures { λ r. ⌜ r ≡ sameTime t u ⌝ }
+{
+    first_role(t) == first_role(u)
+}
+
+// 1 to 4 for a true condition, false condition, add or delete of that time's own, 0 for none: of a role byte.
+pub fn clause_for(time: Time, role: u8) -> u8
+    ensures { λ r. ⌜ r ≡ clauseFor time role ⌝ }
+{
+    let sorted = role_of(role);
+    let when = sorted.time;
+    if same_time(time, when) {
+        let clause = sorted.clause;
+        return clause_number(clause) + 1;
+    }
+    0
 }
 
 // The conditions that may contradict each other: 1 for the roles 0 and 1, 2 for 4 to 7, 0 for the others.

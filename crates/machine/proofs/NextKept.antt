@@ -12,7 +12,7 @@ use Rattle.records.proofs.Lists.{or-out, in-keepIf, getD-in}
 use Rattle.literals.specs.declared.Clause.the-variants.{Add}
 use Rattle.literals.specs.Domain.{Fact, Domain, noAction, action}
 use Rattle.literals.specs.Table.{Bounded}
-use Rattle.classes.specs.Classes.{literalsAt}
+use Rattle.literals.specs.Matching.{literalsAt}
 use Rattle.verdict.specs.Binding.{valueOf, bind}
 use Rattle.verdict.specs.Machine.{GroundAction, Event, State, eventFacts, factsAfter, closeAll, opens, openedBy, next}
 use Rattle.classes.proofs.Roles.{literalsAt-in}

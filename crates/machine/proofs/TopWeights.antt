@@ -11,7 +11,7 @@ use Rattle.records.proofs.Lists.{count-append, count-some, in-flatMap}
 use Rattle.literals.specs.declared.Object.{Object}
 use Rattle.literals.specs.declared.Clause.the-variants.{Add, Delete}
 use Rattle.literals.specs.Domain.{Fact, sameFact, Domain}
-use Rattle.classes.specs.Classes.{tuplesOf, matches}
+use Rattle.literals.specs.Matching.{tuplesOf, matches}
 use Rattle.verdict.specs.Machine.{Event, stepFacts, factsAfter, weight, instancesIn, largest, topWeight}
 use Rattle.verdict.proofs.Tuples.{matches-tuple}
 use Rattle.store.specs.Rows.{topFrom}

@@ -17,7 +17,7 @@ use Rattle.literals.specs.Held.{actionsIn, Held, SpanFits, SpanOf}
 use Rattle.literals.proofs.Tables.{pad-more}
 use Rattle.literals.proofs.Held.{rows-few}
 use Rattle.literals.proofs.Heads.{literals-after}
-use Rattle.classes.specs.declared.Moment.the-variants.{Start, End}
+use Rattle.literals.specs.declared.Moment.the-variants.{Start, End}
 use Rattle.classes.specs.declared.Name.{Name}
 use Rattle.classes.specs.Classes.{momentsOf, nameNumber, classes, nameOf, journey}
 use Rattle.classes.specs.Coded.{MomentOf, classNumbers, askedAt, soleAt, soleOf, reachAt}

@@ -6,7 +6,7 @@ use lib.ListN.{length, getD}
 use Rattle.records.specs.Memory.{over}
 use Rattle.literals.specs.Decode.{maxLiterals}
 use Rattle.literals.specs.Domain.{Action, Domain}
-use Rattle.classes.specs.declared.Moment.the-variants.{End}
+use Rattle.literals.specs.declared.Moment.the-variants.{End}
 use Rattle.classes.specs.Classes.{nameNumber, classes}
 use Rattle.classes.specs.Coded.{MomentOf, soleAt, reachAt}
 use Rattle.naming.specs.declared.Naming.{Naming}

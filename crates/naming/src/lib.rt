@@ -1,6 +1,5 @@
 // The names of all moments, in the order of the report.
 use classes::Marks;
-use classes::Moment;
 use classes::Name;
 use classes::Sole;
 use classes::counts::clauses_at;
@@ -9,6 +8,7 @@ use classes::counts::name_at;
 use classes::counts::soles_at;
 use classes::name_number;
 use classes::number::number_classes;
+use literals::Moment;
 use literals::head::Head;
 use literals::head::actions_in;
 use literals::head::is_lasting;
@@ -27,7 +27,7 @@ ghost use Rattle.literals.specs.Domain.{Domain, Action};
 ghost use Rattle.literals.specs.Decode.{maxActions, maxLiterals};
 ghost use Rattle.literals.specs.Table.{pad};
 ghost use Rattle.literals.specs.Held.{Held, Read};
-ghost use Rattle.classes.specs.declared.Moment.the-variants.{Start, End};
+ghost use Rattle.literals.specs.declared.Moment.the-variants.{Start, End};
 ghost use Rattle.classes.specs.Classes.{momentsOf, classes, nameOf, journey};
 ghost use Rattle.classes.specs.Coded.{ActionOf, MomentOf, Sides, classNumbers, soleOf, reachAt};
 ghost use Rattle.verdict.specs.Decision.{Row, rowAt, rowsOfClasses, rows};

@@ -17,7 +17,7 @@ use Rattle.records.proofs.Numbers.{none-passes}
 use Rattle.literals.specs.Domain.{object, Fact, sameFact, Domain, arity, action}
 use Rattle.literals.specs.Decode.{byte}
 use Rattle.literals.specs.Table.{Bounded}
-use Rattle.classes.specs.Classes.{momentNumber}
+use Rattle.literals.specs.Matching.{momentNumber}
 use Rattle.verdict.specs.Machine.{Event, State, next, topWeight}
 use Rattle.verdict.proofs.Events.{not-fact}
 use Rattle.verdict.proofs.Weight.{distinct-append}

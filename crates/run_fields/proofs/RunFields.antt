@@ -18,8 +18,8 @@ use Rattle.literals.specs.Domain.{object, sameObject, Fact, sameFact, Domain, a
 use Rattle.literals.specs.Decode.{byte}
 use Rattle.literals.specs.Held.{relationsIn, actionsIn, arityIn, variablesIn, lastingIn, HeadOf}
 use Rattle.literals.proofs.Heads.{arity-limit, variables-limit}
-use Rattle.classes.specs.Classes.{momentNumber}
-use Rattle.classes.specs.Coded.{below}
+use Rattle.literals.specs.Matching.{momentNumber}
+use Rattle.literals.specs.Keys.{below}
 use Rattle.verdict.specs.Machine.{Event, sameEvent, injective}
 use Rattle.events.specs.declared.Waiting.{Waiting}
 use Rattle.runs.specs.RunFile.{factOf, momentOf, eventOf, maxFacts, maxEvents, outside, factStop, eventStop, stepStop, endStop}

@@ -9,9 +9,9 @@ use Rattle.records.specs.Lists.{any, sameList, elem}
 use Rattle.records.proofs.Lists.{getD-in, any-map}
 use Rattle.literals.specs.Domain.{Domain}
 use Rattle.literals.specs.Table.{Bounded}
-use Rattle.classes.specs.Classes.{momentNumber}
-use Rattle.classes.specs.Coded.{below}
-use Rattle.classes.proofs.Indices.{any-below, at-all}
+use Rattle.literals.specs.Matching.{momentNumber}
+use Rattle.literals.specs.Keys.{below}
+use Rattle.literals.proofs.Indices.{any-below, at-all}
 use Rattle.verdict.specs.Machine.{Event, sameEvent}
 use Rattle.events.specs.declared.Waiting.{Waiting}
 use Rattle.events.specs.Coded.{groundRow, waitingOf, GroundFits, EventsFit}

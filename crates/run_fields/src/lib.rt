@@ -23,7 +23,7 @@ ghost use Rattle.records.specs.Lists.{any, distinct};
 ghost use Rattle.literals.specs.Domain.{Fact, Domain};
 ghost use Rattle.literals.specs.Table.{rowsIn};
 ghost use Rattle.literals.specs.Held.{lastingIn, HeadOf};
-ghost use Rattle.classes.specs.Coded.{below};
+ghost use Rattle.literals.specs.Keys.{below};
 ghost use Rattle.runs.specs.RunFile.{factOf, eventOf, objectsStop, factStop, eventStop, stepStop, endStop};
 ghost use Rattle.verdict.specs.Machine.{Event};
 ghost use Rattle.store.specs.Rows.{factRow, Few};

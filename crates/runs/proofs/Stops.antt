@@ -13,8 +13,8 @@ use Rattle.records.proofs.Lists.{and-l, and-r, and-i, or-l, or-r, or-out, not-f
 use Rattle.records.proofs.Numbers.{numberOf, testOf, numbered, by-numbers}
 use Rattle.literals.specs.Domain.{object, sameObject, Fact, sameFact, Action, Domain, arity, action}
 use Rattle.literals.specs.Decode.{byte}
-use Rattle.classes.specs.declared.Moment.{Moment}
-use Rattle.classes.specs.declared.Moment.the-variants.{Start, End}
+use Rattle.literals.specs.declared.Moment.{Moment}
+use Rattle.literals.specs.declared.Moment.the-variants.{Start, End}
 use Rattle.verdict.specs.Binding.{objectsFrom}
 use Rattle.verdict.specs.Machine.{Event, State, sameMoment, sameEvent, hasMoment, legal, legalStep, injective, isOpen, conditionsHold, overAllHold, independent}
 use Rattle.verdict.specs.Claims.{among, isEvent, isFact}

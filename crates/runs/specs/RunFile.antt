@@ -9,8 +9,8 @@ use Rattle.records.specs.declared.Record.the-variants.{Whole, Cut, End}
 use Rattle.records.specs.Record.{recordAt, payload}
 use Rattle.literals.specs.Domain.{object, Fact, sameFact, Domain, arity, action}
 use Rattle.literals.specs.Decode.{byte}
-use Rattle.classes.specs.declared.Moment.{Moment}
-use Rattle.classes.specs.declared.Moment.the-variants.{Start, End as Ending}
+use Rattle.literals.specs.declared.Moment.{Moment}
+use Rattle.literals.specs.declared.Moment.the-variants.{Start, End as Ending}
 use Rattle.verdict.specs.Machine.{Event, sameEvent, injective}
 
 -- ---- the player's own limits: "The machine has no size limits; those in 52 are the player's."

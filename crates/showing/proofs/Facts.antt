@@ -18,8 +18,8 @@ use Rattle.literals.specs.Held.{bytesFrom, arityIn, partIn}
 use Rattle.literals.proofs.Rows.{rows-last, rows-whole, length-part, part-at}
 use Rattle.literals.proofs.Tables.{length-flat}
 use Rattle.literals.proofs.Heads.{length-bytes, bytes-more, part-length}
-use Rattle.classes.proofs.Indices.{getD-map}
-use Rattle.classes.proofs.KeyRows.{length-rows}
+use Rattle.literals.proofs.Indices.{getD-map}
+use Rattle.literals.proofs.KeyRows.{length-rows}
 use Rattle.showing.specs.Bytes.{firstClauses, selectBy, isCondition, conditionBytes, conditionOf, conditionIf, conditionsOf, objectByte, instanceBytes}
 
 -- ---- the first clauses, and how many of them pass

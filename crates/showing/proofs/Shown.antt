@@ -26,12 +26,14 @@ use Rattle.literals.proofs.Tables.{rows-flat, length-literals, length-literal-r
 use Rattle.literals.proofs.Bounds.{arity-six as arity-most}
 use Rattle.literals.proofs.Held.{keys-few as keys-most}
 use Rattle.literals.proofs.Heads.{bytes-front, part-is, action-in}
-use Rattle.classes.specs.declared.Moment.{Moment}
-use Rattle.classes.specs.declared.Moment.the-variants.{Start, End}
+use Rattle.literals.specs.declared.Moment.{Moment}
+use Rattle.literals.specs.declared.Moment.the-variants.{Start, End}
 use Rattle.classes.specs.declared.Name.{Name}
 use Rattle.classes.specs.declared.Name.the-variants.{Unreachable, Irrelevant, Heavy, Balanced, Unbalanced, Bounded as bounded, Unbounded}
-use Rattle.classes.specs.Classes.{required, classes, inClass, reachIn, lastsIn, changedBy, covered, excluding, nameNumber, nameBy, nameOf}
-use Rattle.classes.specs.Coded.{ActionOf, position, tupleRow, classTuples, clausesBy, askedAt, uncoveredAt, numbersFrom}
+use Rattle.literals.specs.Matching.{required}
+use Rattle.classes.specs.Classes.{classes, inClass, reachIn, lastsIn, changedBy, covered, excluding, nameNumber, nameBy, nameOf}
+use Rattle.literals.specs.Keys.{position, numbersFrom}
+use Rattle.classes.specs.Coded.{ActionOf, tupleRow, classTuples, clausesBy, askedAt, uncoveredAt}
 use Rattle.classes.proofs.Rows.{row-flat, noLiteral}
 use Rattle.classes.proofs.Clauses.{length-clauses, required-at}
 use Rattle.classes.proofs.Members.{classes-few}

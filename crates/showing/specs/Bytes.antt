@@ -11,8 +11,9 @@ use Rattle.literals.specs.declared.Clause.the-variants.{Positive}
 use Rattle.literals.specs.Domain.{Fact, Action, Domain}
 use Rattle.literals.specs.Decode.{maxArguments}
 use Rattle.literals.specs.Held.{bytesFrom, arityIn, partIn}
-use Rattle.classes.specs.declared.Moment.{Moment}
-use Rattle.classes.specs.Classes.{required, classes, nameOf}
+use Rattle.literals.specs.declared.Moment.{Moment}
+use Rattle.literals.specs.Matching.{required}
+use Rattle.classes.specs.Classes.{classes, nameOf}
 use Rattle.verdict.specs.Binding.{bind, sameNumbers}
 use Rattle.verdict.specs.Decision.{faultBy, witnessAt}
 use Rattle.verdict.specs.Judged.{factBytes}

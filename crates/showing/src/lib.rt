@@ -1,10 +1,10 @@
 // The witness: 8 bytes a fact (relation, arity, arguments, FF to fill), variable i as object i.
 use classes::Marks;
-use classes::Moment;
 use classes::counts::clauses_at;
 use classes::counts::first_uncovered;
 use classes::counts::lasts_at;
 use classes::number::number_classes;
+use literals::Moment;
 use literals::head::Head;
 use literals::head::actions_in;
 use literals::head::arity_of;

@@ -23,9 +23,10 @@ use Rattle.literals.proofs.Rows.{part-first, rows-more, rows-end}
 use Rattle.literals.proofs.Tables.{value}
 use Rattle.literals.proofs.Held.{keys-few}
 use Rattle.literals.proofs.Heads.{parts-length, part-row}
-use Rattle.classes.specs.Classes.{keyTuple, isOf, tuplesBy, tuplesOf, hasTuple}
-use Rattle.classes.specs.Coded.{position, tupleRow, underKeys, keyRow, keyRows}
-use Rattle.classes.proofs.KeyRows.{place-le, length-rows, rows-at}
+use Rattle.literals.specs.Matching.{keyTuple, isOf, tuplesBy, tuplesOf, hasTuple}
+use Rattle.literals.specs.Keys.{position, underKeys, keyRow, keyRows}
+use Rattle.classes.specs.Coded.{tupleRow}
+use Rattle.literals.proofs.KeyRows.{place-le, length-rows, rows-at}
 use Rattle.classes.proofs.Numbers.{tuples-rows}
 use Rattle.verdict.specs.Judged.{objectNumbers}
 use Rattle.verdict.specs.Machine.{weight, instancesIn, largest}

@@ -8,7 +8,7 @@ use lib.ListN.{length, drop, replicate}
 use Rattle.records.specs.Lists.{In, countBy, any, sameList, elem}
 use Rattle.literals.specs.Domain.{Fact, Domain, arity}
 use Rattle.literals.specs.Decode.{byte}
-use Rattle.classes.specs.Coded.{keyRow}
+use Rattle.literals.specs.Keys.{keyRow}
 use Rattle.verdict.specs.Judged.{objectNumbers}
 use Rattle.verdict.specs.Machine.{weight, instancesIn, largest}
 use Rattle.store.specs.declared.keys.Keyed.{Keyed}

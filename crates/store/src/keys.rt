@@ -1,8 +1,8 @@
 // The key tuple of a fact: an instance of the template, as a row of 8 bytes.
-use classes::number::component_of;
-use classes::number::key_tuple;
 use literals::head::Head;
 use literals::head::components_in;
+use literals::keys::component_of;
+use literals::keys::key_tuple;
 ghost use mathlib.Core.Path.{_≡_};
 ghost use Prim.Native.Nat.{_+_, _≤_};
 ghost use lib.ListN.{length, take, drop};

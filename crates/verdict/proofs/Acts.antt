@@ -15,11 +15,12 @@ use Rattle.literals.specs.declared.Object.{Object}
 use Rattle.literals.specs.declared.Clause.{Clause}
 use Rattle.literals.specs.declared.Clause.the-variants.{Positive, Negative, Add, Delete}
 use Rattle.literals.specs.Domain.{sameVariable, sameObject, Atom, Fact, sameLiteral, Literal, Action, isCounted, Domain}
-use Rattle.classes.specs.declared.Moment.{Moment}
-use Rattle.classes.specs.declared.Moment.the-variants.{Start, End}
+use Rattle.literals.specs.declared.Moment.{Moment}
+use Rattle.literals.specs.declared.Moment.the-variants.{Start, End}
 use Rattle.classes.specs.declared.Name.{Name}
 use Rattle.classes.specs.declared.Name.the-variants.{Unreachable, Irrelevant, Heavy, Balanced, Unbalanced, Bounded, Unbounded}
-use Rattle.classes.specs.Classes.{literalsAt, required, tuplesOf, belongs, matches, classes, inClass, reachIn, nameBy, deletedBy, changedBy, covered, excluding, nameOf, journey}
+use Rattle.literals.specs.Matching.{literalsAt, required, tuplesOf, matches}
+use Rattle.classes.specs.Classes.{belongs, classes, inClass, reachIn, nameBy, deletedBy, changedBy, covered, excluding, nameOf, journey}
 use Rattle.classes.proofs.Roles.{literalsAt-in, required-in, own-reach, class-distinct, reach-distinct}
 use Rattle.verdict.specs.Binding.{Binding, bind, bindTuple}
 use Rattle.verdict.specs.Claims.{wellFormedAction, wellFormedTemplate}

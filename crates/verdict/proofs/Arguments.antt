@@ -16,7 +16,7 @@ use Rattle.literals.specs.declared.Label.{Label}
 use Rattle.literals.specs.declared.Label.the-variants.{Key as keyed, Counted}
 use Rattle.literals.specs.Domain.{key, Fact, Component, isKey, isCounted, keyBelow, keysOf, Domain}
 use Rattle.literals.proofs.Bytes.{keys-below}
-use Rattle.classes.specs.Classes.{under, keyTuple, isOf, matches}
+use Rattle.literals.specs.Matching.{under, keyTuple, isOf, matches}
 use Rattle.verdict.specs.Claims.{wellFormedTemplate}
 use Rattle.verdict.proofs.Equality.{atom-of}
 use Rattle.verdict.proofs.Tuples.{matches-tuple, component-of}

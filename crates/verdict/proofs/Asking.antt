@@ -9,9 +9,9 @@ use Rattle.literals.specs.declared.Variable.{Variable}
 use Rattle.literals.specs.declared.Clause.{Clause}
 use Rattle.literals.specs.declared.Clause.the-variants.{Positive, Negative}
 use Rattle.literals.specs.Domain.{Atom, Fact, sameFact, Action, Domain, action}
-use Rattle.classes.specs.declared.Moment.{Moment}
-use Rattle.classes.specs.declared.Moment.the-variants.{Start, End}
-use Rattle.classes.specs.Classes.{literalsAt, required, overAllLiterals}
+use Rattle.literals.specs.declared.Moment.{Moment}
+use Rattle.literals.specs.declared.Moment.the-variants.{Start, End}
+use Rattle.literals.specs.Matching.{literalsAt, required, overAllLiterals}
 use Rattle.classes.proofs.Roles.{required-cases}
 use Rattle.verdict.specs.Binding.{Binding, bind}
 use Rattle.verdict.specs.Machine.{GroundAction, Event, sameGround, eventFacts, requiredFacts, isOpenAt, isOpen, conditionsHold, ownHold, overAllHold}

@@ -12,11 +12,12 @@ use borrow.Author.Tests.{ne-eqb, eqb-false, leb-true, le-leb}
 use Rattle.records.specs.Lists.{In, any}
 use Rattle.records.proofs.Lists.{and-l, and-i, not-true, clash, any-in, all-in}
 use Rattle.literals.specs.Domain.{Action, Domain, action}
-use Rattle.classes.specs.declared.Moment.{Moment}
-use Rattle.classes.specs.declared.Moment.the-variants.{Start}
+use Rattle.literals.specs.declared.Moment.{Moment}
+use Rattle.literals.specs.declared.Moment.the-variants.{Start}
 use Rattle.classes.specs.declared.Name.{Name}
 use Rattle.classes.specs.declared.Name.the-variants.{Unreachable, Irrelevant, Heavy, Balanced, Unbalanced, Bounded, Unbounded}
-use Rattle.classes.specs.Classes.{momentNumber, momentsOf, nameOf}
+use Rattle.literals.specs.Matching.{momentNumber}
+use Rattle.classes.specs.Classes.{momentsOf, nameOf}
 use Rattle.verdict.specs.Decision.{Row, journeyEndAt, rows, isUnbounded, faultBy, faultOf, isFaulty, isBoundedOutside, firstRow, Decision, accept, refuseAt, decideBounded, decideBy, decideRows, decision, classAt, witnessAt, witnessOf, witness, shownAt, shownOf, isShown}
 use Rattle.verdict.specs.Judged.{answerRow, decided}
 use Rattle.verdict.specs.Claims.{wellFormed, noneLasts, refusedForClass, Harmful, FaultyClass, ClassAtOnce, Exactness, Shown, WitnessShows, plainObjects, plainInstance, plainEvent}

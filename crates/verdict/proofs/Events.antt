@@ -12,7 +12,7 @@ use Rattle.records.proofs.Lists.{and-l, and-r, or-l, or-r, not-true, off, bool-
 use Rattle.literals.specs.declared.Clause.{Clause}
 use Rattle.literals.specs.declared.Clause.the-variants.{Positive, Negative, Add, Delete}
 use Rattle.literals.specs.Domain.{Fact, sameFact, Domain, action}
-use Rattle.classes.specs.Classes.{literalsAt}
+use Rattle.literals.specs.Matching.{literalsAt}
 use Rattle.classes.proofs.Roles.{own-required}
 use Rattle.verdict.specs.Binding.{bind}
 use Rattle.verdict.specs.Machine.{Event, eventFacts, requiredFacts, stepFacts, factsAfter, conditionsHold, interfere, disturbs, independent, meet, hasMoment, legal}

@@ -19,8 +19,9 @@ use Rattle.literals.specs.declared.Clause.the-variants.{Positive, Negative, Add
 use Rattle.literals.specs.declared.Role.{Role}
 use Rattle.literals.specs.Domain.{object, sameObject, Atom, Fact, sameFact, sameLiteral, firstRole, clauseNumber, sameTime, sameClause, Literal, Action, Component, isCounted, keysOf, Domain, action}
 use Rattle.literals.specs.Decode.{repeats, contrary, together, contradicts}
-use Rattle.classes.specs.declared.Moment.the-variants.{Start}
-use Rattle.classes.specs.Classes.{own, literalsAt, required, matches, classes, inClass, reachIn, excluding, covered, changedBy, nameOf}
+use Rattle.literals.specs.declared.Moment.the-variants.{Start}
+use Rattle.literals.specs.Matching.{own, literalsAt, required, matches}
+use Rattle.classes.specs.Classes.{classes, inClass, reachIn, excluding, covered, changedBy, nameOf}
 use Rattle.classes.proofs.Roles.{literalsAt-in}
 use Rattle.verdict.specs.Binding.{Binding, valueOf, bind, bindTuple, sameNumbers, spare}
 use Rattle.verdict.specs.Decision.{faultBy, objectUnder, instanceFact, firstUncovered, witnessBy, witnessAt}

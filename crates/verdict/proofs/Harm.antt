@@ -12,11 +12,12 @@ use Rattle.literals.specs.declared.Variable.{Variable}
 use Rattle.literals.specs.declared.Object.{Object}
 use Rattle.literals.specs.declared.Clause.the-variants.{Positive}
 use Rattle.literals.specs.Domain.{sameObject, Fact, sameFact, Action, Domain, action}
-use Rattle.classes.specs.declared.Moment.{Moment}
-use Rattle.classes.specs.declared.Moment.the-variants.{Start, End}
+use Rattle.literals.specs.declared.Moment.{Moment}
+use Rattle.literals.specs.declared.Moment.the-variants.{Start, End}
 use Rattle.classes.specs.declared.Name.{Name}
 use Rattle.classes.specs.declared.Name.the-variants.{Unreachable, Irrelevant, Heavy, Balanced, Unbalanced, Bounded, Unbounded}
-use Rattle.classes.specs.Classes.{matches, classes, nameOf}
+use Rattle.literals.specs.Matching.{matches}
+use Rattle.classes.specs.Classes.{classes, nameOf}
 use Rattle.verdict.specs.Binding.{Binding, bindTuple}
 use Rattle.verdict.specs.Decision.{faultBy, classAt, witnessAt}
 use Rattle.verdict.specs.Machine.{Event, eventFacts, requiredFacts, hasMoment, legal, isOpen, conditionsHold, allowed, factsAfter, next, startState, weight}

@@ -18,7 +18,8 @@ use Rattle.literals.specs.declared.Label.{Label}
 use Rattle.literals.specs.declared.Label.the-variants.{Key as keyed, Counted}
 use Rattle.literals.specs.Domain.{object, key, Atom, Action, Component, isKey, isCounted, keyBelow, eachKeyOnce, keysOf, Domain}
 use Rattle.literals.proofs.Bytes.{keys-below, keys-once}
-use Rattle.classes.specs.Classes.{under, keyTuple, isOf, tuplesBy, tuplesOf, matches, classes, covered}
+use Rattle.literals.specs.Matching.{under, keyTuple, isOf, tuplesBy, tuplesOf, matches}
+use Rattle.classes.specs.Classes.{classes, covered}
 use Rattle.verdict.specs.Decision.{objectUnder, instanceFact, firstUncovered}
 use Rattle.verdict.specs.Claims.{wellFormedTemplate}
 use Rattle.verdict.proofs.Tuples.{matches-of, component-of}

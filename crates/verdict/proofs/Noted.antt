@@ -11,7 +11,7 @@ use Rattle.records.specs.Lists.{keepIf, any, filterBy}
 use Rattle.records.proofs.Lists.{any-append, filter-append, not-true, clash}
 use Rattle.classes.specs.declared.Name.{Name}
 use Rattle.classes.specs.declared.Name.the-variants.{Unreachable, Irrelevant, Heavy, Balanced, Unbalanced, Bounded, Unbounded}
-use Rattle.classes.specs.Classes.{momentNumber}
+use Rattle.literals.specs.Matching.{momentNumber}
 use Rattle.verdict.specs.declared.Place.{Place}
 use Rattle.verdict.specs.declared.Notes.{Notes}
 use Rattle.verdict.specs.declared.Judgement.{Judgement}

@@ -8,8 +8,8 @@ use native.Mathlib.Omega.{arith}
 use Rattle.records.specs.Lists.{In, all, keepIf, elem, distinct}
 use Rattle.records.proofs.Lists.{and-l, and-r, or-l, or-r, or-cases, not-true, clash, all-in}
 use Rattle.literals.specs.Domain.{Domain, action}
-use Rattle.classes.specs.declared.Moment.{Moment}
-use Rattle.classes.specs.declared.Moment.the-variants.{Start, End}
+use Rattle.literals.specs.declared.Moment.{Moment}
+use Rattle.literals.specs.declared.Moment.the-variants.{Start, End}
 use Rattle.verdict.specs.Machine.{GroundAction, Event, sameGround, sameMoment, sameEvent, isOpenAt, isOpen, closeOne, closeAt, closeAll, opens, openedBy}
 use Rattle.verdict.proofs.Equality.{ground-eq}
 use Rattle.verdict.proofs.Steps.{sum}

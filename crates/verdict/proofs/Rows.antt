@@ -14,8 +14,8 @@ use Rattle.records.specs.Lists.{In, any, filterBy}
 use Rattle.records.proofs.Lists.{any-out, in-filter, filter-in, off, clash, not-true, not-false}
 use Rattle.literals.specs.declared.Variable.{Variable}
 use Rattle.literals.specs.Domain.{Action, Domain, noAction, action}
-use Rattle.classes.specs.declared.Moment.{Moment}
-use Rattle.classes.specs.declared.Moment.the-variants.{Start, End}
+use Rattle.literals.specs.declared.Moment.{Moment}
+use Rattle.literals.specs.declared.Moment.the-variants.{Start, End}
 use Rattle.classes.specs.declared.Name.{Name}
 use Rattle.classes.specs.declared.Name.the-variants.{Unreachable, Irrelevant, Heavy, Balanced, Unbalanced, Bounded, Unbounded}
 use Rattle.classes.specs.Classes.{momentsOf, classes}

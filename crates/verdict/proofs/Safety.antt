@@ -15,9 +15,10 @@ use Rattle.literals.specs.declared.Variable.{Variable}
 use Rattle.literals.specs.declared.Object.{Object}
 use Rattle.literals.specs.declared.Clause.the-variants.{Positive}
 use Rattle.literals.specs.Domain.{sameVariable, sameObject, Fact, sameFact, Action, Domain, action}
-use Rattle.classes.specs.declared.Moment.{Moment}
-use Rattle.classes.specs.declared.Moment.the-variants.{Start, End}
-use Rattle.classes.specs.Classes.{matches, classes, nameOf, journey}
+use Rattle.literals.specs.declared.Moment.{Moment}
+use Rattle.literals.specs.declared.Moment.the-variants.{Start, End}
+use Rattle.literals.specs.Matching.{matches}
+use Rattle.classes.specs.Classes.{classes, nameOf, journey}
 use Rattle.classes.proofs.Members.{classes-distinct}
 use Rattle.verdict.specs.Binding.{Binding, bindTuple}
 use Rattle.verdict.specs.Decision.{Row, journeyEndAt, rows, decision}

@@ -14,7 +14,7 @@ use Rattle.literals.specs.declared.Key.{Key}
 use Rattle.literals.specs.declared.Label.{Label}
 use Rattle.literals.specs.Domain.{key, Fact, isKey, eachKeyOnce, keysOf, Domain}
 use Rattle.literals.proofs.Bytes.{keys-once}
-use Rattle.classes.specs.Classes.{under, keyTuple, tuplesOf, matches}
+use Rattle.literals.specs.Matching.{under, keyTuple, tuplesOf, matches}
 use Rattle.verdict.specs.Machine.{weight, instancesIn, largest, topWeight}
 use Rattle.verdict.specs.Claims.{wellFormed}
 use Rattle.verdict.proofs.Tuples.{matches-tuple, component-of}

@@ -13,7 +13,8 @@ use Rattle.literals.specs.declared.Object.{Object}
 use Rattle.literals.specs.declared.Key.{Key}
 use Rattle.literals.specs.declared.Label.{Label}
 use Rattle.literals.specs.Domain.{variable, object, key, sameVariable, sameObject, Atom, Fact, Component, isKey, keysOf, Domain}
-use Rattle.classes.specs.Classes.{under, keyTuple, isOf, tuplesBy, tuplesOf, hasTuple, belongs, matches}
+use Rattle.literals.specs.Matching.{under, keyTuple, isOf, tuplesBy, tuplesOf, hasTuple, matches}
+use Rattle.classes.specs.Classes.{belongs}
 use Rattle.verdict.specs.Binding.{Binding, valueOf, bind, bindTuple}
 use Rattle.verdict.proofs.Equality.{variable-eq, variable-self, object-eq, object-self, atom-of}
 

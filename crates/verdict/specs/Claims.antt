@@ -12,7 +12,7 @@ use Rattle.literals.specs.declared.Object.{Object}
 use Rattle.literals.specs.declared.Clause.the-variants.{Positive, Negative}
 use Rattle.literals.specs.Domain.{object, sameObject, Fact, Literal, Action, Component, keysOf, labelsFit, Domain, arity, action}
 use Rattle.literals.specs.Decode.{byte, repeats, contradicts, domain, decode}
-use Rattle.classes.specs.declared.Moment.the-variants.{Start}
+use Rattle.literals.specs.declared.Moment.the-variants.{Start}
 use Rattle.classes.specs.Classes.{classes, nameOf, journey}
 use Rattle.verdict.specs.Binding.{bindTuple, objectsFrom, sameNumbers}
 use Rattle.verdict.specs.Decision.{faultBy, classAt, witnessAt, witness}

@@ -12,11 +12,12 @@ use Rattle.literals.specs.declared.Label.{Label}
 use Rattle.literals.specs.declared.Label.the-variants.{Key as keyed, Counted}
 use Rattle.literals.specs.declared.Clause.the-variants.{Positive}
 use Rattle.literals.specs.Domain.{object, Atom, Fact, Action, Component, Domain, action}
-use Rattle.classes.specs.declared.Moment.{Moment}
-use Rattle.classes.specs.declared.Moment.the-variants.{Start, End}
+use Rattle.literals.specs.declared.Moment.{Moment}
+use Rattle.literals.specs.declared.Moment.the-variants.{Start, End}
 use Rattle.classes.specs.declared.Name.{Name}
 use Rattle.classes.specs.declared.Name.the-variants.{Unreachable, Irrelevant, Heavy, Balanced, Unbalanced, Bounded, Unbounded}
-use Rattle.classes.specs.Classes.{momentsOf, required, classes, lastsIn, excluding, covered, nameOf, journey}
+use Rattle.literals.specs.Matching.{required}
+use Rattle.classes.specs.Classes.{momentsOf, classes, lastsIn, excluding, covered, nameOf, journey}
 use Rattle.verdict.specs.Binding.{bind, bindTuple, sameNumbers, spare}
 
 -- ---- the report

@@ -9,7 +9,8 @@ use Rattle.records.specs.Memory.{over}
 use Rattle.literals.specs.declared.Object.{Object}
 use Rattle.literals.specs.Domain.{Fact, Domain}
 use Rattle.literals.specs.Decode.{Refusal, Decoded, refused, domain, decode}
-use Rattle.classes.specs.Classes.{momentNumber, nameNumber}
+use Rattle.literals.specs.Matching.{momentNumber}
+use Rattle.classes.specs.Classes.{nameNumber}
 use Rattle.verdict.specs.Decision.{Row, rows, decision, witness, isShown}
 
 -- ---- bytes

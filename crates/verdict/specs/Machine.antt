@@ -9,9 +9,9 @@ use Rattle.literals.specs.declared.Object.{Object}
 use Rattle.literals.specs.declared.Clause.{Clause}
 use Rattle.literals.specs.declared.Clause.the-variants.{Positive, Negative, Add, Delete}
 use Rattle.literals.specs.Domain.{sameObject, Fact, sameFact, Action, Domain, action}
-use Rattle.classes.specs.declared.Moment.{Moment}
-use Rattle.classes.specs.declared.Moment.the-variants.{Start, End}
-use Rattle.classes.specs.Classes.{momentNumber, literalsAt, required, overAllLiterals, tuplesOf, hasTuple, matches}
+use Rattle.literals.specs.declared.Moment.{Moment}
+use Rattle.literals.specs.declared.Moment.the-variants.{Start, End}
+use Rattle.literals.specs.Matching.{momentNumber, literalsAt, required, overAllLiterals, tuplesOf, hasTuple, matches}
 use Rattle.verdict.specs.Binding.{Binding, bind}
 
 -- ---- states and events

@@ -7,7 +7,7 @@ use lib.ListN.{length, getD, take, drop}
 use Rattle.literals.specs.Table.{rowsIn}
 use Rattle.literals.specs.Held.{SpanOf}
 use Rattle.literals.proofs.Spans.{part-length}
-use Rattle.classes.proofs.KeyRows.{length-rows}
+use Rattle.literals.proofs.KeyRows.{length-rows}
 use Rattle.events.proofs.FactRows.{ground-listed}
 use Rattle.effects.proofs.EffectRows.{effects-few, held-effects, effects-given}
 use borrow.Author.Needs.{needs}

@@ -6,7 +6,7 @@ use native.Mathlib.Omega.{arith}
 use lib.ListN.{take, drop}
 use borrow.Author.Needs.{needs}
 use Rattle.literals.specs.Table.{rowsIn}
-use Rattle.classes.proofs.KeyRows.{length-rows}
+use Rattle.literals.proofs.KeyRows.{length-rows}
 use Rattle.store.specs.Rows.{hasRow}
 use Rattle.effects.proofs.KeptRuns.{others-more, all-gone}
 use Rattle.effects.proofs.struck_from.Statement.{statement}

@@ -4,7 +4,7 @@ use Rattle.records.proofs.Lists.{clash}
 use mathlib.Core.Path.{_∙_, ap₂}
 use mathlib.Core.List.{List}
 use Prim.Native.Nat.{ℕ}
-use Rattle.classes.specs.declared.Moment.the-variants.{Start, End}
+use Rattle.literals.specs.declared.Moment.the-variants.{Start, End}
 use Rattle.classes.specs.Coded.{soleOf}
 use Rattle.classes.proofs.Decides.{asked-at-start}
 use Rattle.naming.proofs.name_class.Statement.{statement}

@@ -5,8 +5,8 @@ use native.Mathlib.Omega.{arith}
 use borrow.Author.Needs.{needs}
 use lib.ListN.{length}
 use Rattle.records.specs.Lists.{any}
-use Rattle.classes.specs.Coded.{below}
-use Rattle.classes.proofs.Indices.{left, left-all, any-hit, any-miss, any-end}
+use Rattle.literals.specs.Keys.{below}
+use Rattle.literals.proofs.Indices.{left, left-all, any-hit, any-miss, any-end}
 use Rattle.run_fields.specs.Fields.{waitsAt}
 use Rattle.run_fields.proofs.is_waiting.Statement.{statement}
 use Rattle.run_fields.proofs.is_waiting.Tie as tie

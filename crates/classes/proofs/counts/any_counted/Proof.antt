@@ -9,8 +9,8 @@ use lib.Dec.{eqb}
 use lib.ListN.{getD}
 use Rattle.records.specs.Lists.{any}
 use Rattle.literals.specs.Held.{partIn}
-use Rattle.classes.specs.Coded.{below}
-use Rattle.classes.proofs.Indices.{left, left-all, any-hit, any-miss, any-end}
+use Rattle.literals.specs.Keys.{below}
+use Rattle.literals.proofs.Indices.{left, left-all, any-hit, any-miss, any-end}
 use Rattle.classes.proofs.counts.any_counted.Statement.{statement}
 use Rattle.classes.proofs.counts.any_counted.Tie as tie
 

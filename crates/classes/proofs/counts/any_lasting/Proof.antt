@@ -5,8 +5,9 @@ use mathlib.Core.Path.{_≡_, sym, ap, _∙_}
 use Prim.Native.Nat.{_-_}
 use lib.ListN.{length}
 use Rattle.records.specs.Lists.{any}
-use Rattle.classes.specs.Coded.{below, lastsAt}
-use Rattle.classes.proofs.Indices.{left, left-all, any-hit, any-miss, any-end}
+use Rattle.literals.specs.Keys.{below}
+use Rattle.classes.specs.Coded.{lastsAt}
+use Rattle.literals.proofs.Indices.{left, left-all, any-hit, any-miss, any-end}
 use Rattle.classes.proofs.counts.any_lasting.Statement.{statement}
 use Rattle.classes.proofs.counts.any_lasting.Tie as tie
 

@@ -6,7 +6,7 @@ use Prim.Native.Nat.{_-_}
 use lib.ListN.{length}
 use Rattle.records.specs.Lists.{any}
 use Rattle.classes.specs.Coded.{isSameAt, sameIn}
-use Rattle.classes.proofs.Indices.{left, left-all, any-hit, any-miss, any-end}
+use Rattle.literals.proofs.Indices.{left, left-all, any-hit, any-miss, any-end}
 use Rattle.classes.proofs.counts.any_same.Statement.{statement}
 use Rattle.classes.proofs.counts.any_same.Tie as tie
 

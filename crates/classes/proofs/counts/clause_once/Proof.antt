@@ -6,8 +6,9 @@ use Prim.Native.Nat.{ℕ, _*_}
 use lib.ListN.{getD}
 use borrow.Author.Tests.{not-true, not-false}
 use Rattle.records.specs.Lists.{any}
-use Rattle.classes.specs.declared.Moment.{Moment}
-use Rattle.classes.specs.Coded.{below, clauseByte, mayMeet, saysAt, clauseIn}
+use Rattle.literals.specs.declared.Moment.{Moment}
+use Rattle.literals.specs.Keys.{below}
+use Rattle.classes.specs.Coded.{clauseByte, mayMeet, saysAt, clauseIn}
 use borrow.Author.Needs.{needs}
 use Rattle.classes.proofs.counts.clause_once.Statement.{statement}
 use Rattle.classes.proofs.counts.clause_once.Tie as tie

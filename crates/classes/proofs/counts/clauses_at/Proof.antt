@@ -5,7 +5,8 @@ use mathlib.Core.List.{[], map}
 use Prim.Native.Nat.{ℕ, _-_, _≤_}
 use lib.ListN.{length, length-set}
 use Rattle.literals.specs.Table.{pad}
-use Rattle.classes.specs.Coded.{below, clauseIn}
+use Rattle.literals.specs.Keys.{below}
+use Rattle.classes.specs.Coded.{clauseIn}
 use Rattle.classes.proofs.Clauses.{clauses-more, clauses-held}
 use Rattle.classes.proofs.counts.clauses_at.Statement.{statement}
 use Rattle.classes.proofs.counts.clauses_at.Tie as tie

@@ -7,7 +7,8 @@ use lib.Dec.{eqb}
 use lib.ListN.{length, getD}
 use Rattle.records.specs.Lists.{any}
 use Rattle.literals.specs.Held.{arityIn, partIn}
-use Rattle.classes.specs.Coded.{below, excludesAt, coveredAt}
+use Rattle.literals.specs.Keys.{below}
+use Rattle.classes.specs.Coded.{excludesAt, coveredAt}
 use borrow.Author.Needs.{needs}
 use Rattle.classes.proofs.counts.covers.Statement.{statement}
 use Rattle.classes.proofs.counts.covers.Tie as tie

@@ -3,8 +3,9 @@ use native.Mathlib.Omega.{arith}
 use mathlib.Core.Path.{_≡_, sym, ap, _∙_}
 use Prim.Native.Nat.{_-_}
 use Rattle.records.specs.Lists.{any}
-use Rattle.classes.specs.Coded.{below, saysAt}
-use Rattle.classes.proofs.Indices.{left, left-all, any-hit, any-miss, any-end}
+use Rattle.literals.specs.Keys.{below}
+use Rattle.classes.specs.Coded.{saysAt}
+use Rattle.literals.proofs.Indices.{left, left-all, any-hit, any-miss, any-end}
 use Rattle.classes.proofs.counts.earlier_same.Statement.{statement}
 use Rattle.classes.proofs.counts.earlier_same.Tie as tie
 

@@ -6,8 +6,9 @@ use mathlib.Core.Bool.{Bool, not}
 use mathlib.Core.List.{List}
 use Prim.Native.Nat.{ℕ, _+_, _-_, _≤_}
 use Rattle.literals.specs.Held.{componentsIn}
-use Rattle.classes.specs.Coded.{position, below, coveredAt, lackingAt}
-use Rattle.classes.proofs.Indices.{left, left-all, position-hit, position-miss, position-end}
+use Rattle.literals.specs.Keys.{position, below}
+use Rattle.classes.specs.Coded.{coveredAt, lackingAt}
+use Rattle.literals.proofs.Indices.{left, left-all, position-hit, position-miss, position-end}
 use Rattle.classes.proofs.counts.first_lacking.Statement.{statement}
 use Rattle.classes.proofs.counts.first_lacking.Tie as tie
 

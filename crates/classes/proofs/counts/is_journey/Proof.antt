@@ -2,7 +2,7 @@
 use mathlib.Core.Path.{refl, _∙_}
 use native.Mathlib.Omega.{arith}
 use borrow.Author.Needs.{needs}
-use Rattle.classes.specs.declared.Moment.the-variants.{End}
+use Rattle.literals.specs.declared.Moment.the-variants.{End}
 use Rattle.classes.proofs.Decides.{moment-of, no-conditions, many-conditions, one-condition, some-conditions, no-adds, many-adds, one-add, some-adds, deleted-held, sole-inside, adds-at-start, not-one-condition, condition-at-end, not-one-add, journey-deletes}
 use Rattle.classes.proofs.counts.is_journey.Statement.{statement}
 use Rattle.classes.proofs.counts.is_journey.Tie as tie

@@ -6,8 +6,8 @@ use lib.Dec.{eqb}
 use lib.ListN.{drop}
 use Rattle.records.specs.Lists.{sameList}
 use Rattle.literals.specs.Table.{rowsIn}
-use Rattle.classes.specs.Coded.{position}
-use Rattle.classes.proofs.KeyRows.{place-first, place-hit, place-miss, place-end}
+use Rattle.literals.specs.Keys.{position}
+use Rattle.literals.proofs.KeyRows.{place-first, place-hit, place-miss, place-end}
 use Rattle.classes.proofs.number.class_of.Statement.{statement}
 use Rattle.classes.proofs.number.class_of.Tie as tie
 

@@ -3,7 +3,7 @@ use native.Mathlib.Omega.{arith}
 use borrow.Author.Needs.{needs}
 use mathlib.Core.Path.{sym, _∙_}
 use Rattle.literals.proofs.Heads.{keys-limit}
-use Rattle.classes.proofs.KeyRows.{component-le, unmatched, class-le, new-class, old-class}
+use Rattle.classes.proofs.NewClasses.{component-le, unmatched, class-le, new-class, old-class}
 use Rattle.classes.proofs.number.number_literal.Statement.{statement}
 use Rattle.classes.proofs.number.number_literal.Tie as tie
 

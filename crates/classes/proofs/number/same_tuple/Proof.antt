@@ -2,7 +2,7 @@
 use mathlib.Core.Path.{sym, _∙_}
 use native.Mathlib.Omega.{arith}
 use borrow.Author.Needs.{needs}
-use Rattle.classes.proofs.KeyRows.{tuple-same, tuple-other}
+use Rattle.literals.proofs.KeyRows.{tuple-same, tuple-other}
 use Rattle.classes.proofs.number.same_tuple.Statement.{statement}
 use Rattle.classes.proofs.number.same_tuple.Tie as tie
 

@@ -5,8 +5,8 @@ use native.Mathlib.Omega.{arith}
 use lib.Dec.{eqb}
 use lib.ListN.{drop}
 use Rattle.records.specs.Lists.{sameList}
-use Rattle.classes.specs.Coded.{position}
-use Rattle.classes.proofs.KeyRows.{place-first, place-hit, place-miss, place-end}
+use Rattle.literals.specs.Keys.{position}
+use Rattle.literals.proofs.KeyRows.{place-first, place-hit, place-miss, place-end}
 use Rattle.events.specs.Coded.{groundsIn}
 use Rattle.events.proofs.openings.entry_of.Statement.{statement}
 use Rattle.events.proofs.openings.entry_of.Tie as tie

@@ -5,7 +5,7 @@ use native.Mathlib.Omega.{arith}
 use lib.Dec.{eqb}
 use lib.ListN.{take, drop}
 use Rattle.records.specs.Lists.{sameList}
-use Rattle.classes.proofs.KeyRows.{row-miss, row-hit, row-end}
+use Rattle.literals.proofs.KeyRows.{row-miss, row-hit, row-end}
 use Rattle.events.proofs.openings.same_ground.Statement.{statement}
 use Rattle.events.proofs.openings.same_ground.Tie as tie
 

@@ -3,7 +3,7 @@ use mathlib.Core.Path.{_∙_, refl}
 use mathlib.Core.List.{[], _∷_, _++_}
 use native.Mathlib.Omega.{arith}
 use borrow.Author.Needs.{needs}
-use Rattle.classes.specs.declared.Moment.the-variants.{Start, End}
+use Rattle.literals.specs.declared.Moment.the-variants.{Start, End}
 use Rattle.verdict.specs.Decision.{rowAt}
 use Rattle.judging.proofs.Reported.{once-first, once-all, lasting-first, lasting-all}
 use Rattle.judging.proofs.report.put_class.Statement.{statement}

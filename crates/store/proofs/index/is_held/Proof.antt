@@ -6,7 +6,7 @@ use mir.Val.{Fits}
 use borrow.Author.Needs.{needs}
 use lib.ListN.{length, getD}
 use Rattle.literals.specs.Table.{rowsIn}
-use Rattle.classes.proofs.KeyRows.{length-rows}
+use Rattle.literals.proofs.KeyRows.{length-rows}
 use Rattle.store.proofs.Totals.{Bytes, rows-eight, held-none, held-one}
 use Rattle.store.proofs.index.is_held.Statement.{statement}
 use Rattle.store.proofs.index.is_held.Tie as tie

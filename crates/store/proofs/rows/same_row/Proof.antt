@@ -6,7 +6,7 @@ use borrow.Author.Needs.{needs}
 use lib.Dec.{eqb}
 use lib.ListN.{take, drop}
 use Rattle.records.specs.Lists.{sameList}
-use Rattle.classes.proofs.KeyRows.{row-miss, row-hit, row-end}
+use Rattle.literals.proofs.KeyRows.{row-miss, row-hit, row-end}
 use Rattle.store.proofs.rows.same_row.Statement.{statement}
 use Rattle.store.proofs.rows.same_row.Tie as tie
 

@@ -6,7 +6,7 @@ use lib.ListN.{take, drop}
 use Rattle.literals.specs.Held.{keysIn, partsIn}
 use Rattle.records.proofs.Lists.{not-true, not-false}
 use Rattle.literals.specs.Table.{rowsIn}
-use Rattle.classes.proofs.KeyRows.{length-rows}
+use Rattle.literals.proofs.KeyRows.{length-rows}
 use Rattle.store.specs.Rows.{rowWeight}
 use Rattle.store.proofs.InstanceRows.{keyed-none, keyed-one, higher-none, higher-new, higher-old}
 use Rattle.store.proofs.Totals.{weight-most}

@@ -4,11 +4,11 @@ use borrow.Author.Needs.{needs}
 use mathlib.Core.Path.{_≡_, ap, _∙_}
 use Prim.Native.Nat.{ℕ, _-_, _≤_}
 use lib.ListN.{take, drop}
 use Rattle.literals.specs.Held.{partIn}
-use Rattle.classes.specs.Coded.{keyRow}
-use Rattle.classes.proofs.KeyRows.{tuple-none, tuple-more}
-use Rattle.classes.proofs.number.key_tuple.Statement.{statement}
-use Rattle.classes.proofs.number.key_tuple.Tie as tie
+use Rattle.literals.specs.Keys.{keyRow}
+use Rattle.literals.proofs.KeyRows.{tuple-none, tuple-more}
+use Rattle.literals.proofs.keys.key_tuple.Statement.{statement}
+use Rattle.literals.proofs.keys.key_tuple.Tie as tie
 
 abbrev Inv-loop : tie.InvT-loop
 Inv-loop head c rows at t₀ k₀ k-end t k = (k ≤ k-end) × (k-end ≤ 6) × (t ≡ keyRow k (partIn head c) (take 8 (drop at rows)))

@@ -12,7 +12,7 @@ use lib.ListN.{length, getD, take}
 use borrow.Author.Tests.{ne-eqb, eqb-true, eqb-false}
 use Rattle.records.specs.Lists.{In, keepIf, filterBy, all, any}
 use Rattle.records.proofs.Lists.{bool-cases, filter-append, filter-agree}
-use Rattle.classes.specs.Coded.{position, numbersFrom, below}
+use Rattle.literals.specs.Keys.{position, numbersFrom, below}
 
 -- ---- the numbers that a loop has left
 

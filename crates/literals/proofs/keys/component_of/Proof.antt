@@ -7,12 +7,12 @@ use mathlib.Core.List.{List}
 use Prim.Native.Nat.{ℕ, suc, _+_, _-_, _≤_, _<_}
 use borrow.Author.Tests.{eq-eqb, ne-eqb}
 use lib.Dec.{eqb}
 use Rattle.literals.specs.Decode.{byte}
 use Rattle.literals.specs.Held.{partIn, partsFrom, partsIn}
 use Rattle.literals.proofs.Heads.{parts-next, parts-end}
-use Rattle.classes.specs.Coded.{position}
-use Rattle.classes.proofs.number.component_of.Statement.{statement}
-use Rattle.classes.proofs.number.component_of.Tie as tie
+use Rattle.literals.specs.Keys.{position}
+use Rattle.literals.proofs.keys.component_of.Statement.{statement}
+use Rattle.literals.proofs.keys.component_of.Tie as tie
 
 abbrev starts : ℕ → List ℕ → Bool
 starts b row = eqb b (byte row 0)

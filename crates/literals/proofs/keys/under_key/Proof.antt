@@ -4,12 +4,12 @@ use borrow.Author.Needs.{needs}
 use mathlib.Core.Path.{_≡_, refl, sym, _∙_}
 use Prim.Native.Nat.{ℕ, _+_, _-_, _≤_, _<_}
 use lib.ListN.{length, take, drop}
 use Rattle.literals.specs.Held.{partIn}
 use Rattle.literals.proofs.Heads.{part-length}
-use Rattle.classes.specs.Coded.{underKey}
-use Rattle.classes.proofs.KeyRows.{under-hit, under-miss, under-end}
-use Rattle.classes.proofs.number.under_key.Statement.{statement}
-use Rattle.classes.proofs.number.under_key.Tie as tie
+use Rattle.literals.specs.Keys.{underKey}
+use Rattle.literals.proofs.KeyRows.{under-hit, under-miss, under-end}
+use Rattle.literals.proofs.keys.under_key.Statement.{statement}
+use Rattle.literals.proofs.keys.under_key.Tie as tie
 
 abbrev Inv-loop : tie.InvT-loop
 Inv-loop head c rows at k i₀ i = (i ≤ 6) × (length (partIn head c) ≡ 8)

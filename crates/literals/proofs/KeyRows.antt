@@ -8,17 +8,15 @@ use native.Mathlib.Nat.{add-comm, mul-zero, mul-suc}
 use native.Mathlib.Omega.{arith}
 use lib.Dec.{eqb}
 use lib.ListN.{length, getD, set, take, drop, replicate, length-append, length-replicate, drop-of-length-le}
-use lib.Seq.{drop-cons, drop-drop, take-all, paste}
+use lib.Seq.{drop-cons, drop-drop, take-all}
 use borrow.Author.Tests.{eq-eqb, ne-eqb}
 use Rattle.records.specs.Lists.{sameList}
 use Rattle.records.specs.Memory.{over}
 use Rattle.records.proofs.Memory.{over-more, drop-replicate}
 use Rattle.literals.specs.Decode.{byte}
-use Rattle.literals.specs.Table.{rowOf, rowsBy, rowsIn}
-use Rattle.literals.proofs.Rows.{length-row, row-full, eight-by-four, same-miss, same-hit, same-end, length-part, part-at, rows-more, rows-end}
-use Rattle.literals.proofs.Heads.{parts-length, part-row}
-use Rattle.literals.specs.Held.{componentsIn, keysIn, partIn, partsIn}
-use Rattle.classes.specs.Coded.{position, underKey, underKeys, keyRow, keyRows, keyRowsIn, numberedBy, tuplesAfter}
+use Rattle.literals.specs.Table.{rowOf, rowsBy}
+use Rattle.literals.proofs.Rows.{length-row, eight-by-four, same-miss, same-hit, same-end, length-part, part-at, rows-more, rows-end}
+use Rattle.literals.specs.Keys.{position, underKey, underKeys, keyRow, keyRows}
 
 -- ---- the place of the first row that passes, from row c on
 
@@ -152,7 +150,7 @@ rows-at w (suc n) t (suc c) d h =
 -- ---- the key tuple of a literal's row, by the place of its component
 
 module _ (keys r : ℕ) (row : List ℕ) (e : byte row 1 ≡ r) where
-  key-rows-none : (ps : List (List ℕ)) → position (λ p. eqb r (byte p 0)) ps ≡ length ps → keyRows keys ps row ≡ []
+  pub key-rows-none : (ps : List (List ℕ)) → position (λ p. eqb r (byte p 0)) ps ≡ length ps → keyRows keys ps row ≡ []
   unfolding keyRows
   key-rows-none [] h = refl
   key-rows-none (p ∷ ps) h = rw e (go (eqb r (byte p 0)) (λ k. key-rows-none ps k) h)
@@ -162,7 +160,7 @@ module _ (keys r : ℕ) (row : List ℕ) (e : byte row 1 ≡ r) where
       go true ih k = absurd (omega arith)
       go false ih k = ih (omega arith)
 
-  key-rows-one : (ps : List (List ℕ)) → (position (λ p. eqb r (byte p 0)) ps ≡ length ps → ⊥)
+  pub key-rows-one : (ps : List (List ℕ)) → (position (λ p. eqb r (byte p 0)) ps ≡ length ps → ⊥)
       → keyRows keys ps row ≡ keyRow keys (getD ps (position (λ p. eqb r (byte p 0)) ps) []) row ∷ []
   unfolding keyRows
   key-rows-one [] h = absurd (h refl)
@@ -174,62 +172,3 @@ module _ (keys r : ℕ) (row : List ℕ) (e : byte row 1 ≡ r) where
           → cond b (keyRow keys p row ∷ []) (keyRows keys ps row) ≡ keyRow keys (getD (p ∷ ps) (cond b zero (suc (position (λ p. eqb r (byte p 0)) ps))) []) row ∷ []
       go true ih k = refl
       go false ih k = ih (λ z. k (ap suc z))
-
--- ---- one literal's class
-
-module _ (t tuples : List ℕ) (count class : ℕ) (e : class ≡ position (sameList eqb t) (rowsIn count tuples)) where
-  numbered-new : class ≡ count → record { class = class; count = count + 1 } ≡ numberedBy (t ∷ []) count tuples
-  unfolding numberedBy
-  numbered-new f = rw (← e, eq-eqb class count f)
-
-  numbered-old : (class ≡ count → ⊥) → record { class = class; count = count } ≡ numberedBy (t ∷ []) count tuples
-  unfolding numberedBy
-  numbered-old f = rw (← e, ne-eqb class count f)
-
-  tuples-new : class ≡ count → paste tuples (8 * count) t 8 ≡ tuplesAfter (t ∷ []) count tuples
-  unfolding tuplesAfter
-  tuples-new f = rw (← e, eq-eqb class count f)
-
-  tuples-old : (class ≡ count → ⊥) → tuples ≡ tuplesAfter (t ∷ []) count tuples
-  unfolding tuplesAfter
-  tuples-old f = rw (← e, ne-eqb class count f)
-
--- by the place of the component of its relation
-module _ (head rows tuples : List ℕ) (at count c : ℕ) (g : at + 8 ≤ length rows) (e : c ≡ position (λ row. eqb (getD rows (at + 1) 0) (byte row 0)) (partsIn head)) where
-  pub component-le : c ≤ componentsIn head
-  component-le = omega (arith, place-le (λ row. eqb (getD rows (at + 1) 0) (byte row 0)) (partsIn head), parts-length head)
-
-  pub unmatched : c ≡ componentsIn head
-      → (record { class = 255; count = count } ≡ numberedBy (keyRowsIn head (take 8 (drop at rows))) count tuples)
-      × (tuples ≡ tuplesAfter (keyRowsIn head (take 8 (drop at rows))) count tuples)
-  unfolding numberedBy tuplesAfter keyRowsIn
-  unmatched f =
-      rw (key-rows-none (keysIn head) (getD rows (at + 1) 0) (take 8 (drop at rows)) (part-at 8 rows at g 1 (omega arith)) (partsIn head) (sym e ∙ f ∙ sym (parts-length head)))
-      (refl, refl)
-
-  module _ (h : c ≡ componentsIn head → ⊥) (t : List ℕ) (f : t ≡ keyRow (keysIn head) (partIn head c) (take 8 (drop at rows))) where
-    matched : keyRowsIn head (take 8 (drop at rows)) ≡ t ∷ []
-    unfolding keyRowsIn
-    matched =
-        let u = key-rows-one (keysIn head) (getD rows (at + 1) 0) (take 8 (drop at rows)) (part-at 8 rows at g 1 (omega arith)) (partsIn head) (λ z. h (e ∙ z ∙ parts-length head)) in
-        let v : c < componentsIn head = omega (arith, component-le) in
-        u
-        ∙ ap (λ (k : ℕ). keyRow (keysIn head) (getD (partsIn head) k []) (take 8 (drop at rows)) ∷ []) (sym e)
-        ∙ ap (λ (p : List ℕ). keyRow (keysIn head) p (take 8 (drop at rows)) ∷ []) (part-row head c v)
-        ∙ ap (λ (x : List ℕ). x ∷ []) (sym f)
-
-    module _ (class : ℕ) (q : class ≡ position (sameList eqb t) (rowsIn count tuples)) where
-      pub class-le : class ≤ count
-      class-le = omega (arith, place-le (sameList eqb t) (rowsIn count tuples), length-rows 8 count tuples)
-
-      pub new-class : class ≡ count → keysIn head ≤ 8 → (out : List ℕ) → out ≡ paste tuples (8 * count) (rowOf t) 8
-          → (record { class = class; count = count + 1 } ≡ numberedBy (keyRowsIn head (take 8 (drop at rows))) count tuples)
-          × (out ≡ tuplesAfter (keyRowsIn head (take 8 (drop at rows))) count tuples)
-      new-class z k out o =
-          let l : length t ≡ 8 = ap length f ∙ length-tuple (keysIn head) (partIn head c) (take 8 (drop at rows)) k in
-          rw matched (numbered-new t tuples count class q z, o ∙ ap (λ (x : List ℕ). paste tuples (8 * count) x 8) (row-full t l) ∙ tuples-new t tuples count class q z)
-
-      pub old-class : (class ≡ count → ⊥)
-          → (record { class = class; count = count } ≡ numberedBy (keyRowsIn head (take 8 (drop at rows))) count tuples)
-          × (tuples ≡ tuplesAfter (keyRowsIn head (take 8 (drop at rows))) count tuples)
-      old-class z = rw matched (numbered-old t tuples count class q z, tuples-old t tuples count class q z)

@@ -1,0 +1,66 @@
+-- How the code holds key tuples and sorts role bytes. Assumes nothing.
+use mathlib.Core.Bool.{Bool, cond}
+use mathlib.Core.List.{List, [], _∷_, _++_}
+use Prim.Native.Nat.{ℕ, zero, suc}
+use lib.Dec.{eqb}
+use lib.ListN.{drop}
+use Rattle.literals.specs.declared.Time.{Time}
+use Rattle.literals.specs.declared.Role.{Role}
+use Rattle.literals.specs.Domain.{roleOf, clauseNumber, sameTime}
+use Rattle.literals.specs.Decode.{byte}
+use Rattle.literals.specs.Table.{rowOf}
+use Rattle.literals.specs.Held.{keysIn, partsIn}
+
+-- ---- lists
+
+-- the place of the first element that passes, or the length
+abbrev pub position : {A : Type 0} → (A → Bool) → List A → ℕ
+position p [] = zero
+position p (x ∷ xs) = cond (p x) zero (suc (position p xs))
+
+-- the n numbers from i on
+abbrev pub numbersFrom : ℕ → ℕ → List ℕ
+numbersFrom i zero = []
+numbersFrom i (suc n) = i ∷ numbersFrom (suc i) n
+
+abbrev pub below : ℕ → List ℕ
+below n = numbersFrom 0 n
+
+-- ---- roles
+
+-- 1 to 4 for a true condition, false condition, add or delete of that time, 0 for another time's
+abbrev pub clauseAmong : Time → Role → ℕ
+clauseAmong t r = cond (sameTime t (r .time)) (suc (clauseNumber (r .clause))) 0
+
+-- of a role byte
+unfoldable pub clauseFor : Time → ℕ → ℕ
+unfolding roleOf
+clauseFor t r = clauseAmong t (roleOf r)
+
+-- ---- key tuples, by the bytes of rows
+
+-- the first argument under the label k, or FF
+abbrev pub underKey : ℕ → List ℕ → List ℕ → ℕ
+underKey k [] vs = 255
+underKey k (b ∷ bs) [] = 255
+underKey k (b ∷ bs) (v ∷ vs) = cond (eqb k b) v (underKey k bs vs)
+
+-- those under the keys 0 to n-1
+abbrev pub underKeys : ℕ → List ℕ → List ℕ → List ℕ
+underKeys zero bs vs = []
+underKeys (suc n) bs vs = underKeys n bs vs ++ (underKey n bs vs ∷ [])
+
+-- the key tuple, as a row, of a literal's row under a component's row
+unfoldable pub keyRow : ℕ → List ℕ → List ℕ → List ℕ
+keyRow n part row = rowOf (underKeys n (drop 1 part) (drop 2 row))
+
+-- that of a literal's row under the first component's row with its relation, or none
+unfoldable pub keyRows : ℕ → List (List ℕ) → List ℕ → List (List ℕ)
+unfolding keyRow
+keyRows n [] row = []
+keyRows n (part ∷ parts) row = cond (eqb (byte row 1) (byte part 0)) (keyRow n part row ∷ []) (keyRows n parts row)
+
+-- the same, by the head of a domain
+unfoldable pub keyRowsIn : List ℕ → List ℕ → List (List ℕ)
+unfolding keysIn partsIn keyRows
+keyRowsIn head row = keyRows (keysIn head) (partsIn head) row

@@ -1,0 +1,55 @@
+// Key tuples: the component of a relation, and what a literal or a fact has under its keys.
+use super::head::Head;
+use super::head::components_in;
+use super::head::keys_in;
+use super::head::part_byte;
+use super::limits::MAX_ARGUMENTS;
+ghost use mathlib.Core.Path.{_≡_};
+ghost use Prim.Native.Nat.{_+_, _<_, _≤_};
+ghost use lib.Dec.{eqb};
+ghost use lib.ListN.{length, take, drop};
+ghost use Rattle.literals.specs.Decode.{maxComponents, byte};
+ghost use Rattle.literals.specs.Held.{keysIn, partIn, partsIn};
+ghost use Rattle.literals.specs.Keys.{position, underKey, keyRow};
+
+// The number of the first component with this relation, or how many components there are.
+pub fn component_of(head: &Head, relation: u8) -> usize
+    ensures { λ r. ⌜ r ≡ position (λ row. eqb relation (byte row 0)) (partsIn (now (head .entry))) ⌝ }
+{
+    let n = components_in(head);
+    let mut c = 0;
+    while c < n {
+        if part_byte(head, c, 0) == relation {
+            return c;
+        }
+        c += 1;
+    }
+    n
+}
+
+// The argument of the row at `at` under the first label k of the component `c`, or FF.
+fn under_key(head: &Head, c: usize, rows: &[u8], at: usize, k: u8) -> u8
+    requires { ⌜ (c < maxComponents) × (at + 8 ≤ length (now rows)) ⌝ }
+    ensures { λ r. ⌜ r ≡ underKey k (drop 1 (partIn (now (head .entry)) c)) (drop 2 (take 8 (drop at (now (rows .entry))))) ⌝ }
+{
+    let mut i = 0;
+    while i < MAX_ARGUMENTS {
+        if part_byte(head, c, i + 1) == k {
+            return rows[at + 2 + i];
+        }
+        i += 1;
+    }
+    255
+}
+
+// The key tuple of the row at `at` under the component `c`.
+pub fn key_tuple(head: &Head, c: usize, rows: &[u8], at: usize) -> [u8; 8]
+    requires { ⌜ (c < maxComponents) × (at + 8 ≤ length (now rows)) ⌝ }
+    ensures { λ r. ⌜ r ≡ keyRow (keysIn (now (head .entry))) (partIn (now (head .entry)) c) (take 8 (drop at (now (rows .entry)))) ⌝ }
+{
+    let mut t = [255u8; 8];
+    for k in 0..keys_in(head) {
+        t[k] = under_key(head, c, rows, at, k as u8);
+    }
+    t
+}
