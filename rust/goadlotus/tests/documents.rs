@@ -30,20 +30,24 @@ fn sources(folder: &Path, ending: &str) -> Vec<String> {
     found
 }
 
-/// The names in backticks right behind the start of `text`, one behind the other: "`a`, `b` and `c`; .." has three.
-fn names(mut text: &str) -> Vec<&str> {
+/// The names in backticks right behind the start of `text`, one behind the other, and what follows: "`a`, `b` and `c`; .." has three.
+fn row_of_names(mut text: &str) -> (Vec<&str>, &str) {
     let mut found = Vec::new();
     loop {
         text = text.trim_start_matches([' ', ',', '\n']);
         text = text.strip_prefix("and ").or(text.strip_prefix("to ")).unwrap_or(text);
-        let Some((name, rest)) = text.strip_prefix('`').and_then(|t| t.split_once('`')) else { return found };
+        let Some((name, rest)) = text.strip_prefix('`').and_then(|t| t.split_once('`')) else { return (found, text) };
         found.push(name);
         // a new clause, or words, end the row of names
         if !rest.starts_with([',', ' ', '\n']) {
-            return found;
+            return (found, rest);
         }
         text = rest;
     }
+}
+
+fn names(text: &str) -> Vec<&str> {
+    row_of_names(text).0
 }
 
 /// The names that a text cites behind one of these words: "edit `a`", "edits `a`, `b`".
@@ -221,6 +225,27 @@ fn theorems_cases_and_tests_are_there() {
         assert!(rust.iter().any(|source| source.contains(&format!("fn {name}("))), "{SENTENCES} cites the test {name}");
     }
     assert!(theorems.len() >= 20 && lines.len() >= 4 && tests.len() >= 5);
+}
+
+#[test]
+fn theorems_are_in_their_files() {
+    // "`leaves-30`, `leaves-31`, judging Calls": crates/judging/proofs/Calls.antt
+    let root = root();
+    let text = read(&root, PROOFS);
+    let mut tried = 0;
+    let mut rest = text.as_str();
+    while let Some(at) = rest.find('`') {
+        let (names, behind) = row_of_names(&rest[at..]);
+        rest = if names.is_empty() { &rest[at + 1..] } else { behind };
+        let mut words = behind.split(|c: char| !c.is_alphanumeric() && c != '_');
+        let (Some(krate), Some(file)) = (words.next(), words.next()) else { continue };
+        let Ok(source) = fs::read_to_string(root.join(format!("crates/{krate}/proofs/{file}.antt"))) else { continue };
+        for name in names {
+            tried += 1;
+            assert!(defines(&source, name), "{PROOFS}: no `{name}` in the proofs {krate} {file}");
+        }
+    }
+    assert!(tried >= 40, "{PROOFS}: only {tried} theorems with their files");
 }
 
 #[test]
