@@ -298,6 +298,35 @@ fn decisions_are_in_order() {
     }
 }
 
+/// The name by which a link finds a heading: "## A release" is found as #a-release.
+fn anchor(heading: &str) -> String {
+    let kept =
+        heading.trim_start_matches('#').trim().chars().filter(|c| c.is_alphanumeric() || matches!(c, ' ' | '-' | '_'));
+    kept.map(|c| if c == ' ' { '-' } else { c.to_ascii_lowercase() }).collect()
+}
+
+#[test]
+fn links_lead_somewhere() {
+    let root = root();
+    let documents = ["README.md", "rust/README.md", "samples/README.md"].map(PathBuf::from).into_iter();
+    let in_docs = fs::read_dir(root.join("docs")).expect("docs").map(|entry| entry.expect("a document").path());
+    let mut tried = 0;
+    for document in documents.map(|document| root.join(document)).chain(in_docs) {
+        let text = fs::read_to_string(&document).expect("a document");
+        for target in text.split("](").skip(1).filter_map(|rest| rest.split(')').next()) {
+            let (path, heading) = target.split_once('#').unwrap_or((target, ""));
+            let file = if path.is_empty() { document.clone() } else { document.parent().expect("a folder").join(path) };
+            assert!(file.exists(), "{document:?} links to {target}");
+            let found = || {
+                fs::read_to_string(&file).is_ok_and(|t| t.lines().any(|l| l.starts_with('#') && anchor(l) == heading))
+            };
+            assert!(heading.is_empty() || found(), "{document:?} links to {target}");
+            tried += 1;
+        }
+    }
+    assert!(tried >= 25, "only {tried} links");
+}
+
 #[test]
 fn a_wrong_citation_is_noticed() {
     let root = root();
