@@ -108,7 +108,7 @@ impl Explained<'_> {
             return text + &no_reason(row);
         }
         text += &wrap("    ", "      ", &format!("{}: {}", row.name.word(), sentences.reason()));
-        if let Some(before) = row.name.before() {
+        if let Some(before) = Name::of(row.name as u8 - 1) {
             text += &wrap("    ", "      ", &format!("not {}: {}", before.word(), sentences.reason_not(before)));
         }
         if is_end_of_journey && row.name >= Name::Bounded {

@@ -1,52 +1,8 @@
 //! The calls of the verified library, with memory enough for every file. Everything that the command shows as an answer
 //! comes from here.
 
-use crate::records::{put, FF};
-
-/// A name of a class at a moment, by its number in the report.
-#[derive(Clone, Copy, PartialEq, Eq, PartialOrd, Ord, Hash, Debug)]
-pub enum Name {
-    Unreachable = 1,
-    Irrelevant,
-    Heavy,
-    Balanced,
-    Unbalanced,
-    Bounded,
-    Unbounded,
-}
-
-impl Name {
-    pub const ALL: [Name; 7] = [
-        Name::Unreachable,
-        Name::Irrelevant,
-        Name::Heavy,
-        Name::Balanced,
-        Name::Unbalanced,
-        Name::Bounded,
-        Name::Unbounded,
-    ];
-
-    pub fn word(self) -> &'static str {
-        match self {
-            Name::Unreachable => "unreachable",
-            Name::Irrelevant => "irrelevant",
-            Name::Heavy => "heavy",
-            Name::Balanced => "balanced",
-            Name::Unbalanced => "unbalanced",
-            Name::Bounded => "bounded",
-            Name::Unbounded => "unbounded",
-        }
-    }
-
-    fn of(number: u8) -> Option<Name> {
-        Name::ALL.into_iter().find(|name| *name as u8 == number)
-    }
-
-    /// The one before it in the list, by which the tests are made.
-    pub fn before(self) -> Option<Name> {
-        Name::of(self as u8 - 1)
-    }
-}
+use crate::records::put;
+pub use goadlotus::Name;
 
 /// A row of a report: the name of a class of an action at a moment.
 #[derive(Clone, Copy, PartialEq, Eq, Debug)]
@@ -57,6 +13,12 @@ pub struct Row {
     pub name: Name,
 }
 
+impl From<goadlotus::Row> for Row {
+    fn from(row: goadlotus::Row) -> Row {
+        Row { action: row.action.into(), class: row.class.into(), moment: row.moment as u8, name: row.name }
+    }
+}
+
 /// A fact: relation and objects.
 #[derive(Clone, PartialEq, Eq, PartialOrd, Ord, Hash, Debug)]
 pub struct Fact {
@@ -64,9 +26,9 @@ pub struct Fact {
     pub objects: Vec<u8>,
 }
 
-impl Fact {
-    fn of(bytes: &[u8]) -> Fact {
-        Fact { relation: bytes[0] as usize, objects: bytes[2..2 + bytes[1] as usize].to_vec() }
+impl From<goadlotus::Fact<'_>> for Fact {
+    fn from(fact: goadlotus::Fact) -> Fact {
+        Fact { relation: fact.relation.into(), objects: fact.objects.to_vec() }
     }
 }
 
@@ -96,24 +58,15 @@ impl Judged {
     }
 }
 
-const REPORT: usize = 32_768;
-const WITNESS: usize = 512;
-
 /// Judges a domain file.
 pub fn judge(file: &[u8]) -> Judged {
-    // no row and no fact begins with FF, so the first one marks the end
-    let (mut report, mut witness) = ([FF; REPORT], [FF; WITNESS]);
-    let answer = goadlotus::judge(file, &mut report, &mut witness);
-    let rows = report.chunks_exact(4).map_while(|row| {
-        let name = Name::of(row[3])?;
-        Some(Row { action: row[0] as usize, class: row[1] as usize, moment: row[2], name })
-    });
-    let facts = witness.chunks_exact(8).take_while(|fact| fact[0] != FF).map(Fact::of);
+    let judged = goadlotus::judge_file(file);
+    let answer = judged.answer;
     Judged {
         number: answer.number,
         places: [answer.first, answer.second, answer.third],
-        rows: rows.collect(),
-        witness: facts.collect(),
+        rows: judged.rows().map(Row::from).collect(),
+        witness: judged.facts().map(Fact::from).collect(),
     }
 }
 
@@ -137,15 +90,14 @@ impl Played {
 
 /// Plays a run file on a domain file.
 pub fn play(domain: &[u8], run: &[u8]) -> Played {
-    let mut work = [0; goadlotus::WORK];
-    let answer = goadlotus::play(domain, run, &mut work);
-    let facts = work.chunks_exact(8).take_while(|fact| fact.iter().any(|&byte| byte != 0)).map(Fact::of);
+    let played = goadlotus::play_files(domain, run);
+    let answer = &played.answer;
     Played {
         number: answer.number,
         place: answer.place,
         steps: answer.steps,
         weight: answer.weight,
-        facts: facts.collect(),
+        facts: played.facts().map(Fact::from).collect(),
     }
 }
 

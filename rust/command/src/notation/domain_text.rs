@@ -1,10 +1,11 @@
 //! Reading a domain in words.
 
 use super::cursor::{unknown, Cursor, Name, Parsed};
+use super::items::Reader;
 use super::nearest::nearest;
 use super::raw::{self, Raw};
 use super::source::{Fault, Span};
-use super::words::{words, Kind};
+use super::words::Kind;
 use super::written::Written;
 use crate::domain::{role_number, ActionNames, List, Names, Time};
 use crate::records::{ACTION, CLOSING, COMPONENT, FF, LITERAL, RELATION};
@@ -18,10 +19,8 @@ pub struct DomainText {
 
 /// Reads a domain in words, or tells everything in it that can't be written.
 pub fn read(text: &str) -> Result<DomainText, Vec<Fault>> {
-    let (tokens, mut faults) = words(text);
-    let mut reader = Reader { cursor: Cursor::new(tokens), items: Vec::new(), faults: Vec::new() };
-    reader.items();
-    faults.append(&mut reader.faults);
+    let reader = Reader::read(text, Reader::item);
+    let mut faults = reader.faults;
     let mut writer = Writer::new(&reader.items, &mut faults);
     for item in &reader.items {
         writer.item(item);
@@ -69,24 +68,7 @@ enum Item {
 const ITEMS: &str = "relation, at once, lasting, template, or a literal (true, false, add, delete)";
 const LISTS: &str = "true, false, add or delete";
 
-struct Reader<'t> {
-    cursor: Cursor<'t>,
-    items: Vec<Item>,
-    faults: Vec<Fault>,
-}
-
-impl Reader<'_> {
-    fn items(&mut self) {
-        self.cursor.skip_separators();
-        while !self.cursor.is_at_end() {
-            if let Err(fault) = self.item() {
-                self.faults.push(fault);
-                self.cursor.skip_item();
-            }
-            self.cursor.skip_separators();
-        }
-    }
-
+impl Reader<'_, Item> {
     fn item(&mut self) -> Parsed<()> {
         let next_is = |sign| self.cursor.word_ahead(0).is_some() && self.cursor.sign_ahead(1, sign);
         if self.cursor.comes(&["relation"]) {
@@ -123,13 +105,6 @@ impl Reader<'_> {
             return Err(self.no_item());
         }
         self.item_end()
-    }
-
-    fn item_end(&self) -> Parsed<()> {
-        if self.cursor.is_item_end() {
-            return Ok(());
-        }
-        Err(self.cursor.unexpected("the end of the line, or `,`"))
     }
 
     /// That no part of a domain begins here.

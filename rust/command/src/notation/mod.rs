@@ -37,6 +37,7 @@
 
 pub mod cursor;
 pub mod domain_text;
+pub mod items;
 pub mod nearest;
 pub mod raw;
 pub mod refused;

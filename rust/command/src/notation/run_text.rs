@@ -1,11 +1,12 @@
 //! Reading a run in words.
 
-use super::cursor::{unknown, Cursor, Name, Parsed};
+use super::cursor::{unknown, Name, Parsed};
 use super::domain_text::counted;
+use super::items::Reader;
 use super::nearest::nearest;
 use super::raw::{self, Raw};
 use super::source::{Fault, Span};
-use super::words::{first_word, words};
+use super::words::first_word;
 use super::written::Written;
 use crate::domain::Domain;
 use crate::records::{CLOSE_RUN, CLOSE_STEP, EVENT, FF, OBJECTS, START_FACT};
@@ -25,11 +26,8 @@ pub fn is_run(text: &str) -> bool {
 /// Reads a run in words, or tells everything in it that can't be written. Without a domain relations are r0, r1, .. and
 /// actions a0, a1, ..
 pub fn read(text: &str, domain: Option<&Domain>) -> Result<RunText, Vec<Fault>> {
-    let (tokens, mut faults) = words(text);
-    let mut reader = Reader { cursor: Cursor::new(tokens), items: Vec::new(), faults: Vec::new() };
-    reader.items();
-    faults.append(&mut reader.faults);
-    let mut writer = Writer { domain, faults, text: RunText::default(), step: None, closed: true };
+    let reader = Reader::read(text, Reader::item);
+    let mut writer = Writer { domain, faults: reader.faults, text: RunText::default(), step: None, closed: true };
     writer.objects(&reader.items);
     for item in &reader.items {
         writer.item(item);
@@ -67,24 +65,7 @@ enum Item {
     NotClosed,
 }
 
-struct Reader<'t> {
-    cursor: Cursor<'t>,
-    items: Vec<Item>,
-    faults: Vec<Fault>,
-}
-
-impl Reader<'_> {
-    fn items(&mut self) {
-        self.cursor.skip_separators();
-        while !self.cursor.is_at_end() {
-            if let Err(fault) = self.item() {
-                self.faults.push(fault);
-                self.cursor.skip_item();
-            }
-            self.cursor.skip_separators();
-        }
-    }
-
+impl Reader<'_, Item> {
     fn item(&mut self) -> Parsed<()> {
         let is_name = self.cursor.sign_ahead(1, '(');
         match self.cursor.word_ahead(0) {
@@ -111,10 +92,7 @@ impl Reader<'_> {
             Some(_) if is_name => self.events()?,
             _ => return Err(self.no_item()),
         }
-        if self.cursor.is_item_end() {
-            return Ok(());
-        }
-        Err(self.cursor.unexpected("the end of the line, or `,`"))
+        self.item_end()
     }
 
     fn no_item(&self) -> Fault {

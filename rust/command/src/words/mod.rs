@@ -1,6 +1,7 @@
 //! The words of the command.
 
 pub mod explain;
+mod given;
 pub mod judge;
 pub mod mark;
 pub mod play;

@@ -1,34 +1,20 @@
 //! `goadlotus show FILE` and `goadlotus show DOMAIN RUN`: a file in words.
 
+use super::given::{load_given, Given};
 use super::write::put_out;
-use super::{misused, troubled};
 use crate::arguments::Arguments;
 use crate::domain::Domain;
-use crate::files::{domain_of, is_run, load, load_domain, load_run, run_of, shown_name, LoadedDomain, LoadedRun};
+use crate::files::{LoadedDomain, LoadedRun};
 use crate::library::play;
 use crate::notation::show;
 use crate::numbers::{says, says_at};
-use crate::output::{tell, Status};
+use crate::output::Status;
 
 pub fn run(arguments: &Arguments) -> Result<Status, Status> {
-    let (text, status) = match &arguments.files[..] {
-        [file] => {
-            let content = load(file).map_err(troubled)?;
-            match is_run(&content) {
-                true => shown_run(&run_of(&shown_name(file), content, None).map_err(troubled)?, None),
-                false => shown_domain(&domain_of(&shown_name(file), content).map_err(troubled)?),
-            }
-        }
-        [domain, run] => {
-            let loaded = load_domain(domain).map_err(troubled)?;
-            if !loaded.judged.is_read() {
-                tell(&loaded.refusal());
-                return Ok(Status::Broken);
-            }
-            let run = load_run(run, Some(&loaded.domain())).map_err(troubled)?;
-            shown_run(&run, Some((&loaded.domain(), &loaded.file)))
-        }
-        _ => return Err(misused("show takes a file, or a domain and a run")),
+    let (text, status) = match load_given("show", arguments)? {
+        Given::Domain(loaded) => shown_domain(&loaded),
+        Given::Run(run) => shown_run(&run, None),
+        Given::RunOf(loaded, run) => shown_run(&run, Some((&loaded.domain(), &loaded.file))),
     };
     put_out(arguments, text.as_bytes())?;
     Ok(status)
