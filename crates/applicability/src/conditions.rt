@@ -7,6 +7,7 @@ use literals::head::Head;
 use literals::head::actions_in;
 use literals::head::rows_of;
 use records::bytes::wide;
+use store::index::FactIndex;
 use store::index::is_held;
 ghost use mathlib.Core.Path.{_≡_};
 ghost use mathlib.Core.List.{List, map};
@@ -19,6 +20,7 @@ ghost use Rattle.literals.specs.Decode.{byte};
 ghost use Rattle.literals.specs.Table.{rowsIn};
 ghost use Rattle.literals.specs.Held.{arityIn, Held};
 ghost use Rattle.literals.specs.Matching.{momentNumber};
+ghost use Rattle.runs.specs.RunFile.{maxFacts};
 ghost use Rattle.verdict.specs.Machine.{GroundAction, Event, ownHold, overAllHold};
 ghost use Rattle.store.specs.Index.{Indexed};
 ghost use Rattle.store.specs.Rows.{factRow};
@@ -26,9 +28,8 @@ ghost use Rattle.events.specs.Coded.{groundRow, openOf, waitingOf, GroundFits, 
 ghost use Rattle.applicability.specs.Conditions.{conditionMet, rowMet, asked};
 
 // Whether the first n rows of the work memory meet a condition: clause 1 asks for its fact, clause 2 for its absence.
-fn condition_met(clause: u8, row: [u8; 8], index: &[u64], work: &[u8], n: usize) -> bool
-    requires index { ⌜ length (now index) ≡ 12289 ⌝ }
-    requires few { ⌜ n ≤ 1024 ⌝ }
+fn condition_met(clause: u8, row: [u8; 8], index: &FactIndex, work: &[u8], n: usize) -> bool
+    requires few { ⌜ n ≤ maxFacts ⌝ }
     requires facts { ⌜ 8 * n ≤ length (now work) ⌝ }
     ensures { λ r. ⌜ ((head : List ℕ) → Indexed head (now (index .entry)) (rowsIn n (now (work .entry)))
         → byte row 1 ≡ arityIn head (byte row 0) → r ≡ conditionMet clause row (rowsIn n (now (work .entry)))) ⌝ }
@@ -49,14 +50,13 @@ fn row_met(
     ground: &[u8],
     rows: &[u8],
     row: usize,
-    index: &[u64],
+    index: &FactIndex,
     work: &[u8],
     n: usize,
 ) -> bool
     requires bound { ⌜ length (now ground) ≡ 17 ⌝ }
     requires literal { ⌜ row + 8 ≤ length (now rows) ⌝ }
-    requires index { ⌜ length (now index) ≡ 12289 ⌝ }
-    requires few { ⌜ n ≤ 1024 ⌝ }
+    requires few { ⌜ n ≤ maxFacts ⌝ }
     requires facts { ⌜ 8 * n ≤ length (now work) ⌝ }
     ensures { λ r. ⌜ (Indexed (now (head .entry)) (now (index .entry)) (rowsIn n (now (work .entry)))
         → r ≡ rowMet time (now (head .entry)) (now (ground .entry)) (rowsIn n (now (work .entry)))
@@ -79,14 +79,13 @@ fn conditions_met(
     ground: &[u8],
     rows: &[u8],
     k: usize,
-    index: &[u64],
+    index: &FactIndex,
     work: &[u8],
     n: usize,
 ) -> bool
     requires bound { ⌜ length (now ground) ≡ 17 ⌝ }
     requires literals { ⌜ 8 * k ≤ length (now rows) ⌝ }
-    requires index { ⌜ length (now index) ≡ 12289 ⌝ }
-    requires few { ⌜ n ≤ 1024 ⌝ }
+    requires few { ⌜ n ≤ maxFacts ⌝ }
     requires facts { ⌜ 8 * n ≤ length (now work) ⌝ }
     ensures { λ r. ⌜ (Indexed (now (head .entry)) (now (index .entry)) (rowsIn n (now (work .entry)))
         → r ≡ all (rowMet time (now (head .entry)) (now (ground .entry)) (rowsIn n (now (work .entry)))) (rowsIn k (now (rows .entry)))) ⌝ }
@@ -105,13 +104,12 @@ pub fn ground_met(
     table: &[u8],
     time: Time,
     ground: &[u8],
-    index: &[u64],
+    index: &FactIndex,
     work: &[u8],
     n: usize,
 ) -> bool
     requires bound { ⌜ length (now ground) ≡ 17 ⌝ }
-    requires index { ⌜ length (now index) ≡ 12289 ⌝ }
-    requires few { ⌜ n ≤ 1024 ⌝ }
+    requires few { ⌜ n ≤ maxFacts ⌝ }
     requires facts { ⌜ 8 * n ≤ length (now work) ⌝ }
     ensures { λ r. ⌜ ((D : Domain) (g : GroundAction) (fs : List Fact)
         → Held D (now (head .entry)) (now (table .entry)) → GroundFits D g → now (ground .entry) ≡ groundRow g
@@ -144,15 +142,14 @@ fn event_met(
     moments: &[u8],
     rows: &[u8],
     i: usize,
-    index: &[u64],
+    index: &FactIndex,
     work: &[u8],
     n: usize,
 ) -> bool
     requires moments { ⌜ length (now moments) ≡ 16 ⌝ }
     requires events { ⌜ length (now rows) ≡ 272 ⌝ }
     requires event { ⌜ i < 16 ⌝ }
-    requires index { ⌜ length (now index) ≡ 12289 ⌝ }
-    requires few { ⌜ n ≤ 1024 ⌝ }
+    requires few { ⌜ n ≤ maxFacts ⌝ }
     requires facts { ⌜ 8 * n ≤ length (now work) ⌝ }
     ensures { λ r. ⌜ ((D : Domain) (e : Event) (fs : List Fact)
         → Held D (now (head .entry)) (now (table .entry)) → GroundFits D (e .ground)
@@ -180,12 +177,11 @@ pub fn events_met(
     moments: &[u8],
     rows: &[u8],
     count: usize,
-    index: &[u64],
+    index: &FactIndex,
     work: &[u8],
     n: usize,
 ) -> bool
-    requires index { ⌜ length (now index) ≡ 12289 ⌝ }
-    requires few { ⌜ n ≤ 1024 ⌝ }
+    requires few { ⌜ n ≤ maxFacts ⌝ }
     requires facts { ⌜ 8 * n ≤ length (now work) ⌝ }
     requires moments { ⌜ length (now moments) ≡ 16 ⌝ }
     requires events { ⌜ length (now rows) ≡ 272 ⌝ }
@@ -212,14 +208,13 @@ fn entry_met(
     table: &[u8],
     rows: &[u8],
     i: usize,
-    index: &[u64],
+    index: &FactIndex,
     work: &[u8],
     n: usize,
 ) -> bool
     requires entries { ⌜ length (now rows) ≡ 544 ⌝ }
     requires entry { ⌜ i < 32 ⌝ }
-    requires index { ⌜ length (now index) ≡ 12289 ⌝ }
-    requires few { ⌜ n ≤ 1024 ⌝ }
+    requires few { ⌜ n ≤ maxFacts ⌝ }
     requires facts { ⌜ 8 * n ≤ length (now work) ⌝ }
     ensures { λ r. ⌜ ((D : Domain) (g : GroundAction) (fs : List Fact)
         → Held D (now (head .entry)) (now (table .entry)) → GroundFits D g
@@ -237,12 +232,11 @@ pub fn open_met(
     table: &[u8],
     rows: &[u8],
     count: usize,
-    index: &[u64],
+    index: &FactIndex,
     work: &[u8],
     n: usize,
 ) -> bool
-    requires index { ⌜ length (now index) ≡ 12289 ⌝ }
-    requires few { ⌜ n ≤ 1024 ⌝ }
+    requires few { ⌜ n ≤ maxFacts ⌝ }
     requires facts { ⌜ 8 * n ≤ length (now work) ⌝ }
     requires entries { ⌜ length (now rows) ≡ 544 ⌝ }
     ensures { λ r. ⌜ ((D : Domain) (gs : List GroundAction) (fs : List Fact)

@@ -16,7 +16,7 @@ use Rattle.literals.specs.Decode.{byte}
 use Rattle.literals.specs.Table.{rowsIn}
 use Rattle.literals.proofs.Rows.{part-at, rows-more, rows-end, rows-snoc}
 use Rattle.literals.proofs.KeyRows.{length-rows, rows-at}
-use Rattle.store.specs.Index.{Sized, Indexed}
+use Rattle.store.specs.Index.{Sized, Indexed, noteAt}
 use Rattle.store.specs.Rows.{hasRow}
 use Rattle.effects.specs.Effects.{Marked, flat, joinRow, atMost, SizedRow, HoldsJoined, stays, keptOf}
 use Rattle.effects.proofs.FilledRows.{Filled, filled-rows, filled-own, left-out, kept-few, kept-next, kept-more, joinedOf, joined-next, joined-on, stopped-count, stopped-rows, joined-all, joined-out}
@@ -54,9 +54,8 @@ pub record Keeping (struck : List (List ℕ)) (work : List ℕ) (n : ℕ) (head 
   pub reach : i ≤ n
   pub few : k ≤ i
   pub filled : Filled (keptOf struck work i) k out out₀
-  pub same : length index ≡ length index₀
   pub indexed : Indexed head index₀ (rowsIn n work) → Indexed head index (keptOf struck work i ++ rowsIn (n - i) (drop (8 * i) work))
-  pub beside : getD index 12288 0 ≡ getD index₀ 12288 0
+  pub beside : getD index noteAt 0 ≡ getD index₀ noteAt 0
 
 pub keeping-begin : (struck : List (List ℕ)) (work : List ℕ) (n : ℕ) (head out index : List ℕ) → Keeping struck work n head out index out index 0 0
 keeping-begin struck work n head out index =
@@ -64,7 +63,6 @@ keeping-begin struck work n head out index =
       reach = omega arith;
       few = omega arith;
       filled = filled-own 0 out (omega arith);
-      same = refl;
       indexed = λ I. let e : n ≡ n - 0 = omega arith in subst (λ (k : ℕ). Indexed head index (rowsIn k work)) e I;
       beside = refl;
     }
@@ -78,8 +76,8 @@ module _ {struck : List (List ℕ)} {work : List ℕ} {n : ℕ} {head out₀ ind
       → next ≡ over (flat (rowsIn k out ++ filterBy (stays struck) (read ∷ []))) out
       → ((before after : List (List ℕ)) → Indexed head index (before ++ (read ∷ after))
       → Indexed head index′ ((before ++ filterBy (stays struck) (read ∷ [])) ++ after))
-      → length index′ ≡ length index → getD index′ 12288 0 ≡ getD index 12288 0 → Keeping struck work n head out₀ index₀ next index′ m (i + 1)
-  keeping-more h w o {m} {next} {index′} e f x s b =
+      → getD index′ noteAt 0 ≡ getD index noteAt 0 → Keeping struck work n head out₀ index₀ next index′ m (i + 1)
+  keeping-more h w o {m} {next} {index′} e f x b =
       let q = K .few in
       let F = kept-more struck work i k (omega arith) q (omega arith) (K .filled) e f in
       let c = F .count in
@@ -88,7 +86,6 @@ module _ {struck : List (List ℕ)} {work : List ℕ} {n : ℕ} {head out₀ ind
         reach = omega arith;
         few = omega arith;
         filled = F;
-        same = s ∙ K .same;
         indexed =
             λ I.
             subst (λ (l : List (List ℕ)). Indexed head index′ (l ++ rowsIn (n - (i + 1)) (drop (8 * (i + 1)) work))) (sym (kept-next struck work i))
@@ -127,9 +124,8 @@ module _ {head index : List ℕ} (rows : List (List ℕ)) {row at : List ℕ} (e
 pub record Joined (row head out index next index′ : List ℕ) (n r : ℕ) : Type 0 where
   pub few : (n ≤ r) × (r ≤ 1025)
   pub joined : Indexed head index (rowsIn n out) → SizedRow head row → HoldsJoined head (joinRow (rowsIn n out) row) out r next index′
-  pub beside : getD index′ 12288 0 ≡ getD index 12288 0
+  pub beside : getD index′ noteAt 0 ≡ getD index noteAt 0
   pub room : length next ≡ length out
-  pub same : length index′ ≡ length index
 
 -- where the loop over the rows that join stands
 pub record Joining (adds : List ℕ) (m count : ℕ) (head out₀ index₀ out index : List ℕ) (n j : ℕ) : Type 0 where
@@ -137,11 +133,10 @@ pub record Joining (adds : List ℕ) (m count : ℕ) (head out₀ index₀ out i
   pub least : count ≤ n
   pub most : n ≤ 1024
   pub room : length out ≡ length out₀
-  pub same : length index ≡ length index₀
   pub filled : Indexed head index₀ (rowsIn count out₀) → Sized head (rowsIn m adds) → Filled (joinedOf (rowsIn count out₀) adds j) n out out₀
   pub indexed : Indexed head index₀ (rowsIn count out₀) → Sized head (rowsIn m adds)
       → Indexed head index (joinedOf (rowsIn count out₀) adds j)
-  pub beside : getD index 12288 0 ≡ getD index₀ 12288 0
+  pub beside : getD index noteAt 0 ≡ getD index₀ noteAt 0
 
 pub joining-begin : (adds : List ℕ) (m count : ℕ) (head out index : List ℕ) → count ≤ 1024 → length out ≡ 8192
     → Joining adds m count head out index out index count 0
@@ -151,7 +146,6 @@ joining-begin adds m count head out index h w =
       least = omega arith;
       most = h;
       room = refl;
-      same = refl;
       filled = λ I S. filled-own count out (omega arith);
       indexed = λ I S. I;
       beside = refl;
@@ -205,7 +199,6 @@ module _ {adds : List ℕ} {m count : ℕ} {head out₀ index₀ out index : Lis
           least = omega arith;
           most = k;
           room = J .room ∙ K .room;
-          same = J .same ∙ K .same;
           filled = λ I S. filled-on I S k;
           indexed = λ I S. indexed-on I S k;
           beside = J .beside ∙ K .beside;

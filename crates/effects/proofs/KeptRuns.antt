@@ -17,7 +17,7 @@ use Rattle.literals.specs.Table.{rowsIn}
 use Rattle.literals.proofs.Rows.{rows-last, rows-whole}
 use Rattle.literals.proofs.KeyRows.{length-rows, rows-at}
 use Rattle.store.specs.Rows.{hasRow}
-use Rattle.store.specs.Index.{Indexed}
+use Rattle.store.specs.Index.{noteAt, Indexed}
 use Rattle.effects.specs.Effects.{Once, struckOf, FirstStruck, flat, stays, keptOf}
 use Rattle.effects.proofs.Joins.{none-left, row-sound, row-self}
 use Rattle.effects.proofs.FilledRows.{rows-rest, flat-rows, length-whole, rows-own, Filled, filled-length, filled-more, kept-in, left-count, left-rows, kept-next}
@@ -132,7 +132,6 @@ module _ {struck : List (List ℕ)} {work : List ℕ} {n : ℕ} {head out₀ ind
             subst (λ (l : List (List ℕ)). Filled l m next out₀) run-all
             (filled-more (K .filled) (rowsIn (p - i) rest) (rows-whole (p - i) rest (omega arith)) (omega arith) (omega arith)
             (f ∙ ap (λ (z : ℕ). paste out (8 * k) (take z rest) (length (take z rest))) v ∙ put-run k (p - i) out rest (omega arith)));
-        same = K .same;
         indexed =
             λ I.
             subst (Indexed head index)
@@ -146,11 +145,11 @@ module _ {struck : List (List ℕ)} {work : List ℕ} {n : ℕ} {head out₀ ind
   -- and that one, which leaves the index
   pub keeping-struck : p < n → {index′ : List ℕ}
       → ((before after : List (List ℕ)) → Indexed head index (before ++ (take 8 (drop (8 * p) work) ∷ after)) → Indexed head index′ (before ++ after))
-      → length index′ ≡ length index → getD index′ 12288 0 ≡ getD index 12288 0 → Keeping struck work n head out₀ index₀ next index′ m (p + 1)
-  keeping-struck h x s b =
+      → getD index′ noteAt 0 ≡ getD index noteAt 0 → Keeping struck work n head out₀ index₀ next index′ m (p + 1)
+  keeping-struck h x b =
       let row : List ℕ = take 8 (drop (8 * p) work) in
       let t = S .found h in
       let g = keeping-run .few in
       let r = filled-length (keeping-run .filled) in
       keeping-more keeping-run h w o (left-count struck row m next t) (left-rows struck row m next t (omega arith))
-      (λ before after I. left-indexed struck row before after t (x before after I)) s b
+      (λ before after I. left-indexed struck row before after t (x before after I)) b

@@ -18,6 +18,7 @@ use Rattle.literals.specs.Matching.{own, withRole}
 use Rattle.verdict.specs.Binding.{bind}
 use Rattle.verdict.specs.Judged.{factBytes}
 use Rattle.verdict.specs.Machine.{Event, stepFacts, factsAfter}
+use Rattle.runs.specs.RunFile.{maxFacts}
 use Rattle.store.specs.Index.{Indexed}
 use Rattle.store.specs.Rows.{factRow, hasRow}
 use Rattle.literals.specs.Keys.{clauseFor}
@@ -54,9 +55,9 @@ SizedRow head row = byte row 1 ≡ arityIn head (byte row 0)
 -- what joining leaves where these are the rows then, in a memory that was `old` before: how many they are, their bytes, and
 -- their index where they fit
 pub record HoldsJoined (head : List ℕ) (rows : List (List ℕ)) (old : List ℕ) (r : ℕ) (out index : List ℕ) : Type 0 where
-  pub count : r ≡ atMost 1024 (length rows)
-  pub bytes : out ≡ over (flat (take 1024 rows)) old
-  pub indexed : r ≤ 1024 → Indexed head index rows
+  pub count : r ≡ atMost maxFacts (length rows)
+  pub bytes : out ≡ over (flat (take maxFacts rows)) old
+  pub indexed : r ≤ maxFacts → Indexed head index rows
 
 -- no row stands twice
 abbrev pub Once : List (List ℕ) → Type 0
@@ -100,7 +101,7 @@ stepEffects D es c = flatMap (λ e. eventEffects D e c) es
 pub record HoldsAfter (D : Domain) (fs : List Fact) (es : List Event) (head old : List ℕ) (r : After) (out index : List ℕ)
     : Type 0 where
   pub kept : r .kept ≡ length (filterBy (λ (f : Fact). not (elem sameFact f (stepFacts D es Delete))) fs)
-  pub facts : r .facts ≡ atMost 1024 (length (factsAfter D fs es))
-  pub written : out ≡ over (factBytes (take 1024 (factsAfter D fs es))) old
-  pub held : length (factsAfter D fs es) ≤ 1024 → take (8 * length (factsAfter D fs es)) out ≡ factBytes (factsAfter D fs es)
-  pub indexed : length (factsAfter D fs es) ≤ 1024 → Indexed head index (map factRow (factsAfter D fs es))
+  pub facts : r .facts ≡ atMost maxFacts (length (factsAfter D fs es))
+  pub written : out ≡ over (factBytes (take maxFacts (factsAfter D fs es))) old
+  pub held : length (factsAfter D fs es) ≤ maxFacts → take (8 * length (factsAfter D fs es)) out ≡ factBytes (factsAfter D fs es)
+  pub indexed : length (factsAfter D fs es) ≤ maxFacts → Indexed head index (map factRow (factsAfter D fs es))

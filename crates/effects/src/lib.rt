@@ -6,8 +6,10 @@ use literals::clause_for;
 use literals::head::Head;
 use literals::head::actions_in;
 use literals::head::rows_of;
+use literals::limits::MAX_FACTS;
 use records::bytes::put_bytes;
 use records::bytes::wide;
+use store::index::FactIndex;
 use store::index::enter;
 use store::index::is_held;
 use store::index::leave;
@@ -23,8 +25,9 @@ ghost use Rattle.literals.specs.Domain.{Fact, clauseNumber, Domain};
 ghost use Rattle.literals.specs.Table.{rowsIn};
 ghost use Rattle.literals.specs.Held.{Held};
 ghost use Rattle.literals.specs.Matching.{momentNumber};
+ghost use Rattle.runs.specs.RunFile.{maxFacts};
 ghost use Rattle.verdict.specs.Machine.{Event};
-ghost use Rattle.store.specs.Index.{Sized, Indexed};
+ghost use Rattle.store.specs.Index.{noteAt, Sized, Indexed};
 ghost use Rattle.store.specs.Rows.{factRow, hasRow};
 ghost use Rattle.events.specs.Coded.{groundRow, waitingOf, GroundFits, EventsFit, timeOf};
 ghost use Rattle.effects.specs.Effects.{effectRows, flat, eventEffects, stepEffects, HoldsAfter};
@@ -78,7 +81,7 @@ fn struck_from(
     struck: &[u8],
     m: usize,
 ) -> usize
-    requires few { ⌜ n ≤ 1024 ⌝ }
+    requires few { ⌜ n ≤ maxFacts ⌝ }
     requires rows { ⌜ 8 * n ≤ length (now work) ⌝ }
     requires from { ⌜ from ≤ n ⌝ }
     requires marks { ⌜ length (now marks) ≡ 256 ⌝ }
@@ -109,20 +112,19 @@ fn keep_rows(
     struck: &[u8],
     m: usize,
     out: &mut [u8],
-    index: &mut [u64],
+    index: &mut FactIndex,
 ) -> usize
-    requires few { ⌜ n ≤ 1024 ⌝ }
+    requires few { ⌜ n ≤ maxFacts ⌝ }
     requires rows { ⌜ 8 * n ≤ length (now work) ⌝ }
     requires struck { ⌜ 8 * m ≤ length (now struck) ⌝ }
     requires room { ⌜ 8 * n ≤ length (now out) ⌝ }
-    requires index { ⌜ length (now index) ≡ 12289 ⌝ }
     requires once { ⌜ Once (rowsIn n (now work)) ⌝ }
     ensures count { λ r. ⌜ r ≡ length (keptOf (rowsIn m (now (struck .entry))) (now (work .entry)) n) ⌝ }
     ensures rows { λ _. ⌜ now (out .exit)
         ≡ over (flat (keptOf (rowsIn m (now (struck .entry))) (now (work .entry)) n)) (now (out .entry)) ⌝ }
     ensures indexed { λ _. ⌜ (Indexed (now (head .entry)) (now (index .entry)) (rowsIn n (now (work .entry)))
         → Indexed (now (head .entry)) (now (index .exit)) (keptOf (rowsIn m (now (struck .entry))) (now (work .entry)) n)) ⌝ }
-    ensures beside { λ _. ⌜ getD (now (index .exit)) 12288 0 ≡ getD (now (index .entry)) 12288 0 ⌝ }
+    ensures beside { λ _. ⌜ getD (now (index .exit)) noteAt 0 ≡ getD (now (index .entry)) noteAt 0 ⌝ }
 {
     let mut marks = [0u8; 256];
     put_marks(&mut marks, struck, m);
@@ -151,25 +153,24 @@ fn join_row(
     at: usize,
     out: &mut [u8],
     n: usize,
-    index: &mut [u64],
+    index: &mut FactIndex,
 ) -> usize
     requires row { ⌜ at + 8 ≤ length (now adds) ⌝ }
-    requires few { ⌜ n ≤ 1024 ⌝ }
+    requires few { ⌜ n ≤ maxFacts ⌝ }
     requires room { ⌜ length (now out) ≡ 8192 ⌝ }
-    requires index { ⌜ length (now index) ≡ 12289 ⌝ }
-    ensures few { λ r. ⌜ (n ≤ r) × (r ≤ 1025) ⌝ }
+    ensures few { λ r. ⌜ (n ≤ r) × (r ≤ maxFacts + 1) ⌝ }
     ensures joined { λ r. ⌜ (Indexed (now (head .entry)) (now (index .entry)) (rowsIn n (now (out .entry)))
         → SizedRow (now (head .entry)) (take 8 (drop at (now (adds .entry))))
         → HoldsJoined (now (head .entry)) (joinRow (rowsIn n (now (out .entry))) (take 8 (drop at (now (adds .entry)))))
         (now (out .entry)) r (now (out .exit)) (now (index .exit))) ⌝ }
-    ensures beside { λ _. ⌜ getD (now (index .exit)) 12288 0 ≡ getD (now (index .entry)) 12288 0 ⌝ }
+    ensures beside { λ _. ⌜ getD (now (index .exit)) noteAt 0 ≡ getD (now (index .entry)) noteAt 0 ⌝ }
 {
     let row = row_at(adds, at);
     if is_held(index, out, n, row) {
         return n;
     }
-    if 1024 <= n {
-        return 1025;
+    if MAX_FACTS <= n {
+        return MAX_FACTS + 1;
     }
     put_row(out, n, row);
     enter(index, head, adds, at);
@@ -184,24 +185,23 @@ fn join_rows(
     m: usize,
     out: &mut [u8],
     count: usize,
-    index: &mut [u64],
+    index: &mut FactIndex,
 ) -> usize
-    requires few { ⌜ m ≤ 1024 ⌝ }
+    requires few { ⌜ m ≤ maxFacts ⌝ }
     requires rows { ⌜ 8 * m ≤ length (now adds) ⌝ }
-    requires count { ⌜ count ≤ 1024 ⌝ }
+    requires count { ⌜ count ≤ maxFacts ⌝ }
     requires room { ⌜ length (now out) ≡ 8192 ⌝ }
-    requires index { ⌜ length (now index) ≡ 12289 ⌝ }
-    ensures few { λ r. ⌜ (count ≤ r) × (r ≤ 1025) ⌝ }
+    ensures few { λ r. ⌜ (count ≤ r) × (r ≤ maxFacts + 1) ⌝ }
     ensures joined { λ r. ⌜ (Indexed (now (head .entry)) (now (index .entry)) (rowsIn count (now (out .entry)))
         → Sized (now (head .entry)) (rowsIn m (now (adds .entry)))
         → HoldsJoined (now (head .entry)) (joinRows (rowsIn count (now (out .entry))) (rowsIn m (now (adds .entry))))
         (now (out .entry)) r (now (out .exit)) (now (index .exit))) ⌝ }
-    ensures beside { λ _. ⌜ getD (now (index .exit)) 12288 0 ≡ getD (now (index .entry)) 12288 0 ⌝ }
+    ensures beside { λ _. ⌜ getD (now (index .exit)) noteAt 0 ≡ getD (now (index .entry)) noteAt 0 ⌝ }
 {
     let mut n = count;
     for j in 0..m {
         n = join_row(head, adds, 8 * j, out, n, index);
-        if 1024 < n {
+        if MAX_FACTS < n {
             return n;
         }
     }
@@ -351,7 +351,7 @@ fn step_effects(
     requires moments { ⌜ length (now moments) ≡ 16 ⌝ }
     requires events { ⌜ length (now events) ≡ 272 ⌝ }
     requires room { ⌜ length (now out) ≡ 8192 ⌝ }
-    ensures few { λ r. ⌜ r ≤ 1024 ⌝ }
+    ensures few { λ r. ⌜ r ≤ maxFacts ⌝ }
     ensures effects { λ r. ⌜ ((D : Domain) (es : List Event) (c : Clause)
         → Held D (now (head .entry)) (now (table .entry))
         → record { count = count; moments = now (moments .entry); rows = now (events .entry) } ≡ waitingOf es → EventsFit D es
@@ -386,25 +386,24 @@ pub fn facts_after(
     work: &[u8],
     n: usize,
     out: &mut [u8],
-    index: &mut [u64],
+    index: &mut FactIndex,
     effects: &mut [u8],
 ) -> After
-    requires few { ⌜ n ≤ 1024 ⌝ }
+    requires few { ⌜ n ≤ maxFacts ⌝ }
     requires rows { ⌜ 8 * n ≤ length (now work) ⌝ }
     requires room { ⌜ length (now out) ≡ 8192 ⌝ }
-    requires index { ⌜ length (now index) ≡ 12289 ⌝ }
     requires once { ⌜ Once (rowsIn n (now work)) ⌝ }
     requires moments { ⌜ length (now moments) ≡ 16 ⌝ }
     requires events { ⌜ length (now events) ≡ 272 ⌝ }
     requires effects { ⌜ length (now effects) ≡ 8192 ⌝ }
-    ensures few { λ r. ⌜ (r .kept ≤ n) × (r .kept ≤ r .facts) × (r .facts ≤ 1025) ⌝ }
+    ensures few { λ r. ⌜ (r .kept ≤ n) × (r .kept ≤ r .facts) × (r .facts ≤ maxFacts + 1) ⌝ }
     ensures after { λ r. ⌜ ((D : Domain) (es : List Event) (fs : List Fact)
         → Held D (now (head .entry)) (now (table .entry))
         → record { count = count; moments = now (moments .entry); rows = now (events .entry) } ≡ waitingOf es → EventsFit D es
         → length es ≤ 16 → rowsIn n (now (work .entry)) ≡ map factRow fs
         → Indexed (now (head .entry)) (now (index .entry)) (map factRow fs)
         → HoldsAfter D fs es (now (head .entry)) (now (out .entry)) r (now (out .exit)) (now (index .exit))) ⌝ }
-    ensures beside { λ _. ⌜ getD (now (index .exit)) 12288 0 ≡ getD (now (index .entry)) 12288 0 ⌝ }
+    ensures beside { λ _. ⌜ getD (now (index .exit)) noteAt 0 ≡ getD (now (index .entry)) noteAt 0 ⌝ }
 {
     let m = step_effects(head, table, moments, events, count, 4, effects);
     let kept = keep_rows(head, work, n, effects, m, out, index);

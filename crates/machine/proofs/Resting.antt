@@ -5,7 +5,7 @@ use mathlib.Core.List.{List, [], _∷_, _++_, map, flatMap, append-nil, List·Me
 use Prim.Native.Nat.{ℕ, _≤_, max}
 use native.Mathlib.Omega.{arith}
 use lib.Dec.{eqb}
-use lib.ListN.{length, getD, set}
+use lib.ListN.{length, getD, set, length-set}
 use lib.Seq.{getD-set-same, getD-set-other}
 use borrow.Author.Tests.{le-ltb}
 use Rattle.records.specs.Lists.{all, elem}
@@ -13,7 +13,7 @@ use Rattle.records.specs.Memory.{over}
 use Rattle.records.proofs.Lists.{filter-all}
 use Rattle.literals.specs.Domain.{Fact, sameFact, Domain}
 use Rattle.verdict.specs.Machine.{Event, State, overAllHold, stepFacts, factsAfter, next, topWeight}
-use Rattle.store.specs.Index.{Indexed}
+use Rattle.store.specs.Index.{noteAt, factIndex, Indexed}
 use Rattle.machine.specs.declared.State.{State as Holding}
 use Rattle.runs.specs.RunFile.{maxFacts, maxRunning}
 use Rattle.runs.specs.Play.{tooLarge, heldBytes}
@@ -99,10 +99,11 @@ module _ (D : Domain) (s : State) where
 
 module _ (head : List ℕ) where
   -- the index says nothing of the number behind it
-  pub indexed-set : (index : List ℕ) (v : ℕ) (rows : List (List ℕ)) → Indexed head index rows → Indexed head (set index 12288 v) rows
+  pub indexed-set : (index : List ℕ) (v : ℕ) (rows : List (List ℕ)) → Indexed head index rows → Indexed head (set index noteAt v) rows
   indexed-set index v rows h =
       record {
-        totals = λ place l. getD-set-other index 12288 place v 0 (λ e. omega arith) ∙ h .totals place l;
+        numbers = length-set index noteAt v ∙ h .numbers;
+        totals = λ place l. getD-set-other index noteAt place v 0 (λ e. omega arith) ∙ h .totals place l;
         sized = h .sized;
       }
 
@@ -111,12 +112,12 @@ module _ (head : List ℕ) where
     noted-rest index s h = rw (rest-state D s) h
 
     -- noted that the over-all conditions hold
-    pub noted-set : (index : List ℕ) (s : State) → Noted D head index s → all (overAllHold D (s .facts)) (s .running) ≡ true → Noted D head (set index 12288 1) (closeState D s [])
-    noted-set index s n h = noted-rest (set index 12288 1) s (record { indexed = indexed-set index 1 (map factRow (s .facts)) (n .indexed); settled = λ e. h })
+    pub noted-set : (index : List ℕ) (s : State) → Noted D head index s → all (overAllHold D (s .facts)) (s .running) ≡ true → Noted D head (set index noteAt 1) (closeState D s [])
+    noted-set index s n h = noted-rest (set index noteAt 1) s (record { indexed = indexed-set index 1 (map factRow (s .facts)) (n .indexed); settled = λ e. h })
 
     -- nothing is noted yet
-    pub noted-anew : (index : List ℕ) (s : State) → Indexed head index (map factRow (s .facts)) → getD index 12288 0 ≡ 0 → Noted D head index s
+    pub noted-anew : (index : List ℕ) (s : State) → Indexed head index (map factRow (s .facts)) → getD index noteAt 0 ≡ 0 → Noted D head index s
     noted-anew index s h z = record { indexed = h; settled = λ e. absurd (omega arith) }
 
-pub unset : (index : List ℕ) → length index ≡ 12289 → getD (set index 12288 0) 12288 0 ≡ 0
-unset index l = getD-set-same index 12288 0 0 (omega arith)
+pub unset : (index : List ℕ) → length index ≡ factIndex → getD (set index noteAt 0) noteAt 0 ≡ 0
+unset index l = getD-set-same index noteAt 0 0 (omega arith)

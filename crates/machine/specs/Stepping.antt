@@ -11,7 +11,7 @@ use Rattle.literals.specs.Domain.{Fact, sameFact, Domain}
 use Rattle.literals.specs.Table.{rowsIn}
 use Rattle.literals.specs.Held.{Held}
 use Rattle.verdict.specs.Machine.{Event, State, next, topWeight, overAllHold}
-use Rattle.store.specs.Index.{Indexed}
+use Rattle.store.specs.Index.{noteAt, Indexed}
 use Rattle.machine.specs.declared.State.{State as Holding}
 use Rattle.runs.specs.RunFile.{maxFacts, maxRunning, maxEvents}
 use Rattle.runs.specs.Play.{workBytes, forbidden, tooLarge, heldBytes}
@@ -55,7 +55,7 @@ pub record StepHeld (D : Domain) (s : State) (es : List Event) (head table : Lis
 -- known to hold
 pub record Noted (D : Domain) (head index : List ℕ) (s : State) : Type 0 where
   pub indexed : Indexed head index (map factRow (s .facts))
-  pub settled : getD index 12288 0 ≡ 1 → all (overAllHold D (s .facts)) (s .running) ≡ true
+  pub settled : getD index noteAt 0 ≡ 1 → all (overAllHold D (s .facts)) (s .running) ≡ true
 
 -- ---- what the code relies on
 

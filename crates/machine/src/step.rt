@@ -9,8 +9,11 @@ use events::Waiting;
 use events::openings::ends_open;
 use events::openings::open_after;
 use literals::head::Head;
+use literals::limits::MAX_FACTS;
 use records::bytes::put_bytes;
 use records::bytes::put_zeros;
+use store::index::FactIndex;
+use store::index::NOTE;
 use store::weighing::top_from;
 ghost use mathlib.Core.Path.{_≡_};
 ghost use mathlib.Core.List.{List, [], _++_, map};
@@ -21,7 +24,8 @@ ghost use Rattle.literals.specs.Domain.{Domain};
 ghost use Rattle.literals.specs.Table.{rowsIn};
 ghost use Rattle.literals.specs.Held.{Held};
 ghost use Rattle.verdict.specs.Machine.{Event, State as MachineState, topWeight};
-ghost use Rattle.store.specs.Index.{Indexed};
+ghost use Rattle.store.specs.Index.{noteAt, Indexed};
+ghost use Rattle.runs.specs.RunFile.{maxFacts};
 ghost use Rattle.runs.specs.Play.{forbidden};
 ghost use Rattle.store.specs.Rows.{factRow};
 ghost use Rattle.events.specs.Coded.{openOf};
@@ -44,9 +48,9 @@ struct Advanced {
 
 // The first n rows of a memory in place of the rows that the work memory holds; zeros where it held more.
 fn settle(work: &mut [u8], held: usize, rows: &[u8], n: usize)
-    requires held_few { ⌜ held ≤ 1024 ⌝ }
+    requires held_few { ⌜ held ≤ maxFacts ⌝ }
     requires held { ⌜ 8 * held ≤ length (now work) ⌝ }
-    requires few { ⌜ n ≤ 1024 ⌝ }
+    requires few { ⌜ n ≤ maxFacts ⌝ }
     requires room { ⌜ 8 * n ≤ length (now work) ⌝ }
     requires rows { ⌜ 8 * n ≤ length (now rows) ⌝ }
     ensures { λ _. ⌜ now (work .exit)
@@ -68,15 +72,14 @@ fn forbidden(
     moments: &[u8],
     events: &[u8],
     count: usize,
-    index: &[u64],
+    index: &FactIndex,
     work: &[u8],
     facts: usize,
 ) -> u64
     requires entries { ⌜ length (now rows) ≡ 544 ⌝ }
     requires moments { ⌜ length (now moments) ≡ 16 ⌝ }
     requires events { ⌜ length (now events) ≡ 272 ⌝ }
-    requires index { ⌜ length (now index) ≡ 12289 ⌝ }
-    requires few { ⌜ facts ≤ 1024 ⌝ }
+    requires few { ⌜ facts ≤ maxFacts ⌝ }
     requires facts { ⌜ 8 * facts ≤ length (now work) ⌝ }
     ensures { λ r. ⌜ ((D : Domain) (s : MachineState) (es : List Event)
         → Held D (now (head .entry)) (now (table .entry)) → Kept D s es
@@ -109,7 +112,7 @@ fn advance(
     moments: &[u8],
     events: &[u8],
     count: usize,
-    index: &mut [u64],
+    index: &mut FactIndex,
     work: &mut [u8],
     facts: usize,
     weight: usize,
@@ -117,7 +120,6 @@ fn advance(
     effects: &mut [u8],
 ) -> Advanced
     requires closable { ⌜ Closable (heldAs facts n (now rows) count (now moments) (now events)) (now work) ⌝ }
-    requires index { ⌜ length (now index) ≡ 12289 ⌝ }
     requires entries { ⌜ length (now rows) ≡ 544 ⌝ }
     requires moments { ⌜ length (now moments) ≡ 16 ⌝ }
     requires events { ⌜ length (now events) ≡ 272 ⌝ }
@@ -138,7 +140,7 @@ fn advance(
         → forbidden D s es ≡ 0
         → Indexed (now (head .entry)) (now (index .entry)) (map factRow (s .facts))
         → r .number ≡ 0 → Indexed (now (head .entry)) (now (index .exit)) (map factRow (closeState D s es .facts))) ⌝ }
-    ensures beside { λ _. ⌜ getD (now (index .exit)) 12288 0 ≡ getD (now (index .entry)) 12288 0 ⌝ }
+    ensures beside { λ _. ⌜ getD (now (index .exit)) noteAt 0 ≡ getD (now (index .entry)) noteAt 0 ⌝ }
 {
     let after = facts_after(
         head,
@@ -153,7 +155,7 @@ fn advance(
         effects,
     );
     let then = after.facts;
-    if 1024 < then {
+    if MAX_FACTS < then {
         return Advanced {
             number: 52,
             facts,
@@ -187,13 +189,12 @@ fn rest(
     table: &[u8],
     rows: &[u8],
     n: usize,
-    index: &mut [u64],
+    index: &mut FactIndex,
     work: &[u8],
     facts: usize,
 ) -> u64
     requires entries { ⌜ length (now rows) ≡ 544 ⌝ }
-    requires index { ⌜ length (now index) ≡ 12289 ⌝ }
-    requires few { ⌜ facts ≤ 1024 ⌝ }
+    requires few { ⌜ facts ≤ maxFacts ⌝ }
     requires facts { ⌜ 8 * facts ≤ length (now work) ⌝ }
     ensures { λ r. ⌜ ((D : Domain) (s : MachineState)
         → Held D (now (head .entry)) (now (table .entry)) → Kept D s []
@@ -202,11 +203,11 @@ fn rest(
         → Noted D (now (head .entry)) (now (index .entry)) s
         → (r ≡ closeStop D s []) × (r ≡ 0 → Noted D (now (head .entry)) (now (index .exit)) (closeState D s []))) ⌝ }
 {
-    if index[12288] != 1 {
+    if index[NOTE] != 1 {
         if !open_met(head, table, rows, n, index, work, facts) {
             return 55;
         }
-        index[12288] = 1;
+        index[NOTE] = 1;
     }
     0
 }
@@ -221,12 +222,11 @@ impl State {
         table: &[u8],
         work: &mut [u8],
         weight: usize,
-        index: &mut [u64],
+        index: &mut FactIndex,
         spare: &mut [u8],
         effects: &mut [u8],
     ) -> Closed
         requires closable { ⌜ Closable self (now work) ⌝ }
-        requires index { ⌜ length (now index) ≡ 12289 ⌝ }
         requires spare { ⌜ length (now spare) ≡ 8192 ⌝ }
         requires effects { ⌜ length (now effects) ≡ 8192 ⌝ }
         ensures leaves { λ r. ⌜ ((D : Domain) (s : MachineState) (es : List Event) (old : List ℕ)
@@ -249,7 +249,7 @@ impl State {
                 weight,
             };
         }
-        index[12288] = 0;
+        index[NOTE] = 0;
         let moments = waiting.moments;
         let events = waiting.rows;
         let number = forbidden(

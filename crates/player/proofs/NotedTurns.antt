@@ -6,13 +6,13 @@ use mathlib.Core.List.{List, [], _∷_, _++_, map, map-append, List·Memᴰ·not
 use Prim.Native.Nat.{ℕ, _≤_}
 use native.Mathlib.Omega.{arith}
 use lib.Dec.{eqb, ltb}
-use lib.ListN.{length, getD, set, replicate, getD-replicate}
+use lib.ListN.{length, getD, set, replicate, length-replicate, getD-replicate}
 use Rattle.records.specs.Lists.{elem}
 use Rattle.literals.specs.Domain.{Fact, sameFact, Domain}
 use Rattle.literals.specs.Decode.{byte}
 use Rattle.literals.specs.Held.{arityIn, HeadOf}
 use Rattle.verdict.specs.Machine.{Event, State, next, topWeight}
-use Rattle.store.specs.Index.{totalAt, Indexed}
+use Rattle.store.specs.Index.{noteAt, factIndex, totalAt, Indexed}
 use Rattle.runs.specs.RunFile.{RunKind, objectsRecord, factRecord, eventRecord, stepRecord, endRecord, otherRecord, runKindOf, factOf, eventOf, maxFacts, objectsStop, factStop, eventStop, stepStop, endStop}
 use Rattle.runs.specs.Play.{Playing, PlayTurn, goOn, finish, stopAt, unless, begin, withObjects, withFact, withEvent, withClose, beforeRun, tooLarge, forbidden, afterStep, closeStep, playRecord}
 use Rattle.store.specs.Rows.{factRow}
@@ -104,20 +104,20 @@ module _ (D : Domain) (head : List ℕ) (q : Playing) (f : Fact) (behind : ℕ) 
   noted-again index e h = rw e h
 
   -- new: nothing is noted of the open entries any more
-  pub noted-fact : (index : List ℕ) → length index ≡ 12289 → elem sameFact f (q .state .facts) ≡ false → Indexed head index (map factRow (q .state .facts) ++ (factRow f ∷ []))
-      → NotedAfter D head (set index 12288 0) (goOn (withFact q f behind))
-  noted-fact index l e h =
+  pub noted-fact : (index : List ℕ) → elem sameFact f (q .state .facts) ≡ false → Indexed head index (map factRow (q .state .facts) ++ (factRow f ∷ []))
+      → NotedAfter D head (set index noteAt 0) (goOn (withFact q f behind))
+  noted-fact index e h =
       let m : map factRow (q .state .facts ++ (f ∷ [])) ≡ map factRow (q .state .facts) ++ (factRow f ∷ []) = map-append factRow (q .state .facts) (f ∷ []) in
       let g : Indexed head index (map factRow (q .state .facts ++ (f ∷ []))) = rw m h in
-      rw e (noted-anew head D (set index 12288 0) (record { facts = q .state .facts ++ (f ∷ []); running = q .state .running })
-      (indexed-set head index 0 (map factRow (q .state .facts ++ (f ∷ []))) g) (unset index l))
+      rw e (noted-anew head D (set index noteAt 0) (record { facts = q .state .facts ++ (f ∷ []); running = q .state .running })
+      (indexed-set head index 0 (map factRow (q .state .facts ++ (f ∷ []))) g) (unset index (h .numbers)))
 
 -- ---- before the run
 
-pub noted-none : (D : Domain) (head index : List ℕ) → index ≡ replicate 12289 0 → Noted D head index (beforeRun .state)
+pub noted-none : (D : Domain) (head index : List ℕ) → index ≡ replicate factIndex 0 → Noted D head index (beforeRun .state)
 unfolding totalAt
 noted-none D head index e =
     record {
-      indexed = record { totals = λ place l. ap (λ (t : List ℕ). getD t place 0) e ∙ getD-replicate 12289 place 0 0 (omega arith); sized = λ row m. absurd (List·Memᴰ·not-nil m) };
+      indexed = record { numbers = ap length e ∙ length-replicate {A = ℕ} factIndex 0; totals = λ place l. ap (λ (t : List ℕ). getD t place 0) e ∙ getD-replicate factIndex place 0 0 (omega arith); sized = λ row m. absurd (List·Memᴰ·not-nil m) };
       settled = λ z. refl;
     }

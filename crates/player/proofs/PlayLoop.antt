@@ -12,6 +12,7 @@ use Rattle.literals.specs.Table.{Bounded}
 use Rattle.literals.specs.Held.{Read}
 use Rattle.verdict.specs.Judged.{factBytes}
 use Rattle.player.specs.declared.run.Ended.{Ended}
+use Rattle.store.specs.Index.{factIndex}
 use Rattle.runs.specs.Play.{workBytes, Playing, beforeRun, Outcome, PlayTurn, goOn, finish, heldBytes, playStep, playFrom, playRun}
 use Rattle.machine.specs.Stepping.{Noted}
 use Rattle.player.specs.Player.{Whole as Player, WholeTurn as Turn, playerOf, Stands, LeadsTo, NotedAfter, Playable, endedOf}
@@ -31,7 +32,7 @@ pub record Loop (D : Domain) (head r old : List ℕ) (player : Player) (work ind
   pub noted : Noted D head index (reached .state)
 
 -- before the first record no fact is held
-pub begins : (D : Domain) (head r old work index : List ℕ) (player : Player) → player ≡ playerOf beforeRun → work ≡ over (heldBytes []) old → index ≡ replicate 12289 0
+pub begins : (D : Domain) (head r old work index : List ℕ) (player : Player) → player ≡ playerOf beforeRun → work ≡ over (heldBytes []) old → index ≡ replicate factIndex 0
     → Loop D head r old player work index
 unfolding playRun
 begins D head r old work index player is e z =

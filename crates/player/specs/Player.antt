@@ -109,8 +109,7 @@ NotedAfter D head index (finish o) = Unit {0}
 -- ---- what the code relies on
 
 -- the memories of a run have their lengths
-pub record RunMemory (index entries moments events spare effects : List ℕ) : Type 0 where
-  pub index-length : length index ≡ 12289
+pub record RunMemory (entries moments events spare effects : List ℕ) : Type 0 where
   pub entries-length : length entries ≡ 544
   pub moments-length : length moments ≡ 16
   pub events-length : length events ≡ 272

@@ -4,6 +4,7 @@ use super::Tally;
 use super::Turn;
 use events::waits::wait;
 use literals::head::Head;
+use literals::limits::MAX_FACTS;
 use machine::State;
 use records::Record;
 use records::record_at;
@@ -15,6 +16,8 @@ use run_fields::ground_row;
 use run_fields::objects_stop;
 use run_fields::put_fact;
 use run_fields::step_stop;
+use store::index::FactIndex;
+use store::index::NOTE;
 use store::index::enter;
 use store::index::is_held;
 use store::weighing::top_from;
@@ -26,17 +29,16 @@ ghost use lib.ListN.{length, replicate};
 ghost use Rattle.literals.specs.Domain.{Domain};
 ghost use Rattle.literals.specs.Decode.{byte};
 ghost use Rattle.literals.specs.Held.{HeadOf, Held};
-ghost use Rattle.runs.specs.RunFile.{runKindOf, factOf, eventOf, objectsStop, factStop, eventStop, stepStop, endStop};
-ghost use Rattle.runs.specs.Play.{Playing, beforeRun, goOn, unless, begin, withObjects, withFact, withEvent, closeStep, withClose, playRecord, playStep};
+ghost use Rattle.runs.specs.RunFile.{maxFacts, runKindOf, factOf, eventOf, objectsStop, factStop, eventStop, stepStop, endStop};
+ghost use Rattle.runs.specs.Play.{workBytes, Playing, beforeRun, goOn, unless, begin, withObjects, withFact, withEvent, closeStep, withClose, playRecord, playStep};
 ghost use Rattle.machine.specs.Stepping.{heldAs, Noted, Closable};
 ghost use Rattle.player.specs.Player.{Whole, wholeOf, turnOf, tallyOf, playerOf, Stands, Playable, RunMemory, LeadsTo, NotedAfter};
 
 impl Tally {
     // The start counts once the first record of kind 18 to 20 is met: the tally from then on.
-    fn begin(self, facts: usize, head: &Head, work: &[u8], index: &[u64]) -> Tally
-        requires few { ⌜ facts ≤ 1024 ⌝ }
+    fn begin(self, facts: usize, head: &Head, work: &[u8], index: &FactIndex) -> Tally
+        requires few { ⌜ facts ≤ maxFacts ⌝ }
         requires facts { ⌜ 8 * facts ≤ length (now work) ⌝ }
-        requires index { ⌜ length (now index) ≡ 12289 ⌝ }
         ensures { λ r. ⌜ ((D : Domain) (p : Playing) (player : Whole) (old : List ℕ) → HeadOf D (now (head .entry))
             → Stands D p player (now (work .entry)) old → self ≡ player .tally → facts ≡ player .state .facts
             → Noted D (now (head .entry)) (now (index .entry)) (p .state) → r ≡ tallyOf (begin D p .tally)) ⌝ }
@@ -74,10 +76,9 @@ impl Player {
     }
 
     // The player with the tally from then on.
-    fn begin(self, head: &Head, work: &[u8], index: &[u64]) -> Player
-        requires few { ⌜ self .facts ≤ 1024 ⌝ }
+    fn begin(self, head: &Head, work: &[u8], index: &FactIndex) -> Player
+        requires few { ⌜ self .facts ≤ maxFacts ⌝ }
         requires facts { ⌜ 8 * self .facts ≤ length (now work) ⌝ }
-        requires index { ⌜ length (now index) ≡ 12289 ⌝ }
         ensures { λ r. ⌜ ((D : Domain) (p : Playing) (entries moments events old : List ℕ) → HeadOf D (now (head .entry))
             → Stands D p (wholeOf self entries moments events) (now (work .entry)) old
             → Noted D (now (head .entry)) (now (index .entry)) (p .state)
@@ -144,13 +145,12 @@ impl Player {
         self,
         head: &Head,
         work: &mut [u8],
-        index: &mut [u64],
+        index: &mut FactIndex,
         p: &[u8],
         behind: usize,
     ) -> Turn
-        requires few { ⌜ self .facts ≤ 1024 ⌝ }
-        requires work { ⌜ 8192 ≤ length (now work) ⌝ }
-        requires index { ⌜ length (now index) ≡ 12289 ⌝ }
+        requires few { ⌜ self .facts ≤ maxFacts ⌝ }
+        requires work { ⌜ workBytes ≤ length (now work) ⌝ }
         ensures leads { λ r. ⌜ ((D : Domain) (q : Playing) (entries moments events old : List ℕ) → HeadOf D (now (head .entry))
             → Stands D q (wholeOf self entries moments events) (now (work .entry)) old → Noted D (now (head .entry)) (now (index .entry)) (q .state)
             → LeadsTo (unless (factStop D (q .objects) (q .tally .begun) (q .state .facts) (now (p .entry))) q
@@ -177,7 +177,7 @@ impl Player {
                 player: self.onward(behind, n, self.waits),
             };
         }
-        if 1024 <= n {
+        if MAX_FACTS <= n {
             return Turn {
                 number: 52,
                 player: self,
@@ -185,7 +185,7 @@ impl Player {
         }
         put_fact(work, n, row);
         enter(index, head, &row, 0);
-        index[12288] = 0;
+        index[NOTE] = 0;
         Turn {
             number: 0,
             player: self.onward(behind, n + 1, self.waits),
@@ -230,7 +230,7 @@ impl Player {
         head: &Head,
         table: &[u8],
         work: &mut [u8],
-        index: &mut [u64],
+        index: &mut FactIndex,
         entries: &mut [u8],
         moments: &mut [u8],
         events: &mut [u8],
@@ -242,7 +242,7 @@ impl Player {
         requires closable { ⌜ Closable (heldAs (self .facts) (self .opened) (now entries) (self .waits) (now moments) (now events)) (now work) ⌝ }
         requires steps { ⌜ self .tally .steps ≤ self .at ⌝ }
         requires further { ⌜ self .at < behind ⌝ }
-        requires memory { ⌜ RunMemory (now index) (now entries) (now moments) (now events) (now spare) (now effects) ⌝ }
+        requires memory { ⌜ RunMemory (now entries) (now moments) (now events) (now spare) (now effects) ⌝ }
         ensures leads { λ r. ⌜ ((D : Domain) (q : Playing) (old : List ℕ) → Held D (now (head .entry)) (now (table .entry))
             → Stands D q (wholeOf self (now (entries .entry)) (now (moments .entry)) (now (events .entry))) (now (work .entry)) old
             → q .tally .begun ≡ true → Noted D (now (head .entry)) (now (index .entry)) (q .state)
@@ -333,7 +333,7 @@ impl Player {
         head: &Head,
         table: &[u8],
         work: &mut [u8],
-        index: &mut [u64],
+        index: &mut FactIndex,
         entries: &mut [u8],
         moments: &mut [u8],
         events: &mut [u8],
@@ -345,7 +345,7 @@ impl Player {
     ) -> Turn
         requires playable { ⌜ Playable (now head) (now table) (wholeOf self (now entries) (now moments) (now events)) (now work) (now index) ⌝ }
         requires further { ⌜ self .at < behind ⌝ }
-        requires memory { ⌜ RunMemory (now index) (now entries) (now moments) (now events) (now spare) (now effects) ⌝ }
+        requires memory { ⌜ RunMemory (now entries) (now moments) (now events) (now spare) (now effects) ⌝ }
         ensures leads { λ r. ⌜ ((D : Domain) (q : Playing) (old : List ℕ) → Held D (now (head .entry)) (now (table .entry))
             → Stands D q (wholeOf self (now (entries .entry)) (now (moments .entry)) (now (events .entry))) (now (work .entry)) old
             → Noted D (now (head .entry)) (now (index .entry)) (q .state)
@@ -397,7 +397,7 @@ impl Player {
         table: &[u8],
         run: &[u8],
         work: &mut [u8],
-        index: &mut [u64],
+        index: &mut FactIndex,
         entries: &mut [u8],
         moments: &mut [u8],
         events: &mut [u8],
@@ -405,7 +405,7 @@ impl Player {
         effects: &mut [u8],
     ) -> Turn
         requires playable { ⌜ Playable (now head) (now table) (wholeOf self (now entries) (now moments) (now events)) (now work) (now index) ⌝ }
-        requires memory { ⌜ RunMemory (now index) (now entries) (now moments) (now events) (now spare) (now effects) ⌝ }
+        requires memory { ⌜ RunMemory (now entries) (now moments) (now events) (now spare) (now effects) ⌝ }
         ensures leads { λ r. ⌜ ((D : Domain) (q : Playing) (old : List ℕ) → Held D (now (head .entry)) (now (table .entry))
             → Stands D q (wholeOf self (now (entries .entry)) (now (moments .entry)) (now (events .entry))) (now (work .entry)) old
             → Noted D (now (head .entry)) (now (index .entry)) (q .state)

@@ -4,6 +4,8 @@ use super::Tally;
 use super::Turn;
 use literals::head::Head;
 use records::bytes::put_bytes;
+use store::index::FACT_INDEX;
+use store::index::FactIndex;
 ghost use mathlib.Core.Path.{_≡_};
 ghost use mathlib.Core.List.{List, []};
 ghost use Prim.Native.Nat.{ℕ, _≤_};
@@ -11,6 +13,7 @@ ghost use lib.ListN.{length, replicate};
 ghost use Rattle.records.specs.Memory.{over};
 ghost use Rattle.literals.specs.Domain.{Domain};
 ghost use Rattle.literals.specs.Held.{Held, Read};
+ghost use Rattle.store.specs.Index.{factIndex};
 ghost use Rattle.runs.specs.Play.{workBytes, heldBytes, playRun};
 ghost use Rattle.player.specs.Player.{endedOf};
 
@@ -40,7 +43,7 @@ fn play_records(
     table: &[u8],
     run: &[u8],
     work: &mut [u8],
-    index: &mut [u64],
+    index: &mut FactIndex,
     entries: &mut [u8],
     moments: &mut [u8],
     events: &mut [u8],
@@ -50,7 +53,7 @@ fn play_records(
     requires domain { ⌜ Read (now head) (now table) ⌝ }
     requires room { ⌜ workBytes ≤ length (now work) ⌝ }
     requires no_fact { ⌜ now work ≡ over (heldBytes []) (now work) ⌝ }
-    requires index { ⌜ now index ≡ replicate 12289 0 ⌝ }
+    requires index { ⌜ now index ≡ replicate factIndex 0 ⌝ }
     requires entries { ⌜ now entries ≡ replicate 544 0 ⌝ }
     requires moments { ⌜ now moments ≡ replicate 16 0 ⌝ }
     requires events { ⌜ now events ≡ replicate 272 0 ⌝ }
@@ -96,7 +99,7 @@ pub fn play_run(head: &Head, table: &[u8], run: &[u8], work: &mut [u8]) -> Ended
 {
     let zeros = [0u8; 8192];
     put_bytes(work, 0, &zeros);
-    let mut index = [0u64; 12289];
+    let mut index = [0u64; FACT_INDEX];
     let mut entries = [0u8; 544];
     let mut moments = [0u8; 16];
     let mut events = [0u8; 272];

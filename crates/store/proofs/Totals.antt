@@ -15,7 +15,7 @@ use Rattle.literals.specs.Decode.{byte}
 use Rattle.literals.specs.Table.{rowsIn}
 use Rattle.literals.specs.Held.{keysIn, arityIn, partsIn}
 use Rattle.store.specs.Rows.{instanceRows, rowWeight, hasRow}
-use Rattle.store.specs.Index.{wordOf, slotOf, keySlot, amountAt, totalAt, Sized, Indexed}
+use Rattle.store.specs.Index.{noteAt, factIndex, wrap, plus, wordOf, slotOf, keySlot, amountAt, totalAt, Sized, Indexed}
 use Rattle.store.proofs.InstanceRows.{Single, single}
 
 -- ---- slots
@@ -195,33 +195,33 @@ module _ (keys : ℕ) (parts : List (List ℕ)) where
 -- ---- one number more, or less
 
 module _ (index after : List ℕ) (p v : ℕ) (inside : p < length index) (place sum : ℕ) where
-  more-at : after ≡ set index p ((getD index p 0 % 72057594037927936 + v) % 72057594037927936)
-      → getD index place 0 ≡ sum % 72057594037927936 → getD after place 0 ≡ (sum + cond (eqb place p) v 0) % 72057594037927936
+  more-at : after ≡ set index p (plus (getD index p 0) v)
+      → getD index place 0 ≡ sum % wrap → getD after place 0 ≡ (sum + cond (eqb place p) v 0) % wrap
   more-at e f = ap (λ (l : List ℕ). getD l place 0) e ∙ go (bool-cases (eqb place p))
     where
       go : (eqb place p ≡ true) ⊎ (eqb place p ≡ false)
-          → getD (set index p ((getD index p 0 % 72057594037927936 + v) % 72057594037927936)) place 0 ≡ (sum + cond (eqb place p) v 0) % 72057594037927936
+          → getD (set index p (plus (getD index p 0) v)) place 0 ≡ (sum + cond (eqb place p) v 0) % wrap
       go (inl t) =
           let q = eqb-true place p t in
-          let g : getD index p 0 ≡ sum % 72057594037927936 = ap (λ (k : ℕ). getD index k 0) (sym q) ∙ f in
-          ap (λ (k : ℕ). getD (set index p ((getD index p 0 % 72057594037927936 + v) % 72057594037927936)) k 0) q
-          ∙ getD-set-same index p ((getD index p 0 % 72057594037927936 + v) % 72057594037927936) 0 inside
+          let g : getD index p 0 ≡ sum % wrap = ap (λ (k : ℕ). getD index k 0) (sym q) ∙ f in
+          ap (λ (k : ℕ). getD (set index p (plus (getD index p 0) v)) k 0) q
+          ∙ getD-set-same index p (plus (getD index p 0) v) 0 inside
           ∙ rw t (omega arith)
-      go (inr t) = getD-set-other index p place ((getD index p 0 % 72057594037927936 + v) % 72057594037927936) 0 (eqb-false place p t) ∙ rw t (omega arith)
+      go (inr t) = getD-set-other index p place (plus (getD index p 0) v) 0 (eqb-false place p t) ∙ rw t (omega arith)
 
-  less-at : v < 72057594037927936 → after ≡ set index p ((getD index p 0 % 72057594037927936 + (72057594037927936 - v)) % 72057594037927936)
-      → getD index place 0 ≡ (sum + cond (eqb place p) v 0) % 72057594037927936 → getD after place 0 ≡ sum % 72057594037927936
+  less-at : v < wrap → after ≡ set index p (plus (getD index p 0) (wrap - v))
+      → getD index place 0 ≡ (sum + cond (eqb place p) v 0) % wrap → getD after place 0 ≡ sum % wrap
   less-at small e f = ap (λ (l : List ℕ). getD l place 0) e ∙ go (eqb place p) refl f
     where
-      go : (b : Bool) → eqb place p ≡ b → getD index place 0 ≡ (sum + cond b v 0) % 72057594037927936
-          → getD (set index p ((getD index p 0 % 72057594037927936 + (72057594037927936 - v)) % 72057594037927936)) place 0 ≡ sum % 72057594037927936
+      go : (b : Bool) → eqb place p ≡ b → getD index place 0 ≡ (sum + cond b v 0) % wrap
+          → getD (set index p (plus (getD index p 0) (wrap - v))) place 0 ≡ sum % wrap
       go true t h =
           let q = eqb-true place p t in
-          let g : getD index p 0 ≡ (sum + v) % 72057594037927936 = ap (λ (k : ℕ). getD index k 0) (sym q) ∙ h in
-          ap (λ (k : ℕ). getD (set index p ((getD index p 0 % 72057594037927936 + (72057594037927936 - v)) % 72057594037927936)) k 0) q
-          ∙ getD-set-same index p ((getD index p 0 % 72057594037927936 + (72057594037927936 - v)) % 72057594037927936) 0 inside
+          let g : getD index p 0 ≡ (sum + v) % wrap = ap (λ (k : ℕ). getD index k 0) (sym q) ∙ h in
+          ap (λ (k : ℕ). getD (set index p (plus (getD index p 0) (wrap - v))) k 0) q
+          ∙ getD-set-same index p (plus (getD index p 0) (wrap - v)) 0 inside
           ∙ omega arith
-      go false t h = getD-set-other index p place ((getD index p 0 % 72057594037927936 + (72057594037927936 - v)) % 72057594037927936) 0 (eqb-false place p t) ∙ h ∙ omega arith
+      go false t h = getD-set-other index p place (plus (getD index p 0) (wrap - v)) 0 (eqb-false place p t) ∙ h ∙ omega arith
 
 -- ---- bytes
 
@@ -232,7 +232,7 @@ Bytes row = (i : ℕ) → byte row i < 256
 digit : (a b c d : ℕ) → b < 256 → d < 256 → a * 256 + b ≡ c * 256 + d → (a ≡ c) × (b ≡ d)
 digit a b c d h k e = (omega arith, omega arith)
 
-word-small : (x : List ℕ) → Bytes x → wordOf x < 72057594037927936
+word-small : (x : List ℕ) → Bytes x → wordOf x < wrap
 unfolding wordOf
 word-small x b = omega (arith, b 0, b 2, b 3, b 4, b 5, b 6, b 7)
 
@@ -278,39 +278,39 @@ module _ (keys : ℕ) (parts : List (List ℕ)) (row : List ℕ) where
       go false = refl
 
 -- two numbers more
-module _ (index first second : List ℕ) (s w : ℕ) (len : length index ≡ 12289) (small : s < 4096) (m : first ≡ set index s ((getD index s 0 % 72057594037927936 + 1) % 72057594037927936))
-    (n : second ≡ set first (4096 + s) ((getD first (4096 + s) 0 % 72057594037927936 + w) % 72057594037927936)) where
-  length-more : length second ≡ 12289
+module _ (index first second : List ℕ) (s w : ℕ) (len : length index ≡ factIndex) (small : s < 4096) (m : first ≡ set index s (plus (getD index s 0) 1))
+    (n : second ≡ set first (4096 + s) (plus (getD first (4096 + s) 0) w)) where
+  length-more : length second ≡ factIndex
   length-more = ap length n ∙ simp length-set (ap length m ∙ simp length-set len)
 
-  two-more : (place sum : ℕ) → getD index place 0 ≡ sum % 72057594037927936 → getD second place 0 ≡ (sum + cond (eqb place s) 1 0 + cond (eqb place (4096 + s)) w 0) % 72057594037927936
+  two-more : (place sum : ℕ) → getD index place 0 ≡ sum % wrap → getD second place 0 ≡ (sum + cond (eqb place s) 1 0 + cond (eqb place (4096 + s)) w 0) % wrap
   two-more place sum h =
-      let l : length first ≡ 12289 = ap length m ∙ simp length-set len in
+      let l : length first ≡ factIndex = ap length m ∙ simp length-set len in
       more-at first second (4096 + s) w (omega arith) place (sum + cond (eqb place s) 1 0) n (more-at index first s 1 (omega arith) place sum m h)
 
 -- and less
-module _ (index first second : List ℕ) (s w : ℕ) (len : length index ≡ 12289) (small : s < 4096) (few : w < 72057594037927936)
-    (m : first ≡ set index s ((getD index s 0 % 72057594037927936 + (72057594037927936 - 1)) % 72057594037927936))
-    (n : second ≡ set first (4096 + s) ((getD first (4096 + s) 0 % 72057594037927936 + (72057594037927936 - w)) % 72057594037927936)) where
-  length-less : length second ≡ 12289
+module _ (index first second : List ℕ) (s w : ℕ) (len : length index ≡ factIndex) (small : s < 4096) (few : w < wrap)
+    (m : first ≡ set index s (plus (getD index s 0) (wrap - 1)))
+    (n : second ≡ set first (4096 + s) (plus (getD first (4096 + s) 0) (wrap - w))) where
+  length-less : length second ≡ factIndex
   length-less = ap length n ∙ simp length-set (ap length m ∙ simp length-set len)
 
-  two-less : (place sum : ℕ) → getD index place 0 ≡ (sum + cond (eqb place (4096 + s)) w 0 + cond (eqb place s) 1 0) % 72057594037927936 → getD second place 0 ≡ sum % 72057594037927936
+  two-less : (place sum : ℕ) → getD index place 0 ≡ (sum + cond (eqb place (4096 + s)) w 0 + cond (eqb place s) 1 0) % wrap → getD second place 0 ≡ sum % wrap
   two-less place sum h =
-      let l : length first ≡ 12289 = ap length m ∙ simp length-set len in
+      let l : length first ≡ factIndex = ap length m ∙ simp length-set len in
       less-at first second (4096 + s) w (omega arith) place sum few n
       (less-at index first s 1 (omega arith) place (sum + cond (eqb place (4096 + s)) w 0) (omega arith) m h)
 
 -- an index with one fact more
 module _ {head index : List ℕ} {rows : List (List ℕ)} (I : Indexed head index rows) (row : List ℕ) (sized : byte row 1 ≡ arityIn head (byte row 0)) where
-  joined : (last : List ℕ) → ((place : ℕ) → place < 12288 → getD last place 0 ≡ (totalAt (keysIn head) (partsIn head) place rows + amountAt (keysIn head) (partsIn head) place row) % 72057594037927936)
+  joined : (last : List ℕ) → length last ≡ factIndex → ((place : ℕ) → place < noteAt → getD last place 0 ≡ (totalAt (keysIn head) (partsIn head) place rows + amountAt (keysIn head) (partsIn head) place row) % wrap)
       → Indexed head last (rows ++ (row ∷ []))
-  joined last h = record { totals = sums; sized = all-sized }
+  joined last l h = record { numbers = l; totals = sums; sized = all-sized }
     where
-      sums : (place : ℕ) → place < 12288 → getD last place 0 ≡ totalAt (keysIn head) (partsIn head) place (rows ++ (row ∷ [])) % 72057594037927936
+      sums : (place : ℕ) → place < noteAt → getD last place 0 ≡ totalAt (keysIn head) (partsIn head) place (rows ++ (row ∷ [])) % wrap
       sums place b =
           h place b
-          ∙ ap (λ (n : ℕ). n % 72057594037927936) (omega (arith, total-append (keysIn head) (partsIn head) place rows (row ∷ []), total-cons (keysIn head) (partsIn head) place row [], total-none (keysIn head) (partsIn head) place))
+          ∙ ap (λ (n : ℕ). n % wrap) (omega (arith, total-append (keysIn head) (partsIn head) place rows (row ∷ []), total-cons (keysIn head) (partsIn head) place row [], total-none (keysIn head) (partsIn head) place))
 
       new : (r : List ℕ) → In r rows ⊎ In r (row ∷ []) → byte r 1 ≡ arityIn head (byte r 0)
       new r (inl m) = I .sized r m
@@ -319,37 +319,37 @@ module _ {head index : List ℕ} {rows : List (List ℕ)} (I : Indexed head inde
       all-sized : Sized head (rows ++ (row ∷ []))
       all-sized r m = new r (List·Memᴰ·append-cases rows m)
 
-  module _ (first second : List ℕ) (s w : ℕ) (len : length index ≡ 12289) (e : s ≡ slotOf row) (f : w ≡ wordOf row)
-      (m : first ≡ set index s ((getD index s 0 % 72057594037927936 + 1) % 72057594037927936))
-      (n : second ≡ set first (4096 + s) ((getD first (4096 + s) 0 % 72057594037927936 + w) % 72057594037927936)) where
+  module _ (first second : List ℕ) (s w : ℕ) (e : s ≡ slotOf row) (f : w ≡ wordOf row)
+      (m : first ≡ set index s (plus (getD index s 0) 1))
+      (n : second ≡ set first (4096 + s) (plus (getD first (4096 + s) 0) w)) where
     pub enter-none : instanceRows (keysIn head) (partsIn head) row ≡ [] → Indexed head second (rows ++ (row ∷ []))
     enter-none z =
-        joined second
-        (λ place b. two-more index first second s w len (omega (arith, slot-below row)) m n place (totalAt (keysIn head) (partsIn head) place rows) (I .totals place b)
-        ∙ ap (λ (n : ℕ). n % 72057594037927936) (omega (arith, amount-by (keysIn head) (partsIn head) row s w place e f, ap (keyedAt place) z)))
+        joined second (length-more index first second s w (I .numbers) (omega (arith, slot-below row)) m n)
+        (λ place b. two-more index first second s w (I .numbers) (omega (arith, slot-below row)) m n place (totalAt (keysIn head) (partsIn head) place rows) (I .totals place b)
+        ∙ ap (λ (n : ℕ). n % wrap) (omega (arith, amount-by (keysIn head) (partsIn head) row s w place e f, ap (keyedAt place) z)))
 
     pub enter-one : (t third : List ℕ) (k : ℕ) → instanceRows (keysIn head) (partsIn head) row ≡ t ∷ [] → k ≡ keySlot t
-        → third ≡ set second (8192 + k) ((getD second (8192 + k) 0 % 72057594037927936 + 1) % 72057594037927936) → Indexed head third (rows ++ (row ∷ []))
+        → third ≡ set second (8192 + k) (plus (getD second (8192 + k) 0) 1) → Indexed head third (rows ++ (row ∷ []))
     enter-one t third k z q o =
         let b = slot-below row in
-        let l = length-more index first second s w len (omega arith) m n in
-        joined third
+        let l = length-more index first second s w (I .numbers) (omega arith) m n in
+        joined third (ap length o ∙ simp length-set l)
         (λ place b. more-at second third (8192 + k) 1 (omega (arith, key-below t)) place
         (totalAt (keysIn head) (partsIn head) place rows + cond (eqb place s) 1 0 + cond (eqb place (4096 + s)) w 0) o
-        (two-more index first second s w len (omega (arith, slot-below row)) m n place (totalAt (keysIn head) (partsIn head) place rows) (I .totals place b))
-        ∙ ap (λ (n : ℕ). n % 72057594037927936) (omega (arith, amount-by (keysIn head) (partsIn head) row s w place e f, one-key (keysIn head) (partsIn head) row place k t z q)))
+        (two-more index first second s w (I .numbers) (omega (arith, slot-below row)) m n place (totalAt (keysIn head) (partsIn head) place rows) (I .totals place b))
+        ∙ ap (λ (n : ℕ). n % wrap) (omega (arith, amount-by (keysIn head) (partsIn head) row s w place e f, one-key (keysIn head) (partsIn head) row place k t z q)))
 
 -- and with one less
 module _ {head index : List ℕ} (before after : List (List ℕ)) (row : List ℕ) (I : Indexed head index (before ++ (row ∷ after))) where
-  rest : (last : List ℕ) → ((place : ℕ) → getD index place 0 ≡ (totalAt (keysIn head) (partsIn head) place (before ++ after) + amountAt (keysIn head) (partsIn head) place row) % 72057594037927936
-      → getD last place 0 ≡ totalAt (keysIn head) (partsIn head) place (before ++ after) % 72057594037927936) → Indexed head last (before ++ after)
-  rest last h = record { totals = sums; sized = all-sized }
+  rest : (last : List ℕ) → length last ≡ factIndex → ((place : ℕ) → getD index place 0 ≡ (totalAt (keysIn head) (partsIn head) place (before ++ after) + amountAt (keysIn head) (partsIn head) place row) % wrap
+      → getD last place 0 ≡ totalAt (keysIn head) (partsIn head) place (before ++ after) % wrap) → Indexed head last (before ++ after)
+  rest last l h = record { numbers = l; totals = sums; sized = all-sized }
     where
-      sums : (place : ℕ) → place < 12288 → getD last place 0 ≡ totalAt (keysIn head) (partsIn head) place (before ++ after) % 72057594037927936
+      sums : (place : ℕ) → place < noteAt → getD last place 0 ≡ totalAt (keysIn head) (partsIn head) place (before ++ after) % wrap
       sums place b =
           h place
           (I .totals place b
-          ∙ ap (λ (n : ℕ). n % 72057594037927936)
+          ∙ ap (λ (n : ℕ). n % wrap)
           (omega (arith, total-append (keysIn head) (partsIn head) place before (row ∷ after), total-append (keysIn head) (partsIn head) place before after, total-cons (keysIn head) (partsIn head) place row after)))
 
       old : (r : List ℕ) → In r before ⊎ In r after → In r (before ++ (row ∷ after))
@@ -359,24 +359,24 @@ module _ {head index : List ℕ} (before after : List (List ℕ)) (row : List �
       all-sized : Sized head (before ++ after)
       all-sized r m = I .sized r (old r (List·Memᴰ·append-cases before m))
 
-  module _ (first second : List ℕ) (s w : ℕ) (len : length index ≡ 12289) (e : s ≡ slotOf row) (f : w ≡ wordOf row) (few : w < 72057594037927936)
-      (m : first ≡ set index s ((getD index s 0 % 72057594037927936 + (72057594037927936 - 1)) % 72057594037927936))
-      (n : second ≡ set first (4096 + s) ((getD first (4096 + s) 0 % 72057594037927936 + (72057594037927936 - w)) % 72057594037927936)) where
+  module _ (first second : List ℕ) (s w : ℕ) (e : s ≡ slotOf row) (f : w ≡ wordOf row) (few : w < wrap)
+      (m : first ≡ set index s (plus (getD index s 0) (wrap - 1)))
+      (n : second ≡ set first (4096 + s) (plus (getD first (4096 + s) 0) (wrap - w))) where
     pub leave-none : instanceRows (keysIn head) (partsIn head) row ≡ [] → Indexed head second (before ++ after)
     leave-none z =
-        rest second
-        (λ place g. two-less index first second s w len (omega (arith, slot-below row)) few m n place (totalAt (keysIn head) (partsIn head) place (before ++ after))
-        (g ∙ ap (λ (n : ℕ). n % 72057594037927936) (omega (arith, amount-by (keysIn head) (partsIn head) row s w place e f, ap (keyedAt place) z))))
+        rest second (length-less index first second s w (I .numbers) (omega (arith, slot-below row)) few m n)
+        (λ place g. two-less index first second s w (I .numbers) (omega (arith, slot-below row)) few m n place (totalAt (keysIn head) (partsIn head) place (before ++ after))
+        (g ∙ ap (λ (n : ℕ). n % wrap) (omega (arith, amount-by (keysIn head) (partsIn head) row s w place e f, ap (keyedAt place) z))))
 
     pub leave-one : (t third : List ℕ) (k : ℕ) → instanceRows (keysIn head) (partsIn head) row ≡ t ∷ [] → k ≡ keySlot t
-        → third ≡ set second (8192 + k) ((getD second (8192 + k) 0 % 72057594037927936 + (72057594037927936 - 1)) % 72057594037927936) → Indexed head third (before ++ after)
+        → third ≡ set second (8192 + k) (plus (getD second (8192 + k) 0) (wrap - 1)) → Indexed head third (before ++ after)
     leave-one t third k z q o =
         let b = slot-below row in
-        let l = length-less index first second s w len (omega arith) few m n in
-        rest third
+        let l = length-less index first second s w (I .numbers) (omega arith) few m n in
+        rest third (ap length o ∙ simp length-set l)
         (λ place g. less-at second third (8192 + k) 1 (omega (arith, key-below t)) place (totalAt (keysIn head) (partsIn head) place (before ++ after)) (omega arith) o
-        (two-less index first second s w len (omega (arith, slot-below row)) few m n place (totalAt (keysIn head) (partsIn head) place (before ++ after) + cond (eqb place (8192 + k)) 1 0)
-        (g ∙ ap (λ (n : ℕ). n % 72057594037927936) (omega (arith, amount-by (keysIn head) (partsIn head) row s w place e f, one-key (keysIn head) (partsIn head) row place k t z q)))))
+        (two-less index first second s w (I .numbers) (omega (arith, slot-below row)) few m n place (totalAt (keysIn head) (partsIn head) place (before ++ after) + cond (eqb place (8192 + k)) 1 0)
+        (g ∙ ap (λ (n : ℕ). n % wrap) (omega (arith, amount-by (keysIn head) (partsIn head) row s w place e f, one-key (keysIn head) (partsIn head) row place k t z q)))))
 
 -- the number behind them stays
 module _ (index after : List ℕ) (p v q : ℕ) where
@@ -414,7 +414,7 @@ count-few p (x ∷ xs) = go (p x) (count-few p xs)
     go true h = omega arith
     go false h = omega arith
 
-module _ {head : List ℕ} (index : List ℕ) (rows : List (List ℕ)) (I : Indexed head index rows) (few : length rows ≤ 1024) where
+module _ {head : List ℕ} (index : List ℕ) (rows : List (List ℕ)) (I : Indexed head index rows) (few : length rows < wrap) where
   module _ (row : List ℕ) (s : ℕ) (e : s ≡ slotOf row) where
     count-at : getD index s 0 ≡ countBy (λ (r : List ℕ). eqb s (slotOf r)) rows
     count-at =

@@ -17,8 +17,9 @@ pub struct Keyed {
 
 // The key tuple of the fact at an offset.
 pub fn key_of(head: &Head, memory: &[u8], at: usize) -> Keyed
-    requires { ⌜ (at + 8 ≤ length (now memory)) ⌝ }
-    ensures { λ r. ⌜ r ≡ keyedBy (instanceRows (keysIn (now (head .entry))) (partsIn (now (head .entry))) (take 8 (drop at (now (memory .entry))))) ⌝ }
+    requires { ⌜ at + 8 ≤ length (now memory) ⌝ }
+    ensures { λ r. ⌜ r ≡ keyedBy
+        (instanceRows (keysIn (now (head .entry))) (partsIn (now (head .entry))) (take 8 (drop at (now (memory .entry))))) ⌝ }
 {
     let c = component_of(head, memory[at]);
     if c == components_in(head) {

@@ -1,11 +1,13 @@
 // Weights of instances, by the rows of facts: an instance is the key tuple of a fact, as a row of 8 bytes.
+use super::index::FactIndex;
+use super::index::INSTANCES;
 use super::index::key_slot;
 use super::keys::key_of;
 use super::rows::same_row;
 use literals::head::Head;
 ghost use mathlib.Core.Path.{_≡_};
 ghost use mathlib.Core.List.{List, map};
-ghost use Prim.Native.Nat.{ℕ, _+_, _*_, _≤_, max};
+ghost use Prim.Native.Nat.{ℕ, _+_, _*_, _<_, _≤_, max};
 ghost use lib.Dec.{eqb};
 ghost use lib.ListN.{length, take, drop};
 ghost use Rattle.records.specs.Lists.{In, addIf, any, sameList};
@@ -14,12 +16,13 @@ ghost use Rattle.literals.specs.Table.{rowsIn};
 ghost use Rattle.verdict.specs.Machine.{largest};
 ghost use Rattle.literals.specs.Held.{keysIn, partsIn, HeadOf};
 ghost use Rattle.store.specs.Rows.{factRow, FactFits, instanceRows, topFrom, rowWeight, topRows};
-ghost use Rattle.store.specs.Index.{Indexed};
+ghost use Rattle.store.specs.Index.{wrap, Indexed};
 
 // 1 where the fact at an offset has this key tuple, else 0: the component by the fact's relation first, then its keys.
 fn weight_at(head: &Head, memory: &[u8], at: usize, row: [u8; 8]) -> usize
-    requires { ⌜ (at + 8 ≤ length (now memory)) ⌝ }
-    ensures { λ r. ⌜ r ≡ addIf (any (sameList eqb row) (instanceRows (keysIn (now (head .entry))) (partsIn (now (head .entry))) (take 8 (drop at (now (memory .entry)))))) 0 ⌝ }
+    requires { ⌜ at + 8 ≤ length (now memory) ⌝ }
+    ensures { λ r. ⌜ r ≡ addIf (any (sameList eqb row)
+        (instanceRows (keysIn (now (head .entry))) (partsIn (now (head .entry))) (take 8 (drop at (now (memory .entry)))))) 0 ⌝ }
 {
     let keyed = key_of(head, memory, at);
     if !keyed.matched {
@@ -46,11 +49,22 @@ fn weigh(head: &Head, memory: &[u8], n: usize, row: [u8; 8]) -> usize
     weight
 }
 
-// The higher of `least` and the weight of the instance of the fact at an offset, among the first n facts; it is weighed only where the index has more than `least` facts in its slot.
-fn heavier(head: &Head, memory: &[u8], n: usize, at: usize, least: usize, index: &[u64]) -> usize
-    requires { ⌜ (n ≤ 1024) × (8 * n ≤ length (now memory)) × (at + 8 ≤ length (now memory)) × (length (now index) ≡ 12289) ⌝ }
+// The higher of `least` and the weight of the instance of the fact at an offset, among the first n facts; it is weighed only
+// where the index has more than `least` facts in its slot.
+fn heavier(
+    head: &Head,
+    memory: &[u8],
+    n: usize,
+    at: usize,
+    least: usize,
+    index: &FactIndex,
+) -> usize
+    requires few { ⌜ n < wrap ⌝ }
+    requires rows { ⌜ 8 * n ≤ length (now memory) ⌝ }
+    requires row { ⌜ at + 8 ≤ length (now memory) ⌝ }
     ensures { λ r. ⌜ (Indexed (now (head .entry)) (now (index .entry)) (rowsIn n (now (memory .entry)))
-        → r ≡ max least (largest (map (rowWeight (keysIn (now (head .entry))) (partsIn (now (head .entry))) (rowsIn n (now (memory .entry))))
+        → r ≡ max least (largest (map
+        (rowWeight (keysIn (now (head .entry))) (partsIn (now (head .entry))) (rowsIn n (now (memory .entry))))
         (instanceRows (keysIn (now (head .entry))) (partsIn (now (head .entry))) (take 8 (drop at (now (memory .entry)))))))) ⌝ }
 {
     let keyed = key_of(head, memory, at);
@@ -58,7 +72,7 @@ fn heavier(head: &Head, memory: &[u8], n: usize, at: usize, least: usize, index:
         return least;
     }
     let row = keyed.row;
-    if index[8192 + key_slot(row)] <= least as u64 {
+    if index[INSTANCES + key_slot(row)] <= least as u64 {
         return least;
     }
     let weight = weigh(head, memory, n, row);
@@ -75,9 +89,10 @@ pub fn top_from(
     n: usize,
     from: usize,
     least: usize,
-    index: &[u64],
+    index: &FactIndex,
 ) -> usize
-    requires { ⌜ (n ≤ 1024) × (8 * n ≤ length (now memory)) × (length (now index) ≡ 12289) ⌝ }
+    requires few { ⌜ n < wrap ⌝ }
+    requires rows { ⌜ 8 * n ≤ length (now memory) ⌝ }
     ensures rows { λ r. ⌜ (Indexed (now (head .entry)) (now (index .entry)) (rowsIn n (now (memory .entry)))
         → r ≡ max least (topRows (keysIn (now (head .entry))) (partsIn (now (head .entry))) (rowsIn n (now (memory .entry))) from)) ⌝ }
     ensures weights { λ r. ⌜ ((D : Domain) (fs : List Fact) → HeadOf D (now (head .entry))

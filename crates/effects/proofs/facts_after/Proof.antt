@@ -15,33 +15,33 @@ step-effects-requires c κs = search needs
 
 keep-rows-requires : tie.Need-keep-rows-requires
 keep-rows-requires c κs =
-    let p = c .before .before .before .before .before .before .before .before .before .before .before .before .before .before .pre in
+    let p = c .before .before .before .before .before .before .before .before .before .before .before .before .before .pre in
     let struck = c .before .before .before .before .before .step-effects in
-    let l = struck .kept .1 .1 .1 .1 .1 .1 .0 ∙ p .1 .1 .1 .1 .1 .1 .1 in
+    let l = struck .kept .1 .1 .1 .1 .1 .1 .0 ∙ p .1 .1 .1 .1 .1 .1 in
     let m = struck .ensures .0 in
     let o = p .1 .1 .0 in
     let n = p .0 in
-    (n, (p .1 .0, (omega arith, (omega arith, (p .1 .1 .1 .0, p .1 .1 .1 .1 .0)))))
+    (n, (p .1 .0, (omega arith, (omega arith, p .1 .1 .1 .0))))
 
 step-effects-requires-2 : tie.Need-step-effects-requires-2
 step-effects-requires-2 c κs =
-    let p = c .before .before .before .before .before .before .before .before .before .before .before .before .before .before .before .before .before .before .before .before .pre in
-    let l = c .before .before .before .before .before .before .before .before .before .before .before .step-effects .kept .1 .1 .1 .1 .1 .1 .0 in
-    (p .1 .1 .1 .1 .1 .0, (p .1 .1 .1 .1 .1 .1 .0, l ∙ p .1 .1 .1 .1 .1 .1 .1))
+    let p = c .before .before .before .before .before .before .before .before .before .before .before .before .before .before .before .before .before .pre in
+    let l = c .before .before .before .before .before .before .before .before .before .step-effects .kept .1 .1 .1 .1 .1 .1 .0 in
+    (p .1 .1 .1 .1 .0, (p .1 .1 .1 .1 .1 .0, l ∙ p .1 .1 .1 .1 .1 .1))
 
 join-rows-requires : tie.Need-join-rows-requires
 join-rows-requires c κs =
-    let a = c .before .before .before .before .before .before .before .before .before .before .before .before .before .before .before .before .before .before .before .before .before .before .before .before .before .before .args in
-    let p = c .before .before .before .before .before .before .before .before .before .before .before .before .before .before .before .before .before .before .before .before .before .before .before .before .before .before .pre in
-    let struck = c .before .before .before .before .before .before .before .before .before .before .before .before .before .before .before .before .before .step-effects in
-    let keeps = c .before .before .before .before .before .before .before .before .before .before .before .keep-rows in
+    let a = c .before .before .before .before .before .before .before .before .before .before .before .before .before .before .before .before .before .before .before .before .before .before .before .args in
+    let p = c .before .before .before .before .before .before .before .before .before .before .before .before .before .before .before .before .before .before .before .before .before .before .before .pre in
+    let struck = c .before .before .before .before .before .before .before .before .before .before .before .before .before .before .before .step-effects in
+    let keeps = c .before .before .before .before .before .before .before .before .before .keep-rows in
     let added = c .before .before .before .before .before .step-effects2 in
     let q = kept-few (rowsIn (struck .result) (struck .last .1 .1 .1 .1 .1 .1 .0)) (a .work .now) (a .n) in
     let e = keeps .ensures .0 in
     let n = p .0 in
-    let l = added .kept .1 .1 .1 .1 .1 .1 .0 ∙ struck .kept .1 .1 .1 .1 .1 .1 .0 ∙ p .1 .1 .1 .1 .1 .1 .1 in
+    let l = added .kept .1 .1 .1 .1 .1 .1 .0 ∙ struck .kept .1 .1 .1 .1 .1 .1 .0 ∙ p .1 .1 .1 .1 .1 .1 in
     let r = added .ensures .0 in
-    (r, (omega arith, (omega arith, (keeps .kept .1 .1 .1 .1 .1 .0 ∙ p .1 .1 .0, keeps .kept .1 .1 .1 .1 .1 .1 .0 ∙ p .1 .1 .1 .0))))
+    (r, (omega arith, (omega arith, keeps .kept .1 .1 .1 .1 .1 .0 ∙ p .1 .1 .0)))
 
 same-length : tie.Need-same-length
 same-length c = search needs
@@ -49,17 +49,14 @@ same-length c = search needs
 same-length-2 : tie.Need-same-length-2
 same-length-2 c = search needs
 
-same-length-3 : tie.Need-same-length-3
-same-length-3 c = search needs
-
 returns : tie.Need-returns
 returns c =
-    let a = c .before .before .before .before .before .before .before .before .before .before .before .before .before .before .before .before .before .before .before .before .before .before .before .before .before .before .before .before .before .before .before .args in
-    let p = c .before .before .before .before .before .before .before .before .before .before .before .before .before .before .before .before .before .before .before .before .before .before .before .before .before .before .before .before .before .before .before .pre in
-    let struck = c .before .before .before .before .before .before .before .before .before .before .before .before .before .before .before .before .before .before .before .before .before .before .step-effects in
-    let keeps = c .before .before .before .before .before .before .before .before .before .before .before .before .before .before .before .before .keep-rows in
-    let added = c .before .before .before .before .before .before .before .before .before .before .step-effects2 in
-    let joins = c .before .before .before .before .join-rows in
+    let a = c .before .before .before .before .before .before .before .before .before .before .before .before .before .before .before .before .before .before .before .before .before .before .before .before .before .before .args in
+    let p = c .before .before .before .before .before .before .before .before .before .before .before .before .before .before .before .before .before .before .before .before .before .before .before .before .before .before .pre in
+    let struck = c .before .before .before .before .before .before .before .before .before .before .before .before .before .before .before .before .before .before .step-effects in
+    let keeps = c .before .before .before .before .before .before .before .before .before .before .before .before .keep-rows in
+    let added = c .before .before .before .before .before .before .before .before .step-effects2 in
+    let joins = c .before .before .join-rows in
     let kept = keeps .ensures in
     let joined = joins .ensures in
     let X : Done (a .head .now) (struck .last .1 .1 .1 .1 .1 .1 .0) (a .work .now) (added .last .1 .1 .1 .1 .1 .1 .0) (struck .result) (a .n) (added .result)
@@ -68,7 +65,7 @@ returns c =
       small = p .0;
       within = p .1 .0;
       addsWithin =
-          let l = added .kept .1 .1 .1 .1 .1 .1 .0 ∙ struck .kept .1 .1 .1 .1 .1 .1 .0 ∙ p .1 .1 .1 .1 .1 .1 .1 in
+          let l = added .kept .1 .1 .1 .1 .1 .1 .0 ∙ struck .kept .1 .1 .1 .1 .1 .1 .0 ∙ p .1 .1 .1 .1 .1 .1 in
           let r = added .ensures .0 in omega arith;
       room = p .1 .1 .0;
       keptCount = kept .0;
@@ -95,5 +92,4 @@ facts-after-spec =
     join-rows-requires
     same-length
     same-length-2
-    same-length-3
     returns)

@@ -64,6 +64,9 @@ put-effects-requires c κs =
     let f = r .ensures .0 .few in
     (p .0, (omega arith, omega arith))
 
+same-length : tie.Need-same-length
+same-length c = search needs
+
 returns-2 : tie.Need-returns-2
 returns-2 c =
     let a = c .before .before .before .before .before .before .before .before .before .before .before .before .before .before .before .before .args in
@@ -82,9 +85,6 @@ returns-2 c =
           (held-effects H e F k (a .time) (a .ground .now) (a .clause) t f h (s .result) (subst (λ (i : ℕ). SpanOf D i (a .table .now) (s .result)) w (s .ensures .1 D H (omega arith))))
           (a .n) (a .out .now) q (r .1),
     )
-
-same-length : tie.Need-same-length
-same-length c = search needs
 
 pub ground-effects-spec : {M : Type 1} → statement M
 ground-effects-spec =

@@ -23,17 +23,14 @@ is-held-requires c κs = search needs
 same-length : tie.Need-same-length
 same-length c = search needs
 
-same-length-2 : tie.Need-same-length-2
-same-length-2 c = search needs
-
 returns : tie.Need-returns
 returns c =
-    let a = c .before .before .before .before .before .before .before .before .args in
-    let p = c .before .before .before .before .before .before .before .before .pre in
+    let a = c .before .before .before .before .before .before .before .args in
+    let p = c .before .before .before .before .before .before .before .pre in
     let rows = rowsIn (a .n) (a .out .now) in
     let e = c .before .before .before .before .row-at .ensures in
     let g = p .1 .0 in
-    let w = p .1 .1 .0 in
+    let w = p .1 .1 in
     let t : Indexed (a .head .now) (a .index .now) rows → SizedRow (a .head .now) (take 8 (drop (a .at) (a .adds .now))) → hasRow (c .before .before .before .before .row-at .result) rows ≡ true
     = λ I b. sym (c .before .is-held .ensures (a .head .now) I (sized-as (a .head .now) e b)) ∙ c .if1 .taken in (
       (omega arith, omega arith),
@@ -47,20 +44,20 @@ returns c =
       ),
     )
 
-same-length-3 : tie.Need-same-length-3
-same-length-3 c = search needs
+add-result : tie.Need-add-result
+add-result c = search needs
 
-same-length-4 : tie.Need-same-length-4
-same-length-4 c = search needs
+same-length-2 : tie.Need-same-length-2
+same-length-2 c = search needs
 
 returns-2 : tie.Need-returns-2
 returns-2 c =
-    let a = c .before .before .before .before .before .before .before .before .before .args in
-    let p = c .before .before .before .before .before .before .before .before .before .pre in
+    let a = c .before .before .before .before .before .before .before .before .args in
+    let p = c .before .before .before .before .before .before .before .before .pre in
     let rows = rowsIn (a .n) (a .out .now) in
     let e = c .before .before .before .before .before .row-at .ensures in
     let g = p .1 .0 in
-    let w = p .1 .1 .0 in
+    let w = p .1 .1 in
     let f : 1024 ≤ a .n = c .if2 .taken in
     let t : Indexed (a .head .now) (a .index .now) rows → SizedRow (a .head .now) (take 8 (drop (a .at) (a .adds .now))) → hasRow (c .before .before .before .before .before .row-at .result) rows ≡ false
     = λ I b. sym (c .before .before .is-held .ensures (a .head .now) I (sized-as (a .head .now) e b)) ∙ c .before .if1 .left in (
@@ -81,32 +78,29 @@ put-row-requires c κs = search needs
 enter-requires : tie.Need-enter-requires
 enter-requires c κs = search needs
 
-add-result : tie.Need-add-result
-add-result c = search needs
+add-result-2 : tie.Need-add-result-2
+add-result-2 c = search needs
 
-same-length-5 : tie.Need-same-length-5
-same-length-5 c = search needs
-
-same-length-6 : tie.Need-same-length-6
-same-length-6 c = search needs
+same-length-3 : tie.Need-same-length-3
+same-length-3 c = search needs
 
 returns-3 : tie.Need-returns-3
 returns-3 c =
-    let a = c .before .before .before .before .before .before .before .before .before .before .before .before .before .before .before .before .before .args in
-    let p = c .before .before .before .before .before .before .before .before .before .before .before .before .before .before .before .before .before .pre in
+    let a = c .before .before .before .before .before .before .before .before .before .before .before .before .before .before .args in
+    let p = c .before .before .before .before .before .before .before .before .before .before .before .before .before .before .pre in
     let rows = rowsIn (a .n) (a .out .now) in
-    let e = c .before .before .before .before .before .before .before .before .before .before .before .before .before .row-at .ensures in
+    let e = c .before .before .before .before .before .before .before .before .before .before .before .row-at .ensures in
     let g = p .1 .0 in
-    let w = p .1 .1 .0 in
-    let f : a .n < 1024 = c .before .before .before .before .before .before .before .before .if2 .left in
-    let v = c .before .before .enter .ensures in
-    let t : Indexed (a .head .now) (a .index .now) rows → SizedRow (a .head .now) (take 8 (drop (a .at) (a .adds .now))) → hasRow (c .before .before .before .before .before .before .before .before .before .before .before .before .before .row-at .result) rows ≡ false
-    = λ I b. sym (c .before .before .before .before .before .before .before .before .before .before .is-held .ensures (a .head .now) I (sized-as (a .head .now) e b)) ∙ c .before .before .before .before .before .before .before .before .before .if1 .left in (
+    let w = p .1 .1 in
+    let f : a .n < 1024 = c .before .before .before .before .before .before .if2 .left in
+    let v = c .enter .ensures in
+    let t : Indexed (a .head .now) (a .index .now) rows → SizedRow (a .head .now) (take 8 (drop (a .at) (a .adds .now))) → hasRow (c .before .before .before .before .before .before .before .before .before .before .before .row-at .result) rows ≡ false
+    = λ I b. sym (c .before .before .before .before .before .before .before .before .is-held .ensures (a .head .now) I (sized-as (a .head .now) e b)) ∙ c .before .before .before .before .before .before .before .if1 .left in (
       (omega arith, omega arith),
       (
         λ I b. record {
           count = new-count (a .n) (a .out .now) g w e (t I b) f;
-          bytes = new-rows (a .n) (a .out .now) g w e (t I b) f (c .before .before .before .before .before .before .put-row .ensures);
+          bytes = new-rows (a .n) (a .out .now) g w e (t I b) f (c .before .before .before .before .put-row .ensures);
           indexed = λ q. new-indexed rows e (t I b) (v .0 rows I b);
         },
         v .1,
@@ -120,14 +114,12 @@ join-row-spec =
     row-at-requires
     is-held-requires
     same-length
-    same-length-2
     returns
-    same-length-3
-    same-length-4
+    add-result
+    same-length-2
     returns-2
     put-row-requires
     enter-requires
-    add-result
-    same-length-5
-    same-length-6
+    add-result-2
+    same-length-3
     returns-3)

@@ -25,4 +25,9 @@ returns-3 c head I s = rw (ne-eqb _ _ (c .before .if1 .left), ne-eqb _ _ (c .if2
 
 pub condition-met-spec : {M : Type 1} → statement M
 condition-met-spec =
-    tie.close (tie.spec is-held-requires returns is-held-requires-2 returns-2 returns-3)
+    tie.close (tie.spec
+    is-held-requires
+    returns
+    is-held-requires-2
+    returns-2
+    returns-3)

@@ -22,7 +22,7 @@ abbrev μ-loop : tie.MeasureT-loop
 
 loop-holds : tie.Need-loop-holds Inv-loop μ-loop
 loop-holds c =
-    let a = c .before .before .before .before .args in
+    let a = c .before .before .before .args in
     (omega arith, λ I. all-first (rowMet (a .time) (a .head .now) (a .ground .now) (rowsIn (a .n) (a .work .now))) (a .rows .now) (a .k))
 
 mul-row-met : tie.Need-mul-row-met Inv-loop μ-loop
@@ -30,12 +30,12 @@ mul-row-met c = omega arith
 
 row-met-requires : tie.Need-row-met-requires Inv-loop μ-loop
 row-met-requires c κs =
-    let p = c .before .before .before .before .before .before .pre in
+    let p = c .before .before .before .before .before .pre in
     (p .0, (omega arith, p .1 .1))
 
 returns : tie.Need-returns Inv-loop μ-loop
 returns c I =
-    let a = c .before .before .before .before .before .before .before .before .args in
+    let a = c .before .before .before .before .before .before .before .args in
     let l = c .before .before .before .loop in
     sym (all-miss (rowMet (a .time) (a .head .now) (a .ground .now) (rowsIn (a .n) (a .work .now))) (a .rows .now) (a .k) (l .i) (omega arith) (sym (c .before .row-met .ensures I) ∙ not-true _ (c .if1 .taken))) ∙ l .inv .1 I
 
@@ -47,13 +47,13 @@ loop-less c = omega arith
 
 loop-again : tie.Need-loop-again Inv-loop μ-loop
 loop-again c =
-    let a = c .before .before .before .before .before .before .before .before .args in
+    let a = c .before .before .before .before .before .before .before .args in
     let l = c .before .before .before .loop in
     (omega arith, λ I. sym (all-hit (rowMet (a .time) (a .head .now) (a .ground .now) (rowsIn (a .n) (a .work .now))) (a .rows .now) (a .k) (l .i) (omega arith) (sym (c .before .row-met .ensures I) ∙ not-false _ (c .if1 .left))) ∙ l .inv .1 I)
 
 returns-2 : tie.Need-returns-2 Inv-loop μ-loop
 returns-2 c I =
-    let a = c .before .before .before .before .before .before .args in
+    let a = c .before .before .before .before .before .args in
     let l = c .before .loop in
     sym (all-end (rowMet (a .time) (a .head .now) (a .ground .now) (rowsIn (a .n) (a .work .now))) (a .rows .now) (a .k) (l .i) (omega arith)) ∙ l .inv .1 I
 

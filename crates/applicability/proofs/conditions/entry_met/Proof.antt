@@ -28,7 +28,7 @@ ground-met-requires c κs = search needs
 returns : tie.Need-returns
 unfolding asked
 returns c D g fs L F r f I =
-    let a = c .before .before .before .before .before .before .args in
+    let a = c .before .before .before .before .before .args in
     c .ground-met .ensures D g fs L F (part-ground (a .rows .now) (17 * a .i) ∙ r) f I
 
 pub entry-met-spec : {M : Type 1} → statement M

@@ -36,7 +36,7 @@ ground-met-requires c κs = search needs
 
 returns : tie.Need-returns
 returns c D e fs L F m r f I =
-    let a = c .before .before .before .before .before .before .before .before .before .args in
+    let a = c .before .before .before .before .before .before .before .before .args in
     let t = c .before .before .time-at .ensures in
     c .ground-met .ensures D (e .ground) fs L F (part-ground (a .rows .now) (17 * a .i) ∙ r) f I
     ∙ ap (λ (u : Time). asked D u (e .ground) fs) (time-back _ _ (e .moment) t m)

@@ -31,7 +31,7 @@ abbrev μ-loop : tie.MeasureT-loop
 
 returns : tie.Need-returns Inv-loop μ-loop
 returns c D es fs L w F h f I =
-    let a = c .before .before .before .before .before .before .args in
+    let a = c .before .before .before .before .before .args in
     let k = waiting-count es (record { count = a .count; moments = a .moments .now; rows = a .rows .now }) w in
     let t = c .if1 .taken in
     absurd (omega arith)
@@ -41,17 +41,17 @@ loop-holds c = (omega arith, λ D es fs L w F f I. refl)
 
 event-met-requires : tie.Need-event-met-requires Inv-loop μ-loop
 event-met-requires c κs =
-    let p = c .before .before .before .before .before .before .before .before .pre in
-    (p .1 .1 .1 .0, (p .1 .1 .1 .1, (omega arith, (p .0, (p .1 .0, p .1 .1 .0)))))
+    let p = c .before .before .before .before .before .before .before .pre in
+    (p .1 .1 .0, (p .1 .1 .1, (omega arith, (p .0, p .1 .0))))
 
 -- the event of this turn
 event-at : (b : tie.After-event-met Inv-loop μ-loop) (D : Domain) (es : List Event) (fs : List Fact)
-    → Held D (b .before .before .before .before .before .before .before .before .before .args .head .now) (b .before .before .before .before .before .before .before .before .before .args .table .now)
-    → _≡_ {A = Waiting} (record { count = b .before .before .before .before .before .before .before .before .before .args .count; moments = b .before .before .before .before .before .before .before .before .before .args .moments .now; rows = b .before .before .before .before .before .before .before .before .before .args .rows .now }) (waitingOf es) → EventsFit D es → rowsIn (b .before .before .before .before .before .before .before .before .before .args .n) (b .before .before .before .before .before .before .before .before .before .args .work .now) ≡ map factRow fs
-    → Indexed (b .before .before .before .before .before .before .before .before .before .args .head .now) (b .before .before .before .before .before .before .before .before .before .args .index .now) (map factRow fs)
+    → Held D (b .before .before .before .before .before .before .before .before .args .head .now) (b .before .before .before .before .before .before .before .before .args .table .now)
+    → _≡_ {A = Waiting} (record { count = b .before .before .before .before .before .before .before .before .args .count; moments = b .before .before .before .before .before .before .before .before .args .moments .now; rows = b .before .before .before .before .before .before .before .before .args .rows .now }) (waitingOf es) → EventsFit D es → rowsIn (b .before .before .before .before .before .before .before .before .args .n) (b .before .before .before .before .before .before .before .before .args .work .now) ≡ map factRow fs
+    → Indexed (b .before .before .before .before .before .before .before .before .args .head .now) (b .before .before .before .before .before .before .before .before .args .index .now) (map factRow fs)
     → (b .before .before .loop .i < length es) × (b .event-met .result ≡ ownHold D fs (getD es (b .before .before .loop .i) noEvent))
 event-at b D es fs L w F f I =
-    let a = b .before .before .before .before .before .before .before .before .before .args in
+    let a = b .before .before .before .before .before .before .before .before .args in
     let i = b .before .before .loop .i in
     let k = waiting-count es (record { count = a .count; moments = a .moments .now; rows = a .rows .now }) w in
     let h : i < length es = omega arith in (
@@ -86,7 +86,7 @@ loop-again c =
 returns-3 : tie.Need-returns-3 Inv-loop μ-loop
 returns-3 c D es fs L w F h f I =
     let l = c .before .loop in
-    let a = c .before .before .before .before .before .before .before .before .args in
+    let a = c .before .before .before .before .before .before .before .args in
     let k = waiting-count es (record { count = a .count; moments = a .moments .now; rows = a .rows .now }) w in
     sym (all-end es (l .i) noEvent (ownHold D fs) (omega arith)) ∙ l .inv .1 D es fs L w F f I
 

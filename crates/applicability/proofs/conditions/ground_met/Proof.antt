@@ -25,7 +25,7 @@ actions-in-requires c κs = search needs
 
 returns : tie.Need-returns
 returns c D g fs H F e f I =
-    let a = c .before .before .before .before .before .before .before .before .args in
+    let a = c .before .before .before .before .before .before .before .args in
     let w = c .before .before .wide .ensures .0 in
     let n = c .before .actions-in .ensures .0 in
     let t = c .if1 .taken in
@@ -54,15 +54,15 @@ sub-conditions-met-2 c = let g = c .before .before .before .before .rows-of .ens
 
 conditions-met-requires : tie.Need-conditions-met-requires
 conditions-met-requires c κs =
-    let s = c .before .before .before .before .before .before .before .before .before .before .before .before .before in
-    let p = s .pre in
+    let p = c .before .before .before .before .before .before .before .before .before .before .before .before .pre in
+    let a = c .before .before .before .before .before .before .before .before .before .before .before .before .args in
     let r = c .before .before .before .before .rows-of in
-    let l = part-length (s .args .table .now) (r .result .from) (r .result .to) (r .ensures .0 .order) (r .ensures .0 .room) in
+    let l = part-length (a .table .now) (r .result .from) (r .result .to) (r .ensures .0 .order) (r .ensures .0 .room) in
     (p .0, (omega arith, p .1))
 
 returns-2 : tie.Need-returns-2
 returns-2 c D g fs H F e f I =
-    let a = c .before .before .before .before .before .before .before .before .before .before .before .before .before .before .args in
+    let a = c .before .before .before .before .before .before .before .before .before .before .before .before .before .args in
     let r = c .before .before .before .before .before .rows-of in
     let w : c .before .before .before .before .before .before .before .before .wide .result ≡ g .action = c .before .before .before .before .before .before .before .before .wide .ensures .0 ∙ ap (λ (x : List ℕ). getD x 0 0) e in
     let h : g .action < length (D .actions) = F .listed in

@@ -31,7 +31,7 @@ abbrev μ-loop : tie.MeasureT-loop
 
 returns : tie.Need-returns Inv-loop μ-loop
 returns c D gs fs L o F h f I =
-    let a = c .before .before .before .before .before .args in
+    let a = c .before .before .before .before .args in
     let k = open-count gs (record { count = a .count; rows = a .rows .now }) o in
     let t = c .if1 .taken in
     absurd (omega arith)
@@ -41,17 +41,17 @@ loop-holds c = (omega arith, λ D gs fs L o F f I. refl)
 
 entry-met-requires : tie.Need-entry-met-requires Inv-loop μ-loop
 entry-met-requires c κs =
-    let p = c .before .before .before .before .before .before .before .pre in
-    (p .1 .1 .1, (omega arith, (p .0, (p .1 .0, p .1 .1 .0))))
+    let p = c .before .before .before .before .before .before .pre in
+    (p .1 .1, (omega arith, (p .0, p .1 .0)))
 
 -- the entry of this turn
 entry-at : (b : tie.After-entry-met Inv-loop μ-loop) (D : Domain) (gs : List GroundAction) (fs : List Fact)
-    → Held D (b .before .before .before .before .before .before .before .before .args .head .now) (b .before .before .before .before .before .before .before .before .args .table .now)
-    → _≡_ {A = Open} (record { count = b .before .before .before .before .before .before .before .before .args .count; rows = b .before .before .before .before .before .before .before .before .args .rows .now }) (openOf gs) → GroundsFit D gs → rowsIn (b .before .before .before .before .before .before .before .before .args .n) (b .before .before .before .before .before .before .before .before .args .work .now) ≡ map factRow fs
-    → Indexed (b .before .before .before .before .before .before .before .before .args .head .now) (b .before .before .before .before .before .before .before .before .args .index .now) (map factRow fs)
+    → Held D (b .before .before .before .before .before .before .before .args .head .now) (b .before .before .before .before .before .before .before .args .table .now)
+    → _≡_ {A = Open} (record { count = b .before .before .before .before .before .before .before .args .count; rows = b .before .before .before .before .before .before .before .args .rows .now }) (openOf gs) → GroundsFit D gs → rowsIn (b .before .before .before .before .before .before .before .args .n) (b .before .before .before .before .before .before .before .args .work .now) ≡ map factRow fs
+    → Indexed (b .before .before .before .before .before .before .before .args .head .now) (b .before .before .before .before .before .before .before .args .index .now) (map factRow fs)
     → (b .before .before .loop .i < length gs) × (b .entry-met .result ≡ overAllHold D fs (getD gs (b .before .before .loop .i) noGround))
 entry-at b D gs fs L o F f I =
-    let a = b .before .before .before .before .before .before .before .before .args in
+    let a = b .before .before .before .before .before .before .before .args in
     let i = b .before .before .loop .i in
     let k = open-count gs (record { count = a .count; rows = a .rows .now }) o in
     let h : i < length gs = omega arith in (
@@ -85,7 +85,7 @@ loop-again c =
 returns-3 : tie.Need-returns-3 Inv-loop μ-loop
 returns-3 c D gs fs L o F h f I =
     let l = c .before .loop in
-    let a = c .before .before .before .before .before .before .before .args in
+    let a = c .before .before .before .before .before .before .args in
     let k = open-count gs (record { count = a .count; rows = a .rows .now }) o in
     sym (all-end gs (l .i) noGround (overAllHold D fs) (omega arith)) ∙ l .inv .1 D gs fs L o F f I
 

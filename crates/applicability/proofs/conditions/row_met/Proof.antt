@@ -16,13 +16,13 @@ clause-for-requires c κs = search needs
 
 returns : tie.Need-returns
 returns c I =
-    let a = c .before .before .before .before .before .before .before .args in
+    let a = c .before .before .before .before .before .before .args in
     let e = c .if1 .taken in
     row-none (a .time) (a .head .now) (a .ground .now) (rowsIn (a .n) (a .work .now)) (a .rows .now) (a .row) (c .before .clause-for .result) (c .before .clause-for .ensures) (λ x. omega arith) (λ x. omega arith)
 
 returns-2 : tie.Need-returns-2
 returns-2 c I =
-    let a = c .before .before .before .before .before .before .before .before .args in
+    let a = c .before .before .before .before .before .before .before .args in
     let e = c .if2 .taken in
     row-none (a .time) (a .head .now) (a .ground .now) (rowsIn (a .n) (a .work .now)) (a .rows .now) (a .row) (c .before .before .clause-for .result) (c .before .before .clause-for .ensures) (λ x. omega arith) (λ x. omega arith)
 
@@ -34,7 +34,7 @@ condition-met-requires c κs = search needs
 
 returns-3 : tie.Need-returns-3
 returns-3 c I =
-    let a = c .before .before .before .before .before .before .before .before .before .before .args in
+    let a = c .before .before .before .before .before .before .before .before .before .args in
     row-bound (a .time) (a .head .now) (a .ground .now) (rowsIn (a .n) (a .work .now)) (a .rows .now) (a .row) (c .before .before .before .before .clause-for .result) (c .before .before .before .before .clause-for .ensures) (c .before .bound-row .result) (c .condition-met .result) (c .before .bound-row .ensures)
     (c .condition-met .ensures (a .head .now) I (bound-sized (a .head .now) (a .ground .now) (take 8 (drop (a .row) (a .rows .now))) (c .before .bound-row .result) (c .before .bound-row .ensures)))
 

@@ -16,4 +16,8 @@ returns-4 : tie.Need-returns-4
 returns-4 c = let a = c .before .before .before .args in clash-effects (a .c) (a .d) (c .before .if2 .left) (c .if3 .left)
 
 pub clashing-spec : {M : Type 1} → statement M
-clashing-spec = tie.close (tie.spec returns returns-2 returns-3 returns-4)
+clashing-spec = tie.close (tie.spec
+    returns
+    returns-2
+    returns-3
+    returns-4)

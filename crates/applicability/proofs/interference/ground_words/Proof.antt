@@ -65,6 +65,12 @@ put-words-requires c κs =
     let f = r .ensures .0 .few in
     (p .0, (omega arith, (omega arith, omega arith)))
 
+same-length : tie.Need-same-length
+same-length c = search needs
+
+same-length-2 : tie.Need-same-length-2
+same-length-2 c = search needs
+
 returns-2 : tie.Need-returns-2
 returns-2 c =
     let a = c .before .before .before .before .before .before .before .before .before .before .before .before .before .before .before .before .before .before .before .before .args in
@@ -80,12 +86,6 @@ returns-2 c =
           behind-first (marksIn (a .n) (a .words .now) (a .clauses .now)) (rowMarks (a .time) (a .head .now) (a .ground .now) (rowsIn (s .result .to - s .result .from) part)) r
           (held-marks H e F (a .time) (a .ground .now) t f (s .result) (subst (λ (i : ℕ). SpanOf D i (a .table .now) (s .result)) w (s .ensures .1 D H (omega arith)))),
     )
-
-same-length : tie.Need-same-length
-same-length c = search needs
-
-same-length-2 : tie.Need-same-length-2
-same-length-2 c = search needs
 
 pub ground-words-spec : {M : Type 1} → statement M
 ground-words-spec =

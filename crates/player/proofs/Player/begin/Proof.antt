@@ -11,9 +11,11 @@ begin-requires c κs = search needs
 
 returns : tie.Need-returns
 returns c D p entries moments events old H st noted =
-    let a = c .before .before .before .args in
+    let a = c .before .before .args in
     let player = wholeOf (a .self) entries moments events in
     begun-player D p player (a .work .now) old st _ (c .begin .ensures D p player old H st refl refl noted)
 
 pub begin-spec : {M : Type 1} → statement M
-begin-spec = tie.close (tie.spec begin-requires returns)
+begin-spec = tie.close (tie.spec
+    begin-requires
+    returns)

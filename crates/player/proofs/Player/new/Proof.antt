@@ -10,4 +10,5 @@ unfolding playerOf openOf waitingOf
 returns c = refl
 
 pub new-spec : {M : Type 1} → statement M
-new-spec = tie.close (tie.spec returns)
+new-spec = tie.close (tie.spec
+    returns)

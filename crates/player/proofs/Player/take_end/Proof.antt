@@ -24,4 +24,7 @@ returns-2 c D q entries moments events work old st =
     (end-on D q (wholeOf (a .self) entries moments events) work old st (a .behind))
 
 pub take-end-spec : {M : Type 1} → statement M
-take-end-spec = tie.close (tie.spec end-stop-requires returns returns-2)
+take-end-spec = tie.close (tie.spec
+    end-stop-requires
+    returns
+    returns-2)

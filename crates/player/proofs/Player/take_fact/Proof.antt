@@ -25,7 +25,7 @@ same-length c = search needs
 
 returns : tie.Need-returns
 returns c =
-    let a = c .before .before .before .before .before .before .before .args in
+    let a = c .before .before .before .before .before .before .args in
     let f = c .before .fact-stop in (
       λ D q entries moments events old H st noted.
           let player = wholeOf (a .self) entries moments events in
@@ -53,12 +53,9 @@ onward-requires c κs = search needs
 same-length-2 : tie.Need-same-length-2
 same-length-2 c = search needs
 
-same-length-3 : tie.Need-same-length-3
-same-length-3 c = search needs
-
 returns-2 : tie.Need-returns-2
 returns-2 c =
-    let a = c .before .before .before .before .before .before .before .before .before .before .before .before .before .args in
+    let a = c .before .before .before .before .before .before .before .before .before .before .before .before .args in
     let f = c .before .before .before .before .before .before .before .fact-stop in
     let row = c .before .before .before .before .before .fact-row in
     let found = c .before .before .is-held in
@@ -85,15 +82,12 @@ returns-2 c =
           (noted-again D _ q (factOf (a .p .now)) (a .behind) _ (fact-found (factOf (a .p .now)) (q .state .facts) (row .result) _ (found .result) (row .ensures) rows is ∙ c .before .if2 .taken) noted),
     )
 
-same-length-4 : tie.Need-same-length-4
-same-length-4 c = search needs
-
-same-length-5 : tie.Need-same-length-5
-same-length-5 c = search needs
+same-length-3 : tie.Need-same-length-3
+same-length-3 c = search needs
 
 returns-3 : tie.Need-returns-3
 returns-3 c =
-    let a = c .before .before .before .before .before .before .before .before .before .before .before .before .before .args in
+    let a = c .before .before .before .before .before .before .before .before .before .before .before .before .args in
     let f = c .before .before .before .before .before .before .before .fact-stop in
     let row = c .before .before .before .before .before .fact-row in
     let found = c .before .before .is-held in
@@ -129,8 +123,8 @@ slice-aggregate-enter c = search needs
 enter-requires : tie.Need-enter-requires
 enter-requires c κs = search needs
 
-slice-write-index : tie.Need-slice-write-index
-slice-write-index c = search needs
+element-write-index : tie.Need-element-write-index
+element-write-index c = search needs
 
 add-onward : tie.Need-add-onward
 add-onward c = search needs
@@ -138,20 +132,17 @@ add-onward c = search needs
 onward-requires-2 : tie.Need-onward-requires-2
 onward-requires-2 c κs = search needs
 
-same-length-6 : tie.Need-same-length-6
-same-length-6 c = search needs
-
-same-length-7 : tie.Need-same-length-7
-same-length-7 c = search needs
+same-length-4 : tie.Need-same-length-4
+same-length-4 c = search needs
 
 returns-4 : tie.Need-returns-4
 returns-4 c =
-    let a = c .before .before .before .before .before .before .before .before .before .before .before .before .before .before .before .before .before .before .before .before .before .before .before .args in
-    let f = c .before .before .before .before .before .before .before .before .before .before .before .before .before .before .before .before .before .fact-stop in
-    let row = c .before .before .before .before .before .before .before .before .before .before .before .before .before .before .before .fact-row in
-    let found = c .before .before .before .before .before .before .before .before .before .before .before .before .is-held in
-    let passed = c .before .before .before .before .before .before .before .before .before .before .before .before .before .before .before .before .if1 .left in
-    let entered = c .before .before .before .enter in (
+    let a = c .before .before .before .before .before .before .before .before .before .before .before .before .before .before .before .before .before .before .before .before .args in
+    let f = c .before .before .before .before .before .before .before .before .before .before .before .before .before .before .before .fact-stop in
+    let row = c .before .before .before .before .before .before .before .before .before .before .before .before .before .fact-row in
+    let found = c .before .before .before .before .before .before .before .before .before .before .is-held in
+    let passed = c .before .before .before .before .before .before .before .before .before .before .before .before .before .before .if1 .left in
+    let entered = c .before .enter in (
       λ D q entries moments events old H st noted.
           let player = wholeOf (a .self) entries moments events in
           let rows = facts-rows D q player (a .work .now) old st (H .bounded) in
@@ -161,7 +152,7 @@ returns-4 c =
           let sized = fact-sized D (a .head .now) H q (a .p .now) (st .sound .kept .facts-few) zero (row .result) (row .ensures) in
           let is = found .ensures (a .head .now) (rw rows (noted .indexed)) sized in
           passes D q (factStop D (q .objects) (q .tally .begun) (q .state .facts) (a .p .now)) (f .result) (goOn (withFact q (factOf (a .p .now)) (a .behind))) _ _ old stop passed
-          (fact-new D (H .bounded) q player (a .work .now) old st (a .p .now) (a .behind) zero (row .result) (row .ensures) (found .result) is (c .before .before .before .before .before .before .before .before .before .before .before .if2 .left) (wholeOf (c .onward2 .result) entries moments events) _ refl (gone-on (a .self) (c .onward2 .result) (a .behind) (a .self .facts + 1) (a .self .waits) entries moments events (c .onward2 .ensures)) _ (c .before .before .before .before .before .before .before .before .put-fact .ensures)),
+          (fact-new D (H .bounded) q player (a .work .now) old st (a .p .now) (a .behind) zero (row .result) (row .ensures) (found .result) is (c .before .before .before .before .before .before .before .before .before .if2 .left) (wholeOf (c .onward2 .result) entries moments events) _ refl (gone-on (a .self) (c .onward2 .result) (a .behind) (a .self .facts + 1) (a .self .waits) entries moments events (c .onward2 .ensures)) _ (c .before .before .before .before .before .before .put-fact .ensures)),
       λ D q entries moments events old H st noted.
           let player = wholeOf (a .self) entries moments events in
           let rows = facts-rows D q player (a .work .now) old st (H .bounded) in
@@ -175,7 +166,7 @@ returns-4 c =
           let more = entered .ensures .0 (map factRow (q .state .facts)) (noted .indexed) (rw whole sized) in
           let now = rw (whole, row .ensures) at more in
           noted-unless D _ _ (factStop D (q .objects) (q .tally .begun) (q .state .facts) (a .p .now)) q (goOn (withFact q (factOf (a .p .now)) (a .behind)))
-          (noted-fact D _ q (factOf (a .p .now)) (a .behind) _ (entered .kept .0 ∙ c .before .before .before .before .before .before .before .before .before .before .before .before .before .before .before .before .before .before .before .before .before .before .before .pre .1 .1) (fact-found (factOf (a .p .now)) (q .state .facts) (row .result) _ (found .result) (row .ensures) rows is ∙ c .before .before .before .before .before .before .before .before .before .before .before .if2 .left) now),
+          (noted-fact D _ q (factOf (a .p .now)) (a .behind) _ (fact-found (factOf (a .p .now)) (q .state .facts) (row .result) _ (found .result) (row .ensures) rows is ∙ c .before .before .before .before .before .before .before .before .before .if2 .left) now),
     )
 
 pub take-fact-spec : {M : Type 1} → statement M
@@ -189,17 +180,14 @@ take-fact-spec =
     is-held-requires
     onward-requires
     same-length-2
-    same-length-3
     returns-2
-    same-length-4
-    same-length-5
+    same-length-3
     returns-3
     put-fact-requires
     slice-aggregate-enter
     enter-requires
-    slice-write-index
+    element-write-index
     add-onward
     onward-requires-2
-    same-length-6
-    same-length-7
+    same-length-4
     returns-4)

@@ -30,4 +30,8 @@ returns-2 c D q entries moments events work old st =
 
 pub take-objects-spec : {M : Type 1} → statement M
 take-objects-spec =
-    tie.close (tie.spec objects-stop-requires returns shared-slice-read-t8 returns-2)
+    tie.close (tie.spec
+    objects-stop-requires
+    returns
+    shared-slice-read-t8
+    returns-2)

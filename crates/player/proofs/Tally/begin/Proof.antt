@@ -19,7 +19,7 @@ top-from-requires c κs = search needs
 
 returns-2 : tie.Need-returns-2
 returns-2 c D p player old H st is facts noted =
-    let a = c .before .before .before .before .args in
+    let a = c .before .before .before .args in
     let top = c .top-from in
     let rows = ap (λ (n : ℕ). rowsIn n (a .work .now)) facts ∙ facts-rows D p player (a .work .now) old st (H .bounded) in
     let t = top .ensures .1 D (p .state .facts) H (rw rows (noted .indexed)) rows (st .sound .kept .facts) in
@@ -27,4 +27,7 @@ returns-2 c D p player old H st is facts noted =
     begun-now D p player (a .work .now) old st (sym (ap (λ (t : Tally). t .begun) is) ∙ c .before .if1 .left) (top .result) (t ∙ ap (max 0) (top-all D (p .state .facts)) ∙ z)
 
 pub begin-spec : {M : Type 1} → statement M
-begin-spec = tie.close (tie.spec returns top-from-requires returns-2)
+begin-spec = tie.close (tie.spec
+    returns
+    top-from-requires
+    returns-2)

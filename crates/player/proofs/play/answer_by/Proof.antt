@@ -10,4 +10,6 @@ returns-2 : tie.Need-returns-2
 returns-2 c o is = answer-stopped (c .before .before .args .ended) o is (c .if1 .left)
 
 pub answer-by-spec : {M : Type 1} → statement M
-answer-by-spec = tie.close (tie.spec returns returns-2)
+answer-by-spec = tie.close (tie.spec
+    returns
+    returns-2)

@@ -42,4 +42,8 @@ returns c =
     )
 
 pub play-spec : {M : Type 1} → statement M
-play-spec = tie.close (tie.spec play-files-requires part-requires same-length returns)
+play-spec = tie.close (tie.spec
+    play-files-requires
+    part-requires
+    same-length
+    returns)

@@ -27,9 +27,6 @@ slice-aggregate-play-records-4 c = search needs
 slice-aggregate-play-records-5 : tie.Need-slice-aggregate-play-records-5
 slice-aggregate-play-records-5 c = search needs
 
-slice-aggregate-play-records-6 : tie.Need-slice-aggregate-play-records-6
-slice-aggregate-play-records-6 c = search needs
-
 play-records-requires : tie.Need-play-records-requires
 play-records-requires c κs =
     let old = c .before .before .before .before .before .before .before .before .before .before .before .before .before .before .before .args .work .now in
@@ -44,8 +41,8 @@ same-length c = search needs
 
 returns : tie.Need-returns
 returns c D H =
-    let old = c .before .before .before .before .before .before .before .before .before .before .before .before .before .before .before .before .before .before .before .before .before .before .before .before .args .work .now in
-    c .before .before .before .before .before .before .before .before .play-records .ensures D old H (cleared old _ (c .before .before .before .before .before .before .before .before .before .before .before .before .before .before .before .before .before .before .put-bytes .ensures))
+    let old = c .before .before .before .before .before .before .before .before .before .before .before .before .before .before .before .before .before .before .before .before .before .before .before .args .work .now in
+    c .before .before .before .before .before .before .before .play-records .ensures D old H (cleared old _ (c .before .before .before .before .before .before .before .before .before .before .before .before .before .before .before .before .before .put-bytes .ensures))
 
 pub play-run-spec : {M : Type 1} → statement M
 play-run-spec =
@@ -58,7 +55,6 @@ play-run-spec =
     slice-aggregate-play-records-3
     slice-aggregate-play-records-4
     slice-aggregate-play-records-5
-    slice-aggregate-play-records-6
     play-records-requires
     same-length
     returns)

@@ -6,7 +6,7 @@ use borrow.Author.Needs.{needs}
 use lib.ListN.{take, drop}
 use Rattle.literals.specs.Held.{keysIn, partsIn}
 use Rattle.literals.specs.Table.{rowsIn}
-use Rattle.store.specs.Index.{wordOf, slotOf}
+use Rattle.store.specs.Index.{wordsAt, instancesAt, noteAt, wordOf, slotOf}
 use Rattle.store.proofs.InstanceRows.{keyed-none, keyed-one}
 use Rattle.store.proofs.Totals.{enter-none, enter-one, beside-at}
 use Rattle.store.proofs.index.enter.Statement.{statement}
@@ -42,62 +42,44 @@ add-add-at-2 c = search needs
 add-at-requires-3 : tie.Need-add-at-requires-3
 add-at-requires-3 c κs = search needs
 
-same-length : tie.Need-same-length
-same-length c = search needs
-
 returns : tie.Need-returns
-returns c = let keyed = c .before .before .before .before .before .before .before in
-    let second = keyed .before .before .before in
-    let worded = second .before in
-    let first = worded .before .before .before .before in
-    let slotted = first .before .before in
-    let read = slotted .before in
-    let start = read .before .before .before in
-    let a = start .args in
-    let k = keyed .key-of in
-    let o = slotted .slot-of in
-    let w = worded .word-of in
-    let x = first .add-at in
-    let y = second .add-at2 in
+returns c =
+    let a = c .before .before .before .before .before .before .before .before .before .before .before .before .before .before .args in
+    let k = c .before .before .before .before .before .key-of in
+    let o = c .before .before .before .before .before .before .before .before .before .before .before .slot-of in
+    let w = c .before .before .before .before .before .before .before .word-of in
+    let x = c .before .before .before .before .before .before .before .before .before .add-at in
+    let y = c .before .before .before .before .before .before .add-at2 in
     let row = take 8 (drop (a .at) (a .memory .now)) in
-    let e : o .result ≡ slotOf row = o .ensures .0 ∙ ap slotOf (read .row-at .ensures) in
-    let f : w .result ≡ wordOf row = w .ensures .0 ∙ ap wordOf (read .row-at .ensures) in
+    let e : o .result ≡ slotOf row = o .ensures .0 ∙ ap slotOf (c .before .before .before .before .before .before .before .before .before .before .before .before .row-at .ensures) in
+    let f : w .result ≡ wordOf row = w .ensures .0 ∙ ap wordOf (c .before .before .before .before .before .before .before .before .before .before .before .before .row-at .ensures) in
     let b =
-    beside-at (x .last .0) (y .last .0) (4096 + o .result) _ 12288 (y .ensures) (omega (arith, o .ensures .1))
-    ∙ beside-at (a .index .now) (x .last .0) (o .result) _ 12288 (x .ensures) (omega (arith, o .ensures .1)) in
-    let g = c .before .before .before .key-slot in
-    let v = c .before .before .add-at3 in (
+    beside-at (x .last .0) (y .last .0) (wordsAt + o .result) _ noteAt (y .ensures) (omega (arith, o .ensures .1))
+    ∙ beside-at (a .index .now) (x .last .0) (o .result) _ noteAt (x .ensures) (omega (arith, o .ensures .1)) in
+    let g = c .before .key-slot in
+    let v = c .add-at3 in (
       λ rows i z. enter-one i row z (x .last .0) (y .last .0) (o .result) (w .result)
-          (start .pre .0) e f (x .ensures) (y .ensures) (k .result .row) (v .last .0) (g .result)
-          (keyed-one (k .result) (keysIn (a .head .now)) (partsIn (a .head .now)) row (k .ensures) (c .before .before .before .before .before .before .if1 .taken)) (g .ensures .0) (v .ensures),
-      beside-at (y .last .0) (v .last .0) (8192 + g .result) _ 12288 (v .ensures) (omega (arith, g .ensures .1)) ∙ b,
+          e f (x .ensures) (y .ensures) (k .result .row) (v .last .0) (g .result)
+          (keyed-one (k .result) (keysIn (a .head .now)) (partsIn (a .head .now)) row (k .ensures) (c .before .before .before .before .if1 .taken)) (g .ensures .0) (v .ensures),
+      beside-at (y .last .0) (v .last .0) (instancesAt + g .result) _ noteAt (v .ensures) (omega (arith, g .ensures .1)) ∙ b,
     )
 
-same-length-2 : tie.Need-same-length-2
-same-length-2 c = search needs
-
 returns-2 : tie.Need-returns-2
-returns-2 c = let keyed = c .before in
-    let second = keyed .before .before .before in
-    let worded = second .before in
-    let first = worded .before .before .before .before in
-    let slotted = first .before .before in
-    let read = slotted .before in
-    let start = read .before .before .before in
-    let a = start .args in
-    let k = keyed .key-of in
-    let o = slotted .slot-of in
-    let w = worded .word-of in
-    let x = first .add-at in
-    let y = second .add-at2 in
+returns-2 c =
+    let a = c .before .before .before .before .before .before .before .before .before .before .args in
+    let k = c .before .key-of in
+    let o = c .before .before .before .before .before .before .before .slot-of in
+    let w = c .before .before .before .word-of in
+    let x = c .before .before .before .before .before .add-at in
+    let y = c .before .before .add-at2 in
     let row = take 8 (drop (a .at) (a .memory .now)) in
-    let e : o .result ≡ slotOf row = o .ensures .0 ∙ ap slotOf (read .row-at .ensures) in
-    let f : w .result ≡ wordOf row = w .ensures .0 ∙ ap wordOf (read .row-at .ensures) in
+    let e : o .result ≡ slotOf row = o .ensures .0 ∙ ap slotOf (c .before .before .before .before .before .before .before .before .row-at .ensures) in
+    let f : w .result ≡ wordOf row = w .ensures .0 ∙ ap wordOf (c .before .before .before .before .before .before .before .before .row-at .ensures) in
     let b =
-    beside-at (x .last .0) (y .last .0) (4096 + o .result) _ 12288 (y .ensures) (omega (arith, o .ensures .1))
-    ∙ beside-at (a .index .now) (x .last .0) (o .result) _ 12288 (x .ensures) (omega (arith, o .ensures .1)) in (
+    beside-at (x .last .0) (y .last .0) (wordsAt + o .result) _ noteAt (y .ensures) (omega (arith, o .ensures .1))
+    ∙ beside-at (a .index .now) (x .last .0) (o .result) _ noteAt (x .ensures) (omega (arith, o .ensures .1)) in (
       λ rows i z. enter-none i row z (x .last .0) (y .last .0) (o .result) (w .result)
-          (start .pre .0) e f (x .ensures) (y .ensures)
+          e f (x .ensures) (y .ensures)
           (keyed-none (k .result) (keysIn (a .head .now)) (partsIn (a .head .now)) row (k .ensures) (c .if1 .left)),
       b,
     )
@@ -116,7 +98,5 @@ enter-spec =
     key-slot-requires
     add-add-at-2
     add-at-requires-3
-    same-length
     returns
-    same-length-2
     returns-2)

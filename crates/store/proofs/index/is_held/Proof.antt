@@ -17,11 +17,11 @@ slot-of-requires c κs = search needs
 mul-count : tie.Need-mul-count
 mul-count c = search needs
 
-shared-slice-read-count : tie.Need-shared-slice-read-count
-shared-slice-read-count c = search needs
+element-copy-out-count : tie.Need-element-copy-out-count
+element-copy-out-count c = search needs
 
 returns : tie.Need-returns
-returns c = let a = c .before .before .before .before .before .args in
+returns c = let a = c .before .before .before .before .args in
     let o = c .before .before .slot-of in
     λ head i z.
     held-none (a .index .now) (rowsIn (a .n) (a .memory .now)) i (omega (arith, length-rows 8 (a .n) (a .memory .now))) (a .row) (o .result) (o .ensures .0) (c .if1 .taken)
@@ -32,18 +32,18 @@ add-result c = search needs
 mul-result : tie.Need-mul-result
 mul-result c = search needs
 
-shared-slice-read-result : tie.Need-shared-slice-read-result
-shared-slice-read-result c = search needs
+element-copy-out-result : tie.Need-element-copy-out-result
+element-copy-out-result c = search needs
 
 word-of-requires : tie.Need-word-of-requires
 word-of-requires c κs = search needs
 
 returns-2 : tie.Need-returns-2
-returns-2 c = let a = c .before .before .before .before .before .before .before .before .args in
+returns-2 c = let a = c .before .before .before .before .before .before .before .args in
     let o = c .before .before .before .before .before .slot-of in
     let l : length (a .row) ≡ 8 = search needs in
     let b : Bytes (a .row) = λ k. let z : Fits w8 (getD (a .row) k 0) = search needs in omega arith in
-    let m : Bytes (a .memory .now) = λ k. omega (arith, c .before .before .before .before .before .before .shared-slice-known2 .given k) in
+    let m : Bytes (a .memory .now) = λ k. omega (arith, c .before .before .before .before .before .before .shared-slice-known .given k) in
     λ head i z.
     held-one (a .index .now) (rowsIn (a .n) (a .memory .now)) i (omega (arith, length-rows 8 (a .n) (a .memory .now))) (a .row) (o .result) (o .ensures .0)
     (c .before .before .if2 .taken) (c .word-of .result) (c .word-of .ensures .0) (l, b) (rows-eight (a .n) (a .memory .now) (omega arith) m) z
@@ -60,11 +60,11 @@ is-held-spec =
     (tie.spec
     slot-of-requires
     mul-count
-    shared-slice-read-count
+    element-copy-out-count
     returns
     add-result
     mul-result
-    shared-slice-read-result
+    element-copy-out-result
     word-of-requires
     returns-2
     has-row-requires

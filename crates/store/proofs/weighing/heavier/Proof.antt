@@ -17,7 +17,7 @@ key-of-requires : tie.Need-key-of-requires
 key-of-requires c κs = search needs
 
 returns : tie.Need-returns
-returns c = let a = c .before .before .before .before .before .args in
+returns c = let a = c .before .before .before .before .args in
     let k = c .before .before .key-of in
     let ps = partsIn (a .head .now) in
     let rows = rowsIn (a .n) (a .memory .now) in
@@ -33,11 +33,11 @@ add-if2 c = search needs
 mul-if2 : tie.Need-mul-if2
 mul-if2 c = search needs
 
-shared-slice-read-if2 : tie.Need-shared-slice-read-if2
-shared-slice-read-if2 c = search needs
+element-copy-out-if2 : tie.Need-element-copy-out-if2
+element-copy-out-if2 c = search needs
 
 returns-2 : tie.Need-returns-2
-returns-2 c = let a = c .before .before .before .before .before .before .before .before .before .args in
+returns-2 c = let a = c .before .before .before .before .before .before .before .before .args in
     let k = c .before .before .before .before .before .before .key-of in
     let ps = partsIn (a .head .now) in
     let rows = rowsIn (a .n) (a .memory .now) in
@@ -50,7 +50,7 @@ weigh-requires : tie.Need-weigh-requires
 weigh-requires c κs = search needs
 
 returns-3 : tie.Need-returns-3
-returns-3 c = let a = c .before .before .before .before .before .before .before .before .before .before .before .args in
+returns-3 c = let a = c .before .before .before .before .before .before .before .before .before .before .args in
     let k = c .before .before .before .before .before .before .before .before .key-of in
     let ps = partsIn (a .head .now) in
     let rows = rowsIn (a .n) (a .memory .now) in
@@ -58,7 +58,7 @@ returns-3 c = let a = c .before .before .before .before .before .before .before 
     λ i. higher-new (keysIn (a .head .now)) ps rows fact (a .least) (k .result .row) (keyed-one (k .result) (keysIn (a .head .now)) ps fact (k .ensures) (not-false (k .result .matched) (c .before .before .before .before .before .before .if1 .left))) (c .before .weigh .result) (c .before .weigh .ensures) (c .if3 .taken)
 
 returns-4 : tie.Need-returns-4
-returns-4 c = let a = c .before .before .before .before .before .before .before .before .before .before .before .args in
+returns-4 c = let a = c .before .before .before .before .before .before .before .before .before .before .args in
     let k = c .before .before .before .before .before .before .before .before .key-of in
     let ps = partsIn (a .head .now) in
     let rows = rowsIn (a .n) (a .memory .now) in
@@ -74,7 +74,7 @@ heavier-spec =
     key-slot-requires
     add-if2
     mul-if2
-    shared-slice-read-if2
+    element-copy-out-if2
     returns-2
     weigh-requires
     returns-3

@@ -28,7 +28,7 @@ mul-heavier : tie.Need-mul-heavier Inv-loop μ-loop
 mul-heavier c = omega arith
 
 heavier-requires : tie.Need-heavier-requires Inv-loop μ-loop
-heavier-requires c κs = (omega arith, omega arith, omega arith, omega arith)
+heavier-requires c κs = (omega arith, (omega arith, omega arith))
 
 add-i : tie.Need-add-i Inv-loop μ-loop
 add-i c = omega arith
@@ -37,12 +37,12 @@ loop-less : tie.Need-loop-less Inv-loop μ-loop
 loop-less c = omega arith
 
 loop-again : tie.Need-loop-again Inv-loop μ-loop
-loop-again c = let a = c .before .before .before .before .before .args in
+loop-again c = let a = c .before .before .before .before .args in
     let l = c .before .before .loop in
     λ h. top-more (keysIn (a .head .now)) (partsIn (a .head .now)) (rowsIn (a .n) (a .memory .now)) (a .memory .now) (a .n) (l .i) (l .top) (c .heavier .result) (omega arith) (c .heavier .ensures h) ∙ l .inv h
 
 returns : tie.Need-returns Inv-loop μ-loop
-returns c = let a = c .before .before .before .before .args in
+returns c = let a = c .before .before .before .args in
     let l = c .before .loop in
     let e : Indexed (a .head .now) (a .index .now) (rowsIn (a .n) (a .memory .now))
     → l .top ≡ max (a .least) (topRows (keysIn (a .head .now)) (partsIn (a .head .now)) (rowsIn (a .n) (a .memory .now)) (a .from)) = λ h. sym (top-end (keysIn (a .head .now)) (partsIn (a .head .now)) (rowsIn (a .n) (a .memory .now)) (a .memory .now) (a .n) (l .i) (l .top) (omega arith))
