@@ -154,9 +154,18 @@ pub record Names : Type 0 where
   -- a journey's start and end are of one class: here the start takes at(0,1), the end adds out(2,3)
   pub journey-of-another-class : judge (library (lasting 4 ++ holds (at 0 1) ++ deletes (at 0 1) ++ addsAtEnd (out 2 3)))
       ≡ answers 42 0 1 1 (row 0 0 0 irrelevant ++ row 0 0 1 irrelevant ++ row 0 1 0 irrelevant ++ row 0 1 1 unbounded) (held (at 2 4))
-  -- the first moment at fault, whatever the numbers: 42 before 41 before 40 in the file
+  -- the worst fault, wherever it stands: 42, 41 and 40 in the file, and 40 is named, with its witness
   pub first-of-three : judge (library (atOnce 2 ++ adds (at 0 1) ++ atOnce 3 ++ holds (at 0 1) ++ adds (at 0 2) ++ atOnce 3 ++ adds (at 0 1) ++ adds (at 0 2)))
-      ≡ answers 42 0 0 0 (row 0 0 0 unbounded ++ row 1 0 0 unbalanced ++ row 2 0 0 heavy) (held (at 0 2))
+      ≡ answers 40 2 0 0 (row 0 0 0 unbounded ++ row 1 0 0 unbalanced ++ row 2 0 0 heavy) []
+  -- 41 before 42
+  pub unbalanced-before-unbounded : judge (library (atOnce 2 ++ adds (at 0 1) ++ atOnce 3 ++ holds (at 0 1) ++ adds (at 0 2)))
+      ≡ answers 41 1 0 0 (row 0 0 0 unbounded ++ row 1 0 0 unbalanced) (held (at 0 1))
+  -- within one number the earliest action
+  pub earliest-action : judge (library (atOnce 2 ++ adds (at 0 1) ++ atOnce 3 ++ holds (at 0 1) ++ adds (at 0 2) ++ atOnce 4 ++ holds (at 0 2) ++ adds (at 0 3)))
+      ≡ answers 41 1 0 0 (row 0 0 0 unbounded ++ row 1 0 0 unbalanced ++ row 2 0 0 unbalanced) (held (at 0 1))
+  -- and in it the earliest class and moment: of the class 0 the start is unbounded, of both classes the end is unbalanced
+  pub earliest-class : judge (library (lasting 3 ++ adds (at 0 2) ++ holdsAtEnd (at 0 1) ++ addsAtEnd (at 0 2) ++ holdsAtEnd (at 1 2) ++ addsAtEnd (at 1 0)))
+      ≡ answers 41 0 0 1 (row 0 0 0 unbounded ++ row 0 0 1 unbalanced ++ row 0 1 0 irrelevant ++ row 0 1 1 unbalanced) (held (at 0 1) ++ held (at 1 2))
   -- of two bounded moments the first
   pub first-bounded : judge (vessels (fill ++ fill ++ pour))
       ≡ answers 43 0 0 0 (row 0 0 0 bounded ++ row 1 0 0 bounded ++ row 2 0 0 irrelevant ++ row 2 0 1 unbounded) []
@@ -211,6 +220,9 @@ names =
       end-deletes = refl;
       journey-of-another-class = refl;
       first-of-three = refl;
+      unbalanced-before-unbounded = refl;
+      earliest-action = refl;
+      earliest-class = refl;
       first-bounded = refl;
       no-false-in-witness = refl;
       witness-over-all-first = refl;

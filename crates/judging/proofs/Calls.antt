@@ -20,14 +20,16 @@ use Rattle.classes.specs.declared.Name.the-variants.{Unreachable, Irrelevant, H
 use Rattle.literals.specs.Matching.{momentNumber}
 use Rattle.classes.specs.Classes.{classes, nameOf}
 use Rattle.verdict.specs.declared.Judgement.{Judgement}
-use Rattle.naming.specs.declared.Naming.{Naming}
-use Rattle.verdict.specs.Decision.{Row, rows, isUnbounded, faultBy, faultOf, isFaulty, isBoundedOutside, firstRow, accept, decideBounded, decideBy, decideRows, decision, classAt, witnessAt, witnessOf, witness, shownAt, shownOf, isShown}
+use Rattle.naming.specs.declared.NamedDomain.{NamedDomain}
+use Rattle.verdict.specs.Decision.{Row, rows, isUnbounded, faultBy, faultOf, isBoundedOutside, firstRow, worstRow, accept, decideBounded, decideBy, decideRows, decision, classAt, witnessAt, witnessOf, witness, shownAt, shownOf, isShown}
 use Rattle.verdict.specs.Judged.{rowBytes, factBytes, Answer, answerAt, answerRow, decided, writesWitness, fillsReport, judgedDomain, reportBy, witnessMemoryBy}
-use Rattle.verdict.specs.Coded.{judgementOf, momentBy, notesOf}
+use Rattle.verdict.specs.Summaries.{summaries, notesOf, decideNotes, decidedSummaries}
+use Rattle.verdict.specs.Coded.{judgementOf, momentBy}
 use Rattle.naming.specs.Named.{namingOf}
 use Rattle.showing.specs.Bytes.{fitsIn, shownIn, RefusedAt, ShownAt}
 use Rattle.judging.specs.Reporting.{JudgedAs}
-use Rattle.verdict.proofs.Rows.{stands, filter-first}
+use Rattle.verdict.proofs.Rows.{stands, worst-first}
+use Rattle.verdict.proofs.Summed.{summaries-decide}
 
 -- ---- the decision
 
@@ -42,7 +44,7 @@ number-is D = ap (λ (a : Answer). a .number) (sym (decided-is D)) ∙ by (decid
     by none = refl
     by (some r) = refl
 
--- a refusal by 40 to 42 names its first faulty row
+-- a refusal by 40 to 42 names its worst row
 record Faulty (rs : List Row) : Type 0 where
   row : Row
   listed : In row rs
@@ -51,7 +53,7 @@ record Faulty (rs : List Row) : Type 0 where
 
 faulty : (rs : List Row) → 40 ≤ decideRows rs .number → decideRows rs .number ≤ 42 → Faulty rs
 unfolding decideRows
-faulty rs lo hi = go (firstRow isFaulty rs) refl lo hi
+faulty rs lo hi = go (worstRow rs) refl lo hi
   where
     bounded : (o : Option Row) → decideBounded o .number ≤ 42 → 40 ≤ decideBounded o .number → ⊥
     bounded none h l = omega arith
@@ -61,8 +63,8 @@ faulty rs lo hi = go (firstRow isFaulty rs) refl lo hi
     rest true l h = bounded (firstRow isBoundedOutside rs) h l
     rest false l h = omega arith
 
-    go : (o : Option Row) → firstRow isFaulty rs ≡ o → 40 ≤ decideBy o rs .number → decideBy o rs .number ≤ 42 → Faulty rs
-    go (some r) e l h = record { row = r; listed = filter-first isFaulty rs r e .0; place = ap (λ o. decideBy o rs .place) e; number = ap (λ o. decideBy o rs .number) e }
+    go : (o : Option Row) → worstRow rs ≡ o → 40 ≤ decideBy o rs .number → decideBy o rs .number ≤ 42 → Faulty rs
+    go (some r) e l h = record { row = r; listed = worst-first rs r e .0; place = ap (λ o. decideBy o rs .place) e; number = ap (λ o. decideBy o rs .number) e }
     go none e l h = absurd (rest (any (λ (r : Row). isUnbounded (r .name)) rs) l h)
 
 moment-back : (m : Moment) → momentBy (momentNumber m) ≡ m
@@ -119,7 +121,7 @@ fault-fills Unbounded false h = refl
 
 rows-fill : (rs : List Row) → fillsReport (decideRows rs .number) ≡ true
 unfolding decideRows
-rows-fill rs = go (firstRow isFaulty rs) refl
+rows-fill rs = go (worstRow rs) refl
   where
     bounded : (o : Option Row) → fillsReport (decideBounded o .number) ≡ true
     bounded none = refl
@@ -129,8 +131,8 @@ rows-fill rs = go (firstRow isFaulty rs) refl
     rest true = bounded (firstRow isBoundedOutside rs)
     rest false = refl
 
-    go : (o : Option Row) → firstRow isFaulty rs ≡ o → fillsReport (decideBy o rs .number) ≡ true
-    go (some r) e = fault-fills (r .name) (r .journeyEnd) (filter-first isFaulty rs r e .1)
+    go : (o : Option Row) → worstRow rs ≡ o → fillsReport (decideBy o rs .number) ≡ true
+    go (some r) e = fault-fills (r .name) (r .journeyEnd) (worst-first rs r e .1)
     go none e = rest (any (λ (r : Row). isUnbounded (r .name)) rs)
 
 decided-fills : (D : Domain) → fillsReport (decided D .number) ≡ true
@@ -190,17 +192,19 @@ module _ (D : Domain) (report wit : List ℕ) where
 -- ---- by what the calls within leave
 
 -- naming leads to the domain's rows, notes and decision
-module _ (D : Domain) {n : Naming} (e : n ≡ namingOf D) where
+module _ (D : Domain) {n : NamedDomain} (e : n ≡ namingOf D) where
   pub rows-of : n .rows ≡ length (rows D)
   unfolding namingOf
-  rows-of = ap (λ (n : Naming). n .rows) e
+  rows-of = ap (λ (n : NamedDomain). n .rows) e
 
-  notes-of : n .notes ≡ notesOf (rows D)
+  notes-of : n .notes ≡ notesOf (summaries D)
   unfolding namingOf
-  notes-of = ap (λ (n : Naming). n .notes) e
+  notes-of = ap (λ (n : NamedDomain). n .notes) e
 
-  pub decision-of : {j : Judgement} → ((rs : List Row) → n .notes ≡ notesOf rs → j ≡ judgementOf (answerRow (decideRows rs .number) (decideRows rs .place))) → j ≡ judgementOf (decided D)
-  decision-of h = h (rows D) notes-of ∙ ap judgementOf (decided-is D)
+  -- the decision is read off the summaries
+  pub decision-of : {j : Judgement} → j ≡ judgementOf (decideNotes (n .notes)) → j ≡ judgementOf (decided D)
+  unfolding decidedSummaries
+  decision-of h = h ∙ ap (λ a. judgementOf (decideNotes a)) notes-of ∙ ap judgementOf (summaries-decide D)
 
 pub number-of : (D : Domain) {j : Judgement} → j ≡ judgementOf (decided D) → j .number ≡ decided D .number
 number-of D e = ap (λ (j : Judgement). j .number) e

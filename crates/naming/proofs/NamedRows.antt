@@ -22,10 +22,13 @@ use Rattle.classes.specs.declared.Name.{Name}
 use Rattle.classes.specs.Classes.{momentsOf, nameNumber, classes, nameOf, journey}
 use Rattle.classes.specs.Coded.{MomentOf, classNumbers, askedAt, soleAt, soleOf, reachAt}
 use Rattle.naming.specs.declared.Naming.{Naming}
+use Rattle.verdict.specs.declared.Summary.{Summary}
+use Rattle.verdict.specs.declared.Notes.{Notes}
 use Rattle.verdict.specs.Decision.{Row, rowAt, rowsOfClasses, rowsFrom, rows}
 use Rattle.verdict.specs.Claims.{wellFormed}
-use Rattle.verdict.specs.Coded.{rowFor, notesOf}
-use Rattle.naming.specs.Named.{nameBytes, classCounts, SolesIn, EndOf, Named, namingOf}
+use Rattle.verdict.specs.Summaries.{summaryRows, summaryOf, notesOf}
+use Rattle.verdict.specs.Coded.{rowFor}
+use Rattle.naming.specs.Named.{nameBytes, classCounts, SolesIn, EndOf, Listed, Named, namingOf}
 
 -- ---- one class or one action more
 
@@ -105,66 +108,91 @@ module _ (D : Domain) (a : Action) (i j : ℕ) (x : List Variable) where
 -- ---- naming
 
 -- one row more
-pub named-more : (rs : List Row) (r : Row) (n : Naming) {m : Naming} (names old : List ℕ) (v : ℕ) → n .rows < length names → Named rs n names old
-    → m .rows ≡ n .rows + 1 → m .notes ≡ notesOf (rs ++ (r ∷ [])) → v ≡ nameNumber (r .name) → Named (rs ++ (r ∷ [])) m (set names (n .rows) v) old
-named-more rs r n {m} names old v h N e f g =
-    let k = N .rows-named in
+pub listed-more : (rs : List Row) (r : Row) {n m : ℕ} (names old : List ℕ) (v : ℕ) → n < length names → Listed rs n names old
+    → m ≡ n + 1 → v ≡ nameNumber (r .name) → Listed (rs ++ (r ∷ [])) m (set names n v) old
+listed-more rs r {n} names old v h N e g =
+    let k = N .counted in
     let w = N .room in
     let l = length-append rs (r ∷ []) in
     let b = length-map rs (λ (r : Row). nameNumber (r .name)) in
     let u = ap length (N .bytes) ∙ length-over (nameBytes rs) old (omega arith) in
     record {
       room = omega arith;
-      rows-named = omega arith;
-      noted = f;
+      counted = omega arith;
       bytes =
-          ap₂ (λ (l : List ℕ) (a : ℕ). set l (n .rows) a) (N .bytes) g
-          ∙ over-more (nameBytes rs) old (n .rows) (nameNumber (r .name)) (b ∙ sym k) (omega arith)
+          ap₂ (λ (l : List ℕ) (a : ℕ). set l n a) (N .bytes) g
+          ∙ over-more (nameBytes rs) old n (nameNumber (r .name)) (b ∙ sym k) (omega arith)
           ∙ ap (λ (l : List ℕ). over l old) (sym (map-append (λ (r : Row). nameNumber (r .name)) rs (r ∷ [])));
     }
 
+pub named-more : (before rs : List Row) (r : Row) (n : Naming) {m : Naming} (names old : List ℕ) (v : ℕ) → n .rows < length names → Named before rs n names old
+    → m .rows ≡ n .rows + 1 → m .summary ≡ summaryRows (rs ++ (r ∷ [])) → v ≡ nameNumber (r .name) → Named before (rs ++ (r ∷ [])) m (set names (n .rows) v) old
+named-more before rs r n {m} names old v h N e f g =
+    record {
+      listed =
+          subst (λ (l : List Row). Listed l (m .rows) (set names (n .rows) v) old) (append-assoc before rs (r ∷ []))
+          (listed-more (before ++ rs) r names old v h (N .listed) e g);
+      summed = f;
+    }
+
 -- the rows of a class, by their names
-module _ (D : Domain) (a : Action) (i j : ℕ) (x : List Variable) (rs : List Row) {n : Naming} {names old : List ℕ} where
+module _ (D : Domain) (a : Action) (i j : ℕ) (x : List Variable) (before rs : List Row) {n : Naming} {names old : List ℕ} where
   pub named-once : (s : Name) → a .lasting ≡ false → s ≡ nameOf D a x Start
-      → Named (rs ++ (rowFor s false record { action = i; class = j; moment = 0 } ∷ [])) n names old → Named (rs ++ classRows D a i j x) n names old
-  named-once s l e N = subst (λ (k : List Row). Named (rs ++ k) n names old) (sym same) N
+      → Named before (rs ++ (rowFor i j Start s false ∷ [])) n names old → Named before (rs ++ classRows D a i j x) n names old
+  named-once s l e N = subst (λ (k : List Row). Named before (rs ++ k) n names old) (sym same) N
     where
-      same : classRows D a i j x ≡ rowFor s false record { action = i; class = j; moment = 0 } ∷ []
-      same =
-          once-rows D a i j x l
-          ∙ (λ k. record { action = i; class = j; moment = Start; name = sym e k; journeyEnd = false } ∷ [])
+      same : classRows D a i j x ≡ rowFor i j Start s false ∷ []
+      same = once-rows D a i j x l ∙ (λ k. rowFor i j Start (sym e k) false ∷ [])
 
   pub named-lasting : (s e : Name) (t : Bool) → a .lasting ≡ true → s ≡ nameOf D a x Start → e ≡ nameOf D a x End → t ≡ journey D a x
-      → Named ((rs ++ (rowFor s false record { action = i; class = j; moment = 0 } ∷ [])) ++ (rowFor e t record { action = i; class = j; moment = 1 } ∷ [])) n names old
-      → Named (rs ++ classRows D a i j x) n names old
-  named-lasting s e t l p q o N = subst (λ (k : List Row). Named k n names old) (append-assoc rs (_ ∷ []) (_ ∷ []) ∙ ap (λ (k : List Row). rs ++ k) (sym same)) N
+      → Named before ((rs ++ (rowFor i j Start s false ∷ [])) ++ (rowFor i j End e t ∷ [])) n names old
+      → Named before (rs ++ classRows D a i j x) n names old
+  named-lasting s e t l p q o N =
+      subst (λ (k : List Row). Named before k n names old) (append-assoc rs (_ ∷ []) (_ ∷ []) ∙ ap (λ (k : List Row). rs ++ k) (sym same)) N
     where
-      same : classRows D a i j x ≡ rowFor s false record { action = i; class = j; moment = 0 } ∷ rowFor e t record { action = i; class = j; moment = 1 } ∷ []
-      same =
-          lasting-rows D a i j x l
-          ∙ (λ k. record { action = i; class = j; moment = Start; name = sym p k; journeyEnd = false } ∷ record { action = i; class = j; moment = End; name = sym q k; journeyEnd = sym o k } ∷ [])
+      same : classRows D a i j x ≡ rowFor i j Start s false ∷ rowFor i j End e t ∷ []
+      same = lasting-rows D a i j x l ∙ (λ k. rowFor i j Start (sym p k) false ∷ rowFor i j End (sym q k) (sym o k) ∷ [])
 
 -- the classes of an action, after k of them
-module _ (D : Domain) (a : Action) (i : ℕ) (xs : List (List Variable)) (rs : List Row) {n : Naming} {names old : List ℕ} where
-  pub named-begin : Named rs n names old → Named (rs ++ rowsOfClasses D a i 0 (take 0 xs)) n names old
-  named-begin N = subst (λ (l : List Row). Named l n names old) (sym (append-nil rs)) N
+module _ (D : Domain) (a : Action) (i : ℕ) (xs : List (List Variable)) (before : List Row) {n : Naming} {names old : List ℕ} where
+  pub named-begin : Named before [] n names old → Named before (rowsOfClasses D a i 0 (take 0 xs)) n names old
+  named-begin N = N
 
-  pub named-next : (k : ℕ) → k < length xs → Named ((rs ++ rowsOfClasses D a i 0 (take k xs)) ++ classRows D a i k (getD xs k [])) n names old
-      → Named (rs ++ rowsOfClasses D a i 0 (take (k + 1) xs)) n names old
-  named-next k h N =
-      subst (λ (l : List Row). Named l n names old)
-      (append-assoc rs (rowsOfClasses D a i 0 (take k xs)) (classRows D a i k (getD xs k [])) ∙ ap (λ (l : List Row). rs ++ l) (sym (classes-next D a i xs k h)))
-      N
+  pub named-next : (k : ℕ) → k < length xs → Named before (rowsOfClasses D a i 0 (take k xs) ++ classRows D a i k (getD xs k [])) n names old
+      → Named before (rowsOfClasses D a i 0 (take (k + 1) xs)) n names old
+  named-next k h N = subst (λ (l : List Row). Named before l n names old) (sym (classes-next D a i xs k h)) N
 
-  pub named-end : (k : ℕ) → length xs ≤ k → Named (rs ++ rowsOfClasses D a i 0 (take k xs)) n names old → Named (rs ++ rowsOfClasses D a i 0 xs) n names old
-  named-end k h N = subst (λ (l : List (List Variable)). Named (rs ++ rowsOfClasses D a i 0 l) n names old) (take-all k xs h) N
+  pub named-end : (k : ℕ) → length xs ≤ k → Named before (rowsOfClasses D a i 0 (take k xs)) n names old → Named before (rowsOfClasses D a i 0 xs) n names old
+  named-end k h N = subst (λ (l : List (List Variable)). Named before (rowsOfClasses D a i 0 l) n names old) (take-all k xs h) N
+
+-- before the first of them
+pub named-none : (before : List Row) {n : Naming} {names old : List ℕ} → Listed before (n .rows) names old → n .summary ≡ summaryRows [] → Named before [] n names old
+named-none before {n} {names} {old} L e = record { listed = subst (λ (l : List Row). Listed l (n .rows) names old) (sym (append-nil before)) L; summed = e }
 
 -- the actions of a domain, after k of them
 module _ (D : Domain) where
-  pub named-action : (k : ℕ) {n : Naming} {names old : List ℕ} → k < length (D .actions)
-      → Named (rowsFrom D 0 (take k (D .actions)) ++ actionRows D (action D k) k) n names old → Named (rowsFrom D 0 (take (k + 1) (D .actions))) n names old
+  pub listed-none : (old : List ℕ) → Listed (rowsFrom D 0 (take 0 (D .actions))) 0 old old
+  unfolding over
+  listed-none old = record { room = omega arith; counted = refl; bytes = refl }
+
+  pub listed-action : (k : ℕ) {n : ℕ} {names old : List ℕ} → k < length (D .actions)
+      → Listed (rowsFrom D 0 (take k (D .actions)) ++ actionRows D (action D k) k) n names old → Listed (rowsFrom D 0 (take (k + 1) (D .actions))) n names old
   unfolding action
-  named-action k {n} {names} {old} h N = subst (λ (l : List Row). Named l n names old) (sym (actions-next D (D .actions) k h)) N
+  listed-action k {n} {names} {old} h N = subst (λ (l : List Row). Listed l n names old) (sym (actions-next D (D .actions) k h)) N
+
+  pub noted-action : (k : ℕ) {n m : Notes} {s : Summary} → k < length (D .actions) → n ≡ notesOf (map (summaryOf D) (take k (D .actions))) → s ≡ summaryOf D (action D k)
+      → ((ss : List Summary) → k ≡ length ss → n ≡ notesOf ss → m ≡ notesOf (ss ++ (s ∷ [])))
+      → m ≡ notesOf (map (summaryOf D) (take (k + 1) (D .actions)))
+  unfolding action
+  noted-action k h e g f =
+      let before = take k (D .actions) in
+      let l = length-map before (summaryOf D) ∙ length-take-le k (D .actions) (omega arith) in
+      f (map (summaryOf D) before) (sym l) e
+      ∙ ap (λ (s : Summary). notesOf (map (summaryOf D) before ++ (s ∷ []))) g
+      ∙ ap notesOf
+      (sym (ap (λ (m : ℕ). map (summaryOf D) (take m (D .actions))) (add-one k)
+      ∙ ap (map (summaryOf D)) (take-suc (D .actions) k noAction h)
+      ∙ map-append (summaryOf D) before (getD (D .actions) k noAction ∷ [])))
 
   pub counted-action : (k : ℕ) (counts : List ℕ) → k < length (D .actions) → length (D .actions) ≤ 64 → counts ≡ pad 64 (classCounts D (take k (D .actions)))
       → set counts k (length (classes D (action D k))) ≡ pad 64 (classCounts D (take (k + 1) (D .actions)))
@@ -180,16 +208,17 @@ module _ (D : Domain) where
       ∙ ap (classCounts D) (take-suc (D .actions) k noAction h)
       ∙ map-append (λ (a : Action). length (classes D a)) (take k (D .actions)) (getD (D .actions) k noAction ∷ [])))
 
-  pub naming-done : (k : ℕ) (n : Naming) {names old counts : List ℕ} → length (D .actions) ≤ k → Named (rowsFrom D 0 (take k (D .actions))) n names old
-      → counts ≡ pad 64 (classCounts D (take k (D .actions))) → (n ≡ namingOf D) × (counts ≡ pad 64 (classCounts D (D .actions))) × (names ≡ over (nameBytes (rows D)) old)
+  pub naming-done : (k : ℕ) {r : ℕ} {n : Notes} {names old counts : List ℕ} → length (D .actions) ≤ k → Listed (rowsFrom D 0 (take k (D .actions))) r names old
+      → n ≡ notesOf (map (summaryOf D) (take k (D .actions))) → counts ≡ pad 64 (classCounts D (take k (D .actions)))
+      → (record { rows = r; notes = n } ≡ namingOf D) × (counts ≡ pad 64 (classCounts D (D .actions))) × (names ≡ over (nameBytes (rows D)) old)
   unfolding rows namingOf
-  naming-done k n {names} {old} {counts} h N e =
+  naming-done k {r} {n} {names} {old} {counts} h N e c =
       let all = take-all k (D .actions) h in (
         λ i. record {
-          rows = (N .rows-named ∙ ap (λ (l : List Action). length (rowsFrom D 0 l)) all) i;
-          notes = (N .noted ∙ ap (λ (l : List Action). notesOf (rowsFrom D 0 l)) all) i;
+          rows = (N .counted ∙ ap (λ (l : List Action). length (rowsFrom D 0 l)) all) i;
+          notes = (e ∙ ap (λ (l : List Action). notesOf (map (summaryOf D) l)) all) i;
         },
-        e ∙ ap (λ (l : List Action). pad 64 (classCounts D l)) all,
+        c ∙ ap (λ (l : List Action). pad 64 (classCounts D l)) all,
         N .bytes ∙ ap (λ (l : List Action). over (nameBytes (rowsFrom D 0 l)) old) all,
       )
 
@@ -205,12 +234,12 @@ unfolding reachAt
 reach-is D a f g k = ap₂ (λ (o c : List ℕ). soleAt o c k 1) f g
 
 -- in an action, after k of its classes
-pub record InClasses (head rows of at-start at-end asked : List ℕ) (count i : ℕ) (lasting : Bool) (names₀ : List ℕ) (next₀ : Naming) (names : List ℕ) (next : Naming) (k : ℕ) : Type 0 where
+pub record InClasses (head rows of at-start at-end asked : List ℕ) (count : ℕ) (lasting : Bool) (names₀ : List ℕ) (next₀ : Naming) (names : List ℕ) (next : Naming) (k : ℕ) : Type 0 where
   pub reach : k ≤ count
   pub few : next .rows ≤ next₀ .rows + 2 * k
   pub room : length names ≡ length names₀
-  pub named : (rs : List Row) (old : List ℕ) (D : Domain) (a : Action) → Named rs next₀ names₀ old → MomentOf D a Start head rows of at-start → a .lasting ≡ lasting
-      → (lasting ≡ true → EndOf D a head rows of at-end asked) → count ≡ length (classes D a) → Named (rs ++ rowsOfClasses D a i 0 (take k (classes D a))) next names old
+  pub named : (before : List Row) (old : List ℕ) (D : Domain) (a : Action) (i : ℕ) → Named before [] next₀ names₀ old → MomentOf D a Start head rows of at-start → a .lasting ≡ lasting
+      → (lasting ≡ true → EndOf D a head rows of at-end asked) → count ≡ length (classes D a) → Named before (rowsOfClasses D a i 0 (take k (classes D a))) next names old
 
 -- the first n of an array, where a call has put xs there
 module _ (xs ys : List ℕ) (n : ℕ) (e : length xs ≡ n) where
@@ -241,9 +270,10 @@ names-few {D} H k r h g =
     omega arith
 
 -- in a domain, after k of its actions
-pub record InActions (head table names₀ counts₀ names counts : List ℕ) (naming : Naming) (k : ℕ) : Type 0 where
+pub record InActions (head table names₀ counts₀ names counts : List ℕ) (r : ℕ) (notes : Notes) (k : ℕ) : Type 0 where
   pub reach : k ≤ actionsIn head
   pub room : length names ≡ length names₀
-  pub few : (D : Domain) → Held D head table → naming .rows ≤ 2 * length (allLiterals (take k (D .actions)))
-  pub named : (D : Domain) → Held D head table → wellFormed D ≡ true → counts₀ ≡ pad 64 []
-      → Named (rowsFrom D 0 (take k (D .actions))) naming names names₀ × (counts ≡ pad 64 (classCounts D (take k (D .actions))))
+  pub few : (D : Domain) → Held D head table → r ≤ 2 * length (allLiterals (take k (D .actions)))
+  pub listed : (D : Domain) → Held D head table → wellFormed D ≡ true → Listed (rowsFrom D 0 (take k (D .actions))) r names names₀
+  pub noted : (D : Domain) → Held D head table → wellFormed D ≡ true → notes ≡ notesOf (map (summaryOf D) (take k (D .actions)))
+  pub counted : (D : Domain) → Held D head table → wellFormed D ≡ true → counts₀ ≡ pad 64 [] → counts ≡ pad 64 (classCounts D (take k (D .actions)))

@@ -1,6 +1,6 @@
 -- How the code holds the names of all moments, and where naming stands. Assumes nothing.
 use mathlib.Core.Path.{_≡_}
-use mathlib.Core.List.{List, map}
+use mathlib.Core.List.{List, map, _++_}
 use Prim.Native.Nat.{ℕ, _≤_, _<_}
 use lib.ListN.{length, getD}
 use Rattle.records.specs.Memory.{over}
@@ -10,8 +10,9 @@ use Rattle.literals.specs.declared.Moment.the-variants.{End}
 use Rattle.classes.specs.Classes.{nameNumber, classes}
 use Rattle.classes.specs.Coded.{MomentOf, soleAt, reachAt}
 use Rattle.naming.specs.declared.Naming.{Naming}
+use Rattle.naming.specs.declared.NamedDomain.{NamedDomain}
 use Rattle.verdict.specs.Decision.{Row, rows}
-use Rattle.verdict.specs.Coded.{notesOf}
+use Rattle.verdict.specs.Summaries.{summaryRows, summaries, notesOf}
 
 -- a byte a row: the name's number
 abbrev pub nameBytes : List Row → List ℕ
@@ -31,14 +32,18 @@ pub record EndOf (D : Domain) (a : Action) (head rows of clauses reach : List �
   pub own : MomentOf D a End head rows of clauses
   pub reaches : (k : ℕ) → k < 64 → getD reach k 0 ≡ reachAt D a End k
 
--- where naming stands: rs are the rows named so far, their names in a memory that has room for them
-pub record Named (rs : List Row) (naming : Naming) (names old : List ℕ) : Type 0 where
+-- rs are the rows named so far, n of them, their names in a memory that has room for them
+pub record Listed (rs : List Row) (n : ℕ) (names old : List ℕ) : Type 0 where
   pub room : length rs ≤ length old
-  pub rows-named : naming .rows ≡ length rs
-  pub noted : naming .notes ≡ notesOf rs
+  pub counted : n ≡ length rs
   pub bytes : names ≡ over (nameBytes rs) old
 
+-- where naming an action stands: rs are its own rows, behind those before
+pub record Named (before rs : List Row) (naming : Naming) (names old : List ℕ) : Type 0 where
+  pub listed : Listed (before ++ rs) (naming .rows) names old
+  pub summed : naming .summary ≡ summaryRows rs
+
 -- what naming all actions leads to
-unfoldable pub namingOf : Domain → Naming
-unfolding rows notesOf
-namingOf D = record { rows = length (rows D); notes = notesOf (rows D) }
+unfoldable pub namingOf : Domain → NamedDomain
+unfolding rows notesOf summaries
+namingOf D = record { rows = length (rows D); notes = notesOf (summaries D) }

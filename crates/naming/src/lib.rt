@@ -16,12 +16,12 @@ use literals::head::rows_of;
 use literals::limits::MAX_ACTIONS;
 use literals::limits::MAX_LITERALS;
 use verdict::Notes;
-use verdict::Place;
+use verdict::Summary;
 ghost use mathlib.Core.Path.{_≡_};
 ghost use mathlib.Core.Bool.{true};
 ghost use mathlib.Core.List.{List, [], _∷_, _++_, map};
 ghost use Prim.Native.Nat.{ℕ, _+_, _*_, _≤_, _<_};
-ghost use lib.ListN.{length, getD, set};
+ghost use lib.ListN.{length, getD};
 ghost use Rattle.records.specs.Memory.{over};
 ghost use Rattle.literals.specs.Domain.{Domain, Action};
 ghost use Rattle.literals.specs.Decode.{maxActions, maxLiterals};
@@ -32,8 +32,9 @@ ghost use Rattle.classes.specs.Classes.{momentsOf, classes, nameOf, journey};
 ghost use Rattle.classes.specs.Coded.{ActionOf, MomentOf, Sides, classNumbers, soleOf, reachAt};
 ghost use Rattle.verdict.specs.Decision.{Row, rowAt, rowsOfClasses, rows};
 ghost use Rattle.verdict.specs.Claims.{wellFormed};
+ghost use Rattle.verdict.specs.Summaries.{summaryOf};
 ghost use Rattle.verdict.specs.Coded.{rowFor};
-ghost use Rattle.naming.specs.Named.{nameBytes, classCounts, SolesIn, EndOf, Named, namingOf};
+ghost use Rattle.naming.specs.Named.{nameBytes, classCounts, SolesIn, EndOf, Listed, Named, namingOf};
 
 // How many classes each action has.
 pub type ClassCounts = [u8; MAX_ACTIONS];
@@ -45,8 +46,21 @@ pub struct ClassNames {
     pub journey: bool,
 }
 
-// Where naming stands: how many rows are named, and what is noted of them.
+// Where naming an action stands: how many rows of the domain are named, and the summary of the action's own.
 pub struct Naming {
+    pub rows: usize,
+    pub summary: Summary,
+}
+
+// An action that is named: how many rows of the domain are named with its own, how many classes it has, and its summary.
+pub struct NamedAction {
+    pub rows: usize,
+    pub classes: usize,
+    pub summary: Summary,
+}
+
+// A domain that is named: how many rows it has, and what its decision is made of.
+pub struct NamedDomain {
     pub rows: usize,
     pub notes: Notes,
 }
@@ -95,73 +109,56 @@ fn name_class(
 }
 
 impl Naming {
-    pub fn new() -> Naming
-        ensures { λ r. ⌜ ((old : List ℕ) → Named [] r old old) × (r .rows ≡ 0) ⌝ }
+    // Before the first row of an action, with so many rows named.
+    fn new(rows: usize) -> Naming
+        ensures rows { λ r. ⌜ r .rows ≡ rows ⌝ }
+        ensures named { λ r. ⌜ ((before : List Row) (names old : List ℕ) → Listed before rows names old → Named before [] r names old) ⌝ }
     {
         Naming {
-            rows: 0,
-            notes: Notes::new(),
+            rows,
+            summary: Summary::new(),
         }
     }
 
     // One row more.
-    fn with_row(self, name: Name, ended: bool, at: Place, names: &mut [u8]) -> Naming
+    fn with_row(self, name: Name, ended: bool, class: u8, moment: Moment, names: &mut [u8]) -> Naming
         requires { ⌜ self .rows < length (now names) ⌝ }
         ensures rows { λ r. ⌜ r .rows ≡ self .rows + 1 ⌝ }
-        ensures named { λ r. ⌜ ((rs : List Row) (old : List ℕ) → at .moment ≤ 1 → Named rs self (now (names .entry)) old
-            → Named (rs ++ (rowFor name ended at ∷ [])) r (now (names .exit)) old) ⌝ }
+        ensures named { λ r. ⌜ ((before rs : List Row) (old : List ℕ) (i : ℕ) → Named before rs self (now (names .entry)) old
+            → Named before (rs ++ (rowFor i class moment name ended ∷ [])) r (now (names .exit)) old) ⌝ }
     {
         let n = self.rows;
-        let notes = self.notes;
+        let summary = self.summary;
         names[n] = name_number(name);
-        let mut next = self;
-        next.rows = n + 1;
-        next.notes = notes.with(name, ended, at);
-        next
+        Naming {
+            rows: n + 1,
+            summary: summary.with(name, ended, class, moment),
+        }
     }
 
     // The rows of one class more.
     fn with_class(
         self,
-        action: usize,
         class: u8,
         lasting: bool,
         named: ClassNames,
         names: &mut [u8],
     ) -> Naming
         requires room { ⌜ self .rows + 2 ≤ length (now names) ⌝ }
-        requires listed { ⌜ action < maxActions ⌝ }
         ensures rows { λ r. ⌜ r .rows ≤ self .rows + 2 ⌝ }
-        ensures named { λ r. ⌜ ((rs : List Row) (old : List ℕ) (D : Domain) (a : Action) → Named rs self (now (names .entry)) old
+        ensures named { λ r. ⌜ ((before rs : List Row) (old : List ℕ) (D : Domain) (a : Action) (i : ℕ)
+            → Named before rs self (now (names .entry)) old
             → a .lasting ≡ lasting
             → named .start ≡ nameOf D a (getD (classes D a) class []) Start
             → (lasting ≡ true → (named .end ≡ nameOf D a (getD (classes D a) class []) End)
             × (named .journey ≡ journey D a (getD (classes D a) class [])))
-            → Named (rs ++ map (rowAt D a action class (getD (classes D a) class [])) (momentsOf a)) r (now (names .exit)) old) ⌝ }
+            → Named before (rs ++ map (rowAt D a i class (getD (classes D a) class [])) (momentsOf a)) r (now (names .exit)) old) ⌝ }
     {
         let start = named.start;
         let end = named.end;
-        let started = self.with_row(
-            start,
-            false,
-            Place {
-                action: action as u64,
-                class: class as u64,
-                moment: 0,
-            },
-            names,
-        );
+        let started = self.with_row(start, false, class, Moment::Start, names);
         if lasting {
-            return started.with_row(
-                end,
-                named.journey,
-                Place {
-                    action: action as u64,
-                    class: class as u64,
-                    moment: 1,
-                },
-                names,
-            );
+            return started.with_row(end, named.journey, class, Moment::End, names);
         }
         started
     }
@@ -181,7 +178,6 @@ impl Naming {
         end_conditions: &Marks,
         end_adds: &Marks,
         count: usize,
-        i: usize,
         lasting: bool,
         names: &mut [u8],
     ) -> Naming
@@ -189,14 +185,14 @@ impl Naming {
         requires first { ⌜ SolesIn (now of) (now «at_start») (now conditions) (now adds) ⌝ }
         requires last { ⌜ SolesIn (now of) (now «at_end») (now «end_conditions») (now «end_adds») ⌝ }
         requires few { ⌜ count ≤ length (now of) ⌝ }
-        requires listed { ⌜ i < maxActions ⌝ }
         requires room { ⌜ self .rows + 2 * count ≤ length (now names) ⌝ }
         ensures rows { λ r. ⌜ r .rows ≤ self .rows + 2 * count ⌝ }
-        ensures named { λ r. ⌜ ((rs : List Row) (old : List ℕ) (D : Domain) (a : Action) → Named rs self (now (names .entry)) old
+        ensures named { λ r. ⌜ ((before : List Row) (old : List ℕ) (D : Domain) (a : Action) (i : ℕ)
+            → Named before [] self (now (names .entry)) old
             → MomentOf D a Start (now (head .entry)) (now (rows .entry)) (now (of .entry)) (now («at_start» .entry)) → a .lasting ≡ lasting
             → (lasting ≡ true → EndOf D a (now (head .entry)) (now (rows .entry)) (now (of .entry)) (now («at_end» .entry))
             (now (reach .entry))) → count ≡ length (classes D a)
-            → Named (rs ++ rowsOfClasses D a i 0 (classes D a)) r (now (names .exit)) old) ⌝ }
+            → Named before (rowsOfClasses D a i 0 (classes D a)) r (now (names .exit)) old) ⌝ }
     {
         let mut next = self;
         for class in 0..count {
@@ -218,7 +214,7 @@ impl Naming {
                 class as u8,
                 lasting,
             );
-            next = next.with_class(i, class as u8, lasting, named, names);
+            next = next.with_class(class as u8, lasting, named, names);
         }
         next
     }
@@ -231,20 +227,19 @@ impl Naming {
         rows: &[u8],
         of: &[u8],
         count: usize,
-        i: usize,
         lasting: bool,
         names: &mut [u8],
     ) -> Naming
         requires rowed { ⌜ length (now rows) ≡ 8 * length (now of) ⌝ }
         requires literals { ⌜ length (now of) ≤ maxLiterals ⌝ }
         requires few { ⌜ count ≤ length (now of) ⌝ }
-        requires listed { ⌜ i < maxActions ⌝ }
         requires room { ⌜ self .rows + 2 * count ≤ length (now names) ⌝ }
         ensures rows { λ r. ⌜ r .rows ≤ self .rows + 2 * count ⌝ }
-        ensures named { λ r. ⌜ ((rs : List Row) (old : List ℕ) (D : Domain) (a : Action) → Named rs self (now (names .entry)) old
+        ensures named { λ r. ⌜ ((before : List Row) (old : List ℕ) (D : Domain) (a : Action) (i : ℕ)
+            → Named before [] self (now (names .entry)) old
             → ActionOf D a (now (head .entry)) (now (rows .entry)) → a .lasting ≡ lasting
             → now (of .entry) ≡ classNumbers D a → count ≡ length (classes D a)
-            → Named (rs ++ rowsOfClasses D a i 0 (classes D a)) r (now (names .exit)) old) ⌝ }
+            → Named before (rowsOfClasses D a i 0 (classes D a)) r (now (names .exit)) old) ⌝ }
     {
         let n = of.len();
         let mut at_start = [0u8; MAX_LITERALS];
@@ -266,7 +261,6 @@ impl Naming {
                 &conditions,
                 &adds,
                 count,
-                i,
                 lasting,
                 names,
             );
@@ -293,43 +287,45 @@ impl Naming {
             &end_conditions,
             &end_adds,
             count,
-            i,
             lasting,
             names,
         )
     }
+}
 
-    // The rows of one action more, whose n literals are these rows; `counts` gets how many classes it has.
-    fn with_action(
-        self,
-        head: &Head,
-        rows: &[u8],
-        n: usize,
-        i: usize,
-        lasting: bool,
-        names: &mut [u8],
-        counts: &mut ClassCounts,
-    ) -> Naming
-        requires rowed { ⌜ length (now rows) ≡ 8 * n ⌝ }
-        requires literals { ⌜ n ≤ maxLiterals ⌝ }
-        requires listed { ⌜ i < maxActions ⌝ }
-        requires room { ⌜ self .rows + 2 * n ≤ length (now names) ⌝ }
-        ensures rows { λ r. ⌜ r .rows ≤ self .rows + 2 * n ⌝ }
-        ensures named { λ r. ⌜ ((rs : List Row) (old : List ℕ) (D : Domain) (a : Action) → Named rs self (now (names .entry)) old
-            → ActionOf D a (now (head .entry)) (now (rows .entry)) → a .lasting ≡ lasting
-            → (now (counts .exit) ≡ set (now (counts .entry)) i (length (classes D a)))
-            × Named (rs ++ rowsOfClasses D a i 0 (classes D a)) r (now (names .exit)) old) ⌝ }
-    {
-        let mut of = [0u8; MAX_LITERALS];
-        let mut tuples = [255u8; 8 * MAX_LITERALS];
-        let count = number_classes(head, rows, &mut of[0..n], &mut tuples);
-        counts[i] = count as u8;
-        self.with_classes(head, rows, &of[0..n], count, i, lasting, names)
+// The rows of one action, whose n literals are these rows, behind as many as are `named` before. Its summary knows no other action.
+pub fn name_action(
+    head: &Head,
+    rows: &[u8],
+    n: usize,
+    named: usize,
+    lasting: bool,
+    names: &mut [u8],
+) -> NamedAction
+    requires rowed { ⌜ length (now rows) ≡ 8 * n ⌝ }
+    requires literals { ⌜ n ≤ maxLiterals ⌝ }
+    requires room { ⌜ named + 2 * n ≤ length (now names) ⌝ }
+    ensures rows { λ r. ⌜ r .rows ≤ named + 2 * n ⌝ }
+    ensures classes { λ r. ⌜ r .classes ≤ n ⌝ }
+    ensures named { λ r. ⌜ ((D : Domain) (a : Action) → ActionOf D a (now (head .entry)) (now (rows .entry)) → a .lasting ≡ lasting
+        → (before : List Row) (old : List ℕ) (i : ℕ) → Listed before named (now (names .entry)) old
+        → (r .classes ≡ length (classes D a)) × (r .summary ≡ summaryOf D a)
+        × Listed (before ++ rowsOfClasses D a i 0 (classes D a)) (r .rows) (now (names .exit)) old) ⌝ }
+{
+    let mut of = [0u8; MAX_LITERALS];
+    let mut tuples = [255u8; 8 * MAX_LITERALS];
+    let classes = number_classes(head, rows, &mut of[0..n], &mut tuples);
+    let naming = Naming::new(named).with_classes(head, rows, &of[0..n], classes, lasting, names);
+    let summary = naming.summary;
+    NamedAction {
+        rows: naming.rows,
+        classes,
+        summary,
     }
 }
 
 // The names of all moments of a domain that was read; `counts` gets how many classes each action has.
-pub fn name_all(head: &Head, table: &[u8], names: &mut [u8], counts: &mut ClassCounts) -> Naming
+pub fn name_all(head: &Head, table: &[u8], names: &mut [u8], counts: &mut ClassCounts) -> NamedDomain
     requires read { ⌜ Read (now head) (now table) ⌝ }
     requires room { ⌜ length (now table) ≤ 4 * length (now names) ⌝ }
     ensures rows { λ r. ⌜ r .rows ≤ 2 * (maxLiterals * maxActions) ⌝ }
@@ -338,20 +334,24 @@ pub fn name_all(head: &Head, table: &[u8], names: &mut [u8], counts: &mut ClassC
         → (r ≡ namingOf D) × (now (counts .exit) ≡ pad maxActions (classCounts D (D .actions)))
         × (now (names .exit) ≡ over (nameBytes (rows D)) (now (names .entry)))) ⌝ }
 {
-    let mut naming = Naming::new();
+    let mut rows = 0;
+    let mut notes = Notes::new();
     for i in 0..actions_in(head) {
         let span = rows_of(head, table, i);
         let from = 8 * span.from;
         let to = 8 * span.to;
-        naming = naming.with_action(
+        let named = name_action(
             head,
             &table[from..to],
             span.to - span.from,
-            i,
+            rows,
             is_lasting(head, i),
             names,
-            counts,
         );
+        rows = named.rows;
+        counts[i] = named.classes as u8;
+        let summary = named.summary;
+        notes = notes.with(i, summary);
     }
-    naming
+    NamedDomain { rows, notes }
 }

@@ -18,11 +18,11 @@ use Rattle.classes.specs.declared.Name.{Name}
 use Rattle.classes.specs.declared.Name.the-variants.{Unreachable, Irrelevant, Heavy, Balanced, Unbalanced, Bounded, Unbounded}
 use Rattle.literals.specs.Matching.{momentNumber}
 use Rattle.classes.specs.Classes.{momentsOf, nameOf}
-use Rattle.verdict.specs.Decision.{Row, journeyEndAt, rows, isUnbounded, faultBy, faultOf, isFaulty, isBoundedOutside, firstRow, Decision, accept, refuseAt, decideBounded, decideBy, decideRows, decision, classAt, witnessAt, witnessOf, witness, shownAt, shownOf, isShown}
+use Rattle.verdict.specs.Decision.{Row, journeyEndAt, rows, isUnbounded, faultBy, faultOf, isFaulty, isBoundedOutside, firstRow, Decision, accept, refuseAt, decideBounded, decideBy, decideRows, decision, classAt, witnessAt, witnessOf, witness, shownAt, shownOf, isShown, worstRow}
 use Rattle.verdict.specs.Judged.{answerRow, decided}
 use Rattle.verdict.specs.Claims.{wellFormed, noneLasts, refusedForClass, Harmful, FaultyClass, ClassAtOnce, Exactness, Shown, WitnessShows, plainObjects, plainInstance, plainEvent}
 use Rattle.verdict.proofs.WellFormed.{action-in}
-use Rattle.verdict.proofs.Rows.{row-of, stands, filter-empty, filter-first, fine-rows}
+use Rattle.verdict.proofs.Rows.{row-of, stands, worst-first, worst-none, fine-rows}
 use Rattle.verdict.proofs.Harm.{harm-listed, class-listed, class-exactness, harm-of-faulty-class}
 
 -- ---- the numbers of faults
@@ -45,25 +45,25 @@ unbounded-fault Unbalanced h z = false≢true h
 unbounded-fault Bounded h z = false≢true h
 unbounded-fault Unbounded h z = omega arith
 
--- ---- where no row is a journey's end, the first faulty row decides
+-- ---- where no row is a journey's end, a faulty row decides
 
 abbrev Outcome : List Row → Decision → Type 0
 Outcome rs d = (d ≡ accept 0) ⊎ ((r : Row) × In r rs × (isFaulty r ≡ true) × (d ≡ refuseAt (faultOf r) r))
 
 outcome : (rs : List Row) → ((r : Row) → In r rs → r .journeyEnd ≡ false) → Outcome rs (decideRows rs)
 unfolding decideRows
-outcome rs h = go (firstRow isFaulty rs) refl
+outcome rs h = go (worstRow rs) refl
   where
-    fault-free : firstRow isFaulty rs ≡ none → (b : Bool) → any (λ (r : Row). isUnbounded (r .name)) rs ≡ b
+    fault-free : worstRow rs ≡ none → (b : Bool) → any (λ (r : Row). isUnbounded (r .name)) rs ≡ b
         → Outcome rs (cond b (decideBounded (firstRow isBoundedOutside rs)) (accept 0))
     fault-free e false t = inl refl
     fault-free e true t =
         let u = any-in (λ (r : Row). isUnbounded (r .name)) rs t in
         absurd (clash (ap not (ne-eqb (faultOf (u .0)) 0 (λ z. unbounded-fault (u .0 .name) (u .2) (sym (ap (faultBy (u .0 .name)) (h (u .0) (u .1))) ∙ z))))
-        (filter-empty isFaulty rs e (u .0) (u .1)))
+        (worst-none rs e (u .0) (u .1)))
 
-    go : (o : Option Row) → firstRow isFaulty rs ≡ o → Outcome rs (decideBy o rs)
-    go (some q) e = let r = filter-first isFaulty rs q e in inr (q, r .0, r .1, refl)
+    go : (o : Option Row) → worstRow rs ≡ o → Outcome rs (decideBy o rs)
+    go (some q) e = let r = worst-first rs q e in inr (q, r .0, r .1, refl)
     go none e = fault-free e _ refl
 
 module _ (D : Domain) (nl : noneLasts D ≡ true) where

@@ -17,6 +17,7 @@ pub mod Exact
 pub mod Open
 pub mod Rows
 pub mod Noted
+pub mod Summed
 pub mod Safety
 pub mod Harm
 pub mod Demand

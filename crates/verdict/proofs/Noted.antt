@@ -1,199 +1,211 @@
--- Laws of the notes that a decision is made of: one row more, and the decision. Assumes nothing.
+-- Laws of summaries and notes for code that goes forward: one row more, one summary more. Assumes nothing.
 use mathlib.Core.Path.{_≡_, refl, sym, ap, ap₂, _∙_}
-use mathlib.Core.Bool.{Bool, true, false, not, _&&_, _||_, cond}
+use mathlib.Core.Bool.{Bool, true, false, _&&_, not, _||_, cond}
 use mathlib.Core.Option.{Option, none, some}
 use mathlib.Core.List.{List, [], _∷_, _++_, head?}
-use Prim.Native.Nat.{ℕ, zero, suc, _≤_}
+use Prim.Native.Nat.{ℕ, suc, _+_}
 use native.Mathlib.Omega.{arith}
 use lib.Dec.{eqb}
-use borrow.Author.Tests.{eq-eqb, ne-eqb}
+use lib.ListN.{length}
 use Rattle.records.specs.Lists.{keepIf, any, filterBy}
-use Rattle.records.proofs.Lists.{any-append, filter-append, not-true, clash}
+use Rattle.records.proofs.Lists.{any-append, filter-append}
+use Rattle.classes.specs.declared.Moment.{Moment}
 use Rattle.classes.specs.declared.Name.{Name}
 use Rattle.classes.specs.declared.Name.the-variants.{Unreachable, Irrelevant, Heavy, Balanced, Unbalanced, Bounded, Unbounded}
 use Rattle.literals.specs.Matching.{momentNumber}
-use Rattle.verdict.specs.declared.Place.{Place}
-use Rattle.verdict.specs.declared.Notes.{Notes}
 use Rattle.verdict.specs.declared.Judgement.{Judgement}
-use Rattle.verdict.specs.Decision.{Row, isUnbounded, isBounded, faultBy, faultOf, isFaulty, isBoundedOutside, firstRow, accept, decideBounded, decideBy, decideRows}
-use Rattle.verdict.specs.Judged.{answerRow}
-use Rattle.verdict.specs.Coded.{judgementOf, placeOf, noPlace, momentBy, rowFor, faultOr, placeOr, isSome, notesOf, withFault, withName}
-use Rattle.verdict.proofs.Rows.{filter-first}
+use Rattle.verdict.specs.declared.Spot.{Spot}
+use Rattle.verdict.specs.declared.Spot.the-variants.{Nowhere, At}
+use Rattle.verdict.specs.declared.Place.{Place}
+use Rattle.verdict.specs.declared.Place.the-variants.{Missing, Found}
+use Rattle.verdict.specs.declared.Summary.{Summary}
+use Rattle.verdict.specs.declared.Notes.{Notes}
+use Rattle.verdict.specs.Decision.{Row, isUnbounded, isBounded, faultBy, isBoundedOutside, hasFault, firstRow}
+use Rattle.verdict.specs.Judged.{Answer, answerAt}
+use Rattle.verdict.specs.Summaries.{spotOf, firstSpot, hasUnbounded, summaryRows, placeIn, placeElse, firstPlace, notesOf, answerPlace, faultless}
+use Rattle.verdict.specs.Coded.{judgementOf, rowFor, spotElse}
 
--- ---- the first row that passes, with a row more
+-- ---- one row more
 
-abbrev orElse : Option Row → Option Row → Option Row
-orElse none q = q
-orElse (some r) q = some r
+spot-nothing : (q : Spot) → spotElse q Nowhere ≡ q
+spot-nothing Nowhere = refl
+spot-nothing (At c m) = refl
 
-abbrev only : Bool → Row → Option Row
-only b r = cond b (some r) none
+or-nothing : (b : Bool) → b || false ≡ b
+or-nothing true = refl
+or-nothing false = refl
 
-first-more : (p : Row → Bool) (rs : List Row) (r : Row) → firstRow p (rs ++ (r ∷ [])) ≡ orElse (firstRow p rs) (only (p r) r)
-first-more p rs r = ap head? (filter-append p rs (r ∷ [])) ∙ go (filterBy p rs) (p r)
+-- a spot, where the row there passes
+abbrev spotIf : Bool → Spot → Spot
+spotIf b q = cond b q Nowhere
+
+spot-more : (p : Row → Bool) (rs : List Row) (r : Row) → firstSpot p (rs ++ (r ∷ [])) ≡ spotElse (firstSpot p rs) (spotIf (p r) (At (r .class) (r .moment)))
+spot-more p rs r = ap (λ (l : List Row). spotOf (head? l)) (filter-append p rs (r ∷ [])) ∙ go (filterBy p rs) (p r)
   where
-    go : (l : List Row) (b : Bool) → head? (l ++ keepIf b r []) ≡ orElse (head? l) (only b r)
+    go : (l : List Row) (b : Bool) → spotOf (head? (l ++ keepIf b r [])) ≡ spotElse (spotOf (head? l)) (spotIf b (At (r .class) (r .moment)))
     go [] true = refl
     go [] false = refl
     go (x ∷ xs) b = refl
 
--- ---- notes by their parts: the first faulty row, whether one is unbounded, the first bounded one outside a journey's end
+unbounded-more : (rs : List Row) (r : Row) → hasUnbounded (rs ++ (r ∷ [])) ≡ hasUnbounded rs || isUnbounded (r .name)
+unbounded-more rs r = any-append (λ (r : Row). isUnbounded (r .name)) rs (r ∷ []) ∙ ap (λ b. hasUnbounded rs || b) (or-nothing (isUnbounded (r .name)))
 
-abbrev notesBy : Option Row → Bool → Option Row → Notes
-notesBy o u q = record { fault = faultOr o; faulty = placeOr o; unbounded = u; bounded = isSome q; outside = placeOr q }
+-- a summary with a moment more: each of its spots, where the moment is of that sort
+abbrev withMoment : Summary → Name → Bool → Spot → Summary
+withMoment s n e here =
+    record {
+      heavy = spotElse (s .heavy) (spotIf (eqb (faultBy n e) 40) here);
+      unbalanced = spotElse (s .unbalanced) (spotIf (eqb (faultBy n e) 41) here);
+      unbounded = spotElse (s .unbounded) (spotIf (eqb (faultBy n e) 42) here);
+      bounded = spotElse (s .bounded) (spotIf (isBounded n && not e) here);
+      endless = s .endless || isUnbounded n;
+    }
 
--- a place whose moment is one of the two
-place-back : (n : Name) (e : Bool) (p : Place) → p .moment ≤ 1 → placeOf (rowFor n e p) ≡ p
-place-back n e p h = λ i. record { action = p .action; class = p .class; moment = go (p .moment) h i }
-  where
-    go : (m : ℕ) → m ≤ 1 → momentNumber (momentBy m) ≡ m
-    go zero h = refl
-    go (suc zero) h = refl
-    go (suc (suc m)) h = absurd (omega arith)
+module _ (s : Summary) (n : Name) (e : Bool) (c : ℕ) (m : Moment) (rs : List Row) (i : ℕ) (is : s ≡ summaryRows rs) where
+  more : withMoment s n e (At c m) ≡ summaryRows (rs ++ (rowFor i c m n e ∷ []))
+  unfolding summaryRows
+  more =
+      let r = rowFor i c m n e in
+      ap (λ (s : Summary). withMoment s n e (At c m)) is
+      ∙ (λ k. record {
+        heavy = sym (spot-more (hasFault 40) rs r) k;
+        unbalanced = sym (spot-more (hasFault 41) rs r) k;
+        unbounded = sym (spot-more (hasFault 42) rs r) k;
+        bounded = sym (spot-more isBoundedOutside rs r) k;
+        endless = sym (unbounded-more rs r) k;
+      })
 
-module _ (n : Name) (e : Bool) (p : Place) (small : p .moment ≤ 1) where
-  fault-more : (o : Option Row) (u : Bool) (q : Option Row) → ((r : Row) → o ≡ some r → isFaulty r ≡ true)
-      → withFault (notesBy o u q) (faultBy n e) p ≡ notesBy (orElse o (only (isFaulty (rowFor n e p)) (rowFor n e p))) u q
-  unfolding withFault
-  fault-more none u q h = go (not (eqb (faultBy n e) 0))
+  pub sums-heavy : n ≡ Heavy → {h : Spot} → h ≡ spotElse (s .heavy) (At c m)
+      → record { heavy = h; unbalanced = s .unbalanced; unbounded = s .unbounded; bounded = s .bounded; endless = s .endless } ≡ summaryRows (rs ++ (rowFor i c m n e ∷ []))
+  sums-heavy k {h} q = go ∙ more
     where
-      go : (b : Bool) → cond (b && true) record { fault = faultBy n e; faulty = p; unbounded = u; bounded = isSome q; outside = placeOr q } (notesBy none u q)
-          ≡ notesBy (only b (rowFor n e p)) u q
-      go true = λ i. record { fault = faultBy n e; faulty = sym (place-back n e p small) i; unbounded = u; bounded = isSome q; outside = placeOr q }
-      go false = refl
-  fault-more (some r) u q h = go (not (eqb (faultBy n e) 0)) (eqb (faultOf r) 0) (not-true _ (h r refl))
+      go : record { heavy = h; unbalanced = s .unbalanced; unbounded = s .unbounded; bounded = s .bounded; endless = s .endless } ≡ withMoment s n e (At c m)
+      go = rw k (λ i. record { heavy = q i; unbalanced = sym (spot-nothing (s .unbalanced)) i; unbounded = sym (spot-nothing (s .unbounded)) i; bounded = sym (spot-nothing (s .bounded)) i; endless = sym (or-nothing (s .endless)) i })
+
+  pub sums-unbalanced : n ≡ Unbalanced → {h : Spot} → h ≡ spotElse (s .unbalanced) (At c m)
+      → record { heavy = s .heavy; unbalanced = h; unbounded = s .unbounded; bounded = s .bounded; endless = s .endless } ≡ summaryRows (rs ++ (rowFor i c m n e ∷ []))
+  sums-unbalanced k {h} q = go ∙ more
     where
-      go : (b t : Bool) → t ≡ false → cond (b && t) record { fault = faultBy n e; faulty = p; unbounded = u; bounded = isSome q; outside = placeOr q } (notesBy (some r) u q)
-          ≡ notesBy (some r) u q
-      go true t f = rw f
-      go false t f = refl
+      go : record { heavy = s .heavy; unbalanced = h; unbounded = s .unbounded; bounded = s .bounded; endless = s .endless } ≡ withMoment s n e (At c m)
+      go = rw k (λ i. record { heavy = sym (spot-nothing (s .heavy)) i; unbalanced = q i; unbounded = sym (spot-nothing (s .unbounded)) i; bounded = sym (spot-nothing (s .bounded)) i; endless = sym (or-nothing (s .endless)) i })
 
--- a name that is not noted
-unnoted : (o : Option Row) (u : Bool) (q : Option Row) → notesBy o u q ≡ notesBy o (u || false) (orElse q none)
-unnoted o true none = refl
-unnoted o false none = refl
-unnoted o true (some r) = refl
-unnoted o false (some r) = refl
+  yes : (b : Bool) → true ≡ b || true
+  yes true = refl
+  yes false = refl
 
-name-more : (n : Name) (e : Bool) (p : Place) → p .moment ≤ 1 → (o : Option Row) (u : Bool) (q : Option Row)
-    → withName (notesBy o u q) n e p ≡ notesBy o (u || (isUnbounded n || false)) (orElse q (only (isBounded n && not e) (rowFor n e p)))
-unfolding withName
-name-more Unreachable e p h o u q = unnoted o u q
-name-more Irrelevant e p h o u q = unnoted o u q
-name-more Heavy e p h o u q = unnoted o u q
-name-more Balanced e p h o u q = unnoted o u q
-name-more Unbalanced e p h o u q = unnoted o u q
-name-more Bounded true p h o u q = unnoted o u q
-name-more Bounded false p h o u (some r) = unnoted o u (some r)
-name-more Bounded false p h o u none =
-    λ i. record { fault = faultOr o; faulty = placeOr o; unbounded = plain u i; bounded = true; outside = sym (place-back Bounded false p h) i }
-  where
-    plain : (u : Bool) → u ≡ u || false
-    plain true = refl
-    plain false = refl
-name-more Unbounded e p h o true none = refl
-name-more Unbounded e p h o false none = refl
-name-more Unbounded e p h o true (some r) = refl
-name-more Unbounded e p h o false (some r) = refl
-
--- ---- by tests
-
-module _ (n : Notes) (f : ℕ) (p : Place) where
-  pub noted-before : (n .fault ≡ 0 → ⊥) → n ≡ withFault n f p
-  unfolding withFault
-  noted-before h = rw (ne-eqb (n .fault) 0 h) (go (not (eqb f 0)))
+  pub sums-ended : n ≡ Unbounded → e ≡ true
+      → record { heavy = s .heavy; unbalanced = s .unbalanced; unbounded = s .unbounded; bounded = s .bounded; endless = true } ≡ summaryRows (rs ++ (rowFor i c m n e ∷ []))
+  sums-ended k t = go ∙ more
     where
-      go : (b : Bool) → n ≡ cond (b && false) record { fault = f; faulty = p; unbounded = n .unbounded; bounded = n .bounded; outside = n .outside } n
-      go true = refl
-      go false = refl
+      go : record { heavy = s .heavy; unbalanced = s .unbalanced; unbounded = s .unbounded; bounded = s .bounded; endless = true } ≡ withMoment s n e (At c m)
+      go = rw (k, t) (λ i. record { heavy = sym (spot-nothing (s .heavy)) i; unbalanced = sym (spot-nothing (s .unbalanced)) i; unbounded = sym (spot-nothing (s .unbounded)) i; bounded = sym (spot-nothing (s .bounded)) i; endless = yes (s .endless) i })
 
-  pub noted-none : f ≡ 0 → n ≡ withFault n f p
-  unfolding withFault
-  noted-none h = rw (eq-eqb f 0 h)
+  pub sums-unbounded : n ≡ Unbounded → e ≡ false → {h : Spot} → h ≡ spotElse (s .unbounded) (At c m)
+      → record { heavy = s .heavy; unbalanced = s .unbalanced; unbounded = h; bounded = s .bounded; endless = true } ≡ summaryRows (rs ++ (rowFor i c m n e ∷ []))
+  sums-unbounded k f {h} q = go ∙ more
+    where
+      go : record { heavy = s .heavy; unbalanced = s .unbalanced; unbounded = h; bounded = s .bounded; endless = true } ≡ withMoment s n e (At c m)
+      go = rw (k, f) (λ i. record { heavy = sym (spot-nothing (s .heavy)) i; unbalanced = sym (spot-nothing (s .unbalanced)) i; unbounded = q i; bounded = sym (spot-nothing (s .bounded)) i; endless = yes (s .endless) i })
 
-  pub noted-first : n .fault ≡ 0 → (f ≡ 0 → ⊥) → record { fault = f; faulty = p; unbounded = n .unbounded; bounded = n .bounded; outside = n .outside } ≡ withFault n f p
-  unfolding withFault
-  noted-first z h = rw (ne-eqb f 0 h, eq-eqb (n .fault) 0 z)
+  pub sums-bounded : n ≡ Bounded → e ≡ false → {h : Spot} → h ≡ spotElse (s .bounded) (At c m)
+      → record { heavy = s .heavy; unbalanced = s .unbalanced; unbounded = s .unbounded; bounded = h; endless = s .endless } ≡ summaryRows (rs ++ (rowFor i c m n e ∷ []))
+  sums-bounded k f {h} q = go ∙ more
+    where
+      go : record { heavy = s .heavy; unbalanced = s .unbalanced; unbounded = s .unbounded; bounded = h; endless = s .endless } ≡ withMoment s n e (At c m)
+      go = rw (k, f) (λ i. record { heavy = sym (spot-nothing (s .heavy)) i; unbalanced = sym (spot-nothing (s .unbalanced)) i; unbounded = sym (spot-nothing (s .unbounded)) i; bounded = q i; endless = sym (or-nothing (s .endless)) i })
 
-module _ (n : Notes) (name : Name) (e : Bool) (p : Place) where
-  pub noted-unbounded : name ≡ Unbounded → record { fault = n .fault; faulty = n .faulty; unbounded = true; bounded = n .bounded; outside = n .outside } ≡ withName n name e p
-  unfolding withName
-  noted-unbounded k = rw k
+  -- a moment that is not summed, by its name
+  sums-nothing : faultBy n e ≡ 0 → isBounded n && not e ≡ false → isUnbounded n ≡ false → s ≡ summaryRows (rs ++ (rowFor i c m n e ∷ []))
+  sums-nothing f b u = go ∙ more
+    where
+      go : s ≡ withMoment s n e (At c m)
+      go = rw (f, b, u) (λ i. record { heavy = sym (spot-nothing (s .heavy)) i; unbalanced = sym (spot-nothing (s .unbalanced)) i; unbounded = sym (spot-nothing (s .unbounded)) i; bounded = sym (spot-nothing (s .bounded)) i; endless = sym (or-nothing (s .endless)) i })
 
-  pub noted-ended : name ≡ Bounded → e ≡ true → n ≡ withName n name e p
-  unfolding withName
-  noted-ended k h = rw (k, h)
+  pub sums-unreachable : n ≡ Unreachable → s ≡ summaryRows (rs ++ (rowFor i c m n e ∷ []))
+  sums-unreachable k = sums-nothing (rw k) (rw k) (rw k)
 
-  pub noted-again : name ≡ Bounded → e ≡ false → n .bounded ≡ true → n ≡ withName n name e p
-  unfolding withName
-  noted-again k h b = rw (k, h, b)
+  pub sums-irrelevant : n ≡ Irrelevant → s ≡ summaryRows (rs ++ (rowFor i c m n e ∷ []))
+  sums-irrelevant k = sums-nothing (rw k) (rw k) (rw k)
 
-  pub noted-bounded : name ≡ Bounded → e ≡ false → n .bounded ≡ false
-      → record { fault = n .fault; faulty = n .faulty; unbounded = n .unbounded; bounded = true; outside = p } ≡ withName n name e p
-  unfolding withName
-  noted-bounded k h b = rw (k, h, b)
+  pub sums-balanced : n ≡ Balanced → s ≡ summaryRows (rs ++ (rowFor i c m n e ∷ []))
+  sums-balanced k = sums-nothing (rw k) (rw k) (rw k)
 
-  pub noted-other : isUnbounded name ≡ false → isBounded name ≡ false → n ≡ withName n name e p
-  unfolding withName
-  noted-other u b = rw (u, b)
+  -- or as a bounded one at a journey's end
+  pub sums-ended-bounded : n ≡ Bounded → e ≡ true → s ≡ summaryRows (rs ++ (rowFor i c m n e ∷ []))
+  sums-ended-bounded k t = sums-nothing (rw k) (rw (k, t)) (rw k)
 
--- ---- one row more
+-- ---- one summary more
 
-pub notes-more : (n m : Notes) (name : Name) (e : Bool) (p : Place) (f : ℕ) (rs : List Row) → p .moment ≤ 1 → n ≡ notesOf rs → f ≡ faultBy name e → m ≡ withFault n f p
-    → withName m name e p ≡ notesOf (rs ++ (rowFor name e p ∷ []))
+place-nothing : (p : Place) → placeElse p Missing ≡ p
+place-nothing Missing = refl
+place-nothing (Found i c m) = refl
+
+place-assoc : (p q r : Place) → placeElse p (placeElse q r) ≡ placeElse (placeElse p q) r
+place-assoc Missing q r = refl
+place-assoc (Found i c m) q r = refl
+
+place-more : (f : Summary → Spot) (i : ℕ) (ss : List Summary) (s : Summary) → firstPlace f i (ss ++ (s ∷ [])) ≡ placeElse (firstPlace f i ss) (placeIn (i + length ss) (f s))
+place-more f i [] s = let z : i ≡ i + 0 = omega arith in place-nothing (placeIn i (f s)) ∙ ap (λ n. placeIn n (f s)) z
+place-more f i (x ∷ ss) s =
+    let z : suc i + length ss ≡ i + suc (length ss) = omega arith in
+    ap (placeElse (placeIn i (f x))) (place-more f (suc i) ss s ∙ ap (λ n. placeElse (firstPlace f (suc i) ss) (placeIn n (f s))) z)
+    ∙ place-assoc (placeIn i (f x)) (firstPlace f (suc i) ss) (placeIn (i + suc (length ss)) (f s))
+
+-- the spot of an action where no place was found before
+pub found-in : {p : Place} {s : Spot} (i : ℕ) {c : ℕ} {m : Moment} → p ≡ Missing → s ≡ At c m → Found i c m ≡ placeElse p (placeIn i s)
+found-in i e f = rw (e, f)
+
+-- the notes n with the summary s of the action i
+abbrev pub withSummary : Notes → ℕ → Summary → Notes
+withSummary n i s =
+    record {
+      heavy = placeElse (n .heavy) (placeIn i (s .heavy));
+      unbalanced = placeElse (n .unbalanced) (placeIn i (s .unbalanced));
+      unbounded = placeElse (n .unbounded) (placeIn i (s .unbounded));
+      bounded = placeElse (n .bounded) (placeIn i (s .bounded));
+      endless = n .endless || s .endless;
+    }
+
+-- by its parts
+pub notes-with : (n : Notes) (i : ℕ) (s : Summary) {h b u o : Place} {e : Bool} → h ≡ placeElse (n .heavy) (placeIn i (s .heavy)) → b ≡ placeElse (n .unbalanced) (placeIn i (s .unbalanced))
+    → u ≡ placeElse (n .unbounded) (placeIn i (s .unbounded)) → o ≡ placeElse (n .bounded) (placeIn i (s .bounded)) → e ≡ n .endless || s .endless
+    → record { heavy = h; unbalanced = b; unbounded = u; bounded = o; endless = e } ≡ withSummary n i s
+notes-with n i s eh eb eu eo ee = λ k. record { heavy = eh k; unbalanced = eb k; unbounded = eu k; bounded = eo k; endless = ee k }
+
+pub or-first : {a : Bool} (b : Bool) → a ≡ true → a ≡ a || b
+or-first b e = rw e
+
+pub or-second : {a : Bool} (b : Bool) → a ≡ false → b ≡ a || b
+or-second b e = rw e
+
+pub notes-more : (n : Notes) (i : ℕ) (s : Summary) (ss : List Summary) → i ≡ length ss → n ≡ notesOf ss → withSummary n i s ≡ notesOf (ss ++ (s ∷ []))
 unfolding notesOf
-notes-more n m name e p f rs h en ef em =
-    let r = rowFor name e p in
-    let o = firstRow isFaulty rs in
-    let u = any (λ (r : Row). isUnbounded (r .name)) rs in
-    let q = firstRow isBoundedOutside rs in
-    ap (λ (x : Notes). withName x name e p)
-    (em ∙ ap₂ (λ (x : Notes) (y : ℕ). withFault x y p) en ef ∙ fault-more name e p h o u q (λ r k. filter-first isFaulty rs r k .1))
-    ∙ name-more name e p h (orElse o (only (isFaulty r) r)) u q
-    ∙ (λ i. notesBy (sym (first-more isFaulty rs r) i) (sym (any-append (λ (r : Row). isUnbounded (r .name)) rs (r ∷ [])) i) (sym (first-more isBoundedOutside rs r) i))
+notes-more n i s ss l e =
+    let first : (f : Summary → Spot) → placeElse (firstPlace f 0 ss) (placeIn i (f s)) ≡ firstPlace f 0 (ss ++ (s ∷ []))
+    = λ f. let z : i ≡ 0 + length ss = omega arith in ap (λ k. placeElse (firstPlace f 0 ss) (placeIn k (f s))) z ∙ sym (place-more f 0 ss s) in
+    ap (λ (n : Notes). withSummary n i s) e
+    ∙ (λ k. record {
+      heavy = first (λ (s : Summary). s .heavy) k;
+      unbalanced = first (λ (s : Summary). s .unbalanced) k;
+      unbounded = first (λ (s : Summary). s .unbounded) k;
+      bounded = first (λ (s : Summary). s .bounded) k;
+      endless = sym (any-append (λ (s : Summary). s .endless) ss (s ∷ []) ∙ ap (λ b. any (λ (s : Summary). s .endless) ss || b) (or-nothing (s .endless))) k;
+    })
 
--- ---- the decision
+-- ---- the answer
 
--- the judgement of a number at a place
-abbrev judgedAt : ℕ → Place → Judgement
-judgedAt n p = record { number = n; first = p .action; second = p .class; third = p .moment }
+module _ (p : Place) (n : ℕ) (a : Answer) where
+  pub refused-at : {i c : ℕ} {m : Moment} → p ≡ Found i c m → {t : ℕ} → t ≡ momentNumber m
+      → record { number = n; first = i; second = c; third = t } ≡ judgementOf (answerPlace n p a)
+  refused-at {i} {c} e q = rw e (λ k. record { number = n; first = i; second = c; third = q k })
 
--- of notes without a fault
-abbrev unfaulted : Notes → Judgement
-unfaulted n = cond (n .unbounded) (cond (n .bounded) (judgedAt 43 (n .outside)) (judgedAt 1 noPlace)) (judgedAt 0 noPlace)
+  pub refused-not : p ≡ Missing → {j : Judgement} → j ≡ judgementOf a → j ≡ judgementOf (answerPlace n p a)
+  refused-not e q = rw e q
 
-module _ (n : Notes) (rs : List Row) (e : n ≡ notesOf rs) where
-  pub decides-fault : (n .fault ≡ 0 → ⊥) → judgedAt (n .fault) (n .faulty) ≡ judgementOf (answerRow (decideRows rs .number) (decideRows rs .place))
-  unfolding notesOf decideRows
-  decides-fault h =
-      ap (λ (x : Notes). judgedAt (x .fault) (x .faulty)) e ∙ go (firstRow isFaulty rs) (λ z. h (ap (λ (x : Notes). x .fault) e ∙ z))
-    where
-      go : (o : Option Row) → (faultOr o ≡ 0 → ⊥) → judgedAt (faultOr o) (placeOr o) ≡ judgementOf (answerRow (decideBy o rs .number) (decideBy o rs .place))
-      go none h = absurd (h refl)
-      go (some r) h = refl
+module _ (n : Notes) where
+  pub decides-endless : n .endless ≡ true → {j k : Judgement} → j ≡ judgementOf (answerAt 1 0)
+      → ((a : Answer) → j ≡ judgementOf a → k ≡ judgementOf (answerPlace 43 (n .bounded) a)) → k ≡ judgementOf (faultless n)
+  decides-endless t e f = rw t (f (answerAt 1 0) e)
 
-  -- without a fault: by whether some row is unbounded, then by whether one is bounded outside a journey's end
-  decides-unfaulted : n .fault ≡ 0 → unfaulted n ≡ judgementOf (answerRow (decideRows rs .number) (decideRows rs .place))
-  unfolding notesOf decideRows
-  decides-unfaulted h =
-      ap unfaulted e ∙ go (firstRow isFaulty rs) (λ r k. filter-first isFaulty rs r k .1) (sym (ap (λ (x : Notes). x .fault) e) ∙ h)
-    where
-      inner : (u : Bool) (q : Option Row) → unfaulted (notesBy none u q)
-          ≡ judgementOf (answerRow (cond u (decideBounded q) (accept 0) .number) (cond u (decideBounded q) (accept 0) .place))
-      inner false q = refl
-      inner true none = refl
-      inner true (some r) = refl
-
-      go : (o : Option Row) → ((r : Row) → o ≡ some r → isFaulty r ≡ true) → faultOr o ≡ 0
-          → unfaulted (notesBy o (any (λ (r : Row). isUnbounded (r .name)) rs) (firstRow isBoundedOutside rs)) ≡ judgementOf (answerRow (decideBy o rs .number) (decideBy o rs .place))
-      go none k z = inner (any (λ (r : Row). isUnbounded (r .name)) rs) (firstRow isBoundedOutside rs)
-      go (some r) k z = absurd (clash (eq-eqb (faultOf r) 0 z) (not-true _ (k r refl)))
-
-  pub decides-bounded : n .fault ≡ 0 → n .unbounded ≡ true → n .bounded ≡ true → judgedAt 43 (n .outside) ≡ judgementOf (answerRow (decideRows rs .number) (decideRows rs .place))
-  decides-bounded h u b = rw (u, b) at (decides-unfaulted h)
-
-  pub decides-unbounded : n .fault ≡ 0 → n .unbounded ≡ true → n .bounded ≡ false → judgedAt 1 noPlace ≡ judgementOf (answerRow (decideRows rs .number) (decideRows rs .place))
-  decides-unbounded h u b = rw (u, b) at (decides-unfaulted h)
-
-  pub decides-balanced : n .fault ≡ 0 → n .unbounded ≡ false → judgedAt 0 noPlace ≡ judgementOf (answerRow (decideRows rs .number) (decideRows rs .place))
-  decides-balanced h u = rw u at (decides-unfaulted h)
+  pub decides-ended : n .endless ≡ false → {j : Judgement} → j ≡ judgementOf (answerAt 0 0) → j ≡ judgementOf (faultless n)
+  decides-ended t e = rw t e

@@ -9,7 +9,7 @@ use native.Mathlib.Nat.{not-suc-le-zero, le-of-suc-le-suc, zero-add}
 use native.Mathlib.Omega.{arith}
 use lib.Dec.{eqb}
 use lib.ListN.{getD, length}
-use borrow.Author.Tests.{eqb-true}
+use borrow.Author.Tests.{eqb-true, ne-eqb}
 use Rattle.records.specs.Lists.{In, any, filterBy}
 use Rattle.records.proofs.Lists.{any-out, in-filter, filter-in, off, clash, not-true, not-false}
 use Rattle.literals.specs.declared.Variable.{Variable}
@@ -19,7 +19,7 @@ use Rattle.literals.specs.declared.Moment.the-variants.{Start, End}
 use Rattle.classes.specs.declared.Name.{Name}
 use Rattle.classes.specs.declared.Name.the-variants.{Unreachable, Irrelevant, Heavy, Balanced, Unbalanced, Bounded, Unbounded}
 use Rattle.classes.specs.Classes.{momentsOf, classes}
-use Rattle.verdict.specs.Decision.{Row, rowAt, rowsOfClasses, rowsFrom, rows, isUnbounded, isBounded, faultBy, faultOf, isFaulty, isBoundedOutside, accept, decideBounded, decideBy, decideRows, decision, classAt}
+use Rattle.verdict.specs.Decision.{Row, rowAt, rowsOfClasses, rowsFrom, rows, isUnbounded, isBounded, faultBy, faultOf, isFaulty, isBoundedOutside, firstRow, hasFault, orElse, worstRow, accept, decideBounded, decideBy, decideRows, decision, classAt}
 use Rattle.verdict.specs.Machine.{hasMoment}
 use Rattle.verdict.proofs.Acts.{Harmless}
 
@@ -128,15 +128,61 @@ filter-first {A} p l a e = filter-in p l (go (filterBy p l) e)
     go [] e = let z : _≡_ {A = ℕ} 0 1 = cc in absurd (omega arith)
     go (x ∷ xs) e = let q : a ≡ x = cc in List·Memᴰ·head q
 
+-- ---- the worst row
+
+-- a row that orElse gives is one of the two
+else-cases : (o q : Option Row) (r : Row) → orElse o q ≡ some r → (o ≡ some r) ⊎ (q ≡ some r)
+else-cases none q r e = inr e
+else-cases (some x) q r e = inl e
+
+-- where it gives none, both are none
+else-none : (o q : Option Row) → orElse o q ≡ none → (o ≡ none) × (q ≡ none)
+else-none none q e = (refl, e)
+else-none (some x) q e = let z : _≡_ {A = ℕ} 0 1 = cc in absurd (omega arith)
+
+-- a row with a number above 0 is faulty
+has-faulty : (n : ℕ) (r : Row) → 0 < n → hasFault n r ≡ true → isFaulty r ≡ true
+has-faulty n r l t = let e = eqb-true (faultOf r) n t in ap not (ne-eqb (faultOf r) 0 (λ z. omega arith))
+
+-- the worst row is faulty
+pub worst-first : (rs : List Row) (r : Row) → worstRow rs ≡ some r → In r rs × (isFaulty r ≡ true)
+worst-first rs r e = go (else-cases (firstRow (hasFault 40) rs) _ r e)
+  where
+    at : (n : ℕ) → 0 < n → firstRow (hasFault n) rs ≡ some r → In r rs × (isFaulty r ≡ true)
+    at n l e = let f = filter-first (hasFault n) rs r e in (f .0, has-faulty n r l (f .1))
+
+    go : (firstRow (hasFault 40) rs ≡ some r) ⊎ (orElse (firstRow (hasFault 41) rs) (firstRow (hasFault 42) rs) ≡ some r) → In r rs × (isFaulty r ≡ true)
+    go (inl h) = at 40 (omega arith) h
+    go (inr h) = last (else-cases (firstRow (hasFault 41) rs) _ r h)
+      where
+        last : (firstRow (hasFault 41) rs ≡ some r) ⊎ (firstRow (hasFault 42) rs ≡ some r) → In r rs × (isFaulty r ≡ true)
+        last (inl h) = at 41 (omega arith) h
+        last (inr h) = at 42 (omega arith) h
+
+-- a fault has one of three numbers
+pub by-fault : (P : ℕ → Type 0) → P 0 → P 40 → P 41 → P 42 → (n : Name) (e : Bool) → P (faultBy n e)
+by-fault P a b c d Unreachable e = a
+by-fault P a b c d Irrelevant e = a
+by-fault P a b c d Heavy e = b
+by-fault P a b c d Balanced e = a
+by-fault P a b c d Unbalanced e = c
+by-fault P a b c d Bounded e = a
+by-fault P a b c d Unbounded true = a
+by-fault P a b c d Unbounded false = d
+
+fault-numbers : (n : Name) (e : Bool) → eqb (faultBy n e) 40 ≡ false → eqb (faultBy n e) 41 ≡ false → eqb (faultBy n e) 42 ≡ false → not (eqb (faultBy n e) 0) ≡ false
+fault-numbers =
+    by-fault (λ f. eqb f 40 ≡ false → eqb f 41 ≡ false → eqb f 42 ≡ false → not (eqb f 0) ≡ false) (λ a b c. refl) (λ a b c. a) (λ a b c. b) (λ a b c. c)
+
+-- where there is no worst row, none is faulty
+pub worst-none : (rs : List Row) → worstRow rs ≡ none → (r : Row) → In r rs → isFaulty r ≡ false
+worst-none rs e r m =
+    let a = else-none (firstRow (hasFault 40) rs) _ e in
+    let b = else-none (firstRow (hasFault 41) rs) _ (a .1) in
+    fault-numbers (r .name) (r .journeyEnd) (filter-empty (hasFault 40) rs (a .0) r m) (filter-empty (hasFault 41) rs (b .0) r m) (filter-empty (hasFault 42) rs (b .1) r m)
+
 not-one : (n : Name) (e : Bool) → faultBy n e ≡ 1 → ⊥
-not-one Unreachable e h = omega arith
-not-one Irrelevant e h = omega arith
-not-one Heavy e h = omega arith
-not-one Balanced e h = omega arith
-not-one Unbalanced e h = omega arith
-not-one Bounded e h = omega arith
-not-one Unbounded true h = omega arith
-not-one Unbounded false h = omega arith
+not-one = by-fault (λ f. f ≡ 1 → ⊥) (λ h. omega arith) (λ h. omega arith) (λ h. omega arith) (λ h. omega arith)
 
 module _ (v : Bool) (rs : List Row) where
   fine-bounded : (o : Option Row) → head? (filterBy isBoundedOutside rs) ≡ o → (b : Bool) → any (λ (r : Row). isUnbounded (r .name)) rs ≡ b
@@ -158,16 +204,16 @@ module _ (v : Bool) (rs : List Row) where
     none-bounded = λ _. filter-empty isBoundedOutside rs eo r m;
   }
 
-  fine-by : (o : Option Row) → head? (filterBy isFaulty rs) ≡ o → decideBy o rs .number ≡ cond v 0 1
+  fine-by : (o : Option Row) → worstRow rs ≡ o → decideBy o rs .number ≡ cond v 0 1
       → (r : Row) → In r rs → Fine v (r .name) (r .journeyEnd)
-  fine-by (some q) e h r m = absurd (no-way v h (filter-first isFaulty rs q e .1))
+  fine-by (some q) e h r m = absurd (no-way v h (worst-first rs q e .1))
     where
       no-way : (v : Bool) → faultOf q ≡ cond v 0 1 → not (eqb (faultOf q) 0) ≡ true → ⊥
       no-way true h k = clash (ap (λ n. eqb n 0) h) (not-true _ k)
       no-way false h k = not-one (q .name) (q .journeyEnd) h
   fine-by none e h r m =
       fine-bounded (head? (filterBy isBoundedOutside rs)) refl (any (λ (r : Row). isUnbounded (r .name)) rs) refl h r m
-      (eqb-true (faultOf r) 0 (not-false _ (filter-empty isFaulty rs e r m)))
+      (eqb-true (faultOf r) 0 (not-false _ (worst-none rs e r m)))
 
 pub fine-rows : (D : Domain) (v : Bool) → decision D .number ≡ cond v 0 1 → (r : Row) → In r (rows D) → Fine v (r .name) (r .journeyEnd)
 unfolding decision decideRows

@@ -94,6 +94,19 @@ isBoundedOutside r = isBounded (r .name) && not (r .journeyEnd)
 abbrev pub firstRow : (Row → Bool) → List Row → Option Row
 firstRow p rs = head? (filterBy p rs)
 
+-- a row that is refused by this number
+abbrev pub hasFault : ℕ → Row → Bool
+hasFault n r = eqb (faultOf r) n
+
+-- the one, or where there is none the other
+abbrev pub orElse : Option Row → Option Row → Option Row
+orElse none q = q
+orElse (some r) q = some r
+
+-- "40 is named before 41 and 41 before 42. Within one number the earliest action, class and moment wins"
+abbrev pub worstRow : List Row → Option Row
+worstRow rs = orElse (firstRow (hasFault 40) rs) (orElse (firstRow (hasFault 41) rs) (firstRow (hasFault 42) rs))
+
 -- a number, and the row that it names
 pub record Decision : Type 0 where
   pub number : ℕ
@@ -110,13 +123,13 @@ abbrev pub decideBounded : Option Row → Decision
 decideBounded (some r) = refuseAt 43 r
 decideBounded none = accept 1
 
--- "First, the first moment that is heavy, unbalanced, or unbounded outside a journey's end .. Else, if some moment is unbounded, .. Else accepted: .. 0 if none."
+-- by the worst row: its number. "43 is still looked for only when none of these exists"; "Else accepted: .. 0 if none."
 abbrev pub decideBy : Option Row → List Row → Decision
 decideBy (some r) rs = refuseAt (faultOf r) r
 decideBy none rs = cond (any (λ (r : Row). isUnbounded (r .name)) rs) (decideBounded (firstRow isBoundedOutside rs)) (accept 0)
 
 unfoldable pub decideRows : List Row → Decision
-decideRows rs = decideBy (firstRow isFaulty rs) rs
+decideRows rs = decideBy (worstRow rs) rs
 
 -- of a domain: its arities, actions and template
 unfoldable pub decision : Domain → Decision

@@ -1,7 +1,8 @@
--- The verdict, the witness, the machine, what is claimed of them, and how the code holds rows and answers.
+-- The verdict, the witness, the summaries it can be read off, the machine, what is claimed of them, and how the code holds rows and answers.
 pub mod Binding
 pub mod Decision
 pub mod Judged
+pub mod Summaries
 pub mod Machine
 pub mod Claims
 pub mod Coded

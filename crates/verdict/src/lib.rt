@@ -1,11 +1,16 @@
-// The decision of a template, from the names of all moments.
+// The decision of a template: per action a summary of its moments' names, and the decision from the summaries of all actions.
+use classes::Moment;
 use classes::Name;
+use classes::moment_number;
 ghost use mathlib.Core.Path.{_≡_};
 ghost use mathlib.Core.List.{List, [], _∷_, _++_};
-ghost use Prim.Native.Nat.{_≤_};
-ghost use Rattle.verdict.specs.Decision.{Row, faultBy, decideRows};
-ghost use Rattle.verdict.specs.Judged.{answerRow};
-ghost use Rattle.verdict.specs.Coded.{judgementOf, notesOf, withFault, withName, rowFor};
+ghost use Prim.Native.Nat.{ℕ};
+ghost use lib.ListN.{length};
+ghost use Rattle.verdict.specs.declared.Summary.{Summary};
+ghost use Rattle.verdict.specs.Decision.{Row};
+ghost use Rattle.verdict.specs.Judged.{Answer, answerAt};
+ghost use Rattle.verdict.specs.Summaries.{summaryRows, placeIn, placeElse, notesOf, answerPlace, faultless, decideNotes};
+ghost use Rattle.verdict.specs.Coded.{judgementOf, rowFor, spotElse};
 
 // An answer: the number and three places.
 pub struct Judgement {
@@ -15,155 +20,226 @@ pub struct Judgement {
     pub third: u64,
 }
 
-// A moment of a class of an action, by their numbers.
-pub struct Place {
-    pub action: u64,
-    pub class: u64,
-    pub moment: u64,
+// A moment of a class of one action, or none.
+pub enum Spot {
+    Nowhere,
+    At { class: u8, moment: Moment },
 }
 
-// What the decision is made of: the first faulty moment with its number (0 for none), whether a moment is unbounded, and the first
-// bounded moment outside a journey's end.
+// What the decision needs of one action: its first moments that are refused by 40, by 41 and by 42, its first bounded one outside a
+// journey's end, and whether one is unbounded, at a journey's end too.
+pub struct Summary {
+    pub heavy: Spot,
+    pub unbalanced: Spot,
+    pub unbounded: Spot,
+    pub bounded: Spot,
+    pub endless: bool,
+}
+
+// A moment of a class of an action, or none.
+pub enum Place {
+    Missing,
+    Found {
+        action: usize,
+        class: u8,
+        moment: Moment,
+    },
+}
+
+// What the decision is made of: of the summaries of all actions the first place of each sort, and whether a moment is unbounded.
 pub struct Notes {
-    pub fault: u64,
-    pub faulty: Place,
-    pub unbounded: bool,
-    pub bounded: bool,
-    pub outside: Place,
+    pub heavy: Place,
+    pub unbalanced: Place,
+    pub unbounded: Place,
+    pub bounded: Place,
+    pub endless: bool,
 }
 
-// The number that a name is refused by, or 0; `ended`: the moment is a journey's end.
-pub fn fault_by(name: Name, ended: bool) -> u64
-    ensures { λ r. ⌜ r ≡ faultBy name ended ⌝ }
-{
-    match name {
-        Name::Heavy => 40,
-        Name::Unbalanced => 41,
-        Name::Unbounded => {
-            if ended {
-                return 0;
-            }
-            42
+impl Spot {
+    // This spot, or where it is none the other.
+    fn or(self, other: Spot) -> Spot
+        ensures { λ r. ⌜ r ≡ spotElse self other ⌝ }
+    {
+        match self {
+            Spot::At { .. } => self,
+            Spot::Nowhere => other,
         }
-        Name::Unreachable => 0,
-        Name::Irrelevant => 0,
-        Name::Balanced => 0,
-        Name::Bounded => 0,
     }
 }
 
-impl Notes {
-    // Nothing noted yet.
-    pub fn new() -> Notes
-        ensures { λ r. ⌜ r ≡ notesOf [] ⌝ }
+impl Summary {
+    // Of no moment yet.
+    pub fn new() -> Summary
+        ensures { λ r. ⌜ r ≡ summaryRows [] ⌝ }
     {
-        Notes {
-            fault: 0,
-            faulty: Place {
-                action: 0,
-                class: 0,
-                moment: 0,
-            },
-            unbounded: false,
-            bounded: false,
-            outside: Place {
-                action: 0,
-                class: 0,
-                moment: 0,
-            },
+        Summary {
+            heavy: Spot::Nowhere,
+            unbalanced: Spot::Nowhere,
+            unbounded: Spot::Nowhere,
+            bounded: Spot::Nowhere,
+            endless: false,
         }
     }
 
-    // The notes with a moment whose fault is this number, 0 for none.
-    fn with_fault(self, fault: u64, at: Place) -> Notes
-        ensures { λ r. ⌜ r ≡ withFault self fault at ⌝ }
+    // The summary with one moment more, by its name; `ended`: it is a journey's end.
+    pub fn with(self, name: Name, ended: bool, class: u8, moment: Moment) -> Summary
+        ensures { λ r. ⌜ ((rs : List Row) (i : ℕ) → self ≡ summaryRows rs
+            → r ≡ summaryRows (rs ++ (rowFor i class moment name ended ∷ []))) ⌝ }
     {
-        if 0 < self.fault {
-            return self;
-        }
-        if fault == 0 {
-            return self;
-        }
-        let mut next = self;
-        next.fault = fault;
-        next.faulty = at;
-        next
-    }
-
-    // The notes with a moment's name, but for its fault.
-    fn with_name(self, name: Name, ended: bool, at: Place) -> Notes
-        ensures { λ r. ⌜ r ≡ withName self name ended at ⌝ }
-    {
+        let here = Spot::At { class, moment };
+        let heavy = self.heavy;
+        let unbalanced = self.unbalanced;
+        let unbounded = self.unbounded;
+        let bounded = self.bounded;
         match name {
+            Name::Heavy => Summary {
+                heavy: heavy.or(here),
+                unbalanced,
+                unbounded,
+                bounded,
+                endless: self.endless,
+            },
+            Name::Unbalanced => Summary {
+                heavy,
+                unbalanced: unbalanced.or(here),
+                unbounded,
+                bounded,
+                endless: self.endless,
+            },
             Name::Unbounded => {
-                let mut next = self;
-                next.unbounded = true;
-                next
+                if ended {
+                    let mut next = self;
+                    next.endless = true;
+                    return next;
+                }
+                Summary {
+                    heavy,
+                    unbalanced,
+                    unbounded: unbounded.or(here),
+                    bounded,
+                    endless: true,
+                }
             }
             Name::Bounded => {
                 if ended {
                     return self;
                 }
-                if self.bounded {
-                    return self;
+                Summary {
+                    heavy,
+                    unbalanced,
+                    unbounded,
+                    bounded: bounded.or(here),
+                    endless: self.endless,
                 }
-                let mut next = self;
-                next.bounded = true;
-                next.outside = at;
-                next
             }
             Name::Unreachable => self,
             Name::Irrelevant => self,
-            Name::Heavy => self,
             Name::Balanced => self,
-            Name::Unbalanced => self,
+        }
+    }
+}
+
+impl Place {
+    // This place, or where it is none the spot in the action i.
+    fn or_in(self, i: usize, spot: Spot) -> Place
+        ensures { λ r. ⌜ r ≡ placeElse self (placeIn i spot) ⌝ }
+    {
+        match self {
+            Place::Found { .. } => self,
+            Place::Missing => match spot {
+                Spot::At { class, moment } => Place::Found {
+                    action: i,
+                    class,
+                    moment,
+                },
+                Spot::Nowhere => Place::Missing,
+            },
         }
     }
 
-    // The notes with one more moment.
-    pub fn with(self, name: Name, ended: bool, at: Place) -> Notes
-        ensures { λ r. ⌜ ((rs : List Row) → at .moment ≤ 1 → self ≡ notesOf rs → r ≡ notesOf (rs ++ (rowFor name ended at ∷ []))) ⌝ }
+    // The number at this place, or where it is none the other answer.
+    fn refuse(self, number: u64, other: Judgement) -> Judgement
+        ensures { λ r. ⌜ ((a : Answer) → other ≡ judgementOf a → r ≡ judgementOf (answerPlace number self a)) ⌝ }
     {
-        let faulted = self.with_fault(fault_by(name, ended), at);
-        faulted.with_name(name, ended, at)
+        match self {
+            Place::Found {
+                action,
+                class,
+                moment,
+            } => Judgement {
+                number,
+                first: action as u64,
+                second: class as u64,
+                third: moment_number(moment) as u64,
+            },
+            Place::Missing => other,
+        }
+    }
+}
+
+fn accept(number: u64) -> Judgement
+    ensures { λ r. ⌜ r ≡ judgementOf (answerAt number 0) ⌝ }
+{
+    Judgement {
+        number,
+        first: 0,
+        second: 0,
+        third: 0,
+    }
+}
+
+impl Notes {
+    // Of no action yet.
+    pub fn new() -> Notes
+        ensures { λ r. ⌜ r ≡ notesOf [] ⌝ }
+    {
+        Notes {
+            heavy: Place::Missing,
+            unbalanced: Place::Missing,
+            unbounded: Place::Missing,
+            bounded: Place::Missing,
+            endless: false,
+        }
     }
 
-    // The decision.
+    // The notes with the summary of one action more, the action i.
+    pub fn with(self, i: usize, summary: Summary) -> Notes
+        ensures { λ r. ⌜ ((ss : List Summary) → i ≡ length ss → self ≡ notesOf ss → r ≡ notesOf (ss ++ (summary ∷ []))) ⌝ }
+    {
+        let heavy = self.heavy;
+        let unbalanced = self.unbalanced;
+        let unbounded = self.unbounded;
+        let bounded = self.bounded;
+        Notes {
+            heavy: heavy.or_in(i, summary.heavy),
+            unbalanced: unbalanced.or_in(i, summary.unbalanced),
+            unbounded: unbounded.or_in(i, summary.unbounded),
+            bounded: bounded.or_in(i, summary.bounded),
+            endless: self.endless || summary.endless,
+        }
+    }
+
+    // The decision where no moment is refused by 40 to 42.
+    fn decide_faultless(self) -> Judgement
+        ensures { λ r. ⌜ r ≡ judgementOf (faultless self) ⌝ }
+    {
+        if self.endless {
+            let bounded = self.bounded;
+            return bounded.refuse(43, accept(1));
+        }
+        accept(0)
+    }
+
+    // The decision: 40 before 41 before 42.
     pub fn decide(self) -> Judgement
-        ensures { λ r. ⌜ ((rs : List Row) → self ≡ notesOf rs
-            → r ≡ judgementOf (answerRow (decideRows rs .number) (decideRows rs .place))) ⌝ }
+        ensures { λ r. ⌜ r ≡ judgementOf (decideNotes self) ⌝ }
     {
-        let faulty = self.faulty;
-        let outside = self.outside;
-        if self.fault != 0 {
-            return Judgement {
-                number: self.fault,
-                first: faulty.action,
-                second: faulty.class,
-                third: faulty.moment,
-            };
-        }
-        if self.unbounded {
-            if self.bounded {
-                return Judgement {
-                    number: 43,
-                    first: outside.action,
-                    second: outside.class,
-                    third: outside.moment,
-                };
-            }
-            return Judgement {
-                number: 1,
-                first: 0,
-                second: 0,
-                third: 0,
-            };
-        }
-        Judgement {
-            number: 0,
-            first: 0,
-            second: 0,
-            third: 0,
-        }
+        let heavy = self.heavy;
+        let unbalanced = self.unbalanced;
+        let unbounded = self.unbounded;
+        heavy.refuse(
+            40,
+            unbalanced.refuse(41, unbounded.refuse(42, self.decide_faultless())),
+        )
     }
 }

@@ -26,12 +26,15 @@ fn reasoned(domain: &Domain) -> Vec<([usize; 3], Name, bool)> {
 /// The verdict that these rows lead to, with its place.
 fn decided(rows: &[([usize; 3], Name, bool)]) -> (u64, [u64; 3]) {
     let at = |place: [usize; 3]| place.map(|number| number as u64);
-    for &(place, name, journey) in rows {
-        match name {
-            Name::Heavy => return (40, at(place)),
-            Name::Unbalanced => return (41, at(place)),
-            Name::Unbounded if !journey => return (42, at(place)),
-            _ => {}
+    let fault = |row: &([usize; 3], Name, bool)| match row.1 {
+        Name::Heavy => Some(40),
+        Name::Unbalanced => Some(41),
+        Name::Unbounded if !row.2 => Some(42),
+        _ => None,
+    };
+    for number in 40..=42 {
+        if let Some(row) = rows.iter().find(|row| fault(row) == Some(number)) {
+            return (number, at(row.0));
         }
     }
     if !rows.iter().any(|row| row.1 == Name::Unbounded) {
@@ -226,6 +229,24 @@ fn over_all_counts_for_unreachable_alone() {
     ));
     assert!(held.contains("asks for no fact of v itself (at(v, a) over all counts for unreachable alone)"), "{held}");
     assert!(held.contains("witness: none is written for an end whose class has a condition over all."), "{held}");
+}
+
+/// Of several faults the worst is named, whatever the order of the actions.
+#[test]
+fn the_worst_fault_is_named() {
+    let actions =
+        [("put", "add at(v, a)"), ("copy", "true at(v, a), add at(v, b)"), ("double", "add at(v, a), at(v, b)")];
+    let worst = ["refused (42): put is unbounded", "refused (41): copy is unbalanced", "refused (40): double is heavy"];
+    for (first, others) in [(0, [1, 2]), (1, [0, 2]), (2, [1, 0]), (0, [2, 1]), (1, [2, 0]), (2, [0, 1])] {
+        let mut order = vec![first];
+        for other in others {
+            let text: String =
+                order.iter().map(|&n| format!("{}(v, a, b): {}; ", actions[n].0, actions[n].1)).collect();
+            let text = explained(&format!("at/2; {text}at[0,_]"));
+            assert!(text.starts_with(worst[*order.iter().max().unwrap_or(&0)]), "{order:?}: {text}");
+            order.push(other);
+        }
+    }
 }
 
 /// Every name has words of its own, for why it fits and why the one before doesn't.

@@ -499,19 +499,19 @@ fn satellite() {
         },
         Case {
             // switch_on deletes calibrated at its start; a name that stands only at the other moment doesn't exclude
-            // its fact. With all at once it does, and then calibrate is the first at fault.
+            // its fact, so its end is at fault too, but calibrate's fault is worse.
             template: "power_on[0], calibrated[0]",
             published: false,
             why: "an instrument is both while it works: calibrate adds the one and keeps the other",
             lasting: refused(
-                "42 switch_on 0 1",
+                "41 calibrate 0 1",
                 &[
                     "switch_on: irrelevant unbounded",
                     "switch_off: irrelevant irrelevant",
                     "calibrate: irrelevant unbalanced",
                     "take_image: irrelevant unreachable",
                 ],
-                &["on_board 0 1", "calibrated 0"],
+                &[],
             ),
             at_once: refused(
                 "41 calibrate 0 0",

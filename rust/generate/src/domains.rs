@@ -2,6 +2,7 @@
 
 use crate::records::{damage, encode, junk, near, rec, Rec};
 use crate::rng::Rng;
+use model::classes::Name;
 use model::verdict::{decide, rows};
 
 pub const FF: u8 = 0xFF;
@@ -126,8 +127,12 @@ pub struct Size {
 pub const SMALL: Size = Size { components: 3, others: 3, actions: 4, variables: 5, classes: 2 };
 pub const LARGE: Size = Size { components: 16, others: 48, actions: 64, variables: 16, classes: 8 };
 
-/// A valid file of a random mood and size.
+/// A valid file of a random mood and size, or of several faults.
 pub fn valid(rng: &mut Rng) -> Plan {
+    if rng.chance(8) {
+        let order = rng.pick(&FAULT_ORDERS);
+        return with_faults(rng, order);
+    }
     let mood = rng.pick(&MOODS);
     let size = if rng.chance(6) { LARGE } else { SMALL };
     valid_of(rng, mood, size)
@@ -175,6 +180,91 @@ fn one_of(rng: &mut Rng, mood: Mood, size: Size) -> Plan {
             mood => mood,
         };
         let action = action(rng, &plan, mood, size);
+        plan.actions.push(action);
+    }
+    plan
+}
+
+/// Two and three different faults, 40 to 42, in every order.
+pub const FAULT_ORDERS: [&[u8]; 12] = [
+    &[40, 41],
+    &[40, 42],
+    &[41, 40],
+    &[41, 42],
+    &[42, 40],
+    &[42, 41],
+    &[40, 41, 42],
+    &[40, 42, 41],
+    &[41, 40, 42],
+    &[41, 42, 40],
+    &[42, 40, 41],
+    &[42, 41, 40],
+];
+
+/// The different faults of a file, in the order in which they first occur in its report.
+pub fn faults_met(domain: &model::Domain) -> Vec<u8> {
+    let mut met = Vec::new();
+    for row in rows(domain) {
+        let number = match row.name {
+            Name::Heavy => 40,
+            Name::Unbalanced => 41,
+            Name::Unbounded if !row.journeys_end => 42,
+            _ => continue,
+        };
+        if !met.contains(&number) {
+            met.push(number);
+        }
+    }
+    met
+}
+
+/// A valid file with these different faults, first met in this order, if a few tries find one. They stand in actions of
+/// their own, in classes of one action, or at both moments of a class, at times once more, and among harmless ones.
+pub fn with_faults(rng: &mut Rng, order: &[u8]) -> Plan {
+    let mut plan = Plan::default();
+    for _ in 0..40 {
+        plan = some_faults(rng, order);
+        if model::read(&plan.file()).is_ok_and(|domain| faults_met(&domain) == order) {
+            break;
+        }
+    }
+    plan
+}
+
+fn some_faults(rng: &mut Rng, order: &[u8]) -> Plan {
+    let mood = rng.pick(&[Mood::Unbounded42, Mood::Bounded43]);
+    let mut plan = template(rng, mood, SMALL);
+    let aim = |fault: u8| match fault {
+        40 => Aim::Heavy,
+        41 => Aim::Unbalanced,
+        _ => Aim::Unbounded,
+    };
+    let mut faults = order.to_vec();
+    if rng.chance(40) {
+        faults.push(rng.pick(order));
+    }
+    let mut left = &faults[..];
+    while !left.is_empty() {
+        if rng.chance(35) {
+            let mood = rng.pick(&[Mood::Accepted0, Mood::Accepted1, Mood::Bounded43]);
+            let harmless = action(rng, &plan, mood, SMALL);
+            plan.actions.push(harmless);
+        }
+        let (here, later) = left.split_at(rng.range(1, left.len()));
+        left = later;
+        let mut action = PlanAction::new(rng.range(2, 6) as u8, rng.chance(50));
+        noise(rng, &plan, &mut action);
+        let mut tuple: Vec<u8> = Vec::new();
+        let mut moment = 1;
+        for &fault in here {
+            // the end of the same class, or a class of its own
+            let next = moment == 0 && rng.chance(50);
+            if !next {
+                tuple = (0..plan.n()).map(|_| rng.below(action.variables as usize) as u8).collect();
+            }
+            moment = (action.lasting && (next || rng.chance(40))) as usize;
+            moment_of(rng, &plan, &mut action, &tuple, moment == 1, aim(fault));
+        }
         plan.actions.push(action);
     }
     plan

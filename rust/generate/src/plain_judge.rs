@@ -34,9 +34,17 @@ pub enum Misjudge {
     ByRelation,
     /// Bounded moments are accepted beside an unbounded journey's end.
     BoundedAccepted,
+    /// The earliest fault is named, whatever its number.
+    EarliestFault,
+    /// Of one number the last place is named.
+    LastPlace,
+    /// 43 is looked for beside a 42.
+    BoundedBeside,
+    /// The witness is that of the earliest fault.
+    EarliestWitness,
 }
 
-pub const MISJUDGEMENTS: [Misjudge; 14] = [
+pub const MISJUDGEMENTS: [Misjudge; 18] = [
     Misjudge::OverAllUncounted,
     Misjudge::CountedTwice,
     Misjudge::OverAllBalances,
@@ -51,6 +59,10 @@ pub const MISJUDGEMENTS: [Misjudge; 14] = [
     Misjudge::AnyStartExcuses,
     Misjudge::ByRelation,
     Misjudge::BoundedAccepted,
+    Misjudge::EarliestFault,
+    Misjudge::LastPlace,
+    Misjudge::BoundedBeside,
+    Misjudge::EarliestWitness,
 ];
 
 const UNREACHABLE: u8 = 1;
@@ -236,20 +248,32 @@ impl<'d> Judge<'d> {
             UNBOUNDED if !end => Some(42),
             _ => None,
         };
-        let refused = rows.iter().zip(&ends).find_map(|(row, &end)| Some((fault(row, end)?, *row)));
+        let faults: Vec<(u8, [u8; 4])> =
+            rows.iter().zip(&ends).filter_map(|(row, &end)| Some((fault(row, end)?, *row))).collect();
+        // the earliest of the worst
+        let refused = match self.misread {
+            Some(Misjudge::EarliestFault) => faults.first(),
+            Some(Misjudge::LastPlace) => faults.iter().rev().min_by_key(|(number, _)| number),
+            _ => faults.iter().min_by_key(|(number, _)| number),
+        };
         let some_unbounded = rows.iter().any(|row| row[3] == UNBOUNDED);
         let bounded = rows.iter().zip(&ends).find(|(row, &end)| row[3] == BOUNDED && !end).map(|(row, _)| *row);
         let bounded = bounded.filter(|_| some_unbounded && !self.misreads(Misjudge::BoundedAccepted));
         let (number, row) = match (refused, bounded) {
-            (Some((number, row)), _) => (number, Some(row)),
+            (Some((42, _)), Some(row)) if self.misreads(Misjudge::BoundedBeside) => (43, Some(row)),
+            (Some(&(number, row)), _) => (number, Some(row)),
             (None, Some(row)) => (43, Some(row)),
             (None, None) => (some_unbounded as u8, None),
         };
         let places = row.map_or([0; 3], |[action, class, moment, _]| [action, class, moment]);
-        let witness = match number {
-            40..=42 => {
-                let action = &self.domain.actions[places[0] as usize];
-                self.witness(number, action, &self.classes(action)[places[1] as usize], places[2])
+        let shown = match self.misread {
+            Some(Misjudge::EarliestWitness) => faults.first().copied(),
+            _ => row.map(|row| (number, row)),
+        };
+        let witness = match shown {
+            Some((number @ 40..=42, [action, class, moment, _])) => {
+                let action = &self.domain.actions[action as usize];
+                self.witness(number, action, &self.classes(action)[class as usize], moment)
             }
             _ => Vec::new(),
         };

@@ -17,6 +17,7 @@
 //!   its step is taken from, count towards unreachable, and stand in a witness that is written; they
 //!   count neither for any other name nor for interference.
 //! - P6: the player's alarm is gone, and with it the judging that the player did only for it.
+//! - P8: of the refusals by class the worst is named, 40 before 41 before 42.
 //!
 //! The paper leaves some places open; these are the readings taken.
 //! - Zero relations and zero actions are well-formed. An action without matching literals has no

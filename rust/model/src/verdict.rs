@@ -55,18 +55,18 @@ impl Decision {
 }
 
 pub fn decide(rows: &[Row]) -> Decision {
-    // "First, the first moment that is heavy, unbalanced, or unbounded outside a journey's end: 40,
-    // 41, 42."
-    for row in rows {
-        match row.name {
-            Name::Heavy => return Decision::Refused(40, *row),
-            Name::Unbalanced => return Decision::Refused(41, *row),
-            Name::Unbounded if !row.journeys_end => return Decision::Refused(42, *row),
-            _ => {}
+    // "the first moment that is heavy, unbalanced, or unbounded outside a journey's end: 40, 41, 42."
+    // P8: "40 is named before 41 and 41 before 42. Within one number the earliest action, class and
+    // moment wins as now."
+    let first = |name: Name| rows.iter().find(|row| row.name == name && !(name == Name::Unbounded && row.journeys_end));
+    for (number, name) in [(40, Name::Heavy), (41, Name::Unbalanced), (42, Name::Unbounded)] {
+        if let Some(row) = first(name) {
+            return Decision::Refused(number, *row);
         }
     }
     // "Else, if some moment is unbounded, the first bounded one that isn't a journey's end: 43. Else
-    // accepted: 1 if some moment is unbounded, 0 if none."
+    // accepted: 1 if some moment is unbounded, 0 if none." P8: "43 is still looked for only when none of
+    // these exists."
     if !rows.iter().any(|row| row.name == Name::Unbounded) {
         return Decision::Accepted(0);
     }

@@ -1,23 +1,22 @@
 -- `name_all` meets its contract. The loop's invariant is `InActions` of proofs/NamedRows; the measure is how many actions are left. Assumes nothing.
-use mathlib.Core.Path.{_≡_, refl, sym, _∙_}
-use mathlib.Core.List.{[]}
-use Prim.Native.Nat.{_-_, _*_, _≤_, _<_}
+use mathlib.Core.Path.{refl, sym, ap, _∙_}
+use Prim.Native.Nat.{ℕ, _-_, _*_, _≤_, _<_}
 use native.Mathlib.Omega.{arith}
 use borrow.Author.Needs.{needs}
-use lib.ListN.{length}
+use lib.ListN.{length, set}
 use Rattle.literals.specs.Domain.{action}
-use Rattle.naming.proofs.NamedRows.{InActions, names-room, names-next, names-few, named-action, counted-action, naming-done}
 use Rattle.literals.proofs.Spans.{part-length}
 use Rattle.verdict.proofs.ReadActions.{action-held}
+use Rattle.naming.proofs.NamedRows.{InActions, names-room, names-next, names-few, listed-none, listed-action, noted-action, counted-action, naming-done}
 use Rattle.naming.proofs.name_all.Statement.{statement}
 use Rattle.naming.proofs.name_all.Tie as tie
 
 abbrev Inv-loop : tie.InvT-loop
-Inv-loop head table names₀ counts₀ naming₀ i₀ i-end names counts naming i =
-    InActions head table names₀ counts₀ names counts naming i
+Inv-loop head table names₀ counts₀ rows₀ notes₀ i₀ i-end names counts rows notes i =
+    InActions head table names₀ counts₀ names counts rows notes i
 
 abbrev μ-loop : tie.MeasureT-loop
-μ-loop head table names₀ counts₀ naming₀ i₀ i-end names counts naming i = i-end - i
+μ-loop head table names₀ counts₀ rows₀ notes₀ i₀ i-end names counts rows notes i = i-end - i
 
 new-requires : tie.Need-new-requires Inv-loop μ-loop
 new-requires c κs = search needs
@@ -27,12 +26,13 @@ actions-in-requires c κs = search needs
 
 loop-holds : tie.Need-loop-holds Inv-loop μ-loop
 loop-holds c =
-    let e = c .before .new .ensures .1 in
     record {
       reach = omega arith;
       room = refl;
       few = λ D H. omega arith;
-      named = λ D H wf z. (c .before .new .ensures .0 _, z);
+      listed = λ D H wf. listed-none D _;
+      noted = λ D H wf. c .before .new .ensures;
+      counted = λ D H wf z. z;
     }
 
 rows-of-requires : tie.Need-rows-of-requires Inv-loop μ-loop
@@ -44,66 +44,98 @@ mul-from c = search needs
 mul-to : tie.Need-mul-to Inv-loop μ-loop
 mul-to c = search needs
 
-sub-with-action : tie.Need-sub-with-action Inv-loop μ-loop
-sub-with-action c = search needs
+sub-name-action : tie.Need-sub-name-action Inv-loop μ-loop
+sub-name-action c = search needs
 
-part-with-action-start : tie.Need-part-with-action-start Inv-loop μ-loop
-part-with-action-start c = search needs
+part-name-action-start : tie.Need-part-name-action-start Inv-loop μ-loop
+part-name-action-start c = search needs
 
-part-with-action-end : tie.Need-part-with-action-end Inv-loop μ-loop
-part-with-action-end c = search needs
+part-name-action-end : tie.Need-part-name-action-end Inv-loop μ-loop
+part-name-action-end c = search needs
 
-sub-with-action-2 : tie.Need-sub-with-action-2 Inv-loop μ-loop
-sub-with-action-2 c = search needs
+sub-name-action-2 : tie.Need-sub-name-action-2 Inv-loop μ-loop
+sub-name-action-2 c = search needs
 
 is-lasting-requires : tie.Need-is-lasting-requires Inv-loop μ-loop
 is-lasting-requires c κs = search needs
 
-with-action-requires : tie.Need-with-action-requires Inv-loop μ-loop
-with-action-requires c κs =
-    let s = c .before .before .before .before .before .before .before .before .before .before .before .before .before .before in
-    let H = s .pre .0 .1 in
-    let b = c .before .before .before .before .before .before .before .rows-of in
+name-action-requires : tie.Need-name-action-requires Inv-loop μ-loop
+name-action-requires c κs =
+    let H = c .before .before .before .before .before .before .before .before .before .before .before .before .before .pre .0 .1 in
+    let b = c .before .before .before .before .before .before .rows-of in
     let F = b .ensures .0 in
-    let l = c .before .before .before .before .before .before .before .before .before .loop in
-    let n = c .before .before .before .before .before .before .before .before .before .before .actions-in .ensures in
+    let l = c .before .before .before .before .before .before .before .before .loop in
+    let n = c .before .before .before .before .before .before .before .before .before .actions-in .ensures in
     let m = H .says .actions in
     let o = F .order in
     let f = F .few in
-    let h : l .i < length (s .pre .0 .0 .actions) = omega arith in
-    let r : length (s .args .table .now) ≤ 4 * length (l .names) = (let q = l .inv .room in let u = s .pre .1 in omega arith) in
-    (part-length (s .args .table .now) (b .result .from) (b .result .to) o (F .room), (omega arith, (omega arith, names-room H (l .i) h (b .ensures .1 _ H h) F _ (l .inv .few _ H) _ r)))
+    let h : l .i < length (c .before .before .before .before .before .before .before .before .before .before .before .before .before .pre .0 .0 .actions) = omega arith in
+    let r : length (c .before .before .before .before .before .before .before .before .before .before .before .before .before .args .table .now) ≤ 4 * length (l .names) = (let q = l .inv .room in let u = c .before .before .before .before .before .before .before .before .before .before .before .before .before .pre .1 in omega arith) in
+    (part-length (c .before .before .before .before .before .before .before .before .before .before .before .before .before .args .table .now) (b .result .from) (b .result .to) o (F .room), (omega arith, names-room H (l .i) h (b .ensures .1 _ H h) F _ (l .inv .few _ H) _ r))
+
+cast-counts : tie.Need-cast-counts Inv-loop μ-loop
+cast-counts c = search needs
+
+element-write-counts : tie.Need-element-write-counts Inv-loop μ-loop
+element-write-counts c =
+    let H = c .before .before .before .before .before .before .before .before .before .before .before .before .before .before .before .before .before .pre .0 .1 in
+    let n = c .before .before .before .before .before .before .before .before .before .before .before .before .before .actions-in .ensures in
+    let m = H .says .actions in
+    let f = H .says .bounded .actions in
+    let t = c .before .before .before .before .before .before .before .before .before .before .before .loop-test .taken in
+    omega arith
+
+with-requires : tie.Need-with-requires Inv-loop μ-loop
+with-requires c κs = search needs
 
 add-i : tie.Need-add-i Inv-loop μ-loop
-add-i c = search needs
+add-i c =
+    let H = c .before .before .before .before .before .before .before .before .before .before .before .before .before .before .before .before .before .before .before .pre .0 .1 in
+    let n = c .before .before .before .before .before .before .before .before .before .before .before .before .before .before .before .actions-in .ensures in
+    let m = H .says .actions in
+    let f = H .says .bounded .actions in
+    let t = c .before .before .before .before .before .before .before .before .before .before .before .before .before .loop-test .taken in
+    omega arith
 
 loop-less : tie.Need-loop-less Inv-loop μ-loop
 loop-less c = search needs
 
 loop-again : tie.Need-loop-again Inv-loop μ-loop
 loop-again c =
-    let b = c .before .before .before .before .before .before .before .before .before .before .rows-of in
+    let b = c .before .before .before .before .before .before .before .before .before .before .before .before .rows-of in
     let F = b .ensures .0 in
-    let l = c .before .before .before .before .before .before .before .before .before .before .before .before .loop in
-    let n = c .before .before .before .before .before .before .before .before .before .before .before .before .before .actions-in .ensures in
-    let t = c .before .before .before .before .before .before .before .before .before .before .before .loop-test .taken in
-    let w = c .before .before .with-action in
+    let l = c .before .before .before .before .before .before .before .before .before .before .before .before .before .before .loop in
+    let n = c .before .before .before .before .before .before .before .before .before .before .before .before .before .before .before .actions-in .ensures in
+    let t = c .before .before .before .before .before .before .before .before .before .before .before .before .before .loop-test .taken in
+    let w = c .before .before .before .before .before .name-action in
     record {
       reach = omega arith;
-      room = w .kept .1 .1 .1 .1 .1 .1 .0 ∙ l .inv .room;
+      room = w .kept .1 .1 .1 .1 .1 .0 ∙ l .inv .room;
       few =
           λ D H.
           let m = H .says .actions in
           let h : l .i < length (D .actions) = omega arith in
           names-next H (l .i) h (b .ensures .1 D H h) F _ (l .inv .few D H) _ (w .ensures .0);
-      named =
+      listed =
+          λ D H wf.
+          let m = H .says .actions in
+          let h : l .i < length (D .actions) = omega arith in
+          let A = action-held H wf (l .i) h (b .ensures .1 D H h .literals) in
+          listed-action D (l .i) h (w .ensures .1 .1 D (action D (l .i)) A (sym (c .before .before .before .before .before .before .before .is-lasting .ensures ∙ H .says .lasting (l .i) h)) _ _ (l .i) (l .inv .listed D H wf) .2);
+      noted =
+          λ D H wf.
+          let m = H .says .actions in
+          let h : l .i < length (D .actions) = omega arith in
+          let A = action-held H wf (l .i) h (b .ensures .1 D H h .literals) in
+          let a = w .ensures .1 .1 D (action D (l .i)) A (sym (c .before .before .before .before .before .before .before .is-lasting .ensures ∙ H .says .lasting (l .i) h)) _ _ (l .i) (l .inv .listed D H wf) in
+          noted-action D (l .i) h (l .inv .noted D H wf) (a .1) (c .with .ensures);
+      counted =
           λ D H wf z.
           let m = H .says .actions in
           let h : l .i < length (D .actions) = omega arith in
-          let q = l .inv .named D H wf z in
           let A = action-held H wf (l .i) h (b .ensures .1 D H h .literals) in
-          let a = w .ensures .1 _ _ D (action D (l .i)) (q .0) A (sym (c .before .before .before .before .before .is-lasting .ensures ∙ H .says .lasting (l .i) h)) in
-          (named-action D (l .i) h (a .1), a .0 ∙ counted-action D (l .i) _ h (H .says .bounded .actions) (q .1));
+          let a = w .ensures .1 .1 D (action D (l .i)) A (sym (c .before .before .before .before .before .before .before .is-lasting .ensures ∙ H .says .lasting (l .i) h)) _ _ (l .i) (l .inv .listed D H wf) in
+          ap (λ (v : ℕ). set (l .counts) (l .i) v) (a .0) ∙ counted-action D (l .i) _ h (H .says .bounded .actions) (l .inv .counted D H wf z);
     }
 
 same-length : tie.Need-same-length Inv-loop μ-loop
@@ -116,7 +148,7 @@ returns c =
     let H = c .before .before .before .before .before .before .pre .0 .1 in
     let m = H .says .actions in (
       names-few H (l .i) _ (omega arith) (l .inv .few _ H),
-      λ D H wf z. let m = H .says .actions in let q = l .inv .named D H wf z in naming-done D (l .i) (l .naming) (omega arith) (q .0) (q .1),
+      λ D H wf z. let m = H .says .actions in naming-done D (l .i) (omega arith) (l .inv .listed D H wf) (l .inv .noted D H wf) (l .inv .counted D H wf z),
     )
 
 pub name-all-spec : {M : Type 1} → statement M
@@ -131,12 +163,15 @@ name-all-spec =
     rows-of-requires
     mul-from
     mul-to
-    sub-with-action
-    part-with-action-start
-    part-with-action-end
-    sub-with-action-2
+    sub-name-action
+    part-name-action-start
+    part-name-action-end
+    sub-name-action-2
     is-lasting-requires
-    with-action-requires
+    name-action-requires
+    cast-counts
+    element-write-counts
+    with-requires
     add-i
     loop-less
     loop-again

@@ -1,8 +1,7 @@
--- `Naming::new` meets its contract: no row is named. Assumes nothing.
-use borrow.Author.Needs.{needs}
+-- `Naming::new` meets its contract: no row of the action is named. Assumes nothing.
 use mathlib.Core.Path.{refl}
-use native.Mathlib.Omega.{arith}
-use Rattle.records.specs.Memory.{over}
+use borrow.Author.Needs.{needs}
+use Rattle.naming.proofs.NamedRows.{named-none}
 use Rattle.naming.proofs.Naming.new.Statement.{statement}
 use Rattle.naming.proofs.Naming.new.Tie as tie
 
@@ -10,8 +9,7 @@ new-requires : tie.Need-new-requires
 new-requires c κs = search needs
 
 returns : tie.Need-returns
-unfolding over
-returns c = (λ old. record { room = omega arith; rows-named = refl; noted = c .new .ensures; bytes = refl }, refl)
+returns c = (refl, λ before names old L. named-none before L (c .new .ensures))
 
 pub new-spec : {M : Type 1} → statement M
 new-spec = tie.close (tie.spec new-requires returns)

@@ -19,7 +19,7 @@ returns : tie.Need-returns
 returns c =
     let t = c .before .before .before .before .if1 .taken in (
       omega arith,
-      λ rs old D a N l s e. named-lasting D a _ _ _ rs _ _ _ (l ∙ t) s (e t .0) (e t .1) (c .before .before .with-row2 .ensures .1 _ old (omega arith) (c .before .before .before .before .before .before .before .with-row .ensures .1 rs old (omega arith) N)),
+      λ before rs old D a i N l s e. named-lasting D a i _ _ before rs _ _ _ (l ∙ t) s (e t .0) (e t .1) (c .before .before .with-row2 .ensures .1 before _ old i (c .before .before .before .before .before .before .before .with-row .ensures .1 before rs old i N)),
     )
 
 same-length-2 : tie.Need-same-length-2
@@ -28,7 +28,7 @@ same-length-2 c = search needs
 returns-2 : tie.Need-returns-2
 returns-2 c = (
   omega arith,
-  λ rs old D a N l s e. named-once D a _ _ _ rs _ (l ∙ c .if1 .left) s (c .before .before .before .with-row .ensures .1 rs old (omega arith) N),
+  λ before rs old D a i N l s e. named-once D a i _ _ before rs _ (l ∙ c .if1 .left) s (c .before .before .before .with-row .ensures .1 before rs old i N),
 )
 
 pub with-class-spec : {M : Type 1} → statement M

@@ -27,7 +27,7 @@ with-each-requires c κs =
     let p = c .before .before .before .before .before .before .before .before .before .before .before .before .before .before .before .before .before .before .before .before .before .before .pre in
     let first = c .before .before .before .before .before .before .before .before .before .before .before .before .before .before .soles-at .ensures refl in
     let second = c .before .before .before .before .before .before .before .before .before .before .soles-at2 .ensures refl in
-    (record { rowed = omega arith; few = p .1 .0 }, (record { conditions-are = first; adds-are = second }, (record { conditions-are = first; adds-are = second }, (p .1 .1 .0, (p .1 .1 .1 .0, p .1 .1 .1 .1)))))
+    (record { rowed = omega arith; few = p .1 .0 }, (record { conditions-are = first; adds-are = second }, (record { conditions-are = first; adds-are = second }, (p .1 .1 .0, p .1 .1 .1))))
 
 same-length : tie.Need-same-length
 same-length c = search needs
@@ -36,8 +36,8 @@ returns : tie.Need-returns
 returns c =
     let w = c .before .before .with-each .ensures in (
       w .0,
-      λ rs old D a N A t f g.
-          w .1 rs old D a N (record { whole = A; numbers = f; clauses-are = c .before .before .before .before .before .before .before .before .before .before .before .before .before .before .before .before .before .before .before .before .clauses-at .ensures D a _ A refl }) t (λ k. absurd (clash k (not-true _ (c .before .before .before .before .before .before .before .before .before .before .before .if1 .taken)))) g,
+      λ before old D a i N A t f g.
+          w .1 before old D a i N (record { whole = A; numbers = f; clauses-are = c .before .before .before .before .before .before .before .before .before .before .before .before .before .before .before .before .before .before .before .before .clauses-at .ensures D a _ A refl }) t (λ k. absurd (clash k (not-true _ (c .before .before .before .before .before .before .before .before .before .before .before .if1 .taken)))) g,
     )
 
 clauses-at-requires-2 : tie.Need-clauses-at-requires-2
@@ -67,7 +67,7 @@ soles-at-requires-5 c κs = let p = c .before .before .before .before .before .b
 with-each-requires-2 : tie.Need-with-each-requires-2
 with-each-requires-2 c κs =
     let p = c .before .before .before .before .before .before .before .before .before .before .before .before .before .before .before .before .before .before .before .before .before .before .before .before .before .before .before .before .before .before .before .before .before .before .before .before .before .before .pre in
-    (record { rowed = omega arith; few = p .1 .0 }, (record { conditions-are = c .before .before .before .before .before .before .before .before .before .before .before .before .before .before .before .before .before .before .before .before .before .before .before .before .before .before .before .before .before .before .soles-at .ensures refl; adds-are = c .before .before .before .before .before .before .before .before .before .before .before .before .before .before .before .before .before .before .before .before .before .before .before .before .before .before .soles-at2 .ensures refl }, (record { conditions-are = c .before .before .before .before .before .before .before .before .before .before .before .before .before .before .before .before .before .before .before .soles-at3 .ensures refl; adds-are = c .before .before .before .before .before .before .before .before .before .before .before .before .before .before .before .soles-at4 .ensures refl }, (p .1 .1 .0, (p .1 .1 .1 .0, p .1 .1 .1 .1)))))
+    (record { rowed = omega arith; few = p .1 .0 }, (record { conditions-are = c .before .before .before .before .before .before .before .before .before .before .before .before .before .before .before .before .before .before .before .before .before .before .before .before .before .before .before .before .before .before .soles-at .ensures refl; adds-are = c .before .before .before .before .before .before .before .before .before .before .before .before .before .before .before .before .before .before .before .before .before .before .before .before .before .before .soles-at2 .ensures refl }, (record { conditions-are = c .before .before .before .before .before .before .before .before .before .before .before .before .before .before .before .before .before .before .before .soles-at3 .ensures refl; adds-are = c .before .before .before .before .before .before .before .before .before .before .before .before .before .before .before .soles-at4 .ensures refl }, (p .1 .1 .0, p .1 .1 .1))))
 
 same-length-2 : tie.Need-same-length-2
 same-length-2 c = search needs
@@ -76,8 +76,8 @@ returns-2 : tie.Need-returns-2
 returns-2 c =
     let w = c .before .before .with-each2 .ensures in (
       w .0,
-      λ rs old D a N A t f g.
-          w .1 rs old D a N (record { whole = A; numbers = f; clauses-are = c .before .before .before .before .before .before .before .before .before .before .before .before .before .before .before .before .before .before .before .before .before .before .before .before .before .before .before .before .before .before .before .before .before .before .before .before .clauses-at .ensures D a _ A refl }) t
+      λ before old D a i N A t f g.
+          w .1 before old D a i N (record { whole = A; numbers = f; clauses-are = c .before .before .before .before .before .before .before .before .before .before .before .before .before .before .before .before .before .before .before .before .before .before .before .before .before .before .before .before .before .before .before .before .before .before .before .before .clauses-at .ensures D a _ A refl }) t
           (λ k. record {
             own = record { whole = A; numbers = f; clauses-are = c .before .before .before .before .before .before .before .before .before .before .before .before .before .before .before .before .before .before .before .before .before .before .before .before .before .clauses-at2 .ensures D a _ A refl };
             reaches = λ j h. c .before .before .before .before .before .before .before .before .before .before .before .before .soles-at5 .ensures refl j h ∙ reach-is D a f (c .before .before .before .before .before .before .before .before .before .before .before .before .before .before .before .clauses-at3 .ensures D a _ A refl) j;

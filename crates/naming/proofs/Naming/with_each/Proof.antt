@@ -10,11 +10,11 @@ use Rattle.naming.proofs.Naming.with_each.Statement.{statement}
 use Rattle.naming.proofs.Naming.with_each.Tie as tie
 
 abbrev Inv-loop : tie.InvT-loop
-Inv-loop head rows of at-start at-end conditions adds reach end-conditions end-adds count i lasting names₀ next₀ class₀ names next class =
-    InClasses head rows of at-start at-end reach count i lasting names₀ next₀ names next class
+Inv-loop head rows of at-start at-end conditions adds reach end-conditions end-adds count lasting names₀ next₀ class₀ names next class =
+    InClasses head rows of at-start at-end reach count lasting names₀ next₀ names next class
 
 abbrev μ-loop : tie.MeasureT-loop
-μ-loop head rows of at-start at-end conditions adds reach end-conditions end-adds count i lasting names₀ next₀ class₀ names next class = count - class
+μ-loop head rows of at-start at-end conditions adds reach end-conditions end-adds count lasting names₀ next₀ class₀ names next class = count - class
 
 loop-holds : tie.Need-loop-holds Inv-loop μ-loop
 loop-holds c =
@@ -22,23 +22,23 @@ loop-holds c =
       reach = omega arith;
       few = omega arith;
       room = refl;
-      named = λ rs old D a N M t E g. named-begin D a (c .before .before .before .args .i) (classes D a) rs N;
+      named = λ before old D a i N M t E g. named-begin D a i (classes D a) before N;
     }
 
 element-copy-out-with-class : tie.Need-element-copy-out-with-class Inv-loop μ-loop
 element-copy-out-with-class c = omega arith
 
-element-copy-out-t25 : tie.Need-element-copy-out-t25 Inv-loop μ-loop
-element-copy-out-t25 c = omega arith
+element-copy-out-t24 : tie.Need-element-copy-out-t24 Inv-loop μ-loop
+element-copy-out-t24 c = omega arith
 
 element-copy-out-name-class : tie.Need-element-copy-out-name-class Inv-loop μ-loop
 element-copy-out-name-class c = omega arith
 
-element-copy-out-t32 : tie.Need-element-copy-out-t32 Inv-loop μ-loop
-element-copy-out-t32 c = omega arith
+element-copy-out-t31 : tie.Need-element-copy-out-t31 Inv-loop μ-loop
+element-copy-out-t31 c = omega arith
 
-element-copy-out-t35 : tie.Need-element-copy-out-t35 Inv-loop μ-loop
-element-copy-out-t35 c = omega arith
+element-copy-out-t34 : tie.Need-element-copy-out-t34 Inv-loop μ-loop
+element-copy-out-t34 c = omega arith
 
 cast-name-class : tie.Need-cast-name-class Inv-loop μ-loop
 cast-name-class c = omega arith
@@ -57,7 +57,7 @@ with-class-requires : tie.Need-with-class-requires Inv-loop μ-loop
 with-class-requires c κs =
     let w = c .before .before .before .before .before .before .before .before .loop .inv .few in
     let r = c .before .before .before .before .before .before .before .before .loop .inv .room in
-    (omega arith, c .before .before .before .before .before .before .before .before .before .before .before .before .pre .1 .1 .1 .1 .0)
+    omega arith
 
 add-class : tie.Need-add-class Inv-loop μ-loop
 add-class c =
@@ -80,16 +80,16 @@ loop-again c =
     record {
       reach = omega arith;
       few = omega arith;
-      room = called .kept .1 .1 .1 .1 .1 .0 ∙ l .inv .room;
+      room = called .kept .1 .1 .1 .1 .0 ∙ l .inv .room;
       named =
-          λ rs old D a N M t E g.
+          λ before old D a i N M t E g.
           let h : l .class < length (classes D a) = omega arith in
           let p = c .before .before .before .before .before .before .before .before .before .before .before .before .before .before .before .pre in
           let m = p .1 .1 .1 .0 in
           let s = p .0 .few in
           let few : l .class < 64 = omega arith in
-          named-next D a (c .before .before .before .before .before .before .before .before .before .before .before .before .before .before .before .args .i) (classes D a) rs (l .class) h
-          (called .ensures .1 _ old D a (l .inv .named rs old D a N M t E g) t (named .0 D a M h) (λ k. named .1 D a M (E k .own) h (E k .reaches (l .class) few) k (t ∙ k)));
+          named-next D a i (classes D a) before (l .class) h
+          (called .ensures .1 before _ old D a i (l .inv .named before old D a i N M t E g) t (named .0 D a M h) (λ k. named .1 D a M (E k .own) h (E k .reaches (l .class) few) k (t ∙ k)));
     }
 
 same-length : tie.Need-same-length Inv-loop μ-loop
@@ -101,7 +101,7 @@ returns c =
     let w = l .inv .few in
     let r = l .inv .reach in (
       omega arith,
-      λ rs old D a N M t E g. named-end D a _ (classes D a) rs (l .class) (omega arith) (l .inv .named rs old D a N M t E g),
+      λ before old D a i N M t E g. named-end D a i (classes D a) before (l .class) (omega arith) (l .inv .named before old D a i N M t E g),
     )
 
 pub with-each-spec : {M : Type 1} → statement M
@@ -112,10 +112,10 @@ with-each-spec =
     μ-loop
     loop-holds
     element-copy-out-with-class
-    element-copy-out-t25
+    element-copy-out-t24
     element-copy-out-name-class
-    element-copy-out-t32
-    element-copy-out-t35
+    element-copy-out-t31
+    element-copy-out-t34
     cast-name-class
     name-class-requires
     cast-with-class

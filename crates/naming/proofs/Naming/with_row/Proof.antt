@@ -11,8 +11,8 @@ name-number-requires c κs = search needs
 slice-write-names : tie.Need-slice-write-names
 slice-write-names c = search needs
 
-add-next : tie.Need-add-next
-add-next c = search needs
+add-t11 : tie.Need-add-t11
+add-t11 c = search needs
 
 with-requires : tie.Need-with-requires
 with-requires c κs = search needs
@@ -24,10 +24,10 @@ returns : tie.Need-returns
 returns c =
     let start = c .before .before .before .before .args in (
       refl,
-      λ rs old h N. named-more rs _ (start .self) (start .names .now) old _ (c .before .before .before .before .pre) N refl (c .with .ensures rs h (N .noted)) (c .before .name-number .ensures),
+      λ before rs old i N. named-more before rs _ (start .self) (start .names .now) old _ (c .before .before .before .before .pre) N refl (c .with .ensures rs i (N .summed)) (c .before .name-number .ensures),
     )
 
 pub with-row-spec : {M : Type 1} → statement M
 with-row-spec =
     tie.close
-    (tie.spec name-number-requires slice-write-names add-next with-requires same-length returns)
+    (tie.spec name-number-requires slice-write-names add-t11 with-requires same-length returns)

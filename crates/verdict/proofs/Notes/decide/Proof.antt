@@ -1,20 +1,31 @@
--- `verdict::Notes::decide` meets its contract: a law of proofs/Noted for each return. Assumes nothing.
-use native.Mathlib.Omega.{arith}
-use Rattle.verdict.proofs.Noted.{decides-fault, decides-bounded, decides-unbounded, decides-balanced}
+-- `verdict::Notes::decide` meets its contract: 40 before 41 before 42. Assumes nothing.
+use Rattle.verdict.specs.Summaries.{decideNotes}
+use borrow.Author.Needs.{needs}
 use Rattle.verdict.proofs.Notes.decide.Statement.{statement}
 use Rattle.verdict.proofs.Notes.decide.Tie as tie
 
+decide-faultless-requires : tie.Need-decide-faultless-requires
+decide-faultless-requires c κs = search needs
+
+refuse-requires : tie.Need-refuse-requires
+refuse-requires c κs = search needs
+
+refuse-requires-2 : tie.Need-refuse-requires-2
+refuse-requires-2 c κs = search needs
+
+refuse-requires-3 : tie.Need-refuse-requires-3
+refuse-requires-3 c κs = search needs
+
 returns : tie.Need-returns
-returns c rs e = decides-fault _ rs e (c .if1 .taken)
-
-returns-2 : tie.Need-returns-2
-returns-2 c rs e = decides-bounded _ rs e (omega arith) (c .before .if2 .taken) (c .if3 .taken)
-
-returns-3 : tie.Need-returns-3
-returns-3 c rs e = decides-unbounded _ rs e (omega arith) (c .before .if2 .taken) (c .if3 .left)
-
-returns-4 : tie.Need-returns-4
-returns-4 c rs e = decides-balanced _ rs e (omega arith) (c .if2 .left)
+unfolding decideNotes
+returns c = c .refuse3 .ensures _ (c .before .refuse2 .ensures _ (c .before .before .refuse .ensures _ (c .before .before .before .decide-faultless .ensures)))
 
 pub decide-spec : {M : Type 1} → statement M
-decide-spec = tie.close (tie.spec returns returns-2 returns-3 returns-4)
+decide-spec =
+    tie.close
+    (tie.spec
+    decide-faultless-requires
+    refuse-requires
+    refuse-requires-2
+    refuse-requires-3
+    returns)

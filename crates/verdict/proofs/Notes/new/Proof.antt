@@ -1,6 +1,6 @@
--- `verdict::Notes::new` meets its contract: the notes of no row. Assumes nothing.
+-- `verdict::Notes::new` meets its contract: the notes of no summary. Assumes nothing.
 use mathlib.Core.Path.{refl}
-use Rattle.verdict.specs.Coded.{notesOf}
+use Rattle.verdict.specs.Summaries.{notesOf}
 use Rattle.verdict.proofs.Notes.new.Statement.{statement}
 use Rattle.verdict.proofs.Notes.new.Tie as tie
 

@@ -1,21 +1,33 @@
--- `verdict::Notes::with` meets its contract: by its fault, then by its name. Assumes nothing.
+-- `verdict::Notes::with` meets its contract: one summary more. Assumes nothing.
 use mathlib.Core.Path.{_∙_}
+use Rattle.verdict.proofs.Noted.{notes-with, or-first, or-second, notes-more}
 use borrow.Author.Needs.{needs}
-use Rattle.verdict.proofs.Noted.{notes-more}
 use Rattle.verdict.proofs.Notes.with.Statement.{statement}
 use Rattle.verdict.proofs.Notes.with.Tie as tie
 
-fault-by-requires : tie.Need-fault-by-requires
-fault-by-requires c κs = search needs
+or-in-requires : tie.Need-or-in-requires
+or-in-requires c κs = search needs
 
-with-fault-requires : tie.Need-with-fault-requires
-with-fault-requires c κs = search needs
+or-in-requires-2 : tie.Need-or-in-requires-2
+or-in-requires-2 c κs = search needs
 
-with-name-requires : tie.Need-with-name-requires
-with-name-requires c κs = search needs
+or-in-requires-3 : tie.Need-or-in-requires-3
+or-in-requires-3 c κs = search needs
+
+or-in-requires-4 : tie.Need-or-in-requires-4
+or-in-requires-4 c κs = search needs
 
 returns : tie.Need-returns
-returns c rs h e = c .with-name .ensures ∙ notes-more _ _ _ _ _ _ rs h e (c .before .before .fault-by .ensures) (c .before .with-fault .ensures)
+returns c ss l e =
+    let a = c .before .before .before .before .before .args in
+    notes-with (a .self) (a .i) (a .summary) (c .before .before .before .before .or-in .ensures) (c .before .before .before .or-in2 .ensures) (c .before .before .or-in3 .ensures) (c .before .or-in4 .ensures) (or-first (a .summary .endless) (c .if1 .taken)) ∙ notes-more (a .self) (a .i) (a .summary) ss l e
+
+returns-2 : tie.Need-returns-2
+returns-2 c ss l e =
+    let a = c .before .before .before .before .before .args in
+    notes-with (a .self) (a .i) (a .summary) (c .before .before .before .before .or-in .ensures) (c .before .before .before .or-in2 .ensures) (c .before .before .or-in3 .ensures) (c .before .or-in4 .ensures) (or-second (a .summary .endless) (c .if1 .left)) ∙ notes-more (a .self) (a .i) (a .summary) ss l e
 
 pub with-spec : {M : Type 1} → statement M
-with-spec = tie.close (tie.spec fault-by-requires with-fault-requires with-name-requires returns)
+with-spec =
+    tie.close
+    (tie.spec or-in-requires or-in-requires-2 or-in-requires-3 or-in-requires-4 returns returns-2)

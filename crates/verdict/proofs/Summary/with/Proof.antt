@@ -1,0 +1,90 @@
+-- `verdict::Summary::with` meets its contract: a law of proofs/Noted for each return. Assumes nothing.
+use Rattle.verdict.proofs.Noted.{sums-heavy, sums-unbalanced, sums-ended, sums-unbounded, sums-bounded, sums-unreachable, sums-irrelevant, sums-balanced, sums-ended-bounded}
+use borrow.Author.Needs.{needs}
+use Rattle.verdict.proofs.Summary.with.Statement.{statement}
+use Rattle.verdict.proofs.Summary.with.Tie as tie
+
+enum-told : tie.Need-enum-told
+enum-told c = search needs
+
+or-requires : tie.Need-or-requires
+or-requires c κs = search needs
+
+enum-told-2 : tie.Need-enum-told-2
+enum-told-2 c = search needs
+
+or-requires-2 : tie.Need-or-requires-2
+or-requires-2 c κs = search needs
+
+enum-told-3 : tie.Need-enum-told-3
+enum-told-3 c = search needs
+
+returns : tie.Need-returns
+returns c rs i e = sums-ended _ _ _ _ _ rs i e (c .before .enum-told3 .given .1) (c .if1 .taken)
+
+or-requires-3 : tie.Need-or-requires-3
+or-requires-3 c κs = search needs
+
+enum-told-4 : tie.Need-enum-told-4
+enum-told-4 c = search needs
+
+returns-2 : tie.Need-returns-2
+returns-2 c rs i e = sums-ended-bounded _ _ _ _ _ rs i e (c .before .enum-told4 .given .1) (c .if2 .taken)
+
+or-requires-4 : tie.Need-or-requires-4
+or-requires-4 c κs = search needs
+
+enum-told-5 : tie.Need-enum-told-5
+enum-told-5 c = search needs
+
+enum-told-6 : tie.Need-enum-told-6
+enum-told-6 c = search needs
+
+enum-told-7 : tie.Need-enum-told-7
+enum-told-7 c = search needs
+
+returns-3 : tie.Need-returns-3
+returns-3 c rs i e = sums-heavy _ _ _ _ _ rs i e (c .before .enum-told .given .1) (c .or .ensures)
+
+returns-4 : tie.Need-returns-4
+returns-4 c rs i e = sums-unbalanced _ _ _ _ _ rs i e (c .before .enum-told2 .given .1) (c .or2 .ensures)
+
+returns-5 : tie.Need-returns-5
+returns-5 c rs i e = sums-unbounded _ _ _ _ _ rs i e (c .before .before .enum-told3 .given .1) (c .before .if1 .left) (c .or3 .ensures)
+
+returns-6 : tie.Need-returns-6
+returns-6 c rs i e = sums-bounded _ _ _ _ _ rs i e (c .before .before .enum-told4 .given .1) (c .before .if2 .left) (c .or4 .ensures)
+
+returns-7 : tie.Need-returns-7
+returns-7 c rs i e = sums-unreachable _ _ _ _ _ rs i e (c .enum-told5 .given .1)
+
+returns-8 : tie.Need-returns-8
+returns-8 c rs i e = sums-irrelevant _ _ _ _ _ rs i e (c .enum-told6 .given .1)
+
+returns-9 : tie.Need-returns-9
+returns-9 c rs i e = sums-balanced _ _ _ _ _ rs i e (c .enum-told7 .given .1)
+
+pub with-spec : {M : Type 1} → statement M
+with-spec =
+    tie.close
+    (tie.spec
+    enum-told
+    or-requires
+    enum-told-2
+    or-requires-2
+    enum-told-3
+    returns
+    or-requires-3
+    enum-told-4
+    returns-2
+    or-requires-4
+    enum-told-5
+    enum-told-6
+    enum-told-7
+    returns-3
+    returns-4
+    returns-5
+    returns-6
+    returns-7
+    returns-8
+    returns-9)
