@@ -121,7 +121,14 @@ impl Naming {
     }
 
     // One row more.
-    fn with_row(self, name: Name, ended: bool, class: u8, moment: Moment, names: &mut [u8]) -> Naming
+    fn with_row(
+        self,
+        name: Name,
+        ended: bool,
+        class: u8,
+        moment: Moment,
+        names: &mut [u8],
+    ) -> Naming
         requires { ⌜ self .rows < length (now names) ⌝ }
         ensures rows { λ r. ⌜ r .rows ≡ self .rows + 1 ⌝ }
         ensures named { λ r. ⌜ ((before rs : List Row) (old : List ℕ) (i : ℕ) → Named before rs self (now (names .entry)) old
@@ -137,13 +144,7 @@ impl Naming {
     }
 
     // The rows of one class more.
-    fn with_class(
-        self,
-        class: u8,
-        lasting: bool,
-        named: ClassNames,
-        names: &mut [u8],
-    ) -> Naming
+    fn with_class(self, class: u8, lasting: bool, named: ClassNames, names: &mut [u8]) -> Naming
         requires room { ⌜ self .rows + 2 ≤ length (now names) ⌝ }
         ensures rows { λ r. ⌜ r .rows ≤ self .rows + 2 ⌝ }
         ensures named { λ r. ⌜ ((before rs : List Row) (old : List ℕ) (D : Domain) (a : Action) (i : ℕ)
@@ -325,7 +326,12 @@ pub fn name_action(
 }
 
 // The names of all moments of a domain that was read; `counts` gets how many classes each action has.
-pub fn name_all(head: &Head, table: &[u8], names: &mut [u8], counts: &mut ClassCounts) -> NamedDomain
+pub fn name_all(
+    head: &Head,
+    table: &[u8],
+    names: &mut [u8],
+    counts: &mut ClassCounts,
+) -> NamedDomain
     requires read { ⌜ Read (now head) (now table) ⌝ }
     requires room { ⌜ length (now table) ≤ 4 * length (now names) ⌝ }
     ensures rows { λ r. ⌜ r .rows ≤ 2 * (maxLiterals * maxActions) ⌝ }
