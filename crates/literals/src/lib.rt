@@ -14,6 +14,7 @@ ghost use mathlib.Core.Path.{_≡_};
 ghost use Prim.Native.Nat.{_<_};
 ghost use Rattle.literals.specs.Domain.{clauseOf, roleOf, clauseNumber, firstRole, sameTime};
 ghost use Rattle.literals.specs.Keys.{clauseFor};
+ghost use Rattle.literals.specs.Matching.{momentNumber};
 ghost use Rattle.literals.specs.Table.{conditionGroup, roleRank};
 
 // Variables, objects and keys are three separate numberings, each from 0.
@@ -88,6 +89,16 @@ pub struct Counts {
     pub rows: usize,
     pub components: usize,
     pub keys: usize,
+}
+
+// The byte of a moment in the report.
+pub fn moment_number(m: Moment) -> u8
+    ensures { λ r. ⌜ r ≡ momentNumber m ⌝ }
+{
+    match m {
+        Moment::Start => 0,
+        Moment::End => 1,
+    }
 }
 
 fn clause_of(n: u8) -> Clause

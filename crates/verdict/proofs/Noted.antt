@@ -9,7 +9,7 @@ use lib.Dec.{eqb}
 use lib.ListN.{length}
 use Rattle.records.specs.Lists.{keepIf, any, filterBy}
 use Rattle.records.proofs.Lists.{any-append, filter-append}
-use Rattle.classes.specs.declared.Moment.{Moment}
+use Rattle.literals.specs.declared.Moment.{Moment}
 use Rattle.classes.specs.declared.Name.{Name}
 use Rattle.classes.specs.declared.Name.the-variants.{Unreachable, Irrelevant, Heavy, Balanced, Unbalanced, Bounded, Unbounded}
 use Rattle.literals.specs.Matching.{momentNumber}

@@ -9,7 +9,7 @@ use Rattle.records.specs.Lists.{keepIf, filterBy, any}
 use Rattle.records.proofs.Lists.{any-append, any-map, filter-append}
 use Rattle.literals.specs.declared.Variable.{Variable}
 use Rattle.literals.specs.Domain.{Action, Domain}
-use Rattle.classes.specs.declared.Moment.{Moment}
+use Rattle.literals.specs.declared.Moment.{Moment}
 use Rattle.classes.specs.Classes.{momentsOf, classes}
 use Rattle.verdict.specs.declared.Spot.{Spot}
 use Rattle.verdict.specs.declared.Place.{Place}

@@ -6,7 +6,8 @@ use mathlib.Core.Option.{Option, none, some}
 use Prim.Native.Nat.{ℕ, suc}
 use Rattle.records.specs.Lists.{any}
 use Rattle.literals.specs.Domain.{Action, Domain}
-use Rattle.classes.specs.Classes.{momentNumber, classes, nameOf, journey}
+use Rattle.classes.specs.Classes.{classes, nameOf, journey}
+use Rattle.literals.specs.Matching.{momentNumber}
 use Rattle.verdict.specs.declared.Spot.{Spot}
 use Rattle.verdict.specs.declared.Spot.the-variants.{Nowhere, At}
 use Rattle.verdict.specs.declared.Place.{Place}

@@ -1,7 +1,7 @@
 // The decision of a template: per action a summary of its moments' names, and the decision from the summaries of all actions.
-use classes::Moment;
 use classes::Name;
-use classes::moment_number;
+use literals::Moment;
+use literals::moment_number;
 ghost use mathlib.Core.Path.{_≡_};
 ghost use mathlib.Core.List.{List, [], _∷_, _++_};
 ghost use Prim.Native.Nat.{ℕ};
