@@ -18,6 +18,7 @@ use Rattle.literals.specs.declared.Clause.{Clause}
 use Rattle.literals.specs.declared.Clause.the-variants.{Positive, Negative, Add, Delete}
 use Rattle.literals.specs.declared.Role.{Role}
 use Rattle.literals.specs.Domain.{Atom, sameLiteral, clauseNumber, roleNumber, roleOf, sameTime, Literal, Action, Component, isCounted, keyBelow, keysOf, Domain}
+use Rattle.literals.specs.Decode.{labelOf}
 use Rattle.literals.specs.Table.{literalRow, labelNumber, pad, Bounded as BoundedDomain}
 use Rattle.literals.specs.Held.{arityIn, partIn, HeadOf}
 use Rattle.literals.proofs.Bytes.{keys-below}
@@ -66,8 +67,8 @@ abbrev componentAt : Domain → ℕ → Component
 componentAt D c = getD (D .template) c noComponent
 
 -- a key's byte is never FF
-counted-byte : (n : ℕ) → n ≤ 6 → (l : Label) → keyBelow n l ≡ true → eqb (labelNumber l) 255 ≡ isCounted l
-counted-byte n h (keyed k) t = let g = ltb-true (k .0) n t in ne-eqb (k .0) 255 (λ e. omega arith)
+counted-byte : (n : ℕ) → n ≤ 6 → (l : Label) → keyBelow n l ≡ true → isCounted (labelOf (labelNumber l)) ≡ isCounted l
+counted-byte n h (keyed k) t = let g = ltb-true (k .0) n t in rw (ne-eqb (k .0) 255 (λ e. omega arith))
 counted-byte n h Counted t = refl
 
 module _ {D : Domain} {head : List ℕ} (H : HeadOf D head) (c : ℕ) (h : c < length (D .template)) where
@@ -89,11 +90,11 @@ module _ {D : Domain} {head : List ℕ} (H : HeadOf D head) (c : ℕ) (h : c < l
       ∙ List·getD-append ns (replicate (8 - suc (length ns)) 255) 0 i (omega arith)
       ∙ getD-map labelNumber (componentAt D c .labels) i Counted 0 g
 
-  part-counted : any (λ i. eqb (getD (partIn head c) (1 + i) 0) 255) (below (arityIn head (getD (partIn head c) 0 0))) ≡ any isCounted (componentAt D c .labels)
+  part-counted : any (λ i. isCounted (labelOf (getD (partIn head c) (1 + i) 0))) (below (arityIn head (getD (partIn head c) 0 0))) ≡ any isCounted (componentAt D c .labels)
   part-counted =
-      ap (λ (n : ℕ). any (λ i. eqb (getD (partIn head c) (1 + i) 0) 255) (below n)) part-arity
-      ∙ any-below (λ i. eqb (getD (partIn head c) (1 + i) 0) 255) (λ i. isCounted (getD ls i Counted)) (length ls)
-      (λ i g. ap (λ (b : ℕ). eqb b 255) (part-label i g) ∙ counted-byte count (keys-few (D .template) (H .bounded .labels)) (getD ls i Counted) (all-in (keyBelow count) ls fits (getD-in ls i Counted g)))
+      ap (λ (n : ℕ). any (λ i. isCounted (labelOf (getD (partIn head c) (1 + i) 0))) (below n)) part-arity
+      ∙ any-below (λ i. isCounted (labelOf (getD (partIn head c) (1 + i) 0))) (λ i. isCounted (getD ls i Counted)) (length ls)
+      (λ i g. ap (λ (b : ℕ). isCounted (labelOf b)) (part-label i g) ∙ counted-byte count (keys-few (D .template) (H .bounded .labels)) (getD ls i Counted) (all-in (keyBelow count) ls fits (getD-in ls i Counted g)))
       ∙ sym (any-map (λ i. getD ls i Counted) isCounted (below (length ls)))
       ∙ ap (any isCounted) (at-all Counted ls)
     where

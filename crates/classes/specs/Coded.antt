@@ -12,8 +12,8 @@ use Rattle.literals.specs.declared.Time.{Time}
 use Rattle.literals.specs.declared.Time.the-variants.{AtStart, OverAll, AtEnd}
 use Rattle.literals.specs.declared.Clause.{Clause}
 use Rattle.literals.specs.declared.Role.{Role}
-use Rattle.literals.specs.Domain.{sameVariable, sameLiteral, clauseNumber, roleOf, sameTime, Literal, Action, Domain}
-use Rattle.literals.specs.Decode.{maxLiterals, repeats}
+use Rattle.literals.specs.Domain.{sameVariable, sameLiteral, clauseNumber, roleOf, sameTime, isCounted, Literal, Action, Domain}
+use Rattle.literals.specs.Decode.{maxLiterals, labelOf, repeats}
 use Rattle.literals.specs.Table.{rowOf, rowsIn, literalRow, pad}
 use Rattle.literals.specs.Held.{componentsIn, arityIn, partIn, HeadOf}
 use Rattle.literals.specs.declared.Moment.{Moment}
@@ -166,7 +166,7 @@ unfoldable pub coveredAt : List ℕ → List ℕ → List ℕ → List ℕ → �
 unfolding partIn arityIn excludesAt
 coveredAt head rows of clauses class c =
     let part = partIn head c in
-    not (any (λ i. eqb (getD part (1 + i) 0) 255) (below (arityIn head (getD part 0 0)))) && any (excludesAt rows of clauses class (getD part 0 0)) (below (length of))
+    not (any (λ i. isCounted (labelOf (getD part (1 + i) 0))) (below (arityIn head (getD part 0 0)))) && any (excludesAt rows of clauses class (getD part 0 0)) (below (length of))
 
 -- the first component that it does not cover, or their number
 unfoldable pub lackingAt : List ℕ → List ℕ → List ℕ → List ℕ → ℕ → ℕ

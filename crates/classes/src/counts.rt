@@ -9,6 +9,8 @@ use literals::head::Head;
 use literals::head::arity_of;
 use literals::head::components_in;
 use literals::head::part_byte;
+use literals::is_counted;
+use literals::label_of;
 use literals::role_of;
 use literals::row::same_four;
 use literals::same_time;
@@ -20,8 +22,8 @@ ghost use Prim.Native.Nat.{ℕ, _+_, _*_, _≤_, _<_};
 ghost use lib.Dec.{eqb};
 ghost use lib.ListN.{length, getD};
 ghost use Rattle.records.specs.Lists.{any};
-ghost use Rattle.literals.specs.Domain.{Domain, Action};
-ghost use Rattle.literals.specs.Decode.{maxArguments, maxLiterals, maxComponents};
+ghost use Rattle.literals.specs.Domain.{Domain, Action, isCounted};
+ghost use Rattle.literals.specs.Decode.{maxArguments, maxLiterals, maxComponents, labelOf};
 ghost use Rattle.literals.specs.Table.{pad};
 ghost use Rattle.literals.specs.Held.{partIn};
 ghost use Rattle.literals.specs.declared.Moment.{Moment};
@@ -263,13 +265,14 @@ fn any_excluding(rows: &[u8], of: &[u8], clauses: &Marks, class: u8, relation: u
     false
 }
 
-// Whether one of the first n labels of the component `c` is FF.
+// Whether one of the first n labels of the component `c` is that of the counted argument.
 fn any_counted(head: &Head, c: usize, n: usize) -> bool
     requires { ⌜ (c < maxComponents) × (n ≤ maxArguments) ⌝ }
-    ensures { λ r. ⌜ r ≡ any (λ i. eqb (getD (partIn (now (head .entry)) c) (1 + i) 0) 255) (below n) ⌝ }
+    ensures { λ r. ⌜ r ≡ any (λ i. isCounted (labelOf (getD (partIn (now (head .entry)) c) (1 + i) 0))) (below n) ⌝ }
 {
     for i in 0..n {
-        if part_byte(head, c, 1 + i) == 255 {
+        let label = label_of(part_byte(head, c, 1 + i));
+        if is_counted(label) {
             return true;
         }
     }

@@ -1,22 +1,26 @@
 // The literals of an action as rows: the facts that its objects make of them, and the time that an event's moment asks of them.
+use literals::Object;
 use literals::Time;
+use literals::Variable;
 use literals::head::Head;
 use literals::head::arity_of;
 ghost use mathlib.Core.Path.{_≡_};
 ghost use Prim.Native.Nat.{_+_, _<_, _≤_};
 ghost use lib.ListN.{length, getD, take, drop};
+ghost use Rattle.literals.specs.Domain.{object};
 ghost use Rattle.runs.specs.RunFile.{momentOf};
 ghost use Rattle.events.specs.Coded.{objectOf, boundBytes, boundRow, timeOf};
 
 // The object that an action's row has for a variable.
-fn object_of(ground: &[u8], v: u8) -> u8
+fn object_of(ground: &[u8], v: Variable) -> Object
     requires { ⌜ length (now ground) ≡ 17 ⌝ }
-    ensures { λ r. ⌜ r ≡ objectOf (now (ground .entry)) v ⌝ }
+    ensures { λ r. ⌜ r ≡ object (objectOf (now (ground .entry)) (v .0)) ⌝ }
 {
-    if v < 16 {
-        return ground[v as usize + 1];
+    if v.0 < 16 {
+        let o = ground[v.0 as usize + 1];
+        return Object(o);
     }
-    0
+    Object(0)
 }
 
 // A byte of the fact of the literal's row at an offset; `arity` is its relation's.
@@ -34,7 +38,9 @@ fn bound_byte(arity: u8, ground: &[u8], rows: &[u8], row: usize, i: usize) -> u8
         return arity;
     }
     if i < 2 + arity as usize {
-        return object_of(ground, rows[row + i]);
+        let v = rows[row + i];
+        let o = object_of(ground, Variable(v));
+        return o.0;
     }
     255
 }

@@ -55,14 +55,14 @@ literal-by arities vars sort p =
 
 -- ---- labels, as bytes
 
-label-counted : (b : ℕ) → isCounted (labelOf b) ≡ eqb 255 b
+pub label-counted : (b : ℕ) → isCounted (labelOf b) ≡ eqb 255 b
 label-counted b = go (eqb b 255) ∙ eqb-comm b 255
   where
     go : (t : Bool) → isCounted (cond t Counted (keyed (key b))) ≡ t
     go true = refl
     go false = refl
 
-label-key : (k : ℕ) → k < 255 → (b : ℕ) → isKey (key k) (labelOf b) ≡ eqb k b
+pub label-key : (k : ℕ) → k < 255 → (b : ℕ) → isKey (key k) (labelOf b) ≡ eqb k b
 label-key k h b = go (eqb b 255) refl
   where
     go : (t : Bool) → eqb b 255 ≡ t → isKey (key k) (cond t Counted (keyed (key b))) ≡ eqb k b

@@ -9,14 +9,16 @@ use native.Mathlib.Omega.{arith}
 use lib.Dec.{eqb}
 use lib.ListN.{length, getD, set, take, drop, replicate, length-append, length-replicate, drop-of-length-le}
 use lib.Seq.{drop-cons, drop-drop, take-all}
-use borrow.Author.Tests.{eq-eqb, ne-eqb}
+use borrow.Author.Tests.{eq-eqb, ne-eqb, eqb-true, eqb-false, lt-ltb, le-ltb}
 use Rattle.records.specs.Lists.{sameList}
 use Rattle.records.specs.Memory.{over}
 use Rattle.records.proofs.Memory.{over-more, drop-replicate}
-use Rattle.literals.specs.Decode.{byte}
+use Rattle.literals.specs.Domain.{key, isKey}
+use Rattle.literals.specs.Decode.{byte, labelOf}
 use Rattle.literals.specs.Table.{rowOf, rowsBy}
 use Rattle.literals.proofs.Rows.{length-row, eight-by-four, same-miss, same-hit, same-end, length-part, part-at, rows-more, rows-end}
-use Rattle.literals.specs.Keys.{position, underKey, underKeys, keyRow, keyRows}
+use Rattle.literals.proofs.Bytes.{label-key}
+use Rattle.literals.specs.Keys.{position, numbersFrom, placeUnder, argumentAt, underKey, underKeys, keyRow, keyRows}
 
 -- ---- the place of the first row that passes, from row c on
 
@@ -94,6 +96,36 @@ module _ (part rows : List ℕ) (at k i : ℕ) (h : length part ≡ 8) (g : at +
     pub under-miss : (getD part (i + 1) 0 ≡ k → ⊥)
         → underKey k (drop (i + 1) part) (drop (i + 2) (take 8 (drop at rows))) ≡ underKey k (drop (i + 1 + 1) part) (drop (i + 1 + 2) (take 8 (drop at rows)))
     under-miss e = under-more ∙ rw (ne-eqb k (getD part (i + 1) 0) (λ f. e (sym f)))
+
+-- the byte at the place of a key's label is what stands under it
+module _ (part rows : List ℕ) (at k : ℕ) (s : k < 255) (h : length part ≡ 8) (g : at + 8 ≤ length rows) where
+  abbrev stands : ℕ → Bool
+  stands i = isKey (key k) (labelOf (getD part (i + 1) 0))
+
+  from-label : (n i : ℕ) → i + n ≡ 6
+      → argumentAt rows at (i + position stands (numbersFrom i n)) ≡ underKey k (drop (i + 1) part) (drop (i + 2) (take 8 (drop at rows)))
+  from-label zero i e = rw (le-ltb (i + 0) 6 (omega arith)) (sym (under-end part rows at k i h g (omega arith)))
+  from-label (suc n) i e = go (stands i) refl (from-label n (suc i) (omega arith))
+    where
+      go : (b : Bool) → stands i ≡ b
+          → argumentAt rows at (suc i + position stands (numbersFrom (suc i) n)) ≡ underKey k (drop (suc i + 1) part) (drop (suc i + 2) (take 8 (drop at rows)))
+          → argumentAt rows at (i + cond b zero (suc (position stands (numbersFrom (suc i) n)))) ≡ underKey k (drop (i + 1) part) (drop (i + 2) (take 8 (drop at rows)))
+      go true t ih =
+          let z : i + 0 ≡ i = omega arith in
+          ap (argumentAt rows at) z
+          ∙ rw (lt-ltb i 6 (omega arith)) (sym (under-hit part rows at k i h g (omega arith) (sym (eqb-true k (getD part (i + 1) 0) (sym (label-key k s (getD part (i + 1) 0)) ∙ t)))))
+      go false t ih =
+          let z : i + suc (position stands (numbersFrom (suc i) n)) ≡ suc i + position stands (numbersFrom (suc i) n) = omega arith in
+          ap (argumentAt rows at) z
+          ∙ ih
+          ∙ ap (λ (j : ℕ). underKey k (drop (j + 1) part) (drop (j + 2) (take 8 (drop at rows)))) (sym (add-one i))
+          ∙ sym (under-miss part rows at k i h g (omega arith) (λ f. eqb-false k (getD part (i + 1) 0) (sym (label-key k s (getD part (i + 1) 0)) ∙ t) (sym f)))
+
+  pub under-place : argumentAt rows at (placeUnder (key k) part) ≡ underKey k (drop 1 part) (drop 2 (take 8 (drop at rows)))
+  unfolding placeUnder
+  under-place =
+      let z : position stands (numbersFrom 0 6) ≡ 0 + position stands (numbersFrom 0 6) = omega arith in
+      ap (argumentAt rows at) z ∙ from-label 6 0 refl
 
 -- ---- the key tuple, key by key
 

@@ -1,13 +1,14 @@
 -- How the code holds key tuples and sorts role bytes. Assumes nothing.
 use mathlib.Core.Bool.{Bool, cond}
 use mathlib.Core.List.{List, [], _∷_, _++_}
-use Prim.Native.Nat.{ℕ, zero, suc}
-use lib.Dec.{eqb}
-use lib.ListN.{drop}
+use Prim.Native.Nat.{ℕ, zero, suc, _+_}
+use lib.Dec.{eqb, ltb}
+use lib.ListN.{getD, drop}
+use Rattle.literals.specs.declared.Key.{Key}
 use Rattle.literals.specs.declared.Time.{Time}
 use Rattle.literals.specs.declared.Role.{Role}
-use Rattle.literals.specs.Domain.{roleOf, clauseNumber, sameTime}
-use Rattle.literals.specs.Decode.{byte}
+use Rattle.literals.specs.Domain.{isKey, roleOf, clauseNumber, sameTime}
+use Rattle.literals.specs.Decode.{maxArguments, byte, labelOf}
 use Rattle.literals.specs.Table.{rowOf}
 use Rattle.literals.specs.Held.{keysIn, partsIn}
 
@@ -38,6 +39,14 @@ unfolding roleOf
 clauseFor t r = clauseAmong t (roleOf r)
 
 -- ---- key tuples, by the bytes of rows
+
+-- the place of the argument under a key, of a component's row, or how many arguments there may be
+unfoldable pub placeUnder : Key → List ℕ → ℕ
+placeUnder k part = position (λ i. isKey k (labelOf (getD part (i + 1) 0))) (below maxArguments)
+
+-- the byte of the argument at a place of the row at an offset, or FF
+abbrev pub argumentAt : List ℕ → ℕ → ℕ → ℕ
+argumentAt rows at place = cond (ltb place maxArguments) (getD rows (at + 2 + place) 0) 255
 
 -- the first argument under the label k, or FF
 abbrev pub underKey : ℕ → List ℕ → List ℕ → ℕ

@@ -1,8 +1,11 @@
 // Key tuples: the component of a relation, and what a literal or a fact has under its keys.
+use super::Key;
 use super::head::Head;
 use super::head::components_in;
 use super::head::keys_in;
 use super::head::part_byte;
+use super::is_key;
+use super::label_of;
 use super::limits::MAX_ARGUMENTS;
 ghost use mathlib.Core.Path.{_≡_};
 ghost use Prim.Native.Nat.{_+_, _<_, _≤_};
@@ -10,7 +13,7 @@ ghost use lib.Dec.{eqb};
 ghost use lib.ListN.{length, take, drop};
 ghost use Rattle.literals.specs.Decode.{maxComponents, byte};
 ghost use Rattle.literals.specs.Held.{keysIn, partIn, partsIn};
-ghost use Rattle.literals.specs.Keys.{position, underKey, keyRow};
+ghost use Rattle.literals.specs.Keys.{position, placeUnder, argumentAt, keyRow};
 
 // The number of the first component with this relation, or how many components there are.
 pub fn component_of(head: &Head, relation: u8) -> usize
@@ -27,17 +30,29 @@ pub fn component_of(head: &Head, relation: u8) -> usize
     n
 }
 
-// The argument of the row at `at` under the first label k of the component `c`, or FF.
-fn under_key(head: &Head, c: usize, rows: &[u8], at: usize, k: u8) -> u8
-    requires { ⌜ (c < maxComponents) × (at + 8 ≤ length (now rows)) ⌝ }
-    ensures { λ r. ⌜ r ≡ underKey k (drop 1 (partIn (now (head .entry)) c)) (drop 2 (take 8 (drop at (now (rows .entry))))) ⌝ }
+// The place of the argument under a key of the component `c`, or how many arguments there may be.
+fn place_under(head: &Head, c: usize, k: Key) -> usize
+    requires { ⌜ c < maxComponents ⌝ }
+    ensures { λ r. ⌜ r ≡ placeUnder k (partIn (now (head .entry)) c) ⌝ }
 {
     let mut i = 0;
     while i < MAX_ARGUMENTS {
-        if part_byte(head, c, i + 1) == k {
-            return rows[at + 2 + i];
+        let label = label_of(part_byte(head, c, i + 1));
+        if is_key(k, label) {
+            return i;
         }
         i += 1;
+    }
+    MAX_ARGUMENTS
+}
+
+// The byte of the argument at a place of the row at `at`, or FF: a variable's in a literal, an object's in a fact.
+fn argument_byte(rows: &[u8], at: usize, place: usize) -> u8
+    requires { ⌜ at + 8 ≤ length (now rows) ⌝ }
+    ensures { λ r. ⌜ r ≡ argumentAt (now (rows .entry)) at place ⌝ }
+{
+    if place < MAX_ARGUMENTS {
+        return rows[at + 2 + place];
     }
     255
 }
@@ -49,7 +64,8 @@ pub fn key_tuple(head: &Head, c: usize, rows: &[u8], at: usize) -> [u8; 8]
 {
     let mut t = [255u8; 8];
     for k in 0..keys_in(head) {
-        t[k] = under_key(head, c, rows, at, k as u8);
+        let place = place_under(head, c, Key(k as u8));
+        t[k] = argument_byte(rows, at, place);
     }
     t
 }

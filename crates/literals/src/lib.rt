@@ -12,7 +12,8 @@ use limits::MAX_COMPONENTS;
 use limits::MAX_RELATIONS;
 ghost use mathlib.Core.Path.{_≡_};
 ghost use Prim.Native.Nat.{_<_};
-ghost use Rattle.literals.specs.Domain.{clauseOf, roleOf, clauseNumber, firstRole, sameTime};
+ghost use Rattle.literals.specs.Domain.{clauseOf, roleOf, clauseNumber, firstRole, sameTime, isKey, isCounted};
+ghost use Rattle.literals.specs.Decode.{labelOf};
 ghost use Rattle.literals.specs.Keys.{clauseFor};
 ghost use Rattle.literals.specs.Matching.{momentNumber};
 ghost use Rattle.literals.specs.Table.{conditionGroup, roleRank};
@@ -98,6 +99,34 @@ pub fn moment_number(m: Moment) -> u8
     match m {
         Moment::Start => 0,
         Moment::End => 1,
+    }
+}
+
+// The label of a byte: FF is the counted argument, every other a key.
+pub fn label_of(b: u8) -> Label
+    ensures { λ r. ⌜ r ≡ labelOf b ⌝ }
+{
+    if b == 255 {
+        return Label::Counted;
+    }
+    Label::Key(Key(b))
+}
+
+pub fn is_key(k: Key, label: Label) -> bool
+    ensures { λ r. ⌜ r ≡ isKey k label ⌝ }
+{
+    match label {
+        Label::Key(l) => k.0 == l.0,
+        Label::Counted => false,
+    }
+}
+
+pub fn is_counted(label: Label) -> bool
+    ensures { λ r. ⌜ r ≡ isCounted label ⌝ }
+{
+    match label {
+        Label::Key(_) => false,
+        Label::Counted => true,
     }
 }
 

@@ -6,13 +6,14 @@ use mathlib.Core.List.{List, [], _∷_, _++_, map, flatMap, append-nil, List·Me
 use Prim.Native.Nat.{ℕ, zero, suc, _+_, _-_, _*_, _≤_, _<_}
 use native.Mathlib.Numerals.{add-one}
 use native.Mathlib.Omega.{arith}
-use lib.ListN.{length, getD, take, drop, replicate, length-append, length-map, length-drop, length-replicate, getD-replicate, List·getD-append}
+use lib.ListN.{length, getD, take, drop, replicate, length-append, length-map, length-drop, length-replicate, getD-replicate, List·getD-append, List·getD-eq-default}
 use lib.Seq.{getD-take, getD-drop, getD-append-add, length-take-le, paste, paste-zero}
-use borrow.Author.Tests.{lt-ltb, le-ltb, eq-eqb, ne-eqb}
+use borrow.Author.Tests.{eq-eqb, ne-eqb}
 use Rattle.records.specs.Lists.{In, addIf, keepIf, countBy}
 use Rattle.records.specs.Memory.{over}
 use Rattle.records.proofs.Lists.{in-keepIf, count-append, flatMap-append}
 use Rattle.records.proofs.Memory.{length-over, over-paste}
+use Rattle.literals.specs.Domain.{object}
 use Rattle.literals.specs.Table.{rowsIn}
 use Rattle.literals.specs.Held.{bytesFrom, arityIn, partIn}
 use Rattle.literals.proofs.Rows.{rows-last, rows-whole, length-part, part-at}
@@ -198,11 +199,11 @@ module _ (head ks t : List ℕ) where
 
 -- ---- an instance fact
 
-pub object-key : (spare label class : ℕ) (t : List ℕ) → 8 * class + 8 ≤ length t → label < 8 → getD t (8 * class + label) 0 ≡ objectByte spare (take 8 (drop (8 * class) t)) label
-object-key spare label class t h l = rw (lt-ltb label 8 l) (sym (part-at 8 t (8 * class) h label l))
+pub object-key : (k class : ℕ) (t : List ℕ) → 8 * class + 8 ≤ length t → k < 8 → object (getD t (8 * class + k) 0) ≡ object (getD (take 8 (drop (8 * class) t)) k 0)
+object-key k class t h l = ap object (sym (part-at 8 t (8 * class) h k l))
 
-pub object-spare : (spare label : ℕ) (tuple : List ℕ) → 8 ≤ label → spare ≡ objectByte spare tuple label
-object-spare spare label tuple l = rw (le-ltb label 8 l)
+pub object-none : (k class : ℕ) (t : List ℕ) → 8 * class + 8 ≤ length t → 8 ≤ k → object 0 ≡ object (getD (take 8 (drop (8 * class) t)) k 0)
+object-none k class t h l = ap object (sym (List·getD-eq-default (take 8 (drop (8 * class) t)) 0 (omega (arith, length-part 8 t (8 * class) h))))
 
 module _ (arity spare : ℕ) (tuple row : List ℕ) (h : length row ≡ 8) (g : arity ≤ 6) where
   abbrev labels : List ℕ

@@ -7,7 +7,7 @@ use native.Mathlib.Omega.{arith}
 use lib.Dec.{eqb, leb}
 use lib.ListN.{length, getD, take, drop, replicate, length-append, length-map}
 use lib.Seq.{take-at, paste}
-use borrow.Author.Tests.{lt-ltb, ltb-true, le-leb, lt-leb, eq-eqb, ne-eqb}
+use borrow.Author.Tests.{ltb-true, le-leb, lt-leb, eq-eqb, ne-eqb}
 use Rattle.records.specs.Lists.{In, keepIf, filterBy, countBy, all}
 use Rattle.records.specs.Memory.{over}
 use Rattle.records.proofs.Lists.{and-l, and-r, getD-in}
@@ -17,7 +17,8 @@ use Rattle.literals.specs.declared.Object.{Object}
 use Rattle.literals.specs.declared.Label.{Label}
 use Rattle.literals.specs.declared.Label.the-variants.{Key as keyed, Counted}
 use Rattle.literals.specs.declared.Clause.the-variants.{Positive, Add, Delete}
-use Rattle.literals.specs.Domain.{object, Atom, Fact, Literal, Action, Component, keyBelow, keysOf, Domain, arity, action}
+use Rattle.literals.specs.Domain.{object, Atom, Fact, Literal, Action, Component, keyBelow, keysOf, Domain, action}
+use Rattle.literals.specs.Decode.{labelOf}
 use Rattle.literals.specs.Table.{literalRow, labelNumber, componentRow, rowsIn, pad, Bounded}
 use Rattle.literals.specs.Held.{arityIn, partIn, HeadOf, Held}
 use Rattle.literals.proofs.Bytes.{keys-below, keys-once}
@@ -41,7 +42,7 @@ use Rattle.verdict.specs.Binding.{valueOf, bind, bindTuple, objectsFrom, sameNu
 use Rattle.verdict.specs.Decision.{faultBy, objectUnder, instanceFact, firstUncovered, witnessBy, witnessAt, shownAt}
 use Rattle.verdict.specs.Judged.{objectNumbers, factBytes}
 use Rattle.verdict.specs.Coded.{momentBy}
-use Rattle.showing.specs.Bytes.{fitsIn, shownIn, conditionFacts, RefusedAt, ShownAt, firstClauses, selectBy, isCondition, conditionOf, conditionsOf, objectByte, instanceBytes, instanceOf}
+use Rattle.showing.specs.Bytes.{fitsIn, shownIn, conditionFacts, RefusedAt, ShownAt, firstClauses, selectBy, isCondition, conditionOf, conditionsOf, objectAt, objectByte, instanceBytes, instanceOf}
 use Rattle.verdict.proofs.Tuples.{Below, tuple-below}
 use Rattle.verdict.proofs.Acts.{class-in}
 use Rattle.verdict.proofs.Instances.{class-keys}
@@ -122,7 +123,10 @@ module _ (a : Action) where
     label-object (keyed k) t =
         let b : k .0 < n = ltb-true _ _ t in
         let m = length-map x (λ (v : Variable). v .0) in
-        rw (lt-ltb (k .0) 8 (omega arith)) (sym (row-inside (map (λ (v : Variable). v .0) x) (k .0) (omega arith)) ∙ key-object x (k .0) h (omega arith))
+        let told : labelOf (k .0) ≡ keyed k = ap (λ (b : Bool). cond b Counted (keyed k)) (ne-eqb (k .0) 255 (λ z. omega arith)) in
+        ap (λ (l : Label). objectAt (object (a .vars)) (tupleRow x) l .0) told
+        ∙ sym (row-inside (map (λ (v : Variable). v .0) x) (k .0) (omega arith))
+        ∙ key-object x (k .0) h (omega arith)
 
     label-objects : (ls : List Label) → all (keyBelow n) ls ≡ true
         → map (objectByte (a .vars) (tupleRow x)) (map labelNumber ls) ≡ objectNumbers (map (objectUnder (spare a) (bindTuple (sameNumbers a) x)) ls)

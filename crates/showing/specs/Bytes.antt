@@ -3,13 +3,16 @@ use mathlib.Core.Path.{_≡_}
 use mathlib.Core.Bool.{Bool, cond}
 use mathlib.Core.List.{List, [], _∷_, _++_, map, flatMap}
 use Prim.Native.Nat.{ℕ, _-_, _*_, _<_}
-use lib.Dec.{eqb, ltb, leb}
+use lib.Dec.{eqb, leb}
 use lib.ListN.{length, getD, take, drop, replicate}
 use Rattle.records.specs.Lists.{keepIf}
 use Rattle.records.specs.Memory.{over}
+use Rattle.literals.specs.declared.Object.{Object}
+use Rattle.literals.specs.declared.Label.{Label}
+use Rattle.literals.specs.declared.Label.the-variants.{Key as keyed, Counted}
 use Rattle.literals.specs.declared.Clause.the-variants.{Positive}
-use Rattle.literals.specs.Domain.{Fact, Action, Domain}
-use Rattle.literals.specs.Decode.{maxArguments}
+use Rattle.literals.specs.Domain.{object, Fact, Action, Domain}
+use Rattle.literals.specs.Decode.{maxArguments, labelOf}
 use Rattle.literals.specs.Held.{bytesFrom, arityIn, partIn}
 use Rattle.literals.specs.declared.Moment.{Moment}
 use Rattle.literals.specs.Matching.{required}
@@ -75,9 +78,14 @@ unfoldable pub conditionsOf : List ℕ → List ℕ → List (List ℕ) → List
 unfolding flatMap
 conditionsOf head ks rows = flatMap (conditionOf head) (selectBy isCondition ks rows)
 
--- the object under a label, of the instance of a class by its row: FF is the spare one
+-- the object under a label, of the instance of a class by its row: the spare one where it is counted
+abbrev pub objectAt : Object → List ℕ → Label → Object
+objectAt spare tuple (keyed k) = object (getD tuple (k .0) 0)
+objectAt spare tuple Counted = spare
+
+-- of a label's byte
 abbrev pub objectByte : ℕ → List ℕ → ℕ → ℕ
-objectByte spare tuple label = cond (ltb label 8) (getD tuple label 0) spare
+objectByte spare tuple label = objectAt (object spare) tuple (labelOf label) .0
 
 -- the instance fact of a component by its row
 abbrev pub instanceBytes : ℕ → ℕ → List ℕ → List ℕ → List ℕ

@@ -4,7 +4,11 @@ use classes::counts::clauses_at;
 use classes::counts::first_uncovered;
 use classes::counts::lasts_at;
 use classes::number::number_classes;
+use literals::Key;
+use literals::Label;
 use literals::Moment;
+use literals::Object;
+use literals::Variable;
 use literals::head::Head;
 use literals::head::actions_in;
 use literals::head::arity_of;
@@ -12,6 +16,7 @@ use literals::head::components_in;
 use literals::head::part_byte;
 use literals::head::rows_of;
 use literals::head::variables_of;
+use literals::label_of;
 use literals::limits::MAX_LITERALS;
 ghost use mathlib.Core.Path.{_≡_};
 ghost use mathlib.Core.Bool.{true};
@@ -21,7 +26,7 @@ ghost use lib.ListN.{length, getD, take, drop, replicate};
 ghost use lib.Seq.{paste};
 ghost use Rattle.records.specs.Lists.{countBy};
 ghost use Rattle.records.specs.Memory.{over};
-ghost use Rattle.literals.specs.Domain.{Domain, Action, action};
+ghost use Rattle.literals.specs.Domain.{object, Domain, Action, action};
 ghost use Rattle.literals.specs.Decode.{maxArguments, maxLiterals, maxComponents};
 ghost use Rattle.literals.specs.Table.{rowsIn};
 ghost use Rattle.literals.specs.Held.{partIn, Held};
@@ -31,7 +36,7 @@ ghost use Rattle.verdict.specs.Claims.{wellFormed};
 ghost use Rattle.verdict.specs.Coded.{momentBy};
 ghost use Rattle.verdict.specs.Decision.{shownAt};
 ghost use Rattle.showing.specs.Bytes.{RefusedAt, ShownAt, firstClauses, isCondition, conditionBytes, conditionIf, conditionsOf};
-ghost use Rattle.showing.specs.Bytes.{objectByte, instanceBytes, instanceOf};
+ghost use Rattle.showing.specs.Bytes.{objectAt, instanceBytes, instanceOf};
 
 // How many literals are true conditions at the moment.
 fn count_conditions(clauses: &Marks, n: usize) -> usize
@@ -47,7 +52,14 @@ fn count_conditions(clauses: &Marks, n: usize) -> usize
     k
 }
 
-// A byte of the fact of the literal's row at an offset.
+// "Variable i is object i": the one function that makes an object of a variable.
+fn witness_object(v: Variable) -> Object
+    ensures { λ r. ⌜ r ≡ object (v .0) ⌝ }
+{
+    Object(v.0)
+}
+
+// A byte of the fact of the literal's row at an offset. (The FF that fill a row stay FF.)
 fn condition_byte(rows: &[u8], row: usize, arity: u8, i: usize) -> u8
     requires { ⌜ (row + 8 ≤ length (now rows)) × (i < 8) ⌝ }
     ensures { λ r. ⌜ r ≡ getD (conditionBytes arity (take 8 (drop row (now (rows .entry))))) i 0 ⌝ }
@@ -58,7 +70,9 @@ fn condition_byte(rows: &[u8], row: usize, arity: u8, i: usize) -> u8
     if i == 1 {
         return arity;
     }
-    rows[row + i]
+    let v = rows[row + i];
+    let o = witness_object(Variable(v));
+    o.0
 }
 
 // The fact, written at an offset.
@@ -102,15 +116,27 @@ fn put_conditions(out: &mut [u8], head: &Head, rows: &[u8], clauses: &Marks, n: 
     }
 }
 
-// The object under a label of the instance of a class.
-fn object_under(tuples: &[u8], class: usize, label: u8, spare: u8) -> u8
+// The object under a key of the instance of a class.
+fn object_at(tuples: &[u8], class: usize, k: Key) -> Object
     requires { ⌜ 8 * class + 8 ≤ length (now tuples) ⌝ }
-    ensures { λ r. ⌜ r ≡ objectByte spare (take 8 (drop (8 * class) (now (tuples .entry)))) label ⌝ }
+    ensures { λ r. ⌜ r ≡ object (getD (take 8 (drop (8 * class) (now (tuples .entry)))) (k .0) 0) ⌝ }
 {
-    if label < 8 {
-        return tuples[8 * class + label as usize];
+    if k.0 < 8 {
+        let v = tuples[8 * class + k.0 as usize];
+        return witness_object(Variable(v));
     }
-    spare
+    Object(0)
+}
+
+// The object under a label: the spare one where it is counted.
+fn object_under(tuples: &[u8], class: usize, label: Label, spare: Object) -> Object
+    requires { ⌜ 8 * class + 8 ≤ length (now tuples) ⌝ }
+    ensures { λ r. ⌜ r ≡ objectAt spare (take 8 (drop (8 * class) (now (tuples .entry)))) label ⌝ }
+{
+    match label {
+        Label::Key(k) => object_at(tuples, class, k),
+        Label::Counted => spare,
+    }
 }
 
 // A byte of the instance fact of the component `c`, which has this arity, at an offset.
@@ -120,14 +146,14 @@ fn instance_byte(
     arity: u8,
     tuples: &[u8],
     class: usize,
-    spare: u8,
+    spare: Object,
     i: usize,
 ) -> u8
     requires component { ⌜ (c < maxComponents) × (arity ≤ maxArguments) ⌝ }
     requires inside { ⌜ i < 8 ⌝ }
     requires tuple { ⌜ 8 * class + 8 ≤ length (now tuples) ⌝ }
     ensures { λ r. ⌜ r
-        ≡ getD (instanceBytes arity spare (take 8 (drop (8 * class) (now (tuples .entry)))) (partIn (now (head .entry)) c)) i 0 ⌝ }
+        ≡ getD (instanceBytes arity (spare .0) (take 8 (drop (8 * class) (now (tuples .entry)))) (partIn (now (head .entry)) c)) i 0 ⌝ }
 {
     if i == 0 {
         return part_byte(head, c, 0);
@@ -136,7 +162,9 @@ fn instance_byte(
         return arity;
     }
     if i < 2 + arity as usize {
-        return object_under(tuples, class, part_byte(head, c, i - 1), spare);
+        let label = label_of(part_byte(head, c, i - 1));
+        let o = object_under(tuples, class, label, spare);
+        return o.0;
     }
     255
 }
@@ -149,13 +177,13 @@ fn put_instance(
     c: usize,
     tuples: &[u8],
     class: usize,
-    spare: u8,
+    spare: Object,
 )
     requires component { ⌜ c < maxComponents ⌝ }
     requires room { ⌜ at + 8 ≤ length (now out) ⌝ }
     requires tuple { ⌜ 8 * class + 8 ≤ length (now tuples) ⌝ }
     ensures { λ _. ⌜ now (out .exit)
-        ≡ paste (now (out .entry)) at (instanceOf (now (head .entry)) c spare (take 8 (drop (8 * class) (now (tuples .entry))))) 8 ⌝ }
+        ≡ paste (now (out .entry)) at (instanceOf (now (head .entry)) c (spare .0) (take 8 (drop (8 * class) (now (tuples .entry))))) 8 ⌝ }
 {
     let arity = arity_of(head, part_byte(head, c, 0));
     for i in 0..8 {
@@ -211,7 +239,7 @@ fn put_open(
     head: &Head,
     rows: &[u8],
     n: usize,
-    spare: u8,
+    spare: Object,
     j: usize,
     m: Moment,
     out: &mut [u8],
@@ -219,7 +247,7 @@ fn put_open(
     requires few { ⌜ (n ≤ maxLiterals) × (j < maxLiterals) ⌝ }
     requires rowed { ⌜ length (now rows) ≡ 8 * n ⌝ }
     ensures { λ r. ⌜ ((D : Domain) (a : Action) → ActionOf D a (now (head .entry)) (now (rows .entry))
-        → spare ≡ a .vars → RefusedAt D a j m 42 → ShownAt D a j m (now (out .entry)) (now (out .exit)) r) ⌝ }
+        → spare .0 ≡ a .vars → RefusedAt D a j m 42 → ShownAt D a j m (now (out .entry)) (now (out .exit)) r) ⌝ }
 {
     let mut asked = [0u8; MAX_LITERALS];
     clauses_at(true, rows, n, m, &mut asked);
@@ -243,7 +271,7 @@ fn put_witness(
     head: &Head,
     rows: &[u8],
     n: usize,
-    spare: u8,
+    spare: Object,
     j: usize,
     m: Moment,
     number: u64,
@@ -252,7 +280,7 @@ fn put_witness(
     requires few { ⌜ (n ≤ maxLiterals) × (j < maxLiterals) ⌝ }
     requires rowed { ⌜ length (now rows) ≡ 8 * n ⌝ }
     ensures { λ r. ⌜ ((D : Domain) (a : Action) → ActionOf D a (now (head .entry)) (now (rows .entry))
-        → spare ≡ a .vars → RefusedAt D a j m number → ShownAt D a j m (now (out .entry)) (now (out .exit)) r) ⌝ }
+        → spare .0 ≡ a .vars → RefusedAt D a j m number → ShownAt D a j m (now (out .entry)) (now (out .exit)) r) ⌝ }
 {
     if number == 42 {
         return put_open(head, rows, n, spare, j, m, out);
@@ -321,7 +349,7 @@ pub fn show(
     let from = 8 * span.from;
     let to = 8 * span.to;
     let n = span.to - span.from;
-    let spare = variables_of(head, i);
+    let spare = Object(variables_of(head, i));
     if moment == 0 {
         return put_witness(
             head,

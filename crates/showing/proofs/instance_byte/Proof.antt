@@ -4,7 +4,9 @@ use native.Mathlib.Omega.{arith}
 use lib.ListN.{take, drop}
 use mathlib.Core.Path.{ap, _∙_}
 use mathlib.Core.List.{List}
-use Rattle.showing.specs.Bytes.{objectByte}
+use Rattle.literals.specs.declared.Object.{Object}
+use Rattle.literals.specs.Decode.{labelOf}
+use Rattle.showing.specs.Bytes.{objectAt}
 use Rattle.showing.proofs.Facts.{instance-first, instance-object, instance-fill}
 use borrow.Author.Needs.{needs}
 use Rattle.showing.proofs.instance_byte.Statement.{statement}
@@ -16,7 +18,7 @@ part-byte-requires c κs = search needs
 returns : tie.Need-returns
 returns c =
     let a = c .before .before .before .args in
-    instance-first (a .arity) (a .spare) (take 8 (drop (8 * a .class) (a .tuples .now))) (a .head .now) (a .c) (c .before .before .before .pre .0 .1) (a .i) _ (omega arith) (c .part-byte .ensures)
+    instance-first (a .arity) (a .spare .0) (take 8 (drop (8 * a .class) (a .tuples .now))) (a .head .now) (a .c) (c .before .before .before .pre .0 .1) (a .i) _ (omega arith) (c .part-byte .ensures)
 
 returns-2 : tie.Need-returns-2
 returns-2 c = search needs
@@ -30,21 +32,24 @@ sub-part-byte c = search needs
 part-byte-requires-2 : tie.Need-part-byte-requires-2
 part-byte-requires-2 c κs = search needs
 
+label-of-requires : tie.Need-label-of-requires
+label-of-requires c κs = search needs
+
 object-under-requires : tie.Need-object-under-requires
 object-under-requires c κs = search needs
 
 returns-3 : tie.Need-returns-3
 returns-3 c =
-    let a = c .before .before .before .before .before .before .args in
+    let a = c .before .before .before .before .before .before .before .args in
     let o = c .object-under in
     let b : List ℕ = take 8 (drop (8 * a .class) (a .tuples .now)) in
-    instance-object (a .arity) (a .spare) b (a .head .now) (a .c) (c .before .before .before .before .before .before .pre .0 .1) (a .i) (o .result) (λ e. omega arith) (λ e. omega arith) (omega arith)
-    (o .ensures ∙ ap (objectByte (a .spare) b) (c .before .part-byte2 .ensures))
+    instance-object (a .arity) (a .spare .0) b (a .head .now) (a .c) (c .before .before .before .before .before .before .before .pre .0 .1) (a .i) (o .result .0) (λ e. omega arith) (λ e. omega arith) (omega arith)
+    (ap (λ (o : Object). o .0) (o .ensures ∙ ap (objectAt (a .spare) b) (c .before .label-of .ensures ∙ ap labelOf (c .before .before .part-byte2 .ensures))))
 
 returns-4 : tie.Need-returns-4
 returns-4 c =
     let a = c .before .before .before .before .args in
-    instance-fill (a .arity) (a .spare) (take 8 (drop (8 * a .class) (a .tuples .now))) (a .head .now) (a .c) (c .before .before .before .before .pre .0 .1) (a .i) (omega arith) (λ e. omega arith) (λ e. omega arith) (omega arith)
+    instance-fill (a .arity) (a .spare .0) (take 8 (drop (8 * a .class) (a .tuples .now))) (a .head .now) (a .c) (c .before .before .before .before .pre .0 .1) (a .i) (omega arith) (λ e. omega arith) (λ e. omega arith) (omega arith)
 
 pub instance-byte-spec : {M : Type 1} → statement M
 instance-byte-spec =
@@ -56,6 +61,7 @@ instance-byte-spec =
     add-if3
     sub-part-byte
     part-byte-requires-2
+    label-of-requires
     object-under-requires
     returns-3
     returns-4)

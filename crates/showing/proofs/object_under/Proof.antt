@@ -1,27 +1,29 @@
--- `object_under` meets its contract. Assumes nothing.
-use borrow.Author.Needs.{needs}
+-- `object_under` meets its contract, label by label. Assumes nothing.
+use mathlib.Core.Path.{sym, ap, _∙_}
 use Prim.Native.Nat.{_*_}
-use native.Mathlib.Omega.{arith}
 use lib.ListN.{take, drop}
-use Rattle.showing.proofs.Facts.{object-key, object-spare}
+use Rattle.showing.specs.Bytes.{objectAt}
+use borrow.Author.Needs.{needs}
 use Rattle.showing.proofs.object_under.Statement.{statement}
 use Rattle.showing.proofs.object_under.Tie as tie
 
-mul-result : tie.Need-mul-result
-mul-result c = search needs
+enum-known-label : tie.Need-enum-known-label
+enum-known-label c = search needs
 
-add-result : tie.Need-add-result
-add-result c = search needs
+object-at-requires : tie.Need-object-at-requires
+object-at-requires c κs = search needs
 
-shared-slice-read-result : tie.Need-shared-slice-read-result
-shared-slice-read-result c = search needs
+enum-told : tie.Need-enum-told
+enum-told c = search needs
 
 returns : tie.Need-returns
-returns c = let a = c .before .before .args in object-key (a .spare) (a .label) (a .class) (a .tuples .now) (omega arith) (omega arith)
+returns c =
+    let a = c .before .before .before .before .before .args in
+    c .object-at .ensures ∙ sym (ap (objectAt (a .spare) (take 8 (drop (8 * a .class) (a .tuples .now)))) (c .before .before .label .given .1))
 
 returns-2 : tie.Need-returns-2
-returns-2 c = let a = c .before .args in object-spare (a .spare) (a .label) (take 8 (drop (8 * a .class) (a .tuples .now))) (omega arith)
+returns-2 c = search needs
 
 pub object-under-spec : {M : Type 1} → statement M
 object-under-spec =
-    tie.close (tie.spec mul-result add-result shared-slice-read-result returns returns-2)
+    tie.close (tie.spec enum-known-label object-at-requires enum-told returns returns-2)

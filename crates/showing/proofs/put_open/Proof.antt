@@ -81,7 +81,7 @@ returns-3 c D a A v R =
     let G = given (s .args .m) A (s .pre .1) (c .before .before .before .before .before .before .before .before .before .before .before .before .before .before .before .before .before .before .before .before .clauses-at .ensures) in
     let t = o .ensures D a A refl (R .listed) in
     let g = c .before .before .before .before .before .before .before .before .before .before .before .before .before .before .before .before .before .if1 .left in
-    open-shown G R (k .result) (k .ensures .0) (s .args .out .now) refl (omega arith) (o .last .1 .1 .1 .0) (s .args .spare) (o .result) (t .0) (t .1) v (w .last .0) (p .last .0) (w .ensures) (p .ensures)
+    open-shown G R (k .result) (k .ensures .0) (s .args .out .now) refl (omega arith) (o .last .1 .1 .1 .0) (s .args .spare .0) (o .result) (t .0) (t .1) v (w .last .0) (p .last .0) (w .ensures) (p .ensures)
 
 pub put-open-spec : {M : Type 1} → statement M
 put-open-spec =

@@ -6,6 +6,8 @@ use Prim.Native.Nat.{ℕ, _+_}
 use lib.Dec.{eqb}
 use lib.ListN.{length, getD}
 use Rattle.records.specs.Lists.{any}
+use Rattle.literals.specs.Domain.{isCounted}
+use Rattle.literals.specs.Decode.{labelOf}
 use Rattle.literals.specs.Held.{arityIn, partIn}
 use Rattle.literals.specs.Keys.{below}
 use Rattle.classes.specs.Coded.{excludesAt, coveredAt}
@@ -14,7 +16,7 @@ use Rattle.classes.proofs.counts.covers.Statement.{statement}
 use Rattle.classes.proofs.counts.covers.Tie as tie
 
 module _ (head rows of clauses : List ℕ) (class c relation n : ℕ) (r : relation ≡ getD (partIn head c) 0 0) (e : n ≡ arityIn head relation)
-    (t : Bool) (f : t ≡ any (λ i. eqb (getD (partIn head c) (1 + i) 0) 255) (below n)) where
+    (t : Bool) (f : t ≡ any (λ i. isCounted (labelOf (getD (partIn head c) (1 + i) 0))) (below n)) where
   abbrev excluded : Bool
   excluded = any (excludesAt rows of clauses class relation) (below (length of))
 
@@ -22,7 +24,7 @@ module _ (head rows of clauses : List ℕ) (class c relation n : ℕ) (r : relat
   unfolding coveredAt
   by-test =
       ap₂ (λ (b : Bool) (k : ℕ). not b && any (excludesAt rows of clauses class k) (below (length of)))
-      (f ∙ ap (λ (k : ℕ). any (λ i. eqb (getD (partIn head c) (1 + i) 0) 255) (below k)) (e ∙ ap (arityIn head) r))
+      (f ∙ ap (λ (k : ℕ). any (λ i. isCounted (labelOf (getD (partIn head c) (1 + i) 0))) (below k)) (e ∙ ap (arityIn head) r))
       r
 
   counted : t ≡ true → false ≡ coveredAt head rows of clauses class c

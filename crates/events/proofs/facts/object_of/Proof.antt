@@ -1,21 +1,26 @@
 -- `object_of` meets its contract. Assumes nothing.
+use mathlib.Core.Path.{ap}
 use borrow.Author.Needs.{needs}
 use native.Mathlib.Omega.{arith}
+use Rattle.literals.specs.Domain.{object}
 use Rattle.events.proofs.RowLoops.{object-in, object-out}
 use Rattle.events.proofs.facts.object_of.Statement.{statement}
 use Rattle.events.proofs.facts.object_of.Tie as tie
 
-add-result : tie.Need-add-result
-add-result c = search needs
+cast-o : tie.Need-cast-o
+cast-o c = search needs
 
-shared-slice-read-result : tie.Need-shared-slice-read-result
-shared-slice-read-result c = search needs
+add-o : tie.Need-add-o
+add-o c = search needs
+
+shared-slice-read-o : tie.Need-shared-slice-read-o
+shared-slice-read-o c = search needs
 
 returns : tie.Need-returns
-returns c = let a = c .before .before .args in object-in (a .ground .now) (a .v) (omega arith)
+returns c = let a = c .before .before .before .before .args in ap object (object-in (a .ground .now) (a .v .0) (omega arith))
 
 returns-2 : tie.Need-returns-2
-returns-2 c = let a = c .before .args in object-out (a .ground .now) (a .v) (omega arith)
+returns-2 c = let a = c .before .before .args in ap object (object-out (a .ground .now) (a .v .0) (omega arith))
 
 pub object-of-spec : {M : Type 1} → statement M
-object-of-spec = tie.close (tie.spec add-result shared-slice-read-result returns returns-2)
+object-of-spec = tie.close (tie.spec cast-o add-o shared-slice-read-o returns returns-2)

@@ -5,8 +5,9 @@ use mathlib.Core.Path.{_≡_, ap, _∙_}
 use Prim.Native.Nat.{ℕ, _-_, _≤_}
 use lib.ListN.{take, drop}
 use Rattle.literals.specs.Held.{partIn}
-use Rattle.literals.specs.Keys.{keyRow}
-use Rattle.literals.proofs.KeyRows.{tuple-none, tuple-more}
+use Rattle.literals.specs.Keys.{argumentAt, keyRow}
+use Rattle.literals.proofs.Heads.{part-length}
+use Rattle.literals.proofs.KeyRows.{tuple-none, tuple-more, under-place}
 use Rattle.literals.proofs.keys.key_tuple.Statement.{statement}
 use Rattle.literals.proofs.keys.key_tuple.Tie as tie
 
@@ -22,11 +23,14 @@ keys-in-requires c κs = search needs
 loop-holds : tie.Need-loop-holds Inv-loop μ-loop
 loop-holds c = (omega arith, c .keys-in .ensures .1, tuple-none _ _)
 
-cast-under-key : tie.Need-cast-under-key Inv-loop μ-loop
-cast-under-key c = omega arith
+cast-t : tie.Need-cast-t Inv-loop μ-loop
+cast-t c = omega arith
 
-under-key-requires : tie.Need-under-key-requires Inv-loop μ-loop
-under-key-requires c κs = search needs
+place-under-requires : tie.Need-place-under-requires Inv-loop μ-loop
+place-under-requires c κs = omega arith
+
+argument-byte-requires : tie.Need-argument-byte-requires Inv-loop μ-loop
+argument-byte-requires c κs = omega arith
 
 array-write-t : tie.Need-array-write-t Inv-loop μ-loop
 array-write-t c = omega arith
@@ -38,7 +42,15 @@ loop-less : tie.Need-loop-less Inv-loop μ-loop
 loop-less c = omega arith
 
 loop-again : tie.Need-loop-again Inv-loop μ-loop
-loop-again c = let l = c .before .before .loop in (omega arith, l .inv .1, tuple-more _ _ (l .t) (l .k) (c .under-key .result) (omega arith) (l .inv .2) (c .under-key .ensures))
+loop-again c =
+    let a = c .before .before .before .before .before .before .args in
+    let l = c .before .before .before .loop in
+    let u = under-place (partIn (a .head .now) (a .c)) (a .rows .now) (a .at) (l .k) (omega arith) (part-length (a .head .now) (a .c)) (c .before .before .before .before .before .before .pre .1) in (
+      omega arith,
+      l .inv .1,
+      tuple-more _ _ (l .t) (l .k) (c .argument-byte .result) (omega arith) (l .inv .2)
+          (c .argument-byte .ensures ∙ ap (argumentAt (a .rows .now) (a .at)) (c .before .place-under .ensures) ∙ u),
+    )
 
 returns : tie.Need-returns Inv-loop μ-loop
 returns c =
@@ -56,8 +68,9 @@ key-tuple-spec =
     μ-loop
     keys-in-requires
     loop-holds
-    cast-under-key
-    under-key-requires
+    cast-t
+    place-under-requires
+    argument-byte-requires
     array-write-t
     add-k
     loop-less
