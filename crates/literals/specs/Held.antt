@@ -9,7 +9,7 @@ use Rattle.records.specs.Memory.{over}
 use Rattle.literals.specs.declared.span.Span.{Span}
 use Rattle.literals.specs.declared.Counts.{Counts}
 use Rattle.literals.specs.Domain.{Action, keysOf, Domain, arity, action}
-use Rattle.literals.specs.Decode.{maxRelations, maxArguments, maxActions, maxVariables, maxLiterals, maxComponents}
+use Rattle.literals.specs.Decode.{RecordKind, stopOf, extend, maxRelations, maxArguments, maxActions, maxVariables, maxLiterals, maxComponents}
 use Rattle.literals.specs.Table.{literalRow, componentRow, pad, startsFrom, sortNumber, allLiterals, tableBytes, Bounded}
 
 -- ---- where a head has what: a byte for each relation, 8 for each component, and a byte for each action in each of the columns behind
@@ -41,7 +41,7 @@ abbrev pub within : ℕ → ℕ → ℕ
 within limit n = cond (leb n limit) n 0
 
 unfoldable pub relationsIn : List ℕ → ℕ
-relationsIn head = within 64 (getD head 0 0)
+relationsIn head = within maxRelations (getD head 0 0)
 
 unfoldable pub actionsIn : List ℕ → ℕ
 actionsIn head = within maxActions (getD head 1 0)
@@ -137,6 +137,20 @@ pub record Held (D : Domain) (head table : List ℕ) : Type 0 where
 -- some domain is held
 abbrev pub Read : List ℕ → List ℕ → Type 0
 Read head table = (D : Domain) × Held D head table
+
+-- ---- a head with a record more
+
+abbrev pub headBytes : ℕ
+headBytes = atHighs + maxActions
+
+-- a whole head that holds a domain
+pub record Filled (D : Domain) (head : List ℕ) : Type 0 where
+  pub says : HeadOf D head
+  pub room : length head ≡ headBytes
+
+-- whatever domain the head held, it holds the domain with the record then
+abbrev pub Adds : RecordKind → List ℕ → List ℕ → List ℕ → Type 0
+Adds k p head after = (D : Domain) → Filled D head → stopOf D k p ≡ 0 → Filled (extend D k p) after
 
 -- ---- the rows of an action's literals
 

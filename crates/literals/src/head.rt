@@ -2,6 +2,7 @@
 // variables, FF to fill). Every function here answers within the limits of the format, whatever the head's bytes are, so that none asks
 // anything of them.
 use super::Counts;
+use super::fields::count_keys;
 use super::fields::wide;
 use super::limits::MAX_ACTIONS;
 use super::limits::MAX_ARGUMENTS;
@@ -10,17 +11,19 @@ use super::limits::MAX_LITERALS;
 use super::limits::MAX_RELATIONS;
 use super::limits::MAX_VARIABLES;
 use super::row::put_bytes;
+use super::row::put_row;
 use super::span::Span;
 use super::span::span_of;
 ghost use mathlib.Core.Path.{_≡_};
-ghost use mathlib.Core.List.{List};
-ghost use Prim.Native.Nat.{ℕ, _<_, _≤_};
+ghost use mathlib.Core.List.{List, [], _∷_, _++_};
+ghost use Prim.Native.Nat.{ℕ, _+_, _*_, _<_, _≤_};
 ghost use lib.ListN.{length, getD};
-ghost use Rattle.literals.specs.Domain.{Domain};
-ghost use Rattle.literals.specs.Decode.{maxActions, maxVariables, maxArguments, maxComponents};
-ghost use Rattle.literals.specs.Table.{indexWith, Holds};
+ghost use Rattle.literals.specs.Domain.{Domain, keysOf};
+ghost use Rattle.literals.specs.Decode.{maxRelations, maxActions, maxVariables, maxArguments, maxLiterals, maxComponents};
+ghost use Rattle.literals.specs.Decode.{relationRecord, actionRecord, literalRecord, componentRecord, componentOf};
+ghost use Rattle.literals.specs.Table.{indexWith, Holds, allLiterals};
 ghost use Rattle.literals.specs.Held.{CountsFit, SpansFit, Packable, countBytes, spanBytes, headOf, within, relationsIn, actionsIn};
-ghost use Rattle.literals.specs.Held.{componentsIn, keysIn, arityIn, partIn, variablesIn, lastingIn, Held, SpanFits, SpanOf};
+ghost use Rattle.literals.specs.Held.{componentsIn, keysIn, arityIn, partIn, variablesIn, lastingIn, sizeIn, firstIn, Held, SpanFits, SpanOf, HeadOf, headBytes, Adds};
 
 pub const HEAD: usize = HIGHS + MAX_ACTIONS;
 
@@ -66,9 +69,9 @@ fn limited(n: u8, limit: u8) -> u8
 }
 
 pub fn relations_in(head: &Head) -> usize
-    ensures { λ r. ⌜ (r ≡ relationsIn (now (head .entry))) × (r ≤ 64) ⌝ }
+    ensures { λ r. ⌜ (r ≡ relationsIn (now (head .entry))) × (r ≤ maxRelations) ⌝ }
 {
-    wide(limited(head[RELATIONS], 64))
+    wide(limited(head[RELATIONS], MAX_RELATIONS as u8))
 }
 
 pub fn actions_in(head: &Head) -> usize
@@ -122,6 +125,22 @@ pub fn is_lasting(head: &Head, i: usize) -> bool
     head[SORTS + i] == 1
 }
 
+// The row of an action's first literal.
+fn first_of(head: &Head, i: usize) -> usize
+    requires { ⌜ i < maxActions ⌝ }
+    ensures { λ r. ⌜ (r ≡ firstIn (now (head .entry)) i) × (r < 65536) ⌝ }
+{
+    wide(head[LOWS + i]) + 256 * wide(head[HIGHS + i])
+}
+
+// How many literals an action has.
+fn size_of(head: &Head, i: usize) -> u8
+    requires { ⌜ i < maxActions ⌝ }
+    ensures { λ r. ⌜ (r ≡ sizeIn (now (head .entry)) i) × (r ≤ maxLiterals) ⌝ }
+{
+    limited(head[SIZES + i], MAX_LITERALS as u8)
+}
+
 // The rows of an action's literals in the table.
 pub fn rows_of(head: &Head, table: &[u8], i: usize) -> Span
     requires { ⌜ i < maxActions ⌝ }
@@ -129,12 +148,86 @@ pub fn rows_of(head: &Head, table: &[u8], i: usize) -> Span
     ensures rows { λ r. ⌜ ((D : Domain) → Held D (now (head .entry)) (now (table .entry)) → i < length (D .actions)
         → SpanOf D i (now (table .entry)) r) ⌝ }
 {
-    let from = wide(head[LOWS + i]) + 256 * wide(head[HIGHS + i]);
-    let to = from + wide(limited(head[SIZES + i], MAX_LITERALS as u8));
+    let from = first_of(head, i);
+    let to = from + wide(size_of(head, i));
     if table.len() < 8 * to {
         return Span { from: 0, to: 0 };
     }
     Span { from, to }
+}
+
+// How many literals all actions have: up to the last one of the latest action.
+fn literals_in(head: &Head) -> usize
+    ensures most { λ r. ⌜ r ≤ maxLiterals * maxActions ⌝ }
+    ensures number { λ r. ⌜ ((D : Domain) → HeadOf D (now (head .entry)) → r ≡ length (allLiterals (D .actions))) ⌝ }
+{
+    let n = actions_in(head);
+    if n == 0 {
+        return 0;
+    }
+    let to = first_of(head, n - 1) + wide(size_of(head, n - 1));
+    if MAX_LITERALS * MAX_ACTIONS < to {
+        return 0;
+    }
+    to
+}
+
+// How many keys the template has with this component: its first component tells.
+pub fn keys_with(head: &Head, p: &[u8]) -> usize
+    requires { ⌜ length (now p) ≤ 1 + maxArguments ⌝ }
+    ensures number { λ r. ⌜ ((D : Domain) → HeadOf D (now (head .entry)) → r ≡ keysOf (D .template ++ (componentOf (now (p .entry)) ∷ []))) ⌝ }
+    ensures few { λ r. ⌜ r ≤ maxArguments ⌝ }
+{
+    if components_in(head) == 0 {
+        return count_keys(p);
+    }
+    keys_in(head)
+}
+
+// The head with a relation more: its arity.
+pub fn add_relation(head: &mut Head, p: &[u8])
+    requires { ⌜ (relationsIn (now head) < maxRelations) × (0 < length (now p)) ⌝ }
+    ensures { λ _. ⌜ Adds relationRecord (now (p .entry)) (now (head .entry)) (now (head .exit)) ⌝ }
+{
+    let n = relations_in(head);
+    head[ARITIES + n] = p[0];
+    head[RELATIONS] = n as u8 + 1;
+}
+
+// The head with an action more: its variables and sort. It has no literals so far, and their first row is that behind all others.
+pub fn add_action(head: &mut Head, p: &[u8])
+    requires { ⌜ (actionsIn (now head) < maxActions) × (1 < length (now p)) ⌝ }
+    ensures { λ _. ⌜ Adds actionRecord (now (p .entry)) (now (head .entry)) (now (head .exit)) ⌝ }
+{
+    let n = actions_in(head);
+    let first = literals_in(head);
+    head[VARIABLES + n] = p[0];
+    head[SORTS + n] = p[1];
+    head[SIZES + n] = 0;
+    head[LOWS + n] = (first % 256) as u8;
+    head[HIGHS + n] = (first / 256) as u8;
+    head[ACTIONS] = n as u8 + 1;
+}
+
+// The head with a literal more, of the latest action: it has one more.
+pub fn add_literal(head: &mut Head)
+    requires { ⌜ 0 < actionsIn (now head) ⌝ }
+    ensures { λ _. ⌜ ((p : List ℕ) → Adds literalRecord p (now (head .entry)) (now (head .exit))) ⌝ }
+{
+    let last = actions_in(head) - 1;
+    head[SIZES + last] = size_of(head, last) + 1;
+}
+
+// The head with a component more: its row, and the number of keys, which the first component tells.
+pub fn add_component(head: &mut Head, p: &[u8])
+    requires { ⌜ (length (now head) ≡ headBytes) × (componentsIn (now head) < maxComponents) × (length (now p) ≤ 1 + maxArguments) ⌝ }
+    ensures { λ _. ⌜ Adds componentRecord (now (p .entry)) (now (head .entry)) (now (head .exit)) ⌝ }
+{
+    let n = components_in(head);
+    let keys = keys_with(head, p);
+    put_row(head, PARTS + 8 * n, p);
+    head[COMPONENTS] = n as u8 + 1;
+    head[KEYS] = keys as u8;
 }
 
 // Of each action how many literals it has, and the row of the first: a byte for each action, then the lower bytes, then the higher.
