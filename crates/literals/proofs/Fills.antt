@@ -6,20 +6,21 @@ use mathlib.Core.List.{List, [], _∷_, _++_, map, map-append, append-assoc}
 use Prim.Native.Nat.{ℕ, zero, suc, _+_, _-_, _*_, _/_, _%_, _≤_, _<_}
 use native.Mathlib.Numerals.{add-one}
 use native.Mathlib.Omega.{arith}
-use lib.Dec.{eqb, ltb, leb}
-use lib.ListN.{length, take, drop, getD, set, length-append, length-map, length-drop, length-set, List·getD-append}
+use lib.Dec.{eqb, ltb}
+use lib.ListN.{length, take, drop, getD, set, replicate, length-append, length-replicate, length-map, length-drop, length-set, List·getD-append}
 use lib.Seq.{paste, getD-set-same, getD-set-other, getD-at, getD-take, getD-drop, getD-append-add, length-take-le, length-paste, length-paste-head, take-all, take-at, take-append-le}
 use borrow.Author.Tests.{ltb-true, ltb-false, lt-ltb, leb-false, eqb-true, eqb-false}
-use Rattle.records.specs.Lists.{In, countBy}
+use Rattle.records.specs.Lists.{countBy}
 use Rattle.records.proofs.Lists.{bool-cases, count-le, map-back}
+use Rattle.records.proofs.Memory.{getD-fill}
 use Rattle.literals.specs.declared.Label.the-variants.{Key as keyed, Counted}
-use Rattle.literals.specs.Decode.{relationRecord, actionRecord, literalRecord, componentRecord, byte, labelOf, componentOf, literalOf, literalStop, componentStop, actionOf, withLiteral, latest, fieldStop, stopOf, extend, maxRelations, maxArguments, maxActions, maxVariables, maxLiterals, maxComponents}
+use Rattle.literals.specs.Decode.{relationRecord, actionRecord, literalRecord, componentRecord, byte, labelOf, componentOf, literalOf, actionOf, withLiteral, latest, fieldStop, stopOf, extend, noDomain, maxRelations, maxArguments, maxActions, maxVariables, maxLiterals, maxComponents}
 use Rattle.literals.specs.Domain.{key, Literal, Action, Component, isCounted, keysOf, Domain, noAction, action}
 use Rattle.literals.specs.Table.{rowOf, labelNumber, componentRow, allLiterals}
 use Rattle.literals.specs.Held.{within, relationsIn, actionsIn, componentsIn, keysIn, arityIn, bytesFrom, partIn, partsFrom, partsIn, variablesIn, lastingIn, sizeIn, firstIn, atArities, atParts, atVariables, atSorts, atSizes, atLows, atHighs, headBytes, HeadOf, Filled}
 use Rattle.literals.proofs.Rows.{length-row}
 use Rattle.literals.proofs.Stops.{passes, relation-passes, action-passes, component-passes}
-use Rattle.literals.proofs.Bounds.{arity-six, bounded-extend, length-withLiteral}
+use Rattle.literals.proofs.Bounds.{arity-six, bounded-extend, bounded-none, length-withLiteral}
 use Rattle.literals.proofs.Held.{rows-few, keys-few}
 use Rattle.literals.proofs.Heads.{within-is, literals-after}
 
@@ -551,6 +552,36 @@ module _ {D : Domain} {head : List ℕ} (F : Filled D head) (p : List ℕ) (n ke
 
   pub fills-component : {t : List ℕ} → t ≡ with-row → Filled (extend D componentRecord p) (put component-bytes t)
   fills-component g = subst (λ (t : List ℕ). Filled (extend D componentRecord p) (put component-bytes t)) (sym g) filled-component
+
+-- ---- no record at all
+
+pub filled-none : (head : List ℕ) → head ≡ replicate headBytes 0 → Filled noDomain head
+unfolding relationsIn actionsIn componentsIn keysIn arityIn partsIn
+filled-none head e =
+    record {
+      says =
+          record {
+            bounded = bounded-none;
+            relations = ap (within maxRelations) (none 0);
+            actions = ap (within maxActions) (none 1);
+            keys = ap (within maxArguments) (none 3);
+            arities = λ r. ap (λ (k : ℕ). cond (ltb r maxRelations) (within maxArguments k) 0) (none (atArities + r)) ∙ zeros (ltb r maxRelations);
+            components = ap (within maxComponents) (none 2);
+            parts = ap (λ (k : ℕ). partsFrom head 0 (within maxComponents k)) (none 2);
+            variables = λ i h. absurd (omega arith);
+            lasting = λ i h. absurd (omega arith);
+            sizes = λ i h. absurd (omega arith);
+            firsts = λ i h. absurd (omega arith);
+          };
+      room = ap length e ∙ length-replicate {A = ℕ} headBytes 0;
+    }
+  where
+    none : (i : ℕ) → getD head i 0 ≡ 0
+    none i = ap (λ (t : List ℕ). getD t i 0) e ∙ getD-fill [] headBytes i 0
+
+    zeros : (b : Bool) → _≡_ {A = ℕ} (cond b 0 0) 0
+    zeros true = refl
+    zeros false = refl
 
 -- ---- the number of literals, and that of keys
 

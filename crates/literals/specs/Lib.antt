@@ -3,3 +3,4 @@ pub mod Domain
 pub mod Decode
 pub mod Table
 pub mod Held
+pub mod Fields

@@ -1,7 +1,6 @@
 // A domain that was read: a head of numbers and rows, in sections, beside the table of its literals (8 bytes a row: role, relation,
 // variables, FF to fill). Every function here answers within the limits of the format, whatever the head's bytes are, so that none asks
 // anything of them.
-use super::Counts;
 use super::fields::count_keys;
 use super::fields::wide;
 use super::limits::MAX_ACTIONS;
@@ -10,26 +9,26 @@ use super::limits::MAX_COMPONENTS;
 use super::limits::MAX_LITERALS;
 use super::limits::MAX_RELATIONS;
 use super::limits::MAX_VARIABLES;
-use super::row::put_bytes;
 use super::row::put_row;
 use super::span::Span;
-use super::span::span_of;
 ghost use mathlib.Core.Path.{_≡_};
 ghost use mathlib.Core.List.{List, [], _∷_, _++_};
 ghost use Prim.Native.Nat.{ℕ, _+_, _*_, _<_, _≤_};
+ghost use lib.Dec.{eqb};
 ghost use lib.ListN.{length, getD};
+ghost use Rattle.records.specs.Lists.{any};
 ghost use Rattle.literals.specs.Domain.{Domain, keysOf};
 ghost use Rattle.literals.specs.Decode.{maxRelations, maxActions, maxVariables, maxArguments, maxLiterals, maxComponents};
-ghost use Rattle.literals.specs.Decode.{relationRecord, actionRecord, literalRecord, componentRecord, componentOf};
-ghost use Rattle.literals.specs.Table.{indexWith, Holds, allLiterals};
-ghost use Rattle.literals.specs.Held.{CountsFit, SpansFit, Packable, countBytes, spanBytes, headOf, within, relationsIn, actionsIn};
-ghost use Rattle.literals.specs.Held.{componentsIn, keysIn, arityIn, partIn, variablesIn, lastingIn, sizeIn, firstIn, Held, SpanFits, SpanOf, HeadOf, headBytes, Adds};
+ghost use Rattle.literals.specs.Decode.{relationRecord, actionRecord, literalRecord, componentRecord, componentOf, byte};
+ghost use Rattle.literals.specs.Table.{allLiterals};
+ghost use Rattle.literals.specs.Held.{within, relationsIn, actionsIn};
+ghost use Rattle.literals.specs.Held.{componentsIn, keysIn, arityIn, partIn, partsIn, variablesIn, lastingIn, sizeIn, firstIn, Held, SpanFits, SpanOf, HeadOf, headBytes, Adds};
 
 pub const HEAD: usize = HIGHS + MAX_ACTIONS;
 
 pub type Head = [u8; HEAD];
 
-// How many there are of each: relations, actions, components, keys; then the literals, in two bytes, the lower first.
+// How many there are of each: relations, actions, components, keys.
 const RELATIONS: usize = 0;
 
 const ACTIONS: usize = 1;
@@ -38,7 +37,7 @@ const COMPONENTS: usize = 2;
 
 const KEYS: usize = 3;
 // A byte for each relation.
-const ARITIES: usize = 8;
+const ARITIES: usize = 4;
 // 8 bytes for each component: relation, labels, FF to fill.
 const PARTS: usize = ARITIES + MAX_RELATIONS;
 // A byte for each action: variables, 1 for a lasting one, how many literals, and the row of the first, whose two bytes stand apart.
@@ -51,13 +50,6 @@ const SIZES: usize = SORTS + MAX_ACTIONS;
 const LOWS: usize = SIZES + MAX_ACTIONS;
 
 const HIGHS: usize = LOWS + MAX_ACTIONS;
-// The last three columns by themselves.
-const SPAN_LOWS: usize = LOWS - SIZES;
-
-const SPAN_HIGHS: usize = HIGHS - SIZES;
-
-const SPANS: usize = HEAD - SIZES;
-
 // The number of a byte, 0 above the limit.
 fn limited(n: u8, limit: u8) -> u8
     ensures { λ r. ⌜ (r ≡ within limit n) × (r ≤ limit) ⌝ }
@@ -109,6 +101,21 @@ pub fn part_byte(head: &Head, c: usize, i: usize) -> u8
     ensures { λ r. ⌜ r ≡ getD (partIn (now (head .entry)) c) i 0 ⌝ }
 {
     head[PARTS + 8 * c + i]
+}
+
+// Whether a component has this relation.
+pub fn is_used(head: &Head, relation: u8) -> bool
+    ensures { λ r. ⌜ r ≡ any (λ row. eqb relation (byte row 0)) (partsIn (now (head .entry))) ⌝ }
+{
+    let n = components_in(head);
+    let mut c = 0;
+    while c < n {
+        if part_byte(head, c, 0) == relation {
+            return true;
+        }
+        c += 1;
+    }
+    false
 }
 
 pub fn variables_of(head: &Head, i: usize) -> u8
@@ -228,61 +235,4 @@ pub fn add_component(head: &mut Head, p: &[u8])
     put_row(head, PARTS + 8 * n, p);
     head[COMPONENTS] = n as u8 + 1;
     head[KEYS] = keys as u8;
-}
-
-// Of each action how many literals it has, and the row of the first: a byte for each action, then the lower bytes, then the higher.
-fn spans_of(counts: Counts, starts: &[usize]) -> [u8; SPANS]
-    requires { ⌜ SpansFit counts (now starts) ⌝ }
-    ensures { λ r. ⌜ ((D : Domain) (arities variables sorts parts : List ℕ)
-        → Holds D (indexWith counts arities variables sorts (now (starts .entry)) parts) → r ≡ spanBytes D) ⌝ }
-{
-    let mut spans = [0u8; SPANS];
-    for i in 0..counts.actions {
-        let span = span_of(starts, counts.actions, counts.rows, i);
-        spans[i] = (span.to - span.from) as u8;
-        spans[SPAN_LOWS + i] = (span.from % 256) as u8;
-        spans[SPAN_HIGHS + i] = (span.from / 256) as u8;
-    }
-    spans
-}
-
-// How many there are of each.
-fn counts_of(counts: Counts) -> [u8; 8]
-    requires { ⌜ CountsFit counts ⌝ }
-    ensures { λ r. ⌜ ((D : Domain) (arities variables sorts starts parts : List ℕ)
-        → Holds D (indexWith counts arities variables sorts starts parts) → r ≡ countBytes D) ⌝ }
-{
-    let mut first = [0u8; 8];
-    first[0] = counts.relations as u8;
-    first[1] = counts.actions as u8;
-    first[2] = counts.components as u8;
-    first[3] = counts.keys as u8;
-    first[4] = (counts.rows % 256) as u8;
-    first[5] = (counts.rows / 256) as u8;
-    first
-}
-
-// The head of a domain, of the memories that reading fills.
-pub fn pack(
-    counts: Counts,
-    arities: &[u8],
-    variables: &[u8],
-    sorts: &[u8],
-    starts: &[usize],
-    parts: &[u8],
-) -> Head
-    requires { ⌜ Packable counts (now arities) (now variables) (now sorts) (now starts) (now parts) ⌝ }
-    ensures { λ r. ⌜ ((D : Domain) → Holds D (indexWith counts (now (arities .entry)) (now (variables .entry)) (now (sorts .entry))
-        (now (starts .entry)) (now (parts .entry))) → r ≡ headOf D) ⌝ }
-{
-    let first = counts_of(counts);
-    let spans = spans_of(counts, starts);
-    let mut head = [0u8; HEAD];
-    put_bytes(&mut head, 0, &first);
-    put_bytes(&mut head, ARITIES, arities);
-    put_bytes(&mut head, PARTS, parts);
-    put_bytes(&mut head, VARIABLES, variables);
-    put_bytes(&mut head, SORTS, sorts);
-    put_bytes(&mut head, SIZES, &spans);
-    head
 }
