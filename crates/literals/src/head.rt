@@ -1,6 +1,6 @@
 // A domain that was read: a head of numbers and rows, in sections, beside the table of its literals (8 bytes a row: role, relation,
-// variables, FF to fill). Every function here answers within the limits of the format, whatever the head's bytes are, so that none asks
-// anything of them.
+// variables, FF to fill). Every function that reads a head answers within the limits of the format, whatever its bytes are, so that none
+// asks anything of them. A head is filled record by record, from one that is all 0.
 use super::fields::count_keys;
 use super::fields::wide;
 use super::limits::MAX_ACTIONS;
@@ -21,8 +21,8 @@ ghost use Rattle.literals.specs.Domain.{Domain, keysOf};
 ghost use Rattle.literals.specs.Decode.{maxRelations, maxActions, maxVariables, maxArguments, maxLiterals, maxComponents};
 ghost use Rattle.literals.specs.Decode.{relationRecord, actionRecord, literalRecord, componentRecord, componentOf, byte};
 ghost use Rattle.literals.specs.Table.{allLiterals};
-ghost use Rattle.literals.specs.Held.{within, relationsIn, actionsIn};
-ghost use Rattle.literals.specs.Held.{componentsIn, keysIn, arityIn, partIn, partsIn, variablesIn, lastingIn, sizeIn, firstIn, Held, SpanFits, SpanOf, HeadOf, headBytes, Adds};
+ghost use Rattle.literals.specs.Held.{within, relationsIn, actionsIn, componentsIn, keysIn, arityIn, partIn, partsIn, variablesIn};
+ghost use Rattle.literals.specs.Held.{lastingIn, sizeIn, firstIn, Held, SpanFits, SpanOf, HeadOf, headBytes, Adds};
 
 pub const HEAD: usize = HIGHS + MAX_ACTIONS;
 
@@ -135,7 +135,8 @@ pub fn is_lasting(head: &Head, i: usize) -> bool
 // The row of an action's first literal.
 fn first_of(head: &Head, i: usize) -> usize
     requires { ⌜ i < maxActions ⌝ }
-    ensures { λ r. ⌜ (r ≡ firstIn (now (head .entry)) i) × (r < 65536) ⌝ }
+    ensures row { λ r. ⌜ r ≡ firstIn (now (head .entry)) i ⌝ }
+    ensures low { λ r. ⌜ r < 65536 ⌝ }
 {
     wide(head[LOWS + i]) + 256 * wide(head[HIGHS + i])
 }
@@ -143,7 +144,8 @@ fn first_of(head: &Head, i: usize) -> usize
 // How many literals an action has.
 fn size_of(head: &Head, i: usize) -> u8
     requires { ⌜ i < maxActions ⌝ }
-    ensures { λ r. ⌜ (r ≡ sizeIn (now (head .entry)) i) × (r ≤ maxLiterals) ⌝ }
+    ensures number { λ r. ⌜ r ≡ sizeIn (now (head .entry)) i ⌝ }
+    ensures most { λ r. ⌜ r ≤ maxLiterals ⌝ }
 {
     limited(head[SIZES + i], MAX_LITERALS as u8)
 }
@@ -182,7 +184,8 @@ fn literals_in(head: &Head) -> usize
 // How many keys the template has with this component: its first component tells.
 pub fn keys_with(head: &Head, p: &[u8]) -> usize
     requires { ⌜ length (now p) ≤ 1 + maxArguments ⌝ }
-    ensures number { λ r. ⌜ ((D : Domain) → HeadOf D (now (head .entry)) → r ≡ keysOf (D .template ++ (componentOf (now (p .entry)) ∷ []))) ⌝ }
+    ensures number { λ r. ⌜ ((D : Domain) → HeadOf D (now (head .entry))
+        → r ≡ keysOf (D .template ++ (componentOf (now (p .entry)) ∷ []))) ⌝ }
     ensures few { λ r. ⌜ r ≤ maxArguments ⌝ }
 {
     if components_in(head) == 0 {
@@ -193,7 +196,8 @@ pub fn keys_with(head: &Head, p: &[u8]) -> usize
 
 // The head with a relation more: its arity.
 pub fn add_relation(head: &mut Head, p: &[u8])
-    requires { ⌜ (relationsIn (now head) < maxRelations) × (0 < length (now p)) ⌝ }
+    requires room { ⌜ relationsIn (now head) < maxRelations ⌝ }
+    requires long { ⌜ 0 < length (now p) ⌝ }
     ensures { λ _. ⌜ Adds relationRecord (now (p .entry)) (now (head .entry)) (now (head .exit)) ⌝ }
 {
     let n = relations_in(head);
@@ -203,7 +207,8 @@ pub fn add_relation(head: &mut Head, p: &[u8])
 
 // The head with an action more: its variables and sort. It has no literals so far, and their first row is that behind all others.
 pub fn add_action(head: &mut Head, p: &[u8])
-    requires { ⌜ (actionsIn (now head) < maxActions) × (1 < length (now p)) ⌝ }
+    requires room { ⌜ actionsIn (now head) < maxActions ⌝ }
+    requires long { ⌜ 1 < length (now p) ⌝ }
     ensures { λ _. ⌜ Adds actionRecord (now (p .entry)) (now (head .entry)) (now (head .exit)) ⌝ }
 {
     let n = actions_in(head);
@@ -227,7 +232,9 @@ pub fn add_literal(head: &mut Head)
 
 // The head with a component more: its row, and the number of keys, which the first component tells.
 pub fn add_component(head: &mut Head, p: &[u8])
-    requires { ⌜ (length (now head) ≡ headBytes) × (componentsIn (now head) < maxComponents) × (length (now p) ≤ 1 + maxArguments) ⌝ }
+    requires whole { ⌜ length (now head) ≡ headBytes ⌝ }
+    requires room { ⌜ componentsIn (now head) < maxComponents ⌝ }
+    requires short { ⌜ length (now p) ≤ 1 + maxArguments ⌝ }
     ensures { λ _. ⌜ Adds componentRecord (now (p .entry)) (now (head .entry)) (now (head .exit)) ⌝ }
 {
     let n = components_in(head);

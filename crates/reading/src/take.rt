@@ -24,12 +24,11 @@ use literals::limits::MAX_RELATIONS;
 use literals::row::put_row;
 use literals::row::rows_rank;
 ghost use mathlib.Core.Path.{_≡_};
-ghost use mathlib.Core.List.{List};
-ghost use Prim.Native.Nat.{ℕ, _+_, _≤_, _<_};
+ghost use Prim.Native.Nat.{_+_, _≤_, _<_};
 ghost use lib.ListN.{length};
 ghost use Rattle.literals.specs.Domain.{Domain};
-ghost use Rattle.literals.specs.Decode.{maxArguments, maxActions, relationRecord, actionRecord, literalRecord, componentRecord, closingRecord};
-ghost use Rattle.literals.specs.Decode.{kindOf, literalStop, componentFault, stopOf, stopPlace};
+ghost use Rattle.literals.specs.Decode.{maxArguments, maxActions, literalStop, componentFault, stopOf, stopPlace};
+ghost use Rattle.literals.specs.Decode.{kindOf, relationRecord, actionRecord, literalRecord, componentRecord, closingRecord};
 ghost use Rattle.literals.specs.Held.{HeadOf, Held, headBytes};
 ghost use Rattle.reading.specs.Reading.{Takes, TakesRow, RecordReady};
 

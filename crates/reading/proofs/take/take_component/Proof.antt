@@ -17,7 +17,7 @@ component-fault-requires : tie.Need-component-fault-requires
 component-fault-requires c κs = search needs
 
 add-component-requires : tie.Need-add-component-requires
-add-component-requires c κs = let b = c .before .before .before .before .before .components-in .ensures .0 in (c .before .before .before .before .before .before .before .before .pre, omega arith, c .before .before .component-fault .ensures .1 (c .before .if2 .taken))
+add-component-requires c κs = let b = c .before .before .before .before .before .components-in .ensures .0 in (c .before .before .before .before .before .before .before .before .pre, (omega arith, c .before .before .component-fault .ensures .1 (c .before .if2 .taken)))
 
 returns-2 : tie.Need-returns-2
 returns-2 c =
