@@ -14,18 +14,15 @@ use Rattle.records.specs.Lists.{In, all, any, sameList, elem, dedup}
 use Rattle.records.proofs.Lists.{bool-cases, off, clash, any-map, any-in, in-any, all-in, all-of, getD-in, allBelow, below-in, in-dedup, dedup-in}
 use Rattle.literals.specs.declared.Variable.{Variable}
 use Rattle.literals.specs.declared.Object.{Object}
-use Rattle.literals.specs.declared.Index.{Index}
-use Rattle.literals.specs.declared.Counts.{Counts}
 use Rattle.literals.specs.declared.Time.{Time}
 use Rattle.literals.specs.declared.Time.the-variants.{AtStart, OverAll, AtEnd}
 use Rattle.literals.specs.declared.Clause.{Clause}
 use Rattle.literals.specs.declared.Clause.the-variants.{Positive, Negative, Add, Delete}
 use Rattle.literals.specs.declared.Role.{Role}
 use Rattle.literals.specs.Domain.{object, sameObject, Atom, Fact, sameLiteral, sameFact, clauseNumber, roleNumber, roleOf, Literal, Action, Domain, arity, noAction, action}
-use Rattle.literals.specs.Table.{literalRow, rowsIn, indexOf, Bounded}
+use Rattle.literals.specs.Table.{literalRow, rowsIn, Bounded}
 use Rattle.literals.proofs.Equality.{literal-eq}
 use Rattle.literals.proofs.Tables.{Kept, kept, length-literal-row, rows-flat, pad-at}
-use Rattle.literals.proofs.Spans.{action-listed, span-size, part-literals}
 use Rattle.literals.specs.declared.Moment.{Moment}
 use Rattle.literals.specs.declared.Moment.the-variants.{Start, End}
 use Rattle.literals.specs.Matching.{momentNumber, own, overAll, withRole, literalsAt}

@@ -1,9 +1,9 @@
--- Every record that is read keeps the domain within the bounds of the index, with the arities of its relations and the keys of its template. Assumes nothing.
+-- Every record that is read keeps the domain within the bounds of head and table, with the arities of its relations and the keys of its template. Assumes nothing.
 use mathlib.Core.Path.{_≡_, refl, ap, _∙_}
 use mathlib.Core.Bool.{Bool, true, false, not}
 use mathlib.Core.Logic.{_⊎_, inl, inr}
 use mathlib.Core.List.{List, [], _∷_, _++_, map, Memᴰ·of-map, List·Memᴰ·head, List·Memᴰ·tail, List·Memᴰ·not-nil, List·Memᴰ·eq-of-singleton}
-use Prim.Native.Nat.{ℕ, suc, _+_, _≤_, _<_}
+use Prim.Native.Nat.{ℕ, suc, _≤_, _<_}
 use native.Mathlib.Omega.{arith}
 use lib.Dec.{eqb, leb}
 use lib.ListN.{length, drop, length-append, length-drop, length-map, List·getD-eq-default}
@@ -40,7 +40,7 @@ arity-six D h r = go (leb (length (D .arities)) r) refl
 
 -- ---- one literal more
 
--- what an action gives the index
+-- what an action adds
 record Fits (D : Domain) (a : Action) : Type 0 where
   counts : a .vars ≤ maxVariables
   sizes : length (a .lits) ≤ maxLiterals

@@ -8,7 +8,7 @@ use native.Mathlib.Numerals.{add-one}
 use native.Mathlib.Omega.{arith}
 use lib.Dec.{eqb, ltb, leb}
 use lib.ListN.{length, take, drop, getD, length-drop}
-use lib.Seq.{length-take-le, getD-take, take-suc}
+use lib.Seq.{take-suc}
 use borrow.Author.Tests.{eq-eqb, ne-eqb, eqb-true, eqb-false, le-leb, lt-leb, lt-ltb, le-ltb}
 use Rattle.records.specs.Lists.{addIf, all, any, countBy, firstAt, found}
 use Rattle.records.proofs.Lists.{and-l, and-r, and-i, bool-cases, or-r, eqb-comm, any-map, any-same, any-append, count-not, count-map, first-hit, first-miss, first-end}
@@ -17,41 +17,38 @@ use Rattle.literals.specs.declared.Label.{Label}
 use Rattle.literals.specs.declared.Label.the-variants.{Key as keyed, Counted}
 use Rattle.literals.specs.Domain.{key, isKey, isCounted, keyBelow, eachKeyOnce, labelsFit}
 use Rattle.literals.specs.Decode.{byte, labelOf, countedAgain, sameLabelKey, keyAgain, keyTooHigh, atRecord, atLabel, labelFault}
-use Rattle.literals.specs.Table.{argumentsStop, literalFields, again, highKey, keysBelow, eachOnce}
+use Rattle.literals.specs.Held.{relationsIn, arityIn, variablesIn, lastingIn}
+use Rattle.literals.specs.Fields.{argumentsStop, literalFields, again, highKey, keysBelow, eachOnce}
 use Rattle.literals.proofs.Labels.{first-map, found-map}
 
 -- ---- a relation that is known, and its arguments
 
--- what was read at an index that is i
-pub read-at : (l : List ℕ) {a at i : ℕ} → at ≡ i → a ≡ getD l at 0 → a ≡ getD l i 0
-read-at l e f = f ∙ ap (λ (j : ℕ). getD l j 0) e
-
-module _ (n : ℕ) (arities : List ℕ) (relation first given : ℕ) (h : n ≤ length arities) where
-  pub unknown : n ≤ relation → argumentsStop (take n arities) relation first given ≡ 17
+module _ (head : List ℕ) (relation first given : ℕ) where
+  pub unknown : relationsIn head ≤ relation → argumentsStop head relation first given ≡ 17
   unfolding argumentsStop
-  unknown k = simp (length-take-le n arities h, le-leb n relation k)
+  unknown k = simp (le-leb (relationsIn head) relation k)
 
-  module _ (k : relation < n) where
-    pub misfit : (given ≡ first + getD arities relation 0 → ⊥) → argumentsStop (take n arities) relation first given ≡ 12
+  module _ (k : relation < relationsIn head) where
+    pub misfit : (given ≡ first + arityIn head relation → ⊥) → argumentsStop head relation first given ≡ 12
     unfolding argumentsStop
-    misfit e = simp (length-take-le n arities h, lt-leb n relation k, getD-take n arities relation 0 k, ne-eqb given (first + getD arities relation 0) e)
+    misfit e = simp (lt-leb (relationsIn head) relation k, ne-eqb given (first + arityIn head relation) e)
 
-    pub fit : given ≡ first + getD arities relation 0 → argumentsStop (take n arities) relation first given ≡ 0
+    pub fit : given ≡ first + arityIn head relation → argumentsStop head relation first given ≡ 0
     unfolding argumentsStop
-    fit e = simp (length-take-le n arities h, lt-leb n relation k, getD-take n arities relation 0 k, eq-eqb given (first + getD arities relation 0) e)
+    fit e = simp (lt-leb (relationsIn head) relation k, eq-eqb given (first + arityIn head relation) e)
 
 -- the checks of a literal in the order of the code
-pub literal-by : (arities : List ℕ) (vars sort : ℕ) (p : List ℕ)
-    → literalFields arities vars sort p
+pub literal-by : (head : List ℕ) (i : ℕ) (p : List ℕ)
+    → literalFields head i p
     ≡ cond (ltb (length p) 2) 12
-    (cond (ltb 9 (byte p 0) || (ltb 3 (byte p 0) && not (eqb sort 1))) 16
-    (cond (eqb (argumentsStop arities (byte p 1) 2 (length p)) 0) (cond (any (leb vars) (drop 2 p)) 18 0) (argumentsStop arities (byte p 1) 2 (length p))))
+    (cond (ltb 9 (byte p 0) || (ltb 3 (byte p 0) && not (lastingIn head i))) 16
+    (cond (eqb (argumentsStop head (byte p 1) 2 (length p)) 0) (cond (any (leb (variablesIn head i)) (drop 2 p)) 18 0) (argumentsStop head (byte p 1) 2 (length p))))
 unfolding literalFields argumentsStop
-literal-by arities vars sort p =
+literal-by head i p =
     ap (cond (ltb (length p) 2) 12)
-    (sym (cond-or (ltb 9 (byte p 0)) (ltb 3 (byte p 0) && not (eqb sort 1)) 16 _)
-    ∙ ap (cond (ltb 9 (byte p 0) || (ltb 3 (byte p 0) && not (eqb sort 1))) 16)
-    (rows-split ((leb (length arities) (byte p 1), 17) ∷ (not (eqb (length p) (2 + getD arities (byte p 1) 0)), 12) ∷ []) (cond (any (leb vars) (drop 2 p)) 18 0) refl))
+    (sym (cond-or (ltb 9 (byte p 0)) (ltb 3 (byte p 0) && not (lastingIn head i)) 16 _)
+    ∙ ap (cond (ltb 9 (byte p 0) || (ltb 3 (byte p 0) && not (lastingIn head i))) 16)
+    (rows-split ((leb (relationsIn head) (byte p 1), 17) ∷ (not (eqb (length p) (2 + arityIn head (byte p 1))), 12) ∷ []) (cond (any (leb (variablesIn head i)) (drop 2 p)) 18 0) refl))
 
 -- ---- labels, as bytes
 

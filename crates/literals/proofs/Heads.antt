@@ -9,14 +9,13 @@ use native.Mathlib.Omega.{arith}
 use lib.Dec.{ltb, leb}
 use lib.ListN.{length, take, drop, getD, length-append}
 use borrow.Author.Tests.{le-leb, lt-leb, lt-ltb, le-ltb, leb-true, leb-false}
-use Rattle.records.specs.Lists.{In}
+use Rattle.records.specs.Lists.{In, any}
 use Rattle.records.specs.Memory.{over}
 use Rattle.records.proofs.Lists.{bool-cases, getD-in, flatMap-in}
-use Rattle.literals.specs.Decode.{maxRelations, maxArguments}
-use Rattle.literals.specs.declared.span.Span.{Span}
+use Rattle.literals.specs.Decode.{maxRelations, maxArguments, maxVariables}
 use Rattle.literals.specs.Domain.{Literal, Action, Component, Domain, noAction, action}
 use Rattle.literals.specs.Table.{literalRow, componentRow, allLiterals, tableBytes}
-use Rattle.literals.specs.Held.{within, keysIn, componentsIn, arityIn, bytesFrom, partIn, partsFrom, partsIn, variablesIn, sizeIn, firstIn, HeadOf, Held, SpanOf, atArities, atParts}
+use Rattle.literals.specs.Held.{within, keysIn, componentsIn, arityIn, bytesFrom, partIn, partsFrom, partsIn, variablesIn, sizeIn, firstIn, HeadOf, Held, SpanOf, atArities, atParts, atVariables}
 use Rattle.literals.proofs.Tables.{length-literal-row, length-flat}
 use Rattle.literals.proofs.Spans.{part-flat, literals-split, literals-next}
 
@@ -124,6 +123,17 @@ part-is {D} {head} H d c h =
     let n = H .components in
     sym (part-row head c (omega arith)) ∙ ap (λ (rs : List (List ℕ)). getD rs c []) (H .parts) ∙ getD-rows (D .template) d c h
 
+-- whether one of them passes a test, from the row c on
+module _ (p : List ℕ → Bool) (head : List ℕ) (n c : ℕ) where
+  pub parts-hit : c < n → p (partIn head c) ≡ true → any p (partsFrom head c (n - c)) ≡ true
+  parts-hit h e = ap (any p) (parts-next head n c h) ∙ rw e
+
+  pub parts-miss : c < n → p (partIn head c) ≡ false → any p (partsFrom head c (n - c)) ≡ any p (partsFrom head (c + 1) (n - (c + 1)))
+  parts-miss h e = ap (any p) (parts-next head n c h) ∙ rw e
+
+  pub parts-none : n ≤ c → any p (partsFrom head c (n - c)) ≡ false
+  parts-none h = ap (any p) (parts-end head n c h)
+
 -- ---- the literals of an action
 
 pub literals-after : (D : Domain) (i : ℕ) → i < length (D .actions) → length (allLiterals (take (suc i) (D .actions))) ≡ length (allLiterals (take i (D .actions))) + length (action D i .lits)
@@ -183,14 +193,14 @@ module _ {D : Domain} {head table : List ℕ} (H : Held D head table) (i : ℕ) 
 
 -- ---- limits of what a head says, whatever its bytes are
 
-pub arity-limit : (head : List ℕ) (r : ℕ) → arityIn head r ≤ 6
+pub arity-limit : (head : List ℕ) (r : ℕ) → arityIn head r ≤ maxArguments
 unfolding arityIn
-arity-limit head r = go (ltb r 64)
+arity-limit head r = go (ltb r maxRelations)
   where
-    go : (b : Bool) → cond b (within 6 (getD head (8 + r) 0)) 0 ≤ 6
-    go true = within-le 6 (getD head (8 + r) 0)
+    go : (b : Bool) → cond b (within maxArguments (getD head (atArities + r) 0)) 0 ≤ maxArguments
+    go true = within-le maxArguments (getD head (atArities + r) 0)
     go false = omega arith
 
-pub variables-limit : (head : List ℕ) (i : ℕ) → variablesIn head i ≤ 16
+pub variables-limit : (head : List ℕ) (i : ℕ) → variablesIn head i ≤ maxVariables
 unfolding variablesIn
-variables-limit head i = within-le 16 (getD head (200 + i) 0)
+variables-limit head i = within-le maxVariables (getD head (atVariables + i) 0)

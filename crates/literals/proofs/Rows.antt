@@ -209,13 +209,6 @@ any-first p t n = ap (λ (k : ℕ). any p (rowsIn k t)) (sub-zero n)
 pub all-first : (p : List ℕ → Bool) (t : List ℕ) (n : ℕ) → all p (rowsIn (n - 0) (drop (8 * 0) t)) ≡ all p (rowsIn n t)
 all-first p t n = ap (λ (k : ℕ). all p (rowsIn k t)) (sub-zero n)
 
--- whether the row at c starts with b
-pub starts-yes : (t : List ℕ) (b c : ℕ) → getD t (8 * c) 0 ≡ b → eqb b (byte (take 8 (drop (8 * c) t)) 0) ≡ true
-starts-yes t b c e = rw (part-first t (8 * c)) (eq-eqb b (getD t (8 * c) 0) (sym e))
-
-pub starts-no : (t : List ℕ) (b c : ℕ) → (getD t (8 * c) 0 ≡ b → ⊥) → eqb b (byte (take 8 (drop (8 * c) t)) 0) ≡ false
-starts-no t b c e = rw (part-first t (8 * c)) (ne-eqb b (getD t (8 * c) 0) (λ f. e (sym f)))
-
 -- ---- ranks
 
 -- a row of 8 bytes is its own row

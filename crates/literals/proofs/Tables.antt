@@ -1,23 +1,23 @@
 -- Laws of the tables that reading fills: rows of literals and of components, lists in arrays, and what the ranks of rows say of literals. Assumes nothing.
 use mathlib.Core.Path.{_≡_, refl, sym, ap, ap₂, _∙_}
 use mathlib.Core.Bool.{Bool, true, false, _&&_, _||_, cond}
-use mathlib.Core.List.{List, [], _∷_, _++_, map, flatMap, append-assoc, List·Memᴰ·head, List·Memᴰ·tail, Memᴰ·append-left, Memᴰ·append-right, Memᴰ·of-map}
+use mathlib.Core.List.{List, [], _∷_, _++_, map, flatMap, append-assoc, List·Memᴰ·head, List·Memᴰ·tail, Memᴰ·of-map}
 use Prim.Native.Nat.{ℕ, zero, suc, _+_, _-_, _*_, _≤_, _<_, max}
 use native.Mathlib.Nat.{add-comm, mul-zero, mul-suc}
 use native.Mathlib.Omega.{arith}
 use lib.Dec.{eqb}
-use lib.ListN.{length, getD, set, take, drop, replicate, length-append, length-map, length-replicate}
-use lib.Seq.{take-at, drop-at, take-append-seam, paste}
+use lib.ListN.{length, getD, set, drop, replicate, length-append, length-map, length-replicate}
+use lib.Seq.{take-at, drop-at, paste}
 use borrow.Author.Tests.{eqb-true, ne-eqb}
 use Rattle.records.specs.Lists.{In, any, sameList}
 use Rattle.records.specs.Memory.{over}
-use Rattle.records.proofs.Lists.{eqb-same, sameList-self, any-map, flatMap-append, map-back, allBelow, below-in}
+use Rattle.records.proofs.Lists.{eqb-same, sameList-self, any-map, map-back, allBelow, below-in}
 use Rattle.records.proofs.Memory.{over-more, over-paste, drop-replicate, getD-fill}
 use Rattle.literals.specs.declared.Variable.{Variable}
 use Rattle.literals.specs.declared.Role.{Role}
 use Rattle.literals.specs.Domain.{variable, sameLiteral, roleOf, roleNumber, sameRole, Literal, Action, Component, Domain}
 use Rattle.literals.specs.Decode.{maxArguments, byte, literalOf, repeats, contrary, together, contradicts}
-use Rattle.literals.specs.Table.{rowOf, literalRow, labelNumber, componentRow, pad, roleRank, rowRank, rowsBy, rowsIn, rowsRank, Bounded}
+use Rattle.literals.specs.Table.{rowOf, literalRow, labelNumber, componentRow, pad, roleRank, rowRank, rowsBy, rowsRank, Bounded}
 use Rattle.literals.proofs.Rows.{length-row}
 
 -- ---- a row at the seam of a table
@@ -49,16 +49,6 @@ module _ {A : Type 0} (f : A → List ℕ) where
         rows-flat xs rest (λ a m. h a (List·Memᴰ·tail m)),
       )
 
-  -- those of the later elements, from their first row on
-  pub rows-behind : (xs ys : List A) (old : List ℕ) → ((a : A) → In a (xs ++ ys) → length (f a) ≡ 8)
-      → rowsIn (length ys) (drop (8 * length xs) (over (flatMap f (xs ++ ys)) old)) ≡ map f ys
-  unfolding over
-  rows-behind xs ys old h =
-      let rest = drop (length (flatMap f (xs ++ ys))) old in
-      ap (λ (t : List ℕ). rowsIn (length ys) (drop (8 * length xs) t)) (ap (λ (t : List ℕ). t ++ rest) (flatMap-append f xs ys) ∙ append-assoc (flatMap f xs) (flatMap f ys) rest)
-      ∙ ap (rowsIn (length ys)) (drop-at (flatMap f xs) (flatMap f ys ++ rest) (8 * length xs) (length-flat xs (λ a m. h a (Memᴰ·append-left ys m))))
-      ∙ rows-flat ys rest (λ a m. h a (Memᴰ·append-right xs m))
-
 -- ---- of literals and of components
 
 pub length-literal-row : (l : Literal) → length (l .atom .args) ≤ maxArguments → length (literalRow l) ≡ 8
@@ -70,17 +60,6 @@ length-component-row c h = length-row (c .rel ∷ map labelNumber (c .labels)) (
 module _ (ls : List Literal) (h : (l : Literal) → In l ls → length (l .atom .args) ≤ maxArguments) where
   pub length-literals : length (flatMap literalRow ls) ≡ 8 * length ls
   length-literals = length-flat literalRow ls (λ l m. length-literal-row l (h l m))
-
-pub rows-literals : (xs ys : List Literal) (old : List ℕ) → ((l : Literal) → In l (xs ++ ys) → length (l .atom .args) ≤ maxArguments)
-    → rowsIn (length ys) (drop (8 * length xs) (over (flatMap literalRow (xs ++ ys)) old)) ≡ map literalRow ys
-rows-literals xs ys old h = rows-behind literalRow xs ys old (λ l m. length-literal-row l (h l m))
-
-module _ (cs : List Component) (h : (c : Component) → In c cs → length (c .labels) ≤ maxArguments) where
-  pub length-components : length (flatMap componentRow cs) ≡ 8 * length cs
-  length-components = length-flat componentRow cs (λ c m. length-component-row c (h c m))
-
-  pub rows-components : (rest : List ℕ) → rowsIn (length cs) (flatMap componentRow cs ++ rest) ≡ map componentRow cs
-  rows-components rest = rows-flat componentRow cs rest (λ c m. length-component-row c (h c m))
 
 pub any-component : (b : ℕ) (cs : List Component) → any (λ row. eqb b (byte row 0)) (map componentRow cs) ≡ any (λ (d : Component). eqb b (d .rel)) cs
 any-component b cs = any-map componentRow (λ row. eqb b (byte row 0)) cs
@@ -100,12 +79,6 @@ pad-more n l v h =
     ap (λ (a : List ℕ). set a (length l) v) (pad-over n l)
     ∙ over-more l (replicate n 0) (length l) v refl (simp length-replicate h)
     ∙ sym (pad-over n (l ++ (v ∷ [])))
-
-pub take-pad : (n : ℕ) (l : List ℕ) → take (length l) (pad n l) ≡ l
-take-pad n l = take-append-seam l (replicate (n - length l) 0)
-
-pub length-pad : (n : ℕ) (l : List ℕ) → length l ≤ n → length (pad n l) ≡ n
-length-pad n l h = simp (length-append, length-replicate) (omega arith)
 
 -- k numbers more
 pub pad-paste : (n : ℕ) (l p : List ℕ) (at k : ℕ) → length l ≡ at → length p ≡ k → paste (pad n l) at p k ≡ pad n (l ++ p)

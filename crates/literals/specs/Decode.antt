@@ -109,11 +109,11 @@ byte p i = getD p i 0
 
 -- "12 wrong length; 15 arity": "arity, 0 to 6"
 unfoldable pub relationStop : List ℕ → ℕ
-relationStop p = cond (not (eqb (length p) 1)) 12 (cond (ltb 6 (byte p 0)) 15 0)
+relationStop p = cond (not (eqb (length p) 1)) 12 (cond (ltb maxArguments (byte p 0)) 15 0)
 
 -- "15 .. count or sort": "variable count, 0 to 16; sort, 0 at once, 1 lasting"
 unfoldable pub actionStop : List ℕ → ℕ
-actionStop p = cond (not (eqb (length p) 2)) 12 (cond (ltb 16 (byte p 0)) 15 (cond (ltb 1 (byte p 1)) 15 0))
+actionStop p = cond (not (eqb (length p) 2)) 12 (cond (ltb maxVariables (byte p 0)) 15 (cond (ltb 1 (byte p 1)) 15 0))
 
 -- "role, relation, one variable per argument"
 abbrev pub literalOf : List ℕ → Literal

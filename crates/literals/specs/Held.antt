@@ -1,21 +1,20 @@
 -- How the code holds a domain that was read: a head, in sections, and the table of its literals. Assumes nothing.
 use mathlib.Core.Path.{_≡_}
 use mathlib.Core.Bool.{Bool, cond}
-use mathlib.Core.List.{List, [], _∷_, _++_, map, flatMap}
-use Prim.Native.Nat.{ℕ, zero, suc, _+_, _-_, _*_, _/_, _%_, _≤_, _<_}
+use mathlib.Core.List.{List, [], _∷_, map, flatMap}
+use Prim.Native.Nat.{ℕ, zero, suc, _+_, _-_, _*_, _≤_, _<_}
 use lib.Dec.{eqb, ltb, leb}
 use lib.ListN.{length, take, drop, getD}
 use Rattle.records.specs.Memory.{over}
 use Rattle.literals.specs.declared.span.Span.{Span}
-use Rattle.literals.specs.declared.Counts.{Counts}
-use Rattle.literals.specs.Domain.{Action, keysOf, Domain, arity, action}
-use Rattle.literals.specs.Decode.{maxRelations, maxArguments, maxActions, maxVariables, maxLiterals, maxComponents}
-use Rattle.literals.specs.Table.{literalRow, componentRow, pad, startsFrom, sortNumber, allLiterals, tableBytes, Bounded}
+use Rattle.literals.specs.Domain.{keysOf, Domain, arity, action}
+use Rattle.literals.specs.Decode.{RecordKind, stopOf, extend, maxRelations, maxArguments, maxActions, maxVariables, maxLiterals, maxComponents}
+use Rattle.literals.specs.Table.{literalRow, componentRow, allLiterals, tableBytes, Bounded}
 
 -- ---- where a head has what: a byte for each relation, 8 for each component, and a byte for each action in each of the columns behind
 
 abbrev pub atArities : ℕ
-atArities = 8
+atArities = 4
 
 abbrev pub atParts : ℕ
 atParts = atArities + maxRelations
@@ -41,7 +40,7 @@ abbrev pub within : ℕ → ℕ → ℕ
 within limit n = cond (leb n limit) n 0
 
 unfoldable pub relationsIn : List ℕ → ℕ
-relationsIn head = within 64 (getD head 0 0)
+relationsIn head = within maxRelations (getD head 0 0)
 
 unfoldable pub actionsIn : List ℕ → ℕ
 actionsIn head = within maxActions (getD head 1 0)
@@ -88,32 +87,6 @@ sizeIn head i = within maxLiterals (getD head (atSizes + i) 0)
 unfoldable pub firstIn : List ℕ → ℕ → ℕ
 firstIn head i = getD head (atLows + i) 0 + 256 * getD head (atHighs + i) 0
 
--- ---- the bytes of a domain's head: how many there are of each, then the sections
-
-abbrev pub countBytes : Domain → List ℕ
-countBytes D =
-    let n = length (allLiterals (D .actions)) in
-    length (D .arities) ∷ length (D .actions) ∷ length (D .template) ∷ keysOf (D .template) ∷ n % 256 ∷ n / 256 ∷ 0 ∷ 0 ∷ []
-
--- of each action
-abbrev pub actionBytes : (Action → ℕ) → Domain → List ℕ
-actionBytes f D = pad maxActions (map f (D .actions))
-
--- how many literals each action has, and the row of the first
-unfoldable pub spanBytes : Domain → List ℕ
-spanBytes D =
-    actionBytes (λ (a : Action). length (a .lits)) D
-    ++ (pad maxActions (map (λ n. n % 256) (startsFrom 0 (D .actions))) ++ pad maxActions (map (λ n. n / 256) (startsFrom 0 (D .actions))))
-
-unfoldable pub headOf : Domain → List ℕ
-unfolding flatMap allLiterals spanBytes
-headOf D =
-    countBytes D
-    ++ (pad maxRelations (D .arities)
-    ++ (pad (8 * maxComponents) (flatMap componentRow (D .template))
-    ++ (actionBytes (λ (a : Action). a .vars) D
-    ++ (actionBytes sortNumber D ++ spanBytes D))))
-
 -- ---- what head and table say of a domain that they hold
 
 pub record HeadOf (D : Domain) (head : List ℕ) : Type 0 where
@@ -138,6 +111,20 @@ pub record Held (D : Domain) (head table : List ℕ) : Type 0 where
 abbrev pub Read : List ℕ → List ℕ → Type 0
 Read head table = (D : Domain) × Held D head table
 
+-- ---- a head with a record more
+
+abbrev pub headBytes : ℕ
+headBytes = atHighs + maxActions
+
+-- a whole head that holds a domain
+pub record Filled (D : Domain) (head : List ℕ) : Type 0 where
+  pub says : HeadOf D head
+  pub room : length head ≡ headBytes
+
+-- whatever domain the head held, it holds the domain with the record then
+abbrev pub Adds : RecordKind → List ℕ → List ℕ → List ℕ → Type 0
+Adds k p head after = (D : Domain) → Filled D head → stopOf D k p ≡ 0 → Filled (extend D k p) after
+
 -- ---- the rows of an action's literals
 
 -- they lie in a table of n bytes, and are at most as many as an action has
@@ -151,26 +138,3 @@ pub record SpanOf (D : Domain) (i : ℕ) (table : List ℕ) (r : Span) : Type 0 
   pub first : r .from ≡ length (allLiterals (take i (D .actions)))
   pub size : r .to ≡ r .from + length (action D i .lits)
   pub literals : take (8 * r .to - 8 * r .from) (drop (8 * r .from) table) ≡ flatMap literalRow (action D i .lits)
-
--- ---- what packing asks of the memories that reading fills
-
-pub record CountsFit (n : Counts) : Type 0 where
-  pub relations : n .relations ≤ maxRelations
-  pub actions : n .actions ≤ maxActions
-  pub components : n .components ≤ maxComponents
-  pub keys : n .keys ≤ maxArguments
-  pub rows : n .rows ≤ maxLiterals * maxActions
-
-pub record SpansFit (n : Counts) (starts : List ℕ) : Type 0 where
-  pub counted : CountsFit n
-  pub room : length starts ≡ maxActions
-  pub order : (i : ℕ) → i < n .actions → getD starts i 0 ≤ cond (ltb (i + 1) (n .actions)) (getD starts (i + 1) 0) (n .rows)
-  pub within-rows : (i : ℕ) → i < n .actions → cond (ltb (i + 1) (n .actions)) (getD starts (i + 1) 0) (n .rows) ≤ n .rows
-  pub few : (i : ℕ) → i < n .actions → cond (ltb (i + 1) (n .actions)) (getD starts (i + 1) 0) (n .rows) ≤ getD starts i 0 + maxLiterals
-
-pub record Packable (n : Counts) (arities variables sorts starts parts : List ℕ) : Type 0 where
-  pub spans : SpansFit n starts
-  pub arities-room : length arities ≡ maxRelations
-  pub variables-room : length variables ≡ maxActions
-  pub sorts-room : length sorts ≡ maxActions
-  pub parts-room : length parts ≡ 8 * maxComponents

@@ -5,3 +5,4 @@ pub mod Decode
 pub mod Table
 pub mod Held
 pub mod Keys
+pub mod Fields

@@ -1,5 +1,10 @@
 // The fields of a record: each check answers the number that stops it, or 0.
 use super::RecordFault;
+use super::head::Head;
+use super::head::arity_of;
+use super::head::is_lasting;
+use super::head::relations_in;
+use super::head::variables_of;
 use super::limits::MAX_ARGUMENTS;
 use super::limits::MAX_VARIABLES;
 use records::bytes::any_from;
@@ -10,11 +15,11 @@ ghost use mathlib.Core.Bool.{_&&_, _||_, not};
 ghost use mathlib.Core.List.{[], map};
 ghost use Prim.Native.Nat.{_+_, _<_, _≤_};
 ghost use lib.Dec.{eqb, ltb, leb};
-ghost use lib.ListN.{length, drop, take};
+ghost use lib.ListN.{length, drop};
 ghost use Rattle.records.specs.Lists.{any, countBy, firstAt};
 ghost use Rattle.literals.specs.Domain.{isCounted};
-ghost use Rattle.literals.specs.Decode.{maxArguments, relationStop, actionStop, labelOf, labelFault};
-ghost use Rattle.literals.specs.Table.{argumentsStop, literalFields, componentFields, again, highKey, eachOnce};
+ghost use Rattle.literals.specs.Decode.{maxActions, maxArguments, relationStop, actionStop, labelOf, labelFault};
+ghost use Rattle.literals.specs.Fields.{argumentsStop, literalFields, componentFields, again, highKey, eachOnce};
 
 // A relation: its arity.
 pub fn relation_fields(p: &[u8]) -> u64
@@ -45,64 +50,62 @@ pub fn action_fields(p: &[u8]) -> u64
     12
 }
 
-// Whether an action of this sort has no such role.
-fn no_role(sort: u8, role: u8) -> bool
-    ensures { λ r. ⌜ r ≡ (ltb 9 role || (ltb 3 role && not (eqb sort 1))) ⌝ }
+// Whether an action, a lasting one or one at once, has no such role.
+fn no_role(lasting: bool, role: u8) -> bool
+    ensures { λ r. ⌜ r ≡ (ltb 9 role || (ltb 3 role && not lasting)) ⌝ }
 {
     if 9 < role {
         return true;
     }
     if 3 < role {
-        return sort != 1;
+        return !lasting;
     }
     false
 }
 
 // The relation of a literal or component whose arguments start at `first` of its `given` bytes.
-fn arguments_stop(relations: usize, arities: &[u8], relation: u8, first: usize, given: usize) -> u64
-    requires { ⌜ (relations ≤ length (now arities)) × (first ≤ 2) ⌝ }
-    ensures { λ r. ⌜ r ≡ argumentsStop (take relations (now (arities .entry))) relation first given ⌝ }
+fn arguments_stop(head: &Head, relation: u8, first: usize, given: usize) -> u64
+    requires { ⌜ first ≤ 2 ⌝ }
+    ensures { λ r. ⌜ r ≡ argumentsStop (now (head .entry)) relation first given ⌝ }
 {
-    let at = wide(relation);
-    if relations <= at {
+    if relations_in(head) <= wide(relation) {
         return 17;
     }
-    if given == first + wide(arities[at]) {
+    if given == first + wide(arity_of(head, relation)) {
         return 0;
     }
     12
 }
 
-// A literal: role, relation, one variable per argument.
-pub fn literal_fields(relations: usize, arities: &[u8], vars: u8, sort: u8, p: &[u8]) -> u64
-    requires { ⌜ relations ≤ length (now arities) ⌝ }
-    ensures { λ r. ⌜ r ≡ literalFields (take relations (now (arities .entry))) vars sort (now (p .entry)) ⌝ }
+// A literal of the action i: role, relation, one variable per argument.
+pub fn literal_fields(head: &Head, i: usize, p: &[u8]) -> u64
+    requires { ⌜ i < maxActions ⌝ }
+    ensures { λ r. ⌜ r ≡ literalFields (now (head .entry)) i (now (p .entry)) ⌝ }
 {
     if p.len() < 2 {
         return 12;
     }
-    if no_role(sort, p[0]) {
+    if no_role(is_lasting(head, i), p[0]) {
         return 16;
     }
-    let stop = arguments_stop(relations, arities, p[1], 2, p.len());
+    let stop = arguments_stop(head, p[1], 2, p.len());
     if stop != 0 {
         return stop;
     }
-    if any_from(p, 2, vars) {
+    if any_from(p, 2, variables_of(head, i)) {
         return 18;
     }
     0
 }
 
 // A component: relation, one label per argument.
-pub fn component_fields(relations: usize, arities: &[u8], p: &[u8]) -> u64
-    requires { ⌜ relations ≤ length (now arities) ⌝ }
-    ensures { λ r. ⌜ r ≡ componentFields (take relations (now (arities .entry))) (now (p .entry)) ⌝ }
+pub fn component_fields(head: &Head, p: &[u8]) -> u64
+    ensures { λ r. ⌜ r ≡ componentFields (now (head .entry)) (now (p .entry)) ⌝ }
 {
     if p.len() < 1 {
         return 12;
     }
-    arguments_stop(relations, arities, p[0], 1, p.len())
+    arguments_stop(head, p[0], 1, p.len())
 }
 
 // Whether a label is FF or a key below n.

@@ -1,32 +1,34 @@
 // A domain that was read: a head of numbers and rows, in sections, beside the table of its literals (8 bytes a row: role, relation,
-// variables, FF to fill). Every function here answers within the limits of the format, whatever the head's bytes are, so that none asks
-// anything of them.
-use super::Counts;
+// variables, FF to fill). Every function that reads a head answers within the limits of the format, whatever its bytes are, so that none
+// asks anything of them. A head is filled record by record, from one that is all 0.
+use super::fields::count_keys;
 use super::limits::MAX_ACTIONS;
 use super::limits::MAX_ARGUMENTS;
 use super::limits::MAX_COMPONENTS;
 use super::limits::MAX_LITERALS;
 use super::limits::MAX_RELATIONS;
 use super::limits::MAX_VARIABLES;
+use super::row::put_row;
 use super::span::Span;
-use super::span::span_of;
-use records::bytes::put_bytes;
 use records::bytes::wide;
 ghost use mathlib.Core.Path.{_≡_};
-ghost use mathlib.Core.List.{List};
-ghost use Prim.Native.Nat.{ℕ, _<_, _≤_};
+ghost use mathlib.Core.List.{List, [], _∷_, _++_};
+ghost use Prim.Native.Nat.{ℕ, _+_, _*_, _<_, _≤_};
+ghost use lib.Dec.{eqb};
 ghost use lib.ListN.{length, getD};
-ghost use Rattle.literals.specs.Domain.{Domain};
-ghost use Rattle.literals.specs.Decode.{maxActions, maxVariables, maxArguments, maxComponents};
-ghost use Rattle.literals.specs.Table.{indexWith, Holds};
-ghost use Rattle.literals.specs.Held.{CountsFit, SpansFit, Packable, countBytes, spanBytes, headOf, within, relationsIn, actionsIn};
-ghost use Rattle.literals.specs.Held.{componentsIn, keysIn, arityIn, partIn, variablesIn, lastingIn, Held, SpanFits, SpanOf};
+ghost use Rattle.records.specs.Lists.{any};
+ghost use Rattle.literals.specs.Domain.{Domain, keysOf};
+ghost use Rattle.literals.specs.Decode.{maxRelations, maxActions, maxVariables, maxArguments, maxLiterals, maxComponents};
+ghost use Rattle.literals.specs.Decode.{relationRecord, actionRecord, literalRecord, componentRecord, componentOf, byte};
+ghost use Rattle.literals.specs.Table.{allLiterals};
+ghost use Rattle.literals.specs.Held.{within, relationsIn, actionsIn, componentsIn, keysIn, arityIn, partIn, partsIn, variablesIn};
+ghost use Rattle.literals.specs.Held.{lastingIn, sizeIn, firstIn, Held, SpanFits, SpanOf, HeadOf, headBytes, Adds};
 
 pub const HEAD: usize = HIGHS + MAX_ACTIONS;
 
 pub type Head = [u8; HEAD];
 
-// How many there are of each: relations, actions, components, keys; then the literals, in two bytes, the lower first.
+// How many there are of each: relations, actions, components, keys.
 const RELATIONS: usize = 0;
 
 const ACTIONS: usize = 1;
@@ -35,7 +37,7 @@ const COMPONENTS: usize = 2;
 
 const KEYS: usize = 3;
 // A byte for each relation.
-const ARITIES: usize = 8;
+const ARITIES: usize = 4;
 // 8 bytes for each component: relation, labels, FF to fill.
 const PARTS: usize = ARITIES + MAX_RELATIONS;
 // A byte for each action: variables, 1 for a lasting one, how many literals, and the row of the first, whose two bytes stand apart.
@@ -48,13 +50,6 @@ const SIZES: usize = SORTS + MAX_ACTIONS;
 const LOWS: usize = SIZES + MAX_ACTIONS;
 
 const HIGHS: usize = LOWS + MAX_ACTIONS;
-// The last three columns by themselves.
-const SPAN_LOWS: usize = LOWS - SIZES;
-
-const SPAN_HIGHS: usize = HIGHS - SIZES;
-
-const SPANS: usize = HEAD - SIZES;
-
 // The number of a byte, 0 above the limit.
 fn limited(n: u8, limit: u8) -> u8
     ensures { λ r. ⌜ (r ≡ within limit n) × (r ≤ limit) ⌝ }
@@ -66,9 +61,9 @@ fn limited(n: u8, limit: u8) -> u8
 }
 
 pub fn relations_in(head: &Head) -> usize
-    ensures { λ r. ⌜ (r ≡ relationsIn (now (head .entry))) × (r ≤ 64) ⌝ }
+    ensures { λ r. ⌜ (r ≡ relationsIn (now (head .entry))) × (r ≤ maxRelations) ⌝ }
 {
-    wide(limited(head[RELATIONS], 64))
+    wide(limited(head[RELATIONS], MAX_RELATIONS as u8))
 }
 
 pub fn actions_in(head: &Head) -> usize
@@ -108,6 +103,21 @@ pub fn part_byte(head: &Head, c: usize, i: usize) -> u8
     head[PARTS + 8 * c + i]
 }
 
+// Whether a component has this relation.
+pub fn is_used(head: &Head, relation: u8) -> bool
+    ensures { λ r. ⌜ r ≡ any (λ row. eqb relation (byte row 0)) (partsIn (now (head .entry))) ⌝ }
+{
+    let n = components_in(head);
+    let mut c = 0;
+    while c < n {
+        if part_byte(head, c, 0) == relation {
+            return true;
+        }
+        c += 1;
+    }
+    false
+}
+
 pub fn variables_of(head: &Head, i: usize) -> u8
     requires { ⌜ i < maxActions ⌝ }
     ensures { λ r. ⌜ (r ≡ variablesIn (now (head .entry)) i) × (r ≤ maxVariables) ⌝ }
@@ -122,6 +132,24 @@ pub fn is_lasting(head: &Head, i: usize) -> bool
     head[SORTS + i] == 1
 }
 
+// The row of an action's first literal.
+fn first_of(head: &Head, i: usize) -> usize
+    requires { ⌜ i < maxActions ⌝ }
+    ensures row { λ r. ⌜ r ≡ firstIn (now (head .entry)) i ⌝ }
+    ensures low { λ r. ⌜ r < 65536 ⌝ }
+{
+    wide(head[LOWS + i]) + 256 * wide(head[HIGHS + i])
+}
+
+// How many literals an action has.
+fn size_of(head: &Head, i: usize) -> u8
+    requires { ⌜ i < maxActions ⌝ }
+    ensures number { λ r. ⌜ r ≡ sizeIn (now (head .entry)) i ⌝ }
+    ensures most { λ r. ⌜ r ≤ maxLiterals ⌝ }
+{
+    limited(head[SIZES + i], MAX_LITERALS as u8)
+}
+
 // The rows of an action's literals in the table.
 pub fn rows_of(head: &Head, table: &[u8], i: usize) -> Span
     requires { ⌜ i < maxActions ⌝ }
@@ -129,67 +157,89 @@ pub fn rows_of(head: &Head, table: &[u8], i: usize) -> Span
     ensures rows { λ r. ⌜ ((D : Domain) → Held D (now (head .entry)) (now (table .entry)) → i < length (D .actions)
         → SpanOf D i (now (table .entry)) r) ⌝ }
 {
-    let from = wide(head[LOWS + i]) + 256 * wide(head[HIGHS + i]);
-    let to = from + wide(limited(head[SIZES + i], MAX_LITERALS as u8));
+    let from = first_of(head, i);
+    let to = from + wide(size_of(head, i));
     if table.len() < 8 * to {
         return Span { from: 0, to: 0 };
     }
     Span { from, to }
 }
 
-// Of each action how many literals it has, and the row of the first: a byte for each action, then the lower bytes, then the higher.
-fn spans_of(counts: Counts, starts: &[usize]) -> [u8; SPANS]
-    requires { ⌜ SpansFit counts (now starts) ⌝ }
-    ensures { λ r. ⌜ ((D : Domain) (arities variables sorts parts : List ℕ)
-        → Holds D (indexWith counts arities variables sorts (now (starts .entry)) parts) → r ≡ spanBytes D) ⌝ }
+// How many literals all actions have: up to the last one of the latest action.
+fn literals_in(head: &Head) -> usize
+    ensures most { λ r. ⌜ r ≤ maxLiterals * maxActions ⌝ }
+    ensures number { λ r. ⌜ ((D : Domain) → HeadOf D (now (head .entry)) → r ≡ length (allLiterals (D .actions))) ⌝ }
 {
-    let mut spans = [0u8; SPANS];
-    for i in 0..counts.actions {
-        let span = span_of(starts, counts.actions, counts.rows, i);
-        spans[i] = (span.to - span.from) as u8;
-        spans[SPAN_LOWS + i] = (span.from % 256) as u8;
-        spans[SPAN_HIGHS + i] = (span.from / 256) as u8;
+    let n = actions_in(head);
+    if n == 0 {
+        return 0;
     }
-    spans
+    let to = first_of(head, n - 1) + wide(size_of(head, n - 1));
+    if MAX_LITERALS * MAX_ACTIONS < to {
+        return 0;
+    }
+    to
 }
 
-// How many there are of each.
-fn counts_of(counts: Counts) -> [u8; 8]
-    requires { ⌜ CountsFit counts ⌝ }
-    ensures { λ r. ⌜ ((D : Domain) (arities variables sorts starts parts : List ℕ)
-        → Holds D (indexWith counts arities variables sorts starts parts) → r ≡ countBytes D) ⌝ }
+// How many keys the template has with this component: its first component tells.
+pub fn keys_with(head: &Head, p: &[u8]) -> usize
+    requires { ⌜ length (now p) ≤ 1 + maxArguments ⌝ }
+    ensures number { λ r. ⌜ ((D : Domain) → HeadOf D (now (head .entry))
+        → r ≡ keysOf (D .template ++ (componentOf (now (p .entry)) ∷ []))) ⌝ }
+    ensures few { λ r. ⌜ r ≤ maxArguments ⌝ }
 {
-    let mut first = [0u8; 8];
-    first[0] = counts.relations as u8;
-    first[1] = counts.actions as u8;
-    first[2] = counts.components as u8;
-    first[3] = counts.keys as u8;
-    first[4] = (counts.rows % 256) as u8;
-    first[5] = (counts.rows / 256) as u8;
-    first
+    if components_in(head) == 0 {
+        return count_keys(p);
+    }
+    keys_in(head)
 }
 
-// The head of a domain, of the memories that reading fills.
-pub fn pack(
-    counts: Counts,
-    arities: &[u8],
-    variables: &[u8],
-    sorts: &[u8],
-    starts: &[usize],
-    parts: &[u8],
-) -> Head
-    requires { ⌜ Packable counts (now arities) (now variables) (now sorts) (now starts) (now parts) ⌝ }
-    ensures { λ r. ⌜ ((D : Domain) → Holds D (indexWith counts (now (arities .entry)) (now (variables .entry)) (now (sorts .entry))
-        (now (starts .entry)) (now (parts .entry))) → r ≡ headOf D) ⌝ }
+// The head with a relation more: its arity.
+pub fn add_relation(head: &mut Head, p: &[u8])
+    requires room { ⌜ relationsIn (now head) < maxRelations ⌝ }
+    requires long { ⌜ 0 < length (now p) ⌝ }
+    ensures { λ _. ⌜ Adds relationRecord (now (p .entry)) (now (head .entry)) (now (head .exit)) ⌝ }
 {
-    let first = counts_of(counts);
-    let spans = spans_of(counts, starts);
-    let mut head = [0u8; HEAD];
-    put_bytes(&mut head, 0, &first);
-    put_bytes(&mut head, ARITIES, arities);
-    put_bytes(&mut head, PARTS, parts);
-    put_bytes(&mut head, VARIABLES, variables);
-    put_bytes(&mut head, SORTS, sorts);
-    put_bytes(&mut head, SIZES, &spans);
-    head
+    let n = relations_in(head);
+    head[ARITIES + n] = p[0];
+    head[RELATIONS] = n as u8 + 1;
+}
+
+// The head with an action more: its variables and sort. It has no literals so far, and their first row is that behind all others.
+pub fn add_action(head: &mut Head, p: &[u8])
+    requires room { ⌜ actionsIn (now head) < maxActions ⌝ }
+    requires long { ⌜ 1 < length (now p) ⌝ }
+    ensures { λ _. ⌜ Adds actionRecord (now (p .entry)) (now (head .entry)) (now (head .exit)) ⌝ }
+{
+    let n = actions_in(head);
+    let first = literals_in(head);
+    head[VARIABLES + n] = p[0];
+    head[SORTS + n] = p[1];
+    head[SIZES + n] = 0;
+    head[LOWS + n] = (first % 256) as u8;
+    head[HIGHS + n] = (first / 256) as u8;
+    head[ACTIONS] = n as u8 + 1;
+}
+
+// The head with a literal more, of the latest action: it has one more.
+pub fn add_literal(head: &mut Head)
+    requires { ⌜ 0 < actionsIn (now head) ⌝ }
+    ensures { λ _. ⌜ ((p : List ℕ) → Adds literalRecord p (now (head .entry)) (now (head .exit))) ⌝ }
+{
+    let last = actions_in(head) - 1;
+    head[SIZES + last] = size_of(head, last) + 1;
+}
+
+// The head with a component more: its row, and the number of keys, which the first component tells.
+pub fn add_component(head: &mut Head, p: &[u8])
+    requires whole { ⌜ length (now head) ≡ headBytes ⌝ }
+    requires room { ⌜ componentsIn (now head) < maxComponents ⌝ }
+    requires short { ⌜ length (now p) ≤ 1 + maxArguments ⌝ }
+    ensures { λ _. ⌜ Adds componentRecord (now (p .entry)) (now (head .entry)) (now (head .exit)) ⌝ }
+{
+    let n = components_in(head);
+    let keys = keys_with(head, p);
+    put_row(head, PARTS + 8 * n, p);
+    head[COMPONENTS] = n as u8 + 1;
+    head[KEYS] = keys as u8;
 }

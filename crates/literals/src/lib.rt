@@ -1,4 +1,4 @@
-// A domain: numberings, moments, roles and labels, and how the code holds it (here); the fields of a record (fields); the rows of the
+// A domain: numberings, moments, roles and labels (here); a domain that was read (head); the fields of a record (fields); the rows of the
 // literal table (row), and those of one action (span); key tuples (keys).
 pub mod fields;
 pub mod head;
@@ -7,9 +7,6 @@ pub mod limits;
 pub mod row;
 pub mod span;
 
-use limits::MAX_ACTIONS;
-use limits::MAX_COMPONENTS;
-use limits::MAX_RELATIONS;
 ghost use mathlib.Core.Path.{_≡_};
 ghost use Prim.Native.Nat.{_<_};
 ghost use Rattle.literals.specs.Domain.{clauseOf, roleOf, clauseNumber, firstRole, sameTime, isKey, isCounted};
@@ -62,34 +59,6 @@ pub struct Role {
 pub struct RecordFault {
     pub number: u64,
     pub within: u8,
-}
-
-// A domain as the code holds it, beside the table of its literals (8 bytes a row: role, relation, variables, FF to fill). Contracts speak
-// of it as one; the code passes its counts by value (`Counts`) and lends its lists.
-pub struct Index {
-    pub relations: usize,
-    pub arities: [u8; MAX_RELATIONS],
-    pub actions: usize,
-    pub variables: [u8; MAX_ACTIONS],
-    // 0 at once, 1 lasting
-    pub sorts: [u8; MAX_ACTIONS],
-    // the first row of each action's literals
-    pub starts: [usize; MAX_ACTIONS],
-    pub rows: usize,
-    pub components: usize,
-    // 8 bytes a component: relation, labels, FF to fill
-    pub parts: [u8; 8 * MAX_COMPONENTS],
-    // the number of keys, 0 before the first component
-    pub keys: usize,
-}
-
-// How many a domain has of each: relations, actions, literals, components, and keys (0 before the first component).
-pub struct Counts {
-    pub relations: usize,
-    pub actions: usize,
-    pub rows: usize,
-    pub components: usize,
-    pub keys: usize,
 }
 
 // The byte of a moment in the report.

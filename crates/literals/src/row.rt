@@ -5,8 +5,7 @@ ghost use Prim.Native.Nat.{_+_, _-_, _*_, _<_, _≤_, max};
 ghost use lib.Dec.{eqb};
 ghost use lib.ListN.{length, take, drop, getD};
 ghost use lib.Seq.{paste};
-ghost use Rattle.records.specs.Lists.{any, sameList};
-ghost use Rattle.literals.specs.Decode.{byte};
+ghost use Rattle.records.specs.Lists.{sameList};
 ghost use Rattle.literals.specs.Table.{rowOf, FourAt, rowRank, rowsIn, rowsRank};
 
 // A byte of the row of a payload.
@@ -114,19 +113,4 @@ pub fn rows_rank(table: &[u8], from: usize, to: usize, p: &[u8]) -> u64
     let mut row = [0u8; 8];
     put_row(&mut row, 0, p);
     highest_rank(table, from, to, &row)
-}
-
-// Whether one of the first n rows starts with the byte b.
-pub fn any_row(table: &[u8], n: usize, b: u8) -> bool
-    requires { ⌜ 8 * n ≤ length (now table) ⌝ }
-    ensures { λ r. ⌜ r ≡ any (λ row. eqb b (byte row 0)) (rowsIn n (now (table .entry))) ⌝ }
-{
-    let mut i = 0;
-    while i < n {
-        if table[8 * i] == b {
-            return true;
-        }
-        i += 1;
-    }
-    false
 }

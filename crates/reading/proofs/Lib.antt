@@ -1,5 +1,4 @@
--- Laws of reading: what a record adds to the index and to the table, and the loop over the file.
-pub mod Indexed
+-- Laws of reading: what a record adds to head and table, and the loop over the file.
 pub mod Takes
 pub mod Written
 pub mod Turns

@@ -2,28 +2,29 @@
 use mathlib.Core.Path.{_≡_, refl, sym, ap, ap₂, subst, _∙_}
 use mathlib.Core.Bool.{Bool, true, false, cond}
 use mathlib.Core.List.{List, [], _∷_, _++_, flatMap, append-nil}
-use Prim.Native.Nat.{ℕ, _-_, _*_, _≤_, _<_}
+use Prim.Native.Nat.{ℕ, _*_, _≤_, _<_}
 use native.Mathlib.Omega.{arith}
 use lib.Dec.{eqb}
-use lib.ListN.{length, getD}
+use lib.ListN.{length}
 use lib.Seq.{paste}
 use borrow.Author.Tests.{eq-eqb, ne-eqb}
+use Rattle.records.specs.Lists.{empty}
 use Rattle.records.specs.Memory.{over}
-use Rattle.records.proofs.Lists.{flatMap-snoc, map-back}
+use Rattle.records.proofs.Lists.{clash, or-out, flatMap-snoc, map-back}
 use Rattle.literals.specs.declared.Variable.{Variable}
-use Rattle.literals.specs.declared.Index.{Index}
 use Rattle.literals.specs.Domain.{variable, Domain}
-use Rattle.literals.specs.Decode.{RecordKind, relationRecord, actionRecord, literalRecord, componentRecord, closingRecord, unknownRecord, kindOf, latest, byte, literalOf, literalStop, actionOf, stopOf, extend}
-use Rattle.literals.specs.Table.{rowOf, literalRow, allLiterals, tableBytes, indexOf, Bounded, Holds, behind, Taken, takenOf}
-use Rattle.literals.proofs.Stops.{literal-passes, role-nine, place-record}
+use Rattle.literals.specs.Decode.{RecordKind, relationRecord, actionRecord, literalRecord, componentRecord, closingRecord, unknownRecord, kindOf, latest, byte, literalOf, actionOf, fieldStop, stopOf, stopPlace, extend}
+use Rattle.literals.specs.Table.{rowOf, literalRow, allLiterals, tableBytes, Bounded}
+use Rattle.literals.specs.Held.{Filled}
+use Rattle.literals.proofs.Stops.{passes, literal-passes, role-nine}
 use Rattle.literals.proofs.Bounds.{role-number}
 use Rattle.literals.proofs.Tables.{over-row, length-literals}
-use Rattle.literals.proofs.Held.{literals-snoc, literals-more, literals-in, behind-stop, behind-done, rows-is, actions-is, stopped-at, done}
-use Rattle.reading.proofs.Takes.{literal-early, literal-late, literal-full, literal-number}
+use Rattle.literals.proofs.Held.{literals-snoc, literals-more, literals-in}
+use Rattle.reading.specs.Reading.{behind, HeldOver}
 
--- a record that is stopped leaves the table
-pub table-stopped : (D : Domain) (k : RecordKind) (p : List ℕ) {n : ℕ} {t : List ℕ} (old : List ℕ) → stopOf D k p ≡ n → (n ≡ 0 → ⊥) → t ≡ over (tableBytes D) old → t ≡ over (tableBytes (behind D k p)) old
-table-stopped D k p old e z q = q ∙ ap (λ (E : Domain). over (tableBytes E) old) (sym (behind-stop D k p e z))
+not-empty : {A : Type 0} (l : List A) → empty l ≡ false → 0 < length l
+not-empty [] e = absurd (clash refl e)
+not-empty (x ∷ l) e = omega arith
 
 -- no other kind writes a literal
 pub table-same : (D : Domain) (k : RecordKind) (p : List ℕ) → allLiterals (extend D k p .actions) ≡ allLiterals (D .actions) → tableBytes (behind D k p) ≡ tableBytes D
@@ -67,58 +68,49 @@ pub length-table : {D : Domain} → Bounded D → length (tableBytes D) ≡ 8 * 
 unfolding tableBytes
 length-table {D} b = length-literals (allLiterals (D .actions)) (λ l m. let o = literals-in (D .actions) m in b .arguments (o .0) (o .1) l (o .2))
 
-module _ {D : Domain} {index : Index} (h : Holds D index) (p : List ℕ) {t : List ℕ} (old : List ℕ) (q : t ≡ over (tableBytes D) old) where
-  stopped-both : {n : ℕ} → stopOf D literalRecord p ≡ n → (n ≡ 0 → ⊥)
-      → (record { number = n; within = 0; index = index } ≡ takenOf D literalRecord p) × (t ≡ over (tableBytes (behind D literalRecord p)) old)
-  stopped-both e z = (stopped-at h literalRecord p e z (place-record D literalRecord p refl), table-stopped D literalRecord p old e z q)
+-- head and table with a literal more
+pub literal-held : {old : List ℕ} {D : Domain} {head table : List ℕ} → HeldOver old D head table → (p : List ℕ) → stopOf D literalRecord p ≡ 0
+    → {after : List ℕ} → Filled (extend D literalRecord p) after → {rows : List ℕ} (at : ℕ) → at ≡ length (allLiterals (D .actions)) → length p ≤ 8
+    → rows ≡ paste table (8 * at) (rowOf p) 8 → HeldOver old (extend D literalRecord p) after rows
+unfolding tableBytes extend fieldStop
+literal-held {old} {D} K p e F at a l v =
+    let ok = passes D literalRecord p e in
+    let s = literal-passes D p (ok .fields) in
+    let some = or-out (empty (D .actions)) _ (ok .order) .0 in
+    let listed : 0 < length (D .actions) = not-empty (D .actions) some in
+    record {
+      filled = F;
+      rows =
+          v ∙ ap (λ (m : List ℕ). paste m (8 * at) (rowOf p) 8) (K .rows)
+          ∙ over-row (tableBytes D) old p (8 * at) (length-table (K .filled .says .bounded) ∙ ap (λ (n : ℕ). 8 * n) (sym a)) l
+          ∙ ap (λ (m : List ℕ). over m old)
+          (ap (λ (r : List ℕ). flatMap literalRow (allLiterals (D .actions)) ++ r) (literal-row p (s .long) (role-nine (latest (D .actions)) (byte p 0) (s .role)))
+          ∙ sym (flatMap-snoc literalRow (allLiterals (D .actions)) (literalOf p))
+          ∙ ap (flatMap literalRow) (sym (literals-more (literalOf p) (D .actions) listed)));
+    }
 
-  table-length : length (tableBytes D) ≡ 8 * index .rows
-  table-length = length-table (h .bounded) ∙ ap (λ (n : ℕ). 8 * n) (sym (rows-is h))
+-- head and table with a record that writes no literal
+pub unwritten : {old : List ℕ} {D : Domain} {head table : List ℕ} → HeldOver old D head table → (k : RecordKind) (p : List ℕ) → tableBytes (behind D k p) ≡ tableBytes D
+    → {n : ℕ} {after : List ℕ} → (n ≡ stopOf D k p) × Filled (behind D k p) after → (n ≡ stopOf D k p) × HeldOver old (behind D k p) after table
+unwritten {old} K k p s x = (x .0, record { filled = x .1; rows = K .rows ∙ ap (λ (m : List ℕ). over m old) (sym s) })
 
-  bytes-more : literalStop D p ≡ 0 → 0 < index .actions → tableBytes D ++ rowOf p ≡ tableBytes (extend D literalRecord p)
-  unfolding tableBytes extend
-  bytes-more e g =
-      let s = literal-passes D p e in
-      let a = actions-is h in
-      ap (λ (r : List ℕ). flatMap literalRow (allLiterals (D .actions)) ++ r) (literal-row p (s .long) (role-nine (latest (D .actions)) (byte p 0) (s .role)))
-      ∙ sym (flatMap-snoc literalRow (allLiterals (D .actions)) (literalOf p))
-      ∙ ap (flatMap literalRow) (sym (literals-more (literalOf p) (D .actions) (omega arith)))
-
-  pub literal-13 : index .actions ≡ 0 → (record { number = 13; within = 0; index = index } ≡ takenOf D literalRecord p) × (t ≡ over (tableBytes (behind D literalRecord p)) old)
-  literal-13 g = stopped-both (literal-early h p g) (λ e. omega arith)
-
-  pub literal-13-late : 0 < index .components → (record { number = 13; within = 0; index = index } ≡ takenOf D literalRecord p) × (t ≡ over (tableBytes (behind D literalRecord p)) old)
-  literal-13-late g = stopped-both (literal-late h p g) (λ e. omega arith)
-
-  module _ (a : index .actions ≡ 0 → ⊥) (c : index .components ≤ 0) (last : ℕ) (w : last ≡ index .actions - 1) where
-    pub literal-14 : 64 ≤ index .rows - getD (index .starts) last 0 → (record { number = 14; within = 0; index = index } ≡ takenOf D literalRecord p) × (t ≡ over (tableBytes (behind D literalRecord p)) old)
-    literal-14 g = stopped-both (literal-full h p a c (rw w at g)) (λ e. omega arith)
-
-    module _ (f : index .rows - getD (index .starts) last 0 < 64) {n : ℕ} (e : n ≡ literalStop D p) where
-      pub literal-refused : (n ≡ 0 → ⊥) → (record { number = n; within = 0; index = index } ≡ takenOf D literalRecord p) × (t ≡ over (tableBytes (behind D literalRecord p)) old)
-      literal-refused z = stopped-both (literal-number h p a c (rw w at f) ∙ sym e) z
-
-      pub literal-taken : {i : Index} {u : List ℕ} → n ≡ 0 → i ≡ indexOf (extend D literalRecord p) → length p ≤ 8 → u ≡ paste t (8 * index .rows) (rowOf p) 8
-          → (record { number = 0; within = 0; index = i } ≡ takenOf D literalRecord p) × (u ≡ over (tableBytes (behind D literalRecord p)) old)
-      literal-taken z k l v =
-          let s = literal-number h p a c (rw w at f) ∙ sym e ∙ z in (
-            done h literalRecord p s k,
-            v ∙ ap (λ (m : List ℕ). paste m (8 * index .rows) (rowOf p) 8) q ∙ over-row (tableBytes D) old p (8 * index .rows) table-length l
-                ∙ ap (λ (m : List ℕ). over m old) (bytes-more (sym e ∙ z) (omega arith) ∙ ap tableBytes (sym (behind-done D literalRecord p s))),
-          )
+-- the closing record adds nothing
+pub closing-kept : {D : Domain} {head : List ℕ} → Filled D head → (p : List ℕ) → Filled (behind D closingRecord p) head
+unfolding behind extend
+closing-kept {D} {head} F p = go (eqb (stopOf D closingRecord p) 0)
+  where
+    go : (b : Bool) → Filled (cond b D D) head
+    go true = F
+    go false = F
 
 -- ---- a record by its kind's number
 
-module _ (D : Domain) (p : List ℕ) {r : Taken} {t : List ℕ} (old : List ℕ) where
-  -- what a record of a kind leads to, of the kind's number
-  pub by-kind : (k : ℕ) (j : RecordKind) → kindOf k ≡ j → (r ≡ takenOf D j p) × (t ≡ over (tableBytes (behind D j p)) old)
-      → (r ≡ takenOf D (kindOf k) p) × (t ≡ over (tableBytes (behind D (kindOf k) p)) old)
-  by-kind k j e x = subst (λ (i : RecordKind). (r ≡ takenOf D i p) × (t ≡ over (tableBytes (behind D i p)) old)) (sym e) x
+module _ (D : Domain) (p : List ℕ) (k : ℕ) (j : RecordKind) (e : kindOf k ≡ j) where
+  pub by-kind : {n : ℕ} {old after rows : List ℕ} → (n ≡ stopOf D j p) × HeldOver old (behind D j p) after rows → (n ≡ stopOf D (kindOf k) p) × HeldOver old (behind D (kindOf k) p) after rows
+  by-kind {n} {old} {after} {rows} x = subst (λ (i : RecordKind). (n ≡ stopOf D i p) × HeldOver old (behind D i p) after rows) (sym e) x
 
-  -- of a kind that writes no literal
-  pub unwritten : (k : ℕ) (j : RecordKind) → kindOf k ≡ j → r ≡ takenOf D j p → tableBytes (behind D j p) ≡ tableBytes D → t ≡ over (tableBytes D) old
-      → (r ≡ takenOf D (kindOf k) p) × (t ≡ over (tableBytes (behind D (kindOf k) p)) old)
-  unwritten k j e x s q = by-kind k j e (x, q ∙ ap (λ (m : List ℕ). over m old) (sym s))
+  pub place-by : {w : ℕ} → w ≡ stopPlace D j p → w ≡ stopPlace D (kindOf k) p
+  place-by x = x ∙ ap (λ (i : RecordKind). stopPlace D i p) (sym e)
 
 pub kind-1 : (k : ℕ) → k ≡ 1 → kindOf k ≡ relationRecord
 kind-1 k e = simp (eq-eqb k 1 e)

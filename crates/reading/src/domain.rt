@@ -1,45 +1,57 @@
 // The beginning of every service: a file is refused, or its domain stands in memory.
+use super::Progress;
 use super::Refusal;
-use super::read::read_into;
+use super::read::Stepped;
+use literals::head::HEAD;
 use literals::head::Head;
-use literals::head::pack;
-use literals::limits::MAX_ACTIONS;
-use literals::limits::MAX_COMPONENTS;
-use literals::limits::MAX_RELATIONS;
+use literals::limits::MAX_FILE;
+ghost use mathlib.Core.Path.{_≡_};
 ghost use Rattle.literals.specs.Decode.{decode};
-ghost use Rattle.reading.specs.Reading.{EnoughTable, ReadAs};
+ghost use Rattle.reading.specs.Reading.{EnoughTable, ReadAs, endedOf};
+
+// The answer of a record that ends reading.
+fn end_of(stepped: Stepped) -> Refusal
+    ensures { λ r. ⌜ r ≡ endedOf stepped ⌝ }
+{
+    let number = stepped.number;
+    let place = stepped.place;
+    let progress = stepped.progress;
+    let at = progress.at;
+    if number == 1 {
+        return Refusal {
+            number: 0,
+            place: 0,
+            start: 0,
+        };
+    }
+    Refusal {
+        number,
+        place,
+        start: at,
+    }
+}
 
 // Reads a domain file into `head` and `table`, which is enough for it, or refuses it.
 pub fn read_domain(file: &[u8], head: &mut Head, table: &mut [u8]) -> Refusal
     requires { ⌜ EnoughTable (now file) (now table) ⌝ }
     ensures { λ r. ⌜ ReadAs (decode (now (file .entry))) r (now (head .exit)) (now (table .exit)) ⌝ }
 {
-    let mut arities = [0u8; MAX_RELATIONS];
-    let mut variables = [0u8; MAX_ACTIONS];
-    let mut sorts = [0u8; MAX_ACTIONS];
-    let mut starts = [0usize; MAX_ACTIONS];
-    let mut parts = [0u8; 8 * MAX_COMPONENTS];
-    let read = read_into(
-        file,
-        &mut arities,
-        &mut variables,
-        &mut sorts,
-        &mut starts,
-        &mut parts,
-        table,
-    );
-    let number = read.number;
-    if number != 0 {
+    let mut progress = Progress::new();
+    if MAX_FILE < file.len() {
         return Refusal {
-            number,
-            place: read.place,
-            start: read.start,
+            number: 9,
+            place: 0,
+            start: 0,
         };
     }
-    *head = pack(read.counts, &arities, &variables, &sorts, &starts, &parts);
-    Refusal {
-        number: 0,
-        place: 0,
-        start: 0,
+    *head = [0u8; HEAD];
+    loop {
+        let stepped = progress.step(file, head, table);
+        let number = stepped.number;
+        if number == 0 {
+            progress = stepped.progress;
+            continue;
+        }
+        return end_of(stepped);
     }
 }

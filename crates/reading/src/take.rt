@@ -1,143 +1,87 @@
-// What one record adds to the domain: each function takes a record of one kind, or refuses it and leaves all as it was. The lists of the index stand in
-// lent memories, and only the counts go by value: an index is too large to be copied for each record.
-use super::Took;
-use literals::Counts;
+// What one record adds to the domain: each function takes a record of one kind into the head and, a literal, into the table, or tells what
+// stops it and leaves all as it was.
 use literals::RecordFault;
 use literals::fields::action_fields;
 use literals::fields::component_fields;
-use literals::fields::count_keys;
 use literals::fields::label_fields;
 use literals::fields::literal_fields;
 use literals::fields::relation_fields;
+use literals::head::Head;
+use literals::head::actions_in;
+use literals::head::add_action;
+use literals::head::add_component;
+use literals::head::add_literal;
+use literals::head::add_relation;
+use literals::head::components_in;
+use literals::head::is_used;
+use literals::head::keys_with;
+use literals::head::relations_in;
+use literals::head::rows_of;
 use literals::limits::MAX_ACTIONS;
 use literals::limits::MAX_COMPONENTS;
 use literals::limits::MAX_LITERALS;
 use literals::limits::MAX_RELATIONS;
-use literals::row::any_row;
 use literals::row::put_row;
 use literals::row::rows_rank;
 ghost use mathlib.Core.Path.{_≡_};
-ghost use mathlib.Core.List.{List, [], _∷_, _++_};
-ghost use Prim.Native.Nat.{ℕ, _+_, _-_, _*_, _<_, _≤_};
+ghost use Prim.Native.Nat.{_+_, _≤_, _<_};
 ghost use lib.ListN.{length};
-ghost use Rattle.records.specs.Memory.{over};
-ghost use Rattle.literals.specs.Domain.{Domain, keysOf};
-ghost use Rattle.literals.specs.Decode.{maxRelations, maxArguments, maxActions, relationRecord, actionRecord, literalRecord, componentRecord, closingRecord, kindOf, literalStop, componentOf, componentFault};
-ghost use Rattle.literals.specs.Table.{indexWith, Holds, Shaped, Sized, tableBytes, takenOf, behind};
-ghost use Rattle.reading.specs.Reading.{takenWith, LiteralReady, RowRoom, ComponentReady};
+ghost use Rattle.literals.specs.Domain.{Domain};
+ghost use Rattle.literals.specs.Decode.{maxArguments, maxActions, literalStop, componentFault, stopOf, stopPlace};
+ghost use Rattle.literals.specs.Decode.{kindOf, relationRecord, actionRecord, literalRecord, componentRecord, closingRecord};
+ghost use Rattle.literals.specs.Held.{HeadOf, Held, headBytes};
+ghost use Rattle.reading.specs.Reading.{Takes, TakesRow, RecordReady};
 
-pub fn take_relation(counts: Counts, arities: &mut [u8], p: &[u8]) -> Took
-    requires { ⌜ length (now arities) ≡ maxRelations ⌝ }
-    ensures { λ r. ⌜ ((D : Domain) (variables sorts starts parts : List ℕ) → Holds D (indexWith counts (now (arities .entry)) variables sorts starts parts)
-        → takenWith r (now (arities .exit)) variables sorts starts parts ≡ takenOf D relationRecord (now (p .entry))) ⌝ }
+pub fn take_relation(head: &mut Head, p: &[u8]) -> u64
+    ensures { λ r. ⌜ Takes relationRecord (now (p .entry)) r (now (head .entry)) (now (head .exit)) ⌝ }
 {
-    let n = counts.relations;
-    if 0 < counts.actions {
-        return Took {
-            number: 13,
-            within: 0,
-            counts,
-        };
+    if 0 < actions_in(head) {
+        return 13;
     }
-    if 0 < counts.components {
-        return Took {
-            number: 13,
-            within: 0,
-            counts,
-        };
+    if 0 < components_in(head) {
+        return 13;
     }
-    if MAX_RELATIONS <= n {
-        return Took {
-            number: 14,
-            within: 0,
-            counts,
-        };
+    if MAX_RELATIONS <= relations_in(head) {
+        return 14;
     }
     let number = relation_fields(p);
     if number == 0 {
-        arities[n] = p[0];
-        let mut next = counts;
-        next.relations = n + 1;
-        return Took {
-            number: 0,
-            within: 0,
-            counts: next,
-        };
+        add_relation(head, p);
+        return 0;
     }
-    Took {
-        number,
-        within: 0,
-        counts,
-    }
+    number
 }
 
-pub fn take_action(
-    counts: Counts,
-    variables: &mut [u8],
-    sorts: &mut [u8],
-    starts: &mut [usize],
-    p: &[u8],
-) -> Took
-    requires { ⌜ (length (now variables) ≡ maxActions) × (length (now sorts) ≡ maxActions) × (length (now starts) ≡ maxActions) ⌝ }
-    ensures { λ r. ⌜ ((D : Domain) (arities parts : List ℕ) → Holds D (indexWith counts arities (now (variables .entry)) (now (sorts .entry)) (now (starts .entry)) parts)
-        → takenWith r arities (now (variables .exit)) (now (sorts .exit)) (now (starts .exit)) parts ≡ takenOf D actionRecord (now (p .entry))) ⌝ }
+pub fn take_action(head: &mut Head, p: &[u8]) -> u64
+    ensures { λ r. ⌜ Takes actionRecord (now (p .entry)) r (now (head .entry)) (now (head .exit)) ⌝ }
 {
-    let n = counts.actions;
-    if 0 < counts.components {
-        return Took {
-            number: 13,
-            within: 0,
-            counts,
-        };
+    if 0 < components_in(head) {
+        return 13;
     }
-    if MAX_ACTIONS <= n {
-        return Took {
-            number: 14,
-            within: 0,
-            counts,
-        };
+    if MAX_ACTIONS <= actions_in(head) {
+        return 14;
     }
     let number = action_fields(p);
     if number == 0 {
-        variables[n] = p[0];
-        sorts[n] = p[1];
-        starts[n] = counts.rows;
-        let mut next = counts;
-        next.actions = n + 1;
-        return Took {
-            number: 0,
-            within: 0,
-            counts: next,
-        };
+        add_action(head, p);
+        return 0;
     }
-    Took {
-        number,
-        within: 0,
-        counts,
-    }
+    number
 }
 
 // The number that stops a literal of the action `last`, the latest.
-fn literal_number(
-    counts: Counts,
-    last: usize,
-    arities: &[u8],
-    variables: &[u8],
-    sorts: &[u8],
-    starts: &[usize],
-    table: &[u8],
-    p: &[u8],
-) -> u64
-    requires { ⌜ LiteralReady counts (now arities) (now variables) (now sorts) (now starts) × (last + 1 ≡ counts .actions) × (2 ≤ length (now p) → 8 * counts .rows ≤ length (now table)) ⌝ }
-    ensures number { λ r. ⌜ ((D : Domain) (parts old : List ℕ) → Holds D (indexWith counts (now (arities .entry)) (now (variables .entry)) (now (sorts .entry)) (now (starts .entry)) parts)
-        → now (table .entry) ≡ over (tableBytes D) old → r ≡ literalStop D (now (p .entry))) ⌝ }
+fn literal_number(head: &Head, table: &[u8], last: usize, p: &[u8]) -> u64
+    requires { ⌜ last < maxActions ⌝ }
+    ensures number { λ r. ⌜ ((D : Domain) → Held D (now (head .entry)) (now (table .entry)) → last + 1 ≡ length (D .actions)
+        → r ≡ literalStop D (now (p .entry))) ⌝ }
     ensures fits { λ r. ⌜ (r ≡ 0 → (2 ≤ length (now (p .entry))) × (length (now (p .entry)) ≤ 8)) ⌝ }
 {
-    let fields = literal_fields(counts.relations, arities, variables[last], sorts[last], p);
+    let fields = literal_fields(head, last, p);
     if fields != 0 {
         return fields;
     }
-    let rank = rows_rank(table, starts[last], counts.rows, p);
+    let span = rows_of(head, table, last);
+    let rank = rows_rank(table, span.from, span.to, p);
     if rank == 2 {
         return 19;
     }
@@ -147,187 +91,113 @@ fn literal_number(
     0
 }
 
-pub fn take_literal(
-    counts: Counts,
-    arities: &[u8],
-    variables: &[u8],
-    sorts: &[u8],
-    starts: &[usize],
-    table: &mut [u8],
-    p: &[u8],
-) -> Took
-    requires { ⌜ LiteralReady counts (now arities) (now variables) (now sorts) (now starts) × RowRoom counts (now starts) (now table) (now p) ⌝ }
-    ensures { λ r. ⌜ ((D : Domain) (parts old : List ℕ) → Holds D (indexWith counts (now (arities .entry)) (now (variables .entry)) (now (sorts .entry)) (now (starts .entry)) parts)
-        → now (table .entry) ≡ over (tableBytes D) old
-        → (takenWith r (now (arities .entry)) (now (variables .entry)) (now (sorts .entry)) (now (starts .entry)) parts ≡ takenOf D literalRecord (now (p .entry)))
-        × (now (table .exit) ≡ over (tableBytes (behind D literalRecord (now (p .entry)))) old)) ⌝ }
+pub fn take_literal(head: &mut Head, table: &mut [u8], p: &[u8]) -> u64
+    requires { ⌜ RecordReady (now head) (now table) (now p) ⌝ }
+    ensures { λ r. ⌜ TakesRow literalRecord (now (p .entry)) r
+        (now (head .entry)) (now (table .entry)) (now (head .exit)) (now (table .exit)) ⌝ }
 {
-    let n = counts.actions;
-    let rows = counts.rows;
+    let n = actions_in(head);
     if n == 0 {
-        return Took {
-            number: 13,
-            within: 0,
-            counts,
-        };
+        return 13;
     }
-    if 0 < counts.components {
-        return Took {
-            number: 13,
-            within: 0,
-            counts,
-        };
+    if 0 < components_in(head) {
+        return 13;
     }
     let last = n - 1;
-    if MAX_LITERALS <= rows - starts[last] {
-        return Took {
-            number: 14,
-            within: 0,
-            counts,
-        };
+    let span = rows_of(head, table, last);
+    if MAX_LITERALS <= span.to - span.from {
+        return 14;
     }
-    let number = literal_number(counts, last, arities, variables, sorts, starts, table, p);
+    let number = literal_number(head, table, last, p);
     if number == 0 {
-        put_row(table, 8 * rows, p);
-        let mut next = counts;
-        next.rows = rows + 1;
-        return Took {
-            number: 0,
-            within: 0,
-            counts: next,
-        };
+        put_row(table, 8 * span.to, p);
+        add_literal(head);
+        return 0;
     }
-    Took {
-        number,
-        within: 0,
-        counts,
-    }
-}
-
-// The number of keys of the template with this component.
-fn keys_with(counts: Counts, p: &[u8]) -> usize
-    requires { ⌜ (counts .keys ≤ maxArguments) × (length (now p) ≤ 1 + maxArguments) ⌝ }
-    ensures number { λ r. ⌜ ((D : Domain) (arities variables sorts starts parts : List ℕ) → Holds D (indexWith counts arities variables sorts starts parts)
-        → r ≡ keysOf (D .template ++ (componentOf (now (p .entry)) ∷ []))) ⌝ }
-    ensures few { λ r. ⌜ r ≤ maxArguments ⌝ }
-{
-    if counts.components == 0 {
-        return count_keys(p);
-    }
-    counts.keys
+    number
 }
 
 // What stops a component.
-fn component_fault(counts: Counts, arities: &[u8], parts: &[u8], p: &[u8]) -> RecordFault
-    requires { ⌜ ComponentReady counts (now arities) (now parts) ⌝ }
-    ensures fault { λ r. ⌜ ((D : Domain) (variables sorts starts : List ℕ) → Holds D (indexWith counts (now (arities .entry)) variables sorts starts (now (parts .entry)))
-        → r ≡ componentFault D (now (p .entry))) ⌝ }
+fn component_fault(head: &Head, p: &[u8]) -> RecordFault
+    ensures fault { λ r. ⌜ ((D : Domain) → HeadOf D (now (head .entry)) → r ≡ componentFault D (now (p .entry))) ⌝ }
     ensures fits { λ r. ⌜ (r .number ≡ 0 → length (now (p .entry)) ≤ 1 + maxArguments) ⌝ }
 {
-    let fields = component_fields(counts.relations, arities, p);
+    let fields = component_fields(head, p);
     if fields != 0 {
         return RecordFault {
             number: fields,
             within: 0,
         };
     }
-    if any_row(parts, counts.components, p[0]) {
+    if is_used(head, p[0]) {
         return RecordFault {
             number: 22,
             within: 0,
         };
     }
-    label_fields(p, keys_with(counts, p))
+    label_fields(p, keys_with(head, p))
 }
 
-pub fn take_component(counts: Counts, arities: &[u8], parts: &mut [u8], p: &[u8]) -> Took
-    requires { ⌜ ComponentReady counts (now arities) (now parts) ⌝ }
-    ensures { λ r. ⌜ ((D : Domain) (variables sorts starts : List ℕ) → Holds D (indexWith counts (now (arities .entry)) variables sorts starts (now (parts .entry)))
-        → takenWith r (now (arities .entry)) variables sorts starts (now (parts .exit)) ≡ takenOf D componentRecord (now (p .entry))) ⌝ }
+pub fn take_component(head: &mut Head, p: &[u8]) -> RecordFault
+    requires { ⌜ length (now head) ≡ headBytes ⌝ }
+    ensures number { λ r. ⌜ Takes componentRecord (now (p .entry)) (r .number) (now (head .entry)) (now (head .exit)) ⌝ }
+    ensures place { λ r. ⌜ ((D : Domain) → HeadOf D (now (head .entry)) → r .within ≡ stopPlace D componentRecord (now (p .entry))) ⌝ }
 {
-    let n = counts.components;
-    if MAX_COMPONENTS <= n {
-        return Took {
+    if MAX_COMPONENTS <= components_in(head) {
+        return RecordFault {
             number: 14,
             within: 0,
-            counts,
         };
     }
-    let fault = component_fault(counts, arities, parts, p);
+    let fault = component_fault(head, p);
     let number = fault.number;
-    let within = fault.within;
     if number == 0 {
-        put_row(parts, 8 * n, p);
-        let mut next = counts;
-        next.components = n + 1;
-        next.keys = keys_with(counts, p);
-        return Took {
-            number: 0,
-            within: 0,
-            counts: next,
-        };
+        add_component(head, p);
+        return fault;
     }
-    Took {
-        number,
-        within,
-        counts,
-    }
+    fault
 }
 
-pub fn take_closing(counts: Counts, p: &[u8]) -> Took
-    ensures { λ r. ⌜ ((D : Domain) (arities variables sorts starts parts : List ℕ) → Holds D (indexWith counts arities variables sorts starts parts)
-        → takenWith r arities variables sorts starts parts ≡ takenOf D closingRecord (now (p .entry))) ⌝ }
+pub fn take_closing(head: &Head, p: &[u8]) -> u64
+    ensures { λ r. ⌜ ((D : Domain) → HeadOf D (now (head .entry)) → r ≡ stopOf D closingRecord (now (p .entry))) ⌝ }
 {
     if p.len() != 0 {
-        return Took {
-            number: 12,
-            within: 0,
-            counts,
-        };
+        return 12;
     }
-    if counts.components == 0 {
-        return Took {
-            number: 23,
-            within: 0,
-            counts,
-        };
+    if components_in(head) == 0 {
+        return 23;
     }
-    Took {
-        number: 0,
-        within: 0,
-        counts,
-    }
+    0
 }
 
 // A record of any kind.
-pub fn take_record(
-    counts: Counts,
-    arities: &mut [u8],
-    variables: &mut [u8],
-    sorts: &mut [u8],
-    starts: &mut [usize],
-    parts: &mut [u8],
-    table: &mut [u8],
-    kind: u16,
-    p: &[u8],
-) -> Took
-    requires { ⌜ Shaped (indexWith counts (now arities) (now variables) (now sorts) (now starts) (now parts))
-        × Sized (indexWith counts (now arities) (now variables) (now sorts) (now starts) (now parts)) × RowRoom counts (now starts) (now table) (now p) ⌝ }
-    ensures { λ r. ⌜ ((D : Domain) (old : List ℕ) → Holds D (indexWith counts (now (arities .entry)) (now (variables .entry)) (now (sorts .entry)) (now (starts .entry)) (now (parts .entry)))
-        → now (table .entry) ≡ over (tableBytes D) old
-        → (takenWith r (now (arities .exit)) (now (variables .exit)) (now (sorts .exit)) (now (starts .exit)) (now (parts .exit)) ≡ takenOf D (kindOf kind) (now (p .entry)))
-        × (now (table .exit) ≡ over (tableBytes (behind D (kindOf kind) (now (p .entry)))) old)) ⌝ }
+pub fn take_record(head: &mut Head, table: &mut [u8], kind: u16, p: &[u8]) -> RecordFault
+    requires { ⌜ RecordReady (now head) (now table) (now p) ⌝ }
+    ensures number { λ r. ⌜ TakesRow (kindOf kind) (now (p .entry)) (r .number)
+        (now (head .entry)) (now (table .entry)) (now (head .exit)) (now (table .exit)) ⌝ }
+    ensures place { λ r. ⌜ ((D : Domain) → HeadOf D (now (head .entry)) → r .within ≡ stopPlace D (kindOf kind) (now (p .entry))) ⌝ }
 {
     match kind {
-        1 => take_relation(counts, arities, p),
-        2 => take_action(counts, variables, sorts, starts, p),
-        3 => take_literal(counts, arities, variables, sorts, starts, table, p),
-        4 => take_component(counts, arities, parts, p),
-        5 => take_closing(counts, p),
-        _ => Took {
+        1 => RecordFault {
+            number: take_relation(head, p),
+            within: 0,
+        },
+        2 => RecordFault {
+            number: take_action(head, p),
+            within: 0,
+        },
+        3 => RecordFault {
+            number: take_literal(head, table, p),
+            within: 0,
+        },
+        4 => take_component(head, p),
+        5 => RecordFault {
+            number: take_closing(head, p),
+            within: 0,
+        },
+        _ => RecordFault {
             number: 11,
             within: 0,
-            counts,
         },
     }
 }

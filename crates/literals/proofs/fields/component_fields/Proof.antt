@@ -1,15 +1,15 @@
--- `literals::fields::component_fields` meets its contract. Assumes nothing.
+-- `component_fields` meets its contract. Assumes nothing.
 use native.Mathlib.Omega.{arith}
-use borrow.Author.Needs.{needs}
 use borrow.Author.Tests.{lt-ltb, le-ltb}
 use lib.ListN.{length}
-use Rattle.literals.specs.Table.{argumentsStop, componentFields}
+use Rattle.literals.specs.Fields.{argumentsStop, componentFields}
+use borrow.Author.Needs.{needs}
 use Rattle.literals.proofs.fields.component_fields.Statement.{statement}
 use Rattle.literals.proofs.fields.component_fields.Tie as tie
 
 returns : tie.Need-returns
 unfolding componentFields
-returns c = simp (lt-ltb (length (c .before .before .before .args .p .now)) 1 (omega arith))
+returns c = simp (lt-ltb (length (c .before .before .args .p .now)) 1 (omega arith))
 
 shared-slice-read-arguments-stop : tie.Need-shared-slice-read-arguments-stop
 shared-slice-read-arguments-stop c = search needs
@@ -19,7 +19,7 @@ arguments-stop-requires c κs = search needs
 
 returns-2 : tie.Need-returns-2
 unfolding componentFields argumentsStop
-returns-2 c = simp (c .arguments-stop .ensures, le-ltb (length (c .before .before .before .before .before .args .p .now)) 1 (omega arith))
+returns-2 c = simp (c .arguments-stop .ensures, le-ltb (length (c .before .before .before .before .args .p .now)) 1 (omega arith))
 
 pub component-fields-spec : {M : Type 1} → statement M
 component-fields-spec =

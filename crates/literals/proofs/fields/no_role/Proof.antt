@@ -1,4 +1,4 @@
--- `literals::fields::no_role` meets its contract. Assumes nothing.
+-- `no_role` meets its contract. Assumes nothing.
 use native.Mathlib.Omega.{arith}
 use borrow.Author.Tests.{lt-ltb, le-ltb}
 use Rattle.literals.proofs.fields.no_role.Statement.{statement}

@@ -9,6 +9,9 @@ use Rattle.literals.proofs.head.relations_in.Tie as tie
 element-copy-out-limited : tie.Need-element-copy-out-limited
 element-copy-out-limited c = search needs
 
+cast-limited : tie.Need-cast-limited
+cast-limited c = search needs
+
 limited-requires : tie.Need-limited-requires
 limited-requires c κs = search needs
 
@@ -21,4 +24,5 @@ returns c = let l = c .before .limited .ensures in (c .wide .ensures .0 ∙ l .0
 
 pub relations-in-spec : {M : Type 1} → statement M
 relations-in-spec =
-    tie.close (tie.spec element-copy-out-limited limited-requires wide-requires returns)
+    tie.close (tie.spec element-copy-out-limited cast-limited
+    limited-requires wide-requires returns)

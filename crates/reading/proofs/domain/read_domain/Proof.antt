@@ -1,79 +1,57 @@
--- `domain::read_domain` meets its contract: fresh arrays are all 0, and what was read can be packed. Assumes nothing.
-use mathlib.Core.Path.{refl}
-use native.Mathlib.Omega.{arith}
-use Rattle.literals.proofs.Packs.{packable}
-use Rattle.reading.proofs.Domains.{was-read, was-refused, was-packed}
+-- `read_domain` meets its contract. The loop's invariant is `Loop` of proofs/Turns; the measure is what is left of the file. Assumes nothing.
+use mathlib.Core.Path.{refl, _∙_}
+use Prim.Native.Nat.{_-_}
+use lib.ListN.{length}
+use Rattle.reading.proofs.Turns.{Loop, begins, too-long, loop-table, loop-ready, loop-on, loop-falls, loop-answer}
 use borrow.Author.Needs.{needs}
 use Rattle.reading.proofs.domain.read_domain.Statement.{statement}
 use Rattle.reading.proofs.domain.read_domain.Tie as tie
 
-slice-aggregate-read-into : tie.Need-slice-aggregate-read-into
-slice-aggregate-read-into c = search needs
+abbrev Inv-loop : tie.InvT-loop
+Inv-loop file head₀ table₀ progress₀ head table progress = Loop file table₀ progress head table
 
-slice-aggregate-read-into-2 : tie.Need-slice-aggregate-read-into-2
-slice-aggregate-read-into-2 c = search needs
+abbrev μ-loop : tie.MeasureT-loop
+μ-loop file head₀ table₀ progress₀ head table progress = length file - progress .at
 
-slice-aggregate-read-into-3 : tie.Need-slice-aggregate-read-into-3
-slice-aggregate-read-into-3 c = search needs
+new-requires : tie.Need-new-requires Inv-loop μ-loop
+new-requires c κs = search needs
 
-slice-aggregate-read-into-4 : tie.Need-slice-aggregate-read-into-4
-slice-aggregate-read-into-4 c = search needs
+returns : tie.Need-returns Inv-loop μ-loop
+returns c = too-long _ _ _ (c .if1 .taken)
 
-slice-aggregate-read-into-5 : tie.Need-slice-aggregate-read-into-5
-slice-aggregate-read-into-5 c = search needs
+loop-holds : tie.Need-loop-holds Inv-loop μ-loop
+loop-holds c = begins _ _ _ _ (c .before .before .new .ensures) refl (c .before .if1 .left)
 
-read-into-requires : tie.Need-read-into-requires
-read-into-requires c κs = search needs
+step-requires : tie.Need-step-requires Inv-loop μ-loop
+step-requires c κs = loop-ready (c .before .before .loop .inv) (c .before .before .before .before .before .before .before .before .pre)
 
-same-length : tie.Need-same-length
-same-length c = search needs
+loop-less : tie.Need-loop-less Inv-loop μ-loop
+loop-less c = loop-falls _ _ _ _ _ (c .before .before .before .before .before .before .before .loop .inv) _ _ _ (c .before .before .before .before .step .ensures) (c .before .if2 .taken)
 
-returns : tie.Need-returns
-returns c = was-refused (c .before .before .before .before .before .before .before .before .before .before .before .before .before .before .before .before .before .args .file .now) _ _ _ (c .before .before .before .before .before .before .before .before .read-into .ensures .0) (λ z. omega arith)
+loop-again : tie.Need-loop-again Inv-loop μ-loop
+loop-again c = loop-on _ _ _ _ _ (c .before .before .before .before .before .before .before .loop .inv) _ _ _ (c .before .before .before .before .step .ensures) (c .before .if2 .taken)
 
-slice-aggregate-pack : tie.Need-slice-aggregate-pack
-slice-aggregate-pack c = search needs
+end-of-requires : tie.Need-end-of-requires Inv-loop μ-loop
+end-of-requires c κs = search needs
 
-slice-aggregate-pack-2 : tie.Need-slice-aggregate-pack-2
-slice-aggregate-pack-2 c = search needs
+same-length : tie.Need-same-length Inv-loop μ-loop
+same-length c = c .before .before .before .before .step .kept .1 .1 .1 .0 ∙ loop-table (c .before .before .before .before .before .before .before .loop .inv) (c .before .before .before .before .before .before .before .before .before .before .before .before .before .pre)
 
-slice-aggregate-pack-3 : tie.Need-slice-aggregate-pack-3
-slice-aggregate-pack-3 c = search needs
-
-slice-aggregate-pack-4 : tie.Need-slice-aggregate-pack-4
-slice-aggregate-pack-4 c = search needs
-
-slice-aggregate-pack-5 : tie.Need-slice-aggregate-pack-5
-slice-aggregate-pack-5 c = search needs
-
-pack-requires : tie.Need-pack-requires
-pack-requires c κs = packable (was-read (c .before .before .before .before .before .before .before .before .before .before .before .before .before .before .before .before .before .before .before .before .before .before .args .file .now) _ (c .before .before .before .before .before .before .before .before .before .before .before .before .before .read-into .ensures .0) (omega arith) .holds)
-
-same-length-2 : tie.Need-same-length-2
-same-length-2 c = search needs
-
-returns-2 : tie.Need-returns-2
-returns-2 c =
-    let read = c .before .before .before .before .before .before .before .before .before .before .before .before .before .before .read-into in
-    was-packed (c .before .before .before .before .before .before .before .before .before .before .before .before .before .before .before .before .before .before .before .before .before .before .before .args .file .now) _ _ _ (read .result) _ _ _ _ _ (read .ensures .0) (omega arith) (read .ensures .1) (c .pack .ensures)
+returns-2 : tie.Need-returns-2 Inv-loop μ-loop
+returns-2 c = loop-answer _ _ _ _ _ (c .before .before .before .before .before .before .before .loop .inv) _ _ _ (c .before .before .before .before .step .ensures) (c .before .if2 .left) _ (c .end-of .ensures)
 
 pub read-domain-spec : {M : Type 1} → statement M
 read-domain-spec =
     tie.close
     (tie.spec
-    slice-aggregate-read-into
-    slice-aggregate-read-into-2
-    slice-aggregate-read-into-3
-    slice-aggregate-read-into-4
-    slice-aggregate-read-into-5
-    read-into-requires
-    same-length
+    Inv-loop
+    μ-loop
+    new-requires
     returns
-    slice-aggregate-pack
-    slice-aggregate-pack-2
-    slice-aggregate-pack-3
-    slice-aggregate-pack-4
-    slice-aggregate-pack-5
-    pack-requires
-    same-length-2
+    loop-holds
+    step-requires
+    loop-less
+    loop-again
+    end-of-requires
+    same-length
     returns-2)

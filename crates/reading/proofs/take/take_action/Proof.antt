@@ -1,77 +1,50 @@
 -- `take_action` meets its contract. Assumes nothing.
 use mathlib.Core.Path.{refl, sym, _∙_}
 use native.Mathlib.Omega.{arith}
-use borrow.Author.Needs.{needs}
-use Rattle.reading.proofs.Indexed.{index-action}
+use Rattle.literals.specs.Decode.{actionRecord}
 use Rattle.literals.proofs.Stops.{action-passes}
-use Rattle.reading.proofs.Takes.{action-behind-components, action-full, action-refused, action-taken, sort-is}
+use Rattle.reading.proofs.Takes.{take-stop, take-done, not-zero, action-behind-components, action-full, action-number}
+use borrow.Author.Needs.{needs}
 use Rattle.reading.proofs.take.take_action.Statement.{statement}
 use Rattle.reading.proofs.take.take_action.Tie as tie
 
+components-in-requires : tie.Need-components-in-requires
+components-in-requires c κs = search needs
+
 returns : tie.Need-returns
-returns c D arities parts h = action-behind-components h _ (c .if1 .taken)
+returns c D F = let b = c .before .components-in .ensures .0 in take-stop F actionRecord _ (action-behind-components (F .says) _ (omega arith)) (not-zero 12)
+
+actions-in-requires : tie.Need-actions-in-requires
+actions-in-requires c κs = search needs
 
 returns-2 : tie.Need-returns-2
-returns-2 c D arities parts h = action-full h _ (omega arith) (omega arith)
+returns-2 c D F = let a = c .before .actions-in .ensures .0 in let b = c .before .before .before .before .components-in .ensures .0 in take-stop F actionRecord _ (action-full (F .says) _ (omega arith) (omega arith)) (not-zero 13)
 
 action-fields-requires : tie.Need-action-fields-requires
 action-fields-requires c κs = search needs
 
-shared-slice-read-variables : tie.Need-shared-slice-read-variables
-shared-slice-read-variables c = let q = action-passes _ (sym (c .before .before .action-fields .ensures) ∙ c .before .if3 .taken) .0 in omega arith
-
-slice-write-variables : tie.Need-slice-write-variables
-slice-write-variables c = search needs
-
-shared-slice-read-sorts : tie.Need-shared-slice-read-sorts
-shared-slice-read-sorts c = let q = action-passes _ (sym (c .before .before .before .action-fields .ensures) ∙ c .before .before .if3 .taken) .0 in omega arith
-
-slice-write-sorts : tie.Need-slice-write-sorts
-slice-write-sorts c = search needs
-
-mul-starts : tie.Need-mul-starts
-mul-starts c = search needs
-
-slice-write-starts : tie.Need-slice-write-starts
-slice-write-starts c = search needs
-
-add-next : tie.Need-add-next
-add-next c = search needs
-
-same-length : tie.Need-same-length
-same-length c = search needs
-
-same-length-2 : tie.Need-same-length-2
-same-length-2 c = search needs
-
-same-length-3 : tie.Need-same-length-3
-same-length-3 c = search needs
+add-action-requires : tie.Need-add-action-requires
+add-action-requires c κs = let a = c .before .before .before .before .actions-in .ensures .0 in let q = action-passes _ (sym (c .before .before .action-fields .ensures) ∙ c .before .if3 .taken) .0 in (omega arith, omega arith)
 
 returns-3 : tie.Need-returns-3
-returns-3 c D arities parts h =
-    let e = c .before .before .before .action-fields .ensures in
-    let z = c .before .before .if3 .taken in
-    action-taken h _ (omega arith) (omega arith) e z (index-action h _ _ _ refl (sort-is _ (sym e ∙ z)) (omega arith))
+returns-3 c D F =
+    let a = c .before .before .before .before .before .actions-in .ensures .0 in
+    let b = c .before .before .before .before .before .before .before .before .components-in .ensures .0 in
+    let n = action-number (F .says) _ (omega arith) (omega arith) (c .before .before .before .action-fields .ensures) ∙ c .before .before .if3 .taken in
+    take-done D actionRecord _ n refl (c .add-action .ensures D F n)
 
 returns-4 : tie.Need-returns-4
-returns-4 c D arities parts h = action-refused h _ (omega arith) (omega arith) (c .before .action-fields .ensures) (c .if3 .left)
+returns-4 c D F = let a = c .before .before .before .actions-in .ensures .0 in let b = c .before .before .before .before .before .before .components-in .ensures .0 in take-stop F actionRecord _ (action-number (F .says) _ (omega arith) (omega arith) (c .before .action-fields .ensures)) (c .if3 .left)
 
 pub take-action-spec : {M : Type 1} → statement M
 take-action-spec =
     tie.close
     (tie.spec
+    components-in-requires
     returns
+    actions-in-requires
     returns-2
     action-fields-requires
-    shared-slice-read-variables
-    slice-write-variables
-    shared-slice-read-sorts
-    slice-write-sorts
-    mul-starts
-    slice-write-starts
-    add-next
-    same-length
-    same-length-2
-    same-length-3
+    add-action-requires
     returns-3
     returns-4)

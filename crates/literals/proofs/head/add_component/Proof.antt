@@ -1,0 +1,55 @@
+-- `add_component` meets its contract. Assumes nothing.
+use native.Mathlib.Omega.{arith}
+use Rattle.literals.proofs.Fills.{fills-component}
+use borrow.Author.Needs.{needs}
+use Rattle.literals.proofs.head.add_component.Statement.{statement}
+use Rattle.literals.proofs.head.add_component.Tie as tie
+
+components-in-requires : tie.Need-components-in-requires
+components-in-requires c κs = search needs
+
+keys-with-requires : tie.Need-keys-with-requires
+keys-with-requires c κs = search needs
+
+mul-put-row : tie.Need-mul-put-row
+mul-put-row c = search needs
+
+add-put-row : tie.Need-add-put-row
+add-put-row c = search needs
+
+put-row-requires : tie.Need-put-row-requires
+put-row-requires c κs = search needs
+
+cast-head : tie.Need-cast-head
+cast-head c = search needs
+
+add-head : tie.Need-add-head
+add-head c = search needs
+
+element-write-head : tie.Need-element-write-head
+element-write-head c = search needs
+
+cast-head-2 : tie.Need-cast-head-2
+cast-head-2 c = search needs
+
+element-write-head-2 : tie.Need-element-write-head-2
+element-write-head-2 c = search needs
+
+returns : tie.Need-returns
+returns c D F e = fills-component F _ _ _ (c .before .before .before .before .components-in .ensures .0) (c .before .before .keys-with .ensures .0 D (F .says)) e (c .put-row .ensures)
+
+pub add-component-spec : {M : Type 1} → statement M
+add-component-spec =
+    tie.close
+    (tie.spec
+    components-in-requires
+    keys-with-requires
+    mul-put-row
+    add-put-row
+    put-row-requires
+    cast-head
+    add-head
+    element-write-head
+    cast-head-2
+    element-write-head-2
+    returns)

@@ -1,0 +1,72 @@
+-- `is_used` meets its contract: no component before c has the relation, so the test is that of those from c on. Assumes nothing.
+use mathlib.Core.Path.{_≡_, sym, ap, _∙_}
+use mathlib.Core.List.{List}
+use Prim.Native.Nat.{ℕ, _-_, _≤_}
+use native.Mathlib.Omega.{arith}
+use lib.Dec.{eqb}
+use borrow.Author.Tests.{eq-eqb, ne-eqb}
+use Rattle.records.specs.Lists.{any}
+use Rattle.literals.specs.Decode.{byte}
+use Rattle.literals.specs.Held.{componentsIn, partIn, partsFrom, partsIn}
+use Rattle.literals.proofs.Heads.{parts-hit, parts-miss, parts-none}
+use borrow.Author.Needs.{needs}
+use Rattle.literals.proofs.head.is_used.Statement.{statement}
+use Rattle.literals.proofs.head.is_used.Tie as tie
+
+abbrev Inv-loop : tie.InvT-loop
+Inv-loop head relation n c₀ c = (c ≤ n) × (any (λ (row : List ℕ). eqb relation (byte row 0)) (partsFrom head c (n - c)) ≡ any (λ (row : List ℕ). eqb relation (byte row 0)) (partsIn head))
+
+abbrev μ-loop : tie.MeasureT-loop
+μ-loop head relation n c₀ c = n - c
+
+components-in-requires : tie.Need-components-in-requires Inv-loop μ-loop
+components-in-requires c κs = search needs
+
+loop-holds : tie.Need-loop-holds Inv-loop μ-loop
+unfolding partsIn
+loop-holds c =
+    let a = c .before .args in
+    let e : c .components-in .result - 0 ≡ componentsIn (a .head .now) = omega (arith, c .components-in .ensures .0) in
+    (omega arith, ap (λ (k : ℕ). any (λ (row : List ℕ). eqb (a .relation) (byte row 0)) (partsFrom (a .head .now) 0 k)) e)
+
+part-byte-requires : tie.Need-part-byte-requires Inv-loop μ-loop
+part-byte-requires c κs = let m = c .before .before .components-in .ensures .1 in (omega arith, omega arith)
+
+returns : tie.Need-returns Inv-loop μ-loop
+returns c =
+    let a = c .before .before .before .before .before .args in
+    let l = c .before .before .before .loop in
+    sym (parts-hit (λ (row : List ℕ). eqb (a .relation) (byte row 0)) (a .head .now) _ (l .c) (omega arith) (eq-eqb (a .relation) (byte (partIn (a .head .now) (l .c)) 0) (sym (c .if1 .taken) ∙ c .before .part-byte .ensures))) ∙ l .inv .1
+
+add-c : tie.Need-add-c Inv-loop μ-loop
+add-c c = let m = c .before .before .before .before .components-in .ensures .1 in omega arith
+
+loop-less : tie.Need-loop-less Inv-loop μ-loop
+loop-less c = omega arith
+
+loop-again : tie.Need-loop-again Inv-loop μ-loop
+loop-again c =
+    let a = c .before .before .before .before .before .args in
+    let l = c .before .before .before .loop in
+    (omega arith, sym (parts-miss (λ (row : List ℕ). eqb (a .relation) (byte row 0)) (a .head .now) _ (l .c) (omega arith) (ne-eqb (a .relation) (byte (partIn (a .head .now) (l .c)) 0) (λ z. c .if1 .left (c .before .part-byte .ensures ∙ sym z)))) ∙ l .inv .1)
+
+returns-2 : tie.Need-returns-2 Inv-loop μ-loop
+returns-2 c =
+    let a = c .before .before .before .args in
+    let l = c .before .loop in
+    sym (parts-none (λ (row : List ℕ). eqb (a .relation) (byte row 0)) (a .head .now) _ (l .c) (omega arith)) ∙ l .inv .1
+
+pub is-used-spec : {M : Type 1} → statement M
+is-used-spec =
+    tie.close
+    (tie.spec
+    Inv-loop
+    μ-loop
+    components-in-requires
+    loop-holds
+    part-byte-requires
+    returns
+    add-c
+    loop-less
+    loop-again
+    returns-2)

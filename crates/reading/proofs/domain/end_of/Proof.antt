@@ -1,0 +1,16 @@
+-- `end_of` meets its contract. Assumes nothing.
+use borrow.Author.Tests.{eq-eqb, ne-eqb}
+use Rattle.reading.specs.Reading.{endedOf}
+use Rattle.reading.proofs.domain.end_of.Statement.{statement}
+use Rattle.reading.proofs.domain.end_of.Tie as tie
+
+returns : tie.Need-returns
+unfolding endedOf
+returns c = simp (eq-eqb _ 1 (c .if1 .taken))
+
+returns-2 : tie.Need-returns-2
+unfolding endedOf
+returns-2 c = simp (ne-eqb _ 1 (c .if1 .left))
+
+pub end-of-spec : {M : Type 1} → statement M
+end-of-spec = tie.close (tie.spec returns returns-2)
