@@ -27,8 +27,8 @@ use Rattle.literals.proofs.Loop.{read-more, read-done, payload-length, goOn-at}
 use Rattle.reading.specs.declared.Progress.{Progress}
 use Rattle.reading.specs.declared.Refusal.{Refusal as FileRefusal}
 use Rattle.reading.specs.declared.read.Stepped.{Stepped}
-use Rattle.reading.specs.Reading.{behind, HeldOver, RecordReady, Standing, atStart, LeadsTo, EnoughTable, StepReady, endedOf, ReadAs}
-use Rattle.reading.proofs.Takes.{behind-done, held-over}
+use Rattle.reading.specs.Reading.{behind, HeldOver, RecordReady, Standing, atStart, LeadsTo, EnoughTable, StepReady, endedOf, tableAfter, ReadAs}
+use Rattle.reading.proofs.Takes.{behind-stop, behind-done, held-over}
 use Rattle.reading.proofs.Written.{length-table}
 
 -- ---- one record
@@ -104,26 +104,26 @@ module _ (s : List ℕ) (p : Progress) {old : List ℕ} {q : Reading} {head t : 
   found r c e = let f : recordAt s (q .at) ≡ r = ap (recordAt s) (sym (S .at)) ∙ e in simp (closed-is c, f)
 
   -- what is at fault is the record itself
-  here : (n : ℕ) → readStep s q ≡ finish (refused (refuse n (q .at))) → LeadsTo old (readStep s q) (record { number = n; place = p .at; progress = p }) head t
-  here n e = rw e (refl, S .at, S .at)
+  here : (n : ℕ) → readStep s q ≡ finish (refused (refuse n (q .at))) → LeadsTo old q (readStep s q) (record { number = n; place = p .at; progress = p }) head t
+  here n e = rw e (refl, S .at, S .at, S .holds .rows)
 
-  pub step-behind : p .closed ≡ true → p .at < length s → LeadsTo old (readStep s q) (record { number = 13; place = p .at; progress = p }) head t
+  pub step-behind : p .closed ≡ true → p .at < length s → LeadsTo old q (readStep s q) (record { number = 13; place = p .at; progress = p }) head t
   unfolding readStep
   step-behind c h = let a = S .at in let l : q .at < length s = omega arith in here 13 (simp (closed-is c, lt-ltb (q .at) (length s) l))
 
-  pub step-end : p .closed ≡ true → length s ≤ p .at → LeadsTo old (readStep s q) (record { number = 1; place = 0; progress = p }) head t
+  pub step-end : p .closed ≡ true → length s ≤ p .at → LeadsTo old q (readStep s q) (record { number = 1; place = 0; progress = p }) head t
   unfolding readStep
   step-end c h =
       let a = S .at in
       let l : length s ≤ q .at = omega arith in
       let e : readStep s q ≡ finish (domain (q .sofar)) = simp (closed-is c, le-ltb (q .at) (length s) l) in
-      rw e (refl, held-over (S .holds))
+      rw e (refl, held-over (S .holds), S .holds .rows)
 
-  pub step-cut : p .closed ≡ false → recordAt s (p .at) ≡ Cut → LeadsTo old (readStep s q) (record { number = 10; place = p .at; progress = p }) head t
+  pub step-cut : p .closed ≡ false → recordAt s (p .at) ≡ Cut → LeadsTo old q (readStep s q) (record { number = 10; place = p .at; progress = p }) head t
   unfolding readFound
   step-cut c e = here 10 (found Cut c e)
 
-  pub step-none : p .closed ≡ false → recordAt s (p .at) ≡ End → LeadsTo old (readStep s q) (record { number = 10; place = p .at; progress = p }) head t
+  pub step-none : p .closed ≡ false → recordAt s (p .at) ≡ End → LeadsTo old q (readStep s q) (record { number = 10; place = p .at; progress = p }) head t
   unfolding readFound
   step-none c e = here 10 (found End c e)
 
@@ -145,7 +145,7 @@ module _ (s : List ℕ) (p : Progress) {old : List ℕ} {q : Reading} {head t : 
     within-is : stopPlace (q .sofar) (kindOf k) (payload s start len) ≡ o .within
     within-is = sym (placed ∙ ap (stopPlace (q .sofar) (kindOf k)) part-is)
 
-    pub step-on : o .number ≡ 0 → LeadsTo old (readStep s q) (record { number = 0; place = 0; progress = record { at = start + len; closed = eqb k 5 } }) after rows
+    pub step-on : o .number ≡ 0 → LeadsTo old q (readStep s q) (record { number = 0; place = 0; progress = record { at = start + len; closed = eqb k 5 } }) after rows
     unfolding readRecord
     step-on z = rw turn (refl, stands)
       where
@@ -166,10 +166,15 @@ module _ (s : List ℕ) (p : Progress) {old : List ℕ} {q : Reading} {head t : 
         turn : readStep s q ≡ goOn next
         turn = record-is ∙ simp (eq-eqb (stopOf (q .sofar) (kindOf k) (payload s start len)) 0 ok)
 
-    pub step-stop : (o .number ≡ 0 → ⊥) → {w : ℕ} → w ≡ o .within → LeadsTo old (readStep s q) (record { number = o .number; place = p .at + w; progress = p }) after rows
+    pub step-stop : (o .number ≡ 0 → ⊥) → {w : ℕ} → w ≡ o .within → LeadsTo old q (readStep s q) (record { number = o .number; place = p .at + w; progress = p }) after rows
     unfolding readRecord stopAt
-    step-stop z d = rw turn (refl, ap₂ _+_ (S .at) d, S .at)
+    step-stop z d = rw turn (refl, ap₂ _+_ (S .at) d, S .at, rows-are)
       where
+        rows-are : rows ≡ over (tableBytes (q .sofar)) old
+        rows-are =
+            taken .1 .rows
+            ∙ ap (λ (D : Domain). over (tableBytes D) old) (ap (behind (q .sofar) (kindOf k)) part-is ∙ behind-stop (q .sofar) (kindOf k) (payload s start len) number-is z)
+
         refusal : ℕ → ℕ → Refusal
         refusal n w = record { number = n; place = q .at + w; start = q .at }
 
@@ -189,12 +194,17 @@ read-long : (s : List ℕ) → maxFile < length s → readFile s ≡ record { re
 unfolding readFile
 read-long s h = rw (lt-ltb maxFile (length s) h, readFile)
 
--- a file that is too long
-pub too-long : (s head t : List ℕ) → maxFile < length s → ReadAs (decode s) (record { number = 9; place = 0; start = 0 }) head t
-unfolding decode
+table-none : (t : List ℕ) → t ≡ over (tableBytes noDomain) t
+unfolding over tableBytes allLiterals flatMap
+table-none t = refl
+
+-- a file that is too long: nothing is read
+pub too-long : (s head t : List ℕ) → maxFile < length s → ReadAs (decode s) (record { number = 9; place = 0; start = 0 }) head t × (t ≡ tableAfter s t)
+unfolding decode tableAfter
 too-long s head t h =
     let e : decode s ≡ refused (refuse 9 0) = ap (λ (x : Finished). x .result) (read-long s h) in
-    rw e (refl, refl, refl, λ z. omega arith)
+    let a : ReadAs (decode s) (record { number = 9; place = 0; start = 0 }) head t = rw e (refl, refl, refl, λ z. omega arith) in
+    (a, table-none t ∙ ap (λ (x : Finished). over (tableBytes (x .read)) t) (sym (read-long s h)))
 
 -- where the loop stands: it has read a part of the file as `readFile` does, and the fuel that is left suffices
 pub record Loop (s old : List ℕ) (p : Progress) (head t : List ℕ) : Type 0 where
@@ -213,7 +223,7 @@ begins s head t p e z h =
     record {
       short = h;
       reading = fromStart;
-      stands = record { at = ap (λ (x : Progress). x .at) e; closed = ap (λ (x : Progress). x .closed) e; holds = record { filled = filled-none head z; rows = refl } };
+      stands = record { at = ap (λ (x : Progress). x .at) e; closed = ap (λ (x : Progress). x .closed) e; holds = record { filled = filled-none head z; rows = table-none t } };
       rows = omega arith;
       within = omega arith;
       left = suc (length s);
@@ -239,7 +249,7 @@ module _ {s old : List ℕ} {p : Progress} {head t : List ℕ} (i : Loop s old p
 
 -- one turn, from what `step` ensures
 module _ (s old : List ℕ) (p : Progress) (head t : List ℕ) (i : Loop s old p head t) (o : Stepped) (head′ t′ : List ℕ)
-    (step : (q : Reading) (old : List ℕ) → Standing old q p head t → LeadsTo old (readStep s q) o head′ t′) where
+    (step : (q : Reading) (old : List ℕ) → Standing old q p head t → LeadsTo old q (readStep s q) o head′ t′) where
   record Turned : Type 0 where
     next : Loop s old (o .progress) head′ t′
     further : p .at < o .progress .at
@@ -253,11 +263,12 @@ module _ (s old : List ℕ) (p : Progress) (head t : List ℕ) (i : Loop s old p
       go (suc f) e = (f, e)
 
   -- what a record finishes with, the file says
+  ends : (d : Decoded) → readStep s (i .reading) ≡ finish d → readFile s ≡ record { result = d; read = i .reading .sofar }
+  ends d e = let f = fuel-left in sym (sym (read-done (f .0) s (i .reading) d e) ∙ ap (λ (m : ℕ). readFrom m s (i .reading)) (sym (f .1)) ∙ i .same)
+
   finishes : (d : Decoded) → readStep s (i .reading) ≡ finish d → decode s ≡ d
   unfolding decode
-  finishes d e =
-      let f = fuel-left in
-      sym (ap (λ (x : Finished). x .result) (sym (read-done (f .0) s (i .reading) d e) ∙ ap (λ (m : ℕ). readFrom m s (i .reading)) (sym (f .1)) ∙ i .same))
+  finishes d e = ap (λ (x : Finished). x .result) (ends d e)
 
   turned : o .number ≡ 0 → Turned
   turned z = go (readStep s (i .reading)) refl (step (i .reading) old (i .stands))
@@ -265,7 +276,7 @@ module _ (s old : List ℕ) (p : Progress) (head t : List ℕ) (i : Loop s old p
       q : Reading
       q = i .reading
 
-      go : (r : ReadTurn) → readStep s q ≡ r → LeadsTo old r o head′ t′ → Turned
+      go : (r : ReadTurn) → readStep s q ≡ r → LeadsTo old q r o head′ t′ → Turned
       go (goOn n) e h =
           let g = goOn-at s q n e in
           let f = fuel-left in
@@ -305,15 +316,22 @@ module _ (s old : List ℕ) (p : Progress) (head t : List ℕ) (i : Loop s old p
       let w = n .within in
       omega arith
 
-  pub loop-answer : (o .number ≡ 0 → ⊥) → (r : FileRefusal) → r ≡ endedOf o → ReadAs (decode s) r head′ t′
-  unfolding endedOf
+  pub loop-answer : (o .number ≡ 0 → ⊥) → (r : FileRefusal) → r ≡ endedOf o → ReadAs (decode s) r head′ t′ × (t′ ≡ tableAfter s old)
+  unfolding endedOf tableAfter
   loop-answer z r d = go (readStep s (i .reading)) refl (step (i .reading) old (i .stands))
     where
-      go : (n : ReadTurn) → readStep s (i .reading) ≡ n → LeadsTo old n o head′ t′ → ReadAs (decode s) r head′ t′
+      after : (x : Decoded) → readStep s (i .reading) ≡ finish x → t′ ≡ over (tableBytes (i .reading .sofar)) old → t′ ≡ over (tableBytes (readFile s .read)) old
+      after x e f = f ∙ ap (λ (y : Finished). over (tableBytes (y .read)) old) (sym (ends x e))
+
+      go : (n : ReadTurn) → readStep s (i .reading) ≡ n → LeadsTo old (i .reading) n o head′ t′ → ReadAs (decode s) r head′ t′ × (t′ ≡ over (tableBytes (readFile s .read)) old)
       go (goOn n) e h = absurd (z (h .0))
       go (finish (refused x)) e h =
           let n = refusal-number s x (finishes (refused x) e) .0 in
           let m = h .0 in
           let b : eqb (o .number) 1 ≡ false = ne-eqb (o .number) 1 (λ y. omega arith) in
-          rw (finishes (refused x) e, d, b) (h .0, h .1, h .2, z)
-      go (finish (domain D)) e h = let b : eqb (o .number) 1 ≡ true = eq-eqb (o .number) 1 (h .0) in rw (finishes (domain D) e, d, b) (refl, h .1)
+          let a : ReadAs (decode s) r head′ t′ = rw (finishes (refused x) e, d, b) (h .0, h .1, h .2, z) in
+          (a, after (refused x) e (h .3))
+      go (finish (domain D)) e h =
+          let b : eqb (o .number) 1 ≡ true = eq-eqb (o .number) 1 (h .0) in
+          let a : ReadAs (decode s) r head′ t′ = rw (finishes (domain D) e, d, b) (refl, h .1) in
+          (a, after (domain D) e (h .2))

@@ -11,7 +11,7 @@ use Rattle.reading.specs.declared.Progress.{Progress}
 use Rattle.reading.specs.declared.Refusal.{Refusal as FileRefusal}
 use Rattle.reading.specs.declared.read.Stepped.{Stepped}
 use Rattle.literals.specs.Domain.{Domain}
-use Rattle.literals.specs.Decode.{maxFile, maxActions, maxLiterals, latest, RecordKind, stopOf, extend, Decoded, refused, domain, Reading, ReadTurn, goOn, finish}
+use Rattle.literals.specs.Decode.{maxFile, maxActions, maxLiterals, latest, RecordKind, stopOf, extend, Decoded, refused, domain, Reading, ReadTurn, goOn, finish, readFile}
 use Rattle.literals.specs.Table.{allLiterals, tableBytes}
 use Rattle.literals.specs.Held.{Filled, Held}
 
@@ -53,11 +53,11 @@ pub record Standing (old : List ℕ) (q : Reading) (p : Progress) (head table : 
   pub closed : p .closed ≡ q .closed
   pub holds : HeldOver old (q .sofar) head table
 
--- what a turn of reading leads to: 0 where it goes on, 1 where the file is read, else the number that refuses it, with its place
-abbrev pub LeadsTo : List ℕ → ReadTurn → Stepped → List ℕ → List ℕ → Type 0
-LeadsTo old (goOn q) r head table = (r .number ≡ 0) × Standing old q (r .progress) head table
-LeadsTo old (finish (refused x)) r head table = (r .number ≡ x .number) × (r .place ≡ x .place) × (r .progress .at ≡ x .start)
-LeadsTo old (finish (domain D)) r head table = (r .number ≡ 1) × Held D head table
+-- what a turn of reading leads to: 0 where it goes on, 1 where the file is read, else the number that refuses it, with its place; where it ends, the table has the literals so far
+abbrev pub LeadsTo : List ℕ → Reading → ReadTurn → Stepped → List ℕ → List ℕ → Type 0
+LeadsTo old p (goOn q) r head table = (r .number ≡ 0) × Standing old q (r .progress) head table
+LeadsTo old p (finish (refused x)) r head table = (r .number ≡ x .number) × (r .place ≡ x .place) × (r .progress .at ≡ x .start) × (table ≡ over (tableBytes (p .sofar)) old)
+LeadsTo old p (finish (domain D)) r head table = (r .number ≡ 1) × Held D head table × (table ≡ over (tableBytes (p .sofar)) old)
 
 -- a table that is enough for a file: for all literals that all actions can have, or by the file, of which a literal takes at least 6 bytes, and 8 of the table
 abbrev pub EnoughTable : List ℕ → List ℕ → Type 0
@@ -79,6 +79,11 @@ unfoldable pub endedOf : Stepped → FileRefusal
 endedOf o =
     cond (eqb (o .number) 1) (record { number = 0; place = 0; start = 0 })
     (record { number = o .number; place = o .place; start = o .progress .at })
+
+-- the table afterwards: the literals that were read, the rest untouched
+unfoldable pub tableAfter : List ℕ → List ℕ → List ℕ
+unfolding readFile tableBytes over
+tableAfter f table = over (tableBytes (readFile f .read)) table
 
 -- "9 to 23" as the definition has it, or the domain
 abbrev pub ReadAs : Decoded → FileRefusal → List ℕ → List ℕ → Type 0

@@ -1,15 +1,19 @@
-// One record of the file after the other.
+// The file, record by record.
 use super::Progress;
+use super::Refusal;
 use super::take::take_record;
 use literals::head::Head;
+use literals::limits::MAX_FILE;
 use records::Record;
 use records::bytes::wide;
 use records::record_at;
 ghost use mathlib.Core.Path.{_≡_};
 ghost use mathlib.Core.List.{List};
 ghost use Prim.Native.Nat.{ℕ};
-ghost use Rattle.literals.specs.Decode.{Reading, readStep};
-ghost use Rattle.reading.specs.Reading.{LeadsTo, Standing, StepReady, atStart};
+ghost use lib.ListN.{replicate};
+ghost use Rattle.literals.specs.Decode.{Reading, readStep, decode};
+ghost use Rattle.literals.specs.Held.{headBytes};
+ghost use Rattle.reading.specs.Reading.{EnoughTable, LeadsTo, ReadAs, Standing, StepReady, atStart, endedOf, tableAfter};
 
 // What one record led to: 0 where reading goes on, 1 where the file is read, else the number that refuses it, with its place.
 pub struct Stepped {
@@ -32,7 +36,7 @@ impl Progress {
     pub fn step(self, s: &[u8], head: &mut Head, table: &mut [u8]) -> Stepped
         requires { ⌜ StepReady self (now s) (now head) (now table) ⌝ }
         ensures { λ r. ⌜ ((q : Reading) (old : List ℕ) → Standing old q self (now (head .entry)) (now (table .entry))
-            → LeadsTo old (readStep (now (s .entry)) q) r (now (head .exit)) (now (table .exit))) ⌝ }
+            → LeadsTo old q (readStep (now (s .entry)) q) r (now (head .exit)) (now (table .exit))) ⌝ }
     {
         let at = self.at;
         let closed = self.closed;
@@ -83,5 +87,54 @@ impl Progress {
                 progress: self,
             },
         }
+    }
+}
+
+// The answer of a record that ends reading.
+fn end_of(stepped: Stepped) -> Refusal
+    ensures { λ r. ⌜ r ≡ endedOf stepped ⌝ }
+{
+    let number = stepped.number;
+    let place = stepped.place;
+    let progress = stepped.progress;
+    let at = progress.at;
+    if number == 1 {
+        return Refusal {
+            number: 0,
+            place: 0,
+            start: 0,
+        };
+    }
+    Refusal {
+        number,
+        place,
+        start: at,
+    }
+}
+
+// A domain file, read into a head that is all 0 and a table that is enough, or refused. Behind the literals that were read, the table stays
+// as it was.
+pub fn read_into(s: &[u8], head: &mut Head, table: &mut [u8]) -> Refusal
+    requires cleared { ⌜ now head ≡ replicate headBytes 0 ⌝ }
+    requires enough { ⌜ EnoughTable (now s) (now table) ⌝ }
+    ensures answer { λ r. ⌜ ReadAs (decode (now (s .entry))) r (now (head .exit)) (now (table .exit)) ⌝ }
+    ensures table { λ _. ⌜ now (table .exit) ≡ tableAfter (now (s .entry)) (now (table .entry)) ⌝ }
+{
+    let mut progress = Progress::new();
+    if MAX_FILE < s.len() {
+        return Refusal {
+            number: 9,
+            place: 0,
+            start: 0,
+        };
+    }
+    loop {
+        let stepped = progress.step(s, head, table);
+        let number = stepped.number;
+        if number == 0 {
+            progress = stepped.progress;
+            continue;
+        }
+        return end_of(stepped);
     }
 }

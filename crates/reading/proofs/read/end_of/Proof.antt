@@ -1,8 +1,8 @@
 -- `end_of` meets its contract. Assumes nothing.
 use borrow.Author.Tests.{eq-eqb, ne-eqb}
 use Rattle.reading.specs.Reading.{endedOf}
-use Rattle.reading.proofs.domain.end_of.Statement.{statement}
-use Rattle.reading.proofs.domain.end_of.Tie as tie
+use Rattle.reading.proofs.read.end_of.Statement.{statement}
+use Rattle.reading.proofs.read.end_of.Tie as tie
 
 returns : tie.Need-returns
 unfolding endedOf
