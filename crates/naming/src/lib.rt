@@ -121,29 +121,31 @@ impl Naming {
     }
 
     // One row more.
-    fn with_row(self, name: Name, ended: bool, class: u8, moment: Moment, names: &mut [u8]) -> Naming
+    fn with_row(
+        self,
+        name: Name,
+        ended: bool,
+        class: u8,
+        moment: Moment,
+        names: &mut [u8],
+    ) -> Naming
         requires { ⌜ self .rows < length (now names) ⌝ }
         ensures rows { λ r. ⌜ r .rows ≡ self .rows + 1 ⌝ }
         ensures named { λ r. ⌜ ((before rs : List Row) (old : List ℕ) (i : ℕ) → Named before rs self (now (names .entry)) old
             → Named before (rs ++ (rowFor i class moment name ended ∷ [])) r (now (names .exit)) old) ⌝ }
     {
         let n = self.rows;
+        let rows = n + 1;
         let summary = self.summary;
         names[n] = name_number(name);
         Naming {
-            rows: n + 1,
+            rows,
             summary: summary.with(name, ended, class, moment),
         }
     }
 
     // The rows of one class more.
-    fn with_class(
-        self,
-        class: u8,
-        lasting: bool,
-        named: ClassNames,
-        names: &mut [u8],
-    ) -> Naming
+    fn with_class(self, class: u8, lasting: bool, named: ClassNames, names: &mut [u8]) -> Naming
         requires room { ⌜ self .rows + 2 ≤ length (now names) ⌝ }
         ensures rows { λ r. ⌜ r .rows ≤ self .rows + 2 ⌝ }
         ensures named { λ r. ⌜ ((before rs : List Row) (old : List ℕ) (D : Domain) (a : Action) (i : ℕ)
@@ -325,7 +327,12 @@ pub fn name_action(
 }
 
 // The names of all moments of a domain that was read; `counts` gets how many classes each action has.
-pub fn name_all(head: &Head, table: &[u8], names: &mut [u8], counts: &mut ClassCounts) -> NamedDomain
+pub fn name_all(
+    head: &Head,
+    table: &[u8],
+    names: &mut [u8],
+    counts: &mut ClassCounts,
+) -> NamedDomain
     requires read { ⌜ Read (now head) (now table) ⌝ }
     requires room { ⌜ length (now table) ≤ 4 * length (now names) ⌝ }
     ensures rows { λ r. ⌜ r .rows ≤ 2 * (maxLiterals * maxActions) ⌝ }
