@@ -33,6 +33,10 @@ library actions = relations ++ relation 1 ++ actions ++ template ++ closing
 abbrev secondClass : List ℕ
 secondClass = library (atOnce 3 ++ deletes (at 1 2) ++ holds (lit 2) ++ adds (at 0 1) ++ adds (at 0 2))
 
+-- three actions at fault, by 42, 41 and 40
+abbrev threeFaults : List ℕ
+threeFaults = library (atOnce 2 ++ adds (at 0 1) ++ atOnce 3 ++ holds (at 0 1) ++ adds (at 0 2) ++ atOnce 3 ++ adds (at 0 1) ++ adds (at 0 2))
+
 -- ---- roles, classes, names, journeys and witnesses
 
 pub record Names : Type 0 where
@@ -154,18 +158,24 @@ pub record Names : Type 0 where
   -- a journey's start and end are of one class: here the start takes at(0,1), the end adds out(2,3)
   pub journey-of-another-class : judge (library (lasting 4 ++ holds (at 0 1) ++ deletes (at 0 1) ++ addsAtEnd (out 2 3)))
       ≡ answers 42 0 1 1 (row 0 0 0 irrelevant ++ row 0 0 1 irrelevant ++ row 0 1 0 irrelevant ++ row 0 1 1 unbounded) (held (at 2 4))
-  -- the worst fault, wherever it stands: 42, 41 and 40 in the file, and 40 is named, with its witness
-  pub first-of-three : judge (library (atOnce 2 ++ adds (at 0 1) ++ atOnce 3 ++ holds (at 0 1) ++ adds (at 0 2) ++ atOnce 3 ++ adds (at 0 1) ++ adds (at 0 2)))
+  -- the worst fault, wherever it stands: 40 behind 41 behind 42, and its witness
+  pub worst-of-three : judge threeFaults
       ≡ answers 40 2 0 0 (row 0 0 0 unbounded ++ row 1 0 0 unbalanced ++ row 2 0 0 heavy) []
-  -- 41 before 42
+  -- 41 before 42, where there is no 40
   pub unbalanced-before-unbounded : judge (library (atOnce 2 ++ adds (at 0 1) ++ atOnce 3 ++ holds (at 0 1) ++ adds (at 0 2)))
       ≡ answers 41 1 0 0 (row 0 0 0 unbounded ++ row 1 0 0 unbalanced) (held (at 0 1))
-  -- within one number the earliest action
-  pub earliest-action : judge (library (atOnce 2 ++ adds (at 0 1) ++ atOnce 3 ++ holds (at 0 1) ++ adds (at 0 2) ++ atOnce 4 ++ holds (at 0 2) ++ adds (at 0 3)))
-      ≡ answers 41 1 0 0 (row 0 0 0 unbounded ++ row 1 0 0 unbalanced ++ row 2 0 0 unbalanced) (held (at 0 1))
-  -- and in it the earliest class and moment: of the class 0 the start is unbounded, of both classes the end is unbalanced
+  -- 40 in a later class of the same action
+  pub heavy-in-later-class : judge (library (atOnce 4 ++ adds (at 0 2) ++ adds (at 1 2) ++ adds (at 1 3)))
+      ≡ answers 40 0 1 0 (row 0 0 0 unbounded ++ row 0 1 0 heavy) []
+  -- within one number the earliest action, here at its end, before the start of a later one
+  pub earliest-action : judge (library (lasting 3 ++ holdsAtEnd (at 0 1) ++ addsAtEnd (at 0 2) ++ atOnce 3 ++ holds (at 0 2) ++ adds (at 0 1)))
+      ≡ answers 41 0 0 1 (row 0 0 0 irrelevant ++ row 0 0 1 unbalanced ++ row 1 0 0 unbalanced) (held (at 0 1))
+  -- and in it the earliest class: of class 0 the start is unbounded, of both classes the end is unbalanced
   pub earliest-class : judge (library (lasting 3 ++ adds (at 0 2) ++ holdsAtEnd (at 0 1) ++ addsAtEnd (at 0 2) ++ holdsAtEnd (at 1 2) ++ addsAtEnd (at 1 0)))
       ≡ answers 41 0 0 1 (row 0 0 0 unbounded ++ row 0 0 1 unbalanced ++ row 0 1 0 irrelevant ++ row 0 1 1 unbalanced) (held (at 0 1) ++ held (at 1 2))
+  -- 43 is not looked for beside a 42: without the last action it is 43, at the first
+  pub unbounded-beside-bounded : judge (vessels (fill ++ pour ++ atOnce 1 ++ adds (full 0)))
+      ≡ answers 42 2 0 0 (row 0 0 0 bounded ++ row 1 0 0 irrelevant ++ row 1 0 1 unbounded ++ row 2 0 0 unbounded) (held (empty 0))
   -- of two bounded moments the first
   pub first-bounded : judge (vessels (fill ++ fill ++ pour))
       ≡ answers 43 0 0 0 (row 0 0 0 bounded ++ row 1 0 0 bounded ++ row 2 0 0 irrelevant ++ row 2 0 1 unbounded) []
@@ -219,10 +229,12 @@ names =
       start-deletes-other = refl;
       end-deletes = refl;
       journey-of-another-class = refl;
-      first-of-three = refl;
+      worst-of-three = refl;
       unbalanced-before-unbounded = refl;
+      heavy-in-later-class = refl;
       earliest-action = refl;
       earliest-class = refl;
+      unbounded-beside-bounded = refl;
       first-bounded = refl;
       no-false-in-witness = refl;
       witness-over-all-first = refl;
@@ -241,7 +253,9 @@ pub record Room : Type 0 where
   -- a witness without facts, and 43, which writes none, need no room for it
   pub no-fact : judging m4 (lent 4) [] ≡ leaves 40 0 0 0 (row 0 0 0 heavy) []
   pub no-witness : judging m10 (lent 12) [] ≡ leaves 43 0 0 0 (row 0 0 0 bounded ++ row 1 0 0 irrelevant ++ row 1 0 1 unbounded) []
-  -- so does an end whose class has an over-all literal: 31 isn't tested
+  -- the room goes by the place that is named: 40's witness has no fact, 41's and 42's, earlier in the file, have one
+  pub witness-of-worst : judging threeFaults (lent 12) [] ≡ leaves 40 2 0 0 (row 0 0 0 unbounded ++ row 1 0 0 unbalanced ++ row 2 0 0 heavy) []
+  -- an end whose class has an over-all literal needs none either: 31 isn't tested
   pub no-witness-over-all : judging (library (lasting 3 ++ holdsOverAll (at 0 1) ++ addsAtEnd (at 0 2))) (lent 8) []
       ≡ leaves 42 0 0 1 (row 0 0 0 irrelevant ++ row 0 0 1 unbounded) []
   -- but for its report: 30
@@ -263,6 +277,7 @@ room =
       just-enough = refl;
       no-fact = refl;
       no-witness = refl;
+      witness-of-worst = refl;
       no-witness-over-all = refl;
       over-all-report-short = refl;
       bounded-short = refl;

@@ -135,10 +135,11 @@ impl Naming {
             → Named before (rs ++ (rowFor i class moment name ended ∷ [])) r (now (names .exit)) old) ⌝ }
     {
         let n = self.rows;
+        let rows = n + 1;
         let summary = self.summary;
         names[n] = name_number(name);
         Naming {
-            rows: n + 1,
+            rows,
             summary: summary.with(name, ended, class, moment),
         }
     }

@@ -437,7 +437,7 @@ mod tests {
         let all = Cases::read();
         let count = |group| all.cases.iter().filter(|case| case.group == group).count();
         let groups = ["Samples", "Names", "Room", "Refusals", "Steps", "RunFiles", "Parts"];
-        assert_eq!(groups.map(count), [12, 42, 11, 74, 57, 54, 7]);
+        assert_eq!(groups.map(count), [12, 47, 12, 74, 57, 54, 7]);
         let limits = ["facts-1024", "facts-1025", "start-1024", "start-1025", "start-repeated", "start-outside"]
             .map(String::from);
         let others = [

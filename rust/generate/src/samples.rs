@@ -96,7 +96,7 @@ lasting lend(volume, shelf, reader)
 ";
 
 /// What M1 to M12 leave open, from roles over all to six arguments.
-const RULES: [&str; 18] = [
+const RULES: [&str; 21] = [
     "over-all-at-end",
     "over-all-not-at-start",
     "over-all-and-end-once",
@@ -114,7 +114,10 @@ const RULES: [&str; 18] = [
     "witness-order",
     "journey-of-another-class",
     "bounded-journey",
-    "first-of-three",
+    "worst-of-three",
+    "heavy-in-later-class",
+    "earliest-action",
+    "unbounded-beside-bounded",
 ];
 
 /// A broken file for each number, 9 to 25.

@@ -5,14 +5,14 @@ use Rattle.naming.proofs.NamedRows.{named-more}
 use Rattle.naming.proofs.Naming.with_row.Statement.{statement}
 use Rattle.naming.proofs.Naming.with_row.Tie as tie
 
+add-rows : tie.Need-add-rows
+add-rows c = search needs
+
 name-number-requires : tie.Need-name-number-requires
 name-number-requires c κs = search needs
 
 slice-write-names : tie.Need-slice-write-names
 slice-write-names c = search needs
-
-add-t11 : tie.Need-add-t11
-add-t11 c = search needs
 
 with-requires : tie.Need-with-requires
 with-requires c κs = search needs
@@ -30,4 +30,4 @@ returns c =
 pub with-row-spec : {M : Type 1} → statement M
 with-row-spec =
     tie.close
-    (tie.spec name-number-requires slice-write-names add-t11 with-requires same-length returns)
+    (tie.spec add-rows name-number-requires slice-write-names with-requires same-length returns)
