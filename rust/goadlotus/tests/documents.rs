@@ -3,6 +3,7 @@
 
 use std::fs;
 use std::path::{Path, PathBuf};
+use std::process::Command;
 
 fn root() -> PathBuf {
     Path::new(env!("CARGO_MANIFEST_DIR")).join("../..").canonicalize().expect("the repository's root")
@@ -112,4 +113,15 @@ fn a_wrong_citation_is_noticed() {
     assert_eq!(lacking("literals/Decode `decode`, `decoded-twice`; .."), ["literals/Decode `decoded-twice`"]);
     assert_eq!(lacking("literals/Nowhere `decode`"), ["literals/Nowhere"]);
     assert_eq!(lacking("in `crates/literals/src/none.rt`"), ["crates/literals/src/none.rt"]);
+}
+
+/// What a reader must believe, as docs/PROOFS.md says it: counted again by tools/lines-to-believe.
+#[test]
+fn lines_to_believe_are_counted() {
+    let root = root();
+    let counted = Command::new("python3").arg("tools/lines-to-believe").current_dir(&root).output().expect("python3");
+    let said = String::from_utf8(counted.stdout).expect("a sentence");
+    assert!(counted.status.success(), "{}", String::from_utf8_lossy(&counted.stderr));
+    let text = fs::read_to_string(root.join("docs/PROOFS.md")).expect("docs/PROOFS.md");
+    assert!(text.contains(said.trim()), "docs/PROOFS.md doesn't say: {}", said.trim());
 }
