@@ -4,10 +4,11 @@ use super::run::play_run;
 use literals::head::HEAD;
 use reading::domain::read_domain;
 ghost use mathlib.Core.Path.{_≡_};
+ghost use lib.ListN.{getD};
 ghost use Rattle.runs.specs.Play.{Outcome, call, played, workAfter, returned, returnedBytes};
 ghost use Rattle.runs.specs.Claims.{PlaysAsMachine, StaysLow};
 ghost use Rattle.player.specs.Player.{endedOf};
-ghost use Rattle.player.specs.Called.{faultFile, faultOffset, partAt, answerOf, answerBy, answerUnplayed};
+ghost use Rattle.player.specs.Called.{fileOf, offsetOf, faultFile, faultOffset, partAt, answerOf, answerBy, answerUnplayed};
 
 // Where the record at fault starts: an offset of the domain file, or of the run file.
 pub enum Fault {
@@ -122,32 +123,33 @@ pub fn play_files(domain: &[u8], run: &[u8], work: &mut [u8]) -> PlayAnswer
     answer_by(ended)
 }
 
-// Plays a run file on a domain file: leaves the number, its place, the steps made and the highest weight, the facts in the work memory, and hands back the
-// record at fault as a part of its file. What it leaves is what the machine does on the start facts and steps of the run file, over the whole list; where the
-// template is accepted and the start weighs at most 1, no state reached weighs more.
-pub fn play<'a>(
-    domain: &'a [u8],
-    run: &'a [u8],
-    work: &mut [u8],
-    number: &mut u64,
-    place: &mut u64,
-    steps: &mut u64,
-    weight: &mut u64,
-) -> &'a [u8]
-    ensures number { λ _. ⌜ now (number .exit) ≡ played (now («domain» .entry)) (now (run .entry)) (now (work .entry)) .number ⌝ }
-    ensures place { λ _. ⌜ now (place .exit) ≡ played (now («domain» .entry)) (now (run .entry)) (now (work .entry)) .first ⌝ }
-    ensures steps { λ _. ⌜ now (steps .exit) ≡ played (now («domain» .entry)) (now (run .entry)) (now (work .entry)) .steps ⌝ }
-    ensures weight { λ _. ⌜ now (weight .exit) ≡ played (now («domain» .entry)) (now (run .entry)) (now (work .entry)) .weight ⌝ }
-    ensures work { λ _. ⌜ now (work .exit) ≡ workAfter (now («domain» .entry)) (now (run .entry)) (now (work .entry)) ⌝ }
-    ensures machine { λ _. ⌜ PlaysAsMachine (now («domain» .entry)) (now (run .entry)) (now (work .entry)) (now (number .exit)) (now (place .exit)) (now (steps .exit)) (now (weight .exit)) (now (work .exit)) ⌝ }
-    ensures low { λ _. ⌜ StaysLow (now («domain» .entry)) (now (run .entry)) (now (weight .exit)) ⌝ }
+// Plays a run file on a domain file: leaves six numbers (the number, its place, the steps made, the highest weight, and of which file, 0 the
+// domain file and 1 the run file, and from which offset the record at fault comes back) and the facts in the work memory, and hands back that
+// part. What it leaves is what the machine does on the start facts and steps of the run file, over the whole list; where the template is
+// accepted and the start weighs at most 1, no state reached weighs more.
+pub fn play<'a>(domain: &'a [u8], run: &'a [u8], work: &mut [u8], answer: &mut [u64; 6]) -> &'a [u8]
+    ensures number { λ _. ⌜ getD (now (answer .exit)) 0 0 ≡ played (now («domain» .entry)) (now (run .entry)) (now (work .entry)) .number ⌝ }
+    ensures place { λ _. ⌜ getD (now (answer .exit)) 1 0 ≡ played (now («domain» .entry)) (now (run .entry)) (now (work .entry)) .first ⌝ }
+    ensures steps { λ _. ⌜ getD (now (answer .exit)) 2 0 ≡ played (now («domain» .entry)) (now (run .entry)) (now (work .entry)) .steps ⌝ }
+    ensures weight { λ _. ⌜ getD (now (answer .exit)) 3 0 ≡ played (now («domain» .entry)) (now (run .entry)) (now (work .entry)) .weight ⌝ }
+    ensures file { λ _. ⌜ getD (now (answer .exit)) 4 0 ≡ fileOf (returned (now («domain» .entry)) (now (run .entry)) (now (work .entry))) ⌝ }
+    ensures offset { λ _. ⌜ getD (now (answer .exit)) 5 0 ≡ offsetOf (returned (now («domain» .entry)) (now (run .entry)) (now (work .entry))) ⌝ }
     ensures part { λ r. ⌜ now r ≡ returnedBytes (now («domain» .entry)) (now (run .entry)) (returned (now («domain» .entry)) (now (run .entry)) (now (work .entry))) ⌝ }
+    ensures work { λ _. ⌜ now (work .exit) ≡ workAfter (now («domain» .entry)) (now (run .entry)) (now (work .entry)) ⌝ }
+    ensures machine { λ _. ⌜ PlaysAsMachine (now («domain» .entry)) (now (run .entry)) (now (work .entry)) (getD (now (answer .exit)) 0 0) (getD (now (answer .exit)) 1 0) (getD (now (answer .exit)) 2 0) (getD (now (answer .exit)) 3 0) (now (work .exit)) ⌝ }
+    ensures low { λ _. ⌜ StaysLow (now («domain» .entry)) (now (run .entry)) (getD (now (answer .exit)) 3 0) ⌝ }
 {
-    let answer = play_files(domain, run, work);
-    *number = answer.number;
-    *place = answer.place as u64;
-    *steps = answer.steps as u64;
-    *weight = answer.weight as u64;
-    let fault = answer.fault;
+    let told = play_files(domain, run, work);
+    let fault = told.fault;
+    let file = file_of(fault);
+    let at = offset_of(fault);
+    *answer = [
+        told.number,
+        told.place as u64,
+        told.steps as u64,
+        told.weight as u64,
+        file,
+        at as u64,
+    ];
     part(domain, run, fault)
 }

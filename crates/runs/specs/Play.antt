@@ -12,7 +12,7 @@ use Rattle.records.specs.Record.{recordAt, payload}
 use Rattle.literals.specs.Domain.{Fact, sameFact, Domain}
 use Rattle.literals.specs.Decode.{Refusal, Decoded, refused, domain, decode, byte}
 use Rattle.verdict.specs.Judged.{factBytes}
-use Rattle.verdict.specs.Machine.{Event, State, isOpen, conditionsHold, overAllHold, interfere, independent, next, topWeight}
+use Rattle.verdict.specs.Machine.{Event, State, startState, isOpen, conditionsHold, overAllHold, interfere, independent, next, topWeight}
 use Rattle.runs.specs.RunFile.{RunKind, objectsRecord, factRecord, eventRecord, stepRecord, endRecord, otherRecord, runKindOf, factOf, eventOf, maxFacts, maxRunning, objectsStop, factStop, eventStop, stepStop, endStop}
 
 -- "the first 8,192 bytes"
@@ -42,20 +42,16 @@ pub record Playing : Type 0 where
   pub waiting : List Event
   pub tally : Tally
 
+-- at this offset, closed or not, with this object count, state, events and tally
+abbrev pub standing : ℕ → Bool → ℕ → State → List Event → Tally → Playing
+standing at closed n s es t = record { at = at; closed = closed; objects = n; state = s; waiting = es; tally = t }
+
 abbrev pub beforeRun : Playing
-beforeRun =
-    record {
-      at = 0;
-      closed = false;
-      objects = 0;
-      state = record { facts = []; running = [] };
-      waiting = [];
-      tally = record { begun = false; steps = 0; weight = 0 };
-    }
+beforeRun = standing 0 false 0 (startState []) [] (record { begun = false; steps = 0; weight = 0 })
 
 -- the same, going on behind the record with this state, these events and this tally
 abbrev pub onward : Playing → ℕ → State → List Event → Tally → Playing
-onward p behind s es t = record { at = behind; closed = false; objects = p .objects; state = s; waiting = es; tally = t }
+onward p behind s es t = standing behind false (p .objects) s es t
 
 -- how playing ends: "number (2 when played), steps made, highest weight", the offset of the record at fault, and the facts kept
 pub record Outcome : Type 0 where
@@ -83,21 +79,12 @@ startTally t top = cond (t .begun) t (record { begun = true; steps = 0; weight =
 
 unfoldable pub begin : Domain → Playing → Playing
 unfolding topWeight
-begin D p =
-    record {
-      at = p .at;
-      closed = p .closed;
-      objects = p .objects;
-      state = p .state;
-      waiting = p .waiting;
-      tally = startTally (p .tally) (topWeight D (p .state .facts));
-    }
+begin D p = standing (p .at) (p .closed) (p .objects) (p .state) (p .waiting) (startTally (p .tally) (topWeight D (p .state .facts)))
 
 -- ---- where playing stands behind a record of each kind
 
 abbrev pub withObjects : Playing → ℕ → ℕ → Playing
-withObjects p n behind =
-    record { at = behind; closed = false; objects = n; state = p .state; waiting = p .waiting; tally = p .tally }
+withObjects p n behind = standing behind false n (p .state) (p .waiting) (p .tally)
 
 -- "repeats held once"
 abbrev pub joined : Fact → List Fact → List Fact
@@ -142,8 +129,7 @@ closeStep D p behind =
     (stopAt (forbidden D (p .state) (p .waiting)) p)
 
 abbrev pub withClose : Playing → ℕ → Playing
-withClose p behind =
-    record { at = behind; closed = true; objects = p .objects; state = p .state; waiting = p .waiting; tally = p .tally }
+withClose p behind = standing behind true (p .objects) (p .state) (p .waiting) (p .tally)
 
 -- ---- one record
 

@@ -1,5 +1,5 @@
 -- What a run file holds, told without a machine: its records, objects, start facts and steps, and what stops a record. Assumes nothing.
-use mathlib.Core.Bool.{Bool, true, false, _&&_, _||_, not, cond}
+use mathlib.Core.Bool.{Bool, _&&_, _||_, not, cond}
 use mathlib.Core.List.{List, [], _∷_, _++_, map}
 use Prim.Native.Nat.{ℕ, zero, suc, _+_}
 use lib.Dec.{eqb, ltb, leb}
@@ -40,6 +40,15 @@ runKindOf k =
     (cond (eqb k 18) eventRecord
     (cond (eqb k 19) stepRecord
     (cond (eqb k 20) endRecord otherRecord))))
+
+-- its number again, 0 for every other
+abbrev pub runNumber : RunKind → ℕ
+runNumber objectsRecord = 16
+runNumber factRecord = 17
+runNumber eventRecord = 18
+runNumber stepRecord = 19
+runNumber endRecord = 20
+runNumber otherRecord = 0
 
 -- kind 17: "relation, objects"
 abbrev pub factOf : List ℕ → Fact
@@ -97,12 +106,7 @@ behindIn es = behindFrom 0 es
 
 -- the object count behind a record, where it is n before it
 abbrev pub objectsBy : RunKind → List ℕ → ℕ → ℕ
-objectsBy objectsRecord b n = byte b 0
-objectsBy factRecord b n = n
-objectsBy eventRecord b n = n
-objectsBy stepRecord b n = n
-objectsBy endRecord b n = n
-objectsBy otherRecord b n = n
+objectsBy k b n = cond (eqb (runNumber k) 16) (byte b 0) n
 
 abbrev pub countFrom : ℕ → List Entry → ℕ
 countFrom n [] = n
@@ -113,12 +117,7 @@ abbrev pub objectsIn : List Entry → ℕ
 objectsIn es = countFrom 0 es
 
 abbrev pub factsBy : RunKind → List ℕ → List Fact → List Fact
-factsBy objectsRecord b fs = fs
-factsBy factRecord b fs = factOf b ∷ fs
-factsBy eventRecord b fs = fs
-factsBy stepRecord b fs = fs
-factsBy endRecord b fs = fs
-factsBy otherRecord b fs = fs
+factsBy k b fs = cond (eqb (runNumber k) 17) (factOf b ∷ fs) fs
 
 -- the start facts, in file order
 abbrev pub startFactsIn : List Entry → List Fact
@@ -127,12 +126,7 @@ startFactsIn (e ∷ es) = factsBy (e .kind) (e .bytes) (startFactsIn es)
 
 -- the events that wait behind a record, where these wait before it
 abbrev pub waitingBy : RunKind → List ℕ → List Event → List Event
-waitingBy objectsRecord b ws = ws
-waitingBy factRecord b ws = ws
-waitingBy eventRecord b ws = ws ++ (eventOf b ∷ [])
-waitingBy stepRecord b ws = []
-waitingBy endRecord b ws = ws
-waitingBy otherRecord b ws = ws
+waitingBy k b ws = cond (eqb (runNumber k) 18) (ws ++ (eventOf b ∷ [])) (cond (eqb (runNumber k) 19) [] ws)
 
 abbrev pub waitingFrom : List Event → List Entry → List Event
 waitingFrom ws [] = ws
@@ -144,12 +138,7 @@ waitingIn es = waitingFrom [] es
 
 -- a step that a record closes, in front of the later ones
 abbrev pub closedBy : RunKind → List Event → List (List Event) → List (List Event)
-closedBy objectsRecord ws ess = ess
-closedBy factRecord ws ess = ess
-closedBy eventRecord ws ess = ess
-closedBy stepRecord ws ess = ws ∷ ess
-closedBy endRecord ws ess = ess
-closedBy otherRecord ws ess = ess
+closedBy k ws ess = cond (eqb (runNumber k) 19) (ws ∷ ess) ess
 
 abbrev pub stepsFrom : List Event → List Entry → List (List Event)
 stepsFrom ws [] = []
@@ -160,24 +149,14 @@ abbrev pub stepsIn : List Entry → List (List Event)
 stepsIn es = stepsFrom [] es
 
 abbrev pub begins : RunKind → Bool
-begins objectsRecord = false
-begins factRecord = false
-begins eventRecord = true
-begins stepRecord = true
-begins endRecord = true
-begins otherRecord = false
+begins k = leb 18 (runNumber k)
 
 -- "once the first uncut record of kind 18 to 20 is met"
 abbrev pub begunIn : List Entry → Bool
 begunIn es = any (λ (e : Entry). begins (e .kind)) es
 
 abbrev pub isEnd : RunKind → Bool
-isEnd objectsRecord = false
-isEnd factRecord = false
-isEnd eventRecord = false
-isEnd stepRecord = false
-isEnd endRecord = true
-isEnd otherRecord = false
+isEnd k = eqb (runNumber k) 20
 
 -- the run's close is read
 abbrev pub closedIn : List Entry → Bool

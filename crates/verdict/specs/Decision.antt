@@ -17,7 +17,7 @@ use Rattle.literals.specs.declared.Moment.the-variants.{Start, End}
 use Rattle.classes.specs.declared.Name.{Name}
 use Rattle.classes.specs.declared.Name.the-variants.{Unreachable, Irrelevant, Heavy, Balanced, Unbalanced, Bounded, Unbounded}
 use Rattle.literals.specs.Matching.{required}
-use Rattle.classes.specs.Classes.{momentsOf, classes, lastsIn, excluding, covered, nameOf, journey}
+use Rattle.classes.specs.Classes.{momentsOf, nameNumber, classes, lastsIn, excluding, covered, nameOf, journey}
 use Rattle.verdict.specs.Binding.{bind, bindTuple, sameNumbers, spare}
 
 -- ---- the report
@@ -54,22 +54,10 @@ rows D = rowsFrom D 0 (D .actions)
 -- ---- the decision
 
 abbrev pub isUnbounded : Name → Bool
-isUnbounded Unreachable = false
-isUnbounded Irrelevant = false
-isUnbounded Heavy = false
-isUnbounded Balanced = false
-isUnbounded Unbalanced = false
-isUnbounded Bounded = false
-isUnbounded Unbounded = true
+isUnbounded n = eqb (nameNumber n) 7
 
 abbrev pub isBounded : Name → Bool
-isBounded Unreachable = false
-isBounded Irrelevant = false
-isBounded Heavy = false
-isBounded Balanced = false
-isBounded Unbalanced = false
-isBounded Bounded = true
-isBounded Unbounded = false
+isBounded n = eqb (nameNumber n) 6
 
 -- "heavy, unbalanced, or unbounded outside a journey's end: 40, 41, 42", or 0
 abbrev pub faultBy : Name → Bool → ℕ

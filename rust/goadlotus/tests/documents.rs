@@ -3,6 +3,7 @@
 
 use std::fs;
 use std::path::{Path, PathBuf};
+use std::process::Command;
 
 const PROOFS: &str = "docs/PROOFS.md";
 const DECISIONS: &str = "docs/DECISIONS.md";
@@ -344,4 +345,15 @@ fn a_wrong_citation_is_noticed() {
     );
     assert!(!has_function(&root, "judging::judged") && !has_function(&root, "State::stepped"));
     assert_eq!(cited("edits `a`, `b`; edit `c` (d)", &["edit", "edits"]), ["c", "a", "b"]);
+}
+
+/// What a reader must believe, as docs/PROOFS.md says it: counted again by tools/lines-to-believe.
+#[test]
+fn lines_to_believe_are_counted() {
+    let root = root();
+    let counted = Command::new("python3").arg("tools/lines-to-believe").current_dir(&root).output().expect("python3");
+    let said = String::from_utf8(counted.stdout).expect("a sentence");
+    assert!(counted.status.success(), "{}", String::from_utf8_lossy(&counted.stderr));
+    let text = fs::read_to_string(root.join("docs/PROOFS.md")).expect("docs/PROOFS.md");
+    assert!(text.contains(said.trim()), "docs/PROOFS.md doesn't say: {}", said.trim());
 }

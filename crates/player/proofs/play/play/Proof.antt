@@ -1,11 +1,18 @@
 -- `play` meets its contract. Assumes nothing.
+use mathlib.Core.Path.{_∙_}
 use borrow.Author.Needs.{needs}
-use Rattle.player.proofs.PlayCalls.{number-is, place-is, steps-is, weight-is, part-is, as-machine, stays-low}
+use Rattle.player.proofs.PlayCalls.{number-is, place-is, steps-is, weight-is, file-is, offset-is, part-is, as-machine, stays-low}
 use Rattle.player.proofs.play.play.Statement.{statement}
 use Rattle.player.proofs.play.play.Tie as tie
 
 play-files-requires : tie.Need-play-files-requires
 play-files-requires c κs = search needs
+
+file-of-requires : tie.Need-file-of-requires
+file-of-requires c κs = search needs
+
+offset-of-requires : tie.Need-offset-of-requires
+offset-of-requires c κs = search needs
 
 part-requires : tie.Need-part-requires
 part-requires c κs = search needs
@@ -15,24 +22,32 @@ same-length c = search needs
 
 returns : tie.Need-returns
 returns c =
-    let a = c .before .before .before .before .before .before .before .before .args in
-    let f = c .before .before .before .play-files in
-    let e = f .ensures .0 in (
-      number-is (a .domain .now) (a .run .now) (a .work .now) (f .result) e,
+    let d = c .before .before .before .before .before .before .before .before .before .before .before .args .domain .now in
+    let r = c .before .before .before .before .before .before .before .before .before .before .before .args .run .now in
+    let w = c .before .before .before .before .before .before .before .before .before .before .before .args .work .now in
+    let f = c .before .before .before .before .before .before .play-files in
+    let e = f .ensures .0 in
+    let number = number-is d r w (f .result) e in
+    let place = place-is d r w (f .result) e in
+    let steps = steps-is d r w (f .result) e in
+    let weight = weight-is d r w (f .result) e in (
+      number,
       (
-        place-is (a .domain .now) (a .run .now) (a .work .now) (f .result) e,
+        place,
         (
-          steps-is (a .domain .now) (a .run .now) (a .work .now) (f .result) e,
+          steps,
           (
-            weight-is (a .domain .now) (a .run .now) (a .work .now) (f .result) e,
+            weight,
             (
-              f .ensures .1,
+              c .before .before .before .file-of .ensures ∙ file-is d r w (f .result) e,
               (
-                as-machine (a .domain .now) (a .run .now) (a .work .now) _ _ _ _ _ (number-is (a .domain .now) (a .run .now) (a .work .now) (f .result) e) (place-is (a .domain .now) (a .run .now) (a .work .now) (f .result) e) (steps-is (a .domain .now) (a .run .now) (a .work .now) (f .result) e)
-                    (weight-is (a .domain .now) (a .run .now) (a .work .now) (f .result) e) (f .ensures .1),
+                c .before .before .offset-of .ensures ∙ offset-is d r w (f .result) e,
                 (
-                  stays-low (a .domain .now) (a .run .now) (a .work .now) _ (weight-is (a .domain .now) (a .run .now) (a .work .now) (f .result) e),
-                  part-is (a .domain .now) (a .run .now) (a .work .now) (f .result) e _ (c .part .ensures),
+                  part-is d r w (f .result) e _ (c .part .ensures),
+                  (
+                    f .ensures .1,
+                    (as-machine d r w _ _ _ _ _ number place steps weight (f .ensures .1), stays-low d r w _ weight),
+                  ),
                 ),
               ),
             ),
@@ -42,8 +57,12 @@ returns c =
     )
 
 pub play-spec : {M : Type 1} → statement M
-play-spec = tie.close (tie.spec
+play-spec =
+    tie.close
+    (tie.spec
     play-files-requires
+    file-of-requires
+    offset-of-requires
     part-requires
     same-length
     returns)
