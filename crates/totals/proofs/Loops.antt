@@ -1,0 +1,85 @@
+-- Laws for code: a box read from left to right, and the totals with one file more. Assumes nothing.
+use mathlib.Core.Path.{_≡_, sym, ap, ap₂, _∙_}
+use mathlib.Core.Bool.{true, false}
+use mathlib.Core.List.{List, [], _∷_, _++_}
+use Prim.Native.Nat.{ℕ, suc, _+_, _-_, _*_, _≤_, _<_}
+use native.Mathlib.Omega.{arith}
+use lib.ListN.{length, take, drop, take-append-drop, length-drop, drop-of-length-le}
+use lib.Seq.{length-take-le, take-add, take-take, take-all, getD-take, drop-at}
+use borrow.Author.Tests.{le-leb}
+use Rattle.records.proofs.Lists.{and-i}
+use Rattle.totals.specs.Totals.{long, wholeFile, firstFile, behindFile, cutAt, files, withFile, openFrom, opened, totals}
+use Rattle.totals.specs.Claims.{behind, added}
+use Rattle.totals.proofs.Boxes.{open-nil, open-whole, open-cut, whole-within, boxes-joined}
+use Rattle.totals.proofs.Counts.{totals-joined}
+
+-- a whole file, and nothing behind it
+module _ (b : List ℕ) (w : wholeFile b ≡ true) where
+  front-length : length (take (4 + long b) b) ≡ 4 + long b
+  front-length = length-take-le (4 + long b) b (whole-within b w)
+
+  front-long : long (take (4 + long b) b) ≡ long b
+  unfolding long
+  front-long =
+      ap₂ (λ (m n : ℕ). m + n * 65536)
+      (ap₂ (λ (m n : ℕ). m + n * 256) (getD-take (4 + long b) b 0 0 (omega arith)) (getD-take (4 + long b) b 1 0 (omega arith)))
+      (ap₂ (λ (m n : ℕ). m + n * 256) (getD-take (4 + long b) b 2 0 (omega arith)) (getD-take (4 + long b) b 3 0 (omega arith)))
+
+  front-whole : wholeFile (take (4 + long b) b) ≡ true
+  unfolding wholeFile
+  front-whole =
+      let l = front-length in
+      let e = front-long in
+      and-i (le-leb 4 (length (take (4 + long b) b)) (omega arith)) (le-leb (long (take (4 + long b) b)) (length (take (4 + long b) b) - 4) (omega arith))
+
+  front-first : firstFile (take (4 + long b) b) ≡ firstFile b
+  unfolding firstFile
+  front-first =
+      ap₂ (λ (n : ℕ) (l : List ℕ). take n l) front-long
+      (ap (drop 4) (take-add 4 (long b) b) ∙ drop-four)
+      ∙ take-take (long b) (long b) (drop 4 b) (omega arith)
+    where
+      drop-four : drop 4 (take 4 b ++ take (long b) (drop 4 b)) ≡ take (long b) (drop 4 b)
+      drop-four = drop-at (take 4 b) (take (long b) (drop 4 b)) 4 (length-take-le 4 b (let h = whole-within b w in omega arith))
+
+  front-behind : behindFile (take (4 + long b) b) ≡ []
+  unfolding behindFile
+  front-behind = drop-of-length-le (take (4 + long b) b) {i = 4 + long (take (4 + long b) b)} (let l = front-length in let e = front-long in omega arith)
+
+  front-opened : opened (take (4 + long b) b) ≡ files (firstFile b ∷ [])
+  unfolding opened
+  front-opened =
+      let l = front-length in
+      ap (λ n. openFrom (suc n) 0 (take (4 + long b) b)) l
+      ∙ open-whole (4 + long b) 0 (take (4 + long b) b) (omega arith) front-whole
+      ∙ ap₂ withFile front-first (ap (openFrom (4 + long b) (0 + 4 + long (take (4 + long b) b))) front-behind ∙ ap (λ n. openFrom n (0 + 4 + long (take (4 + long b) b)) []) (let z : 4 + long b ≡ suc (3 + long b) = omega arith in z) ∙ open-nil (3 + long b) (0 + 4 + long (take (4 + long b) b)))
+
+-- the bytes before an offset are whole files
+module _ (b : List ℕ) (at : ℕ) (fs : List (List ℕ)) (h : at ≤ length b) (e : opened (take at b) ≡ files fs) where
+  rest : opened b ≡ behind at fs (opened (drop at b))
+  rest =
+      ap opened (sym (take-append-drop at b)) ∙ boxes-joined (take at b) (drop at b) fs e
+      ∙ ap (λ n. behind n fs (opened (drop at b))) (length-take-le at b h)
+
+  -- a whole file there: one file more
+  pub box-more : wholeFile (drop at b) ≡ true → opened (take (at + (4 + long (drop at b))) b) ≡ files (fs ++ (firstFile (drop at b) ∷ []))
+  box-more w =
+      ap opened (take-add at (4 + long (drop at b)) b)
+      ∙ boxes-joined (take at b) (take (4 + long (drop at b)) (drop at b)) fs e
+      ∙ ap (behind (length (take at b)) fs) (front-opened (drop at b) w)
+
+  -- none: the box is cut
+  pub box-cut : at < length b → wholeFile (drop at b) ≡ false → opened b ≡ cutAt at
+  unfolding opened
+  box-cut l w =
+      rest
+      ∙ ap (behind at fs) (open-cut (length (drop at b)) 0 (drop at b) (let d = length-drop at b in omega arith) w)
+      ∙ ap cutAt (let z : at + 0 ≡ at = omega arith in z)
+
+  -- nothing is left: these are the files
+  pub box-end : length b ≤ at → opened b ≡ files fs
+  box-end l = ap opened (sym (take-all at b l)) ∙ e
+
+-- one file more
+pub totals-more : (fs : List (List ℕ)) (f : List ℕ) → totals (fs ++ (f ∷ [])) ≡ added (totals fs) (totals (f ∷ []))
+totals-more fs f = totals-joined fs (f ∷ [])

@@ -1,0 +1,1 @@
+// "Figures for a whole term": definitions and proofs. There is no code here.
