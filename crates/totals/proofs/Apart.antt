@@ -9,10 +9,10 @@ use Rattle.records.specs.Memory.{over}
 use Rattle.records.proofs.Lists.{getD-in}
 use Rattle.totals.specs.Totals.{opened, files, totals, lowBytes, totalBytes}
 use Rattle.totals.specs.Claims.{behind, added, fromBytes, TotalRead, CountedApart}
-use Rattle.totals.proofs.Boxes.{boxes-joined}
+use Rattle.totals.proofs.Joining.{boxes-joined}
 use Rattle.totals.proofs.Counts.{totals-joined}
 use Rattle.totals.proofs.Bounds.{totals-bounded}
-use Rattle.totals.proofs.Written.{bytes-say, totals-length, totalled-done}
+use Rattle.totals.proofs.Answers.{bytes-say, totals-length, totalled-done}
 
 -- the bytes of total n among all
 slice : (ts rest : List ℕ) (n : ℕ) → n < length ts → take 8 (drop (8 * n) (totalBytes ts ++ rest)) ≡ lowBytes 8 (getD ts n 0)
@@ -34,7 +34,7 @@ total-read b out fs e small h n l =
     ∙ ap fromBytes (slice (totals fs) (drop (length (totalBytes (totals fs))) out) n (omega arith))
     ∙ bytes-say 8 (getD (totals fs) n 0) (omega arith)
 
-added-at : (ms ns : List ℕ) (n : ℕ) → n < length ms → n < length ns → getD (added ms ns) n 0 ≡ getD ms n 0 + getD ns n 0
+pub added-at : (ms ns : List ℕ) (n : ℕ) → n < length ms → n < length ns → getD (added ms ns) n 0 ≡ getD ms n 0 + getD ns n 0
 added-at [] ns n h l = absurd (omega arith)
 added-at (x ∷ xs) [] n h l = absurd (omega arith)
 added-at (x ∷ xs) (y ∷ ys) zero h l = refl

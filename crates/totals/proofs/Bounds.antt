@@ -24,7 +24,7 @@ use Rattle.verdict.specs.Judged.{decidedFile}
 use Rattle.classes.specs.Coded.{numbersFrom}
 use Rattle.totals.specs.Totals.{rowsBy, rowsOfFile, allRows, filesWith, momentsWith, totals}
 use Rattle.totals.specs.Claims.{TotalsBounded}
-use Rattle.totals.proofs.Boxes.{boxed, boxed-length}
+use Rattle.totals.proofs.Joining.{boxed, boxed-length}
 
 -- ---- literals and bytes
 

@@ -1,10 +1,12 @@
 -- The claims proved, and laws for the code.
 pub mod Known
-pub mod Boxes
+pub mod Joining
 pub mod Sums
 pub mod Counts
 pub mod Bounds
-pub mod Written
+pub mod Answers
 pub mod Enough
 pub mod Loops
 pub mod Apart
+pub mod Tallied
+pub mod Reported

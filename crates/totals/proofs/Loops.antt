@@ -1,17 +1,45 @@
 -- Laws for code: a box read from left to right, and the totals with one file more. Assumes nothing.
-use mathlib.Core.Path.{_≡_, sym, ap, ap₂, _∙_}
-use mathlib.Core.Bool.{true, false}
+use mathlib.Core.Path.{_≡_, refl, sym, ap, ap₂, _∙_}
+use mathlib.Core.Bool.{Bool, true, false, _&&_}
 use mathlib.Core.List.{List, [], _∷_, _++_}
 use Prim.Native.Nat.{ℕ, suc, _+_, _-_, _*_, _≤_, _<_}
 use native.Mathlib.Omega.{arith}
-use lib.ListN.{length, take, drop, take-append-drop, length-drop, drop-of-length-le}
-use lib.Seq.{length-take-le, take-add, take-take, take-all, getD-take, drop-at}
-use borrow.Author.Tests.{le-leb}
+use lib.ListN.{length, getD, take, drop, take-append-drop, length-drop, drop-of-length-le}
+use lib.Seq.{length-take-le, take-add, take-take, take-all, getD-take, getD-drop, drop-at}
+use borrow.Author.Tests.{le-leb, lt-leb}
+use lib.Dec.{leb}
 use Rattle.records.proofs.Lists.{and-i}
 use Rattle.totals.specs.Totals.{long, wholeFile, firstFile, behindFile, cutAt, files, withFile, openFrom, opened, totals}
+use Rattle.totals.specs.declared.Opening.the-variants.{Whole, Cut}
 use Rattle.totals.specs.Claims.{behind, added}
-use Rattle.totals.proofs.Boxes.{open-nil, open-whole, open-cut, whole-within, boxes-joined}
+use Rattle.totals.specs.Counted.{openingOf}
+use Rattle.totals.proofs.Joining.{open-nil, open-whole, open-cut, whole-within, boxes-joined}
 use Rattle.totals.proofs.Counts.{totals-joined}
+
+-- ---- the length at an offset
+
+pub long-at : (b : List ℕ) (at : ℕ)
+    → long (drop at b) ≡ getD b at 0 + getD b (at + 1) 0 * 256 + (getD b (at + 2) 0 + getD b (at + 3) 0 * 256) * 65536
+unfolding long
+long-at b at =
+    ap₂ (λ (m n : ℕ). m + n * 65536)
+    (ap₂ (λ (m n : ℕ). m + n * 256) (getD-drop at b 0 0 ∙ ap (λ (i : ℕ). getD b i 0) (let z : at + 0 ≡ at = omega arith in z)) (getD-drop at b 1 0))
+    (ap₂ (λ (m n : ℕ). m + n * 256) (getD-drop at b 2 0) (getD-drop at b 3 0))
+
+-- no length fits there
+pub none-left : (b : List ℕ) (at : ℕ) → length b - at < 4 → false ≡ wholeFile (drop at b)
+unfolding wholeFile
+none-left b at h =
+    let l = length-drop at b in
+    sym (ap (λ (t : Bool). t && leb (long (drop at b)) (length (drop at b) - 4)) (lt-leb 4 (length (drop at b)) (omega arith)))
+
+-- one fits: its file is compared with what is left
+pub one-left : (b : List ℕ) (at : ℕ) → 4 ≤ length b - at → leb (long (drop at b)) (length b - at - 4) ≡ wholeFile (drop at b)
+unfolding wholeFile
+one-left b at h =
+    let l = length-drop at b in
+    ap (λ (n : ℕ). leb (long (drop at b)) (n - 4)) (sym l)
+    ∙ sym (ap (λ (t : Bool). t && leb (long (drop at b)) (length (drop at b) - 4)) (le-leb 4 (length (drop at b)) (omega arith)))
 
 -- a whole file, and nothing behind it
 module _ (b : List ℕ) (w : wholeFile b ≡ true) where
@@ -83,3 +111,34 @@ module _ (b : List ℕ) (at : ℕ) (fs : List (List ℕ)) (h : at ≤ length b) 
 -- one file more
 pub totals-more : (fs : List (List ℕ)) (f : List ℕ) → totals (fs ++ (f ∷ [])) ≡ added (totals fs) (totals (f ∷ []))
 totals-more fs f = totals-joined fs (f ∷ [])
+
+-- ---- the walk from length to length
+
+-- the bytes before an offset are whole files: these
+pub record Passed (b : List ℕ) (at : ℕ) : Type 0 where
+  pub within : at ≤ length b
+  pub passed : List (List ℕ)
+  pub whole : opened (take at b) ≡ files passed
+
+pub pass-none : (b : List ℕ) → Passed b 0
+unfolding opened openFrom
+pass-none b = record { within = omega arith; passed = []; whole = refl }
+
+module _ {b : List ℕ} {at : ℕ} (P : Passed b at) where
+  -- a length of a whole file
+  pub file-within : wholeFile (drop at b) ≡ true → at + 4 + long (drop at b) ≤ length b
+  file-within w = let h = whole-within (drop at b) w in let l = length-drop at b in let i = P .within in omega arith
+
+  pub pass-file : (next : ℕ) → wholeFile (drop at b) ≡ true → next ≡ at + 4 + long (drop at b) → Passed b next
+  pass-file next w e =
+      record {
+        within = let h = file-within w in omega arith;
+        passed = P .passed ++ (firstFile (drop at b) ∷ []);
+        whole = ap (λ (n : ℕ). opened (take n b)) (let z : next ≡ at + (4 + long (drop at b)) = omega arith in z) ∙ box-more b at (P .passed) (P .within) (P .whole) w;
+      }
+
+  pub pass-cut : at < length b → wholeFile (drop at b) ≡ false → Cut at ≡ openingOf (opened b)
+  pass-cut l w = ap openingOf (sym (box-cut b at (P .passed) (P .within) (P .whole) l w))
+
+  pub pass-end : length b ≤ at → Whole ≡ openingOf (opened b)
+  pass-end l = ap openingOf (sym (box-end b at (P .passed) (P .within) (P .whole) l))

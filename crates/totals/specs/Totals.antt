@@ -43,7 +43,7 @@ abbrev pub withFile : List ℕ → Opened → Opened
 withFile f (cutAt at) = cutAt at
 withFile f (files fs) = files (f ∷ fs)
 
--- of what is left of a box from an offset on. More fuel than its length changes nothing: `more-fuel` of proofs/Boxes
+-- of what is left of a box from an offset on. More fuel than its length changes nothing: `more-fuel` of proofs/Joining
 unfoldable pub openFrom : ℕ → ℕ → List ℕ → Opened
 unfolding wholeFile firstFile behindFile
 openFrom zero at b = cutAt at

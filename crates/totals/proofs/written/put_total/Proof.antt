@@ -1,0 +1,62 @@
+use Rattle.totals.proofs.written.put_total.Statement.{statement}
+use Rattle.totals.proofs.written.put_total.Tie as tie
+use Rattle.totals.proofs.written.put_total.Reads as reads
+use Rattle.totals.proofs.written.put_total.Lts as lts
+
+abbrev Inv-loop : tie.InvT-loop
+Inv-loop out₀ at total rest₀ k₀ out rest k = ?
+
+abbrev μ-loop : tie.MeasureT-loop
+μ-loop out₀ at total rest₀ k₀ out rest k = ?
+
+-- src/written.rt:16:5
+loop-holds : tie.Need-loop-holds Inv-loop μ-loop
+loop-holds c = ?
+
+-- src/written.rt:17:23
+cast-out : tie.Need-cast-out Inv-loop μ-loop
+cast-out c = ?
+
+-- src/written.rt:17:13
+add-out : tie.Need-add-out Inv-loop μ-loop
+add-out c = ?
+
+-- src/written.rt:17:9
+slice-write-out : tie.Need-slice-write-out Inv-loop μ-loop
+slice-write-out c = ?
+
+-- src/written.rt:16:9
+add-k : tie.Need-add-k Inv-loop μ-loop
+add-k c = ?
+
+-- src/written.rt:16:5
+loop-less : tie.Need-loop-less Inv-loop μ-loop
+loop-less c = ?
+
+-- src/written.rt:16:5
+loop-again : tie.Need-loop-again Inv-loop μ-loop
+loop-again c = ?
+
+-- src/written.rt:10:1
+same-length : tie.Need-same-length Inv-loop μ-loop
+same-length c = ?
+
+-- src/written.rt:10:1
+returns : tie.Need-returns Inv-loop μ-loop
+returns c = ?
+
+pub put-total-spec : {M : Type 1} → statement M
+put-total-spec =
+    tie.close
+    (tie.spec
+    Inv-loop
+    μ-loop
+    loop-holds
+    cast-out
+    add-out
+    slice-write-out
+    add-k
+    loop-less
+    loop-again
+    same-length
+    returns)
