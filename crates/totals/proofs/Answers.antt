@@ -23,11 +23,11 @@ bytes-say (suc k) n h =
     let q : n / 256 < 256 ^ k = div-lt-iff-lt-mul {k = 256} (let z : 0 < 256 = omega arith in z) .1 (rw p at h) in
     ap (λ m. n % 256 + 256 * m) (bytes-say k (n / 256) q) ∙ (let d = div-add-mod' n 256 in omega arith)
 
-low-length : (k n : ℕ) → length (lowBytes k n) ≡ k
+pub low-length : (k n : ℕ) → length (lowBytes k n) ≡ k
 low-length zero n = refl
 low-length (suc k) n = ap suc (low-length k (n / 256))
 
-bytes-length : (ts : List ℕ) → length (totalBytes ts) ≡ 8 * length ts
+pub bytes-length : (ts : List ℕ) → length (totalBytes ts) ≡ 8 * length ts
 unfolding totalBytes flatMap
 bytes-length [] = refl
 bytes-length (t ∷ ts) =

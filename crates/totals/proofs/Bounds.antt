@@ -2,24 +2,32 @@
 use mathlib.Core.Path.{_≡_, refl, ap, _∙_}
 use mathlib.Core.Bool.{Bool, true, false, cond}
 use mathlib.Core.Logic.{_⊎_, inl, inr}
-use mathlib.Core.List.{List, [], _∷_, _++_, map, flatMap, List·Memᴰ·append-cases, Memᴰ·of-map}
+use mathlib.Core.List.{List, [], _∷_, _++_, map, flatMap, List·Memᴰ·head, List·Memᴰ·tail, List·Memᴰ·append-cases, Memᴰ·of-map}
+use mathlib.Core.Option.{Option, none, some}
 use Prim.Native.Nat.{ℕ, zero, suc, _+_, _*_, _≤_}
 use native.Mathlib.Omega.{arith}
 use lib.Dec.{eqb, ltb}
-use lib.ListN.{length, length-append, length-map}
-use Rattle.records.specs.Lists.{In}
-use Rattle.records.proofs.Lists.{count-le}
+use lib.ListN.{length, getD, length-append, length-map, List·getD-eq-default}
+use borrow.Author.Tests.{ltb-true, ltb-false}
+use Rattle.records.specs.Lists.{keepIf, In}
+use Rattle.records.proofs.Lists.{bool-cases, getD-in, count-le, dedup-few}
 use Rattle.literals.specs.declared.Variable.{Variable}
-use Rattle.literals.specs.Domain.{Literal, Action, Domain}
+use Rattle.literals.specs.declared.Clause.{Clause}
+use Rattle.literals.specs.declared.Clause.the-variants.{Positive}
+use Rattle.literals.specs.declared.Role.{Role}
+use Rattle.literals.specs.Domain.{Atom, Fact, Literal, Action, Component, Domain, sameLiteral, noAction, action}
 use Rattle.literals.specs.Decode.{maxFile, RecordKind, relationRecord, actionRecord, literalRecord, componentRecord, closingRecord, unknownRecord, literalOf, actionOf, withLiteral, extend, refuse, Decoded, refused, domain, Reading, ReadTurn, goOn, finish, readStep, Finished, readFrom, noDomain, fromStart, readFile, decode}
 use Rattle.literals.specs.Table.{Bounded}
 use Rattle.literals.proofs.Loop.{goOn-at, finish-sofar}
 use Rattle.literals.proofs.Bounds.{decoded-bounded}
 use Rattle.classes.specs.declared.Moment.{Moment}
 use Rattle.classes.specs.declared.Moment.the-variants.{Start, End}
-use Rattle.classes.specs.Classes.{momentsOf, classes, nameNumber}
+use Rattle.classes.specs.declared.Name.{Name}
+use Rattle.classes.specs.declared.Name.the-variants.{Unreachable, Irrelevant, Heavy, Balanced, Unbalanced, Bounded as IsBounded, Unbounded}
+use Rattle.classes.specs.Classes.{momentsOf, asked, withRole, required, classes, excluding, covered, nameOf, nameNumber}
 use Rattle.classes.proofs.Members.{classes-few}
-use Rattle.verdict.specs.Decision.{Row, rowAt, rowsOfClasses, rowsFrom, rows}
+use Rattle.verdict.specs.Binding.{bind, bindTuple, sameNumbers, spare}
+use Rattle.verdict.specs.Decision.{Row, rowAt, rowsOfClasses, rowsFrom, rows, decision, instanceFact, firstUncovered, witnessBy, witnessAt, classAt, witnessOf, witness}
 use Rattle.verdict.specs.Judged.{decidedFile}
 use Rattle.classes.specs.Coded.{numbersFrom}
 use Rattle.totals.specs.Totals.{rowsBy, rowsOfFile, allRows, filesWith, momentsWith, totals}
@@ -113,6 +121,90 @@ rows-few f = go (decode f) refl
     go (domain D) e =
         let h = literals-few f D e in
         let r = from-rows D (decoded-bounded f D e) 0 (D .actions) in omega arith
+
+-- ---- the most that a file can ask
+
+most-literals : (as′ : List Action) → ((a : Action) → In a as′ → length (a .lits) ≤ 64) → literalCount as′ ≤ 64 * length as′
+most-literals [] h = omega arith
+most-literals (a ∷ as′) h =
+    let k = h a (List·Memᴰ·head refl) in
+    let r = most-literals as′ (λ b m. h b (List·Memᴰ·tail m)) in omega arith
+
+-- two moments for each of 64 literals of 64 actions
+pub rows-most : (f : List ℕ) → length (rowsOfFile f) ≤ 8192
+unfolding rowsOfFile rows
+rows-most f = go (decode f) refl
+  where
+    go : (d : Decoded) → decode f ≡ d → length (rowsBy d) ≤ 8192
+    go (refused r) e = omega arith
+    go (domain D) e =
+        let B = decoded-bounded f D e in
+        let n = B .actions in
+        let l = most-literals (D .actions) (B .sizes) in
+        let r = from-rows D B 0 (D .actions) in omega arith
+
+-- the literals of an action of a domain, or of none
+action-size : (D : Domain) → Bounded D → (i : ℕ) → length (action D i .lits) ≤ 64
+unfolding action
+action-size D B i = go (bool-cases (ltb i (length (D .actions))))
+  where
+    go : (ltb i (length (D .actions)) ≡ true) ⊎ (ltb i (length (D .actions)) ≡ false) → length (getD (D .actions) i noAction .lits) ≤ 64
+    go (inl t) = B .sizes (getD (D .actions) i noAction) (getD-in (D .actions) i noAction (ltb-true i (length (D .actions)) t))
+    go (inr z) =
+        let e : length (getD (D .actions) i noAction .lits) ≡ 0 = ap (λ (a : Action). length (a .lits)) (List·getD-eq-default (D .actions) noAction (ltb-false i (length (D .actions)) z)) in omega arith
+
+role-few : (p : Role → Bool) (l : List Literal) → length (withRole p l) ≤ length l
+role-few p [] = omega arith
+role-few p (l ∷ ls) = go (p (l .role)) (role-few p ls)
+  where
+    go : (b : Bool) → length (withRole p ls) ≤ length ls → length (keepIf b (l .atom) (withRole p ls)) ≤ suc (length ls)
+    go true h = omega arith
+    go false h = omega arith
+
+required-few : (a : Action) (m : Moment) (c : Clause) → length (required a m c) ≤ length (a .lits)
+unfolding required
+required-few a m c =
+    let d = dedup-few sameLiteral (withRole (asked m c) (a .lits)) in
+    let r = role-few (asked m c) (a .lits) in omega arith
+
+uncovered-few : (ps : List (Atom Variable)) (cs : List Component) → length (firstUncovered ps cs) ≤ 1
+uncovered-few ps [] = omega arith
+uncovered-few ps (c ∷ cs) = go (covered ps c) (uncovered-few ps cs)
+  where
+    go : (b : Bool) → length (firstUncovered ps cs) ≤ 1 → length (cond b (firstUncovered ps cs) (c ∷ [])) ≤ 1
+    go true h = h
+    go false h = omega arith
+
+by-few : (n : Name) (cs fs : List Fact) → length (witnessBy n cs fs) ≤ length cs + length fs
+by-few Unreachable cs fs = omega arith
+by-few Irrelevant cs fs = omega arith
+by-few Heavy cs fs = omega arith
+by-few Balanced cs fs = omega arith
+by-few Unbalanced cs fs = omega arith
+by-few IsBounded cs fs = omega arith
+by-few Unbounded cs fs = let h = length-append cs fs in omega arith
+
+-- 64 true conditions, and one fact of the instance
+pub witness-most : (f : List ℕ) (D : Domain) → decode f ≡ domain D → length (witness D) ≤ 65
+unfolding witness witnessAt
+witness-most f D e = go (decision D .place)
+  where
+    go : (o : Option Row) → length (witnessOf D o) ≤ 65
+    go none = omega arith
+    go (some r) =
+        let a = action D (r .action) in
+        let x = classAt D (r .action) (r .class) in
+        let m = r .moment in
+        let b = sameNumbers a in
+        let cs = map (bind b) (required a m Positive) in
+        let us = firstUncovered (excluding D a x m) (D .template) in
+        let fs = map (instanceFact (spare a) (bindTuple b x)) us in
+        let h = by-few (nameOf D a x m) cs fs in
+        let c = length-map (required a m Positive) (bind b) in
+        let q = required-few a m Positive in
+        let z = action-size D (decoded-bounded f D e) (r .action) in
+        let i = length-map us (instanceFact (spare a) (bindTuple b x)) in
+        let u = uncovered-few (excluding D a x m) (D .template) in omega arith
 
 -- ---- the totals
 

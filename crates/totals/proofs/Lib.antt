@@ -10,3 +10,4 @@ pub mod Loops
 pub mod Apart
 pub mod Tallied
 pub mod Reported
+pub mod Walks
