@@ -11,3 +11,4 @@ pub mod Apart
 pub mod Tallied
 pub mod Reported
 pub mod Walks
+pub mod Files

@@ -124,6 +124,10 @@ pub pass-none : (b : List ℕ) → Passed b 0
 unfolding opened openFrom
 pass-none b = record { within = omega arith; passed = []; whole = refl }
 
+pub none-passed : (b : List ℕ) → pass-none b .passed ≡ []
+unfolding pass-none
+none-passed b = refl
+
 module _ {b : List ℕ} {at : ℕ} (P : Passed b at) where
   -- a length of a whole file
   pub file-within : wholeFile (drop at b) ≡ true → at + 4 + long (drop at b) ≤ length b
@@ -136,6 +140,11 @@ module _ {b : List ℕ} {at : ℕ} (P : Passed b at) where
         passed = P .passed ++ (firstFile (drop at b) ∷ []);
         whole = ap (λ (n : ℕ). opened (take n b)) (let z : next ≡ at + (4 + long (drop at b)) = omega arith in z) ∙ box-more b at (P .passed) (P .within) (P .whole) w;
       }
+
+  -- one file more
+  pub pass-passed : (next : ℕ) (w : wholeFile (drop at b) ≡ true) (e : next ≡ at + 4 + long (drop at b)) → pass-file next w e .passed ≡ P .passed ++ (firstFile (drop at b) ∷ [])
+  unfolding pass-file
+  pass-passed next w e = refl
 
   pub pass-cut : at < length b → wholeFile (drop at b) ≡ false → Cut at ≡ openingOf (opened b)
   pass-cut l w = ap openingOf (sym (box-cut b at (P .passed) (P .within) (P .whole) l w))

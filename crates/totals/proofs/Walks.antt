@@ -136,3 +136,7 @@ bytes-more ts n h = ap (λ (l : List ℕ). flatMap (lowBytes 8) l) (ap (λ (k : 
 
 pub bytes-of : (ts : List ℕ) (n : ℕ) → n ≤ length ts → length (totalBytes (take n ts)) ≡ 8 * n
 bytes-of ts n h = let l = length-take-le n ts h in bytes-length (take n ts) ∙ (let z : 8 * length (take n ts) ≡ 8 * n = omega arith in z)
+
+pub none-written : (ts old : List ℕ) → old ≡ over (totalBytes (take 0 ts)) old
+unfolding totalBytes over flatMap
+none-written ts old = refl
