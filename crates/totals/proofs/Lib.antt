@@ -12,3 +12,4 @@ pub mod Tallied
 pub mod Reported
 pub mod Walks
 pub mod Files
+pub mod Calls

@@ -78,6 +78,9 @@ pub over-none : (old : List ℕ) → over [] old ≡ old
 unfolding over
 over-none old = refl
 
+pub all-clear : (n : ℕ) → _≡_ {A = List ℕ} (replicate n 0) (replicate (length {A = ℕ} (replicate n 0)) 0)
+all-clear n = ap (λ (k : ℕ). replicate k 0) (sym (length-replicate n 0))
+
 pub cleared-more : (old : List ℕ) (i : ℕ) → i < length old → set (over (replicate i 0) old) i 0 ≡ over (replicate (i + 1) 0) old
 cleared-more old i h =
     over-more (replicate i 0) old i 0 (length-replicate i 0) h ∙ ap (λ (l : List ℕ). over l old) (replicate-append-replicate i 1 0)
