@@ -1,12 +1,13 @@
 -- What is claimed of the totals of a box, each proved in proofs/. Assumes nothing.
 use mathlib.Core.Path.{_≡_}
-use mathlib.Core.List.{List, [], _∷_, _++_, foldr}
+use mathlib.Core.List.{List, [], _∷_, _++_, map, foldr}
 use Prim.Native.Nat.{ℕ, suc, _+_, _*_, _^_, _≤_, _<_}
 use lib.ListN.{length, getD, take, drop}
 use Rattle.records.specs.Lists.{In}
 use Rattle.records.specs.Memory.{over}
 use Rattle.literals.specs.Domain.{Domain}
 use Rattle.literals.specs.Decode.{domain, decode}
+use Rattle.classes.specs.Coded.{numbersFrom}
 use Rattle.verdict.specs.Decision.{witness}
 use Rattle.verdict.specs.Judged.{rowBytes, answerAt, decidedFile, judged, reportAfter}
 use Rattle.totals.specs.Totals.{Opened, cutAt, files, opened, rowsOfFile, filesWith, allRows, momentsWith, totals, lowBytes, totalBytes, totalled, totalsAfter}
@@ -104,3 +105,17 @@ abbrev pub CountedApart : Type 0
 CountedApart =
     (b c out : List ℕ) (fs gs : List (List ℕ)) → opened b ≡ files fs → opened c ≡ files gs → length (b ++ c) < 256 ^ 8 → 568 ≤ length out
     → (n : ℕ) → n < 71 → totalIn (totalsAfter (b ++ c) out) n ≡ totalIn (totalsAfter b out) n + totalIn (totalsAfter c out) n
+
+-- ---- of a call: the box, the number answered, and the memory afterwards
+
+-- done: every total in the memory is the count over the files of the box
+abbrev pub CountsFiles : List ℕ → ℕ → List ℕ → Type 0
+CountsFiles b number after =
+    (fs : List (List ℕ)) → opened b ≡ files fs → number ≡ 0
+    → ((n : ℕ) → n < 64 → totalIn after n ≡ filesWith n fs) × ((k : ℕ) → k < 7 → totalIn after (64 + k) ≡ momentsWith (suc k) fs)
+
+-- and they add up: those of numbers to the files, those of names to the moments of the files that were read
+abbrev pub AddsUp : List ℕ → ℕ → List ℕ → Type 0
+AddsUp b number after =
+    (fs : List (List ℕ)) → opened b ≡ files fs → number ≡ 0
+    → (sum (map (λ n. totalIn after n) (numbersFrom 0 64)) ≡ length fs) × (sum (map (λ k. totalIn after (63 + k)) (numbersFrom 1 7)) ≡ length (allRows fs))

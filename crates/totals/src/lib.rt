@@ -8,6 +8,7 @@ use counting::count_files;
 use written::put_totals;
 ghost use mathlib.Core.Path.{_≡_};
 ghost use Rattle.totals.specs.Totals.{opened, files, totalled, totalsAfter};
+ghost use Rattle.totals.specs.Claims.{CountsFiles, AddsUp};
 ghost use Rattle.totals.specs.Counted.{filesIn};
 
 // A whole box, or the offset of the length at which it is cut.
@@ -37,8 +38,8 @@ fn count_whole(packed: &[u8], totals: &mut [u8], first: &mut u64) -> u64
     0
 }
 
-// Counts a box: nothing is judged before the box is known to be whole, and nothing is written before all of it is counted.
-pub fn count_box(packed: &[u8], totals: &mut [u8], first: &mut u64) -> u64
+// The totals of any box: nothing is judged before the box is known to be whole, and nothing is written before all of it is counted.
+fn count_opened(packed: &[u8], totals: &mut [u8], first: &mut u64) -> u64
     ensures number { λ r. ⌜ r ≡ totalled (now (packed .entry)) (now (totals .entry)) .number ⌝ }
     ensures first { λ _. ⌜ now (first .exit) ≡ totalled (now (packed .entry)) (now (totals .entry)) .first ⌝ }
     ensures totals { λ _. ⌜ now (totals .exit) ≡ totalsAfter (now (packed .entry)) (now (totals .entry)) ⌝ }
@@ -51,4 +52,15 @@ pub fn count_box(packed: &[u8], totals: &mut [u8], first: &mut u64) -> u64
         }
         Opening::Whole => count_whole(packed, totals, first),
     }
+}
+
+// Counts a box, with what the answer means: every total is the count over the files of the box, and the totals add up.
+pub fn count_box(packed: &[u8], totals: &mut [u8], first: &mut u64) -> u64
+    ensures number { λ r. ⌜ r ≡ totalled (now (packed .entry)) (now (totals .entry)) .number ⌝ }
+    ensures first { λ _. ⌜ now (first .exit) ≡ totalled (now (packed .entry)) (now (totals .entry)) .first ⌝ }
+    ensures totals { λ _. ⌜ now (totals .exit) ≡ totalsAfter (now (packed .entry)) (now (totals .entry)) ⌝ }
+    ensures counts { λ r. ⌜ CountsFiles (now (packed .entry)) r (now (totals .exit)) ⌝ }
+    ensures sums { λ r. ⌜ AddsUp (now (packed .entry)) r (now (totals .exit)) ⌝ }
+{
+    count_opened(packed, totals, first)
 }
