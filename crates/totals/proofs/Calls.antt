@@ -98,8 +98,8 @@ module _ (b out : List ℕ) (small : length b < 18446744073709551616) {number : 
 
   pub adds-up : AddsUp b number after
   adds-up fs e z = (
-        ap sum (same-numbers (λ n. totalIn after n) (λ n. filesWith n fs) 0 64 (λ n l u. number-in fs e z n (omega arith)))
-            ∙ sum-counts (λ f. decidedFile f .number) 0 64 (λ f. let r = file-range f .1 in (omega arith, omega arith)) fs,
-        ap sum (same-numbers (λ k. totalIn after (63 + k)) (λ k. momentsWith k fs) 1 7 (λ k l u. name-at fs e z k l (omega arith)))
-            ∙ sum-counts (λ (r : Row). nameNumber (r .name)) 1 7 (λ r. let n = name-range (r .name) in let l = n .0 in let u = n .1 in (l, omega arith)) (allRows fs),
-      )
+    ap sum (same-numbers (λ n. totalIn after n) (λ n. filesWith n fs) 0 64 (λ n l u. number-in fs e z n (omega arith)))
+        ∙ sum-counts (λ f. decidedFile f .number) 0 64 (λ f. let r = file-range f .1 in (omega arith, omega arith)) fs,
+    ap sum (same-numbers (λ k. totalIn after (63 + k)) (λ k. momentsWith k fs) 1 7 (λ k l u. name-at fs e z k l (omega arith)))
+        ∙ sum-counts (λ (r : Row). nameNumber (r .name)) 1 7 (λ r. let n = name-range (r .name) in let l = n .0 in let u = n .1 in (l, omega arith)) (allRows fs),
+  )

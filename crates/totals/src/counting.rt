@@ -51,8 +51,8 @@ fn clear(report: &mut [u8], end: usize)
     }
 }
 
-// Judges a file with memory enough, and counts its number and the names of its moments: none where it is refused, since judging then leaves the
-// report as it was. The report is clear before and after, so its rows end at the first that is clear; only these are cleared.
+// Judges a file with memory enough, and counts its number and the names of its moments: none where it is refused, since judging then
+// leaves the report as it was. The report is clear before and after, so its rows end at the first that is clear; only these are cleared.
 fn count_file(file: &[u8], report: &mut [u8], witness: &mut [u8], counts: &mut [u64])
     requires totals { ⌜ length (now counts) ≡ 71 ⌝ }
     requires room { ⌜ Room (now counts) (1 + length (now file)) ⌝ }
@@ -86,7 +86,8 @@ fn count_all(packed: &[u8], report: &mut [u8], witness: &mut [u8], counts: &mut 
     }
 }
 
-// The same, with memory that is enough for every file: 4 bytes for each moment, and 8 for each true condition of an action and one more fact.
+// The same, with memory that is enough for every file: 4 bytes for each moment, and 8 for each true condition of an action and for one
+// fact more.
 pub fn count_files(packed: &[u8], counts: &mut [u64])
     requires whole { ⌜ opened (now packed) ≡ files (filesIn (now packed)) ⌝ }
     requires none { ⌜ now counts ≡ replicate 71 0 ⌝ }

@@ -147,8 +147,7 @@ pub fn totals(files: &[u8], totals: &mut [u8]) -> Served {
     let mut first = u64::MAX;
     // SAFETY: each slice is passed with its own length, which the call never exceeds; no pointer is null; what is
     // written is borrowed mutably, so nothing overlaps.
-    let number = unsafe {
-        raw::goadlotus_totals(files.as_ptr(), files.len(), totals.as_mut_ptr(), totals.len(), &mut first)
-    };
+    let number =
+        unsafe { raw::goadlotus_totals(files.as_ptr(), files.len(), totals.as_mut_ptr(), totals.len(), &mut first) };
     Served { number, first }
 }

@@ -6,19 +6,13 @@ use Rattle.totals.proofs.Calls.{counts-files, adds-up}
 use borrow.Author.Needs.{needs}
 use Rattle.totals.proofs.count_box.Statement.{statement}
 use Rattle.totals.proofs.count_box.Tie as tie
-use Rattle.totals.proofs.count_box.Reads as reads
-use Rattle.totals.proofs.count_box.Lts as lts
-use Rattle.totals.proofs.count_opened.Reads as count-opened-reads
 
--- src/lib.rt:65:5
 count-opened-requires : tie.Need-count-opened-requires
 count-opened-requires c κs = search needs
 
--- src/lib.rt:58:1
 same-length : tie.Need-same-length
 same-length c = search needs
 
--- src/lib.rt:58:1
 returns : tie.Need-returns
 returns c =
     let (number, (place, memory)) = c .before .before .count-opened .ensures in

@@ -1,3 +1,4 @@
+-- `boxes::open_box` meets its contract. The loop's invariant: the bytes passed are whole files. Assumes nothing.
 use mathlib.Core.Path.{sym, _∙_}
 use Prim.Native.Nat.{_-_}
 use native.Mathlib.Omega.{arith}
@@ -5,10 +6,6 @@ use lib.ListN.{length}
 use Rattle.totals.proofs.Loops.{Passed, pass-none, file-within, pass-file, pass-cut, pass-end}
 use Rattle.totals.proofs.boxes.open_box.Statement.{statement}
 use Rattle.totals.proofs.boxes.open_box.Tie as tie
-use Rattle.totals.proofs.boxes.open_box.Reads as reads
-use Rattle.totals.proofs.boxes.open_box.Lts as lts
-use Rattle.totals.proofs.boxes.length_at.Reads as length-at-reads
-use Rattle.totals.proofs.boxes.whole_at.Reads as whole-at-reads
 
 abbrev Inv-loop : tie.InvT-loop
 Inv-loop packed at₀ at = Passed packed at
@@ -16,39 +13,30 @@ Inv-loop packed at₀ at = Passed packed at
 abbrev μ-loop : tie.MeasureT-loop
 μ-loop packed at₀ at = length packed - at
 
--- src/boxes.rt:42:5
 loop-holds : tie.Need-loop-holds Inv-loop μ-loop
 loop-holds c = pass-none (c .before .args .packed .now)
 
--- src/boxes.rt:43:13
 whole-at-requires : tie.Need-whole-at-requires Inv-loop μ-loop
 whole-at-requires c κs = omega arith
 
--- src/boxes.rt:44:13
 returns : tie.Need-returns Inv-loop μ-loop
 returns c = pass-cut (c .before .before .before .loop .inv) (omega arith) (sym (c .before .whole-at .ensures) ∙ c .if1 .left)
 
--- src/boxes.rt:46:14
 add-at : tie.Need-add-at Inv-loop μ-loop
 add-at c = let h = file-within (c .before .before .before .loop .inv) (sym (c .before .whole-at .ensures) ∙ c .if1 .taken) in omega arith
 
--- src/boxes.rt:46:23
 length-at-requires : tie.Need-length-at-requires Inv-loop μ-loop
 length-at-requires c κs = let h = file-within (c .before .before .before .loop .inv) (sym (c .before .whole-at .ensures) ∙ c .if1 .taken) in omega arith
 
--- src/boxes.rt:46:14
 add-at-2 : tie.Need-add-at-2 Inv-loop μ-loop
 add-at-2 c = let h = file-within (c .before .before .before .before .loop .inv) (sym (c .before .before .whole-at .ensures) ∙ c .before .if1 .taken) in let e = c .length-at .ensures .0 in omega arith
 
--- src/boxes.rt:42:5
 loop-less : tie.Need-loop-less Inv-loop μ-loop
 loop-less c = let h = file-within (c .before .before .before .before .loop .inv) (sym (c .before .before .whole-at .ensures) ∙ c .before .if1 .taken) in let e = c .length-at .ensures .0 in omega arith
 
--- src/boxes.rt:42:5
 loop-again : tie.Need-loop-again Inv-loop μ-loop
 loop-again c = pass-file (c .before .before .before .before .loop .inv) _ (sym (c .before .before .whole-at .ensures) ∙ c .before .if1 .taken) (let e = c .length-at .ensures .0 in omega arith)
 
--- src/boxes.rt:38:1
 returns-2 : tie.Need-returns-2 Inv-loop μ-loop
 returns-2 c = pass-end (c .before .loop .inv) (omega arith)
 

@@ -1,3 +1,4 @@
+-- `boxes::whole_at` meets its contract: what is left is compared with the length. Assumes nothing.
 use mathlib.Core.Path.{ap, _∙_}
 use Prim.Native.Nat.{ℕ, _-_}
 use native.Mathlib.Omega.{arith}
@@ -7,23 +8,16 @@ use Rattle.totals.proofs.Loops.{none-left, one-left}
 use borrow.Author.Needs.{needs}
 use Rattle.totals.proofs.boxes.whole_at.Statement.{statement}
 use Rattle.totals.proofs.boxes.whole_at.Tie as tie
-use Rattle.totals.proofs.boxes.whole_at.Reads as reads
-use Rattle.totals.proofs.boxes.whole_at.Lts as lts
-use Rattle.totals.proofs.boxes.length_at.Reads as length-at-reads
 
--- src/boxes.rt:30:16
 sub-left : tie.Need-sub-left
 sub-left c = search needs
 
--- src/boxes.rt:32:9
 returns : tie.Need-returns
 returns c = none-left (c .before .before .args .packed .now) (c .before .before .args .at) (omega arith)
 
--- src/boxes.rt:34:5
 length-at-requires : tie.Need-length-at-requires
 length-at-requires c κs = search needs
 
--- src/boxes.rt:26:1
 returns-2 : tie.Need-returns-2
 returns-2 c =
     let args = c .before .before .before .args in

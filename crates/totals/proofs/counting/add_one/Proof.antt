@@ -1,35 +1,27 @@
+-- `counting::add_one` meets its contract: there is room for one more. Assumes nothing.
 use native.Mathlib.Omega.{arith}
 use borrow.Author.Needs.{needs}
 use Rattle.totals.proofs.counting.add_one.Statement.{statement}
 use Rattle.totals.proofs.counting.add_one.Tie as tie
-use Rattle.totals.proofs.counting.add_one.Reads as reads
-use Rattle.totals.proofs.counting.add_one.Lts as lts
 
--- src/counting.rt:20:18
 mul-counts : tie.Need-mul-counts
 mul-counts c = search needs
 
--- src/counting.rt:20:18
 slice-read-counts : tie.Need-slice-read-counts
 slice-read-counts c = search needs
 
--- src/counting.rt:20:18
 add-counts : tie.Need-add-counts
 add-counts c = let h = c .before .pre .1 (c .before .args .at) in omega arith
 
--- src/counting.rt:20:5
 mul-counts-2 : tie.Need-mul-counts-2
 mul-counts-2 c = search needs
 
--- src/counting.rt:20:5
 slice-write-counts : tie.Need-slice-write-counts
 slice-write-counts c = search needs
 
--- src/counting.rt:15:1
 same-length : tie.Need-same-length
 same-length c = search needs
 
--- src/counting.rt:15:1
 returns : tie.Need-returns
 returns c = search needs
 

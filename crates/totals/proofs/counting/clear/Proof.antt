@@ -8,8 +8,6 @@ use Rattle.records.specs.Memory.{over}
 use Rattle.totals.proofs.Walks.{over-none, cleared-more, cleared-length}
 use Rattle.totals.proofs.counting.clear.Statement.{statement}
 use Rattle.totals.proofs.counting.clear.Tie as tie
-use Rattle.totals.proofs.counting.clear.Reads as reads
-use Rattle.totals.proofs.counting.clear.Lts as lts
 
 abbrev Inv-loop : tie.InvT-loop
 Inv-loop report₀ end i₀ report i = (i ≤ end) × (end ≤ length report₀) × (report ≡ over (replicate i 0) report₀)
@@ -17,31 +15,24 @@ Inv-loop report₀ end i₀ report i = (i ≤ end) × (end ≤ length report₀)
 abbrev μ-loop : tie.MeasureT-loop
 μ-loop report₀ end i₀ report i = end - i
 
--- src/counting.rt:48:5
 loop-holds : tie.Need-loop-holds Inv-loop μ-loop
 loop-holds c = (omega arith, c .pre, sym (over-none _))
 
--- src/counting.rt:49:9
 slice-write-report : tie.Need-slice-write-report Inv-loop μ-loop
 slice-write-report c = let e = ap length (c .before .loop .inv .2) ∙ cleared-length (c .before .before .args .report .now) (c .before .loop .i) (omega arith) in omega arith
 
--- src/counting.rt:48:9
 add-i : tie.Need-add-i Inv-loop μ-loop
 add-i c = omega arith
 
--- src/counting.rt:48:5
 loop-less : tie.Need-loop-less Inv-loop μ-loop
 loop-less c = omega arith
 
--- src/counting.rt:48:5
 loop-again : tie.Need-loop-again Inv-loop μ-loop
 loop-again c = (omega arith, c .before .loop .inv .1, ap (λ (l : List ℕ). set l (c .before .loop .i) 0) (c .before .loop .inv .2) ∙ cleared-more (c .before .before .args .report .now) (c .before .loop .i) (omega arith))
 
--- src/counting.rt:44:1
 same-length : tie.Need-same-length Inv-loop μ-loop
 same-length c = ap length (c .before .loop .inv .2) ∙ cleared-length (c .before .before .args .report .now) (c .before .loop .i) (omega arith)
 
--- src/counting.rt:44:1
 returns : tie.Need-returns Inv-loop μ-loop
 returns c = c .before .loop .inv .2 ∙ ap (λ (n : ℕ). over (replicate n 0) (c .before .before .args .report .now)) (let z : c .before .loop .i ≡ c .before .before .args .end = omega arith in z)
 

@@ -6,10 +6,6 @@ use lib.ListN.{length}
 use Rattle.totals.proofs.Files.{Walked, walked-none, walked-sized, walked-end, file-fits, file-room, walked-more}
 use Rattle.totals.proofs.counting.count_all.Statement.{statement}
 use Rattle.totals.proofs.counting.count_all.Tie as tie
-use Rattle.totals.proofs.counting.count_all.Reads as reads
-use Rattle.totals.proofs.counting.count_all.Lts as lts
-use Rattle.totals.proofs.boxes.length_at.Reads as length-at-reads
-use Rattle.totals.proofs.counting.count_file.Reads as count-file-reads
 
 abbrev Inv-loop : tie.InvT-loop
 Inv-loop packed report₀ witness₀ counts₀ at₀ report witness counts at = Walked packed report₀ witness₀ report witness counts at × (length counts ≡ length counts₀)
@@ -17,52 +13,48 @@ Inv-loop packed report₀ witness₀ counts₀ at₀ report witness counts at = 
 abbrev μ-loop : tie.MeasureT-loop
 μ-loop packed report₀ witness₀ counts₀ at₀ report witness counts at = length packed - at
 
--- src/counting.rt:81:5
 loop-holds : tie.Need-loop-holds Inv-loop μ-loop
 loop-holds c = (walked-none (c .before .before .before .before .args .packed .now) (c .before .before .before .before .args .report .now) (c .before .before .before .before .args .witness .now) (c .before .before .before .before .args .counts .now) (c .before .before .before .before .pre .1 .1 .1 .1) (c .before .before .before .before .pre .1 .1 .1 .0), refl)
 
--- src/counting.rt:82:21
 add-start : tie.Need-add-start Inv-loop μ-loop
 add-start c = let w = file-fits (c .before .before .before .before .before .before .pre .0) (c .before .loop .inv .0) (omega arith) in omega arith
 
--- src/counting.rt:83:27
 length-at-requires : tie.Need-length-at-requires Inv-loop μ-loop
 length-at-requires c κs = let w = file-fits (c .before .before .before .before .before .before .pre .0) (c .before .loop .inv .0) (omega arith) in omega arith
 
--- src/counting.rt:83:19
 add-end : tie.Need-add-end Inv-loop μ-loop
 add-end c = let w = file-fits (c .before .before .before .before .before .before .before .pre .0) (c .before .before .loop .inv .0) (omega arith) in let e = c .length-at .ensures .0 in omega arith
 
--- src/counting.rt:84:20
 sub-count-file : tie.Need-sub-count-file Inv-loop μ-loop
 sub-count-file c = omega arith
 
--- src/counting.rt:84:20
 part-count-file-start : tie.Need-part-count-file-start Inv-loop μ-loop
 part-count-file-start c = omega arith
 
--- src/counting.rt:84:20
 part-count-file-end : tie.Need-part-count-file-end Inv-loop μ-loop
 part-count-file-end c = let w = file-fits (c .before .before .before .before .before .before .before .pre .0) (c .before .before .loop .inv .0) (omega arith) in let e = c .length-at .ensures .0 in omega arith
 
--- src/counting.rt:84:9
 count-file-requires : tie.Need-count-file-requires Inv-loop μ-loop
 count-file-requires c κs =
     let at = c .before .before .before .before .before .before .loop .inv .0 in
     let r = at .rows in
     let f = at .facts in (
       walked-sized (c .before .before .before .before .before .before .before .before .before .before .before .pre .0) at,
-      (file-room (c .before .before .before .before .before .before .before .before .before .before .before .pre .0) at (omega arith) (c .before .before .before .before .length-at .result) (c .before .before .before .before .length-at .ensures .0) (omega arith),
-      ((let p = c .before .before .before .before .before .before .before .before .before .before .before .pre .1 .0 in omega arith),
-      ((let p = c .before .before .before .before .before .before .before .before .before .before .before .pre .1 .1 .0 in omega arith),
-      at .clear))),
+      (
+        file-room (c .before .before .before .before .before .before .before .before .before .before .before .pre .0) at (omega arith) (c .before .before .before .before .length-at .result) (c .before .before .before .before .length-at .ensures .0) (omega arith),
+        (
+          (let p = c .before .before .before .before .before .before .before .before .before .before .before .pre .1 .0 in omega arith),
+          (
+            (let p = c .before .before .before .before .before .before .before .before .before .before .before .pre .1 .1 .0 in omega arith),
+            at .clear,
+          ),
+        ),
+      ),
     )
 
--- src/counting.rt:81:5
 loop-less : tie.Need-loop-less Inv-loop μ-loop
 loop-less c = let w = file-fits (c .before .before .before .before .before .before .before .before .before .before .before .before .before .before .before .before .before .before .pre .0) (c .before .before .before .before .before .before .before .before .before .before .before .before .before .loop .inv .0) (omega arith) in let e = c .before .before .before .before .before .before .before .before .before .before .before .length-at .ensures .0 in omega arith
 
--- src/counting.rt:81:5
 loop-again : tie.Need-loop-again Inv-loop μ-loop
 loop-again c =
     let called = c .before .before .before .before .before .before .count-file in (
@@ -70,19 +62,15 @@ loop-again c =
       called .kept .1 .1 .1 .0 ∙ c .before .before .before .before .before .before .before .before .before .before .before .before .before .loop .inv .1,
     )
 
--- src/counting.rt:72:1
 same-length : tie.Need-same-length Inv-loop μ-loop
 same-length c = c .before .loop .inv .0 .rows
 
--- src/counting.rt:72:1
 same-length-2 : tie.Need-same-length-2 Inv-loop μ-loop
 same-length-2 c = c .before .loop .inv .0 .facts
 
--- src/counting.rt:72:1
 same-length-3 : tie.Need-same-length-3 Inv-loop μ-loop
 same-length-3 c = c .before .loop .inv .1
 
--- src/counting.rt:72:1
 returns : tie.Need-returns Inv-loop μ-loop
 returns c = walked-end (c .before .before .before .before .before .before .pre .0) (c .before .loop .inv .0) (omega arith)
 

@@ -4,27 +4,19 @@ use borrow.Author.Needs.{needs}
 use Rattle.totals.proofs.Walks.{all-clear}
 use Rattle.totals.proofs.counting.count_files.Statement.{statement}
 use Rattle.totals.proofs.counting.count_files.Tie as tie
-use Rattle.totals.proofs.counting.count_files.Reads as reads
-use Rattle.totals.proofs.counting.count_files.Lts as lts
-use Rattle.totals.proofs.counting.count_all.Reads as count-all-reads
 
--- src/counting.rt:97:23
 slice-aggregate-count-all : tie.Need-slice-aggregate-count-all
 slice-aggregate-count-all c = search needs
 
--- src/counting.rt:97:36
 slice-aggregate-count-all-2 : tie.Need-slice-aggregate-count-all-2
 slice-aggregate-count-all-2 c = search needs
 
--- src/counting.rt:97:5
 count-all-requires : tie.Need-count-all-requires
 count-all-requires c κs = (c .before .before .before .before .before .pre .0, (omega arith, (omega arith, (all-clear 32768, c .before .before .before .before .before .pre .1))))
 
--- src/counting.rt:90:1
 same-length : tie.Need-same-length
 same-length c = search needs
 
--- src/counting.rt:90:1
 returns : tie.Need-returns
 returns c = c .before .before .before .before .count-all .ensures
 

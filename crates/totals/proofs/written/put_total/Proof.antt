@@ -6,8 +6,6 @@ use borrow.Author.Needs.{needs}
 use Rattle.totals.proofs.Walks.{Writing, writing-none, writing-more, written-all}
 use Rattle.totals.proofs.written.put_total.Statement.{statement}
 use Rattle.totals.proofs.written.put_total.Tie as tie
-use Rattle.totals.proofs.written.put_total.Reads as reads
-use Rattle.totals.proofs.written.put_total.Lts as lts
 
 abbrev Inv-loop : tie.InvT-loop
 Inv-loop out₀ at total rest₀ k₀ out rest k = Writing out₀ at total out rest k
@@ -15,39 +13,30 @@ Inv-loop out₀ at total rest₀ k₀ out rest k = Writing out₀ at total out r
 abbrev μ-loop : tie.MeasureT-loop
 μ-loop out₀ at total rest₀ k₀ out rest k = 8 - k
 
--- src/written.rt:16:5
 loop-holds : tie.Need-loop-holds Inv-loop μ-loop
 loop-holds c = writing-none (c .args .out .now) (c .args .at) (c .args .total)
 
--- src/written.rt:17:23
 cast-out : tie.Need-cast-out Inv-loop μ-loop
 cast-out c = search needs
 
--- src/written.rt:17:13
 add-out : tie.Need-add-out Inv-loop μ-loop
 add-out c = search needs
 
--- src/written.rt:17:9
 slice-write-out : tie.Need-slice-write-out Inv-loop μ-loop
 slice-write-out c = let h = c .before .loop .inv .kept in let p = c .before .before .pre in omega arith
 
--- src/written.rt:16:9
 add-k : tie.Need-add-k Inv-loop μ-loop
 add-k c = omega arith
 
--- src/written.rt:16:5
 loop-less : tie.Need-loop-less Inv-loop μ-loop
 loop-less c = omega arith
 
--- src/written.rt:16:5
 loop-again : tie.Need-loop-again Inv-loop μ-loop
 loop-again c = writing-more (c .before .loop .inv) (omega arith) (c .before .before .pre) _ refl
 
--- src/written.rt:10:1
 same-length : tie.Need-same-length Inv-loop μ-loop
 same-length c = c .before .loop .inv .kept
 
--- src/written.rt:10:1
 returns : tie.Need-returns Inv-loop μ-loop
 returns c = written-all (c .before .loop .inv) (omega arith)
 

@@ -10,9 +10,6 @@ use Rattle.totals.specs.Totals.{totalBytes}
 use Rattle.totals.proofs.Walks.{none-written, bytes-more, bytes-of}
 use Rattle.totals.proofs.written.put_totals.Statement.{statement}
 use Rattle.totals.proofs.written.put_totals.Tie as tie
-use Rattle.totals.proofs.written.put_totals.Reads as reads
-use Rattle.totals.proofs.written.put_totals.Lts as lts
-use Rattle.totals.proofs.written.put_total.Reads as put-total-reads
 
 abbrev Inv-loop : tie.InvT-loop
 Inv-loop totals out₀ n₀ n-end out n = (n ≤ n-end) × (n-end ≡ length totals) × (length out ≡ length out₀) × (out ≡ over (totalBytes (take n totals)) out₀)
@@ -20,35 +17,27 @@ Inv-loop totals out₀ n₀ n-end out n = (n ≤ n-end) × (n-end ≡ length tot
 abbrev μ-loop : tie.MeasureT-loop
 μ-loop totals out₀ n₀ n-end out n = n-end - n
 
--- src/written.rt:27:5
 loop-holds : tie.Need-loop-holds Inv-loop μ-loop
 loop-holds c = (omega arith, refl, refl, none-written (c .before .before .args .totals .now) (c .before .before .args .out .now))
 
--- src/written.rt:28:24
 mul-put-total : tie.Need-mul-put-total Inv-loop μ-loop
 mul-put-total c = let p = c .before .before .before .before .before .pre in omega arith
 
--- src/written.rt:28:31
 mul-put-total-2 : tie.Need-mul-put-total-2 Inv-loop μ-loop
 mul-put-total-2 c = let p = c .before .before .before .before .before .pre in omega arith
 
--- src/written.rt:28:31
 shared-slice-read-put-total : tie.Need-shared-slice-read-put-total Inv-loop μ-loop
 shared-slice-read-put-total c = omega arith
 
--- src/written.rt:28:9
 put-total-requires : tie.Need-put-total-requires Inv-loop μ-loop
 put-total-requires c κs = let p = c .before .before .before .before .before .before .pre in let l = c .before .before .before .loop .inv .2 in omega arith
 
--- src/written.rt:27:9
 add-n : tie.Need-add-n Inv-loop μ-loop
 add-n c = omega arith
 
--- src/written.rt:27:5
 loop-less : tie.Need-loop-less Inv-loop μ-loop
 loop-less c = omega arith
 
--- src/written.rt:27:5
 loop-again : tie.Need-loop-again Inv-loop μ-loop
 loop-again c =
     let ts = c .before .before .before .before .before .before .before .before .before .args .totals .now in
@@ -61,11 +50,9 @@ loop-again c =
           ∙ ap (λ (l : List ℕ). over l out₀) (sym (bytes-more ts n (omega arith))),
     )
 
--- src/written.rt:23:1
 same-length : tie.Need-same-length Inv-loop μ-loop
 same-length c = c .before .loop .inv .2
 
--- src/written.rt:23:1
 returns : tie.Need-returns Inv-loop μ-loop
 returns c = c .before .loop .inv .3 ∙ ap (λ (l : List ℕ). over (totalBytes l) (c .before .before .before .before .args .out .now)) (take-all (c .before .loop .n) (c .before .before .before .before .args .totals .now) (omega arith))
 
