@@ -1,10 +1,11 @@
 /*
- * goadlotus: judging a domain file, and playing a run. The library is libgoadlotus.a, in lib/ of a
+ * goadlotus: judging a domain file, playing a run, and counting a box of files. The library is libgoadlotus.a, in lib/ of a
  * release, and in target/staticlib/ of a checkout, where `rt staticlib goadlotus` writes it; it links
  * into x86-64 programs.
  *
  * goadlotus_judge_file and goadlotus_play_files, at the end, bring the memory and say how many rows and
  * facts were written; goadlotus_judge and goadlotus_play work in memory that the caller lends.
+ * goadlotus_count_box and goadlotus_totals count a box in the same two ways.
  */
 #ifndef GOADLOTUS_H
 #define GOADLOTUS_H
@@ -18,6 +19,7 @@
 #define GOADLOTUS_REPORT_SIZE  32768 /* memory for the report that is enough for every file */
 #define GOADLOTUS_WITNESS_SIZE   512 /* memory for the witness that is enough for every file */
 #define GOADLOTUS_WORK_SIZE     8192 /* work memory that playing needs */
+#define GOADLOTUS_TOTALS_SIZE    568 /* the totals of a box: 71 numbers of 8 bytes */
 #define GOADLOTUS_ROW_SIZE         4 /* a row of the report */
 #define GOADLOTUS_FACT_SIZE        8 /* a fact of the witness or of work memory */
 
@@ -43,8 +45,9 @@ enum goadlotus_number {
     GOADLOTUS_NO_COMPONENT       = 23, /* no component */
     GOADLOTUS_KEY_TWICE          = 24, /* a key twice in a component */
     GOADLOTUS_COUNTED_TWICE      = 25, /* FF twice in a component */
-    GOADLOTUS_REPORT_TOO_SMALL   = 30, /* report memory too small */
+    GOADLOTUS_REPORT_TOO_SMALL   = 30, /* report or totals memory too small */
     GOADLOTUS_WITNESS_TOO_SMALL  = 31, /* witness memory too small */
+    GOADLOTUS_BOX_CUT            = 33, /* box cut inside a length or a file */
     GOADLOTUS_REFUSED_HEAVY      = 40, /* refused: heavy */
     GOADLOTUS_REFUSED_UNBALANCED = 41, /* refused: unbalanced */
     GOADLOTUS_REFUSED_UNBOUNDED  = 42, /* refused: unbounded outside a journey's end */
@@ -168,6 +171,29 @@ uint64_t goadlotus_play(const uint8_t *domain, size_t domain_len,
                         uint64_t *place, uint64_t *steps, uint64_t *weight,
                         uint64_t *part_file, uint64_t *part_at);
 
+/*
+ * Counts the files_len bytes at files, a box: domain files in a row, each behind its length in 4 bytes,
+ * little-endian. The number is returned, and its place always comes back in *first.
+ *
+ *    0   counted: 568 bytes of totals are written, and *first is 568.
+ *   30   totals_len is under 568. *first is 0.
+ *   33   the box is cut inside a length or a file. *first is the offset of that length.
+ *
+ * No other number is returned; 33 comes before 30. The totals are 71 numbers of 8 bytes, little-endian:
+ * how many files met each number from 0 to 63, then how many moments had each of the seven names, in the
+ * order of their numbers 1 to 7. Each file is judged as by goadlotus_judge with memory enough, so that 30
+ * and 31 are never counted; of a file that is refused 9 to 25 no moment is. The first 64 totals add up to
+ * the number of files, and the totals of two boxes joined are the sums, so that a long row of files may be
+ * counted in parts.
+ *
+ * 30 and 33 write nothing; all other bytes of totals stay as they were, and the box stays as it was. No
+ * length is ever exceeded, in reading or in writing, whatever the box says. An empty box is whole, and its
+ * totals are 0. All lengths may be any, 0 too. files, totals and first must not overlap; no pointer may be
+ * null, not even one to 0 bytes, and first must be aligned.
+ */
+uint64_t goadlotus_totals(const uint8_t *files, size_t files_len,
+                          uint8_t *totals, size_t totals_len, uint64_t *first);
+
 #ifdef __cplusplus
 }
 #endif
@@ -224,6 +250,25 @@ static inline uint64_t goadlotus_play_files(const uint8_t *domain, size_t domain
                                     &played->part_at);
     played->facts = goadlotus_count_facts(played->work, sizeof played->work);
     return played->number;
+}
+
+/* The totals of a box. */
+struct goadlotus_counted {
+    uint64_t number, first;
+    uint64_t numbers[64]; /* how many files met each number */
+    uint64_t names[7];    /* how many moments had each name, in the order of their numbers 1 to 7 */
+};
+
+/* Counts a box; the number is also returned, and is never 30. With 33 all totals are 0. */
+static inline uint64_t goadlotus_count_box(const uint8_t *files, size_t files_len, struct goadlotus_counted *counted) {
+    uint8_t bytes[GOADLOTUS_TOTALS_SIZE] = {0};
+    memset(counted, 0, sizeof *counted);
+    counted->number = goadlotus_totals(files, files_len, bytes, sizeof bytes, &counted->first);
+    for (size_t i = 0; i < sizeof bytes; i++) {
+        uint64_t *total = i / 8 < 64 ? &counted->numbers[i / 8] : &counted->names[i / 8 - 64];
+        *total |= (uint64_t)bytes[i] << 8 * (i % 8);
+    }
+    return counted->number;
 }
 
 /* The word of a name, as the listing prints it; "" where it is not 1 to 7. */

@@ -4,3 +4,4 @@ pub mod Samples
 pub mod Further
 pub mod FurtherRuns
 pub mod Refuted
+pub mod Boxes

@@ -3,6 +3,7 @@ use judging::judge;
 use player::play::file_of;
 use player::play::offset_of;
 use player::play::play_files;
+use totals::count_box;
 ghost use mathlib.Core.Path.{_≡_};
 ghost use Rattle.verdict.specs.Judged.{judged, reportAfter, witnessAfter};
 ghost use Rattle.verdict.specs.Claims.{AcceptedSafe, RefusedHarmful, WitnessHarms};
@@ -10,6 +11,8 @@ ghost use Rattle.judging.specs.Reporting.{DecidesFile};
 ghost use Rattle.runs.specs.Play.{played, workAfter, returned};
 ghost use Rattle.player.specs.Called.{fileOf, offsetOf};
 ghost use Rattle.runs.specs.Claims.{PlaysAsMachine, StaysLow};
+ghost use Rattle.totals.specs.Totals.{totalled, totalsAfter};
+ghost use Rattle.totals.specs.Claims.{CountsFiles, AddsUp};
 
 // Judges a domain file: answers the number, and leaves its three places, the report and the witness.
 #[no_mangle]
@@ -72,4 +75,16 @@ pub extern "C" fn goadlotus_play(
     *part_file = file_of(fault);
     *part_at = offset_of(fault) as u64;
     answer.number
+}
+
+// Counts a box of domain files, each behind its length in 4 bytes: answers the number, and leaves its place and the totals.
+#[no_mangle]
+pub extern "C" fn goadlotus_totals(files: &[u8], totals: &mut [u8], first: &mut u64) -> u64
+    ensures number { λ r. ⌜ r ≡ totalled (now (files .entry)) (now (totals .entry)) .number ⌝ }
+    ensures first { λ _. ⌜ now (first .exit) ≡ totalled (now (files .entry)) (now (totals .entry)) .first ⌝ }
+    ensures totals { λ _. ⌜ now (totals .exit) ≡ totalsAfter (now (files .entry)) (now (totals .entry)) ⌝ }
+    ensures counts { λ r. ⌜ CountsFiles (now (files .entry)) r (now (totals .exit)) ⌝ }
+    ensures sums { λ r. ⌜ AddsUp (now (files .entry)) r (now (totals .exit)) ⌝ }
+{
+    count_box(files, totals, first)
 }

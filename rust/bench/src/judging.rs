@@ -107,7 +107,43 @@ fn growth() {
     }
 }
 
+/// How many bytes of files are counted.
+const BOX: usize = 100_000_000;
+
+/// A box of 100 MB, counted as one, and its files judged one by one.
+fn totals() {
+    let kinds = [files::m1(), files::rovers(), files::dense(8, Shape::Communicate), files::dense(8, Shape::Journeys)];
+    let mut hand_ins = Vec::new();
+    let mut all = Vec::new();
+    while all.len() < BOX {
+        let file = &kinds[hand_ins.len() % kinds.len()];
+        goadlotus::put_in_box(&mut all, file);
+        hand_ins.push(&file[..]);
+    }
+    let (mut of_library, mut of_model) = (vec![0; goadlotus::TOTALS], vec![0; goadlotus::TOTALS]);
+    let served = goadlotus::totals(&all, &mut of_library);
+    let by_model = model::totals(&all, &mut of_model);
+    let same = (served.number, served.first) == (by_model.number.into(), by_model.first as u64);
+    assert!(same && of_library == of_model && served.number == 0, "a box: library and model differ");
+    let mut one_by_one = Side::new(by_library);
+    let timed = take_turns(
+        || {
+            black_box(goadlotus::totals(black_box(&all), black_box(&mut of_library)));
+        },
+        || {
+            for file in &hand_ins {
+                black_box(one_by_one.judge(file));
+            }
+        },
+    );
+    println!("\ncounting a box by the library, seconds");
+    println!("{:>9} {:>11} {:>8} {:>11} {:>7}", "files", "bytes", "box", "one by one", "ratio");
+    let (whole, single) = (timed.library / 1e9, timed.model / 1e9);
+    println!("{:>9} {:>11} {whole:>8.3} {single:>11.3} {:>7.2}", hand_ins.len(), all.len(), whole / single);
+}
+
 pub fn print() {
     single_files();
     growth();
+    totals();
 }

@@ -11,6 +11,8 @@ pub struct Arguments {
     pub output: Option<OsString>,
     pub rows: bool,
     pub all: bool,
+    /// Every file is a box of files.
+    pub boxes: bool,
     pub help: bool,
 }
 
@@ -21,6 +23,7 @@ pub struct Options {
     pub output: bool,
     pub rows: bool,
     pub all: bool,
+    pub boxes: bool,
 }
 
 impl Arguments {
@@ -39,6 +42,7 @@ impl Arguments {
                 Some("--json") if options.form => arguments.form = Form::Json,
                 Some("--rows") if options.rows => arguments.rows = true,
                 Some("--all") if options.all => arguments.all = true,
+                Some("--box") if options.boxes => arguments.boxes = true,
                 Some("-o" | "--output") if options.output => {
                     let file = given.next().ok_or("-o needs the name of a file behind it")?;
                     arguments.output = Some(file.clone());

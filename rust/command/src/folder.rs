@@ -51,9 +51,20 @@ impl Progress {
 
     pub fn step(&mut self) {
         self.done += 1;
+        let words = format!("{} of {} files", self.done, self.total);
+        self.show(&words);
+    }
+
+    /// For work whose length isn't known before it is done.
+    pub fn unknown() -> Progress {
+        Progress { done: 0, total: 0, shown: None, is_terminal: io::stderr().is_terminal() }
+    }
+
+    /// Words in the line, now and then.
+    pub fn show(&mut self, words: &str) {
         let is_due = self.shown.is_none_or(|shown| shown.elapsed() > Duration::from_millis(100));
         if self.is_terminal && is_due {
-            let _ = write!(io::stderr(), "\r{} of {} files", self.done, self.total);
+            let _ = write!(io::stderr(), "\r{words}");
             self.shown = Some(Instant::now());
         }
     }

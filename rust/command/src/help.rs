@@ -15,6 +15,8 @@ plays runs of the procedures that change them
   goadlotus play DOMAIN RUN    a run step by step, where it stops and why
   goadlotus mark DOMAIN FILE   a student's names against the program's; of many
                                hand-ins or a folder a table
+  goadlotus totals FILE ..     how many files met each verdict or refusal, and
+                               how many moments had each name
   goadlotus show FILE          a file in words
   goadlotus write FILE -o OUT  a file in bytes, from words
   goadlotus --help, goadlotus WORD --help, goadlotus --version
@@ -36,6 +38,7 @@ pub fn of(word: &str) -> String {
         "explain" => EXPLAIN,
         "mark" => MARK,
         "play" => PLAY,
+        "totals" => TOTALS,
         "show" => SHOW,
         "write" => WRITE,
         _ => "",
@@ -100,6 +103,21 @@ stands there.
 
 Status: 0 played to the end, 3 a step that isn't allowed, 4 a broken file, 1 a
 file can't be read.
+";
+
+const TOTALS: &str = "\
+goadlotus totals [--tsv | --json] [--all] [--box] FILE-OR-FOLDER ..
+
+How many of the files met each number, and how many moments of the files that
+are read had each of the seven names: a table as columns, as TSV for a
+spreadsheet, or as JSON lines. Numbers that no file met are left out, unless
+--all stands there. Of a folder all files are counted but hidden ones. A file
+whose name ends in .box, or every file where --box stands there, is a box: files
+in bytes in a row, each behind its length in 4 bytes, the lowest first. Words
+that are no domain are told and not counted.
+
+Status: 0 all are counted, 4 a box is cut or words are no domain, 1 one can't be
+read.
 ";
 
 const SHOW: &str = "\

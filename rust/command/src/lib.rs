@@ -3,6 +3,7 @@
 
 pub mod answers;
 pub mod arguments;
+pub mod boxes;
 pub mod domain;
 pub mod evidence;
 pub mod explain;

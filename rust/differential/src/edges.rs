@@ -2,6 +2,7 @@
 
 use crate::judging;
 use crate::playing::{self, Played, WORK};
+use crate::serving::Served;
 use model::Source;
 
 /// A judge line: what is lent, and what comes back.
@@ -26,6 +27,17 @@ pub struct Playing {
     pub told: playing::Told,
 }
 
+/// A line of a service: what is lent, and what comes back.
+#[derive(Clone, PartialEq, Eq, Debug)]
+pub struct Serving {
+    pub line: usize,
+    pub name: String,
+    pub file: Vec<u8>,
+    pub lent: usize,
+    pub served: Served,
+    pub written: Vec<u8>,
+}
+
 /// Every judge line. Panics where a line doesn't have the form that the first lines tell.
 pub fn judge_lines() -> Vec<Judging> {
     lines("judge", judging_line)
@@ -36,12 +48,20 @@ pub fn play_lines() -> Vec<Playing> {
     lines("play", playing_line)
 }
 
+/// Every line of this service. Panics where a line doesn't have the form that the first lines tell.
+pub fn service_lines(kind: &str) -> Vec<Serving> {
+    lines(kind, serving_line)
+}
+
+/// What a line may begin with.
+const KINDS: [&str; 3] = ["judge", "play", "totals"];
+
 fn lines<T>(kind: &str, read: impl Fn(usize, &[&str]) -> Option<T>) -> Vec<T> {
     let text = include_str!("../../cases/edges.txt");
     let mut edges = Vec::new();
     for (at, line) in text.lines().enumerate().filter(|(_, line)| !line.starts_with('#')) {
         let fields: Vec<&str> = line.split(" | ").map(str::trim).collect();
-        assert!(["judge", "play"].contains(&fields[0]), "line {} of edges.txt: {line}", at + 1);
+        assert!(KINDS.contains(&fields[0]), "line {} of edges.txt: {line}", at + 1);
         if fields[0] == kind {
             let edge = read(at + 1, &fields[1..]);
             edges.push(edge.unwrap_or_else(|| panic!("line {} of edges.txt isn't a {kind} line: {line}", at + 1)));
@@ -94,6 +114,19 @@ fn playing_line(line: usize, fields: &[&str]) -> Option<Playing> {
         told: playing::Told { played, work },
         domain,
         run,
+    })
+}
+
+fn serving_line(line: usize, fields: &[&str]) -> Option<Serving> {
+    let &[name, file, room, answer, written] = fields else { return None };
+    let [number, first] = numbers(answer)?;
+    Some(Serving {
+        line,
+        name: name.to_string(),
+        file: bytes(file)?,
+        lent: room.strip_prefix("room ")?.parse().ok()?,
+        served: Served { number, first },
+        written: bytes(written)?,
     })
 }
 

@@ -3,6 +3,7 @@
 
 use crate::judging::Judgement;
 use crate::playing::{self, Played};
+use crate::serving::{Served, Service};
 
 /// `goadlotus::judge` in such memory.
 pub fn judge(file: &[u8], report: &mut [u8], witness: &mut [u8]) -> Judgement {
@@ -21,6 +22,15 @@ pub fn play(domain: &[u8], run: &[u8], work: &mut [u8]) -> Played {
     let played = playing::library(&domain, &run, &mut own_work);
     work.copy_from_slice(&own_work);
     played
+}
+
+/// A service in such memory.
+pub fn serve(service: Service, file: &[u8], memory: &mut [u8]) -> Served {
+    let file = alone(file);
+    let mut own = alone(memory);
+    let served = (service.library)(&file, &mut own);
+    memory.copy_from_slice(&own);
+    served
 }
 
 /// A copy with nothing of its allocation before or behind it.

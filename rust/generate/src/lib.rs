@@ -4,6 +4,7 @@
 //! model is used to choose steps that are allowed and to lend memory of the length needed, one less,
 //! or more.
 
+pub mod boxes;
 pub mod domains;
 pub mod literature;
 pub mod met;

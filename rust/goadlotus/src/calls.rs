@@ -27,6 +27,14 @@ mod raw {
             part_file: *mut u64,
             part_at: *mut u64,
         ) -> u64;
+
+        pub fn goadlotus_totals(
+            files: *const u8,
+            files_len: usize,
+            totals: *mut u8,
+            totals_len: usize,
+            first: *mut u64,
+        ) -> u64;
     }
 }
 
@@ -119,4 +127,27 @@ pub fn play<'a>(domain: &'a [u8], run: &'a [u8], work: &mut [u8]) -> Played<'a> 
         other => panic!("goadlotus_play answers file {other}, which is neither 0 nor 1"),
     };
     Played { number, place, steps, weight, part }
+}
+
+/// The answer of a service: the number with its first place.
+#[derive(Clone, Copy, PartialEq, Eq, Debug)]
+pub struct Served {
+    pub number: u64,
+    /// With 0 the bytes written.
+    pub first: u64,
+}
+
+/// Counts a box of domain files, each behind its length in 4 bytes, little-endian: how many met each number from 0 to
+/// 63, then how many moments had each of the seven names, 8 bytes each, little-endian.
+///
+/// 33 tells a box that is cut inside a length or a file, with the offset of that length; 30 totals of under 568 bytes;
+/// both write nothing. Every length will do, 0 too; bytes behind the totals stay as they were.
+pub fn totals(files: &[u8], totals: &mut [u8]) -> Served {
+    // As in `judge`: what the call left alone wouldn't look like an answer.
+    let mut first = u64::MAX;
+    // SAFETY: each slice is passed with its own length, which the call never exceeds; no pointer is null; what is
+    // written is borrowed mutably, so nothing overlaps.
+    let number =
+        unsafe { raw::goadlotus_totals(files.as_ptr(), files.len(), totals.as_mut_ptr(), totals.len(), &mut first) };
+    Served { number, first }
 }

@@ -15,6 +15,8 @@ pub enum Kind {
     BrokenDomain,
     /// A record of the run file is at fault, or the run is more than the player holds.
     BrokenRun,
+    /// The box of files is cut.
+    BrokenBox,
     /// Too little memory was lent.
     TooLittleMemory,
 }
@@ -70,8 +72,9 @@ numbers! {
     23 NoComponent BrokenDomain "no component"
     24 KeyTwice BrokenDomain "a key twice in a component"
     25 CountedTwice BrokenDomain "FF twice in a component"
-    30 ReportTooSmall TooLittleMemory "report memory too small"
+    30 ReportTooSmall TooLittleMemory "report or totals memory too small"
     31 WitnessTooSmall TooLittleMemory "witness memory too small"
+    33 BoxCut BrokenBox "box cut inside a length or a file"
     40 RefusedHeavy Refused "refused: heavy"
     41 RefusedUnbalanced Refused "refused: unbalanced"
     42 RefusedUnbounded Refused "refused: unbounded outside a journey's end"

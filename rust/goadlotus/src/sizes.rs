@@ -12,6 +12,9 @@ pub const WITNESS: usize = 512;
 /// The bytes of work memory that playing needs.
 pub const WORK: usize = 8_192;
 
+/// The totals of a box: 71 numbers of 8 bytes.
+pub const TOTALS: usize = 568;
+
 /// A row of the report.
 pub const ROW: usize = 4;
 

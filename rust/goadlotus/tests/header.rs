@@ -1,6 +1,6 @@
 //! include/goadlotus.h and this crate have the same sizes, numbers and names, and docs/FORMAT.md has every number.
 
-use goadlotus::{Name, Number, FACT, FILE_LIMIT, REPORT, ROW, WITNESS, WORK};
+use goadlotus::{Name, Number, FACT, FILE_LIMIT, REPORT, ROW, TOTALS, WITNESS, WORK};
 use std::fs;
 use std::path::Path;
 
@@ -66,6 +66,7 @@ fn sizes() {
         ("REPORT_SIZE", REPORT),
         ("WITNESS_SIZE", WITNESS),
         ("WORK_SIZE", WORK),
+        ("TOTALS_SIZE", TOTALS),
         ("ROW_SIZE", ROW),
         ("FACT_SIZE", FACT),
     ];

@@ -8,6 +8,8 @@
 //! - [`verdict`]: rows, decision, witness, [`judge`]
 //! - [`machine`]: state, events, steps
 //! - [`player`]: the run file, [`play`]
+//! - [`totals`]: figures for a box of files
+//! - [`service`]: what the services have in common
 //! - [`listing`]: what the listing program prints
 //!
 //! The requests so far:
@@ -18,6 +20,7 @@
 //!   count neither for any other name nor for interference.
 //! - P6: the player's alarm is gone, and with it the judging that the player did only for it.
 //! - P8: of the refusals by class the worst is named, 40 before 41 before 42.
+//! - P11: figures for a whole term.
 //!
 //! The paper leaves some places open; these are the readings taken.
 //! - Zero relations and zero actions are well-formed. An action without matching literals has no
@@ -34,9 +37,13 @@ pub mod listing;
 pub mod machine;
 pub mod player;
 pub mod records;
+pub mod service;
+pub mod totals;
 pub mod verdict;
 
 pub use domain::{read, Domain, Fact, Key, Object, Stop, Var};
 pub use listing::listing;
 pub use player::{play, Part, Played, Source, WORK};
+pub use service::Served;
+pub use totals::totals;
 pub use verdict::{judge, Answer};

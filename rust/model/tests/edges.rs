@@ -1,7 +1,7 @@
 //! Runs every line of cases/edges.txt, as its first lines explain. A line that doesn't have the form
 //! told there fails the test.
 
-use model::{judge, play, Source};
+use model::{judge, play, Served, Source};
 
 /// What lent memory holds before a call: no two neighbours alike, and neither all 0 nor all FF.
 fn pattern(length: usize) -> Vec<u8> {
@@ -109,10 +109,48 @@ fn play_line(fields: &[&str]) {
     }
 }
 
+/// A service on one file, in memory of the length told; where it is done also in just the room needed, which is what
+/// it tells, and in one byte less.
+fn service_line(fields: &[&str], service: impl Fn(&[u8], &mut [u8]) -> Served) {
+    let &[_, name, file, room, answer, written] = fields else { panic!("not 6 fields") };
+    let (file, written) = (bytes(file), bytes(written));
+    let ["room", lent] = words::<2>(room) else { panic!("room: {room:?}") };
+    let answer = words::<2>(answer).map(number);
+    let serve = |lent: usize| {
+        let mut memory = pattern(lent);
+        let served = service(&file, &mut memory);
+        ([served.number as usize, served.first], memory)
+    };
+    let lent = number(lent);
+    assert_eq!(serve(lent), (answer, after(lent, &written)), "{name}");
+    if answer[0] == 0 {
+        for more in [0, 1, 100] {
+            let lent = written.len() + more;
+            assert_eq!(serve(lent), ([0, written.len()], after(lent, &written)), "{name}, lent {lent}");
+        }
+        if let Some(short) = written.len().checked_sub(1) {
+            assert_eq!(serve(short), ([30, 0], pattern(short)), "{name}, lent {short}");
+        }
+    }
+}
+
+fn classes_line(fields: &[&str]) {
+    let &[_, name, domain, numbers] = fields else { panic!("not 4 fields") };
+    let domain = model::read(&bytes(domain)).unwrap_or_else(|stop| panic!("{name}: {stop:?}"));
+    let mut of_actions: Vec<Vec<u8>> = Vec::new();
+    for action in &domain.actions {
+        let classes = model::classes::classes(&domain.template, action);
+        let number = |literal: usize| classes.iter().position(|class| class.literals.into_iter().any(|l| l == literal));
+        of_actions.push((0..action.literals.len()).map(|literal| number(literal).map_or(0xFF, |n| n as u8)).collect());
+    }
+    let told: Vec<Vec<u8>> = numbers.split(' ').map(bytes).collect();
+    assert_eq!(of_actions, told, "{name}");
+}
+
 #[test]
 fn every_edge() {
     let text = include_str!("../../cases/edges.txt");
-    let (mut remarks, mut judged, mut played) = (0, 0, 0);
+    let (mut remarks, mut judged, mut played, mut others) = (0, 0, 0, 0);
     for (line_number, line) in text.lines().enumerate() {
         if line.starts_with('#') {
             remarks += 1;
@@ -123,15 +161,19 @@ fn every_edge() {
         let outcome = std::panic::catch_unwind(|| match kind {
             "judge" => judge_line(&fields),
             "play" => play_line(&fields),
-            _ => panic!("neither judge nor play: {kind:?}"),
+            "totals" => service_line(&fields, model::totals),
+            _ => panic!("no such kind: {kind:?}"),
         });
         assert!(outcome.is_ok(), "line {} of edges.txt fails", line_number + 1);
         match kind {
             "judge" => judged += 1,
-            _ => played += 1,
+            "play" => played += 1,
+            _ => others += 1,
         }
     }
-    println!("edges.txt: {remarks} lines of explanation, {judged} judge lines run, {played} play lines run");
-    assert!(judged > 0 && played > 0);
-    assert_eq!(remarks + judged + played, text.lines().count());
+    println!(
+        "edges.txt: {remarks} lines of explanation, {judged} judge lines run, {played} play lines run, {others} others"
+    );
+    assert!(judged > 0 && played > 0 && others > 0);
+    assert_eq!(remarks + judged + played + others, text.lines().count());
 }
