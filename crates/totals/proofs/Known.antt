@@ -13,8 +13,9 @@ use Rattle.literals.proofs.Refusals.{refusal-number}
 use Rattle.classes.specs.declared.Name.{Name}
 use Rattle.classes.specs.declared.Name.the-variants.{Unreachable, Irrelevant, Heavy, Balanced, Unbalanced, Bounded, Unbounded}
 use Rattle.classes.specs.Classes.{nameNumber}
-use Rattle.verdict.specs.Decision.{Row, rows, isUnbounded, faultBy, isBoundedOutside, firstRow, isFaulty, accept, decideBounded, decideBy, decideRows, decision}
+use Rattle.verdict.specs.Decision.{Row, rows, isUnbounded, faultBy, isBoundedOutside, firstRow, worstRow, accept, decideBounded, decideBy, decideRows, decision}
 use Rattle.verdict.specs.Judged.{answerRow, decided, decidedBy, decidedFile}
+use Rattle.verdict.proofs.Rows.{by-fault}
 
 -- an accepted template, one refused for a class, or a file that does not read
 abbrev pub Known : ℕ → Type 0
@@ -25,14 +26,8 @@ abbrev pub Decides : ℕ → Type 0
 Decides n = (n ≤ 1) ⊎ ((40 ≤ n) × (n ≤ 43))
 
 known-fault : (n : Name) (e : Bool) → Decides (faultBy n e)
-known-fault Unreachable e = inl (omega arith)
-known-fault Irrelevant e = inl (omega arith)
-known-fault Heavy e = inr (omega arith, omega arith)
-known-fault Balanced e = inl (omega arith)
-known-fault Unbalanced e = inr (omega arith, omega arith)
-known-fault Bounded e = inl (omega arith)
-known-fault Unbounded true = inl (omega arith)
-known-fault Unbounded false = inr (omega arith, omega arith)
+known-fault =
+    by-fault Decides (inl (omega arith)) (inr (omega arith, omega arith)) (inr (omega arith, omega arith)) (inr (omega arith, omega arith))
 
 known-bounded : (o : Option Row) → Decides (decideBounded o .number)
 known-bounded none = inl (omega arith)
@@ -52,7 +47,7 @@ row-number n (some r) = refl
 
 pub decided-range : (D : Domain) → Decides (decided D .number)
 unfolding decided decision decideRows
-decided-range D = rw (row-number (decision D .number) (decision D .place)) (known-rows (firstRow isFaulty (rows D)) (rows D))
+decided-range D = rw (row-number (decision D .number) (decision D .place)) (known-rows (worstRow (rows D)) (rows D))
 
 pub known-domain : (D : Domain) → Known (decided D .number)
 known-domain D = go (decided-range D)

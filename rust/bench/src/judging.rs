@@ -110,15 +110,15 @@ fn growth() {
 /// How many bytes of files are counted.
 const BOX: usize = 100_000_000;
 
-/// A box of 100 MB, counted as one, and its files judged one by one.
+/// A box of 100 MB, counted as one, and its files judged one by one where they stand in it.
 fn totals() {
     let kinds = [files::m1(), files::rovers(), files::dense(8, Shape::Communicate), files::dense(8, Shape::Journeys)];
-    let mut hand_ins = Vec::new();
     let mut all = Vec::new();
+    let mut hand_ins = Vec::new();
     while all.len() < BOX {
         let file = &kinds[hand_ins.len() % kinds.len()];
         goadlotus::put_in_box(&mut all, file);
-        hand_ins.push(&file[..]);
+        hand_ins.push(all.len() - file.len()..all.len());
     }
     let (mut of_library, mut of_model) = (vec![0; goadlotus::TOTALS], vec![0; goadlotus::TOTALS]);
     let served = goadlotus::totals(&all, &mut of_library);
@@ -131,8 +131,8 @@ fn totals() {
             black_box(goadlotus::totals(black_box(&all), black_box(&mut of_library)));
         },
         || {
-            for file in &hand_ins {
-                black_box(one_by_one.judge(file));
+            for place in &hand_ins {
+                black_box(one_by_one.judge(&all[place.clone()]));
             }
         },
     );
