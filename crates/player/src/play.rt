@@ -44,7 +44,8 @@ pub fn offset_of(fault: Fault) -> usize
     }
 }
 
-// The record at fault as a part of one of the two files, from there to the end. (Each offset is one of its file; the tests keep it in sight.)
+// The record at fault as a part of one of the two files, from there to the end. (Each offset is one of its file; the tests
+// keep it in sight.)
 fn part<'a>(domain: &'a [u8], run: &'a [u8], fault: Fault) -> &'a [u8]
     ensures { λ r. ⌜ now r ≡ partAt (now (domain .entry)) (now (run .entry)) fault ⌝ }
 {
@@ -122,9 +123,10 @@ pub fn play_files(domain: &[u8], run: &[u8], work: &mut [u8]) -> PlayAnswer
     answer_by(ended)
 }
 
-// Plays a run file on a domain file: leaves the number, its place, the steps made and the highest weight, the facts in the work memory, and hands back the
-// record at fault as a part of its file. What it leaves is what the machine does on the start facts and steps of the run file, over the whole list; where the
-// template is accepted and the start weighs at most 1, no state reached weighs more.
+// Plays a run file on a domain file: leaves the number, its place, the steps made and the highest weight, the facts in the
+// work memory, and hands back the record at fault as a part of its file. What it leaves is what the machine does on the start
+// facts and steps of the run file, over the whole list; where the template is accepted and the start weighs at most 1, no
+// state reached weighs more.
 pub fn play<'a>(
     domain: &'a [u8],
     run: &'a [u8],
@@ -139,9 +141,11 @@ pub fn play<'a>(
     ensures steps { λ _. ⌜ now (steps .exit) ≡ played (now («domain» .entry)) (now (run .entry)) (now (work .entry)) .steps ⌝ }
     ensures weight { λ _. ⌜ now (weight .exit) ≡ played (now («domain» .entry)) (now (run .entry)) (now (work .entry)) .weight ⌝ }
     ensures work { λ _. ⌜ now (work .exit) ≡ workAfter (now («domain» .entry)) (now (run .entry)) (now (work .entry)) ⌝ }
-    ensures machine { λ _. ⌜ PlaysAsMachine (now («domain» .entry)) (now (run .entry)) (now (work .entry)) (now (number .exit)) (now (place .exit)) (now (steps .exit)) (now (weight .exit)) (now (work .exit)) ⌝ }
+    ensures machine { λ _. ⌜ PlaysAsMachine (now («domain» .entry)) (now (run .entry)) (now (work .entry)) (now (number .exit))
+        (now (place .exit)) (now (steps .exit)) (now (weight .exit)) (now (work .exit)) ⌝ }
     ensures low { λ _. ⌜ StaysLow (now («domain» .entry)) (now (run .entry)) (now (weight .exit)) ⌝ }
-    ensures part { λ r. ⌜ now r ≡ returnedBytes (now («domain» .entry)) (now (run .entry)) (returned (now («domain» .entry)) (now (run .entry)) (now (work .entry))) ⌝ }
+    ensures part { λ r. ⌜ now r ≡ returnedBytes (now («domain» .entry)) (now (run .entry))
+        (returned (now («domain» .entry)) (now (run .entry)) (now (work .entry))) ⌝ }
 {
     let answer = play_files(domain, run, work);
     *number = answer.number;
