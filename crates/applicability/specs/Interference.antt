@@ -18,6 +18,10 @@ use Rattle.events.specs.Coded.{boundRow, timeOf}
 
 -- ---- interference, by words
 
+-- the literals that a step can have
+abbrev pub maxMarks : ℕ
+maxMarks = 1024
+
 -- two clauses of one fact that two events may not have: a condition with an add or delete, an add with a delete
 unfoldable pub clashing : ℕ → ℕ → Bool
 clashing c d = cond (ltb c 3) (not (eqb c 0) && leb 3 d) (cond (ltb d 3) (not (eqb d 0)) (not (eqb c d)))

@@ -1,4 +1,5 @@
 // Conditions: whether the facts meet what an action asks at the start, over all, or at the end.
+use events::GROUND;
 use events::facts::bound_row;
 use events::facts::time_at;
 use literals::Time;
@@ -6,6 +7,8 @@ use literals::clause_for;
 use literals::head::Head;
 use literals::head::actions_in;
 use literals::head::rows_of;
+use literals::limits::MAX_EVENTS;
+use literals::limits::MAX_RUNNING;
 use records::bytes::wide;
 use store::index::FactIndex;
 use store::index::is_held;
@@ -20,11 +23,12 @@ ghost use Rattle.literals.specs.Decode.{byte};
 ghost use Rattle.literals.specs.Table.{rowsIn};
 ghost use Rattle.literals.specs.Held.{arityIn, Held};
 ghost use Rattle.literals.specs.Matching.{momentNumber};
-ghost use Rattle.runs.specs.RunFile.{maxFacts};
+ghost use Rattle.runs.specs.RunFile.{maxFacts, maxRunning, maxEvents};
 ghost use Rattle.verdict.specs.Machine.{GroundAction, Event, ownHold, overAllHold};
 ghost use Rattle.store.specs.Index.{Indexed};
 ghost use Rattle.store.specs.Rows.{factRow};
-ghost use Rattle.events.specs.Coded.{groundRow, openOf, waitingOf, GroundFits, GroundsFit, EventsFit};
+ghost use Rattle.events.specs.Coded.{groundBytes, openBytes, waitingBytes, groundRow, openOf, waitingOf, GroundFits};
+ghost use Rattle.events.specs.Coded.{GroundsFit, EventsFit};
 ghost use Rattle.applicability.specs.Conditions.{conditionMet, rowMet, asked};
 
 // Whether the first n rows of the work memory meet a condition: clause 1 asks for its fact, clause 2 for its absence.
@@ -54,7 +58,7 @@ fn row_met(
     work: &[u8],
     n: usize,
 ) -> bool
-    requires bound { ⌜ length (now ground) ≡ 17 ⌝ }
+    requires bound { ⌜ length (now ground) ≡ groundBytes ⌝ }
     requires literal { ⌜ row + 8 ≤ length (now rows) ⌝ }
     requires few { ⌜ n ≤ maxFacts ⌝ }
     requires facts { ⌜ 8 * n ≤ length (now work) ⌝ }
@@ -83,12 +87,13 @@ fn conditions_met(
     work: &[u8],
     n: usize,
 ) -> bool
-    requires bound { ⌜ length (now ground) ≡ 17 ⌝ }
+    requires bound { ⌜ length (now ground) ≡ groundBytes ⌝ }
     requires literals { ⌜ 8 * k ≤ length (now rows) ⌝ }
     requires few { ⌜ n ≤ maxFacts ⌝ }
     requires facts { ⌜ 8 * n ≤ length (now work) ⌝ }
     ensures { λ r. ⌜ (Indexed (now (head .entry)) (now (index .entry)) (rowsIn n (now (work .entry)))
-        → r ≡ all (rowMet time (now (head .entry)) (now (ground .entry)) (rowsIn n (now (work .entry)))) (rowsIn k (now (rows .entry)))) ⌝ }
+        → r ≡ all (rowMet time (now (head .entry)) (now (ground .entry)) (rowsIn n (now (work .entry))))
+        (rowsIn k (now (rows .entry)))) ⌝ }
 {
     for i in 0..k {
         if !row_met(time, head, ground, rows, 8 * i, index, work, n) {
@@ -108,7 +113,7 @@ pub fn ground_met(
     work: &[u8],
     n: usize,
 ) -> bool
-    requires bound { ⌜ length (now ground) ≡ 17 ⌝ }
+    requires bound { ⌜ length (now ground) ≡ groundBytes ⌝ }
     requires few { ⌜ n ≤ maxFacts ⌝ }
     requires facts { ⌜ 8 * n ≤ length (now work) ⌝ }
     ensures { λ r. ⌜ ((D : Domain) (g : GroundAction) (fs : List Fact)
@@ -146,19 +151,20 @@ fn event_met(
     work: &[u8],
     n: usize,
 ) -> bool
-    requires moments { ⌜ length (now moments) ≡ 16 ⌝ }
-    requires events { ⌜ length (now rows) ≡ 272 ⌝ }
-    requires event { ⌜ i < 16 ⌝ }
+    requires moments { ⌜ length (now moments) ≡ maxEvents ⌝ }
+    requires events { ⌜ length (now rows) ≡ waitingBytes ⌝ }
+    requires event { ⌜ i < maxEvents ⌝ }
     requires few { ⌜ n ≤ maxFacts ⌝ }
     requires facts { ⌜ 8 * n ≤ length (now work) ⌝ }
     ensures { λ r. ⌜ ((D : Domain) (e : Event) (fs : List Fact)
         → Held D (now (head .entry)) (now (table .entry)) → GroundFits D (e .ground)
-        → getD (now (moments .entry)) i 0 ≡ momentNumber (e .moment) → take 17 (drop (17 * i) (now (rows .entry))) ≡ groundRow (e .ground)
+        → getD (now (moments .entry)) i 0 ≡ momentNumber (e .moment)
+        → take groundBytes (drop (groundBytes * i) (now (rows .entry))) ≡ groundRow (e .ground)
         → rowsIn n (now (work .entry)) ≡ map factRow fs
         → Indexed (now (head .entry)) (now (index .entry)) (map factRow fs) → r ≡ ownHold D fs e) ⌝ }
 {
-    let at = 17 * i;
-    let end = at + 17;
+    let at = GROUND * i;
+    let end = at + GROUND;
     ground_met(
         head,
         table,
@@ -183,15 +189,15 @@ pub fn events_met(
 ) -> bool
     requires few { ⌜ n ≤ maxFacts ⌝ }
     requires facts { ⌜ 8 * n ≤ length (now work) ⌝ }
-    requires moments { ⌜ length (now moments) ≡ 16 ⌝ }
-    requires events { ⌜ length (now rows) ≡ 272 ⌝ }
+    requires moments { ⌜ length (now moments) ≡ maxEvents ⌝ }
+    requires events { ⌜ length (now rows) ≡ waitingBytes ⌝ }
     ensures { λ r. ⌜ ((D : Domain) (es : List Event) (fs : List Fact)
         → Held D (now (head .entry)) (now (table .entry))
         → record { count = count; moments = now (moments .entry); rows = now (rows .entry) } ≡ waitingOf es → EventsFit D es
-        → length es ≤ 16 → rowsIn n (now (work .entry)) ≡ map factRow fs
+        → length es ≤ maxEvents → rowsIn n (now (work .entry)) ≡ map factRow fs
         → Indexed (now (head .entry)) (now (index .entry)) (map factRow fs) → r ≡ all (ownHold D fs) es) ⌝ }
 {
-    if 16 < count {
+    if MAX_EVENTS < count {
         return false;
     }
     for i in 0..count {
@@ -212,17 +218,18 @@ fn entry_met(
     work: &[u8],
     n: usize,
 ) -> bool
-    requires entries { ⌜ length (now rows) ≡ 544 ⌝ }
-    requires entry { ⌜ i < 32 ⌝ }
+    requires entries { ⌜ length (now rows) ≡ openBytes ⌝ }
+    requires entry { ⌜ i < maxRunning ⌝ }
     requires few { ⌜ n ≤ maxFacts ⌝ }
     requires facts { ⌜ 8 * n ≤ length (now work) ⌝ }
     ensures { λ r. ⌜ ((D : Domain) (g : GroundAction) (fs : List Fact)
         → Held D (now (head .entry)) (now (table .entry)) → GroundFits D g
-        → take 17 (drop (17 * i) (now (rows .entry))) ≡ groundRow g → rowsIn n (now (work .entry)) ≡ map factRow fs
+        → take groundBytes (drop (groundBytes * i) (now (rows .entry))) ≡ groundRow g
+        → rowsIn n (now (work .entry)) ≡ map factRow fs
         → Indexed (now (head .entry)) (now (index .entry)) (map factRow fs) → r ≡ overAllHold D fs g) ⌝ }
 {
-    let at = 17 * i;
-    let end = at + 17;
+    let at = GROUND * i;
+    let end = at + GROUND;
     ground_met(head, table, Time::OverAll, &rows[at..end], index, work, n)
 }
 
@@ -238,14 +245,14 @@ pub fn open_met(
 ) -> bool
     requires few { ⌜ n ≤ maxFacts ⌝ }
     requires facts { ⌜ 8 * n ≤ length (now work) ⌝ }
-    requires entries { ⌜ length (now rows) ≡ 544 ⌝ }
+    requires entries { ⌜ length (now rows) ≡ openBytes ⌝ }
     ensures { λ r. ⌜ ((D : Domain) (gs : List GroundAction) (fs : List Fact)
         → Held D (now (head .entry)) (now (table .entry))
         → record { count = count; rows = now (rows .entry) } ≡ openOf gs → GroundsFit D gs
-        → length gs ≤ 32 → rowsIn n (now (work .entry)) ≡ map factRow fs
+        → length gs ≤ maxRunning → rowsIn n (now (work .entry)) ≡ map factRow fs
         → Indexed (now (head .entry)) (now (index .entry)) (map factRow fs) → r ≡ all (overAllHold D fs) gs) ⌝ }
 {
-    if 32 < count {
+    if MAX_RUNNING < count {
         return false;
     }
     for i in 0..count {

@@ -1,4 +1,5 @@
 // Interference: whether two events of a step have literals of one fact that may not stand together.
+use events::GROUND;
 use events::facts::bound_row;
 use events::facts::time_at;
 use literals::Time;
@@ -6,6 +7,8 @@ use literals::clause_for;
 use literals::head::Head;
 use literals::head::actions_in;
 use literals::head::rows_of;
+use literals::limits::MAX_EVENTS;
+use literals::limits::MAX_LITERALS;
 use records::bytes::wide;
 use store::index::word_of;
 ghost use mathlib.Core.Path.{_≡_};
@@ -19,8 +22,14 @@ ghost use Rattle.literals.specs.Table.{rowsIn};
 ghost use Rattle.literals.specs.Held.{Held};
 ghost use Rattle.literals.specs.Matching.{momentNumber};
 ghost use Rattle.verdict.specs.Machine.{Event, independent};
-ghost use Rattle.events.specs.Coded.{groundRow, waitingOf, GroundFits, EventsFit, timeOf};
-ghost use Rattle.applicability.specs.Interference.{clashing, Mark, rowMarks, eventMarks, marksIn, clashes, marksClash, Laid};
+ghost use Rattle.events.specs.Coded.{groundBytes, waitingBytes, groundRow, waitingOf, GroundFits, EventsFit, timeOf};
+ghost use Rattle.applicability.specs.Interference.{maxMarks, clashing, Mark, rowMarks, eventMarks, marksIn};
+ghost use Rattle.applicability.specs.Interference.{clashes, marksClash, Laid};
+ghost use Rattle.runs.specs.RunFile.{maxEvents};
+ghost use Rattle.literals.specs.Decode.{maxLiterals};
+
+// Room for the literals of a step.
+const MARKS: usize = MAX_EVENTS * MAX_LITERALS;
 
 // Whether two clauses of one fact may not stand in two events: a condition with an add or delete, an add with a delete.
 fn clashing(c: u8, d: u8) -> bool
@@ -49,7 +58,7 @@ fn put_word(
     rows: &[u8],
     row: usize,
 ) -> usize
-    requires bound { ⌜ length (now ground) ≡ 17 ⌝ }
+    requires bound { ⌜ length (now ground) ≡ groundBytes ⌝ }
     requires literal { ⌜ row + 8 ≤ length (now rows) ⌝ }
     requires words_room { ⌜ n < length (now words) ⌝ }
     requires clauses_room { ⌜ n < length (now clauses) ⌝ }
@@ -77,7 +86,7 @@ fn put_words(
     rows: &[u8],
     k: usize,
 ) -> usize
-    requires bound { ⌜ length (now ground) ≡ 17 ⌝ }
+    requires bound { ⌜ length (now ground) ≡ groundBytes ⌝ }
     requires literals { ⌜ 8 * k ≤ length (now rows) ⌝ }
     requires words_room { ⌜ at + k ≤ length (now words) ⌝ }
     requires clauses_room { ⌜ at + k ≤ length (now clauses) ⌝ }
@@ -102,10 +111,10 @@ fn ground_words(
     clauses: &mut [u8],
     n: usize,
 ) -> usize
-    requires bound { ⌜ length (now ground) ≡ 17 ⌝ }
-    requires words_room { ⌜ n + 64 ≤ length (now words) ⌝ }
-    requires clauses_room { ⌜ n + 64 ≤ length (now clauses) ⌝ }
-    ensures few { λ r. ⌜ r ≤ n + 64 ⌝ }
+    requires bound { ⌜ length (now ground) ≡ groundBytes ⌝ }
+    requires words_room { ⌜ n + maxLiterals ≤ length (now words) ⌝ }
+    requires clauses_room { ⌜ n + maxLiterals ≤ length (now clauses) ⌝ }
+    ensures few { λ r. ⌜ r ≤ n + maxLiterals ⌝ }
     ensures marks { λ r. ⌜ ((D : Domain) (e : Event)
         → Held D (now (head .entry)) (now (table .entry)) → GroundFits D (e .ground)
         → time ≡ timeOf (e .moment) → now (ground .entry) ≡ groundRow (e .ground)
@@ -142,21 +151,21 @@ fn event_words(
     clauses: &mut [u8],
     n: usize,
 ) -> usize
-    requires moments { ⌜ length (now moments) ≡ 16 ⌝ }
-    requires events { ⌜ length (now rows) ≡ 272 ⌝ }
-    requires event { ⌜ i < 16 ⌝ }
-    requires words_room { ⌜ n + 64 ≤ length (now words) ⌝ }
-    requires clauses_room { ⌜ n + 64 ≤ length (now clauses) ⌝ }
-    ensures few { λ r. ⌜ r ≤ n + 64 ⌝ }
+    requires moments { ⌜ length (now moments) ≡ maxEvents ⌝ }
+    requires events { ⌜ length (now rows) ≡ waitingBytes ⌝ }
+    requires event { ⌜ i < maxEvents ⌝ }
+    requires words_room { ⌜ n + maxLiterals ≤ length (now words) ⌝ }
+    requires clauses_room { ⌜ n + maxLiterals ≤ length (now clauses) ⌝ }
+    ensures few { λ r. ⌜ r ≤ n + maxLiterals ⌝ }
     ensures marks { λ r. ⌜ ((D : Domain) (e : Event)
         → Held D (now (head .entry)) (now (table .entry)) → GroundFits D (e .ground)
         → getD (now (moments .entry)) i 0 ≡ momentNumber (e .moment)
-        → take 17 (drop (17 * i) (now (rows .entry))) ≡ groundRow (e .ground)
+        → take groundBytes (drop (groundBytes * i) (now (rows .entry))) ≡ groundRow (e .ground)
         → marksIn r (now (words .exit)) (now (clauses .exit))
         ≡ marksIn n (now (words .entry)) (now (clauses .entry)) ++ eventMarks D e) ⌝ }
 {
-    let at = 17 * i;
-    let end = at + 17;
+    let at = GROUND * i;
+    let end = at + GROUND;
     ground_words(
         head,
         table,
@@ -179,13 +188,13 @@ fn step_words(
     clauses: &mut [u8],
     ends: &mut [usize],
 ) -> usize
-    requires count { ⌜ count ≤ 16 ⌝ }
-    requires words { ⌜ length (now words) ≡ 1024 ⌝ }
-    requires clauses { ⌜ length (now clauses) ≡ 1024 ⌝ }
-    requires ends { ⌜ length (now ends) ≡ 16 ⌝ }
-    requires moments { ⌜ length (now moments) ≡ 16 ⌝ }
-    requires events { ⌜ length (now rows) ≡ 272 ⌝ }
-    ensures few { λ r. ⌜ (r ≤ 1024) × ((i : ℕ) → i < count → getD (now (ends .exit)) i 0 ≤ 1024) ⌝ }
+    requires count { ⌜ count ≤ maxEvents ⌝ }
+    requires words { ⌜ length (now words) ≡ maxMarks ⌝ }
+    requires clauses { ⌜ length (now clauses) ≡ maxMarks ⌝ }
+    requires ends { ⌜ length (now ends) ≡ maxEvents ⌝ }
+    requires moments { ⌜ length (now moments) ≡ maxEvents ⌝ }
+    requires events { ⌜ length (now rows) ≡ waitingBytes ⌝ }
+    ensures few { λ r. ⌜ (r ≤ maxMarks) × ((i : ℕ) → i < count → getD (now (ends .exit)) i 0 ≤ maxMarks) ⌝ }
     ensures laid { λ r. ⌜ ((D : Domain) (es : List Event)
         → Held D (now (head .entry)) (now (table .entry))
         → record { count = count; moments = now (moments .entry); rows = now (rows .entry) } ≡ waitingOf es → EventsFit D es
@@ -246,12 +255,12 @@ fn words_clash(words: &[u64], clauses: &[u8], from: usize, to: usize, total: usi
 
 // Whether no literal clashes with one of a later event: the literals of event i end at ends[i].
 fn all_apart(words: &[u64], clauses: &[u8], ends: &[usize], count: usize, total: usize) -> bool
-    requires words { ⌜ length (now words) ≡ 1024 ⌝ }
-    requires clauses { ⌜ length (now clauses) ≡ 1024 ⌝ }
-    requires ends { ⌜ length (now ends) ≡ 16 ⌝ }
-    requires count { ⌜ count ≤ 16 ⌝ }
-    requires total { ⌜ total ≤ 1024 ⌝ }
-    requires ends_few { ⌜ ((i : ℕ) → i < count → getD (now ends) i 0 ≤ 1024) ⌝ }
+    requires words { ⌜ length (now words) ≡ maxMarks ⌝ }
+    requires clauses { ⌜ length (now clauses) ≡ maxMarks ⌝ }
+    requires ends { ⌜ length (now ends) ≡ maxEvents ⌝ }
+    requires count { ⌜ count ≤ maxEvents ⌝ }
+    requires total { ⌜ total ≤ maxMarks ⌝ }
+    requires ends_few { ⌜ ((i : ℕ) → i < count → getD (now ends) i 0 ≤ maxMarks) ⌝ }
     ensures { λ r. ⌜ ((parts : List (List Mark)) → length parts ≡ count
         → Laid parts (now (words .entry)) (now (clauses .entry)) (now (ends .entry)) total
         → r ≡ pairwise (λ first later. not (marksClash first later)) parts) ⌝ }
@@ -269,22 +278,22 @@ fn all_apart(words: &[u64], clauses: &[u8], ends: &[usize], count: usize, total:
 
 // Whether no two waiting events interfere: the literals of all are bound to their objects once, then compared by words.
 pub fn independent(head: &Head, table: &[u8], moments: &[u8], rows: &[u8], count: usize) -> bool
-    requires moments { ⌜ length (now moments) ≡ 16 ⌝ }
-    requires events { ⌜ length (now rows) ≡ 272 ⌝ }
+    requires moments { ⌜ length (now moments) ≡ maxEvents ⌝ }
+    requires events { ⌜ length (now rows) ≡ waitingBytes ⌝ }
     ensures { λ r. ⌜ ((D : Domain) (es : List Event)
         → Held D (now (head .entry)) (now (table .entry))
         → record { count = count; moments = now (moments .entry); rows = now (rows .entry) } ≡ waitingOf es → EventsFit D es
-        → length es ≤ 16 → r ≡ independent D es) ⌝ }
+        → length es ≤ maxEvents → r ≡ independent D es) ⌝ }
 {
-    if 16 < count {
+    if MAX_EVENTS < count {
         return false;
     }
     if count < 2 {
         return true;
     }
-    let mut words = [0u64; 1024];
-    let mut clauses = [0u8; 1024];
-    let mut ends = [0usize; 16];
+    let mut words = [0u64; MARKS];
+    let mut clauses = [0u8; MARKS];
+    let mut ends = [0usize; MAX_EVENTS];
     let total = step_words(
         head,
         table,

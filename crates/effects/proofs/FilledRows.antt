@@ -1,12 +1,12 @@
 -- Memories that are filled row by row, 8 bytes a row: laws of the functions that keep, join and put rows. Assumes nothing.
 use mathlib.Core.Path.{_≡_, refl, sym, ap, ap₂, _∙_, subst}
 use mathlib.Core.Bool.{Bool, true, false, not, cond}
-use mathlib.Core.List.{List, [], _∷_, _++_, map, flatMap, append-nil, List·Memᴰ·head, List·Memᴰ·tail, List·Memᴰ·not-nil}
+use mathlib.Core.List.{List, [], _∷_, _++_, map, flatMap, append-nil, append-assoc, List·Memᴰ·head, List·Memᴰ·tail, List·Memᴰ·not-nil, List·Memᴰ·eq-of-singleton}
 use Prim.Native.Nat.{ℕ, zero, suc, _+_, _-_, _*_, _≤_, _<_}
 use native.Mathlib.Omega.{arith}
 use lib.Dec.{eqb, ltb}
-use lib.ListN.{length, take, drop, length-append, take-append-drop}
-use lib.Seq.{take-all, take-add, take-append-le, take-append-add, take-at, drop-drop, drop-append-add, length-take-le, paste}
+use lib.ListN.{length, take, drop, length-append, length-drop, take-append-drop}
+use lib.Seq.{take-all, take-add, take-append-le, take-append-add, take-at, drop-at, drop-drop, drop-append-add, length-take-le, paste}
 use borrow.Author.Tests.{lt-ltb, le-ltb, ltb-true, ltb-false}
 use Rattle.records.specs.Lists.{In, keepIf, filterBy, sameList, dedup}
 use Rattle.records.specs.Memory.{over}
@@ -16,8 +16,10 @@ use Rattle.literals.specs.Table.{rowsIn}
 use Rattle.literals.proofs.Rows.{length-part, rows-snoc, rows-whole}
 use Rattle.literals.proofs.Tables.{length-flat, rows-flat}
 use Rattle.literals.proofs.KeyRows.{length-rows}
+use Rattle.runs.specs.RunFile.{maxFacts}
+use Rattle.runs.specs.Play.{workBytes}
 use Rattle.store.specs.Rows.{hasRow}
-use Rattle.effects.specs.Effects.{flat, joinRow, joinRows, atMost, stays, keptOf}
+use Rattle.effects.specs.Effects.{scratchBytes, effectsIn, flat, joinRow, joinRows, atMost, stays, keptOf}
 use Rattle.effects.proofs.Joins.{joined-rows, join-snoc, join-append}
 
 -- ---- the first rows of a memory
@@ -87,6 +89,36 @@ fill-again rows more old =
     ∙ over-again (flat rows) (flat more) old
     ∙ ap (λ (l : List ℕ). over l old) (sym e)
 
+-- what is new at the front of a scratch memory leaves its other part
+pub effects-over : (new old : List ℕ) → length new ≤ workBytes → effectsIn (over new old) ≡ effectsIn old
+unfolding over
+effects-over new old h =
+    let e : workBytes ≡ length new + (workBytes - length new) = omega arith in
+    ap (take workBytes)
+    (ap (λ (k : ℕ). drop k (new ++ drop (length new) old)) e
+    ∙ drop-append-add new (drop (length new) old) (workBytes - length new)
+    ∙ drop-drop (workBytes - length new) (length new) old
+    ∙ ap (λ (k : ℕ). drop k old) (sym e))
+
+-- so does a row behind the first n
+pub row-others : (n : ℕ) (out row : List ℕ) {next : List ℕ} → 8 * n ≤ length out → length row ≡ 8 → n < maxFacts
+    → next ≡ over (flat (rowsIn n out ++ (row ∷ []))) out → effectsIn next ≡ effectsIn out
+row-others n out row h e g f =
+    let w = length-whole (rowsIn n out ++ (row ∷ [])) (whole-append (rowsIn n out) (row ∷ []) (rows-whole n out h) (λ r i. ap length (List·Memᴰ·eq-of-singleton i) ∙ e)) in
+    let c = length-append (rowsIn n out) (row ∷ []) in
+    let r = length-rows 8 n out in
+    ap effectsIn f ∙ effects-over (flat (rowsIn n out ++ (row ∷ []))) out (omega arith)
+
+pub effects-length : (scratch : List ℕ) → length scratch ≡ scratchBytes → length (effectsIn scratch) ≡ workBytes
+effects-length scratch l = length-take-le workBytes (drop workBytes scratch) (omega (arith, length-drop workBytes scratch))
+
+-- that part, written anew
+pub effects-put : (scratch effects rest : List ℕ) → length scratch ≡ scratchBytes → length effects ≡ workBytes
+    → effectsIn (take workBytes scratch ++ (effects ++ rest)) ≡ effects
+effects-put scratch effects rest l e =
+    ap (take workBytes) (drop-at (take workBytes scratch) (effects ++ rest) workBytes (length-take-le workBytes scratch (omega arith)))
+    ∙ take-at effects rest workBytes e
+
 -- the first n rows of out are these; behind them it is as before
 pub record Filled (rows : List (List ℕ)) (n : ℕ) (out old : List ℕ) : Type 0 where
   pub count : n ≡ length rows
@@ -106,11 +138,33 @@ module _ {rows : List (List ℕ)} {n : ℕ} {out old : List ℕ} (F : Filled row
       let r = F .room in
       ap length (F .bytes) ∙ length-over (flat rows) old (omega arith)
 
+  pub filled-effects : n ≤ maxFacts → effectsIn out ≡ effectsIn old
+  filled-effects g =
+      let l = length-whole rows (F .whole) in
+      let c = F .count in
+      ap effectsIn (F .bytes) ∙ effects-over (flat rows) old (omega arith)
+
   pub filled-rows : rowsIn n out ≡ rows
   unfolding over
   filled-rows =
       ap₂ rowsIn (F .count) (F .bytes)
       ∙ rows-flat (λ (row : List ℕ). row) rows (drop (length (flat rows)) old) (F .whole)
+      ∙ same-rows rows
+
+  -- whatever is written behind the first half of a scratch memory
+  pub rows-still : (rest : List ℕ) → n ≤ maxFacts → rowsIn n (take workBytes out ++ rest) ≡ rows
+  unfolding over
+  rows-still rest g =
+      let l = length-whole rows (F .whole) in
+      let c = F .count in
+      let e : workBytes ≡ length (flat rows) + (workBytes - length (flat rows)) = omega arith in
+      let old-rest = drop (length (flat rows)) old in
+      ap₂ rowsIn (F .count)
+      (ap (λ (t : List ℕ). take workBytes t ++ rest) (F .bytes)
+      ∙ ap (λ (k : ℕ). take k (flat rows ++ old-rest) ++ rest) e
+      ∙ ap (λ (t : List ℕ). t ++ rest) (take-append-add (flat rows) old-rest (workBytes - length (flat rows)))
+      ∙ append-assoc (flat rows) (take (workBytes - length (flat rows)) old-rest) rest)
+      ∙ rows-flat (λ (row : List ℕ). row) rows (take (workBytes - length (flat rows)) old-rest ++ rest) (F .whole)
       ∙ same-rows rows
 
   pub filled-more : (more : List (List ℕ)) → Whole more → {m : ℕ} {next : List ℕ} → m ≡ n + length more → 8 * m ≤ length old
@@ -201,7 +255,7 @@ most-more r n e h = go (ltb 1024 n) refl e
     go true t f = (ltb-true 1024 n t, f)
     go false t f = let k = ltb-false 1024 n t in absurd (omega arith)
 
-module _ (n : ℕ) (out : List ℕ) (g : n ≤ 1024) (h : length out ≡ 8192) {row at : List ℕ} (e : row ≡ at) where
+module _ (n : ℕ) (out : List ℕ) (g : n ≤ 1024) (h : 8192 ≤ length out) {row at : List ℕ} (e : row ≡ at) where
   joined-there : hasRow row (rowsIn n out) ≡ true → joinRow (rowsIn n out) at ≡ rowsIn n out
   joined-there t = ap (λ (b : Bool). cond b (rowsIn n out) (rowsIn n out ++ (at ∷ []))) (ap (λ (r : List ℕ). hasRow r (rowsIn n out)) (sym e) ∙ t)
 
@@ -256,7 +310,7 @@ joined-rest : (rows : List (List ℕ)) (adds : List ℕ) (m j : ℕ) → j ≤ m
 joined-rest rows adds m j h = ap (joinRows rows) (rows-rest m j adds h) ∙ join-append rows (rowsIn j adds) (rowsIn (m - j) (drop (8 * j) adds))
 
 -- a row joins
-module _ (rows : List (List ℕ)) (adds : List ℕ) (j n : ℕ) {out old : List ℕ} (h : 8 * j + 8 ≤ length adds) (g : n ≤ 1024) (w : length old ≡ 8192) (F : Filled (joinedOf rows adds j) n out old)
+module _ (rows : List (List ℕ)) (adds : List ℕ) (j n : ℕ) {out old : List ℕ} (h : 8 * j + 8 ≤ length adds) (g : n ≤ 1024) (w : 8192 ≤ length old) (F : Filled (joinedOf rows adds j) n out old)
     {r : ℕ} {next : List ℕ} (e : r ≡ atMost 1024 (length (joinRow (rowsIn n out) (take 8 (drop (8 * j) adds)))))
     (f : next ≡ over (flat (take 1024 (joinRow (rowsIn n out) (take 8 (drop (8 * j) adds))))) out) where
   again : joinRow (rowsIn n out) (take 8 (drop (8 * j) adds)) ≡ joinedOf rows adds (j + 1)

@@ -6,8 +6,8 @@ use mathlib.Core.List.{List, [], _∷_, _++_, append-nil}
 use Prim.Native.Nat.{ℕ, _+_, _-_, _*_, _≤_, _<_}
 use native.Mathlib.Omega.{arith}
 use lib.Dec.{eqb}
-use lib.ListN.{length, getD, set, take, drop}
-use lib.Seq.{getD-set-same, getD-set-other}
+use lib.ListN.{length, getD, set, take, drop, length-drop}
+use lib.Seq.{getD-set-same, getD-set-other, length-take-le, take-take, take-add, drop-at, drop-drop}
 use borrow.Author.Tests.{eqb-true, eqb-false}
 use Rattle.records.specs.Lists.{In, filterBy, sameList}
 use Rattle.records.specs.Memory.{over}
@@ -17,9 +17,11 @@ use Rattle.literals.specs.Table.{rowsIn}
 use Rattle.literals.proofs.Rows.{part-at, rows-more, rows-end, rows-snoc}
 use Rattle.literals.proofs.KeyRows.{length-rows, rows-at}
 use Rattle.store.specs.Index.{Sized, Indexed, noteAt}
+use Rattle.runs.specs.RunFile.{maxFacts}
+use Rattle.runs.specs.Play.{workBytes}
 use Rattle.store.specs.Rows.{hasRow}
-use Rattle.effects.specs.Effects.{Marked, flat, joinRow, atMost, SizedRow, HoldsJoined, stays, keptOf}
-use Rattle.effects.proofs.FilledRows.{Filled, filled-rows, filled-own, left-out, kept-few, kept-next, kept-more, joinedOf, joined-next, joined-on, stopped-count, stopped-rows, joined-all, joined-out}
+use Rattle.effects.specs.Effects.{scratchBytes, effectsIn, Marked, flat, joinRow, atMost, SizedRow, HoldsJoined, stays, keptOf}
+use Rattle.effects.proofs.FilledRows.{filled-effects, Filled, filled-rows, filled-own, left-out, kept-few, kept-next, kept-more, joinedOf, joined-next, joined-on, stopped-count, stopped-rows, joined-all, joined-out}
 
 -- ---- marks
 
@@ -68,6 +70,9 @@ keeping-begin struck work n head out index =
     }
 
 module _ {struck : List (List ℕ)} {work : List ℕ} {n : ℕ} {head out₀ index₀ out index : List ℕ} {k i : ℕ} (K : Keeping struck work n head out₀ index₀ out index k i) where
+  pub keeping-effects : n ≤ maxFacts → effectsIn out ≡ effectsIn out₀
+  keeping-effects g = let r = K .reach in let f = K .few in filled-effects (K .filled) (omega arith)
+
   abbrev read : List ℕ
   read = take 8 (drop (8 * i) work)
 
@@ -120,12 +125,26 @@ module _ {head index : List ℕ} (rows : List (List ℕ)) {row at : List ℕ} (e
   pub new-indexed : hasRow row rows ≡ false → Indexed head index (rows ++ (at ∷ [])) → Indexed head index (joinRow rows at)
   new-indexed t I = subst (λ (b : Bool). Indexed head index (cond b rows (rows ++ (at ∷ [])))) (sym (ap (λ (r : List ℕ). hasRow r rows) (sym e) ∙ t)) I
 
+-- a row of what a step adds, by its place in the scratch memory
+pub effect-at : (scratch : List ℕ) (j : ℕ) → length scratch ≡ scratchBytes → 8 * j + 8 ≤ workBytes
+    → take 8 (drop (workBytes + 8 * j) scratch) ≡ take 8 (drop (8 * j) (effectsIn scratch))
+effect-at scratch j l h =
+    let m = drop workBytes scratch in
+    let e : workBytes ≡ 8 * j + (workBytes - 8 * j) = omega arith in
+    let d = length-drop workBytes scratch in
+    sym
+    (ap (λ (t : List ℕ). take 8 (drop (8 * j) t)) (ap (λ (k : ℕ). take k m) e ∙ take-add (8 * j) (workBytes - 8 * j) m)
+    ∙ ap (take 8) (drop-at (take (8 * j) m) (take (workBytes - 8 * j) (drop (8 * j) m)) (8 * j) (length-take-le (8 * j) m (omega arith)))
+    ∙ take-take 8 (workBytes - 8 * j) (drop (8 * j) m) (omega arith)
+    ∙ ap (take 8) (drop-drop (8 * j) workBytes scratch))
+
 -- what is told of a row that joins
 pub record Joined (row head out index next index′ : List ℕ) (n r : ℕ) : Type 0 where
   pub few : (n ≤ r) × (r ≤ 1025)
   pub joined : Indexed head index (rowsIn n out) → SizedRow head row → HoldsJoined head (joinRow (rowsIn n out) row) out r next index′
   pub beside : getD index′ noteAt 0 ≡ getD index noteAt 0
   pub room : length next ≡ length out
+  pub others : effectsIn next ≡ effectsIn out
 
 -- where the loop over the rows that join stands
 pub record Joining (adds : List ℕ) (m count : ℕ) (head out₀ index₀ out index : List ℕ) (n j : ℕ) : Type 0 where
@@ -133,12 +152,13 @@ pub record Joining (adds : List ℕ) (m count : ℕ) (head out₀ index₀ out i
   pub least : count ≤ n
   pub most : n ≤ 1024
   pub room : length out ≡ length out₀
+  pub others : effectsIn out ≡ effectsIn out₀
   pub filled : Indexed head index₀ (rowsIn count out₀) → Sized head (rowsIn m adds) → Filled (joinedOf (rowsIn count out₀) adds j) n out out₀
   pub indexed : Indexed head index₀ (rowsIn count out₀) → Sized head (rowsIn m adds)
       → Indexed head index (joinedOf (rowsIn count out₀) adds j)
   pub beside : getD index noteAt 0 ≡ getD index₀ noteAt 0
 
-pub joining-begin : (adds : List ℕ) (m count : ℕ) (head out index : List ℕ) → count ≤ 1024 → length out ≡ 8192
+pub joining-begin : (adds : List ℕ) (m count : ℕ) (head out index : List ℕ) → count ≤ 1024 → 8192 ≤ length out
     → Joining adds m count head out index out index count 0
 joining-begin adds m count head out index h w =
     record {
@@ -146,6 +166,7 @@ joining-begin adds m count head out index h w =
       least = omega arith;
       most = h;
       room = refl;
+      others = refl;
       filled = λ I S. filled-own count out (omega arith);
       indexed = λ I S. I;
       beside = refl;
@@ -155,7 +176,7 @@ module _ {adds : List ℕ} {m count : ℕ} {head out₀ index₀ out index : Lis
   abbrev first : List (List ℕ)
   first = rowsIn count out₀
 
-  module _ (h : j < m) (g : 8 * m ≤ length adds) (w : length out₀ ≡ 8192) {r : ℕ} {next index′ : List ℕ} (J : Joined (take 8 (drop (8 * j) adds)) head out index next index′ n r) where
+  module _ (h : j < m) (g : 8 * m ≤ length adds) (w : 8192 ≤ length out₀) {r : ℕ} {next index′ : List ℕ} (J : Joined (take 8 (drop (8 * j) adds)) head out index next index′ n r) where
     module _ (I : Indexed head index₀ first) (S : Sized head (rowsIn m adds)) where
       F : Filled (joinedOf first adds j) n out out₀
       F = K .filled I S
@@ -199,6 +220,7 @@ module _ {adds : List ℕ} {m count : ℕ} {head out₀ index₀ out index : Lis
           least = omega arith;
           most = k;
           room = J .room ∙ K .room;
+          others = J .others ∙ K .others;
           filled = λ I S. filled-on I S k;
           indexed = λ I S. indexed-on I S k;
           beside = J .beside ∙ K .beside;

@@ -6,7 +6,7 @@ use Prim.Native.Nat.{ℕ, zero, suc, _+_, _-_, _*_, _≤_}
 use native.Mathlib.Omega.{arith}
 use lib.Dec.{eqb}
 use lib.ListN.{length, take, drop, replicate, length-map}
-use lib.Seq.{take-all, take-at, take-append-add}
+use lib.Seq.{take-all, take-at}
 use Rattle.records.specs.Lists.{filterBy, sameList, elem, distinct, dedup}
 use Rattle.records.specs.Memory.{over}
 use Rattle.records.proofs.Lists.{filter-in, filter-agree, dedup-in}
@@ -15,13 +15,14 @@ use Rattle.literals.specs.Domain.{Fact, sameFact, Domain}
 use Rattle.literals.specs.Table.{rowsIn}
 use Rattle.verdict.specs.Judged.{objectNumbers, factBytes}
 use Rattle.verdict.specs.Machine.{Event, stepFacts, factsAfter}
+use Rattle.runs.specs.Play.{workBytes}
 use Rattle.store.specs.Index.{Sized, Indexed}
 use Rattle.store.specs.Rows.{factRow}
 use Rattle.effects.specs.Effects.{joinRows, Once, atMost, flat, stepEffects, HoldsJoined, HoldsAfter, stays, keptOf}
 use Rattle.events.proofs.FactRows.{same-row}
 use Rattle.effects.proofs.Joins.{outside-map, dedup-map, distinct-map, joined-rows}
 use Rattle.literals.proofs.Rows.{rows-whole}
-use Rattle.effects.proofs.FilledRows.{Whole, whole-append, length-whole, fill-again, Filled, filled-rows, kept-few, behind, most-inside}
+use Rattle.effects.proofs.FilledRows.{Whole, whole-append, length-whole, Filled, rows-still, kept-few, behind, most-inside}
 use Rattle.effects.proofs.EffectRows.{step-once, step-elem}
 
 -- ---- the rows of facts
@@ -81,21 +82,22 @@ module _ (D : Domain) (fs : List Fact) (es : List Event) where
 
 -- ---- as the code leaves it
 
--- the rows that are struck and those that are added, the work memory, and out and the index before, after what is kept and after what joins
-pub record Done (head struck work adds : List ℕ) (m n k : ℕ) (out₀ out₁ out₂ index₀ index₁ index₂ : List ℕ) (kept facts : ℕ) : Type 0 where
+-- the rows that are struck and those that are added, the work memory, the scratch memory before and after what is kept and
+-- before and after what joins, and the index
+pub record Done (head struck work adds : List ℕ) (m n k : ℕ) (out₀ out₁ rest out₂ index₀ index₁ index₂ : List ℕ) (kept facts : ℕ) : Type 0 where
   pub small : n ≤ 1024
   pub within : 8 * n ≤ length work
   pub addsWithin : 8 * k ≤ length adds
-  pub room : length out₀ ≡ 8192
+  pub room : 8192 ≤ length out₀
   pub keptCount : kept ≡ length (keptOf (rowsIn m struck) work n)
   pub keptBytes : out₁ ≡ over (flat (keptOf (rowsIn m struck) work n)) out₀
   pub keptIndexed : Indexed head index₀ (rowsIn n work) → Indexed head index₁ (keptOf (rowsIn m struck) work n)
   pub joinedFew : (kept ≤ facts) × (facts ≤ 1025)
-  pub joined : Indexed head index₁ (rowsIn kept out₁) → Sized head (rowsIn k adds)
-      → HoldsJoined head (joinRows (rowsIn kept out₁) (rowsIn k adds)) out₁ facts out₂ index₂
+  pub joined : Indexed head index₁ (rowsIn kept (take workBytes out₁ ++ rest)) → Sized head (rowsIn k adds)
+      → HoldsJoined head (joinRows (rowsIn kept (take workBytes out₁ ++ rest)) (rowsIn k adds)) (take workBytes out₁ ++ rest) facts out₂ index₂
 
-module _ {head struck work adds : List ℕ} {m n k : ℕ} {out₀ out₁ out₂ index₀ index₁ index₂ : List ℕ} {kept facts : ℕ}
-    (X : Done head struck work adds m n k out₀ out₁ out₂ index₀ index₁ index₂ kept facts) where
+module _ {head struck work adds : List ℕ} {m n k : ℕ} {out₀ out₁ rest out₂ index₀ index₁ index₂ : List ℕ} {kept facts : ℕ}
+    (X : Done head struck work adds m n k out₀ out₁ rest out₂ index₀ index₁ index₂ kept facts) where
   abbrev keptRows : List (List ℕ)
   keptRows = keptOf (rowsIn m struck) work n
 
@@ -110,8 +112,19 @@ module _ {head struck work adds : List ℕ} {m n k : ℕ} {out₀ out₁ out₂ 
       let r = X .room in
       record { count = c; room = omega arith; whole = λ row i. rows-whole n work (X .within) row (filter-in (stays (rowsIn m struck)) (rowsIn n work) i .0); bytes = X .keptBytes }
 
-  all-joined : joinRows (rowsIn kept out₁) (rowsIn k adds) ≡ keptRows ++ newRows
-  all-joined = ap (λ (l : List (List ℕ)). joinRows l (rowsIn k adds)) (filled-rows filled) ∙ joined-rows keptRows (rowsIn k adds)
+  -- what is kept stands there still when what is added is written behind it
+  abbrev before : List ℕ
+  before = take workBytes out₁ ++ rest
+
+  kept-still : rowsIn kept before ≡ keptRows
+  kept-still =
+      let q = kept-few (rowsIn m struck) work n in
+      let c = X .keptCount in
+      let a = X .small in
+      rows-still filled rest (omega arith)
+
+  all-joined : joinRows (rowsIn kept before) (rowsIn k adds) ≡ keptRows ++ newRows
+  all-joined = ap (λ (l : List (List ℕ)). joinRows l (rowsIn k adds)) kept-still ∙ joined-rows keptRows (rowsIn k adds)
 
   new-whole : Whole newRows
   new-whole row i = rows-whole k adds (X .addsWithin) row (dedup-in (sameList eqb) (rowsIn k adds) (filter-in (stays keptRows) (dedup (sameList eqb) (rowsIn k adds)) i .0))
@@ -127,8 +140,8 @@ module _ {head struck work adds : List ℕ} {m n k : ℕ} {out₀ out₁ out₂ 
     kept-rows : keptRows ≡ map factRow (keptFacts D fs es)
     kept-rows = ap₂ (λ (x y : List (List ℕ)). filterBy (stays x) y) s u ∙ kept-facts D fs es
 
-    after-rows : joinRows (rowsIn kept out₁) (rowsIn k adds) ≡ map factRow (factsAfter D fs es)
-    after-rows = ap₂ joinRows (filled-rows filled ∙ kept-rows) t ∙ after-facts D fs es
+    after-rows : joinRows (rowsIn kept before) (rowsIn k adds) ≡ map factRow (factsAfter D fs es)
+    after-rows = ap₂ joinRows (kept-still ∙ kept-rows) t ∙ after-facts D fs es
 
     after-kept : kept ≡ length (filterBy (λ (f : Fact). not (elem sameFact f (stepFacts D es Delete))) fs)
     after-kept = X .keptCount ∙ ap length kept-rows ∙ length-map (keptFacts D fs es) factRow
@@ -140,39 +153,31 @@ module _ {head struck work adds : List ℕ} {m n k : ℕ} {out₀ out₁ out₂ 
         ∙ ap (λ (i : ℕ). 8 * i) (length-map (factsAfter D fs es) factRow)
 
     module _ (I : Indexed head index₀ (map factRow fs)) (S : Sized head (map factRow (stepEffects D es Add))) where
-      kept-held : Indexed head index₁ (rowsIn kept out₁)
-      kept-held = subst (Indexed head index₁) (sym (filled-rows filled)) (X .keptIndexed (subst (Indexed head index₀) (sym u) I))
+      kept-held : Indexed head index₁ (rowsIn kept before)
+      kept-held = subst (Indexed head index₁) (sym kept-still) (X .keptIndexed (subst (Indexed head index₀) (sym u) I))
 
       added-sized : Sized head (rowsIn k adds)
       added-sized = subst (Sized head) (sym t) S
 
-      H : HoldsJoined head (joinRows (rowsIn kept out₁) (rowsIn k adds)) out₁ facts out₂ index₂
+      H : HoldsJoined head (joinRows (rowsIn kept before) (rowsIn k adds)) before facts out₂ index₂
       H = X .joined kept-held added-sized
 
       after-count : facts ≡ atMost 1024 (length (factsAfter D fs es))
       after-count = H .count ∙ ap (atMost 1024) (ap length after-rows ∙ length-map (factsAfter D fs es) factRow)
 
-      after-written : out₂ ≡ over (factBytes (take 1024 (factsAfter D fs es))) out₀
-      after-written =
-          let q = kept-few (rowsIn m struck) work n in
-          let a = X .small in
-          let z : 1024 ≡ length keptRows + (1024 - length keptRows) = omega arith in
-          let first = ap (take 1024) all-joined ∙ ap (λ (i : ℕ). take i (keptRows ++ newRows)) z ∙ take-append-add keptRows newRows (1024 - length keptRows) in
-          H .bytes
-          ∙ ap₂ (λ (l : List (List ℕ)) (x : List ℕ). over (flat l) x) first (X .keptBytes)
-          ∙ fill-again keptRows (take (1024 - length keptRows) newRows) out₀
-          ∙ ap (λ (l : List (List ℕ)). over (flat l) out₀) (sym first ∙ ap (take 1024) after-rows ∙ take-map factRow 1024 (factsAfter D fs es))
-          ∙ ap (λ (l : List ℕ). over l out₀) (fact-bytes (take 1024 (factsAfter D fs es)))
-
       after-held : length (factsAfter D fs es) ≤ 1024 → take (8 * length (factsAfter D fs es)) out₂ ≡ factBytes (factsAfter D fs es)
       after-held y =
-          ap (take (8 * length (factsAfter D fs es))) (after-written ∙ ap (λ (l : List Fact). over (factBytes l) out₀) (take-all 1024 (factsAfter D fs es) y))
-          ∙ take-over (factBytes (factsAfter D fs es)) out₀ (8 * length (factsAfter D fs es)) after-length
+          ap (take (8 * length (factsAfter D fs es)))
+          (H .bytes
+          ∙ ap (λ (l : List (List ℕ)). over (flat l) before) (ap (take 1024) after-rows ∙ take-map factRow 1024 (factsAfter D fs es))
+          ∙ ap (λ (l : List Fact). over (flat (map factRow l)) before) (take-all 1024 (factsAfter D fs es) y)
+          ∙ ap (λ (l : List ℕ). over l before) (fact-bytes (factsAfter D fs es)))
+          ∙ take-over (factBytes (factsAfter D fs es)) before (8 * length (factsAfter D fs es)) after-length
 
       after-indexed : length (factsAfter D fs es) ≤ 1024 → Indexed head index₂ (map factRow (factsAfter D fs es))
       after-indexed y =
           let c : facts ≡ length (factsAfter D fs es) = after-count ∙ sym (most-inside (length (factsAfter D fs es)) y) in
           subst (Indexed head index₂) after-rows (H .indexed (omega arith))
 
-      pub holds-after : HoldsAfter D fs es head out₀ (record { kept = kept; facts = facts }) out₂ index₂
-      holds-after = record { kept = after-kept; facts = after-count; written = after-written; held = after-held; indexed = after-indexed }
+      pub holds-after : HoldsAfter D fs es head (record { kept = kept; facts = facts }) out₂ index₂
+      holds-after = record { kept = after-kept; facts = after-count; held = after-held; indexed = after-indexed }

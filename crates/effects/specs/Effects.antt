@@ -19,11 +19,21 @@ use Rattle.verdict.specs.Binding.{bind}
 use Rattle.verdict.specs.Judged.{factBytes}
 use Rattle.verdict.specs.Machine.{Event, stepFacts, factsAfter}
 use Rattle.runs.specs.RunFile.{maxFacts}
+use Rattle.runs.specs.Play.{workBytes}
 use Rattle.store.specs.Index.{Indexed}
 use Rattle.store.specs.Rows.{factRow, hasRow}
 use Rattle.literals.specs.Keys.{clauseFor}
 use Rattle.events.specs.Coded.{boundRow}
 use Rattle.effects.specs.declared.After.{After}
+
+-- ---- what a step works in
+
+-- its scratch memory: room for the facts after it, and behind that for what it strikes and, when that is done with, what it adds
+abbrev pub scratchBytes : ℕ
+scratchBytes = 16384
+
+abbrev pub effectsIn : List ℕ → List ℕ
+effectsIn scratch = take workBytes (drop workBytes scratch)
 
 -- ---- effects, by rows
 
@@ -97,11 +107,9 @@ unfoldable pub stepEffects : Domain → List Event → Clause → List Fact
 unfolding eventEffects flatMap
 stepEffects D es c = flatMap (λ e. eventEffects D e c) es
 
--- what a step leaves of facts, in a memory that was `old` before: how many are kept and how many there are then, their bytes, and their index
-pub record HoldsAfter (D : Domain) (fs : List Fact) (es : List Event) (head old : List ℕ) (r : After) (out index : List ℕ)
-    : Type 0 where
+-- what a step leaves of facts: how many are kept and how many there are then, their bytes, and their index
+pub record HoldsAfter (D : Domain) (fs : List Fact) (es : List Event) (head : List ℕ) (r : After) (out index : List ℕ) : Type 0 where
   pub kept : r .kept ≡ length (filterBy (λ (f : Fact). not (elem sameFact f (stepFacts D es Delete))) fs)
   pub facts : r .facts ≡ atMost maxFacts (length (factsAfter D fs es))
-  pub written : out ≡ over (factBytes (take maxFacts (factsAfter D fs es))) old
   pub held : length (factsAfter D fs es) ≤ maxFacts → take (8 * length (factsAfter D fs es)) out ≡ factBytes (factsAfter D fs es)
   pub indexed : length (factsAfter D fs es) ≤ maxFacts → Indexed head index (map factRow (factsAfter D fs es))

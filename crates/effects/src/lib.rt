@@ -1,4 +1,5 @@
 // The facts after a step: what it strikes goes out, then what it adds joins, each fact once.
+use events::GROUND;
 use events::facts::bound_row;
 use events::facts::time_at;
 use literals::Time;
@@ -6,6 +7,7 @@ use literals::clause_for;
 use literals::head::Head;
 use literals::head::actions_in;
 use literals::head::rows_of;
+use literals::limits::MAX_EVENTS;
 use literals::limits::MAX_FACTS;
 use records::bytes::put_bytes;
 use records::bytes::wide;
@@ -25,13 +27,21 @@ ghost use Rattle.literals.specs.Domain.{Fact, clauseNumber, Domain};
 ghost use Rattle.literals.specs.Table.{rowsIn};
 ghost use Rattle.literals.specs.Held.{Held};
 ghost use Rattle.literals.specs.Matching.{momentNumber};
-ghost use Rattle.runs.specs.RunFile.{maxFacts};
+ghost use Rattle.runs.specs.RunFile.{maxFacts, maxEvents};
+ghost use Rattle.runs.specs.Play.{workBytes};
 ghost use Rattle.verdict.specs.Machine.{Event};
 ghost use Rattle.store.specs.Index.{noteAt, Sized, Indexed};
 ghost use Rattle.store.specs.Rows.{factRow, hasRow};
-ghost use Rattle.events.specs.Coded.{groundRow, waitingOf, GroundFits, EventsFit, timeOf};
-ghost use Rattle.effects.specs.Effects.{effectRows, flat, eventEffects, stepEffects, HoldsAfter};
+ghost use Rattle.events.specs.Coded.{groundBytes, waitingBytes, groundRow, waitingOf, GroundFits, EventsFit, timeOf};
+ghost use Rattle.effects.specs.Effects.{scratchBytes, effectsIn, effectRows, flat, eventEffects, stepEffects, HoldsAfter};
 ghost use Rattle.effects.specs.Effects.{Once, struckOf, FirstStruck, Marked, keptOf, SizedRow, joinRow, joinRows, HoldsJoined};
+ghost use Rattle.literals.specs.Decode.{maxLiterals};
+
+// The bytes of the facts that are held.
+const FACTS: usize = 8 * MAX_FACTS;
+
+// What a step works in: room for the facts after it, and behind that for what it strikes and, when that is done with, what it adds.
+pub const SCRATCH: usize = FACTS + FACTS;
 
 // A row behind the first n.
 fn put_row(out: &mut [u8], n: usize, row: [u8; 8])
@@ -104,38 +114,39 @@ fn struck_from(
     n
 }
 
-// The rows of the work memory that are not struck, in order, to the front of out; how many they are. The others leave the index.
+// The rows of the work memory that are not struck, in order, to the front of the scratch memory; how many they are. The others
+// leave the index.
 fn keep_rows(
     head: &Head,
     work: &[u8],
     n: usize,
-    struck: &[u8],
+    scratch: &mut [u8],
     m: usize,
-    out: &mut [u8],
     index: &mut FactIndex,
 ) -> usize
     requires few { ⌜ n ≤ maxFacts ⌝ }
     requires rows { ⌜ 8 * n ≤ length (now work) ⌝ }
-    requires struck { ⌜ 8 * m ≤ length (now struck) ⌝ }
-    requires room { ⌜ 8 * n ≤ length (now out) ⌝ }
+    requires struck { ⌜ m ≤ maxFacts ⌝ }
+    requires scratch { ⌜ length (now scratch) ≡ scratchBytes ⌝ }
     requires once { ⌜ Once (rowsIn n (now work)) ⌝ }
-    ensures count { λ r. ⌜ r ≡ length (keptOf (rowsIn m (now (struck .entry))) (now (work .entry)) n) ⌝ }
-    ensures rows { λ _. ⌜ now (out .exit)
-        ≡ over (flat (keptOf (rowsIn m (now (struck .entry))) (now (work .entry)) n)) (now (out .entry)) ⌝ }
+    ensures count { λ r. ⌜ r ≡ length (keptOf (rowsIn m (effectsIn (now (scratch .entry)))) (now (work .entry)) n) ⌝ }
+    ensures rows { λ _. ⌜ now (scratch .exit)
+        ≡ over (flat (keptOf (rowsIn m (effectsIn (now (scratch .entry)))) (now (work .entry)) n)) (now (scratch .entry)) ⌝ }
     ensures indexed { λ _. ⌜ (Indexed (now (head .entry)) (now (index .entry)) (rowsIn n (now (work .entry)))
-        → Indexed (now (head .entry)) (now (index .exit)) (keptOf (rowsIn m (now (struck .entry))) (now (work .entry)) n)) ⌝ }
+        → Indexed (now (head .entry)) (now (index .exit))
+        (keptOf (rowsIn m (effectsIn (now (scratch .entry)))) (now (work .entry)) n)) ⌝ }
     ensures beside { λ _. ⌜ getD (now (index .exit)) noteAt 0 ≡ getD (now (index .entry)) noteAt 0 ⌝ }
 {
     let mut marks = [0u8; 256];
-    put_marks(&mut marks, struck, m);
+    put_marks(&mut marks, &scratch[FACTS..SCRATCH], m);
     let mut k = 0;
     let mut i = 0;
     // Most rows stay, so those between two struck ones are put at once.
     loop {
-        let next = struck_from(work, n, i, i - k, &marks, struck, m);
+        let next = struck_from(work, n, i, i - k, &marks, &scratch[FACTS..SCRATCH], m);
         let from = 8 * i;
         let to = 8 * next;
-        put_bytes(out, 8 * k, &work[from..to]);
+        put_bytes(scratch, 8 * k, &work[from..to]);
         k += next - i;
         if n <= next {
             return k;
@@ -145,62 +156,55 @@ fn keep_rows(
     }
 }
 
-// The row at an offset of what is added, behind the first n rows of out and into the index, where it is not there yet; the
-// count then, or 1,025 where there is no room.
-fn join_row(
-    head: &Head,
-    adds: &[u8],
-    at: usize,
-    out: &mut [u8],
-    n: usize,
-    index: &mut FactIndex,
-) -> usize
-    requires row { ⌜ at + 8 ≤ length (now adds) ⌝ }
+// The row at an offset of what is added, behind the first n rows of the scratch memory and into the index, where it is not
+// there yet; the count then, or 1,025 where there is no room.
+fn join_row(head: &Head, scratch: &mut [u8], at: usize, n: usize, index: &mut FactIndex) -> usize
+    requires row { ⌜ at + 8 ≤ length (now scratch) ⌝ }
     requires few { ⌜ n ≤ maxFacts ⌝ }
-    requires room { ⌜ length (now out) ≡ 8192 ⌝ }
+    requires scratch { ⌜ length (now scratch) ≡ scratchBytes ⌝ }
     ensures few { λ r. ⌜ (n ≤ r) × (r ≤ maxFacts + 1) ⌝ }
-    ensures joined { λ r. ⌜ (Indexed (now (head .entry)) (now (index .entry)) (rowsIn n (now (out .entry)))
-        → SizedRow (now (head .entry)) (take 8 (drop at (now (adds .entry))))
-        → HoldsJoined (now (head .entry)) (joinRow (rowsIn n (now (out .entry))) (take 8 (drop at (now (adds .entry)))))
-        (now (out .entry)) r (now (out .exit)) (now (index .exit))) ⌝ }
+    ensures joined { λ r. ⌜ (Indexed (now (head .entry)) (now (index .entry)) (rowsIn n (now (scratch .entry)))
+        → SizedRow (now (head .entry)) (take 8 (drop at (now (scratch .entry))))
+        → HoldsJoined (now (head .entry)) (joinRow (rowsIn n (now (scratch .entry))) (take 8 (drop at (now (scratch .entry)))))
+        (now (scratch .entry)) r (now (scratch .exit)) (now (index .exit))) ⌝ }
     ensures beside { λ _. ⌜ getD (now (index .exit)) noteAt 0 ≡ getD (now (index .entry)) noteAt 0 ⌝ }
+    ensures others { λ _. ⌜ effectsIn (now (scratch .exit)) ≡ effectsIn (now (scratch .entry)) ⌝ }
 {
-    let row = row_at(adds, at);
-    if is_held(index, out, n, row) {
+    let row = row_at(scratch, at);
+    if is_held(index, scratch, n, row) {
         return n;
     }
     if MAX_FACTS <= n {
         return MAX_FACTS + 1;
     }
-    put_row(out, n, row);
-    enter(index, head, adds, at);
+    enter(index, head, scratch, at);
+    put_row(scratch, n, row);
     n + 1
 }
 
-// Each of the first m rows of what is added, behind the first `count` rows of out, where it is not there yet; the count then,
-// or 1,025 where there is no room.
+// Each of the first m rows of what is added, behind the first `count` rows of the scratch memory, where it is not there yet; the
+// count then, or 1,025 where there is no room.
 fn join_rows(
     head: &Head,
-    adds: &[u8],
+    scratch: &mut [u8],
     m: usize,
-    out: &mut [u8],
     count: usize,
     index: &mut FactIndex,
 ) -> usize
     requires few { ⌜ m ≤ maxFacts ⌝ }
-    requires rows { ⌜ 8 * m ≤ length (now adds) ⌝ }
     requires count { ⌜ count ≤ maxFacts ⌝ }
-    requires room { ⌜ length (now out) ≡ 8192 ⌝ }
+    requires scratch { ⌜ length (now scratch) ≡ scratchBytes ⌝ }
     ensures few { λ r. ⌜ (count ≤ r) × (r ≤ maxFacts + 1) ⌝ }
-    ensures joined { λ r. ⌜ (Indexed (now (head .entry)) (now (index .entry)) (rowsIn count (now (out .entry)))
-        → Sized (now (head .entry)) (rowsIn m (now (adds .entry)))
-        → HoldsJoined (now (head .entry)) (joinRows (rowsIn count (now (out .entry))) (rowsIn m (now (adds .entry))))
-        (now (out .entry)) r (now (out .exit)) (now (index .exit))) ⌝ }
+    ensures joined { λ r. ⌜ (Indexed (now (head .entry)) (now (index .entry)) (rowsIn count (now (scratch .entry)))
+        → Sized (now (head .entry)) (rowsIn m (effectsIn (now (scratch .entry))))
+        → HoldsJoined (now (head .entry))
+        (joinRows (rowsIn count (now (scratch .entry))) (rowsIn m (effectsIn (now (scratch .entry)))))
+        (now (scratch .entry)) r (now (scratch .exit)) (now (index .exit))) ⌝ }
     ensures beside { λ _. ⌜ getD (now (index .exit)) noteAt 0 ≡ getD (now (index .entry)) noteAt 0 ⌝ }
 {
     let mut n = count;
     for j in 0..m {
-        n = join_row(head, adds, 8 * j, out, n, index);
+        n = join_row(head, scratch, FACTS + 8 * j, n, index);
         if MAX_FACTS < n {
             return n;
         }
@@ -220,7 +224,7 @@ fn put_effect(
     rows: &[u8],
     row: usize,
 ) -> usize
-    requires bound { ⌜ length (now ground) ≡ 17 ⌝ }
+    requires bound { ⌜ length (now ground) ≡ groundBytes ⌝ }
     requires literal { ⌜ row + 8 ≤ length (now rows) ⌝ }
     requires room { ⌜ 8 * n + 8 ≤ length (now out) ⌝ }
     ensures count { λ r. ⌜ r ≡ n
@@ -247,7 +251,7 @@ fn put_effects(
     rows: &[u8],
     k: usize,
 ) -> usize
-    requires bound { ⌜ length (now ground) ≡ 17 ⌝ }
+    requires bound { ⌜ length (now ground) ≡ groundBytes ⌝ }
     requires literals { ⌜ 8 * k ≤ length (now rows) ⌝ }
     requires room { ⌜ 8 * (at + k) ≤ length (now out) ⌝ }
     ensures count { λ r. ⌜ r ≡ at
@@ -273,9 +277,9 @@ fn ground_effects(
     out: &mut [u8],
     n: usize,
 ) -> usize
-    requires bound { ⌜ length (now ground) ≡ 17 ⌝ }
-    requires room { ⌜ 8 * (n + 64) ≤ length (now out) ⌝ }
-    ensures few { λ r. ⌜ r ≤ n + 64 ⌝ }
+    requires bound { ⌜ length (now ground) ≡ groundBytes ⌝ }
+    requires room { ⌜ 8 * (n + maxLiterals) ≤ length (now out) ⌝ }
+    ensures few { λ r. ⌜ r ≤ n + maxLiterals ⌝ }
     ensures effects { λ r. ⌜ ((D : Domain) (e : Event) (c : Clause)
         → Held D (now (head .entry)) (now (table .entry)) → GroundFits D (e .ground)
         → time ≡ timeOf (e .moment) → now (ground .entry) ≡ groundRow (e .ground) → clause ≡ suc (clauseNumber c)
@@ -312,20 +316,20 @@ fn event_effects(
     out: &mut [u8],
     n: usize,
 ) -> usize
-    requires moments { ⌜ length (now moments) ≡ 16 ⌝ }
-    requires events { ⌜ length (now rows) ≡ 272 ⌝ }
-    requires event { ⌜ i < 16 ⌝ }
-    requires room { ⌜ 8 * (n + 64) ≤ length (now out) ⌝ }
-    ensures few { λ r. ⌜ r ≤ n + 64 ⌝ }
+    requires moments { ⌜ length (now moments) ≡ maxEvents ⌝ }
+    requires events { ⌜ length (now rows) ≡ waitingBytes ⌝ }
+    requires event { ⌜ i < maxEvents ⌝ }
+    requires room { ⌜ 8 * (n + maxLiterals) ≤ length (now out) ⌝ }
+    ensures few { λ r. ⌜ r ≤ n + maxLiterals ⌝ }
     ensures effects { λ r. ⌜ ((D : Domain) (e : Event) (c : Clause)
         → Held D (now (head .entry)) (now (table .entry)) → GroundFits D (e .ground)
         → getD (now (moments .entry)) i 0 ≡ momentNumber (e .moment)
-        → take 17 (drop (17 * i) (now (rows .entry))) ≡ groundRow (e .ground) → clause ≡ suc (clauseNumber c)
+        → take groundBytes (drop (groundBytes * i) (now (rows .entry))) ≡ groundRow (e .ground) → clause ≡ suc (clauseNumber c)
         → (r ≡ n + length (eventEffects D e c))
         × (now (out .exit) ≡ over (flat (rowsIn n (now (out .entry)) ++ map factRow (eventEffects D e c))) (now (out .entry)))) ⌝ }
 {
-    let at = 17 * i;
-    let end = at + 17;
+    let at = GROUND * i;
+    let end = at + GROUND;
     ground_effects(
         head,
         table,
@@ -348,17 +352,17 @@ fn step_effects(
     clause: u8,
     out: &mut [u8],
 ) -> usize
-    requires moments { ⌜ length (now moments) ≡ 16 ⌝ }
-    requires events { ⌜ length (now events) ≡ 272 ⌝ }
-    requires room { ⌜ length (now out) ≡ 8192 ⌝ }
+    requires moments { ⌜ length (now moments) ≡ maxEvents ⌝ }
+    requires events { ⌜ length (now events) ≡ waitingBytes ⌝ }
+    requires room { ⌜ length (now out) ≡ workBytes ⌝ }
     ensures few { λ r. ⌜ r ≤ maxFacts ⌝ }
     ensures effects { λ r. ⌜ ((D : Domain) (es : List Event) (c : Clause)
         → Held D (now (head .entry)) (now (table .entry))
         → record { count = count; moments = now (moments .entry); rows = now (events .entry) } ≡ waitingOf es → EventsFit D es
-        → length es ≤ 16 → clause ≡ suc (clauseNumber c)
+        → length es ≤ maxEvents → clause ≡ suc (clauseNumber c)
         → (r ≡ length (stepEffects D es c)) × (rowsIn r (now (out .exit)) ≡ map factRow (stepEffects D es c))) ⌝ }
 {
-    if 16 < count {
+    if MAX_EVENTS < count {
         return 0;
     }
     let mut n = 0;
@@ -374,9 +378,8 @@ pub struct After {
     pub facts: usize,
 }
 
-// The facts after the waiting events, at the front of out: the first n rows of the work memory without those that a delete
-// strikes, then what is added, each fact once; not beyond 1,024 facts.
-// `effects` is scratch memory, used twice: what is struck is done with before what is added is written.
+// The facts after the waiting events, at the front of the scratch memory: the first n rows of the work memory without those that
+// a delete strikes, then what is added, each fact once; not beyond 1,024 facts.
 pub fn facts_after(
     head: &Head,
     table: &[u8],
@@ -385,29 +388,43 @@ pub fn facts_after(
     count: usize,
     work: &[u8],
     n: usize,
-    out: &mut [u8],
+    scratch: &mut [u8],
     index: &mut FactIndex,
-    effects: &mut [u8],
 ) -> After
     requires few { ⌜ n ≤ maxFacts ⌝ }
     requires rows { ⌜ 8 * n ≤ length (now work) ⌝ }
-    requires room { ⌜ length (now out) ≡ 8192 ⌝ }
+    requires scratch { ⌜ length (now scratch) ≡ scratchBytes ⌝ }
     requires once { ⌜ Once (rowsIn n (now work)) ⌝ }
-    requires moments { ⌜ length (now moments) ≡ 16 ⌝ }
-    requires events { ⌜ length (now events) ≡ 272 ⌝ }
-    requires effects { ⌜ length (now effects) ≡ 8192 ⌝ }
+    requires moments { ⌜ length (now moments) ≡ maxEvents ⌝ }
+    requires events { ⌜ length (now events) ≡ waitingBytes ⌝ }
     ensures few { λ r. ⌜ (r .kept ≤ n) × (r .kept ≤ r .facts) × (r .facts ≤ maxFacts + 1) ⌝ }
     ensures after { λ r. ⌜ ((D : Domain) (es : List Event) (fs : List Fact)
         → Held D (now (head .entry)) (now (table .entry))
         → record { count = count; moments = now (moments .entry); rows = now (events .entry) } ≡ waitingOf es → EventsFit D es
-        → length es ≤ 16 → rowsIn n (now (work .entry)) ≡ map factRow fs
+        → length es ≤ maxEvents → rowsIn n (now (work .entry)) ≡ map factRow fs
         → Indexed (now (head .entry)) (now (index .entry)) (map factRow fs)
-        → HoldsAfter D fs es (now (head .entry)) (now (out .entry)) r (now (out .exit)) (now (index .exit))) ⌝ }
+        → HoldsAfter D fs es (now (head .entry)) r (now (scratch .exit)) (now (index .exit))) ⌝ }
     ensures beside { λ _. ⌜ getD (now (index .exit)) noteAt 0 ≡ getD (now (index .entry)) noteAt 0 ⌝ }
 {
-    let m = step_effects(head, table, moments, events, count, 4, effects);
-    let kept = keep_rows(head, work, n, effects, m, out, index);
-    let k = step_effects(head, table, moments, events, count, 3, effects);
-    let facts = join_rows(head, effects, k, out, kept, index);
+    let m = step_effects(
+        head,
+        table,
+        moments,
+        events,
+        count,
+        4,
+        &mut scratch[FACTS..SCRATCH],
+    );
+    let kept = keep_rows(head, work, n, scratch, m, index);
+    let k = step_effects(
+        head,
+        table,
+        moments,
+        events,
+        count,
+        3,
+        &mut scratch[FACTS..SCRATCH],
+    );
+    let facts = join_rows(head, scratch, k, kept, index);
     After { kept, facts }
 }

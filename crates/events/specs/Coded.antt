@@ -20,26 +20,37 @@ use Rattle.literals.specs.Matching.{momentNumber}
 use Rattle.literals.specs.Keys.{position}
 use Rattle.verdict.specs.Judged.{objectNumbers}
 use Rattle.verdict.specs.Machine.{GroundAction, Event}
+use Rattle.runs.specs.RunFile.{maxRunning, maxEvents}
 use Rattle.store.specs.Rows.{hasRow}
 use Rattle.events.specs.declared.Open.{Open}
 use Rattle.events.specs.declared.Waiting.{Waiting}
 
 -- ---- rows
 
--- an action with its objects: 17 bytes, FF to fill
+-- the bytes of an action with its objects, and room for those of what is open and of the events of a step
+abbrev pub groundBytes : ℕ
+groundBytes = 17
+
+abbrev pub openBytes : ℕ
+openBytes = 544
+
+abbrev pub waitingBytes : ℕ
+waitingBytes = 272
+
+-- an action with its objects, FF to fill
 abbrev pub groundRow : GroundAction → List ℕ
 groundRow g = g .action ∷ (objectNumbers (g .binding) ++ replicate (16 - length (g .binding)) 255)
 
--- the first n rows of 17 bytes of a memory
+-- the first n such rows of a memory
 abbrev pub groundsIn : ℕ → List ℕ → List (List ℕ)
-groundsIn = rowsBy 17
+groundsIn = rowsBy groundBytes
 
 -- ---- what the code holds
 
 -- the open entries, in order
 unfoldable pub openOf : List GroundAction → Open
 unfolding flatMap
-openOf gs = record { count = length gs; rows = pad 544 (flatMap groundRow gs) }
+openOf gs = record { count = length gs; rows = pad openBytes (flatMap groundRow gs) }
 
 -- the events of the step that is read, in order
 unfoldable pub waitingOf : List Event → Waiting
@@ -47,8 +58,8 @@ unfolding flatMap
 waitingOf es =
     record {
       count = length es;
-      moments = pad 16 (map (λ (e : Event). momentNumber (e .moment)) es);
-      rows = pad 272 (flatMap (λ (e : Event). groundRow (e .ground)) es);
+      moments = pad maxEvents (map (λ (e : Event). momentNumber (e .moment)) es);
+      rows = pad waitingBytes (flatMap (λ (e : Event). groundRow (e .ground)) es);
     }
 
 -- ---- what fits it
@@ -144,7 +155,7 @@ unfoldable pub joinEvent : List ℕ → EventRow → Open → Opened
 unfolding opensBy joinEntry
 joinEvent head e o =
     cond (opensBy head (e .moment) (byte (e .row) 0))
-    (cond (ltb (o .count) 32) (record { fits = true; running = joinEntry (e .row) o }) (record { fits = false; running = o }))
+    (cond (ltb (o .count) maxRunning) (record { fits = true; running = joinEntry (e .row) o }) (record { fits = false; running = o }))
     (record { fits = true; running = o })
 
 -- those of several events, up to the first for which there is no room

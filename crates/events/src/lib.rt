@@ -4,15 +4,27 @@ pub mod facts;
 pub mod openings;
 pub mod waits;
 
+use literals::limits::MAX_EVENTS;
+use literals::limits::MAX_RUNNING;
+use literals::limits::MAX_VARIABLES;
+
+// The row of an action with its objects: action, objects, FF to fill.
+pub const GROUND: usize = 1 + MAX_VARIABLES;
+
+// Room for the rows of what is open, and of the events of a step.
+pub const OPEN_ROWS: usize = GROUND * MAX_RUNNING;
+
+pub const WAITING_ROWS: usize = GROUND * MAX_EVENTS;
+
 // Open lasting actions: 17 bytes an entry (action, objects, FF to fill), 0 behind the last.
 pub struct Open {
     pub count: usize,
-    pub rows: [u8; 544],
+    pub rows: [u8; OPEN_ROWS],
 }
 
 // The events of the step that is read: the byte of each one's moment (1 is an end), and its action with objects, as in `Open`.
 pub struct Waiting {
     pub count: usize,
-    pub moments: [u8; 16],
-    pub rows: [u8; 272],
+    pub moments: [u8; MAX_EVENTS],
+    pub rows: [u8; WAITING_ROWS],
 }

@@ -1,8 +1,12 @@
 // The list of open lasting actions: which ends are open, and what a step leaves of it. An entry is a row of 17 bytes: action,
 // objects, FF to fill.
+use super::GROUND;
+use super::OPEN_ROWS;
 use literals::head::Head;
 use literals::head::actions_in;
 use literals::head::is_lasting;
+use literals::limits::MAX_EVENTS;
+use literals::limits::MAX_RUNNING;
 use records::bytes::put_bytes;
 use records::bytes::wide;
 ghost use mathlib.Core.Path.{_≡_};
@@ -17,10 +21,11 @@ ghost use Rattle.literals.specs.Table.{Bounded};
 ghost use Rattle.literals.specs.Held.{HeadOf};
 ghost use Rattle.literals.specs.Keys.{position};
 ghost use Rattle.verdict.specs.Machine.{GroundAction, Event, isOpen, closeAll, openedBy};
-ghost use Rattle.events.specs.Coded.{groundsIn, openOf, waitingOf, GroundsFit, EventsFit};
+ghost use Rattle.events.specs.Coded.{groundBytes, openBytes, waitingBytes, groundsIn, openOf, waitingOf, GroundsFit, EventsFit};
 ghost use Rattle.events.specs.Coded.{eventAt, eventsIn, endOpen, closeEntry, closeEvent, closeEvents};
 ghost use Rattle.events.specs.Coded.{joinEntry, opensBy, joinEvent, joinEvents};
 ghost use Rattle.store.specs.Rows.{hasRow};
+ghost use Rattle.runs.specs.RunFile.{maxRunning, maxEvents};
 
 // How many entries there are after starts joined, where they fit.
 pub struct Joined {
@@ -28,14 +33,17 @@ pub struct Joined {
     pub count: usize,
 }
 
+// Where the last entry stands that there is room for.
+const LAST_ROW: usize = OPEN_ROWS - GROUND;
+
 // Whether the entry at an offset is this one.
 pub fn same_ground(memory: &[u8], at: usize, ground: &[u8]) -> bool
-    requires entry { ⌜ at + 17 ≤ length (now memory) ⌝ }
-    requires row { ⌜ length (now ground) ≡ 17 ⌝ }
-    ensures { λ r. ⌜ r ≡ sameList eqb (now (ground .entry)) (take 17 (drop at (now (memory .entry)))) ⌝ }
+    requires entry { ⌜ at + groundBytes ≤ length (now memory) ⌝ }
+    requires row { ⌜ length (now ground) ≡ groundBytes ⌝ }
+    ensures { λ r. ⌜ r ≡ sameList eqb (now (ground .entry)) (take groundBytes (drop at (now (memory .entry)))) ⌝ }
 {
     let mut i = 0;
-    while i < 17 {
+    while i < GROUND {
         if ground[i] != memory[at + i] {
             return false;
         }
@@ -46,13 +54,13 @@ pub fn same_ground(memory: &[u8], at: usize, ground: &[u8]) -> bool
 
 // The number of the first of n entries that is this one, or n.
 fn entry_of(rows: &[u8], n: usize, ground: &[u8]) -> usize
-    requires entries { ⌜ 17 * n ≤ length (now rows) ⌝ }
-    requires row { ⌜ length (now ground) ≡ 17 ⌝ }
+    requires entries { ⌜ groundBytes * n ≤ length (now rows) ⌝ }
+    requires row { ⌜ length (now ground) ≡ groundBytes ⌝ }
     ensures { λ r. ⌜ r ≡ position (sameList eqb (now (ground .entry))) (groundsIn n (now (rows .entry))) ⌝ }
 {
     let mut k = 0;
     while k < n {
-        if same_ground(rows, 17 * k, ground) {
+        if same_ground(rows, GROUND * k, ground) {
             return k;
         }
         k += 1;
@@ -62,8 +70,8 @@ fn entry_of(rows: &[u8], n: usize, ground: &[u8]) -> usize
 
 // Whether one of n entries is this one.
 fn is_open(rows: &[u8], n: usize, ground: &[u8]) -> bool
-    requires entries { ⌜ 17 * n ≤ length (now rows) ⌝ }
-    requires row { ⌜ length (now ground) ≡ 17 ⌝ }
+    requires entries { ⌜ groundBytes * n ≤ length (now rows) ⌝ }
+    requires row { ⌜ length (now ground) ≡ groundBytes ⌝ }
     ensures { λ r. ⌜ r ≡ hasRow (now (ground .entry)) (groundsIn n (now (rows .entry))) ⌝ }
 {
     entry_of(rows, n, ground) < n
@@ -71,25 +79,26 @@ fn is_open(rows: &[u8], n: usize, ground: &[u8]) -> bool
 
 // Whether the waiting event i, where it is an end, is open.
 fn end_open(rows: &[u8], n: usize, moments: &[u8], events: &[u8], i: usize) -> bool
-    requires entries { ⌜ 17 * n ≤ length (now rows) ⌝ }
+    requires entries { ⌜ groundBytes * n ≤ length (now rows) ⌝ }
     requires moment { ⌜ i < length (now moments) ⌝ }
-    requires event { ⌜ 17 * i + 17 ≤ length (now events) ⌝ }
+    requires event { ⌜ groundBytes * i + groundBytes ≤ length (now events) ⌝ }
     ensures { λ r. ⌜ r ≡ endOpen (groundsIn n (now (rows .entry))) (eventAt (now (moments .entry)) (now (events .entry)) i) ⌝ }
 {
     if moments[i] != 1 {
         return true;
     }
-    let at = 17 * i;
-    let end = at + 17;
+    let at = GROUND * i;
+    let end = at + GROUND;
     is_open(rows, n, &events[at..end])
 }
 
 // Whether every end of the first `count` waiting events is open.
 fn all_open(rows: &[u8], n: usize, moments: &[u8], events: &[u8], count: usize) -> bool
-    requires entries { ⌜ 17 * n ≤ length (now rows) ⌝ }
+    requires entries { ⌜ groundBytes * n ≤ length (now rows) ⌝ }
     requires moments { ⌜ count ≤ length (now moments) ⌝ }
-    requires events { ⌜ 17 * count ≤ length (now events) ⌝ }
-    ensures { λ r. ⌜ r ≡ all (endOpen (groundsIn n (now (rows .entry)))) (eventsIn count (now (moments .entry)) (now (events .entry))) ⌝ }
+    requires events { ⌜ groundBytes * count ≤ length (now events) ⌝ }
+    ensures { λ r. ⌜ r ≡ all (endOpen (groundsIn n (now (rows .entry))))
+        (eventsIn count (now (moments .entry)) (now (events .entry))) ⌝ }
 {
     let mut i = 0;
     while i < count {
@@ -103,18 +112,19 @@ fn all_open(rows: &[u8], n: usize, moments: &[u8], events: &[u8], count: usize) 
 
 // Whether every end of the step is open, by the entries and events of which there are so many.
 pub fn ends_open(rows: &[u8], n: usize, moments: &[u8], events: &[u8], count: usize) -> bool
-    requires entries { ⌜ length (now rows) ≡ 544 ⌝ }
-    requires moments { ⌜ length (now moments) ≡ 16 ⌝ }
-    requires events { ⌜ length (now events) ≡ 272 ⌝ }
+    requires entries { ⌜ length (now rows) ≡ openBytes ⌝ }
+    requires moments { ⌜ length (now moments) ≡ maxEvents ⌝ }
+    requires events { ⌜ length (now events) ≡ waitingBytes ⌝ }
     ensures { λ r. ⌜ ((D : Domain) (gs : List GroundAction) (es : List Event) → Bounded D → GroundsFit D gs → EventsFit D es
-        → length gs ≤ 32 → length es ≤ 16
+        → length gs ≤ maxRunning → length es ≤ maxEvents
         → record { count = n; rows = now (rows .entry) } ≡ openOf gs
-        → record { count = count; moments = now (moments .entry); rows = now (events .entry) } ≡ waitingOf es → r ≡ all (isOpen gs) es) ⌝ }
+        → record { count = count; moments = now (moments .entry); rows = now (events .entry) } ≡ waitingOf es
+        → r ≡ all (isOpen gs) es) ⌝ }
 {
-    if 32 < n {
+    if MAX_RUNNING < n {
         return false;
     }
-    if 16 < count {
+    if MAX_EVENTS < count {
         return false;
     }
     all_open(rows, n, moments, events, count)
@@ -136,24 +146,25 @@ fn opens_entry(head: &Head, moment: u8, action: u8) -> bool
 
 // The rows without the entry k: the later ones forward, zeros behind.
 fn without(rows: &mut [u8], k: usize)
-    requires entries { ⌜ length (now rows) ≡ 544 ⌝ }
-    requires entry { ⌜ k < 32 ⌝ }
-    ensures { λ _. ⌜ now (rows .exit) ≡ take (17 * k) (now (rows .entry)) ++ (drop (17 * k + 17) (now (rows .entry)) ++ replicate 17 0) ⌝ }
+    requires entries { ⌜ length (now rows) ≡ openBytes ⌝ }
+    requires entry { ⌜ k < maxRunning ⌝ }
+    ensures { λ _. ⌜ now (rows .exit) ≡ take (groundBytes * k) (now (rows .entry))
+        ++ (drop (groundBytes * k + groundBytes) (now (rows .entry)) ++ replicate groundBytes 0) ⌝ }
 {
-    let mut old = [0u8; 544];
+    let mut old = [0u8; OPEN_ROWS];
     put_bytes(&mut old, 0, rows);
-    let at = 17 * k;
-    let behind = at + 17;
+    let at = GROUND * k;
+    let behind = at + GROUND;
     put_bytes(rows, at, &old[behind..]);
-    let zeros = [0u8; 17];
-    put_bytes(rows, 527, &zeros);
+    let zeros = [0u8; GROUND];
+    put_bytes(rows, LAST_ROW, &zeros);
 }
 
 // Takes the first of n entries that is this one out; the count afterwards.
 fn close(rows: &mut [u8], n: usize, ground: &[u8]) -> usize
-    requires entries { ⌜ length (now rows) ≡ 544 ⌝ }
-    requires few { ⌜ n ≤ 32 ⌝ }
-    requires entry { ⌜ length (now ground) ≡ 17 ⌝ }
+    requires entries { ⌜ length (now rows) ≡ openBytes ⌝ }
+    requires few { ⌜ n ≤ maxRunning ⌝ }
+    requires entry { ⌜ length (now ground) ≡ groundBytes ⌝ }
     ensures { λ r. ⌜ record { count = r; rows = now (rows .exit) }
         ≡ closeEntry (now (ground .entry)) (record { count = n; rows = now (rows .entry) }) ⌝ }
 {
@@ -167,27 +178,27 @@ fn close(rows: &mut [u8], n: usize, ground: &[u8]) -> usize
 
 // Takes the entry of the event i out, where it is an end; the count afterwards.
 fn close_event(rows: &mut [u8], n: usize, moments: &[u8], events: &[u8], i: usize) -> usize
-    requires entries { ⌜ length (now rows) ≡ 544 ⌝ }
-    requires few { ⌜ n ≤ 32 ⌝ }
+    requires entries { ⌜ length (now rows) ≡ openBytes ⌝ }
+    requires few { ⌜ n ≤ maxRunning ⌝ }
     requires moment { ⌜ i < length (now moments) ⌝ }
-    requires event { ⌜ 17 * i + 17 ≤ length (now events) ⌝ }
+    requires event { ⌜ groundBytes * i + groundBytes ≤ length (now events) ⌝ }
     ensures { λ r. ⌜ record { count = r; rows = now (rows .exit) }
         ≡ closeEvent (eventAt (now (moments .entry)) (now (events .entry)) i) (record { count = n; rows = now (rows .entry) }) ⌝ }
 {
     if moments[i] != 1 {
         return n;
     }
-    let at = 17 * i;
-    let end = at + 17;
+    let at = GROUND * i;
+    let end = at + GROUND;
     close(rows, n, &events[at..end])
 }
 
 // Takes the entries of the ends among the first `count` events out; the count of entries afterwards.
 fn close_all(rows: &mut [u8], n: usize, moments: &[u8], events: &[u8], count: usize) -> usize
-    requires entries { ⌜ length (now rows) ≡ 544 ⌝ }
-    requires few { ⌜ n ≤ 32 ⌝ }
+    requires entries { ⌜ length (now rows) ≡ openBytes ⌝ }
+    requires few { ⌜ n ≤ maxRunning ⌝ }
     requires moments { ⌜ count ≤ length (now moments) ⌝ }
-    requires events { ⌜ 17 * count ≤ length (now events) ⌝ }
+    requires events { ⌜ groundBytes * count ≤ length (now events) ⌝ }
     ensures { λ r. ⌜ record { count = r; rows = now (rows .exit) }
         ≡ closeEvents (eventsIn count (now (moments .entry)) (now (events .entry))) (record { count = n; rows = now (rows .entry) }) ⌝ }
 {
@@ -200,13 +211,13 @@ fn close_all(rows: &mut [u8], n: usize, moments: &[u8], events: &[u8], count: us
 
 // Puts an entry behind the first n.
 fn join(rows: &mut [u8], n: usize, ground: &[u8])
-    requires entries { ⌜ length (now rows) ≡ 544 ⌝ }
-    requires few { ⌜ n < 32 ⌝ }
-    requires entry { ⌜ length (now ground) ≡ 17 ⌝ }
+    requires entries { ⌜ length (now rows) ≡ openBytes ⌝ }
+    requires few { ⌜ n < maxRunning ⌝ }
+    requires entry { ⌜ length (now ground) ≡ groundBytes ⌝ }
     ensures { λ _. ⌜ record { count = n + 1; rows = now (rows .exit) }
         ≡ joinEntry (now (ground .entry)) (record { count = n; rows = now (rows .entry) }) ⌝ }
 {
-    put_bytes(rows, 17 * n, ground);
+    put_bytes(rows, GROUND * n, ground);
 }
 
 // Puts the entry of the event i behind the first n, where it is the start of a lasting action.
@@ -218,28 +229,28 @@ fn join_event(
     events: &[u8],
     i: usize,
 ) -> Joined
-    requires entries { ⌜ length (now rows) ≡ 544 ⌝ }
-    requires few { ⌜ n ≤ 32 ⌝ }
+    requires entries { ⌜ length (now rows) ≡ openBytes ⌝ }
+    requires few { ⌜ n ≤ maxRunning ⌝ }
     requires moment { ⌜ i < length (now moments) ⌝ }
-    requires event { ⌜ 17 * i + 17 ≤ length (now events) ⌝ }
+    requires event { ⌜ groundBytes * i + groundBytes ≤ length (now events) ⌝ }
     ensures { λ r. ⌜ record { fits = r .fits; running = record { count = r .count; rows = now (rows .exit) } }
         ≡ joinEvent (now (head .entry)) (eventAt (now (moments .entry)) (now (events .entry)) i)
         (record { count = n; rows = now (rows .entry) }) ⌝ }
 {
-    let at = 17 * i;
+    let at = GROUND * i;
     if !opens_entry(head, moments[i], events[at]) {
         return Joined {
             fits: true,
             count: n,
         };
     }
-    if 32 <= n {
+    if MAX_RUNNING <= n {
         return Joined {
             fits: false,
             count: n,
         };
     }
-    let end = at + 17;
+    let end = at + GROUND;
     join(rows, n, &events[at..end]);
     Joined {
         fits: true,
@@ -257,10 +268,10 @@ fn join_all(
     events: &[u8],
     count: usize,
 ) -> Joined
-    requires entries { ⌜ length (now rows) ≡ 544 ⌝ }
-    requires few { ⌜ n ≤ 32 ⌝ }
+    requires entries { ⌜ length (now rows) ≡ openBytes ⌝ }
+    requires few { ⌜ n ≤ maxRunning ⌝ }
     requires moments { ⌜ count ≤ length (now moments) ⌝ }
-    requires events { ⌜ 17 * count ≤ length (now events) ⌝ }
+    requires events { ⌜ groundBytes * count ≤ length (now events) ⌝ }
     ensures { λ r. ⌜ record { fits = r .fits; running = record { count = r .count; rows = now (rows .exit) } }
         ≡ joinEvents (now (head .entry)) (eventsIn count (now (moments .entry)) (now (events .entry)))
         (record { count = n; rows = now (rows .entry) }) ⌝ }
@@ -289,23 +300,23 @@ pub fn open_after(
     events: &[u8],
     count: usize,
 ) -> Joined
-    requires entries { ⌜ length (now rows) ≡ 544 ⌝ }
-    requires moments { ⌜ length (now moments) ≡ 16 ⌝ }
-    requires events { ⌜ length (now events) ≡ 272 ⌝ }
+    requires entries { ⌜ length (now rows) ≡ openBytes ⌝ }
+    requires moments { ⌜ length (now moments) ≡ maxEvents ⌝ }
+    requires events { ⌜ length (now events) ≡ waitingBytes ⌝ }
     ensures { λ r. ⌜ ((D : Domain) (gs : List GroundAction) (es : List Event)
-        → HeadOf D (now (head .entry)) → GroundsFit D gs → EventsFit D es → length gs ≤ 32 → length es ≤ 16
+        → HeadOf D (now (head .entry)) → GroundsFit D gs → EventsFit D es → length gs ≤ maxRunning → length es ≤ maxEvents
         → record { count = n; rows = now (rows .entry) } ≡ openOf gs
         → record { count = count; moments = now (moments .entry); rows = now (events .entry) } ≡ waitingOf es
-        → (r .fits ≡ leb (length (closeAll es gs ++ openedBy D es)) 32)
+        → (r .fits ≡ leb (length (closeAll es gs ++ openedBy D es)) maxRunning)
         × (r .fits ≡ true → record { count = r .count; rows = now (rows .exit) } ≡ openOf (closeAll es gs ++ openedBy D es))) ⌝ }
 {
-    if 16 < count {
+    if MAX_EVENTS < count {
         return Joined {
             fits: false,
             count: n,
         };
     }
-    if 32 < n {
+    if MAX_RUNNING < n {
         return Joined {
             fits: false,
             count: n,

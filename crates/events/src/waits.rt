@@ -1,5 +1,8 @@
 // Events that wait for the close of their step, one behind the other; bytes and zeros written at an offset.
+use super::GROUND;
+use super::WAITING_ROWS;
 use super::Waiting;
+use literals::limits::MAX_EVENTS;
 use records::bytes::put_bytes;
 ghost use mathlib.Core.Path.{_≡_};
 ghost use mathlib.Core.List.{List, [], _∷_, _++_};
@@ -10,7 +13,8 @@ ghost use Rattle.literals.specs.Domain.{Domain};
 ghost use Rattle.literals.specs.Table.{Bounded};
 ghost use Rattle.literals.specs.Matching.{momentNumber};
 ghost use Rattle.verdict.specs.Machine.{Event};
-ghost use Rattle.events.specs.Coded.{groundRow, waitingOf, EventsFit};
+ghost use Rattle.events.specs.Coded.{waitingBytes, groundRow, waitingOf, EventsFit};
+ghost use Rattle.runs.specs.RunFile.{maxEvents};
 
 impl Waiting {
     // No event waits.
@@ -19,20 +23,20 @@ impl Waiting {
     {
         Waiting {
             count: 0,
-            moments: [0u8; 16],
-            rows: [0u8; 272],
+            moments: [0u8; MAX_EVENTS],
+            rows: [0u8; WAITING_ROWS],
         }
     }
 }
 
 // One event more, behind the first n that wait.
-pub fn wait(moments: &mut [u8], events: &mut [u8], n: usize, moment: u8, ground: [u8; 17])
-    requires { ⌜ (n < 16) × (length (now moments) ≡ 16) × (length (now events) ≡ 272) ⌝ }
+pub fn wait(moments: &mut [u8], events: &mut [u8], n: usize, moment: u8, ground: [u8; GROUND])
+    requires { ⌜ (n < maxEvents) × (length (now moments) ≡ maxEvents) × (length (now events) ≡ waitingBytes) ⌝ }
     ensures { λ _. ⌜ ((D : Domain) (es : List Event) (e : Event) → Bounded D → EventsFit D es
         → record { count = n; moments = now (moments .entry); rows = now (events .entry) } ≡ waitingOf es
         → moment ≡ momentNumber (e .moment) → ground ≡ groundRow (e .ground)
         → record { count = n + 1; moments = now (moments .exit); rows = now (events .exit) } ≡ waitingOf (es ++ (e ∷ []))) ⌝ }
 {
     moments[n] = moment;
-    put_bytes(events, 17 * n, &ground);
+    put_bytes(events, GROUND * n, &ground);
 }

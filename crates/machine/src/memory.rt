@@ -1,12 +1,17 @@
 // The state's entries and events in memories: between two steps they stand there, so that an event that is read costs no copy
 // of the state.
 use super::State;
+use events::OPEN_ROWS;
 use events::Open;
+use events::WAITING_ROWS;
 use events::Waiting;
+use literals::limits::MAX_EVENTS;
 use records::bytes::put_bytes;
 ghost use mathlib.Core.Path.{_≡_};
 ghost use lib.ListN.{length};
 ghost use Rattle.machine.specs.Stepping.{heldAs};
+ghost use Rattle.events.specs.Coded.{openBytes, waitingBytes};
+ghost use Rattle.runs.specs.RunFile.{maxEvents};
 
 impl State {
     // The state with so many facts, and with so many entries and events of these memories.
@@ -18,14 +23,15 @@ impl State {
         events: &[u8],
         waits: usize,
     ) -> State
-        requires { ⌜ (length (now entries) ≡ 544) × (length (now moments) ≡ 16) × (length (now events) ≡ 272) ⌝ }
+        requires { ⌜ (length (now entries) ≡ openBytes) × (length (now moments) ≡ maxEvents)
+            × (length (now events) ≡ waitingBytes) ⌝ }
         ensures { λ r. ⌜ r ≡ heldAs facts opened (now (entries .entry)) waits (now (moments .entry)) (now (events .entry)) ⌝ }
     {
-        let mut rows = [0u8; 544];
+        let mut rows = [0u8; OPEN_ROWS];
         put_bytes(&mut rows, 0, entries);
-        let mut times = [0u8; 16];
+        let mut times = [0u8; MAX_EVENTS];
         put_bytes(&mut times, 0, moments);
-        let mut grounds = [0u8; 272];
+        let mut grounds = [0u8; WAITING_ROWS];
         put_bytes(&mut grounds, 0, events);
         State {
             facts,
@@ -43,7 +49,8 @@ impl State {
 
     // Its entries and events, put into such memories.
     pub fn put(self, entries: &mut [u8], moments: &mut [u8], events: &mut [u8])
-        requires { ⌜ (length (now entries) ≡ 544) × (length (now moments) ≡ 16) × (length (now events) ≡ 272) ⌝ }
+        requires { ⌜ (length (now entries) ≡ openBytes) × (length (now moments) ≡ maxEvents)
+            × (length (now events) ≡ waitingBytes) ⌝ }
         ensures { λ _. ⌜ (now (entries .exit) ≡ self .running .rows) × (now (moments .exit) ≡ self .waiting .moments)
             × (now (events .exit) ≡ self .waiting .rows) ⌝ }
     {

@@ -25,11 +25,13 @@ ghost use Rattle.literals.specs.Table.{rowsIn};
 ghost use Rattle.literals.specs.Held.{Held};
 ghost use Rattle.verdict.specs.Machine.{Event, State as MachineState, topWeight};
 ghost use Rattle.store.specs.Index.{noteAt, Indexed};
-ghost use Rattle.runs.specs.RunFile.{maxFacts};
+ghost use Rattle.runs.specs.RunFile.{maxEvents, maxFacts};
 ghost use Rattle.runs.specs.Play.{forbidden};
 ghost use Rattle.store.specs.Rows.{factRow};
-ghost use Rattle.events.specs.Coded.{openOf};
-ghost use Rattle.machine.specs.Stepping.{holdingOf, heldAs, Kept, StepHeld, Noted, Closable, closeStop, closeState, thenHeld, Leaves};
+ghost use Rattle.events.specs.Coded.{openBytes, waitingBytes, openOf};
+ghost use Rattle.effects.specs.Effects.{scratchBytes};
+ghost use Rattle.machine.specs.Stepping.{holdingOf, heldAs, Kept, StepHeld, Noted, Closable, closeStop};
+ghost use Rattle.machine.specs.Stepping.{closeState, thenHeld, Leaves};
 
 // What closing a step led to: 0 and the state after it, or the number that refuses it and the state as it was; and the highest weight.
 pub struct Closed {
@@ -76,9 +78,9 @@ fn forbidden(
     work: &[u8],
     facts: usize,
 ) -> u64
-    requires entries { ⌜ length (now rows) ≡ 544 ⌝ }
-    requires moments { ⌜ length (now moments) ≡ 16 ⌝ }
-    requires events { ⌜ length (now events) ≡ 272 ⌝ }
+    requires entries { ⌜ length (now rows) ≡ openBytes ⌝ }
+    requires moments { ⌜ length (now moments) ≡ maxEvents ⌝ }
+    requires events { ⌜ length (now events) ≡ waitingBytes ⌝ }
     requires few { ⌜ facts ≤ maxFacts ⌝ }
     requires facts { ⌜ 8 * facts ≤ length (now work) ⌝ }
     ensures { λ r. ⌜ ((D : Domain) (s : MachineState) (es : List Event)
@@ -103,7 +105,7 @@ fn forbidden(
 }
 
 // The step that nothing forbids: its facts in the work memory and its entries in `rows`; 52 where either are too many, and the
-// work memory is as it was. The facts are put together in `spare` first.
+// work memory is as it was. The facts are put together in `scratch` first.
 fn advance(
     head: &Head,
     table: &[u8],
@@ -116,15 +118,13 @@ fn advance(
     work: &mut [u8],
     facts: usize,
     weight: usize,
-    spare: &mut [u8],
-    effects: &mut [u8],
+    scratch: &mut [u8],
 ) -> Advanced
     requires closable { ⌜ Closable (heldAs facts n (now rows) count (now moments) (now events)) (now work) ⌝ }
-    requires entries { ⌜ length (now rows) ≡ 544 ⌝ }
-    requires moments { ⌜ length (now moments) ≡ 16 ⌝ }
-    requires events { ⌜ length (now events) ≡ 272 ⌝ }
-    requires spare { ⌜ length (now spare) ≡ 8192 ⌝ }
-    requires effects { ⌜ length (now effects) ≡ 8192 ⌝ }
+    requires entries { ⌜ length (now rows) ≡ openBytes ⌝ }
+    requires moments { ⌜ length (now moments) ≡ maxEvents ⌝ }
+    requires events { ⌜ length (now events) ≡ waitingBytes ⌝ }
+    requires scratch { ⌜ length (now scratch) ≡ scratchBytes ⌝ }
     ensures leaves { λ r. ⌜ ((D : Domain) (s : MachineState) (es : List Event) (old : List ℕ)
         → StepHeld D s es (now (head .entry)) (now (table .entry))
         (heldAs facts n (now (rows .entry)) count (now (moments .entry)) (now (events .entry))) (now (work .entry)) old
@@ -150,9 +150,8 @@ fn advance(
         count,
         work,
         facts,
-        spare,
+        scratch,
         index,
-        effects,
     );
     let then = after.facts;
     if MAX_FACTS < then {
@@ -172,7 +171,7 @@ fn advance(
             weight,
         };
     }
-    settle(work, facts, spare, then);
+    settle(work, facts, scratch, then);
     let highest = top_from(head, work, then, after.kept, weight, index);
     Advanced {
         number: 0,
@@ -193,7 +192,7 @@ fn rest(
     work: &[u8],
     facts: usize,
 ) -> u64
-    requires entries { ⌜ length (now rows) ≡ 544 ⌝ }
+    requires entries { ⌜ length (now rows) ≡ openBytes ⌝ }
     requires few { ⌜ facts ≤ maxFacts ⌝ }
     requires facts { ⌜ 8 * facts ≤ length (now work) ⌝ }
     ensures { λ r. ⌜ ((D : Domain) (s : MachineState)
@@ -213,8 +212,8 @@ fn rest(
 }
 
 impl State {
-    // Closes the step that is read: takes it, or refuses it by 57, 55, 56 or 52 and changes nothing. `spare` and `effects` are
-    // memory to work in.
+    // Closes the step that is read: takes it, or refuses it by 57, 55, 56 or 52 and changes nothing. `scratch` is memory
+    // to work in.
     // Entries and events are each lent from one local, since every local of its own would be one copy more of them for each step.
     pub fn step(
         self,
@@ -223,12 +222,10 @@ impl State {
         work: &mut [u8],
         weight: usize,
         index: &mut FactIndex,
-        spare: &mut [u8],
-        effects: &mut [u8],
+        scratch: &mut [u8],
     ) -> Closed
         requires closable { ⌜ Closable self (now work) ⌝ }
-        requires spare { ⌜ length (now spare) ≡ 8192 ⌝ }
-        requires effects { ⌜ length (now effects) ≡ 8192 ⌝ }
+        requires scratch { ⌜ length (now scratch) ≡ scratchBytes ⌝ }
         ensures leaves { λ r. ⌜ ((D : Domain) (s : MachineState) (es : List Event) (old : List ℕ)
             → StepHeld D s es (now (head .entry)) (now (table .entry)) self (now (work .entry)) old
             → topWeight D (s .facts) ≤ weight → Noted D (now (head .entry)) (now (index .entry)) s
@@ -283,8 +280,7 @@ impl State {
             work,
             self.facts,
             weight,
-            spare,
-            effects,
+            scratch,
         );
         if advanced.number != 0 {
             return Closed {

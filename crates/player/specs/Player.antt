@@ -14,9 +14,10 @@ use Rattle.player.specs.declared.Player.{Player}
 use Rattle.player.specs.declared.Tally.{Tally}
 use Rattle.player.specs.declared.Turn.{Turn}
 use Rattle.player.specs.declared.run.Ended.{Ended}
-use Rattle.runs.specs.RunFile.{maxObjects}
+use Rattle.runs.specs.RunFile.{maxObjects, maxEvents}
 use Rattle.runs.specs.Play.{workBytes, Tally as Counted, Playing, PlayTurn, goOn, finish, Outcome, heldBytes}
-use Rattle.events.specs.Coded.{openOf, waitingOf}
+use Rattle.events.specs.Coded.{openBytes, waitingBytes, openOf, waitingOf}
+use Rattle.effects.specs.Effects.{scratchBytes}
 use Rattle.machine.specs.Stepping.{holdingOf, heldAs, Kept, Noted}
 
 -- ---- what the code holds
@@ -109,12 +110,11 @@ NotedAfter D head index (finish o) = Unit {0}
 -- ---- what the code relies on
 
 -- the memories of a run have their lengths
-pub record RunMemory (entries moments events spare effects : List ℕ) : Type 0 where
-  pub entries-length : length entries ≡ 544
-  pub moments-length : length moments ≡ 16
-  pub events-length : length events ≡ 272
-  pub spare-length : length spare ≡ 8192
-  pub effects-length : length effects ≡ 8192
+pub record RunMemory (entries moments events scratch : List ℕ) : Type 0 where
+  pub entries-length : length entries ≡ openBytes
+  pub moments-length : length moments ≡ maxEvents
+  pub events-length : length events ≡ waitingBytes
+  pub scratch-length : length scratch ≡ scratchBytes
 
 -- to play a record: a domain is held, and the player stands somewhere in its run
 pub record Playable (head table : List ℕ) (player : Whole) (work index : List ℕ) : Type 0 where

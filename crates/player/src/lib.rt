@@ -10,7 +10,8 @@ pub struct Tally {
     pub weight: usize,
 }
 
-// Where playing stands: the next record's offset, whether the run's close is read, the object count, 0 before its record, and of the machine's state how many facts are held, how many entries are open and
+// Where playing stands: the next record's offset, whether the run's close is read, the object count, 0 before its record, and
+// of the machine's state how many facts are held, how many entries are open and
 // how many events wait. Entries and events stand in memories beside it, as the facts do.
 pub struct Player {
     pub at: usize,

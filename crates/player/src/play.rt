@@ -45,7 +45,8 @@ pub fn offset_of(fault: Fault) -> usize
     }
 }
 
-// The record at fault as a part of one of the two files, from there to the end. (Each offset is one of its file; the tests keep it in sight.)
+// The record at fault as a part of one of the two files, from there to the end. (Each offset is one of its
+// file; the test gives the checker the bound that the slice needs.)
 fn part<'a>(domain: &'a [u8], run: &'a [u8], fault: Fault) -> &'a [u8]
     ensures { λ r. ⌜ now r ≡ partAt (now (domain .entry)) (now (run .entry)) fault ⌝ }
 {
@@ -123,20 +124,27 @@ pub fn play_files(domain: &[u8], run: &[u8], work: &mut [u8]) -> PlayAnswer
     answer_by(ended)
 }
 
-// Plays a run file on a domain file: leaves six numbers (the number, its place, the steps made, the highest weight, and of which file, 0 the
-// domain file and 1 the run file, and from which offset the record at fault comes back) and the facts in the work memory, and hands back that
-// part. What it leaves is what the machine does on the start facts and steps of the run file, over the whole list; where the template is
-// accepted and the start weighs at most 1, no state reached weighs more.
+// Plays a run file on a domain file: leaves six numbers (the number, its place, the steps made, the highest weight, and of which file, 0
+// the domain file and 1 the run file, and from which offset the record at fault comes back) and the facts in the work memory, and hands
+// back that part. What it leaves is what the machine does on the start facts and steps of the run file, over the whole list; where the
+// template is accepted and the start weighs at most 1, no state reached weighs more.
 pub fn play<'a>(domain: &'a [u8], run: &'a [u8], work: &mut [u8], answer: &mut [u64; 6]) -> &'a [u8]
-    ensures number { λ _. ⌜ getD (now (answer .exit)) 0 0 ≡ played (now («domain» .entry)) (now (run .entry)) (now (work .entry)) .number ⌝ }
+    ensures number { λ _. ⌜ getD (now (answer .exit)) 0 0
+        ≡ played (now («domain» .entry)) (now (run .entry)) (now (work .entry)) .number ⌝ }
     ensures place { λ _. ⌜ getD (now (answer .exit)) 1 0 ≡ played (now («domain» .entry)) (now (run .entry)) (now (work .entry)) .first ⌝ }
     ensures steps { λ _. ⌜ getD (now (answer .exit)) 2 0 ≡ played (now («domain» .entry)) (now (run .entry)) (now (work .entry)) .steps ⌝ }
-    ensures weight { λ _. ⌜ getD (now (answer .exit)) 3 0 ≡ played (now («domain» .entry)) (now (run .entry)) (now (work .entry)) .weight ⌝ }
-    ensures file { λ _. ⌜ getD (now (answer .exit)) 4 0 ≡ fileOf (returned (now («domain» .entry)) (now (run .entry)) (now (work .entry))) ⌝ }
-    ensures offset { λ _. ⌜ getD (now (answer .exit)) 5 0 ≡ offsetOf (returned (now («domain» .entry)) (now (run .entry)) (now (work .entry))) ⌝ }
-    ensures part { λ r. ⌜ now r ≡ returnedBytes (now («domain» .entry)) (now (run .entry)) (returned (now («domain» .entry)) (now (run .entry)) (now (work .entry))) ⌝ }
+    ensures weight { λ _. ⌜ getD (now (answer .exit)) 3 0
+        ≡ played (now («domain» .entry)) (now (run .entry)) (now (work .entry)) .weight ⌝ }
+    ensures file { λ _. ⌜ getD (now (answer .exit)) 4 0
+        ≡ fileOf (returned (now («domain» .entry)) (now (run .entry)) (now (work .entry))) ⌝ }
+    ensures offset { λ _. ⌜ getD (now (answer .exit)) 5 0
+        ≡ offsetOf (returned (now («domain» .entry)) (now (run .entry)) (now (work .entry))) ⌝ }
+    ensures part { λ r. ⌜ now r ≡ returnedBytes (now («domain» .entry)) (now (run .entry)) (returned (now («domain» .entry))
+        (now (run .entry)) (now (work .entry))) ⌝ }
     ensures work { λ _. ⌜ now (work .exit) ≡ workAfter (now («domain» .entry)) (now (run .entry)) (now (work .entry)) ⌝ }
-    ensures machine { λ _. ⌜ PlaysAsMachine (now («domain» .entry)) (now (run .entry)) (now (work .entry)) (getD (now (answer .exit)) 0 0) (getD (now (answer .exit)) 1 0) (getD (now (answer .exit)) 2 0) (getD (now (answer .exit)) 3 0) (now (work .exit)) ⌝ }
+    ensures machine { λ _. ⌜ PlaysAsMachine (now («domain» .entry)) (now (run .entry)) (now (work .entry))
+        (getD (now (answer .exit)) 0 0) (getD (now (answer .exit)) 1 0) (getD (now (answer .exit)) 2 0)
+        (getD (now (answer .exit)) 3 0) (now (work .exit)) ⌝ }
     ensures low { λ _. ⌜ StaysLow (now («domain» .entry)) (now (run .entry)) (getD (now (answer .exit)) 3 0) ⌝ }
 {
     let told = play_files(domain, run, work);

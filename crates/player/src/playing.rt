@@ -29,10 +29,12 @@ ghost use lib.ListN.{length, replicate};
 ghost use Rattle.literals.specs.Domain.{Domain};
 ghost use Rattle.literals.specs.Decode.{byte};
 ghost use Rattle.literals.specs.Held.{HeadOf, Held};
-ghost use Rattle.runs.specs.RunFile.{maxFacts, runKindOf, factOf, eventOf, objectsStop, factStop, eventStop, stepStop, endStop};
-ghost use Rattle.runs.specs.Play.{workBytes, Playing, beforeRun, goOn, unless, begin, withObjects, withFact, withEvent, closeStep, withClose, playRecord, playStep};
+ghost use Rattle.runs.specs.RunFile.{maxEvents, maxFacts, runKindOf, factOf, eventOf, objectsStop, factStop, eventStop, stepStop, endStop};
+ghost use Rattle.runs.specs.Play.{workBytes, Playing, beforeRun, goOn, unless, begin, withObjects, withFact};
+ghost use Rattle.runs.specs.Play.{withEvent, closeStep, withClose, playRecord, playStep};
 ghost use Rattle.machine.specs.Stepping.{heldAs, Noted, Closable};
 ghost use Rattle.player.specs.Player.{Whole, wholeOf, turnOf, tallyOf, playerOf, Stands, Playable, RunMemory, LeadsTo, NotedAfter};
+ghost use Rattle.events.specs.Coded.{openBytes, waitingBytes};
 
 impl Tally {
     // The start counts once the first record of kind 18 to 20 is met: the tally from then on.
@@ -58,7 +60,8 @@ impl Tally {
 impl Player {
     // Before the run.
     pub fn new() -> Player
-        ensures { λ r. ⌜ wholeOf r (replicate 544 0) (replicate 16 0) (replicate 272 0) ≡ playerOf beforeRun ⌝ }
+        ensures { λ r. ⌜ wholeOf r (replicate openBytes 0) (replicate maxEvents 0) (replicate waitingBytes 0)
+            ≡ playerOf beforeRun ⌝ }
     {
         Player {
             at: 0,
@@ -98,7 +101,15 @@ impl Player {
 
     // The same, going on behind a record with so many facts and so many events that wait.
     fn onward(self, behind: usize, facts: usize, waits: usize) -> Player
-        ensures { λ r. ⌜ r ≡ record { at = behind; closed = false; objects = self .objects; facts = facts; opened = self .opened; waits = waits; tally = self .tally } ⌝ }
+        ensures { λ r. ⌜ r ≡ record {
+          at = behind;
+          closed = false;
+          objects = self .objects;
+          facts = facts;
+          opened = self .opened;
+          waits = waits;
+          tally = self .tally;
+        } ⌝ }
     {
         let tally = self.tally;
         Player {
@@ -114,7 +125,8 @@ impl Player {
 
     // Kind 16: the object count.
     fn take_objects(self, p: &[u8], behind: usize) -> Turn
-        ensures { λ r. ⌜ ((D : Domain) (q : Playing) (entries moments events work old : List ℕ) → Stands D q (wholeOf self entries moments events) work old
+        ensures { λ r. ⌜ ((D : Domain) (q : Playing) (entries moments events work old : List ℕ)
+            → Stands D q (wholeOf self entries moments events) work old
             → LeadsTo (unless (objectsStop (q .objects) (now (p .entry))) q (goOn (withObjects q (byte (now (p .entry)) 0) behind)))
             (turnOf r entries moments events) work old) ⌝ }
     {
@@ -140,7 +152,8 @@ impl Player {
         }
     }
 
-    // Kind 17: a start fact; one that is held already changes nothing. (That there is room for a new one is known; the test keeps it in sight.)
+    // Kind 17: a start fact; one that is held already changes nothing. (There is room for a new one, as `fact_stop` gives 52
+    // otherwise; the test gives the checker the bound.)
     fn take_fact(
         self,
         head: &Head,
@@ -152,11 +165,13 @@ impl Player {
         requires few { ⌜ self .facts ≤ maxFacts ⌝ }
         requires work { ⌜ workBytes ≤ length (now work) ⌝ }
         ensures leads { λ r. ⌜ ((D : Domain) (q : Playing) (entries moments events old : List ℕ) → HeadOf D (now (head .entry))
-            → Stands D q (wholeOf self entries moments events) (now (work .entry)) old → Noted D (now (head .entry)) (now (index .entry)) (q .state)
+            → Stands D q (wholeOf self entries moments events) (now (work .entry)) old
+            → Noted D (now (head .entry)) (now (index .entry)) (q .state)
             → LeadsTo (unless (factStop D (q .objects) (q .tally .begun) (q .state .facts) (now (p .entry))) q
             (goOn (withFact q (factOf (now (p .entry))) behind))) (turnOf r entries moments events) (now (work .exit)) old) ⌝ }
         ensures noted { λ _. ⌜ ((D : Domain) (q : Playing) (entries moments events old : List ℕ) → HeadOf D (now (head .entry))
-            → Stands D q (wholeOf self entries moments events) (now (work .entry)) old → Noted D (now (head .entry)) (now (index .entry)) (q .state)
+            → Stands D q (wholeOf self entries moments events) (now (work .entry)) old
+            → Noted D (now (head .entry)) (now (index .entry)) (q .state)
             → NotedAfter D (now (head .entry)) (now (index .exit))
             (unless (factStop D (q .objects) (q .tally .begun) (q .state .facts) (now (p .entry))) q
             (goOn (withFact q (factOf (now (p .entry))) behind)))) ⌝ }
@@ -201,12 +216,13 @@ impl Player {
         p: &[u8],
         behind: usize,
     ) -> Turn
-        requires few { ⌜ self .waits ≤ 16 ⌝ }
-        requires moments { ⌜ length (now moments) ≡ 16 ⌝ }
-        requires events { ⌜ length (now events) ≡ 272 ⌝ }
+        requires few { ⌜ self .waits ≤ maxEvents ⌝ }
+        requires moments { ⌜ length (now moments) ≡ maxEvents ⌝ }
+        requires events { ⌜ length (now events) ≡ waitingBytes ⌝ }
         ensures { λ r. ⌜ ((D : Domain) (q : Playing) (entries work old : List ℕ) → HeadOf D (now (head .entry))
             → Stands D q (wholeOf self entries (now (moments .entry)) (now (events .entry))) work old
-            → LeadsTo (unless (eventStop D (q .objects) (q .waiting) (now (p .entry))) q (goOn (withEvent q (eventOf (now (p .entry))) behind)))
+            → LeadsTo (unless (eventStop D (q .objects) (q .waiting) (now (p .entry))) q
+            (goOn (withEvent q (eventOf (now (p .entry))) behind)))
             (turnOf r entries (now (moments .exit)) (now (events .exit))) work old) ⌝ }
     {
         let n = self.waits;
@@ -234,15 +250,15 @@ impl Player {
         entries: &mut [u8],
         moments: &mut [u8],
         events: &mut [u8],
-        spare: &mut [u8],
-        effects: &mut [u8],
+        scratch: &mut [u8],
         p: &[u8],
         behind: usize,
     ) -> Turn
-        requires closable { ⌜ Closable (heldAs (self .facts) (self .opened) (now entries) (self .waits) (now moments) (now events)) (now work) ⌝ }
+        requires closable { ⌜ Closable (heldAs (self .facts) (self .opened) (now entries) (self .waits) (now moments) (now events))
+            (now work) ⌝ }
         requires steps { ⌜ self .tally .steps ≤ self .at ⌝ }
         requires further { ⌜ self .at < behind ⌝ }
-        requires memory { ⌜ RunMemory (now entries) (now moments) (now events) (now spare) (now effects) ⌝ }
+        requires memory { ⌜ RunMemory (now entries) (now moments) (now events) (now scratch) ⌝ }
         ensures leads { λ r. ⌜ ((D : Domain) (q : Playing) (old : List ℕ) → Held D (now (head .entry)) (now (table .entry))
             → Stands D q (wholeOf self (now (entries .entry)) (now (moments .entry)) (now (events .entry))) (now (work .entry)) old
             → q .tally .begun ≡ true → Noted D (now (head .entry)) (now (index .entry)) (q .state)
@@ -251,7 +267,8 @@ impl Player {
         ensures noted { λ _. ⌜ ((D : Domain) (q : Playing) (old : List ℕ) → Held D (now (head .entry)) (now (table .entry))
             → Stands D q (wholeOf self (now (entries .entry)) (now (moments .entry)) (now (events .entry))) (now (work .entry)) old
             → q .tally .begun ≡ true → Noted D (now (head .entry)) (now (index .entry)) (q .state)
-            → NotedAfter D (now (head .entry)) (now (index .exit)) (unless (stepStop (q .objects) (now (p .entry))) q (closeStep D q behind))) ⌝ }
+            → NotedAfter D (now (head .entry)) (now (index .exit))
+            (unless (stepStop (q .objects) (now (p .entry))) q (closeStep D q behind))) ⌝ }
     {
         let tally = self.tally;
         let number = step_stop(self.objects, p);
@@ -269,7 +286,7 @@ impl Player {
             events,
             self.waits,
         );
-        let closed = state.step(head, table, work, tally.weight, index, spare, effects);
+        let closed = state.step(head, table, work, tally.weight, index, scratch);
         let stop = closed.number;
         let next = closed.state;
         let weight = closed.weight;
@@ -301,7 +318,8 @@ impl Player {
 
     // Kind 20: the run's close.
     fn take_end(self, p: &[u8], behind: usize) -> Turn
-        ensures { λ r. ⌜ ((D : Domain) (q : Playing) (entries moments events work old : List ℕ) → Stands D q (wholeOf self entries moments events) work old
+        ensures { λ r. ⌜ ((D : Domain) (q : Playing) (entries moments events work old : List ℕ)
+            → Stands D q (wholeOf self entries moments events) work old
             → LeadsTo (unless (endStop (q .objects) (q .waiting) (now (p .entry))) q (goOn (withClose q behind)))
             (turnOf r entries moments events) work old) ⌝ }
     {
@@ -337,15 +355,15 @@ impl Player {
         entries: &mut [u8],
         moments: &mut [u8],
         events: &mut [u8],
-        spare: &mut [u8],
-        effects: &mut [u8],
+        scratch: &mut [u8],
         kind: u16,
         p: &[u8],
         behind: usize,
     ) -> Turn
-        requires playable { ⌜ Playable (now head) (now table) (wholeOf self (now entries) (now moments) (now events)) (now work) (now index) ⌝ }
+        requires playable { ⌜ Playable (now head) (now table) (wholeOf self (now entries) (now moments) (now events)) (now work)
+            (now index) ⌝ }
         requires further { ⌜ self .at < behind ⌝ }
-        requires memory { ⌜ RunMemory (now entries) (now moments) (now events) (now spare) (now effects) ⌝ }
+        requires memory { ⌜ RunMemory (now entries) (now moments) (now events) (now scratch) ⌝ }
         ensures leads { λ r. ⌜ ((D : Domain) (q : Playing) (old : List ℕ) → Held D (now (head .entry)) (now (table .entry))
             → Stands D q (wholeOf self (now (entries .entry)) (now (moments .entry)) (now (events .entry))) (now (work .entry)) old
             → Noted D (now (head .entry)) (now (index .entry)) (q .state)
@@ -373,8 +391,7 @@ impl Player {
                     entries,
                     moments,
                     events,
-                    spare,
-                    effects,
+                    scratch,
                     p,
                     behind,
                 )
@@ -401,11 +418,11 @@ impl Player {
         entries: &mut [u8],
         moments: &mut [u8],
         events: &mut [u8],
-        spare: &mut [u8],
-        effects: &mut [u8],
+        scratch: &mut [u8],
     ) -> Turn
-        requires playable { ⌜ Playable (now head) (now table) (wholeOf self (now entries) (now moments) (now events)) (now work) (now index) ⌝ }
-        requires memory { ⌜ RunMemory (now entries) (now moments) (now events) (now spare) (now effects) ⌝ }
+        requires playable { ⌜ Playable (now head) (now table) (wholeOf self (now entries) (now moments) (now events)) (now work)
+            (now index) ⌝ }
+        requires memory { ⌜ RunMemory (now entries) (now moments) (now events) (now scratch) ⌝ }
         ensures leads { λ r. ⌜ ((D : Domain) (q : Playing) (old : List ℕ) → Held D (now (head .entry)) (now (table .entry))
             → Stands D q (wholeOf self (now (entries .entry)) (now (moments .entry)) (now (events .entry))) (now (work .entry)) old
             → Noted D (now (head .entry)) (now (index .entry)) (q .state)
@@ -440,8 +457,7 @@ impl Player {
                     entries,
                     moments,
                     events,
-                    spare,
-                    effects,
+                    scratch,
                     kind,
                     &run[start..end],
                     end,

@@ -2,7 +2,12 @@
 use super::Player;
 use super::Tally;
 use super::Turn;
+use effects::SCRATCH;
+use events::OPEN_ROWS;
+use events::WAITING_ROWS;
 use literals::head::Head;
+use literals::limits::MAX_EVENTS;
+use literals::limits::MAX_FACTS;
 use records::bytes::put_bytes;
 use store::index::FACT_INDEX;
 use store::index::FactIndex;
@@ -14,8 +19,14 @@ ghost use Rattle.records.specs.Memory.{over};
 ghost use Rattle.literals.specs.Domain.{Domain};
 ghost use Rattle.literals.specs.Held.{Held, Read};
 ghost use Rattle.store.specs.Index.{factIndex};
+ghost use Rattle.effects.specs.Effects.{scratchBytes};
 ghost use Rattle.runs.specs.Play.{workBytes, heldBytes, playRun};
 ghost use Rattle.player.specs.Player.{endedOf};
+ghost use Rattle.events.specs.Coded.{openBytes, waitingBytes};
+ghost use Rattle.runs.specs.RunFile.{maxEvents};
+
+// What the facts take in the work memory.
+const WORK: usize = 8 * MAX_FACTS;
 
 // How a run ended: the number (2 when it was played), the offset of the record at fault, the steps made, the highest weight.
 pub struct Ended {
@@ -37,7 +48,7 @@ fn ended_by(number: u64, at: usize, tally: Tally) -> Ended
     }
 }
 
-// The records of a run file, where the work memory holds no fact yet. `spare` and `effects` are memory for each step to work in.
+// The records of a run file, where the work memory holds no fact yet. `scratch` is memory for each step to work in.
 fn play_records(
     head: &Head,
     table: &[u8],
@@ -47,20 +58,20 @@ fn play_records(
     entries: &mut [u8],
     moments: &mut [u8],
     events: &mut [u8],
-    spare: &mut [u8],
-    effects: &mut [u8],
+    scratch: &mut [u8],
 ) -> Ended
     requires domain { ⌜ Read (now head) (now table) ⌝ }
     requires room { ⌜ workBytes ≤ length (now work) ⌝ }
     requires no_fact { ⌜ now work ≡ over (heldBytes []) (now work) ⌝ }
     requires index { ⌜ now index ≡ replicate factIndex 0 ⌝ }
-    requires entries { ⌜ now entries ≡ replicate 544 0 ⌝ }
-    requires moments { ⌜ now moments ≡ replicate 16 0 ⌝ }
-    requires events { ⌜ now events ≡ replicate 272 0 ⌝ }
-    requires spare { ⌜ length (now spare) ≡ 8192 ⌝ }
-    requires effects { ⌜ length (now effects) ≡ 8192 ⌝ }
-    ensures { λ r. ⌜ ((D : Domain) (old : List ℕ) → Held D (now (head .entry)) (now (table .entry)) → now (work .entry) ≡ over (heldBytes []) old
-        → (r ≡ endedOf (playRun D (now (run .entry)))) × (now (work .exit) ≡ over (heldBytes (playRun D (now (run .entry)) .facts)) old)) ⌝ }
+    requires entries { ⌜ now entries ≡ replicate openBytes 0 ⌝ }
+    requires moments { ⌜ now moments ≡ replicate maxEvents 0 ⌝ }
+    requires events { ⌜ now events ≡ replicate waitingBytes 0 ⌝ }
+    requires scratch { ⌜ length (now scratch) ≡ scratchBytes ⌝ }
+    ensures { λ r. ⌜ ((D : Domain) (old : List ℕ) → Held D (now (head .entry)) (now (table .entry))
+        → now (work .entry) ≡ over (heldBytes []) old
+        → (r ≡ endedOf (playRun D (now (run .entry))))
+        × (now (work .exit) ≡ over (heldBytes (playRun D (now (run .entry)) .facts)) old)) ⌝ }
 {
     let mut turn = Turn {
         number: 0,
@@ -77,8 +88,7 @@ fn play_records(
             entries,
             moments,
             events,
-            spare,
-            effects,
+            scratch,
         );
         let number = turn.number;
         if number == 0 {
@@ -95,17 +105,17 @@ pub fn play_run(head: &Head, table: &[u8], run: &[u8], work: &mut [u8]) -> Ended
     requires domain { ⌜ Read (now head) (now table) ⌝ }
     requires room { ⌜ workBytes ≤ length (now work) ⌝ }
     ensures { λ r. ⌜ ((D : Domain) → Held D (now (head .entry)) (now (table .entry))
-        → (r ≡ endedOf (playRun D (now (run .entry)))) × (now (work .exit) ≡ over (heldBytes (playRun D (now (run .entry)) .facts)) (now (work .entry)))) ⌝ }
+        → (r ≡ endedOf (playRun D (now (run .entry))))
+        × (now (work .exit) ≡ over (heldBytes (playRun D (now (run .entry)) .facts)) (now (work .entry)))) ⌝ }
 {
-    let zeros = [0u8; 8192];
+    let zeros = [0u8; WORK];
     put_bytes(work, 0, &zeros);
     let mut index = [0u64; FACT_INDEX];
-    let mut entries = [0u8; 544];
-    let mut moments = [0u8; 16];
-    let mut events = [0u8; 272];
+    let mut entries = [0u8; OPEN_ROWS];
+    let mut moments = [0u8; MAX_EVENTS];
+    let mut events = [0u8; WAITING_ROWS];
     // Memory that each step works in: cleared here once and for all.
-    let mut spare = [0u8; 8192];
-    let mut effects = [0u8; 8192];
+    let mut scratch = [0u8; SCRATCH];
     play_records(
         head,
         table,
@@ -115,7 +125,6 @@ pub fn play_run(head: &Head, table: &[u8], run: &[u8], work: &mut [u8]) -> Ended
         &mut entries,
         &mut moments,
         &mut events,
-        &mut spare,
-        &mut effects,
+        &mut scratch,
     )
 }

@@ -1,5 +1,6 @@
 // The fields of a run file's records: each check answers the number that stops its record, or 0. And what a record that passes
 // adds: a row of a fact, an event that waits.
+use events::GROUND;
 use events::openings::same_ground;
 use literals::head::Head;
 use literals::head::actions_in;
@@ -7,6 +8,8 @@ use literals::head::arity_of;
 use literals::head::is_lasting;
 use literals::head::relations_in;
 use literals::head::variables_of;
+use literals::limits::MAX_EVENTS;
+use literals::limits::MAX_FACTS;
 use records::bytes::any_from;
 use records::bytes::count_from;
 use records::bytes::put_bytes;
@@ -24,10 +27,10 @@ ghost use Rattle.literals.specs.Domain.{Fact, Domain};
 ghost use Rattle.literals.specs.Table.{rowsIn};
 ghost use Rattle.literals.specs.Held.{lastingIn, HeadOf};
 ghost use Rattle.literals.specs.Keys.{below};
-ghost use Rattle.runs.specs.RunFile.{factOf, eventOf, objectsStop, factStop, eventStop, stepStop, endStop};
+ghost use Rattle.runs.specs.RunFile.{factOf, eventOf, objectsStop, factStop, eventStop, stepStop, endStop, maxEvents};
 ghost use Rattle.verdict.specs.Machine.{Event};
 ghost use Rattle.store.specs.Rows.{factRow, Few};
-ghost use Rattle.events.specs.Coded.{groundRow, waitingOf, EventsFit};
+ghost use Rattle.events.specs.Coded.{groundBytes, waitingBytes, groundRow, waitingOf, EventsFit};
 ghost use Rattle.run_fields.specs.Fields.{factFields, eventFields, waitsAt};
 
 // ---- the object count, the close of a step and the close of the run
@@ -95,12 +98,12 @@ pub fn fact_row(p: &[u8]) -> [u8; 8]
 }
 
 // The row of an event's action: action, objects, FF to fill.
-pub fn ground_row(p: &[u8]) -> [u8; 17]
+pub fn ground_row(p: &[u8]) -> [u8; GROUND]
     requires action { ⌜ 2 ≤ length (now p) ⌝ }
     requires objects { ⌜ length (now p) ≤ 18 ⌝ }
     ensures { λ r. ⌜ r ≡ groundRow (eventOf (now (p .entry)) .ground) ⌝ }
 {
-    let mut row = [255u8; 17];
+    let mut row = [255u8; GROUND];
     put_bytes(&mut row, 0, &p[1..]);
     row
 }
@@ -153,7 +156,7 @@ pub fn fact_stop(head: &Head, objects: u8, begun: bool, work: &[u8], n: usize, p
     if stop != 0 {
         return stop;
     }
-    if n < 1024 {
+    if n < MAX_FACTS {
         return 0;
     }
     if has_row(work, n, fact_row(p)) {
@@ -221,21 +224,21 @@ fn twice_from(p: &[u8], from: usize) -> bool
 // Whether the event at a place of those that wait is this one.
 fn waits_at(moments: &[u8], rows: &[u8], moment: u8, ground: &[u8], i: usize) -> bool
     requires moment { ⌜ i < length (now moments) ⌝ }
-    requires event { ⌜ 17 * i + 17 ≤ length (now rows) ⌝ }
-    requires row { ⌜ length (now ground) ≡ 17 ⌝ }
+    requires event { ⌜ groundBytes * i + groundBytes ≤ length (now rows) ⌝ }
+    requires row { ⌜ length (now ground) ≡ groundBytes ⌝ }
     ensures { λ r. ⌜ r ≡ waitsAt (now (moments .entry)) (now (rows .entry)) moment (now (ground .entry)) i ⌝ }
 {
     if moment == moments[i] {
-        return same_ground(rows, 17 * i, ground);
+        return same_ground(rows, GROUND * i, ground);
     }
     false
 }
 
 // Whether this event waits: an action with objects, at the moment of this byte.
-fn is_waiting(moments: &[u8], rows: &[u8], count: usize, moment: u8, ground: [u8; 17]) -> bool
-    requires few { ⌜ count ≤ 16 ⌝ }
-    requires moments { ⌜ length (now moments) ≡ 16 ⌝ }
-    requires events { ⌜ length (now rows) ≡ 272 ⌝ }
+fn is_waiting(moments: &[u8], rows: &[u8], count: usize, moment: u8, ground: [u8; GROUND]) -> bool
+    requires few { ⌜ count ≤ maxEvents ⌝ }
+    requires moments { ⌜ length (now moments) ≡ maxEvents ⌝ }
+    requires events { ⌜ length (now rows) ≡ waitingBytes ⌝ }
     ensures { λ r. ⌜ r ≡ any (waitsAt (now (moments .entry)) (now (rows .entry)) moment ground) (below count) ⌝ }
 {
     for i in 0..count {
@@ -255,13 +258,13 @@ pub fn event_stop(
     count: usize,
     p: &[u8],
 ) -> u64
-    requires few { ⌜ count ≤ 16 ⌝ }
-    requires moments { ⌜ length (now moments) ≡ 16 ⌝ }
-    requires events { ⌜ length (now rows) ≡ 272 ⌝ }
+    requires few { ⌜ count ≤ maxEvents ⌝ }
+    requires moments { ⌜ length (now moments) ≡ maxEvents ⌝ }
+    requires events { ⌜ length (now rows) ≡ waitingBytes ⌝ }
     ensures is { λ r. ⌜ ((D : Domain) (es : List Event) → HeadOf D (now (head .entry)) → objects ≤ 64
         → record { count = count; moments = now (moments .entry); rows = now (rows .entry) } ≡ waitingOf es
         → EventsFit D es → r ≡ eventStop D objects es (now (p .entry))) ⌝ }
-    ensures fits { λ r. ⌜ (r ≡ 0 → (2 ≤ length (now (p .entry))) × (length (now (p .entry)) ≤ 18) × (count < 16)) ⌝ }
+    ensures fits { λ r. ⌜ (r ≡ 0 → (2 ≤ length (now (p .entry))) × (length (now (p .entry)) ≤ 18) × (count < maxEvents)) ⌝ }
 {
     let stop = event_fields(head, objects, p);
     if stop != 0 {
@@ -273,7 +276,7 @@ pub fn event_stop(
     if is_waiting(moments, rows, count, p[0], ground_row(p)) {
         return 54;
     }
-    if 16 <= count {
+    if MAX_EVENTS <= count {
         return 52;
     }
     0

@@ -100,7 +100,8 @@ fn add_at(index: &mut FactIndex, place: usize, amount: u64)
 fn take_at(index: &mut FactIndex, place: usize, amount: u64)
     requires place { ⌜ place < factIndex ⌝ }
     requires amount { ⌜ amount < wrap ⌝ }
-    ensures { λ _. ⌜ now (index .exit) ≡ set (now (index .entry)) place (plus (getD (now (index .entry)) place 0) (wrap - amount)) ⌝ }
+    ensures { λ _. ⌜ now (index .exit) ≡ set (now (index .entry)) place
+        (plus (getD (now (index .entry)) place 0) (wrap - amount)) ⌝ }
 {
     index[place] = (index[place] % WRAP + (WRAP - amount)) % WRAP;
 }
@@ -109,7 +110,8 @@ fn take_at(index: &mut FactIndex, place: usize, amount: u64)
 pub fn enter(index: &mut FactIndex, head: &Head, memory: &[u8], at: usize)
     requires { ⌜ at + 8 ≤ length (now memory) ⌝ }
     ensures indexed { λ _. ⌜ ((rows : List (List ℕ)) → Indexed (now (head .entry)) (now (index .entry)) rows
-        → byte (take 8 (drop at (now (memory .entry)))) 1 ≡ arityIn (now (head .entry)) (byte (take 8 (drop at (now (memory .entry)))) 0)
+        → byte (take 8 (drop at (now (memory .entry)))) 1
+        ≡ arityIn (now (head .entry)) (byte (take 8 (drop at (now (memory .entry)))) 0)
         → Indexed (now (head .entry)) (now (index .exit)) (rows ++ (take 8 (drop at (now (memory .entry))) ∷ []))) ⌝ }
     ensures beside { λ _. ⌜ getD (now (index .exit)) noteAt 0 ≡ getD (now (index .entry)) noteAt 0 ⌝ }
 {

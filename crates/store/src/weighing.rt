@@ -38,7 +38,8 @@ fn weight_at(head: &Head, memory: &[u8], at: usize, row: [u8; 8]) -> usize
 // The weight of the instance with this key tuple among the first n facts.
 fn weigh(head: &Head, memory: &[u8], n: usize, row: [u8; 8]) -> usize
     requires { ⌜ (8 * n ≤ length (now memory)) ⌝ }
-    ensures { λ r. ⌜ r ≡ rowWeight (keysIn (now (head .entry))) (partsIn (now (head .entry))) (rowsIn n (now (memory .entry))) row ⌝ }
+    ensures { λ r. ⌜ r ≡ rowWeight (keysIn (now (head .entry))) (partsIn (now (head .entry)))
+        (rowsIn n (now (memory .entry))) row ⌝ }
 {
     let mut weight: usize = 0;
     let mut i: usize = 0;
@@ -94,7 +95,8 @@ pub fn top_from(
     requires few { ⌜ n < wrap ⌝ }
     requires rows { ⌜ 8 * n ≤ length (now memory) ⌝ }
     ensures rows { λ r. ⌜ (Indexed (now (head .entry)) (now (index .entry)) (rowsIn n (now (memory .entry)))
-        → r ≡ max least (topRows (keysIn (now (head .entry))) (partsIn (now (head .entry))) (rowsIn n (now (memory .entry))) from)) ⌝ }
+        → r ≡ max least (topRows (keysIn (now (head .entry))) (partsIn (now (head .entry)))
+        (rowsIn n (now (memory .entry))) from)) ⌝ }
     ensures weights { λ r. ⌜ ((D : Domain) (fs : List Fact) → HeadOf D (now (head .entry))
         → Indexed (now (head .entry)) (now (index .entry)) (rowsIn n (now (memory .entry)))
         → rowsIn n (now (memory .entry)) ≡ map factRow fs → ((f : Fact) → In f fs → FactFits D f)

@@ -3,13 +3,14 @@ use mathlib.Core.Path.{_≡_, refl, sym, _∙_}
 use mathlib.Core.Bool.{true, false}
 use Prim.Native.Nat.{_≤_, _<_}
 use native.Mathlib.Omega.{arith}
-use lib.ListN.{take, drop}
+use lib.ListN.{length, take, drop}
 use borrow.Author.Needs.{needs}
 use Rattle.literals.specs.Table.{rowsIn}
+use Rattle.runs.specs.Play.{workBytes}
 use Rattle.store.specs.Index.{Indexed}
 use Rattle.store.specs.Rows.{hasRow}
 use Rattle.effects.specs.Effects.{SizedRow}
-use Rattle.effects.proofs.FilledRows.{there-count, there-rows, full-count, full-rows, new-count, new-rows}
+use Rattle.effects.proofs.FilledRows.{row-others, there-count, there-rows, full-count, full-rows, new-count, new-rows}
 use Rattle.effects.proofs.IndexedRows.{sized-as, there-indexed, new-indexed}
 use Rattle.effects.proofs.join_row.Statement.{statement}
 use Rattle.effects.proofs.join_row.Tie as tie
@@ -27,20 +28,21 @@ returns : tie.Need-returns
 returns c =
     let a = c .before .before .before .before .before .before .before .args in
     let p = c .before .before .before .before .before .before .before .pre in
-    let rows = rowsIn (a .n) (a .out .now) in
+    let rows = rowsIn (a .n) (a .scratch .now) in
     let e = c .before .before .before .before .row-at .ensures in
     let g = p .1 .0 in
-    let w = p .1 .1 in
-    let t : Indexed (a .head .now) (a .index .now) rows → SizedRow (a .head .now) (take 8 (drop (a .at) (a .adds .now))) → hasRow (c .before .before .before .before .row-at .result) rows ≡ true
+    let l = p .1 .1 in
+    let w : workBytes ≤ length (a .scratch .now) = omega arith in
+    let t : Indexed (a .head .now) (a .index .now) rows → SizedRow (a .head .now) (take 8 (drop (a .at) (a .scratch .now))) → hasRow (c .before .before .before .before .row-at .result) rows ≡ true
     = λ I b. sym (c .before .is-held .ensures (a .head .now) I (sized-as (a .head .now) e b)) ∙ c .if1 .taken in (
       (omega arith, omega arith),
       (
         λ I b. record {
-          count = there-count (a .n) (a .out .now) g w e (t I b);
-          bytes = there-rows (a .n) (a .out .now) g w e (t I b);
+          count = there-count (a .n) (a .scratch .now) g w e (t I b);
+          bytes = there-rows (a .n) (a .scratch .now) g w e (t I b);
           indexed = λ q. there-indexed rows e (t I b) I;
         },
-        refl,
+        (refl, refl),
       ),
     )
 
@@ -54,29 +56,30 @@ returns-2 : tie.Need-returns-2
 returns-2 c =
     let a = c .before .before .before .before .before .before .before .before .args in
     let p = c .before .before .before .before .before .before .before .before .pre in
-    let rows = rowsIn (a .n) (a .out .now) in
+    let rows = rowsIn (a .n) (a .scratch .now) in
     let e = c .before .before .before .before .before .row-at .ensures in
     let g = p .1 .0 in
-    let w = p .1 .1 in
+    let l = p .1 .1 in
+    let w : workBytes ≤ length (a .scratch .now) = omega arith in
     let f : 1024 ≤ a .n = c .if2 .taken in
-    let t : Indexed (a .head .now) (a .index .now) rows → SizedRow (a .head .now) (take 8 (drop (a .at) (a .adds .now))) → hasRow (c .before .before .before .before .before .row-at .result) rows ≡ false
+    let t : Indexed (a .head .now) (a .index .now) rows → SizedRow (a .head .now) (take 8 (drop (a .at) (a .scratch .now))) → hasRow (c .before .before .before .before .before .row-at .result) rows ≡ false
     = λ I b. sym (c .before .before .is-held .ensures (a .head .now) I (sized-as (a .head .now) e b)) ∙ c .before .if1 .left in (
       (omega arith, omega arith),
       (
         λ I b. record {
-          count = full-count (a .n) (a .out .now) g w e (t I b) f;
-          bytes = full-rows (a .n) (a .out .now) g w e (t I b) f;
+          count = full-count (a .n) (a .scratch .now) g w e (t I b) f;
+          bytes = full-rows (a .n) (a .scratch .now) g w e (t I b) f;
           indexed = λ q. absurd (omega arith);
         },
-        refl,
+        (refl, refl),
       ),
     )
 
-put-row-requires : tie.Need-put-row-requires
-put-row-requires c κs = search needs
-
 enter-requires : tie.Need-enter-requires
 enter-requires c κs = search needs
+
+put-row-requires : tie.Need-put-row-requires
+put-row-requires c κs = search needs
 
 add-result-2 : tie.Need-add-result-2
 add-result-2 c = search needs
@@ -86,24 +89,25 @@ same-length-3 c = search needs
 
 returns-3 : tie.Need-returns-3
 returns-3 c =
-    let a = c .before .before .before .before .before .before .before .before .before .before .before .before .before .before .args in
-    let p = c .before .before .before .before .before .before .before .before .before .before .before .before .before .before .pre in
-    let rows = rowsIn (a .n) (a .out .now) in
-    let e = c .before .before .before .before .before .before .before .before .before .before .before .row-at .ensures in
+    let a = c .before .before .before .before .before .before .before .before .before .before .before .before .before .before .before .args in
+    let p = c .before .before .before .before .before .before .before .before .before .before .before .before .before .before .before .pre in
+    let rows = rowsIn (a .n) (a .scratch .now) in
+    let e = c .before .before .before .before .before .before .before .before .before .before .before .before .row-at .ensures in
     let g = p .1 .0 in
-    let w = p .1 .1 in
-    let f : a .n < 1024 = c .before .before .before .before .before .before .if2 .left in
-    let v = c .enter .ensures in
-    let t : Indexed (a .head .now) (a .index .now) rows → SizedRow (a .head .now) (take 8 (drop (a .at) (a .adds .now))) → hasRow (c .before .before .before .before .before .before .before .before .before .before .before .row-at .result) rows ≡ false
-    = λ I b. sym (c .before .before .before .before .before .before .before .before .is-held .ensures (a .head .now) I (sized-as (a .head .now) e b)) ∙ c .before .before .before .before .before .before .before .if1 .left in (
+    let l = p .1 .1 in
+    let w : workBytes ≤ length (a .scratch .now) = omega arith in
+    let f : a .n < 1024 = c .before .before .before .before .before .before .before .if2 .left in
+    let v = c .before .before .before .before .enter .ensures in
+    let t : Indexed (a .head .now) (a .index .now) rows → SizedRow (a .head .now) (take 8 (drop (a .at) (a .scratch .now))) → hasRow (c .before .before .before .before .before .before .before .before .before .before .before .before .row-at .result) rows ≡ false
+    = λ I b. sym (c .before .before .before .before .before .before .before .before .before .is-held .ensures (a .head .now) I (sized-as (a .head .now) e b)) ∙ c .before .before .before .before .before .before .before .before .if1 .left in (
       (omega arith, omega arith),
       (
         λ I b. record {
-          count = new-count (a .n) (a .out .now) g w e (t I b) f;
-          bytes = new-rows (a .n) (a .out .now) g w e (t I b) f (c .before .before .before .before .put-row .ensures);
+          count = new-count (a .n) (a .scratch .now) g w e (t I b) f;
+          bytes = new-rows (a .n) (a .scratch .now) g w e (t I b) f (c .before .before .put-row .ensures);
           indexed = λ q. new-indexed rows e (t I b) (v .0 rows I b);
         },
-        v .1,
+        (v .1, row-others (a .n) (a .scratch .now) (c .before .before .before .before .before .before .before .before .before .before .before .before .row-at .result) (omega arith) (search needs) f (c .before .before .put-row .ensures)),
       ),
     )
 
@@ -118,8 +122,8 @@ join-row-spec =
     add-result
     same-length-2
     returns-2
-    put-row-requires
     enter-requires
+    put-row-requires
     add-result-2
     same-length-3
     returns-3)

@@ -24,12 +24,12 @@ events-length : (c : tie.Start) → length (c .args .self .waiting .rows) ≡ 27
 events-length c = sym (length-map (c .args .self .waiting .rows) _) ∙ c .good .0 .1 .1 .1 .1 .0 .1 .1 .1 .1 .0 .1 .0 .1
 
 slice-aggregate-rest : tie.Need-slice-aggregate-rest
-slice-aggregate-rest c = sym (entries-length (c .before .before .before .before .before .before .before .before .before .before))
+slice-aggregate-rest c = sym (entries-length (c .before .before .before .before .before .before .before .before .before))
 
 rest-requires : tie.Need-rest-requires
 rest-requires c κs =
-    let p = c .before .before .before .before .before .before .before .before .before .before .before .before .pre in
-    let r = entries-length (c .before .before .before .before .before .before .before .before .before .before .before .before) in
+    let p = c .before .before .before .before .before .before .before .before .before .before .before .pre in
+    let r = entries-length (c .before .before .before .before .before .before .before .before .before .before .before) in
     let f = p .0 .facts in
     let m = p .0 .room in
     (r, (f, omega arith))
@@ -39,7 +39,7 @@ same-length c = search needs
 
 returns : tie.Need-returns
 returns c =
-    let a = c .before .before .before .before .before .before .before .before .before .before .before .before .before .args in
+    let a = c .before .before .before .before .before .before .before .before .before .before .before .before .args in
     let x = c .rest in
     let none = c .before .before .before .before .if1 .taken in (
       λ D s es old S under noted.
@@ -64,21 +64,21 @@ element-write-index : tie.Need-element-write-index
 element-write-index c = search needs
 
 slice-aggregate-forbidden : tie.Need-slice-aggregate-forbidden
-slice-aggregate-forbidden c = sym (entries-length (c .before .before .before .before .before .before .before .before .before .before .before .before))
+slice-aggregate-forbidden c = sym (entries-length (c .before .before .before .before .before .before .before .before .before .before .before))
 
 slice-aggregate-forbidden-2 : tie.Need-slice-aggregate-forbidden-2
-slice-aggregate-forbidden-2 c = sym (moments-length (c .before .before .before .before .before .before .before .before .before .before .before .before .before))
+slice-aggregate-forbidden-2 c = sym (moments-length (c .before .before .before .before .before .before .before .before .before .before .before .before))
 
 slice-aggregate-forbidden-3 : tie.Need-slice-aggregate-forbidden-3
-slice-aggregate-forbidden-3 c = sym (events-length (c .before .before .before .before .before .before .before .before .before .before .before .before .before .before))
+slice-aggregate-forbidden-3 c = sym (events-length (c .before .before .before .before .before .before .before .before .before .before .before .before .before))
 
 forbidden-requires : tie.Need-forbidden-requires
 forbidden-requires c κs =
-    let a = c .before .before .before .before .before .before .before .before .before .before .before .before .before .before .before .before .args in
-    let p = c .before .before .before .before .before .before .before .before .before .before .before .before .before .before .before .before .pre in
-    let r = entries-length (c .before .before .before .before .before .before .before .before .before .before .before .before .before .before .before .before) in
-    let m = moments-length (c .before .before .before .before .before .before .before .before .before .before .before .before .before .before .before .before) in
-    let e = events-length (c .before .before .before .before .before .before .before .before .before .before .before .before .before .before .before .before) in
+    let a = c .before .before .before .before .before .before .before .before .before .before .before .before .before .before .before .args in
+    let p = c .before .before .before .before .before .before .before .before .before .before .before .before .before .before .before .pre in
+    let r = entries-length (c .before .before .before .before .before .before .before .before .before .before .before .before .before .before .before) in
+    let m = moments-length (c .before .before .before .before .before .before .before .before .before .before .before .before .before .before .before) in
+    let e = events-length (c .before .before .before .before .before .before .before .before .before .before .before .before .before .before .before) in
     let f = p .0 .facts in
     let w = p .0 .room in
     (r, (m, (e, (f, omega arith))))
@@ -88,7 +88,7 @@ same-length-2 c = search needs
 
 returns-2 : tie.Need-returns-2
 returns-2 c =
-    let a = c .before .before .before .before .before .before .before .before .before .before .before .before .before .before .before .before .before .before .args in (
+    let a = c .before .before .before .before .before .before .before .before .before .before .before .before .before .before .before .before .before .args in (
       λ D s es old S under noted.
           let lent = S .domain in
           let kept = S .kept in
@@ -101,22 +101,22 @@ returns-2 c =
     )
 
 slice-aggregate-advance : tie.Need-slice-aggregate-advance
-slice-aggregate-advance c = sym (entries-length (c .before .before .before .before .before .before .before .before .before .before .before .before .before .before .before .before .before .before .before))
+slice-aggregate-advance c = sym (entries-length (c .before .before .before .before .before .before .before .before .before .before .before .before .before .before .before .before .before .before))
 
 slice-aggregate-advance-2 : tie.Need-slice-aggregate-advance-2
-slice-aggregate-advance-2 c = sym (moments-length (c .before .before .before .before .before .before .before .before .before .before .before .before .before .before .before .before .before .before .before .before))
+slice-aggregate-advance-2 c = sym (moments-length (c .before .before .before .before .before .before .before .before .before .before .before .before .before .before .before .before .before .before .before))
 
 slice-aggregate-advance-3 : tie.Need-slice-aggregate-advance-3
-slice-aggregate-advance-3 c = sym (events-length (c .before .before .before .before .before .before .before .before .before .before .before .before .before .before .before .before .before .before .before .before .before))
+slice-aggregate-advance-3 c = sym (events-length (c .before .before .before .before .before .before .before .before .before .before .before .before .before .before .before .before .before .before .before .before))
 
 advance-requires : tie.Need-advance-requires
 advance-requires c κs =
-    let a = c .before .before .before .before .before .before .before .before .before .before .before .before .before .before .before .before .before .before .before .before .before .before .before .before .before .args in
-    let p = c .before .before .before .before .before .before .before .before .before .before .before .before .before .before .before .before .before .before .before .before .before .before .before .before .before .pre in
-    let r = entries-length (c .before .before .before .before .before .before .before .before .before .before .before .before .before .before .before .before .before .before .before .before .before .before .before .before .before) in
-    let m = moments-length (c .before .before .before .before .before .before .before .before .before .before .before .before .before .before .before .before .before .before .before .before .before .before .before .before .before) in
-    let e = events-length (c .before .before .before .before .before .before .before .before .before .before .before .before .before .before .before .before .before .before .before .before .before .before .before .before .before) in
-    (p .0, (r, (m, (e, (p .1 .0, p .1 .1)))))
+    let a = c .before .before .before .before .before .before .before .before .before .before .before .before .before .before .before .before .before .before .before .before .before .before .before .args in
+    let p = c .before .before .before .before .before .before .before .before .before .before .before .before .before .before .before .before .before .before .before .before .before .before .before .pre in
+    let r = entries-length (c .before .before .before .before .before .before .before .before .before .before .before .before .before .before .before .before .before .before .before .before .before .before .before) in
+    let m = moments-length (c .before .before .before .before .before .before .before .before .before .before .before .before .before .before .before .before .before .before .before .before .before .before .before) in
+    let e = events-length (c .before .before .before .before .before .before .before .before .before .before .before .before .before .before .before .before .before .before .before .before .before .before .before) in
+    (p .0, (r, (m, (e, p .1))))
 
 same-length-3 : tie.Need-same-length-3
 same-length-3 c = search needs
@@ -124,57 +124,51 @@ same-length-3 c = search needs
 same-length-4 : tie.Need-same-length-4
 same-length-4 c = search needs
 
-same-length-5 : tie.Need-same-length-5
-same-length-5 c = search needs
-
 returns-3 : tie.Need-returns-3
 returns-3 c =
-    let a = c .before .before .before .before .before .before .before .before .before .before .before .before .before .before .before .before .before .before .before .before .before .before .before .before .before .before .before .before .before .before .before .before .before .before .before .args in
-    let x = c .before .before .before .before .before .before .before .before .before .advance in (
+    let a = c .before .before .before .before .before .before .before .before .before .before .before .before .before .before .before .before .before .before .before .before .before .before .before .before .before .before .before .before .before .before .before .args in
+    let x = c .before .before .before .before .before .before .before .advance in (
       λ D s es old S under noted.
           let lent = S .domain in
           let kept = S .kept in
           let is = S .state-is in
           let memory = S .facts-are in
           let held = (indexed-set (a .head .now) (a .index .now) _ (map factRow (s .facts)) (noted .indexed)) in
-          let f = c .before .before .before .before .before .before .before .before .before .before .before .before .before .before .before .before .before .before .forbidden .ensures D s es lent kept is (state-rows D (lent .says .bounded) s es kept (a .self) is (a .work .now) old memory) held in
-          held-refused (x .result .facts) (x .result .open) (x .last .1 .1 .0) (a .self) (x .ensures .0 D s es old S under (sym f ∙ c .before .before .before .before .before .before .before .before .before .before .before .before .before .before .before .before .before .if2 .left) held) (c .if3 .taken),
+          let f = c .before .before .before .before .before .before .before .before .before .before .before .before .before .before .before .forbidden .ensures D s es lent kept is (state-rows D (lent .says .bounded) s es kept (a .self) is (a .work .now) old memory) held in
+          held-refused (x .result .facts) (x .result .open) (x .last .1 .1 .0) (a .self) (x .ensures .0 D s es old S under (sym f ∙ c .before .before .before .before .before .before .before .before .before .before .before .before .before .before .if2 .left) held) (c .if3 .taken),
       λ D s es old S noted z. absurd (c .if3 .taken z),
     )
 
 none-requires : tie.Need-none-requires
 none-requires c κs = search needs
 
+same-length-5 : tie.Need-same-length-5
+same-length-5 c = search needs
+
 same-length-6 : tie.Need-same-length-6
 same-length-6 c = search needs
 
-same-length-7 : tie.Need-same-length-7
-same-length-7 c = search needs
-
-same-length-8 : tie.Need-same-length-8
-same-length-8 c = search needs
-
 returns-4 : tie.Need-returns-4
 returns-4 c =
-    let a = c .before .before .before .before .before .before .before .before .before .before .before .before .before .before .before .before .before .before .before .before .before .before .before .before .before .before .before .before .before .before .before .before .before .before .before .before .args in
-    let x = c .before .before .before .before .before .before .before .before .before .before .advance in (
+    let a = c .before .before .before .before .before .before .before .before .before .before .before .before .before .before .before .before .before .before .before .before .before .before .before .before .before .before .before .before .before .before .before .before .args in
+    let x = c .before .before .before .before .before .before .before .before .advance in (
       λ D s es old S under noted.
           let lent = S .domain in
           let kept = S .kept in
           let is = S .state-is in
           let memory = S .facts-are in
           let held = (indexed-set (a .head .now) (a .index .now) _ (map factRow (s .facts)) (noted .indexed)) in
-          let f = c .before .before .before .before .before .before .before .before .before .before .before .before .before .before .before .before .before .before .before .forbidden .ensures D s es lent kept is (state-rows D (lent .says .bounded) s es kept (a .self) is (a .work .now) old memory) held in
-          held-taken (x .result .facts) (x .result .open) (x .last .1 .1 .0) (a .self) (x .ensures .0 D s es old S under (sym f ∙ c .before .before .before .before .before .before .before .before .before .before .before .before .before .before .before .before .before .before .if2 .left) held) (c .before .if3 .left) (c .none .result) (c .none .ensures),
+          let f = c .before .before .before .before .before .before .before .before .before .before .before .before .before .before .before .before .forbidden .ensures D s es lent kept is (state-rows D (lent .says .bounded) s es kept (a .self) is (a .work .now) old memory) held in
+          held-taken (x .result .facts) (x .result .open) (x .last .1 .1 .0) (a .self) (x .ensures .0 D s es old S under (sym f ∙ c .before .before .before .before .before .before .before .before .before .before .before .before .before .before .before .if2 .left) held) (c .before .if3 .left) (c .none .result) (c .none .ensures),
       λ D s es old S noted z.
           let lent = S .domain in
           let kept = S .kept in
           let is = S .state-is in
           let memory = S .facts-are in
           let held = (indexed-set (a .head .now) (a .index .now) _ (map factRow (s .facts)) (noted .indexed)) in
-          let f = c .before .before .before .before .before .before .before .before .before .before .before .before .before .before .before .before .before .before .before .forbidden .ensures D s es lent kept is (state-rows D (lent .says .bounded) s es kept (a .self) is (a .work .now) old memory) held in
+          let f = c .before .before .before .before .before .before .before .before .before .before .before .before .before .before .before .before .forbidden .ensures D s es lent kept is (state-rows D (lent .says .bounded) s es kept (a .self) is (a .work .now) old memory) held in
           noted-anew (a .head .now) D _ (closeState D s es)
-          (x .ensures .1 .0 D s es old S (sym f ∙ c .before .before .before .before .before .before .before .before .before .before .before .before .before .before .before .before .before .before .if2 .left) held (c .before .if3 .left))
+          (x .ensures .1 .0 D s es old S (sym f ∙ c .before .before .before .before .before .before .before .before .before .before .before .before .before .before .before .if2 .left) held (c .before .if3 .left))
           (x .ensures .1 .1 ∙ unset (a .index .now) (noted .indexed .numbers)),
     )
 
@@ -199,10 +193,8 @@ step-spec =
     advance-requires
     same-length-3
     same-length-4
-    same-length-5
     returns-3
     none-requires
+    same-length-5
     same-length-6
-    same-length-7
-    same-length-8
     returns-4)

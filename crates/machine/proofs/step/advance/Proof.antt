@@ -12,11 +12,11 @@ use Rattle.machine.proofs.step.advance.Tie as tie
 
 facts-after-requires : tie.Need-facts-after-requires
 facts-after-requires c κs =
-    let p = c .before .before .before .before .before .before .before .before .before .before .before .pre in
+    let p = c .before .before .before .before .before .before .before .before .before .pre in
     let q = p .0 in
     let r = q .room in
     let f = q .facts in
-    (f, (omega arith, (p .1 .1 .1 .1 .0, (q .facts-once, (p .1 .1 .0, (p .1 .1 .1 .0, p .1 .1 .1 .1 .1))))))
+    (f, (omega arith, (p .1 .1 .1 .1, (q .facts-once, (p .1 .1 .0, p .1 .1 .1 .0)))))
 
 same-length : tie.Need-same-length
 same-length c = search needs
@@ -24,13 +24,10 @@ same-length c = search needs
 same-length-2 : tie.Need-same-length-2
 same-length-2 c = search needs
 
-same-length-3 : tie.Need-same-length-3
-same-length-3 c = search needs
-
 returns : tie.Need-returns
 returns c =
-    let a = c .before .before .before .before .before .before .before .before .before .before .before .before .before .before .before .before .before .args in
-    let x = c .before .before .before .before .before .facts-after in (
+    let a = c .before .before .before .before .before .before .before .before .before .before .before .before .before .args in
+    let x = c .before .before .before .facts-after in (
       λ D s es old S under free held.
           let lent = S .domain in
           let kept = S .kept in
@@ -45,8 +42,11 @@ returns c =
 
 open-after-requires : tie.Need-open-after-requires
 open-after-requires c κs =
-    let p = c .before .before .before .before .before .before .before .before .before .before .before .before .before .before .before .before .before .before .pre in
+    let p = c .before .before .before .before .before .before .before .before .before .before .before .before .before .before .pre in
     (p .1 .0, (p .1 .1 .0, p .1 .1 .1 .0))
+
+same-length-3 : tie.Need-same-length-3
+same-length-3 c = search needs
 
 same-length-4 : tie.Need-same-length-4
 same-length-4 c = search needs
@@ -54,16 +54,10 @@ same-length-4 c = search needs
 same-length-5 : tie.Need-same-length-5
 same-length-5 c = search needs
 
-same-length-6 : tie.Need-same-length-6
-same-length-6 c = search needs
-
-same-length-7 : tie.Need-same-length-7
-same-length-7 c = search needs
-
 returns-2 : tie.Need-returns-2
 returns-2 c =
-    let a = c .before .before .before .before .before .before .before .before .before .before .before .before .before .before .before .before .before .before .before .before .before .before .before .args in
-    let x = c .before .before .before .before .before .before .before .before .before .before .before .facts-after in (
+    let a = c .before .before .before .before .before .before .before .before .before .before .before .before .before .before .before .before .before .before .before .args in
+    let x = c .before .before .before .before .before .before .before .before .before .facts-after in (
       λ D s es old S under free held.
           let lent = S .domain in
           let kept = S .kept in
@@ -77,37 +71,34 @@ returns-2 c =
 
 settle-requires : tie.Need-settle-requires
 settle-requires c κs =
-    let q = c .before .before .before .before .before .before .before .before .before .before .before .before .before .before .before .before .before .before .before .before .before .before .before .before .before .pre .0 in
+    let q = c .before .before .before .before .before .before .before .before .before .before .before .before .before .before .before .before .before .before .before .before .before .pre .0 in
     let r = q .room in
     let f = q .facts in
     let n = c .before .before .before .before .before .before .before .before .if1 .left in
-    let k = c .before .before .before .before .before .before .before .before .before .before .before .before .before .facts-after .kept .1 .1 .1 .1 .1 .1 .1 .0 in
-    let p = c .before .before .before .before .before .before .before .before .before .before .before .before .before .before .before .before .before .before .before .before .before .before .before .before .before .pre .1 .1 .1 .1 .0 in
+    let k = c .before .before .before .before .before .before .before .before .before .before .before .facts-after .kept .1 .1 .1 .1 .1 .1 .1 .0 in
+    let p = c .before .before .before .before .before .before .before .before .before .before .before .before .before .before .before .before .before .before .before .before .before .pre .1 .1 .1 .1 in
     (f, (omega arith, (n, (omega arith, omega arith))))
 
 top-from-requires : tie.Need-top-from-requires
 top-from-requires c κs =
-    let p = c .before .before .before .before .before .before .before .before .before .before .before .before .before .before .before .before .before .before .before .before .before .before .before .before .before .before .before .before .before .before .pre in
+    let p = c .before .before .before .before .before .before .before .before .before .before .before .before .before .before .before .before .before .before .before .before .before .before .before .before .before .before .pre in
     let r = p .0 .room in
     let n = c .before .before .before .before .before .before .before .before .before .before .before .before .before .if1 .left in
     (omega arith, omega arith)
 
+same-length-6 : tie.Need-same-length-6
+same-length-6 c = search needs
+
+same-length-7 : tie.Need-same-length-7
+same-length-7 c = search needs
+
 same-length-8 : tie.Need-same-length-8
 same-length-8 c = search needs
 
-same-length-9 : tie.Need-same-length-9
-same-length-9 c = search needs
-
-same-length-10 : tie.Need-same-length-10
-same-length-10 c = search needs
-
-same-length-11 : tie.Need-same-length-11
-same-length-11 c = search needs
-
 returns-3 : tie.Need-returns-3
 returns-3 c =
-    let a = c .before .before .before .before .before .before .before .before .before .before .before .before .before .before .before .before .before .before .before .before .before .before .before .before .before .before .before .before .before .before .before .args in
-    let x = c .before .before .before .before .before .before .before .before .before .before .before .before .before .before .before .before .before .before .before .facts-after in
+    let a = c .before .before .before .before .before .before .before .before .before .before .before .before .before .before .before .before .before .before .before .before .before .before .before .before .before .before .before .args in
+    let x = c .before .before .before .before .before .before .before .before .before .before .before .before .before .before .before .before .before .facts-after in
     let small = c .before .before .before .before .before .before .before .before .before .before .before .before .before .before .if1 .left in
     let o = c .before .before .before .before .before .before .before .before .before .before .before .before .open-after in
     let yes = not-false _ (c .before .before .before .before .before .before .before .before .if2 .left) in
@@ -153,18 +144,15 @@ advance-spec =
     facts-after-requires
     same-length
     same-length-2
-    same-length-3
     returns
     open-after-requires
+    same-length-3
     same-length-4
     same-length-5
-    same-length-6
-    same-length-7
     returns-2
     settle-requires
     top-from-requires
+    same-length-6
+    same-length-7
     same-length-8
-    same-length-9
-    same-length-10
-    same-length-11
     returns-3)

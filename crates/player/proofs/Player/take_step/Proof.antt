@@ -17,7 +17,7 @@ step-stop-requires c κs = search needs
 
 returns : tie.Need-returns
 returns c =
-    let a = c .before .before .before .before .before .before .before .before .before .before .before .args in
+    let a = c .before .before .before .before .before .before .before .before .before .before .args in
     let player = wholeOf (a .self) (a .entries .now) (a .moments .now) (a .events .now) in
     let s = c .before .step-stop in (
       λ D q old H st b noted. stops D q player (a .work .now) old st (stepStop (q .objects) (a .p .now)) (s .result) (closeStep D q (a .behind)) (s .ensures ∙ ap (λ (n : ℕ). stepStop n (a .p .now)) (sym (objects-are D q st))) (c .if1 .taken),
@@ -29,9 +29,9 @@ held-requires c κs = search needs
 
 step-requires : tie.Need-step-requires
 step-requires c κs =
-    let p = c .before .before .before .before .before .before .before .before .before .before .before .before .before .before .before .before .before .before .before .pre in
+    let p = c .before .before .before .before .before .before .before .before .before .before .before .before .before .before .before .before .before .pre in
     let m = p .1 .1 .1 in
-    (rw (c .before .before .before .before .held .ensures) (p .0), (m .spare-length, m .effects-length))
+    (rw (c .before .before .before .held .ensures) (p .0), m .scratch-length)
 
 same-length : tie.Need-same-length
 same-length c = search needs
@@ -48,24 +48,24 @@ same-length-4 c = search needs
 same-length-5 : tie.Need-same-length-5
 same-length-5 c = search needs
 
-same-length-6 : tie.Need-same-length-6
-same-length-6 c = search needs
-
 returns-2 : tie.Need-returns-2
 returns-2 c =
-    let a = c .before .before .before .before .before .before .before .before .before .before .before .before .before .before .before .before .before .before .before .before .before .before .before .before .before .before .before .before .args in
+    let a = c .before .before .before .before .before .before .before .before .before .before .before .before .before .before .before .before .before .before .before .before .before .before .before .before .args in
     let player = wholeOf (a .self) (a .entries .now) (a .moments .now) (a .events .now) in
-    let s = c .before .before .before .before .before .before .before .before .before .before .before .before .before .before .before .before .before .before .step-stop in
-    let l = c .before .before .before .before .before .before .before .before .step in (
-      λ D q old H st b noted. let leaves = l .ensures .0 D (q .state) (q .waiting) old (record { domain = H; kept = st .sound .kept; state-is = c .before .before .before .before .before .before .before .before .before .before .before .before .before .held .ensures ∙ state-is D q st; facts-are = st .memory }) (weight-under D q st b) noted in passes D q (stepStop (q .objects) (a .p .now)) (s .result) (closeStep D q (a .behind)) _ _ old (s .ensures ∙ ap (λ (n : ℕ). stepStop n (a .p .now)) (sym (objects-are D q st))) (c .before .before .before .before .before .before .before .before .before .before .before .before .before .before .before .before .before .if1 .left) (close-stops D q (a .behind) player (a .work .now) old st (l .result .number) (l .result .state) (l .result .weight) _ leaves (c .if2 .taken)),
-      λ D q old H st b noted. let leaves = l .ensures .0 D (q .state) (q .waiting) old (record { domain = H; kept = st .sound .kept; state-is = c .before .before .before .before .before .before .before .before .before .before .before .before .before .held .ensures ∙ state-is D q st; facts-are = st .memory }) (weight-under D q st b) noted in noted-unless D _ _ (stepStop (q .objects) (a .p .now)) q (closeStep D q (a .behind)) (noted-closed D (a .head .now) _ q (a .behind) (l .result .number) (leaves .number-is) (l .ensures .1 D (q .state) (q .waiting) old (record { domain = H; kept = st .sound .kept; state-is = c .before .before .before .before .before .before .before .before .before .before .before .before .before .held .ensures ∙ state-is D q st; facts-are = st .memory }) noted)),
+    let s = c .before .before .before .before .before .before .before .before .before .before .before .before .before .before .before .step-stop in
+    let l = c .before .before .before .before .before .before .step in (
+      λ D q old H st b noted. let leaves = l .ensures .0 D (q .state) (q .waiting) old (record { domain = H; kept = st .sound .kept; state-is = c .before .before .before .before .before .before .before .before .before .before .held .ensures ∙ state-is D q st; facts-are = st .memory }) (weight-under D q st b) noted in passes D q (stepStop (q .objects) (a .p .now)) (s .result) (closeStep D q (a .behind)) _ _ old (s .ensures ∙ ap (λ (n : ℕ). stepStop n (a .p .now)) (sym (objects-are D q st))) (c .before .before .before .before .before .before .before .before .before .before .before .before .before .before .if1 .left) (close-stops D q (a .behind) player (a .work .now) old st (l .result .number) (l .result .state) (l .result .weight) _ leaves (c .if2 .taken)),
+      λ D q old H st b noted. let leaves = l .ensures .0 D (q .state) (q .waiting) old (record { domain = H; kept = st .sound .kept; state-is = c .before .before .before .before .before .before .before .before .before .before .held .ensures ∙ state-is D q st; facts-are = st .memory }) (weight-under D q st b) noted in noted-unless D _ _ (stepStop (q .objects) (a .p .now)) q (closeStep D q (a .behind)) (noted-closed D (a .head .now) _ q (a .behind) (l .result .number) (leaves .number-is) (l .ensures .1 D (q .state) (q .waiting) old (record { domain = H; kept = st .sound .kept; state-is = c .before .before .before .before .before .before .before .before .before .before .held .ensures ∙ state-is D q st; facts-are = st .memory }) noted)),
     )
 
 put-requires : tie.Need-put-requires
-put-requires c κs = let m = c .before .before .before .before .before .before .before .before .before .before .before .before .before .before .before .before .before .before .before .before .before .before .before .before .before .before .before .before .before .before .before .pre .1 .1 .1 in (m .entries-length, m .moments-length, m .events-length)
+put-requires c κs = let m = c .before .before .before .before .before .before .before .before .before .before .before .before .before .before .before .before .before .before .before .before .before .before .before .before .before .before .before .pre .1 .1 .1 in (m .entries-length, m .moments-length, m .events-length)
 
-add-t42 : tie.Need-add-t42
-add-t42 c = let f = c .before .before .before .before .before .before .before .before .before .before .before .before .before .before .before .before .before .before .before .before .before .before .before .before .before .before .before .before .before .before .before .before .before .before .before .before .before .before .before .fits .behind in let p = c .before .before .before .before .before .before .before .before .before .before .before .before .before .before .before .before .before .before .before .before .before .before .before .before .before .before .before .before .before .before .before .before .before .before .before .before .before .before .before .pre in omega arith
+add-t39 : tie.Need-add-t39
+add-t39 c = let f = c .before .before .before .before .before .before .before .before .before .before .before .before .before .before .before .before .before .before .before .before .before .before .before .before .before .before .before .before .before .before .before .before .before .before .before .fits .behind in let p = c .before .before .before .before .before .before .before .before .before .before .before .before .before .before .before .before .before .before .before .before .before .before .before .before .before .before .before .before .before .before .before .before .before .before .before .pre in omega arith
+
+same-length-6 : tie.Need-same-length-6
+same-length-6 c = search needs
 
 same-length-7 : tie.Need-same-length-7
 same-length-7 c = search needs
@@ -79,21 +79,15 @@ same-length-9 c = search needs
 same-length-10 : tie.Need-same-length-10
 same-length-10 c = search needs
 
-same-length-11 : tie.Need-same-length-11
-same-length-11 c = search needs
-
-same-length-12 : tie.Need-same-length-12
-same-length-12 c = search needs
-
 returns-3 : tie.Need-returns-3
 returns-3 c =
-    let a = c .before .before .before .before .before .before .before .before .before .before .before .before .before .before .before .before .before .before .before .before .before .before .before .before .before .before .before .before .before .before .before .before .before .before .before .before .before .before .before .args in
+    let a = c .before .before .before .before .before .before .before .before .before .before .before .before .before .before .before .before .before .before .before .before .before .before .before .before .before .before .before .before .before .before .before .before .before .before .before .args in
     let player = wholeOf (a .self) (a .entries .now) (a .moments .now) (a .events .now) in
-    let s = c .before .before .before .before .before .before .before .before .before .before .before .before .before .before .before .before .before .before .before .before .before .before .before .before .before .before .before .before .before .step-stop in
+    let s = c .before .before .before .before .before .before .before .before .before .before .before .before .before .before .before .before .before .before .before .before .before .before .before .before .before .before .step-stop in
     let put = c .before .before .before .before .before .before .before .put in
-    let l = c .before .before .before .before .before .before .before .before .before .before .before .before .before .before .before .before .before .before .before .step in (
-      λ D q old H st b noted. let leaves = l .ensures .0 D (q .state) (q .waiting) old (record { domain = H; kept = st .sound .kept; state-is = c .before .before .before .before .before .before .before .before .before .before .before .before .before .before .before .before .before .before .before .before .before .before .before .before .held .ensures ∙ state-is D q st; facts-are = st .memory }) (weight-under D q st b) noted in passes D q (stepStop (q .objects) (a .p .now)) (s .result) (closeStep D q (a .behind)) _ _ old (s .ensures ∙ ap (λ (n : ℕ). stepStop n (a .p .now)) (sym (objects-are D q st))) (c .before .before .before .before .before .before .before .before .before .before .before .before .before .before .before .before .before .before .before .before .before .before .before .before .before .before .before .before .if1 .left) (close-on D q (a .behind) player (a .work .now) old st (l .result .number) (l .result .state) (l .result .weight) _ leaves (c .before .before .before .before .before .before .before .before .before .before .before .if2 .left) _ (put-back (a .behind) false (a .self .objects) _ (l .result .state) (put .last .1 .0) (put .last .1 .1 .0) (put .last .1 .1 .1 .0) (put .ensures .0) (put .ensures .1) (put .ensures .2))),
-      λ D q old H st b noted. let leaves = l .ensures .0 D (q .state) (q .waiting) old (record { domain = H; kept = st .sound .kept; state-is = c .before .before .before .before .before .before .before .before .before .before .before .before .before .before .before .before .before .before .before .before .before .before .before .before .held .ensures ∙ state-is D q st; facts-are = st .memory }) (weight-under D q st b) noted in noted-unless D _ _ (stepStop (q .objects) (a .p .now)) q (closeStep D q (a .behind)) (noted-closed D (a .head .now) _ q (a .behind) (l .result .number) (leaves .number-is) (l .ensures .1 D (q .state) (q .waiting) old (record { domain = H; kept = st .sound .kept; state-is = c .before .before .before .before .before .before .before .before .before .before .before .before .before .before .before .before .before .before .before .before .before .before .before .before .held .ensures ∙ state-is D q st; facts-are = st .memory }) noted)),
+    let l = c .before .before .before .before .before .before .before .before .before .before .before .before .before .before .before .before .before .step in (
+      λ D q old H st b noted. let leaves = l .ensures .0 D (q .state) (q .waiting) old (record { domain = H; kept = st .sound .kept; state-is = c .before .before .before .before .before .before .before .before .before .before .before .before .before .before .before .before .before .before .before .before .before .held .ensures ∙ state-is D q st; facts-are = st .memory }) (weight-under D q st b) noted in passes D q (stepStop (q .objects) (a .p .now)) (s .result) (closeStep D q (a .behind)) _ _ old (s .ensures ∙ ap (λ (n : ℕ). stepStop n (a .p .now)) (sym (objects-are D q st))) (c .before .before .before .before .before .before .before .before .before .before .before .before .before .before .before .before .before .before .before .before .before .before .before .before .before .if1 .left) (close-on D q (a .behind) player (a .work .now) old st (l .result .number) (l .result .state) (l .result .weight) _ leaves (c .before .before .before .before .before .before .before .before .before .before .before .if2 .left) _ (put-back (a .behind) false (a .self .objects) _ (l .result .state) (put .last .1 .0) (put .last .1 .1 .0) (put .last .1 .1 .1 .0) (put .ensures .0) (put .ensures .1) (put .ensures .2))),
+      λ D q old H st b noted. let leaves = l .ensures .0 D (q .state) (q .waiting) old (record { domain = H; kept = st .sound .kept; state-is = c .before .before .before .before .before .before .before .before .before .before .before .before .before .before .before .before .before .before .before .before .before .held .ensures ∙ state-is D q st; facts-are = st .memory }) (weight-under D q st b) noted in noted-unless D _ _ (stepStop (q .objects) (a .p .now)) q (closeStep D q (a .behind)) (noted-closed D (a .head .now) _ q (a .behind) (l .result .number) (leaves .number-is) (l .ensures .1 D (q .state) (q .waiting) old (record { domain = H; kept = st .sound .kept; state-is = c .before .before .before .before .before .before .before .before .before .before .before .before .before .before .before .before .before .before .before .before .before .held .ensures ∙ state-is D q st; facts-are = st .memory }) noted)),
     )
 
 pub take-step-spec : {M : Type 1} → statement M
@@ -109,14 +103,12 @@ take-step-spec =
     same-length-3
     same-length-4
     same-length-5
-    same-length-6
     returns-2
     put-requires
-    add-t42
+    add-t39
+    same-length-6
     same-length-7
     same-length-8
     same-length-9
     same-length-10
-    same-length-11
-    same-length-12
     returns-3)
