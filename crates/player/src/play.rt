@@ -143,8 +143,8 @@ pub fn play<'a>(domain: &'a [u8], run: &'a [u8], work: &mut [u8], answer: &mut [
         (now (run .entry)) (now (work .entry))) ⌝ }
     ensures work { λ _. ⌜ now (work .exit) ≡ workAfter (now («domain» .entry)) (now (run .entry)) (now (work .entry)) ⌝ }
     ensures machine { λ _. ⌜ PlaysAsMachine (now («domain» .entry)) (now (run .entry)) (now (work .entry))
-        (getD (now (answer .exit)) 0 0) (getD (now (answer .exit)) 1 0) (getD (now (answer .exit)) 2 0)
-        (getD (now (answer .exit)) 3 0) (now (work .exit)) ⌝ }
+        (getD (now (answer .exit)) 0 0) (getD (now (answer .exit)) 1 0)
+        (getD (now (answer .exit)) 2 0) (getD (now (answer .exit)) 3 0) (now (work .exit)) ⌝ }
     ensures low { λ _. ⌜ StaysLow (now («domain» .entry)) (now (run .entry)) (getD (now (answer .exit)) 3 0) ⌝ }
 {
     let told = play_files(domain, run, work);
