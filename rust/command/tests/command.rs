@@ -1,5 +1,8 @@
 //! The command as it is started: its words, its statuses, standard input and output, names of files, tables.
 
+mod folder;
+
+use folder::Folder;
 use std::ffi::OsStr;
 use std::fs::{self, File};
 use std::io::Write;
@@ -25,30 +28,6 @@ fact at(volume7, shelf2)
 step start lend(volume7, shelf2, reader5)
 step end lend(volume7, shelf2, reader5)
 ";
-
-/// A folder of its own for a test, gone behind it.
-struct Folder(PathBuf);
-
-impl Folder {
-    fn new(name: &str) -> Folder {
-        let path = std::env::temp_dir().join(format!("goadlotus {} {name}", std::process::id()));
-        fs::create_dir_all(&path).expect("a folder");
-        Folder(path)
-    }
-
-    fn put(&self, name: &str, content: impl AsRef<[u8]>) -> PathBuf {
-        let path = self.0.join(name);
-        fs::create_dir_all(path.parent().expect("a folder")).expect("a folder");
-        fs::write(&path, content).expect("a file");
-        path
-    }
-}
-
-impl Drop for Folder {
-    fn drop(&mut self) {
-        let _ = fs::remove_dir_all(&self.0);
-    }
-}
 
 fn goadlotus() -> Command {
     Command::new(env!("CARGO_BIN_EXE_goadlotus"))

@@ -1,15 +1,25 @@
-/* Prints what the header's own functions tell of a domain file and a run file: verdict, rows, facts of the witness; number, facts held. */
+/* Prints what the header's own functions tell of a domain file and a run file: verdict, rows, facts of the witness; number, facts held; of a
+ * box with the domain file twice, how many met its verdict and how many moments had each name; of that box cut by a byte, number and place. */
 #include "goadlotus.h"
 #include <inttypes.h>
 #include <stdio.h>
 
 static uint8_t domain[GOADLOTUS_FILE_LIMIT + 1], run[1 << 20];
+static uint8_t box[2 * (sizeof domain + 4)];
 static struct goadlotus_judged judged;
 static struct goadlotus_played played;
+static struct goadlotus_counted counted;
 
 static size_t contents(const char *name, uint8_t *memory, size_t size) {
     FILE *in = fopen(name, "rb");
     return in == NULL ? 0 : fread(memory, 1, size, in);
+}
+
+/* A file behind its length, at the end of the box; the box's length then. */
+static size_t put(size_t at, size_t len) {
+    for (int i = 0; i < 4; i++) box[at + i] = (uint8_t)(len >> 8 * i);
+    memcpy(box + at + 4, domain, len);
+    return at + 4 + len;
 }
 
 int main(int argc, char **argv) {
@@ -21,5 +31,12 @@ int main(int argc, char **argv) {
     goadlotus_judge_file(domain, domain_len, &judged);
     goadlotus_play_files(domain, domain_len, run, run_len, &played);
     printf("%" PRIu64 " %zu %zu\n%" PRIu64 " %zu\n", judged.number, judged.rows, judged.facts, played.number, played.facts);
+    size_t box_len = put(put(0, domain_len), domain_len);
+    memset(&counted, 0xAA, sizeof counted);
+    goadlotus_count_box(box, box_len, &counted);
+    printf("%" PRIu64 " %" PRIu64 " %" PRIu64, counted.number, counted.first, counted.numbers[judged.number]);
+    for (int i = 0; i < 7; i++) printf(" %" PRIu64, counted.names[i]);
+    goadlotus_count_box(box, box_len - 1, &counted);
+    printf("\n%" PRIu64 " %" PRIu64 "\n", counted.number, counted.first);
     return 0;
 }

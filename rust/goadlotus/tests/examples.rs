@@ -84,13 +84,18 @@ fn c_counts() {
         let out = Command::new(&counting.program).args([&domain, &run]).output().expect("it starts");
         let (domain, run) = (fs::read(domain).expect("a domain file"), fs::read(run).expect("a run file"));
         let (judged, played) = (goadlotus::judge_file(&domain), goadlotus::play_files(&domain, &run));
-        let counts = [
+        let mut counts = vec![
             judged.answer.number,
             judged.rows().len() as u64,
             judged.facts().len() as u64,
             played.answer.number,
             played.facts().len() as u64,
         ];
+        // the box with the domain file twice, and cut in the second
+        let named = |name| judged.rows().filter(|row| row.name as u64 == name).count() as u64;
+        counts.extend([0, 568, 2]);
+        counts.extend((1..=7).map(|name| 2 * named(name)));
+        counts.extend([33, domain.len() as u64 + 4]);
         let told: Vec<u64> = String::from_utf8_lossy(&out.stdout).split_whitespace().flat_map(str::parse).collect();
         assert_eq!(told, counts);
         tried += 1;

@@ -134,19 +134,6 @@ fn service_line(fields: &[&str], service: impl Fn(&[u8], &mut [u8]) -> Served) {
     }
 }
 
-fn classes_line(fields: &[&str]) {
-    let &[_, name, domain, numbers] = fields else { panic!("not 4 fields") };
-    let domain = model::read(&bytes(domain)).unwrap_or_else(|stop| panic!("{name}: {stop:?}"));
-    let mut of_actions: Vec<Vec<u8>> = Vec::new();
-    for action in &domain.actions {
-        let classes = model::classes::classes(&domain.template, action);
-        let number = |literal: usize| classes.iter().position(|class| class.literals.into_iter().any(|l| l == literal));
-        of_actions.push((0..action.literals.len()).map(|literal| number(literal).map_or(0xFF, |n| n as u8)).collect());
-    }
-    let told: Vec<Vec<u8>> = numbers.split(' ').map(bytes).collect();
-    assert_eq!(of_actions, told, "{name}");
-}
-
 #[test]
 fn every_edge() {
     let text = include_str!("../../cases/edges.txt");
