@@ -171,18 +171,18 @@ module _ (soles : List ℕ) (class here clause j : ℕ) where
   mark-again n = sym (ap (λ (b : Bool). cond b (j + 1) 255) (ne-eqb (getD soles class 0) 0 n))
 
 -- the notes of the first j literals
-pub record Noted-first (of clauses : List ℕ) (clause j : ℕ) (soles : List ℕ) : Type 0 where
+pub record Noted-first (numbers clauses : List ℕ) (clause j : ℕ) (soles : List ℕ) : Type 0 where
   pub room : length soles ≡ 64
-  pub reach : j ≤ length of
-  pub is : (k : ℕ) → k < 64 → getD soles k 0 ≡ soleBy (isAt of clauses k clause) j
+  pub reach : j ≤ length numbers
+  pub is : (k : ℕ) → k < 64 → getD soles k 0 ≡ soleBy (isAt numbers clauses k clause) j
 
-module _ (of clauses : List ℕ) (clause : ℕ) where
-  pub noted-none : (soles : List ℕ) → soles ≡ pad 64 [] → Noted-first of clauses clause 0 soles
+module _ (numbers clauses : List ℕ) (clause : ℕ) where
+  pub noted-none : (soles : List ℕ) → soles ≡ pad 64 [] → Noted-first numbers clauses clause 0 soles
   unfolding soleBy
   noted-none soles e = record { room = ap length e; reach = omega arith; is = λ k h. ap (λ (l : List ℕ). getD l k 0) e ∙ getD-fill [] 64 k 0 }
 
-  pub noted-more : (j : ℕ) (soles soles′ : List ℕ) → j < length of → Noted-first of clauses clause j soles → length soles′ ≡ length soles
-      → ((k : ℕ) → k < length soles → getD soles′ k 0 ≡ soleMore (eqb (getD of j 0) k && eqb (getD clauses j 0) clause) j (getD soles k 0)) → Noted-first of clauses clause (j + 1) soles′
+  pub noted-more : (j : ℕ) (soles soles′ : List ℕ) → j < length numbers → Noted-first numbers clauses clause j soles → length soles′ ≡ length soles
+      → ((k : ℕ) → k < length soles → getD soles′ k 0 ≡ soleMore (eqb (getD numbers j 0) k && eqb (getD clauses j 0) clause) j (getD soles k 0)) → Noted-first numbers clauses clause (j + 1) soles′
   unfolding soleBy isAt
   noted-more j soles soles′ h N l f =
       record {
@@ -191,9 +191,9 @@ module _ (of clauses : List ℕ) (clause : ℕ) where
         is =
             λ k g.
             let r = N .room in
-            f k (omega arith) ∙ ap (λ (s : ℕ). soleMore (isAt of clauses k clause j) j s) (N .is k g) ∙ ap (soleBy (isAt of clauses k clause)) (sym (add-one j));
+            f k (omega arith) ∙ ap (λ (s : ℕ). soleMore (isAt numbers clauses k clause j) j s) (N .is k g) ∙ ap (soleBy (isAt numbers clauses k clause)) (sym (add-one j));
       }
 
-  pub noted-all : (j : ℕ) (soles : List ℕ) → length of ≤ j → Noted-first of clauses clause j soles → (k : ℕ) → k < 64 → getD soles k 0 ≡ soleAt of clauses k clause
+  pub noted-all : (j : ℕ) (soles : List ℕ) → length numbers ≤ j → Noted-first numbers clauses clause j soles → (k : ℕ) → k < 64 → getD soles k 0 ≡ soleAt numbers clauses k clause
   unfolding soleAt
-  noted-all j soles h N k g = let r = N .reach in let e : j ≡ length of = omega arith in N .is k g ∙ ap (soleBy (isAt of clauses k clause)) e
+  noted-all j soles h N k g = let r = N .reach in let e : j ≡ length numbers = omega arith in N .is k g ∙ ap (soleBy (isAt numbers clauses k clause)) e

@@ -1,5 +1,5 @@
-// Classes of an action: their names (here), their numbers (number), and what a class has at a moment (counts).
-pub mod counts;
+// Classes of an action: their names (here), their numbers (number), and what a class has at a moment (names).
+pub mod names;
 pub mod number;
 
 use literals::limits::MAX_LITERALS;

@@ -1,9 +1,9 @@
 -- How the code holds key tuples and sorts role bytes. Assumes nothing.
 use mathlib.Core.Bool.{Bool, cond}
-use mathlib.Core.List.{List, [], _∷_, _++_}
-use Prim.Native.Nat.{ℕ, zero, suc, _+_}
+use mathlib.Core.List.{List, [], _∷_, _++_, map}
+use Prim.Native.Nat.{ℕ, zero, suc, _+_, _*_}
 use lib.Dec.{eqb, ltb}
-use lib.ListN.{getD, drop}
+use lib.ListN.{getD, take, drop}
 use Rattle.literals.specs.declared.Key.{Key}
 use Rattle.literals.specs.declared.Time.{Time}
 use Rattle.literals.specs.declared.Role.{Role}
@@ -73,3 +73,24 @@ keyRows n (part ∷ parts) row = cond (eqb (byte row 1) (byte part 0)) (keyRow n
 unfoldable pub keyRowsIn : List ℕ → List ℕ → List (List ℕ)
 unfolding keysIn partsIn keyRows
 keyRowsIn head row = keyRows (keysIn head) (partsIn head) row
+
+-- ---- key tuples as numbers
+
+-- a number with these bytes behind it, the last lowest
+abbrev pub wordFrom : ℕ → List ℕ → ℕ
+wordFrom w [] = w
+wordFrom w (b ∷ bs) = wordFrom (256 * w + b) bs
+
+-- the number of a key tuple, of its row: the bytes under n keys
+abbrev pub rowWord : ℕ → List ℕ → ℕ
+rowWord n row = wordFrom 0 (take n row)
+
+-- that of a literal's row under a component's row
+unfoldable pub keyWord : ℕ → List ℕ → List ℕ → ℕ
+unfolding keyRow
+keyWord n part row = rowWord n (keyRow n part row)
+
+-- that of a literal's row under the first component with its relation, or none, by the head of a domain
+unfoldable pub keyWordsIn : List ℕ → List ℕ → List ℕ
+unfolding keysIn keyRowsIn
+keyWordsIn head row = map (rowWord (keysIn head)) (keyRowsIn head row)

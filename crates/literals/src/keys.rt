@@ -7,13 +7,14 @@ use super::head::part_byte;
 use super::is_key;
 use super::label_of;
 use super::limits::MAX_ARGUMENTS;
+use records::bytes::wide;
 ghost use mathlib.Core.Path.{_≡_};
 ghost use Prim.Native.Nat.{_+_, _<_, _≤_};
 ghost use lib.Dec.{eqb};
 ghost use lib.ListN.{length, take, drop};
 ghost use Rattle.literals.specs.Decode.{maxComponents, byte};
 ghost use Rattle.literals.specs.Held.{keysIn, partIn, partsIn};
-ghost use Rattle.literals.specs.Keys.{position, placeUnder, argumentAt, keyRow};
+ghost use Rattle.literals.specs.Keys.{position, placeUnder, argumentAt, keyRow, keyWord};
 
 // The number of the first component with this relation, or how many components there are.
 pub fn component_of(head: &Head, relation: u8) -> usize
@@ -68,4 +69,18 @@ pub fn key_tuple(head: &Head, c: usize, rows: &[u8], at: usize) -> [u8; 8]
         t[k] = argument_byte(rows, at, place);
     }
     t
+}
+
+// The same as one number, the byte under the last key lowest. There are at most six keys, so that it is below 2 ^ 48.
+pub fn key_word(head: &Head, c: usize, rows: &[u8], at: usize) -> u64
+    requires { ⌜ (c < maxComponents) × (at + 8 ≤ length (now rows)) ⌝ }
+    ensures { λ r. ⌜ r ≡ keyWord (keysIn (now (head .entry))) (partIn (now (head .entry)) c) (take 8 (drop at (now (rows .entry)))) ⌝ }
+{
+    let mut word: u64 = 0;
+    for k in 0..keys_in(head) {
+        let place = place_under(head, c, Key(k as u8));
+        let byte = wide(argument_byte(rows, at, place));
+        word = 256 * word + byte as u64;
+    }
+    word
 }

@@ -23,13 +23,13 @@ abbrev pub classCounts : Domain → List Action → List ℕ
 classCounts D as′ = map (λ (a : Action). length (classes D a)) as′
 
 -- the true conditions and the adds of each class at the moment of these clauses
-pub record SolesIn (of clauses conditions adds : List ℕ) : Type 0 where
-  pub conditions-are : (k : ℕ) → k < maxLiterals → getD conditions k 0 ≡ soleAt of clauses k 1
-  pub adds-are : (k : ℕ) → k < maxLiterals → getD adds k 0 ≡ soleAt of clauses k 3
+pub record SolesIn (numbers clauses conditions adds : List ℕ) : Type 0 where
+  pub conditions-are : (k : ℕ) → k < maxLiterals → getD conditions k 0 ≡ soleAt numbers clauses k 1
+  pub adds-are : (k : ℕ) → k < maxLiterals → getD adds k 0 ≡ soleAt numbers clauses k 3
 
 -- an end of an action: the clauses of its own literals there, and which literal of each class is asked as a true condition
-pub record EndOf (D : Domain) (a : Action) (head rows of clauses reach : List ℕ) : Type 0 where
-  pub own : MomentOf D a End head rows of clauses
+pub record EndOf (D : Domain) (a : Action) (head rows numbers clauses reach : List ℕ) : Type 0 where
+  pub own : MomentOf D a End head rows numbers clauses
   pub reaches : (k : ℕ) → k < 64 → getD reach k 0 ≡ reachAt D a End k
 
 -- rs are the rows named so far, n of them, their names in a memory that has room for them

@@ -37,7 +37,7 @@ returns c =
     let w = c .before .before .with-each .ensures in (
       w .0,
       λ before old D a i N A t f g.
-          w .1 before old D a i N (record { whole = A; numbers = f; clauses-are = c .before .before .before .before .before .before .before .before .before .before .before .before .before .before .before .before .before .before .before .before .clauses-at .ensures D a _ A refl }) t (λ k. absurd (clash k (not-true _ (c .before .before .before .before .before .before .before .before .before .before .before .if1 .taken)))) g,
+          w .1 before old D a i N (record { whole = A; numbers-are = f; clauses-are = c .before .before .before .before .before .before .before .before .before .before .before .before .before .before .before .before .before .before .before .before .clauses-at .ensures D a _ A refl }) t (λ k. absurd (clash k (not-true _ (c .before .before .before .before .before .before .before .before .before .before .before .if1 .taken)))) g,
     )
 
 clauses-at-requires-2 : tie.Need-clauses-at-requires-2
@@ -77,9 +77,9 @@ returns-2 c =
     let w = c .before .before .with-each2 .ensures in (
       w .0,
       λ before old D a i N A t f g.
-          w .1 before old D a i N (record { whole = A; numbers = f; clauses-are = c .before .before .before .before .before .before .before .before .before .before .before .before .before .before .before .before .before .before .before .before .before .before .before .before .before .before .before .before .before .before .before .before .before .before .before .before .clauses-at .ensures D a _ A refl }) t
+          w .1 before old D a i N (record { whole = A; numbers-are = f; clauses-are = c .before .before .before .before .before .before .before .before .before .before .before .before .before .before .before .before .before .before .before .before .before .before .before .before .before .before .before .before .before .before .before .before .before .before .before .before .clauses-at .ensures D a _ A refl }) t
           (λ k. record {
-            own = record { whole = A; numbers = f; clauses-are = c .before .before .before .before .before .before .before .before .before .before .before .before .before .before .before .before .before .before .before .before .before .before .before .before .before .clauses-at2 .ensures D a _ A refl };
+            own = record { whole = A; numbers-are = f; clauses-are = c .before .before .before .before .before .before .before .before .before .before .before .before .before .before .before .before .before .before .before .before .before .before .before .before .before .clauses-at2 .ensures D a _ A refl };
             reaches = λ j h. c .before .before .before .before .before .before .before .before .before .before .before .before .soles-at5 .ensures refl j h ∙ reach-is D a f (c .before .before .before .before .before .before .before .before .before .before .before .before .before .before .before .clauses-at3 .ensures D a _ A refl) j;
           }) g,
     )

@@ -10,11 +10,11 @@ use Rattle.naming.proofs.Naming.with_each.Statement.{statement}
 use Rattle.naming.proofs.Naming.with_each.Tie as tie
 
 abbrev Inv-loop : tie.InvT-loop
-Inv-loop head rows of at-start at-end conditions adds reach end-conditions end-adds count lasting names₀ next₀ class₀ names next class =
-    InClasses head rows of at-start at-end reach count lasting names₀ next₀ names next class
+Inv-loop head rows numbers at-start at-end conditions adds reach end-conditions end-adds count lasting names₀ next₀ class₀ names next class =
+    InClasses head rows numbers at-start at-end reach count lasting names₀ next₀ names next class
 
 abbrev μ-loop : tie.MeasureT-loop
-μ-loop head rows of at-start at-end conditions adds reach end-conditions end-adds count lasting names₀ next₀ class₀ names next class = count - class
+μ-loop head rows numbers at-start at-end conditions adds reach end-conditions end-adds count lasting names₀ next₀ class₀ names next class = count - class
 
 loop-holds : tie.Need-loop-holds Inv-loop μ-loop
 loop-holds c =
