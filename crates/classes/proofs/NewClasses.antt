@@ -46,8 +46,8 @@ module _ (p : ℕ → Bool) (words : List ℕ) (n : ℕ) (room : n ≤ length wo
     pub first-miss : p (getD words c 0) ≡ false → c + 1 + position p (drop (c + 1) first) ≡ c + position p (drop c first)
     first-miss t =
         let e : c + position p (drop c first) ≡ c + suc (position p (drop (suc c) first)) =
-            ap (λ (xs : List ℕ). c + position p xs) next
-            ∙ ap (λ (b : Bool). c + cond b zero (suc (position p (drop (suc c) first)))) t in
+        ap (λ (xs : List ℕ). c + position p xs) next
+        ∙ ap (λ (b : Bool). c + cond b zero (suc (position p (drop (suc c) first)))) t in
         let f : position p (drop (c + 1) first) ≡ position p (drop (suc c) first) = ap (λ (k : ℕ). position p (drop k first)) (add-one c) in
         omega arith
 

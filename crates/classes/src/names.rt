@@ -307,7 +307,13 @@ fn first_lacking(head: &Head, rows: &[u8], numbers: &[u8], clauses: &Marks, clas
 }
 
 // The same, of a domain that is held.
-pub fn first_uncovered(head: &Head, rows: &[u8], numbers: &[u8], clauses: &Marks, class: u8) -> usize
+pub fn first_uncovered(
+    head: &Head,
+    rows: &[u8],
+    numbers: &[u8],
+    clauses: &Marks,
+    class: u8,
+) -> usize
     requires { ⌜ Sides (now rows) (now numbers) ⌝ }
     ensures { λ r. ⌜ ((D : Domain) (a : Action) (m : Moment)
         → MomentOf D a m (now (head .entry)) (now (rows .entry)) (now (numbers .entry)) (now (clauses .entry))
@@ -388,7 +394,8 @@ fn any_lasting(rows: &[u8], numbers: &[u8], class: u8) -> bool
 // Whether a class of an action has an over-all literal: at its end nothing is shown then.
 pub fn lasts_at(rows: &[u8], numbers: &[u8], class: u8) -> bool
     requires { ⌜ Sides (now rows) (now numbers) ⌝ }
-    ensures { λ r. ⌜ ((D : Domain) (a : Action) (head : List ℕ) → ActionOf D a head (now (rows .entry)) → now (numbers .entry) ≡ classNumbers D a
+    ensures { λ r. ⌜ ((D : Domain) (a : Action) (head : List ℕ) → ActionOf D a head (now (rows .entry))
+        → now (numbers .entry) ≡ classNumbers D a
         → class < length (classes D a) → r ≡ lastsIn D a (getD (classes D a) class [])) ⌝ }
 {
     any_lasting(rows, numbers, class)

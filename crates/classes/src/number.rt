@@ -67,7 +67,8 @@ fn number_literal(head: &Head, rows: &[u8], at: usize, words: &mut [u64], count:
 // How many classes an action has whose literals are these rows; `numbers` gets the class number of each literal. In `words` the key
 // tuples of the classes stand as numbers meanwhile: one comparison tells two of them apart.
 pub fn number_classes(head: &Head, rows: &[u8], numbers: &mut [u8], words: &mut [u64]) -> usize
-    requires { ⌜ (length (now rows) ≡ 8 * length (now numbers)) × (length (now numbers) ≤ maxLiterals) × (length (now words) ≡ maxLiterals) ⌝ }
+    requires { ⌜ (length (now rows) ≡ 8 * length (now numbers))
+        × (length (now numbers) ≤ maxLiterals) × (length (now words) ≡ maxLiterals) ⌝ }
     ensures few { λ r. ⌜ r ≤ length (now (numbers .entry)) ⌝ }
     ensures classes { λ r. ⌜ ((D : Domain) (a : Action) → ActionOf D a (now (head .entry)) (now (rows .entry))
         → (r ≡ length (classes D a)) × (now (numbers .exit) ≡ classNumbers D a)) ⌝ }

@@ -2,11 +2,11 @@
 use classes::Marks;
 use classes::Name;
 use classes::Sole;
+use classes::name_number;
 use classes::names::clauses_at;
 use classes::names::is_journey;
 use classes::names::name_at;
 use classes::names::soles_at;
-use classes::name_number;
 use classes::number::number_classes;
 use literals::Moment;
 use literals::head::Head;
@@ -93,7 +93,15 @@ fn name_class(
         → lasting ≡ true → a .lasting ≡ true
         → (r .end ≡ nameOf D a (getD (classes D a) class []) End) × (r .journey ≡ journey D a (getD (classes D a) class []))) ⌝ }
 {
-    let start = name_at(head, rows, numbers, at_start, first.conditions, first, class);
+    let start = name_at(
+        head,
+        rows,
+        numbers,
+        at_start,
+        first.conditions,
+        first,
+        class,
+    );
     if lasting {
         return ClassNames {
             start,
@@ -191,7 +199,8 @@ impl Naming {
         ensures rows { λ r. ⌜ r .rows ≤ self .rows + 2 * count ⌝ }
         ensures named { λ r. ⌜ ((before : List Row) (old : List ℕ) (D : Domain) (a : Action) (i : ℕ)
             → Named before [] self (now (names .entry)) old
-            → MomentOf D a Start (now (head .entry)) (now (rows .entry)) (now (numbers .entry)) (now («at_start» .entry)) → a .lasting ≡ lasting
+            → MomentOf D a Start (now (head .entry)) (now (rows .entry)) (now (numbers .entry)) (now («at_start» .entry))
+            → a .lasting ≡ lasting
             → (lasting ≡ true → EndOf D a (now (head .entry)) (now (rows .entry)) (now (numbers .entry)) (now («at_end» .entry))
             (now (reach .entry))) → count ≡ length (classes D a)
             → Named before (rowsOfClasses D a i 0 (classes D a)) r (now (names .exit)) old) ⌝ }
@@ -221,8 +230,8 @@ impl Naming {
         next
     }
 
-    // The rows of the classes of an action: `numbers` holds the class number of each of its literals, which are these rows. (An action at once
-    // has no end.)
+    // The rows of the classes of an action: `numbers` holds the class number of each of its literals, which are these rows. (An action at
+    // once has no end.)
     fn with_classes(
         self,
         head: &Head,

@@ -140,14 +140,7 @@ fn object_under(tuple: &[u8], label: Label, spare: Object) -> Object
 }
 
 // A byte of the instance fact of the component `c`, which has this arity, at an offset.
-fn instance_byte(
-    head: &Head,
-    c: usize,
-    arity: u8,
-    tuple: &[u8],
-    spare: Object,
-    i: usize,
-) -> u8
+fn instance_byte(head: &Head, c: usize, arity: u8, tuple: &[u8], spare: Object, i: usize) -> u8
     requires component { ⌜ (c < maxComponents) × (arity ≤ maxArguments) ⌝ }
     requires inside { ⌜ i < 8 ⌝ }
     requires tuple { ⌜ 8 ≤ length (now tuple) ⌝ }

@@ -187,8 +187,10 @@ returns c =
     let H = c .before .before .before .before .before .before .before .pre .0 .1 in
     let m = H .says .actions in (
       names-few H (l .i) _ (omega arith) (l .inv .few _ H),
-      (λ D H wf. let m = H .says .actions in numbered-all D (l .i) _ (omega arith) (l .inv .numbered D H wf),
-      λ D H wf z. let m = H .says .actions in naming-done D (l .i) (omega arith) (l .inv .listed D H wf) (l .inv .noted D H wf) (l .inv .counted D H wf z)),
+      (
+        λ D H wf. let m = H .says .actions in numbered-all D (l .i) _ (omega arith) (l .inv .numbered D H wf),
+        λ D H wf z. let m = H .says .actions in naming-done D (l .i) (omega arith) (l .inv .listed D H wf) (l .inv .noted D H wf) (l .inv .counted D H wf z),
+      ),
     )
 
 pub name-all-spec : {M : Type 1} → statement M
