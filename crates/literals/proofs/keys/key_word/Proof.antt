@@ -62,7 +62,7 @@ loop-again c =
     let l = c .before .before .before .before .before .loop in
     let w = c .wide2 in
     let u =
-        under-place (partIn (a .head .now) (a .c)) (a .rows .now) (a .at) (l .k) (omega arith) (part-length (a .head .now) (a .c)) (c .before .before .before .before .before .before .before .before .pre .1 .1)
+    under-place (partIn (a .head .now) (a .c)) (a .rows .now) (a .at) (l .k) (omega arith) (part-length (a .head .now) (a .c)) (c .before .before .before .before .before .before .before .before .pre .1 .1)
     in
     let e = l .inv .2 in (
       omega arith,
