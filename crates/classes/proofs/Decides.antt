@@ -38,15 +38,9 @@ use Rattle.classes.proofs.Rows.{noLiteral, literalAt, kept-at, role-at,
 use Rattle.classes.proofs.Clauses.{clauses-few, literals-at, required-at, asked-start}
 use Rattle.classes.proofs.Roles.{own-few}
 use Rattle.classes.proofs.Members.{member}
-use Rattle.classes.proofs.Soles.{sole-none, sole-many, sole-one, sole-less, sole-passes, sole-all}
+use Rattle.classes.proofs.Soles.{and-comm, sole-none, sole-many, sole-one, sole-less, sole-passes, sole-all}
 
 -- ---- the members of a class at a moment
-
-and-comm : (s t : Bool) → s && t ≡ t && s
-and-comm true true = refl
-and-comm true false = refl
-and-comm false true = refl
-and-comm false false = refl
 
 -- ---- tests
 
@@ -316,27 +310,27 @@ module _ (D : Domain) (a : Action) (B : BoundedDomain D) (i : In a (D .actions))
 
 -- ---- the memories of a moment
 
-module _ {D : Domain} {a : Action} {m : Moment} {head rows of clauses : List ℕ} (M : MomentOf D a m head rows of clauses) where
+module _ {D : Domain} {a : Action} {m : Moment} {head rows numbers clauses : List ℕ} (M : MomentOf D a m head rows numbers clauses) where
   its-bounds : BoundedDomain D
   its-bounds = M .whole .says .bounded
 
   -- the other moment of its action, by the bytes that it has there
   pub moment-of : (m′ : Moment) → MomentOf D a m′ head rows (classNumbers D a) (pad 64 (clausesAt a m′))
-  moment-of m′ = record { whole = M .whole; numbers = refl; clauses-are = refl }
+  moment-of m′ = record { whole = M .whole; numbers-are = refl; clauses-are = refl }
 
-  pub uncovered-held : {k : ℕ} → k < length (classes D a) → lackingAt head rows of clauses k ≡ uncoveredAt D a (getD (classes D a) k []) m
+  pub uncovered-held : {k : ℕ} → k < length (classes D a) → lackingAt head rows numbers clauses k ≡ uncoveredAt D a (getD (classes D a) k []) m
   uncovered-held {k} h =
-      (λ t. lackingAt head (M .whole .literals t) (M .numbers t) (M .clauses-are t) k)
+      (λ t. lackingAt head (M .whole .literals t) (M .numbers-are t) (M .clauses-are t) k)
       ∙ uncovered-in D a its-bounds (M .whole .listed) m k h (M .whole .says)
 
 -- ---- the first line that fits
 
-module _ {D : Domain} {a : Action} {m : Moment} {head rows of clauses : List ℕ} (M : MomentOf D a m head rows of clauses) {k : ℕ} (h : k < length (classes D a)) {sole : Sole} (s : sole ≡ soleOf of clauses k) where
+module _ {D : Domain} {a : Action} {m : Moment} {head rows numbers clauses : List ℕ} (M : MomentOf D a m head rows numbers clauses) {k : ℕ} (h : k < length (classes D a)) {sole : Sole} (s : sole ≡ soleOf numbers clauses k) where
   conditions-are : sole .conditions ≡ soleAt (classNumbers D a) (pad 64 (clausesAt a m)) k 1
-  conditions-are = ap (λ (r : Sole). r .conditions) s ∙ ap₂ (λ (o c : List ℕ). soleAt o c k 1) (M .numbers) (M .clauses-are)
+  conditions-are = ap (λ (r : Sole). r .conditions) s ∙ ap₂ (λ (o c : List ℕ). soleAt o c k 1) (M .numbers-are) (M .clauses-are)
 
   adds-are : sole .adds ≡ soleAt (classNumbers D a) (pad 64 (clausesAt a m)) k 3
-  adds-are = ap (λ (r : Sole). r .adds) s ∙ ap₂ (λ (o c : List ℕ). soleAt o c k 3) (M .numbers) (M .clauses-are)
+  adds-are = ap (λ (r : Sole). r .adds) s ∙ ap₂ (λ (o c : List ℕ). soleAt o c k 3) (M .numbers-are) (M .clauses-are)
 
   pub no-conditions : sole .conditions ≡ 0 → length (inClass D a (getD (classes D a) k []) m Positive) ≡ 0
   no-conditions z = none-in D a (its-bounds M) (M .whole .listed) m k h Positive (sym conditions-are ∙ z)
@@ -371,35 +365,35 @@ module _ {D : Domain} {a : Action} {m : Moment} {head rows of clauses : List ℕ
       go (inr t) = let n = one-add y (eqb-false _ _ t) in omega arith
 
   module _ (some : sole .conditions ≡ 0 → ⊥) (few : sole .conditions ≡ 255 → ⊥) where
-    pub changed-held : changedAt rows of clauses k (sole .conditions - 1)
+    pub changed-held : changedAt rows numbers clauses k (sole .conditions - 1)
         ≡ all (changedBy (inClass D a (getD (classes D a) k []) m Add) (inClass D a (getD (classes D a) k []) m Delete)) (inClass D a (getD (classes D a) k []) m Positive)
     changed-held =
-        (λ t. changedAt (M .whole .literals t) (M .numbers t) (M .clauses-are t) k (conditions-are t - 1))
+        (λ t. changedAt (M .whole .literals t) (M .numbers-are t) (M .clauses-are t) k (conditions-are t - 1))
         ∙ changed-in D a (its-bounds M) (M .whole .listed) m k h (λ w. some (conditions-are ∙ w)) (λ w. few (conditions-are ∙ w))
 
-    pub deleted-held : sameIn rows of clauses k 4 (sole .conditions - 1)
+    pub deleted-held : sameIn rows numbers clauses k 4 (sole .conditions - 1)
         ≡ all (deletedBy (inClass D a (getD (classes D a) k []) m Delete)) (inClass D a (getD (classes D a) k []) m Positive)
     deleted-held =
-        (λ t. sameIn (M .whole .literals t) (M .numbers t) (M .clauses-are t) k 4 (conditions-are t - 1))
+        (λ t. sameIn (M .whole .literals t) (M .numbers-are t) (M .clauses-are t) k 4 (conditions-are t - 1))
         ∙ deleted-in D a (its-bounds M) (M .whole .listed) m k h (λ w. some (conditions-are ∙ w)) (λ w. few (conditions-are ∙ w))
 
 -- where the only condition stands, a loop may look
-pub sole-inside : (of clauses : List ℕ) (class : ℕ) {sole : Sole} → length of ≤ 64 → sole ≡ soleOf of clauses class → (sole .conditions ≡ 0 → ⊥) → (sole .conditions ≡ 255 → ⊥)
-    → sole .conditions - 1 < length of
+pub sole-inside : (numbers clauses : List ℕ) (class : ℕ) {sole : Sole} → length numbers ≤ 64 → sole ≡ soleOf numbers clauses class → (sole .conditions ≡ 0 → ⊥) → (sole .conditions ≡ 255 → ⊥)
+    → sole .conditions - 1 < length numbers
 unfolding soleAt
-sole-inside of clauses class h e some few =
+sole-inside numbers clauses class h e some few =
     let c = ap (λ (r : Sole). r .conditions) e in
-    rw c (sole-less (isAt of clauses class 1) (length of) h (λ w. some (c ∙ w)) (λ w. few (c ∙ w)))
+    rw c (sole-less (isAt numbers clauses class 1) (length numbers) h (λ w. some (c ∙ w)) (λ w. few (c ∙ w)))
 
 -- ---- whether a class has an over-all literal
 
 lasts-byte : (l : Literal) → Kept l → sameTime OverAll (roleOf (roleNumber (l .role)) .time) ≡ sameTime OverAll (l .role .time)
 lasts-byte l k = ap (λ (r : Role). sameTime OverAll (r .time)) (k .back)
 
-pub lasts-held : {D : Domain} {a : Action} {head rows of : List ℕ} → ActionOf D a head rows → of ≡ classNumbers D a → {k : ℕ} → k < length (classes D a)
-    → any (lastsAt rows of k) (below (length of)) ≡ lastsIn D a (getD (classes D a) k [])
+pub lasts-held : {D : Domain} {a : Action} {head rows numbers : List ℕ} → ActionOf D a head rows → numbers ≡ classNumbers D a → {k : ℕ} → k < length (classes D a)
+    → any (lastsAt rows numbers k) (below (length numbers)) ≡ lastsIn D a (getD (classes D a) k [])
 unfolding lastsAt lastsIn
-lasts-held {D} {a} {head} {rows} {of} A f {k} h =
+lasts-held {D} {a} {head} {rows} {numbers} A f {k} h =
     ap₂ (λ (r o : List ℕ). any (lastsAt r o k) (below (length o))) (A .literals) f
     ∙ ap (λ (l : ℕ). any (lastsAt (flatMap literalRow (a .lits)) (classNumbers D a) k) (below l)) (length-numbers D a B i Start k h)
     ∙ any-below (lastsAt (flatMap literalRow (a .lits)) (classNumbers D a) k) (λ j. test (literalAt (a .lits) j)) (length (a .lits)) agree
@@ -455,7 +449,7 @@ name-is D a x m =
 
 -- ---- the name of a class, as the code finds it: `reach` tells which of its literals is asked as a true condition
 
-module _ {D : Domain} {a : Action} {m : Moment} {head rows of clauses : List ℕ} (M : MomentOf D a m head rows of clauses) {k : ℕ} (h : k < length (classes D a)) {sole : Sole} (s : sole ≡ soleOf of clauses k)
+module _ {D : Domain} {a : Action} {m : Moment} {head rows numbers clauses : List ℕ} (M : MomentOf D a m head rows numbers clauses) {k : ℕ} (h : k < length (classes D a)) {sole : Sole} (s : sole ≡ soleOf numbers clauses k)
     {reach : ℕ} (r : reach ≡ reachAt D a m k) where
   pub unreachable-named : reach ≡ 255 → Unreachable ≡ nameOf D a (getD (classes D a) k []) m
   unfolding reachAt
@@ -485,7 +479,7 @@ module _ {D : Domain} {a : Action} {m : Moment} {head rows of clauses : List ℕ
     heavy-named z = sym (name-is D a (getD (classes D a) k []) m ∙ by-heavy _ _ _ _ _ few-asked (many-adds M h s z))
 
     module _ (added : sole .adds ≡ 0 → ⊥) (light : sole .adds ≡ 255 → ⊥) where
-      pub changed-named : (sole .conditions ≡ 0 → ⊥) → (t : Bool) → changedAt rows of clauses k (sole .conditions - 1) ≡ t → cond t Balanced Unbalanced ≡ nameOf D a (getD (classes D a) k []) m
+      pub changed-named : (sole .conditions ≡ 0 → ⊥) → (t : Bool) → changedAt rows numbers clauses k (sole .conditions - 1) ≡ t → cond t Balanced Unbalanced ≡ nameOf D a (getD (classes D a) k []) m
       changed-named some t c =
           sym (name-is D a (getD (classes D a) k []) m
           ∙ by-changed _ _ _ _ _ few-asked (one-condition M h s some few) (one-add M h s added light)
@@ -499,12 +493,12 @@ module _ {D : Domain} {a : Action} {m : Moment} {head rows of clauses : List ℕ
           ∙ ap (λ (b : Bool). cond b Bounded Unbounded) (ap₂ eqb (sym p) (sym z) ∙ c))
 
 -- what is asked at a start is its own
-pub asked-at-start : {D : Domain} {a : Action} {head rows of clauses : List ℕ} → MomentOf D a Start head rows of clauses → (k : ℕ) {sole : Sole} → sole ≡ soleOf of clauses k
+pub asked-at-start : {D : Domain} {a : Action} {head rows numbers clauses : List ℕ} → MomentOf D a Start head rows numbers clauses → (k : ℕ) {sole : Sole} → sole ≡ soleOf numbers clauses k
     → sole .conditions ≡ reachAt D a Start k
 unfolding reachAt
 asked-at-start {D} {a} M k s =
     ap (λ (r : Sole). r .conditions) s
-    ∙ ap₂ (λ (o c : List ℕ). soleAt o c k 1) (M .numbers) (M .clauses-are ∙ ap (pad 64) (sym (asked-start a)))
+    ∙ ap₂ (λ (o c : List ℕ). soleAt o c k 1) (M .numbers-are) (M .clauses-are ∙ ap (pad 64) (sym (asked-start a)))
 
 -- ---- whether it is a journey
 

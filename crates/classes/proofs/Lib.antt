@@ -1,7 +1,8 @@
--- Laws of classes: class numbers by rows, tests and rows by index, the clauses of literals at a moment, the members of a class, which literals of a class have a clause, and what decides its name.
+-- Laws of classes: class numbers by rows, tests and rows by index, the clauses of literals at a moment, the class numbers of a table, the members of a class, which literals of a class have a clause, and what decides its name.
 pub mod NewClasses
 pub mod Numbers
 pub mod Numbering
+pub mod Tables
 pub mod Rows
 pub mod Clauses
 pub mod Roles

@@ -1,77 +1,121 @@
 -- The class of one literal, by its key tuple and those of the classes before it. Assumes nothing.
 use mathlib.Core.Path.{_≡_, refl, sym, ap, _∙_}
-use mathlib.Core.List.{List, [], _∷_}
-use Prim.Native.Nat.{ℕ, _+_, _*_, _≤_, _<_}
+use mathlib.Core.Bool.{Bool, true, false, cond}
+use mathlib.Core.List.{List, [], _∷_, map}
+use Prim.Native.Nat.{ℕ, zero, suc, _+_, _-_, _*_, _≤_, _<_}
+use native.Mathlib.Numerals.{add-one}
 use native.Mathlib.Omega.{arith}
 use lib.Dec.{eqb}
-use lib.ListN.{length, getD, take, drop}
-use lib.Seq.{paste}
+use lib.ListN.{length, getD, set, take, drop, replicate, drop-of-length-le}
+use lib.Seq.{drop-cons, getD-take, length-take-le}
 use borrow.Author.Tests.{eq-eqb, ne-eqb}
-use Rattle.records.specs.Lists.{sameList}
 use Rattle.literals.specs.Decode.{byte}
-use Rattle.literals.specs.Table.{rowOf, rowsIn}
-use Rattle.literals.proofs.Rows.{row-full, part-at}
+use Rattle.literals.proofs.Rows.{part-at}
 use Rattle.literals.proofs.Heads.{parts-length, part-row}
 use Rattle.literals.specs.Held.{componentsIn, keysIn, partIn, partsIn}
-use Rattle.literals.specs.Keys.{position, keyRow, keyRowsIn}
-use Rattle.classes.specs.Coded.{numberedBy, tuplesAfter}
-use Rattle.literals.proofs.KeyRows.{length-tuple, place-le, length-rows, key-rows-none, key-rows-one}
+use Rattle.literals.specs.Keys.{position, keyRow, keyRowsIn, rowWord, keyWord, keyWordsIn}
+use Rattle.classes.specs.Coded.{numberedBy, wordsAfter, onlyRow}
+use Rattle.literals.proofs.KeyRows.{place-le, key-rows-none, key-rows-one}
+
+-- ---- the first of n numbers that passes, from the number c on
+
+module _ (p : ℕ → Bool) (words : List ℕ) (n : ℕ) (room : n ≤ length words) where
+  abbrev first : List ℕ
+  first = take n words
+
+  length-first : length first ≡ n
+  length-first = length-take-le n words room
+
+  pub first-end : (c : ℕ) → n ≤ c → c + position p (drop c first) ≡ c
+  first-end c h =
+      let l = length-first in
+      ap (λ (xs : List ℕ). c + position p xs) (drop-of-length-le first {i = c} (omega arith)) ∙ omega arith
+
+  module _ (c : ℕ) (h : c < n) where
+    next : drop c first ≡ getD words c 0 ∷ drop (suc c) first
+    next =
+        let l = length-first in
+        drop-cons first c 0 (omega arith) ∙ ap (λ (x : ℕ). x ∷ drop (suc c) first) (getD-take n words c 0 h)
+
+    pub first-hit : p (getD words c 0) ≡ true → c + position p (drop c first) ≡ c
+    first-hit t =
+        ap (λ (xs : List ℕ). c + position p xs) next
+        ∙ ap (λ (b : Bool). c + cond b zero (suc (position p (drop (suc c) first)))) t
+        ∙ omega arith
+
+    pub first-miss : p (getD words c 0) ≡ false → c + 1 + position p (drop (c + 1) first) ≡ c + position p (drop c first)
+    first-miss t =
+        let e : c + position p (drop c first) ≡ c + suc (position p (drop (suc c) first)) =
+        ap (λ (xs : List ℕ). c + position p xs) next
+        ∙ ap (λ (b : Bool). c + cond b zero (suc (position p (drop (suc c) first)))) t in
+        let f : position p (drop (c + 1) first) ≡ position p (drop (suc c) first) = ap (λ (k : ℕ). position p (drop k first)) (add-one c) in
+        omega arith
 
 -- ---- one literal's class
 
-module _ (t tuples : List ℕ) (count class : ℕ) (e : class ≡ position (sameList eqb t) (rowsIn count tuples)) where
-  numbered-new : class ≡ count → record { class = class; count = count + 1 } ≡ numberedBy (t ∷ []) count tuples
+module _ (w : ℕ) (words : List ℕ) (count class : ℕ) (e : class ≡ position (eqb w) (take count words)) where
+  numbered-new : class ≡ count → record { class = class; count = count + 1 } ≡ numberedBy (w ∷ []) count words
   unfolding numberedBy
   numbered-new f = rw (← e, eq-eqb class count f)
 
-  numbered-old : (class ≡ count → ⊥) → record { class = class; count = count } ≡ numberedBy (t ∷ []) count tuples
+  numbered-old : (class ≡ count → ⊥) → record { class = class; count = count } ≡ numberedBy (w ∷ []) count words
   unfolding numberedBy
   numbered-old f = rw (← e, ne-eqb class count f)
 
-  tuples-new : class ≡ count → paste tuples (8 * count) t 8 ≡ tuplesAfter (t ∷ []) count tuples
-  unfolding tuplesAfter
-  tuples-new f = rw (← e, eq-eqb class count f)
+  words-new : class ≡ count → set words count w ≡ wordsAfter (w ∷ []) count words
+  unfolding wordsAfter
+  words-new f = rw (← e, eq-eqb class count f)
 
-  tuples-old : (class ≡ count → ⊥) → tuples ≡ tuplesAfter (t ∷ []) count tuples
-  unfolding tuplesAfter
-  tuples-old f = rw (← e, ne-eqb class count f)
+  words-old : (class ≡ count → ⊥) → words ≡ wordsAfter (w ∷ []) count words
+  unfolding wordsAfter
+  words-old f = rw (← e, ne-eqb class count f)
 
 -- by the place of the component of its relation
-module _ (head rows tuples : List ℕ) (at count c : ℕ) (g : at + 8 ≤ length rows) (e : c ≡ position (λ row. eqb (getD rows (at + 1) 0) (byte row 0)) (partsIn head)) where
+module _ (head rows : List ℕ) (at c : ℕ) (g : at + 8 ≤ length rows) (e : c ≡ position (λ row. eqb (getD rows (at + 1) 0) (byte row 0)) (partsIn head)) where
   pub component-le : c ≤ componentsIn head
   component-le = omega (arith, place-le (λ row. eqb (getD rows (at + 1) 0) (byte row 0)) (partsIn head), parts-length head)
 
-  pub unmatched : c ≡ componentsIn head
-      → (record { class = 255; count = count } ≡ numberedBy (keyRowsIn head (take 8 (drop at rows))) count tuples)
-      × (tuples ≡ tuplesAfter (keyRowsIn head (take 8 (drop at rows))) count tuples)
-  unfolding numberedBy tuplesAfter keyRowsIn
-  unmatched f =
-      rw (key-rows-none (keysIn head) (getD rows (at + 1) 0) (take 8 (drop at rows)) (part-at 8 rows at g 1 (omega arith)) (partsIn head) (sym e ∙ f ∙ sym (parts-length head)))
-      (refl, refl)
+  unmatched-rows : c ≡ componentsIn head → keyRowsIn head (take 8 (drop at rows)) ≡ []
+  unfolding keyRowsIn
+  unmatched-rows f = key-rows-none (keysIn head) (getD rows (at + 1) 0) (take 8 (drop at rows)) (part-at 8 rows at g 1 (omega arith)) (partsIn head) (sym e ∙ f ∙ sym (parts-length head))
 
-  module _ (h : c ≡ componentsIn head → ⊥) (t : List ℕ) (f : t ≡ keyRow (keysIn head) (partIn head c) (take 8 (drop at rows))) where
-    matched : keyRowsIn head (take 8 (drop at rows)) ≡ t ∷ []
+  pub unmatched-tuple : c ≡ componentsIn head → replicate 8 255 ≡ onlyRow (keyRowsIn head (take 8 (drop at rows)))
+  unmatched-tuple f = sym (ap onlyRow (unmatched-rows f))
+
+  pub unmatched : (count : ℕ) (words : List ℕ) → c ≡ componentsIn head
+      → (record { class = 255; count = count } ≡ numberedBy (keyWordsIn head (take 8 (drop at rows))) count words)
+      × (words ≡ wordsAfter (keyWordsIn head (take 8 (drop at rows))) count words)
+  unfolding numberedBy wordsAfter keyWordsIn
+  unmatched count words f = rw (unmatched-rows f) (refl, refl)
+
+  module _ (h : c ≡ componentsIn head → ⊥) where
+    matched-rows : keyRowsIn head (take 8 (drop at rows)) ≡ keyRow (keysIn head) (partIn head c) (take 8 (drop at rows)) ∷ []
     unfolding keyRowsIn
-    matched =
+    matched-rows =
         let u = key-rows-one (keysIn head) (getD rows (at + 1) 0) (take 8 (drop at rows)) (part-at 8 rows at g 1 (omega arith)) (partsIn head) (λ z. h (e ∙ z ∙ parts-length head)) in
         let v : c < componentsIn head = omega (arith, component-le) in
         u
         ∙ ap (λ (k : ℕ). keyRow (keysIn head) (getD (partsIn head) k []) (take 8 (drop at rows)) ∷ []) (sym e)
         ∙ ap (λ (p : List ℕ). keyRow (keysIn head) p (take 8 (drop at rows)) ∷ []) (part-row head c v)
-        ∙ ap (λ (x : List ℕ). x ∷ []) (sym f)
 
-    module _ (class : ℕ) (q : class ≡ position (sameList eqb t) (rowsIn count tuples)) where
-      pub class-le : class ≤ count
-      class-le = omega (arith, place-le (sameList eqb t) (rowsIn count tuples), length-rows 8 count tuples)
+    pub matched-tuple : keyRow (keysIn head) (partIn head c) (take 8 (drop at rows)) ≡ onlyRow (keyRowsIn head (take 8 (drop at rows)))
+    matched-tuple = sym (ap onlyRow matched-rows)
 
-      pub new-class : class ≡ count → keysIn head ≤ 8 → (out : List ℕ) → out ≡ paste tuples (8 * count) (rowOf t) 8
-          → (record { class = class; count = count + 1 } ≡ numberedBy (keyRowsIn head (take 8 (drop at rows))) count tuples)
-          × (out ≡ tuplesAfter (keyRowsIn head (take 8 (drop at rows))) count tuples)
-      new-class z k out o =
-          let l : length t ≡ 8 = ap length f ∙ length-tuple (keysIn head) (partIn head c) (take 8 (drop at rows)) k in
-          rw matched (numbered-new t tuples count class q z, o ∙ ap (λ (x : List ℕ). paste tuples (8 * count) x 8) (row-full t l) ∙ tuples-new t tuples count class q z)
+    module _ (w : ℕ) (f : w ≡ keyWord (keysIn head) (partIn head c) (take 8 (drop at rows))) where
+      matched : keyWordsIn head (take 8 (drop at rows)) ≡ w ∷ []
+      unfolding keyWordsIn keyWord
+      matched = ap (map (rowWord (keysIn head))) matched-rows ∙ ap (λ (x : ℕ). x ∷ []) (sym f)
 
-      pub old-class : (class ≡ count → ⊥)
-          → (record { class = class; count = count } ≡ numberedBy (keyRowsIn head (take 8 (drop at rows))) count tuples)
-          × (tuples ≡ tuplesAfter (keyRowsIn head (take 8 (drop at rows))) count tuples)
-      old-class z = rw matched (numbered-old t tuples count class q z, tuples-old t tuples count class q z)
+      module _ (count : ℕ) (words : List ℕ) (class : ℕ) (q : class ≡ position (eqb w) (take count words)) where
+        pub class-le : count ≤ length words → class ≤ count
+        class-le l = omega (arith, place-le (eqb w) (take count words), length-take-le count words l)
+
+        pub new-class : class ≡ count → (out : List ℕ) → out ≡ set words count w
+            → (record { class = class; count = count + 1 } ≡ numberedBy (keyWordsIn head (take 8 (drop at rows))) count words)
+            × (out ≡ wordsAfter (keyWordsIn head (take 8 (drop at rows))) count words)
+        new-class z out o = rw matched (numbered-new w words count class q z, o ∙ words-new w words count class q z)
+
+        pub old-class : (class ≡ count → ⊥)
+            → (record { class = class; count = count } ≡ numberedBy (keyWordsIn head (take 8 (drop at rows))) count words)
+            × (words ≡ wordsAfter (keyWordsIn head (take 8 (drop at rows))) count words)
+        old-class z = rw matched (numbered-old w words count class q z, words-old w words count class q z)

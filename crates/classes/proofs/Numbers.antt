@@ -1,29 +1,29 @@
 -- The numbers of an action's classes, literal by literal: what the loops over rows find in a domain. Assumes nothing.
-use mathlib.Core.Path.{_≡_, refl, sym, ap, ap₂, _∙_}
+use mathlib.Core.Path.{_≡_, refl, sym, ap, ap₂, subst, _∙_}
 use mathlib.Core.Bool.{Bool, true, false, _&&_, _||_, not, cond}
 use mathlib.Core.Logic.{_⊎_, inl, inr}
-use mathlib.Core.List.{List, [], _∷_, _++_, map, flatMap, map-append, append-nil, List·Memᴰ·head, List·Memᴰ·tail, List·Memᴰ·not-nil, List·Memᴰ·eq-of-singleton}
+use mathlib.Core.List.{List, [], _∷_, _++_, map, flatMap, map-append, append-nil, List·Memᴰ·head, List·Memᴰ·tail, List·Memᴰ·not-nil, List·Memᴰ·eq-of-singleton, List·Memᴰ·append-cases}
 use Prim.Native.Nat.{ℕ, zero, suc, _+_, _-_, _*_, _≤_, _<_}
 use native.Mathlib.Omega.{arith}
 use lib.Dec.{eqb}
-use lib.ListN.{length, drop, replicate, length-append, length-map}
-use lib.Seq.{paste}
-use borrow.Author.Tests.{eqb-true, eq-eqb, ne-eqb}
+use lib.ListN.{length, set, take, drop, replicate, length-append, length-map}
+use lib.Seq.{take-at}
+use borrow.Author.Tests.{eqb-true, eqb-false, eq-eqb, ne-eqb}
 use Rattle.records.specs.Lists.{addIf, keepIf, countBy, all, any, In, sameList, elem, distinct, dedup}
 use Rattle.records.specs.Memory.{over}
-use Rattle.records.proofs.Lists.{and-l, and-r, bool-cases, clash, not-true, all-in, eqb-comm, eqb-same, sameList-self, in-elem, in-dedup, dedup-in, flatMap-in, in-flatMap, flatMap-append, dedup-snoc}
-use Rattle.records.proofs.Memory.{drop-replicate}
+use Rattle.records.proofs.Lists.{and-l, and-r, bool-cases, clash, not-true, all-in, eqb-comm, eqb-same, in-keepIf, in-elem, in-dedup, dedup-in, flatMap-in, in-flatMap, flatMap-append, dedup-snoc}
+use Rattle.records.proofs.Memory.{over-more}
 use Rattle.literals.specs.declared.Variable.{Variable}
+use Rattle.literals.specs.declared.Key.{Key}
 use Rattle.literals.specs.declared.Label.{Label}
 use Rattle.literals.specs.declared.Label.the-variants.{Key as keyed, Counted}
 use Rattle.literals.specs.Domain.{key, sameVariable, Literal, Component, isKey, eachKeyOnce, Domain, arity}
-use Rattle.literals.specs.Table.{rowOf, literalRow, labelNumber, componentRow, rowsIn}
+use Rattle.literals.specs.Table.{rowOf, literalRow, labelNumber, componentRow}
 use Rattle.literals.proofs.Equality.{variables-eq, variables-self}
-use Rattle.literals.proofs.Rows.{length-row}
-use Rattle.literals.proofs.Tables.{over-row, length-flat, rows-flat, value}
+use Rattle.literals.proofs.Tables.{value}
 use Rattle.literals.specs.Matching.{under, keyTuple, tuplesBy}
-use Rattle.literals.specs.Keys.{position, underKey, underKeys, keyRow, keyRows}
-use Rattle.classes.specs.Coded.{classNumberBy, tupleRow, numberedBy, tuplesAfter}
+use Rattle.literals.specs.Keys.{position, underKey, underKeys, keyRow, keyRows, wordFrom, rowWord}
+use Rattle.classes.specs.Coded.{classNumberBy, tupleRow, numberedBy, wordsAfter}
 use Rattle.literals.proofs.KeyRows.{length-keys}
 
 abbrev pub same : List Variable → List Variable → Bool
@@ -104,10 +104,34 @@ key-bytes (suc n) ls vs xs ys h e t =
     map-append value (keyTuple n ls vs) (under (key n) ls vs)
     ∙ ap₂ _++_ (key-bytes n ls vs xs ys (omega arith) e (and-l _ _ t)) (under-once n (omega arith) ls vs xs ys e (eqb-true _ 1 (and-r (eachKeyOnce n ls) _ t)))
 
+-- ---- a tuple's members are arguments
+
+module _ {A : Type 0} where
+  under-in : (k : Key) (ls : List Label) (vs : List A) {v : A} → In v (under k ls vs) → In v vs
+  under-in k [] vs m = absurd (List·Memᴰ·not-nil m)
+  under-in k (l ∷ ls) [] m = m
+  under-in k (l ∷ ls) (w ∷ ws) {v} m = go (λ n. under-in k ls ws n) (in-keepIf (isKey k l) w (under k ls ws) m)
+    where
+      go : (In v (under k ls ws) → In v ws) → ((isKey k l ≡ true) × (v ≡ w)) ⊎ In v (under k ls ws) → In v (w ∷ ws)
+      go ih (inl h) = List·Memᴰ·head (h .1)
+      go ih (inr n) = List·Memᴰ·tail (ih n)
+
+  pub keyTuple-in : (n : ℕ) (ls : List Label) (vs : List A) {v : A} → In v (keyTuple n ls vs) → In v vs
+  keyTuple-in zero ls vs m = absurd (List·Memᴰ·not-nil m)
+  keyTuple-in (suc n) ls vs {v} m = go (λ k. keyTuple-in n ls vs k) (List·Memᴰ·append-cases (keyTuple n ls vs) m)
+    where
+      go : (In v (keyTuple n ls vs) → In v vs) → In v (keyTuple n ls vs) ⊎ In v (under (key n) ls vs) → In v vs
+      go ih (inl k) = ih k
+      go ih (inr k) = under-in (key n) ls vs k
+
 -- ---- the key tuples of a literal: none, or one under each key
 
+-- each variable is a byte
+abbrev pub Small : List Variable → Type 0
+Small x = (v : Variable) → In v x → v .0 < 256
+
 abbrev pub One : ℕ → List (List Variable) → Type 0
-One n ts = (ts ≡ []) ⊎ ((t : List Variable) × (ts ≡ t ∷ []) × (length t ≡ n))
+One n ts = (ts ≡ []) ⊎ ((t : List Variable) × (ts ≡ t ∷ []) × (length t ≡ n) × Small t)
 
 -- each relation has one component
 abbrev pub Once : List Component → Type 0
@@ -159,15 +183,15 @@ module _ (D : Domain) (n : ℕ) (small : n ≤ 6) (l : Literal) (e : length (l .
     tuples-later : eqb (c .rel) (l .atom .rel) ≡ false → tuplesBy n (c ∷ cs) (l .atom) ≡ tuplesBy n cs (l .atom)
     tuples-later q = rw q
 
-  pub tuples-one : (cs : List Component) → ((c : Component) → In c cs → Fits D n c) → Once cs → One n (tuplesBy n cs (l .atom))
-  tuples-one [] f o = inl refl
-  tuples-one (c ∷ cs) f o = go (bool-cases (eqb (c .rel) (l .atom .rel))) (tuples-one cs (λ d m. f d (List·Memᴰ·tail m)) (and-r (all (λ (y : Component). not (eqb (c .rel) (y .rel))) cs) _ o))
+  pub tuples-one : Small (l .atom .args) → (cs : List Component) → ((c : Component) → In c cs → Fits D n c) → Once cs → One n (tuplesBy n cs (l .atom))
+  tuples-one b [] f o = inl refl
+  tuples-one b (c ∷ cs) f o = go (bool-cases (eqb (c .rel) (l .atom .rel))) (tuples-one b cs (λ d m. f d (List·Memᴰ·tail m)) (and-r (all (λ (y : Component). not (eqb (c .rel) (y .rel))) cs) _ o))
     where
       here : Fits D n c
       here = f c (List·Memᴰ·head refl)
 
       go : (eqb (c .rel) (l .atom .rel) ≡ true) ⊎ (eqb (c .rel) (l .atom .rel) ≡ false) → One n (tuplesBy n cs (l .atom)) → One n (tuplesBy n (c ∷ cs) (l .atom))
-      go (inl q) ih = inr (keyTuple n (c .labels) (l .atom .args), tuples-first c cs here o q, tuple-length c here (eqb-true _ _ q))
+      go (inl q) ih = inr (keyTuple n (c .labels) (l .atom .args), tuples-first c cs here o q, tuple-length c here (eqb-true _ _ q), λ v m. b v (keyTuple-in n (c .labels) (l .atom .args) m))
       go (inr q) ih = rw (tuples-later c cs here o q) ih
 
   -- as the rows of the template give them
@@ -224,7 +248,7 @@ module _ (T : Literal → List (List Variable)) where
 
     earlier : {n : ℕ} → One n (T l) → (k : Literal) → In k ls → classNumberBy (found (ls ++ (l ∷ []))) (T k) ≡ classNumberBy (found ls) (T k)
     earlier (inl e) k m = ap (λ (xs : List (List Variable)). classNumberBy xs (T k)) (found-skip e)
-    earlier (inr (t, e, q)) k m = ap (λ (xs : List (List Variable)). classNumberBy xs (T k)) (found-more t e) ∙ go (elem same t (found ls))
+    earlier (inr (t, e, q, s)) k m = ap (λ (xs : List (List Variable)). classNumberBy xs (T k)) (found-more t e) ∙ go (elem same t (found ls))
       where
         go : (b : Bool) → classNumberBy (cond b (found ls) (found ls ++ (t ∷ []))) (T k) ≡ classNumberBy (found ls) (T k)
         go true = refl
@@ -236,73 +260,80 @@ module _ (T : Literal → List (List Variable)) where
         ∙ ap (λ (x : List ℕ). x ++ (classNumberBy (found (ls ++ (l ∷ []))) (T l) ∷ []))
         (map-same (λ k. classNumberBy (found (ls ++ (l ∷ []))) (T k)) (λ k. classNumberBy (found ls) (T k)) ls (earlier o))
 
-  found-lengths : (n : ℕ) (ls : List Literal) → ((l : Literal) → In l ls → One n (T l)) → (x : List Variable) → In x (found ls) → length x ≡ n
-  found-lengths n ls h x m = let r = flatMap-in T ls (dedup-in same (flatMap T ls) m) in go (T (r .0)) (h (r .0) (r .1)) (r .2)
+  found-ones : (n : ℕ) (ls : List Literal) → ((l : Literal) → In l ls → One n (T l)) → (x : List Variable) → In x (found ls) → (length x ≡ n) × Small x
+  found-ones n ls h x m = let r = flatMap-in T ls (dedup-in same (flatMap T ls) m) in go (T (r .0)) (h (r .0) (r .1)) (r .2)
     where
-      go : (ts : List (List Variable)) → One n ts → In x ts → length x ≡ n
+      go : (ts : List (List Variable)) → One n ts → In x ts → (length x ≡ n) × Small x
       go ts (inl e) i = absurd (List·Memᴰ·not-nil (rw e at i))
-      go ts (inr (t, e, q)) i = ap length (List·Memᴰ·eq-of-singleton (rw e at i)) ∙ q
+      go ts (inr (t, e, q, s)) i = subst (λ (y : List Variable). (length y ≡ n) × Small y) (sym (List·Memᴰ·eq-of-singleton (rw e at i))) (q, s)
 
--- ---- their bytes
+-- ---- their words
 
--- the rows of classes, and FF behind them
-abbrev pub rowsOf : List (List Variable) → List ℕ
-rowsOf xs = flatMap tupleRow xs ++ replicate (512 - length (flatMap tupleRow xs)) 255
+-- the word of a key tuple
+abbrev pub tupleWord : List Variable → ℕ
+tupleWord x = wordFrom 0 (map value x)
 
-rows-over : (xs : List (List Variable)) → rowsOf xs ≡ over (flatMap tupleRow xs) (replicate 512 255)
-unfolding over
-rows-over xs = ap (λ (b : List ℕ). flatMap tupleRow xs ++ b) (sym (drop-replicate (length (flatMap tupleRow xs)) 512 255))
+-- words of one byte more are the same where the words are and the bytes are
+digit-same : (m n x y : ℕ) → x < 256 → y < 256 → eqb (256 * m + x) (256 * n + y) ≡ eqb m n && eqb x y
+digit-same m n x y h k = go (bool-cases (eqb m n)) (bool-cases (eqb x y))
+  where
+    go : (eqb m n ≡ true) ⊎ (eqb m n ≡ false) → (eqb x y ≡ true) ⊎ (eqb x y ≡ false) → eqb (256 * m + x) (256 * n + y) ≡ eqb m n && eqb x y
+    go (inl p) (inl q) =
+        let u = eqb-true m n p in
+        let v = eqb-true x y q in
+        eq-eqb (256 * m + x) (256 * n + y) (omega arith) ∙ sym (ap₂ _&&_ p q)
+    go (inl p) (inr q) = ne-eqb (256 * m + x) (256 * n + y) (λ e. eqb-false x y q (omega arith)) ∙ sym (ap₂ _&&_ p q)
+    go (inr p) r = ne-eqb (256 * m + x) (256 * n + y) (λ e. eqb-false m n p (omega arith)) ∙ sym (ap (λ (b : Bool). b && eqb x y) p)
 
-alike-filled : (m : ℕ) (x y : List Variable) → length x ≡ length y → sameList eqb (map value x ++ replicate m 255) (map value y ++ replicate m 255) ≡ same x y
-alike-filled m [] [] e = sameList-self eqb eqb-same (replicate m 255)
-alike-filled m [] (y ∷ ys) e = absurd (omega arith)
-alike-filled m (x ∷ xs) [] e = absurd (omega arith)
-alike-filled m (x ∷ xs) (y ∷ ys) e = ap (λ (b : Bool). eqb (x .0) (y .0) && b) (alike-filled m xs ys (omega arith))
+and-assoc : (a b c : Bool) → (a && b) && c ≡ a && (b && c)
+and-assoc true b c = refl
+and-assoc false b c = refl
 
-alike-rows : (x y : List Variable) → length x ≡ length y → sameList eqb (tupleRow x) (tupleRow y) ≡ same x y
-alike-rows x y e =
-    let f : length (map value x) ≡ length (map value y) = length-map x value ∙ e ∙ sym (length-map y value) in
-    ap (λ (k : ℕ). sameList eqb (map value x ++ replicate (8 - k) 255) (tupleRow y)) f
-    ∙ alike-filled (8 - length (map value y)) x y e
+and-true : (a : Bool) → a ≡ a && true
+and-true true = refl
+and-true false = refl
 
-length-tuple-row : (x : List Variable) → length x ≤ 8 → length (tupleRow x) ≡ 8
-length-tuple-row x h = length-row (map value x) (rw length-map h)
+words-same : (m n : ℕ) (x y : List Variable) → length x ≡ length y → Small x → Small y
+    → eqb (wordFrom m (map value x)) (wordFrom n (map value y)) ≡ eqb m n && same x y
+words-same m n [] [] e s t = and-true (eqb m n)
+words-same m n [] (y ∷ ys) e s t = absurd (omega arith)
+words-same m n (x ∷ xs) [] e s t = absurd (omega arith)
+words-same m n (x ∷ xs) (y ∷ ys) e s t =
+    words-same (256 * m + x .0) (256 * n + y .0) xs ys (omega arith) (λ v i. s v (List·Memᴰ·tail i)) (λ v i. t v (List·Memᴰ·tail i))
+    ∙ ap (λ (b : Bool). b && same xs ys) (digit-same m n (x .0) (y .0) (s x (List·Memᴰ·head refl)) (t y (List·Memᴰ·head refl)))
+    ∙ and-assoc (eqb m n) (eqb (x .0) (y .0)) (same xs ys)
 
-module _ (n : ℕ) (small : n ≤ 6) (xs : List (List Variable)) (sized : (x : List Variable) → In x xs → length x ≡ n) where
-  eight : (x : List Variable) → In x xs → length (tupleRow x) ≡ 8
-  eight x m = length-tuple-row x (omega (arith, sized x m))
+-- the word decides whether two tuples are the same
+pub alike-words : (x y : List Variable) → length x ≡ length y → Small x → Small y → eqb (tupleWord x) (tupleWord y) ≡ same x y
+alike-words x y e s t = words-same 0 0 x y e s t ∙ ap (λ (b : Bool). b && same x y) (eqb-same 0)
 
-  length-found : length (flatMap tupleRow xs) ≡ 8 * length xs
-  length-found = length-flat tupleRow xs eight
+-- of a tuple's row
+pub row-word : (n : ℕ) (x : List Variable) → length x ≡ n → rowWord n (tupleRow x) ≡ tupleWord x
+row-word n x e = ap (wordFrom 0) (take-at (map value x) (replicate (8 - length (map value x)) 255) n (length-map x value ∙ e))
 
-  module _ (t : List Variable) (e : length t ≡ n) where
-    place-row : position (sameList eqb (tupleRow t)) (rowsIn (length xs) (rowsOf xs)) ≡ position (same t) xs
-    place-row =
-        ap (position (sameList eqb (tupleRow t))) (rows-flat tupleRow xs (replicate (512 - length (flatMap tupleRow xs)) 255) eight)
-        ∙ place-map tupleRow (sameList eqb (tupleRow t)) (same t) xs (λ x m. alike-rows t x (e ∙ sym (sized x m)))
+-- the words of classes, in a memory
+abbrev pub wordsOf : List (List Variable) → List ℕ → List ℕ
+wordsOf xs words₀ = over (map tupleWord xs) words₀
 
-    flat-row : flatMap tupleRow (xs ++ (t ∷ [])) ≡ flatMap tupleRow xs ++ tupleRow t
-    unfolding flatMap
-    flat-row = flatMap-append tupleRow xs (t ∷ []) ∙ ap (λ (x : List ℕ). flatMap tupleRow xs ++ x) (append-nil (tupleRow t))
+module _ (n : ℕ) (words₀ : List ℕ) (xs : List (List Variable)) (ones : (x : List Variable) → In x xs → (length x ≡ n) × Small x) where
+  module _ (t : List Variable) (e : length t ≡ n) (s : Small t) where
+    place-word : position (eqb (tupleWord t)) (take (length xs) (wordsOf xs words₀)) ≡ position (same t) xs
+    unfolding over
+    place-word =
+        ap (position (eqb (tupleWord t))) (take-at (map tupleWord xs) (drop (length (map tupleWord xs)) words₀) (length xs) (length-map xs tupleWord))
+        ∙ place-map tupleWord (eqb (tupleWord t)) (same t) xs (λ x m. alike-words t x (e ∙ sym (ones x m .0)) s (ones x m .1))
 
-    paste-row : paste (rowsOf xs) (8 * length xs) (tupleRow t) 8 ≡ rowsOf (xs ++ (t ∷ []))
-    paste-row =
-        ap (λ (b : List ℕ). paste b (8 * length xs) (tupleRow t) 8) (rows-over xs)
-        ∙ over-row (flatMap tupleRow xs) (replicate 512 255) (map value t) (8 * length xs) length-found (rw length-map (omega arith))
-        ∙ ap (λ (b : List ℕ). over b (replicate 512 255)) (sym flat-row)
-        ∙ sym (rows-over (xs ++ (t ∷ [])))
-
-    numbered-known : elem same t xs ≡ true → numberedBy (tupleRow t ∷ []) (length xs) (rowsOf xs) ≡ record { class = position (same t) xs; count = length xs }
+    numbered-known : elem same t xs ≡ true → numberedBy (tupleWord t ∷ []) (length xs) (wordsOf xs words₀) ≡ record { class = position (same t) xs; count = length xs }
     unfolding numberedBy
     numbered-known q =
-        ap (λ (c : ℕ). record { class = c; count = cond (eqb c (length xs)) (length xs + 1) (length xs) }) place-row
+        ap (λ (c : ℕ). record { class = c; count = cond (eqb c (length xs)) (length xs + 1) (length xs) }) place-word
         ∙ ap (λ (b : Bool). record { class = position (same t) xs; count = cond b (length xs + 1) (length xs) }) (ne-eqb (position (same t) xs) (length xs) (λ z. omega (arith, place-some (same t) xs q)))
 
-    tuples-known : elem same t xs ≡ true → tuplesAfter (tupleRow t ∷ []) (length xs) (rowsOf xs) ≡ rowsOf xs
-    unfolding tuplesAfter
-    tuples-known q =
-        ap (λ (c : ℕ). cond (eqb c (length xs)) (paste (rowsOf xs) (8 * length xs) (tupleRow t) 8) (rowsOf xs)) place-row
-        ∙ ap (λ (b : Bool). cond b (paste (rowsOf xs) (8 * length xs) (tupleRow t) 8) (rowsOf xs)) (ne-eqb (position (same t) xs) (length xs) (λ z. omega (arith, place-some (same t) xs q)))
+    words-known : elem same t xs ≡ true → wordsAfter (tupleWord t ∷ []) (length xs) (wordsOf xs words₀) ≡ wordsOf xs words₀
+    unfolding wordsAfter
+    words-known q =
+        ap (λ (c : ℕ). cond (eqb c (length xs)) (set (wordsOf xs words₀) (length xs) (tupleWord t)) (wordsOf xs words₀)) place-word
+        ∙ ap (λ (b : Bool). cond b (set (wordsOf xs words₀) (length xs) (tupleWord t)) (wordsOf xs words₀)) (ne-eqb (position (same t) xs) (length xs) (λ z. omega (arith, place-some (same t) xs q)))
 
     module _ (q : elem same t xs ≡ false) where
       place-last : position (same t) xs ≡ length xs
@@ -314,48 +345,50 @@ module _ (n : ℕ) (small : n ≤ 6) (xs : List (List Variable)) (sized : (x : L
       length-joined : length xs + 1 ≡ length (xs ++ (t ∷ []))
       length-joined = sym (length-append xs (t ∷ []))
 
-      numbered-joined : numberedBy (tupleRow t ∷ []) (length xs) (rowsOf xs) ≡ record { class = position (same t) (xs ++ (t ∷ [])); count = length (xs ++ (t ∷ [])) }
+      numbered-joined : numberedBy (tupleWord t ∷ []) (length xs) (wordsOf xs words₀) ≡ record { class = position (same t) (xs ++ (t ∷ [])); count = length (xs ++ (t ∷ [])) }
       unfolding numberedBy
       numbered-joined =
-          ap (λ (c : ℕ). record { class = c; count = cond (eqb c (length xs)) (length xs + 1) (length xs) }) place-row
+          ap (λ (c : ℕ). record { class = c; count = cond (eqb c (length xs)) (length xs + 1) (length xs) }) place-word
           ∙ ap (λ (b : Bool). record { class = position (same t) xs; count = cond b (length xs + 1) (length xs) }) (eq-eqb (position (same t) xs) (length xs) place-last)
           ∙ (λ i. record { class = place-joined i; count = length-joined i })
 
-      tuples-joined : tuplesAfter (tupleRow t ∷ []) (length xs) (rowsOf xs) ≡ rowsOf (xs ++ (t ∷ []))
-      unfolding tuplesAfter
-      tuples-joined =
-          ap (λ (c : ℕ). cond (eqb c (length xs)) (paste (rowsOf xs) (8 * length xs) (tupleRow t) 8) (rowsOf xs)) place-row
-          ∙ ap (λ (b : Bool). cond b (paste (rowsOf xs) (8 * length xs) (tupleRow t) 8) (rowsOf xs)) (eq-eqb (position (same t) xs) (length xs) place-last)
-          ∙ paste-row
+      words-joined : length xs < length words₀ → wordsAfter (tupleWord t ∷ []) (length xs) (wordsOf xs words₀) ≡ wordsOf (xs ++ (t ∷ [])) words₀
+      unfolding wordsAfter
+      words-joined room =
+          ap (λ (c : ℕ). cond (eqb c (length xs)) (set (wordsOf xs words₀) (length xs) (tupleWord t)) (wordsOf xs words₀)) place-word
+          ∙ ap (λ (b : Bool). cond b (set (wordsOf xs words₀) (length xs) (tupleWord t)) (wordsOf xs words₀)) (eq-eqb (position (same t) xs) (length xs) place-last)
+          ∙ over-more (map tupleWord xs) words₀ (length xs) (tupleWord t) (length-map xs tupleWord) room
+          ∙ ap (λ (l : List ℕ). over l words₀) (sym (map-append tupleWord xs (t ∷ [])))
 
 -- one literal more
-module _ (T : Literal → List (List Variable)) (n : ℕ) (small : n ≤ 6) (ls : List Literal) (h : (l : Literal) → In l ls → One n (T l)) (l : Literal) where
+module _ (T : Literal → List (List Variable)) (n : ℕ) (words₀ : List ℕ) (ls : List Literal) (h : (l : Literal) → In l ls → One n (T l)) (l : Literal) where
   pub numbered-more : One n (T l)
-      → numberedBy (map tupleRow (T l)) (length (found T ls)) (rowsOf (found T ls))
+      → numberedBy (map tupleWord (T l)) (length (found T ls)) (wordsOf (found T ls) words₀)
       ≡ record { class = classNumberBy (found T (ls ++ (l ∷ []))) (T l); count = length (found T (ls ++ (l ∷ []))) }
   unfolding numberedBy
   numbered-more (inl e) =
       rw (found-skip T ls l e, e)
-  numbered-more (inr (t, e, q)) =
-      ap (λ (ts : List (List Variable)). numberedBy (map tupleRow ts) (length (found T ls)) (rowsOf (found T ls))) e
+  numbered-more (inr (t, e, q, s)) =
+      ap (λ (ts : List (List Variable)). numberedBy (map tupleWord ts) (length (found T ls)) (wordsOf (found T ls) words₀)) e
       ∙ go (bool-cases (elem same t (found T ls)))
       ∙ ap (λ (ts : List (List Variable)). record { class = classNumberBy (found T (ls ++ (l ∷ []))) ts; count = length (found T (ls ++ (l ∷ []))) }) (sym e)
     where
       go : (elem same t (found T ls) ≡ true) ⊎ (elem same t (found T ls) ≡ false)
-          → numberedBy (tupleRow t ∷ []) (length (found T ls)) (rowsOf (found T ls)) ≡ record { class = position (same t) (found T (ls ++ (l ∷ []))); count = length (found T (ls ++ (l ∷ []))) }
+          → numberedBy (tupleWord t ∷ []) (length (found T ls)) (wordsOf (found T ls) words₀) ≡ record { class = position (same t) (found T (ls ++ (l ∷ []))); count = length (found T (ls ++ (l ∷ []))) }
       go (inl b) =
-          numbered-known n small (found T ls) (found-lengths T n ls h) t q b
+          numbered-known n words₀ (found T ls) (found-ones T n ls h) t q s b
           ∙ ap (λ (xs : List (List Variable)). record { class = position (same t) xs; count = length xs }) (found-known T ls l t e b)
       go (inr b) =
-          numbered-joined n small (found T ls) (found-lengths T n ls h) t q b
+          numbered-joined n words₀ (found T ls) (found-ones T n ls h) t q s b
           ∙ ap (λ (xs : List (List Variable)). record { class = position (same t) xs; count = length xs }) (found-joined T ls l t e b)
 
-  pub tuples-more : One n (T l) → tuplesAfter (map tupleRow (T l)) (length (found T ls)) (rowsOf (found T ls)) ≡ rowsOf (found T (ls ++ (l ∷ [])))
-  unfolding tuplesAfter
-  tuples-more (inl e) = rw (found-skip T ls l e, e)
-  tuples-more (inr (t, e, q)) =
-      ap (λ (ts : List (List Variable)). tuplesAfter (map tupleRow ts) (length (found T ls)) (rowsOf (found T ls))) e ∙ go (bool-cases (elem same t (found T ls)))
+  pub words-more : One n (T l) → length (found T ls) < length words₀
+      → wordsAfter (map tupleWord (T l)) (length (found T ls)) (wordsOf (found T ls) words₀) ≡ wordsOf (found T (ls ++ (l ∷ []))) words₀
+  unfolding wordsAfter
+  words-more (inl e) room = rw (found-skip T ls l e, e)
+  words-more (inr (t, e, q, s)) room =
+      ap (λ (ts : List (List Variable)). wordsAfter (map tupleWord ts) (length (found T ls)) (wordsOf (found T ls) words₀)) e ∙ go (bool-cases (elem same t (found T ls)))
     where
-      go : (elem same t (found T ls) ≡ true) ⊎ (elem same t (found T ls) ≡ false) → tuplesAfter (tupleRow t ∷ []) (length (found T ls)) (rowsOf (found T ls)) ≡ rowsOf (found T (ls ++ (l ∷ [])))
-      go (inl b) = tuples-known n small (found T ls) (found-lengths T n ls h) t q b ∙ ap rowsOf (found-known T ls l t e b)
-      go (inr b) = tuples-joined n small (found T ls) (found-lengths T n ls h) t q b ∙ ap rowsOf (found-joined T ls l t e b)
+      go : (elem same t (found T ls) ≡ true) ⊎ (elem same t (found T ls) ≡ false) → wordsAfter (tupleWord t ∷ []) (length (found T ls)) (wordsOf (found T ls) words₀) ≡ wordsOf (found T (ls ++ (l ∷ []))) words₀
+      go (inl b) = words-known n words₀ (found T ls) (found-ones T n ls h) t q s b ∙ ap (λ (xs : List (List Variable)). wordsOf xs words₀) (found-known T ls l t e b)
+      go (inr b) = words-joined n words₀ (found T ls) (found-ones T n ls h) t q s b room ∙ ap (λ (xs : List (List Variable)). wordsOf xs words₀) (found-joined T ls l t e b)

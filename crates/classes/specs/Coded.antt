@@ -2,19 +2,19 @@
 use mathlib.Core.Path.{_≡_}
 use mathlib.Core.Bool.{Bool, true, false, _&&_, _||_, not, cond}
 use mathlib.Core.List.{List, [], _∷_, _++_, map, flatMap}
-use Prim.Native.Nat.{ℕ, zero, suc, _+_, _-_, _*_, _≤_}
+use Prim.Native.Nat.{ℕ, zero, suc, _+_, _-_, _*_, _≤_, _<_}
 use lib.Dec.{eqb, ltb, leb}
-use lib.ListN.{length, getD, take, drop, replicate}
-use lib.Seq.{paste}
+use lib.ListN.{length, getD, set, take, drop, replicate}
 use Rattle.records.specs.Lists.{In, any, pairwise, sameList}
 use Rattle.literals.specs.declared.Variable.{Variable}
 use Rattle.literals.specs.declared.Time.{Time}
 use Rattle.literals.specs.declared.Time.the-variants.{AtStart, OverAll, AtEnd}
 use Rattle.literals.specs.declared.Clause.{Clause}
+use Rattle.literals.specs.declared.Clause.the-variants.{Positive, Negative, Add, Delete}
 use Rattle.literals.specs.declared.Role.{Role}
 use Rattle.literals.specs.Domain.{sameVariable, sameLiteral, clauseNumber, roleOf, sameTime, isCounted, Literal, Action, Domain}
 use Rattle.literals.specs.Decode.{maxLiterals, labelOf, repeats}
-use Rattle.literals.specs.Table.{rowOf, rowsIn, literalRow, pad}
+use Rattle.literals.specs.Table.{rowOf, literalRow, pad}
 use Rattle.literals.specs.Held.{componentsIn, arityIn, partIn, HeadOf}
 use Rattle.literals.specs.declared.Moment.{Moment}
 use Rattle.literals.specs.declared.Moment.the-variants.{Start, End}
@@ -36,30 +36,33 @@ unfoldable pub classNumbers : Domain → Action → List ℕ
 unfolding tuplesOf classes
 classNumbers D a = map (λ (l : Literal). classNumberBy (classes D a) (tuplesOf D (l .atom))) (a .lits)
 
+-- those of all literals of these actions, in table order
+unfoldable pub numbersOf : Domain → List Action → List ℕ
+unfolding classNumbers flatMap
+numbersOf D as′ = flatMap (classNumbers D) as′
+
 -- a key tuple as a row of 8 bytes
 abbrev pub tupleRow : List Variable → List ℕ
 tupleRow x = rowOf (map (λ (v : Variable). v .0) x)
 
--- the key tuples of the classes, 8 bytes each, in a memory for as many as an action has literals, FF behind them
-unfoldable pub classTuples : Domain → Action → List ℕ
-unfolding classes flatMap
-classTuples D a =
-    let b = flatMap tupleRow (classes D a) in
-    b ++ replicate (8 * maxLiterals - length b) 255
-
 -- ---- class numbers, by the bytes of rows
 
--- the class number of a literal with these key tuples, none or one, and how many classes there then are: `tuples` has the rows of `count` classes
-unfoldable pub numberedBy : List (List ℕ) → ℕ → List ℕ → Numbered
-numberedBy [] count tuples = record { class = 255; count = count }
-numberedBy (t ∷ ts) count tuples =
-    let c = position (sameList eqb t) (rowsIn count tuples) in
+-- the class number of a literal whose key tuple has this word, or none, and how many classes there then are: `words` has those of `count` classes
+unfoldable pub numberedBy : List ℕ → ℕ → List ℕ → Numbered
+numberedBy [] count words = record { class = 255; count = count }
+numberedBy (w ∷ ws) count words =
+    let c = position (eqb w) (take count words) in
     record { class = c; count = cond (eqb c count) (count + 1) count }
 
--- the rows of the classes then
-unfoldable pub tuplesAfter : List (List ℕ) → ℕ → List ℕ → List ℕ
-tuplesAfter [] count tuples = tuples
-tuplesAfter (t ∷ ts) count tuples = cond (eqb (position (sameList eqb t) (rowsIn count tuples)) count) (paste tuples (8 * count) t 8) tuples
+-- the words of the classes then
+unfoldable pub wordsAfter : List ℕ → ℕ → List ℕ → List ℕ
+wordsAfter [] count words = words
+wordsAfter (w ∷ ws) count words = cond (eqb (position (eqb w) (take count words)) count) (set words count w) words
+
+-- the row of a key tuple, FF where there is none
+abbrev pub onlyRow : List (List ℕ) → List ℕ
+onlyRow [] = replicate 8 255
+onlyRow (t ∷ ts) = t
 
 -- ---- what a literal is at a moment: of a moment's own literals, or (wide) of all that are asked there, an end's over-all conditions too
 
@@ -141,42 +144,42 @@ clauseIn wide rows m j =
 
 -- the row j is in this class with this clause
 unfoldable pub isAt : List ℕ → List ℕ → ℕ → ℕ → ℕ → Bool
-isAt of clauses class clause j = eqb (getD of j 0) class && eqb (getD clauses j 0) clause
+isAt numbers clauses class clause j = eqb (getD numbers j 0) class && eqb (getD clauses j 0) clause
 
 -- besides, it has the atom of the row i
 unfoldable pub isSameAt : List ℕ → List ℕ → List ℕ → ℕ → ℕ → ℕ → ℕ → Bool
 unfolding isAt sameAtomAt
-isSameAt rows of clauses class clause i j = isAt of clauses class clause j && sameAtomAt rows i j
+isSameAt rows numbers clauses class clause i j = isAt numbers clauses class clause j && sameAtomAt rows i j
 
 unfoldable pub sameIn : List ℕ → List ℕ → List ℕ → ℕ → ℕ → ℕ → Bool
 unfolding isSameAt
-sameIn rows of clauses class clause i = any (isSameAt rows of clauses class clause i) (below (length of))
+sameIn rows numbers clauses class clause i = any (isSameAt rows numbers clauses class clause i) (below (length numbers))
 
 -- a literal with the atom of the row i is an add or a delete of the class
 unfoldable pub changedAt : List ℕ → List ℕ → List ℕ → ℕ → ℕ → Bool
 unfolding sameIn
-changedAt rows of clauses class i = sameIn rows of clauses class 3 i || sameIn rows of clauses class 4 i
+changedAt rows numbers clauses class i = sameIn rows numbers clauses class 3 i || sameIn rows numbers clauses class 4 i
 
 -- the row j is a false condition, add or delete of the class, with this relation
 unfoldable pub excludesAt : List ℕ → List ℕ → List ℕ → ℕ → ℕ → ℕ → Bool
-excludesAt rows of clauses class relation j = eqb (getD of j 0) class && (leb 2 (getD clauses j 0) && eqb relation (getD rows (8 * j + 1) 0))
+excludesAt rows numbers clauses class relation j = eqb (getD numbers j 0) class && (leb 2 (getD clauses j 0) && eqb relation (getD rows (8 * j + 1) 0))
 
 -- the class covers the component c of the head
 unfoldable pub coveredAt : List ℕ → List ℕ → List ℕ → List ℕ → ℕ → ℕ → Bool
 unfolding partIn arityIn excludesAt
-coveredAt head rows of clauses class c =
+coveredAt head rows numbers clauses class c =
     let part = partIn head c in
-    not (any (λ i. isCounted (labelOf (getD part (1 + i) 0))) (below (arityIn head (getD part 0 0)))) && any (excludesAt rows of clauses class (getD part 0 0)) (below (length of))
+    not (any (λ i. isCounted (labelOf (getD part (1 + i) 0))) (below (arityIn head (getD part 0 0)))) && any (excludesAt rows numbers clauses class (getD part 0 0)) (below (length numbers))
 
 -- the first component that it does not cover, or their number
 unfoldable pub lackingAt : List ℕ → List ℕ → List ℕ → List ℕ → ℕ → ℕ
 unfolding componentsIn coveredAt
-lackingAt head rows of clauses class = position (λ c. not (coveredAt head rows of clauses class c)) (below (componentsIn head))
+lackingAt head rows numbers clauses class = position (λ c. not (coveredAt head rows numbers clauses class c)) (below (componentsIn head))
 
 -- the row j is an over-all literal of the class
 unfoldable pub lastsAt : List ℕ → List ℕ → ℕ → ℕ → Bool
 unfolding roleOf
-lastsAt rows of class j = eqb (getD of j 0) class && sameTime OverAll (roleOf (getD rows (8 * j) 0) .time)
+lastsAt rows numbers class j = eqb (getD numbers j 0) class && sameTime OverAll (roleOf (getD rows (8 * j) 0) .time)
 
 -- ---- which literals pass a test: 0 for none, k + 1 for the literal k alone, 255 for more
 
@@ -193,11 +196,52 @@ soleBy p (suc n) = soleMore (p n) n (soleBy p n)
 -- which literal of a class has this clause
 unfoldable pub soleAt : List ℕ → List ℕ → ℕ → ℕ → ℕ
 unfolding isAt soleBy
-soleAt of clauses class clause = soleBy (isAt of clauses class clause) (length of)
+soleAt numbers clauses class clause = soleBy (isAt numbers clauses class clause) (length numbers)
 
 -- the true conditions and the adds of a class
 abbrev pub soleOf : List ℕ → List ℕ → ℕ → Sole
-soleOf of clauses class = record { conditions = soleAt of clauses class 1; adds = soleAt of clauses class 3 }
+soleOf numbers clauses class = record { conditions = soleAt numbers clauses class 1; adds = soleAt numbers clauses class 3 }
+
+-- ---- the same of all classes, in sections of a byte for each: the true conditions and the adds at the start, the same two at the end,
+-- and the true conditions that are asked at the end
+
+-- whether a section counts the row j
+unfoldable pub countsIn : List ℕ → ℕ → ℕ → Bool
+unfolding clauseIn
+countsIn rows zero j = eqb (clauseIn false rows Start j) 1
+countsIn rows (suc zero) j = eqb (clauseIn false rows Start j) 3
+countsIn rows (suc (suc zero)) j = eqb (clauseIn false rows End j) 1
+countsIn rows (suc (suc (suc zero))) j = eqb (clauseIn false rows End j) 3
+countsIn rows (suc (suc (suc (suc s)))) j = eqb (clauseIn true rows End j) 1
+
+-- which literal of a class each of the five sections counts, in a memory
+unfoldable pub SolesOf : List ℕ → List ℕ → List ℕ → Type 0
+unfolding countsIn soleBy
+SolesOf rows numbers soles =
+    (s k : ℕ) → s < 5 → k < maxLiterals
+    → getD soles (maxLiterals * s + k) 0 ≡ soleBy (λ j. eqb (getD numbers j 0) k && countsIn rows s j) (length numbers)
+
+-- the true conditions and the adds of a class, by the section of its true conditions
+abbrev pub soleIn : List ℕ → ℕ → ℕ → Sole
+soleIn soles s class = record { conditions = getD soles (maxLiterals * s + class) 0; adds = getD soles (maxLiterals * (s + 1) + class) 0 }
+
+-- the first section that counts the literals of a role, or 5: a true condition at the end is asked besides
+abbrev pub sectionBy : Time → Clause → ℕ
+sectionBy AtStart Positive = 0
+sectionBy AtStart Add = 1
+sectionBy AtStart Negative = 5
+sectionBy AtStart Delete = 5
+sectionBy OverAll Positive = 4
+sectionBy OverAll Negative = 5
+sectionBy OverAll Add = 5
+sectionBy OverAll Delete = 5
+sectionBy AtEnd Positive = 2
+sectionBy AtEnd Add = 3
+sectionBy AtEnd Negative = 5
+sectionBy AtEnd Delete = 5
+
+abbrev pub sectionOf : Role → ℕ
+sectionOf r = sectionBy (r .time) (r .clause)
 
 -- which literal of a class is asked as a true condition at a moment: 255 says that it is unreachable there
 unfoldable pub reachAt : Domain → Action → Moment → ℕ → ℕ
@@ -207,9 +251,9 @@ reachAt D a m class = soleAt (classNumbers D a) (pad 64 (askedAt a m)) class 1
 -- ---- what the code's memories hold of an action
 
 -- a row for each class number, and no more than an action has literals
-pub record Sides (rows of : List ℕ) : Type 0 where
-  pub rowed : 8 * length of ≤ length rows
-  pub few : length of ≤ maxLiterals
+pub record Sides (rows numbers : List ℕ) : Type 0 where
+  pub rowed : 8 * length numbers ≤ length rows
+  pub few : length numbers ≤ maxLiterals
 
 -- an action of the domain of a head, by the rows of its literals, none of which is repeated in its role
 pub record ActionOf (D : Domain) (a : Action) (head rows : List ℕ) : Type 0 where
@@ -219,7 +263,7 @@ pub record ActionOf (D : Domain) (a : Action) (head rows : List ℕ) : Type 0 wh
   pub literals : rows ≡ flatMap literalRow (a .lits)
 
 -- besides, the class numbers of its literals, and the clause of each at a moment
-pub record MomentOf (D : Domain) (a : Action) (m : Moment) (head rows of clauses : List ℕ) : Type 0 where
+pub record MomentOf (D : Domain) (a : Action) (m : Moment) (head rows numbers clauses : List ℕ) : Type 0 where
   pub whole : ActionOf D a head rows
-  pub numbers : of ≡ classNumbers D a
+  pub numbers-are : numbers ≡ classNumbers D a
   pub clauses-are : clauses ≡ pad maxLiterals (clausesAt a m)

@@ -1,21 +1,21 @@
-// The classes of an action: each of its literals gets the number of its class, FF where it does not match.
+// The classes of an action: each of its literals gets the number of its class, FF where it does not match. What is known of a class
+// elsewhere is known by this number; its key tuple is that of the first literal with it.
 use literals::head::Head;
 use literals::head::components_in;
+use literals::keys::KeyPlaces;
 use literals::keys::component_of;
 use literals::keys::key_tuple;
-use literals::row::put_row;
-use literals::row::same_four;
+use literals::keys::key_word;
 ghost use mathlib.Core.Path.{_≡_};
+ghost use mathlib.Core.List.{[]};
 ghost use Prim.Native.Nat.{_+_, _*_, _<_, _≤_};
 ghost use lib.Dec.{eqb};
-ghost use lib.ListN.{length, take, drop, replicate};
-ghost use Rattle.records.specs.Lists.{sameList};
+ghost use lib.ListN.{length, getD, take, drop};
 ghost use Rattle.literals.specs.Domain.{Domain, Action};
 ghost use Rattle.literals.specs.Decode.{maxLiterals};
-ghost use Rattle.literals.specs.Table.{rowsIn};
 ghost use Rattle.classes.specs.Classes.{classes};
-ghost use Rattle.literals.specs.Keys.{position, keyRowsIn};
-ghost use Rattle.classes.specs.Coded.{ActionOf, numberedBy, tuplesAfter, classNumbers, classTuples};
+ghost use Rattle.literals.specs.Keys.{position, keyRowsIn, keyWordsIn, PlacesOf};
+ghost use Rattle.classes.specs.Coded.{ActionOf, Sides, numberedBy, wordsAfter, classNumbers, tupleRow, onlyRow};
 
 // The number of a literal's class, FF where it does not match, and the number of classes with it.
 struct Numbered {
@@ -23,25 +23,14 @@ struct Numbered {
     count: usize,
 }
 
-// Whether the key tuple at an offset is t.
-fn same_tuple(tuples: &[u8], at: usize, t: [u8; 8]) -> bool
-    requires { ⌜ at + 8 ≤ length (now tuples) ⌝ }
-    ensures { λ r. ⌜ r ≡ sameList eqb t (take 8 (drop at (now (tuples .entry)))) ⌝ }
-{
-    if same_four(&t, 0, tuples, at) {
-        return same_four(&t, 4, tuples, at + 4);
-    }
-    false
-}
-
-// The number of the first of n classes with this key tuple, or n.
-fn class_of(tuples: &[u8], n: usize, t: [u8; 8]) -> usize
-    requires { ⌜ 8 * n ≤ length (now tuples) ⌝ }
-    ensures { λ r. ⌜ r ≡ position (sameList eqb t) (rowsIn n (now (tuples .entry))) ⌝ }
+// The number of the first of n classes whose key tuple has this word, or n.
+fn class_of(words: &[u64], n: usize, word: u64) -> usize
+    requires { ⌜ (n ≤ length (now words)) × (n ≤ maxLiterals) ⌝ }
+    ensures { λ r. ⌜ r ≡ position (eqb word) (take n (now (words .entry))) ⌝ }
 {
     let mut c = 0;
     while c < n {
-        if same_tuple(tuples, 8 * c, t) {
+        if words[c] == word {
             return c;
         }
         c += 1;
@@ -49,22 +38,30 @@ fn class_of(tuples: &[u8], n: usize, t: [u8; 8]) -> usize
     n
 }
 
-// The class of the literal whose row is at `at`; `tuples` has the key tuples of the `count` classes so far, and gets that of a new one.
-fn number_literal(head: &Head, rows: &[u8], at: usize, tuples: &mut [u8], count: usize) -> Numbered
-    requires { ⌜ (at + 8 ≤ length (now rows)) × (8 * count + 8 ≤ length (now tuples)) × (count < maxLiterals) ⌝ }
+// The class of the literal whose row is at `at`; `words` has the key tuples of the `count` classes so far, and gets that of a new one.
+fn number_literal(
+    head: &Head,
+    places: &KeyPlaces,
+    rows: &[u8],
+    at: usize,
+    words: &mut [u64],
+    count: usize,
+) -> Numbered
+    requires places { ⌜ PlacesOf (now head) (now places) ⌝ }
+    requires room { ⌜ (at + 8 ≤ length (now rows)) × (count < length (now words)) × (length (now words) ≡ maxLiterals) ⌝ }
     ensures number { λ r. ⌜ r
-        ≡ numberedBy (keyRowsIn (now (head .entry)) (take 8 (drop at (now (rows .entry))))) count (now (tuples .entry)) ⌝ }
-    ensures tuples { λ _. ⌜ now (tuples .exit)
-        ≡ tuplesAfter (keyRowsIn (now (head .entry)) (take 8 (drop at (now (rows .entry))))) count (now (tuples .entry)) ⌝ }
+        ≡ numberedBy (keyWordsIn (now (head .entry)) (take 8 (drop at (now (rows .entry))))) count (now (words .entry)) ⌝ }
+    ensures words { λ _. ⌜ now (words .exit)
+        ≡ wordsAfter (keyWordsIn (now (head .entry)) (take 8 (drop at (now (rows .entry))))) count (now (words .entry)) ⌝ }
 {
     let c = component_of(head, rows[at + 1]);
     if c == components_in(head) {
         return Numbered { class: 255, count };
     }
-    let t = key_tuple(head, c, rows, at);
-    let class = class_of(tuples, count, t);
+    let word = key_word(head, places, c, rows, at);
+    let class = class_of(words, count, word);
     if class == count {
-        put_row(tuples, 8 * count, &t);
+        words[count] = word;
         return Numbered {
             class: class as u8,
             count: count + 1,
@@ -76,20 +73,54 @@ fn number_literal(head: &Head, rows: &[u8], at: usize, tuples: &mut [u8], count:
     }
 }
 
-// How many classes an action has whose literals are these rows; `of` gets the class number of each literal, and `tuples`, which is all
-// FF, the key tuples of the classes, 8 bytes each: variables in the order of the keys, FF to fill.
-pub fn number_classes(head: &Head, rows: &[u8], of: &mut [u8], tuples: &mut [u8]) -> usize
-    requires { ⌜ (length (now rows) ≡ 8 * length (now of)) × (length (now of) ≤ maxLiterals) × (length (now tuples) ≡ 8 * maxLiterals) ⌝ }
-    ensures few { λ r. ⌜ r ≤ length (now (of .entry)) ⌝ }
+// How many classes an action has whose literals are these rows; `numbers` gets the class number of each literal. In `words` the key
+// tuples of the classes stand as numbers meanwhile: one comparison tells two of them apart. `places` has the places of the keys.
+pub fn number_classes(
+    head: &Head,
+    places: &KeyPlaces,
+    rows: &[u8],
+    numbers: &mut [u8],
+    words: &mut [u64],
+) -> usize
+    requires places { ⌜ PlacesOf (now head) (now places) ⌝ }
+    requires room { ⌜ (length (now rows) ≡ 8 * length (now numbers))
+        × (length (now numbers) ≤ maxLiterals) × (length (now words) ≡ maxLiterals) ⌝ }
+    ensures few { λ r. ⌜ r ≤ length (now (numbers .entry)) ⌝ }
     ensures classes { λ r. ⌜ ((D : Domain) (a : Action) → ActionOf D a (now (head .entry)) (now (rows .entry))
-        → now (tuples .entry) ≡ replicate (8 * maxLiterals) 255
-        → (r ≡ length (classes D a)) × (now (tuples .exit) ≡ classTuples D a) × (now (of .exit) ≡ classNumbers D a)) ⌝ }
+        → (r ≡ length (classes D a)) × (now (numbers .exit) ≡ classNumbers D a)) ⌝ }
 {
     let mut count: usize = 0;
-    for j in 0..of.len() {
-        let o = number_literal(head, rows, 8 * j, tuples, count);
-        of[j] = o.class;
+    for j in 0..numbers.len() {
+        let o = number_literal(head, places, rows, 8 * j, words, count);
+        numbers[j] = o.class;
         count = o.count;
     }
     count
+}
+
+// The key tuple of the literal whose row is at `at`, FF where it does not match.
+fn literal_tuple(head: &Head, rows: &[u8], at: usize) -> [u8; 8]
+    requires { ⌜ at + 8 ≤ length (now rows) ⌝ }
+    ensures { λ r. ⌜ r ≡ onlyRow (keyRowsIn (now (head .entry)) (take 8 (drop at (now (rows .entry))))) ⌝ }
+{
+    let c = component_of(head, rows[at + 1]);
+    if c == components_in(head) {
+        return [255u8; 8];
+    }
+    key_tuple(head, c, rows, at)
+}
+
+// The key tuple of a class, of which `numbers` tells the literals: variables in the order of the keys, FF to fill. (Every class has a
+// literal; what is answered where none is found is never asked for.)
+pub fn class_tuple(head: &Head, rows: &[u8], numbers: &[u8], class: u8) -> [u8; 8]
+    requires { ⌜ Sides (now rows) (now numbers) ⌝ }
+    ensures { λ r. ⌜ ((D : Domain) (a : Action) → ActionOf D a (now (head .entry)) (now (rows .entry))
+        → now (numbers .entry) ≡ classNumbers D a → class < length (classes D a) → r ≡ tupleRow (getD (classes D a) class [])) ⌝ }
+{
+    for j in 0..numbers.len() {
+        if numbers[j] == class {
+            return literal_tuple(head, rows, 8 * j);
+        }
+    }
+    [255u8; 8]
 }

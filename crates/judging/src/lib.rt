@@ -13,11 +13,14 @@ use showing::show;
 use verdict::Judgement;
 ghost use mathlib.Core.Path.{_≡_};
 ghost use mathlib.Core.Bool.{true};
-ghost use Prim.Native.Nat.{_*_, _≤_};
+ghost use mathlib.Core.List.{List};
+ghost use Prim.Native.Nat.{ℕ, _*_, _≤_};
 ghost use lib.ListN.{length};
+ghost use Rattle.records.specs.Memory.{over};
 ghost use Rattle.literals.specs.Domain.{Domain};
 ghost use Rattle.literals.specs.Decode.{decode, domain as domainRead};
 ghost use Rattle.literals.specs.Held.{Held, Read};
+ghost use Rattle.classes.specs.Coded.{numbersOf};
 ghost use Rattle.reading.specs.Reading.{EnoughTable};
 ghost use Rattle.verdict.specs.Judged.{answerAt, decided, writesWitness, judged, reportAfter, witnessAfter};
 ghost use Rattle.verdict.specs.Claims.{wellFormed, AcceptedSafe, RefusedHarmful, WitnessHarms};
@@ -36,8 +39,10 @@ fn at_offset(number: u64, place: usize) -> Judgement
 }
 
 // Whether the decision of a domain that was read comes with a witness: 40 to 42 do, but not at an end whose class has an over-all literal.
-fn has_witness(head: &Head, table: &[u8], made: Judgement) -> bool
-    ensures { λ r. ⌜ ((D : Domain) → Held D (now (head .entry)) (now (table .entry)) → wellFormed D ≡ true → made ≡ judgementOf (decided D)
+fn has_witness(head: &Head, table: &[u8], numbers: &[u8], made: Judgement) -> bool
+    requires { ⌜ length (now table) ≤ 8 * length (now numbers) ⌝ }
+    ensures { λ r. ⌜ ((D : Domain) (old : List ℕ) → Held D (now (head .entry)) (now (table .entry)) → wellFormed D ≡ true
+        → now (numbers .entry) ≡ over (numbersOf D (D .actions)) old → made ≡ judgementOf (decided D)
         → r ≡ writesWitness D (made .number)) ⌝ }
 {
     let number = made.number;
@@ -50,37 +55,41 @@ fn has_witness(head: &Head, table: &[u8], made: Judgement) -> bool
     is_shown(
         head,
         table,
+        numbers,
         made.first as usize,
         made.second as usize,
         made.third,
     )
 }
 
-// A domain that was read, of the memories that hold it; `names` is room for a byte a moment.
+// A domain that was read, of the memories that hold it; `numbers` is room for a byte a literal, and `names` for a byte a moment.
 fn judge_with(
     head: &Head,
     table: &[u8],
+    numbers: &mut [u8],
     names: &mut [u8],
     report: &mut [u8],
     witness: &mut [u8],
 ) -> Judgement
     requires read { ⌜ Read (now head) (now table) ⌝ }
+    requires numbers { ⌜ length (now table) ≤ 8 * length (now numbers) ⌝ }
     requires room { ⌜ length (now table) ≤ 4 * length (now names) ⌝ }
     ensures { λ r. ⌜ ((D : Domain) → Held D (now (head .entry)) (now (table .entry)) → wellFormed D ≡ true
         → JudgedAs (domainRead D) (now (report .entry)) (now (witness .entry)) r (now (report .exit)) (now (witness .exit))) ⌝ }
 {
     let mut counts = [0u8; MAX_ACTIONS];
-    let naming = name_all(head, table, names, &mut counts);
+    let naming = name_all(head, table, numbers, names, &mut counts);
     if report.len() < 4 * naming.rows {
         return at_offset(30, 0);
     }
     let notes = naming.notes;
     let decided = notes.decide();
     let number = decided.number;
-    if has_witness(head, table, decided) {
+    if has_witness(head, table, numbers, decided) {
         if show(
             head,
             table,
+            numbers,
             decided.first as usize,
             decided.second as usize,
             decided.third,
@@ -96,15 +105,17 @@ fn judge_with(
     decided
 }
 
-// A file, read or refused 9 to 25; `table` is room for its literals, and `names` for two names a literal.
+// A file, read or refused 9 to 25; `table` is room for its literals, `numbers` for a number and `names` for two names a literal.
 fn judge_in(
     file: &[u8],
     table: &mut [u8],
+    numbers: &mut [u8],
     names: &mut [u8],
     report: &mut [u8],
     witness: &mut [u8],
 ) -> Judgement
     requires enough { ⌜ EnoughTable (now file) (now table) ⌝ }
+    requires numbers { ⌜ length (now table) ≤ 8 * length (now numbers) ⌝ }
     requires room { ⌜ length (now table) ≤ 4 * length (now names) ⌝ }
     ensures { λ r. ⌜ JudgedAs (decode (now (file .entry))) (now (report .entry)) (now (witness .entry))
         r (now (report .exit)) (now (witness .exit)) ⌝ }
@@ -115,7 +126,7 @@ fn judge_in(
     if number != 0 {
         return at_offset(number, read.place);
     }
-    judge_with(&head, table, names, report, witness)
+    judge_with(&head, table, numbers, names, report, witness)
 }
 
 // A file, of any length: a small one gets small memories, since to clear large ones takes longer than to judge it.
@@ -125,17 +136,20 @@ fn judge_file(file: &[u8], report: &mut [u8], witness: &mut [u8]) -> Judgement
 {
     if file.len() <= 384 {
         let mut table = [0u8; 512];
+        let mut numbers = [0u8; 64];
         let mut names = [0u8; 128];
-        return judge_in(file, &mut table, &mut names, report, witness);
+        return judge_in(file, &mut table, &mut numbers, &mut names, report, witness);
     }
     if file.len() <= 3072 {
         let mut table = [0u8; 4096];
+        let mut numbers = [0u8; 512];
         let mut names = [0u8; 1024];
-        return judge_in(file, &mut table, &mut names, report, witness);
+        return judge_in(file, &mut table, &mut numbers, &mut names, report, witness);
     }
     let mut table = [0u8; 8 * MAX_LITERALS * MAX_ACTIONS];
+    let mut numbers = [0u8; MAX_LITERALS * MAX_ACTIONS];
     let mut names = [0u8; 2 * MAX_LITERALS * MAX_ACTIONS];
-    judge_in(file, &mut table, &mut names, report, witness)
+    judge_in(file, &mut table, &mut numbers, &mut names, report, witness)
 }
 
 // Judges a domain file, with demand 3 of the answer: an accepted template is safe for every catalogue and every run; where no action

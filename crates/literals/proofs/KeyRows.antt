@@ -8,7 +8,7 @@ use native.Mathlib.Nat.{add-comm, mul-zero, mul-suc}
 use native.Mathlib.Omega.{arith}
 use lib.Dec.{eqb}
 use lib.ListN.{length, getD, set, take, drop, replicate, length-append, length-replicate, drop-of-length-le}
-use lib.Seq.{drop-cons, drop-drop, take-all}
+use lib.Seq.{drop-cons, drop-drop, take-all, take-at}
 use borrow.Author.Tests.{eq-eqb, ne-eqb, eqb-true, eqb-false, lt-ltb, le-ltb}
 use Rattle.records.specs.Lists.{sameList}
 use Rattle.records.specs.Memory.{over}
@@ -18,7 +18,7 @@ use Rattle.literals.specs.Decode.{byte, labelOf}
 use Rattle.literals.specs.Table.{rowOf, rowsBy}
 use Rattle.literals.proofs.Rows.{length-row, eight-by-four, same-miss, same-hit, same-end, length-part, part-at, rows-more, rows-end}
 use Rattle.literals.proofs.Bytes.{label-key}
-use Rattle.literals.specs.Keys.{position, numbersFrom, placeUnder, argumentAt, underKey, underKeys, keyRow, keyRows}
+use Rattle.literals.specs.Keys.{position, numbersFrom, placeUnder, argumentAt, underKey, underKeys, keyRow, keyRows, wordFrom, keyWord}
 
 -- ---- the place of the first row that passes, from row c on
 
@@ -157,6 +157,43 @@ tuple-more part row t k r h e f =
 pub length-tuple : (n : ℕ) (part row : List ℕ) → n ≤ 8 → length (keyRow n part row) ≡ 8
 unfolding keyRow
 length-tuple n part row h = length-row (underKeys n (drop 1 part) (drop 2 row)) (omega (arith, length-keys n (drop 1 part) (drop 2 row)))
+
+-- ---- key tuples as numbers
+
+-- one byte more
+word-snoc : (w : ℕ) (xs : List ℕ) (x : ℕ) → wordFrom w (xs ++ (x ∷ [])) ≡ 256 * wordFrom w xs + x
+word-snoc w [] x = refl
+word-snoc w (y ∷ ys) x = word-snoc (256 * w + y) ys x
+
+pub word-more : (part row : List ℕ) (w k r : ℕ) → w ≡ wordFrom 0 (underKeys k (drop 1 part) (drop 2 row)) → r ≡ underKey k (drop 1 part) (drop 2 row)
+    → 256 * w + r ≡ wordFrom 0 (underKeys (k + 1) (drop 1 part) (drop 2 row))
+word-more part row w k r e f =
+    ap₂ (λ (a b : ℕ). 256 * a + b) e f
+    ∙ sym (word-snoc 0 (underKeys k (drop 1 part) (drop 2 row)) (underKey k (drop 1 part) (drop 2 row)))
+    ∙ ap (λ (n : ℕ). wordFrom 0 (underKeys n (drop 1 part) (drop 2 row))) (sym (add-one k))
+
+pub word-all : (n : ℕ) (part row : List ℕ) → wordFrom 0 (underKeys n (drop 1 part) (drop 2 row)) ≡ keyWord n part row
+unfolding keyWord keyRow
+word-all n part row =
+    let u = underKeys n (drop 1 part) (drop 2 row) in
+    ap (wordFrom 0) (sym (take-at u (replicate (8 - length u) 255) n (length-keys n (drop 1 part) (drop 2 row))))
+
+-- numbers of k bytes are below this
+abbrev pub wordLimit : ℕ → ℕ
+wordLimit zero = 1
+wordLimit (suc k) = 256 * wordLimit k
+
+pub limit-more : (w k r : ℕ) → w < wordLimit k → r < 256 → 256 * w + r < wordLimit (k + 1)
+limit-more w k r h g = rw (add-one k) (omega arith)
+
+pub limit-few : (k : ℕ) → k ≤ 5 → wordLimit k ≤ 1099511627776
+limit-few zero h = omega arith
+limit-few (suc zero) h = omega arith
+limit-few (suc (suc zero)) h = omega arith
+limit-few (suc (suc (suc zero))) h = omega arith
+limit-few (suc (suc (suc (suc zero)))) h = omega arith
+limit-few (suc (suc (suc (suc (suc zero))))) h = omega arith
+limit-few (suc (suc (suc (suc (suc (suc k)))))) h = absurd (omega arith)
 
 -- ---- places
 

@@ -1,16 +1,17 @@
 -- How the code holds key tuples and sorts role bytes. Assumes nothing.
+use mathlib.Core.Path.{_≡_}
 use mathlib.Core.Bool.{Bool, cond}
-use mathlib.Core.List.{List, [], _∷_, _++_}
-use Prim.Native.Nat.{ℕ, zero, suc, _+_}
+use mathlib.Core.List.{List, [], _∷_, _++_, map}
+use Prim.Native.Nat.{ℕ, zero, suc, _+_, _*_, _<_}
 use lib.Dec.{eqb, ltb}
-use lib.ListN.{getD, drop}
+use lib.ListN.{getD, take, drop}
 use Rattle.literals.specs.declared.Key.{Key}
 use Rattle.literals.specs.declared.Time.{Time}
 use Rattle.literals.specs.declared.Role.{Role}
-use Rattle.literals.specs.Domain.{isKey, roleOf, clauseNumber, sameTime}
+use Rattle.literals.specs.Domain.{key, isKey, roleOf, clauseNumber, sameTime}
 use Rattle.literals.specs.Decode.{maxArguments, byte, labelOf}
 use Rattle.literals.specs.Table.{rowOf}
-use Rattle.literals.specs.Held.{keysIn, partsIn}
+use Rattle.literals.specs.Held.{componentsIn, keysIn, partIn, partsIn}
 
 -- ---- lists
 
@@ -44,6 +45,10 @@ clauseFor t r = clauseAmong t (roleOf r)
 unfoldable pub placeUnder : Key → List ℕ → ℕ
 placeUnder k part = position (λ i. isKey k (labelOf (getD part (i + 1) 0))) (below maxArguments)
 
+-- a memory has these places, 8 bytes for each component of a head
+abbrev pub PlacesOf : List ℕ → List ℕ → Type 0
+PlacesOf head places = (c k : ℕ) → c < componentsIn head → k < keysIn head → getD places (8 * c + k) 0 ≡ placeUnder (key k) (partIn head c)
+
 -- the byte of the argument at a place of the row at an offset, or FF
 abbrev pub argumentAt : List ℕ → ℕ → ℕ → ℕ
 argumentAt rows at place = cond (ltb place maxArguments) (getD rows (at + 2 + place) 0) 255
@@ -73,3 +78,24 @@ keyRows n (part ∷ parts) row = cond (eqb (byte row 1) (byte part 0)) (keyRow n
 unfoldable pub keyRowsIn : List ℕ → List ℕ → List (List ℕ)
 unfolding keysIn partsIn keyRows
 keyRowsIn head row = keyRows (keysIn head) (partsIn head) row
+
+-- ---- key tuples as numbers
+
+-- a number with these bytes behind it, the last lowest
+abbrev pub wordFrom : ℕ → List ℕ → ℕ
+wordFrom w [] = w
+wordFrom w (b ∷ bs) = wordFrom (256 * w + b) bs
+
+-- the number of a key tuple, of its row: the bytes under n keys
+abbrev pub rowWord : ℕ → List ℕ → ℕ
+rowWord n row = wordFrom 0 (take n row)
+
+-- that of a literal's row under a component's row
+unfoldable pub keyWord : ℕ → List ℕ → List ℕ → ℕ
+unfolding keyRow
+keyWord n part row = rowWord n (keyRow n part row)
+
+-- that of a literal's row under the first component with its relation, or none, by the head of a domain
+unfoldable pub keyWordsIn : List ℕ → List ℕ → List ℕ
+unfolding keysIn keyRowsIn
+keyWordsIn head row = map (rowWord (keysIn head)) (keyRowsIn head row)

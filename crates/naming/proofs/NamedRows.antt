@@ -1,7 +1,7 @@
 -- Laws of the rows of a domain, one class or one action more at a time, and naming them. Assumes nothing.
 use mathlib.Core.Path.{_≡_, refl, sym, ap, ap₂, _∙_, subst}
 use mathlib.Core.Bool.{Bool, true, false, cond}
-use mathlib.Core.List.{List, [], _∷_, _++_, map, map-append, append-nil, append-assoc}
+use mathlib.Core.List.{List, [], _∷_, _++_, map, flatMap, map-append, append-nil, append-assoc}
 use Prim.Native.Nat.{ℕ, suc, _+_, _-_, _*_, _≤_, _<_}
 use native.Mathlib.Numerals.{add-one}
 use native.Mathlib.Omega.{arith}
@@ -20,7 +20,7 @@ use Rattle.literals.proofs.Heads.{literals-after}
 use Rattle.literals.specs.declared.Moment.the-variants.{Start, End}
 use Rattle.classes.specs.declared.Name.{Name}
 use Rattle.classes.specs.Classes.{momentsOf, nameNumber, classes, nameOf, journey}
-use Rattle.classes.specs.Coded.{MomentOf, classNumbers, askedAt, soleAt, soleOf, reachAt}
+use Rattle.classes.specs.Coded.{MomentOf, classNumbers, numbersOf, askedAt, soleAt, reachAt}
 use Rattle.naming.specs.declared.Naming.{Naming}
 use Rattle.verdict.specs.declared.Summary.{Summary}
 use Rattle.verdict.specs.declared.Notes.{Notes}
@@ -28,7 +28,7 @@ use Rattle.verdict.specs.Decision.{Row, rowAt, rowsOfClasses, rowsFrom, rows}
 use Rattle.verdict.specs.Claims.{wellFormed}
 use Rattle.verdict.specs.Summaries.{summaryRows, summaryOf, notesOf}
 use Rattle.verdict.specs.Coded.{rowFor}
-use Rattle.naming.specs.Named.{nameBytes, classCounts, SolesIn, EndOf, Listed, Named, namingOf}
+use Rattle.naming.specs.Named.{nameBytes, classCounts, EndOf, Listed, Named, namingOf}
 
 -- ---- one class or one action more
 
@@ -224,30 +224,18 @@ module _ (D : Domain) where
 
 -- ---- where the loops of naming stand
 
--- a class by its number, of the true conditions and adds of all of them
-pub sole-at : {of clauses conditions adds : List ℕ} → SolesIn of clauses conditions adds → (k : ℕ) → k < 64 → record { conditions = getD conditions k 0; adds = getD adds k 0 } ≡ soleOf of clauses k
-sole-at S k h = λ i. record { conditions = S .conditions-are k h i; adds = S .adds-are k h i }
-
 -- which literal of a class is asked as a true condition at the end, by the clauses of what is asked there
-pub reach-is : (D : Domain) (a : Action) {of asked : List ℕ} → of ≡ classNumbers D a → asked ≡ pad 64 (askedAt a End) → (k : ℕ) → soleAt of asked k 1 ≡ reachAt D a End k
+pub reach-is : (D : Domain) (a : Action) {numbers asked : List ℕ} → numbers ≡ classNumbers D a → asked ≡ pad 64 (askedAt a End) → (k : ℕ) → soleAt numbers asked k 1 ≡ reachAt D a End k
 unfolding reachAt
 reach-is D a f g k = ap₂ (λ (o c : List ℕ). soleAt o c k 1) f g
 
 -- in an action, after k of its classes
-pub record InClasses (head rows of at-start at-end asked : List ℕ) (count : ℕ) (lasting : Bool) (names₀ : List ℕ) (next₀ : Naming) (names : List ℕ) (next : Naming) (k : ℕ) : Type 0 where
+pub record InClasses (head rows numbers at-start at-end asked : List ℕ) (count : ℕ) (lasting : Bool) (names₀ : List ℕ) (next₀ : Naming) (names : List ℕ) (next : Naming) (k : ℕ) : Type 0 where
   pub reach : k ≤ count
   pub few : next .rows ≤ next₀ .rows + 2 * k
   pub room : length names ≡ length names₀
-  pub named : (before : List Row) (old : List ℕ) (D : Domain) (a : Action) (i : ℕ) → Named before [] next₀ names₀ old → MomentOf D a Start head rows of at-start → a .lasting ≡ lasting
-      → (lasting ≡ true → EndOf D a head rows of at-end asked) → count ≡ length (classes D a) → Named before (rowsOfClasses D a i 0 (take k (classes D a))) next names old
-
--- the first n of an array, where a call has put xs there
-module _ (xs ys : List ℕ) (n : ℕ) (e : length xs ≡ n) where
-  pub part-within : n ≤ length (xs ++ ys)
-  part-within = let l = length-append xs ys in omega arith
-
-  pub part-again : take (n - 0) (xs ++ ys) ≡ xs
-  part-again = let z : length xs ≡ n - 0 = omega arith in take-at xs ys (n - 0) z
+  pub named : (before : List Row) (old : List ℕ) (D : Domain) (a : Action) (i : ℕ) → Named before [] next₀ names₀ old → MomentOf D a Start head rows numbers at-start → a .lasting ≡ lasting
+      → (lasting ≡ true → EndOf D a head rows numbers at-end asked) → count ≡ length (classes D a) → Named before (rowsOfClasses D a i 0 (take k (classes D a))) next names old
 
 -- at most two rows for each literal of the actions so far
 module _ {D : Domain} {head table : List ℕ} (H : Held D head table) (i : ℕ) (h : i < length (D .actions)) {span : Span} (S : SpanOf D i table span) (F : SpanFits (length table) span)
@@ -270,10 +258,21 @@ names-few {D} H k r h g =
     omega arith
 
 -- in a domain, after k of its actions
-pub record InActions (head table names₀ counts₀ names counts : List ℕ) (r : ℕ) (notes : Notes) (k : ℕ) : Type 0 where
+pub record InActions (head table numbers₀ names₀ counts₀ numbers names counts words : List ℕ) (r : ℕ) (notes : Notes) (k : ℕ) : Type 0 where
   pub reach : k ≤ actionsIn head
+  pub numbers-room : length numbers ≡ length numbers₀
+  pub words-room : length words ≡ 64
+  pub numbered : (D : Domain) → Held D head table → wellFormed D ≡ true → numbers ≡ over (numbersOf D (take k (D .actions))) numbers₀
   pub room : length names ≡ length names₀
   pub few : (D : Domain) → Held D head table → r ≤ 2 * length (allLiterals (take k (D .actions)))
   pub listed : (D : Domain) → Held D head table → wellFormed D ≡ true → Listed (rowsFrom D 0 (take k (D .actions))) r names names₀
   pub noted : (D : Domain) → Held D head table → wellFormed D ≡ true → notes ≡ notesOf (map (summaryOf D) (take k (D .actions)))
   pub counted : (D : Domain) → Held D head table → wellFormed D ≡ true → counts₀ ≡ pad 64 [] → counts ≡ pad 64 (classCounts D (take k (D .actions)))
+
+-- the numbers of all actions
+pub numbered-none : (D : Domain) (old : List ℕ) → old ≡ over (numbersOf D (take 0 (D .actions))) old
+unfolding numbersOf over flatMap
+numbered-none D old = refl
+
+pub numbered-all : (D : Domain) (k : ℕ) {numbers : List ℕ} (old : List ℕ) → length (D .actions) ≤ k → numbers ≡ over (numbersOf D (take k (D .actions))) old → numbers ≡ over (numbersOf D (D .actions)) old
+numbered-all D k {numbers} old h e = e ∙ ap (λ (l : List Action). over (numbersOf D l) old) (take-all k (D .actions) h)

@@ -1,19 +1,27 @@
 // The names of all moments, in the order of the report.
+use classes::ASKED;
+use classes::AT_END;
+use classes::AT_START;
 use classes::Marks;
 use classes::Name;
 use classes::Sole;
-use classes::counts::clauses_at;
-use classes::counts::is_journey;
-use classes::counts::name_at;
-use classes::counts::soles_at;
+use classes::Soles;
 use classes::name_number;
+use classes::names::clauses_at;
+use classes::names::is_journey;
+use classes::names::name_at;
+use classes::names::sole_in;
+use classes::names::tally;
 use classes::number::number_classes;
 use literals::Moment;
 use literals::head::Head;
 use literals::head::actions_in;
 use literals::head::is_lasting;
 use literals::head::rows_of;
+use literals::keys::KeyPlaces;
+use literals::keys::put_places;
 use literals::limits::MAX_ACTIONS;
+use literals::limits::MAX_COMPONENTS;
 use literals::limits::MAX_LITERALS;
 use verdict::Notes;
 use verdict::Summary;
@@ -27,9 +35,10 @@ ghost use Rattle.literals.specs.Domain.{Domain, Action};
 ghost use Rattle.literals.specs.Decode.{maxActions, maxLiterals};
 ghost use Rattle.literals.specs.Table.{pad};
 ghost use Rattle.literals.specs.Held.{Held, Read};
+ghost use Rattle.literals.specs.Keys.{PlacesOf};
 ghost use Rattle.literals.specs.declared.Moment.the-variants.{Start, End};
 ghost use Rattle.classes.specs.Classes.{momentsOf, classes, nameOf, journey};
-ghost use Rattle.classes.specs.Coded.{ActionOf, MomentOf, Sides, classNumbers, soleOf, reachAt};
+ghost use Rattle.classes.specs.Coded.{ActionOf, MomentOf, Sides, classNumbers, numbersOf, soleOf, reachAt};
 ghost use Rattle.verdict.specs.Decision.{Row, rowAt, rowsOfClasses, rows};
 ghost use Rattle.verdict.specs.Claims.{wellFormed};
 ghost use Rattle.verdict.specs.Summaries.{summaryOf};
@@ -71,7 +80,7 @@ pub struct NamedDomain {
 fn name_class(
     head: &Head,
     rows: &[u8],
-    of: &[u8],
+    numbers: &[u8],
     at_start: &Marks,
     at_end: &Marks,
     first: Sole,
@@ -80,25 +89,33 @@ fn name_class(
     class: u8,
     lasting: bool,
 ) -> ClassNames
-    requires sides { ⌜ Sides (now rows) (now of) ⌝ }
-    requires first { ⌜ first ≡ soleOf (now of) (now «at_start») class ⌝ }
-    requires last { ⌜ last ≡ soleOf (now of) (now «at_end») class ⌝ }
+    requires sides { ⌜ Sides (now rows) (now numbers) ⌝ }
+    requires first { ⌜ first ≡ soleOf (now numbers) (now «at_start») class ⌝ }
+    requires last { ⌜ (lasting ≡ true → last ≡ soleOf (now numbers) (now «at_end») class) ⌝ }
     ensures start { λ r. ⌜ ((D : Domain) (a : Action)
-        → MomentOf D a Start (now (head .entry)) (now (rows .entry)) (now (of .entry)) (now («at_start» .entry))
+        → MomentOf D a Start (now (head .entry)) (now (rows .entry)) (now (numbers .entry)) (now («at_start» .entry))
         → class < length (classes D a) → r .start ≡ nameOf D a (getD (classes D a) class []) Start) ⌝ }
     ensures end { λ r. ⌜ ((D : Domain) (a : Action)
-        → MomentOf D a Start (now (head .entry)) (now (rows .entry)) (now (of .entry)) (now («at_start» .entry))
-        → MomentOf D a End (now (head .entry)) (now (rows .entry)) (now (of .entry)) (now («at_end» .entry))
+        → MomentOf D a Start (now (head .entry)) (now (rows .entry)) (now (numbers .entry)) (now («at_start» .entry))
+        → MomentOf D a End (now (head .entry)) (now (rows .entry)) (now (numbers .entry)) (now («at_end» .entry))
         → class < length (classes D a) → reach ≡ reachAt D a End class
         → lasting ≡ true → a .lasting ≡ true
         → (r .end ≡ nameOf D a (getD (classes D a) class []) End) × (r .journey ≡ journey D a (getD (classes D a) class []))) ⌝ }
 {
-    let start = name_at(head, rows, of, at_start, first.conditions, first, class);
+    let start = name_at(
+        head,
+        rows,
+        numbers,
+        at_start,
+        first.conditions,
+        first,
+        class,
+    );
     if lasting {
         return ClassNames {
             start,
-            end: name_at(head, rows, of, at_end, reach, last, class),
-            journey: is_journey(rows, of, at_start, first, last, class),
+            end: name_at(head, rows, numbers, at_end, reach, last, class),
+            journey: is_journey(rows, numbers, at_start, first, last, class),
         };
     }
     ClassNames {
@@ -165,35 +182,31 @@ impl Naming {
         started
     }
 
-    // The rows of the classes of an action, of the clauses of its literals at both moments, of each class's own true conditions and adds
-    // there, and of the true conditions that are asked at the end.
+    // The rows of the classes of an action, of the clauses of its literals at both moments, and of what each class has there.
     fn with_each(
         self,
         head: &Head,
         rows: &[u8],
-        of: &[u8],
+        numbers: &[u8],
         at_start: &Marks,
         at_end: &Marks,
-        conditions: &Marks,
-        adds: &Marks,
-        reach: &Marks,
-        end_conditions: &Marks,
-        end_adds: &Marks,
+        soles: &Soles,
         count: usize,
         lasting: bool,
         names: &mut [u8],
     ) -> Naming
-        requires sides { ⌜ Sides (now rows) (now of) ⌝ }
-        requires first { ⌜ SolesIn (now of) (now «at_start») (now conditions) (now adds) ⌝ }
-        requires last { ⌜ SolesIn (now of) (now «at_end») (now «end_conditions») (now «end_adds») ⌝ }
-        requires few { ⌜ count ≤ length (now of) ⌝ }
+        requires sides { ⌜ Sides (now rows) (now numbers) ⌝ }
+        requires first { ⌜ SolesIn (now numbers) (now «at_start») (now soles) 0 ⌝ }
+        requires last { ⌜ (lasting ≡ true → SolesIn (now numbers) (now «at_end») (now soles) 2) ⌝ }
+        requires few { ⌜ count ≤ length (now numbers) ⌝ }
         requires room { ⌜ self .rows + 2 * count ≤ length (now names) ⌝ }
         ensures rows { λ r. ⌜ r .rows ≤ self .rows + 2 * count ⌝ }
         ensures named { λ r. ⌜ ((before : List Row) (old : List ℕ) (D : Domain) (a : Action) (i : ℕ)
             → Named before [] self (now (names .entry)) old
-            → MomentOf D a Start (now (head .entry)) (now (rows .entry)) (now (of .entry)) (now («at_start» .entry)) → a .lasting ≡ lasting
-            → (lasting ≡ true → EndOf D a (now (head .entry)) (now (rows .entry)) (now (of .entry)) (now («at_end» .entry))
-            (now (reach .entry))) → count ≡ length (classes D a)
+            → MomentOf D a Start (now (head .entry)) (now (rows .entry)) (now (numbers .entry)) (now («at_start» .entry))
+            → a .lasting ≡ lasting
+            → (lasting ≡ true → EndOf D a (now (head .entry)) (now (rows .entry)) (now (numbers .entry)) (now («at_end» .entry))
+            (now (soles .entry))) → count ≡ length (classes D a)
             → Named before (rowsOfClasses D a i 0 (classes D a)) r (now (names .exit)) old) ⌝ }
     {
         let mut next = self;
@@ -201,18 +214,12 @@ impl Naming {
             let named = name_class(
                 head,
                 rows,
-                of,
+                numbers,
                 at_start,
                 at_end,
-                Sole {
-                    conditions: conditions[class],
-                    adds: adds[class],
-                },
-                reach[class],
-                Sole {
-                    conditions: end_conditions[class],
-                    adds: end_adds[class],
-                },
+                sole_in(soles, AT_START, class),
+                soles[MAX_LITERALS * ASKED + class],
+                sole_in(soles, AT_END, class),
                 class as u8,
                 lasting,
             );
@@ -221,73 +228,55 @@ impl Naming {
         next
     }
 
-    // The rows of the classes of an action: `of` holds the class number of each of its literals, which are these rows. (An action at once
-    // has no end.)
+    // The rows of the classes of an action: `numbers` holds the class number of each of its literals, which are these rows. (An action at
+    // once has no end.)
     fn with_classes(
         self,
         head: &Head,
         rows: &[u8],
-        of: &[u8],
+        numbers: &[u8],
         count: usize,
         lasting: bool,
         names: &mut [u8],
     ) -> Naming
-        requires rowed { ⌜ length (now rows) ≡ 8 * length (now of) ⌝ }
-        requires literals { ⌜ length (now of) ≤ maxLiterals ⌝ }
-        requires few { ⌜ count ≤ length (now of) ⌝ }
+        requires rowed { ⌜ length (now rows) ≡ 8 * length (now numbers) ⌝ }
+        requires literals { ⌜ length (now numbers) ≤ maxLiterals ⌝ }
+        requires few { ⌜ count ≤ length (now numbers) ⌝ }
         requires room { ⌜ self .rows + 2 * count ≤ length (now names) ⌝ }
         ensures rows { λ r. ⌜ r .rows ≤ self .rows + 2 * count ⌝ }
         ensures named { λ r. ⌜ ((before : List Row) (old : List ℕ) (D : Domain) (a : Action) (i : ℕ)
             → Named before [] self (now (names .entry)) old
             → ActionOf D a (now (head .entry)) (now (rows .entry)) → a .lasting ≡ lasting
-            → now (of .entry) ≡ classNumbers D a → count ≡ length (classes D a)
+            → now (numbers .entry) ≡ classNumbers D a → count ≡ length (classes D a)
             → Named before (rowsOfClasses D a i 0 (classes D a)) r (now (names .exit)) old) ⌝ }
     {
-        let n = of.len();
+        let n = numbers.len();
+        let mut soles = [0u8; 5 * MAX_LITERALS];
         let mut at_start = [0u8; MAX_LITERALS];
-        let mut conditions = [0u8; MAX_LITERALS];
-        let mut adds = [0u8; MAX_LITERALS];
+        tally(rows, numbers, &mut soles);
         clauses_at(false, rows, n, Moment::Start, &mut at_start);
-        soles_at(of, &at_start, 1, &mut conditions);
-        soles_at(of, &at_start, 3, &mut adds);
         if !lasting {
             return self.with_each(
                 head,
                 rows,
-                of,
+                numbers,
                 &at_start,
                 &at_start,
-                &conditions,
-                &adds,
-                &conditions,
-                &conditions,
-                &adds,
+                &soles,
                 count,
                 lasting,
                 names,
             );
         }
         let mut at_end = [0u8; MAX_LITERALS];
-        let mut end_conditions = [0u8; MAX_LITERALS];
-        let mut end_adds = [0u8; MAX_LITERALS];
         clauses_at(false, rows, n, Moment::End, &mut at_end);
-        soles_at(of, &at_end, 1, &mut end_conditions);
-        soles_at(of, &at_end, 3, &mut end_adds);
-        let mut asked = [0u8; 64];
-        let mut reach = [0u8; 64];
-        clauses_at(true, rows, n, Moment::End, &mut asked);
-        soles_at(of, &asked, 1, &mut reach);
         self.with_each(
             head,
             rows,
-            of,
+            numbers,
             &at_start,
             &at_end,
-            &conditions,
-            &adds,
-            &reach,
-            &end_conditions,
-            &end_adds,
+            &soles,
             count,
             lasting,
             names,
@@ -295,29 +284,35 @@ impl Naming {
     }
 }
 
-// The rows of one action, whose n literals are these rows, behind as many as are `named` before. Its summary knows no other action.
+// The rows of one action, whose literals are these rows, behind as many as are `named` before; `numbers` gets the class number of each
+// literal, by which alone its classes are known from there on. Its summary knows no other action. (`places` has the places of the keys,
+// and `words` is work memory for numbering.)
 pub fn name_action(
     head: &Head,
+    places: &KeyPlaces,
     rows: &[u8],
-    n: usize,
+    numbers: &mut [u8],
+    words: &mut [u64],
     named: usize,
     lasting: bool,
     names: &mut [u8],
 ) -> NamedAction
-    requires rowed { ⌜ length (now rows) ≡ 8 * n ⌝ }
-    requires literals { ⌜ n ≤ maxLiterals ⌝ }
-    requires room { ⌜ named + 2 * n ≤ length (now names) ⌝ }
-    ensures rows { λ r. ⌜ r .rows ≤ named + 2 * n ⌝ }
-    ensures classes { λ r. ⌜ r .classes ≤ n ⌝ }
+    requires places { ⌜ PlacesOf (now head) (now places) ⌝ }
+    requires rowed { ⌜ length (now rows) ≡ 8 * length (now numbers) ⌝ }
+    requires literals { ⌜ length (now numbers) ≤ maxLiterals ⌝ }
+    requires words { ⌜ length (now words) ≡ maxLiterals ⌝ }
+    requires room { ⌜ named + 2 * length (now numbers) ≤ length (now names) ⌝ }
+    ensures rows { λ r. ⌜ r .rows ≤ named + 2 * length (now (numbers .entry)) ⌝ }
+    ensures classes { λ r. ⌜ r .classes ≤ length (now (numbers .entry)) ⌝ }
+    ensures numbers { λ _. ⌜ ((D : Domain) (a : Action) → ActionOf D a (now (head .entry)) (now (rows .entry))
+        → now (numbers .exit) ≡ classNumbers D a) ⌝ }
     ensures named { λ r. ⌜ ((D : Domain) (a : Action) → ActionOf D a (now (head .entry)) (now (rows .entry)) → a .lasting ≡ lasting
         → (before : List Row) (old : List ℕ) (i : ℕ) → Listed before named (now (names .entry)) old
         → (r .classes ≡ length (classes D a)) × (r .summary ≡ summaryOf D a)
         × Listed (before ++ rowsOfClasses D a i 0 (classes D a)) (r .rows) (now (names .exit)) old) ⌝ }
 {
-    let mut of = [0u8; MAX_LITERALS];
-    let mut tuples = [255u8; 8 * MAX_LITERALS];
-    let classes = number_classes(head, rows, &mut of[0..n], &mut tuples);
-    let naming = Naming::new(named).with_classes(head, rows, &of[0..n], classes, lasting, names);
+    let classes = number_classes(head, places, rows, numbers, words);
+    let naming = Naming::new(named).with_classes(head, rows, numbers, classes, lasting, names);
     let summary = naming.summary;
     NamedAction {
         rows: naming.rows,
@@ -326,31 +321,43 @@ pub fn name_action(
     }
 }
 
-// The names of all moments of a domain that was read; `counts` gets how many classes each action has.
+// The names of all moments of a domain that was read; `numbers` gets the class number of each literal, in the order of the table, and
+// `counts` how many classes each action has.
 pub fn name_all(
     head: &Head,
     table: &[u8],
+    numbers: &mut [u8],
     names: &mut [u8],
     counts: &mut ClassCounts,
 ) -> NamedDomain
     requires read { ⌜ Read (now head) (now table) ⌝ }
+    requires numbers { ⌜ length (now table) ≤ 8 * length (now numbers) ⌝ }
     requires room { ⌜ length (now table) ≤ 4 * length (now names) ⌝ }
     ensures rows { λ r. ⌜ r .rows ≤ 2 * (maxLiterals * maxActions) ⌝ }
+    ensures numbers { λ _. ⌜ ((D : Domain) → Held D (now (head .entry)) (now (table .entry)) → wellFormed D ≡ true
+        → now (numbers .exit) ≡ over (numbersOf D (D .actions)) (now (numbers .entry))) ⌝ }
     ensures named { λ r. ⌜ ((D : Domain) → Held D (now (head .entry)) (now (table .entry)) → wellFormed D ≡ true
         → now (counts .entry) ≡ pad maxActions []
         → (r ≡ namingOf D) × (now (counts .exit) ≡ pad maxActions (classCounts D (D .actions)))
         × (now (names .exit) ≡ over (nameBytes (rows D)) (now (names .entry)))) ⌝ }
 {
+    let mut places = [0u8; 8 * MAX_COMPONENTS];
+    put_places(head, &mut places);
+    let mut words = [0u64; MAX_LITERALS];
     let mut rows = 0;
     let mut notes = Notes::new();
     for i in 0..actions_in(head) {
         let span = rows_of(head, table, i);
-        let from = 8 * span.from;
-        let to = 8 * span.to;
+        let first = span.from;
+        let last = span.to;
+        let from = 8 * first;
+        let to = 8 * last;
         let named = name_action(
             head,
+            &places,
             &table[from..to],
-            span.to - span.from,
+            &mut numbers[first..last],
+            &mut words,
             rows,
             is_lasting(head, i),
             names,

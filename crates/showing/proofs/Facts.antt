@@ -199,11 +199,11 @@ module _ (head ks t : List ℕ) where
 
 -- ---- an instance fact
 
-pub object-key : (k class : ℕ) (t : List ℕ) → 8 * class + 8 ≤ length t → k < 8 → object (getD t (8 * class + k) 0) ≡ object (getD (take 8 (drop (8 * class) t)) k 0)
-object-key k class t h l = ap object (sym (part-at 8 t (8 * class) h k l))
+pub object-key : (k : ℕ) (t : List ℕ) → k < 8 → object (getD t k 0) ≡ object (getD (take 8 t) k 0)
+object-key k t l = ap object (sym (getD-take 8 t k 0 l))
 
-pub object-none : (k class : ℕ) (t : List ℕ) → 8 * class + 8 ≤ length t → 8 ≤ k → object 0 ≡ object (getD (take 8 (drop (8 * class) t)) k 0)
-object-none k class t h l = ap object (sym (List·getD-eq-default (take 8 (drop (8 * class) t)) 0 (omega (arith, length-part 8 t (8 * class) h))))
+pub object-none : (k : ℕ) (t : List ℕ) → 8 ≤ length t → 8 ≤ k → object 0 ≡ object (getD (take 8 t) k 0)
+object-none k t h l = ap object (sym (List·getD-eq-default (take 8 t) 0 (omega (arith, length-take-le 8 t h))))
 
 module _ (arity spare : ℕ) (tuple row : List ℕ) (h : length row ≡ 8) (g : arity ≤ 6) where
   abbrev labels : List ℕ

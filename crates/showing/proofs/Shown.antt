@@ -5,8 +5,8 @@ use mathlib.Core.List.{List, [], _∷_, _++_, map, flatMap, append-nil, append-a
 use Prim.Native.Nat.{ℕ, zero, suc, _+_, _-_, _*_, _≤_, _<_}
 use native.Mathlib.Omega.{arith}
 use lib.Dec.{eqb, leb}
-use lib.ListN.{length, getD, take, drop, replicate, length-append, length-map}
-use lib.Seq.{take-at, paste}
+use lib.ListN.{length, getD, take, drop, replicate, length-append, length-map, length-drop}
+use lib.Seq.{take-at, take-all, length-take-le, paste}
 use borrow.Author.Tests.{ltb-true, le-leb, lt-leb, eq-eqb, ne-eqb}
 use Rattle.records.specs.Lists.{In, keepIf, filterBy, countBy, all}
 use Rattle.records.specs.Memory.{over}
@@ -20,7 +20,8 @@ use Rattle.literals.specs.declared.Clause.the-variants.{Positive, Add, Delete}
 use Rattle.literals.specs.Domain.{object, Atom, Fact, Literal, Action, Component, keyBelow, keysOf, Domain, action}
 use Rattle.literals.specs.Decode.{labelOf}
 use Rattle.literals.specs.Table.{literalRow, labelNumber, componentRow, rowsIn, pad, Bounded}
-use Rattle.literals.specs.Held.{arityIn, partIn, HeadOf, Held}
+use Rattle.literals.specs.declared.span.Span.{Span}
+use Rattle.literals.specs.Held.{arityIn, partIn, HeadOf, Held, SpanFits}
 use Rattle.literals.proofs.Bytes.{keys-below, keys-once}
 use Rattle.literals.proofs.Rows.{length-row, row-inside}
 use Rattle.literals.proofs.Tables.{rows-flat, length-literals, length-literal-row}
@@ -34,8 +35,8 @@ use Rattle.classes.specs.declared.Name.the-variants.{Unreachable, Irrelevant, H
 use Rattle.literals.specs.Matching.{required}
 use Rattle.classes.specs.Classes.{classes, inClass, reachIn, lastsIn, changedBy, covered, excluding, nameNumber, nameBy, nameOf}
 use Rattle.literals.specs.Keys.{position, numbersFrom}
-use Rattle.classes.specs.Coded.{ActionOf, tupleRow, classTuples, clausesBy, askedAt, uncoveredAt}
-use Rattle.classes.proofs.Rows.{row-flat, noLiteral}
+use Rattle.classes.specs.Coded.{ActionOf, tupleRow, clausesBy, askedAt, uncoveredAt}
+use Rattle.classes.proofs.Rows.{noLiteral}
 use Rattle.classes.proofs.Clauses.{length-clauses, required-at}
 use Rattle.classes.proofs.Members.{classes-few}
 use Rattle.verdict.specs.Binding.{valueOf, bind, bindTuple, objectsFrom, sameNumbers, spare}
@@ -317,12 +318,14 @@ module _ {D : Domain} {a : Action} {head : List ℕ} {m : Moment} {rows clauses 
     class-below : Below (a .vars) (getD (classes D a) j [])
     class-below = let r = class-in D a class-listed in tuple-below D (a .vars) (r .0 .atom) (B .below a (G .action .listed) (r .0) (r .1)) (r .2)
 
-    tuple-part : (tuples : List ℕ) → tuples ≡ classTuples D a → take 8 (drop (8 * j) tuples) ≡ tupleRow (getD (classes D a) j [])
-    unfolding classTuples
-    tuple-part tuples e =
-        ap (λ (t : List ℕ). take 8 (drop (8 * j) t)) e
-        ∙ row-flat tupleRow (classes D a) (replicate (512 - length (flatMap tupleRow (classes D a))) 255) []
-        (λ x k. length-row (map (λ (v : Variable). v .0) x) (let n = length-map x (λ (v : Variable). v .0) in let t = tuple-length x k in let f = keys-few in omega arith)) j h
+    tuple-part : (tuple : List ℕ) → tuple ≡ tupleRow (getD (classes D a) j []) → take 8 tuple ≡ tupleRow (getD (classes D a) j [])
+    tuple-part tuple e =
+        let x : List Variable = getD (classes D a) j [] in
+        let t = tuple-length x class-listed in
+        let n = length-map x (λ (v : Variable). v .0) in
+        let f = keys-few in
+        let l : length (tupleRow x) ≡ 8 = length-row (map (λ (v : Variable). v .0) x) (omega arith) in
+        ap (take 8) e ∙ take-all 8 (tupleRow x) (omega arith)
 
     module _ (u : ℕ) (g : u < length (D .template)) where
       abbrev pub part : Component
@@ -337,13 +340,13 @@ module _ {D : Domain} {a : Action} {head : List ℕ} {m : Moment} {rows clauses 
       part-arity : arityIn head (getD (partIn head u) 0 0) ≡ length (part .labels)
       part-arity = ap (λ (r : List ℕ). arityIn head (getD r 0 0)) component-part ∙ H .arities (part .rel) ∙ sym (B .componentArity part part-listed)
 
-      pub instance-is : (tuples : List ℕ) (s : ℕ) → tuples ≡ classTuples D a → s ≡ a .vars
-          → instanceOf head u s (take 8 (drop (8 * j) tuples)) ≡ factBytes (instanceFact (spare a) (bindTuple (sameNumbers a) (getD (classes D a) j [])) part ∷ [])
-      instance-is tuples s e q =
+      pub instance-is : (tuple : List ℕ) (s : ℕ) → tuple ≡ tupleRow (getD (classes D a) j []) → s ≡ a .vars
+          → instanceOf head u s (take 8 tuple) ≡ factBytes (instanceFact (spare a) (bindTuple (sameNumbers a) (getD (classes D a) j [])) part ∷ [])
+      instance-is tuple s e q =
           let x : List Variable = getD (classes D a) j [] in
           let n = keys-few in
-          ap₂ (λ (k s : ℕ). instanceBytes k s (take 8 (drop (8 * j) tuples)) (partIn head u)) part-arity q
-          ∙ ap₂ (instanceBytes (length (part .labels)) (a .vars)) (tuple-part tuples e) component-part
+          ap₂ (λ (k s : ℕ). instanceBytes k s (take 8 tuple) (partIn head u)) part-arity q
+          ∙ ap₂ (instanceBytes (length (part .labels)) (a .vars)) (tuple-part tuple e) component-part
           ∙ instance-fact a x (keysOf (D .template)) class-below (tuple-length x class-listed) (omega arith) part (keys-below _ _ (B .keysFit part part-listed))
 
   -- ---- together: what the code leaves, of the k true conditions
@@ -389,20 +392,20 @@ module _ {D : Domain} {a : Action} {head : List ℕ} {m : Moment} {rows clauses 
       pub open-short : length out < 8 * k + 8 → ShownAt D a j m out out false
       open-short h = shown-as is-facts (too-short (conditionFacts a m ++ (shown ∷ [])) out (let c = one-more in omega arith))
 
-      pub open-shown : 8 * k + 8 ≤ length out → (tuples : List ℕ) (s u′ : ℕ)
-          → tuples ≡ classTuples D a → u′ ≡ uncoveredAt D a (getD (classes D a) j []) m → s ≡ a .vars
+      pub open-shown : 8 * k + 8 ≤ length out → (tuple : List ℕ) (s u′ : ℕ)
+          → tuple ≡ tupleRow (getD (classes D a) j []) → u′ ≡ uncoveredAt D a (getD (classes D a) j []) m → s ≡ a .vars
           → (out₁ out₂ : List ℕ) → out₁ ≡ over (conditionsOf head (firstClauses n clauses) (rowsIn n rows)) out
-          → out₂ ≡ paste out₁ (8 * k) (instanceOf head u′ s (take 8 (drop (8 * j) tuples))) 8
+          → out₂ ≡ paste out₁ (8 * k) (instanceOf head u′ s (take 8 tuple)) 8
           → ShownAt D a j m out out₂ true
-      open-shown room tuples s u′ c v w out₁ out₂ o₁ o₂ =
+      open-shown room tuple s u′ c v w out₁ out₂ o₁ o₂ =
           let bytes : List ℕ = conditionsOf head (firstClauses n clauses) (rowsIn n rows) in
-          let fact : List ℕ = instanceOf head u′ s (take 8 (drop (8 * j) tuples)) in
+          let fact : List ℕ = instanceOf head u′ s (take 8 tuple) in
           let inside = open-inside in
           let is : fact ≡ factBytes (shown ∷ []) =
-          instance-is j (R .listed) u′ (omega arith) tuples s c w
+          instance-is j (R .listed) u′ (omega arith) tuple s c w
           ∙ ap (λ (u : ℕ). factBytes (instanceFact (spare a) (bindTuple (sameNumbers a) (getD (classes D a) j [])) (getD (D .template) u noComponent) ∷ [])) v in
           let many : length bytes ≡ 8 * k = (let b = length-conditions head clauses rows n rows-enough in omega arith) in
-          let eight : length fact ≡ 8 = length-instance-at (arityIn head (getD (partIn head u′) 0 0)) s (take 8 (drop (8 * j) tuples)) head u′ (arity-six (getD (partIn head u′) 0 0)) in
+          let eight : length fact ≡ 8 = length-instance-at (arityIn head (getD (partIn head u′) 0 0)) s (take 8 tuple) head u′ (arity-six (getD (partIn head u′) 0 0)) in
           let full = long-enough (conditionFacts a m ++ (shown ∷ [])) out (let d = one-more in omega arith) in
           shown-as is-facts (
             full .0,
@@ -485,3 +488,15 @@ module _ (D : Domain) (i j number : ℕ) (old new : List ℕ) (r : Bool) (moment
 
   pub shown-end : (moment ≡ 0 → ⊥) → ShowsAt D i j number old new r End → ShowsAt D i j number old new r (momentBy moment)
   shown-end h s = rw (ne-eqb moment 0 h) s
+
+-- the rows of an action, and as many numbers
+pub parts-alike : (table numbers : List ℕ) (span : Span) → SpanFits (length table) span → length table ≤ 8 * length numbers
+    → (length (take (span .to - span .from) (drop (span .from) numbers)) ≤ 64)
+    × (length (take (8 * span .to - 8 * span .from) (drop (8 * span .from) table)) ≡ 8 * length (take (span .to - span .from) (drop (span .from) numbers)))
+parts-alike table numbers span F h =
+    let o = F .order in
+    let f = F .few in
+    let r = F .room in
+    let n : length (take (span .to - span .from) (drop (span .from) numbers)) ≡ span .to - span .from = length-take-le (span .to - span .from) (drop (span .from) numbers) (simp length-drop (omega arith)) in
+    let t : length (take (8 * span .to - 8 * span .from) (drop (8 * span .from) table)) ≡ 8 * span .to - 8 * span .from = length-take-le (8 * span .to - 8 * span .from) (drop (8 * span .from) table) (simp length-drop (omega arith)) in
+    (omega arith, omega arith)

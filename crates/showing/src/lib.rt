@@ -1,9 +1,9 @@
 // The witness: 8 bytes a fact (relation, arity, arguments, FF to fill), variable i as object i.
 use classes::Marks;
-use classes::counts::clauses_at;
-use classes::counts::first_uncovered;
-use classes::counts::lasts_at;
-use classes::number::number_classes;
+use classes::names::clauses_at;
+use classes::names::first_uncovered;
+use classes::names::lasts_at;
+use classes::number::class_tuple;
 use literals::Key;
 use literals::Label;
 use literals::Moment;
@@ -20,9 +20,9 @@ use literals::label_of;
 use literals::limits::MAX_LITERALS;
 ghost use mathlib.Core.Path.{_≡_};
 ghost use mathlib.Core.Bool.{true};
-ghost use mathlib.Core.List.{[]};
+ghost use mathlib.Core.List.{List, []};
 ghost use Prim.Native.Nat.{ℕ, _+_, _*_, _≤_, _<_};
-ghost use lib.ListN.{length, getD, take, drop, replicate};
+ghost use lib.ListN.{length, getD, take, drop};
 ghost use lib.Seq.{paste};
 ghost use Rattle.records.specs.Lists.{countBy};
 ghost use Rattle.records.specs.Memory.{over};
@@ -30,8 +30,8 @@ ghost use Rattle.literals.specs.Domain.{object, Domain, Action, action};
 ghost use Rattle.literals.specs.Decode.{maxArguments, maxLiterals, maxComponents};
 ghost use Rattle.literals.specs.Table.{rowsIn};
 ghost use Rattle.literals.specs.Held.{partIn, Held};
-ghost use Rattle.classes.specs.Classes.{classes, lastsIn};
-ghost use Rattle.classes.specs.Coded.{ActionOf, classTuples, uncoveredAt};
+ghost use Rattle.classes.specs.Classes.{classes};
+ghost use Rattle.classes.specs.Coded.{ActionOf, classNumbers, numbersOf, uncoveredAt};
 ghost use Rattle.verdict.specs.Claims.{wellFormed};
 ghost use Rattle.verdict.specs.Coded.{momentBy};
 ghost use Rattle.verdict.specs.Decision.{shownAt};
@@ -116,44 +116,36 @@ fn put_conditions(out: &mut [u8], head: &Head, rows: &[u8], clauses: &Marks, n: 
     }
 }
 
-// The object under a key of the instance of a class.
-fn object_at(tuples: &[u8], class: usize, k: Key) -> Object
-    requires { ⌜ 8 * class + 8 ≤ length (now tuples) ⌝ }
-    ensures { λ r. ⌜ r ≡ object (getD (take 8 (drop (8 * class) (now (tuples .entry)))) (k .0) 0) ⌝ }
+// The object under a key of the instance of a class, of its key tuple.
+fn object_at(tuple: &[u8], k: Key) -> Object
+    requires { ⌜ 8 ≤ length (now tuple) ⌝ }
+    ensures { λ r. ⌜ r ≡ object (getD (take 8 (now (tuple .entry))) (k .0) 0) ⌝ }
 {
     if k.0 < 8 {
-        let v = tuples[8 * class + k.0 as usize];
+        let v = tuple[k.0 as usize];
         return witness_object(Variable(v));
     }
     Object(0)
 }
 
 // The object under a label: the spare one where it is counted.
-fn object_under(tuples: &[u8], class: usize, label: Label, spare: Object) -> Object
-    requires { ⌜ 8 * class + 8 ≤ length (now tuples) ⌝ }
-    ensures { λ r. ⌜ r ≡ objectAt spare (take 8 (drop (8 * class) (now (tuples .entry)))) label ⌝ }
+fn object_under(tuple: &[u8], label: Label, spare: Object) -> Object
+    requires { ⌜ 8 ≤ length (now tuple) ⌝ }
+    ensures { λ r. ⌜ r ≡ objectAt spare (take 8 (now (tuple .entry))) label ⌝ }
 {
     match label {
-        Label::Key(k) => object_at(tuples, class, k),
+        Label::Key(k) => object_at(tuple, k),
         Label::Counted => spare,
     }
 }
 
 // A byte of the instance fact of the component `c`, which has this arity, at an offset.
-fn instance_byte(
-    head: &Head,
-    c: usize,
-    arity: u8,
-    tuples: &[u8],
-    class: usize,
-    spare: Object,
-    i: usize,
-) -> u8
+fn instance_byte(head: &Head, c: usize, arity: u8, tuple: &[u8], spare: Object, i: usize) -> u8
     requires component { ⌜ (c < maxComponents) × (arity ≤ maxArguments) ⌝ }
     requires inside { ⌜ i < 8 ⌝ }
-    requires tuple { ⌜ 8 * class + 8 ≤ length (now tuples) ⌝ }
+    requires tuple { ⌜ 8 ≤ length (now tuple) ⌝ }
     ensures { λ r. ⌜ r
-        ≡ getD (instanceBytes arity (spare .0) (take 8 (drop (8 * class) (now (tuples .entry)))) (partIn (now (head .entry)) c)) i 0 ⌝ }
+        ≡ getD (instanceBytes arity (spare .0) (take 8 (now (tuple .entry))) (partIn (now (head .entry)) c)) i 0 ⌝ }
 {
     if i == 0 {
         return part_byte(head, c, 0);
@@ -163,31 +155,23 @@ fn instance_byte(
     }
     if i < 2 + arity as usize {
         let label = label_of(part_byte(head, c, i - 1));
-        let o = object_under(tuples, class, label, spare);
+        let o = object_under(tuple, label, spare);
         return o.0;
     }
     255
 }
 
 // The fact, written at an offset.
-fn put_instance(
-    out: &mut [u8],
-    at: usize,
-    head: &Head,
-    c: usize,
-    tuples: &[u8],
-    class: usize,
-    spare: Object,
-)
+fn put_instance(out: &mut [u8], at: usize, head: &Head, c: usize, tuple: &[u8], spare: Object)
     requires component { ⌜ c < maxComponents ⌝ }
     requires room { ⌜ at + 8 ≤ length (now out) ⌝ }
-    requires tuple { ⌜ 8 * class + 8 ≤ length (now tuples) ⌝ }
+    requires tuple { ⌜ 8 ≤ length (now tuple) ⌝ }
     ensures { λ _. ⌜ now (out .exit)
-        ≡ paste (now (out .entry)) at (instanceOf (now (head .entry)) c (spare .0) (take 8 (drop (8 * class) (now (tuples .entry))))) 8 ⌝ }
+        ≡ paste (now (out .entry)) at (instanceOf (now (head .entry)) c (spare .0) (take 8 (now (tuple .entry)))) 8 ⌝ }
 {
     let arity = arity_of(head, part_byte(head, c, 0));
     for i in 0..8 {
-        out[at + i] = instance_byte(head, c, arity, tuples, class, spare, i);
+        out[at + i] = instance_byte(head, c, arity, tuple, spare, i);
     }
 }
 
@@ -209,27 +193,17 @@ fn put_plain(head: &Head, rows: &[u8], n: usize, m: Moment, out: &mut [u8]) -> b
     true
 }
 
-// The first component that a class leaves uncovered at a moment, or the number of components; `tuples`, which is all FF, gets the key
-// tuples of the action's classes, and `of` is room for a number for each literal.
-fn open_class(
-    head: &Head,
-    rows: &[u8],
-    of: &mut [u8],
-    tuples: &mut [u8],
-    m: Moment,
-    class: u8,
-) -> usize
-    requires few { ⌜ length (now of) ≤ maxLiterals ⌝ }
-    requires rowed { ⌜ length (now rows) ≡ 8 * length (now of) ⌝ }
-    requires room { ⌜ length (now tuples) ≡ 8 * maxLiterals ⌝ }
+// The first component that a class leaves uncovered at a moment, or the number of components.
+fn open_component(head: &Head, rows: &[u8], numbers: &[u8], m: Moment, class: u8) -> usize
+    requires few { ⌜ length (now numbers) ≤ maxLiterals ⌝ }
+    requires rowed { ⌜ length (now rows) ≡ 8 * length (now numbers) ⌝ }
     ensures { λ r. ⌜ ((D : Domain) (a : Action) → ActionOf D a (now (head .entry)) (now (rows .entry))
-        → now (tuples .entry) ≡ replicate (8 * maxLiterals) 255 → class < length (classes D a)
-        → (now (tuples .exit) ≡ classTuples D a) × (r ≡ uncoveredAt D a (getD (classes D a) class []) m)) ⌝ }
+        → now (numbers .entry) ≡ classNumbers D a → class < length (classes D a)
+        → r ≡ uncoveredAt D a (getD (classes D a) class []) m) ⌝ }
 {
-    number_classes(head, rows, of, tuples);
-    let mut clauses = [0u8; 64];
-    clauses_at(false, rows, of.len(), m, &mut clauses);
-    first_uncovered(head, rows, of, &clauses, class)
+    let mut clauses = [0u8; MAX_LITERALS];
+    clauses_at(false, rows, numbers.len(), m, &mut clauses);
+    first_uncovered(head, rows, numbers, &clauses, class)
 }
 
 // The witness of an unbounded moment of the class j: the true conditions that are asked there, then the instance fact of the first
@@ -238,31 +212,32 @@ fn open_class(
 fn put_open(
     head: &Head,
     rows: &[u8],
-    n: usize,
+    numbers: &[u8],
     spare: Object,
     j: usize,
     m: Moment,
     out: &mut [u8],
 ) -> bool
-    requires few { ⌜ (n ≤ maxLiterals) × (j < maxLiterals) ⌝ }
-    requires rowed { ⌜ length (now rows) ≡ 8 * n ⌝ }
+    requires few { ⌜ (length (now numbers) ≤ maxLiterals) × (j < maxLiterals) ⌝ }
+    requires rowed { ⌜ length (now rows) ≡ 8 * length (now numbers) ⌝ }
     ensures { λ r. ⌜ ((D : Domain) (a : Action) → ActionOf D a (now (head .entry)) (now (rows .entry))
+        → now (numbers .entry) ≡ classNumbers D a
         → spare .0 ≡ a .vars → RefusedAt D a j m 42 → ShownAt D a j m (now (out .entry)) (now (out .exit)) r) ⌝ }
 {
+    let n = numbers.len();
     let mut asked = [0u8; MAX_LITERALS];
     clauses_at(true, rows, n, m, &mut asked);
     let k = count_conditions(&asked, n);
     if out.len() < 8 * k + 8 {
         return false;
     }
-    let mut of = [0u8; MAX_LITERALS];
-    let mut tuples = [255u8; 8 * MAX_LITERALS];
-    let u = open_class(head, rows, &mut of[0..n], &mut tuples, m, j as u8);
+    let u = open_component(head, rows, numbers, m, j as u8);
     if components_in(head) <= u {
         return false;
     }
+    let tuple = class_tuple(head, rows, numbers, j as u8);
     put_conditions(out, head, rows, &asked, n);
-    put_instance(out, 8 * k, head, u, &tuples, j, spare);
+    put_instance(out, 8 * k, head, u, &tuple, spare);
     true
 }
 
@@ -270,40 +245,31 @@ fn put_open(
 fn put_witness(
     head: &Head,
     rows: &[u8],
-    n: usize,
+    numbers: &[u8],
     spare: Object,
     j: usize,
     m: Moment,
     number: u64,
     out: &mut [u8],
 ) -> bool
-    requires few { ⌜ (n ≤ maxLiterals) × (j < maxLiterals) ⌝ }
-    requires rowed { ⌜ length (now rows) ≡ 8 * n ⌝ }
+    requires few { ⌜ (length (now numbers) ≤ maxLiterals) × (j < maxLiterals) ⌝ }
+    requires rowed { ⌜ length (now rows) ≡ 8 * length (now numbers) ⌝ }
     ensures { λ r. ⌜ ((D : Domain) (a : Action) → ActionOf D a (now (head .entry)) (now (rows .entry))
+        → now (numbers .entry) ≡ classNumbers D a
         → spare .0 ≡ a .vars → RefusedAt D a j m number → ShownAt D a j m (now (out .entry)) (now (out .exit)) r) ⌝ }
 {
     if number == 42 {
-        return put_open(head, rows, n, spare, j, m, out);
+        return put_open(head, rows, numbers, spare, j, m, out);
     }
-    put_plain(head, rows, n, m, out)
+    put_plain(head, rows, numbers.len(), m, out)
 }
 
-// Whether a class of the action with these rows has an over-all literal; `of` and `tuples` are room for what `number_classes` finds.
-fn lasting_class(head: &Head, rows: &[u8], of: &mut [u8], tuples: &mut [u8], class: u8) -> bool
-    requires few { ⌜ length (now of) ≤ maxLiterals ⌝ }
-    requires rowed { ⌜ length (now rows) ≡ 8 * length (now of) ⌝ }
-    requires room { ⌜ length (now tuples) ≡ 8 * maxLiterals ⌝ }
-    ensures { λ r. ⌜ ((D : Domain) (a : Action) → ActionOf D a (now (head .entry)) (now (rows .entry))
-        → now (tuples .entry) ≡ replicate 512 255 → class < length (classes D a) → r ≡ lastsIn D a (getD (classes D a) class [])) ⌝ }
-{
-    number_classes(head, rows, of, tuples);
-    lasts_at(rows, of, class)
-}
-
-// Whether a witness is written for the place named: not at an end whose class has an over-all literal.
-// (The decision names an action and a class of the domain; the tests say so to the checker.)
-pub fn is_shown(head: &Head, table: &[u8], i: usize, j: usize, moment: u64) -> bool
-    ensures { λ r. ⌜ ((D : Domain) → Held D (now (head .entry)) (now (table .entry)) → wellFormed D ≡ true → i < length (D .actions)
+// Whether a witness is written for the place named: not at an end whose class has an over-all literal. `numbers` has the class number of
+// each literal of the table. (The decision names an action and a class of the domain; the tests say so to the checker.)
+pub fn is_shown(head: &Head, table: &[u8], numbers: &[u8], i: usize, j: usize, moment: u64) -> bool
+    requires { ⌜ length (now table) ≤ 8 * length (now numbers) ⌝ }
+    ensures { λ r. ⌜ ((D : Domain) (old : List ℕ) → Held D (now (head .entry)) (now (table .entry)) → wellFormed D ≡ true
+        → now (numbers .entry) ≡ over (numbersOf D (D .actions)) old → i < length (D .actions)
         → j < length (classes D (action D i)) → r ≡ shownAt D (action D i) (getD (classes D (action D i)) j []) (momentBy moment)) ⌝ }
 {
     if moment == 0 {
@@ -312,16 +278,15 @@ pub fn is_shown(head: &Head, table: &[u8], i: usize, j: usize, moment: u64) -> b
     if actions_in(head) <= i {
         return true;
     }
-    if 64 <= j {
+    if MAX_LITERALS <= j {
         return true;
     }
     let span = rows_of(head, table, i);
-    let from = 8 * span.from;
-    let to = 8 * span.to;
-    let n = span.to - span.from;
-    let mut of = [0u8; 64];
-    let mut tuples = [255u8; 512];
-    !lasting_class(head, &table[from..to], &mut of[0..n], &mut tuples, j as u8)
+    let first = span.from;
+    let last = span.to;
+    let from = 8 * first;
+    let to = 8 * last;
+    !lasts_at(&table[from..to], &numbers[first..last], j as u8)
 }
 
 // The witness of the place named: the class j of the action i at a moment, refused by `number`. Whether it fits; nothing is written where
@@ -329,13 +294,16 @@ pub fn is_shown(head: &Head, table: &[u8], i: usize, j: usize, moment: u64) -> b
 pub fn show(
     head: &Head,
     table: &[u8],
+    numbers: &[u8],
     i: usize,
     j: usize,
     moment: u64,
     number: u64,
     out: &mut [u8],
 ) -> bool
-    ensures { λ r. ⌜ ((D : Domain) → Held D (now (head .entry)) (now (table .entry)) → wellFormed D ≡ true → i < length (D .actions)
+    requires { ⌜ length (now table) ≤ 8 * length (now numbers) ⌝ }
+    ensures { λ r. ⌜ ((D : Domain) (old : List ℕ) → Held D (now (head .entry)) (now (table .entry)) → wellFormed D ≡ true
+        → now (numbers .entry) ≡ over (numbersOf D (D .actions)) old → i < length (D .actions)
         → RefusedAt D (action D i) j (momentBy moment) number
         → ShownAt D (action D i) j (momentBy moment) (now (out .entry)) (now (out .exit)) r) ⌝ }
 {
@@ -346,15 +314,16 @@ pub fn show(
         return false;
     }
     let span = rows_of(head, table, i);
-    let from = 8 * span.from;
-    let to = 8 * span.to;
-    let n = span.to - span.from;
+    let first = span.from;
+    let last = span.to;
+    let from = 8 * first;
+    let to = 8 * last;
     let spare = Object(variables_of(head, i));
     if moment == 0 {
         return put_witness(
             head,
             &table[from..to],
-            n,
+            &numbers[first..last],
             spare,
             j,
             Moment::Start,
@@ -365,7 +334,7 @@ pub fn show(
     put_witness(
         head,
         &table[from..to],
-        n,
+        &numbers[first..last],
         spare,
         j,
         Moment::End,

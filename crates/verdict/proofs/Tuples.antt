@@ -15,6 +15,7 @@ use Rattle.literals.specs.declared.Label.{Label}
 use Rattle.literals.specs.Domain.{variable, object, key, sameVariable, sameObject, Atom, Fact, Component, isKey, keysOf, Domain}
 use Rattle.literals.specs.Matching.{under, keyTuple, isOf, tuplesBy, tuplesOf, hasTuple, matches}
 use Rattle.classes.specs.Classes.{belongs}
+use Rattle.classes.proofs.Numbers.{keyTuple-in}
 use Rattle.verdict.specs.Binding.{Binding, valueOf, bind, bindTuple}
 use Rattle.verdict.proofs.Equality.{variable-eq, variable-self, object-eq, object-self, atom-of}
 
@@ -84,23 +85,6 @@ bound-tuple D b y p h =
 -- ---- a tuple's members are arguments
 
 module _ {A : Type 0} where
-  pub under-in : (k : Key) (ls : List Label) (vs : List A) {v : A} → In v (under k ls vs) → In v vs
-  under-in k [] vs m = absurd (List·Memᴰ·not-nil m)
-  under-in k (l ∷ ls) [] m = m
-  under-in k (l ∷ ls) (w ∷ ws) {v} m = go (λ n. under-in k ls ws n) (in-keepIf (isKey k l) w (under k ls ws) m)
-    where
-      go : (In v (under k ls ws) → In v ws) → ((isKey k l ≡ true) × (v ≡ w)) ⊎ In v (under k ls ws) → In v (w ∷ ws)
-      go ih (inl h) = List·Memᴰ·head (h .1)
-      go ih (inr n) = List·Memᴰ·tail (ih n)
-
-  pub keyTuple-in : (n : ℕ) (ls : List Label) (vs : List A) {v : A} → In v (keyTuple n ls vs) → In v vs
-  keyTuple-in zero ls vs m = absurd (List·Memᴰ·not-nil m)
-  keyTuple-in (suc n) ls vs {v} m = go (λ k. keyTuple-in n ls vs k) (List·Memᴰ·append-cases (keyTuple n ls vs) m)
-    where
-      go : (In v (keyTuple n ls vs) → In v vs) → In v (keyTuple n ls vs) ⊎ In v (under (key n) ls vs) → In v vs
-      go ih (inl k) = ih k
-      go ih (inr k) = under-in (key n) ls vs k
-
   tuples-in : (n : ℕ) (cs : List Component) (p : Atom A) {u : List A} → In u (tuplesBy n cs p)
       → (c : Component) × In c cs × (isOf c p ≡ true) × (u ≡ keyTuple n (c .labels) (p .args))
   tuples-in n [] p m = absurd (List·Memᴰ·not-nil m)

@@ -23,8 +23,10 @@ pub fn m1() -> Vec<u8> {
 
 // Roles: at the start, over all, at the end.
 const START: u8 = 0;
+const START_FALSE: u8 = 1;
 const START_DELETE: u8 = 3;
 const OVER_ALL: u8 = 4;
+const OVER_ALL_FALSE: u8 = 5;
 const END_ADD: u8 = 8;
 const END_DELETE: u8 = 9;
 
@@ -42,6 +44,8 @@ pub enum Shape {
     Communicate,
     /// 64 literals, each a class of its own.
     Classes,
+    /// 64 literals in one class.
+    OneClass,
     /// 63 literals in 21 classes that are journeys, and one literal more.
     Journeys,
 }
@@ -57,7 +61,7 @@ pub fn dense(actions: usize, shape: Shape) -> Vec<u8> {
             let communicate = plan.actions.swap_remove(rovers.action("communicate_soil_data") as usize);
             plan.actions = vec![communicate; actions];
         }
-        Shape::Classes | Shape::Journeys => {
+        Shape::Classes | Shape::OneClass | Shape::Journeys => {
             plan.relations = vec![6; 64];
             // Five keys, in another order for each component.
             for component in 0..16u8 {
@@ -65,7 +69,11 @@ pub fn dense(actions: usize, shape: Shape) -> Vec<u8> {
                 labels.rotate_left(component as usize % 6);
                 plan.components.push((4 * component, labels));
             }
-            let action = if shape == Shape::Classes { classes } else { journeys };
+            let action = match shape {
+                Shape::Classes => classes,
+                Shape::OneClass => one_class,
+                _ => journeys,
+            };
             plan.actions = (0..actions).map(action).collect();
         }
     }
@@ -86,6 +94,18 @@ fn classes(number: usize) -> PlanAction {
     for class in 0..64 {
         let (relation, variables) = atom(number, number % 16, class);
         action.push([START, START_DELETE, OVER_ALL, END_DELETE][class % 4], relation, variables);
+    }
+    action
+}
+
+/// No true condition and no add, of four roles and every component's relation.
+fn one_class(number: usize) -> PlanAction {
+    let mut action = PlanAction::new(16, true);
+    for component in 0..16 {
+        for role in [START_FALSE, START_DELETE, OVER_ALL_FALSE, END_DELETE] {
+            let (relation, variables) = atom(number, component, 0);
+            action.push(role, relation, variables);
+        }
     }
     action
 }
@@ -128,9 +148,11 @@ mod tests {
         for actions in [8, 16, 32, 64] {
             assert_eq!(judged(&dense(actions, Shape::Communicate)), (0, actions * 2));
             assert_eq!(judged(&dense(actions, Shape::Classes)), (0, actions * 64 * 2));
+            assert_eq!(judged(&dense(actions, Shape::OneClass)), (0, actions * 2));
             assert_eq!(judged(&dense(actions, Shape::Journeys)), (1, actions * 21 * 2));
         }
         assert_eq!(dense(64, Shape::Classes).len(), 50_036);
+        assert_eq!(dense(64, Shape::OneClass).len(), 50_036);
         assert_eq!(dense(64, Shape::Journeys).len(), 50_036);
     }
 }

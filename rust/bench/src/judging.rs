@@ -65,6 +65,7 @@ fn single_files() {
         ("M1", files::m1()),
         ("Rovers, 9 actions", files::rovers()),
         ("dense, 64 classes", files::dense(64, Shape::Classes)),
+        ("dense, 1 class", files::dense(64, Shape::OneClass)),
         ("dense, 21 journeys", files::dense(64, Shape::Journeys)),
     ] {
         let (timed, verdict) = time(name, &file);
@@ -87,9 +88,12 @@ fn growth() {
         "{:24} {:>7} {:>6} {:>12} {:>12} {:>7}   of 8 actions: library, model",
         "actions", "number", "bytes", "library", "model", "ratio"
     );
-    for (name, shape) in
-        [("Rovers' communicate", Shape::Communicate), ("64 classes", Shape::Classes), ("21 journeys", Shape::Journeys)]
-    {
+    for (name, shape) in [
+        ("Rovers' communicate", Shape::Communicate),
+        ("64 classes", Shape::Classes),
+        ("1 class", Shape::OneClass),
+        ("21 journeys", Shape::Journeys),
+    ] {
         let mut first = None;
         for actions in [8, 16, 32, 64] {
             let file = files::dense(actions, shape);

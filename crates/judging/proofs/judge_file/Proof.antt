@@ -11,8 +11,11 @@ slice-aggregate-judge-in c = search needs
 slice-aggregate-judge-in-2 : tie.Need-slice-aggregate-judge-in-2
 slice-aggregate-judge-in-2 c = search needs
 
+slice-aggregate-judge-in-3 : tie.Need-slice-aggregate-judge-in-3
+slice-aggregate-judge-in-3 c = search needs
+
 judge-in-requires : tie.Need-judge-in-requires
-judge-in-requires c κs = (inr (omega arith), omega arith)
+judge-in-requires c κs = (inr (omega arith), (omega arith, omega arith))
 
 same-length : tie.Need-same-length
 same-length c = search needs
@@ -23,14 +26,17 @@ same-length-2 c = search needs
 returns : tie.Need-returns
 returns c = search needs
 
-slice-aggregate-judge-in-3 : tie.Need-slice-aggregate-judge-in-3
-slice-aggregate-judge-in-3 c = search needs
-
 slice-aggregate-judge-in-4 : tie.Need-slice-aggregate-judge-in-4
 slice-aggregate-judge-in-4 c = search needs
 
+slice-aggregate-judge-in-5 : tie.Need-slice-aggregate-judge-in-5
+slice-aggregate-judge-in-5 c = search needs
+
+slice-aggregate-judge-in-6 : tie.Need-slice-aggregate-judge-in-6
+slice-aggregate-judge-in-6 c = search needs
+
 judge-in-requires-2 : tie.Need-judge-in-requires-2
-judge-in-requires-2 c κs = (inr (omega arith), omega arith)
+judge-in-requires-2 c κs = (inr (omega arith), (omega arith, omega arith))
 
 same-length-3 : tie.Need-same-length-3
 same-length-3 c = search needs
@@ -41,14 +47,17 @@ same-length-4 c = search needs
 returns-2 : tie.Need-returns-2
 returns-2 c = search needs
 
-slice-aggregate-judge-in-5 : tie.Need-slice-aggregate-judge-in-5
-slice-aggregate-judge-in-5 c = search needs
+slice-aggregate-judge-in-7 : tie.Need-slice-aggregate-judge-in-7
+slice-aggregate-judge-in-7 c = search needs
 
-slice-aggregate-judge-in-6 : tie.Need-slice-aggregate-judge-in-6
-slice-aggregate-judge-in-6 c = search needs
+slice-aggregate-judge-in-8 : tie.Need-slice-aggregate-judge-in-8
+slice-aggregate-judge-in-8 c = search needs
+
+slice-aggregate-judge-in-9 : tie.Need-slice-aggregate-judge-in-9
+slice-aggregate-judge-in-9 c = search needs
 
 judge-in-requires-3 : tie.Need-judge-in-requires-3
-judge-in-requires-3 c κs = (inl (omega arith), omega arith)
+judge-in-requires-3 c κs = (inl (omega arith), (omega arith, omega arith))
 
 same-length-5 : tie.Need-same-length-5
 same-length-5 c = search needs
@@ -65,18 +74,21 @@ judge-file-spec =
     (tie.spec
     slice-aggregate-judge-in
     slice-aggregate-judge-in-2
+    slice-aggregate-judge-in-3
     judge-in-requires
     same-length
     same-length-2
     returns
-    slice-aggregate-judge-in-3
     slice-aggregate-judge-in-4
+    slice-aggregate-judge-in-5
+    slice-aggregate-judge-in-6
     judge-in-requires-2
     same-length-3
     same-length-4
     returns-2
-    slice-aggregate-judge-in-5
-    slice-aggregate-judge-in-6
+    slice-aggregate-judge-in-7
+    slice-aggregate-judge-in-8
+    slice-aggregate-judge-in-9
     judge-in-requires-3
     same-length-5
     same-length-6

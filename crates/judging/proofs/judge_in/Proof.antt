@@ -17,15 +17,16 @@ same-length : tie.Need-same-length
 same-length c = search needs
 
 returns : tie.Need-returns
-returns c = leaves-refused _ (refusal-is (c .before .before .before .before .before .before .before .before .before .before .before .before .args .file .now) _ _ _ (c .before .before .before .before .read-domain .ensures) (λ z. omega arith)) (c .at-offset .ensures)
+returns c = leaves-refused _ (refusal-is (c .before .before .before .before .before .before .before .before .before .before .before .before .before .args .file .now) _ _ _ (c .before .before .before .before .read-domain .ensures) (λ z. omega arith)) (c .at-offset .ensures)
 
 judge-with-requires : tie.Need-judge-with-requires
 judge-with-requires c κs =
-    let read = c .before .before .before .before .before .before .before .before .read-domain in
-    let o = opened (c .before .before .before .before .before .before .before .before .before .before .before .before .before .before .before .before .args .file .now) _ _ _ (read .ensures) (omega arith) in
+    let read = c .before .before .before .before .before .before .before .before .before .read-domain in
+    let o = opened (c .before .before .before .before .before .before .before .before .before .before .before .before .before .before .before .before .before .before .args .file .now) _ _ _ (read .ensures) (omega arith) in
     let same = read .kept .1 .1 .0 in
-    let room = c .before .before .before .before .before .before .before .before .before .before .before .before .before .before .before .before .pre .1 in
-    ((o .said, o .held), omega arith)
+    let first = c .before .before .before .before .before .before .before .before .before .before .before .before .before .before .before .before .before .before .pre .1 .0 in
+    let room = c .before .before .before .before .before .before .before .before .before .before .before .before .before .before .before .before .before .before .pre .1 .1 in
+    ((o .said, o .held), (omega arith, omega arith))
 
 same-length-2 : tie.Need-same-length-2
 same-length-2 c = search needs
@@ -39,11 +40,14 @@ same-length-4 c = search needs
 same-length-5 : tie.Need-same-length-5
 same-length-5 c = search needs
 
+same-length-6 : tie.Need-same-length-6
+same-length-6 c = search needs
+
 returns-2 : tie.Need-returns-2
 returns-2 c =
-    let file = c .before .before .before .before .before .before .before .before .before .before .before .before .before .before .before .before .before .before .before .before .before .before .before .args .file .now in
-    let o = opened file _ _ _ (c .before .before .before .before .before .before .before .before .before .before .before .before .before .before .before .read-domain .ensures) (omega arith) in
-    leaves-read (o .said) (o .decoded) (c .before .before .before .before .before .before .judge-with .ensures (o .said) (o .held) (decoded-well-formed file (o .said) (o .decoded)))
+    let file = c .before .before .before .before .before .before .before .before .before .before .before .before .before .before .before .before .before .before .before .before .before .before .before .before .before .before .before .args .file .now in
+    let o = opened file _ _ _ (c .before .before .before .before .before .before .before .before .before .before .before .before .before .before .before .before .before .before .read-domain .ensures) (omega arith) in
+    leaves-read (o .said) (o .decoded) (c .before .before .before .before .before .before .before .before .judge-with .ensures (o .said) (o .held) (decoded-well-formed file (o .said) (o .decoded)))
 
 pub judge-in-spec : {M : Type 1} → statement M
 judge-in-spec =
@@ -58,4 +62,5 @@ judge-in-spec =
     same-length-3
     same-length-4
     same-length-5
+    same-length-6
     returns-2)

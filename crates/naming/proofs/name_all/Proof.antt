@@ -1,22 +1,31 @@
 -- `name_all` meets its contract. The loop's invariant is `InActions` of proofs/NamedRows; the measure is how many actions are left. Assumes nothing.
 use mathlib.Core.Path.{refl, sym, ap, _∙_}
+use mathlib.Core.List.{List, _++_}
 use Prim.Native.Nat.{ℕ, _-_, _*_, _≤_, _<_}
 use native.Mathlib.Omega.{arith}
 use borrow.Author.Needs.{needs}
-use lib.ListN.{length, set}
+use lib.ListN.{length, set, take}
+use borrow.Rule.Slice.PartMut.{post-is}
 use Rattle.literals.specs.Domain.{action}
 use Rattle.literals.proofs.Spans.{part-length}
+use Rattle.classes.proofs.Tables.{numbers-more-actions}
 use Rattle.verdict.proofs.ReadActions.{action-held}
-use Rattle.naming.proofs.NamedRows.{InActions, names-room, names-next, names-few, listed-none, listed-action, noted-action, counted-action, naming-done}
+use Rattle.naming.proofs.NamedRows.{InActions, names-room, names-next, names-few, numbered-none, numbered-all, listed-none, listed-action, noted-action, counted-action, naming-done}
 use Rattle.naming.proofs.name_all.Statement.{statement}
 use Rattle.naming.proofs.name_all.Tie as tie
 
 abbrev Inv-loop : tie.InvT-loop
-Inv-loop head table names₀ counts₀ rows₀ notes₀ i₀ i-end names counts rows notes i =
-    InActions head table names₀ counts₀ names counts rows notes i
+Inv-loop head table numbers₀ names₀ counts₀ places₀ words₀ rows₀ notes₀ i₀ i-end numbers names counts words rows notes i =
+    InActions head table numbers₀ names₀ counts₀ numbers names counts words rows notes i
 
 abbrev μ-loop : tie.MeasureT-loop
-μ-loop head table names₀ counts₀ rows₀ notes₀ i₀ i-end names counts rows notes i = i-end - i
+μ-loop head table numbers₀ names₀ counts₀ places₀ words₀ rows₀ notes₀ i₀ i-end numbers names counts words rows notes i = i-end - i
+
+slice-aggregate-put-places : tie.Need-slice-aggregate-put-places Inv-loop μ-loop
+slice-aggregate-put-places c = search needs
+
+put-places-requires : tie.Need-put-places-requires Inv-loop μ-loop
+put-places-requires c κs = search needs
 
 new-requires : tie.Need-new-requires Inv-loop μ-loop
 new-requires c κs = search needs
@@ -28,6 +37,9 @@ loop-holds : tie.Need-loop-holds Inv-loop μ-loop
 loop-holds c =
     record {
       reach = omega arith;
+      numbers-room = refl;
+      words-room = refl;
+      numbered = λ D H wf. numbered-none D _;
       room = refl;
       few = λ D H. omega arith;
       listed = λ D H wf. listed-none D _;
@@ -56,12 +68,26 @@ part-name-action-end c = search needs
 sub-name-action-2 : tie.Need-sub-name-action-2 Inv-loop μ-loop
 sub-name-action-2 c = search needs
 
+part-name-action-start-2 : tie.Need-part-name-action-start-2 Inv-loop μ-loop
+part-name-action-start-2 c = c .before .before .rows-of .ensures .0 .order
+
+part-name-action-end-2 : tie.Need-part-name-action-end-2 Inv-loop μ-loop
+part-name-action-end-2 c =
+    let F = c .before .before .rows-of .ensures .0 .room in
+    let q = c .before .before .before .before .loop .inv .numbers-room in
+    let u = c .before .before .before .before .before .before .before .before .before .before .before .before .before .pre .1 .0 in
+    omega arith
+
+slice-aggregate-name-action : tie.Need-slice-aggregate-name-action Inv-loop μ-loop
+slice-aggregate-name-action c = sym (c .before .before .before .before .before .before .loop .inv .words-room)
+
 is-lasting-requires : tie.Need-is-lasting-requires Inv-loop μ-loop
 is-lasting-requires c κs = search needs
 
 name-action-requires : tie.Need-name-action-requires Inv-loop μ-loop
 name-action-requires c κs =
-    let H = c .before .before .before .before .before .before .before .before .before .before .before .before .before .pre .0 .1 in
+    let H = c .before .before .before .before .before .before .before .before .before .before .before .before .before .before .before
+    .before .before .pre .0 .1 in
     let b = c .before .before .before .before .before .before .rows-of in
     let F = b .ensures .0 in
     let l = c .before .before .before .before .before .before .before .before .loop in
@@ -69,20 +95,38 @@ name-action-requires c κs =
     let m = H .says .actions in
     let o = F .order in
     let f = F .few in
-    let h : l .i < length (c .before .before .before .before .before .before .before .before .before .before .before .before .before .pre .0 .0 .actions) = omega arith in
-    let r : length (c .before .before .before .before .before .before .before .before .before .before .before .before .before .args .table .now) ≤ 4 * length (l .names) = (let q = l .inv .room in let u = c .before .before .before .before .before .before .before .before .before .before .before .before .before .pre .1 in omega arith) in
-    (part-length (c .before .before .before .before .before .before .before .before .before .before .before .before .before .args .table .now) (b .result .from) (b .result .to) o (F .room), (omega arith, names-room H (l .i) h (b .ensures .1 _ H h) F _ (l .inv .few _ H) _ r))
+    let h : l .i < length (c .before .before .before .before .before .before .before .before .before .before .before .before .before .before
+    .before .before .before .pre .0 .0 .actions) = omega arith in
+    let r : length (c .before .before .before .before .before .before .before .before .before .before .before .before .before .before
+    .before .before .before .args .table .now) ≤ 4 * length (l .names) =
+    (let q = l .inv .room in let u = c .before .before .before .before .before .before .before .before .before .before .before .before
+    .before .before .before .before .before .pre .1 .1 in omega arith) in
+    let q = c .before .before .before .name-action-arg2 .given .1 in
+    let e = part-length (c .before .before .before .before .before .before .before .before .before .before .before .before .before .before
+    .before .before .before .args .table .now) (b .result .from) (b .result .to) o (F .room) in
+    let s = names-room H (l .i) h (b .ensures .1 _ H h) F _ (l .inv .few _ H) _ r in (
+      c .before .before .before .before .before .before .before .before .before .before .before .before .put-places .ensures,
+      (e ∙ ap (λ (n : ℕ). 8 * n) q, (omega arith, (l .inv .words-room, omega arith))),
+    )
 
 cast-counts : tie.Need-cast-counts Inv-loop μ-loop
-cast-counts c = search needs
+cast-counts c =
+    let q = c .before .before .before .before .before .before .before .before .before .before .name-action-arg2 .given .1 in
+    let k = c .before .before .before .before .before .before .name-action .ensures .1 .0 in
+    let f = c .before .before .before .before .before .before .before .before .before .before .before .before .before .rows-of .ensures .0
+    .few in
+    omega arith
 
 element-write-counts : tie.Need-element-write-counts Inv-loop μ-loop
 element-write-counts c =
-    let H = c .before .before .before .before .before .before .before .before .before .before .before .before .before .before .before .before .before .pre .0 .1 in
-    let n = c .before .before .before .before .before .before .before .before .before .before .before .before .before .actions-in .ensures in
+    let H = c .before .before .before .before .before .before .before .before .before .before .before .before .before .before .before
+    .before .before .before .before .before .before .before .before .before .pre .0 .1 in
+    let n = c .before .before .before .before .before .before .before .before .before .before .before .before .before .before .before
+    .before .actions-in .ensures in
     let m = H .says .actions in
     let f = H .says .bounded .actions in
-    let t = c .before .before .before .before .before .before .before .before .before .before .before .loop-test .taken in
+    let t = c .before .before .before .before .before .before .before .before .before .before .before .before .before .before .loop-test
+    .taken in
     omega arith
 
 with-requires : tie.Need-with-requires Inv-loop μ-loop
@@ -90,11 +134,14 @@ with-requires c κs = search needs
 
 add-i : tie.Need-add-i Inv-loop μ-loop
 add-i c =
-    let H = c .before .before .before .before .before .before .before .before .before .before .before .before .before .before .before .before .before .before .before .pre .0 .1 in
-    let n = c .before .before .before .before .before .before .before .before .before .before .before .before .before .before .before .actions-in .ensures in
+    let H = c .before .before .before .before .before .before .before .before .before .before .before .before .before .before .before
+    .before .before .before .before .before .before .before .before .before .before .before .pre .0 .1 in
+    let n = c .before .before .before .before .before .before .before .before .before .before .before .before .before .before .before
+    .before .before .before .actions-in .ensures in
     let m = H .says .actions in
     let f = H .says .bounded .actions in
-    let t = c .before .before .before .before .before .before .before .before .before .before .before .before .before .loop-test .taken in
+    let t = c .before .before .before .before .before .before .before .before .before .before .before .before .before .before .before
+    .before .loop-test .taken in
     omega arith
 
 loop-less : tie.Need-loop-less Inv-loop μ-loop
@@ -102,53 +149,74 @@ loop-less c = search needs
 
 loop-again : tie.Need-loop-again Inv-loop μ-loop
 loop-again c =
-    let b = c .before .before .before .before .before .before .before .before .before .before .before .before .rows-of in
+    let b = c .before .before .before .before .before .before .before .before .before .before .before .before .before .before .before
+    .rows-of in
     let F = b .ensures .0 in
-    let l = c .before .before .before .before .before .before .before .before .before .before .before .before .before .before .loop in
-    let n = c .before .before .before .before .before .before .before .before .before .before .before .before .before .before .before .actions-in .ensures in
-    let t = c .before .before .before .before .before .before .before .before .before .before .before .before .before .loop-test .taken in
-    let w = c .before .before .before .before .before .name-action in
+    let l = c .before .before .before .before .before .before .before .before .before .before .before .before .before .before .before
+    .before .before .loop in
+    let n = c .before .before .before .before .before .before .before .before .before .before .before .before .before .before .before
+    .before .before .before .actions-in .ensures in
+    let t = c .before .before .before .before .before .before .before .before .before .before .before .before .before .before .before
+    .before .loop-test .taken in
+    let w = c .before .before .before .before .before .before .before .before .name-action in
     record {
       reach = omega arith;
-      room = w .kept .1 .1 .1 .1 .1 .0 ∙ l .inv .room;
+      numbers-room = c .before .before .before .before .before .before .before .numbers .given .1 ∙ l .inv .numbers-room;
+      words-room = w .kept .1 .1 .1 .1 .0 ∙ l .inv .words-room;
+      numbered =
+          λ D H wf.
+          let m = H .says .actions in
+          let h : l .i < length (D .actions) = omega arith in
+          let S = b .ensures .1 D H h in
+          let A = action-held H wf (l .i) h (S .literals) in
+          ap (λ (t : List ℕ). take (b .result .from) (l .numbers) ++ (w .last .1 .1 .1 .0 ++ t))
+          (post-is (b .result .from) (b .result .to) (l .numbers) (F .order))
+          ∙ numbers-more-actions D (l .i) h S (l .numbers) _ _ (l .inv .numbered D H wf) (w .ensures .1 .1 .0 D (action D (l .i)) A);
+      room = w .kept .1 .1 .1 .1 .1 .1 .1 .0 ∙ l .inv .room;
       few =
           λ D H.
           let m = H .says .actions in
           let h : l .i < length (D .actions) = omega arith in
-          names-next H (l .i) h (b .ensures .1 D H h) F _ (l .inv .few D H) _ (w .ensures .0);
+          names-next H (l .i) h (b .ensures .1 D H h) F _ (l .inv .few D H) _ (let q = c .before .before .before .before .before .before .before .before .before .before .before .before .name-action-arg2 .given .1 in let u = w .ensures .0 in omega arith);
       listed =
           λ D H wf.
           let m = H .says .actions in
           let h : l .i < length (D .actions) = omega arith in
           let A = action-held H wf (l .i) h (b .ensures .1 D H h .literals) in
-          listed-action D (l .i) h (w .ensures .1 .1 D (action D (l .i)) A (sym (c .before .before .before .before .before .before .before .is-lasting .ensures ∙ H .says .lasting (l .i) h)) _ _ (l .i) (l .inv .listed D H wf) .2);
+          listed-action D (l .i) h (w .ensures .1 .1 .1 D (action D (l .i)) A (sym (c .before .before .before .before .before .before .before .before .before .before .is-lasting .ensures ∙ H .says .lasting (l .i) h)) _ _ (l .i) (l .inv .listed D H wf) .2);
       noted =
           λ D H wf.
           let m = H .says .actions in
           let h : l .i < length (D .actions) = omega arith in
           let A = action-held H wf (l .i) h (b .ensures .1 D H h .literals) in
-          let a = w .ensures .1 .1 D (action D (l .i)) A (sym (c .before .before .before .before .before .before .before .is-lasting .ensures ∙ H .says .lasting (l .i) h)) _ _ (l .i) (l .inv .listed D H wf) in
+          let a = w .ensures .1 .1 .1 D (action D (l .i)) A (sym (c .before .before .before .before .before .before .before .before .before .before .is-lasting .ensures ∙ H .says .lasting (l .i) h)) _ _ (l .i) (l .inv .listed D H wf) in
           noted-action D (l .i) h (l .inv .noted D H wf) (a .1) (c .with .ensures);
       counted =
           λ D H wf z.
           let m = H .says .actions in
           let h : l .i < length (D .actions) = omega arith in
           let A = action-held H wf (l .i) h (b .ensures .1 D H h .literals) in
-          let a = w .ensures .1 .1 D (action D (l .i)) A (sym (c .before .before .before .before .before .before .before .is-lasting .ensures ∙ H .says .lasting (l .i) h)) _ _ (l .i) (l .inv .listed D H wf) in
+          let a = w .ensures .1 .1 .1 D (action D (l .i)) A (sym (c .before .before .before .before .before .before .before .before .before .before .is-lasting .ensures ∙ H .says .lasting (l .i) h)) _ _ (l .i) (l .inv .listed D H wf) in
           ap (λ (v : ℕ). set (l .counts) (l .i) v) (a .0) ∙ counted-action D (l .i) _ h (H .says .bounded .actions) (l .inv .counted D H wf z);
     }
 
 same-length : tie.Need-same-length Inv-loop μ-loop
-same-length c = c .before .loop .inv .room
+same-length c = c .before .loop .inv .numbers-room
+
+same-length-2 : tie.Need-same-length-2 Inv-loop μ-loop
+same-length-2 c = c .before .loop .inv .room
 
 returns : tie.Need-returns Inv-loop μ-loop
 returns c =
     let l = c .before .loop in
     let n = c .before .before .actions-in .ensures in
-    let H = c .before .before .before .before .before .before .pre .0 .1 in
+    let H = c .before .before .before .before .before .before .before .before .before .before .pre .0 .1 in
     let m = H .says .actions in (
       names-few H (l .i) _ (omega arith) (l .inv .few _ H),
-      λ D H wf z. let m = H .says .actions in naming-done D (l .i) (omega arith) (l .inv .listed D H wf) (l .inv .noted D H wf) (l .inv .counted D H wf z),
+      (
+        λ D H wf. let m = H .says .actions in numbered-all D (l .i) _ (omega arith) (l .inv .numbered D H wf),
+        λ D H wf z. let m = H .says .actions in naming-done D (l .i) (omega arith) (l .inv .listed D H wf) (l .inv .noted D H wf) (l .inv .counted D H wf z),
+      ),
     )
 
 pub name-all-spec : {M : Type 1} → statement M
@@ -157,6 +225,8 @@ name-all-spec =
     (tie.spec
     Inv-loop
     μ-loop
+    slice-aggregate-put-places
+    put-places-requires
     new-requires
     actions-in-requires
     loop-holds
@@ -167,6 +237,9 @@ name-all-spec =
     part-name-action-start
     part-name-action-end
     sub-name-action-2
+    part-name-action-start-2
+    part-name-action-end-2
+    slice-aggregate-name-action
     is-lasting-requires
     name-action-requires
     cast-counts
@@ -176,4 +249,5 @@ name-all-spec =
     loop-less
     loop-again
     same-length
+    same-length-2
     returns)

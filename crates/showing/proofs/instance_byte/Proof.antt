@@ -1,7 +1,7 @@
 -- `instance_byte` meets its contract. Assumes nothing.
-use Prim.Native.Nat.{ℕ, _*_}
+use Prim.Native.Nat.{ℕ}
 use native.Mathlib.Omega.{arith}
-use lib.ListN.{take, drop}
+use lib.ListN.{take}
 use mathlib.Core.Path.{ap, _∙_}
 use mathlib.Core.List.{List}
 use Rattle.literals.specs.declared.Object.{Object}
@@ -18,7 +18,7 @@ part-byte-requires c κs = search needs
 returns : tie.Need-returns
 returns c =
     let a = c .before .before .before .args in
-    instance-first (a .arity) (a .spare .0) (take 8 (drop (8 * a .class) (a .tuples .now))) (a .head .now) (a .c) (c .before .before .before .pre .0 .1) (a .i) _ (omega arith) (c .part-byte .ensures)
+    instance-first (a .arity) (a .spare .0) (take 8 (a .tuple .now)) (a .head .now) (a .c) (c .before .before .before .pre .0 .1) (a .i) _ (omega arith) (c .part-byte .ensures)
 
 returns-2 : tie.Need-returns-2
 returns-2 c = search needs
@@ -42,14 +42,14 @@ returns-3 : tie.Need-returns-3
 returns-3 c =
     let a = c .before .before .before .before .before .before .before .args in
     let o = c .object-under in
-    let b : List ℕ = take 8 (drop (8 * a .class) (a .tuples .now)) in
+    let b : List ℕ = take 8 (a .tuple .now) in
     instance-object (a .arity) (a .spare .0) b (a .head .now) (a .c) (c .before .before .before .before .before .before .before .pre .0 .1) (a .i) (o .result .0) (λ e. omega arith) (λ e. omega arith) (omega arith)
     (ap (λ (o : Object). o .0) (o .ensures ∙ ap (objectAt (a .spare) b) (c .before .label-of .ensures ∙ ap labelOf (c .before .before .part-byte2 .ensures))))
 
 returns-4 : tie.Need-returns-4
 returns-4 c =
     let a = c .before .before .before .before .args in
-    instance-fill (a .arity) (a .spare .0) (take 8 (drop (8 * a .class) (a .tuples .now))) (a .head .now) (a .c) (c .before .before .before .before .pre .0 .1) (a .i) (omega arith) (λ e. omega arith) (λ e. omega arith) (omega arith)
+    instance-fill (a .arity) (a .spare .0) (take 8 (a .tuple .now)) (a .head .now) (a .c) (c .before .before .before .before .pre .0 .1) (a .i) (omega arith) (λ e. omega arith) (λ e. omega arith) (omega arith)
 
 pub instance-byte-spec : {M : Type 1} → statement M
 instance-byte-spec =

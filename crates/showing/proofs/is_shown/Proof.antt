@@ -1,33 +1,33 @@
 -- `is_shown` meets its contract. Assumes nothing.
-use mathlib.Core.Path.{refl}
 use mathlib.Core.List.{[]}
 use native.Mathlib.Omega.{arith}
 use lib.ListN.{getD}
 use Rattle.literals.specs.Domain.{action}
 use Rattle.classes.specs.Classes.{classes}
+use Rattle.classes.proofs.Tables.{numbers-part}
 use Rattle.verdict.proofs.ReadActions.{action-held}
-use Rattle.showing.proofs.Shown.{class-few, start-is-shown, end-is-shown}
+use Rattle.showing.proofs.Shown.{class-few, start-is-shown, end-is-shown, parts-alike}
 use borrow.Author.Needs.{needs}
 use Rattle.showing.proofs.is_shown.Statement.{statement}
 use Rattle.showing.proofs.is_shown.Tie as tie
 
 returns : tie.Need-returns
-returns c D H wf g h =
-    let a = c .before .before .args in
+returns c D old H wf f g h =
+    let a = c .before .before .before .args in
     start-is-shown D (action D (a .i)) (getD (classes D (action D (a .i))) (a .j) []) (a .moment) (c .if1 .taken)
 
 actions-in-requires : tie.Need-actions-in-requires
 actions-in-requires c κs = search needs
 
 returns-2 : tie.Need-returns-2
-returns-2 c D H wf g h =
+returns-2 c D old H wf f g h =
     let n = H .says .actions in
     let m = c .before .actions-in .ensures .0 in
     absurd (omega arith)
 
 returns-3 : tie.Need-returns-3
-returns-3 c D H wf g h =
-    let a = c .before .before .before .before .before .args in
+returns-3 c D old H wf f g h =
+    let a = c .before .before .before .before .before .before .args in
     let l = class-few H (a .i) (a .j) g h in
     absurd (omega arith)
 
@@ -40,41 +40,40 @@ mul-from c = search needs
 mul-to : tie.Need-mul-to
 mul-to c = search needs
 
-sub-n : tie.Need-sub-n
-sub-n c = search needs
+sub-lasts-at : tie.Need-sub-lasts-at
+sub-lasts-at c = search needs
 
-sub-lasting-class : tie.Need-sub-lasting-class
-sub-lasting-class c = search needs
+part-lasts-at-start : tie.Need-part-lasts-at-start
+part-lasts-at-start c = search needs
 
-part-lasting-class-start : tie.Need-part-lasting-class-start
-part-lasting-class-start c = search needs
+part-lasts-at-end : tie.Need-part-lasts-at-end
+part-lasts-at-end c = search needs
 
-part-lasting-class-end : tie.Need-part-lasting-class-end
-part-lasting-class-end c = search needs
+sub-lasts-at-2 : tie.Need-sub-lasts-at-2
+sub-lasts-at-2 c = search needs
 
-sub-lasting-class-2 : tie.Need-sub-lasting-class-2
-sub-lasting-class-2 c = search needs
+part-lasts-at-start-2 : tie.Need-part-lasts-at-start-2
+part-lasts-at-start-2 c = let F = c .before .rows-of .ensures .0 in F .order
 
-part-of-start : tie.Need-part-of-start
-part-of-start c = search needs
+part-lasts-at-end-2 : tie.Need-part-lasts-at-end-2
+part-lasts-at-end-2 c = let F = c .before .rows-of .ensures .0 .room in let p = c .before .before .before .before .before .before .before .before .pre in omega arith
 
-part-of-end : tie.Need-part-of-end
-part-of-end c = search needs
+cast-lasts-at : tie.Need-cast-lasts-at
+cast-lasts-at c = search needs
 
-slice-aggregate-lasting-class : tie.Need-slice-aggregate-lasting-class
-slice-aggregate-lasting-class c = search needs
-
-cast-lasting-class : tie.Need-cast-lasting-class
-cast-lasting-class c = search needs
-
-lasting-class-requires : tie.Need-lasting-class-requires
-lasting-class-requires c κs = search needs
+lasts-at-requires : tie.Need-lasts-at-requires
+lasts-at-requires c κs =
+    let s = c .before .before .rows-of .result in
+    let l = parts-alike (c .before .before .before .before .before .before .before .before .before .args .table .now) (c .before .before .before .before .before .before .before .before .before .args .numbers .now) s (c .before .before .rows-of .ensures .0) (c .before .before .before .before .before .before .before .before .before .pre) in
+    let e = l .1 in
+    record { rowed = omega arith; few = l .0 }
 
 returns-4 : tie.Need-returns-4
-returns-4 c D H wf g h =
-    let a = c .before .before .before .before .before .before .before .before .before .before .before .before .before .before .before .args in
-    let A = action-held H wf (a .i) g (c .before .before .before .before .before .before .before .before .before .rows-of .ensures .1 D H g .literals) in
-    end-is-shown D (action D (a .i)) (getD (classes D (action D (a .i))) (a .j) []) (a .moment) (c .before .before .before .before .before .before .before .before .before .before .before .before .before .if1 .left) (c .before .before .lasting-class .ensures D (action D (a .i)) A refl h)
+returns-4 c D old H wf f g h =
+    let a = c .before .before .before .before .before .before .before .before .before .before .args in
+    let S = c .before .before .before .rows-of .ensures .1 D H g in
+    let A = action-held H wf (a .i) g (S .literals) in
+    end-is-shown D (action D (a .i)) (getD (classes D (action D (a .i))) (a .j) []) (a .moment) (c .before .before .before .before .before .before .before .if1 .left) (c .lasts-at .ensures D (action D (a .i)) _ A (numbers-part D (a .i) g S (a .numbers .now) old f) h)
 
 pub is-shown-spec : {M : Type 1} → statement M
 is-shown-spec =
@@ -87,14 +86,12 @@ is-shown-spec =
     rows-of-requires
     mul-from
     mul-to
-    sub-n
-    sub-lasting-class
-    part-lasting-class-start
-    part-lasting-class-end
-    sub-lasting-class-2
-    part-of-start
-    part-of-end
-    slice-aggregate-lasting-class
-    cast-lasting-class
-    lasting-class-requires
+    sub-lasts-at
+    part-lasts-at-start
+    part-lasts-at-end
+    sub-lasts-at-2
+    part-lasts-at-start-2
+    part-lasts-at-end-2
+    cast-lasts-at
+    lasts-at-requires
     returns-4)

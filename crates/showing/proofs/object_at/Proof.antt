@@ -6,14 +6,8 @@ use borrow.Author.Needs.{needs}
 use Rattle.showing.proofs.object_at.Statement.{statement}
 use Rattle.showing.proofs.object_at.Tie as tie
 
-mul-v : tie.Need-mul-v
-mul-v c = search needs
-
 cast-v : tie.Need-cast-v
 cast-v c = search needs
-
-add-v : tie.Need-add-v
-add-v c = search needs
 
 shared-slice-read-v : tie.Need-shared-slice-read-v
 shared-slice-read-v c = search needs
@@ -22,12 +16,12 @@ witness-object-requires : tie.Need-witness-object-requires
 witness-object-requires c κs = search needs
 
 returns : tie.Need-returns
-returns c = let a = c .before .before .before .before .before .before .args in c .witness-object .ensures ∙ object-key (a .k .0) (a .class) (a .tuples .now) (omega arith) (omega arith)
+returns c = let a = c .before .before .before .before .before .before .args in c .witness-object .ensures ∙ object-key (a .k .0) (a .tuple .now) (omega arith)
 
 returns-2 : tie.Need-returns-2
-returns-2 c = let a = c .before .before .before .args in object-none (a .k .0) (a .class) (a .tuples .now) (omega arith) (omega arith)
+returns-2 c = let a = c .before .before .before .args in object-none (a .k .0) (a .tuple .now) (omega arith) (omega arith)
 
 pub object-at-spec : {M : Type 1} → statement M
 object-at-spec =
     tie.close
-    (tie.spec mul-v cast-v add-v shared-slice-read-v witness-object-requires returns returns-2)
+    (tie.spec cast-v shared-slice-read-v witness-object-requires returns returns-2)

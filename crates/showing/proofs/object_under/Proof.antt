@@ -1,7 +1,6 @@
 -- `object_under` meets its contract, label by label. Assumes nothing.
 use mathlib.Core.Path.{sym, ap, _∙_}
-use Prim.Native.Nat.{_*_}
-use lib.ListN.{take, drop}
+use lib.ListN.{take}
 use Rattle.showing.specs.Bytes.{objectAt}
 use borrow.Author.Needs.{needs}
 use Rattle.showing.proofs.object_under.Statement.{statement}
@@ -19,7 +18,7 @@ enum-told c = search needs
 returns : tie.Need-returns
 returns c =
     let a = c .before .before .before .before .before .args in
-    c .object-at .ensures ∙ sym (ap (objectAt (a .spare) (take 8 (drop (8 * a .class) (a .tuples .now)))) (c .before .before .label .given .1))
+    c .object-at .ensures ∙ sym (ap (objectAt (a .spare) (take 8 (a .tuple .now))) (c .before .before .label .given .1))
 
 returns-2 : tie.Need-returns-2
 returns-2 c = search needs

@@ -19,42 +19,38 @@ add-if1 : tie.Need-add-if1
 add-if1 c = search needs
 
 returns : tie.Need-returns
-returns c D a A v R =
-    let s = c .before .before .before .before .before .before .before in
+returns c D a A f v R =
     let k = c .before .count-conditions in
-    open-short (given (s .args .m) A (s .pre .1) (c .before .before .before .clauses-at .ensures)) R (k .result) (k .ensures .0) (s .args .out .now) refl (omega arith)
+    open-short (given (c .before .before .before .before .before .before .before .before .args .m) A
+    (c .before .before .before .before .before .before .before .before .pre .1) (c .before .before .before .clauses-at .ensures .1)) R
+    (k .result) (k .ensures .0) (c .before .before .before .before .before .before .before .before .args .out .now) refl (omega arith)
 
-sub-open-class : tie.Need-sub-open-class
-sub-open-class c = search needs
+cast-open-component : tie.Need-cast-open-component
+cast-open-component c = search needs
 
-part-of-start : tie.Need-part-of-start
-part-of-start c = search needs
-
-part-of-end : tie.Need-part-of-end
-part-of-end c = search needs
-
-slice-aggregate-open-class : tie.Need-slice-aggregate-open-class
-slice-aggregate-open-class c = search needs
-
-cast-open-class : tie.Need-cast-open-class
-cast-open-class c = search needs
-
-open-class-requires : tie.Need-open-class-requires
-open-class-requires c κs = search needs
+open-component-requires : tie.Need-open-component-requires
+open-component-requires c κs = search needs
 
 components-in-requires : tie.Need-components-in-requires
 components-in-requires c κs = search needs
 
 returns-2 : tie.Need-returns-2
-returns-2 c D a A v R =
-    let s = c .before .before .before .before .before .before .before .before .before .before .before .before .before .before in
-    let k = c .before .before .before .before .before .before .before .before .count-conditions in
-    let G = given (s .args .m) A (s .pre .1) (c .before .before .before .before .before .before .before .before .before .before .clauses-at .ensures) in
-    let o = c .before .before .before .before .open-class .ensures D a A refl (R .listed) .1 in
-    let l = open-inside G R (k .result) (k .ensures .0) (s .args .out .now) refl in
+returns-2 c D a A f v R =
+    let k = c .before .before .before .before .count-conditions in
+    let G = given (c .before .before .before .before .before .before .before .before .before .before .before .args .m) A
+    (c .before .before .before .before .before .before .before .before .before .before .before .pre .1)
+    (c .before .before .before .before .before .before .clauses-at .ensures .1) in
+    let o = c .before .before .open-component .ensures D a A f (R .listed) in
+    let l = open-inside G R (k .result) (k .ensures .0) (c .before .before .before .before .before .before .before .before .before .before .before .args .out .now) refl in
     let n = A .says .components in
     let e = c .before .components-in .ensures .0 in
     absurd (omega arith)
+
+cast-class-tuple : tie.Need-cast-class-tuple
+cast-class-tuple c = search needs
+
+class-tuple-requires : tie.Need-class-tuple-requires
+class-tuple-requires c κs = let p = c .before .before .before .before .before .before .before .before .before .before .before .pre in record { rowed = omega arith; few = p .0 .0 }
 
 put-conditions-requires : tie.Need-put-conditions-requires
 put-conditions-requires c κs = search needs
@@ -72,16 +68,20 @@ same-length : tie.Need-same-length
 same-length c = search needs
 
 returns-3 : tie.Need-returns-3
-returns-3 c D a A v R =
-    let s = c .before .before .before .before .before .before .before .before .before .before .before .before .before .before .before .before .before .before .before .before .before .before .before .before in
-    let k = c .before .before .before .before .before .before .before .before .before .before .before .before .before .before .before .before .before .before .count-conditions in
-    let o = c .before .before .before .before .before .before .before .before .before .before .before .before .before .before .open-class in
+returns-3 c D a A f v R =
+    let k = c .before .before .before .before .before .before .before .before .before .before .before .before .before .before .before .count-conditions in
+    let o = c .before .before .before .before .before .before .before .before .before .before .before .before .before .open-component in
+    let t = c .before .before .before .before .before .before .before .before .before .before .class-tuple in
     let w = c .before .before .before .before .before .before .before .put-conditions in
     let p = c .before .before .put-instance in
-    let G = given (s .args .m) A (s .pre .1) (c .before .before .before .before .before .before .before .before .before .before .before .before .before .before .before .before .before .before .before .before .clauses-at .ensures) in
-    let t = o .ensures D a A refl (R .listed) in
-    let g = c .before .before .before .before .before .before .before .before .before .before .before .before .before .before .before .before .before .if1 .left in
-    open-shown G R (k .result) (k .ensures .0) (s .args .out .now) refl (omega arith) (o .last .1 .1 .1 .0) (s .args .spare .0) (o .result) (t .0) (t .1) v (w .last .0) (p .last .0) (w .ensures) (p .ensures)
+    let G = given (c .before .before .before .before .before .before .before .before .before .before .before .before .before .before .before
+    .before .before .before .before .before .before .before .args .m) A
+    (c .before .before .before .before .before .before .before .before .before .before .before .before .before .before .before .before
+    .before .before .before .before .before .before .pre .1)
+    (c .before .before .before .before .before .before .before .before .before .before .before .before .before .before .before .before
+    .before .clauses-at .ensures .1) in
+    let g = c .before .before .before .before .before .before .before .before .before .before .before .before .before .before .if1 .left in
+    open-shown G R (k .result) (k .ensures .0) (c .before .before .before .before .before .before .before .before .before .before .before .before .before .before .before .before .before .before .before .before .before .before .args .out .now) refl (omega arith) (t .result) (c .before .before .before .before .before .before .before .before .before .before .before .before .before .before .before .before .before .before .before .before .before .before .args .spare .0) (o .result) (t .ensures D a A f (R .listed)) (o .ensures D a A f (R .listed)) v (w .last .0) (p .last .0) (w .ensures) (p .ensures)
 
 pub put-open-spec : {M : Type 1} → statement M
 put-open-spec =
@@ -92,14 +92,12 @@ put-open-spec =
     mul-if1
     add-if1
     returns
-    sub-open-class
-    part-of-start
-    part-of-end
-    slice-aggregate-open-class
-    cast-open-class
-    open-class-requires
+    cast-open-component
+    open-component-requires
     components-in-requires
     returns-2
+    cast-class-tuple
+    class-tuple-requires
     put-conditions-requires
     mul-put-instance
     slice-aggregate-put-instance

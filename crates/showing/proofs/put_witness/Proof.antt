@@ -13,10 +13,10 @@ same-length : tie.Need-same-length
 same-length c = search needs
 
 returns : tie.Need-returns
-returns c D a A v R =
-    let s = c .before .before .before .before .before .before .before .args in
+returns c D a A f v R =
+    let s = c .before .before .before .before .before .before .before .before .args in
     let q : s .number ≡ 42 = omega arith in
-    c .before .before .put-open .ensures D a A v (subst (RefusedAt D a (s .j) (s .m)) q R)
+    c .before .before .put-open .ensures D a A f v (subst (RefusedAt D a (s .j) (s .m)) q R)
 
 put-plain-requires : tie.Need-put-plain-requires
 put-plain-requires c κs = search needs
@@ -25,8 +25,8 @@ same-length-2 : tie.Need-same-length-2
 same-length-2 c = search needs
 
 returns-2 : tie.Need-returns-2
-returns-2 c D a A v R =
-    let s = c .before .before .before .before .before .before .before .args in
+returns-2 c D a A f v R =
+    let s = c .before .before .before .before .before .before .before .before .args in
     c .before .before .put-plain .ensures D a (s .j) (s .number) A R (λ q. omega arith)
 
 pub put-witness-spec : {M : Type 1} → statement M

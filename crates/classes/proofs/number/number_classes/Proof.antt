@@ -1,4 +1,4 @@
--- `number_classes` meets its contract: after j turns the table has the classes of the first j literals, and `of` their numbers. Assumes nothing.
+-- `number_classes` meets its contract: after j turns `words` has the classes of the first j literals, and `numbers` their numbers. Assumes nothing.
 use Prim.Native.Nat.{_-_}
 use mathlib.Core.Path.{_∙_}
 use native.Mathlib.Omega.{arith}
@@ -8,13 +8,13 @@ use Rattle.classes.proofs.number.number_classes.Statement.{statement}
 use Rattle.classes.proofs.number.number_classes.Tie as tie
 
 abbrev Inv-loop : tie.InvT-loop
-Inv-loop head rows of₀ tuples₀ count₀ j₀ j-end of tuples count j = SoFar head rows of₀ of tuples₀ tuples count j
+Inv-loop head places rows numbers₀ words₀ count₀ j₀ j-end numbers words count j = SoFar head rows numbers₀ numbers words₀ words count j
 
 abbrev μ-loop : tie.MeasureT-loop
-μ-loop head rows of₀ tuples₀ count₀ j₀ j-end of tuples count j = length of₀ - j
+μ-loop head places rows numbers₀ words₀ count₀ j₀ j-end numbers words count j = length numbers₀ - j
 
 loop-holds : tie.Need-loop-holds Inv-loop μ-loop
-loop-holds c = let a = c .before .before .before .args in so-far-none (a .head .now) (a .rows .now) (a .of .now) (a .tuples .now) (c .before .before .before .pre .2)
+loop-holds c = let a = c .before .before .before .args in so-far-none (a .head .now) (a .rows .now) (a .numbers .now) (a .words .now)
 
 mul-number-literal : tie.Need-mul-number-literal Inv-loop μ-loop
 mul-number-literal c = omega arith
@@ -23,10 +23,10 @@ number-literal-requires : tie.Need-number-literal-requires Inv-loop μ-loop
 number-literal-requires c κs =
     let w = c .before .before .loop .inv .few in
     let r = c .before .before .loop .inv .room in
-    (omega arith, omega arith, omega arith)
+    (c .before .before .before .before .before .before .pre .0, (omega arith, omega arith, omega arith))
 
-slice-write-of : tie.Need-slice-write-of Inv-loop μ-loop
-slice-write-of c = let w = c .before .before .before .before .before .loop .inv .whole in omega arith
+slice-write-numbers : tie.Need-slice-write-numbers Inv-loop μ-loop
+slice-write-numbers c = let w = c .before .before .before .before .before .loop .inv .whole in omega arith
 
 add-j : tie.Need-add-j Inv-loop μ-loop
 add-j c = omega arith
@@ -39,14 +39,16 @@ loop-again c =
     let a = c .before .before .before .before .before .before .before .before .before .args in
     let p = c .before .before .before .before .before .before .before .before .before .pre in
     let l = c .before .before .before .before .before .loop in
-    so-far-more (a .head .now) (a .rows .now) (a .of .now) (l .of) (a .tuples .now) (l .tuples) _ (l .count) (l .j) (c .before .before .number-literal .result) (c .before .before .number-literal .kept .1 .1 .1 .0 ∙ l .inv .room) (p .0) (l .inv) (omega arith)
+    so-far-more (a .head .now) (a .rows .now) (a .numbers .now) (l .numbers) (a .words .now) (l .words) _ (l .count) (l .j)
+    (c .before .before .number-literal .result) (c .before .before .number-literal .kept .1 .1 .1 .1 .0) (p .1 .0) (omega arith)
+    (l .inv) (omega arith)
     (c .before .before .number-literal .ensures .0) (c .before .before .number-literal .ensures .1)
 
 same-length : tie.Need-same-length Inv-loop μ-loop
 same-length c = c .before .loop .inv .whole
 
 same-length-2 : tie.Need-same-length-2 Inv-loop μ-loop
-same-length-2 c = let r = c .before .loop .inv .room in omega arith
+same-length-2 c = c .before .loop .inv .room
 
 returns : tie.Need-returns Inv-loop μ-loop
 returns c =
@@ -54,8 +56,11 @@ returns c =
     let p = c .before .before .before .before .before .pre in
     let l = c .before .loop in
     let w = l .inv .few in
-    let r = l .inv .reach in
-    (omega arith, so-far-all (a .head .now) (a .rows .now) (a .of .now) (l .of) (a .tuples .now) (l .tuples) (l .count) (l .j) (p .0) (l .inv) (omega arith))
+    let r = l .inv .reach in (
+      omega arith,
+      so-far-all (a .head .now) (a .rows .now) (a .numbers .now) (l .numbers) (a .words .now) (l .words) (l .count) (l .j)
+          (p .1 .0) (l .inv) (omega arith),
+    )
 
 pub number-classes-spec : {M : Type 1} → statement M
 number-classes-spec =
@@ -66,7 +71,7 @@ number-classes-spec =
     loop-holds
     mul-number-literal
     number-literal-requires
-    slice-write-of
+    slice-write-numbers
     add-j
     loop-less
     loop-again

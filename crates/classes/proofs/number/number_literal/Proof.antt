@@ -1,8 +1,7 @@
 -- `number_literal` meets its contract: by the component of the literal's relation, and by the class of its key tuple. Assumes nothing.
 use native.Mathlib.Omega.{arith}
 use borrow.Author.Needs.{needs}
-use mathlib.Core.Path.{sym, _∙_}
-use Rattle.literals.proofs.Heads.{keys-limit}
+use mathlib.Core.Path.{refl, sym, _∙_}
 use Rattle.classes.proofs.NewClasses.{component-le, unmatched, class-le, new-class, old-class}
 use Rattle.classes.proofs.number.number_literal.Statement.{statement}
 use Rattle.classes.proofs.number.number_literal.Tie as tie
@@ -21,54 +20,55 @@ components-in-requires c κs = search needs
 
 returns : tie.Need-returns
 returns c =
-    let s = c .before .before .before .before .before .before in
-    let a = s .args in
-    unmatched (a .head .now) (a .rows .now) (a .tuples .now) (a .at) (a .count) (c .before .before .component-of .result) (s .pre .0) (c .before .before .component-of .ensures) (c .if1 .taken ∙ c .before .components-in .ensures .0)
+    let a = c .before .before .before .before .before .before .args in
+    unmatched (a .head .now) (a .rows .now) (a .at) (c .before .before .component-of .result)
+    (c .before .before .before .before .before .before .pre .1 .0) (c .before .before .component-of .ensures) (a .count) (a .words .now)
+    (c .if1 .taken ∙ c .before .components-in .ensures .0)
 
-key-tuple-requires : tie.Need-key-tuple-requires
-key-tuple-requires c κs =
-    let s = c .before .before .before .before .before .before in
-    let a = s .args in
-    let h = component-le (a .head .now) (a .rows .now) (a .tuples .now) (a .at) (a .count) (c .before .before .component-of .result) (s .pre .0) (c .before .before .component-of .ensures) in
+key-word-requires : tie.Need-key-word-requires
+key-word-requires c κs =
+    let a = c .before .before .before .before .before .before .args in
+    let h = component-le (a .head .now) (a .rows .now) (a .at) (c .before .before .component-of .result)
+    (c .before .before .before .before .before .before .pre .1 .0) (c .before .before .component-of .ensures) in
     let n = c .before .components-in .ensures in
     let g = c .if1 .left in
-    (omega arith, s .pre .0)
+    (c .before .before .before .before .before .before .pre .0, (omega arith, c .before .before .before .before .before .before .pre .1 .0))
 
 class-of-requires : tie.Need-class-of-requires
-class-of-requires c κs = search needs
+class-of-requires c κs = (omega arith, omega arith)
 
-mul-put-row : tie.Need-mul-put-row
-mul-put-row c = search needs
+mul-words : tie.Need-mul-words
+mul-words c = search needs
 
-slice-aggregate-put-row : tie.Need-slice-aggregate-put-row
-slice-aggregate-put-row c = search needs
+slice-write-words : tie.Need-slice-write-words
+slice-write-words c = search needs
 
-put-row-requires : tie.Need-put-row-requires
-put-row-requires c κs = search needs
+cast-t18 : tie.Need-cast-t18
+cast-t18 c = search needs
 
-cast-t22 : tie.Need-cast-t22
-cast-t22 c = search needs
-
-add-t19 : tie.Need-add-t19
-add-t19 c = search needs
+add-t16 : tie.Need-add-t16
+add-t16 c = search needs
 
 same-length : tie.Need-same-length
 same-length c = search needs
 
 returns-2 : tie.Need-returns-2
 returns-2 c =
-    let s = c .before .before .before .before .before .before .before .before .before .before .before .before .before .before .before in
-    let a = s .args in
-    new-class (a .head .now) (a .rows .now) (a .tuples .now) (a .at) (a .count) (c .before .before .before .before .before .before .before .before .before .before .before .component-of .result) (s .pre .0) (c .before .before .before .before .before .before .before .before .before .before .before .component-of .ensures) (λ e. c .before .before .before .before .before .before .before .before .before .if1 .left (e ∙ sym (c .before .before .before .before .before .before .before .before .before .before .components-in .ensures .0)))
-    (c .before .before .before .before .before .before .before .before .key-tuple .result) (c .before .before .before .before .before .before .before .before .key-tuple .ensures) (c .before .before .before .before .before .before .class-of .result) (c .before .before .before .before .before .before .class-of .ensures) (c .before .before .before .before .before .if2 .taken)
-    (let k = keys-limit (a .head .now) in omega arith) _ (c .before .before .put-row .ensures)
+    let a = c .before .before .before .before .before .before .before .before .before .before .args in
+    new-class (a .head .now) (a .rows .now) (a .at) (c .before .before .before .before .before .before .component-of .result)
+    (c .before .before .before .before .before .before .before .before .before .before .pre .1 .0)
+    (c .before .before .before .before .before .before .component-of .ensures)
+    (λ e. c .before .before .before .before .if1 .left (e ∙ sym (c .before .before .before .before .before .components-in .ensures .0)))
+    (c .before .before .before .key-word .result) (c .before .before .before .key-word .ensures) (a .count) (a .words .now) (c .before .class-of .result) (c .before .class-of .ensures) (c .if2 .taken) _ refl
 
-cast-t11 : tie.Need-cast-t11
-cast-t11 c =
-    let s = c .before .before .before .before .before .before .before .before .before .before in
-    let a = s .args in
-    let h = class-le (a .head .now) (a .rows .now) (a .tuples .now) (a .at) (a .count) (c .before .before .before .before .before .before .component-of .result) (s .pre .0) (c .before .before .before .before .before .before .component-of .ensures) (λ e. c .before .before .before .before .if1 .left (e ∙ sym (c .before .before .before .before .before .components-in .ensures .0)))
-    (c .before .before .before .key-tuple .result) (c .before .before .before .key-tuple .ensures) (c .before .class-of .result) (c .before .class-of .ensures) in
+cast-t12 : tie.Need-cast-t12
+cast-t12 c =
+    let a = c .before .before .before .before .before .before .before .before .before .before .args in
+    let h = class-le (a .head .now) (a .rows .now) (a .at) (c .before .before .before .before .before .before .component-of .result)
+    (c .before .before .before .before .before .before .before .before .before .before .pre .1 .0)
+    (c .before .before .before .before .before .before .component-of .ensures)
+    (λ e. c .before .before .before .before .if1 .left (e ∙ sym (c .before .before .before .before .before .components-in .ensures .0)))
+    (c .before .before .before .key-word .result) (c .before .before .before .key-word .ensures) (a .count) (a .words .now) (c .before .class-of .result) (c .before .class-of .ensures) (omega arith) in
     omega arith
 
 same-length-2 : tie.Need-same-length-2
@@ -76,10 +76,12 @@ same-length-2 c = search needs
 
 returns-3 : tie.Need-returns-3
 returns-3 c =
-    let s = c .before .before .before .before .before .before .before .before .before .before in
-    let a = s .args in
-    old-class (a .head .now) (a .rows .now) (a .tuples .now) (a .at) (a .count) (c .before .before .before .before .before .before .component-of .result) (s .pre .0) (c .before .before .before .before .before .before .component-of .ensures) (λ e. c .before .before .before .before .if1 .left (e ∙ sym (c .before .before .before .before .before .components-in .ensures .0)))
-    (c .before .before .before .key-tuple .result) (c .before .before .before .key-tuple .ensures) (c .before .class-of .result) (c .before .class-of .ensures) (c .if2 .left)
+    let a = c .before .before .before .before .before .before .before .before .before .before .args in
+    old-class (a .head .now) (a .rows .now) (a .at) (c .before .before .before .before .before .before .component-of .result)
+    (c .before .before .before .before .before .before .before .before .before .before .pre .1 .0)
+    (c .before .before .before .before .before .before .component-of .ensures)
+    (λ e. c .before .before .before .before .if1 .left (e ∙ sym (c .before .before .before .before .before .components-in .ensures .0)))
+    (c .before .before .before .key-word .result) (c .before .before .before .key-word .ensures) (a .count) (a .words .now) (c .before .class-of .result) (c .before .class-of .ensures) (c .if2 .left)
 
 pub number-literal-spec : {M : Type 1} → statement M
 number-literal-spec =
@@ -90,15 +92,14 @@ number-literal-spec =
     component-of-requires
     components-in-requires
     returns
-    key-tuple-requires
+    key-word-requires
     class-of-requires
-    mul-put-row
-    slice-aggregate-put-row
-    put-row-requires
-    cast-t22
-    add-t19
+    mul-words
+    slice-write-words
+    cast-t18
+    add-t16
     same-length
     returns-2
-    cast-t11
+    cast-t12
     same-length-2
     returns-3)

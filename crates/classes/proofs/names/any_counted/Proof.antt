@@ -1,0 +1,78 @@
+-- `any_counted` meets its contract: no label before i is FF, so the test is that of the labels left. Assumes nothing.
+use native.Mathlib.Omega.{arith}
+use borrow.Author.Needs.{needs}
+use mathlib.Core.Path.{_≡_, sym, ap, _∙_}
+use mathlib.Core.Bool.{Bool}
+use mathlib.Core.List.{List}
+use Prim.Native.Nat.{ℕ, _+_, _-_}
+use lib.ListN.{getD}
+use Rattle.records.specs.Lists.{any}
+use Rattle.literals.specs.Domain.{isCounted}
+use Rattle.literals.specs.Decode.{labelOf}
+use Rattle.literals.specs.Held.{partIn}
+use Rattle.literals.specs.Keys.{below}
+use Rattle.literals.proofs.Indices.{left, left-all, any-hit, any-miss, any-end}
+use Rattle.classes.proofs.names.any_counted.Statement.{statement}
+use Rattle.classes.proofs.names.any_counted.Tie as tie
+
+abbrev isFF : List ℕ → ℕ → ℕ → Bool
+isFF head c i = isCounted (labelOf (getD (partIn head c) (1 + i) 0))
+
+abbrev Inv-loop : tie.InvT-loop
+Inv-loop head c n i₀ i = any (isFF head c) (left n i) ≡ any (isFF head c) (below n)
+
+abbrev μ-loop : tie.MeasureT-loop
+μ-loop head c n i₀ i = n - i
+
+loop-holds : tie.Need-loop-holds Inv-loop μ-loop
+loop-holds c = ap (any (isFF (c .args .head .now) (c .args .c))) (left-all (c .args .n))
+
+add-part-byte : tie.Need-add-part-byte Inv-loop μ-loop
+add-part-byte c = omega arith
+
+part-byte-requires : tie.Need-part-byte-requires Inv-loop μ-loop
+part-byte-requires c κs = (omega arith, omega arith)
+
+label-of-requires : tie.Need-label-of-requires Inv-loop μ-loop
+label-of-requires c κs = search needs
+
+is-counted-requires : tie.Need-is-counted-requires Inv-loop μ-loop
+is-counted-requires c κs = search needs
+
+returns : tie.Need-returns Inv-loop μ-loop
+returns c =
+    let a = c .before .before .before .before .before .before .args in
+    sym (any-hit (isFF (a .head .now) (a .c)) (a .n) (c .before .before .before .before .before .loop .i) (omega arith) (sym (c .before .is-counted .ensures ∙ ap isCounted (c .before .before .label-of .ensures ∙ ap labelOf (c .before .before .before .part-byte .ensures))) ∙ c .if1 .taken)) ∙ c .before .before .before .before .before .loop .inv
+
+add-i : tie.Need-add-i Inv-loop μ-loop
+add-i c = omega arith
+
+loop-less : tie.Need-loop-less Inv-loop μ-loop
+loop-less c = omega arith
+
+loop-again : tie.Need-loop-again Inv-loop μ-loop
+loop-again c =
+    let a = c .before .before .before .before .before .before .args in
+    sym (any-miss (isFF (a .head .now) (a .c)) (a .n) (c .before .before .before .before .before .loop .i) (omega arith) (sym (c .before .is-counted .ensures ∙ ap isCounted (c .before .before .label-of .ensures ∙ ap labelOf (c .before .before .before .part-byte .ensures))) ∙ c .if1 .left)) ∙ c .before .before .before .before .before .loop .inv
+
+returns-2 : tie.Need-returns-2 Inv-loop μ-loop
+returns-2 c =
+    let a = c .before .before .args in
+    sym (any-end (isFF (a .head .now) (a .c)) (a .n) (c .before .loop .i) (omega arith)) ∙ c .before .loop .inv
+
+pub any-counted-spec : {M : Type 1} → statement M
+any-counted-spec =
+    tie.close
+    (tie.spec
+    Inv-loop
+    μ-loop
+    loop-holds
+    add-part-byte
+    part-byte-requires
+    label-of-requires
+    is-counted-requires
+    returns
+    add-i
+    loop-less
+    loop-again
+    returns-2)

@@ -1,0 +1,67 @@
+-- `any_same` meets its contract: no row before j is one, so the test is that of the rows left. Assumes nothing.
+use native.Mathlib.Omega.{arith}
+use borrow.Author.Needs.{needs}
+use mathlib.Core.Path.{_≡_, sym, ap, _∙_}
+use Prim.Native.Nat.{_-_}
+use lib.ListN.{length}
+use Rattle.records.specs.Lists.{any}
+use Rattle.classes.specs.Coded.{isSameAt, sameIn}
+use Rattle.literals.proofs.Indices.{left, left-all, any-hit, any-miss, any-end}
+use Rattle.classes.proofs.names.any_same.Statement.{statement}
+use Rattle.classes.proofs.names.any_same.Tie as tie
+
+abbrev Inv-loop : tie.InvT-loop
+Inv-loop rows numbers clauses class clause i j₀ j-end j =
+    any (isSameAt rows numbers clauses class clause i) (left (length numbers) j) ≡ sameIn rows numbers clauses class clause i
+
+abbrev μ-loop : tie.MeasureT-loop
+μ-loop rows numbers clauses class clause i j₀ j-end j = length numbers - j
+
+loop-holds : tie.Need-loop-holds Inv-loop μ-loop
+unfolding sameIn
+loop-holds c =
+    let a = c .before .before .args in
+    ap (any (isSameAt (a .rows .now) (a .numbers .now) (a .clauses .now) (a .class) (a .clause) (a .i))) (left-all (length (a .numbers .now)))
+
+is-same-at-requires : tie.Need-is-same-at-requires Inv-loop μ-loop
+is-same-at-requires c κs = search needs
+
+returns : tie.Need-returns Inv-loop μ-loop
+returns c =
+    let turn = c .before .before .before in
+    let a = turn .before .before .before .args in
+    sym (any-hit (isSameAt (a .rows .now) (a .numbers .now) (a .clauses .now) (a .class) (a .clause) (a .i)) (length (a .numbers .now)) (turn .loop .j) (omega arith) (sym (c .before .is-same-at .ensures) ∙ c .if1 .taken))
+    ∙ turn .loop .inv
+
+add-j : tie.Need-add-j Inv-loop μ-loop
+add-j c = omega arith
+
+loop-less : tie.Need-loop-less Inv-loop μ-loop
+loop-less c = omega arith
+
+loop-again : tie.Need-loop-again Inv-loop μ-loop
+loop-again c =
+    let turn = c .before .before .before in
+    let a = turn .before .before .before .args in
+    sym (any-miss (isSameAt (a .rows .now) (a .numbers .now) (a .clauses .now) (a .class) (a .clause) (a .i)) (length (a .numbers .now)) (turn .loop .j) (omega arith) (sym (c .before .is-same-at .ensures) ∙ c .if1 .left))
+    ∙ turn .loop .inv
+
+returns-2 : tie.Need-returns-2 Inv-loop μ-loop
+returns-2 c =
+    let turn = c .before in
+    let a = turn .before .before .before .args in
+    sym (any-end (isSameAt (a .rows .now) (a .numbers .now) (a .clauses .now) (a .class) (a .clause) (a .i)) (length (a .numbers .now)) (turn .loop .j) (omega arith)) ∙ turn .loop .inv
+
+pub any-same-spec : {M : Type 1} → statement M
+any-same-spec =
+    tie.close
+    (tie.spec
+    Inv-loop
+    μ-loop
+    loop-holds
+    is-same-at-requires
+    returns
+    add-j
+    loop-less
+    loop-again
+    returns-2)

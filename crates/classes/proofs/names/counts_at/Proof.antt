@@ -1,0 +1,30 @@
+-- `counts_at` meets its contract, moment by moment. Assumes nothing.
+use mathlib.Core.Path.{sym, ap, _∙_}
+use Rattle.literals.specs.declared.Moment.{Moment}
+use Rattle.classes.specs.Coded.{timed}
+use borrow.Author.Needs.{needs}
+use Rattle.classes.proofs.names.counts_at.Statement.{statement}
+use Rattle.classes.proofs.names.counts_at.Tie as tie
+
+enum-told : tie.Need-enum-told
+enum-told c = search needs
+
+same-time-requires : tie.Need-same-time-requires
+same-time-requires c κs = search needs
+
+enum-told-2 : tie.Need-enum-told-2
+enum-told-2 c = search needs
+
+counts-at-end-requires : tie.Need-counts-at-end-requires
+counts-at-end-requires c κs = search needs
+
+returns : tie.Need-returns
+returns c = let a = c .before .before .before .args in c .same-time .ensures ∙ sym (ap (λ (m : Moment). timed (a .wide) m (a .time)) (c .before .enum-told .given .1))
+
+returns-2 : tie.Need-returns-2
+returns-2 c = let a = c .before .before .before .args in c .counts-at-end .ensures ∙ sym (ap (λ (m : Moment). timed (a .wide) m (a .time)) (c .before .enum-told2 .given .1))
+
+pub counts-at-spec : {M : Type 1} → statement M
+counts-at-spec =
+    tie.close
+    (tie.spec enum-told same-time-requires enum-told-2 counts-at-end-requires returns returns-2)

@@ -1,0 +1,83 @@
+-- `first_lacking` meets its contract: each component before c is covered, so the place is that among those left. Assumes nothing.
+use native.Mathlib.Omega.{arith}
+use borrow.Author.Needs.{needs}
+use mathlib.Core.Path.{_≡_, sym, ap, _∙_}
+use mathlib.Core.Bool.{Bool, not}
+use mathlib.Core.List.{List}
+use Prim.Native.Nat.{ℕ, _+_, _-_, _≤_}
+use Rattle.literals.specs.Held.{componentsIn}
+use Rattle.literals.specs.Keys.{position, below}
+use Rattle.classes.specs.Coded.{coveredAt, lackingAt}
+use Rattle.literals.proofs.Indices.{left, left-all, position-hit, position-miss, position-end}
+use Rattle.classes.proofs.names.first_lacking.Statement.{statement}
+use Rattle.classes.proofs.names.first_lacking.Tie as tie
+
+abbrev lacks : List ℕ → List ℕ → List ℕ → List ℕ → ℕ → ℕ → Bool
+lacks head rows numbers clauses class c = not (coveredAt head rows numbers clauses class c)
+
+abbrev Inv-loop : tie.InvT-loop
+Inv-loop head rows numbers clauses class n c₀ c =
+    (c ≤ n) × (n ≤ 16) × (c + position (lacks head rows numbers clauses class) (left n c) ≡ lackingAt head rows numbers clauses class)
+
+abbrev μ-loop : tie.MeasureT-loop
+μ-loop head rows numbers clauses class n c₀ c = n - c
+
+components-in-requires : tie.Need-components-in-requires Inv-loop μ-loop
+components-in-requires c κs = search needs
+
+loop-holds : tie.Need-loop-holds Inv-loop μ-loop
+unfolding lackingAt
+loop-holds c =
+    let a = c .before .before .before .args in
+    let n = c .components-in .ensures in
+    let p = lacks (a .head .now) (a .rows .now) (a .numbers .now) (a .clauses .now) (a .class) in
+    let e = ap (position p) (left-all (c .components-in .result)) ∙ ap (λ (k : ℕ). position p (below k)) (n .0) in
+    (omega arith, n .1, omega arith)
+
+covers-requires : tie.Need-covers-requires Inv-loop μ-loop
+covers-requires c κs = search needs
+
+returns : tie.Need-returns Inv-loop μ-loop
+returns c =
+    let a = c .before .before .before .before .before .before .before .args in
+    let turn = c .before .before .before in
+    let e = position-hit (lacks (a .head .now) (a .rows .now) (a .numbers .now) (a .clauses .now) (a .class)) (turn .before .components-in .result) (turn .loop .c) (omega arith) (ap not (sym (c .before .covers .ensures)) ∙ c .if1 .taken) in
+    let i = turn .loop .inv .2 in
+    omega arith
+
+add-c : tie.Need-add-c Inv-loop μ-loop
+add-c c = omega arith
+
+loop-less : tie.Need-loop-less Inv-loop μ-loop
+loop-less c = omega arith
+
+loop-again : tie.Need-loop-again Inv-loop μ-loop
+loop-again c =
+    let a = c .before .before .before .before .before .before .before .args in
+    let turn = c .before .before .before in
+    let e = position-miss (lacks (a .head .now) (a .rows .now) (a .numbers .now) (a .clauses .now) (a .class)) (turn .before .components-in .result) (turn .loop .c) (omega arith) (ap not (sym (c .before .covers .ensures)) ∙ c .if1 .left) in
+    let i = turn .loop .inv .2 in
+    (omega arith, turn .loop .inv .1, omega arith)
+
+returns-2 : tie.Need-returns-2 Inv-loop μ-loop
+returns-2 c =
+    let a = c .before .before .before .before .before .args in
+    let l = c .before .loop in
+    let e = position-end (lacks (a .head .now) (a .rows .now) (a .numbers .now) (a .clauses .now) (a .class)) (c .before .before .components-in .result) (l .c) (omega arith) in
+    let i = l .inv .2 in
+    omega arith
+
+pub first-lacking-spec : {M : Type 1} → statement M
+first-lacking-spec =
+    tie.close
+    (tie.spec
+    Inv-loop
+    μ-loop
+    components-in-requires
+    loop-holds
+    covers-requires
+    returns
+    add-c
+    loop-less
+    loop-again
+    returns-2)

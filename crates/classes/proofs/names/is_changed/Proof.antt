@@ -1,0 +1,23 @@
+-- `is_changed` meets its contract, test by test. Assumes nothing.
+use mathlib.Core.Path.{sym, _∙_}
+use Rattle.classes.specs.Coded.{changedAt}
+use borrow.Author.Needs.{needs}
+use Rattle.classes.proofs.names.is_changed.Statement.{statement}
+use Rattle.classes.proofs.names.is_changed.Tie as tie
+
+any-same-requires : tie.Need-any-same-requires
+any-same-requires c κs = search needs
+
+returns : tie.Need-returns
+unfolding changedAt
+returns c = rw (sym (c .before .any-same .ensures) ∙ c .if1 .taken)
+
+any-same-requires-2 : tie.Need-any-same-requires-2
+any-same-requires-2 c κs = search needs
+
+returns-2 : tie.Need-returns-2
+unfolding changedAt
+returns-2 c = rw (sym (c .before .before .any-same .ensures) ∙ c .before .if1 .left) (c .any-same2 .ensures)
+
+pub is-changed-spec : {M : Type 1} → statement M
+is-changed-spec = tie.close (tie.spec any-same-requires returns any-same-requires-2 returns-2)
