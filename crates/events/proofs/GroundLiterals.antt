@@ -12,7 +12,7 @@ use lib.Seq.{paste, length-paste, length-paste-head, take-paste, drop-paste, tak
 use lib.Seq.{drop-at, drop-drop, drop-set-add, drop-set-lt, getD-at, getD-drop, getD-set-same, getD-set-other, length-take-le}
 use borrow.Author.Tests.{eq-eqb, ne-eqb, eqb-true, eqb-false, ltb-true, ltb-false}
 use Rattle.records.specs.Lists.{In, keepIf, filterBy}
-use Rattle.records.proofs.Lists.{filter-append, filter-few, filter-in, flatMap-snoc}
+use Rattle.records.proofs.Lists.{filter-append, filter-few, filter-in, flatMap-in, flatMap-snoc, getD-in}
 use Rattle.literals.specs.declared.span.Span.{Span}
 use Rattle.literals.specs.declared.Time.{Time}
 use Rattle.literals.specs.Domain.{roleNumber, Literal, Domain, action}
@@ -23,7 +23,6 @@ use Rattle.literals.specs.Keys.{clauseFor}
 use Rattle.literals.proofs.Indices.{getD-map}
 use Rattle.literals.proofs.KeyRows.{length-rows}
 use Rattle.literals.proofs.Rows.{part-first, rows-snoc}
-use Rattle.records.proofs.Lists.{getD-in}
 use Rattle.verdict.specs.Binding.{valueOf, bind}
 use Rattle.verdict.specs.Machine.{GroundAction, Event}
 use Rattle.store.specs.Rows.{factRow}
@@ -31,7 +30,7 @@ use Rattle.events.specs.declared.Waiting.{Waiting}
 use Rattle.events.specs.Coded.{groundRow, waitingOf, GroundFits, EventsFit, boundRow}
 use Rattle.events.specs.Grounding.{GroundLiteral, groundLiterals, eventLiterals, rowLiterals, maxGround, clausesAt, countsAt}
 use Rattle.events.specs.Grounding.{groundedBytes, groundAt, groundIn, inOne, Laid, Grounded, EachSized}
-use Rattle.events.proofs.FactRows.{held-bound, held-rows, noEvent}
+use Rattle.events.proofs.FactRows.{listed-in, held-bound, held-rows, noEvent}
 use Rattle.events.proofs.Members.{map-in}
 
 -- ---- a part of a memory, when a byte or a row is written beside it
@@ -112,6 +111,11 @@ module _ (memory : List ℕ) where
           let k = length-ground n in
           let e : n ≡ i = omega arith in
           getD-at (groundIn n memory) (groundAt memory n) [] noLiteral i (k ∙ e) ∙ ap (groundAt memory) e
+
+  pub ground-in : (n i : ℕ) → i < n → In (groundAt memory i) (groundIn n memory)
+  ground-in n i h =
+      let k = length-ground n in
+      subst (λ (l : GroundLiteral). In l (groundIn n memory)) (ground-at n i h) (getD-in (groundIn n memory) i noLiteral (omega arith))
 
   -- as a test sees it
   pub ground-test : (n i : ℕ) → i < n → (test : GroundLiteral → Bool) (r : Bool) → r ≡ test (groundAt memory i)
@@ -337,17 +341,24 @@ module _ {D : Domain} {head table : List ℕ} (H : Held D head table) where
 
 module _ {D : Domain} {head : List ℕ} (H : HeadOf D head) where
   pub ground-sized : (t : Time) (g : GroundAction) → GroundFits D g → EachSized head (groundLiterals D t g)
-  unfolding groundLiterals action
+  unfolding groundLiterals
   ground-sized t g F x m =
       let r = map-in _ _ m in
       let l = r .0 in
       let i = filter-in _ (action D (g .action) .lits) (r .1) .0 in
-      let a = getD-in (D .actions) (g .action) _ (F .listed) in
       ap (λ (x : GroundLiteral). byte (x .row) 1) (r .2)
       ∙ length-map (l .atom .args) (valueOf (g .binding))
-      ∙ H .bounded .literalArity (action D (g .action)) a l i
+      ∙ H .bounded .literalArity (action D (g .action)) (listed-in D (g .action) (F .listed)) l i
       ∙ sym (H .arities (l .atom .rel))
       ∙ sym (ap (λ (x : GroundLiteral). arityIn head (byte (x .row) 0)) (r .2))
+
+-- in memory
+pub step-sized : {D : Domain} {head : List ℕ} {es : List Event} {memory : List ℕ} {total : ℕ} → Grounded D head es memory total
+    → EachSized head (groundIn total memory)
+step-sized {D} {head} G x m =
+    let p = flatMap-in (λ (part : List GroundLiteral). part) _ (subst (In x) (G .laid .filled) m) in
+    let e = map-in _ _ (p .1) in
+    ground-sized (G .says) _ (e .0 .ground) (G .fit (e .0) (e .1)) x (subst (In x) (e .2) (p .2))
 
 -- ---- the events' one behind the other
 
