@@ -31,7 +31,7 @@ use Rattle.literals.proofs.KeyRows.{length-rows}
 use Rattle.verdict.specs.Binding.{Binding, valueOf, bind}
 use Rattle.verdict.specs.Machine.{Event, eventFacts, stepFacts, GroundAction}
 use Rattle.store.specs.Index.{Sized}
-use Rattle.events.specs.declared.Waiting.{Waiting}
+use Rattle.events.specs.Coded.{Waiting}
 use Rattle.store.specs.Rows.{factRow}
 use Rattle.literals.specs.Keys.{clauseFor}
 use Rattle.events.specs.Coded.{groundRow, waitingOf, GroundFits, EventsFit, boundRow, timeOf}

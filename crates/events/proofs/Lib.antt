@@ -6,3 +6,4 @@ pub mod Listed
 pub mod GroundRows
 pub mod OpenRows
 pub mod MoreWaiting
+pub mod Agenda

@@ -12,7 +12,7 @@ use Rattle.literals.specs.Table.{rowsIn}
 use Rattle.literals.specs.Held.{Held}
 use Rattle.verdict.specs.Machine.{Event, ownHold}
 use Rattle.store.specs.Index.{Indexed}
-use Rattle.events.specs.declared.Waiting.{Waiting}
+use Rattle.events.specs.Coded.{Waiting}
 use Rattle.store.specs.Rows.{factRow}
 use Rattle.events.specs.Coded.{waitingOf, EventsFit}
 use Rattle.events.proofs.FactRows.{noEvent, waiting-count, waiting-moment-at}

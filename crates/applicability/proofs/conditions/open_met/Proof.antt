@@ -12,7 +12,7 @@ use Rattle.literals.specs.Table.{rowsIn}
 use Rattle.literals.specs.Held.{Held}
 use Rattle.verdict.specs.Machine.{GroundAction, overAllHold}
 use Rattle.store.specs.Index.{Indexed}
-use Rattle.events.specs.declared.Open.{Open}
+use Rattle.events.specs.Coded.{Open}
 use Rattle.store.specs.Rows.{factRow}
 use Rattle.events.specs.Coded.{openOf, GroundsFit}
 use Rattle.events.proofs.FactRows.{noGround, open-count}
