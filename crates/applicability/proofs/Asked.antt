@@ -30,8 +30,7 @@ use Rattle.verdict.specs.Machine.{GroundAction, Event, eventFacts, ownHold, ove
 use Rattle.store.specs.Rows.{factRow, hasRow}
 use Rattle.literals.specs.Keys.{clauseFor}
 use Rattle.store.specs.Index.{Indexed}
-use Rattle.events.specs.declared.Open.{Open}
-use Rattle.events.specs.Coded.{groundRow, openOf, GroundFits, GroundsFit, timeOf}
+use Rattle.events.specs.Coded.{groundRow, Open, openOf, GroundFits, GroundsFit, timeOf}
 use Rattle.events.specs.Grounding.{GroundLiteral, groundLiterals, eventLiterals, groundIn, Grounded}
 use Rattle.applicability.specs.Conditions.{conditionMet}
 use Rattle.events.proofs.FactRows.{has-fact, countsFor, clause-counts, any-literals, all-literals, head-kept, noGround, open-count}

@@ -157,6 +157,14 @@ module _ (scratch effects : List ℕ) (size : length scratch ≡ scratchBytes) (
             ∙ drop-drop workBytes workBytes scratch);
       }
 
+-- the ground literals, written anew
+pub literals-put : (scratch literals : List ℕ) → length scratch ≡ scratchBytes → length literals ≡ groundedBytes
+    → literalsIn (take literalsAt scratch ++ (literals ++ drop groundedBytes (drop literalsAt scratch))) ≡ literals
+literals-put scratch literals size whole =
+    let rest : List ℕ = drop groundedBytes (drop literalsAt scratch) in
+    ap (take groundedBytes) (drop-at (take literalsAt scratch) (literals ++ rest) literalsAt (length-take-le literalsAt scratch (omega arith)))
+    ∙ take-at literals rest groundedBytes whole
+
 -- the first n rows of out are these; behind them it is as before
 pub record Filled (rows : List (List ℕ)) (n : ℕ) (out old : List ℕ) : Type 0 where
   pub count : n ≡ length rows

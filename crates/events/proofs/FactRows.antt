@@ -31,8 +31,8 @@ use Rattle.literals.proofs.Indices.{any-agree}
 use Rattle.verdict.specs.Binding.{Binding, valueOf, bind}
 use Rattle.verdict.specs.Judged.{objectNumbers}
 use Rattle.verdict.specs.Machine.{GroundAction, Event}
-use Rattle.events.specs.declared.Open.{Open}
-use Rattle.events.specs.declared.Waiting.{Waiting}
+use Rattle.events.specs.Coded.{Open}
+use Rattle.events.specs.Coded.{Waiting}
 use Rattle.runs.specs.RunFile.{momentOf}
 use Rattle.literals.specs.declared.span.Span.{Span}
 use Rattle.literals.specs.Held.{actionsIn, arityIn, HeadOf, Held, SpanOf}

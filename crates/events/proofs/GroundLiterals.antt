@@ -26,8 +26,7 @@ use Rattle.literals.proofs.Rows.{part-first, rows-snoc}
 use Rattle.verdict.specs.Binding.{valueOf, bind}
 use Rattle.verdict.specs.Machine.{GroundAction, Event}
 use Rattle.store.specs.Rows.{factRow}
-use Rattle.events.specs.declared.Waiting.{Waiting}
-use Rattle.events.specs.Coded.{groundRow, waitingOf, GroundFits, EventsFit, boundRow}
+use Rattle.events.specs.Coded.{groundRow, Waiting, waitingOf, GroundFits, EventsFit, boundRow}
 use Rattle.events.specs.Grounding.{GroundLiteral, groundLiterals, eventLiterals, rowLiterals, maxGround, clausesAt, countsAt}
 use Rattle.events.specs.Grounding.{groundedBytes, groundAt, groundIn, inOne, Laid, Grounded, EachSized}
 use Rattle.events.proofs.FactRows.{listed-in, held-bound, held-rows, noEvent}

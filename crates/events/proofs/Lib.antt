@@ -7,3 +7,4 @@ pub mod GroundRows
 pub mod OpenRows
 pub mod MoreWaiting
 pub mod GroundLiterals
+pub mod Agenda

@@ -20,7 +20,7 @@ use Rattle.literals.specs.Table.{rowsIn, Bounded}
 use Rattle.literals.proofs.Bounds.{arity-six}
 use Rattle.verdict.specs.Machine.{Event, State, next, topWeight}
 use Rattle.machine.specs.declared.State.{State as Holding}
-use Rattle.events.specs.declared.Waiting.{Waiting}
+use Rattle.events.specs.Coded.{Waiting}
 use Rattle.player.specs.declared.Player.{Player as Small}
 use Rattle.player.specs.declared.Tally.{Tally as Held}
 use Rattle.runs.specs.RunFile.{objectsRecord, factRecord, eventRecord, stepRecord, endRecord, otherRecord, runKindOf, factOf, eventOf, objectsStop, factStop, eventStop, stepStop, endStop}
