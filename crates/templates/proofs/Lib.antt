@@ -1,0 +1,7 @@
+-- The claims of the list, proved.
+pub mod Legal
+pub mod Labels
+pub mod Listed
+pub mod Renamed
+pub mod Kept
+pub mod Written

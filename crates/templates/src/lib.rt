@@ -1,0 +1,1 @@
+// "Every one-relation template, listed": definitions and proofs.
