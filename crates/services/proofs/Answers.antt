@@ -9,7 +9,7 @@ use Rattle.records.specs.Memory.{over}
 use Rattle.literals.specs.Domain.{Domain}
 use Rattle.literals.specs.Decode.{Refusal, refused, domain, decode}
 use Rattle.verdict.specs.Judged.{Answer, answerAt, answerRefusal}
-use Rattle.services.specs.Service.{delivered, deliveredTo, served, servedBy, servedAfter, servedMemoryBy}
+use Rattle.services.specs.Service.{delivered, deliveredTo, DeliveredAs, served, servedBy, servedAfter, servedMemoryBy}
 
 -- ---- once the bytes are made
 
@@ -25,16 +25,15 @@ module _ (bytes out : List ℕ) where
       (ap (λ b. cond b (answerAt 30 0) (answerAt 0 (length bytes))) t, ap (λ b. cond b out (over bytes out)) t)
 
   -- as the code answers
-  pub leaves-short : length out < length bytes → (30 ≡ delivered bytes out .number) × ((0 ≡ delivered bytes out .first) × (out ≡ deliveredTo bytes out))
+  pub leaves-short : length out < length bytes → DeliveredAs bytes out 30 0 out
   leaves-short h =
       let r = delivers-short h in
-      (sym (ap (λ (a : Answer). a .number) (r .0)), (sym (ap (λ (a : Answer). a .first) (r .0)), sym (r .1)))
+      record { numbered = sym (ap (λ (a : Answer). a .number) (r .0)); placed = sym (ap (λ (a : Answer). a .first) (r .0)); memory = sym (r .1) }
 
-  pub leaves-done : length bytes ≤ length out → {after : List ℕ} → after ≡ over bytes out
-      → (0 ≡ delivered bytes out .number) × ((length bytes ≡ delivered bytes out .first) × (after ≡ deliveredTo bytes out))
+  pub leaves-done : length bytes ≤ length out → {after : List ℕ} → after ≡ over bytes out → DeliveredAs bytes out 0 (length bytes) after
   leaves-done h e =
       let r = delivers h in
-      (sym (ap (λ (a : Answer). a .number) (r .0)), (sym (ap (λ (a : Answer). a .first) (r .0)), e ∙ sym (r .1)))
+      record { numbered = sym (ap (λ (a : Answer). a .number) (r .0)); placed = sym (ap (λ (a : Answer). a .first) (r .0)); memory = e ∙ sym (r .1) }
 
 -- ---- on a file
 
@@ -57,3 +56,20 @@ module _ (bytesOf : Domain → List ℕ) (f out : List ℕ) where
     -- memory enough
     pub served-done : length (bytesOf D) ≤ length out → (served bytesOf f out ≡ answerAt 0 (length (bytesOf D))) × (servedAfter bytesOf f out ≡ over (bytesOf D) out)
     served-done h = (served-read .0 ∙ delivers (bytesOf D) out h .0, served-read .1 ∙ delivers (bytesOf D) out h .1)
+
+-- as the code answers: the number, the first place, the memory afterwards
+module _ (bytesOf : Domain → List ℕ) (f out : List ℕ) where
+  abbrev pub ServedAs : ℕ → ℕ → List ℕ → Type 0
+  ServedAs n k after = (n ≡ served bytesOf f out .number) × ((k ≡ served bytesOf f out .first) × (after ≡ servedAfter bytesOf f out))
+
+  pub answers-refused : (r : Refusal) → decode f ≡ refused r → ServedAs (r .number) (r .place) out
+  answers-refused r e =
+      let s = served-refused bytesOf f out r e in
+      (sym (ap (λ (a : Answer). a .number) (s .0)), (sym (ap (λ (a : Answer). a .first) (s .0)), sym (s .1)))
+
+  pub answers-read : (D : Domain) → decode f ≡ domain D → {n k : ℕ} {after : List ℕ} → DeliveredAs (bytesOf D) out n k after → ServedAs n k after
+  answers-read D e d =
+      let s = served-read bytesOf f out D e in (
+        d .numbered ∙ sym (ap (λ (a : Answer). a .number) (s .0)),
+        (d .placed ∙ sym (ap (λ (a : Answer). a .first) (s .0)), d .memory ∙ sym (s .1)),
+      )

@@ -1,4 +1,5 @@
 -- A service on one file that writes bytes to lent memory. Assumes nothing.
+use mathlib.Core.Path.{_≡_}
 use mathlib.Core.Bool.{cond}
 use mathlib.Core.List.{List}
 use Prim.Native.Nat.{ℕ}
@@ -18,6 +19,12 @@ delivered bytes out = cond (ltb (length out) (length bytes)) (answerAt 30 0) (an
 -- the memory afterwards: short memory "is untouched", and so are bytes beyond
 abbrev pub deliveredTo : List ℕ → List ℕ → List ℕ
 deliveredTo bytes out = cond (ltb (length out) (length bytes)) out (over bytes out)
+
+-- the number, the first place and the memory afterwards are these
+pub record DeliveredAs (bytes out : List ℕ) (number first : ℕ) (after : List ℕ) : Type 0 where
+  pub numbered : number ≡ delivered bytes out .number
+  pub placed : first ≡ delivered bytes out .first
+  pub memory : after ≡ deliveredTo bytes out
 
 -- ---- on a file: "every later service on one file gives that file's refusal first"
 

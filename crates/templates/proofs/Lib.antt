@@ -5,3 +5,6 @@ pub mod Listed
 pub mod Renamed
 pub mod Kept
 pub mod Written
+pub mod Alone
+pub mod EntryBytes
+pub mod Said

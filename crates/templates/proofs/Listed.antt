@@ -215,6 +215,14 @@ listed-small D B s m = go (in-shapes 0 (D .arities) s (filter-in (λ s. legalAlo
     go : (i : ℕ) × (i < length (D .arities)) × (s .rel ≡ 0 + i) × PlaceBelow (getD (D .arities) i 0) (s .place) → (s .rel < 64) × (placeByte (s .place) ≤ 255)
     go (i, l, e, b) = let r = B .relations in (omega arith, place-few (getD (D .arities) i 0) (s .place) (B .arities (getD (D .arities) i 0) (getD-in (D .arities) i 0 l)) b)
 
+-- the counted place of each is one of its relation's
+pub listed-place : (D : Domain) (s : Shape) → In s (listed D) → PlaceBelow (arity D (s .rel)) (s .place)
+unfolding listed shapes
+listed-place D s m = go (in-shapes 0 (D .arities) s (filter-in (λ s. legalAlone D (componentAt D s)) (shapes D) m .0))
+  where
+    go : (i : ℕ) × (i < length (D .arities)) × (s .rel ≡ 0 + i) × PlaceBelow (getD (D .arities) i 0) (s .place) → PlaceBelow (arity D (s .rel)) (s .place)
+    go (i, l, e, b) = let q : s .rel ≡ i = omega arith in rw q b
+
 pub listed-once : ListedOnce
 unfolding listed shapes
 listed-once D =

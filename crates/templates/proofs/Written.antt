@@ -43,7 +43,7 @@ unfolding flatMap
 three-each D [] = refl
 three-each D (s ∷ ss) = let h = three-each D ss in omega arith
 
-count-of : (D : Domain) → length (listBytes D) ≡ 3 * length (listed D)
+pub count-of : (D : Domain) → length (listBytes D) ≡ 3 * length (listed D)
 unfolding listBytes
 count-of D = three-each D (listed D)
 

@@ -16,7 +16,10 @@ same-length : tie.Need-same-length
 same-length c = search needs
 
 returns-2 : tie.Need-returns-2
-returns-2 c = leaves-done (c .before .before .before .before .before .before .before .args .made .now) (c .before .before .before .before .before .before .before .args .out .now) (c .before .before .before .before .if1 .left) (c .before .before .put-bytes .ensures ∙ paste-front _ _ _ refl)
+returns-2 c =
+    let a = c .before .before .before .before .before .before .before .args in
+    leaves-done (a .made .now) (a .out .now) (c .before .before .before .before .if1 .left)
+    (c .before .before .put-bytes .ensures ∙ paste-front _ _ _ refl)
 
 pub deliver-spec : {M : Type 1} → statement M
 deliver-spec = tie.close (tie.spec returns put-bytes-requires same-length returns-2)
