@@ -5,3 +5,4 @@ pub mod Further
 pub mod FurtherRuns
 pub mod Refuted
 pub mod Boxes
+pub mod OneRelation
