@@ -180,15 +180,14 @@ uint64_t goadlotus_play(const uint8_t *domain, size_t domain_len,
  * place always comes back in *first.
  *
  *    0        listed: *first is the number of bytes written.
- *    9 to 27  not well-formed; the same number and first place as from goadlotus_judge.
+ *    9 to 25  not well-formed; the same number and first place as from goadlotus_judge.
  *   30        list_len is too short for the whole list. *first is 0.
  *
  * No other number is returned. The list has 3 bytes for each template: relation, counted place (FF for
  * none), and the verdict, 0, 1 or 40 to 43, that goadlotus_judge would return with memory enough for the
  * file with this template in place of its own. Relations rise; of each comes first the template without a
  * counted place, then those with one, the place rising. Keys are numbered from left to right; how they are
- * numbered changes no verdict. A template that puts a key where a literal of the relation has FF (27) is
- * passed over, every other one is there once.
+ * numbered changes no verdict. Every template that the rules for a file allow is there, once.
  *
  * 9 to 30 write nothing; all other bytes of list stay as they were, and the file stays as it was. No length
  * is ever exceeded, in reading or in writing, whatever the file says. GOADLOTUS_TEMPLATES_SIZE bytes are

@@ -160,7 +160,7 @@ fn serve(service: Service, read: &[u8], memory: &mut [u8]) -> Served {
 /// Lists every template of a single component that a domain file could have, its own left aside: relation, counted place
 /// (`FF` for none) and verdict, a byte each.
 ///
-/// 9 to 27 refuse the file as judging does, with the place; 30 a list that is too short for the whole; both write nothing.
+/// 9 to 25 refuse the file as judging does, with the place; 30 a list that is too short for the whole; both write nothing.
 /// Every length will do, 0 too; bytes behind the list stay as they were.
 pub fn templates(file: &[u8], list: &mut [u8]) -> Served {
     serve(raw::goadlotus_templates, file, list)
