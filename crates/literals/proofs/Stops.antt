@@ -15,7 +15,7 @@ use Rattle.literals.specs.Domain.{Action, Component, keysOf, labelsFit, 
 use Rattle.literals.specs.Decode.{maxRelations, maxActions, maxLiterals, maxComponents, RecordKind, relationRecord, actionRecord}
 use Rattle.literals.specs.Decode.{literalRecord, componentRecord, closingRecord, unknownRecord, latest, headStop, byte}
 use Rattle.literals.specs.Decode.{relationStop, actionStop, fieldFault, stopAt}
-use Rattle.literals.specs.Decode.{literalOf, repeats, contradicts, noRole, noVariable, literalStop, atRecord, componentOf, labelFault}
+use Rattle.literals.specs.Decode.{literalOf, repeats, contradicts, noRole, literalStop, atRecord, componentOf, labelFault}
 use Rattle.literals.specs.Decode.{componentFault, componentStop, fieldStop, fieldPlace, stopOf, stopPlace}
 use Rattle.literals.proofs.Labels.{passes-fit, passes-place}
 

@@ -16,7 +16,7 @@ use Rattle.literals.specs.declared.span.Span.{Span}
 use Rattle.literals.specs.Domain.{Literal, Action, Component, keysOf, Domain, arity, noAction, action}
 use Rattle.literals.specs.Decode.{maxRelations, maxArguments, maxActions, maxLiterals, maxComponents, RecordKind, relationRecord}
 use Rattle.literals.specs.Decode.{actionRecord, literalRecord, componentRecord, closingRecord, unknownRecord, latest, byte}
-use Rattle.literals.specs.Decode.{headStop, relationStop, actionStop, literalOf, repeats, contradicts, noVariable, literalStop}
+use Rattle.literals.specs.Decode.{headStop, relationStop, actionStop, literalOf, repeats, contradicts, literalStop}
 use Rattle.literals.specs.Decode.{atRecord, componentOf, labelFault, componentFault, componentStop, closingStop}
 use Rattle.literals.specs.Decode.{fieldStop, fieldPlace, stopOf, stopPlace, extend}
 use Rattle.literals.specs.Table.{literalRow, allLiterals, rowsIn, rowsRank}
