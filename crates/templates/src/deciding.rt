@@ -4,6 +4,8 @@ use literals::head::Head;
 use literals::head::actions_in;
 use literals::head::is_lasting;
 use literals::head::rows_of;
+use literals::keys::put_places;
+use literals::limits::MAX_COMPONENTS;
 use literals::limits::MAX_LITERALS;
 use naming::name_action;
 use verdict::Notes;
@@ -43,11 +45,14 @@ fn summarize(head: &Head, rows: &[u8], n: usize, lasting: bool, relation: u8) ->
         → OnlyRelation D relation → r ≡ summaryOf D a) ⌝ }
 {
     if mentions(rows, n, relation) {
+        let mut places = [0u8; 8 * MAX_COMPONENTS];
+        put_places(head, &mut places);
         let mut numbers = [0u8; MAX_LITERALS];
         let mut words = [0u64; MAX_LITERALS];
         let mut names = [0u8; 2 * MAX_LITERALS];
         let named = name_action(
             head,
+            &places,
             rows,
             &mut numbers[0..n],
             &mut words,
