@@ -14,11 +14,15 @@ use Rattle.records.proofs.Numbers.{numberOf, none-passes, rows-split, cond-or}
 use Rattle.literals.specs.declared.RecordFault.{RecordFault}
 use Rattle.literals.specs.declared.span.Span.{Span}
 use Rattle.literals.specs.Domain.{Literal, Action, Component, keysOf, Domain, arity, noAction, action}
-use Rattle.literals.specs.Decode.{maxRelations, maxArguments, maxActions, maxLiterals, maxComponents, RecordKind, relationRecord, actionRecord, literalRecord, componentRecord, closingRecord, unknownRecord, latest, outOfOrder, headStop, byte, relationStop, actionStop, literalOf, repeats, contradicts, literalStop, atLimit, atRecord, labelFault, componentFault, componentStop, closingStop, fieldStop, fieldPlace, stopOf, stopPlace, extend, componentOf}
+use Rattle.literals.specs.Decode.{maxRelations, maxArguments, maxActions, maxLiterals, maxComponents, RecordKind, relationRecord}
+use Rattle.literals.specs.Decode.{actionRecord, literalRecord, componentRecord, closingRecord, unknownRecord, latest, byte}
+use Rattle.literals.specs.Decode.{headStop, relationStop, actionStop, literalOf, repeats, contradicts, literalStop}
+use Rattle.literals.specs.Decode.{atRecord, componentOf, labelFault, componentFault, componentStop, closingStop}
+use Rattle.literals.specs.Decode.{fieldStop, fieldPlace, stopOf, stopPlace, extend}
 use Rattle.literals.specs.Table.{literalRow, allLiterals, rowsIn, rowsRank}
 use Rattle.literals.specs.Held.{relationsIn, actionsIn, componentsIn, arityIn, partsIn, variablesIn, lastingIn, HeadOf, Held, SpanOf, Filled}
 use Rattle.literals.specs.Fields.{literalFields, componentFields}
-use Rattle.literals.proofs.Stops.{faults-split}
+use Rattle.literals.proofs.Stops.{outOfOrder, atLimit, faults-split}
 use Rattle.literals.proofs.Bounds.{arity-six}
 use Rattle.literals.proofs.Tables.{any-component, Comparable, kept, length-literal-row, rows-flat, literals-stop}
 use Rattle.literals.proofs.Held.{stop-order, stop-limit, stop-field, place-limit, place-field}
