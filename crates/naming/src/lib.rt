@@ -254,9 +254,9 @@ impl Numbered {
     }
 }
 
-// The rows of one action, whose literals are these rows, behind as many as are `named` before; `numbers` gets the class number of each
-// literal, by which alone its classes are known from there on. Its summary knows no other action. (`places` has the places of the keys,
-// and `words` is work memory for numbering.)
+// The rows of one action, whose literals are these rows, behind the `named` rows of the actions before it; `numbers` gets the class
+// number of each literal, from which its classes are known afterwards. The summary is of this action alone. (`places` has the places of
+// the keys, and `words` is work memory for numbering.)
 pub fn name_action(
     head: &Head,
     places: &KeyPlaces,
