@@ -13,7 +13,7 @@ use Rattle.events.specs.Grounding.{GroundLiteral, groundAt}
 unfoldable pub clashing : ℕ → ℕ → Bool
 clashing c d = cond (ltb c 3) (not (eqb c 0) && leb 3 d) (cond (ltb d 3) (not (eqb d 0)) (not (eqb c d)))
 
--- a ground literal clashes with one of this clause, whose fact has this word; two of them
+-- a ground literal clashes with one of this clause whose fact has this word; two ground literals clash
 unfoldable pub clashesWith : ℕ → ℕ → GroundLiteral → Bool
 unfolding clashing wordOf
 clashesWith clause word b = eqb (wordOf (b .row)) word && clashing clause (b .clause)
@@ -21,7 +21,7 @@ clashesWith clause word b = eqb (wordOf (b .row)) word && clashing clause (b .cl
 abbrev pub clashes : GroundLiteral → GroundLiteral → Bool
 clashes a b = clashesWith (a .clause) (wordOf (a .row)) b
 
--- one of some with one of others
+-- a ground literal of the first list clashes with one of the second
 abbrev pub literalsClash : List GroundLiteral → List GroundLiteral → Bool
 literalsClash first later = any (λ a. any (clashes a) later) first
 

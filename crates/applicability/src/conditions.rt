@@ -46,7 +46,7 @@ fn condition_met(memory: &[u8], i: usize, index: &FactIndex, work: &[u8], n: usi
     true
 }
 
-// Whether they meet the first `total` ground literals.
+// Whether those rows meet the first `total` ground literals.
 fn conditions_met(memory: &[u8], total: usize, index: &FactIndex, work: &[u8], n: usize) -> bool
     requires memory { ⌜ length (now memory) ≡ groundedBytes ⌝ }
     requires total { ⌜ total ≤ maxGround ⌝ }
@@ -64,8 +64,8 @@ fn conditions_met(memory: &[u8], total: usize, index: &FactIndex, work: &[u8], n
     true
 }
 
-// Whether they meet the own conditions of every event of a step, whose ground literals stand in the memory. (An end's over-all ones are
-// asked of everything open.)
+// Whether they meet the conditions of every event of a step at its own moment, whose ground literals are in the memory. (Over-all
+// conditions are tested apart, for every open entry.)
 pub fn events_met(memory: &[u8], total: usize, index: &FactIndex, work: &[u8], n: usize) -> bool
     requires memory { ⌜ length (now memory) ≡ groundedBytes ⌝ }
     requires total { ⌜ total ≤ maxGround ⌝ }
@@ -78,7 +78,7 @@ pub fn events_met(memory: &[u8], total: usize, index: &FactIndex, work: &[u8], n
     conditions_met(memory, total, index, work, n)
 }
 
-// Whether they meet the over-all conditions of the open entry i, grounded at the front of the memory.
+// Whether they meet the over-all conditions of the open entry i, whose ground literals are written to the front of the memory.
 fn entry_met(
     head: &Head,
     table: &[u8],
@@ -106,7 +106,7 @@ fn entry_met(
     conditions_met(memory, total, index, work, n)
 }
 
-// Whether they meet the over-all conditions of everything open. The memory is for ground literals; what is left there is of no use.
+// Whether they meet the over-all conditions of every open entry. The ground literals that were in the memory are overwritten.
 pub fn open_met(
     head: &Head,
     table: &[u8],

@@ -61,7 +61,7 @@ fn clashes_at(memory: &[u8], words: &[u64], j: usize, clause: u8, word: u64) -> 
     clashing(clause, memory[CLAUSES + j])
 }
 
-// Whether one of those from `from` up to `to` does.
+// Whether one of the ground literals from `from` up to `to` clashes with one of this clause and word.
 fn clashes_from(memory: &[u8], words: &[u64], clause: u8, word: u64, from: usize, to: usize) -> bool
     requires memory { ⌜ length (now memory) ≡ groundedBytes ⌝ }
     requires words { ⌜ length (now words) ≡ maxGround ⌝ }
@@ -99,7 +99,7 @@ fn literals_clash(memory: &[u8], words: &[u64], from: usize, to: usize, total: u
     false
 }
 
-// Whether no ground literal clashes with one of a later event: the memory has how many each of the events has.
+// Whether no ground literal clashes with one of a later event. (The memory also has how many ground literals each event has.)
 fn all_apart(memory: &[u8], words: &[u64], count: usize, total: usize) -> bool
     requires memory { ⌜ length (now memory) ≡ groundedBytes ⌝ }
     requires words { ⌜ length (now words) ≡ maxGround ⌝ }

@@ -26,8 +26,7 @@ use Rattle.effects.specs.declared.After.{After}
 
 -- ---- what a step works in
 
--- its scratch memory: room for the facts after it, behind that for what it strikes and, when that is done with, what it adds, and
--- behind that for its ground literals
+-- its scratch memory: room for the facts after it; for what it strikes, and after that for what it adds; and for its ground literals
 abbrev pub literalsAt : ℕ
 literalsAt = workBytes + workBytes
 
@@ -51,7 +50,7 @@ pub record Beside (before after : List ℕ) : Type 0 where
 unfoldable pub rowsWith : ℕ → List GroundLiteral → List (List ℕ)
 rowsWith clause ls = map (λ (l : GroundLiteral). l .row) (filterBy (λ (l : GroundLiteral). eqb (l .clause) clause) ls)
 
--- a row more, where it is not there yet; several
+-- a row appended unless it is there already; several rows
 abbrev pub joinRow : List (List ℕ) → List ℕ → List (List ℕ)
 joinRow rows row = cond (hasRow row rows) rows (rows ++ (row ∷ []))
 
@@ -71,29 +70,29 @@ flat rows = flatMap (λ (row : List ℕ). row) rows
 abbrev pub SizedRow : List ℕ → List ℕ → Type 0
 SizedRow head row = byte row 1 ≡ arityIn head (byte row 0)
 
--- what joining leaves where these are the rows then, in a memory that was `old` before: how many they are, their bytes, and
--- their index where they fit
+-- what appending leaves where these are the rows afterwards, in a memory that was `old` before: how many they are, their bytes, and their
+-- index where they fit
 pub record HoldsJoined (head : List ℕ) (rows : List (List ℕ)) (old : List ℕ) (r : ℕ) (out index : List ℕ) : Type 0 where
   pub count : r ≡ atMost maxFacts (length rows)
   pub bytes : out ≡ over (flat (take maxFacts rows)) old
   pub indexed : r ≤ maxFacts → Indexed head index rows
 
--- no row stands twice
+-- no row occurs twice
 abbrev pub Once : List (List ℕ) → Type 0
 Once rows = distinct (sameList eqb) rows ≡ true
 
--- how many of the first n rows of a memory are one of these
+-- how many of the first n rows of a memory are struck
 abbrev pub struckOf : List (List ℕ) → List ℕ → ℕ → ℕ
 struckOf struck work n = countBy (λ (row : List ℕ). hasRow row struck) (rowsIn n work)
 
--- those that are none of these
+-- the rows that are not struck
 abbrev pub stays : List (List ℕ) → List ℕ → Bool
 stays struck row = not (hasRow row struck)
 
 abbrev pub keptOf : List (List ℕ) → List ℕ → ℕ → List (List ℕ)
 keptOf struck work n = filterBy (stays struck) (rowsIn n work)
 
--- of the first n rows of a memory, the first from a row on that is one of these; n where there is none
+-- of the first n rows of a memory, the first from a row on that is struck; n where there is none
 pub record FirstStruck (struck : List (List ℕ)) (work : List ℕ) (n from r : ℕ) : Type 0 where
   pub behind : from ≤ r
   pub within : r ≤ n
@@ -106,7 +105,7 @@ Marked marks rows = (row : List ℕ) → In row rows → getD marks (byte row 2)
 
 -- ---- effects
 
--- the facts of an event's literals of one clause, one for each literal: those of `eventFacts`, where a literal that stands twice counts twice
+-- the facts of an event's literals of one clause, one for each literal: those of `eventFacts`, a literal that occurs twice counted twice
 unfoldable pub eventEffects : Domain → Event → Clause → List Fact
 unfolding action
 eventEffects D e c = map (bind (e .ground .binding)) (withRole (own (e .moment) c) (action D (e .ground .action) .lits))

@@ -29,13 +29,13 @@ ghost use Rattle.effects.specs.Effects.{Once, struckOf, FirstStruck, Mar
 // The bytes of the facts that are held.
 const FACTS: usize = 8 * MAX_FACTS;
 
-// What a step works in, in sections: room for the facts after it, behind that for what it strikes and, when that is done with, what it
-// adds, and behind that for its ground literals.
+// The scratch memory of a step, in sections: room for the facts after it; for what it strikes, and after that for what it adds; and for
+// its ground literals.
 pub const LITERALS: usize = FACTS + FACTS;
 
 pub const SCRATCH: usize = LITERALS + GROUNDED;
 
-// A row behind the first n.
+// Writes a row behind the first n.
 fn put_row(out: &mut [u8], n: usize, row: [u8; 8])
     requires { ⌜ 8 * n + 8 ≤ length (now out) ⌝ }
     ensures { λ _. ⌜ now (out .exit) ≡ over (flat (rowsIn n (now (out .entry)) ++ (row ∷ []))) (now (out .entry)) ⌝ }
@@ -57,7 +57,7 @@ fn put_marks(marks: &mut [u8], rows: &[u8], m: usize)
     }
 }
 
-// Whether the row at an offset of the work memory is struck; most are told by their third byte, the first argument.
+// Whether the row at an offset of the work memory is struck. The third byte, the first argument, is enough to rule most rows out.
 fn is_struck(work: &[u8], at: usize, marks: &[u8], struck: &[u8], m: usize) -> bool
     requires row { ⌜ at + 8 ≤ length (now work) ⌝ }
     requires marks { ⌜ length (now marks) ≡ 256 ⌝ }
@@ -72,8 +72,8 @@ fn is_struck(work: &[u8], at: usize, marks: &[u8], struck: &[u8], m: usize) -> b
     has_row(struck, m, row_at(work, at))
 }
 
-// The first struck row of the work memory from a row on, of n; n where there is none. No row stands twice, so none is left to
-// find once as many are gone as are struck.
+// The first struck row of the work memory from a row on, of n; n where there is none. No row occurs twice, so there is none once `gone`
+// rows, as many as are struck, were found.
 fn struck_from(
     work: &[u8],
     n: usize,
@@ -106,8 +106,8 @@ fn struck_from(
     n
 }
 
-// The rows of the work memory that are not struck, in order, to the front of the scratch memory; how many they are. The others
-// leave the index.
+// Copies the rows of the work memory that are not struck, in order, to the front of the scratch memory; answers how many they are. The
+// struck rows are taken out of the index.
 fn keep_rows(
     head: &Head,
     work: &[u8],
@@ -133,7 +133,7 @@ fn keep_rows(
     put_marks(&mut marks, &scratch[FACTS..LITERALS], m);
     let mut k = 0;
     let mut i = 0;
-    // Most rows stay, so those between two struck ones are put at once.
+    // Most rows stay, so all rows between two struck ones are copied at once.
     loop {
         let next = struck_from(work, n, i, i - k, &marks, &scratch[FACTS..LITERALS], m);
         let from = 8 * i;
@@ -148,8 +148,8 @@ fn keep_rows(
     }
 }
 
-// The row at an offset of what is added, behind the first n rows of the scratch memory and into the index, where it is not
-// there yet; the count then, or 1,025 where there is no room.
+// Appends the row at an offset of what is added to the first n rows of the scratch memory, and to the index, unless it is there already;
+// answers the new count, or 1,025 where there is no room.
 fn join_row(head: &Head, scratch: &mut [u8], at: usize, n: usize, index: &mut FactIndex) -> usize
     requires row { ⌜ at + 8 ≤ length (now scratch) ⌝ }
     requires few { ⌜ n ≤ maxFacts ⌝ }
@@ -174,8 +174,8 @@ fn join_row(head: &Head, scratch: &mut [u8], at: usize, n: usize, index: &mut Fa
     n + 1
 }
 
-// Each of the first m rows of what is added, behind the first `count` rows of the scratch memory, where it is not there yet; the
-// count then, or 1,025 where there is no room.
+// Appends each of the first m rows of what is added to the first `count` rows of the scratch memory, unless it is there already; answers
+// the new count, or 1,025 where there is no room.
 fn join_rows(
     head: &Head,
     scratch: &mut [u8],
@@ -204,7 +204,7 @@ fn join_rows(
     n
 }
 
-// The fact of the ground literal i, behind the first n rows of the effects, where it is of this clause; the count then.
+// Appends the fact of the ground literal i to the first n rows of the effects, if it is of this clause; answers the new count.
 fn put_effect(scratch: &mut [u8], n: usize, i: usize, clause: u8) -> usize
     requires scratch { ⌜ length (now scratch) ≡ scratchBytes ⌝ }
     requires room { ⌜ n < maxFacts ⌝ }
@@ -222,8 +222,8 @@ fn put_effect(scratch: &mut [u8], n: usize, i: usize, clause: u8) -> usize
     n
 }
 
-// Those of the first `total` ground literals that are of this clause, in order, at the front of the effects: what the step adds (clause 3)
-// or strikes (clause 4). How many they are.
+// Writes the facts of those of the first `total` ground literals that are of this clause, in order, to the front of the effects: what the
+// step adds (clause 3) or strikes (clause 4). Answers how many they are.
 fn step_effects(scratch: &mut [u8], total: usize, clause: u8) -> usize
     requires scratch { ⌜ length (now scratch) ≡ scratchBytes ⌝ }
     requires total { ⌜ total ≤ maxGround ⌝ }

@@ -1,4 +1,4 @@
--- How the code holds a run: facts, open entries and waiting events as rows of bytes, beside the memories of a domain that was read. Assumes nothing.
+-- How the code holds a run: facts, open entries and waiting events as rows of bytes. Assumes nothing.
 use mathlib.Core.Path.{_≡_}
 use mathlib.Core.Bool.{Bool, true, false, _&&_, not, cond}
 use mathlib.Core.List.{List, [], _∷_, _++_, map, flatMap}
@@ -100,7 +100,7 @@ openIn n agenda = record { count = n; rows = entriesIn agenda }
 abbrev pub waitingIn : ℕ → List ℕ → Waiting
 waitingIn n agenda = record { count = n; moments = momentsIn agenda; rows = eventRowsIn agenda }
 
--- ---- what fits it
+-- ---- actions that fit the domain
 
 -- an action of the domain with an object for each variable, none of them FF
 pub record GroundFits (D : Domain) (g : GroundAction) : Type 0 where
@@ -124,7 +124,7 @@ objectOf ground v = cond (ltb v 16) (getD ground (v + 1) 0) 0
 abbrev pub boundBytes : ℕ → List ℕ → List ℕ → List ℕ
 boundBytes n ground row = byte row 1 ∷ n ∷ (map (objectOf ground) (take n (drop 2 row)) ++ replicate (6 - n) 255)
 
--- of a head
+-- the same, with the arity that the head has
 unfoldable pub boundRow : List ℕ → List ℕ → List ℕ → List ℕ
 unfolding arityIn
 boundRow head ground row = boundBytes (arityIn head (byte row 1)) ground row
@@ -154,18 +154,18 @@ eventsIn (suc n) moments rows = record { moment = getD moments 0 0; row = take 1
 unfoldable pub endOpen : List (List ℕ) → EventRow → Bool
 endOpen rows e = cond (eqb (e .moment) 1) (hasRow (e .row) rows) true
 
--- the entry k out, the later ones forward, zeros behind
+-- without the entry k: the later ones move forward, zeros fill the end
 unfoldable pub withoutEntry : ℕ → Open → Open
 withoutEntry k o = record { count = o .count - 1; rows = take (17 * k) (o .rows) ++ (drop (17 * k + 17) (o .rows) ++ replicate 17 0) }
 
--- the first equal entry out
+-- without the first equal entry
 unfoldable pub closeEntry : List ℕ → Open → Open
 unfolding withoutEntry
 closeEntry row o =
     let k = position (sameList eqb row) (groundsIn (o .count) (o .rows)) in
     cond (eqb k (o .count)) o (withoutEntry k o)
 
--- that of an end
+-- without the entry of an event that is an end
 unfoldable pub closeEvent : EventRow → Open → Open
 unfolding closeEntry
 closeEvent e o = cond (eqb (e .moment) 1) (closeEntry (e .row) o) o
@@ -188,7 +188,7 @@ pub record Opened : Type 0 where
   pub fits : Bool
   pub running : Open
 
--- the entry of such a start joins, where there is room for it
+-- the entry of such a start is added, where there is room for it
 unfoldable pub joinEvent : List ℕ → EventRow → Open → Opened
 unfolding opensBy joinEntry
 joinEvent head e o =

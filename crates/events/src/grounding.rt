@@ -1,5 +1,5 @@
-// Ground literals: those of actions with their objects that count at a time, one behind the other in one memory. What a step asks, whether
-// its events interfere and what it leaves is all told by them.
+// Ground literals: those of actions with their objects that count at a time, one behind the other in one memory. The conditions, the
+// interference and the effects of a step are all worked out from them.
 use super::GROUND;
 use super::facts::bound_row;
 use super::facts::time_at;
@@ -38,7 +38,7 @@ pub const COUNTS: usize = CLAUSES + MAX_GROUND;
 
 pub const GROUNDED: usize = COUNTS + MAX_EVENTS;
 
-// One more, behind the first n.
+// Appends a ground literal to the first n.
 fn put_literal(memory: &mut [u8], n: usize, clause: u8, row: [u8; 8])
     requires memory { ⌜ length (now memory) ≡ groundedBytes ⌝ }
     requires room { ⌜ n < maxGround ⌝ }
@@ -50,7 +50,7 @@ fn put_literal(memory: &mut [u8], n: usize, clause: u8, row: [u8; 8])
     memory[CLAUSES + n] = clause;
 }
 
-// That of the literal's row at an offset, where it counts at this time, behind the first n; the count then.
+// Appends that of the literal's row at an offset to the first n, if it counts at this time; answers the new count.
 fn ground_row(
     memory: &mut [u8],
     n: usize,
@@ -76,7 +76,7 @@ fn ground_row(
     n + 1
 }
 
-// Those of the first k rows of an action's literals, behind the first `at`; the count then.
+// Appends those of the first k rows of an action's literals to the first `at`; answers the new count.
 fn ground_rows(
     memory: &mut [u8],
     at: usize,
@@ -101,7 +101,7 @@ fn ground_rows(
     n
 }
 
-// Those of an action with its objects that count at this time, behind the first n; the count then.
+// Appends those of an action with its objects that count at this time to the first n; answers the new count.
 pub fn ground_action(
     head: &Head,
     table: &[u8],
@@ -137,7 +137,7 @@ pub fn ground_action(
     )
 }
 
-// Those of the waiting event i.
+// Appends those of the waiting event i.
 fn ground_event(
     head: &Head,
     table: &[u8],
@@ -172,7 +172,7 @@ fn ground_event(
     )
 }
 
-// Those of every waiting event, in order; the count of all.
+// Writes those of every waiting event, in order; answers how many they are.
 pub fn ground_step(
     head: &Head,
     table: &[u8],

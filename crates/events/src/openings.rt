@@ -33,16 +33,16 @@ ghost use Rattle.events.specs.Coded.{agendaBytes, openIn, waitingIn};
 ghost use Rattle.store.specs.Rows.{hasRow};
 ghost use Rattle.runs.specs.RunFile.{maxRunning, maxEvents};
 
-// How many entries there are after starts joined, where they fit.
+// How many entries there are once the starts are added, where they fit.
 pub struct Joined {
     pub fits: bool,
     pub count: usize,
 }
 
-// Where the last entry stands that there is room for.
+// The offset of the last entry that there is room for.
 const LAST_ROW: usize = OPEN_ROWS - GROUND;
 
-// What the events take in the agenda, their moments too.
+// The bytes of the events in the agenda, with those of their moments.
 const WAITING: usize = AGENDA - MOMENTS_AT;
 
 // Whether the entry at an offset is this one.
@@ -153,7 +153,7 @@ fn opens_entry(head: &Head, moment: u8, action: u8) -> bool
     is_lasting(head, i)
 }
 
-// The rows without the entry k: the later ones forward, zeros behind.
+// Removes the entry k: the later ones move forward, zeros fill the end.
 fn without(rows: &mut [u8], k: usize)
     requires entries { ⌜ length (now rows) ≡ openBytes ⌝ }
     requires entry { ⌜ k < maxRunning ⌝ }
@@ -299,8 +299,8 @@ fn join_all(
     }
 }
 
-// The entries after a step, in place of those before it: ends leave the list, starts of lasting actions join it. Where they do
-// not fit, what is left there is of no use.
+// The entries after a step, in place of those before it: ends are removed, starts of lasting actions are added. Where they do not fit,
+// nothing is said of the entries that are left there.
 fn open_after(
     head: &Head,
     rows: &mut [u8],
@@ -335,8 +335,8 @@ fn open_after(
     join_all(head, rows, left, moments, events, count)
 }
 
-// The agenda after a step: ends leave the list, starts of lasting actions join it, and no event waits. Where the entries do not
-// fit, what is left of them is of no use. (The events are copied, since the entries beside them are changed by them.)
+// The agenda after a step: ends are removed, starts of lasting actions are added, and no event waits. Where the entries do not fit,
+// nothing is said of those that are left there. (The events are copied first, since the entries in the same memory are changed.)
 pub fn agenda_after(head: &Head, agenda: &mut [u8], opened: usize, waits: usize) -> Joined
     requires { ⌜ length (now agenda) ≡ agendaBytes ⌝ }
     ensures { λ r. ⌜ ((D : Domain) (gs : List GroundAction) (es : List Event)

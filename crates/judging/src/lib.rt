@@ -62,7 +62,7 @@ fn has_witness(head: &Head, table: &[u8], numbers: &[u8], made: Judgement) -> bo
     )
 }
 
-// A domain that was read, of the memories that hold it; `numbers` is room for a byte a literal, and `names` for a byte a moment.
+// Judges a domain that was read; `numbers` is room for a byte a literal, and `names` for a byte a moment.
 fn judge_with(
     head: &Head,
     table: &[u8],
@@ -105,7 +105,7 @@ fn judge_with(
     decided
 }
 
-// A file, read or refused 9 to 25; `table` is room for its literals, `numbers` for a number and `names` for two names a literal.
+// Judges a file, or refuses it by 9 to 25; `table` is room for its literals, `numbers` for a number and `names` for two names a literal.
 fn judge_in(
     file: &[u8],
     table: &mut [u8],
@@ -129,7 +129,7 @@ fn judge_in(
     judge_with(&head, table, numbers, names, report, witness)
 }
 
-// A file, of any length: a small one gets small memories, since to clear large ones takes longer than to judge it.
+// Judges a file of any length. A small one gets small memories, since clearing large ones takes longer than judging it.
 fn judge_file(file: &[u8], report: &mut [u8], witness: &mut [u8]) -> Judgement
     ensures { λ r. ⌜ JudgedAs (decode (now (file .entry))) (now (report .entry)) (now (witness .entry))
         r (now (report .exit)) (now (witness .exit)) ⌝ }

@@ -20,8 +20,8 @@ ghost use Rattle.verdict.specs.Judged.{rowBytes};
 ghost use Rattle.naming.specs.Named.{nameBytes, classCounts};
 ghost use Rattle.judging.specs.Reporting.{Reporting};
 
-// One row at a place, with the name that is stored for it. (Both memories have room for the rows of every domain; the tests say so to the
-// checker.)
+// One row at a place, with the name that is stored for it. (Both memories have room for the rows of every domain; the tests are there for
+// the proof alone.)
 fn put_row(report: &mut [u8], at: usize, action: u8, class: u8, moment: u8, names: &[u8])
     ensures { λ _. ⌜ ((rs rest : List Row) (r : Row) (old given : List ℕ)
         → Reporting rs (r ∷ rest) at (now (report .entry)) (now (names .entry)) old given

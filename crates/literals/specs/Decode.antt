@@ -116,7 +116,8 @@ contradicts l m = contrary (l .role .clause) (m .role .clause) && together (l .r
 abbrev pub noRole : Action → ℕ → Bool
 noRole a r = ltb 9 r || (ltb 3 r && not (a .lasting))
 
--- "16 role; 17 relation; 18 variable", "19 repeated in its role; 20 both true and false"; "A length .. comes first where it is fixed or too short for the relation or action, else once that is known."
+-- "16 role; 17 relation; 18 variable", "19 repeated in its role; 20 both true and false"; "A length .. comes first where it is fixed or
+-- too short for the relation or action, else once that is known."
 unfoldable pub literalStop : Domain → List ℕ → ℕ
 unfolding roleOf
 literalStop D p =
@@ -160,7 +161,8 @@ atRecord n = record { number = n; within = 0 }
 abbrev pub atLabel : ℕ → ℕ → RecordFault
 atLabel n i = record { number = n; within = 5 + i }
 
--- "Two FF labels give 25, a repeated key 24, the rest 21", "checked in that order": of a template that has n keys. "The offset given is that of the label byte"; "Where a key is only missing it stays the record's."
+-- "Two FF labels give 25, a repeated key 24, the rest 21", "checked in that order": of a template that has n keys. "The offset given is
+-- that of the label byte"; "Where a key is only missing it stays the record's."
 unfoldable pub labelFault : ℕ → List Label → RecordFault
 unfolding labelsFit
 labelFault n ls =

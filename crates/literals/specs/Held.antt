@@ -11,7 +11,7 @@ use Rattle.literals.specs.Domain.{keysOf, Domain, arity, action}
 use Rattle.literals.specs.Decode.{RecordKind, stopOf, extend, maxRelations, maxArguments, maxActions, maxVariables, maxLiterals, maxComponents}
 use Rattle.literals.specs.Table.{literalRow, componentRow, allLiterals, tableBytes, Bounded}
 
--- ---- where a head has what: a byte for each relation, 8 for each component, and a byte for each action in each of the columns behind
+-- ---- the sections of a head: a byte for each relation, 8 for each component, then columns with a byte for each action
 
 abbrev pub atArities : ℕ
 atArities = 4
@@ -51,7 +51,7 @@ componentsIn head = within maxComponents (getD head 2 0)
 unfoldable pub keysIn : List ℕ → ℕ
 keysIn head = within maxArguments (getD head 3 0)
 
--- 0 for a relation that there is not
+-- 0 where there is no such relation
 unfoldable pub arityIn : List ℕ → ℕ → ℕ
 arityIn head r = cond (ltb r maxRelations) (within maxArguments (getD head (atArities + r) 0)) 0
 
@@ -121,13 +121,13 @@ pub record Filled (D : Domain) (head : List ℕ) : Type 0 where
   pub says : HeadOf D head
   pub room : length head ≡ headBytes
 
--- whatever domain the head held, it holds the domain with the record then
+-- whatever domain the head held before, it holds that domain with the record afterwards
 abbrev pub Adds : RecordKind → List ℕ → List ℕ → List ℕ → Type 0
 Adds k p head after = (D : Domain) → Filled D head → stopOf D k p ≡ 0 → Filled (extend D k p) after
 
 -- ---- the rows of an action's literals
 
--- they lie in a table of n bytes, and are at most as many as an action has
+-- they lie in a table of n bytes, and are at most as many as an action may have
 pub record SpanFits (n : ℕ) (r : Span) : Type 0 where
   pub order : r .from ≤ r .to
   pub few : r .to ≤ r .from + maxLiterals

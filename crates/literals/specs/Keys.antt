@@ -30,7 +30,7 @@ below n = numbersFrom 0 n
 
 -- ---- roles
 
--- 1 to 4 for a true condition, false condition, add or delete of that time, 0 for another time's
+-- the clause of a role at a time: 1 to 4 for a true condition, false condition, add or delete there, 0 for a role of another time
 abbrev pub clauseAmong : Time → Role → ℕ
 clauseAmong t r = cond (sameTime t (r .time)) (suc (clauseNumber (r .clause))) 0
 
@@ -59,7 +59,7 @@ underKey k [] vs = 255
 underKey k (b ∷ bs) [] = 255
 underKey k (b ∷ bs) (v ∷ vs) = cond (eqb k b) v (underKey k bs vs)
 
--- those under the keys 0 to n-1
+-- the arguments under the keys 0 to n-1
 abbrev pub underKeys : ℕ → List ℕ → List ℕ → List ℕ
 underKeys zero bs vs = []
 underKeys (suc n) bs vs = underKeys n bs vs ++ (underKey n bs vs ∷ [])

@@ -1,4 +1,4 @@
--- Matching, key tuples, and the literals of a moment: what classes and the machine both speak of. Assumes nothing.
+-- Matching, key tuples, and the literals of a moment, for classes and for the machine alike. Assumes nothing.
 use mathlib.Core.Bool.{Bool, _&&_, _||_}
 use mathlib.Core.List.{List, [], _∷_, _++_}
 use Prim.Native.Nat.{ℕ, zero, suc}
@@ -31,7 +31,8 @@ module _ {A : Type 0} where
   keyTuple zero ls vs = []
   keyTuple (suc n) ls vs = keyTuple n ls vs ++ under (key n) ls vs
 
-  -- c is the component of f's relation. That there is a label for each argument holds of every literal and fact of a domain; facts that somebody chooses are not asked for it, so it is tested here
+  -- c is the component of f's relation. It has a label for each argument of every literal and fact of a domain; a list of facts in
+  -- general need not be of the domain, so this is tested here
   abbrev pub isOf : Component → Atom A → Bool
   isOf c f = eqb (c .rel) (f .rel) && eqb (length (c .labels)) (length (f .args))
 
@@ -86,7 +87,8 @@ withRole p (l ∷ ls) = keepIf (p (l .role)) (l .atom) (withRole p ls)
 unfoldable pub literalsAt : Action → Moment → Clause → List (Atom Variable)
 literalsAt a m c = dedup sameLiteral (withRole (own m c) (a .lits))
 
--- what is asked at a moment, in file order, "a literal in both counting once": what must hold in the state that the step is taken from, and what a witness lists. Adds and deletes have no over-all role
+-- what is asked at a moment, in file order, "a literal in both counting once": what must hold in the state that the step is taken from,
+-- and what a witness lists. Adds and deletes have no over-all role
 unfoldable pub required : Action → Moment → Clause → List (Atom Variable)
 required a m c = dedup sameLiteral (withRole (asked m c) (a .lits))
 

@@ -86,7 +86,8 @@ rowsRank p rows = foldr (λ row n. max (rowRank p row) n) 0 rows
 
 -- ---- a domain that was read
 
--- what reading keeps of every domain, so that it fits the head and the table, and that its literals have variables below the count, and its literals and components the arities of their relations, each relation one component, and each component the keys once each
+-- what holds of every domain that was read: it is within the limits, so that it fits the head and the table; variables are below their
+-- count; literals and components have the arities of their relations; no relation has two components; a component has each key once
 pub record Bounded (D : Domain) : Type 0 where
   pub relations : length (D .arities) ≤ maxRelations
   pub arities : (n : ℕ) → In n (D .arities) → n ≤ maxArguments

@@ -1,6 +1,6 @@
-// A domain that was read: a head of numbers and rows, in sections, beside the table of its literals (8 bytes a row: role, relation,
+// A domain that was read: a head of numbers and rows, in sections, and the table of its literals (8 bytes a row: role, relation,
 // variables, FF to fill). Every function that reads a head answers within the limits of the format, whatever its bytes are, so that none
-// asks anything of them. A head is filled record by record, from one that is all 0.
+// has a condition on them. A head is filled record by record, from one that is all 0.
 use super::fields::count_keys;
 use super::limits::MAX_ACTIONS;
 use super::limits::MAX_ARGUMENTS;
@@ -40,7 +40,7 @@ const KEYS: usize = 3;
 const ARITIES: usize = 4;
 // 8 bytes for each component: relation, labels, FF to fill.
 const PARTS: usize = ARITIES + MAX_RELATIONS;
-// A byte for each action: variables, 1 for a lasting one, how many literals, and the row of the first, whose two bytes stand apart.
+// A byte for each action: variables, 1 for a lasting one, how many literals, and the row of the first, low byte and high byte.
 const VARIABLES: usize = PARTS + 8 * MAX_COMPONENTS;
 
 const SORTS: usize = VARIABLES + MAX_ACTIONS;
@@ -50,7 +50,7 @@ const SIZES: usize = SORTS + MAX_ACTIONS;
 const LOWS: usize = SIZES + MAX_ACTIONS;
 
 const HIGHS: usize = LOWS + MAX_ACTIONS;
-// The number of a byte, 0 above the limit.
+// The number in a byte, 0 above the limit.
 fn limited(n: u8, limit: u8) -> u8
     ensures { λ r. ⌜ (r ≡ within limit n) × (r ≤ limit) ⌝ }
 {
@@ -181,7 +181,7 @@ fn literals_in(head: &Head) -> usize
     to
 }
 
-// How many keys the template has with this component: its first component tells.
+// How many keys the template has with this component: the first component determines it.
 pub fn keys_with(head: &Head, p: &[u8]) -> usize
     requires { ⌜ length (now p) ≤ 1 + maxArguments ⌝ }
     ensures number { λ r. ⌜ ((D : Domain) → HeadOf D (now (head .entry))
@@ -230,7 +230,7 @@ pub fn add_literal(head: &mut Head)
     head[SIZES + last] = size_of(head, last) + 1;
 }
 
-// The head with a component more: its row, and the number of keys, which the first component tells.
+// The head with a component more: its row, and the number of keys, which the first component determines.
 pub fn add_component(head: &mut Head, p: &[u8])
     requires whole { ⌜ length (now head) ≡ headBytes ⌝ }
     requires room { ⌜ componentsIn (now head) < maxComponents ⌝ }

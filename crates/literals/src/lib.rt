@@ -130,7 +130,7 @@ pub fn role_of(role: u8) -> Role
     }
 }
 
-// The number of a clause: the role byte of a literal of it at the start.
+// The number of a clause: the role byte that it has at the start.
 pub fn clause_number(c: Clause) -> u8
     ensures number { λ r. ⌜ r ≡ clauseNumber c ⌝ }
     ensures few { λ r. ⌜ r < 4 ⌝ }
@@ -160,7 +160,7 @@ pub fn same_time(t: Time, u: Time) -> bool
     first_role(t) == first_role(u)
 }
 
-// 1 to 4 for a true condition, false condition, add or delete of that time's own, 0 for none: of a role byte.
+// The clause of a role byte at a time: 1 to 4 for a true condition, false condition, add or delete there, 0 for a role of another time.
 pub fn clause_for(time: Time, role: u8) -> u8
     ensures { λ r. ⌜ r ≡ clauseFor time role ⌝ }
 {

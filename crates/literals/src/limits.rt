@@ -1,5 +1,4 @@
-// The limits of a domain file, and those of a run, which are the player's own. The definitions have them under the same names
-// (maxRelations ..).
+// The limits of a domain file, and those of a run. The definitions have them under the same names (maxRelations ..).
 pub const MAX_FILE: usize = 65535;
 
 pub const MAX_RELATIONS: usize = 64;

@@ -54,8 +54,7 @@ pub record StepHeld (D : Domain) (s : State) (es : List Event) (head table : Lis
   pub state-is : state ≡ stateOf s es
   pub facts-are : work ≡ over (heldBytes (s .facts)) old
 
--- what stands beside the facts: their index, whose last number is 1 only where the over-all conditions of everything open are
--- known to hold
+-- the index of the facts, whose last number is 1 only where the over-all conditions of every open entry are known to hold
 pub record Noted (D : Domain) (head index : List ℕ) (s : State) : Type 0 where
   pub indexed : Indexed head index (map factRow (s .facts))
   pub settled : getD index noteAt 0 ≡ 1 → all (overAllHold D (s .facts)) (s .running) ≡ true

@@ -1,5 +1,5 @@
-// The machine: its state as the code holds it (here), out of a memory and into it (memory), and the step's close (step). What a
-// step asks is told by the crate applicability, what it leaves by effects and events; facts are held by the crate store.
+// The machine: its state as the code holds it (here), read from a memory and written to it (memory), and the step's close (step). Whether
+// a step may be taken is decided in the crate applicability, what it leads to in effects and events; facts are held by the crate store.
 pub mod memory;
 pub mod step;
 
@@ -12,8 +12,8 @@ pub struct Counts {
     pub waits: usize,
 }
 
-// The machine's state and the step that is read, beside the facts in work memory: the counts, and the agenda, which is what is open
-// and what waits.
+// The machine's state and the step that is read, without the facts, which are in work memory: the counts, and the agenda, which is what
+// is open and what waits.
 pub struct State {
     pub counts: Counts,
     pub agenda: [u8; AGENDA],

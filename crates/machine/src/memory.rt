@@ -1,4 +1,5 @@
-// The state's agenda in a memory: between two steps it stands there, so that an event that is read costs no copy of the state.
+// The state's agenda in a memory of its own, where it is kept between two steps, so that the state is not copied for each event that is
+// read.
 use super::Counts;
 use super::State;
 use events::AGENDA;
@@ -21,7 +22,7 @@ impl State {
         }
     }
 
-    // Its agenda, put into such a memory.
+    // Writes its agenda into such a memory.
     pub fn save(self, agenda: &mut [u8])
         requires { ⌜ length (now agenda) ≡ agendaBytes ⌝ }
         ensures { λ _. ⌜ now (agenda .exit) ≡ self .agenda ⌝ }

@@ -46,7 +46,7 @@ pub struct Closed {
     pub weight: usize,
 }
 
-// What is asked of a step: the number that forbids it, or 0 and how many ground literals it has.
+// Whether a step may be taken: the number that forbids it, or 0 and how many ground literals it has.
 struct Asked {
     number: u64,
     literals: usize,
@@ -77,8 +77,8 @@ fn settle(work: &mut [u8], held: usize, rows: &[u8], n: usize)
     }
 }
 
-// What is asked of a step: an end that is not open, a condition that fails, interference. Where nothing forbids it, its ground literals
-// stand in the memory then.
+// Whether a step may be taken: it may not where an end is not open, a condition fails, or events interfere. Where nothing forbids it, its
+// ground literals are in the memory afterwards.
 fn forbidden(
     head: &Head,
     table: &[u8],
@@ -143,9 +143,9 @@ fn forbidden(
     }
 }
 
-// The step that nothing forbids: its facts in the work memory, and its entries in the agenda, where no event waits then; 52 where
-// facts or entries are too many, and the work memory is as it was. The facts are put together in `scratch` first, where so many ground
-// literals of the step stand.
+// Takes a step that nothing forbids: its facts are then in the work memory, its entries in the agenda, and no event waits; 52 where facts
+// or entries are too many, and the work memory is as it was. The facts are put together in `scratch` first, which holds the step's ground
+// literals, `literals` of them.
 fn advance(
     head: &Head,
     agenda: &mut [u8],
@@ -249,7 +249,7 @@ fn rest(
 impl State {
     // Closes the step that is read: takes it, or refuses it by 57, 55, 56 or 52 and changes nothing. `scratch` is memory
     // to work in.
-    // The agenda is lent from one local, since every local of its own would be one copy more of it for each step.
+    // The agenda is kept in one local variable, since each further one would cost a copy of it for each step.
     pub fn step(
         self,
         head: &Head,

@@ -22,7 +22,7 @@ nameBytes rs = map (λ (r : Row). nameNumber (r .name)) rs
 abbrev pub classCounts : Domain → List Action → List ℕ
 classCounts D as′ = map (λ (a : Action). length (classes D a)) as′
 
--- the true conditions and the adds of each class at the moment of these clauses, by the section of the true conditions
+-- the true conditions and the adds of each class, by the clauses at a moment: s is the section of its true conditions
 abbrev pub SolesIn : List ℕ → List ℕ → List ℕ → ℕ → Type 0
 SolesIn numbers clauses soles s = (k : ℕ) → k < maxLiterals → soleIn soles s k ≡ soleOf numbers clauses k
 

@@ -4,7 +4,6 @@ use classes::AT_END;
 use classes::AT_START;
 use classes::Marks;
 use classes::Name;
-use classes::Sole;
 use classes::Soles;
 use classes::name_number;
 use classes::names::clauses_at;
@@ -38,7 +37,7 @@ ghost use Rattle.literals.specs.Held.{Held, Read};
 ghost use Rattle.literals.specs.Keys.{PlacesOf};
 ghost use Rattle.literals.specs.declared.Moment.the-variants.{Start, End};
 ghost use Rattle.classes.specs.Classes.{momentsOf, classes, nameOf, journey};
-ghost use Rattle.classes.specs.Coded.{ActionOf, MomentOf, Sides, classNumbers, numbersOf, soleOf, reachAt};
+ghost use Rattle.classes.specs.Coded.{ActionOf, MomentOf, Sides, classNumbers, numbersOf};
 ghost use Rattle.verdict.specs.Decision.{Row, rowAt, rowsOfClasses, rows};
 ghost use Rattle.verdict.specs.Claims.{wellFormed};
 ghost use Rattle.verdict.specs.Summaries.{summaryOf};
@@ -53,6 +52,13 @@ pub struct ClassNames {
     pub start: Name,
     pub end: Name,
     pub journey: bool,
+}
+
+// An action whose classes are numbered: how many rows of the domain come before its own, how many classes it has, and whether it lasts.
+pub struct Numbered {
+    pub rows: usize,
+    pub classes: usize,
+    pub lasting: bool,
 }
 
 // Where naming an action stands: how many rows of the domain are named, and the summary of the action's own.
@@ -74,34 +80,33 @@ pub struct NamedDomain {
     pub notes: Notes,
 }
 
-// The names of a class, of the clauses of the action's literals at its start and at its end, and of the class's own true conditions and
-// adds there; `reach` tells which of its literals is asked as a true condition at the end, over all or of its own. (What is asked at a
-// start is its own.)
+// The names of a class, by the clauses of the action's literals at its start and at its end, and by the true conditions and the adds of
+// each class there. (At an end, a true condition over all is asked too.)
 fn name_class(
     head: &Head,
     rows: &[u8],
     numbers: &[u8],
     at_start: &Marks,
     at_end: &Marks,
-    first: Sole,
-    reach: u8,
-    last: Sole,
-    class: u8,
+    soles: &Soles,
+    class: usize,
     lasting: bool,
 ) -> ClassNames
     requires sides { ⌜ Sides (now rows) (now numbers) ⌝ }
-    requires first { ⌜ first ≡ soleOf (now numbers) (now «at_start») class ⌝ }
-    requires last { ⌜ (lasting ≡ true → last ≡ soleOf (now numbers) (now «at_end») class) ⌝ }
+    requires first { ⌜ SolesIn (now numbers) (now «at_start») (now soles) 0 ⌝ }
+    requires last { ⌜ (lasting ≡ true → SolesIn (now numbers) (now «at_end») (now soles) 2) ⌝ }
+    requires few { ⌜ class < length (now numbers) ⌝ }
     ensures start { λ r. ⌜ ((D : Domain) (a : Action)
         → MomentOf D a Start (now (head .entry)) (now (rows .entry)) (now (numbers .entry)) (now («at_start» .entry))
         → class < length (classes D a) → r .start ≡ nameOf D a (getD (classes D a) class []) Start) ⌝ }
     ensures end { λ r. ⌜ ((D : Domain) (a : Action)
         → MomentOf D a Start (now (head .entry)) (now (rows .entry)) (now (numbers .entry)) (now («at_start» .entry))
-        → MomentOf D a End (now (head .entry)) (now (rows .entry)) (now (numbers .entry)) (now («at_end» .entry))
-        → class < length (classes D a) → reach ≡ reachAt D a End class
-        → lasting ≡ true → a .lasting ≡ true
+        → EndOf D a (now (head .entry)) (now (rows .entry)) (now (numbers .entry)) (now («at_end» .entry)) (now (soles .entry))
+        → class < length (classes D a) → lasting ≡ true → a .lasting ≡ true
         → (r .end ≡ nameOf D a (getD (classes D a) class []) End) × (r .journey ≡ journey D a (getD (classes D a) class []))) ⌝ }
 {
+    let number = class as u8;
+    let first = sole_in(soles, AT_START, class);
     let start = name_at(
         head,
         rows,
@@ -109,13 +114,15 @@ fn name_class(
         at_start,
         first.conditions,
         first,
-        class,
+        number,
     );
     if lasting {
+        let last = sole_in(soles, AT_END, class);
+        let asked = soles[MAX_LITERALS * ASKED + class];
         return ClassNames {
             start,
-            end: name_at(head, rows, numbers, at_end, reach, last, class),
-            journey: is_journey(rows, numbers, at_start, first, last, class),
+            end: name_at(head, rows, numbers, at_end, asked, last, number),
+            journey: is_journey(rows, numbers, at_start, first, last, number),
         };
     }
     ClassNames {
@@ -181,9 +188,11 @@ impl Naming {
         }
         started
     }
+}
 
-    // The rows of the classes of an action, of the clauses of its literals at both moments, and of what each class has there.
-    fn with_each(
+impl Numbered {
+    // Names the rows of its classes, by the clauses of its literals at both moments and by what each class has there.
+    fn name_each(
         self,
         head: &Head,
         rows: &[u8],
@@ -191,63 +200,44 @@ impl Naming {
         at_start: &Marks,
         at_end: &Marks,
         soles: &Soles,
-        count: usize,
-        lasting: bool,
         names: &mut [u8],
     ) -> Naming
         requires sides { ⌜ Sides (now rows) (now numbers) ⌝ }
         requires first { ⌜ SolesIn (now numbers) (now «at_start») (now soles) 0 ⌝ }
-        requires last { ⌜ (lasting ≡ true → SolesIn (now numbers) (now «at_end») (now soles) 2) ⌝ }
-        requires few { ⌜ count ≤ length (now numbers) ⌝ }
-        requires room { ⌜ self .rows + 2 * count ≤ length (now names) ⌝ }
-        ensures rows { λ r. ⌜ r .rows ≤ self .rows + 2 * count ⌝ }
+        requires last { ⌜ (self .lasting ≡ true → SolesIn (now numbers) (now «at_end») (now soles) 2) ⌝ }
+        requires few { ⌜ self .classes ≤ length (now numbers) ⌝ }
+        requires room { ⌜ self .rows + 2 * self .classes ≤ length (now names) ⌝ }
+        ensures rows { λ r. ⌜ r .rows ≤ self .rows + 2 * self .classes ⌝ }
         ensures named { λ r. ⌜ ((before : List Row) (old : List ℕ) (D : Domain) (a : Action) (i : ℕ)
-            → Named before [] self (now (names .entry)) old
+            → Listed before (self .rows) (now (names .entry)) old
             → MomentOf D a Start (now (head .entry)) (now (rows .entry)) (now (numbers .entry)) (now («at_start» .entry))
-            → a .lasting ≡ lasting
-            → (lasting ≡ true → EndOf D a (now (head .entry)) (now (rows .entry)) (now (numbers .entry)) (now («at_end» .entry))
-            (now (soles .entry))) → count ≡ length (classes D a)
+            → a .lasting ≡ self .lasting
+            → (self .lasting ≡ true → EndOf D a (now (head .entry)) (now (rows .entry)) (now (numbers .entry)) (now («at_end» .entry))
+            (now (soles .entry))) → self .classes ≡ length (classes D a)
             → Named before (rowsOfClasses D a i 0 (classes D a)) r (now (names .exit)) old) ⌝ }
     {
-        let mut next = self;
+        let count = self.classes;
+        let lasting = self.lasting;
+        let mut next = Naming::new(self.rows);
         for class in 0..count {
-            let named = name_class(
-                head,
-                rows,
-                numbers,
-                at_start,
-                at_end,
-                sole_in(soles, AT_START, class),
-                soles[MAX_LITERALS * ASKED + class],
-                sole_in(soles, AT_END, class),
-                class as u8,
-                lasting,
-            );
+            let named = name_class(head, rows, numbers, at_start, at_end, soles, class, lasting);
             next = next.with_class(class as u8, lasting, named, names);
         }
         next
     }
 
-    // The rows of the classes of an action: `numbers` holds the class number of each of its literals, which are these rows. (An action at
-    // once has no end.)
-    fn with_classes(
-        self,
-        head: &Head,
-        rows: &[u8],
-        numbers: &[u8],
-        count: usize,
-        lasting: bool,
-        names: &mut [u8],
-    ) -> Naming
+    // Names the rows of its classes: `numbers` holds the class number of each of its literals, which are these rows. (An action at once
+    // has no end.)
+    fn name_classes(self, head: &Head, rows: &[u8], numbers: &[u8], names: &mut [u8]) -> Naming
         requires rowed { ⌜ length (now rows) ≡ 8 * length (now numbers) ⌝ }
         requires literals { ⌜ length (now numbers) ≤ maxLiterals ⌝ }
-        requires few { ⌜ count ≤ length (now numbers) ⌝ }
-        requires room { ⌜ self .rows + 2 * count ≤ length (now names) ⌝ }
-        ensures rows { λ r. ⌜ r .rows ≤ self .rows + 2 * count ⌝ }
+        requires few { ⌜ self .classes ≤ length (now numbers) ⌝ }
+        requires room { ⌜ self .rows + 2 * self .classes ≤ length (now names) ⌝ }
+        ensures rows { λ r. ⌜ r .rows ≤ self .rows + 2 * self .classes ⌝ }
         ensures named { λ r. ⌜ ((before : List Row) (old : List ℕ) (D : Domain) (a : Action) (i : ℕ)
-            → Named before [] self (now (names .entry)) old
-            → ActionOf D a (now (head .entry)) (now (rows .entry)) → a .lasting ≡ lasting
-            → now (numbers .entry) ≡ classNumbers D a → count ≡ length (classes D a)
+            → Listed before (self .rows) (now (names .entry)) old
+            → ActionOf D a (now (head .entry)) (now (rows .entry)) → a .lasting ≡ self .lasting
+            → now (numbers .entry) ≡ classNumbers D a → self .classes ≡ length (classes D a)
             → Named before (rowsOfClasses D a i 0 (classes D a)) r (now (names .exit)) old) ⌝ }
     {
         let n = numbers.len();
@@ -255,38 +245,18 @@ impl Naming {
         let mut at_start = [0u8; MAX_LITERALS];
         tally(rows, numbers, &mut soles);
         clauses_at(false, rows, n, Moment::Start, &mut at_start);
-        if !lasting {
-            return self.with_each(
-                head,
-                rows,
-                numbers,
-                &at_start,
-                &at_start,
-                &soles,
-                count,
-                lasting,
-                names,
-            );
+        if !self.lasting {
+            return self.name_each(head, rows, numbers, &at_start, &at_start, &soles, names);
         }
         let mut at_end = [0u8; MAX_LITERALS];
         clauses_at(false, rows, n, Moment::End, &mut at_end);
-        self.with_each(
-            head,
-            rows,
-            numbers,
-            &at_start,
-            &at_end,
-            &soles,
-            count,
-            lasting,
-            names,
-        )
+        self.name_each(head, rows, numbers, &at_start, &at_end, &soles, names)
     }
 }
 
-// The rows of one action, whose literals are these rows, behind as many as are `named` before; `numbers` gets the class number of each
-// literal, by which alone its classes are known from there on. Its summary knows no other action. (`places` has the places of the keys,
-// and `words` is work memory for numbering.)
+// The rows of one action, whose literals are these rows, behind the `named` rows of the actions before it; `numbers` gets the class
+// number of each literal, from which its classes are known afterwards. The summary is of this action alone. (`places` has the places of
+// the keys, and `words` is work memory for numbering.)
 pub fn name_action(
     head: &Head,
     places: &KeyPlaces,
@@ -312,7 +282,12 @@ pub fn name_action(
         × Listed (before ++ rowsOfClasses D a i 0 (classes D a)) (r .rows) (now (names .exit)) old) ⌝ }
 {
     let classes = number_classes(head, places, rows, numbers, words);
-    let naming = Naming::new(named).with_classes(head, rows, numbers, classes, lasting, names);
+    let numbered = Numbered {
+        rows: named,
+        classes,
+        lasting,
+    };
+    let naming = numbered.name_classes(head, rows, numbers, names);
     let summary = naming.summary;
     NamedAction {
         rows: naming.rows,

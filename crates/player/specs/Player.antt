@@ -25,7 +25,7 @@ use Rattle.machine.specs.Stepping.{StateRows, stateOf, stateIn, Kept, Noted}
 abbrev pub tallyOf : Counted → Tally
 tallyOf t = record { begun = t .begun; steps = t .steps; weight = t .weight }
 
--- the player with the machine's state, whose agenda stands in a memory beside it
+-- the player with the machine's state, whose agenda is in a memory of its own
 pub record Whole : Type 0 where
   pub at : ℕ
   pub closed : Bool
@@ -101,7 +101,7 @@ abbrev pub LeadsTo : PlayTurn → WholeTurn → List ℕ → List ℕ → Type 0
 LeadsTo (goOn q) t work old = GoesOn q t work old
 LeadsTo (finish o) t work old = Ends o t work old
 
--- what stands beside the facts then, where playing goes on
+-- the index of the facts afterwards, where playing goes on
 abbrev pub NotedAfter : Domain → List ℕ → List ℕ → PlayTurn → Type 0
 NotedAfter D head index (goOn q) = Noted D head index (q .state)
 NotedAfter D head index (finish o) = Unit {0}

@@ -5,15 +5,15 @@ pub mod run;
 
 use machine::Counts;
 
-// What is counted of a run: whether the start counts (a record of kind 18 to 20 is met), the steps made, the highest weight.
+// The tally of a run: whether the start is over (a record of kind 18 to 20 is met), the steps made, the highest weight.
 pub struct Tally {
     pub begun: bool,
     pub steps: usize,
     pub weight: usize,
 }
 
-// Where playing stands: the next record's offset, whether the run's close is read, the object count, 0 before its record, and
-// the counts of the machine's state. The agenda, which is what is open and what waits, stands in a memory beside it, as the facts do.
+// Where playing stands: the next record's offset, whether the run's close is read, the object count, 0 before its record, and the counts
+// of the machine's state. The agenda, which is what is open and what waits, is in a memory of its own, as the facts are.
 pub struct Player {
     pub at: usize,
     pub closed: bool,

@@ -91,7 +91,7 @@ fn answer_by(ended: Ended) -> PlayAnswer
     }
 }
 
-// An answer without a run: no step is made, and nothing weighs.
+// An answer without a run: no step is made, and the highest weight is 0.
 fn unplayed(number: u64, place: usize, fault: Fault) -> PlayAnswer
     ensures { λ r. ⌜ r ≡ answerUnplayed number place fault ⌝ }
 {

@@ -41,7 +41,7 @@ ghost use Rattle.player.specs.Player.{Whole, wholeIn, turnIn, tallyOf, p
 ghost use Rattle.events.specs.Coded.{agendaBytes};
 
 impl Tally {
-    // The start counts once the first record of kind 18 to 20 is met: the tally from then on.
+    // The tally from the first record of kind 18 to 20 on: the start is over, and its facts are weighed.
     fn begin(self, facts: usize, head: &Head, work: &[u8], index: &FactIndex) -> Tally
         requires few { ⌜ facts ≤ maxFacts ⌝ }
         requires facts { ⌜ 8 * facts ≤ length (now work) ⌝ }
@@ -102,7 +102,7 @@ impl Player {
         }
     }
 
-    // The same, going on behind a record with so many facts and so many events that wait.
+    // The player behind a record, with so many facts and so many events that wait.
     fn onward(self, behind: usize, facts: usize, waits: usize) -> Player
         ensures { λ r. ⌜ r ≡ record {
           at = behind;
@@ -324,7 +324,7 @@ impl Player {
         }
     }
 
-    // A record of any kind but 19, which alone asks for the domain's literals; the start counts once one of kind 18 or 20 is met.
+    // A record of any kind but 19, which alone needs the domain's literals; the start is over once one of kind 18 or 20 is met.
     fn take_record(
         self,
         head: &Head,

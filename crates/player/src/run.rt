@@ -22,7 +22,7 @@ ghost use Rattle.runs.specs.Play.{workBytes, heldBytes, playRun};
 ghost use Rattle.player.specs.Player.{endedOf};
 ghost use Rattle.events.specs.Coded.{agendaBytes};
 
-// What the facts take in the work memory.
+// The bytes of the facts in the work memory.
 const WORK: usize = 8 * MAX_FACTS;
 
 // How a run ended: the number (2 when it was played), the offset of the record at fault, the steps made, the highest weight.
@@ -95,7 +95,7 @@ pub fn play_run(head: &Head, table: &[u8], run: &[u8], work: &mut [u8]) -> Ended
     put_bytes(work, 0, &zeros);
     let mut index = [0u64; FACT_INDEX];
     let mut agenda = [0u8; AGENDA];
-    // Memory that each step works in: cleared here once and for all.
+    // Memory that each step works in, cleared only here.
     let mut scratch = [0u8; SCRATCH];
     play_records(
         head,

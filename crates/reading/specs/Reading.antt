@@ -53,13 +53,15 @@ pub record Standing (old : List ℕ) (q : Reading) (p : Progress) (head table : 
   pub closed : p .closed ≡ q .closed
   pub holds : HeldOver old (q .sofar) head table
 
--- what a turn of reading leads to: 0 where it goes on, 1 where the file is read, else the number that refuses it, with its place; where it ends, the table has the literals so far
+-- what a turn of reading leads to: 0 where it goes on, 1 where the file is read, else the number that refuses it, with its place; where
+-- it ends, the table has the literals so far
 abbrev pub LeadsTo : List ℕ → Reading → ReadTurn → Stepped → List ℕ → List ℕ → Type 0
 LeadsTo old p (goOn q) r head table = (r .number ≡ 0) × Standing old q (r .progress) head table
 LeadsTo old p (finish (refused x)) r head table = (r .number ≡ x .number) × (r .place ≡ x .place) × (r .progress .at ≡ x .start) × (table ≡ over (tableBytes (p .sofar)) old)
 LeadsTo old p (finish (domain D)) r head table = (r .number ≡ 1) × Held D head table × (table ≡ over (tableBytes (p .sofar)) old) × (length head ≡ headBytes)
 
--- a table that is enough for a file: for all literals that all actions can have, or by the file, of which a literal takes at least 6 bytes, and 8 of the table
+-- a table that is large enough for a file: for all literals that a domain can have, or for those of the file, in which a literal takes at
+-- least 6 bytes, against 8 in the table
 abbrev pub EnoughTable : List ℕ → List ℕ → Type 0
 EnoughTable file table = (8 * (maxLiterals * maxActions) ≤ length table) ⊎ (4 * length file ≤ 3 * length table)
 

@@ -1,5 +1,5 @@
-// Reading a domain file: how far it has come (here), what one record adds to the domain (take), the file (read), the file into memories as
-// they are (domain).
+// Reading a domain file: how far it has come (here), what one record adds to the domain (take), the file (read), the file into memories
+// with any contents (domain).
 pub mod domain;
 pub mod read;
 pub mod take;

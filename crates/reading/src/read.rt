@@ -112,8 +112,8 @@ fn end_of(stepped: Stepped) -> Refusal
     }
 }
 
-// A domain file, read into a head that is all 0 and a table that is enough, or refused. Behind the literals that were read, the table stays
-// as it was.
+// A domain file, read into a head that is all 0 and a table that is large enough, or refused. Behind the literals that were read, the
+// table stays as it was.
 pub fn read_into(s: &[u8], head: &mut Head, table: &mut [u8]) -> Refusal
     requires cleared { ⌜ now head ≡ replicate headBytes 0 ⌝ }
     requires enough { ⌜ EnoughTable (now s) (now table) ⌝ }

@@ -1,5 +1,5 @@
--- Tests on lists that compute. The library's `filter` and `countP` take a decision for each element and do not compute from a test, so `filterBy` and `countBy` stand here.
--- Assumes nothing.
+-- Tests on lists that compute. The library's `filter` and `countP` take a decision for each element and do not compute from a test, so
+-- `filterBy` and `countBy` are defined here. Assumes nothing.
 use mathlib.Core.Bool.{Bool, true, false, _&&_, _||_, not, cond}
 use mathlib.Core.List.{List, [], _∷_, _++_, List·Memᴰ}
 use Prim.Native.Nat.{ℕ, zero, suc}

@@ -1,4 +1,4 @@
-// A file is a row of records: payload length (2 bytes, little-endian), kind (2 bytes), payload. Bytes stand by themselves (bytes).
+// A file is a row of records: payload length (2 bytes, little-endian), kind (2 bytes), payload. Functions on bytes are in bytes.
 pub mod bytes;
 
 ghost use mathlib.Core.Path.{_≡_};
@@ -30,7 +30,7 @@ fn word_at(s: &[u8], at: usize) -> u16
     wide(s[at]) + wide(s[at + 1]) * 256
 }
 
-// The record at an offset: the work beneath the reader.
+// The record at an offset, which a reader answers.
 fn found_at(s: &[u8], at: usize) -> Record
     ensures { λ r. ⌜ r ≡ recordAt (now (s .entry)) at ⌝ }
 {

@@ -108,7 +108,7 @@ pub fn ground_row(p: &[u8]) -> [u8; GROUND]
     row
 }
 
-// A fact's row behind the first n.
+// Writes a fact's row behind the first n.
 pub fn put_fact(work: &mut [u8], n: usize, row: [u8; 8])
     requires { ⌜ 8 * n + 8 ≤ length (now work) ⌝ }
     ensures { λ _. ⌜ now (work .exit) ≡ paste (now (work .entry)) (8 * n) row 8 ⌝ }

@@ -69,7 +69,7 @@ conditionBytes arity row = getD row 1 0 ∷ arity ∷ drop 2 row
 abbrev pub conditionOf : List ℕ → List ℕ → List ℕ
 conditionOf head row = conditionBytes (arityIn head (getD row 1 0)) row
 
--- it, where the literal is a true condition
+-- that fact, where the literal is a true condition
 abbrev pub conditionIf : List ℕ → ℕ → List ℕ → List ℕ
 conditionIf head k row = cond (isCondition k) (conditionOf head row) []
 

@@ -75,7 +75,7 @@ fn condition_byte(rows: &[u8], row: usize, arity: u8, i: usize) -> u8
     o.0
 }
 
-// The fact, written at an offset.
+// Writes the fact of the literal's row at an offset.
 fn put_condition(out: &mut [u8], at: usize, rows: &[u8], row: usize, arity: u8)
     requires { ⌜ (at + 8 ≤ length (now out)) × (row + 8 ≤ length (now rows)) ⌝ }
     ensures { λ _. ⌜ now (out .exit) ≡ paste (now (out .entry)) at (conditionBytes arity (take 8 (drop row (now (rows .entry))))) 8 ⌝ }
@@ -85,7 +85,7 @@ fn put_condition(out: &mut [u8], at: usize, rows: &[u8], row: usize, arity: u8)
     }
 }
 
-// The same where the literal is a true condition; the offset behind it.
+// Writes it where the literal is a true condition; answers the offset behind it.
 fn put_if(out: &mut [u8], at: usize, head: &Head, rows: &[u8], row: usize, clause: u8) -> usize
     requires rowed { ⌜ row + 8 ≤ length (now rows) ⌝ }
     requires room { ⌜ (clause ≡ 1 → at + 8 ≤ length (now out)) ⌝ }
@@ -161,7 +161,7 @@ fn instance_byte(head: &Head, c: usize, arity: u8, tuple: &[u8], spare: Object, 
     255
 }
 
-// The fact, written at an offset.
+// Writes the instance fact at an offset.
 fn put_instance(out: &mut [u8], at: usize, head: &Head, c: usize, tuple: &[u8], spare: Object)
     requires component { ⌜ c < maxComponents ⌝ }
     requires room { ⌜ at + 8 ≤ length (now out) ⌝ }
@@ -208,7 +208,7 @@ fn open_component(head: &Head, rows: &[u8], numbers: &[u8], m: Moment, class: u8
 
 // The witness of an unbounded moment of the class j: the true conditions that are asked there, then the instance fact of the first
 // uncovered component. Whether they fit; nothing is written where they do not. (An unbounded moment has an uncovered component; the test
-// says so to the checker.)
+// is there for the proof alone.)
 fn put_open(
     head: &Head,
     rows: &[u8],
@@ -265,7 +265,7 @@ fn put_witness(
 }
 
 // Whether a witness is written for the place named: not at an end whose class has an over-all literal. `numbers` has the class number of
-// each literal of the table. (The decision names an action and a class of the domain; the tests say so to the checker.)
+// each literal of the table. (The decision names an action and a class of the domain; the tests are there for the proof alone.)
 pub fn is_shown(head: &Head, table: &[u8], numbers: &[u8], i: usize, j: usize, moment: u64) -> bool
     requires { ⌜ length (now table) ≤ 8 * length (now numbers) ⌝ }
     ensures { λ r. ⌜ ((D : Domain) (old : List ℕ) → Held D (now (head .entry)) (now (table .entry)) → wellFormed D ≡ true
@@ -290,7 +290,7 @@ pub fn is_shown(head: &Head, table: &[u8], numbers: &[u8], i: usize, j: usize, m
 }
 
 // The witness of the place named: the class j of the action i at a moment, refused by `number`. Whether it fits; nothing is written where
-// it does not. (The decision names an action and a class of the domain; the tests say so to the checker.)
+// it does not. (The decision names an action and a class of the domain; the tests are there for the proof alone.)
 pub fn show(
     head: &Head,
     table: &[u8],

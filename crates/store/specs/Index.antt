@@ -1,5 +1,5 @@
--- The index of the facts held, 12,288 numbers beside their rows, with a note behind them: it only finds facts quicker, what is
--- found is what the rows say. Assumes nothing.
+-- The index of the facts held: 12,288 numbers, and a note behind them. It only makes the search quicker: which facts are held is said by
+-- their rows. Assumes nothing.
 use mathlib.Core.Path.{_≡_}
 use mathlib.Core.Bool.{cond}
 use mathlib.Core.List.{List, [], _∷_}

@@ -1,5 +1,5 @@
-// The index of the facts held: for each of 4,096 slots how many facts are there, behind that the sums of their words, and
-// behind that how many facts have an instance there. Sums wrap at 2 ^ 56. Last comes a note, which is its holder's own.
+// The index of the facts held: for each of 4,096 slots how many facts it has, then the sums of their words, and then how many facts have
+// an instance there. Sums wrap at 2 ^ 56. The last number is a note: the index makes no use of it, its user may.
 use super::keys::key_of;
 use super::rows::has_row;
 use super::rows::row_at;
@@ -29,7 +29,7 @@ pub const FACT_INDEX: usize = NOTE + 1;
 
 pub type FactIndex = [u64; FACT_INDEX];
 
-// The numbers wrap here, so that no sum is too large; a word is below it.
+// Sums are taken modulo this number, so that none is too large; a word is below it.
 const WRAP: u64 = 72057594037927936;
 
 fn wide64(b: u8) -> u64
@@ -68,8 +68,8 @@ pub fn key_slot(t: [u8; 8]) -> usize
     64 * (mixed % 64) + wide(t[0]) % 64
 }
 
-// Whether one of the first n rows is this one, of a fact with the arity of its relation: the index tells, or, where a slot has
-// several facts, the rows do.
+// Whether one of the first n rows is this one, of a fact with the arity of its relation: by the index, or, where a slot has several
+// facts, by the rows.
 pub fn is_held(index: &FactIndex, memory: &[u8], n: usize, row: [u8; 8]) -> bool
     requires few { ⌜ n < wrap ⌝ }
     requires rows { ⌜ 8 * n ≤ length (now memory) ⌝ }
@@ -87,7 +87,7 @@ pub fn is_held(index: &FactIndex, memory: &[u8], n: usize, row: [u8; 8]) -> bool
     has_row(memory, n, row)
 }
 
-// More at a place.
+// Adds to the number at a place.
 fn add_at(index: &mut FactIndex, place: usize, amount: u64)
     requires place { ⌜ place < factIndex ⌝ }
     requires amount { ⌜ amount < wrap ⌝ }
@@ -96,7 +96,7 @@ fn add_at(index: &mut FactIndex, place: usize, amount: u64)
     index[place] = (index[place] % WRAP + amount) % WRAP;
 }
 
-// Less at a place.
+// Subtracts from the number at a place.
 fn take_at(index: &mut FactIndex, place: usize, amount: u64)
     requires place { ⌜ place < factIndex ⌝ }
     requires amount { ⌜ amount < wrap ⌝ }

@@ -89,11 +89,11 @@ rises s t = ltb (s .rel) (t .rel) || (eqb (s .rel) (t .rel) && placeRises (s .pl
 abbrev pub ListedRising : Type 0
 ListedRising = (D : Domain) → pairwise rises (listed D) ≡ true
 
--- by today's file rules nothing is passed over
+-- by the file rules as they are, nothing is passed over
 abbrev pub NonePassedOver : Type 0
 NonePassedOver = (D : Domain) → Limited D → listed D ≡ shapes D
 
--- ---- the numbering of the keys is no matter: same rows, so same verdict
+-- ---- the numbering of the keys does not matter: same rows, so same verdict
 
 abbrev pub RenamedAlike : Type 0
 RenamedAlike =

@@ -67,7 +67,8 @@ single D c = record { arities = D .arities; actions = D .actions; template = c �
 abbrev pub componentBytes : Component → List ℕ
 componentBytes c = c .rel ∷ map labelNumber (c .labels)
 
--- reading takes its record where no component is read before, by its own test of a record; and the record says this component: FF is no key
+-- reading takes its record where no component is read before, by its own test of a record; and the record says this component: FF is no
+-- key
 unfoldable pub legalAlone : Domain → Component → Bool
 unfolding stopOf
 legalAlone D c = eqb (stopOf (bare D) componentRecord (componentBytes c)) 0 && all (keyBelow 255) (c .labels)

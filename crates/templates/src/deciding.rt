@@ -1,5 +1,5 @@
-// The decision of a domain whose template is one component: by the summaries of its actions, of which those without a literal of the
-// relation have no class, and are not looked at further.
+// The decision of a domain whose template is one component, by the summaries of its actions. An action without a literal of the relation
+// has no class, and is passed over.
 use literals::head::Head;
 use literals::head::actions_in;
 use literals::head::is_lasting;

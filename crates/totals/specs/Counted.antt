@@ -1,4 +1,4 @@
--- The same as the code holds it: what opening answers, and totals that are counted one by one. Assumes nothing.
+-- How the code holds a box and its totals: what opening a box answers, and totals that are counted one by one. Assumes nothing.
 use mathlib.Core.List.{List, [], _∷_, map}
 use Prim.Native.Nat.{ℕ, zero, suc, _+_, _<_}
 use lib.ListN.{length, getD, set}

@@ -34,7 +34,7 @@ unfoldable pub behindFile : List ℕ → List ℕ
 unfolding long
 behindFile b = drop (4 + long b) b
 
--- the files, or the offset of the length at which the box is cut, or which is of a file that is
+-- the files, or the offset of the length that is cut short itself or whose file is
 pub data Opened : Type 0 where
   cutAt : ℕ → Opened
   files : List (List ℕ) → Opened

@@ -34,7 +34,7 @@ fn whole_at(packed: &[u8], at: usize) -> bool
     length_at(packed, at) <= left - 4
 }
 
-// Goes from length to length. No file is looked into.
+// Goes from length to length, without reading the files.
 pub fn open_box(packed: &[u8]) -> Opening
     ensures { λ r. ⌜ r ≡ openingOf (opened (now (packed .entry))) ⌝ }
 {

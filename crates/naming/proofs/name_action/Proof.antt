@@ -11,15 +11,11 @@ number-classes-requires : tie.Need-number-classes-requires
 number-classes-requires c κs = let p = c .before .before .before .before .before .before .pre in
     (p .0, (p .1 .0, p .1 .1 .0, p .1 .1 .1 .0))
 
-new-requires : tie.Need-new-requires
-new-requires c κs = search needs
-
-with-classes-requires : tie.Need-with-classes-requires
-with-classes-requires c κs =
-    let p = c .before .before .before .before .before .before .before .before .before .before .before .before .before .before .pre in
-    let f = c .before .before .before .before .before .before .before .number-classes .kept .1 .1 .1 .0 in
-    let k = c .before .before .before .before .before .before .before .number-classes .ensures .0 in
-    let z = c .before .before .new .ensures .0 in
+name-classes-requires : tie.Need-name-classes-requires
+name-classes-requires c κs =
+    let p = c .before .before .before .before .before .before .before .before .before .before .before .before .before .pre in
+    let f = c .before .before .before .before .before .before .number-classes .kept .1 .1 .1 .0 in
+    let k = c .before .before .before .before .before .before .number-classes .ensures .0 in
     (p .1 .0 ∙ ap (λ (n : ℕ). 8 * n) (sym f), (omega arith, (omega arith, omega arith)))
 
 same-length : tie.Need-same-length
@@ -33,18 +29,16 @@ same-length-3 c = search needs
 
 returns : tie.Need-returns
 returns c =
-    let a = c .before .before .before .before .before .before .before .before .before .before .before .before .before .before .before .before .before .before .args in
-    let k = c .before .before .before .before .before .before .before .before .before .before .before .number-classes .ensures .0 in
-    let t = c .before .before .before .before .before .before .before .before .before .before .before .number-classes .ensures .1 in
-    let z = c .before .before .before .before .before .before .new .ensures .0 in
-    let w = c .before .before .before .with-classes .ensures in (
+    let k = c .before .before .before .before .before .before .before .before .before .before .number-classes .ensures .0 in
+    let t = c .before .before .before .before .before .before .before .before .before .before .number-classes .ensures .1 in
+    let w = c .before .before .before .name-classes .ensures in (
       omega arith,
       (
         omega arith,
         (
           λ D x A. t D x A .1,
           λ D x A l before old i L.
-              let N = w .1 before old D x i (c .before .before .before .before .before .before .new .ensures .1 before (a .names .now) old L) A l (t D x A .1) (t D x A .0) in
+              let N = w .1 before old D x i L A l (t D x A .1) (t D x A .0) in
               (t D x A .0, N .summed ∙ any-number D x i, N .listed),
         ),
       ),
@@ -55,8 +49,7 @@ name-action-spec =
     tie.close
     (tie.spec
     number-classes-requires
-    new-requires
-    with-classes-requires
+    name-classes-requires
     same-length
     same-length-2
     same-length-3

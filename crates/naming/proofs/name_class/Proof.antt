@@ -1,41 +1,90 @@
 -- `name_class` meets its contract: the names at both moments, and whether it is a journey. Assumes nothing.
-use borrow.Author.Needs.{needs}
+use native.Mathlib.Omega.{arith}
 use Rattle.records.proofs.Lists.{clash}
 use mathlib.Core.Path.{_∙_, ap₂}
 use mathlib.Core.List.{List}
-use Prim.Native.Nat.{ℕ}
+use Prim.Native.Nat.{ℕ, _<_}
 use Rattle.literals.specs.declared.Moment.the-variants.{Start, End}
 use Rattle.classes.specs.Coded.{soleOf}
 use Rattle.classes.proofs.Decides.{asked-at-start}
 use Rattle.naming.proofs.name_class.Statement.{statement}
 use Rattle.naming.proofs.name_class.Tie as tie
 
+cast-number : tie.Need-cast-number
+cast-number c = omega arith
+
+sole-in-requires : tie.Need-sole-in-requires
+sole-in-requires c κs = (omega arith, omega arith)
+
 name-at-requires : tie.Need-name-at-requires
-name-at-requires c κs = search needs
+name-at-requires c κs =
+    let k = c .before .before .before .args .class in
+    let h : k < 64 = omega arith in
+    let p = c .before .before .before .pre in
+    (p .0, c .sole-in .ensures ∙ p .1 .0 k h)
+
+sole-in-requires-2 : tie.Need-sole-in-requires-2
+sole-in-requires-2 c κs = (omega arith, omega arith)
+
+mul-asked : tie.Need-mul-asked
+mul-asked c = omega arith
+
+add-asked : tie.Need-add-asked
+add-asked c = omega arith
+
+element-copy-out-asked : tie.Need-element-copy-out-asked
+element-copy-out-asked c = omega arith
 
 name-at-requires-2 : tie.Need-name-at-requires-2
-name-at-requires-2 c κs = let p = c .before .before .before .before .pre in (p .0, p .1 .1 (c .if1 .taken))
+name-at-requires-2 c κs =
+    let k = c .before .before .before .before .before .before .before .args .class in
+    let h : k < 64 = omega arith in
+    let p = c .before .before .before .before .before .before .before .pre in
+    (p .0, c .before .sole-in2 .ensures ∙ p .1 .1 .0 (c .before .before .if1 .taken) k h)
 
 is-journey-requires : tie.Need-is-journey-requires
-is-journey-requires c κs = search needs
+is-journey-requires c κs =
+    let k = c .before .before .before .before .before .before .before .before .args .class in
+    let h : k < 64 = omega arith in
+    let p = c .before .before .before .before .before .before .before .before .pre in
+    (p .0, c .before .before .before .before .before .sole-in .ensures ∙ p .1 .0 k h)
 
 returns : tie.Need-returns
 returns c =
-    let s = c .before .before .before .before .before .before in (
-      λ D a M h. c .before .before .before .name-at .ensures D a Start M h (asked-at-start M (s .args .class) (s .pre .1 .0)),
-      λ D a M N h r t l. (
-        c .before .name-at2 .ensures D a End N h r,
-        c .is-journey .ensures D a _ M l (s .pre .1 .1 t
-            ∙ ap₂ (λ (o d : List ℕ). soleOf o d (s .args .class)) (N .numbers-are) (N .clauses-are)) h,
+    let k = c .before .before .before .before .before .before .before .before .before .args .class in
+    let h : k < 64 = omega arith in
+    let p = c .before .before .before .before .before .before .before .before .before .pre in
+    let first = c .before .before .before .before .before .before .sole-in .ensures ∙ p .1 .0 k h in (
+      λ D a M f. c .before .before .before .before .before .name-at .ensures D a Start M f (asked-at-start M k first),
+      λ D a M E f t l. (
+        c .before .name-at2 .ensures D a End (E .own) f (E .reaches k h),
+        c .is-journey .ensures D a _ M l
+            (c .before .before .before .sole-in2 .ensures ∙ p .1 .1 .0 t k h ∙ ap₂ (λ (o d : List ℕ). soleOf o d k) (E .own .numbers-are) (E
+            .own .clauses-are)) f,
       ),
     )
 
 returns-2 : tie.Need-returns-2
-returns-2 c = (
-  λ D a M h. c .before .name-at .ensures D a Start M h (asked-at-start M (c .before .before .before .before .args .class) (c .before .before .before .before .pre .1 .0)),
-  λ D a M N h r t l. absurd (clash t (c .if1 .left)),
-)
+returns-2 c =
+    let k = c .before .before .before .before .before .args .class in
+    let h : k < 64 = omega arith in
+    let first = c .before .before .sole-in .ensures ∙ c .before .before .before .before .before .pre .1 .0 k h in (
+      λ D a M f. c .before .name-at .ensures D a Start M f (asked-at-start M k first),
+      λ D a M E f t l. absurd (clash t (c .if1 .left)),
+    )
 
 pub name-class-spec : {M : Type 1} → statement M
 name-class-spec =
-    tie.close (tie.spec name-at-requires name-at-requires-2 is-journey-requires returns returns-2)
+    tie.close
+    (tie.spec
+    cast-number
+    sole-in-requires
+    name-at-requires
+    sole-in-requires-2
+    mul-asked
+    add-asked
+    element-copy-out-asked
+    name-at-requires-2
+    is-journey-requires
+    returns
+    returns-2)

@@ -1,4 +1,4 @@
--- `Naming::with_classes` meets its contract: each class by the clauses of both moments. Assumes nothing.
+-- `Numbered::name_classes` meets its contract: each class by the clauses of both moments. Assumes nothing.
 use mathlib.Core.Path.{refl, ap, _∙_}
 use mathlib.Core.Bool.{true}
 use native.Mathlib.Omega.{arith}
@@ -9,8 +9,8 @@ use Rattle.classes.proofs.Clauses.{clauses-held}
 use Rattle.classes.proofs.Soles.{start-soles, end-soles, asked-soles}
 use Rattle.naming.proofs.NamedRows.{reach-is}
 use borrow.Author.Needs.{needs}
-use Rattle.naming.proofs.Naming.with_classes.Statement.{statement}
-use Rattle.naming.proofs.Naming.with_classes.Tie as tie
+use Rattle.naming.proofs.Numbered.name_classes.Statement.{statement}
+use Rattle.naming.proofs.Numbered.name_classes.Tie as tie
 
 slice-aggregate-tally : tie.Need-slice-aggregate-tally
 slice-aggregate-tally c = search needs
@@ -21,13 +21,13 @@ tally-requires c κs = search needs
 clauses-at-requires : tie.Need-clauses-at-requires
 clauses-at-requires c κs = search needs
 
-with-each-requires : tie.Need-with-each-requires
-with-each-requires c κs =
-    let a = c .before .before .before .before .before .before .before .before .before .before .before .before .before .args in
-    let p = c .before .before .before .before .before .before .before .before .before .before .before .before .before .pre in
-    let soles = c .before .before .before .before .before .before .before .before .tally .ensures refl in
+name-each-requires : tie.Need-name-each-requires
+name-each-requires c κs =
+    let a = c .before .before .before .before .before .before .before .before .before .before .before .before .before .before .args in
+    let p = c .before .before .before .before .before .before .before .before .before .before .before .before .before .before .pre in
+    let soles = c .before .before .before .before .before .before .before .before .before .tally .ensures refl in
     let first = start-soles (a .rows .now) (a .numbers .now) _ _ soles
-    (c .before .before .before .before .before .clauses-at .ensures .0 refl) in (
+    (c .before .before .before .before .before .before .clauses-at .ensures .0 refl) in (
       record { rowed = omega arith; few = p .1 .0 },
       (
         first,
@@ -40,14 +40,13 @@ same-length c = search needs
 
 returns : tie.Need-returns
 returns c =
-    let w = c .before .before .with-each .ensures in (
+    let w = c .before .before .name-each .ensures in (
       w .0,
       λ before old D a i N A t f g.
           w .1 before old D a i N (record {
             whole = A;
             numbers-are = f;
-            clauses-are = c .before .before .before .before .before .before
-                .before .before .clauses-at .ensures .1 D a _ A refl;
+            clauses-are = c .before .before .before .before .before .before .before .before .before .clauses-at .ensures .1 D a _ A refl;
           }) t
           (λ k. absurd (clash k (not-true _ (c .before .before .before .before .before .before .before .if1 .taken)))) g,
     )
@@ -55,15 +54,17 @@ returns c =
 clauses-at-requires-2 : tie.Need-clauses-at-requires-2
 clauses-at-requires-2 c κs = search needs
 
-with-each-requires-2 : tie.Need-with-each-requires-2
-with-each-requires-2 c κs =
-    let a = c .before .before .before .before .before .before .before .before .before .before .before .before .before .before .before .args
+name-each-requires-2 : tie.Need-name-each-requires-2
+name-each-requires-2 c κs =
+    let a = c .before .before .before .before .before .before .before .before .before .before .before .before .before .before .before
+    .before .args
     in
-    let p = c .before .before .before .before .before .before .before .before .before .before .before .before .before .before .before .pre
+    let p = c .before .before .before .before .before .before .before .before .before .before .before .before .before .before .before
+    .before .pre
     in
-    let soles = c .before .before .before .before .before .before .before .before .before .before .tally .ensures refl in
+    let soles = c .before .before .before .before .before .before .before .before .before .before .before .tally .ensures refl in
     let first = start-soles (a .rows .now) (a .numbers .now) _ _ soles
-    (c .before .before .before .before .before .before .before .clauses-at .ensures .0 refl) in (
+    (c .before .before .before .before .before .before .before .before .clauses-at .ensures .0 refl) in (
       record { rowed = omega arith; few = p .1 .0 },
       (
         first,
@@ -79,18 +80,18 @@ same-length-2 c = search needs
 
 returns-2 : tie.Need-returns-2
 returns-2 c =
-    let w = c .before .before .with-each2 .ensures in
+    let w = c .before .before .name-each2 .ensures in
     let b = c .before .before .before .before .before .before .before .before .before .before .before .before .before .before .before
-    .before .before .before .args in
+    .before .before .before .before .args in
     let p = c .before .before .before .before .before .before .before .before .before .before .before .before .before .before .before
-    .before .before .before .pre in (
+    .before .before .before .before .pre in (
       w .0,
       λ before old D a i N A t f g.
           w .1 before old D a i N (record {
             whole = A;
             numbers-are = f;
-            clauses-are = c .before .before .before .before .before .before
-                .before .before .before .before .clauses-at .ensures .1 D a _ A refl;
+            clauses-are = c .before .before .before .before .before .before .before .before .before .before .before .clauses-at .ensures
+                .1 D a _ A refl;
           }) t
           (λ k. record {
             own = record {
@@ -102,24 +103,24 @@ returns-2 c =
             reaches =
                 λ j h.
                 asked-soles (b .rows .now) (b .numbers .now) _ _
-                (c .before .before .before .before .before .before .before .before .before .before .before .before .before .tally
+                (c .before .before .before .before .before .before .before .before .before .before .before .before .before .before .tally
                 .ensures refl) refl j h
                 ∙ reach-is D a f (ap (pad 64) (clauses-held true End (b .rows .now) _ (A .says .bounded) (A .listed) (A .apart)
                 (A .literals) (p .0))) j;
           }) g,
     )
 
-pub with-classes-spec : {M : Type 1} → statement M
-with-classes-spec =
+pub name-classes-spec : {M : Type 1} → statement M
+name-classes-spec =
     tie.close
     (tie.spec
     slice-aggregate-tally
     tally-requires
     clauses-at-requires
-    with-each-requires
+    name-each-requires
     same-length
     returns
     clauses-at-requires-2
-    with-each-requires-2
+    name-each-requires-2
     same-length-2
     returns-2)
