@@ -9,7 +9,7 @@ use Rattle.store.specs.Rows.{factRow}
 use borrow.Rule.Slice.PartMut.{putMid, same-len-mid}
 use Rattle.events.specs.Coded.{agendaBytes}
 use Rattle.events.specs.Grounding.{groundedBytes, Grounded}
-use Rattle.effects.specs.Effects.{literalsAt, scratchBytes}
+use Rattle.effects.specs.Effects.{scratchBytes}
 use Rattle.effects.proofs.FilledRows.{literals-length, literals-put}
 use Rattle.machine.specs.Stepping.{StateRows, stateIn, stateOf, closeState}
 use Rattle.machine.proofs.HeldBytes.{state-rows}
@@ -110,9 +110,9 @@ agenda-length : (b : tie.Start) → length (b .args .self .agenda) ≡ agendaByt
 agenda-length b = search needs
 
 -- the scratch memory with the step's ground literals, as long as before
-scratch-length : (b : tie.After-forbidden) → length (putMid literalsAt groundedBytes (b .before .before .before .before .before .before .before .before .before .before .before .before .args .scratch .now) (b .forbidden .last .1 .1 .1 .1 .0)) ≡ scratchBytes
+scratch-length : (b : tie.After-forbidden) → length (putMid 0 groundedBytes (b .before .before .before .before .before .before .before .before .before .before .before .before .args .scratch .now) (b .forbidden .last .1 .1 .1 .1 .0)) ≡ scratchBytes
 scratch-length b =
-    same-len-mid literalsAt groundedBytes (b .before .before .before .before .before .before .before .before .before .before .before .before .args .scratch .now) (b .forbidden .last .1 .1 .1 .1 .0) (b .forbidden .kept .1 .1 .1 .1 .0) ∙ b .before .before .before .before .before .before .before .before .before .before .before .before .pre .1
+    same-len-mid 0 groundedBytes (b .before .before .before .before .before .before .before .before .before .before .before .before .args .scratch .now) (b .forbidden .last .1 .1 .1 .1 .0) (b .forbidden .kept .1 .1 .1 .1 .0) ∙ b .before .before .before .before .before .before .before .before .before .before .before .before .pre .1
 
 ground-length : (b : tie.After-forbidden) → length (b .forbidden .last .1 .1 .1 .1 .0) ≡ groundedBytes
 ground-length b = b .forbidden .kept .1 .1 .1 .1 .0 ∙ literals-length (b .before .before .before .before .before .before .before .before .before .before .before .before .args .scratch .now) (b .before .before .before .before .before .before .before .before .before .before .before .before .pre .1)
@@ -138,7 +138,7 @@ returns-3 c =
           let rows = state-rows D (S .domain .says .bounded) s es (S .kept) state is (a .work .now) old (S .facts-are) in
           let held = indexed-set (a .head .now) (a .index .now) _ (map factRow (s .facts)) (noted .indexed) in
           let f = c .before .before .before .before .before .before .before .before .before .before .before .before .before .before .before .before .forbidden .ensures .1 D s es (S .domain) (S .kept) is rows held in
-          let g = literals-put (a .scratch .now) (c .before .before .before .before .before .before .before .before .before .before .before .before .before .before .before .before .forbidden .last .1 .1 .1 .1 .0) (c .before .before .before .before .before .before .before .before .before .before .before .before .before .before .before .before .before .before .before .before .before .before .before .before .before .before .before .before .pre .1) (ground-length (c .before .before .before .before .before .before .before .before .before .before .before .before .before .before .before .before)) in
+          let g = literals-put (c .before .before .before .before .before .before .before .before .before .before .before .before .before .before .before .before .forbidden .last .1 .1 .1 .1 .0) _ (ground-length (c .before .before .before .before .before .before .before .before .before .before .before .before .before .before .before .before)) in
           let G = subst (λ (t : List ℕ). Grounded D (a .head .now) es t (c .before .before .before .before .before .before .before .before .before .before .before .before .before .before .before .before .forbidden .result .literals)) (sym g) (f .1 (c .before .before .before .before .before .before .before .before .before .before .before .before .if2 .left)) in
           state-refused (stateIn (x .result .counts) (x .last .1 .0)) state
           (x .ensures .0 D s es (a .table .now) old S G under (sym (f .0) ∙ c .before .before .before .before .before .before .before .before .before .before .before .before .if2 .left) held) (c .if3 .taken),
@@ -161,7 +161,7 @@ returns-4 c =
           let rows = state-rows D (S .domain .says .bounded) s es (S .kept) state is (a .work .now) old (S .facts-are) in
           let held = indexed-set (a .head .now) (a .index .now) _ (map factRow (s .facts)) (noted .indexed) in
           let f = c .before .before .before .before .before .before .before .before .before .before .before .before .before .before .before .before .before .forbidden .ensures .1 D s es (S .domain) (S .kept) is rows held in
-          let g = literals-put (a .scratch .now) (c .before .before .before .before .before .before .before .before .before .before .before .before .before .before .before .before .before .forbidden .last .1 .1 .1 .1 .0) (c .before .before .before .before .before .before .before .before .before .before .before .before .before .before .before .before .before .before .before .before .before .before .before .before .before .before .before .before .before .pre .1) (ground-length (c .before .before .before .before .before .before .before .before .before .before .before .before .before .before .before .before .before)) in
+          let g = literals-put (c .before .before .before .before .before .before .before .before .before .before .before .before .before .before .before .before .before .forbidden .last .1 .1 .1 .1 .0) _ (ground-length (c .before .before .before .before .before .before .before .before .before .before .before .before .before .before .before .before .before)) in
           let G = subst (λ (t : List ℕ). Grounded D (a .head .now) es t (c .before .before .before .before .before .before .before .before .before .before .before .before .before .before .before .before .before .forbidden .result .literals)) (sym g) (f .1 (c .before .before .before .before .before .before .before .before .before .before .before .before .before .if2 .left)) in
           state-taken (stateIn (x .result .counts) (x .last .1 .0)) state
           (x .ensures .0 D s es (a .table .now) old S G under (sym (f .0) ∙ c .before .before .before .before .before .before .before .before .before .before .before .before .before .if2 .left) held) (c .before .if3 .left),
@@ -170,7 +170,7 @@ returns-4 c =
           let rows = state-rows D (S .domain .says .bounded) s es (S .kept) state is (a .work .now) old (S .facts-are) in
           let held = indexed-set (a .head .now) (a .index .now) _ (map factRow (s .facts)) (noted .indexed) in
           let f = c .before .before .before .before .before .before .before .before .before .before .before .before .before .before .before .before .before .forbidden .ensures .1 D s es (S .domain) (S .kept) is rows held in
-          let g = literals-put (a .scratch .now) (c .before .before .before .before .before .before .before .before .before .before .before .before .before .before .before .before .before .forbidden .last .1 .1 .1 .1 .0) (c .before .before .before .before .before .before .before .before .before .before .before .before .before .before .before .before .before .before .before .before .before .before .before .before .before .before .before .before .before .pre .1) (ground-length (c .before .before .before .before .before .before .before .before .before .before .before .before .before .before .before .before .before)) in
+          let g = literals-put (c .before .before .before .before .before .before .before .before .before .before .before .before .before .before .before .before .before .forbidden .last .1 .1 .1 .1 .0) _ (ground-length (c .before .before .before .before .before .before .before .before .before .before .before .before .before .before .before .before .before)) in
           let G = subst (λ (t : List ℕ). Grounded D (a .head .now) es t (c .before .before .before .before .before .before .before .before .before .before .before .before .before .before .before .before .before .forbidden .result .literals)) (sym g) (f .1 (c .before .before .before .before .before .before .before .before .before .before .before .before .before .if2 .left)) in
           noted-anew (a .head .now) D _ (closeState D s es) (x .ensures .1 .0 D s es (a .table .now) old S G (sym (f .0) ∙ c .before .before .before .before .before .before .before .before .before .before .before .before .before .if2 .left) held (c .before .if3 .left))
           (x .ensures .1 .1 ∙ unset (a .index .now) (noted .indexed .numbers)),
