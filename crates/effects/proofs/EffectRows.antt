@@ -35,7 +35,8 @@ use Rattle.store.specs.Index.{Sized}
 use Rattle.store.specs.Rows.{factRow}
 use Rattle.literals.specs.Keys.{clauseFor}
 use Rattle.events.specs.Coded.{GroundFits, EventsFit, timeOf}
-use Rattle.events.specs.Grounding.{GroundLiteral, groundLiterals, eventLiterals, maxGround, clausesAt, groundedBytes, groundAt, groundIn, inOne, Grounded}
+use Rattle.events.specs.Grounding.{GroundLiteral, groundLiterals, eventLiterals, maxGround, clausesAt, groundedBytes, groundAt, groundIn}
+use Rattle.events.specs.Grounding.{inOne, Grounded}
 use Rattle.effects.specs.Effects.{scratchBytes, effectsIn, literalsIn, rowsWith, flat, eventEffects, stepEffects}
 use Rattle.events.proofs.FactRows.{countsFor, clause-counts, listed-in, head-kept}
 use Rattle.effects.proofs.Joins.{dedup-map-dedup, same-append, same-elem}
@@ -109,7 +110,8 @@ module _ (clause : ℕ) where
           g ∙ ap (λ (x : List (List ℕ)). over (flat (rowsIn n out ++ x)) out) (ap {B = List (List ℕ)} (λ r. r ∷ []) f ∙ sym (one-in h))
 
   -- no more than there are, of the first ones and of all
-  rows-few : (n i : ℕ) (memory : List ℕ) → i ≤ n → length (rowsWith clause (groundIn i memory)) ≤ length (rowsWith clause (groundIn n memory))
+  rows-few : (n i : ℕ) (memory : List ℕ) → i ≤ n → length (rowsWith clause (groundIn i memory)) ≤ length (rowsWith clause
+      (groundIn n memory))
   rows-few zero i memory h = let e : i ≡ 0 = omega arith in rw e (omega arith)
   rows-few (suc n) i memory h = go (ltb n i) refl (λ l. rows-few n i memory l)
     where
@@ -124,7 +126,8 @@ module _ (clause : ℕ) where
 
   -- of the first ones of a memory, behind others
   module _ (memory : List ℕ) (size : length memory ≡ groundedBytes) (first : List (List ℕ)) where
-    rows-snoc : (i : ℕ) → rowsWith clause (groundIn (i + 1) memory) ≡ rowsWith clause (groundIn i memory) ++ rowsWith clause (groundAt memory i ∷ [])
+    rows-snoc : (i : ℕ) → rowsWith clause (groundIn (i + 1) memory) ≡ rowsWith clause (groundIn i memory) ++ rowsWith clause
+        (groundAt memory i ∷ [])
     rows-snoc i = ap (λ (k : ℕ). rowsWith clause (groundIn k memory)) (add-one i) ∙ rows-append (groundIn i memory) (groundAt memory i ∷ [])
 
     -- there is room for one more
@@ -151,7 +154,8 @@ module _ (clause : ℕ) where
   pub effects-begin : (memory : List ℕ) (at : ℕ) (out : List ℕ) → 8 * at ≤ length out
       → Filled (rowsIn at out ++ rowsWith clause (groundIn 0 memory)) at out out
   unfolding rowsWith
-  effects-begin memory at out h = subst (λ (l : List (List ℕ)). Filled l at out out) (sym (append-nil (rowsIn at out))) (filled-own at out h)
+  effects-begin memory at out h = subst (λ (l : List (List ℕ)). Filled l at out out) (sym (append-nil (rowsIn at out)))
+      (filled-own at out h)
 
 -- those of two clauses are no more than there are
 pub two-few : (c d : ℕ) → (c ≡ d → ⊥) → (ls : List GroundLiteral) → length (rowsWith c ls) + length (rowsWith d ls) ≤ length ls
@@ -241,7 +245,8 @@ effect-facts t c b (l ∷ ls) k =
     atoms = withRole (countsFor t c) ls
 
     one : (d : Bool) → rowsWith (suc (clauseNumber c)) rest ≡ map factRow (map (bind b) atoms)
-        → map (λ (g : GroundLiteral). g .row) (keepIf d (ground l) (filterBy (λ (g : GroundLiteral). eqb (g .clause) (suc (clauseNumber c))) rest))
+        → map (λ (g : GroundLiteral). g .row) (keepIf d (ground l) (filterBy (λ (g : GroundLiteral). eqb (g .clause) (suc
+        (clauseNumber c))) rest))
         ≡ map factRow (map (bind b) (keepIf d (l .atom) atoms))
     one true e = ap (λ (r : List (List ℕ)). factRow (bind b (l .atom)) ∷ r) e
     one false e = e
@@ -259,10 +264,12 @@ effect-facts t c b (l ∷ ls) k =
         ∙ one d e
 
 module _ {D : Domain} {head : List ℕ} (H : HeadOf D head) (c : Clause) where
-  event-rows : (e : Event) → GroundFits D (e .ground) → rowsWith (suc (clauseNumber c)) (eventLiterals D e) ≡ map factRow (eventEffects D e c)
+  event-rows : (e : Event) → GroundFits D (e .ground) → rowsWith (suc (clauseNumber c)) (eventLiterals D e) ≡ map factRow
+      (eventEffects D e c)
   unfolding groundLiterals
   event-rows e F =
-      effect-facts (timeOf (e .moment)) c (e .ground .binding) (action D (e .ground .action) .lits) (head-kept H (e .ground .action) (F .listed))
+      effect-facts (timeOf (e .moment)) c (e .ground .binding) (action D (e .ground .action) .lits) (head-kept H (e .ground .action)
+      (F .listed))
       ∙ ap (map factRow) (sym (event-at D e c))
 
   step-rows : (es : List Event) → EventsFit D es
@@ -275,7 +282,8 @@ module _ {D : Domain} {head : List ℕ} (H : HeadOf D head) (c : Clause) where
       ∙ sym (map-append factRow (eventEffects D e c) (stepEffects D es c))
 
 -- of a step, in memory
-pub grounded-rows : {D : Domain} {head : List ℕ} {es : List Event} {memory : List ℕ} {total : ℕ} → Grounded D head es memory total → (c : Clause)
+pub grounded-rows : {D : Domain} {head : List ℕ} {es : List Event} {memory : List ℕ} {total : ℕ} → Grounded D head es memory total
+    → (c : Clause)
     → rowsWith (suc (clauseNumber c)) (groundIn total memory) ≡ map factRow (stepEffects D es c)
 grounded-rows {D} {head} {es} G c = ap (rowsWith (suc (clauseNumber c))) (G .laid .filled) ∙ step-rows (G .says) c es (G .fit)
 

@@ -6,7 +6,8 @@ use Prim.Native.Nat.{ℕ, zero, suc, _+_, _-_, _*_, _≤_, _<_}
 use native.Mathlib.Omega.{arith}
 use lib.Dec.{eqb, ltb}
 use lib.ListN.{length, take, drop, length-append, length-drop, take-append-drop}
-use lib.Seq.{take-all, take-add, take-take, take-append-le, take-append-add, take-at, drop-at, drop-drop, drop-append-add, length-take-le, paste}
+use lib.Seq.{take-all, take-add, take-take, take-append-le, take-append-add, take-at, drop-at, drop-drop, drop-append-add, length-take-le}
+use lib.Seq.{paste}
 use borrow.Author.Tests.{lt-ltb, le-ltb, ltb-true, ltb-false}
 use Rattle.records.specs.Lists.{In, keepIf, filterBy, sameList, dedup}
 use Rattle.records.specs.Memory.{over}
@@ -105,7 +106,8 @@ pub effects-over : (new old : List ℕ) → length new ≤ workBytes → effects
 effects-over new old h = section-over new old groundedBytes workBytes (omega arith)
 
 -- a part of a section, by its place in the whole memory
-pub section-part : (t : List ℕ) (at w j k : ℕ) → at + w ≤ length t → j + k ≤ w → take k (drop (at + j) t) ≡ take k (drop j (take w (drop at t)))
+pub section-part : (t : List ℕ) (at w j k : ℕ) → at + w ≤ length t → j + k ≤ w
+    → take k (drop (at + j) t) ≡ take k (drop j (take w (drop at t)))
 section-part t at w j k l h =
     let m = drop at t in
     let e : w ≡ j + (w - j) = omega arith in

@@ -22,7 +22,9 @@ use Rattle.runs.specs.Play.{workBytes}
 use Rattle.store.specs.Rows.{hasRow}
 use Rattle.events.specs.Grounding.{groundedBytes}
 use Rattle.effects.specs.Effects.{scratchBytes, effectsIn, Marked, flat, joinRow, atMost, SizedRow, HoldsJoined, stays, keptOf}
-use Rattle.effects.proofs.FilledRows.{section-part, filled-effects, Filled, filled-rows, filled-own, left-out, kept-few, kept-next, kept-more, joinedOf, joined-next, joined-on, stopped-count, stopped-rows, joined-all, joined-out}
+use Rattle.effects.proofs.FilledRows.{section-part, filled-effects, Filled, filled-rows, filled-own, left-out, kept-few, kept-next}
+use Rattle.effects.proofs.FilledRows.{kept-more, joinedOf, joined-next, joined-on, stopped-count, stopped-rows, joined-all}
+use Rattle.effects.proofs.FilledRows.{joined-out}
 
 -- ---- marks
 

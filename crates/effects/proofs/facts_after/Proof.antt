@@ -57,8 +57,10 @@ keep-rows-requires c κs =
 
 sub-join-rows : tie.Need-sub-join-rows
 sub-join-rows c =
-    let a = c .before .before .before .before .before .before .before .before .before .before .before .before .before .before .before .before .args in
-    let p = c .before .before .before .before .before .before .before .before .before .before .before .before .before .before .before .before .pre in
+    let a = c .before .before .before .before .before .before .before .before .before .before .before .before .before .before .before
+    .before .args in
+    let p = c .before .before .before .before .before .before .before .before .before .before .before .before .before .before .before
+    .before .pre in
     let ground = groundIn (a .total) (literalsIn (a .scratch .now)) in
     let size = length-ground (literalsIn (a .scratch .now)) (a .total) in
     let total = p .1 .1 .1 .1 in
@@ -73,8 +75,10 @@ sub-join-rows c =
 
 join-rows-requires : tie.Need-join-rows-requires
 join-rows-requires c κs =
-    let a = c .before .before .before .before .before .before .before .before .before .before .before .before .before .before .before .before .before .args in
-    let p = c .before .before .before .before .before .before .before .before .before .before .before .before .before .before .before .before .before .pre in
+    let a = c .before .before .before .before .before .before .before .before .before .before .before .before .before .before .before
+    .before .before .args in
+    let p = c .before .before .before .before .before .before .before .before .before .before .before .before .before .before .before
+    .before .before .pre in
     let ground = groundIn (a .total) (literalsIn (a .scratch .now)) in
     let size = length-ground (literalsIn (a .scratch .now)) (a .total) in
     let total = p .1 .1 .1 .1 in
@@ -96,12 +100,15 @@ same-length c = search needs
 
 returns : tie.Need-returns
 returns c =
-    let a = c .before .before .before .before .before .before .before .before .before .before .before .before .before .before .before .before .before .before .before .before .args in
-    let p = c .before .before .before .before .before .before .before .before .before .before .before .before .before .before .before .before .before .before .before .before .pre in
+    let a = c .before .before .before .before .before .before .before .before .before .before .before .before .before .before .before
+    .before .before .before .before .before .args in
+    let p = c .before .before .before .before .before .before .before .before .before .before .before .before .before .before .before
+    .before .before .before .before .before .pre in
     let ground = groundIn (a .total) (literalsIn (a .scratch .now)) in
     let size = length-ground (literalsIn (a .scratch .now)) (a .total) in
     let total = p .1 .1 .1 .1 in
-    let first = c .before .before .before .before .before .before .before .before .before .before .before .before .before .before .before .before .step-effects in
+    let first = c .before .before .before .before .before .before .before .before .before .before .before .before .before .before .before
+    .before .step-effects in
     let then = c .before .before .before .before .before .before .before .before .before .before .before .before .step-effects2 in
     let T = told ground (groundIn (a .total) (literalsIn (first .last .0))) (first .result) (then .result) (effectsIn (first .last .0))
     (effectsIn (then .last .0)) (omega arith) (ap (groundIn (a .total)) (first .ensures .1 .1)) (first .ensures .0) (first .ensures .1 .0)

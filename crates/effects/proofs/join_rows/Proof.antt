@@ -11,7 +11,8 @@ use Rattle.effects.proofs.join_rows.Statement.{statement}
 use Rattle.effects.proofs.join_rows.Tie as tie
 
 abbrev Inv-loop : tie.InvT-loop
-Inv-loop head out₀ from m count index₀ n₀ j₀ out index n j = Joining (drop (8 * from) (effectsIn out₀)) m count head out₀ index₀ out index n j
+Inv-loop head out₀ from m count index₀ n₀ j₀ out index n j = Joining (drop (8 * from)
+    (effectsIn out₀)) m count head out₀ index₀ out index n j
 
 abbrev μ-loop : tie.MeasureT-loop
 μ-loop head out₀ from m count index₀ n₀ j₀ out index n j = m - j
@@ -64,7 +65,14 @@ returns c =
     let few = p .0 in
     let t = c .before .before .before .before .before .before .loop-test .taken in
     let J = joined-turn (l .scratch) (a .scratch .now) (a .from) (l .j) (K .room ∙ p .1 .1) (omega arith) (K .others)
-    (record { few = r .0; joined = r .1 .0; beside = r .1 .1 .0; room = c .before .before .before .join-row .kept .1 .0; others = r .1 .1 .1 }) in
+    (record {
+      few = r .0;
+      joined = r .1 .0;
+      beside = r .1 .1 .0;
+      room = c .before .before .before .join-row .kept .1 .0;
+      others = r .1 .1
+          .1;
+    }) in
     let k : 1024 < c .before .before .before .join-row .result = c .if1 .taken in
     let least = K .least in
     let f = J .few .0 in
@@ -87,7 +95,14 @@ loop-again c =
     let few = p .0 in
     let t = c .before .before .before .before .before .before .loop-test .taken in
     let J = joined-turn (l .scratch) (a .scratch .now) (a .from) (l .j) (K .room ∙ p .1 .1) (omega arith) (K .others)
-    (record { few = r .0; joined = r .1 .0; beside = r .1 .1 .0; room = c .before .before .before .join-row .kept .1 .0; others = r .1 .1 .1 }) in
+    (record {
+      few = r .0;
+      joined = r .1 .0;
+      beside = r .1 .1 .0;
+      room = c .before .before .before .join-row .kept .1 .0;
+      others = r .1 .1
+          .1;
+    }) in
     let start = c .before .before .before .before .before .before .before .before .before in
     joining-more K t (adds-of start) (room-of start) J (c .if1 .left)
 

@@ -38,8 +38,14 @@ put-effect-requires c κs =
     let old = literalsIn (a .scratch .now) in
     let reach = v .reach in
     let room = effects-room (a .clause) old (literals-length (a .scratch .now) (p .0)) [] (a .at) (a .total) (l .i) (l .n) (omega arith)
-    (p .1 .1) (v .count) in
-    (v .sized ∙ p .0, (omega arith, subst (λ (t : List ℕ). l .n + length (rowsWith (a .clause) (groundAt t (l .i) ∷ [])) ≤ maxGround) (sym (v .literals)) room))
+    (p .1 .1) (v .count) in (
+      v .sized ∙ p .0,
+      (
+        omega arith,
+        subst (λ (t : List ℕ). l .n + length (rowsWith (a .clause) (groundAt t (l .i) ∷ [])) ≤ maxGround) (sym
+            (v .literals)) room,
+      ),
+    )
 
 add-i : tie.Need-add-i Inv-loop μ-loop
 add-i c = omega arith
@@ -63,7 +69,8 @@ loop-again c =
     ∙ ap (λ (t : List ℕ). over (flat (rowsIn (l .n) out ++ rowsWith (a .clause) (groundAt t (l .i) ∷ []))) out) (v .literals) in
     let room = effects-room (a .clause) lits whole [] (a .at) (a .total) (l .i) (l .n) (omega arith) (p .1 .1) (v .count) in
     let size = effects-length scratch (p .0) in
-    let F = effects-more (a .clause) lits whole (rowsIn (a .at) (effectsIn scratch)) (l .i) (l .n) (omega arith) (omega arith) (v .filled) count rows in
+    let F = effects-more (a .clause) lits whole (rowsIn (a .at) (effectsIn scratch)) (l .i) (l .n) (omega arith) (omega arith)
+    (v .filled) count rows in
     record {
       reach = omega arith;
       count = filled-count (a .at) (effectsIn scratch) _ F;
