@@ -54,7 +54,8 @@ module _ (facts : List (List ℕ)) (l : GroundLiteral) where
   met-none n o = rw (ne-eqb (l .clause) 1 n, ne-eqb (l .clause) 2 o)
 
 -- the row of one that is read, with the arity of its relation
-pub read-sized : (head : List ℕ) (row at : List ℕ) → row ≡ at → byte at 1 ≡ arityIn head (byte at 0) → byte row 1 ≡ arityIn head (byte row 0)
+pub read-sized : (head : List ℕ) (row at : List ℕ) → row ≡ at → byte at 1 ≡ arityIn head (byte at 0)
+    → byte row 1 ≡ arityIn head (byte row 0)
 read-sized head row at e h = ap (λ (t : List ℕ). byte t 1) e ∙ h ∙ sym (ap (λ (t : List ℕ). arityIn head (byte t 0)) e)
 
 -- ---- tests of the literals of a clause
@@ -130,7 +131,8 @@ by-clause clause b = go (eqb clause 1) refl (eqb clause 2) refl b
 
 -- a clause of 0 asks for nothing
 none-asked : (clause : ℕ) (b : Bool)
-    → not (not (eqb clause 0)) || cond (eqb clause 1) b (cond (eqb clause 2) (not b) true) ≡ cond (eqb clause 1) b (cond (eqb clause 2) (not b) true)
+    → not (not (eqb clause 0)) || cond (eqb clause 1) b (cond (eqb clause 2) (not b) true) ≡ cond (eqb clause 1) b (cond (eqb clause 2)
+    (not b) true)
 none-asked clause b = go (eqb clause 0) refl
   where
     go : (t : Bool) → eqb clause 0 ≡ t
@@ -200,7 +202,8 @@ asked-event D e fs = go (e .moment)
 -- ---- by ground literals
 
 module _ {D : Domain} {head : List ℕ} (H : HeadOf D head) (fs : List Fact) where
-  pub ground-asks : (g : GroundAction) → GroundFits D g → (t : Time) → all (conditionMet (map factRow fs)) (groundLiterals D t g) ≡ asked D t g fs
+  pub ground-asks : (g : GroundAction) → GroundFits D g → (t : Time) → all (conditionMet (map factRow fs))
+      (groundLiterals D t g) ≡ asked D t g fs
   unfolding groundLiterals
   ground-asks g F t =
       let ls = action D (g .action) .lits in
@@ -212,7 +215,8 @@ module _ {D : Domain} {head : List ℕ} (H : HeadOf D head) (fs : List Fact) whe
       ∙ sym (asked-all D g fs t)
 
   -- of an open entry, over all
-  pub entry-asks : (g : GroundAction) → GroundFits D g → all (conditionMet (map factRow fs)) (groundLiterals D OverAll g) ≡ overAllHold D fs g
+  pub entry-asks : (g : GroundAction) → GroundFits D g → all (conditionMet (map factRow fs))
+      (groundLiterals D OverAll g) ≡ overAllHold D fs g
   unfolding asked
   entry-asks g F = ground-asks g F OverAll
 
@@ -222,16 +226,19 @@ unfolding flatMap
 all-parts q [] = refl
 all-parts {A} q (part ∷ parts) = joined part ∙ ap (λ (b : Bool). all q part && b) (all-parts q parts)
   where
-    joined : (l : List A) → all q (l ++ flatMap (λ (part : List A). part) parts) ≡ all q l && all q (flatMap (λ (part : List A). part) parts)
+    joined : (l : List A) → all q (l ++ flatMap (λ (part : List A). part) parts) ≡ all q l && all q (flatMap (λ
+        (part : List A). part) parts)
     joined [] = refl
     joined (x ∷ xs) = ap (λ (b : Bool). q x && b) (joined xs) ∙ both (q x) (all q xs)
       where
-        both : (a b : Bool) → a && (b && all q (flatMap (λ (part : List A). part) parts)) ≡ (a && b) && all q (flatMap (λ (part : List A). part) parts)
+        both : (a b : Bool) → a && (b && all q (flatMap (λ (part : List A). part) parts)) ≡ (a && b) && all q (flatMap (λ
+            (part : List A). part) parts)
         both true b = refl
         both false b = refl
 
 pub step-asks : {D : Domain} {head : List ℕ} {es : List Event} {memory : List ℕ} {total : ℕ} → Grounded D head es memory total
-    → (fs : List Fact) (facts : List (List ℕ)) → facts ≡ map factRow fs → all (conditionMet facts) (groundIn total memory) ≡ all (ownHold D fs) es
+    → (fs : List Fact) (facts : List (List ℕ)) → facts ≡ map factRow fs → all (conditionMet facts) (groundIn total memory) ≡ all
+    (ownHold D fs) es
 step-asks {D} {head} {es} G fs facts f =
     ap₂ (λ (x : List (List ℕ)) (l : List GroundLiteral). all (conditionMet x) l) f (G .laid .filled)
     ∙ all-parts (conditionMet (map factRow fs)) (map (eventLiterals D) es)
@@ -246,11 +253,13 @@ pub record InEntries (head table : List ℕ) (o : Open) (memory₀ memory index 
   pub reach : i ≤ o .count
   pub sized : length memory ≡ length memory₀
   pub rest : (D : Domain) (gs : List GroundAction) (fs : List Fact) → Held D head table → o ≡ openOf gs → GroundsFit D gs
-      → rowsIn n work ≡ map factRow fs → Indexed head index (map factRow fs) → all (overAllHold D fs) (drop i gs) ≡ all (overAllHold D fs) gs
+      → rowsIn n work ≡ map factRow fs → Indexed head index (map factRow fs) → all (overAllHold D fs) (drop i gs) ≡ all
+      (overAllHold D fs) gs
 
 -- the entry of a turn
 pub entry-turn : {head table index : List ℕ} (o : Open) (work : List ℕ) (n i : ℕ) {r : Bool}
-    → ((D : Domain) (g : GroundAction) (fs : List Fact) → Held D head table → GroundFits D g → take 17 (drop (17 * i) (o .rows)) ≡ groundRow g
+    → ((D : Domain) (g : GroundAction) (fs : List Fact) → Held D head table → GroundFits D g
+    → take 17 (drop (17 * i) (o .rows)) ≡ groundRow g
     → rowsIn n work ≡ map factRow fs → Indexed head index (map factRow fs) → r ≡ overAllHold D fs g)
     → i < o .count → (D : Domain) (gs : List GroundAction) (fs : List Fact) → Held D head table → o ≡ openOf gs → GroundsFit D gs
     → rowsIn n work ≡ map factRow fs → Indexed head index (map factRow fs)

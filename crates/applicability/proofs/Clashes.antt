@@ -56,11 +56,13 @@ any-never [] = refl
 any-never (x ∷ xs) = any-never xs
 
 -- against one of several lists
-clash-parts : (part : List GroundLiteral) (parts : List (List GroundLiteral)) → literalsClash part (inOne parts) ≡ any (literalsClash part) parts
+clash-parts : (part : List GroundLiteral) (parts : List (List GroundLiteral)) → literalsClash part (inOne parts) ≡ any
+    (literalsClash part) parts
 unfolding flatMap
 clash-parts part [] = sym (any-never part)
 clash-parts part (p ∷ ps) =
-    any-agree (λ (a : GroundLiteral). any (clashes a) (p ++ inOne ps)) (λ (a : GroundLiteral). any (clashes a) p || any (clashes a) (inOne ps)) part
+    any-agree (λ (a : GroundLiteral). any (clashes a) (p ++ inOne ps)) (λ (a : GroundLiteral). any (clashes a) p || any (clashes a)
+    (inOne ps)) part
     (λ a m. any-append (clashes a) p (inOne ps))
     ∙ sym (any-or (λ (a : GroundLiteral). any (clashes a) p) (λ (a : GroundLiteral). any (clashes a) (inOne ps)) part)
     ∙ ap (λ (b : Bool). literalsClash part p || b) (clash-parts part ps)
@@ -73,7 +75,8 @@ none-any p (x ∷ xs) = go (p x) (none-any p xs)
     go true h = refl
     go false h = h
 
-module _ {parts : List (List GroundLiteral)} {memory : List ℕ} {total : ℕ} (L : Laid parts memory total) (i : ℕ) (h : i < length parts) where
+module _ {parts : List (List GroundLiteral)} {memory : List ℕ} {total : ℕ} (L : Laid parts memory total) (i : ℕ)
+    (h : i < length parts) where
   split : groundIn total memory ≡ inOne (take (i + 1) parts) ++ inOne (drop (i + 1) parts)
   split =
       L .filled

@@ -232,7 +232,8 @@ module _ (D : Domain) (e f : Event) (E : Facing D e) (F : Facing D f) where
       any-map (groundOf e) (λ (a : GroundLiteral). any (clashes a) (eventLiterals D f)) (filterBy (counted e) (literalsOf D e))
       ∙ any-filter (counted e) (λ (l : Literal). any (clashes (groundOf e l)) (eventLiterals D f)) (literalsOf D e)
       ∙ any-agree (λ (l : Literal). counted e l && any (clashes (groundOf e l)) (eventLiterals D f))
-      (λ (l : Literal). any (λ (m : Literal). clashing (clauseIn e l) (clauseIn f m) && sameFact (factIn e l) (factIn f m)) (literalsOf D f))
+      (λ (l : Literal). any (λ (m : Literal). clashing (clauseIn e l) (clauseIn f m) && sameFact (factIn e l) (factIn f m))
+      (literalsOf D f))
       (literalsOf D e)
       (λ l i.
       ap (λ (b : Bool). counted e l && b)

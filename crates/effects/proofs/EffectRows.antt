@@ -2,14 +2,15 @@
 use mathlib.Core.Path.{_≡_, refl, sym, ap, ap₂, _∙_, subst}
 use mathlib.Core.Bool.{Bool, true, false, not}
 use mathlib.Core.Logic.{_⊎_, inl, inr}
-use mathlib.Core.List.{List, [], _∷_, _++_, map, flatMap, map-append, append-nil}
+use mathlib.Core.List.{List, [], _∷_, _++_, map, flatMap, map-append, append-nil, append-assoc}
 use mathlib.Core.List.{List·Memᴰ·head, List·Memᴰ·tail, List·Memᴰ·not-nil, List·Memᴰ·append-cases}
-use Prim.Native.Nat.{ℕ, suc, _+_, _*_, _≤_, _<_}
+use Prim.Native.Nat.{ℕ, zero, suc, _+_, _-_, _*_, _≤_, _<_}
 use native.Mathlib.Numerals.{add-one}
 use native.Mathlib.Omega.{arith}
-use lib.Dec.{eqb}
-use lib.ListN.{length, getD, take, drop, length-map}
-use borrow.Author.Tests.{eqb-true, eq-eqb, ne-eqb}
+use lib.Dec.{eqb, ltb}
+use lib.ListN.{length, getD, take, drop, length-append, length-map}
+use lib.Seq.{getD-take}
+use borrow.Author.Tests.{eqb-true, eq-eqb, ne-eqb, ltb-true, ltb-false}
 use Rattle.records.specs.Lists.{In, keepIf, filterBy, elem, dedup}
 use Rattle.records.specs.Memory.{over}
 use Rattle.records.proofs.Lists.{filter-append}
@@ -22,7 +23,8 @@ use Rattle.literals.specs.Decode.{byte}
 use Rattle.literals.specs.Table.{rowsIn}
 use Rattle.literals.specs.Held.{arityIn, HeadOf}
 use Rattle.literals.proofs.Equality.{literal-eq, fact-eq, fact-self}
-use Rattle.literals.proofs.Rows.{length-part, part-at}
+use Rattle.literals.proofs.Rows.{length-part}
+use Rattle.literals.proofs.KeyRows.{length-rows}
 use Rattle.literals.specs.declared.Moment.{Moment}
 use Rattle.literals.specs.declared.Moment.the-variants.{Start, End}
 use Rattle.literals.specs.Matching.{own, withRole, literalsAt}
@@ -33,23 +35,23 @@ use Rattle.store.specs.Index.{Sized}
 use Rattle.store.specs.Rows.{factRow}
 use Rattle.literals.specs.Keys.{clauseFor}
 use Rattle.events.specs.Coded.{GroundFits, EventsFit, timeOf}
-use Rattle.events.specs.Grounding.{GroundLiteral, groundLiterals, eventLiterals, maxGround, clausesAt, groundedBytes, groundAt, groundIn, inOne, Grounded}
-use Rattle.effects.specs.Effects.{scratchBytes, effectsIn, literalsIn, rowsWith, flat, eventEffects, stepEffects, Beside}
-use Rattle.effects.specs.Effects.{literalsAt as groundsAt}
+use Rattle.events.specs.Grounding.{GroundLiteral, groundLiterals, eventLiterals, maxGround, clausesAt, groundedBytes, groundAt, groundIn}
+use Rattle.events.specs.Grounding.{inOne, Grounded}
+use Rattle.effects.specs.Effects.{scratchBytes, effectsIn, literalsIn, rowsWith, flat, eventEffects, stepEffects}
 use Rattle.events.proofs.FactRows.{countsFor, clause-counts, listed-in, head-kept}
 use Rattle.effects.proofs.Joins.{dedup-map-dedup, same-append, same-elem}
-use Rattle.effects.proofs.FilledRows.{Whole, section-part, rows-own, Filled, filled-rows, filled-more, filled-own, literals-length}
+use Rattle.effects.proofs.FilledRows.{Whole, section-part, rows-own, rows-split, Filled, filled-rows, filled-more, filled-own}
 
 -- ---- a ground literal in the scratch memory
 
 module _ (scratch : List ℕ) (size : length scratch ≡ scratchBytes) (i : ℕ) (h : i < maxGround) where
-  pub clause-in : getD scratch (groundsAt + clausesAt + i) 0 ≡ groundAt (literalsIn scratch) i .clause
-  clause-in =
-      let z : groundsAt + clausesAt + i ≡ groundsAt + (clausesAt + i) = omega arith in
-      ap (λ (k : ℕ). getD scratch k 0) z ∙ sym (part-at groundedBytes scratch groundsAt (omega arith) (clausesAt + i) (omega arith))
+  pub clause-in : getD scratch (clausesAt + i) 0 ≡ groundAt (literalsIn scratch) i .clause
+  clause-in = sym (getD-take groundedBytes scratch (clausesAt + i) 0 (omega arith))
 
-  pub row-in : take 8 (drop (groundsAt + 8 * i) scratch) ≡ groundAt (literalsIn scratch) i .row
-  row-in = section-part scratch groundsAt groundedBytes (8 * i) 8 (omega arith) (omega arith)
+  pub row-in : take 8 (drop (8 * i) scratch) ≡ groundAt (literalsIn scratch) i .row
+  row-in =
+      let z : 0 + 8 * i ≡ 8 * i = omega arith in
+      ap (λ (k : ℕ). take 8 (drop k scratch)) (sym z) ∙ section-part scratch 0 groundedBytes (8 * i) 8 (omega arith) (omega arith)
 
 -- ---- those of a clause
 
@@ -107,37 +109,104 @@ module _ (clause : ℕ) where
       one-rows h f g =
           g ∙ ap (λ (x : List (List ℕ)). over (flat (rowsIn n out ++ x)) out) (ap {B = List (List ℕ)} (λ r. r ∷ []) f ∙ sym (one-in h))
 
-  -- of the first ones of a memory
-  module _ (memory : List ℕ) (size : length memory ≡ groundedBytes) where
-    pub effects-begin : (out : List ℕ) → Filled (rowsWith clause (groundIn 0 memory)) 0 out out
-    unfolding rowsWith
-    effects-begin out = filled-own 0 out (omega arith)
+  -- no more than there are, of the first ones and of all
+  rows-few : (n i : ℕ) (memory : List ℕ) → i ≤ n → length (rowsWith clause (groundIn i memory)) ≤ length (rowsWith clause
+      (groundIn n memory))
+  rows-few zero i memory h = let e : i ≡ 0 = omega arith in rw e (omega arith)
+  rows-few (suc n) i memory h = go (ltb n i) refl (λ l. rows-few n i memory l)
+    where
+      go : (b : Bool) → ltb n i ≡ b → (i ≤ n → length (rowsWith clause (groundIn i memory)) ≤ length (rowsWith clause (groundIn n memory)))
+          → length (rowsWith clause (groundIn i memory)) ≤ length (rowsWith clause (groundIn (suc n) memory))
+      go true t f = let l = ltb-true n i t in let e : i ≡ suc n = omega arith in rw e (omega arith)
+      go false t f =
+          let l = f (ltb-false n i t) in
+          let s = ap length (rows-append (groundIn n memory) (groundAt memory n ∷ [])) in
+          let a = length-append (rowsWith clause (groundIn n memory)) (rowsWith clause (groundAt memory n ∷ [])) in
+          omega arith
 
-    pub effects-more : (i n : ℕ) {out old : List ℕ} → i < maxGround → 8 * n + 8 ≤ length old
-        → Filled (rowsWith clause (groundIn i memory)) n out old
-        → {m : ℕ} {next : List ℕ} → m ≡ n + length (rowsWith clause (groundAt memory i ∷ []))
+  -- of the first ones of a memory, behind others
+  module _ (memory : List ℕ) (size : length memory ≡ groundedBytes) (first : List (List ℕ)) where
+    rows-snoc : (i : ℕ) → rowsWith clause (groundIn (i + 1) memory) ≡ rowsWith clause (groundIn i memory) ++ rowsWith clause
+        (groundAt memory i ∷ [])
+    rows-snoc i = ap (λ (k : ℕ). rowsWith clause (groundIn k memory)) (add-one i) ∙ rows-append (groundIn i memory) (groundAt memory i ∷ [])
+
+    -- there is room for one more
+    pub effects-room : (at total i n : ℕ) → i < total → at + length (rowsWith clause (groundIn total memory)) ≤ maxGround
+        → n ≡ at + length (rowsWith clause (groundIn i memory)) → n + length (rowsWith clause (groundAt memory i ∷ [])) ≤ maxGround
+    effects-room at total i n h g e =
+        let f = rows-few total (i + 1) memory (omega arith) in
+        let s = ap length (rows-snoc i) ∙ length-append (rowsWith clause (groundIn i memory)) (rowsWith clause (groundAt memory i ∷ [])) in
+        omega arith
+
+    pub effects-more : (i n : ℕ) {out old : List ℕ} → i < maxGround → {m : ℕ} → 8 * m ≤ length old
+        → Filled (first ++ rowsWith clause (groundIn i memory)) n out old
+        → {next : List ℕ} → m ≡ n + length (rowsWith clause (groundAt memory i ∷ []))
         → next ≡ over (flat (rowsIn n out ++ rowsWith clause (groundAt memory i ∷ []))) out
-        → Filled (rowsWith clause (groundIn (i + 1) memory)) m next old
-    effects-more i n {out} {old} h g F {m} {next} e f =
-        let o = one-few (groundAt memory i) in
+        → Filled (first ++ rowsWith clause (groundIn (i + 1) memory)) m next old
+    effects-more i n {out} {old} h {m} g F {next} e f =
         subst (λ (l : List (List ℕ)). Filled l m next old)
-        (sym (ap (λ (k : ℕ). rowsWith clause (groundIn k memory)) (add-one i) ∙ rows-append (groundIn i memory) (groundAt memory i ∷ [])))
+        (append-assoc first (rowsWith clause (groundIn i memory)) (rowsWith clause (groundAt memory i ∷ []))
+        ∙ ap (λ (l : List (List ℕ)). first ++ l) (sym (rows-snoc i)))
         (filled-more F (rowsWith clause (groundAt memory i ∷ []))
-        (whole-one (groundAt memory i) (length-part 8 memory (8 * i) (omega arith))) e (omega arith) f)
+        (whole-one (groundAt memory i) (length-part 8 memory (8 * i) (omega arith))) e g f)
+
+  -- before the first
+  pub effects-begin : (memory : List ℕ) (at : ℕ) (out : List ℕ) → 8 * at ≤ length out
+      → Filled (rowsIn at out ++ rowsWith clause (groundIn 0 memory)) at out out
+  unfolding rowsWith
+  effects-begin memory at out h = subst (λ (l : List (List ℕ)). Filled l at out out) (sym (append-nil (rowsIn at out)))
+      (filled-own at out h)
+
+-- those of two clauses are no more than there are
+pub two-few : (c d : ℕ) → (c ≡ d → ⊥) → (ls : List GroundLiteral) → length (rowsWith c ls) + length (rowsWith d ls) ≤ length ls
+unfolding rowsWith
+two-few c d n [] = omega arith
+two-few c d n (l ∷ ls) = go (eqb (l .clause) c) refl (eqb (l .clause) d) refl (two-few c d n ls)
+  where
+    some : ℕ → Bool → List (List ℕ)
+    some k b = map (λ (l : GroundLiteral). l .row) (keepIf b l (filterBy (λ (l : GroundLiteral). eqb (l .clause) k) ls))
+
+    go : (x : Bool) → eqb (l .clause) c ≡ x → (y : Bool) → eqb (l .clause) d ≡ y
+        → length (rowsWith c ls) + length (rowsWith d ls) ≤ length ls → length (some c x) + length (some d y) ≤ suc (length ls)
+    go true e true f h = absurd (n (sym (eqb-true (l .clause) c e) ∙ eqb-true (l .clause) d f))
+    go true e false f h = omega arith
+    go false e true f h = omega arith
+    go false e false f h = omega arith
+
+-- what a step strikes and then what it adds, in a memory
+pub record Told (ground : List GroundLiteral) (m end : ℕ) (out : List ℕ) : Type 0 where
+  pub order : m ≤ end
+  pub few : end ≤ maxGround
+  pub struck : rowsIn m out ≡ rowsWith 4 ground
+  pub added : rowsIn (end - m) (drop (8 * m) out) ≡ rowsWith 3 ground
+
+pub told : (ground again : List GroundLiteral) (m end : ℕ) (out₁ out : List ℕ) → length ground ≤ maxGround → again ≡ ground
+    → m ≡ 0 + length (rowsWith 4 ground) → rowsIn m out₁ ≡ rowsWith 4 ground → end ≡ m + length (rowsWith 3 again)
+    → rowsIn end out ≡ rowsIn m out₁ ++ rowsWith 3 again → Told ground m end out
+told ground again m end out₁ out few same c f d g =
+    let t = two-few 4 3 (λ e. omega arith) ground in
+    let k = ap (λ (ls : List GroundLiteral). length (rowsWith 3 ls)) same in
+    let z : length (rowsWith 4 ground) ≡ m = omega arith in
+    let both = g ∙ ap₂ (λ (xs : List (List ℕ)) (ls : List GroundLiteral). xs ++ rowsWith 3 ls) f same in
+    let r = rows-split out m end (rowsWith 4 ground) (rowsWith 3 ground) (omega arith) z both in
+    record { order = omega arith; few = omega arith; struck = r .0; added = r .1 }
+
+-- how many are filled
+pub filled-count : (at : ℕ) (old : List ℕ) (rows : List (List ℕ)) {n : ℕ} {out : List ℕ} → Filled (rowsIn at old ++ rows) n out old
+    → n ≡ at + length rows
+filled-count at old rows F =
+    let a = length-append (rowsIn at old) rows in
+    let r = length-rows 8 at old in
+    let c = F .count in
+    omega arith
 
 -- where the loop over the ground literals stands
-pub record Selecting (clause total : ℕ) (old scratch : List ℕ) (n i : ℕ) : Type 0 where
+pub record Selecting (clause at total : ℕ) (old scratch : List ℕ) (n i : ℕ) : Type 0 where
   pub reach : i ≤ total
-  pub few : n ≤ i
+  pub count : n ≡ at + length (rowsWith clause (groundIn i (literalsIn old)))
   pub sized : length scratch ≡ length old
-  pub filled : Filled (rowsWith clause (groundIn i (literalsIn old))) n (effectsIn scratch) (effectsIn old)
-  pub beside : Beside old scratch
-
-pub beside-self : (scratch : List ℕ) → Beside scratch scratch
-beside-self scratch = record { facts = refl; literals = refl }
-
-pub beside-more : {old scratch next : List ℕ} → Beside old scratch → Beside scratch next → Beside old next
-beside-more B C = record { facts = C .facts ∙ B .facts; literals = C .literals ∙ B .literals }
+  pub filled : Filled (rowsIn at (effectsIn old) ++ rowsWith clause (groundIn i (literalsIn old))) n (effectsIn scratch) (effectsIn old)
+  pub literals : literalsIn scratch ≡ literalsIn old
 
 -- ---- they are the machine's
 
@@ -176,7 +245,8 @@ effect-facts t c b (l ∷ ls) k =
     atoms = withRole (countsFor t c) ls
 
     one : (d : Bool) → rowsWith (suc (clauseNumber c)) rest ≡ map factRow (map (bind b) atoms)
-        → map (λ (g : GroundLiteral). g .row) (keepIf d (ground l) (filterBy (λ (g : GroundLiteral). eqb (g .clause) (suc (clauseNumber c))) rest))
+        → map (λ (g : GroundLiteral). g .row) (keepIf d (ground l) (filterBy (λ (g : GroundLiteral). eqb (g .clause) (suc
+        (clauseNumber c))) rest))
         ≡ map factRow (map (bind b) (keepIf d (l .atom) atoms))
     one true e = ap (λ (r : List (List ℕ)). factRow (bind b (l .atom)) ∷ r) e
     one false e = e
@@ -194,10 +264,12 @@ effect-facts t c b (l ∷ ls) k =
         ∙ one d e
 
 module _ {D : Domain} {head : List ℕ} (H : HeadOf D head) (c : Clause) where
-  event-rows : (e : Event) → GroundFits D (e .ground) → rowsWith (suc (clauseNumber c)) (eventLiterals D e) ≡ map factRow (eventEffects D e c)
+  event-rows : (e : Event) → GroundFits D (e .ground) → rowsWith (suc (clauseNumber c)) (eventLiterals D e) ≡ map factRow
+      (eventEffects D e c)
   unfolding groundLiterals
   event-rows e F =
-      effect-facts (timeOf (e .moment)) c (e .ground .binding) (action D (e .ground .action) .lits) (head-kept H (e .ground .action) (F .listed))
+      effect-facts (timeOf (e .moment)) c (e .ground .binding) (action D (e .ground .action) .lits) (head-kept H (e .ground .action)
+      (F .listed))
       ∙ ap (map factRow) (sym (event-at D e c))
 
   step-rows : (es : List Event) → EventsFit D es
@@ -210,7 +282,8 @@ module _ {D : Domain} {head : List ℕ} (H : HeadOf D head) (c : Clause) where
       ∙ sym (map-append factRow (eventEffects D e c) (stepEffects D es c))
 
 -- of a step, in memory
-pub grounded-rows : {D : Domain} {head : List ℕ} {es : List Event} {memory : List ℕ} {total : ℕ} → Grounded D head es memory total → (c : Clause)
+pub grounded-rows : {D : Domain} {head : List ℕ} {es : List Event} {memory : List ℕ} {total : ℕ} → Grounded D head es memory total
+    → (c : Clause)
     → rowsWith (suc (clauseNumber c)) (groundIn total memory) ≡ map factRow (stepEffects D es c)
 grounded-rows {D} {head} {es} G c = ap (rowsWith (suc (clauseNumber c))) (G .laid .filled) ∙ step-rows (G .says) c es (G .fit)
 

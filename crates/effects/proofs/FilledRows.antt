@@ -6,7 +6,8 @@ use Prim.Native.Nat.{ℕ, zero, suc, _+_, _-_, _*_, _≤_, _<_}
 use native.Mathlib.Omega.{arith}
 use lib.Dec.{eqb, ltb}
 use lib.ListN.{length, take, drop, length-append, length-drop, take-append-drop}
-use lib.Seq.{take-all, take-add, take-take, take-append-le, take-append-add, take-at, drop-at, drop-drop, drop-append-add, length-take-le, paste}
+use lib.Seq.{take-all, take-add, take-take, take-append-le, take-append-add, take-at, drop-at, drop-drop, drop-append-add, length-take-le}
+use lib.Seq.{paste}
 use borrow.Author.Tests.{lt-ltb, le-ltb, ltb-true, ltb-false}
 use Rattle.records.specs.Lists.{In, keepIf, filterBy, sameList, dedup}
 use Rattle.records.specs.Memory.{over}
@@ -20,7 +21,7 @@ use Rattle.runs.specs.RunFile.{maxFacts}
 use Rattle.runs.specs.Play.{workBytes}
 use Rattle.store.specs.Rows.{hasRow}
 use Rattle.events.specs.Grounding.{groundedBytes}
-use Rattle.effects.specs.Effects.{scratchBytes, literalsAt, effectsIn, literalsIn, Beside, flat, joinRow, joinRows, atMost, stays, keptOf}
+use Rattle.effects.specs.Effects.{scratchBytes, effectsIn, literalsIn, flat, joinRow, joinRows, atMost, stays, keptOf}
 use Rattle.effects.proofs.Joins.{joined-rows, join-snoc, join-append}
 
 -- ---- the first rows of a memory
@@ -102,10 +103,11 @@ section-over new old at w h =
     ∙ ap (λ (k : ℕ). drop k old) (sym e))
 
 pub effects-over : (new old : List ℕ) → length new ≤ workBytes → effectsIn (over new old) ≡ effectsIn old
-effects-over new old h = section-over new old workBytes workBytes h
+effects-over new old h = section-over new old groundedBytes workBytes (omega arith)
 
 -- a part of a section, by its place in the whole memory
-pub section-part : (t : List ℕ) (at w j k : ℕ) → at + w ≤ length t → j + k ≤ w → take k (drop (at + j) t) ≡ take k (drop j (take w (drop at t)))
+pub section-part : (t : List ℕ) (at w j k : ℕ) → at + w ≤ length t → j + k ≤ w
+    → take k (drop (at + j) t) ≡ take k (drop j (take w (drop at t)))
 section-part t at w j k l h =
     let m = drop at t in
     let e : w ≡ j + (w - j) = omega arith in
@@ -126,44 +128,23 @@ row-others n out row h e g f =
     ap effectsIn f ∙ effects-over (flat (rowsIn n out ++ (row ∷ []))) out (omega arith)
 
 pub effects-length : (scratch : List ℕ) → length scratch ≡ scratchBytes → length (effectsIn scratch) ≡ workBytes
-effects-length scratch l = length-take-le workBytes (drop workBytes scratch) (omega (arith, length-drop workBytes scratch))
+effects-length scratch l = length-take-le workBytes (drop groundedBytes scratch) (omega (arith, length-drop groundedBytes scratch))
 
 pub literals-length : (scratch : List ℕ) → length scratch ≡ scratchBytes → length (literalsIn scratch) ≡ groundedBytes
-literals-length scratch l = length-take-le groundedBytes (drop literalsAt scratch) (omega (arith, length-drop literalsAt scratch))
+literals-length scratch l = length-take-le groundedBytes scratch (omega arith)
 
--- that section, written anew, and the others then
-module _ (scratch effects : List ℕ) (size : length scratch ≡ scratchBytes) (whole : length effects ≡ workBytes) where
-  abbrev anew : List ℕ
-  anew = take workBytes scratch ++ (effects ++ drop workBytes (drop workBytes scratch))
+-- a section, written anew, and the other one then
+module _ (scratch effects rest : List ℕ) (size : length scratch ≡ scratchBytes) where
+  pub effects-put : length effects ≡ workBytes → effectsIn (take groundedBytes scratch ++ (effects ++ rest)) ≡ effects
+  effects-put whole =
+      ap (take workBytes) (drop-at (take groundedBytes scratch) (effects ++ rest) groundedBytes (literals-length scratch size))
+      ∙ take-at effects rest workBytes whole
 
-  front : length (take workBytes scratch) ≡ workBytes
-  front = length-take-le workBytes scratch (omega arith)
+  pub literals-still : literalsIn (take groundedBytes scratch ++ (effects ++ rest)) ≡ literalsIn scratch
+  literals-still = take-at (take groundedBytes scratch) (effects ++ rest) groundedBytes (literals-length scratch size)
 
-  pub effects-put : effectsIn anew ≡ effects
-  effects-put =
-      ap (take workBytes) (drop-at (take workBytes scratch) (effects ++ drop workBytes (drop workBytes scratch)) workBytes front)
-      ∙ take-at effects (drop workBytes (drop workBytes scratch)) workBytes whole
-
-  pub put-beside : Beside scratch anew
-  put-beside =
-      let rest : List ℕ = drop workBytes (drop workBytes scratch) in
-      record {
-        facts = take-at (take workBytes scratch) (effects ++ rest) workBytes front;
-        literals =
-            ap (take groundedBytes)
-            (sym (drop-drop workBytes workBytes anew)
-            ∙ ap (drop workBytes) (drop-at (take workBytes scratch) (effects ++ rest) workBytes front)
-            ∙ drop-at effects rest workBytes whole
-            ∙ drop-drop workBytes workBytes scratch);
-      }
-
--- the ground literals, written anew
-pub literals-put : (scratch literals : List ℕ) → length scratch ≡ scratchBytes → length literals ≡ groundedBytes
-    → literalsIn (take literalsAt scratch ++ (literals ++ drop groundedBytes (drop literalsAt scratch))) ≡ literals
-literals-put scratch literals size whole =
-    let rest : List ℕ = drop groundedBytes (drop literalsAt scratch) in
-    ap (take groundedBytes) (drop-at (take literalsAt scratch) (literals ++ rest) literalsAt (length-take-le literalsAt scratch (omega arith)))
-    ∙ take-at literals rest groundedBytes whole
+pub literals-put : (literals rest : List ℕ) → length literals ≡ groundedBytes → literalsIn (literals ++ rest) ≡ literals
+literals-put literals rest whole = take-at literals rest groundedBytes whole
 
 -- the first n rows of out are these; behind them it is as before
 pub record Filled (rows : List (List ℕ)) (n : ℕ) (out old : List ℕ) : Type 0 where
@@ -195,22 +176,6 @@ module _ {rows : List (List ℕ)} {n : ℕ} {out old : List ℕ} (F : Filled row
   filled-rows =
       ap₂ rowsIn (F .count) (F .bytes)
       ∙ rows-flat (λ (row : List ℕ). row) rows (drop (length (flat rows)) old) (F .whole)
-      ∙ same-rows rows
-
-  -- whatever is written behind the first half of a scratch memory
-  pub rows-still : (rest : List ℕ) → n ≤ maxFacts → rowsIn n (take workBytes out ++ rest) ≡ rows
-  unfolding over
-  rows-still rest g =
-      let l = length-whole rows (F .whole) in
-      let c = F .count in
-      let e : workBytes ≡ length (flat rows) + (workBytes - length (flat rows)) = omega arith in
-      let old-rest = drop (length (flat rows)) old in
-      ap₂ rowsIn (F .count)
-      (ap (λ (t : List ℕ). take workBytes t ++ rest) (F .bytes)
-      ∙ ap (λ (k : ℕ). take k (flat rows ++ old-rest) ++ rest) e
-      ∙ ap (λ (t : List ℕ). t ++ rest) (take-append-add (flat rows) old-rest (workBytes - length (flat rows)))
-      ∙ append-assoc (flat rows) (take (workBytes - length (flat rows)) old-rest) rest)
-      ∙ rows-flat (λ (row : List ℕ). row) rows (take (workBytes - length (flat rows)) old-rest ++ rest) (F .whole)
       ∙ same-rows rows
 
   pub filled-more : (more : List (List ℕ)) → Whole more → {m : ℕ} {next : List ℕ} → m ≡ n + length more → 8 * m ≤ length old
@@ -254,13 +219,24 @@ kept-few struck work i =
     let l = length-rows 8 i work in
     omega arith
 
--- they leave the ground literals
-pub kept-literals : (struck : List (List ℕ)) (work : List ℕ) (n : ℕ) → n ≤ maxFacts → 8 * n ≤ length work → (old : List ℕ) {out : List ℕ}
-    → out ≡ over (flat (keptOf struck work n)) old → literalsIn out ≡ literalsIn old
-kept-literals struck work n small h old e =
+-- they leave what is struck and added
+pub kept-effects : (struck : List (List ℕ)) (work : List ℕ) (n : ℕ) → n ≤ maxFacts → 8 * n ≤ length work → (old : List ℕ) {out : List ℕ}
+    → out ≡ over (flat (keptOf struck work n)) old → effectsIn out ≡ effectsIn old
+kept-effects struck work n small h old e =
     let q = kept-few struck work n in
     let l = length-whole (keptOf struck work n) (λ row i. rows-whole n work h row (filter-in (stays struck) (rowsIn n work) i .0)) in
-    ap literalsIn e ∙ section-over (flat (keptOf struck work n)) old literalsAt groundedBytes (omega arith)
+    ap effectsIn e ∙ effects-over (flat (keptOf struck work n)) old (omega arith)
+
+-- the first m of some rows are these, and the others those
+pub rows-split : (t : List ℕ) (m end : ℕ) (xs ys : List (List ℕ)) → m ≤ end → length xs ≡ m → rowsIn end t ≡ xs ++ ys
+    → (rowsIn m t ≡ xs) × (rowsIn (end - m) (drop (8 * m) t) ≡ ys)
+rows-split t m end xs ys h l e =
+    let rest : List (List ℕ) = rowsIn (end - m) (drop (8 * m) t) in
+    let f = sym (rows-rest end m t h) ∙ e in
+    let k = length-rows 8 m t in (
+      sym (take-at (rowsIn m t) rest m k) ∙ ap (take m) f ∙ take-at xs ys m l,
+      sym (drop-at (rowsIn m t) rest m k) ∙ ap (drop m) f ∙ drop-at xs ys m l,
+    )
 
 one-few : {A : Type 0} (p : A → Bool) (x : A) → length (filterBy p (x ∷ [])) ≤ 1
 one-few p x = go (p x)

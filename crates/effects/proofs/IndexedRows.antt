@@ -20,8 +20,11 @@ use Rattle.store.specs.Index.{Sized, Indexed, noteAt}
 use Rattle.runs.specs.RunFile.{maxFacts}
 use Rattle.runs.specs.Play.{workBytes}
 use Rattle.store.specs.Rows.{hasRow}
+use Rattle.events.specs.Grounding.{groundedBytes}
 use Rattle.effects.specs.Effects.{scratchBytes, effectsIn, Marked, flat, joinRow, atMost, SizedRow, HoldsJoined, stays, keptOf}
-use Rattle.effects.proofs.FilledRows.{section-part, filled-effects, Filled, filled-rows, filled-own, left-out, kept-few, kept-next, kept-more, joinedOf, joined-next, joined-on, stopped-count, stopped-rows, joined-all, joined-out}
+use Rattle.effects.proofs.FilledRows.{section-part, filled-effects, Filled, filled-rows, filled-own, left-out, kept-few, kept-next}
+use Rattle.effects.proofs.FilledRows.{kept-more, joinedOf, joined-next, joined-on, stopped-count, stopped-rows, joined-all}
+use Rattle.effects.proofs.FilledRows.{joined-out}
 
 -- ---- marks
 
@@ -126,9 +129,12 @@ module _ {head index : List ℕ} (rows : List (List ℕ)) {row at : List ℕ} (e
   new-indexed t I = subst (λ (b : Bool). Indexed head index (cond b rows (rows ++ (at ∷ [])))) (sym (ap (λ (r : List ℕ). hasRow r rows) (sym e) ∙ t)) I
 
 -- a row of what a step adds, by its place in the scratch memory
-pub effect-at : (scratch : List ℕ) (j : ℕ) → length scratch ≡ scratchBytes → 8 * j + 8 ≤ workBytes
-    → take 8 (drop (workBytes + 8 * j) scratch) ≡ take 8 (drop (8 * j) (effectsIn scratch))
-effect-at scratch j l h = section-part scratch workBytes workBytes (8 * j) 8 (omega arith) h
+pub effect-at : (scratch : List ℕ) (from j : ℕ) → length scratch ≡ scratchBytes → 8 * (from + j) + 8 ≤ workBytes
+    → take 8 (drop (groundedBytes + 8 * (from + j)) scratch) ≡ take 8 (drop (8 * j) (drop (8 * from) (effectsIn scratch)))
+effect-at scratch from j l h =
+    let e : 8 * (from + j) ≡ 8 * from + 8 * j = omega arith in
+    section-part scratch groundedBytes workBytes (8 * (from + j)) 8 (omega arith) h
+    ∙ ap (take 8) (ap (λ (k : ℕ). drop k (effectsIn scratch)) e ∙ sym (drop-drop (8 * j) (8 * from) (effectsIn scratch)))
 
 -- what is told of a row that joins
 pub record Joined (row head out index next index′ : List ℕ) (n r : ℕ) : Type 0 where
@@ -137,6 +143,15 @@ pub record Joined (row head out index next index′ : List ℕ) (n r : ℕ) : Ty
   pub beside : getD index′ noteAt 0 ≡ getD index noteAt 0
   pub room : length next ≡ length out
   pub others : effectsIn next ≡ effectsIn out
+
+-- of a row of what is added, by its place in the scratch memory
+pub joined-turn : (scratch out₀ : List ℕ) (from j : ℕ) → length scratch ≡ scratchBytes → 8 * (from + j) + 8 ≤ workBytes
+    → effectsIn scratch ≡ effectsIn out₀ → {head index next index′ : List ℕ} {n r : ℕ}
+    → Joined (take 8 (drop (groundedBytes + 8 * (from + j)) scratch)) head scratch index next index′ n r
+    → Joined (take 8 (drop (8 * j) (drop (8 * from) (effectsIn out₀)))) head scratch index next index′ n r
+joined-turn scratch out₀ from j l h e {head} {index} {next} {index′} {n} {r} J =
+    subst (λ (row : List ℕ). Joined row head scratch index next index′ n r)
+    (effect-at scratch from j l h ∙ ap (λ (t : List ℕ). take 8 (drop (8 * j) (drop (8 * from) t))) e) J
 
 -- where the loop over the rows that join stands
 pub record Joining (adds : List ℕ) (m count : ℕ) (head out₀ index₀ out index : List ℕ) (n j : ℕ) : Type 0 where

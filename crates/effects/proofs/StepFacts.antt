@@ -5,7 +5,7 @@ use mathlib.Core.List.{List, [], _∷_, _++_, map, flatMap, map-append, append-a
 use Prim.Native.Nat.{ℕ, zero, suc, _+_, _-_, _*_, _≤_}
 use native.Mathlib.Omega.{arith}
 use lib.Dec.{eqb}
-use lib.ListN.{length, take, drop, replicate, length-map, take-append-drop}
+use lib.ListN.{length, take, drop, replicate, length-map}
 use lib.Seq.{take-all, take-at}
 use Rattle.records.specs.Lists.{filterBy, sameList, elem, distinct, dedup}
 use Rattle.records.specs.Memory.{over}
@@ -15,14 +15,13 @@ use Rattle.literals.specs.Domain.{Fact, sameFact, Domain}
 use Rattle.literals.specs.Table.{rowsIn}
 use Rattle.verdict.specs.Judged.{objectNumbers, factBytes}
 use Rattle.verdict.specs.Machine.{Event, stepFacts, factsAfter}
-use Rattle.runs.specs.Play.{workBytes}
 use Rattle.store.specs.Index.{Sized, Indexed}
 use Rattle.store.specs.Rows.{factRow}
 use Rattle.effects.specs.Effects.{joinRows, Once, atMost, flat, stepEffects, HoldsJoined, HoldsAfter, stays, keptOf}
 use Rattle.events.proofs.FactRows.{same-row}
 use Rattle.effects.proofs.Joins.{outside-map, dedup-map, distinct-map, joined-rows}
 use Rattle.literals.proofs.Rows.{rows-whole}
-use Rattle.effects.proofs.FilledRows.{Whole, whole-append, length-whole, Filled, rows-still, kept-few, behind, most-inside}
+use Rattle.effects.proofs.FilledRows.{Whole, whole-append, length-whole, Filled, filled-rows, kept-few, behind, most-inside}
 use Rattle.effects.proofs.EffectRows.{step-once, step-elem}
 
 -- ---- the rows of facts
@@ -82,9 +81,9 @@ module _ (D : Domain) (fs : List Fact) (es : List Event) where
 
 -- ---- as the code leaves it
 
--- the rows that are struck and those that are added, the work memory, the scratch memory before and after what is kept and
--- before and after what joins, and the index
-pub record Done (head struck work adds : List ℕ) (m n k : ℕ) (out₀ out₁ before out₂ index₀ index₁ index₂ : List ℕ) (kept facts : ℕ) : Type 0 where
+-- the rows that are struck and those that are added, the work memory, the scratch memory before what is kept, behind that and
+-- when all has joined, and the index
+pub record Done (head struck work adds : List ℕ) (m n k : ℕ) (out₀ out₁ out₂ index₀ index₁ index₂ : List ℕ) (kept facts : ℕ) : Type 0 where
   pub small : n ≤ 1024
   pub within : 8 * n ≤ length work
   pub addsWithin : 8 * k ≤ length adds
@@ -93,12 +92,11 @@ pub record Done (head struck work adds : List ℕ) (m n k : ℕ) (out₀ out₁ 
   pub keptBytes : out₁ ≡ over (flat (keptOf (rowsIn m struck) work n)) out₀
   pub keptIndexed : Indexed head index₀ (rowsIn n work) → Indexed head index₁ (keptOf (rowsIn m struck) work n)
   pub joinedFew : (kept ≤ facts) × (facts ≤ 1025)
-  pub still : take workBytes before ≡ take workBytes out₁
-  pub joined : Indexed head index₁ (rowsIn kept before) → Sized head (rowsIn k adds)
-      → HoldsJoined head (joinRows (rowsIn kept before) (rowsIn k adds)) before facts out₂ index₂
+  pub joined : Indexed head index₁ (rowsIn kept out₁) → Sized head (rowsIn k adds)
+      → HoldsJoined head (joinRows (rowsIn kept out₁) (rowsIn k adds)) out₁ facts out₂ index₂
 
-module _ {head struck work adds : List ℕ} {m n k : ℕ} {out₀ out₁ before out₂ index₀ index₁ index₂ : List ℕ} {kept facts : ℕ}
-    (X : Done head struck work adds m n k out₀ out₁ before out₂ index₀ index₁ index₂ kept facts) where
+module _ {head struck work adds : List ℕ} {m n k : ℕ} {out₀ out₁ out₂ index₀ index₁ index₂ : List ℕ} {kept facts : ℕ}
+    (X : Done head struck work adds m n k out₀ out₁ out₂ index₀ index₁ index₂ kept facts) where
   abbrev keptRows : List (List ℕ)
   keptRows = keptOf (rowsIn m struck) work n
 
@@ -113,16 +111,10 @@ module _ {head struck work adds : List ℕ} {m n k : ℕ} {out₀ out₁ before 
       let r = X .room in
       record { count = c; room = omega arith; whole = λ row i. rows-whole n work (X .within) row (filter-in (stays (rowsIn m struck)) (rowsIn n work) i .0); bytes = X .keptBytes }
 
-  -- what is kept stands there still when what is added is written behind it
-  kept-still : rowsIn kept before ≡ keptRows
-  kept-still =
-      let q = kept-few (rowsIn m struck) work n in
-      let c = X .keptCount in
-      let a = X .small in
-      ap (rowsIn kept) (sym (take-append-drop workBytes before) ∙ ap (λ (t : List ℕ). t ++ drop workBytes before) (X .still))
-      ∙ rows-still filled (drop workBytes before) (omega arith)
+  kept-still : rowsIn kept out₁ ≡ keptRows
+  kept-still = filled-rows filled
 
-  all-joined : joinRows (rowsIn kept before) (rowsIn k adds) ≡ keptRows ++ newRows
+  all-joined : joinRows (rowsIn kept out₁) (rowsIn k adds) ≡ keptRows ++ newRows
   all-joined = ap (λ (l : List (List ℕ)). joinRows l (rowsIn k adds)) kept-still ∙ joined-rows keptRows (rowsIn k adds)
 
   new-whole : Whole newRows
@@ -139,7 +131,7 @@ module _ {head struck work adds : List ℕ} {m n k : ℕ} {out₀ out₁ before 
     kept-rows : keptRows ≡ map factRow (keptFacts D fs es)
     kept-rows = ap₂ (λ (x y : List (List ℕ)). filterBy (stays x) y) s u ∙ kept-facts D fs es
 
-    after-rows : joinRows (rowsIn kept before) (rowsIn k adds) ≡ map factRow (factsAfter D fs es)
+    after-rows : joinRows (rowsIn kept out₁) (rowsIn k adds) ≡ map factRow (factsAfter D fs es)
     after-rows = ap₂ joinRows (kept-still ∙ kept-rows) t ∙ after-facts D fs es
 
     after-kept : kept ≡ length (filterBy (λ (f : Fact). not (elem sameFact f (stepFacts D es Delete))) fs)
@@ -152,13 +144,13 @@ module _ {head struck work adds : List ℕ} {m n k : ℕ} {out₀ out₁ before 
         ∙ ap (λ (i : ℕ). 8 * i) (length-map (factsAfter D fs es) factRow)
 
     module _ (I : Indexed head index₀ (map factRow fs)) (S : Sized head (map factRow (stepEffects D es Add))) where
-      kept-held : Indexed head index₁ (rowsIn kept before)
+      kept-held : Indexed head index₁ (rowsIn kept out₁)
       kept-held = subst (Indexed head index₁) (sym kept-still) (X .keptIndexed (subst (Indexed head index₀) (sym u) I))
 
       added-sized : Sized head (rowsIn k adds)
       added-sized = subst (Sized head) (sym t) S
 
-      H : HoldsJoined head (joinRows (rowsIn kept before) (rowsIn k adds)) before facts out₂ index₂
+      H : HoldsJoined head (joinRows (rowsIn kept out₁) (rowsIn k adds)) out₁ facts out₂ index₂
       H = X .joined kept-held added-sized
 
       after-count : facts ≡ atMost 1024 (length (factsAfter D fs es))
@@ -168,10 +160,10 @@ module _ {head struck work adds : List ℕ} {m n k : ℕ} {out₀ out₁ before 
       after-held y =
           ap (take (8 * length (factsAfter D fs es)))
           (H .bytes
-          ∙ ap (λ (l : List (List ℕ)). over (flat l) before) (ap (take 1024) after-rows ∙ take-map factRow 1024 (factsAfter D fs es))
-          ∙ ap (λ (l : List Fact). over (flat (map factRow l)) before) (take-all 1024 (factsAfter D fs es) y)
-          ∙ ap (λ (l : List ℕ). over l before) (fact-bytes (factsAfter D fs es)))
-          ∙ take-over (factBytes (factsAfter D fs es)) before (8 * length (factsAfter D fs es)) after-length
+          ∙ ap (λ (l : List (List ℕ)). over (flat l) out₁) (ap (take 1024) after-rows ∙ take-map factRow 1024 (factsAfter D fs es))
+          ∙ ap (λ (l : List Fact). over (flat (map factRow l)) out₁) (take-all 1024 (factsAfter D fs es) y)
+          ∙ ap (λ (l : List ℕ). over l out₁) (fact-bytes (factsAfter D fs es)))
+          ∙ take-over (factBytes (factsAfter D fs es)) out₁ (8 * length (factsAfter D fs es)) after-length
 
       after-indexed : length (factsAfter D fs es) ≤ 1024 → Indexed head index₂ (map factRow (factsAfter D fs es))
       after-indexed y =

@@ -26,23 +26,16 @@ use Rattle.effects.specs.declared.After.{After}
 
 -- ---- what a step works in
 
--- its scratch memory: room for the facts after it; for what it strikes, and after that for what it adds; and for its ground literals
-abbrev pub literalsAt : ℕ
-literalsAt = workBytes + workBytes
-
+-- its scratch memory: the ground literals, in whose place the facts after it are put together; and behind that what it strikes and then
+-- what it adds
 abbrev pub scratchBytes : ℕ
-scratchBytes = literalsAt + groundedBytes
-
-abbrev pub effectsIn : List ℕ → List ℕ
-effectsIn scratch = take workBytes (drop workBytes scratch)
+scratchBytes = groundedBytes + workBytes
 
 abbrev pub literalsIn : List ℕ → List ℕ
-literalsIn scratch = take groundedBytes (drop literalsAt scratch)
+literalsIn scratch = take groundedBytes scratch
 
--- only what is struck or added was written
-pub record Beside (before after : List ℕ) : Type 0 where
-  pub facts : take workBytes after ≡ take workBytes before
-  pub literals : literalsIn after ≡ literalsIn before
+abbrev pub effectsIn : List ℕ → List ℕ
+effectsIn scratch = take workBytes (drop groundedBytes scratch)
 
 -- ---- effects, by rows
 

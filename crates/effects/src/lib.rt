@@ -1,6 +1,7 @@
 // The facts after a step: what it strikes goes out, then what it adds joins, each fact once.
 use events::grounding::CLAUSES;
 use events::grounding::GROUNDED;
+use events::grounding::MAX_GROUND;
 use literals::head::Head;
 use literals::limits::MAX_FACTS;
 use records::bytes::put_bytes;
@@ -23,17 +24,14 @@ ghost use Rattle.verdict.specs.Machine.{Event};
 ghost use Rattle.store.specs.Index.{noteAt, Sized, Indexed};
 ghost use Rattle.store.specs.Rows.{factRow, hasRow};
 ghost use Rattle.events.specs.Grounding.{maxGround, groundAt, groundIn, Grounded};
-ghost use Rattle.effects.specs.Effects.{scratchBytes, effectsIn, literalsIn, Beside, rowsWith, flat, HoldsAfter};
+ghost use Rattle.effects.specs.Effects.{scratchBytes, effectsIn, literalsIn, rowsWith, flat, HoldsAfter};
 ghost use Rattle.effects.specs.Effects.{Once, struckOf, FirstStruck, Marked, keptOf, SizedRow, joinRow, joinRows, HoldsJoined};
 
-// The bytes of the facts that are held.
-const FACTS: usize = 8 * MAX_FACTS;
+// What a step works in, in two sections: its ground literals, in whose place the facts after it are put together when what it strikes and
+// adds is told; and behind that what it strikes and then what it adds, which together are no more than its literals.
+const EFFECTS: usize = GROUNDED;
 
-// The scratch memory of a step, in sections: room for the facts after it; for what it strikes, and after that for what it adds; and for
-// its ground literals.
-pub const LITERALS: usize = FACTS + FACTS;
-
-pub const SCRATCH: usize = LITERALS + GROUNDED;
+pub const SCRATCH: usize = EFFECTS + 8 * MAX_GROUND;
 
 // Writes a row behind the first n.
 fn put_row(out: &mut [u8], n: usize, row: [u8; 8])
@@ -130,12 +128,12 @@ fn keep_rows(
     ensures beside { λ _. ⌜ getD (now (index .exit)) noteAt 0 ≡ getD (now (index .entry)) noteAt 0 ⌝ }
 {
     let mut marks = [0u8; 256];
-    put_marks(&mut marks, &scratch[FACTS..LITERALS], m);
+    put_marks(&mut marks, &scratch[EFFECTS..SCRATCH], m);
     let mut k = 0;
     let mut i = 0;
     // Most rows stay, so all rows between two struck ones are copied at once.
     loop {
-        let next = struck_from(work, n, i, i - k, &marks, &scratch[FACTS..LITERALS], m);
+        let next = struck_from(work, n, i, i - k, &marks, &scratch[EFFECTS..SCRATCH], m);
         let from = 8 * i;
         let to = 8 * next;
         put_bytes(scratch, 8 * k, &work[from..to]);
@@ -174,29 +172,30 @@ fn join_row(head: &Head, scratch: &mut [u8], at: usize, n: usize, index: &mut Fa
     n + 1
 }
 
-// Appends each of the first m rows of what is added to the first `count` rows of the scratch memory, unless it is there already; answers
-// the new count, or 1,025 where there is no room.
+// Each of m rows of the effects from row `from` on, behind the first `count` rows of the scratch memory, where it is not there yet; the
+// count then, or 1,025 where there is no room.
 fn join_rows(
     head: &Head,
     scratch: &mut [u8],
+    from: usize,
     m: usize,
     count: usize,
     index: &mut FactIndex,
 ) -> usize
-    requires few { ⌜ m ≤ maxFacts ⌝ }
+    requires few { ⌜ from + m ≤ maxFacts ⌝ }
     requires count { ⌜ count ≤ maxFacts ⌝ }
     requires scratch { ⌜ length (now scratch) ≡ scratchBytes ⌝ }
     ensures few { λ r. ⌜ (count ≤ r) × (r ≤ maxFacts + 1) ⌝ }
     ensures joined { λ r. ⌜ (Indexed (now (head .entry)) (now (index .entry)) (rowsIn count (now (scratch .entry)))
-        → Sized (now (head .entry)) (rowsIn m (effectsIn (now (scratch .entry))))
+        → Sized (now (head .entry)) (rowsIn m (drop (8 * from) (effectsIn (now (scratch .entry)))))
         → HoldsJoined (now (head .entry))
-        (joinRows (rowsIn count (now (scratch .entry))) (rowsIn m (effectsIn (now (scratch .entry)))))
+        (joinRows (rowsIn count (now (scratch .entry))) (rowsIn m (drop (8 * from) (effectsIn (now (scratch .entry))))))
         (now (scratch .entry)) r (now (scratch .exit)) (now (index .exit))) ⌝ }
     ensures beside { λ _. ⌜ getD (now (index .exit)) noteAt 0 ≡ getD (now (index .entry)) noteAt 0 ⌝ }
 {
     let mut n = count;
     for j in 0..m {
-        n = join_row(head, scratch, FACTS + 8 * j, n, index);
+        n = join_row(head, scratch, EFFECTS + 8 * (from + j), n, index);
         if MAX_FACTS < n {
             return n;
         }
@@ -207,32 +206,33 @@ fn join_rows(
 // Appends the fact of the ground literal i to the first n rows of the effects, if it is of this clause; answers the new count.
 fn put_effect(scratch: &mut [u8], n: usize, i: usize, clause: u8) -> usize
     requires scratch { ⌜ length (now scratch) ≡ scratchBytes ⌝ }
-    requires room { ⌜ n < maxFacts ⌝ }
     requires literal { ⌜ i < maxGround ⌝ }
+    requires room { ⌜ n + length (rowsWith clause (groundAt (literalsIn (now scratch)) i ∷ [])) ≤ maxGround ⌝ }
     ensures count { λ r. ⌜ r ≡ n + length (rowsWith clause (groundAt (literalsIn (now (scratch .entry))) i ∷ [])) ⌝ }
     ensures rows { λ _. ⌜ effectsIn (now (scratch .exit)) ≡ over (flat (rowsIn n (effectsIn (now (scratch .entry)))
         ++ rowsWith clause (groundAt (literalsIn (now (scratch .entry))) i ∷ []))) (effectsIn (now (scratch .entry))) ⌝ }
-    ensures beside { λ _. ⌜ Beside (now (scratch .entry)) (now (scratch .exit)) ⌝ }
+    ensures literals { λ _. ⌜ literalsIn (now (scratch .exit)) ≡ literalsIn (now (scratch .entry)) ⌝ }
 {
-    if scratch[LITERALS + CLAUSES + i] == clause {
-        let row = row_at(scratch, LITERALS + 8 * i);
-        put_row(&mut scratch[FACTS..LITERALS], n, row);
+    if scratch[CLAUSES + i] == clause {
+        let row = row_at(scratch, 8 * i);
+        put_row(&mut scratch[EFFECTS..SCRATCH], n, row);
         return n + 1;
     }
     n
 }
 
-// Writes the facts of those of the first `total` ground literals that are of this clause, in order, to the front of the effects: what the
-// step adds (clause 3) or strikes (clause 4). Answers how many they are.
-fn step_effects(scratch: &mut [u8], total: usize, clause: u8) -> usize
+// Those of the first `total` ground literals that are of this clause, in order, behind the first `at` rows of the effects: what the step
+// adds (clause 3) or strikes (clause 4). The count then.
+fn step_effects(scratch: &mut [u8], at: usize, total: usize, clause: u8) -> usize
     requires scratch { ⌜ length (now scratch) ≡ scratchBytes ⌝ }
     requires total { ⌜ total ≤ maxGround ⌝ }
-    ensures few { λ r. ⌜ r ≤ maxFacts ⌝ }
+    requires room { ⌜ at + length (rowsWith clause (groundIn total (literalsIn (now scratch)))) ≤ maxGround ⌝ }
+    ensures count { λ r. ⌜ r ≡ at + length (rowsWith clause (groundIn total (literalsIn (now (scratch .entry))))) ⌝ }
     ensures rows { λ r. ⌜ rowsIn r (effectsIn (now (scratch .exit)))
-        ≡ rowsWith clause (groundIn total (literalsIn (now (scratch .entry)))) ⌝ }
-    ensures beside { λ _. ⌜ Beside (now (scratch .entry)) (now (scratch .exit)) ⌝ }
+        ≡ rowsIn at (effectsIn (now (scratch .entry))) ++ rowsWith clause (groundIn total (literalsIn (now (scratch .entry)))) ⌝ }
+    ensures literals { λ _. ⌜ literalsIn (now (scratch .exit)) ≡ literalsIn (now (scratch .entry)) ⌝ }
 {
-    let mut n = 0;
+    let mut n = at;
     for i in 0..total {
         n = put_effect(scratch, n, i, clause);
     }
@@ -245,7 +245,7 @@ pub struct After {
     pub facts: usize,
 }
 
-// The facts after the events of a step, whose ground literals stand in the scratch memory, at the front of it: the first n rows of the work
+// The facts after the events of a step, in place of its ground literals at the front of the scratch memory: the first n rows of the work
 // memory without those that a delete strikes, then what is added, each fact once; not beyond 1,024 facts.
 pub fn facts_after(
     head: &Head,
@@ -267,9 +267,9 @@ pub fn facts_after(
         → HoldsAfter D fs es (now (head .entry)) r (now (scratch .exit)) (now (index .exit))) ⌝ }
     ensures beside { λ _. ⌜ getD (now (index .exit)) noteAt 0 ≡ getD (now (index .entry)) noteAt 0 ⌝ }
 {
-    let m = step_effects(scratch, total, 4);
+    let m = step_effects(scratch, 0, total, 4);
+    let end = step_effects(scratch, m, total, 3);
     let kept = keep_rows(head, work, n, scratch, m, index);
-    let k = step_effects(scratch, total, 3);
-    let facts = join_rows(head, scratch, k, kept, index);
+    let facts = join_rows(head, scratch, m, end - m, kept, index);
     After { kept, facts }
 }

@@ -8,7 +8,8 @@ use native.Mathlib.Numerals.{add-one}
 use native.Mathlib.Omega.{arith}
 use lib.Dec.{eqb, ltb}
 use lib.ListN.{length, getD, set, take, drop, length-append, length-map, length-set, List·getD-append}
-use lib.Seq.{paste, length-paste, length-paste-head, take-paste, drop-paste, take-all, take-suc, take-add, take-take, take-append-le, take-set-le}
+use lib.Seq.{paste, length-paste, length-paste-head, take-paste, drop-paste, take-all, take-suc, take-add, take-take, take-append-le}
+use lib.Seq.{take-set-le}
 use lib.Seq.{drop-at, drop-drop, drop-set-add, drop-set-lt, getD-at, getD-drop, getD-set-same, getD-set-other, length-take-le}
 use borrow.Author.Tests.{eq-eqb, ne-eqb, eqb-true, eqb-false, ltb-true, ltb-false}
 use Rattle.records.specs.Lists.{In, keepIf, filterBy}

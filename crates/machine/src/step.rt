@@ -4,12 +4,11 @@ use super::State;
 use applicability::conditions::events_met;
 use applicability::conditions::open_met;
 use applicability::interference::independent;
-use effects::LITERALS;
-use effects::SCRATCH;
 use effects::facts_after;
 use events::AGENDA;
 use events::EVENTS_AT;
 use events::MOMENTS_AT;
+use events::grounding::GROUNDED;
 use events::grounding::ground_step;
 use events::openings::agenda_after;
 use events::openings::ends_open;
@@ -278,7 +277,7 @@ impl State {
                 table,
                 &agenda,
                 counts,
-                &mut scratch[LITERALS..SCRATCH],
+                &mut scratch[0..GROUNDED],
                 index,
                 work,
             );
@@ -294,7 +293,7 @@ impl State {
             table,
             &agenda,
             counts,
-            &mut scratch[LITERALS..SCRATCH],
+            &mut scratch[0..GROUNDED],
             index,
             work,
         );

@@ -1,65 +1,131 @@
 -- `facts_after` meets its contract: what is kept and then joined are the facts after the step. Assumes nothing.
 use mathlib.Core.Path.{_≡_, sym, ap, _∙_}
 use mathlib.Core.List.{List}
-use Prim.Native.Nat.{ℕ}
+use Prim.Native.Nat.{ℕ, _-_, _*_}
 use native.Mathlib.Omega.{arith}
-use lib.ListN.{length}
+use lib.ListN.{length, drop, length-drop}
 use borrow.Author.Needs.{needs}
 use Rattle.literals.specs.declared.Clause.the-variants.{Add, Delete}
 use Rattle.literals.specs.Table.{rowsIn}
-use Rattle.events.specs.Grounding.{groundIn}
-use Rattle.effects.specs.Effects.{effectsIn, rowsWith, keptOf}
-use Rattle.effects.proofs.FilledRows.{effects-length, kept-few, kept-literals}
-use Rattle.effects.proofs.EffectRows.{grounded-rows, step-sized}
+use Rattle.events.specs.Grounding.{GroundLiteral, groundIn}
+use Rattle.events.proofs.GroundLiterals.{length-ground}
+use Rattle.effects.specs.Effects.{effectsIn, literalsIn, rowsWith}
+use Rattle.effects.proofs.FilledRows.{effects-length, kept-few, kept-effects}
+use Rattle.effects.proofs.EffectRows.{two-few, told, grounded-rows, step-sized}
 use Rattle.effects.proofs.StepFacts.{Done, after-few, holds-after}
 use Rattle.effects.proofs.facts_after.Statement.{statement}
 use Rattle.effects.proofs.facts_after.Tie as tie
 
 step-effects-requires : tie.Need-step-effects-requires
-step-effects-requires c κs = search needs
-
-keep-rows-requires : tie.Need-keep-rows-requires
-keep-rows-requires c κs =
-    let p = c .before .before .before .before .before .before .before .before .pre in
-    let struck = c .before .before .before .before .step-effects in
-    (p .0, (p .1 .0, (struck .ensures .0, (struck .kept .0 ∙ p .1 .1 .0, p .1 .1 .1 .0))))
+step-effects-requires c κs =
+    let a = c .before .before .before .args in
+    let p = c .before .before .before .pre in
+    let ground = groundIn (a .total) (literalsIn (a .scratch .now)) in
+    let size = length-ground (literalsIn (a .scratch .now)) (a .total) in
+    let total = p .1 .1 .1 .1 in
+    let t = two-few 4 3 (λ e. omega arith) ground in
+    (p .1 .1 .0, (total, omega arith))
 
 step-effects-requires-2 : tie.Need-step-effects-requires-2
 step-effects-requires-2 c κs =
+    let a = c .before .before .before .before .before .before .before .args in
+    let p = c .before .before .before .before .before .before .before .pre in
+    let ground = groundIn (a .total) (literalsIn (a .scratch .now)) in
+    let size = length-ground (literalsIn (a .scratch .now)) (a .total) in
+    let total = p .1 .1 .1 .1 in
+    let first = c .before .before .before .step-effects in
+    let t = two-few 4 3 (λ e. omega arith) ground in
+    let m = first .ensures .0 in
+    let k = ap (λ (t : List ℕ). length (rowsWith 3 (groundIn (a .total) t))) (first .ensures .1 .1) in
+    (first .kept .0 ∙ p .1 .1 .0, (total, omega arith))
+
+keep-rows-requires : tie.Need-keep-rows-requires
+keep-rows-requires c κs =
+    let a = c .before .before .before .before .before .before .before .before .before .before .before .before .args in
     let p = c .before .before .before .before .before .before .before .before .before .before .before .before .pre in
-    (c .before .before .before .keep-rows .kept .1 .1 .1 .0 ∙ c .before .before .before .before .before .before .before .before .step-effects .kept .0 ∙ p .1 .1 .0, p .1 .1 .1 .1)
+    let ground = groundIn (a .total) (literalsIn (a .scratch .now)) in
+    let size = length-ground (literalsIn (a .scratch .now)) (a .total) in
+    let total = p .1 .1 .1 .1 in
+    let first = c .before .before .before .before .before .before .before .before .step-effects in
+    let then = c .before .before .before .before .step-effects2 in
+    let T = told ground (groundIn (a .total) (literalsIn (first .last .0))) (first .result) (then .result) (effectsIn (first .last .0))
+    (effectsIn (then .last .0)) (omega arith) (ap (groundIn (a .total)) (first .ensures .1 .1)) (first .ensures .0) (first .ensures .1 .0)
+    (then .ensures .0) (then .ensures .1 .0) in
+    let order = T .order in
+    let few = T .few in
+    (p .0, (p .1 .0, (omega arith, (then .kept .0 ∙ first .kept .0 ∙ p .1 .1 .0, p .1 .1 .1 .0))))
+
+sub-join-rows : tie.Need-sub-join-rows
+sub-join-rows c =
+    let a = c .before .before .before .before .before .before .before .before .before .before .before .before .before .before .before
+    .before .args in
+    let p = c .before .before .before .before .before .before .before .before .before .before .before .before .before .before .before
+    .before .pre in
+    let ground = groundIn (a .total) (literalsIn (a .scratch .now)) in
+    let size = length-ground (literalsIn (a .scratch .now)) (a .total) in
+    let total = p .1 .1 .1 .1 in
+    let first = c .before .before .before .before .before .before .before .before .before .before .before .before .step-effects in
+    let then = c .before .before .before .before .before .before .before .before .step-effects2 in
+    let T = told ground (groundIn (a .total) (literalsIn (first .last .0))) (first .result) (then .result) (effectsIn (first .last .0))
+    (effectsIn (then .last .0)) (omega arith) (ap (groundIn (a .total)) (first .ensures .1 .1)) (first .ensures .0) (first .ensures .1 .0)
+    (then .ensures .0) (then .ensures .1 .0) in
+    let order = T .order in
+    let few = T .few in
+    order
 
 join-rows-requires : tie.Need-join-rows-requires
 join-rows-requires c κs =
-    let a = c .before .before .before .before .before .before .before .before .before .before .before .before .before .before .before .before .before .args in
-    let p = c .before .before .before .before .before .before .before .before .before .before .before .before .before .before .before .before .before .pre in
+    let a = c .before .before .before .before .before .before .before .before .before .before .before .before .before .before .before
+    .before .before .args in
+    let p = c .before .before .before .before .before .before .before .before .before .before .before .before .before .before .before
+    .before .before .pre in
+    let ground = groundIn (a .total) (literalsIn (a .scratch .now)) in
+    let size = length-ground (literalsIn (a .scratch .now)) (a .total) in
+    let total = p .1 .1 .1 .1 in
     let first = c .before .before .before .before .before .before .before .before .before .before .before .before .before .step-effects in
-    let keeps = c .before .before .before .before .before .before .before .before .keep-rows in
-    let added = c .before .before .before .before .step-effects2 in
-    let q = kept-few (rowsIn (first .result) (effectsIn (first .last .0))) (a .work .now) (a .n) in
+    let then = c .before .before .before .before .before .before .before .before .before .step-effects2 in
+    let T = told ground (groundIn (a .total) (literalsIn (first .last .0))) (first .result) (then .result) (effectsIn (first .last .0))
+    (effectsIn (then .last .0)) (omega arith) (ap (groundIn (a .total)) (first .ensures .1 .1)) (first .ensures .0) (first .ensures .1 .0)
+    (then .ensures .0) (then .ensures .1 .0) in
+    let order = T .order in
+    let few = T .few in
+    let keeps = c .before .before .before .before .keep-rows in
+    let q = kept-few (rowsIn (first .result) (effectsIn (then .last .0))) (a .work .now) (a .n) in
     let e = keeps .ensures .0 in
     let n = p .0 in
-    (added .ensures .0, (omega arith, added .kept .0 ∙ keeps .kept .1 .1 .1 .0 ∙ first .kept .0 ∙ p .1 .1 .0))
+    (omega arith, (omega arith, keeps .kept .1 .1 .1 .0 ∙ then .kept .0 ∙ first .kept .0 ∙ p .1 .1 .0))
 
 same-length : tie.Need-same-length
 same-length c = search needs
 
 returns : tie.Need-returns
 returns c =
-    let a = c .before .before .before .before .before .before .before .before .before .before .before .before .before .before .before .before .before .before .before .before .args in
-    let p = c .before .before .before .before .before .before .before .before .before .before .before .before .before .before .before .before .before .before .before .before .pre in
-    let first = c .before .before .before .before .before .before .before .before .before .before .before .before .before .before .before .before .step-effects in
-    let keeps = c .before .before .before .before .before .before .before .before .before .before .before .keep-rows in
-    let added = c .before .before .before .before .before .before .before .step-effects2 in
+    let a = c .before .before .before .before .before .before .before .before .before .before .before .before .before .before .before
+    .before .before .before .before .before .args in
+    let p = c .before .before .before .before .before .before .before .before .before .before .before .before .before .before .before
+    .before .before .before .before .before .pre in
+    let ground = groundIn (a .total) (literalsIn (a .scratch .now)) in
+    let size = length-ground (literalsIn (a .scratch .now)) (a .total) in
+    let total = p .1 .1 .1 .1 in
+    let first = c .before .before .before .before .before .before .before .before .before .before .before .before .before .before .before
+    .before .step-effects in
+    let then = c .before .before .before .before .before .before .before .before .before .before .before .before .step-effects2 in
+    let T = told ground (groundIn (a .total) (literalsIn (first .last .0))) (first .result) (then .result) (effectsIn (first .last .0))
+    (effectsIn (then .last .0)) (omega arith) (ap (groundIn (a .total)) (first .ensures .1 .1)) (first .ensures .0) (first .ensures .1 .0)
+    (then .ensures .0) (then .ensures .1 .0) in
+    let order = T .order in
+    let few = T .few in
+    let keeps = c .before .before .before .before .before .before .before .keep-rows in
     let joins = c .before .before .join-rows in
-    let struck = effectsIn (first .last .0) in
-    let adds = effectsIn (added .last .0) in
-    let l1 = first .kept .0 ∙ p .1 .1 .0 in
-    let l2 = keeps .kept .1 .1 .1 .0 ∙ l1 in
-    let l3 = effects-length (added .last .0) (added .kept .0 ∙ l2) in
-    let k = added .ensures .0 in
-    let X : Done (a .head .now) struck (a .work .now) adds (first .result) (a .n) (added .result) (first .last .0) (keeps .last .1 .1 .1 .0)
-    (added .last .0) (joins .last .1 .0) (a .index .now) (keeps .last .1 .1 .1 .1 .1 .0) (joins .last .1 .1 .1 .1 .0) (keeps .result) (joins .result)
+    let m = first .result in
+    let kept = keeps .last .1 .1 .1 .0 in
+    let struck = effectsIn (then .last .0) in
+    let adds = drop (8 * m) (effectsIn kept) in
+    let l2 = then .kept .0 ∙ first .kept .0 ∙ p .1 .1 .0 in
+    let l3 = effects-length kept (keeps .kept .1 .1 .1 .0 ∙ l2) in
+    let d = length-drop (8 * m) (effectsIn kept) in
+    let X : Done (a .head .now) struck (a .work .now) adds m (a .n) (then .result - m) (then .last .0) kept (joins .last .1 .0)
+    (a .index .now) (keeps .last .1 .1 .1 .1 .1 .0) (joins .last .1 .1 .1 .1 .1 .0) (keeps .result) (joins .result)
     = record {
       small = p .0;
       within = p .1 .0;
@@ -69,18 +135,16 @@ returns c =
       keptBytes = keeps .ensures .1 .0;
       keptIndexed = keeps .ensures .1 .1 .0;
       joinedFew = joins .ensures .0;
-      still = added .ensures .1 .1 .facts;
       joined = joins .ensures .1 .0;
     } in
-    -- the ground literals stay where they are
-    let kept = kept-literals (rowsIn (first .result) struck) (a .work .now) (a .n) (p .0) (p .1 .0) (first .last .0) (keeps .ensures .1 .0) in
-    let still = kept ∙ first .ensures .1 .1 .literals in (
+    -- what is struck and added stays where it is
+    let still = kept-effects (rowsIn m struck) (a .work .now) (a .n) (p .0) (p .1 .0) (then .last .0) (keeps .ensures .1 .0) in (
       after-few X,
       (
         λ D es fs G u I.
             holds-after X D es fs
-            (first .ensures .1 .0 ∙ grounded-rows G Delete)
-            (added .ensures .1 .0 ∙ ap (λ (t : List ℕ). rowsWith 3 (groundIn (a .total) t)) still ∙ grounded-rows G Add)
+            (T .struck ∙ grounded-rows G Delete)
+            (ap (λ (t : List ℕ). rowsIn (then .result - m) (drop (8 * m) t)) still ∙ T .added ∙ grounded-rows G Add)
             u I (step-sized (G .says) Add es (G .fit)),
         joins .ensures .1 .1 ∙ keeps .ensures .1 .1 .1,
       ),
@@ -91,8 +155,9 @@ facts-after-spec =
     tie.close
     (tie.spec
     step-effects-requires
-    keep-rows-requires
     step-effects-requires-2
+    keep-rows-requires
+    sub-join-rows
     join-rows-requires
     same-length
     returns)

@@ -6,38 +6,46 @@ use native.Mathlib.Omega.{arith}
 use lib.ListN.{length}
 use Rattle.records.specs.Memory.{over}
 use Rattle.literals.specs.Table.{rowsIn}
-use Rattle.events.specs.Grounding.{groundAt, groundIn}
+use Rattle.events.specs.Grounding.{maxGround, groundAt, groundIn}
 use Rattle.effects.specs.Effects.{effectsIn, literalsIn, rowsWith, flat}
 use Rattle.effects.proofs.FilledRows.{effects-length, literals-length, filled-rows}
-use Rattle.effects.proofs.EffectRows.{one-few, effects-begin, effects-more, Selecting, beside-self, beside-more}
+use Rattle.effects.proofs.EffectRows.{effects-begin, effects-room, effects-more, filled-count, Selecting}
 use Rattle.effects.proofs.step_effects.Statement.{statement}
 use Rattle.effects.proofs.step_effects.Tie as tie
 
 abbrev Inv-loop : tie.InvT-loop
-Inv-loop scratch₀ total clause n₀ i₀ scratch n i = Selecting clause total scratch₀ scratch n i
+Inv-loop scratch₀ at total clause n₀ i₀ scratch n i = Selecting clause at total scratch₀ scratch n i
 
 abbrev μ-loop : tie.MeasureT-loop
-μ-loop scratch₀ total clause n₀ i₀ scratch n i = total - i
+μ-loop scratch₀ at total clause n₀ i₀ scratch n i = total - i
 
 loop-holds : tie.Need-loop-holds Inv-loop μ-loop
 loop-holds c =
     let a = c .before .args in
+    let p = c .before .pre in
     let scratch = a .scratch .now in
-    record {
-      reach = omega arith;
-      few = omega arith;
-      sized = refl;
-      filled = effects-begin (a .clause) (literalsIn scratch) (literals-length scratch (c .before .pre .0)) (effectsIn scratch);
-      beside = beside-self scratch;
-    }
+    let size = effects-length scratch (p .0) in
+    let room = p .1 .1 in
+    let F = effects-begin (a .clause) (literalsIn scratch) (a .at) (effectsIn scratch) (omega arith) in
+    record { reach = omega arith; count = filled-count (a .at) (effectsIn scratch) _ F; sized = refl; filled = F; literals = refl }
 
 put-effect-requires : tie.Need-put-effect-requires Inv-loop μ-loop
 put-effect-requires c κs =
+    let a = c .before .before .before .before .args in
     let p = c .before .before .before .before .pre in
-    let v = c .before .before .loop .inv in
-    let few = v .few in
+    let l = c .before .before .loop in
+    let v = l .inv in
+    let old = literalsIn (a .scratch .now) in
     let reach = v .reach in
-    (v .sized ∙ p .0, (omega arith, omega arith))
+    let room = effects-room (a .clause) old (literals-length (a .scratch .now) (p .0)) [] (a .at) (a .total) (l .i) (l .n) (omega arith)
+    (p .1 .1) (v .count) in (
+      v .sized ∙ p .0,
+      (
+        omega arith,
+        subst (λ (t : List ℕ). l .n + length (rowsWith (a .clause) (groundAt t (l .i) ∷ [])) ≤ maxGround) (sym
+            (v .literals)) room,
+      ),
+    )
 
 add-i : tie.Need-add-i Inv-loop μ-loop
 add-i c = omega arith
@@ -52,22 +60,23 @@ loop-again c =
     let l = c .before .before .before .before .before .loop in
     let v = l .inv in
     let scratch = a .scratch .now in
+    let lits = literalsIn scratch in
+    let out = effectsIn (l .scratch) in
+    let whole = literals-length scratch (p .0) in
     let r = c .before .before .put-effect .ensures in
-    let same = v .beside .literals in
-    let count = r .0 ∙ ap (λ (t : List ℕ). l .n + length (rowsWith (a .clause) (groundAt t (l .i) ∷ []))) same in
+    let count = r .0 ∙ ap (λ (t : List ℕ). l .n + length (rowsWith (a .clause) (groundAt t (l .i) ∷ []))) (v .literals) in
     let rows = r .1 .0
-    ∙ ap (λ (t : List ℕ). over (flat (rowsIn (l .n) (effectsIn (l .scratch)) ++ rowsWith (a .clause) (groundAt t (l .i) ∷ []))) (effectsIn (l .scratch))) same in
-    let one = one-few (a .clause) (groundAt (literalsIn scratch) (l .i)) in
-    let few = v .few in
-    let reach = v .reach in
+    ∙ ap (λ (t : List ℕ). over (flat (rowsIn (l .n) out ++ rowsWith (a .clause) (groundAt t (l .i) ∷ []))) out) (v .literals) in
+    let room = effects-room (a .clause) lits whole [] (a .at) (a .total) (l .i) (l .n) (omega arith) (p .1 .1) (v .count) in
     let size = effects-length scratch (p .0) in
+    let F = effects-more (a .clause) lits whole (rowsIn (a .at) (effectsIn scratch)) (l .i) (l .n) (omega arith) (omega arith)
+    (v .filled) count rows in
     record {
       reach = omega arith;
-      few = omega arith;
+      count = filled-count (a .at) (effectsIn scratch) _ F;
       sized = c .before .before .put-effect .kept .0 ∙ v .sized;
-      filled =
-          effects-more (a .clause) (literalsIn scratch) (literals-length scratch (p .0)) (l .i) (l .n) (omega arith) (omega arith) (v .filled) count rows;
-      beside = beside-more (v .beside) (r .1 .1);
+      filled = F;
+      literals = r .1 .1 ∙ v .literals;
     }
 
 same-length : tie.Need-same-length Inv-loop μ-loop
@@ -76,14 +85,16 @@ same-length c = c .before .loop .inv .sized
 returns : tie.Need-returns Inv-loop μ-loop
 returns c =
     let a = c .before .before .before .args in
-    let p = c .before .before .before .pre in
     let l = c .before .loop in
     let v = l .inv in
-    let few = v .few in
     let reach = v .reach in
+    let lits = literalsIn (a .scratch .now) in
     let e : l .i ≡ a .total = omega arith in (
-      omega arith,
-      (filled-rows (v .filled) ∙ ap (λ (i : ℕ). rowsWith (a .clause) (groundIn i (literalsIn (a .scratch .now)))) e, v .beside),
+      v .count ∙ ap (λ (i : ℕ). a .at + length (rowsWith (a .clause) (groundIn i lits))) e,
+      (
+        filled-rows (v .filled) ∙ ap (λ (i : ℕ). rowsIn (a .at) (effectsIn (a .scratch .now)) ++ rowsWith (a .clause) (groundIn i lits)) e,
+        v .literals,
+      ),
     )
 
 pub step-effects-spec : {M : Type 1} → statement M

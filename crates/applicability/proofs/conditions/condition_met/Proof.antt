@@ -43,7 +43,8 @@ returns-2 c head I s =
     let a = c .before .before .before .before .before .before .before .args in
     let l = groundAt (a .memory .now) (a .i) in
     let row = c .before .row-at2 in
-    met-false (rowsIn (a .n) (a .work .now)) l (c .before .before .before .if1 .left) (c .before .before .if2 .taken) (row .result) _ (row .ensures)
+    met-false (rowsIn (a .n) (a .work .now)) l (c .before .before .before .if1 .left) (c .before .before .if2 .taken) (row .result) _
+    (row .ensures)
     (c .is-held2 .ensures head I (read-sized head (row .result) (l .row) (row .ensures) s))
 
 returns-3 : tie.Need-returns-3

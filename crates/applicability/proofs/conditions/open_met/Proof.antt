@@ -33,7 +33,8 @@ entry-met-requires c κs =
     (p .0, (omega arith, (omega arith, p .1 .1)))
 
 same-length : tie.Need-same-length Inv-loop μ-loop
-same-length c = c .before .before .before .entry-met .kept .1 .1 .1 .1 .0 ∙ c .before .before .before .before .before .before .loop .inv .sized
+same-length c = c .before .before .before .entry-met .kept .1 .1 .1 .1 .0 ∙ c .before .before .before .before .before .before .loop .inv
+    .sized
 
 returns-2 : tie.Need-returns-2 Inv-loop μ-loop
 returns-2 c D gs fs L o F h f I =
@@ -57,7 +58,8 @@ loop-again c =
       sized = c .before .before .before .entry-met .kept .1 .1 .1 .1 .0 ∙ l .inv .sized;
       rest =
           λ D gs fs L o F f I.
-          let e = entry-turn _ (a .work .now) (a .n) (l .i) (c .before .before .before .entry-met .ensures) (omega arith) D gs fs L o F f I in
+          let e = entry-turn _ (a .work .now) (a .n) (l .i) (c .before .before .before .entry-met .ensures)
+          (omega arith) D gs fs L o F f I in
           sym (all-hit gs (l .i) noGround (e .0) (overAllHold D fs) (sym (e .1) ∙ not-false _ (c .if2 .left)))
           ∙ l .inv .rest D gs fs L o F f I;
     }

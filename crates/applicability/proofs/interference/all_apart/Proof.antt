@@ -18,7 +18,8 @@ abbrev Inv-loop : tie.InvT-loop
 Inv-loop memory words count total from₀ i₀ from i =
     (i ≤ count) × (from ≤ total) × ((parts : List (List GroundLiteral)) → length parts ≡ count → Laid parts memory total
     → (from ≡ length (inOne (take i parts)))
-    × (pairwise (λ first later. not (literalsClash first later)) (drop i parts) ≡ pairwise (λ first later. not (literalsClash first later)) parts))
+    × (pairwise (λ first later. not (literalsClash first later)) (drop i parts) ≡ pairwise (λ first later. not
+    (literalsClash first later)) parts))
 
 abbrev μ-loop : tie.MeasureT-loop
 μ-loop memory words count total from₀ i₀ from i = count - i

@@ -28,7 +28,8 @@ clashing-requires c κs = search needs
 returns-2 : tie.Need-returns-2
 returns-2 c =
     let a = c .before .before .before .before .before .before .args in
-    clash-same (a .clause) (a .word) (groundAt (a .memory .now) (a .j)) _ (c .before .before .before .before .before .before .pre .1 .1 .1) (c .before .before .if1 .left) _ (c .clashing .ensures)
+    clash-same (a .clause) (a .word) (groundAt (a .memory .now) (a .j)) _ (c .before .before .before .before .before .before .pre .1 .1
+    .1) (c .before .before .if1 .left) _ (c .clashing .ensures)
 
 pub clashes-at-spec : {M : Type 1} → statement M
 clashes-at-spec =

@@ -32,7 +32,8 @@ all-apart-requires c κs =
 
 returns-3 : tie.Need-returns-3
 returns-3 c D head es G k h =
-    c .all-apart .ensures (map (eventLiterals D) es) (length-map es (eventLiterals D) ∙ k) (G .laid) ∙ apart-independent (G .says) es (G .fit)
+    c .all-apart .ensures (map (eventLiterals D) es) (length-map es (eventLiterals D) ∙ k) (G .laid)
+    ∙ apart-independent (G .says) es (G .fit)
 
 pub independent-spec : {M : Type 1} → statement M
 independent-spec =

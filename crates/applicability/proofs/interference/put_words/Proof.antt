@@ -31,7 +31,8 @@ mul-words : tie.Need-mul-words Inv-loop μ-loop
 mul-words c = omega arith
 
 slice-write-words : tie.Need-slice-write-words Inv-loop μ-loop
-slice-write-words c = let k = c .before .before .before .loop .inv .1 in let p = c .before .before .before .before .before .before .pre in omega arith
+slice-write-words c = let k = c .before .before .before .loop .inv .1 in let p = c .before .before .before .before .before .before
+    .pre in omega arith
 
 add-i : tie.Need-add-i Inv-loop μ-loop
 add-i c = omega arith
@@ -49,7 +50,8 @@ loop-again c =
     let word = c .word-of in (
       omega arith,
       length-set (l .words) (l .i) (word .result) ∙ k,
-      words-more (a .memory .now) (l .words) (l .i) (word .result) (row .result) (l .inv .2) (omega arith) (row .ensures) (word .ensures .0),
+      words-more (a .memory .now) (l .words) (l .i) (word .result) (row .result) (l .inv .2) (omega arith) (row .ensures)
+          (word .ensures .0),
     )
 
 same-length : tie.Need-same-length Inv-loop μ-loop

@@ -71,7 +71,8 @@ same-length c = search needs
 
 returns-2 : tie.Need-returns-2
 returns-2 c =
-    let a = c .before .before .before .before .before .before .before .before .before .before .before .before .before .before .before .before .args in
+    let a = c .before .before .before .before .before .before .before .before .before .before .before .before .before .before .before
+    .before .args in
     let s = c .before .before .before .before .before .before .before .before .rows-of in
     let m = s .ensures .0 .few in
     let o = s .ensures .0 .order in
@@ -79,13 +80,16 @@ returns-2 c =
     let from = s .result .from in
     let to = s .result .to in
     let part = take (8 * to - 8 * from) (drop (8 * from) (a .table .now)) in
-    let k = rows-few (a .time) (a .head .now) (a .ground .now) part (to - from) (a .n) (a .memory .now) _ (c .before .before .ground-rows .result) (r .0) in
+    let k = rows-few (a .time) (a .head .now) (a .ground .now) part (to - from) (a .n) (a .memory .now) _
+    (c .before .before .ground-rows .result) (r .0) in
     let below = k .0 in
     let few = k .1 in (
       (omega arith, omega arith),
       (
         λ D g H F f.
-            let w : c .before .before .before .before .before .before .before .before .before .before .before .wide .result ≡ g .action = c .before .before .before .before .before .before .before .before .before .before .before .wide .ensures .0 ∙ ap (λ (x : List ℕ). getD x 0 0) f in
+            let w : c .before .before .before .before .before .before .before .before .before .before .before .wide .result ≡ g
+            .action = c .before .before .before .before .before .before .before .before .before .before .before .wide .ensures .0
+            ∙ ap (λ (x : List ℕ). getD x 0 0) f in
             let h : g .action < length (D .actions) = F .listed in
             let S = subst (λ (i : ℕ). SpanOf D i (a .table .now) (s .result)) w (s .ensures .1 D H (omega arith)) in
             held-ground H g F (a .time) (a .ground .now) f (s .result) S (groundIn (a .n) (a .memory .now)) (r .0),

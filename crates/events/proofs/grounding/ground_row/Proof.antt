@@ -38,7 +38,8 @@ returns-2 c =
     let e = c .before .before .before .before .before .before .clause-for .ensures in
     let row = c .before .before .before .bound-row in
     let put = c .before .before .put-literal .ensures in (
-      row-one (a .time) (a .head .now) (a .ground .now) (a .rows .now) (a .row) _ e first (c .before .before .before .before .before .if1 .left) (row .result) (row .ensures) (put .0),
+      row-one (a .time) (a .head .now) (a .ground .now) (a .rows .now) (a .row) _ e first
+          (c .before .before .before .before .before .if1 .left) (row .result) (row .ensures) (put .0),
       put .1,
     )
 

@@ -34,7 +34,8 @@ ground-row-requires c κs =
     let a = c .before .before .before .before .before .before .args in
     let p = c .before .before .before .before .before .before .pre in
     let l = c .before .before .loop in
-    let f = rows-few (a .time) (a .head .now) (a .ground .now) (a .rows .now) (l .i) (a .at) (a .memory .now) _ (l .n) (l .inv .literals) .1 in
+    let f = rows-few (a .time) (a .head .now) (a .ground .now) (a .rows .now) (l .i) (a .at) (a .memory .now) _ (l .n)
+    (l .inv .literals) .1 in
     let s = l .inv .sized in
     (omega arith, (omega arith, (p .1 .1 .0, omega arith)))
 

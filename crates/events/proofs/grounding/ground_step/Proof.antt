@@ -27,7 +27,13 @@ returns c = (
 )
 
 loop-holds : tie.Need-loop-holds Inv-loop μ-loop
-loop-holds c = record { reach = omega arith; few = omega arith; sized = refl; laid = λ D es H w F. laid-none (c .before .before .before .before .before .args .memory .now) }
+loop-holds c = record {
+  reach = omega arith;
+  few = omega arith;
+  sized = refl;
+  laid = λ D es H w F. laid-none
+      (c .before .before .before .before .before .args .memory .now);
+}
 
 ground-event-requires : tie.Need-ground-event-requires Inv-loop μ-loop
 ground-event-requires c κs =

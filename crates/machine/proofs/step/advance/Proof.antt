@@ -57,7 +57,8 @@ same-length-5 c = search needs
 
 returns-2 : tie.Need-returns-2
 returns-2 c =
-    let a = c .before .before .before .before .before .before .before .before .before .before .before .before .before .before .before .before .args in
+    let a = c .before .before .before .before .before .before .before .before .before .before .before .before .before .before .before
+    .before .args in
     let before = stateIn (a .counts) (a .agenda .now) in
     let o = c .before .before .before .before .agenda-after in (
       λ D s es table old S G under free held.
@@ -70,7 +71,11 @@ returns-2 c =
           (ap (λ (h : StateRows). h .running) is) w in
           leaves-large D s es old (a .weight) free (many-open D s es (sym (not-true _ (c .if2 .taken)) ∙ f .0)) before is
           (a .work .now) (S .facts-are),
-      (λ D s es table old S G free held z. absurd (omega arith), c .before .before .before .before .before .before .before .before .before .facts-after .ensures .1 .1),
+      (
+        λ D s es table old S G free held z. absurd (omega arith),
+        c .before .before .before .before .before .before .before .before .before
+            .facts-after .ensures .1 .1,
+      ),
     )
 
 settle-requires : tie.Need-settle-requires
@@ -78,7 +83,8 @@ settle-requires c κs = search needs
 
 top-from-requires : tie.Need-top-from-requires
 top-from-requires c κs =
-    let r = c .before .before .before .before .before .before .before .before .before .before .before .before .before .before .before .before .before .before .before .before .before .before .before .pre .0 .room in
+    let r = c .before .before .before .before .before .before .before .before .before .before .before .before .before .before .before
+    .before .before .before .before .before .before .before .before .pre .0 .room in
     let n = c .before .before .before .before .before .before .before .before .before .before .before .before .before .if1 .left in
     (omega arith, omega arith)
 
@@ -93,7 +99,8 @@ same-length-8 c = search needs
 
 returns-3 : tie.Need-returns-3
 returns-3 c =
-    let a = c .before .before .before .before .before .before .before .before .before .before .before .before .before .before .before .before .before .before .before .before .before .before .before .before .args in
+    let a = c .before .before .before .before .before .before .before .before .before .before .before .before .before .before .before
+    .before .before .before .before .before .before .before .before .before .args in
     let before = stateIn (a .counts) (a .agenda .now) in
     let x = c .before .before .before .before .before .before .before .before .before .before .before .before .before .before .before .before .before .facts-after in
     let small = c .before .before .before .before .before .before .before .before .before .before .before .before .before .before .if1 .left in

@@ -40,15 +40,17 @@ ends-open-requires : tie.Need-ends-open-requires
 ends-open-requires c κs = search needs
 
 returns : tie.Need-returns
-returns c = (
-  omega arith,
-  λ D s es lent kept is rows held.
-      let r = ap (λ (x : StateRows). x .running) is in
-      let w = ap (λ (x : StateRows). x .waiting) is in
-      let ends = c .before .ends-open .ensures D (s .running) es (lent .says .bounded) (kept .running) (kept .waiting) (kept .running-few)
-      (kept .waiting-few) r w in
-      (not-open D s es (sym ends ∙ not-true _ (c .if1 .taken)), λ z. absurd (omega arith)),
-)
+returns c =
+    let opens = c .before .ends-open in
+    let fails = c .if1 .taken in (
+      omega arith,
+      λ D s es lent kept is rows held.
+          let r = ap (λ (x : StateRows). x .running) is in
+          let w = ap (λ (x : StateRows). x .waiting) is in
+          let ends = opens .ensures D (s .running) es (lent .says .bounded) (kept .running) (kept .waiting) (kept .running-few)
+          (kept .waiting-few) r w in
+          (not-open D s es (sym ends ∙ not-true _ fails), λ z. absurd (omega arith)),
+    )
 
 open-met-requires : tie.Need-open-met-requires
 open-met-requires c κs = search needs
@@ -57,16 +59,20 @@ same-length : tie.Need-same-length
 same-length c = search needs
 
 returns-2 : tie.Need-returns-2
-returns-2 c = (
-  omega arith,
-  λ D s es lent kept is rows held.
-      let r = ap (λ (x : StateRows). x .running) is in
-      let w = ap (λ (x : StateRows). x .waiting) is in
-      let ends = c .before .before .before .before .before .before .ends-open .ensures D (s .running) es (lent .says .bounded) (kept .running) (kept .waiting) (kept .running-few)
-      (kept .waiting-few) r w in
-      let keeps = c .before .before .before .open-met .ensures D (s .running) (s .facts) lent r (kept .running) (kept .running-few) rows held in
-      (not-kept D s es (sym ends ∙ not-false _ (c .before .before .before .before .before .if1 .left)) (sym keeps ∙ not-true _ (c .if2 .taken)), λ z. absurd (omega arith)),
-)
+returns-2 c =
+    let opens = c .before .before .before .before .before .before .ends-open in
+    let keeps = c .before .before .before .open-met in
+    let all-open = c .before .before .before .before .before .if1 .left in
+    let fails = c .if2 .taken in (
+      omega arith,
+      λ D s es lent kept is rows held.
+          let r = ap (λ (x : StateRows). x .running) is in
+          let w = ap (λ (x : StateRows). x .waiting) is in
+          let ends = opens .ensures D (s .running) es (lent .says .bounded) (kept .running) (kept .waiting) (kept .running-few)
+          (kept .waiting-few) r w in
+          let keep = keeps .ensures D (s .running) (s .facts) lent r (kept .running) (kept .running-few) rows held in
+          (not-kept D s es (sym ends ∙ not-false _ all-open) (sym keep ∙ not-true _ fails), λ z. absurd (omega arith)),
+    )
 
 ground-step-requires : tie.Need-ground-step-requires
 ground-step-requires c κs = search needs
@@ -78,62 +84,96 @@ same-length-2 : tie.Need-same-length-2
 same-length-2 c = search needs
 
 returns-3 : tie.Need-returns-3
-returns-3 c = (
-  omega arith,
-  λ D s es lent kept is rows held.
-      let r = ap (λ (x : StateRows). x .running) is in
-      let w = ap (λ (x : StateRows). x .waiting) is in
-      let ends = c .before .before .before .before .before .before .before .before .before .before .before .before .before .ends-open .ensures D (s .running) es (lent .says .bounded) (kept .running) (kept .waiting) (kept .running-few)
-      (kept .waiting-few) r w in
-      let G = c .before .before .before .before .before .ground-step .ensures .1 D es lent w (kept .waiting) (kept .waiting-few) in
-      let met = c .before .events-met .ensures D _ es (s .facts) G rows held in
-      (not-met D s es (sym ends ∙ not-false _ (c .before .before .before .before .before .before .before .before .before .before .before .before .if1 .left)) (sym met ∙ not-true _ (c .if3 .taken)), λ z. absurd (omega arith)),
-)
+returns-3 c =
+    let opens = c .before .before .before .before .before .before .before .before .before .before .before .before .before .ends-open in
+    let grounds = c .before .before .before .before .before .ground-step in
+    let mets = c .before .events-met in
+    let all-open = c .before .before .before .before .before .before .before .before .before .before .before .before .if1 .left in
+    let fails = c .if3 .taken in (
+      omega arith,
+      λ D s es lent kept is rows held.
+          let r = ap (λ (x : StateRows). x .running) is in
+          let w = ap (λ (x : StateRows). x .waiting) is in
+          let ends = opens .ensures D (s .running) es (lent .says .bounded) (kept .running) (kept .waiting) (kept .running-few)
+          (kept .waiting-few) r w in
+          let G = grounds .ensures .1 D es lent w (kept .waiting) (kept .waiting-few) in
+          let met = mets .ensures D _ es (s .facts) G rows held in
+          (not-met D s es (sym ends ∙ not-false _ all-open) (sym met ∙ not-true _ fails), λ z. absurd (omega arith)),
+    )
 
 independent-requires : tie.Need-independent-requires
-independent-requires c κs = (c .before .before .before .before .before .before .ground-step .kept .1 .1 .1 .1 .1 .0 ∙ c .before .before .before .before .before .before .before .before .before .before .before .open-met .kept .1 .1 .1 .1 .0 ∙ c .before .before .before .before .before .before .before .before .before .before .before .before .before .before .before .before .before .before .before .before .before .before .pre .1 .0, c .before .before .before .before .before .before .ground-step .ensures .0)
+independent-requires c κs =
+    let keeps = c .before .before .before .before .before .before .before .before .before .before .before .open-met in
+    let grounds = c .before .before .before .before .before .before .ground-step in (
+      grounds .kept .1 .1 .1 .1 .1 .0 ∙ keeps .kept .1 .1 .1 .1 .0 ∙ c .before .before .before .before .before .before .before .before
+          .before .before .before .before .before .before .before .before .before .before .before .before .before .before .pre .1
+          .0,
+      grounds .ensures .0,
+    )
 
 same-length-3 : tie.Need-same-length-3
 same-length-3 c = search needs
 
 returns-4 : tie.Need-returns-4
-returns-4 c = (
-  omega arith,
-  λ D s es lent kept is rows held.
-      let r = ap (λ (x : StateRows). x .running) is in
-      let w = ap (λ (x : StateRows). x .waiting) is in
-      let ends = c .before .before .before .before .before .before .before .before .before .before .before .before .before .before .before .before .ends-open .ensures D (s .running) es (lent .says .bounded) (kept .running) (kept .waiting) (kept .running-few)
-      (kept .waiting-few) r w in
-      let G = c .before .before .before .before .before .before .before .before .ground-step .ensures .1 D es lent w (kept .waiting) (kept .waiting-few) in
-      let met = c .before .before .before .before .events-met .ensures D _ es (s .facts) G rows held in
-      let keeps = c .before .before .before .before .before .before .before .before .before .before .before .before .before .open-met .ensures D (s .running) (s .facts) lent r (kept .running) (kept .running-few) rows held in
-      let apart = c .before .independent .ensures D _ es G (sym (waiting-count es _ w)) (kept .waiting-few) in (
-        not-apart D s es (sym ends ∙ not-false _ (c .before .before .before .before .before .before .before .before .before .before .before .before .before .before .before .if1 .left)) (sym met ∙ not-false _ (c .before .before .before .if3 .left))
-            (sym keeps ∙ not-false _ (c .before .before .before .before .before .before .before .before .before .before .if2 .left)) (sym apart ∙ not-true _ (c .if4 .taken)),
-        λ z. absurd (omega arith),
-      ),
-)
+returns-4 c =
+    let opens = c .before .before .before .before .before .before .before .before .before .before .before .before .before .before .before
+    .before .ends-open in
+    let keeps = c .before .before .before .before .before .before .before .before .before .before .before .before .before .open-met in
+    let grounds = c .before .before .before .before .before .before .before .before .ground-step in
+    let mets = c .before .before .before .before .events-met in
+    let aparts = c .before .independent in
+    let all-open = c .before .before .before .before .before .before .before .before .before .before .before .before .before .before
+    .before .if1 .left in
+    let all-kept = c .before .before .before .before .before .before .before .before .before .before .if2 .left in
+    let all-met = c .before .before .before .if3 .left in
+    let fails = c .if4 .taken in (
+      omega arith,
+      λ D s es lent kept is rows held.
+          let r = ap (λ (x : StateRows). x .running) is in
+          let w = ap (λ (x : StateRows). x .waiting) is in
+          let ends = opens .ensures D (s .running) es (lent .says .bounded) (kept .running) (kept .waiting) (kept .running-few)
+          (kept .waiting-few) r w in
+          let keep = keeps .ensures D (s .running) (s .facts) lent r (kept .running) (kept .running-few) rows held in
+          let G = grounds .ensures .1 D es lent w (kept .waiting) (kept .waiting-few) in
+          let met = mets .ensures D _ es (s .facts) G rows held in
+          let apart = aparts .ensures D _ es G (sym (waiting-count es _ w)) (kept .waiting-few) in (
+            not-apart D s es (sym ends ∙ not-false _ all-open) (sym met ∙ not-false _ all-met) (sym keep ∙ not-false _ all-kept)
+                (sym apart ∙ not-true _ fails),
+            λ z. absurd (omega arith),
+          ),
+    )
 
 same-length-4 : tie.Need-same-length-4
 same-length-4 c = search needs
 
 returns-5 : tie.Need-returns-5
-returns-5 c = (
-  c .before .before .before .before .before .before .before .before .ground-step .ensures .0,
-  λ D s es lent kept is rows held.
-      let r = ap (λ (x : StateRows). x .running) is in
-      let w = ap (λ (x : StateRows). x .waiting) is in
-      let ends = c .before .before .before .before .before .before .before .before .before .before .before .before .before .before .before .before .ends-open .ensures D (s .running) es (lent .says .bounded) (kept .running) (kept .waiting) (kept .running-few)
-      (kept .waiting-few) r w in
-      let G = c .before .before .before .before .before .before .before .before .ground-step .ensures .1 D es lent w (kept .waiting) (kept .waiting-few) in
-      let met = c .before .before .before .before .events-met .ensures D _ es (s .facts) G rows held in
-      let keeps = c .before .before .before .before .before .before .before .before .before .before .before .before .before .open-met .ensures D (s .running) (s .facts) lent r (kept .running) (kept .running-few) rows held in
-      let apart = c .before .independent .ensures D _ es G (sym (waiting-count es _ w)) (kept .waiting-few) in (
-        nothing-forbids D s es (sym ends ∙ not-false _ (c .before .before .before .before .before .before .before .before .before .before .before .before .before .before .before .if1 .left)) (sym met ∙ not-false _ (c .before .before .before .if3 .left))
-            (sym keeps ∙ not-false _ (c .before .before .before .before .before .before .before .before .before .before .if2 .left)) (sym apart ∙ not-false _ (c .if4 .left)),
-        λ z. G,
-      ),
-)
+returns-5 c =
+    let opens = c .before .before .before .before .before .before .before .before .before .before .before .before .before .before .before
+    .before .ends-open in
+    let keeps = c .before .before .before .before .before .before .before .before .before .before .before .before .before .open-met in
+    let grounds = c .before .before .before .before .before .before .before .before .ground-step in
+    let mets = c .before .before .before .before .events-met in
+    let aparts = c .before .independent in
+    let all-open = c .before .before .before .before .before .before .before .before .before .before .before .before .before .before
+    .before .if1 .left in
+    let all-kept = c .before .before .before .before .before .before .before .before .before .before .if2 .left in
+    let all-met = c .before .before .before .if3 .left in
+    let all-apart = c .if4 .left in (
+      grounds .ensures .0,
+      λ D s es lent kept is rows held.
+          let r = ap (λ (x : StateRows). x .running) is in
+          let w = ap (λ (x : StateRows). x .waiting) is in
+          let ends = opens .ensures D (s .running) es (lent .says .bounded) (kept .running) (kept .waiting) (kept .running-few)
+          (kept .waiting-few) r w in
+          let keep = keeps .ensures D (s .running) (s .facts) lent r (kept .running) (kept .running-few) rows held in
+          let G = grounds .ensures .1 D es lent w (kept .waiting) (kept .waiting-few) in
+          let met = mets .ensures D _ es (s .facts) G rows held in
+          let apart = aparts .ensures D _ es G (sym (waiting-count es _ w)) (kept .waiting-few) in (
+            nothing-forbids D s es (sym ends ∙ not-false _ all-open) (sym met ∙ not-false _ all-met) (sym keep ∙ not-false _ all-kept)
+                (sym apart ∙ not-false _ all-apart),
+            λ z. G,
+          ),
+    )
 
 pub forbidden-spec : {M : Type 1} → statement M
 forbidden-spec =

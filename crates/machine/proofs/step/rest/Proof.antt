@@ -27,7 +27,8 @@ same-length c = search needs
 
 returns : tie.Need-returns
 returns c D s lent kept entries rows noted =
-    let met = c .before .before .before .open-met .ensures D (s .running) (s .facts) lent entries (kept .running) (kept .running-few) rows (noted .indexed) in
+    let met = c .before .before .before .open-met .ensures D (s .running) (s .facts) lent entries (kept .running) (kept .running-few) rows
+    (noted .indexed) in
     (unrest D s (sym met ∙ not-true _ (c .if2 .taken)), λ z. absurd (omega arith))
 
 element-write-index : tie.Need-element-write-index
@@ -39,7 +40,8 @@ same-length-2 c = search needs
 returns-2 : tie.Need-returns-2
 returns-2 c D s lent kept entries rows noted =
     let a = c .before .before .before .before .before .before .before .before .before .before .before .before .before .args in
-    let met = c .before .before .before .open-met .ensures D (s .running) (s .facts) lent entries (kept .running) (kept .running-few) rows (noted .indexed) in
+    let met = c .before .before .before .open-met .ensures D (s .running) (s .facts) lent entries (kept .running) (kept .running-few) rows
+    (noted .indexed) in
     let all-hold = sym met ∙ not-false _ (c .if2 .left) in
     (rests D s kept all-hold, λ z. noted-set (a .head .now) D (a .index .now) s noted all-hold)
 
