@@ -12,8 +12,8 @@ use Rattle.records.proofs.Lists.{all-map, any-map}
 use Rattle.literals.specs.declared.Variable.{Variable}
 use Rattle.literals.specs.declared.Time.{Time}
 use Rattle.literals.specs.declared.Time.the-variants.{AtStart, OverAll, AtEnd}
-use Rattle.literals.specs.declared.Clause.{Clause}
-use Rattle.literals.specs.declared.Clause.the-variants.{Positive, Negative}
+use Rattle.literals.specs.declared.Usage.{Usage}
+use Rattle.literals.specs.declared.Usage.the-variants.{Positive, Negative}
 use Rattle.literals.specs.declared.Role.{Role}
 use Rattle.literals.specs.Domain.{Atom, Fact, sameFact, roleNumber, Literal, Domain, action}
 use Rattle.literals.specs.Decode.{byte}
@@ -23,42 +23,42 @@ use Rattle.literals.proofs.Tables.{Kept}
 use Rattle.literals.specs.declared.Moment.{Moment}
 use Rattle.literals.specs.declared.Moment.the-variants.{Start, End}
 use Rattle.literals.specs.Matching.{withRole, literalsAt, overAll}
-use Rattle.classes.proofs.Clauses.{any-role}
+use Rattle.classes.proofs.Usages.{any-role}
 use Rattle.literals.proofs.Indices.{all-filter}
 use Rattle.verdict.specs.Binding.{bind}
 use Rattle.verdict.specs.Machine.{GroundAction, Event, eventFacts, ownHold, overAllHold}
 use Rattle.store.specs.Rows.{factRow, hasRow}
-use Rattle.literals.specs.Keys.{clauseFor}
+use Rattle.literals.specs.Keys.{usageFor}
 use Rattle.store.specs.Index.{Indexed}
-use Rattle.events.specs.Coded.{groundRow, Open, openOf, GroundFits, GroundsFit, timeOf}
+use Rattle.events.specs.Held.{groundRow, Open, openOf, GroundFits, GroundsFit, timeOf}
 use Rattle.events.specs.Grounding.{GroundLiteral, groundLiterals, eventLiterals, groundIn, Grounded}
 use Rattle.applicability.specs.Conditions.{conditionMet}
-use Rattle.events.proofs.FactRows.{has-fact, countsFor, clause-counts, any-literals, all-literals, head-kept, noGround, open-count}
+use Rattle.events.proofs.FactRows.{has-fact, countsFor, usage-counts, any-literals, all-literals, head-kept, noGround, open-count}
 use Rattle.events.proofs.Listed.{entry-fits, entry-row}
 
 -- ---- one ground literal
 
 module _ (facts : List (List ℕ)) (l : GroundLiteral) where
-  pub met-true : l .clause ≡ 1 → (row : List ℕ) (r : Bool) → row ≡ l .row → r ≡ hasRow row facts → r ≡ conditionMet facts l
+  pub met-true : l .usage ≡ 1 → (row : List ℕ) (r : Bool) → row ≡ l .row → r ≡ hasRow row facts → r ≡ conditionMet facts l
   unfolding conditionMet
-  met-true e row r f g = rw (eq-eqb (l .clause) 1 e) (g ∙ ap (λ (x : List ℕ). hasRow x facts) f)
+  met-true e row r f g = rw (eq-eqb (l .usage) 1 e) (g ∙ ap (λ (x : List ℕ). hasRow x facts) f)
 
-  pub met-false : (l .clause ≡ 1 → ⊥) → l .clause ≡ 2 → (row : List ℕ) (r : Bool) → row ≡ l .row → r ≡ hasRow row facts
+  pub met-false : (l .usage ≡ 1 → ⊥) → l .usage ≡ 2 → (row : List ℕ) (r : Bool) → row ≡ l .row → r ≡ hasRow row facts
       → not r ≡ conditionMet facts l
   unfolding conditionMet
   met-false n e row r f g =
-      rw (ne-eqb (l .clause) 1 n, eq-eqb (l .clause) 2 e) (ap not (g ∙ ap (λ (x : List ℕ). hasRow x facts) f))
+      rw (ne-eqb (l .usage) 1 n, eq-eqb (l .usage) 2 e) (ap not (g ∙ ap (λ (x : List ℕ). hasRow x facts) f))
 
-  pub met-none : (l .clause ≡ 1 → ⊥) → (l .clause ≡ 2 → ⊥) → true ≡ conditionMet facts l
+  pub met-none : (l .usage ≡ 1 → ⊥) → (l .usage ≡ 2 → ⊥) → true ≡ conditionMet facts l
   unfolding conditionMet
-  met-none n o = rw (ne-eqb (l .clause) 1 n, ne-eqb (l .clause) 2 o)
+  met-none n o = rw (ne-eqb (l .usage) 1 n, ne-eqb (l .usage) 2 o)
 
 -- the row of one that is read, with the arity of its relation
 pub read-sized : (head : List ℕ) (row at : List ℕ) → row ≡ at → byte at 1 ≡ arityIn head (byte at 0)
     → byte row 1 ≡ arityIn head (byte row 0)
 read-sized head row at e h = ap (λ (t : List ℕ). byte t 1) e ∙ h ∙ sym (ap (λ (t : List ℕ). arityIn head (byte t 0)) e)
 
--- ---- tests of the literals of a clause
+-- ---- tests of the literals of a usage
 
 with-role : (p : Role → Bool) (ls : List Literal) → withRole p ls ≡ map (λ (l : Literal). l .atom) (filterBy (λ (l : Literal). p (l .role)) ls)
 with-role p [] = refl
@@ -77,7 +77,7 @@ module _ (p : Role → Bool) (q : Atom Variable → Bool) (ls : List Literal) wh
       ∙ all-filter (λ (l : Literal). p (l .role)) (λ (l : Literal). q (l .atom)) ls
 
 -- the facts of an event, as tests of its action's literals
-module _ (D : Domain) (e : Event) (c : Clause) (q : Fact → Bool) where
+module _ (D : Domain) (e : Event) (c : Usage) (q : Fact → Bool) where
   pub all-event : all q (eventFacts D e c) ≡ all (λ (l : Literal). not (countsFor (timeOf (e .moment)) c (l .role)) || q (bind (e .ground .binding) (l .atom))) (action D (e .ground .action) .lits)
   unfolding eventFacts
   all-event =
@@ -117,45 +117,45 @@ asks t g fs l =
     (not (countsFor t Positive (l .role)) || elem sameFact (bind (g .binding) (l .atom)) fs)
     && (not (countsFor t Negative (l .role)) || not (elem sameFact (bind (g .binding) (l .atom)) fs))
 
--- no clause is both 1 and 2
-by-clause : (clause : ℕ) (b : Bool) → cond (eqb clause 1) b (cond (eqb clause 2) (not b) true) ≡ (not (eqb clause 1) || b) && (not (eqb clause 2) || not b)
-by-clause clause b = go (eqb clause 1) refl (eqb clause 2) refl b
+-- no usage is both 1 and 2
+by-usage : (usage : ℕ) (b : Bool) → cond (eqb usage 1) b (cond (eqb usage 2) (not b) true) ≡ (not (eqb usage 1) || b) && (not (eqb usage 2) || not b)
+by-usage usage b = go (eqb usage 1) refl (eqb usage 2) refl b
   where
-    go : (x : Bool) → eqb clause 1 ≡ x → (y : Bool) → eqb clause 2 ≡ y → (b : Bool) → cond x b (cond y (not b) true) ≡ (not x || b) && (not y || not b)
-    go true e true f b = let p = eqb-true clause 1 e in let q = eqb-true clause 2 f in absurd (omega arith)
+    go : (x : Bool) → eqb usage 1 ≡ x → (y : Bool) → eqb usage 2 ≡ y → (b : Bool) → cond x b (cond y (not b) true) ≡ (not x || b) && (not y || not b)
+    go true e true f b = let p = eqb-true usage 1 e in let q = eqb-true usage 2 f in absurd (omega arith)
     go true e false f true = refl
     go true e false f false = refl
     go false e true f true = refl
     go false e true f false = refl
     go false e false f b = refl
 
--- a clause of 0 asks for nothing
-none-asked : (clause : ℕ) (b : Bool)
-    → not (not (eqb clause 0)) || cond (eqb clause 1) b (cond (eqb clause 2) (not b) true) ≡ cond (eqb clause 1) b (cond (eqb clause 2)
+-- a usage of 0 asks for nothing
+none-asked : (usage : ℕ) (b : Bool)
+    → not (not (eqb usage 0)) || cond (eqb usage 1) b (cond (eqb usage 2) (not b) true) ≡ cond (eqb usage 1) b (cond (eqb usage 2)
     (not b) true)
-none-asked clause b = go (eqb clause 0) refl
+none-asked usage b = go (eqb usage 0) refl
   where
-    go : (t : Bool) → eqb clause 0 ≡ t
-        → not (not t) || cond (eqb clause 1) b (cond (eqb clause 2) (not b) true) ≡ cond (eqb clause 1) b (cond (eqb clause 2) (not b) true)
+    go : (t : Bool) → eqb usage 0 ≡ t
+        → not (not t) || cond (eqb usage 1) b (cond (eqb usage 2) (not b) true) ≡ cond (eqb usage 1) b (cond (eqb usage 2) (not b) true)
     go true e =
-        let z = eqb-true clause 0 e in
-        sym (rw (ne-eqb clause 1 (λ x. omega arith), ne-eqb clause 2 (λ x. omega arith)))
+        let z = eqb-true usage 0 e in
+        sym (rw (ne-eqb usage 1 (λ x. omega arith), ne-eqb usage 2 (λ x. omega arith)))
     go false e = refl
 
 abbrev groundOf : Time → GroundAction → Literal → GroundLiteral
-groundOf t g l = record { clause = clauseFor t (roleNumber (l .role)); row = factRow (bind (g .binding) (l .atom)) }
+groundOf t g l = record { usage = usageFor t (roleNumber (l .role)); row = factRow (bind (g .binding) (l .atom)) }
 
 literal-asks : (t : Time) (g : GroundAction) (fs : List Fact) (l : Literal) → Kept l
-    → not (not (eqb (clauseFor t (roleNumber (l .role))) 0)) || conditionMet (map factRow fs) (groundOf t g l) ≡ asks t g fs l
+    → not (not (eqb (usageFor t (roleNumber (l .role))) 0)) || conditionMet (map factRow fs) (groundOf t g l) ≡ asks t g fs l
 unfolding conditionMet
 literal-asks t g fs l k =
     let f = bind (g .binding) (l .atom) in
-    let clause = clauseFor t (roleNumber (l .role)) in
-    none-asked clause (hasRow (factRow f) (map factRow fs))
-    ∙ ap (λ (b : Bool). cond (eqb clause 1) b (cond (eqb clause 2) (not b) true)) (has-fact f fs)
-    ∙ by-clause clause (elem sameFact f fs)
+    let usage = usageFor t (roleNumber (l .role)) in
+    none-asked usage (hasRow (factRow f) (map factRow fs))
+    ∙ ap (λ (b : Bool). cond (eqb usage 1) b (cond (eqb usage 2) (not b) true)) (has-fact f fs)
+    ∙ by-usage usage (elem sameFact f fs)
     ∙ ap₂ (λ (x y : Bool). (not x || elem sameFact f fs) && (not y || not (elem sameFact f fs)))
-    (clause-counts t Positive l k) (clause-counts t Negative l k)
+    (usage-counts t Positive l k) (usage-counts t Negative l k)
 
 -- ---- what an action asks
 
@@ -207,7 +207,7 @@ module _ {D : Domain} {head : List ℕ} (H : HeadOf D head) (fs : List Fact) whe
   unfolding groundLiterals
   ground-asks g F t =
       let ls = action D (g .action) .lits in
-      let counted : Literal → Bool = λ l. not (eqb (clauseFor t (roleNumber (l .role))) 0) in
+      let counted : Literal → Bool = λ l. not (eqb (usageFor t (roleNumber (l .role))) 0) in
       all-map (groundOf t g) (conditionMet (map factRow fs)) (filterBy counted ls)
       ∙ all-filter counted (λ (l : Literal). conditionMet (map factRow fs) (groundOf t g l)) ls
       ∙ all-agree (λ (l : Literal). not (counted l) || conditionMet (map factRow fs) (groundOf t g l)) (asks t g fs) ls

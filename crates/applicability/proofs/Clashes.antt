@@ -36,14 +36,14 @@ words-more memory words i w row f h e g j l = go (eqb j i) refl
 
 -- ---- one against another
 
-module _ (clause word : ℕ) (l : GroundLiteral) (w : ℕ) (e : w ≡ wordOf (l .row)) where
-  pub clash-same : w ≡ word → (r : Bool) → r ≡ clashing clause (l .clause) → r ≡ clashesWith clause word l
+module _ (usage word : ℕ) (l : GroundLiteral) (w : ℕ) (e : w ≡ wordOf (l .row)) where
+  pub clash-same : w ≡ word → (r : Bool) → r ≡ clashing usage (l .usage) → r ≡ clashesWith usage word l
   unfolding clashesWith
-  clash-same f r g = g ∙ sym (ap (λ (b : Bool). b && clashing clause (l .clause)) (eq-eqb (wordOf (l .row)) word (sym e ∙ f)))
+  clash-same f r g = g ∙ sym (ap (λ (b : Bool). b && clashing usage (l .usage)) (eq-eqb (wordOf (l .row)) word (sym e ∙ f)))
 
-  pub clash-other : (w ≡ word → ⊥) → false ≡ clashesWith clause word l
+  pub clash-other : (w ≡ word → ⊥) → false ≡ clashesWith usage word l
   unfolding clashesWith
-  clash-other n = sym (ap (λ (b : Bool). b && clashing clause (l .clause)) (ne-eqb (wordOf (l .row)) word (λ f. n (e ∙ f))))
+  clash-other n = sym (ap (λ (b : Bool). b && clashing usage (l .usage)) (ne-eqb (wordOf (l .row)) word (λ f. n (e ∙ f))))
 
 -- ---- a part against those behind it
 

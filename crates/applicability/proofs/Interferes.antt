@@ -12,9 +12,9 @@ use Rattle.records.proofs.Lists.{eqb-comm, getD-in, sameList-comm, all-map, any
 use Rattle.literals.specs.declared.Object.{Object}
 use Rattle.literals.specs.declared.Time.{Time}
 use Rattle.literals.specs.declared.Time.the-variants.{AtStart, OverAll, AtEnd}
-use Rattle.literals.specs.declared.Clause.{Clause}
-use Rattle.literals.specs.declared.Clause.the-variants.{Positive, Negative, Add, Delete}
-use Rattle.literals.specs.Domain.{object, sameObject, Fact, sameFact, clauseNumber, roleNumber, Literal, Domain, arity, action}
+use Rattle.literals.specs.declared.Usage.{Usage}
+use Rattle.literals.specs.declared.Usage.the-variants.{Positive, Negative, Add, Delete}
+use Rattle.literals.specs.Domain.{object, sameObject, Fact, sameFact, usageNumber, roleNumber, Literal, Domain, arity, action}
 use Rattle.literals.specs.Held.{HeadOf}
 use Rattle.literals.proofs.Tables.{Kept}
 use Rattle.literals.proofs.Indices.{any-agree, any-or, any-filter}
@@ -22,17 +22,17 @@ use Rattle.verdict.specs.Binding.{valueOf, bind}
 use Rattle.verdict.specs.Machine.{Event, eventFacts, meet, disturbs, interfere, independent}
 use Rattle.store.specs.Index.{wordOf}
 use Rattle.store.specs.Rows.{factRow}
-use Rattle.literals.specs.Keys.{clauseFor}
-use Rattle.events.specs.Coded.{GroundFits, EventsFit, timeOf}
+use Rattle.literals.specs.Keys.{usageFor}
+use Rattle.events.specs.Held.{GroundFits, EventsFit, timeOf}
 use Rattle.events.specs.Grounding.{GroundLiteral, groundLiterals, eventLiterals}
 use Rattle.applicability.specs.Interference.{clashing, clashesWith, clashes, literalsClash}
 use Rattle.events.proofs.Members.{map-in}
-use Rattle.events.proofs.FactRows.{agree, agree-same, countsFor, clause-counts, listed-in, head-kept}
+use Rattle.events.proofs.FactRows.{agree, agree-same, countsFor, usage-counts, listed-in, head-kept}
 use Rattle.applicability.proofs.Asked.{all-agree, any-event}
 use Rattle.applicability.proofs.Clashes.{any-never}
 use Rattle.applicability.proofs.Words.{Worded, same-word}
 
--- ---- clashing clauses, test by test
+-- ---- clashing usages, test by test
 
 module _ (c d : ℕ) where
   pub clash-none : c ≡ 0 → false ≡ clashing c d
@@ -73,11 +73,11 @@ and-any : {A : Type 0} (t : Bool) (p : A → Bool) (l : List A) → t && any p l
 and-any true p l = refl
 and-any false p l = any-never l
 
--- ---- facts in common, by the clauses of literals
+-- ---- facts in common, by the usages of literals
 
--- the clause of a literal at the time of an event
-abbrev clauseIn : Event → Literal → ℕ
-clauseIn e l = clauseFor (timeOf (e .moment)) (roleNumber (l .role))
+-- the usage of a literal at the time of an event
+abbrev usageIn : Event → Literal → ℕ
+usageIn e l = usageFor (timeOf (e .moment)) (roleNumber (l .role))
 
 -- the literal's fact there
 abbrev factIn : Event → Literal → Fact
@@ -86,23 +86,23 @@ factIn e l = bind (e .ground .binding) (l .atom)
 abbrev literalsOf : Domain → Event → List Literal
 literalsOf D e = action D (e .ground .action) .lits
 
--- two literals of these clauses with one fact
+-- two literals of these usages with one fact
 abbrev shared : ℕ → ℕ → Event → Event → Literal → Literal → Bool
-shared c d e f l m = eqb (clauseIn e l) c && (eqb (clauseIn f m) d && sameFact (factIn e l) (factIn f m))
+shared c d e f l m = eqb (usageIn e l) c && (eqb (usageIn f m) d && sameFact (factIn e l) (factIn f m))
 
 module _ (D : Domain) (e f : Event) (ke : (l : Literal) → In l (literalsOf D e) → Kept l) (kf : (l : Literal) → In l (literalsOf D f) → Kept l) where
-  meet-shared : (c d : Clause) → meet (eventFacts D e c) (eventFacts D f d) ≡ pairs (shared (suc (clauseNumber c)) (suc (clauseNumber d)) e f) (literalsOf D e) (literalsOf D f)
+  meet-shared : (c d : Usage) → meet (eventFacts D e c) (eventFacts D f d) ≡ pairs (shared (suc (usageNumber c)) (suc (usageNumber d)) e f) (literalsOf D e) (literalsOf D f)
   meet-shared c d =
       any-event D e c (λ x. elem sameFact x (eventFacts D f d))
       ∙ any-agree (λ (l : Literal). countsFor (timeOf (e .moment)) c (l .role) && elem sameFact (factIn e l) (eventFacts D f d))
-      (λ (l : Literal). any (shared (suc (clauseNumber c)) (suc (clauseNumber d)) e f l) (literalsOf D f)) (literalsOf D e)
+      (λ (l : Literal). any (shared (suc (usageNumber c)) (suc (usageNumber d)) e f l) (literalsOf D f)) (literalsOf D e)
       (λ l i.
-      ap₂ _&&_ (sym (clause-counts (timeOf (e .moment)) c l (ke l i)))
+      ap₂ _&&_ (sym (usage-counts (timeOf (e .moment)) c l (ke l i)))
       (any-event D f d (sameFact (factIn e l))
       ∙ any-agree (λ (m : Literal). countsFor (timeOf (f .moment)) d (m .role) && sameFact (factIn e l) (factIn f m))
-      (λ (m : Literal). eqb (clauseIn f m) (suc (clauseNumber d)) && sameFact (factIn e l) (factIn f m)) (literalsOf D f)
-      (λ m j. ap (λ (b : Bool). b && sameFact (factIn e l) (factIn f m)) (sym (clause-counts (timeOf (f .moment)) d m (kf m j)))))
-      ∙ and-any (eqb (clauseIn e l) (suc (clauseNumber c))) (λ (m : Literal). eqb (clauseIn f m) (suc (clauseNumber d)) && sameFact (factIn e l) (factIn f m)) (literalsOf D f))
+      (λ (m : Literal). eqb (usageIn f m) (suc (usageNumber d)) && sameFact (factIn e l) (factIn f m)) (literalsOf D f)
+      (λ m j. ap (λ (b : Bool). b && sameFact (factIn e l) (factIn f m)) (sym (usage-counts (timeOf (f .moment)) d m (kf m j)))))
+      ∙ and-any (eqb (usageIn e l) (suc (usageNumber c))) (λ (m : Literal). eqb (usageIn f m) (suc (usageNumber d)) && sameFact (factIn e l) (factIn f m)) (literalsOf D f))
 
 meet-left : (xs ys gs : List Fact) → meet (xs ++ ys) gs ≡ meet xs gs || meet ys gs
 meet-left xs ys gs = any-append (λ f. elem sameFact f gs) xs ys
@@ -112,14 +112,14 @@ meet-right xs gs hs =
     any-agree (λ f. elem sameFact f (gs ++ hs)) (λ f. elem sameFact f gs || elem sameFact f hs) xs (λ f m. any-append (sameFact f) gs hs)
     ∙ sym (any-or (λ f. elem sameFact f gs) (λ f. elem sameFact f hs) xs)
 
--- a condition of one with an add or delete of the other, or an add of one with a delete of the other: by the clauses, and whether the facts are the same
+-- a condition of one with an add or delete of the other, or an add of one with a delete of the other: by the usages, and whether the facts are the same
 abbrev against : ℕ → ℕ → Bool → Bool
 against c d s =
     (((eqb c 1 && (eqb d 3 && s)) || (eqb c 1 && (eqb d 4 && s))) || ((eqb c 2 && (eqb d 3 && s)) || (eqb c 2 && (eqb d 4 && s))))
     || (eqb c 3 && (eqb d 4 && s))
 
 abbrev againstIn : Event → Event → Literal → Literal → Bool
-againstIn e f l m = against (clauseIn e l) (clauseIn f m) (sameFact (factIn e l) (factIn f m))
+againstIn e f l m = against (usageIn e l) (usageIn f m) (sameFact (factIn e l) (factIn f m))
 
 module _ (D : Domain) (e f : Event) (ke : (l : Literal) → In l (literalsOf D e) → Kept l) (kf : (l : Literal) → In l (literalsOf D f) → Kept l) where
   disturbs-pairs : disturbs D e f ≡ pairs (againstIn e f) (literalsOf D e) (literalsOf D f)
@@ -138,11 +138,11 @@ module _ (D : Domain) (e f : Event) (ke : (l : Literal) → In l (literalsOf D e
       F : List Literal
       F = literalsOf D f
 
-      both : (c : Clause) → meet (eventFacts D e c) (eventFacts D f Add ++ eventFacts D f Delete) ≡ pairs (λ l m. shared (suc (clauseNumber c)) 3 e f l m || shared (suc (clauseNumber c)) 4 e f l m) E F
+      both : (c : Usage) → meet (eventFacts D e c) (eventFacts D f Add ++ eventFacts D f Delete) ≡ pairs (λ l m. shared (suc (usageNumber c)) 3 e f l m || shared (suc (usageNumber c)) 4 e f l m) E F
       both c =
           meet-right (eventFacts D e c) (eventFacts D f Add) (eventFacts D f Delete)
           ∙ ap₂ _||_ (meet-shared D e f ke kf c Add) (meet-shared D e f ke kf c Delete)
-          ∙ pairs-or (shared (suc (clauseNumber c)) 3 e f) (shared (suc (clauseNumber c)) 4 e f) E F
+          ∙ pairs-or (shared (suc (usageNumber c)) 3 e f) (shared (suc (usageNumber c)) 4 e f) E F
 
 -- ---- the two ways round together
 
@@ -160,30 +160,30 @@ all-clash false = refl
 clash-either : (c d : ℕ) → c < 5 → d < 5 → (s : Bool) → clashing c d && s ≡ against c d s || against d c s
 clash-either c d h g s = agree-same _ _ (below-in 5 (clashesAs s c) (below-in 5 (λ c. allBelow 5 (clashesAs s c)) (all-clash s) c h) d g)
 
--- no role has a clause above 4
-all-small : (t : Time) → allBelow 10 (λ b. ltb (clauseFor t b) 5) ≡ true
-unfolding clauseFor
+-- no role has a usage above 4
+all-small : (t : Time) → allBelow 10 (λ b. ltb (usageFor t b) 5) ≡ true
+unfolding usageFor
 all-small AtStart = refl
 all-small OverAll = refl
 all-small AtEnd = refl
 
-clause-small : (t : Time) (l : Literal) → Kept l → clauseFor t (roleNumber (l .role)) < 5
-clause-small t l k = let h = k .small in ltb-true _ _ (below-in 10 (λ b. ltb (clauseFor t b) 5) (all-small t) (roleNumber (l .role)) (omega arith))
+usage-small : (t : Time) (l : Literal) → Kept l → usageFor t (roleNumber (l .role)) < 5
+usage-small t l k = let h = k .small in ltb-true _ _ (below-in 10 (λ b. ltb (usageFor t b) 5) (all-small t) (roleNumber (l .role)) (omega arith))
 
 module _ (D : Domain) (e f : Event) (ke : (l : Literal) → In l (literalsOf D e) → Kept l) (kf : (l : Literal) → In l (literalsOf D f) → Kept l) where
-  interfere-pairs : interfere D e f ≡ pairs (λ (l m : Literal). clashing (clauseIn e l) (clauseIn f m) && sameFact (factIn e l) (factIn f m)) (literalsOf D e) (literalsOf D f)
+  interfere-pairs : interfere D e f ≡ pairs (λ (l m : Literal). clashing (usageIn e l) (usageIn f m) && sameFact (factIn e l) (factIn f m)) (literalsOf D e) (literalsOf D f)
   unfolding interfere
   interfere-pairs =
       ap₂ _||_ (disturbs-pairs D e f ke kf) (disturbs-pairs D f e kf ke ∙ pairs-swap (againstIn f e) (literalsOf D f) (literalsOf D e))
       ∙ pairs-or (againstIn e f) (λ l m. againstIn f e m l) (literalsOf D e) (literalsOf D f)
-      ∙ pairs-agree (λ l m. againstIn e f l m || againstIn f e m l) (λ l m. clashing (clauseIn e l) (clauseIn f m) && sameFact (factIn e l) (factIn f m)) (literalsOf D e) (literalsOf D f)
+      ∙ pairs-agree (λ l m. againstIn e f l m || againstIn f e m l) (λ l m. clashing (usageIn e l) (usageIn f m) && sameFact (factIn e l) (factIn f m)) (literalsOf D e) (literalsOf D f)
       (λ l i m j.
-      ap (λ (s : Bool). againstIn e f l m || against (clauseIn f m) (clauseIn e l) s) (fact-comm (factIn f m) (factIn e l))
-      ∙ sym (clash-either (clauseIn e l) (clauseIn f m) (clause-small (timeOf (e .moment)) l (ke l i)) (clause-small (timeOf (f .moment)) m (kf m j)) (sameFact (factIn e l) (factIn f m))))
+      ap (λ (s : Bool). againstIn e f l m || against (usageIn f m) (usageIn e l) s) (fact-comm (factIn f m) (factIn e l))
+      ∙ sym (clash-either (usageIn e l) (usageIn f m) (usage-small (timeOf (e .moment)) l (ke l i)) (usage-small (timeOf (f .moment)) m (kf m j)) (sameFact (factIn e l) (factIn f m))))
 
 -- ---- by words
 
--- a clause of 0 clashes with none
+-- a usage of 0 clashes with none
 abbrev countsAs : Bool → ℕ → ℕ → Bool
 countsAs s c d = agree (not (eqb c 0) && (not (eqb d 0) && (s && clashing c d))) (clashing c d && s)
 
@@ -203,28 +203,28 @@ record Facing (D : Domain) (e : Event) : Type 0 where
 
 module _ (D : Domain) (e f : Event) (E : Facing D e) (F : Facing D f) where
   abbrev groundOf : Event → Literal → GroundLiteral
-  groundOf e l = record { clause = clauseIn e l; row = factRow (factIn e l) }
+  groundOf e l = record { usage = usageIn e l; row = factRow (factIn e l) }
 
   abbrev counted : Event → Literal → Bool
-  counted e l = not (eqb (clauseIn e l) 0)
+  counted e l = not (eqb (usageIn e l) 0)
 
   worded : (e : Event) → Facing D e → (l : Literal) → In l (literalsOf D e) → Worded (factIn e l)
   worded e E l i = record { few = rw length-map (E .kept l i .fits); objects = E .objects l i }
 
   literal-clash : (l m : Literal) → In l (literalsOf D e) → In m (literalsOf D f)
       → counted e l && (counted f m && clashes (groundOf e l) (groundOf f m))
-      ≡ clashing (clauseIn e l) (clauseIn f m) && sameFact (factIn e l) (factIn f m)
+      ≡ clashing (usageIn e l) (usageIn f m) && sameFact (factIn e l) (factIn f m)
   unfolding clashesWith
   literal-clash l m i j =
-      ap (λ (s : Bool). counted e l && (counted f m && (s && clashing (clauseIn e l) (clauseIn f m))))
+      ap (λ (s : Bool). counted e l && (counted f m && (s && clashing (usageIn e l) (usageIn f m))))
       (same-word (factIn e l) (factIn f m) (worded e E l i) (worded f F m j)
       (λ q.
       length-map (l .atom .args) (valueOf (e .ground .binding))
       ∙ E .sized l i
       ∙ ap (arity D) q
       ∙ sym (length-map (m .atom .args) (valueOf (f .ground .binding)) ∙ F .sized m j)))
-      ∙ clash-counts (clauseIn e l) (clauseIn f m) (clause-small (timeOf (e .moment)) l (E .kept l i))
-      (clause-small (timeOf (f .moment)) m (F .kept m j)) (sameFact (factIn e l) (factIn f m))
+      ∙ clash-counts (usageIn e l) (usageIn f m) (usage-small (timeOf (e .moment)) l (E .kept l i))
+      (usage-small (timeOf (f .moment)) m (F .kept m j)) (sameFact (factIn e l) (factIn f m))
 
   literals-interfere : literalsClash (eventLiterals D e) (eventLiterals D f) ≡ interfere D e f
   unfolding groundLiterals
@@ -232,7 +232,7 @@ module _ (D : Domain) (e f : Event) (E : Facing D e) (F : Facing D f) where
       any-map (groundOf e) (λ (a : GroundLiteral). any (clashes a) (eventLiterals D f)) (filterBy (counted e) (literalsOf D e))
       ∙ any-filter (counted e) (λ (l : Literal). any (clashes (groundOf e l)) (eventLiterals D f)) (literalsOf D e)
       ∙ any-agree (λ (l : Literal). counted e l && any (clashes (groundOf e l)) (eventLiterals D f))
-      (λ (l : Literal). any (λ (m : Literal). clashing (clauseIn e l) (clauseIn f m) && sameFact (factIn e l) (factIn f m))
+      (λ (l : Literal). any (λ (m : Literal). clashing (usageIn e l) (usageIn f m) && sameFact (factIn e l) (factIn f m))
       (literalsOf D f))
       (literalsOf D e)
       (λ l i.
@@ -241,7 +241,7 @@ module _ (D : Domain) (e f : Event) (E : Facing D e) (F : Facing D f) where
       ∙ any-filter (counted f) (λ (m : Literal). clashes (groundOf e l) (groundOf f m)) (literalsOf D f))
       ∙ and-any (counted e l) (λ (m : Literal). counted f m && clashes (groundOf e l) (groundOf f m)) (literalsOf D f)
       ∙ any-agree (λ (m : Literal). counted e l && (counted f m && clashes (groundOf e l) (groundOf f m)))
-      (λ (m : Literal). clashing (clauseIn e l) (clauseIn f m) && sameFact (factIn e l) (factIn f m)) (literalsOf D f)
+      (λ (m : Literal). clashing (usageIn e l) (usageIn f m) && sameFact (factIn e l) (factIn f m)) (literalsOf D f)
       (λ m j. literal-clash l m i j))
       ∙ sym (interfere-pairs D e f (E .kept) (F .kept))
 

@@ -8,4 +8,4 @@ use Rattle.events.specs.Grounding.{GroundLiteral}
 
 -- a ground literal holds where it is a condition: a true one asks for its fact, a false one for its absence, an effect for nothing
 unfoldable pub conditionMet : List (List ℕ) → GroundLiteral → Bool
-conditionMet facts l = cond (eqb (l .clause) 1) (hasRow (l .row) facts) (cond (eqb (l .clause) 2) (not (hasRow (l .row) facts)) true)
+conditionMet facts l = cond (eqb (l .usage) 1) (hasRow (l .row) facts) (cond (eqb (l .usage) 2) (not (hasRow (l .row) facts)) true)

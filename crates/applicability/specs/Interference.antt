@@ -1,4 +1,4 @@
--- Interference, by ground literals: two of one fact, told by its word, whose clauses may not stand in two events. Assumes nothing.
+-- Interference, by ground literals: two of one fact, told by its word, whose usages may not stand in two events. Assumes nothing.
 use mathlib.Core.Path.{_≡_}
 use mathlib.Core.Bool.{Bool, _&&_, not, cond}
 use mathlib.Core.List.{List}
@@ -9,17 +9,17 @@ use Rattle.records.specs.Lists.{any}
 use Rattle.store.specs.Index.{wordOf}
 use Rattle.events.specs.Grounding.{GroundLiteral, groundAt}
 
--- two clauses of one fact that two events may not have: a condition with an add or delete, an add with a delete
+-- two usages of one fact that two events may not have: a condition with an add or delete, an add with a delete
 unfoldable pub clashing : ℕ → ℕ → Bool
 clashing c d = cond (ltb c 3) (not (eqb c 0) && leb 3 d) (cond (ltb d 3) (not (eqb d 0)) (not (eqb c d)))
 
--- a ground literal clashes with one of this clause whose fact has this word; two ground literals clash
+-- a ground literal clashes with one of this usage whose fact has this word; two ground literals clash
 unfoldable pub clashesWith : ℕ → ℕ → GroundLiteral → Bool
 unfolding clashing wordOf
-clashesWith clause word b = eqb (wordOf (b .row)) word && clashing clause (b .clause)
+clashesWith usage word b = eqb (wordOf (b .row)) word && clashing usage (b .usage)
 
 abbrev pub clashes : GroundLiteral → GroundLiteral → Bool
-clashes a b = clashesWith (a .clause) (wordOf (a .row)) b
+clashes a b = clashesWith (a .usage) (wordOf (a .row)) b
 
 -- a ground literal of the first list clashes with one of the second
 abbrev pub literalsClash : List GroundLiteral → List GroundLiteral → Bool

@@ -17,11 +17,11 @@ ghost use Rattle.literals.specs.Domain.{Fact, Domain};
 ghost use Rattle.literals.specs.Decode.{byte};
 ghost use Rattle.literals.specs.Table.{rowsIn};
 ghost use Rattle.literals.specs.Held.{arityIn, Held};
-ghost use Rattle.runs.specs.RunFile.{maxFacts, maxRunning};
+ghost use Rattle.run_semantics.specs.RunFile.{maxFacts, maxRunning};
 ghost use Rattle.verdict.specs.Machine.{GroundAction, Event, ownHold, overAllHold};
 ghost use Rattle.store.specs.Index.{Indexed};
 ghost use Rattle.store.specs.Rows.{factRow};
-ghost use Rattle.events.specs.Coded.{groundBytes, openBytes, groundRow, openOf, GroundFits, GroundsFit};
+ghost use Rattle.events.specs.Held.{groundBytes, openBytes, groundRow, openOf, GroundFits, GroundsFit};
 ghost use Rattle.events.specs.Grounding.{maxGround, groundedBytes, groundAt, groundIn, EachSized, Grounded};
 ghost use Rattle.applicability.specs.Conditions.{conditionMet};
 
@@ -36,11 +36,11 @@ fn condition_met(memory: &[u8], i: usize, index: &FactIndex, work: &[u8], n: usi
         → byte (groundAt (now (memory .entry)) i .row) 1 ≡ arityIn head (byte (groundAt (now (memory .entry)) i .row) 0)
         → r ≡ conditionMet (rowsIn n (now (work .entry))) (groundAt (now (memory .entry)) i)) ⌝ }
 {
-    let clause = memory[CLAUSES + i];
-    if clause == 1 {
+    let usage = memory[CLAUSES + i];
+    if usage == 1 {
         return is_held(index, work, n, row_at(memory, 8 * i));
     }
-    if clause == 2 {
+    if usage == 2 {
         return !is_held(index, work, n, row_at(memory, 8 * i));
     }
     true

@@ -13,13 +13,13 @@ ghost use Prim.Native.Nat.{ℕ, _<_, _≤_};
 ghost use lib.ListN.{length, getD, drop};
 ghost use Rattle.records.specs.Lists.{any, pairwise};
 ghost use Rattle.literals.specs.Domain.{Domain};
-ghost use Rattle.runs.specs.RunFile.{maxEvents};
+ghost use Rattle.run_semantics.specs.RunFile.{maxEvents};
 ghost use Rattle.verdict.specs.Machine.{Event, independent};
 ghost use Rattle.store.specs.Index.{wordOf};
 ghost use Rattle.events.specs.Grounding.{GroundLiteral, maxGround, groundedBytes, groundAt, groundIn, Laid, Grounded};
 ghost use Rattle.applicability.specs.Interference.{clashing, clashesWith, literalsClash, WordsOf};
 
-// Whether two clauses of one fact may not stand in two events: a condition with an add or delete, an add with a delete.
+// Whether two usages of one fact may not stand in two events: a condition with an add or delete, an add with a delete.
 fn clashing(c: u8, d: u8) -> bool
     ensures { λ r. ⌜ r ≡ clashing c d ⌝ }
 {
@@ -47,31 +47,31 @@ fn put_words(words: &mut [u64], memory: &[u8], n: usize)
     }
 }
 
-// Whether the ground literal j clashes with one of this clause and word.
-fn clashes_at(memory: &[u8], words: &[u64], j: usize, clause: u8, word: u64) -> bool
+// Whether the ground literal j clashes with one of this usage and word.
+fn clashes_at(memory: &[u8], words: &[u64], j: usize, usage: u8, word: u64) -> bool
     requires memory { ⌜ length (now memory) ≡ groundedBytes ⌝ }
     requires words { ⌜ length (now words) ≡ maxGround ⌝ }
     requires literal { ⌜ j < maxGround ⌝ }
     requires worded { ⌜ getD (now words) j 0 ≡ wordOf (groundAt (now memory) j .row) ⌝ }
-    ensures { λ r. ⌜ r ≡ clashesWith clause word (groundAt (now (memory .entry)) j) ⌝ }
+    ensures { λ r. ⌜ r ≡ clashesWith usage word (groundAt (now (memory .entry)) j) ⌝ }
 {
     if words[j] != word {
         return false;
     }
-    clashing(clause, memory[CLAUSES + j])
+    clashing(usage, memory[CLAUSES + j])
 }
 
-// Whether one of the ground literals from `from` up to `to` clashes with one of this clause and word.
-fn clashes_from(memory: &[u8], words: &[u64], clause: u8, word: u64, from: usize, to: usize) -> bool
+// Whether one of the ground literals from `from` up to `to` clashes with one of this usage and word.
+fn clashes_from(memory: &[u8], words: &[u64], usage: u8, word: u64, from: usize, to: usize) -> bool
     requires memory { ⌜ length (now memory) ≡ groundedBytes ⌝ }
     requires words { ⌜ length (now words) ≡ maxGround ⌝ }
     requires few { ⌜ to ≤ maxGround ⌝ }
     requires worded { ⌜ WordsOf to (now memory) (now words) ⌝ }
-    ensures { λ r. ⌜ r ≡ any (clashesWith clause word) (drop from (groundIn to (now (memory .entry)))) ⌝ }
+    ensures { λ r. ⌜ r ≡ any (clashesWith usage word) (drop from (groundIn to (now (memory .entry)))) ⌝ }
 {
     let mut j = from;
     while j < to {
-        if clashes_at(memory, words, j, clause, word) {
+        if clashes_at(memory, words, j, usage, word) {
             return true;
         }
         j += 1;

@@ -5,17 +5,20 @@ use Prim.Native.Nat.{ℕ}
 use Rattle.literals.specs.declared.Role.{Role}
 use Rattle.literals.specs.declared.Time.{Time}
 use Rattle.literals.specs.declared.Time.the-variants.{AtStart, OverAll, AtEnd}
-use Rattle.literals.specs.declared.Clause.{Clause}
-use Rattle.literals.specs.declared.Clause.the-variants.{Positive, Negative, Add, Delete}
+use Rattle.literals.specs.declared.Usage.{Usage}
+use Rattle.literals.specs.declared.Usage.the-variants.{Positive, Negative, Add, Delete}
 use Rattle.literals.specs.Domain.{roleOf}
 use Rattle.verdict.specs.Judged.{judged, reportAfter, witnessAfter}
-use Rattle.cases.specs.Written.{FF, rec, each, relation, atOnce, lasting, literal, component, closing, holds, lacks, adds, deletes, holdsOverAll, lacksOverAll, holdsAtEnd, lacksAtEnd, addsAtEnd, deletesAtEnd, lent, row, unreachable, irrelevant, heavy, balanced, unbalanced, bounded, unbounded, held, judging, leaves, judge, answers, refuses}
+use Rattle.cases.specs.Written.{FF, rec, each, relation, atOnce, lasting, literal, component, closing, holds, lacks, adds, deletes}
+use Rattle.cases.specs.Written.{holdsOverAll, lacksOverAll, holdsAtEnd, lacksAtEnd, addsAtEnd, deletesAtEnd, lent, row, unreachable}
+use Rattle.cases.specs.Written.{irrelevant, heavy, balanced, unbalanced, bounded, unbounded, held, judging, leaves, judge, answers}
+use Rattle.cases.specs.Written.{refuses}
 use Rattle.cases.specs.Samples.{at, out, relations, template, full, empty, fill, pour, m4, m10}
 
 -- ---- vocabulary
 
-abbrev role : Time → Clause → Role
-role t c = record { time = t; clause = c }
+abbrev role : Time → Usage → Role
+role t c = record { time = t; usage = c }
 
 -- a third relation, of one argument and without a component
 abbrev lit : ℕ → List ℕ
@@ -35,7 +38,8 @@ secondClass = library (atOnce 3 ++ deletes (at 1 2) ++ holds (lit 2) ++ adds (at
 
 -- three actions at fault, by 42, 41 and 40
 abbrev threeFaults : List ℕ
-threeFaults = library (atOnce 2 ++ adds (at 0 1) ++ atOnce 3 ++ holds (at 0 1) ++ adds (at 0 2) ++ atOnce 3 ++ adds (at 0 1) ++ adds (at 0 2))
+threeFaults = library
+    (atOnce 2 ++ adds (at 0 1) ++ atOnce 3 ++ holds (at 0 1) ++ adds (at 0 2) ++ atOnce 3 ++ adds (at 0 1) ++ adds (at 0 2))
 
 -- ---- roles, classes, names, journeys and witnesses
 
@@ -45,7 +49,8 @@ pub record Names : Type 0 where
       ≡ role AtStart Positive ∷ role AtStart Negative ∷ role AtStart Add ∷ role AtStart Delete
       ∷ role OverAll Positive ∷ role OverAll Negative
       ∷ role AtEnd Positive ∷ role AtEnd Negative ∷ role AtEnd Add ∷ role AtEnd Delete ∷ []
-  -- an over-all true condition doesn't balance the end, which its own would; no witness is written for an end whose class has an over-all literal
+  -- an over-all true condition doesn't balance the end, which its own would; no witness is written for an end whose class has an over-all
+  -- literal
   pub over-all-at-end : judge (library (lasting 3 ++ holdsOverAll (at 0 1) ++ addsAtEnd (at 0 2) ++ deletesAtEnd (at 0 1)))
       ≡ answers 42 0 0 1 (row 0 0 0 irrelevant ++ row 0 0 1 unbounded) []
   -- nor does it count at the start, or stand in the start's witness, which is written
@@ -58,17 +63,20 @@ pub record Names : Type 0 where
   pub over-all-unreachable : judge (library (lasting 3 ++ holdsOverAll (at 0 1) ++ holdsOverAll (at 0 2) ++ addsAtEnd (at 0 2)))
       ≡ answers 0 0 0 0 (row 0 0 0 irrelevant ++ row 0 0 1 unreachable) []
   -- so does one with an own one: without it this end would be balanced
-  pub over-all-and-own-unreachable : judge (library (lasting 3 ++ holdsOverAll (at 0 1) ++ holdsAtEnd (at 0 2) ++ deletesAtEnd (at 0 2) ++ addsAtEnd (at 0 1)))
+  pub over-all-and-own-unreachable : judge
+      (library (lasting 3 ++ holdsOverAll (at 0 1) ++ holdsAtEnd (at 0 2) ++ deletesAtEnd (at 0 2) ++ addsAtEnd (at 0 1)))
       ≡ answers 0 0 0 0 (row 0 0 0 irrelevant ++ row 0 0 1 unreachable) []
   -- an over-all true condition leaves an end's own balance as it is: here they are of two classes
-  pub over-all-beside-balanced : judge (library (lasting 4 ++ holdsOverAll (at 3 1) ++ holdsAtEnd (at 0 1) ++ deletesAtEnd (at 0 1) ++ addsAtEnd (at 0 2)))
+  pub over-all-beside-balanced : judge
+      (library (lasting 4 ++ holdsOverAll (at 3 1) ++ holdsAtEnd (at 0 1) ++ deletesAtEnd (at 0 1) ++ addsAtEnd (at 0 2)))
       ≡ answers 0 0 0 0 (row 0 0 0 irrelevant ++ row 0 0 1 irrelevant ++ row 0 1 0 irrelevant ++ row 0 1 1 balanced) []
   -- a heavy end writes no witness either
   pub over-all-heavy : judge (library (lasting 4 ++ holdsOverAll (at 0 1) ++ addsAtEnd (at 0 2) ++ addsAtEnd (at 0 3)))
       ≡ answers 40 0 0 1 (row 0 0 0 irrelevant ++ row 0 0 1 heavy) []
   -- an over-all literal of another class: the witness is written, and the over-all true condition is in it
   pub over-all-elsewhere : judge (library (lasting 4 ++ holdsOverAll (at 2 3) ++ addsAtEnd (at 0 1)))
-      ≡ answers 42 0 1 1 (row 0 0 0 irrelevant ++ row 0 0 1 irrelevant ++ row 0 1 0 irrelevant ++ row 0 1 1 unbounded) (held (at 2 3) ++ held (at 0 4))
+      ≡ answers 42 0 1 1 (row 0 0 0 irrelevant ++ row 0 0 1 irrelevant ++ row 0 1 0 irrelevant ++ row 0 1 1 unbounded)
+      (held (at 2 3) ++ held (at 0 4))
   -- a journey's end looks at its own conditions only
   pub journey-over-all : judge (vessels (lasting 1 ++ holds (full 0) ++ deletes (full 0) ++ holdsOverAll (full 0) ++ addsAtEnd (empty 0)))
       ≡ answers 1 0 0 0 (row 0 0 0 irrelevant ++ row 0 0 1 unbounded) []
@@ -83,16 +91,20 @@ pub record Names : Type 0 where
   -- nor does one of another class
   pub other-class-covers-not : judge (vessels (atOnce 2 ++ adds (full 0) ++ deletes (empty 1)))
       ≡ answers 42 0 0 0 (row 0 0 0 unbounded ++ row 0 1 0 irrelevant) (held (empty 0))
-  -- "at(0,1) and at(2,3) belong to two volumes": the second class is named in the place; the witness has all true conditions, then the spare object 4
+  -- "at(0,1) and at(2,3) belong to two volumes": the second class is named in the place; the witness has all true conditions, then the
+  -- spare object 4
   pub two-volumes : judge (library (atOnce 4 ++ holds (at 0 1) ++ deletes (at 0 1) ++ adds (at 2 3)))
       ≡ answers 42 0 1 0 (row 0 0 0 irrelevant ++ row 0 1 0 unbounded) (held (at 0 1) ++ held (at 2 4))
   -- classes are numbered by first literal, not by variable; the condition without a component is in the witness
   pub second-class : judge secondClass ≡ answers 40 0 1 0 (row 0 0 0 irrelevant ++ row 0 1 0 heavy) (held (lit 2))
   -- true conditions of an end in file order, own and over-all, once each, then the instance fact
-  pub witness-order : judge (library (lasting 3 ++ addsAtEnd (at 0 1) ++ holdsAtEnd (lit 1) ++ holdsOverAll (lit 0) ++ holdsOverAll (lit 1) ++ holds (lit 2)))
+  pub witness-order : judge
+      (library (lasting 3 ++ addsAtEnd (at 0 1) ++ holdsAtEnd (lit 1) ++ holdsOverAll (lit 0) ++ holdsOverAll (lit 1) ++ holds (lit 2)))
       ≡ answers 42 0 0 1 (row 0 0 0 irrelevant ++ row 0 0 1 unbounded) (held (lit 1) ++ held (lit 0) ++ held (at 0 3))
   -- unreachable is tested before irrelevant and heavy
-  pub unreachable-first : judge (library (atOnce 3 ++ holds (at 0 1) ++ holds (at 0 2) ++ atOnce 3 ++ holds (at 0 1) ++ holds (at 0 2) ++ adds (at 0 1) ++ adds (at 0 2)))
+  pub unreachable-first : judge
+      (library (atOnce 3 ++ holds (at 0 1) ++ holds (at 0 2) ++ atOnce 3 ++ holds (at 0 1) ++ holds (at 0 2) ++ adds (at 0 1)
+      ++ adds (at 0 2)))
       ≡ answers 0 0 0 0 (row 0 0 0 unreachable ++ row 1 0 0 unreachable) []
   -- heavy before balanced
   pub heavy-before-balanced : judge (library (atOnce 4 ++ holds (at 0 1) ++ deletes (at 0 1) ++ adds (at 0 2) ++ adds (at 0 3)))
@@ -108,7 +120,9 @@ pub record Names : Type 0 where
       ++ component (0 ∷ 0 ∷ 1 ∷ 2 ∷ 3 ∷ 4 ∷ FF ∷ []) ++ closing)
       ≡ answers 41 0 0 0 (row 0 0 0 unbalanced) (0 ∷ 6 ∷ 0 ∷ 1 ∷ 2 ∷ 3 ∷ 4 ∷ 5 ∷ [])
   -- keys in another order: at(0,1) and out(1,0) have one tuple
-  pub keys-swapped-class : judge (relations ++ atOnce 2 ++ holds (out 1 0) ++ deletes (out 1 0) ++ adds (at 0 1) ++ component (at 0 1) ++ component (out 1 0) ++ closing)
+  pub keys-swapped-class : judge
+      (relations ++ atOnce 2 ++ holds (out 1 0) ++ deletes (out 1 0) ++ adds (at 0 1) ++ component (at 0 1) ++ component (out 1 0)
+      ++ closing)
       ≡ answers 0 0 0 0 (row 0 0 0 balanced) []
   -- and the instance fact puts each key's object in its place
   pub keys-swapped-witness : judge (relations ++ atOnce 2 ++ adds (at 0 1) ++ component (at 0 1) ++ component (out 1 0) ++ closing)
@@ -123,7 +137,8 @@ pub record Names : Type 0 where
   pub start-holds-two : judge (library (lasting 3 ++ holds (at 0 1) ++ holds (at 0 2) ++ deletes (at 0 1) ++ addsAtEnd (out 0 2)))
       ≡ answers 42 0 0 1 (row 0 0 0 unreachable ++ row 0 0 1 unbounded) (held (at 0 3))
   -- a bounded journey's end beside an unbounded one: accepted, 1
-  pub bounded-journey : judge (vessels (lasting 1 ++ holds (full 0) ++ deletes (full 0) ++ addsAtEnd (empty 0) ++ deletesAtEnd (full 0) ++ pour))
+  pub bounded-journey : judge
+      (vessels (lasting 1 ++ holds (full 0) ++ deletes (full 0) ++ addsAtEnd (empty 0) ++ deletesAtEnd (full 0) ++ pour))
       ≡ answers 1 0 0 0 (row 0 0 0 irrelevant ++ row 0 0 1 bounded ++ row 1 0 0 irrelevant ++ row 1 0 1 unbounded) []
   -- 43 at a later action and its second class
   pub bounded-later : judge (vessels (pour ++ atOnce 2 ++ deletes (full 1) ++ adds (full 0) ++ deletes (empty 0)))
@@ -144,10 +159,13 @@ pub record Names : Type 0 where
   pub class-before-moment : judge (vessels (lasting 2 ++ deletes (full 0) ++ deletesAtEnd (full 0) ++ adds (empty 1) ++ deletes (full 1)))
       ≡ answers 0 0 0 0 (row 0 0 0 irrelevant ++ row 0 0 1 irrelevant ++ row 0 1 0 bounded ++ row 0 1 1 irrelevant) []
   -- n = 0: literals of two relations form one class too
-  pub no-keys-two-relations : judge (relation 1 ++ relation 1 ++ atOnce 2 ++ holds (full 0) ++ deletes (full 0) ++ adds (empty 1) ++ component (full FF) ++ component (empty FF) ++ closing)
+  pub no-keys-two-relations : judge
+      (relation 1 ++ relation 1 ++ atOnce 2 ++ holds (full 0) ++ deletes (full 0) ++ adds (empty 1) ++ component (full FF)
+      ++ component (empty FF) ++ closing)
       ≡ answers 0 0 0 0 (row 0 0 0 balanced) []
   -- no journey: two true conditions at the start, both deleted
-  pub start-deletes-two : judge (library (lasting 3 ++ holds (at 0 1) ++ holds (at 0 2) ++ deletes (at 0 1) ++ deletes (at 0 2) ++ addsAtEnd (out 0 2)))
+  pub start-deletes-two : judge
+      (library (lasting 3 ++ holds (at 0 1) ++ holds (at 0 2) ++ deletes (at 0 1) ++ deletes (at 0 2) ++ addsAtEnd (out 0 2)))
       ≡ answers 42 0 0 1 (row 0 0 0 unreachable ++ row 0 0 1 unbounded) (held (at 0 3))
   -- no journey: the start deletes another literal of the class
   pub start-deletes-other : judge (library (lasting 3 ++ holds (at 0 1) ++ deletes (at 0 2) ++ addsAtEnd (out 0 2)))
@@ -168,11 +186,14 @@ pub record Names : Type 0 where
   pub heavy-in-later-class : judge (library (atOnce 4 ++ adds (at 0 2) ++ adds (at 1 2) ++ adds (at 1 3)))
       ≡ answers 40 0 1 0 (row 0 0 0 unbounded ++ row 0 1 0 heavy) []
   -- within one number the earliest action, here at its end, before the start of a later one
-  pub earliest-action : judge (library (lasting 3 ++ holdsAtEnd (at 0 1) ++ addsAtEnd (at 0 2) ++ atOnce 3 ++ holds (at 0 2) ++ adds (at 0 1)))
+  pub earliest-action : judge
+      (library (lasting 3 ++ holdsAtEnd (at 0 1) ++ addsAtEnd (at 0 2) ++ atOnce 3 ++ holds (at 0 2) ++ adds (at 0 1)))
       ≡ answers 41 0 0 1 (row 0 0 0 irrelevant ++ row 0 0 1 unbalanced ++ row 1 0 0 unbalanced) (held (at 0 1))
   -- and in it the earliest class: of class 0 the start is unbounded, of both classes the end is unbalanced
-  pub earliest-class : judge (library (lasting 3 ++ adds (at 0 2) ++ holdsAtEnd (at 0 1) ++ addsAtEnd (at 0 2) ++ holdsAtEnd (at 1 2) ++ addsAtEnd (at 1 0)))
-      ≡ answers 41 0 0 1 (row 0 0 0 unbounded ++ row 0 0 1 unbalanced ++ row 0 1 0 irrelevant ++ row 0 1 1 unbalanced) (held (at 0 1) ++ held (at 1 2))
+  pub earliest-class : judge
+      (library (lasting 3 ++ adds (at 0 2) ++ holdsAtEnd (at 0 1) ++ addsAtEnd (at 0 2) ++ holdsAtEnd (at 1 2) ++ addsAtEnd (at 1 0)))
+      ≡ answers 41 0 0 1 (row 0 0 0 unbounded ++ row 0 0 1 unbalanced ++ row 0 1 0 irrelevant ++ row 0 1 1 unbalanced)
+      (held (at 0 1) ++ held (at 1 2))
   -- 43 is not looked for beside a 42: without the last action it is 43, at the first
   pub unbounded-beside-bounded : judge (vessels (fill ++ pour ++ atOnce 1 ++ adds (full 0)))
       ≡ answers 42 2 0 0 (row 0 0 0 bounded ++ row 1 0 0 irrelevant ++ row 1 0 1 unbounded ++ row 2 0 0 unbounded) (held (empty 0))
@@ -254,12 +275,14 @@ pub record Room : Type 0 where
   pub no-fact : judging m4 (lent 4) [] ≡ leaves 40 0 0 0 (row 0 0 0 heavy) []
   pub no-witness : judging m10 (lent 12) [] ≡ leaves 43 0 0 0 (row 0 0 0 bounded ++ row 1 0 0 irrelevant ++ row 1 0 1 unbounded) []
   -- the room goes by the place that is named: 40's witness has no fact, 41's and 42's, earlier in the file, have one
-  pub witness-of-worst : judging threeFaults (lent 12) [] ≡ leaves 40 2 0 0 (row 0 0 0 unbounded ++ row 1 0 0 unbalanced ++ row 2 0 0 heavy) []
+  pub witness-of-worst : judging threeFaults (lent 12) []
+      ≡ leaves 40 2 0 0 (row 0 0 0 unbounded ++ row 1 0 0 unbalanced ++ row 2 0 0 heavy) []
   -- an end whose class has an over-all literal needs none either: 31 isn't tested
   pub no-witness-over-all : judging (library (lasting 3 ++ holdsOverAll (at 0 1) ++ addsAtEnd (at 0 2))) (lent 8) []
       ≡ leaves 42 0 0 1 (row 0 0 0 irrelevant ++ row 0 0 1 unbounded) []
   -- but for its report: 30
-  pub over-all-report-short : judging (library (lasting 3 ++ holdsOverAll (at 0 1) ++ addsAtEnd (at 0 2))) (lent 7) [] ≡ leaves 30 0 0 0 (lent 7) []
+  pub over-all-report-short : judging (library (lasting 3 ++ holdsOverAll (at 0 1) ++ addsAtEnd (at 0 2))) (lent 7) []
+      ≡ leaves 30 0 0 0 (lent 7) []
   -- 43 is decided after 30
   pub bounded-short : judging m10 (lent 11) [] ≡ leaves 30 0 0 0 (lent 11) []
   -- a file that isn't well-formed is refused whatever is lent
@@ -339,7 +362,8 @@ pub record Refusals : Type 0 where
   -- 14: one relation, action, literal, component too many
   pub relation-65 : judge (each 65 (λ i. relation 0)) ≡ refuses 14 320
   pub action-65 : judge (each 65 (λ i. atOnce 0)) ≡ refuses 14 384
-  pub literal-65 : judge (relation 1 ++ lasting 16 ++ each 16 (λ v. adds (full v)) ++ each 16 (λ v. deletes (full v)) ++ each 16 (λ v. addsAtEnd (full v))
+  pub literal-65 : judge
+      (relation 1 ++ lasting 16 ++ each 16 (λ v. adds (full v)) ++ each 16 (λ v. deletes (full v)) ++ each 16 (λ v. addsAtEnd (full v))
       ++ each 16 (λ v. deletesAtEnd (full v)) ++ holds (full 0)) ≡ refuses 14 459
   pub component-17 : judge (each 17 (λ i. relation 0) ++ each 17 (λ i. component (i ∷ []))) ≡ refuses 14 165
   pub component-16 : judge (each 17 (λ i. relation 0) ++ each 16 (λ i. component (i ∷ [])) ++ closing) ≡ answers 0 0 0 0 [] []
@@ -404,7 +428,8 @@ pub record Refusals : Type 0 where
   -- 13: a relation behind a component, where there is no action
   pub relation-after-component : judge (relation 1 ++ component (full 0) ++ relation 1) ≡ refuses 13 11
   -- 14 counts the literals of an action, not of the file: 96 in three actions
-  pub literals-of-three-actions : judge (relation 1 ++ each 3 (λ i. atOnce 16 ++ each 16 (λ v. adds (full v)) ++ each 16 (λ v. deletes (full v))) ++ closing)
+  pub literals-of-three-actions : judge
+      (relation 1 ++ each 3 (λ i. atOnce 16 ++ each 16 (λ v. adds (full v)) ++ each 16 (λ v. deletes (full v))) ++ closing)
       ≡ refuses 23 695
   -- 16: the roles of an end
   pub role-6-at-once : judge (startAtOnce ++ holdsAtEnd (full 0)) ≡ refuses 16 11

@@ -7,9 +7,11 @@ use lib.ListN.{replicate}
 use Rattle.literals.specs.Domain.{object, Domain}
 use Rattle.verdict.specs.Judged.{decidedFile}
 use Rattle.verdict.specs.Machine.{State}
-use Rattle.runs.specs.RunFile.{factStop}
-use Rattle.runs.specs.Play.{tooLarge, ofDomain, ofRun, played, workAfter, returned, returnedBytes}
-use Rattle.cases.specs.Written.{FF, rec, each, relation, atOnce, lasting, component, closing, objects, fact, event, closeStep, closeRun, holds, lacks, adds, deletes, holdsOverAll, lacksOverAll, holdsAtEnd, lacksAtEnd, addsAtEnd, deletesAtEnd, lent, zeroed, held, playing, play, reply, plays, stops}
+use Rattle.run_semantics.specs.RunFile.{factStop}
+use Rattle.run_semantics.specs.Play.{tooLarge, ofDomain, ofRun, played, workAfter, returned, returnedBytes}
+use Rattle.cases.specs.Written.{FF, rec, each, relation, atOnce, lasting, component, closing, objects, fact, event, closeStep}
+use Rattle.cases.specs.Written.{closeRun, holds, lacks, adds, deletes, holdsOverAll, lacksOverAll, holdsAtEnd, lacksAtEnd, addsAtEnd}
+use Rattle.cases.specs.Written.{deletesAtEnd, lent, zeroed, held, playing, play, reply, plays, stops}
 use Rattle.cases.specs.Samples.{at, out, m1, m3}
 
 -- ---- the domain of most cases: lit/1, labelled 0, so that an instance is an object and weighs at most 1; its template is accepted, 0
@@ -109,7 +111,8 @@ step facts events = objects 3 ++ facts ++ events ++ closeStep ++ closeRun
 abbrev rest : List ℕ
 rest = closeStep ++ closeRun
 
--- four relations of one argument, gate labelled 0: a lasting action that adds bell at its start, and at its end asks for gate and no door, deletes bell and adds hush;
+-- four relations of one argument, gate labelled 0: a lasting action that adds bell at its start, and at its end asks for gate and no door,
+-- deletes bell and adds hush;
 -- two that delete gate, one that adds door
 abbrev gate : ℕ → List ℕ
 gate x = 0 ∷ x ∷ []
@@ -181,25 +184,35 @@ pub record Steps : Type 0 where
   -- an end's over-all conditions don't interfere: they must hold before the step; a start's don't either, nor need they hold
   pub end-over-all-free : play lamps (objects 3 ++ fact (lit 0) ++ watch 0 ++ closeStep ++ watched 0 ++ snuff 0 ++ closeStep ++ closeRun)
       ≡ plays 2 1 [] 44
-  pub end-over-all-added : play lamps (objects 3 ++ sleep 0 ++ closeStep ++ slept 0 ++ light 0 ++ closeStep ++ closeRun) ≡ plays 2 1 (held (lit 0)) 38
+  pub end-over-all-added : play lamps (objects 3 ++ sleep 0 ++ closeStep ++ slept 0 ++ light 0 ++ closeStep ++ closeRun)
+      ≡ plays 2 1 (held (lit 0)) 38
   -- 55 where they don't, at the end's own step
-  pub end-over-all-fails : play lamps (objects 3 ++ fact (lit 0) ++ watch 0 ++ closeStep ++ snuff 0 ++ closeStep ++ watched 0 ++ closeStep ++ closeRun)
+  pub end-over-all-fails : play lamps
+      (objects 3 ++ fact (lit 0) ++ watch 0 ++ closeStep ++ snuff 0 ++ closeStep ++ watched 0 ++ closeStep ++ closeRun)
       ≡ stops 55 40 2 1 [] rest
   -- two jobs that need an entry throughout, and strike it at their ends, may end together
   pub jobs-accepted : decidedFile jobs ≡ record { number = 0; first = 0; second = 0; third = 0 }
-  pub ends-together : play jobs (objects 3 ++ fact (lit 0) ++ work 0 0 1 ++ work 0 0 2 ++ closeStep ++ work 1 0 1 ++ work 1 0 2 ++ closeStep ++ closeRun) ≡ plays 2 1 [] 55
+  pub ends-together : play jobs
+      (objects 3 ++ fact (lit 0) ++ work 0 0 1 ++ work 0 0 2 ++ closeStep ++ work 1 0 1 ++ work 1 0 2 ++ closeStep ++ closeRun)
+      ≡ plays 2 1 [] 55
   -- but not one after the other
-  pub ends-apart : play jobs (objects 3 ++ fact (lit 0) ++ work 0 0 1 ++ work 0 0 2 ++ closeStep ++ work 1 0 1 ++ closeStep ++ work 1 0 2 ++ closeStep ++ closeRun)
+  pub ends-apart : play jobs
+      (objects 3 ++ fact (lit 0) ++ work 0 0 1 ++ work 0 0 2 ++ closeStep ++ work 1 0 1 ++ closeStep ++ work 1 0 2 ++ closeStep ++ closeRun)
       ≡ stops 55 51 2 1 [] rest
   -- an over-all condition balances no end and covers nothing: two ends together would break such templates
   pub moves-refused : decidedFile moves ≡ record { number = 42; first = 0; second = 0; third = 1 }
-  pub moved-together : play moves (objects 4 ++ fact (at 0 1) ++ carry 0 0 1 2 ++ carry 0 0 1 3 ++ closeStep ++ carry 1 0 1 2 ++ carry 1 0 1 3 ++ closeStep ++ closeRun)
+  pub moved-together : play moves
+      (objects 4 ++ fact (at 0 1) ++ carry 0 0 1 2 ++ carry 0 0 1 3 ++ closeStep ++ carry 1 0 1 2 ++ carry 1 0 1 3 ++ closeStep ++ closeRun)
       ≡ plays 2 2 (held (at 0 2) ++ held (at 0 3)) 60
   pub fillings-refused : decidedFile fillings ≡ record { number = 42; first = 0; second = 0; third = 1 }
-  pub filled-and-emptied : play fillings (objects 1 ++ event 0 0 (0 ∷ []) ++ event 0 1 (0 ∷ []) ++ closeStep ++ event 1 0 (0 ∷ []) ++ event 1 1 (0 ∷ []) ++ closeStep ++ closeRun)
+  pub filled-and-emptied : play fillings
+      (objects 1 ++ event 0 0 (0 ∷ []) ++ event 0 1 (0 ∷ []) ++ closeStep ++ event 1 0 (0 ∷ []) ++ event 1 1 (0 ∷ []) ++ closeStep
+      ++ closeRun)
       ≡ plays 2 2 (held (0 ∷ 0 ∷ []) ++ held (1 ∷ 0 ∷ [])) 45
   pub counted-refused : decidedFile counted ≡ record { number = 42; first = 0; second = 0; third = 1 }
-  pub counted-together : play counted (objects 2 ++ event 0 0 (0 ∷ []) ++ event 0 0 (1 ∷ []) ++ closeStep ++ event 1 0 (0 ∷ []) ++ event 1 0 (1 ∷ []) ++ closeStep ++ closeRun)
+  pub counted-together : play counted
+      (objects 2 ++ event 0 0 (0 ∷ []) ++ event 0 0 (1 ∷ []) ++ closeStep ++ event 1 0 (0 ∷ []) ++ event 1 0 (1 ∷ []) ++ closeStep
+      ++ closeRun)
       ≡ plays 2 2 (held (lit 0) ++ held (lit 1)) 45
   pub start-free : play lamps (step [] (watch 0 ++ light 0)) ≡ plays 1 1 (held (lit 0)) 27
   -- 55: a true condition, a false condition
@@ -211,16 +224,19 @@ pub record Steps : Type 0 where
   pub over-all-false-fails : play lamps (objects 3 ++ sleep 0 ++ closeStep ++ light 0 ++ closeStep ++ closeStep ++ closeRun)
       ≡ stops 55 27 2 1 (held (lit 0)) rest
   -- that of an entry that has ended is no matter
-  pub ended : play lamps (objects 3 ++ fact (lit 0) ++ watch 0 ++ closeStep ++ watched 0 ++ closeStep ++ snuff 0 ++ closeStep ++ closeStep ++ closeRun)
+  pub ended : play lamps
+      (objects 3 ++ fact (lit 0) ++ watch 0 ++ closeStep ++ watched 0 ++ closeStep ++ snuff 0 ++ closeStep ++ closeStep ++ closeRun)
       ≡ plays 4 1 [] 52
   -- 57 before 55, 55 before 56
   pub open-before-condition : play lamps (step [] (see 0 ++ watched 0)) ≡ stops 57 19 0 0 [] rest
   pub condition-before-interference : play lamps (step [] (see 0 ++ light 0)) ≡ stops 55 19 0 0 [] rest
   -- two equal entries are open: one end takes one, a second the other, and the third finds none
-  pub open-twice : play lamps (objects 3 ++ fact (lit 0) ++ each 2 (λ i. watch 0 ++ closeStep) ++ each 3 (λ i. watched 0 ++ closeStep) ++ closeRun)
+  pub open-twice : play lamps
+      (objects 3 ++ fact (lit 0) ++ each 2 (λ i. watch 0 ++ closeStep) ++ each 3 (λ i. watched 0 ++ closeStep) ++ closeRun)
       ≡ stops 57 62 4 1 (held (lit 0)) rest
   -- start and end of one entry in a step: the end is of an entry open before, and the start's stays open
-  pub restarted : play lamps (objects 3 ++ fact (lit 0) ++ watch 0 ++ closeStep ++ watch 0 ++ watched 0 ++ closeStep ++ watched 0 ++ closeStep ++ closeRun)
+  pub restarted : play lamps
+      (objects 3 ++ fact (lit 0) ++ watch 0 ++ closeStep ++ watch 0 ++ watched 0 ++ closeStep ++ watched 0 ++ closeStep ++ closeRun)
       ≡ plays 3 1 (held (lit 0)) 55
   pub not-yet-open : play lamps (step (fact (lit 0)) (watch 0 ++ watched 0)) ≡ stops 57 25 0 1 (held (lit 0)) rest
   -- an end of the same action with another object is not open
@@ -257,7 +273,8 @@ pub record Steps : Type 0 where
   pub repeat-keeps-place : play lamps (objects 3 ++ fact (lit 0) ++ fact (lit 1) ++ fact (lit 0) ++ closeRun)
       ≡ plays 0 1 (held (lit 0) ++ held (lit 1)) 27
   -- an end is played with the effects of the end alone
-  pub end-adds : play m1 (objects 4 ++ fact (at 0 1) ++ event 0 1 (0 ∷ 1 ∷ 2 ∷ []) ++ closeStep ++ event 1 1 (0 ∷ 1 ∷ 2 ∷ []) ++ closeStep ++ closeRun)
+  pub end-adds : play m1
+      (objects 4 ++ fact (at 0 1) ++ event 0 1 (0 ∷ 1 ∷ 2 ∷ []) ++ closeStep ++ event 1 1 (0 ∷ 1 ∷ 2 ∷ []) ++ closeStep ++ closeRun)
       ≡ plays 2 1 (held (out 0 2)) 42
   -- the highest weight is that of an instance in the middle
   pub middle-weight : play m1 (objects 3 ++ fact (at 1 0) ++ fact (out 0 0) ++ fact (at 0 1) ++ fact (at 2 0) ++ closeRun)
@@ -269,16 +286,20 @@ pub record Steps : Type 0 where
   pub first-open-asked : play lamps (objects 3 ++ fact (lit 1) ++ watch 0 ++ watch 1 ++ closeStep ++ closeStep ++ closeRun)
       ≡ stops 55 29 1 1 (held (lit 1)) rest
   -- 55: an end's own conditions, which its start isn't asked for
-  pub end-true-fails : play gates (objects 1 ++ enter 0 0 ++ closeStep ++ enter 1 0 ++ closeStep ++ closeRun) ≡ stops 55 23 1 0 (held (bell 0)) rest
-  pub end-false-fails : play gates (objects 1 ++ fact (gate 0) ++ fact (door 0) ++ enter 0 0 ++ closeStep ++ enter 1 0 ++ closeStep ++ closeRun)
+  pub end-true-fails : play gates (objects 1 ++ enter 0 0 ++ closeStep ++ enter 1 0 ++ closeStep ++ closeRun)
+      ≡ stops 55 23 1 0 (held (bell 0)) rest
+  pub end-false-fails : play gates
+      (objects 1 ++ fact (gate 0) ++ fact (door 0) ++ enter 0 0 ++ closeStep ++ enter 1 0 ++ closeStep ++ closeRun)
       ≡ stops 55 35 1 1 (held (gate 0) ++ held (door 0) ++ held (bell 0)) rest
   -- an end deletes and adds; the start's add is not done again
   pub end-effects : play gates (objects 1 ++ fact (gate 0) ++ enter 0 0 ++ closeStep ++ enter 1 0 ++ closeStep ++ closeRun)
       ≡ plays 2 1 (held (gate 0) ++ held (hush 0)) 37
   -- 56: an end's own conditions
-  pub end-true-interferes : play gates (objects 1 ++ fact (gate 0) ++ enter 0 0 ++ closeStep ++ enter 1 0 ++ shut 0 ++ closeStep ++ closeRun)
+  pub end-true-interferes : play gates
+      (objects 1 ++ fact (gate 0) ++ enter 0 0 ++ closeStep ++ enter 1 0 ++ shut 0 ++ closeStep ++ closeRun)
       ≡ stops 56 36 1 1 (held (gate 0) ++ held (bell 0)) rest
-  pub end-false-interferes : play gates (objects 1 ++ fact (gate 0) ++ enter 0 0 ++ closeStep ++ enter 1 0 ++ unlock 0 ++ closeStep ++ closeRun)
+  pub end-false-interferes : play gates
+      (objects 1 ++ fact (gate 0) ++ enter 0 0 ++ closeStep ++ enter 1 0 ++ unlock 0 ++ closeStep ++ closeRun)
       ≡ stops 56 36 1 1 (held (gate 0) ++ held (bell 0)) rest
   -- no interference: two deletes of one fact
   pub deleted-twice : play gates (objects 1 ++ fact (gate 0) ++ shut 0 ++ slam 0 ++ closeStep ++ closeRun) ≡ plays 1 1 [] 33
@@ -356,7 +377,8 @@ steps =
 
 -- ---- limits of the player, and which record is at fault: 50 to 54
 
--- an action of one variable at once and a lasting one without variables, neither with a literal, and one at once that adds a fact without arguments
+-- an action of one variable at once and a lasting one without variables, neither with a literal, and one at once that adds a fact without
+-- arguments
 abbrev calm : List ℕ
 calm = relation 0 ++ atOnce 1 ++ lasting 0 ++ (atOnce 0 ++ adds (0 ∷ [])) ++ component (0 ∷ []) ++ closing
 
@@ -378,7 +400,8 @@ begun = objects 3 ++ fact (lit 0)
 pub record RunFiles : Type 0 where
   -- 52: 32 equal entries are open, a 33rd is too many, and nothing of its step is done
   pub open-32 : play calm (objects 1 ++ each 32 (λ i. wait ++ closeStep) ++ closeRun) ≡ plays 32 0 [] 329
-  pub open-33 : play calm (objects 1 ++ each 32 (λ i. wait ++ closeStep) ++ mark ++ wait ++ closeStep ++ closeRun) ≡ stops 52 337 32 0 [] rest
+  pub open-33 : play calm (objects 1 ++ each 32 (λ i. wait ++ closeStep) ++ mark ++ wait ++ closeStep ++ closeRun)
+      ≡ stops 52 337 32 0 [] rest
   -- events at once open nothing
   pub at-once-33 : play calm (objects 1 ++ each 33 (λ i. nod 0 ++ closeStep) ++ closeRun) ≡ plays 33 0 [] 372
   -- 52: 16 events make a step, a 17th is too many; 54 comes first
@@ -441,13 +464,15 @@ pub record RunFiles : Type 0 where
   pub event-action-long : play lamps (begun ++ event 0 8 (0 ∷ [])) ≡ stops 51 11 0 1 (held (lit 0)) (event 0 8 (0 ∷ []))
   pub event-lacks-object : play lamps (begun ++ event 0 0 []) ≡ stops 50 11 0 1 (held (lit 0)) (event 0 0 [])
   -- 52 counts what is open after the ends have left
-  pub open-exchanged : play calm (objects 1 ++ each 32 (λ i. wait ++ closeStep) ++ event 1 1 [] ++ wait ++ closeStep ++ closeRun) ≡ plays 33 0 [] 345
+  pub open-exchanged : play calm (objects 1 ++ each 32 (λ i. wait ++ closeStep) ++ event 1 1 [] ++ wait ++ closeStep ++ closeRun)
+      ≡ plays 33 0 [] 345
   -- 57, 55 and 56 before 52
   pub open-33-not-open : play crowd (objects 1 ++ each 32 (λ i. linger ++ closeStep) ++ linger ++ event 1 4 [] ++ closeStep ++ closeRun)
       ≡ stops 57 337 32 0 [] rest
   pub open-33-condition : play crowd (objects 1 ++ each 32 (λ i. linger ++ closeStep) ++ linger ++ event 0 3 [] ++ closeStep ++ closeRun)
       ≡ stops 55 337 32 0 [] rest
-  pub open-33-interferes : play crowd (objects 1 ++ each 32 (λ i. linger ++ closeStep) ++ linger ++ event 0 1 [] ++ event 0 2 [] ++ closeStep ++ closeRun)
+  pub open-33-interferes : play crowd
+      (objects 1 ++ each 32 (λ i. linger ++ closeStep) ++ linger ++ event 0 1 [] ++ event 0 2 [] ++ closeStep ++ closeRun)
       ≡ stops 56 343 32 0 [] rest
   -- a run file of more than 65,535 bytes is read: 51 of its second record
   pub run-longer : play lamps (objects 1 ++ (255 ∷ 255 ∷ 17 ∷ 0 ∷ lent 65535)) ≡ stops 51 5 0 0 [] (255 ∷ 255 ∷ 17 ∷ 0 ∷ lent 65535)
@@ -529,9 +554,11 @@ pub record Parts : Type 0 where
   pub label-fault : playing (relation 2 ++ component (0 ∷ 0 ∷ 0 ∷ []) ++ closing) [] (lent 8200)
       ≡ record { answer = reply 24 11 0 0; memory = lent 8200; part = ofDomain 5; bytes = component (0 ∷ 0 ∷ 0 ∷ []) ++ closing }
   -- no closing record: the domain file's empty end
-  pub domain-not-closed : playing (relation 1) [] (lent 8200) ≡ record { answer = reply 10 5 0 0; memory = lent 8200; part = ofDomain 5; bytes = [] }
+  pub domain-not-closed : playing (relation 1) [] (lent 8200)
+      ≡ record { answer = reply 10 5 0 0; memory = lent 8200; part = ofDomain 5; bytes = [] }
   -- 58: one byte too few; it comes before 50 of the first record, and the run file's empty end comes back
-  pub memory-short : playing lamps (light 0) (lent 8191) ≡ record { answer = reply 58 0 0 0; memory = lent 8191; part = ofRun 7; bytes = [] }
+  pub memory-short : playing lamps (light 0) (lent 8191)
+      ≡ record { answer = reply 58 0 0 0; memory = lent 8191; part = ofRun 7; bytes = [] }
   -- 8,192 bytes are enough; the fact's bytes written out
   pub memory-enough : playing lamps (begun ++ closeRun) (lent 8192)
       ≡ record { answer = reply 2 0 0 1; memory = zeroed 8192 (0 ∷ 1 ∷ 0 ∷ FF ∷ FF ∷ FF ∷ FF ∷ FF ∷ []); part = ofRun 15; bytes = [] }

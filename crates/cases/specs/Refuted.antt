@@ -1,4 +1,5 @@
--- Two wrong players that the claim of playing (runs/Claims `PlaysAsMachine`) rules out by itself, without the equations that say what a call answers. Assumes nothing.
+-- Two wrong players that the claim of playing (runs/Claims `PlaysAsMachine`) rules out by itself, without the equations that say what a
+-- call answers. Assumes nothing.
 use mathlib.Core.Path.{_≡_, refl}
 use mathlib.Core.List.{List, [], _∷_, _++_}
 use Prim.Native.Nat.{ℕ, _≤_}
@@ -7,9 +8,9 @@ use lib.ListN.{length}
 use Rattle.records.specs.Memory.{over}
 use Rattle.literals.specs.Domain.{Domain}
 use Rattle.literals.specs.Decode.{Decoded, refused, domain, decode}
-use Rattle.runs.specs.RunFile.{entriesBefore}
-use Rattle.runs.specs.Play.{workBytes, heldBytes}
-use Rattle.runs.specs.Claims.{endNumber, PlaysAsMachine}
+use Rattle.run_semantics.specs.RunFile.{entriesBefore}
+use Rattle.run_semantics.specs.Play.{workBytes, heldBytes}
+use Rattle.run_semantics.specs.Claims.{endNumber, PlaysAsMachine}
 use Rattle.cases.specs.Written.{objects, fact, event, closeStep, closeRun}
 use Rattle.cases.specs.Samples.{at, m1, m12}
 

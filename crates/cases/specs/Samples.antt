@@ -4,8 +4,10 @@ use mathlib.Core.List.{List, [], _∷_, _++_}
 use Prim.Native.Nat.{ℕ}
 use lib.ListN.{replicate}
 use Rattle.verdict.specs.Judged.{judged, reportAfter, witnessAfter}
-use Rattle.runs.specs.Play.{ofRun, played, workAfter, returned, returnedBytes}
-use Rattle.cases.specs.Written.{FF, relation, atOnce, lasting, holds, adds, deletes, addsAtEnd, component, closing, objects, fact, event, closeStep, closeRun, row, unreachable, irrelevant, heavy, balanced, unbalanced, bounded, unbounded, lent, judge, answers, refuses, playing, reply}
+use Rattle.run_semantics.specs.Play.{ofRun, played, workAfter, returned, returnedBytes}
+use Rattle.cases.specs.Written.{FF, relation, atOnce, lasting, holds, adds, deletes, addsAtEnd, component, closing, objects, fact}
+use Rattle.cases.specs.Written.{event, closeStep, closeRun, row, unreachable, irrelevant, heavy, balanced, unbalanced, bounded}
+use Rattle.cases.specs.Written.{unbounded, lent, judge, answers, refuses, playing, reply}
 
 -- ---- M1 to M5, M8, M9 and M12 speak of at/2 and out/2
 

@@ -4,7 +4,7 @@ use Prim.Native.Nat.{ℕ, zero, suc, _-_}
 use lib.ListN.{length, replicate}
 use Rattle.records.specs.Memory.{over}
 use Rattle.verdict.specs.Judged.{Answer, judged, reportAfter, witnessAfter}
-use Rattle.runs.specs.Play.{Played, Returned, ofRun, played, workAfter, returned, returnedBytes}
+use Rattle.run_semantics.specs.Play.{Played, Returned, ofRun, played, workAfter, returned, returnedBytes}
 
 -- ---- records: "payload length (2 bytes, little-endian), kind (2 bytes), payload"
 

@@ -14,13 +14,13 @@ use Rattle.literals.specs.declared.Variable.{Variable}
 use Rattle.literals.specs.declared.Label.{Label}
 use Rattle.literals.specs.declared.Label.the-variants.{Key as keyed, Counted}
 use Rattle.literals.specs.declared.Time.the-variants.{OverAll}
-use Rattle.literals.specs.declared.Clause.{Clause}
-use Rattle.literals.specs.declared.Clause.the-variants.{Positive, Negative, Add, Delete}
+use Rattle.literals.specs.declared.Usage.{Usage}
+use Rattle.literals.specs.declared.Usage.the-variants.{Positive, Negative, Add, Delete}
 use Rattle.literals.specs.declared.Role.{Role}
-use Rattle.literals.specs.Domain.{Atom, sameLiteral, clauseNumber, roleNumber, roleOf, sameTime, Literal, Action, Component, isCounted, keyBelow, keysOf, Domain}
+use Rattle.literals.specs.Domain.{Atom, sameLiteral, usageNumber, roleNumber, roleOf, sameTime, Literal, Action, Component, isCounted, keyBelow, keysOf, Domain}
 use Rattle.literals.specs.Decode.{labelOf}
 use Rattle.literals.specs.Table.{literalRow, labelNumber, pad, Bounded as BoundedDomain}
-use Rattle.literals.specs.Held.{arityIn, partIn, HeadOf}
+use Rattle.literals.specs.Held.{arityIn, componentRowIn, HeadOf}
 use Rattle.literals.proofs.Bytes.{keys-below}
 use Rattle.literals.proofs.Tables.{Kept, kept, pad-at}
 use Rattle.literals.proofs.Heads.{part-is}
@@ -32,10 +32,10 @@ use Rattle.classes.specs.declared.Sole.{Sole}
 use Rattle.literals.specs.Matching.{required, tuplesOf}
 use Rattle.classes.specs.Classes.{belongs, classes, inClass, reachIn, lastsIn, deletedBy, changedBy, covered, excluding, nameBy, nameOf, journey}
 use Rattle.literals.specs.Keys.{position, below}
-use Rattle.classes.specs.Coded.{ActionOf, MomentOf, classNumberBy, classNumbers, clausesAt, askedAt, uncoveredAt, isAt, isSameAt, sameIn, changedAt, excludesAt, coveredAt, lackingAt, lastsAt, soleBy, soleAt, soleOf, reachAt}
+use Rattle.classes.specs.Held.{ActionOf, MomentOf, classNumberBy, classNumbers, usagesAt, askedAt, uncoveredAt, isAt, isSameAt, sameIn, changedAt, excludesAt, coveredAt, lackingAt, lastsAt, soleBy, soleAt, soleOf, reachAt}
 use Rattle.literals.proofs.Indices.{at-all, any-below, filter-below, position-below, any-filter, all-filter, filter-filter, filter-map, any-or, position-map, position-none, getD-map}
 use Rattle.classes.proofs.Rows.{noLiteral, literalAt, kept-at, role-at, relation-at, atoms-at}
-use Rattle.classes.proofs.Clauses.{clauses-few, literals-at, required-at, asked-start}
+use Rattle.classes.proofs.Usages.{usages-few, literals-at, required-at, asked-start}
 use Rattle.classes.proofs.Roles.{own-few}
 use Rattle.classes.proofs.Members.{member}
 use Rattle.classes.proofs.Soles.{and-comm, sole-none, sole-many, sole-one, sole-less, sole-passes, sole-all}
@@ -69,13 +69,13 @@ module _ {D : Domain} {head : List ℕ} (H : HeadOf D head) (c : ℕ) (h : c < l
   here : In (componentAt D c) (D .template)
   here = getD-in (D .template) c noComponent h
 
-  part-relation : getD (partIn head c) 0 0 ≡ componentAt D c .rel
+  part-relation : getD (componentRowIn head c) 0 0 ≡ componentAt D c .rel
   part-relation = ap (λ (p : List ℕ). getD p 0 0) (part-is H noComponent c h)
 
-  part-arity : arityIn head (getD (partIn head c) 0 0) ≡ length (componentAt D c .labels)
+  part-arity : arityIn head (getD (componentRowIn head c) 0 0) ≡ length (componentAt D c .labels)
   part-arity = ap (arityIn head) part-relation ∙ H .arities (componentAt D c .rel) ∙ sym (H .bounded .componentArity (componentAt D c) here)
 
-  part-label : (i : ℕ) → i < length (componentAt D c .labels) → getD (partIn head c) (1 + i) 0 ≡ labelNumber (getD (componentAt D c .labels) i Counted)
+  part-label : (i : ℕ) → i < length (componentAt D c .labels) → getD (componentRowIn head c) (1 + i) 0 ≡ labelNumber (getD (componentAt D c .labels) i Counted)
   part-label i g =
       let e : 1 + i ≡ suc i = omega arith in
       let ns = map labelNumber (componentAt D c .labels) in
@@ -84,10 +84,10 @@ module _ {D : Domain} {head : List ℕ} (H : HeadOf D head) (c : ℕ) (h : c < l
       ∙ List·getD-append ns (replicate (8 - suc (length ns)) 255) 0 i (omega arith)
       ∙ getD-map labelNumber (componentAt D c .labels) i Counted 0 g
 
-  part-counted : any (λ i. isCounted (labelOf (getD (partIn head c) (1 + i) 0))) (below (arityIn head (getD (partIn head c) 0 0))) ≡ any isCounted (componentAt D c .labels)
+  part-counted : any (λ i. isCounted (labelOf (getD (componentRowIn head c) (1 + i) 0))) (below (arityIn head (getD (componentRowIn head c) 0 0))) ≡ any isCounted (componentAt D c .labels)
   part-counted =
-      ap (λ (n : ℕ). any (λ i. isCounted (labelOf (getD (partIn head c) (1 + i) 0))) (below n)) part-arity
-      ∙ any-below (λ i. isCounted (labelOf (getD (partIn head c) (1 + i) 0))) (λ i. isCounted (getD ls i Counted)) (length ls)
+      ap (λ (n : ℕ). any (λ i. isCounted (labelOf (getD (componentRowIn head c) (1 + i) 0))) (below n)) part-arity
+      ∙ any-below (λ i. isCounted (labelOf (getD (componentRowIn head c) (1 + i) 0))) (λ i. isCounted (getD ls i Counted)) (length ls)
       (λ i g. ap (λ (b : ℕ). isCounted (labelOf b)) (part-label i g) ∙ counted-byte count (keys-few (D .template) (H .bounded .labels)) (getD ls i Counted) (all-in (keyBelow count) ls fits (getD-in ls i Counted g)))
       ∙ sym (any-map (λ i. getD ls i Counted) isCounted (below (length ls)))
       ∙ ap (any isCounted) (at-all Counted ls)
@@ -103,23 +103,23 @@ module _ {D : Domain} {head : List ℕ} (H : HeadOf D head) (c : ℕ) (h : c < l
 
 -- ---- a class by its number
 
--- of a clause from 0 to 4
+-- of a usage from 0 to 4
 abbrev excludes : ℕ → Bool
 excludes n = eqb n 2 || (eqb n 3 || eqb n 4)
 
-clause-excludes : (n : ℕ) → n ≤ 4 → leb 2 n ≡ excludes n
-clause-excludes n h = bool-eq (leb 2 n) (excludes n) (below-in 5 (λ n. sameBool (leb 2 n) (excludes n)) refl n (omega arith))
+usage-excludes : (n : ℕ) → n ≤ 4 → leb 2 n ≡ excludes n
+usage-excludes n h = bool-eq (leb 2 n) (excludes n) (below-in 5 (λ n. sameBool (leb 2 n) (excludes n)) refl n (omega arith))
 
--- the three clauses that exclude, one by one
-each-clause : (o p q r t : Bool) → o && ((p || (q || r)) && t) ≡ ((o && p) && t) || (((o && q) && t) || ((o && r) && t))
-each-clause true p q r t = spread p (q || r) t ∙ ap (λ (b : Bool). (p && t) || b) (spread q r t)
+-- the three usages that exclude, one by one
+each-usage : (o p q r t : Bool) → o && ((p || (q || r)) && t) ≡ ((o && p) && t) || (((o && q) && t) || ((o && r) && t))
+each-usage true p q r t = spread p (q || r) t ∙ ap (λ (b : Bool). (p && t) || b) (spread q r t)
   where
     spread : (p s t : Bool) → (p || s) && t ≡ (p && t) || (s && t)
     spread true s true = refl
     spread true true false = refl
     spread true false false = refl
     spread false s t = refl
-each-clause false p q r t = refl
+each-usage false p q r t = refl
 
 module _ (D : Domain) (a : Action) (B : BoundedDomain D) (i : In a (D .actions)) (m : Moment) (k : ℕ) (h : k < length (classes D a)) where
   abbrev n : ℕ
@@ -134,13 +134,13 @@ module _ (D : Domain) (a : Action) (B : BoundedDomain D) (i : In a (D .actions))
   abbrev rows : List ℕ
   rows = flatMap literalRow (a .lits)
 
-  abbrev clauses : List ℕ
-  clauses = pad 64 (clausesAt a m)
+  abbrev usages : List ℕ
+  usages = pad 64 (usagesAt a m)
 
   abbrev isMember : ℕ → ℕ → Bool
-  isMember clause = isAt (classNumbers D a) clauses k clause
+  isMember usage = isAt (classNumbers D a) usages k usage
 
-  -- of literals that are those with the clause d
+  -- of literals that are those with the usage d
   class-members : (d : ℕ) (is : List ℕ) (ls : List (Atom Variable)) → ls ≡ map atom (filterBy (λ j. eqb (getD is j 0) d) (below n))
       → filterBy (belongs D x) ls ≡ map atom (filterBy (isAt (classNumbers D a) (pad 64 is) k d) (below n))
   unfolding isAt
@@ -158,9 +158,9 @@ module _ (D : Domain) (a : Action) (B : BoundedDomain D) (i : In a (D .actions))
           and-comm (counted j) (belongs D x (atom j))
           ∙ ap₂ _&&_ (sym (member k B i h j g)) (ap (λ (c : ℕ). eqb c d) (sym (pad-at 64 is j)))
 
-  in-class : (c : Clause) → inClass D a x m c ≡ map atom (filterBy (isMember (suc (clauseNumber c))) (below n))
+  in-class : (c : Usage) → inClass D a x m c ≡ map atom (filterBy (isMember (suc (usageNumber c))) (below n))
   unfolding inClass
-  in-class c = class-members (suc (clauseNumber c)) (clausesAt a m) _ (literals-at a m c)
+  in-class c = class-members (suc (usageNumber c)) (usagesAt a m) _ (literals-at a m c)
 
   -- those towards unreachable
   abbrev isAsked : ℕ → Bool
@@ -174,24 +174,24 @@ module _ (D : Domain) (a : Action) (B : BoundedDomain D) (i : In a (D .actions))
   reach-count = count-filter isAsked (below n) ∙ sym (length-map (filterBy isAsked (below n)) atom) ∙ ap length (sym reach-in)
 
   -- how many there are
-  count-in : (c : Clause) → countBy (isMember (suc (clauseNumber c))) (below n) ≡ length (inClass D a x m c)
+  count-in : (c : Usage) → countBy (isMember (suc (usageNumber c))) (below n) ≡ length (inClass D a x m c)
   count-in c =
-      count-filter (isMember (suc (clauseNumber c))) (below n)
-      ∙ sym (length-map (filterBy (isMember (suc (clauseNumber c))) (below n)) atom)
+      count-filter (isMember (suc (usageNumber c))) (below n)
+      ∙ sym (length-map (filterBy (isMember (suc (usageNumber c))) (below n)) atom)
       ∙ ap length (sym (in-class c))
 
   -- whether one passes a test
-  any-member : (c : Clause) (q : Atom Variable → Bool) → any q (inClass D a x m c) ≡ any (λ j. isMember (suc (clauseNumber c)) j && q (atom j)) (below n)
+  any-member : (c : Usage) (q : Atom Variable → Bool) → any q (inClass D a x m c) ≡ any (λ j. isMember (suc (usageNumber c)) j && q (atom j)) (below n)
   any-member c q =
       ap (any q) (in-class c)
-      ∙ any-map atom q (filterBy (isMember (suc (clauseNumber c))) (below n))
-      ∙ any-filter (isMember (suc (clauseNumber c))) (λ j. q (atom j)) (below n)
+      ∙ any-map atom q (filterBy (isMember (suc (usageNumber c))) (below n))
+      ∙ any-filter (isMember (suc (usageNumber c))) (λ j. q (atom j)) (below n)
 
-  all-member : (c : Clause) (q : Atom Variable → Bool) → all q (inClass D a x m c) ≡ all (λ j. not (isMember (suc (clauseNumber c)) j) || q (atom j)) (below n)
+  all-member : (c : Usage) (q : Atom Variable → Bool) → all q (inClass D a x m c) ≡ all (λ j. not (isMember (suc (usageNumber c)) j) || q (atom j)) (below n)
   all-member c q =
       ap (all q) (in-class c)
-      ∙ all-map atom q (filterBy (isMember (suc (clauseNumber c))) (below n))
-      ∙ all-filter (isMember (suc (clauseNumber c))) (λ j. q (atom j)) (below n)
+      ∙ all-map atom q (filterBy (isMember (suc (usageNumber c))) (below n))
+      ∙ all-filter (isMember (suc (usageNumber c))) (λ j. q (atom j)) (below n)
 
   length-numbers : length (classNumbers D a) ≡ n
   unfolding classNumbers
@@ -200,26 +200,26 @@ module _ (D : Domain) (a : Action) (B : BoundedDomain D) (i : In a (D .actions))
   kept-in : (l : Literal) → In l (a .lits) → Kept l
   kept-in l j = kept B i j
 
-  same-in : (c : Clause) (j : ℕ) → j < n → sameIn rows (classNumbers D a) clauses k (suc (clauseNumber c)) j ≡ elem sameLiteral (atom j) (inClass D a x m c)
+  same-in : (c : Usage) (j : ℕ) → j < n → sameIn rows (classNumbers D a) usages k (suc (usageNumber c)) j ≡ elem sameLiteral (atom j) (inClass D a x m c)
   unfolding sameIn isSameAt
   same-in c j g =
-      ap (λ (l : ℕ). any (isSameAt rows (classNumbers D a) clauses k (suc (clauseNumber c)) j) (below l)) length-numbers
-      ∙ any-below (isSameAt rows (classNumbers D a) clauses k (suc (clauseNumber c)) j) (λ l. isMember (suc (clauseNumber c)) l && sameLiteral (atom j) (atom l)) n
-      (λ l f. ap (λ (t : Bool). isMember (suc (clauseNumber c)) l && t) (atoms-at (a .lits) kept-in j l g f))
+      ap (λ (l : ℕ). any (isSameAt rows (classNumbers D a) usages k (suc (usageNumber c)) j) (below l)) length-numbers
+      ∙ any-below (isSameAt rows (classNumbers D a) usages k (suc (usageNumber c)) j) (λ l. isMember (suc (usageNumber c)) l && sameLiteral (atom j) (atom l)) n
+      (λ l f. ap (λ (t : Bool). isMember (suc (usageNumber c)) l && t) (atoms-at (a .lits) kept-in j l g f))
       ∙ sym (any-member c (sameLiteral (atom j)))
 
-  sole-in : (c : Clause) → soleAt (classNumbers D a) clauses k (suc (clauseNumber c)) ≡ soleBy (isMember (suc (clauseNumber c))) n
+  sole-in : (c : Usage) → soleAt (classNumbers D a) usages k (suc (usageNumber c)) ≡ soleBy (isMember (suc (usageNumber c))) n
   unfolding soleAt
-  sole-in c = ap (soleBy (isMember (suc (clauseNumber c)))) length-numbers
+  sole-in c = ap (soleBy (isMember (suc (usageNumber c)))) length-numbers
 
   few : n ≤ 64
   few = B .sizes a i
 
-  pub none-in : (c : Clause) → soleAt (classNumbers D a) clauses k (suc (clauseNumber c)) ≡ 0 → length (inClass D a x m c) ≡ 0
-  none-in c e = sym (count-in c) ∙ sole-none (isMember (suc (clauseNumber c))) n few (sym (sole-in c) ∙ e)
+  pub none-in : (c : Usage) → soleAt (classNumbers D a) usages k (suc (usageNumber c)) ≡ 0 → length (inClass D a x m c) ≡ 0
+  none-in c e = sym (count-in c) ∙ sole-none (isMember (suc (usageNumber c))) n few (sym (sole-in c) ∙ e)
 
-  pub many-in : (c : Clause) → soleAt (classNumbers D a) clauses k (suc (clauseNumber c)) ≡ 255 → 2 ≤ length (inClass D a x m c)
-  many-in c e = let h = sole-many (isMember (suc (clauseNumber c))) n few (sym (sole-in c) ∙ e) in let g = count-in c in omega arith
+  pub many-in : (c : Usage) → soleAt (classNumbers D a) usages k (suc (usageNumber c)) ≡ 255 → 2 ≤ length (inClass D a x m c)
+  many-in c e = let h = sole-many (isMember (suc (usageNumber c))) n few (sym (sole-in c) ∙ e) in let g = count-in c in omega arith
 
   -- two or more towards unreachable, or fewer
   reach-sole : soleAt (classNumbers D a) (pad 64 (askedAt a m)) k 1 ≡ soleBy isAsked n
@@ -236,45 +236,45 @@ module _ (D : Domain) (a : Action) (B : BoundedDomain D) (i : In a (D .actions))
       go (inl t) = let u = sole-none isAsked n few (eqb-true _ _ t) in let g = reach-count in omega arith
       go (inr t) = let u = sole-one isAsked n few (eqb-false _ _ t) (λ z. e (reach-sole ∙ z)) in let g = reach-count in omega arith
 
-  module _ (c : Clause) (some : soleAt (classNumbers D a) clauses k (suc (clauseNumber c)) ≡ 0 → ⊥) (not-many : soleAt (classNumbers D a) clauses k (suc (clauseNumber c)) ≡ 255 → ⊥) where
-    counted-one : countBy (isMember (suc (clauseNumber c))) (below n) ≡ 1
-    counted-one = sole-one (isMember (suc (clauseNumber c))) n few (λ e. some (sole-in c ∙ e)) (λ e. not-many (sole-in c ∙ e))
+  module _ (c : Usage) (some : soleAt (classNumbers D a) usages k (suc (usageNumber c)) ≡ 0 → ⊥) (not-many : soleAt (classNumbers D a) usages k (suc (usageNumber c)) ≡ 255 → ⊥) where
+    counted-one : countBy (isMember (suc (usageNumber c))) (below n) ≡ 1
+    counted-one = sole-one (isMember (suc (usageNumber c))) n few (λ e. some (sole-in c ∙ e)) (λ e. not-many (sole-in c ∙ e))
 
     pub one-in : length (inClass D a x m c) ≡ 1
     one-in = sym (count-in c) ∙ counted-one
 
     -- the place of the one
     abbrev place : ℕ
-    place = soleAt (classNumbers D a) clauses k (suc (clauseNumber c)) - 1
+    place = soleAt (classNumbers D a) usages k (suc (usageNumber c)) - 1
 
-    place-is : place ≡ soleBy (isMember (suc (clauseNumber c))) n - 1
+    place-is : place ≡ soleBy (isMember (suc (usageNumber c))) n - 1
     place-is = ap (λ (s : ℕ). s - 1) (sole-in c)
 
     place-less : place < n
-    place-less = rw place-is (sole-less (isMember (suc (clauseNumber c))) n few (λ e. some (sole-in c ∙ e)) (λ e. not-many (sole-in c ∙ e)))
+    place-less = rw place-is (sole-less (isMember (suc (usageNumber c))) n few (λ e. some (sole-in c ∙ e)) (λ e. not-many (sole-in c ∙ e)))
 
     all-one : (q : Atom Variable → Bool) → all q (inClass D a x m c) ≡ q (atom place)
     all-one q =
         all-member c q
-        ∙ sole-all (isMember (suc (clauseNumber c))) (λ j. q (atom j)) n place counted-one place-less
-        (ap (isMember (suc (clauseNumber c))) place-is ∙ sole-passes (isMember (suc (clauseNumber c))) n few (λ e. some (sole-in c ∙ e)) (λ e. not-many (sole-in c ∙ e)))
+        ∙ sole-all (isMember (suc (usageNumber c))) (λ j. q (atom j)) n place counted-one place-less
+        (ap (isMember (suc (usageNumber c))) place-is ∙ sole-passes (isMember (suc (usageNumber c))) n few (λ e. some (sole-in c ∙ e)) (λ e. not-many (sole-in c ∙ e)))
 
-  module _ (some : soleAt (classNumbers D a) clauses k 1 ≡ 0 → ⊥) (not-many : soleAt (classNumbers D a) clauses k 1 ≡ 255 → ⊥) where
-    pub changed-in : changedAt rows (classNumbers D a) clauses k (soleAt (classNumbers D a) clauses k 1 - 1) ≡ all (changedBy (inClass D a x m Add) (inClass D a x m Delete)) (inClass D a x m Positive)
+  module _ (some : soleAt (classNumbers D a) usages k 1 ≡ 0 → ⊥) (not-many : soleAt (classNumbers D a) usages k 1 ≡ 255 → ⊥) where
+    pub changed-in : changedAt rows (classNumbers D a) usages k (soleAt (classNumbers D a) usages k 1 - 1) ≡ all (changedBy (inClass D a x m Add) (inClass D a x m Delete)) (inClass D a x m Positive)
     unfolding changedAt
     changed-in =
         ap₂ _||_ (same-in Add (place Positive some not-many) (place-less Positive some not-many)) (same-in Delete (place Positive some not-many) (place-less Positive some not-many))
         ∙ sym (all-one Positive some not-many (changedBy (inClass D a x m Add) (inClass D a x m Delete)))
 
-    pub deleted-in : sameIn rows (classNumbers D a) clauses k 4 (soleAt (classNumbers D a) clauses k 1 - 1) ≡ all (deletedBy (inClass D a x m Delete)) (inClass D a x m Positive)
+    pub deleted-in : sameIn rows (classNumbers D a) usages k 4 (soleAt (classNumbers D a) usages k 1 - 1) ≡ all (deletedBy (inClass D a x m Delete)) (inClass D a x m Positive)
     deleted-in = same-in Delete (place Positive some not-many) (place-less Positive some not-many) ∙ sym (all-one Positive some not-many (deletedBy (inClass D a x m Delete)))
 
   -- a relation among the false conditions, adds and deletes
-  excludes-in : (r : ℕ) → any (excludesAt rows (classNumbers D a) clauses k r) (below (length (classNumbers D a))) ≡ any (λ (p : Atom Variable). eqb r (p .rel)) (excluding D a x m)
+  excludes-in : (r : ℕ) → any (excludesAt rows (classNumbers D a) usages k r) (below (length (classNumbers D a))) ≡ any (λ (p : Atom Variable). eqb r (p .rel)) (excluding D a x m)
   unfolding excludesAt excluding isAt
   excludes-in r =
-      ap (λ (l : ℕ). any (excludesAt rows (classNumbers D a) clauses k r) (below l)) length-numbers
-      ∙ any-below (excludesAt rows (classNumbers D a) clauses k r) (λ j. with 2 j || (with 3 j || with 4 j)) n agree
+      ap (λ (l : ℕ). any (excludesAt rows (classNumbers D a) usages k r) (below l)) length-numbers
+      ∙ any-below (excludesAt rows (classNumbers D a) usages k r) (λ j. with 2 j || (with 3 j || with 4 j)) n agree
       ∙ sym (any-or (with 2) (λ j. with 3 j || with 4 j) (below n))
       ∙ ap (λ (t : Bool). any (with 2) (below n) || t) (sym (any-or (with 3) (with 4) (below n)))
       ∙ sym (any-append q (inClass D a x m Negative) (inClass D a x m Add ++ inClass D a x m Delete)
@@ -284,53 +284,53 @@ module _ (D : Domain) (a : Action) (B : BoundedDomain D) (i : In a (D .actions))
       q p = eqb r (p .rel)
 
       with : ℕ → ℕ → Bool
-      with clause j = isMember clause j && q (atom j)
+      with usage j = isMember usage j && q (atom j)
 
-      agree : (j : ℕ) → j < n → excludesAt rows (classNumbers D a) clauses k r j ≡ with 2 j || (with 3 j || with 4 j)
+      agree : (j : ℕ) → j < n → excludesAt rows (classNumbers D a) usages k r j ≡ with 2 j || (with 3 j || with 4 j)
       agree j g =
-          let s : getD clauses j 0 ≤ 4 = rw (pad-at 64 (clausesAt a m) j) (clauses-few false a m j g) in
-          ap₂ (λ (e t : Bool). eqb (getD (classNumbers D a) j 0) k && (e && t)) (clause-excludes (getD clauses j 0) s) (ap (eqb r) (relation-at (a .lits) kept-in j g))
-          ∙ each-clause (eqb (getD (classNumbers D a) j 0) k) (eqb (getD clauses j 0) 2) (eqb (getD clauses j 0) 3) (eqb (getD clauses j 0) 4) (q (atom j))
+          let s : getD usages j 0 ≤ 4 = rw (pad-at 64 (usagesAt a m) j) (usages-few false a m j g) in
+          ap₂ (λ (e t : Bool). eqb (getD (classNumbers D a) j 0) k && (e && t)) (usage-excludes (getD usages j 0) s) (ap (eqb r) (relation-at (a .lits) kept-in j g))
+          ∙ each-usage (eqb (getD (classNumbers D a) j 0) k) (eqb (getD usages j 0) 2) (eqb (getD usages j 0) 3) (eqb (getD usages j 0) 4) (q (atom j))
 
   module _ {head : List ℕ} (H : HeadOf D head) where
-    covered-in : (c : ℕ) → c < length (D .template) → coveredAt head rows (classNumbers D a) clauses k c ≡ covered (excluding D a x m) (componentAt D c)
+    covered-in : (c : ℕ) → c < length (D .template) → coveredAt head rows (classNumbers D a) usages k c ≡ covered (excluding D a x m) (componentAt D c)
     unfolding coveredAt
     covered-in c g =
         ap₂ (λ (s t : Bool). not s && t) (part-counted H c g)
-        (ap (λ (r : ℕ). any (excludesAt rows (classNumbers D a) clauses k r) (below (length (classNumbers D a)))) (part-relation H c g) ∙ excludes-in (componentAt D c .rel))
+        (ap (λ (r : ℕ). any (excludesAt rows (classNumbers D a) usages k r) (below (length (classNumbers D a)))) (part-relation H c g) ∙ excludes-in (componentAt D c .rel))
 
-    uncovered-in : lackingAt head rows (classNumbers D a) clauses k ≡ uncoveredAt D a x m
+    uncovered-in : lackingAt head rows (classNumbers D a) usages k ≡ uncoveredAt D a x m
     unfolding uncoveredAt lackingAt
     uncovered-in =
-        ap (λ (l : ℕ). position (λ c. not (coveredAt head rows (classNumbers D a) clauses k c)) (below l)) (H .components)
-        ∙ position-below (λ c. not (coveredAt head rows (classNumbers D a) clauses k c)) (λ c. not (covered (excluding D a x m) (componentAt D c))) (length (D .template))
+        ap (λ (l : ℕ). position (λ c. not (coveredAt head rows (classNumbers D a) usages k c)) (below l)) (H .components)
+        ∙ position-below (λ c. not (coveredAt head rows (classNumbers D a) usages k c)) (λ c. not (covered (excluding D a x m) (componentAt D c))) (length (D .template))
         (λ c g. ap not (covered-in c g))
         ∙ sym (position-map (componentAt D) (λ c. not (covered (excluding D a x m) c)) (below (length (D .template))))
         ∙ ap (position (λ c. not (covered (excluding D a x m) c))) (at-all noComponent (D .template))
 
 -- ---- the memories of a moment
 
-module _ {D : Domain} {a : Action} {m : Moment} {head rows numbers clauses : List ℕ} (M : MomentOf D a m head rows numbers clauses) where
+module _ {D : Domain} {a : Action} {m : Moment} {head rows numbers usages : List ℕ} (M : MomentOf D a m head rows numbers usages) where
   its-bounds : BoundedDomain D
   its-bounds = M .whole .says .bounded
 
   -- the other moment of its action, by the bytes that it has there
-  pub moment-of : (m′ : Moment) → MomentOf D a m′ head rows (classNumbers D a) (pad 64 (clausesAt a m′))
-  moment-of m′ = record { whole = M .whole; numbers-are = refl; clauses-are = refl }
+  pub moment-of : (m′ : Moment) → MomentOf D a m′ head rows (classNumbers D a) (pad 64 (usagesAt a m′))
+  moment-of m′ = record { whole = M .whole; numbers-are = refl; usages-are = refl }
 
-  pub uncovered-held : {k : ℕ} → k < length (classes D a) → lackingAt head rows numbers clauses k ≡ uncoveredAt D a (getD (classes D a) k []) m
+  pub uncovered-held : {k : ℕ} → k < length (classes D a) → lackingAt head rows numbers usages k ≡ uncoveredAt D a (getD (classes D a) k []) m
   uncovered-held {k} h =
-      (λ t. lackingAt head (M .whole .literals t) (M .numbers-are t) (M .clauses-are t) k)
+      (λ t. lackingAt head (M .whole .literals t) (M .numbers-are t) (M .usages-are t) k)
       ∙ uncovered-in D a its-bounds (M .whole .listed) m k h (M .whole .says)
 
 -- ---- the first line that fits
 
-module _ {D : Domain} {a : Action} {m : Moment} {head rows numbers clauses : List ℕ} (M : MomentOf D a m head rows numbers clauses) {k : ℕ} (h : k < length (classes D a)) {sole : Sole} (s : sole ≡ soleOf numbers clauses k) where
-  conditions-are : sole .conditions ≡ soleAt (classNumbers D a) (pad 64 (clausesAt a m)) k 1
-  conditions-are = ap (λ (r : Sole). r .conditions) s ∙ ap₂ (λ (o c : List ℕ). soleAt o c k 1) (M .numbers-are) (M .clauses-are)
+module _ {D : Domain} {a : Action} {m : Moment} {head rows numbers usages : List ℕ} (M : MomentOf D a m head rows numbers usages) {k : ℕ} (h : k < length (classes D a)) {sole : Sole} (s : sole ≡ soleOf numbers usages k) where
+  conditions-are : sole .conditions ≡ soleAt (classNumbers D a) (pad 64 (usagesAt a m)) k 1
+  conditions-are = ap (λ (r : Sole). r .conditions) s ∙ ap₂ (λ (o c : List ℕ). soleAt o c k 1) (M .numbers-are) (M .usages-are)
 
-  adds-are : sole .adds ≡ soleAt (classNumbers D a) (pad 64 (clausesAt a m)) k 3
-  adds-are = ap (λ (r : Sole). r .adds) s ∙ ap₂ (λ (o c : List ℕ). soleAt o c k 3) (M .numbers-are) (M .clauses-are)
+  adds-are : sole .adds ≡ soleAt (classNumbers D a) (pad 64 (usagesAt a m)) k 3
+  adds-are = ap (λ (r : Sole). r .adds) s ∙ ap₂ (λ (o c : List ℕ). soleAt o c k 3) (M .numbers-are) (M .usages-are)
 
   pub no-conditions : sole .conditions ≡ 0 → length (inClass D a (getD (classes D a) k []) m Positive) ≡ 0
   no-conditions z = none-in D a (its-bounds M) (M .whole .listed) m k h Positive (sym conditions-are ∙ z)
@@ -365,25 +365,25 @@ module _ {D : Domain} {a : Action} {m : Moment} {head rows numbers clauses : Lis
       go (inr t) = let n = one-add y (eqb-false _ _ t) in omega arith
 
   module _ (some : sole .conditions ≡ 0 → ⊥) (few : sole .conditions ≡ 255 → ⊥) where
-    pub changed-held : changedAt rows numbers clauses k (sole .conditions - 1)
+    pub changed-held : changedAt rows numbers usages k (sole .conditions - 1)
         ≡ all (changedBy (inClass D a (getD (classes D a) k []) m Add) (inClass D a (getD (classes D a) k []) m Delete)) (inClass D a (getD (classes D a) k []) m Positive)
     changed-held =
-        (λ t. changedAt (M .whole .literals t) (M .numbers-are t) (M .clauses-are t) k (conditions-are t - 1))
+        (λ t. changedAt (M .whole .literals t) (M .numbers-are t) (M .usages-are t) k (conditions-are t - 1))
         ∙ changed-in D a (its-bounds M) (M .whole .listed) m k h (λ w. some (conditions-are ∙ w)) (λ w. few (conditions-are ∙ w))
 
-    pub deleted-held : sameIn rows numbers clauses k 4 (sole .conditions - 1)
+    pub deleted-held : sameIn rows numbers usages k 4 (sole .conditions - 1)
         ≡ all (deletedBy (inClass D a (getD (classes D a) k []) m Delete)) (inClass D a (getD (classes D a) k []) m Positive)
     deleted-held =
-        (λ t. sameIn (M .whole .literals t) (M .numbers-are t) (M .clauses-are t) k 4 (conditions-are t - 1))
+        (λ t. sameIn (M .whole .literals t) (M .numbers-are t) (M .usages-are t) k 4 (conditions-are t - 1))
         ∙ deleted-in D a (its-bounds M) (M .whole .listed) m k h (λ w. some (conditions-are ∙ w)) (λ w. few (conditions-are ∙ w))
 
 -- where the only condition stands, a loop may look
-pub sole-inside : (numbers clauses : List ℕ) (class : ℕ) {sole : Sole} → length numbers ≤ 64 → sole ≡ soleOf numbers clauses class → (sole .conditions ≡ 0 → ⊥) → (sole .conditions ≡ 255 → ⊥)
+pub sole-inside : (numbers usages : List ℕ) (class : ℕ) {sole : Sole} → length numbers ≤ 64 → sole ≡ soleOf numbers usages class → (sole .conditions ≡ 0 → ⊥) → (sole .conditions ≡ 255 → ⊥)
     → sole .conditions - 1 < length numbers
 unfolding soleAt
-sole-inside numbers clauses class h e some few =
+sole-inside numbers usages class h e some few =
     let c = ap (λ (r : Sole). r .conditions) e in
-    rw c (sole-less (isAt numbers clauses class 1) (length numbers) h (λ w. some (c ∙ w)) (λ w. few (c ∙ w)))
+    rw c (sole-less (isAt numbers usages class 1) (length numbers) h (λ w. some (c ∙ w)) (λ w. few (c ∙ w)))
 
 -- ---- whether a class has an over-all literal
 
@@ -449,7 +449,7 @@ name-is D a x m =
 
 -- ---- the name of a class, as the code finds it: `reach` tells which of its literals is asked as a true condition
 
-module _ {D : Domain} {a : Action} {m : Moment} {head rows numbers clauses : List ℕ} (M : MomentOf D a m head rows numbers clauses) {k : ℕ} (h : k < length (classes D a)) {sole : Sole} (s : sole ≡ soleOf numbers clauses k)
+module _ {D : Domain} {a : Action} {m : Moment} {head rows numbers usages : List ℕ} (M : MomentOf D a m head rows numbers usages) {k : ℕ} (h : k < length (classes D a)) {sole : Sole} (s : sole ≡ soleOf numbers usages k)
     {reach : ℕ} (r : reach ≡ reachAt D a m k) where
   pub unreachable-named : reach ≡ 255 → Unreachable ≡ nameOf D a (getD (classes D a) k []) m
   unfolding reachAt
@@ -479,7 +479,7 @@ module _ {D : Domain} {a : Action} {m : Moment} {head rows numbers clauses : Lis
     heavy-named z = sym (name-is D a (getD (classes D a) k []) m ∙ by-heavy _ _ _ _ _ few-asked (many-adds M h s z))
 
     module _ (added : sole .adds ≡ 0 → ⊥) (light : sole .adds ≡ 255 → ⊥) where
-      pub changed-named : (sole .conditions ≡ 0 → ⊥) → (t : Bool) → changedAt rows numbers clauses k (sole .conditions - 1) ≡ t → cond t Balanced Unbalanced ≡ nameOf D a (getD (classes D a) k []) m
+      pub changed-named : (sole .conditions ≡ 0 → ⊥) → (t : Bool) → changedAt rows numbers usages k (sole .conditions - 1) ≡ t → cond t Balanced Unbalanced ≡ nameOf D a (getD (classes D a) k []) m
       changed-named some t c =
           sym (name-is D a (getD (classes D a) k []) m
           ∙ by-changed _ _ _ _ _ few-asked (one-condition M h s some few) (one-add M h s added light)
@@ -493,12 +493,12 @@ module _ {D : Domain} {a : Action} {m : Moment} {head rows numbers clauses : Lis
           ∙ ap (λ (b : Bool). cond b Bounded Unbounded) (ap₂ eqb (sym p) (sym z) ∙ c))
 
 -- what is asked at a start is its own
-pub asked-at-start : {D : Domain} {a : Action} {head rows numbers clauses : List ℕ} → MomentOf D a Start head rows numbers clauses → (k : ℕ) {sole : Sole} → sole ≡ soleOf numbers clauses k
+pub asked-at-start : {D : Domain} {a : Action} {head rows numbers usages : List ℕ} → MomentOf D a Start head rows numbers usages → (k : ℕ) {sole : Sole} → sole ≡ soleOf numbers usages k
     → sole .conditions ≡ reachAt D a Start k
 unfolding reachAt
 asked-at-start {D} {a} M k s =
     ap (λ (r : Sole). r .conditions) s
-    ∙ ap₂ (λ (o c : List ℕ). soleAt o c k 1) (M .numbers-are) (M .clauses-are ∙ ap (pad 64) (sym (asked-start a)))
+    ∙ ap₂ (λ (o c : List ℕ). soleAt o c k 1) (M .numbers-are) (M .usages-are ∙ ap (pad 64) (sym (asked-start a)))
 
 -- ---- whether it is a journey
 

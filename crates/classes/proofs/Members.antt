@@ -16,7 +16,7 @@ use Rattle.literals.proofs.Equality.{variables-eq}
 use Rattle.literals.specs.Matching.{isOf, keyTuple, tuplesBy, tuplesOf, hasTuple}
 use Rattle.classes.specs.Classes.{belongs, classes}
 use Rattle.literals.specs.Keys.{position}
-use Rattle.classes.specs.Coded.{classNumberBy, classNumbers}
+use Rattle.classes.specs.Held.{classNumberBy, classNumbers}
 use Rattle.literals.proofs.Indices.{getD-map}
 use Rattle.classes.proofs.Rows.{noLiteral, literalAt}
 

@@ -12,9 +12,9 @@ use borrow.Author.Tests.{eq-eqb, ne-eqb}
 use Rattle.literals.specs.Decode.{byte}
 use Rattle.literals.proofs.Rows.{part-at}
 use Rattle.literals.proofs.Heads.{parts-length, part-row}
-use Rattle.literals.specs.Held.{componentsIn, keysIn, partIn, partsIn}
+use Rattle.literals.specs.Held.{componentsIn, keysIn, componentRowIn, componentRowsIn}
 use Rattle.literals.specs.Keys.{position, keyRow, keyRowsIn, rowWord, keyWord, keyWordsIn}
-use Rattle.classes.specs.Coded.{numberedBy, wordsAfter, onlyRow}
+use Rattle.classes.specs.Held.{numberedBy, wordsAfter, onlyRow}
 use Rattle.literals.proofs.KeyRows.{place-le, key-rows-none, key-rows-one}
 
 -- ---- the first of n numbers that passes, from the number c on
@@ -71,13 +71,13 @@ module _ (w : ℕ) (words : List ℕ) (count class : ℕ) (e : class ≡ positio
   words-old f = rw (← e, ne-eqb class count f)
 
 -- by the place of the component of its relation
-module _ (head rows : List ℕ) (at c : ℕ) (g : at + 8 ≤ length rows) (e : c ≡ position (λ row. eqb (getD rows (at + 1) 0) (byte row 0)) (partsIn head)) where
+module _ (head rows : List ℕ) (at c : ℕ) (g : at + 8 ≤ length rows) (e : c ≡ position (λ row. eqb (getD rows (at + 1) 0) (byte row 0)) (componentRowsIn head)) where
   pub component-le : c ≤ componentsIn head
-  component-le = omega (arith, place-le (λ row. eqb (getD rows (at + 1) 0) (byte row 0)) (partsIn head), parts-length head)
+  component-le = omega (arith, place-le (λ row. eqb (getD rows (at + 1) 0) (byte row 0)) (componentRowsIn head), parts-length head)
 
   unmatched-rows : c ≡ componentsIn head → keyRowsIn head (take 8 (drop at rows)) ≡ []
   unfolding keyRowsIn
-  unmatched-rows f = key-rows-none (keysIn head) (getD rows (at + 1) 0) (take 8 (drop at rows)) (part-at 8 rows at g 1 (omega arith)) (partsIn head) (sym e ∙ f ∙ sym (parts-length head))
+  unmatched-rows f = key-rows-none (keysIn head) (getD rows (at + 1) 0) (take 8 (drop at rows)) (part-at 8 rows at g 1 (omega arith)) (componentRowsIn head) (sym e ∙ f ∙ sym (parts-length head))
 
   pub unmatched-tuple : c ≡ componentsIn head → replicate 8 255 ≡ onlyRow (keyRowsIn head (take 8 (drop at rows)))
   unmatched-tuple f = sym (ap onlyRow (unmatched-rows f))
@@ -89,19 +89,19 @@ module _ (head rows : List ℕ) (at c : ℕ) (g : at + 8 ≤ length rows) (e : c
   unmatched count words f = rw (unmatched-rows f) (refl, refl)
 
   module _ (h : c ≡ componentsIn head → ⊥) where
-    matched-rows : keyRowsIn head (take 8 (drop at rows)) ≡ keyRow (keysIn head) (partIn head c) (take 8 (drop at rows)) ∷ []
+    matched-rows : keyRowsIn head (take 8 (drop at rows)) ≡ keyRow (keysIn head) (componentRowIn head c) (take 8 (drop at rows)) ∷ []
     unfolding keyRowsIn
     matched-rows =
-        let u = key-rows-one (keysIn head) (getD rows (at + 1) 0) (take 8 (drop at rows)) (part-at 8 rows at g 1 (omega arith)) (partsIn head) (λ z. h (e ∙ z ∙ parts-length head)) in
+        let u = key-rows-one (keysIn head) (getD rows (at + 1) 0) (take 8 (drop at rows)) (part-at 8 rows at g 1 (omega arith)) (componentRowsIn head) (λ z. h (e ∙ z ∙ parts-length head)) in
         let v : c < componentsIn head = omega (arith, component-le) in
         u
-        ∙ ap (λ (k : ℕ). keyRow (keysIn head) (getD (partsIn head) k []) (take 8 (drop at rows)) ∷ []) (sym e)
+        ∙ ap (λ (k : ℕ). keyRow (keysIn head) (getD (componentRowsIn head) k []) (take 8 (drop at rows)) ∷ []) (sym e)
         ∙ ap (λ (p : List ℕ). keyRow (keysIn head) p (take 8 (drop at rows)) ∷ []) (part-row head c v)
 
-    pub matched-tuple : keyRow (keysIn head) (partIn head c) (take 8 (drop at rows)) ≡ onlyRow (keyRowsIn head (take 8 (drop at rows)))
+    pub matched-tuple : keyRow (keysIn head) (componentRowIn head c) (take 8 (drop at rows)) ≡ onlyRow (keyRowsIn head (take 8 (drop at rows)))
     matched-tuple = sym (ap onlyRow matched-rows)
 
-    module _ (w : ℕ) (f : w ≡ keyWord (keysIn head) (partIn head c) (take 8 (drop at rows))) where
+    module _ (w : ℕ) (f : w ≡ keyWord (keysIn head) (componentRowIn head c) (take 8 (drop at rows))) where
       matched : keyWordsIn head (take 8 (drop at rows)) ≡ w ∷ []
       unfolding keyWordsIn keyWord
       matched = ap (map (rowWord (keysIn head))) matched-rows ∙ ap (λ (x : ℕ). x ∷ []) (sym f)

@@ -25,7 +25,7 @@ use Rattle.classes.specs.declared.number.Numbered.{Numbered}
 use Rattle.literals.specs.Matching.{tuplesOf, hasTuple}
 use Rattle.classes.specs.Classes.{belongs, classes}
 use Rattle.literals.specs.Keys.{position, keyRows, keyRowsIn, rowWord, keyWordsIn}
-use Rattle.classes.specs.Coded.{ActionOf, rowAt, classNumberBy, classNumbers, tupleRow, onlyRow, numberedBy, wordsAfter}
+use Rattle.classes.specs.Held.{ActionOf, rowAt, classNumberBy, classNumbers, tupleRow, onlyRow, numberedBy, wordsAfter}
 use Rattle.classes.proofs.Rows.{noLiteral, literalAt, row-at}
 use Rattle.classes.proofs.Members.{member}
 use Rattle.classes.proofs.Numbers.{One, Fits, tuples-one, tuples-rows, found, numbers, numbers-more, tupleWord, row-word, wordsOf, numbered-more, words-more}
@@ -63,7 +63,7 @@ module _ {D : Domain} {a : Action} {head rows : List ℕ} (A : ActionOf D a head
   pub tuples-are : (l : Literal) → In l (a .lits) → keyRowsIn head (literalRow l) ≡ map tupleRow (tuples D l)
   unfolding tuplesOf keyRowsIn
   tuples-are l m =
-      ap₂ (λ (k : ℕ) (ps : List (List ℕ)). keyRows k ps (literalRow l)) (A .says .keys) (A .says .parts)
+      ap₂ (λ (k : ℕ) (ps : List (List ℕ)). keyRows k ps (literalRow l)) (A .says .keys) (A .says .componentRows)
       ∙ tuples-rows D (keysOf (D .template)) few-keys l (B .literalArity a (A .listed) l m) (D .template) fits (B .componentsOnce)
 
   -- and as numbers

@@ -23,7 +23,7 @@ use Rattle.literals.proofs.Equality.{variables-eq, variables-self}
 use Rattle.literals.proofs.Tables.{value}
 use Rattle.literals.specs.Matching.{under, keyTuple, tuplesBy}
 use Rattle.literals.specs.Keys.{position, underKey, underKeys, keyRow, keyRows, wordFrom, rowWord}
-use Rattle.classes.specs.Coded.{classNumberBy, tupleRow, numberedBy, wordsAfter}
+use Rattle.classes.specs.Held.{classNumberBy, tupleRow, numberedBy, wordsAfter}
 use Rattle.literals.proofs.KeyRows.{length-keys}
 
 abbrev pub same : List Variable → List Variable → Bool

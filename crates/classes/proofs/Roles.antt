@@ -9,8 +9,8 @@ use lib.ListN.{length}
 use Rattle.records.specs.Lists.{In, distinct, dedup}
 use Rattle.records.proofs.Lists.{and-l, or-l, or-cases, not-true, clash, in-keepIf, keepIf-tail, filter-in, in-filter, in-dedup, dedup-in, pairwise-filter, distinct-dedup}
 use Rattle.literals.specs.declared.Variable.{Variable}
-use Rattle.literals.specs.declared.Clause.{Clause}
-use Rattle.literals.specs.declared.Clause.the-variants.{Positive}
+use Rattle.literals.specs.declared.Usage.{Usage}
+use Rattle.literals.specs.declared.Usage.the-variants.{Positive}
 use Rattle.literals.specs.declared.Role.{Role}
 use Rattle.literals.specs.Domain.{Atom, sameLiteral, Literal, Action, Domain}
 use Rattle.literals.specs.declared.Moment.{Moment}
@@ -35,30 +35,30 @@ in-withRole rs ls (List·Memᴰ·head {x = k} e) t =
 in-withRole rs ls (List·Memᴰ·tail {x = k} {xs = ks} m) t = keepIf-tail (rs (k .role)) (k .atom) (in-withRole rs ks m t)
 
 -- its own
-pub literalsAt-in : (a : Action) (m : Moment) (c : Clause) {p : Atom Variable} → In p (literalsAt a m c)
+pub literalsAt-in : (a : Action) (m : Moment) (c : Usage) {p : Atom Variable} → In p (literalsAt a m c)
     → (l : Literal) × In l (a .lits) × (own m c (l .role) ≡ true) × (p ≡ l .atom)
 unfolding literalsAt
 literalsAt-in a m c h = withRole-in (own m c) (a .lits) (dedup-in sameLiteral _ h)
 
 -- those that are asked
-pub required-in : (a : Action) (m : Moment) (c : Clause) {p : Atom Variable} → In p (required a m c)
+pub required-in : (a : Action) (m : Moment) (c : Usage) {p : Atom Variable} → In p (required a m c)
     → (l : Literal) × In l (a .lits) × (asked m c (l .role) ≡ true) × (p ≡ l .atom)
 unfolding required
 required-in a m c h = withRole-in (asked m c) (a .lits) (dedup-in sameLiteral _ h)
 
-own-asked : (m : Moment) (c : Clause) (r : Role) → own m c r ≡ true → asked m c r ≡ true
+own-asked : (m : Moment) (c : Usage) (r : Role) → own m c r ≡ true → asked m c r ≡ true
 own-asked Start c r h = h
 own-asked End c r h = or-l (overAll c r) h
 
 -- its own conditions are asked
-pub own-required : (a : Action) (m : Moment) (c : Clause) {p : Atom Variable} → In p (literalsAt a m c) → In p (required a m c)
+pub own-required : (a : Action) (m : Moment) (c : Usage) {p : Atom Variable} → In p (literalsAt a m c) → In p (required a m c)
 unfolding required
 own-required a m c h =
     let l = literalsAt-in a m c h in
     in-dedup sameLiteral literal-eq (Memᴰ·cast (l .3) (in-withRole (asked m c) (a .lits) (l .1) (own-asked m c (l .0 .role) (l .2))))
 
 -- what is asked at an end is its own or over all
-pub required-cases : (a : Action) (c : Clause) {p : Atom Variable} → In p (required a End c) → In p (literalsAt a End c) ⊎ In p (overAllLiterals a c)
+pub required-cases : (a : Action) (c : Usage) {p : Atom Variable} → In p (required a End c) → In p (literalsAt a End c) ⊎ In p (overAllLiterals a c)
 unfolding literalsAt
 required-cases a c {p} h = let l = required-in a End c h in go (l .0) (l .1) (l .3) (or-cases (own End c (l .0 .role)) (overAll c (l .0 .role)) (l .2))
   where
@@ -69,7 +69,7 @@ required-cases a c {p} h = let l = required-in a End c h in go (l .0) (l .1) (l 
 -- ---- of a class
 
 module _ (D : Domain) (a : Action) (x : List Variable) (m : Moment) where
-  pub class-distinct : (c : Clause) → distinct sameLiteral (inClass D a x m c) ≡ true
+  pub class-distinct : (c : Usage) → distinct sameLiteral (inClass D a x m c) ≡ true
   unfolding inClass literalsAt
   class-distinct c = pairwise-filter (λ p q. not (sameLiteral p q)) (belongs D x) (literalsAt a m c) (distinct-dedup sameLiteral (withRole (own m c) (a .lits)))
 

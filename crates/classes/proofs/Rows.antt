@@ -9,12 +9,12 @@ use lib.ListN.{length, getD, take, drop, length-append, length-map}
 use Rattle.records.specs.Lists.{In, sameList}
 use Rattle.records.proofs.Lists.{getD-in}
 use Rattle.literals.specs.declared.Time.the-variants.{AtStart}
-use Rattle.literals.specs.declared.Clause.the-variants.{Positive}
+use Rattle.literals.specs.declared.Usage.the-variants.{Positive}
 use Rattle.literals.specs.Domain.{sameLiteral, roleNumber, Literal}
 use Rattle.literals.specs.Table.{literalRow}
 use Rattle.literals.proofs.Rows.{seven-by-four, part-at}
 use Rattle.literals.proofs.Tables.{Kept, length-flat, rows-flat, length-literal-row, value, same-filled}
-use Rattle.classes.specs.Coded.{rowAt, sameAtomAt}
+use Rattle.classes.specs.Held.{rowAt, sameAtomAt}
 use Rattle.literals.proofs.Indices.{getD-map}
 use Rattle.literals.proofs.KeyRows.{rows-at}
 
@@ -46,7 +46,7 @@ module _ {A : Type 0} (f : A → List ℕ) (l : List A) (rest : List ℕ) (d : A
 -- ---- of literals
 
 abbrev pub noLiteral : Literal
-noLiteral = record { role = record { time = AtStart; clause = Positive }; atom = record { rel = 0; args = [] } }
+noLiteral = record { role = record { time = AtStart; usage = Positive }; atom = record { rel = 0; args = [] } }
 
 -- the literal of a row
 abbrev pub literalAt : List Literal → ℕ → Literal

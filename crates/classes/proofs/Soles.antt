@@ -17,14 +17,14 @@ use Rattle.literals.specs.declared.Moment.{Moment}
 use Rattle.literals.specs.declared.Moment.the-variants.{Start, End}
 use Rattle.literals.specs.declared.Time.{Time}
 use Rattle.literals.specs.declared.Time.the-variants.{AtStart, OverAll, AtEnd}
-use Rattle.literals.specs.declared.Clause.{Clause}
-use Rattle.literals.specs.declared.Clause.the-variants.{Positive, Negative, Add, Delete}
+use Rattle.literals.specs.declared.Usage.{Usage}
+use Rattle.literals.specs.declared.Usage.the-variants.{Positive, Negative, Add, Delete}
 use Rattle.literals.specs.declared.Role.{Role}
 use Rattle.literals.specs.Domain.{roleOf}
 use Rattle.literals.specs.Table.{pad}
 use Rattle.literals.specs.Keys.{numbersFrom, below}
-use Rattle.classes.specs.Coded.{clauseAt, clauseByte, mayMeet, saysAt, clauseIn, isAt, soleMore, soleBy, soleAt, soleOf}
-use Rattle.classes.specs.Coded.{sectionOf, countsIn, SolesOf, soleIn}
+use Rattle.classes.specs.Held.{usageAt, usageByte, mayMeet, saysAt, usageIn, isAt, soleMore, soleBy, soleAt, soleOf}
+use Rattle.classes.specs.Held.{sectionOf, countsIn, SolesOf, soleIn}
 use Rattle.literals.proofs.Tables.{pad-at}
 use Rattle.literals.proofs.Indices.{below-snoc, below-in, length-from, getD-map}
 
@@ -218,11 +218,11 @@ module _ (said : Bool) (s class k j old : ℕ) where
 
 -- said: an earlier literal says the same, where it is asked at the end
 abbrev hits : Bool → Role → ℕ → Bool
-hits said r zero = eqb (clauseAt false Start r) 1
-hits said r (suc zero) = eqb (clauseAt false Start r) 3
-hits said r (suc (suc zero)) = eqb (clauseAt false End r) 1
-hits said r (suc (suc (suc zero))) = eqb (clauseAt false End r) 3
-hits said r (suc (suc (suc (suc s)))) = eqb (clauseAt true End r) 1 && not said
+hits said r zero = eqb (usageAt false Start r) 1
+hits said r (suc zero) = eqb (usageAt false Start r) 3
+hits said r (suc (suc zero)) = eqb (usageAt false End r) 1
+hits said r (suc (suc (suc zero))) = eqb (usageAt false End r) 3
+hits said r (suc (suc (suc (suc s)))) = eqb (usageAt true End r) 1 && not said
 
 -- by the first section that counts it
 abbrev counted : Bool → ℕ → ℕ → Bool
@@ -234,7 +234,7 @@ EachSection said r =
     × (hits said r 2 ≡ counted said (sectionOf r) 2)
     × (hits said r 3 ≡ counted said (sectionOf r) 3) × (hits said r 4 ≡ counted said (sectionOf r) 4)
 
-each-section : (said : Bool) (t : Time) (c : Clause) → EachSection said record { time = t; clause = c }
+each-section : (said : Bool) (t : Time) (c : Usage) → EachSection said record { time = t; usage = c }
 each-section said AtStart Positive = (refl, refl, refl, refl, refl)
 each-section said AtStart Negative = (refl, refl, refl, refl, refl)
 each-section said AtStart Add = (refl, refl, refl, refl, refl)
@@ -256,9 +256,9 @@ module _ (rows : List ℕ) (j : ℕ) where
   said = any (saysAt true rows End 1 j) (below j)
 
   -- a literal asked at the end is not said before
-  asked-once : eqb (clauseIn true rows End j) 1 ≡ eqb (clauseAt true End role) 1 && not said
-  unfolding clauseIn clauseByte
-  asked-once = go (clauseAt true End role) (bool-cases (eqb (clauseAt true End role) 1))
+  asked-once : eqb (usageIn true rows End j) 1 ≡ eqb (usageAt true End role) 1 && not said
+  unfolding usageIn usageByte
+  asked-once = go (usageAt true End role) (bool-cases (eqb (usageAt true End role) 1))
     where
       once : (b : Bool) → eqb (cond b 0 1) 1 ≡ not b
       once true = refl
@@ -274,7 +274,7 @@ module _ (rows : List ℕ) (j : ℕ) where
       go n (inr f) = other (mayMeet true End n && any (saysAt true rows End n j) (below j)) n f ∙ sym (ap (λ (b : Bool). b && not said) f)
 
   counts-hit : (s : ℕ) → s < 5 → countsIn rows s j ≡ hits said role s
-  unfolding countsIn clauseIn clauseByte
+  unfolding countsIn usageIn usageByte
   counts-hit zero h = refl
   counts-hit (suc zero) h = refl
   counts-hit (suc (suc zero)) h = refl
@@ -283,7 +283,7 @@ module _ (rows : List ℕ) (j : ℕ) where
   counts-hit (suc (suc (suc (suc (suc s))))) h = absurd (omega arith)
 
   counts-section : (s : ℕ) → s < 5 → countsIn rows s j ≡ counted said (sectionOf role) s
-  counts-section s h = counts-hit s h ∙ pick (each-section said (role .time) (role .clause)) s h
+  counts-section s h = counts-hit s h ∙ pick (each-section said (role .time) (role .usage)) s h
     where
       pick : EachSection said role → (s : ℕ) → s < 5 → hits said role s ≡ counted said (sectionOf role) s
       pick e zero h = e .0
@@ -390,7 +390,7 @@ module _ (rows numbers : List ℕ) where
       let e : j ≡ length numbers = omega arith in
       T .is s k p q ∙ ap (soleBy (λ i. eqb (getD numbers i 0) k && countsIn rows s i)) e
 
--- ---- the notes of a moment, by the clauses of its literals
+-- ---- the notes of a moment, by the usages of its literals
 
 sole-agree : (p q : ℕ → Bool) (n : ℕ) → ((j : ℕ) → j < n → p j ≡ q j) → soleBy p n ≡ soleBy q n
 unfolding soleBy
@@ -402,39 +402,39 @@ from-at i zero j h = absurd (omega arith)
 from-at i (suc n) zero h = omega arith
 from-at i (suc n) (suc j) h = from-at (suc i) n j (omega arith) ∙ omega arith
 
-module _ (rows numbers : List ℕ) (w : Bool) (m : Moment) (clauses : List ℕ)
-    (e : clauses ≡ pad 64 (map (clauseIn w rows m) (below (length numbers)))) where
-  clause-at : (j : ℕ) → j < length numbers → getD clauses j 0 ≡ clauseIn w rows m j
-  clause-at j h =
+module _ (rows numbers : List ℕ) (w : Bool) (m : Moment) (usages : List ℕ)
+    (e : usages ≡ pad 64 (map (usageIn w rows m) (below (length numbers)))) where
+  usage-at : (j : ℕ) → j < length numbers → getD usages j 0 ≡ usageIn w rows m j
+  usage-at j h =
       let z : 0 + j ≡ j = omega arith in
       ap (λ (l : List ℕ). getD l j 0) e
-      ∙ pad-at 64 (map (clauseIn w rows m) (below (length numbers))) j
-      ∙ getD-map (clauseIn w rows m) (below (length numbers)) j 0 0 (omega (arith, length-from 0 (length numbers)))
-      ∙ ap (clauseIn w rows m) (from-at 0 (length numbers) j h ∙ z)
+      ∙ pad-at 64 (map (usageIn w rows m) (below (length numbers))) j
+      ∙ getD-map (usageIn w rows m) (below (length numbers)) j 0 0 (omega (arith, length-from 0 (length numbers)))
+      ∙ ap (usageIn w rows m) (from-at 0 (length numbers) j h ∙ z)
 
-  section-is : (k clause : ℕ)
-      → soleBy (λ j. eqb (getD numbers j 0) k && eqb (clauseIn w rows m j) clause) (length numbers) ≡ soleAt numbers clauses k clause
+  section-is : (k usage : ℕ)
+      → soleBy (λ j. eqb (getD numbers j 0) k && eqb (usageIn w rows m j) usage) (length numbers) ≡ soleAt numbers usages k usage
   unfolding soleAt isAt
-  section-is k clause =
-      sole-agree (λ j. eqb (getD numbers j 0) k && eqb (clauseIn w rows m j) clause) (isAt numbers clauses k clause) (length numbers)
-      (λ j h. ap (λ (c : ℕ). eqb (getD numbers j 0) k && eqb c clause) (sym (clause-at j h)))
+  section-is k usage =
+      sole-agree (λ j. eqb (getD numbers j 0) k && eqb (usageIn w rows m j) usage) (isAt numbers usages k usage) (length numbers)
+      (λ j h. ap (λ (c : ℕ). eqb (getD numbers j 0) k && eqb c usage) (sym (usage-at j h)))
 
-module _ (rows numbers clauses soles : List ℕ) (S : SolesOf rows numbers soles) where
-  pub start-soles : clauses ≡ pad 64 (map (clauseIn false rows Start) (below (length numbers))) → (k : ℕ) → k < 64
-      → soleIn soles 0 k ≡ soleOf numbers clauses k
+module _ (rows numbers usages soles : List ℕ) (S : SolesOf rows numbers soles) where
+  pub start-soles : usages ≡ pad 64 (map (usageIn false rows Start) (below (length numbers))) → (k : ℕ) → k < 64
+      → soleIn soles 0 k ≡ soleOf numbers usages k
   unfolding SolesOf countsIn
   start-soles e k h =
-      let is = section-is rows numbers false Start clauses e k in
+      let is = section-is rows numbers false Start usages e k in
       ap₂ (λ (c d : ℕ). record { conditions = c; adds = d }) (S 0 k (omega arith) h ∙ is 1) (S 1 k (omega arith) h ∙ is 3)
 
-  pub end-soles : clauses ≡ pad 64 (map (clauseIn false rows End) (below (length numbers))) → (k : ℕ) → k < 64
-      → soleIn soles 2 k ≡ soleOf numbers clauses k
+  pub end-soles : usages ≡ pad 64 (map (usageIn false rows End) (below (length numbers))) → (k : ℕ) → k < 64
+      → soleIn soles 2 k ≡ soleOf numbers usages k
   unfolding SolesOf countsIn
   end-soles e k h =
-      let is = section-is rows numbers false End clauses e k in
+      let is = section-is rows numbers false End usages e k in
       ap₂ (λ (c d : ℕ). record { conditions = c; adds = d }) (S 2 k (omega arith) h ∙ is 1) (S 3 k (omega arith) h ∙ is 3)
 
-  pub asked-soles : clauses ≡ pad 64 (map (clauseIn true rows End) (below (length numbers))) → (k : ℕ) → k < 64
-      → getD soles (64 * 4 + k) 0 ≡ soleAt numbers clauses k 1
+  pub asked-soles : usages ≡ pad 64 (map (usageIn true rows End) (below (length numbers))) → (k : ℕ) → k < 64
+      → getD soles (64 * 4 + k) 0 ≡ soleAt numbers usages k 1
   unfolding SolesOf countsIn
-  asked-soles e k h = S 4 k (omega arith) h ∙ section-is rows numbers true End clauses e k 1
+  asked-soles e k h = S 4 k (omega arith) h ∙ section-is rows numbers true End usages e k 1

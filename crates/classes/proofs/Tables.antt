@@ -14,7 +14,7 @@ use Rattle.literals.specs.declared.span.Span.{Span}
 use Rattle.literals.specs.Held.{SpanOf}
 use Rattle.literals.specs.Matching.{tuplesOf}
 use Rattle.classes.specs.Classes.{classes}
-use Rattle.classes.specs.Coded.{classNumberBy, classNumbers, numbersOf}
+use Rattle.classes.specs.Held.{classNumberBy, classNumbers, numbersOf}
 
 -- a part of a memory, written behind what is there
 over-part : (xs ys old : List ℕ) (from to : ℕ) → from ≡ length xs → to ≡ length xs + length ys

@@ -7,8 +7,8 @@ use lib.ListN.{length}
 use Rattle.records.specs.Lists.{filterBy, all, any, sameList, elem, dedup}
 use Rattle.literals.specs.declared.Variable.{Variable}
 use Rattle.literals.specs.declared.Time.the-variants.{OverAll}
-use Rattle.literals.specs.declared.Clause.{Clause}
-use Rattle.literals.specs.declared.Clause.the-variants.{Positive, Negative, Add, Delete}
+use Rattle.literals.specs.declared.Usage.{Usage}
+use Rattle.literals.specs.declared.Usage.the-variants.{Positive, Negative, Add, Delete}
 use Rattle.literals.specs.Domain.{sameVariable, Atom, sameLiteral, sameTime, Literal, Action, Component, isCounted, Domain}
 use Rattle.literals.specs.Matching.{tuplesOf, hasTuple, literalsAt, required}
 use Rattle.literals.specs.declared.Moment.{Moment}
@@ -27,12 +27,13 @@ abbrev pub countedForReach : Action → Moment → List (Atom Variable)
 countedForReach a m = required a m Positive
 
 -- the literals that count towards every other name, and for journeys: the moment's own
-abbrev pub countedForName : Action → Moment → Clause → List (Atom Variable)
+abbrev pub countedForName : Action → Moment → Usage → List (Atom Variable)
 countedForName = literalsAt
 
 -- ---- classes: each is its key tuple
 
--- "Literals of one action with equal tuples form a class; with n = 0 all matching literals form one. Classes are numbered by first literal in the file."
+-- "Literals of one action with equal tuples form a class; with n = 0 all matching literals form one. Classes are numbered by first literal
+-- in the file."
 unfoldable pub classes : Domain → Action → List (List Variable)
 unfolding tuplesOf flatMap
 classes D a = dedup (sameList sameVariable) (flatMap (λ (l : Literal). tuplesOf D (l .atom)) (a .lits))
@@ -42,7 +43,7 @@ abbrev pub belongs : Domain → List Variable → Atom Variable → Bool
 belongs D x p = hasTuple sameVariable D x p
 
 -- "Only the class's literals of that moment count"
-unfoldable pub inClass : Domain → Action → List Variable → Moment → Clause → List (Atom Variable)
+unfoldable pub inClass : Domain → Action → List Variable → Moment → Usage → List (Atom Variable)
 unfolding hasTuple literalsAt
 inClass D a x m c = filterBy (belongs D x) (countedForName a m c)
 
@@ -67,7 +68,8 @@ nameNumber Unbalanced = 5
 nameNumber Bounded = 6
 nameNumber Unbounded = 7
 
--- "the first line that fits names it": of the true conditions towards unreachable, the true conditions and adds towards the rest, whether the true condition is also an add or a delete, and whether each component is covered
+-- "the first line that fits names it": of the true conditions towards unreachable, the true conditions and adds towards the rest, whether
+-- the true condition is also an add or a delete, and whether each component is covered
 unfoldable pub nameBy : ℕ → ℕ → ℕ → Bool → Bool → Name
 nameBy reach conditions adds changed covered =
     cond (leb 2 reach) Unreachable
@@ -101,7 +103,8 @@ nameOf D a x m =
     (all (changedBy (inClass D a x m Add) (inClass D a x m Delete)) (inClass D a x m Positive))
     (all (covered (excluding D a x m)) (D .template))
 
--- the paper's own term: "A journey is a class of a lasting action whose start has no add and exactly one true condition, which the start deletes, and whose end has no true condition and one add."
+-- the paper's own term: "A journey is a class of a lasting action whose start has no add and exactly one true condition, which the start
+-- deletes, and whose end has no true condition and one add."
 unfoldable pub journey : Domain → Action → List Variable → Bool
 unfolding inClass
 journey D a x =

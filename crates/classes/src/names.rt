@@ -1,4 +1,4 @@
-// What a class has at a moment: the clause of each literal there, its true conditions and adds, and the name that they decide.
+// What a class has at a moment: the usage of each literal there, its true conditions and adds, and the name that they decide.
 use super::ASKED;
 use super::AT_END;
 use super::AT_START;
@@ -6,20 +6,20 @@ use super::Marks;
 use super::Name;
 use super::Sole;
 use super::Soles;
-use literals::Clause;
 use literals::Moment;
 use literals::Time;
-use literals::clause_number;
+use literals::Usage;
 use literals::head::Head;
 use literals::head::arity_of;
+use literals::head::component_byte;
 use literals::head::components_in;
-use literals::head::part_byte;
 use literals::is_counted;
 use literals::label_of;
 use literals::limits::MAX_LITERALS;
 use literals::role_of;
 use literals::row::same_four;
 use literals::same_time;
+use literals::usage_number;
 use records::bytes::wide;
 ghost use mathlib.Core.Path.{_≡_};
 ghost use mathlib.Core.Bool.{true, not, _&&_};
@@ -31,16 +31,16 @@ ghost use Rattle.records.specs.Lists.{any};
 ghost use Rattle.literals.specs.Domain.{Domain, Action, isCounted, roleOf};
 ghost use Rattle.literals.specs.Decode.{maxArguments, maxLiterals, maxComponents, labelOf};
 ghost use Rattle.literals.specs.Table.{pad};
-ghost use Rattle.literals.specs.Held.{partIn};
+ghost use Rattle.literals.specs.Held.{componentRowIn};
 ghost use Rattle.literals.specs.declared.Moment.{Moment};
 ghost use Rattle.literals.specs.declared.Moment.the-variants.{Start, End};
 ghost use Rattle.literals.specs.declared.Time.the-variants.{AtStart, OverAll, AtEnd};
 ghost use Rattle.classes.specs.Classes.{classes, lastsIn, nameOf, journey};
 ghost use Rattle.literals.specs.Keys.{below};
-ghost use Rattle.classes.specs.Coded.{ActionOf, MomentOf, Sides, clausesBy, clausesAt, classNumbers, uncoveredAt, timed, clauseByte};
-ghost use Rattle.classes.specs.Coded.{mayMeet, sameAtomAt, saysAt, clauseIn, isAt, isSameAt, sameIn, changedAt, excludesAt};
-ghost use Rattle.classes.specs.Coded.{coveredAt, lackingAt, lastsAt, soleMore, soleOf, reachAt};
-ghost use Rattle.classes.specs.Coded.{sectionBy, sectionOf, countsIn, SolesOf, soleIn};
+ghost use Rattle.classes.specs.Held.{ActionOf, MomentOf, Sides, usagesBy, usagesAt, classNumbers, uncoveredAt, timed, usageByte};
+ghost use Rattle.classes.specs.Held.{mayMeet, sameAtomAt, saysAt, usageIn, isAt, isSameAt, sameIn, changedAt, excludesAt};
+ghost use Rattle.classes.specs.Held.{coveredAt, lackingAt, lastsAt, soleMore, soleOf, reachAt};
+ghost use Rattle.classes.specs.Held.{sectionBy, sectionOf, countsIn, SolesOf, soleIn};
 
 // Whether the literals of a time count at an end: its own, or (wide) all that is asked there, the over-all conditions too.
 fn counts_at_end(wide: bool, time: Time) -> bool
@@ -64,14 +64,14 @@ fn counts_at(wide: bool, m: Moment, time: Time) -> bool
 }
 
 // 1 to 4 for a true condition, false condition, add or delete of the moment, 0 for none: of a role byte. Wide or of its own as above.
-fn clause_at(wide: bool, m: Moment, role: u8) -> u8
-    ensures { λ r. ⌜ r ≡ clauseByte wide m role ⌝ }
+fn usage_at(wide: bool, m: Moment, role: u8) -> u8
+    ensures { λ r. ⌜ r ≡ usageByte wide m role ⌝ }
 {
     let sorted = role_of(role);
     let when = sorted.time;
     if counts_at(wide, m, when) {
-        let clause = sorted.clause;
-        return clause_number(clause) + 1;
+        let usage = sorted.usage;
+        return usage_number(usage) + 1;
     }
     0
 }
@@ -87,33 +87,33 @@ fn rows_agree(rows: &[u8], i: usize, j: usize) -> bool
     false
 }
 
-// Whether the row `i` has this clause at the moment, and the atom of the row `j`.
-fn says(wide: bool, rows: &[u8], m: Moment, clause: u8, j: usize, i: usize) -> bool
+// Whether the row `i` has this usage at the moment, and the atom of the row `j`.
+fn says(wide: bool, rows: &[u8], m: Moment, usage: u8, j: usize, i: usize) -> bool
     requires { ⌜ (8 * i + 8 ≤ length (now rows)) × (8 * j + 8 ≤ length (now rows)) ⌝ }
-    ensures { λ r. ⌜ r ≡ saysAt wide (now (rows .entry)) m clause j i ⌝ }
+    ensures { λ r. ⌜ r ≡ saysAt wide (now (rows .entry)) m usage j i ⌝ }
 {
     if rows_agree(rows, i, j) {
-        return clause_at(wide, m, rows[8 * i]) == clause;
+        return usage_at(wide, m, rows[8 * i]) == usage;
     }
     false
 }
 
 // Whether a row before `j` says the same.
-fn earlier_same(wide: bool, rows: &[u8], m: Moment, clause: u8, j: usize) -> bool
+fn earlier_same(wide: bool, rows: &[u8], m: Moment, usage: u8, j: usize) -> bool
     requires { ⌜ 8 * j + 8 ≤ length (now rows) ⌝ }
-    ensures { λ r. ⌜ r ≡ any (saysAt wide (now (rows .entry)) m clause j) (below j) ⌝ }
+    ensures { λ r. ⌜ r ≡ any (saysAt wide (now (rows .entry)) m usage j) (below j) ⌝ }
 {
     for i in 0..j {
-        if says(wide, rows, m, clause, j, i) {
+        if says(wide, rows, m, usage, j, i) {
             return true;
         }
     }
     false
 }
 
-// Whether literals of different roles have this clause at the moment: what is asked at an end is its own conditions and the over-all ones.
-fn may_meet(wide: bool, m: Moment, clause: u8) -> bool
-    ensures { λ r. ⌜ r ≡ mayMeet wide m clause ⌝ }
+// Whether literals of different roles have this usage at the moment: what is asked at an end is its own conditions and the over-all ones.
+fn may_meet(wide: bool, m: Moment, usage: u8) -> bool
+    ensures { λ r. ⌜ r ≡ mayMeet wide m usage ⌝ }
 {
     match m {
         Moment::Start => false,
@@ -121,51 +121,51 @@ fn may_meet(wide: bool, m: Moment, clause: u8) -> bool
             if !wide {
                 return false;
             }
-            if clause == 0 {
+            if usage == 0 {
                 return false;
             }
-            clause < 3
+            usage < 3
         }
     }
 }
 
-// The clause of the row `j` at the moment, 0 where an earlier row says it. (Literals of one role are never the same.)
-fn clause_once(wide: bool, rows: &[u8], m: Moment, j: usize) -> u8
+// The usage of the row `j` at the moment, 0 where an earlier row says it. (Literals of one role are never the same.)
+fn usage_once(wide: bool, rows: &[u8], m: Moment, j: usize) -> u8
     requires { ⌜ 8 * j + 8 ≤ length (now rows) ⌝ }
-    ensures { λ r. ⌜ r ≡ clauseIn wide (now (rows .entry)) m j ⌝ }
+    ensures { λ r. ⌜ r ≡ usageIn wide (now (rows .entry)) m j ⌝ }
 {
-    let clause = clause_at(wide, m, rows[8 * j]);
-    if !may_meet(wide, m, clause) {
-        return clause;
+    let usage = usage_at(wide, m, rows[8 * j]);
+    if !may_meet(wide, m, usage) {
+        return usage;
     }
-    if earlier_same(wide, rows, m, clause, j) {
+    if earlier_same(wide, rows, m, usage, j) {
         return 0;
     }
-    clause
+    usage
 }
 
-// The clause of each literal at a moment, 0 for none and for one that an earlier literal says already; `clauses` is all 0 before. Of the
+// The usage of each literal at a moment, 0 for none and for one that an earlier literal says already; `usages` is all 0 before. Of the
 // moment's own literals, which names and journeys are told by, or (wide) of all that is asked there, which a witness lists.
-pub fn clauses_at(wide: bool, rows: &[u8], n: usize, m: Moment, clauses: &mut Marks)
+pub fn usages_at(wide: bool, rows: &[u8], n: usize, m: Moment, usages: &mut Marks)
     requires rowed { ⌜ length (now rows) ≡ 8 * n ⌝ }
     requires few { ⌜ n ≤ maxLiterals ⌝ }
-    ensures bytes { λ _. ⌜ (now (clauses .entry) ≡ pad maxLiterals []
-        → now (clauses .exit) ≡ pad maxLiterals (map (clauseIn wide (now (rows .entry)) m) (below n))) ⌝ }
-    ensures clauses { λ _. ⌜ ((D : Domain) (a : Action) (head : List ℕ) → ActionOf D a head (now (rows .entry))
-        → now (clauses .entry) ≡ pad maxLiterals [] → now (clauses .exit) ≡ pad maxLiterals (clausesBy wide a m)) ⌝ }
+    ensures bytes { λ _. ⌜ (now (usages .entry) ≡ pad maxLiterals []
+        → now (usages .exit) ≡ pad maxLiterals (map (usageIn wide (now (rows .entry)) m) (below n))) ⌝ }
+    ensures usages { λ _. ⌜ ((D : Domain) (a : Action) (head : List ℕ) → ActionOf D a head (now (rows .entry))
+        → now (usages .entry) ≡ pad maxLiterals [] → now (usages .exit) ≡ pad maxLiterals (usagesBy wide a m)) ⌝ }
 {
     for j in 0..n {
-        clauses[j] = clause_once(wide, rows, m, j);
+        usages[j] = usage_once(wide, rows, m, j);
     }
 }
 
-// Whether the row `j` is in a class with this clause.
-fn is_at(numbers: &[u8], clauses: &Marks, class: u8, clause: u8, j: usize) -> bool
+// Whether the row `j` is in a class with this usage.
+fn is_at(numbers: &[u8], usages: &Marks, class: u8, usage: u8, j: usize) -> bool
     requires { ⌜ (j < length (now numbers)) × (length (now numbers) ≤ maxLiterals) ⌝ }
-    ensures { λ r. ⌜ r ≡ isAt (now (numbers .entry)) (now (clauses .entry)) class clause j ⌝ }
+    ensures { λ r. ⌜ r ≡ isAt (now (numbers .entry)) (now (usages .entry)) class usage j ⌝ }
 {
     if numbers[j] == class {
-        return clauses[j] == clause;
+        return usages[j] == usage;
     }
     false
 }
@@ -184,39 +184,39 @@ fn note(soles: &mut [u8], section: usize, class: usize, j: usize)
     soles[at] = 255;
 }
 
-// The section that counts the literals of a clause at the start, or 5.
-fn start_section(clause: Clause) -> usize
-    ensures { λ r. ⌜ r ≡ sectionBy AtStart clause ⌝ }
+// The section that counts the literals of a usage at the start, or 5.
+fn start_section(usage: Usage) -> usize
+    ensures { λ r. ⌜ r ≡ sectionBy AtStart usage ⌝ }
 {
-    match clause {
-        Clause::Positive => AT_START,
-        Clause::Negative => 5,
-        Clause::Add => AT_START + 1,
-        Clause::Delete => 5,
+    match usage {
+        Usage::Positive => AT_START,
+        Usage::Negative => 5,
+        Usage::Add => AT_START + 1,
+        Usage::Delete => 5,
     }
 }
 
 // The same over all.
-fn over_all_section(clause: Clause) -> usize
-    ensures { λ r. ⌜ r ≡ sectionBy OverAll clause ⌝ }
+fn over_all_section(usage: Usage) -> usize
+    ensures { λ r. ⌜ r ≡ sectionBy OverAll usage ⌝ }
 {
-    match clause {
-        Clause::Positive => ASKED,
-        Clause::Negative => 5,
-        Clause::Add => 5,
-        Clause::Delete => 5,
+    match usage {
+        Usage::Positive => ASKED,
+        Usage::Negative => 5,
+        Usage::Add => 5,
+        Usage::Delete => 5,
     }
 }
 
 // The same at the end.
-fn end_section(clause: Clause) -> usize
-    ensures { λ r. ⌜ r ≡ sectionBy AtEnd clause ⌝ }
+fn end_section(usage: Usage) -> usize
+    ensures { λ r. ⌜ r ≡ sectionBy AtEnd usage ⌝ }
 {
-    match clause {
-        Clause::Positive => AT_END,
-        Clause::Negative => 5,
-        Clause::Add => AT_END + 1,
-        Clause::Delete => 5,
+    match usage {
+        Usage::Positive => AT_END,
+        Usage::Negative => 5,
+        Usage::Add => AT_END + 1,
+        Usage::Delete => 5,
     }
 }
 
@@ -226,11 +226,11 @@ fn section_of(role: u8) -> usize
 {
     let sorted = role_of(role);
     let when = sorted.time;
-    let clause = sorted.clause;
+    let usage = sorted.usage;
     match when {
-        Time::AtStart => start_section(clause),
-        Time::OverAll => over_all_section(clause),
-        Time::AtEnd => end_section(clause),
+        Time::AtStart => start_section(usage),
+        Time::OverAll => over_all_section(usage),
+        Time::AtEnd => end_section(usage),
     }
 }
 
@@ -294,32 +294,32 @@ pub fn sole_in(soles: &Soles, section: usize, class: usize) -> Sole
     }
 }
 
-// Whether the row `j` is in a class with this clause, and has the atom of the row `i`.
+// Whether the row `j` is in a class with this usage, and has the atom of the row `i`.
 fn is_same_at(
     rows: &[u8],
     numbers: &[u8],
-    clauses: &Marks,
+    usages: &Marks,
     class: u8,
-    clause: u8,
+    usage: u8,
     i: usize,
     j: usize,
 ) -> bool
     requires { ⌜ Sides (now rows) (now numbers) × (i < length (now numbers)) × (j < length (now numbers)) ⌝ }
-    ensures { λ r. ⌜ r ≡ isSameAt (now (rows .entry)) (now (numbers .entry)) (now (clauses .entry)) class clause i j ⌝ }
+    ensures { λ r. ⌜ r ≡ isSameAt (now (rows .entry)) (now (numbers .entry)) (now (usages .entry)) class usage i j ⌝ }
 {
-    if is_at(numbers, clauses, class, clause, j) {
+    if is_at(numbers, usages, class, usage, j) {
         return rows_agree(rows, i, j);
     }
     false
 }
 
-// Whether a literal of a class with this clause has the atom of the row `i`.
-fn any_same(rows: &[u8], numbers: &[u8], clauses: &Marks, class: u8, clause: u8, i: usize) -> bool
+// Whether a literal of a class with this usage has the atom of the row `i`.
+fn any_same(rows: &[u8], numbers: &[u8], usages: &Marks, class: u8, usage: u8, i: usize) -> bool
     requires { ⌜ Sides (now rows) (now numbers) × (i < length (now numbers)) ⌝ }
-    ensures { λ r. ⌜ r ≡ sameIn (now (rows .entry)) (now (numbers .entry)) (now (clauses .entry)) class clause i ⌝ }
+    ensures { λ r. ⌜ r ≡ sameIn (now (rows .entry)) (now (numbers .entry)) (now (usages .entry)) class usage i ⌝ }
 {
     for j in 0..numbers.len() {
-        if is_same_at(rows, numbers, clauses, class, clause, i, j) {
+        if is_same_at(rows, numbers, usages, class, usage, i, j) {
             return true;
         }
     }
@@ -327,38 +327,38 @@ fn any_same(rows: &[u8], numbers: &[u8], clauses: &Marks, class: u8, clause: u8,
 }
 
 // Whether a literal with the atom of the row `i` is an add or a delete of a class.
-fn is_changed(rows: &[u8], numbers: &[u8], clauses: &Marks, class: u8, i: usize) -> bool
+fn is_changed(rows: &[u8], numbers: &[u8], usages: &Marks, class: u8, i: usize) -> bool
     requires { ⌜ Sides (now rows) (now numbers) × (i < length (now numbers)) ⌝ }
-    ensures { λ r. ⌜ r ≡ changedAt (now (rows .entry)) (now (numbers .entry)) (now (clauses .entry)) class i ⌝ }
+    ensures { λ r. ⌜ r ≡ changedAt (now (rows .entry)) (now (numbers .entry)) (now (usages .entry)) class i ⌝ }
 {
-    if any_same(rows, numbers, clauses, class, 3, i) {
+    if any_same(rows, numbers, usages, class, 3, i) {
         return true;
     }
-    any_same(rows, numbers, clauses, class, 4, i)
+    any_same(rows, numbers, usages, class, 4, i)
 }
 
 // Whether the row `j` is a false condition, add or delete of a class, with this relation.
-fn excludes(rows: &[u8], numbers: &[u8], clauses: &Marks, class: u8, relation: u8, j: usize) -> bool
+fn excludes(rows: &[u8], numbers: &[u8], usages: &Marks, class: u8, relation: u8, j: usize) -> bool
     requires { ⌜ Sides (now rows) (now numbers) × (j < length (now numbers)) ⌝ }
-    ensures { λ r. ⌜ r ≡ excludesAt (now (rows .entry)) (now (numbers .entry)) (now (clauses .entry)) class relation j ⌝ }
+    ensures { λ r. ⌜ r ≡ excludesAt (now (rows .entry)) (now (numbers .entry)) (now (usages .entry)) class relation j ⌝ }
 {
     if numbers[j] != class {
         return false;
     }
-    if clauses[j] < 2 {
+    if usages[j] < 2 {
         return false;
     }
     relation == rows[8 * j + 1]
 }
 
 // Whether a false condition, add or delete of a class has this relation.
-fn any_excluding(rows: &[u8], numbers: &[u8], clauses: &Marks, class: u8, relation: u8) -> bool
+fn any_excluding(rows: &[u8], numbers: &[u8], usages: &Marks, class: u8, relation: u8) -> bool
     requires { ⌜ Sides (now rows) (now numbers) ⌝ }
-    ensures { λ r. ⌜ r ≡ any (excludesAt (now (rows .entry)) (now (numbers .entry)) (now (clauses .entry)) class relation)
+    ensures { λ r. ⌜ r ≡ any (excludesAt (now (rows .entry)) (now (numbers .entry)) (now (usages .entry)) class relation)
         (below (length (now (numbers .entry)))) ⌝ }
 {
     for j in 0..numbers.len() {
-        if excludes(rows, numbers, clauses, class, relation, j) {
+        if excludes(rows, numbers, usages, class, relation, j) {
             return true;
         }
     }
@@ -368,10 +368,10 @@ fn any_excluding(rows: &[u8], numbers: &[u8], clauses: &Marks, class: u8, relati
 // Whether one of the first n labels of the component `c` is that of the counted argument.
 fn any_counted(head: &Head, c: usize, n: usize) -> bool
     requires { ⌜ (c < maxComponents) × (n ≤ maxArguments) ⌝ }
-    ensures { λ r. ⌜ r ≡ any (λ i. isCounted (labelOf (getD (partIn (now (head .entry)) c) (1 + i) 0))) (below n) ⌝ }
+    ensures { λ r. ⌜ r ≡ any (λ i. isCounted (labelOf (getD (componentRowIn (now (head .entry)) c) (1 + i) 0))) (below n) ⌝ }
 {
     for i in 0..n {
-        let label = label_of(part_byte(head, c, 1 + i));
+        let label = label_of(component_byte(head, c, 1 + i));
         if is_counted(label) {
             return true;
         }
@@ -380,26 +380,26 @@ fn any_counted(head: &Head, c: usize, n: usize) -> bool
 }
 
 // Whether a class covers the component `c`.
-fn covers(head: &Head, rows: &[u8], numbers: &[u8], clauses: &Marks, class: u8, c: usize) -> bool
+fn covers(head: &Head, rows: &[u8], numbers: &[u8], usages: &Marks, class: u8, c: usize) -> bool
     requires { ⌜ (c < maxComponents) × Sides (now rows) (now numbers) ⌝ }
-    ensures { λ r. ⌜ r ≡ coveredAt (now (head .entry)) (now (rows .entry)) (now (numbers .entry)) (now (clauses .entry)) class c ⌝ }
+    ensures { λ r. ⌜ r ≡ coveredAt (now (head .entry)) (now (rows .entry)) (now (numbers .entry)) (now (usages .entry)) class c ⌝ }
 {
-    let relation = part_byte(head, c, 0);
+    let relation = component_byte(head, c, 0);
     if any_counted(head, c, wide(arity_of(head, relation))) {
         return false;
     }
-    any_excluding(rows, numbers, clauses, class, relation)
+    any_excluding(rows, numbers, usages, class, relation)
 }
 
-// The first component that a class does not cover at the moment of these clauses, or the number of components; `numbers` holds the class
+// The first component that a class does not cover at the moment of these usages, or the number of components; `numbers` holds the class
 // numbers of the action's literals, which are these rows.
-fn first_lacking(head: &Head, rows: &[u8], numbers: &[u8], clauses: &Marks, class: u8) -> usize
+fn first_lacking(head: &Head, rows: &[u8], numbers: &[u8], usages: &Marks, class: u8) -> usize
     requires { ⌜ Sides (now rows) (now numbers) ⌝ }
-    ensures { λ r. ⌜ r ≡ lackingAt (now (head .entry)) (now (rows .entry)) (now (numbers .entry)) (now (clauses .entry)) class ⌝ }
+    ensures { λ r. ⌜ r ≡ lackingAt (now (head .entry)) (now (rows .entry)) (now (numbers .entry)) (now (usages .entry)) class ⌝ }
 {
     let n = components_in(head);
     for c in 0..n {
-        if !covers(head, rows, numbers, clauses, class, c) {
+        if !covers(head, rows, numbers, usages, class, c) {
             return c;
         }
     }
@@ -407,36 +407,30 @@ fn first_lacking(head: &Head, rows: &[u8], numbers: &[u8], clauses: &Marks, clas
 }
 
 // The same, of a domain that is held.
-pub fn first_uncovered(
-    head: &Head,
-    rows: &[u8],
-    numbers: &[u8],
-    clauses: &Marks,
-    class: u8,
-) -> usize
+pub fn first_uncovered(head: &Head, rows: &[u8], numbers: &[u8], usages: &Marks, class: u8) -> usize
     requires { ⌜ Sides (now rows) (now numbers) ⌝ }
     ensures { λ r. ⌜ ((D : Domain) (a : Action) (m : Moment)
-        → MomentOf D a m (now (head .entry)) (now (rows .entry)) (now (numbers .entry)) (now (clauses .entry))
+        → MomentOf D a m (now (head .entry)) (now (rows .entry)) (now (numbers .entry)) (now (usages .entry))
         → class < length (classes D a) → r ≡ uncoveredAt D a (getD (classes D a) class []) m) ⌝ }
 {
-    first_lacking(head, rows, numbers, clauses, class)
+    first_lacking(head, rows, numbers, usages, class)
 }
 
-// The name of a class at the moment of these clauses: of its true conditions that are asked there (`reach`), which count towards
+// The name of a class at the moment of these usages: of its true conditions that are asked there (`reach`), which count towards
 // unreachable alone, and of its own true conditions and adds. What they do not decide is looked up.
 pub fn name_at(
     head: &Head,
     rows: &[u8],
     numbers: &[u8],
-    clauses: &Marks,
+    usages: &Marks,
     reach: u8,
     sole: Sole,
     class: u8,
 ) -> Name
     requires sides { ⌜ Sides (now rows) (now numbers) ⌝ }
-    requires counted { ⌜ sole ≡ soleOf (now numbers) (now clauses) class ⌝ }
+    requires counted { ⌜ sole ≡ soleOf (now numbers) (now usages) class ⌝ }
     ensures { λ r. ⌜ ((D : Domain) (a : Action) (m : Moment)
-        → MomentOf D a m (now (head .entry)) (now (rows .entry)) (now (numbers .entry)) (now (clauses .entry))
+        → MomentOf D a m (now (head .entry)) (now (rows .entry)) (now (numbers .entry)) (now (usages .entry))
         → class < length (classes D a) → reach ≡ reachAt D a m class → r ≡ nameOf D a (getD (classes D a) class []) m) ⌝ }
 {
     let conditions = sole.conditions;
@@ -454,12 +448,12 @@ pub fn name_at(
         return Name::Heavy;
     }
     if conditions == 0 {
-        if first_uncovered(head, rows, numbers, clauses, class) == components_in(head) {
+        if first_uncovered(head, rows, numbers, usages, class) == components_in(head) {
             return Name::Bounded;
         }
         return Name::Unbounded;
     }
-    if is_changed(rows, numbers, clauses, class, conditions as usize - 1) {
+    if is_changed(rows, numbers, usages, class, conditions as usize - 1) {
         return Name::Balanced;
     }
     Name::Unbalanced
@@ -501,20 +495,20 @@ pub fn lasts_at(rows: &[u8], numbers: &[u8], class: u8) -> bool
     any_lasting(rows, numbers, class)
 }
 
-// Whether a class of a lasting action is a journey, of its true conditions and adds at the start, whose clauses these are, and at the end.
+// Whether a class of a lasting action is a journey, of its true conditions and adds at the start, whose usages these are, and at the end.
 pub fn is_journey(
     rows: &[u8],
     numbers: &[u8],
-    clauses: &Marks,
+    usages: &Marks,
     start: Sole,
     end: Sole,
     class: u8,
 ) -> bool
     requires sides { ⌜ Sides (now rows) (now numbers) ⌝ }
-    requires counted { ⌜ start ≡ soleOf (now numbers) (now clauses) class ⌝ }
+    requires counted { ⌜ start ≡ soleOf (now numbers) (now usages) class ⌝ }
     ensures { λ r. ⌜ ((D : Domain) (a : Action) (head : List ℕ)
-        → MomentOf D a Start head (now (rows .entry)) (now (numbers .entry)) (now (clauses .entry)) → a .lasting ≡ true
-        → end ≡ soleOf (classNumbers D a) (pad maxLiterals (clausesAt a End)) class → class < length (classes D a)
+        → MomentOf D a Start head (now (rows .entry)) (now (numbers .entry)) (now (usages .entry)) → a .lasting ≡ true
+        → end ≡ soleOf (classNumbers D a) (pad maxLiterals (usagesAt a End)) class → class < length (classes D a)
         → r ≡ journey D a (getD (classes D a) class [])) ⌝ }
 {
     let condition = start.conditions;
@@ -536,5 +530,5 @@ pub fn is_journey(
     if end.adds == 255 {
         return false;
     }
-    any_same(rows, numbers, clauses, class, 4, condition as usize - 1)
+    any_same(rows, numbers, usages, class, 4, condition as usize - 1)
 }

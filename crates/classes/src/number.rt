@@ -15,7 +15,7 @@ ghost use Rattle.literals.specs.Domain.{Domain, Action};
 ghost use Rattle.literals.specs.Decode.{maxLiterals};
 ghost use Rattle.classes.specs.Classes.{classes};
 ghost use Rattle.literals.specs.Keys.{position, keyRowsIn, keyWordsIn, PlacesOf};
-ghost use Rattle.classes.specs.Coded.{ActionOf, Sides, numberedBy, wordsAfter, classNumbers, tupleRow, onlyRow};
+ghost use Rattle.classes.specs.Held.{ActionOf, Sides, numberedBy, wordsAfter, classNumbers, tupleRow, onlyRow};
 
 // The number of a literal's class, FF where it does not match, and the number of classes with it.
 struct Numbered {

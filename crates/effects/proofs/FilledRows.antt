@@ -17,11 +17,11 @@ use Rattle.literals.specs.Table.{rowsIn}
 use Rattle.literals.proofs.Rows.{length-part, rows-snoc, rows-whole}
 use Rattle.literals.proofs.Tables.{length-flat, rows-flat}
 use Rattle.literals.proofs.KeyRows.{length-rows}
-use Rattle.runs.specs.RunFile.{maxFacts}
-use Rattle.runs.specs.Play.{workBytes}
+use Rattle.run_semantics.specs.RunFile.{maxFacts}
+use Rattle.run_semantics.specs.Play.{workBytes}
 use Rattle.store.specs.Rows.{hasRow}
 use Rattle.events.specs.Grounding.{groundedBytes}
-use Rattle.effects.specs.Effects.{scratchBytes, effectsIn, literalsIn, flat, joinRow, joinRows, atMost, stays, keptOf}
+use Rattle.effects.specs.Held.{scratchBytes, effectsIn, literalsIn, flat, joinRow, joinRows, atMost, stays, keptOf}
 use Rattle.effects.proofs.Joins.{joined-rows, join-snoc, join-append}
 
 -- ---- the first rows of a memory
@@ -66,8 +66,8 @@ rows-own n t h =
 
 -- ---- a row read, and a row put behind others
 
-pub put-row : (n : ℕ) (out row : List ℕ) → 8 * n + 8 ≤ length out → length row ≡ 8 → paste out (8 * n) row 8 ≡ over (flat (rowsIn n out ++ (row ∷ []))) out
-put-row n out row h e =
+pub append-row : (n : ℕ) (out row : List ℕ) → 8 * n + 8 ≤ length out → length row ≡ 8 → paste out (8 * n) row 8 ≡ over (flat (rowsIn n out ++ (row ∷ []))) out
+append-row n out row h e =
     let l = length-rows 8 n out in
     let k = length-whole (rowsIn n out) (rows-whole n out (omega arith)) in
     let z : length (flat (rowsIn n out)) ≡ 8 * n = omega arith in

@@ -1,2 +1,2 @@
 -- What a step leaves, as the code computes it.
-pub mod Effects
+pub mod Held

@@ -19,13 +19,13 @@ ghost use lib.ListN.{length, getD, take, drop};
 ghost use Rattle.records.specs.Memory.{over};
 ghost use Rattle.literals.specs.Domain.{Fact, Domain};
 ghost use Rattle.literals.specs.Table.{rowsIn};
-ghost use Rattle.runs.specs.RunFile.{maxFacts};
+ghost use Rattle.run_semantics.specs.RunFile.{maxFacts};
 ghost use Rattle.verdict.specs.Machine.{Event};
 ghost use Rattle.store.specs.Index.{noteAt, Sized, Indexed};
 ghost use Rattle.store.specs.Rows.{factRow, hasRow};
 ghost use Rattle.events.specs.Grounding.{maxGround, groundAt, groundIn, Grounded};
-ghost use Rattle.effects.specs.Effects.{scratchBytes, effectsIn, literalsIn, rowsWith, flat, HoldsAfter};
-ghost use Rattle.effects.specs.Effects.{Once, struckOf, FirstStruck, Marked, keptOf, SizedRow, joinRow, joinRows, HoldsJoined};
+ghost use Rattle.effects.specs.Held.{scratchBytes, effectsIn, literalsIn, rowsWith, flat, HoldsAfter};
+ghost use Rattle.effects.specs.Held.{Once, struckOf, FirstStruck, Marked, keptOf, SizedRow, joinRow, joinRows, HoldsJoined};
 
 // What a step works in, in two sections: its ground literals, in whose place the facts after it are put together when what it strikes and
 // adds is told; and behind that what it strikes and then what it adds, which together are no more than its literals.
@@ -34,7 +34,7 @@ const EFFECTS: usize = GROUNDED;
 pub const SCRATCH: usize = EFFECTS + 8 * MAX_GROUND;
 
 // Writes a row behind the first n.
-fn put_row(out: &mut [u8], n: usize, row: [u8; 8])
+fn append_row(out: &mut [u8], n: usize, row: [u8; 8])
     requires { ⌜ 8 * n + 8 ≤ length (now out) ⌝ }
     ensures { λ _. ⌜ now (out .exit) ≡ over (flat (rowsIn n (now (out .entry)) ++ (row ∷ []))) (now (out .entry)) ⌝ }
 {
@@ -168,7 +168,7 @@ fn join_row(head: &Head, scratch: &mut [u8], at: usize, n: usize, index: &mut Fa
         return MAX_FACTS + 1;
     }
     enter(index, head, scratch, at);
-    put_row(scratch, n, row);
+    append_row(scratch, n, row);
     n + 1
 }
 
@@ -203,38 +203,38 @@ fn join_rows(
     n
 }
 
-// Appends the fact of the ground literal i to the first n rows of the effects, if it is of this clause; answers the new count.
-fn put_effect(scratch: &mut [u8], n: usize, i: usize, clause: u8) -> usize
+// Appends the fact of the ground literal i to the first n rows of the effects, if it is of this usage; answers the new count.
+fn put_effect(scratch: &mut [u8], n: usize, i: usize, usage: u8) -> usize
     requires scratch { ⌜ length (now scratch) ≡ scratchBytes ⌝ }
     requires literal { ⌜ i < maxGround ⌝ }
-    requires room { ⌜ n + length (rowsWith clause (groundAt (literalsIn (now scratch)) i ∷ [])) ≤ maxGround ⌝ }
-    ensures count { λ r. ⌜ r ≡ n + length (rowsWith clause (groundAt (literalsIn (now (scratch .entry))) i ∷ [])) ⌝ }
+    requires room { ⌜ n + length (rowsWith usage (groundAt (literalsIn (now scratch)) i ∷ [])) ≤ maxGround ⌝ }
+    ensures count { λ r. ⌜ r ≡ n + length (rowsWith usage (groundAt (literalsIn (now (scratch .entry))) i ∷ [])) ⌝ }
     ensures rows { λ _. ⌜ effectsIn (now (scratch .exit)) ≡ over (flat (rowsIn n (effectsIn (now (scratch .entry)))
-        ++ rowsWith clause (groundAt (literalsIn (now (scratch .entry))) i ∷ []))) (effectsIn (now (scratch .entry))) ⌝ }
+        ++ rowsWith usage (groundAt (literalsIn (now (scratch .entry))) i ∷ []))) (effectsIn (now (scratch .entry))) ⌝ }
     ensures literals { λ _. ⌜ literalsIn (now (scratch .exit)) ≡ literalsIn (now (scratch .entry)) ⌝ }
 {
-    if scratch[CLAUSES + i] == clause {
+    if scratch[CLAUSES + i] == usage {
         let row = row_at(scratch, 8 * i);
-        put_row(&mut scratch[EFFECTS..SCRATCH], n, row);
+        append_row(&mut scratch[EFFECTS..SCRATCH], n, row);
         return n + 1;
     }
     n
 }
 
-// Those of the first `total` ground literals that are of this clause, in order, behind the first `at` rows of the effects: what the step
-// adds (clause 3) or strikes (clause 4). The count then.
-fn step_effects(scratch: &mut [u8], at: usize, total: usize, clause: u8) -> usize
+// Those of the first `total` ground literals that are of this usage, in order, behind the first `at` rows of the effects: what the step
+// adds (usage 3) or strikes (usage 4). The count then.
+fn step_effects(scratch: &mut [u8], at: usize, total: usize, usage: u8) -> usize
     requires scratch { ⌜ length (now scratch) ≡ scratchBytes ⌝ }
     requires total { ⌜ total ≤ maxGround ⌝ }
-    requires room { ⌜ at + length (rowsWith clause (groundIn total (literalsIn (now scratch)))) ≤ maxGround ⌝ }
-    ensures count { λ r. ⌜ r ≡ at + length (rowsWith clause (groundIn total (literalsIn (now (scratch .entry))))) ⌝ }
+    requires room { ⌜ at + length (rowsWith usage (groundIn total (literalsIn (now scratch)))) ≤ maxGround ⌝ }
+    ensures count { λ r. ⌜ r ≡ at + length (rowsWith usage (groundIn total (literalsIn (now (scratch .entry))))) ⌝ }
     ensures rows { λ r. ⌜ rowsIn r (effectsIn (now (scratch .exit)))
-        ≡ rowsIn at (effectsIn (now (scratch .entry))) ++ rowsWith clause (groundIn total (literalsIn (now (scratch .entry)))) ⌝ }
+        ≡ rowsIn at (effectsIn (now (scratch .entry))) ++ rowsWith usage (groundIn total (literalsIn (now (scratch .entry)))) ⌝ }
     ensures literals { λ _. ⌜ literalsIn (now (scratch .exit)) ≡ literalsIn (now (scratch .entry)) ⌝ }
 {
     let mut n = at;
     for i in 0..total {
-        n = put_effect(scratch, n, i, clause);
+        n = put_effect(scratch, n, i, usage);
     }
     n
 }

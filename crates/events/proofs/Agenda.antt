@@ -11,9 +11,9 @@ use Rattle.literals.specs.Domain.{Domain}
 use Rattle.literals.specs.Table.{Bounded}
 use Rattle.literals.specs.Matching.{momentNumber}
 use Rattle.verdict.specs.Machine.{Event}
-use Rattle.runs.specs.RunFile.{maxEvents}
-use Rattle.events.specs.Coded.{Open, Waiting, agendaBytes, momentsAt, eventsAt, openBytes, waitingBytes, entriesIn, momentsIn, eventRowsIn}
-use Rattle.events.specs.Coded.{openIn, waitingIn, groundRow, waitingOf, EventsFit}
+use Rattle.run_semantics.specs.RunFile.{maxEvents}
+use Rattle.events.specs.Held.{Open, Waiting, agendaBytes, momentsAt, eventsAt, openBytes, waitingBytes, entriesIn, momentsIn, eventRowsIn}
+use Rattle.events.specs.Held.{openIn, waitingIn, groundRow, waitingOf, EventsFit}
 use Rattle.events.proofs.GroundRows.{whole-copy}
 use Rattle.events.proofs.MoreWaiting.{waiting-more}
 

@@ -16,10 +16,10 @@ use Rattle.literals.specs.declared.Variable.{Variable}
 use Rattle.literals.specs.declared.Object.{Object}
 use Rattle.literals.specs.declared.Time.{Time}
 use Rattle.literals.specs.declared.Time.the-variants.{AtStart, OverAll, AtEnd}
-use Rattle.literals.specs.declared.Clause.{Clause}
-use Rattle.literals.specs.declared.Clause.the-variants.{Positive, Negative, Add, Delete}
+use Rattle.literals.specs.declared.Usage.{Usage}
+use Rattle.literals.specs.declared.Usage.the-variants.{Positive, Negative, Add, Delete}
 use Rattle.literals.specs.declared.Role.{Role}
-use Rattle.literals.specs.Domain.{object, sameObject, Atom, Fact, sameLiteral, sameFact, clauseNumber, roleNumber, roleOf, Literal, Action, Domain, arity, noAction, action}
+use Rattle.literals.specs.Domain.{object, sameObject, Atom, Fact, sameLiteral, sameFact, usageNumber, roleNumber, roleOf, Literal, Action, Domain, arity, noAction, action}
 use Rattle.literals.specs.Table.{literalRow, rowsIn, Bounded}
 use Rattle.literals.proofs.Equality.{literal-eq}
 use Rattle.literals.proofs.Tables.{Kept, kept, length-literal-row, rows-flat, pad-at}
@@ -31,15 +31,15 @@ use Rattle.literals.proofs.Indices.{any-agree}
 use Rattle.verdict.specs.Binding.{Binding, valueOf, bind}
 use Rattle.verdict.specs.Judged.{objectNumbers}
 use Rattle.verdict.specs.Machine.{GroundAction, Event}
-use Rattle.events.specs.Coded.{Open}
-use Rattle.events.specs.Coded.{Waiting}
-use Rattle.runs.specs.RunFile.{momentOf}
+use Rattle.events.specs.Held.{Open}
+use Rattle.events.specs.Held.{Waiting}
+use Rattle.run_semantics.specs.RunFile.{momentOf}
 use Rattle.literals.specs.declared.span.Span.{Span}
 use Rattle.literals.specs.Held.{actionsIn, arityIn, HeadOf, Held, SpanOf}
 use Rattle.store.specs.Rows.{factRow, hasRow}
 use Rattle.store.proofs.InstanceRows.{same-numbers}
-use Rattle.literals.specs.Keys.{clauseFor}
-use Rattle.events.specs.Coded.{groundRow, GroundFits, objectOf, boundRow, timeOf, openOf, waitingOf}
+use Rattle.literals.specs.Keys.{usageFor}
+use Rattle.events.specs.Held.{groundRow, GroundFits, objectOf, boundRow, timeOf, openOf, waitingOf}
 
 -- ---- equal rows are rows of equal facts
 
@@ -126,10 +126,10 @@ bound-fact head g l e k h =
     fill : List ℕ
     fill = replicate (8 - suc (suc (length numbers))) 255
 
--- ---- the clause of a role
+-- ---- the usage of a role
 
--- the roles that count with a clause at the start, over all, or at the end
-abbrev pub countsFor : Time → Clause → Role → Bool
+-- the roles that count with a usage at the start, over all, or at the end
+abbrev pub countsFor : Time → Usage → Role → Bool
 countsFor AtStart c r = own Start c r
 countsFor OverAll c r = overAll c r
 countsFor AtEnd c r = own End c r
@@ -143,11 +143,11 @@ agree-same true b t = sym t
 agree-same false true t = t
 agree-same false false t = refl
 
-abbrev agrees : Time → Clause → ℕ → Bool
-agrees t c b = agree (eqb (clauseFor t b) (suc (clauseNumber c))) (countsFor t c (roleOf b))
+abbrev agrees : Time → Usage → ℕ → Bool
+agrees t c b = agree (eqb (usageFor t b) (suc (usageNumber c))) (countsFor t c (roleOf b))
 
-all-agree : (t : Time) (c : Clause) → allBelow 10 (agrees t c) ≡ true
-unfolding clauseFor roleOf
+all-agree : (t : Time) (c : Usage) → allBelow 10 (agrees t c) ≡ true
+unfolding usageFor roleOf
 all-agree AtStart Positive = refl
 all-agree AtStart Negative = refl
 all-agree AtStart Add = refl
@@ -161,8 +161,8 @@ all-agree AtEnd Negative = refl
 all-agree AtEnd Add = refl
 all-agree AtEnd Delete = refl
 
-pub clause-counts : (t : Time) (c : Clause) (l : Literal) → Kept l → eqb (clauseFor t (roleNumber (l .role))) (suc (clauseNumber c)) ≡ countsFor t c (l .role)
-clause-counts t c l k =
+pub usage-counts : (t : Time) (c : Usage) (l : Literal) → Kept l → eqb (usageFor t (roleNumber (l .role))) (suc (usageNumber c)) ≡ countsFor t c (l .role)
+usage-counts t c l k =
     let h = k .small in
     agree-same _ _ (below-in 10 (agrees t c) (all-agree t c) (roleNumber (l .role)) (omega arith)) ∙ ap (countsFor t c) (k .back)
 
@@ -183,12 +183,12 @@ all-once q l = go (bool-cases (all q l))
     go (inr f) = off _ (λ t. clash (all-of q l (λ a m. all-in q (dedup sameLiteral l) t (in-dedup sameLiteral literal-eq m))) f) ∙ sym f
 
 -- the literals of a moment, as a test of them sees them
-pub any-literals : (a : Action) (m : Moment) (c : Clause) (q : Atom Variable → Bool) → any q (literalsAt a m c) ≡ any q (withRole (countsFor (timeOf m) c) (a .lits))
+pub any-literals : (a : Action) (m : Moment) (c : Usage) (q : Atom Variable → Bool) → any q (literalsAt a m c) ≡ any q (withRole (countsFor (timeOf m) c) (a .lits))
 unfolding literalsAt
 any-literals a Start c q = any-once q (withRole (own Start c) (a .lits))
 any-literals a End c q = any-once q (withRole (own End c) (a .lits))
 
-pub all-literals : (a : Action) (m : Moment) (c : Clause) (q : Atom Variable → Bool) → all q (literalsAt a m c) ≡ all q (withRole (countsFor (timeOf m) c) (a .lits))
+pub all-literals : (a : Action) (m : Moment) (c : Usage) (q : Atom Variable → Bool) → all q (literalsAt a m c) ≡ all q (withRole (countsFor (timeOf m) c) (a .lits))
 unfolding literalsAt
 all-literals a Start c q = all-once q (withRole (own Start c) (a .lits))
 all-literals a End c q = all-once q (withRole (own End c) (a .lits))

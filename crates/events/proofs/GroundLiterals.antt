@@ -20,15 +20,15 @@ use Rattle.literals.specs.Domain.{roleNumber, Literal, Domain, action}
 use Rattle.literals.specs.Decode.{byte, maxLiterals}
 use Rattle.literals.specs.Table.{literalRow, rowsIn}
 use Rattle.literals.specs.Held.{arityIn, HeadOf, Held, SpanOf}
-use Rattle.literals.specs.Keys.{clauseFor}
+use Rattle.literals.specs.Keys.{usageFor}
 use Rattle.literals.proofs.Indices.{getD-map}
 use Rattle.literals.proofs.KeyRows.{length-rows}
 use Rattle.literals.proofs.Rows.{part-first, rows-snoc}
 use Rattle.verdict.specs.Binding.{valueOf, bind}
 use Rattle.verdict.specs.Machine.{GroundAction, Event}
 use Rattle.store.specs.Rows.{factRow}
-use Rattle.events.specs.Coded.{groundRow, Waiting, waitingOf, GroundFits, EventsFit, boundRow}
-use Rattle.events.specs.Grounding.{GroundLiteral, groundLiterals, eventLiterals, rowLiterals, maxGround, clausesAt, countsAt}
+use Rattle.events.specs.Held.{groundRow, Waiting, waitingOf, GroundFits, EventsFit, boundRow}
+use Rattle.events.specs.Grounding.{GroundLiteral, groundLiterals, eventLiterals, rowLiterals, maxGround, usagesAt, countsAt}
 use Rattle.events.specs.Grounding.{groundedBytes, groundAt, groundIn, inOne, Laid, Grounded, EachSized}
 use Rattle.events.proofs.FactRows.{listed-in, held-bound, held-rows, noEvent}
 use Rattle.events.proofs.Members.{map-in}
@@ -87,7 +87,7 @@ module _ (t : List ℕ) (k : ℕ) (s : List ℕ) (n : ℕ) (room : k + n ≤ len
 
 -- what an index beyond the last reads
 abbrev pub noLiteral : GroundLiteral
-noLiteral = record { clause = 0; row = [] }
+noLiteral = record { usage = 0; row = [] }
 
 module _ (memory : List ℕ) where
   pub length-ground : (n : ℕ) → length (groundIn n memory) ≡ n
@@ -146,27 +146,27 @@ module _ (memory row : List ℕ) (n c : ℕ) (size : length memory ≡ groundedB
   withRow = paste memory (8 * n) row (length row)
 
   abbrev pub written : List ℕ
-  written = set withRow (clausesAt + n) c
+  written = set withRow (usagesAt + n) c
 
   room : 8 * n + length row ≤ length memory
   room = omega arith
 
   row-kept : (i : ℕ) → i < n → take 8 (drop (8 * i) written) ≡ take 8 (drop (8 * i) memory)
   row-kept i h =
-      part-set withRow (8 * i) 8 (clausesAt + n) c (omega arith)
+      part-set withRow (8 * i) 8 (usagesAt + n) c (omega arith)
       ∙ part-paste memory (8 * n) row (length row) room (omega arith) (8 * i) 8 (omega arith)
 
   row-new : take 8 (drop (8 * n) written) ≡ row
   row-new =
-      part-set withRow (8 * n) 8 (clausesAt + n) c (omega arith)
+      part-set withRow (8 * n) 8 (usagesAt + n) c (omega arith)
       ∙ ap (λ (k : ℕ). take k (drop (8 * n) withRow)) (sym whole)
       ∙ part-new memory (8 * n) row (length row) room (omega arith)
       ∙ take-all (length row) row (omega arith)
 
-  clause-kept : (i : ℕ) → i < n → getD written (clausesAt + i) 0 ≡ getD memory (clausesAt + i) 0
-  clause-kept i h =
-      getD-set-other withRow (clausesAt + n) (clausesAt + i) c 0 (λ e. omega arith)
-      ∙ byte-paste memory (8 * n) row (length row) room (omega arith) (clausesAt + i) (omega arith)
+  usage-kept : (i : ℕ) → i < n → getD written (usagesAt + i) 0 ≡ getD memory (usagesAt + i) 0
+  usage-kept i h =
+      getD-set-other withRow (usagesAt + n) (usagesAt + i) c 0 (λ e. omega arith)
+      ∙ byte-paste memory (8 * n) row (length row) room (omega arith) (usagesAt + i) (omega arith)
 
   length-row : length withRow ≡ groundedBytes
   length-row = length-paste memory (8 * n) row (length row) room (omega arith) ∙ size
@@ -176,28 +176,28 @@ module _ (memory row : List ℕ) (n c : ℕ) (size : length memory ≡ groundedB
   kept-so-far (suc i) h = ap₂ (λ (l : List GroundLiteral) (g : GroundLiteral). l ++ (g ∷ [])) (kept-so-far i (omega arith)) at-i
     where
       at-i : groundAt written i ≡ groundAt memory i
-      at-i = λ j. record { clause = clause-kept i (omega arith) j; row = row-kept i (omega arith) j }
+      at-i = λ j. record { usage = usage-kept i (omega arith) j; row = row-kept i (omega arith) j }
 
-  pub ground-more : groundIn (n + 1) written ≡ groundIn n memory ++ (record { clause = c; row = row } ∷ [])
+  pub ground-more : groundIn (n + 1) written ≡ groundIn n memory ++ (record { usage = c; row = row } ∷ [])
   ground-more =
       ap (λ (k : ℕ). groundIn k written) (add-one n)
       ∙ ap₂ (λ (l : List GroundLiteral) (g : GroundLiteral). l ++ (g ∷ [])) (kept-so-far n (omega arith)) at-n
     where
-      at-n : groundAt written n ≡ record { clause = c; row = row }
-      at-n = λ j. record { clause = getD-set-same withRow (clausesAt + n) c 0 (let l = length-row in omega arith) j; row = row-new j }
+      at-n : groundAt written n ≡ record { usage = c; row = row }
+      at-n = λ j. record { usage = getD-set-same withRow (usagesAt + n) c 0 (let l = length-row in omega arith) j; row = row-new j }
 
   pub counts-kept : drop countsAt written ≡ drop countsAt memory
   counts-kept =
-      drop-set-lt countsAt withRow (clausesAt + n) c (omega arith)
+      drop-set-lt countsAt withRow (usagesAt + n) c (omega arith)
       ∙ rest-paste memory (8 * n) row (length row) room (omega arith) countsAt (omega arith)
 
   -- both, of the memory with the row in it
   pub put-ground : (mid : List ℕ) → mid ≡ withRow
-      → (groundIn (n + 1) (set mid (clausesAt + n) c) ≡ groundIn n memory ++ (record { clause = c; row = row } ∷ []))
-      × (drop countsAt (set mid (clausesAt + n) c) ≡ drop countsAt memory)
+      → (groundIn (n + 1) (set mid (usagesAt + n) c) ≡ groundIn n memory ++ (record { usage = c; row = row } ∷ []))
+      × (drop countsAt (set mid (usagesAt + n) c) ≡ drop countsAt memory)
   put-ground mid e = (
-    ap (λ (t : List ℕ). groundIn (n + 1) (set t (clausesAt + n) c)) e ∙ ground-more,
-    ap (λ (t : List ℕ). drop countsAt (set t (clausesAt + n) c)) e ∙ counts-kept,
+    ap (λ (t : List ℕ). groundIn (n + 1) (set t (usagesAt + n) c)) e ∙ ground-more,
+    ap (λ (t : List ℕ). drop countsAt (set t (usagesAt + n) c)) e ∙ counts-kept,
   )
 
 -- how many there are then
@@ -213,34 +213,34 @@ ground-count memory n memory₀ at ls e =
 -- ---- the row of one literal
 
 abbrev rowLiteral : Time → List ℕ → List ℕ → List ℕ → GroundLiteral
-rowLiteral t head ground row = record { clause = clauseFor t (byte row 0); row = boundRow head ground row }
+rowLiteral t head ground row = record { usage = usageFor t (byte row 0); row = boundRow head ground row }
 
 abbrev rowCounts : Time → List ℕ → Bool
-rowCounts t row = not (eqb (clauseFor t (byte row 0)) 0)
+rowCounts t row = not (eqb (usageFor t (byte row 0)) 0)
 
-module _ (t : Time) (head ground rows : List ℕ) (at k : ℕ) (e : k ≡ clauseFor t (getD rows at 0)) (first : List GroundLiteral) where
+module _ (t : Time) (head ground rows : List ℕ) (at k : ℕ) (e : k ≡ usageFor t (getD rows at 0)) (first : List GroundLiteral) where
   abbrev one : List GroundLiteral
   one = rowLiterals t head ground (take 8 (drop at rows) ∷ [])
 
   abbrev oneIf : Bool → List GroundLiteral
   oneIf b = map (rowLiteral t head ground) (keepIf (not b) (take 8 (drop at rows)) [])
 
-  clause-is : clauseFor t (byte (take 8 (drop at rows)) 0) ≡ k
-  clause-is = ap (clauseFor t) (part-first rows at) ∙ sym e
+  usage-is : usageFor t (byte (take 8 (drop at rows)) 0) ≡ k
+  usage-is = ap (usageFor t) (part-first rows at) ∙ sym e
 
   one-is : one ≡ oneIf (eqb k 0)
   unfolding rowLiterals
-  one-is = ap (λ (c : ℕ). oneIf (eqb c 0)) clause-is
+  one-is = ap (λ (c : ℕ). oneIf (eqb c 0)) usage-is
 
   pub row-none : k ≡ 0 → first ≡ first ++ one
   row-none h = sym (ap (λ (l : List GroundLiteral). first ++ l) (one-is ∙ ap oneIf (eq-eqb k 0 h)) ∙ append-nil first)
 
   pub row-one : (k ≡ 0 → ⊥) → (row : List ℕ) → row ≡ boundRow head ground (take 8 (drop at rows)) → {next : List GroundLiteral}
-      → next ≡ first ++ (record { clause = k; row = row } ∷ []) → next ≡ first ++ one
+      → next ≡ first ++ (record { usage = k; row = row } ∷ []) → next ≡ first ++ one
   row-one h row f g =
       g
       ∙ ap (λ (l : List GroundLiteral). first ++ l)
-      (ap₂ {C = List GroundLiteral} (λ c r. record { clause = c; row = r } ∷ []) (sym clause-is) f
+      (ap₂ {C = List GroundLiteral} (λ c r. record { usage = c; row = r } ∷ []) (sym usage-is) f
       ∙ sym (one-is ∙ ap oneIf (ne-eqb k 0 h)))
 
 -- ---- the rows of an action's literals
@@ -299,26 +299,26 @@ rows-few t head ground rows i at memory₀ memory n e =
 row-ground : (t : Time) (head : List ℕ) (g : GroundAction) (ls : List Literal)
     → ((l : Literal) → In l ls → boundRow head (groundRow g) (literalRow l) ≡ factRow (bind (g .binding) (l .atom)))
     → rowLiterals t head (groundRow g) (map literalRow ls)
-    ≡ map (λ (l : Literal). record { clause = clauseFor t (roleNumber (l .role)); row = factRow (bind (g .binding) (l .atom)) })
-    (filterBy (λ (l : Literal). not (eqb (clauseFor t (roleNumber (l .role))) 0)) ls)
+    ≡ map (λ (l : Literal). record { usage = usageFor t (roleNumber (l .role)); row = factRow (bind (g .binding) (l .atom)) })
+    (filterBy (λ (l : Literal). not (eqb (usageFor t (roleNumber (l .role))) 0)) ls)
 unfolding rowLiterals
 row-ground t head g [] h = refl
 row-ground t head g (l ∷ ls) h =
-    go (not (eqb (clauseFor t (roleNumber (l .role))) 0)) (row-ground t head g ls (λ l m. h l (List·Memᴰ·tail m)))
+    go (not (eqb (usageFor t (roleNumber (l .role))) 0)) (row-ground t head g ls (λ l m. h l (List·Memᴰ·tail m)))
   where
     byLiteral : Literal → GroundLiteral
-    byLiteral l = record { clause = clauseFor t (roleNumber (l .role)); row = factRow (bind (g .binding) (l .atom)) }
+    byLiteral l = record { usage = usageFor t (roleNumber (l .role)); row = factRow (bind (g .binding) (l .atom)) }
 
     rows : List (List ℕ)
     rows = filterBy (rowCounts t) (map literalRow ls)
 
     literals : List Literal
-    literals = filterBy (λ (l : Literal). not (eqb (clauseFor t (roleNumber (l .role))) 0)) ls
+    literals = filterBy (λ (l : Literal). not (eqb (usageFor t (roleNumber (l .role))) 0)) ls
 
     go : (b : Bool) → map (rowLiteral t head (groundRow g)) rows ≡ map byLiteral literals
         → map (rowLiteral t head (groundRow g)) (keepIf b (literalRow l) rows) ≡ map byLiteral (keepIf b l literals)
     go true e =
-        ap₂ (λ (r : List ℕ) (ms : List GroundLiteral). record { clause = clauseFor t (roleNumber (l .role)); row = r } ∷ ms)
+        ap₂ (λ (r : List ℕ) (ms : List GroundLiteral). record { usage = usageFor t (roleNumber (l .role)); row = r } ∷ ms)
         (h l (List·Memᴰ·head refl)) e
     go false e = e
 
@@ -379,7 +379,7 @@ ground-beside memory k v h (suc n) l =
     at-n : groundAt (set memory k v) n ≡ groundAt memory n
     at-n =
         λ j. record {
-          clause = getD-set-other memory k (clausesAt + n) v 0 (λ e. omega arith) j;
+          usage = getD-set-other memory k (usagesAt + n) v 0 (λ e. omega arith) j;
           row = part-set memory (8 * n) 8 k v (omega arith) j;
         }
 

@@ -7,9 +7,9 @@ use Rattle.records.proofs.Lists.{getD-in}
 use Rattle.literals.specs.Domain.{Domain}
 use Rattle.literals.specs.Held.{HeadOf}
 use Rattle.verdict.specs.Machine.{GroundAction, Event}
-use Rattle.events.specs.Coded.{Open}
-use Rattle.events.specs.Coded.{Waiting}
-use Rattle.events.specs.Coded.{groundRow, openOf, waitingOf, GroundFits, GroundsFit, EventsFit}
+use Rattle.events.specs.Held.{Open}
+use Rattle.events.specs.Held.{Waiting}
+use Rattle.events.specs.Held.{groundRow, openOf, waitingOf, GroundFits, GroundsFit, EventsFit}
 use Rattle.events.proofs.FactRows.{few-objects, noGround, noEvent, open-row-at, waiting-row-at}
 
 module _ {D : Domain} {head : List ℕ} (H : HeadOf D head) (i : ℕ) where

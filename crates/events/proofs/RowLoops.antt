@@ -11,7 +11,7 @@ use Rattle.literals.specs.Decode.{byte}
 use Rattle.literals.proofs.Rows.{length-part, part-at}
 use Rattle.literals.proofs.Indices.{getD-map}
 use Rattle.literals.specs.Held.{arityIn}
-use Rattle.events.specs.Coded.{objectOf, boundBytes, boundRow}
+use Rattle.events.specs.Held.{objectOf, boundBytes, boundRow}
 
 -- ---- the fact that a literal's row is bound to
 

@@ -10,27 +10,27 @@ use Rattle.literals.specs.declared.Time.{Time}
 use Rattle.literals.specs.Domain.{roleNumber, Literal, Domain, action}
 use Rattle.literals.specs.Decode.{byte, maxLiterals}
 use Rattle.literals.specs.Held.{arityIn, HeadOf}
-use Rattle.literals.specs.Keys.{clauseFor}
+use Rattle.literals.specs.Keys.{usageFor}
 use Rattle.verdict.specs.Binding.{bind}
 use Rattle.verdict.specs.Machine.{GroundAction, Event}
-use Rattle.runs.specs.RunFile.{maxEvents}
+use Rattle.run_semantics.specs.RunFile.{maxEvents}
 use Rattle.store.specs.Rows.{factRow}
-use Rattle.events.specs.Coded.{EventsFit, boundRow, timeOf}
+use Rattle.events.specs.Held.{EventsFit, boundRow, timeOf}
 
 -- ---- ground literals
 
--- a literal bound to objects, as it counts at a time: its clause (1 true condition, 2 false condition, 3 add, 4 delete), and its fact
+-- a literal bound to objects, as it counts at a time: its usage (1 true condition, 2 false condition, 3 add, 4 delete), and its fact
 -- as a row
 pub record GroundLiteral : Type 0 where
-  pub clause : ℕ
+  pub usage : ℕ
   pub row : List ℕ
 
 -- those of an action with its objects that count at the start, over all, or at the end, in the order of its literals
 unfoldable pub groundLiterals : Domain → Time → GroundAction → List GroundLiteral
-unfolding clauseFor action
+unfolding usageFor action
 groundLiterals D t g =
-    map (λ l. record { clause = clauseFor t (roleNumber (l .role)); row = factRow (bind (g .binding) (l .atom)) })
-    (filterBy (λ (l : Literal). not (eqb (clauseFor t (roleNumber (l .role))) 0)) (action D (g .action) .lits))
+    map (λ l. record { usage = usageFor t (roleNumber (l .role)); row = factRow (bind (g .binding) (l .atom)) })
+    (filterBy (λ (l : Literal). not (eqb (usageFor t (roleNumber (l .role))) 0)) (action D (g .action) .lits))
 
 -- those of an event
 abbrev pub eventLiterals : Domain → Event → List GroundLiteral
@@ -38,29 +38,29 @@ eventLiterals D e = groundLiterals D (timeOf (e .moment)) (e .ground)
 
 -- the same by the rows of an action's literals
 unfoldable pub rowLiterals : Time → List ℕ → List ℕ → List (List ℕ) → List GroundLiteral
-unfolding clauseFor boundRow
+unfolding usageFor boundRow
 rowLiterals t head ground rows =
-    map (λ row. record { clause = clauseFor t (byte row 0); row = boundRow head ground row })
-    (filterBy (λ row. not (eqb (clauseFor t (byte row 0)) 0)) rows)
+    map (λ row. record { usage = usageFor t (byte row 0); row = boundRow head ground row })
+    (filterBy (λ row. not (eqb (usageFor t (byte row 0)) 0)) rows)
 
 -- ---- in memory
 
--- as many as a step can have; behind their rows a byte for each one's clause, and one for each event
+-- as many as a step can have; behind their rows a byte for each one's usage, and one for each event
 abbrev pub maxGround : ℕ
 maxGround = maxEvents * maxLiterals
 
-abbrev pub clausesAt : ℕ
-clausesAt = 8 * maxGround
+abbrev pub usagesAt : ℕ
+usagesAt = 8 * maxGround
 
 abbrev pub countsAt : ℕ
-countsAt = clausesAt + maxGround
+countsAt = usagesAt + maxGround
 
 abbrev pub groundedBytes : ℕ
 groundedBytes = countsAt + maxEvents
 
 -- that at a place of the memory, and the first n
 abbrev pub groundAt : List ℕ → ℕ → GroundLiteral
-groundAt memory i = record { clause = getD memory (clausesAt + i) 0; row = take 8 (drop (8 * i) memory) }
+groundAt memory i = record { usage = getD memory (usagesAt + i) 0; row = take 8 (drop (8 * i) memory) }
 
 abbrev pub groundIn : ℕ → List ℕ → List GroundLiteral
 groundIn zero memory = []

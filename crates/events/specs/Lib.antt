@@ -1,3 +1,3 @@
 -- How the code holds events and open entries.
-pub mod Coded
+pub mod Held
 pub mod Grounding

@@ -8,8 +8,8 @@ ghost use mathlib.Core.Path.{_≡_};
 ghost use Prim.Native.Nat.{_+_, _<_, _≤_};
 ghost use lib.ListN.{length, getD, take, drop};
 ghost use Rattle.literals.specs.Domain.{object};
-ghost use Rattle.runs.specs.RunFile.{momentOf};
-ghost use Rattle.events.specs.Coded.{objectOf, boundBytes, boundRow, timeOf};
+ghost use Rattle.run_semantics.specs.RunFile.{momentOf};
+ghost use Rattle.events.specs.Held.{objectOf, boundBytes, boundRow, timeOf};
 
 // The object that an action's row has for a variable.
 fn object_of(ground: &[u8], v: Variable) -> Object

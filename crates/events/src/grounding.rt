@@ -4,12 +4,12 @@ use super::GROUND;
 use super::facts::bound_row;
 use super::facts::time_at;
 use literals::Time;
-use literals::clause_for;
 use literals::head::Head;
 use literals::head::actions_in;
 use literals::head::rows_of;
 use literals::limits::MAX_EVENTS;
 use literals::limits::MAX_LITERALS;
+use literals::usage_for;
 use records::bytes::put_bytes;
 use records::bytes::wide;
 ghost use mathlib.Core.Path.{_≡_};
@@ -22,15 +22,15 @@ ghost use Rattle.literals.specs.Table.{rowsIn};
 ghost use Rattle.literals.specs.Held.{Held};
 ghost use Rattle.literals.specs.Matching.{momentNumber};
 ghost use Rattle.verdict.specs.Machine.{GroundAction, Event};
-ghost use Rattle.runs.specs.RunFile.{maxEvents};
-ghost use Rattle.events.specs.Coded.{groundBytes, waitingBytes, groundRow, waitingOf, GroundFits, EventsFit};
+ghost use Rattle.run_semantics.specs.RunFile.{maxEvents};
+ghost use Rattle.events.specs.Held.{groundBytes, waitingBytes, groundRow, waitingOf, GroundFits, EventsFit};
 ghost use Rattle.events.specs.Grounding.{groundLiterals, eventLiterals, rowLiterals, maxGround, countsAt, groundedBytes};
 ghost use Rattle.events.specs.Grounding.{groundIn, Grounded};
 
 // How many a step has at most.
 pub const MAX_GROUND: usize = MAX_EVENTS * MAX_LITERALS;
 
-// Their memory, in sections: a row for each one's fact (relation, arity, objects, FF to fill), behind the rows a byte for each one's clause
+// Their memory, in sections: a row for each one's fact (relation, arity, objects, FF to fill), behind the rows a byte for each one's usage
 // (1 true condition, 2 false condition, 3 add, 4 delete), and behind that a byte for each event of a step, how many it has.
 pub const CLAUSES: usize = 8 * MAX_GROUND;
 
@@ -39,15 +39,15 @@ pub const COUNTS: usize = CLAUSES + MAX_GROUND;
 pub const GROUNDED: usize = COUNTS + MAX_EVENTS;
 
 // Appends a ground literal to the first n.
-fn put_literal(memory: &mut [u8], n: usize, clause: u8, row: [u8; 8])
+fn put_literal(memory: &mut [u8], n: usize, usage: u8, row: [u8; 8])
     requires memory { ⌜ length (now memory) ≡ groundedBytes ⌝ }
     requires room { ⌜ n < maxGround ⌝ }
     ensures literals { λ _. ⌜ groundIn (n + 1) (now (memory .exit))
-        ≡ groundIn n (now (memory .entry)) ++ (record { clause = clause; row = row } ∷ []) ⌝ }
+        ≡ groundIn n (now (memory .entry)) ++ (record { usage = usage; row = row } ∷ []) ⌝ }
     ensures counts { λ _. ⌜ drop countsAt (now (memory .exit)) ≡ drop countsAt (now (memory .entry)) ⌝ }
 {
     put_bytes(memory, 8 * n, &row);
-    memory[CLAUSES + n] = clause;
+    memory[CLAUSES + n] = usage;
 }
 
 // Appends that of the literal's row at an offset to the first n, if it counts at this time; answers the new count.
@@ -68,11 +68,11 @@ fn ground_row(
         ++ rowLiterals time (now (head .entry)) (now (ground .entry)) (take 8 (drop row (now (rows .entry))) ∷ []) ⌝ }
     ensures counts { λ _. ⌜ drop countsAt (now (memory .exit)) ≡ drop countsAt (now (memory .entry)) ⌝ }
 {
-    let clause = clause_for(time, rows[row]);
-    if clause == 0 {
+    let usage = usage_for(time, rows[row]);
+    if usage == 0 {
         return n;
     }
-    put_literal(memory, n, clause, bound_row(head, ground, rows, row));
+    put_literal(memory, n, usage, bound_row(head, ground, rows, row));
     n + 1
 }
 

@@ -26,12 +26,12 @@ ghost use Rattle.literals.specs.Table.{Bounded};
 ghost use Rattle.literals.specs.Held.{HeadOf};
 ghost use Rattle.literals.specs.Keys.{position};
 ghost use Rattle.verdict.specs.Machine.{GroundAction, Event, isOpen, closeAll, openedBy};
-ghost use Rattle.events.specs.Coded.{groundBytes, openBytes, waitingBytes, groundsIn, openOf, waitingOf, GroundsFit, EventsFit};
-ghost use Rattle.events.specs.Coded.{eventAt, eventsIn, endOpen, closeEntry, closeEvent, closeEvents};
-ghost use Rattle.events.specs.Coded.{joinEntry, opensBy, joinEvent, joinEvents};
-ghost use Rattle.events.specs.Coded.{agendaBytes, openIn, waitingIn};
+ghost use Rattle.events.specs.Held.{groundBytes, openBytes, waitingBytes, groundsIn, openOf, waitingOf, GroundsFit, EventsFit};
+ghost use Rattle.events.specs.Held.{eventAt, eventsIn, endOpen, closeEntry, closeEvent, closeEvents};
+ghost use Rattle.events.specs.Held.{joinEntry, opensBy, joinEvent, joinEvents};
+ghost use Rattle.events.specs.Held.{agendaBytes, openIn, waitingIn};
 ghost use Rattle.store.specs.Rows.{hasRow};
-ghost use Rattle.runs.specs.RunFile.{maxRunning, maxEvents};
+ghost use Rattle.run_semantics.specs.RunFile.{maxRunning, maxEvents};
 
 // How many entries there are once the starts are added, where they fit.
 pub struct Joined {

@@ -12,8 +12,8 @@ ghost use Rattle.literals.specs.Domain.{Domain};
 ghost use Rattle.literals.specs.Table.{Bounded};
 ghost use Rattle.literals.specs.Matching.{momentNumber};
 ghost use Rattle.verdict.specs.Machine.{Event};
-ghost use Rattle.events.specs.Coded.{agendaBytes, entriesIn, waitingIn, groundRow, waitingOf, EventsFit};
-ghost use Rattle.runs.specs.RunFile.{maxEvents};
+ghost use Rattle.events.specs.Held.{agendaBytes, entriesIn, waitingIn, groundRow, waitingOf, EventsFit};
+ghost use Rattle.run_semantics.specs.RunFile.{maxEvents};
 
 // One event more, behind the first n that wait.
 pub fn wait(agenda: &mut [u8], n: usize, moment: u8, ground: [u8; GROUND])

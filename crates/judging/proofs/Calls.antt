@@ -24,10 +24,10 @@ use Rattle.naming.specs.declared.NamedDomain.{NamedDomain}
 use Rattle.verdict.specs.Decision.{Row, rows, isUnbounded, faultBy, faultOf, isBoundedOutside, firstRow, worstRow, accept, decideBounded, decideBy, decideRows, decision, classAt, witnessAt, witnessOf, witness, shownAt, shownOf, isShown}
 use Rattle.verdict.specs.Judged.{rowBytes, factBytes, Answer, answerAt, answerRow, decided, writesWitness, fillsReport, judgedDomain, reportBy, witnessMemoryBy}
 use Rattle.verdict.specs.Summaries.{summaries, notesOf, decideNotes, decidedSummaries}
-use Rattle.verdict.specs.Coded.{judgementOf, momentBy}
-use Rattle.naming.specs.Named.{namingOf}
-use Rattle.showing.specs.Bytes.{fitsIn, shownIn, RefusedAt, ShownAt}
-use Rattle.judging.specs.Reporting.{JudgedAs}
+use Rattle.verdict.specs.Held.{judgementOf, momentBy}
+use Rattle.naming.specs.Held.{namingOf}
+use Rattle.witness.specs.Held.{fitsIn, shownIn, RefusedAt, ShownAt}
+use Rattle.judging.specs.Held.{JudgedAs}
 use Rattle.verdict.proofs.Rows.{stands, worst-first}
 use Rattle.verdict.proofs.Summed.{summaries-decide}
 

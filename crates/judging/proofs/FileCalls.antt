@@ -6,8 +6,8 @@ use Rattle.literals.specs.Domain.{Domain}
 use Rattle.literals.specs.Decode.{Refusal, Decoded, refused, domain, decode}
 use Rattle.verdict.specs.declared.Judgement.{Judgement}
 use Rattle.verdict.specs.Judged.{answerRefusal, judged, reportAfter, witnessAfter}
-use Rattle.verdict.specs.Coded.{judgementOf}
-use Rattle.judging.specs.Reporting.{JudgedAs}
+use Rattle.verdict.specs.Held.{judgementOf}
+use Rattle.judging.specs.Held.{JudgedAs}
 
 module _ {d : Decoded} {report wit : List ℕ} {q : Judgement} where
   pub leaves-refused : (x : Refusal) → d ≡ refused x → q ≡ judgementOf (answerRefusal x) → JudgedAs d report wit q report wit

@@ -18,8 +18,8 @@ use Rattle.literals.specs.Matching.{momentNumber}
 use Rattle.classes.specs.Classes.{nameNumber, classes}
 use Rattle.verdict.specs.Decision.{Row, rowAt, rowsOfClasses, rowsFrom, rows}
 use Rattle.verdict.specs.Judged.{rowBytes}
-use Rattle.naming.specs.Named.{nameBytes, classCounts}
-use Rattle.judging.specs.Reporting.{Reporting}
+use Rattle.naming.specs.Held.{nameBytes, classCounts}
+use Rattle.judging.specs.Held.{Reporting}
 use Rattle.naming.proofs.NamedRows.{classRows, once-rows, lasting-rows, classes-next, classes-left, actionRows, actions-next, actions-left}
 
 -- ---- the bytes of rows

@@ -1,2 +1,2 @@
 -- How the code judges a file.
-pub mod Reporting
+pub mod Held

@@ -8,9 +8,9 @@ use literals::limits::MAX_LITERALS;
 use naming::name_all;
 use reading::domain::read_domain;
 use report::put_report;
-use showing::is_shown;
-use showing::show;
 use verdict::Judgement;
+use witness::is_shown;
+use witness::show;
 ghost use mathlib.Core.Path.{_≡_};
 ghost use mathlib.Core.Bool.{true};
 ghost use mathlib.Core.List.{List};
@@ -20,12 +20,12 @@ ghost use Rattle.records.specs.Memory.{over};
 ghost use Rattle.literals.specs.Domain.{Domain};
 ghost use Rattle.literals.specs.Decode.{decode, domain as domainRead};
 ghost use Rattle.literals.specs.Held.{Held, Read};
-ghost use Rattle.classes.specs.Coded.{numbersOf};
-ghost use Rattle.reading.specs.Reading.{EnoughTable};
+ghost use Rattle.classes.specs.Held.{numbersOf};
+ghost use Rattle.reading.specs.Held.{EnoughTable};
 ghost use Rattle.verdict.specs.Judged.{answerAt, decided, writesWitness, judged, reportAfter, witnessAfter};
 ghost use Rattle.verdict.specs.Claims.{wellFormed, AcceptedSafe, RefusedHarmful, WitnessHarms};
-ghost use Rattle.verdict.specs.Coded.{judgementOf};
-ghost use Rattle.judging.specs.Reporting.{JudgedAs, DecidesFile};
+ghost use Rattle.verdict.specs.Held.{judgementOf};
+ghost use Rattle.judging.specs.Held.{JudgedAs, DecidesFile};
 
 fn at_offset(number: u64, place: usize) -> Judgement
     ensures { λ r. ⌜ r ≡ judgementOf (answerAt number place) ⌝ }

@@ -17,8 +17,8 @@ ghost use Rattle.literals.specs.Matching.{momentNumber};
 ghost use Rattle.classes.specs.Classes.{momentsOf};
 ghost use Rattle.verdict.specs.Decision.{Row, rowAt, rowsOfClasses, rows};
 ghost use Rattle.verdict.specs.Judged.{rowBytes};
-ghost use Rattle.naming.specs.Named.{nameBytes, classCounts};
-ghost use Rattle.judging.specs.Reporting.{Reporting};
+ghost use Rattle.naming.specs.Held.{nameBytes, classCounts};
+ghost use Rattle.judging.specs.Held.{Reporting};
 
 // One row at a place, with the name that is stored for it. (Both memories have room for the rows of every domain; the tests are there for
 // the proof alone.)

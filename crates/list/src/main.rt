@@ -4,5 +4,5 @@ use libc::STDIN_FILENO;
 fn main() {
     let mut file = [0u8; 65536];
     let n = io::read_full(STDIN_FILENO, &mut file);
-    listing::list(&file[..n]);
+    print_verdict::list(&file[..n]);
 }

@@ -17,7 +17,7 @@ use Rattle.literals.specs.declared.Label.the-variants.{Key as keyed, Cou
 use Rattle.literals.specs.Decode.{relationRecord, actionRecord, literalRecord, componentRecord, byte, labelOf, componentOf, literalOf, actionOf, withLiteral, latest, fieldStop, stopOf, extend, noDomain, maxRelations, maxArguments, maxActions, maxVariables, maxLiterals, maxComponents}
 use Rattle.literals.specs.Domain.{key, Literal, Action, Component, isCounted, keysOf, Domain, noAction, action, bare}
 use Rattle.literals.specs.Table.{rowOf, labelNumber, componentRow, allLiterals, Bounded}
-use Rattle.literals.specs.Held.{within, relationsIn, actionsIn, componentsIn, keysIn, arityIn, bytesFrom, partIn, partsFrom, partsIn, variablesIn, lastingIn, sizeIn, firstIn, atArities, atParts, atVariables, atSorts, atSizes, atLows, atHighs, headBytes, HeadOf, Filled}
+use Rattle.literals.specs.Held.{within, relationsIn, actionsIn, componentsIn, keysIn, arityIn, bytesFrom, componentRowIn, componentRowsFrom, componentRowsIn, variablesIn, lastingIn, sizeIn, firstIn, atArities, atComponents, atVariables, atSorts, atSizes, atLows, atHighs, headBytes, HeadOf, Filled}
 use Rattle.literals.proofs.Rows.{length-row}
 use Rattle.literals.proofs.Stops.{passes, relation-passes, action-passes, component-passes}
 use Rattle.literals.proofs.Bounds.{arity-six, bounded-extend, bounded-none, length-withLiteral}
@@ -66,11 +66,11 @@ bytes-kept : (t u : List ℕ) (k n : ℕ) → ((j : ℕ) → k ≤ j → j < k +
 bytes-kept t u k zero h = refl
 bytes-kept t u k (suc n) h = ap₂ _∷_ (h k (omega arith) (omega arith)) (bytes-kept t u (suc k) n (λ j a b. h j (omega arith) (omega arith)))
 
-parts-kept : (t u : List ℕ) (m c n : ℕ) → c + n ≤ m → ((j : ℕ) → atParts ≤ j → j < atParts + 8 * m → getD u j 0 ≡ getD t j 0) → partsFrom u c n ≡ partsFrom t c n
-unfolding partIn
+parts-kept : (t u : List ℕ) (m c n : ℕ) → c + n ≤ m → ((j : ℕ) → atComponents ≤ j → j < atComponents + 8 * m → getD u j 0 ≡ getD t j 0) → componentRowsFrom u c n ≡ componentRowsFrom t c n
+unfolding componentRowIn
 parts-kept t u m c zero l h = refl
 parts-kept t u m c (suc n) l h =
-    ap₂ _∷_ (bytes-kept t u (atParts + 8 * c) 8 (λ j a b. h j (omega arith) (omega arith))) (parts-kept t u m (suc c) n (omega arith) h)
+    ap₂ _∷_ (bytes-kept t u (atComponents + 8 * c) 8 (λ j a b. h j (omega arith) (omega arith))) (parts-kept t u m (suc c) n (omega arith) h)
 
 arity-kept : (t u : List ℕ) (r : ℕ) → (r < maxRelations → getD u (atArities + r) 0 ≡ getD t (atArities + r) 0) → arityIn u r ≡ arityIn t r
 unfolding arityIn
@@ -83,13 +83,13 @@ arity-kept t u r h = go (bool-cases (ltb r maxRelations))
 
 -- the rows of all components
 parts-say : {D : Domain} {t : List ℕ} → HeadOf D t → (u : List ℕ) → componentsIn u ≡ length (D .template)
-    → ((j : ℕ) → atParts ≤ j → j < atVariables → getD u j 0 ≡ getD t j 0) → partsIn u ≡ map componentRow (D .template)
-unfolding partsIn
+    → ((j : ℕ) → atComponents ≤ j → j < atVariables → getD u j 0 ≡ getD t j 0) → componentRowsIn u ≡ map componentRow (D .template)
+unfolding componentRowsIn
 parts-say {D} {t} H u e h =
     let m = H .bounded .components in
-    ap (partsFrom u 0) e
+    ap (componentRowsFrom u 0) e
     ∙ parts-kept t u maxComponents 0 (length (D .template)) (omega arith) h
-    ∙ ap (partsFrom t 0) (sym (H .components)) ∙ H .parts
+    ∙ ap (componentRowsFrom t 0) (sym (H .components)) ∙ H .componentRows
 
 -- ---- a list with one element more
 
@@ -148,7 +148,7 @@ module _ {D : Domain} {head : List ℕ} (F : Filled D head) (p : List ℕ) (n : 
       let m = relation-few .0 in
       let l = length-append (D .arities) (byte p 0 ∷ []) in
       let components = ap (within maxComponents) (relation-other 2 (λ z. omega arith) (λ z. omega arith)) ∙ H .components in
-      let at : (j : ℕ) → atParts ≤ j → getD with-relation j 0 ≡ getD head j 0 = λ j h. relation-other j (λ z. omega arith) (λ z. omega arith) in
+      let at : (j : ℕ) → atComponents ≤ j → getD with-relation j 0 ≡ getD head j 0 = λ j h. relation-other j (λ z. omega arith) (λ z. omega arith) in
       record {
         says =
             record {
@@ -158,7 +158,7 @@ module _ {D : Domain} {head : List ℕ} (F : Filled D head) (p : List ℕ) (n : 
               keys = ap (within maxArguments) (relation-other 3 (λ z. omega arith) (λ z. omega arith)) ∙ H .keys;
               arities = relation-arity;
               components = components;
-              parts = parts-say H with-relation components (λ j a b. at j a);
+              componentRows = parts-say H with-relation components (λ j a b. at j a);
               variables = λ i h. ap (within maxVariables) (at (atVariables + i) (omega arith)) ∙ H .variables i h;
               lasting = λ i h. ap (λ (b : ℕ). eqb b 1) (at (atSorts + i) (omega arith)) ∙ H .lasting i h;
               sizes = λ i h. ap (within maxLiterals) (at (atSizes + i) (omega arith)) ∙ H .sizes i h;
@@ -281,7 +281,7 @@ module _ {D : Domain} {head : List ℕ} (F : Filled D head) (p : List ℕ) (n fi
               keys = ap (within maxArguments) (low 3 (λ z. omega arith) (omega arith)) ∙ H .keys;
               arities = λ r. arity-kept head with-action r (λ h. low (atArities + r) (λ z. omega arith) (omega arith)) ∙ H .arities r;
               components = components;
-              parts = parts-say H with-action components (λ j a b. low j (λ z. omega arith) (omega arith));
+              componentRows = parts-say H with-action components (λ j a b. low j (λ z. omega arith) (omega arith));
               variables =
                   each-action D a (λ i. within maxVariables (getD with-action (atVariables + i) 0)) (λ (x : Action). x .vars) n m
                   (λ i h. ap (within maxVariables) (action-kept 0 i h) ∙ H .variables i h) (ap (within maxVariables) action-variables ∙ within-is maxVariables (byte p 0) (q .1));
@@ -409,7 +409,7 @@ module _ {D : Domain} {head : List ℕ} (F : Filled D head) (p : List ℕ) (last
               keys = ap (within maxArguments) (literal-other 3 (λ z. omega arith)) ∙ H .keys;
               arities = λ r. arity-kept head with-literal r (λ h. literal-other (atArities + r) (λ z. omega arith)) ∙ H .arities r;
               components = components;
-              parts = parts-say H with-literal components (λ j a b. literal-other j (λ z. omega arith));
+              componentRows = parts-say H with-literal components (λ j a b. literal-other j (λ z. omega arith));
               variables = λ i h. ap (within maxVariables) (literal-other (atVariables + i) (λ z. omega arith)) ∙ H .variables i (omega arith) ∙ sym (with-vars l (D .actions) i);
               lasting = λ i h. ap (λ (b : ℕ). eqb b 1) (literal-other (atSorts + i) (λ z. omega arith)) ∙ H .lasting i (omega arith) ∙ sym (with-lasting l (D .actions) i);
               sizes = λ i h. literal-sizes i (omega arith);
@@ -435,11 +435,11 @@ component-row (r ∷ ls) h = ap (λ k. rowOf (r ∷ k)) (sym (map-back labelNumb
         go true q = sym (eqb-true b 255 q)
         go false q = refl
 
-parts-snoc : (t : List ℕ) (c n : ℕ) → partsFrom t c (suc n) ≡ partsFrom t c n ++ (partIn t (c + n) ∷ [])
-parts-snoc t c zero = let e : c ≡ c + 0 = omega arith in ap (λ (k : ℕ). partIn t k ∷ []) e
+parts-snoc : (t : List ℕ) (c n : ℕ) → componentRowsFrom t c (suc n) ≡ componentRowsFrom t c n ++ (componentRowIn t (c + n) ∷ [])
+parts-snoc t c zero = let e : c ≡ c + 0 = omega arith in ap (λ (k : ℕ). componentRowIn t k ∷ []) e
 parts-snoc t c (suc n) =
     let e : suc c + n ≡ c + suc n = omega arith in
-    ap {B = List (List ℕ)} (λ r. partIn t c ∷ r) (parts-snoc t (suc c) n ∙ ap (λ (k : ℕ). partsFrom t (suc c) n ++ (partIn t k ∷ [])) e)
+    ap {B = List (List ℕ)} (λ r. componentRowIn t c ∷ r) (parts-snoc t (suc c) n ∙ ap (λ (k : ℕ). componentRowsFrom t (suc c) n ++ (componentRowIn t k ∷ [])) e)
 
 -- a row that is pasted, and the bytes beside it
 module _ (t row : List ℕ) (at n : ℕ) (l : length row ≡ n) (h : at + n ≤ length t) where
@@ -471,7 +471,7 @@ module _ (t row : List ℕ) (at n : ℕ) (l : length row ≡ n) (h : at + n ≤ 
 module _ {D : Domain} {head : List ℕ} (F : Filled D head) (p : List ℕ) (n keys : ℕ) (c : n ≡ componentsIn head)
     (k : keys ≡ keysOf (D .template ++ (componentOf p ∷ []))) (e : stopOf D componentRecord p ≡ 0) where
   abbrev with-row : List ℕ
-  with-row = paste head (atParts + 8 * n) (rowOf p) 8
+  with-row = paste head (atComponents + 8 * n) (rowOf p) 8
 
   abbrev component-bytes : List (ℕ × ℕ)
   component-bytes = (3, keys) ∷ (2, n + 1) ∷ []
@@ -497,31 +497,31 @@ module _ {D : Domain} {head : List ℕ} (F : Filled D head) (p : List ℕ) (n ke
   row-length : length (rowOf p) ≡ 8
   row-length = let s = component-sized .1 in length-row p (omega arith)
 
-  row-fits : atParts + 8 * n + 8 ≤ length head
+  row-fits : atComponents + 8 * n + 8 ≤ length head
   row-fits = let b = component-few .1 in let r = F .room in omega arith
 
   row-room : length with-row ≡ headBytes
-  row-room = let l = row-length in length-paste head (atParts + 8 * n) (rowOf p) 8 row-fits (omega arith) ∙ F .room
+  row-room = let l = row-length in length-paste head (atComponents + 8 * n) (rowOf p) 8 row-fits (omega arith) ∙ F .room
 
-  component-other : (j : ℕ) → (j ≡ 2 → ⊥) → (j ≡ 3 → ⊥) → (j < atParts + 8 * n) ⊎ (atParts + 8 * n + 8 ≤ j) → getD with-component j 0 ≡ getD head j 0
-  component-other j a b (inl h) = other component-bytes with-row j (b, (a, tt)) ∙ paste-before head (rowOf p) (atParts + 8 * n) 8 row-length row-fits j h
-  component-other j a b (inr h) = other component-bytes with-row j (b, (a, tt)) ∙ paste-behind head (rowOf p) (atParts + 8 * n) 8 row-length row-fits j h
+  component-other : (j : ℕ) → (j ≡ 2 → ⊥) → (j ≡ 3 → ⊥) → (j < atComponents + 8 * n) ⊎ (atComponents + 8 * n + 8 ≤ j) → getD with-component j 0 ≡ getD head j 0
+  component-other j a b (inl h) = other component-bytes with-row j (b, (a, tt)) ∙ paste-before head (rowOf p) (atComponents + 8 * n) 8 row-length row-fits j h
+  component-other j a b (inr h) = other component-bytes with-row j (b, (a, tt)) ∙ paste-behind head (rowOf p) (atComponents + 8 * n) 8 row-length row-fits j h
 
-  component-parts : partsFrom with-component 0 (suc n) ≡ map componentRow (D .template ++ (componentOf p ∷ []))
-  unfolding partIn partsIn
+  component-parts : componentRowsFrom with-component 0 (suc n) ≡ map componentRow (D .template ++ (componentOf p ∷ []))
+  unfolding componentRowIn componentRowsIn
   component-parts =
       let m = component-few .0 in
       let z : 0 + n ≡ n = omega arith in
       parts-snoc with-component 0 n
       ∙ ap₂ (λ (ps : List (List ℕ)) (r : List ℕ). ps ++ (r ∷ []))
-      (parts-kept head with-component n 0 n (omega arith) (λ j a b. component-other j (λ z. omega arith) (λ z. omega arith) (inl b)) ∙ ap (partsFrom head 0) c ∙ F .says .parts)
-      (ap (partIn with-component) z
-      ∙ bytes-kept with-row with-component (atParts + 8 * n) 8 (λ j a b. other component-bytes with-row j (λ z. omega arith, (λ z. omega arith, tt)))
-      ∙ paste-here head (rowOf p) (atParts + 8 * n) 8 row-length row-fits ∙ component-row p (component-sized .0))
+      (parts-kept head with-component n 0 n (omega arith) (λ j a b. component-other j (λ z. omega arith) (λ z. omega arith) (inl b)) ∙ ap (componentRowsFrom head 0) c ∙ F .says .componentRows)
+      (ap (componentRowIn with-component) z
+      ∙ bytes-kept with-row with-component (atComponents + 8 * n) 8 (λ j a b. other component-bytes with-row j (λ z. omega arith, (λ z. omega arith, tt)))
+      ∙ paste-here head (rowOf p) (atComponents + 8 * n) 8 row-length row-fits ∙ component-row p (component-sized .0))
       ∙ sym (map-append componentRow (D .template) (componentOf p ∷ []))
 
   filled-component : Filled (extend D componentRecord p) with-component
-  unfolding extend relationsIn actionsIn componentsIn keysIn partsIn variablesIn lastingIn sizeIn firstIn action
+  unfolding extend relationsIn actionsIn componentsIn keysIn componentRowsIn variablesIn lastingIn sizeIn firstIn action
   filled-component =
       let H = F .says in
       let b = component-few .1 in
@@ -530,7 +530,7 @@ module _ {D : Domain} {head : List ℕ} (F : Filled D head) (p : List ℕ) (n ke
       let B = bounded-extend D componentRecord p (H .bounded) e in
       let w = keys-few (D .template ++ (componentOf p ∷ [])) (B .labels) in
       let number = ap (within maxComponents) (hit component-bytes with-row row-room 2 (n + 1) (omega arith) (inr (λ z. omega arith, inl (refl, refl)))) ∙ within-is maxComponents (n + 1) (omega arith) in
-      let low : (j : ℕ) → (j ≡ 2 → ⊥) → (j ≡ 3 → ⊥) → j < atParts → getD with-component j 0 ≡ getD head j 0 = λ j a b h. component-other j a b (inl (omega arith)) in
+      let low : (j : ℕ) → (j ≡ 2 → ⊥) → (j ≡ 3 → ⊥) → j < atComponents → getD with-component j 0 ≡ getD head j 0 = λ j a b h. component-other j a b (inl (omega arith)) in
       let high : (j : ℕ) → atVariables ≤ j → getD with-component j 0 ≡ getD head j 0 = λ j h. component-other j (λ z. omega arith) (λ z. omega arith) (inr (omega arith)) in
       record {
         says =
@@ -541,7 +541,7 @@ module _ {D : Domain} {head : List ℕ} (F : Filled D head) (p : List ℕ) (n ke
               keys = ap (within maxArguments) (hit component-bytes with-row row-room 3 keys (omega arith) (inl (refl, refl))) ∙ within-is maxArguments keys (omega arith) ∙ k;
               arities = λ r. arity-kept head with-component r (λ h. low (atArities + r) (λ z. omega arith) (λ z. omega arith) (omega arith)) ∙ H .arities r;
               components = number ∙ omega arith;
-              parts = ap (partsFrom with-component 0) (number ∙ add-one n) ∙ component-parts;
+              componentRows = ap (componentRowsFrom with-component 0) (number ∙ add-one n) ∙ component-parts;
               variables = λ i h. ap (within maxVariables) (high (atVariables + i) (omega arith)) ∙ H .variables i h;
               lasting = λ i h. ap (λ (b : ℕ). eqb b 1) (high (atSorts + i) (omega arith)) ∙ H .lasting i h;
               sizes = λ i h. ap (within maxLiterals) (high (atSizes + i) (omega arith)) ∙ H .sizes i h;
@@ -583,7 +583,7 @@ module _ {D : Domain} {head : List ℕ} (F : Filled D head) where
   without-template = put bare-bytes head
 
   pub fills-bare : Filled (bare D) without-template
-  unfolding relationsIn actionsIn componentsIn keysIn partsIn variablesIn lastingIn sizeIn firstIn action
+  unfolding relationsIn actionsIn componentsIn keysIn componentRowsIn variablesIn lastingIn sizeIn firstIn action
   fills-bare =
       let H = F .says in
       let kept : (j : ℕ) → (j ≡ 2 → ⊥) → (j ≡ 3 → ⊥) → getD without-template j 0 ≡ getD head j 0 = λ j a b. other bare-bytes head j (b, (a, tt)) in
@@ -598,7 +598,7 @@ module _ {D : Domain} {head : List ℕ} (F : Filled D head) where
               keys = ap (within maxArguments) (hit bare-bytes head (F .room) 3 0 (omega arith) (inl (refl, refl)));
               arities = λ r. arity-kept head without-template r (λ h. high (atArities + r) (omega arith)) ∙ H .arities r;
               components = ap (within maxComponents) none;
-              parts = ap (λ (k : ℕ). partsFrom without-template 0 (within maxComponents k)) none;
+              componentRows = ap (λ (k : ℕ). componentRowsFrom without-template 0 (within maxComponents k)) none;
               variables = λ i h. ap (within maxVariables) (high (atVariables + i) (omega arith)) ∙ H .variables i h;
               lasting = λ i h. ap (λ (b : ℕ). eqb b 1) (high (atSorts + i) (omega arith)) ∙ H .lasting i h;
               sizes = λ i h. ap (within maxLiterals) (high (atSizes + i) (omega arith)) ∙ H .sizes i h;
@@ -610,7 +610,7 @@ module _ {D : Domain} {head : List ℕ} (F : Filled D head) where
 -- ---- no record at all
 
 pub filled-none : (head : List ℕ) → head ≡ replicate headBytes 0 → Filled noDomain head
-unfolding relationsIn actionsIn componentsIn keysIn arityIn partsIn
+unfolding relationsIn actionsIn componentsIn keysIn arityIn componentRowsIn
 filled-none head e =
     record {
       says =
@@ -621,7 +621,7 @@ filled-none head e =
             keys = ap (within maxArguments) (none 3);
             arities = λ r. ap (λ (k : ℕ). cond (ltb r maxRelations) (within maxArguments k) 0) (none (atArities + r)) ∙ zeros (ltb r maxRelations);
             components = ap (within maxComponents) (none 2);
-            parts = ap (λ (k : ℕ). partsFrom head 0 (within maxComponents k)) (none 2);
+            componentRows = ap (λ (k : ℕ). componentRowsFrom head 0 (within maxComponents k)) (none 2);
             variables = λ i h. absurd (omega arith);
             lasting = λ i h. absurd (omega arith);
             sizes = λ i h. absurd (omega arith);

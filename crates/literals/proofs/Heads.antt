@@ -15,7 +15,7 @@ use Rattle.records.proofs.Lists.{bool-cases, getD-in, flatMap-in}
 use Rattle.literals.specs.Decode.{maxRelations, maxArguments, maxVariables}
 use Rattle.literals.specs.Domain.{Literal, Action, Component, Domain, noAction, action}
 use Rattle.literals.specs.Table.{literalRow, componentRow, allLiterals, tableBytes}
-use Rattle.literals.specs.Held.{within, keysIn, componentsIn, arityIn, bytesFrom, partIn, partsFrom, partsIn, variablesIn, sizeIn, firstIn, HeadOf, Held, SpanOf, atArities, atParts, atVariables}
+use Rattle.literals.specs.Held.{within, keysIn, componentsIn, arityIn, bytesFrom, componentRowIn, componentRowsFrom, componentRowsIn, variablesIn, sizeIn, firstIn, HeadOf, Held, SpanOf, atArities, atComponents, atVariables}
 use Rattle.literals.proofs.Tables.{length-literal-row, length-flat}
 use Rattle.literals.proofs.Spans.{part-flat, literals-split, literals-next}
 
@@ -77,61 +77,61 @@ pub bytes-front : (l rest : List ℕ) → bytesFrom (l ++ rest) 0 (length l) ≡
 bytes-front [] rest = refl
 bytes-front (x ∷ xs) rest = ap {B = List ℕ} (λ r. x ∷ r) (bytes-behind x (xs ++ rest) 0 (length xs) ∙ bytes-front xs rest)
 
-pub part-length : (head : List ℕ) (c : ℕ) → length (partIn head c) ≡ 8
-unfolding partIn
-part-length head c = length-bytes head (atParts + 8 * c) 8
+pub part-length : (head : List ℕ) (c : ℕ) → length (componentRowIn head c) ≡ 8
+unfolding componentRowIn
+part-length head c = length-bytes head (atComponents + 8 * c) 8
 
-pub part-at : (head : List ℕ) (c i : ℕ) → i < 8 → getD (partIn head c) i 0 ≡ getD head (atParts + 8 * c + i) 0
-unfolding partIn
-part-at head c i h = bytes-at head (atParts + 8 * c) 8 i h
+pub part-at : (head : List ℕ) (c i : ℕ) → i < 8 → getD (componentRowIn head c) i 0 ≡ getD head (atComponents + 8 * c + i) 0
+unfolding componentRowIn
+part-at head c i h = bytes-at head (atComponents + 8 * c) 8 i h
 
 -- one by one
 module _ (head : List ℕ) (n c : ℕ) where
-  pub parts-next : c < n → partsFrom head c (n - c) ≡ partIn head c ∷ partsFrom head (c + 1) (n - (c + 1))
+  pub parts-next : c < n → componentRowsFrom head c (n - c) ≡ componentRowIn head c ∷ componentRowsFrom head (c + 1) (n - (c + 1))
   parts-next h =
       let e : n - c ≡ suc (n - (c + 1)) = omega arith in
-      ap (partsFrom head c) e ∙ ap (λ (k : ℕ). partIn head c ∷ partsFrom head k (n - (c + 1))) (sym (add-one c))
+      ap (componentRowsFrom head c) e ∙ ap (λ (k : ℕ). componentRowIn head c ∷ componentRowsFrom head k (n - (c + 1))) (sym (add-one c))
 
-  pub parts-end : n ≤ c → partsFrom head c (n - c) ≡ []
-  parts-end h = let e : n - c ≡ 0 = omega arith in ap (partsFrom head c) e
+  pub parts-end : n ≤ c → componentRowsFrom head c (n - c) ≡ []
+  parts-end h = let e : n - c ≡ 0 = omega arith in ap (componentRowsFrom head c) e
 
-parts-length-from : (head : List ℕ) (c n : ℕ) → length (partsFrom head c n) ≡ n
+parts-length-from : (head : List ℕ) (c n : ℕ) → length (componentRowsFrom head c n) ≡ n
 parts-length-from head c zero = refl
 parts-length-from head c (suc n) = ap suc (parts-length-from head (suc c) n)
 
-pub parts-length : (head : List ℕ) → length (partsIn head) ≡ componentsIn head
-unfolding partsIn
+pub parts-length : (head : List ℕ) → length (componentRowsIn head) ≡ componentsIn head
+unfolding componentRowsIn
 parts-length head = parts-length-from head 0 (componentsIn head)
 
-part-from : (head : List ℕ) (c n k : ℕ) → k < n → getD (partsFrom head c n) k [] ≡ partIn head (c + k)
+part-from : (head : List ℕ) (c n k : ℕ) → k < n → getD (componentRowsFrom head c n) k [] ≡ componentRowIn head (c + k)
 part-from head c zero k h = absurd (omega arith)
-part-from head c (suc n) zero h = let e : c ≡ c + 0 = omega arith in ap (partIn head) e
-part-from head c (suc n) (suc k) h = let e : suc c + k ≡ c + suc k = omega arith in part-from head (suc c) n k (omega arith) ∙ ap (partIn head) e
+part-from head c (suc n) zero h = let e : c ≡ c + 0 = omega arith in ap (componentRowIn head) e
+part-from head c (suc n) (suc k) h = let e : suc c + k ≡ c + suc k = omega arith in part-from head (suc c) n k (omega arith) ∙ ap (componentRowIn head) e
 
 -- a row by its number
-pub part-row : (head : List ℕ) (c : ℕ) → c < componentsIn head → getD (partsIn head) c [] ≡ partIn head c
-unfolding partsIn
-part-row head c h = let e : 0 + c ≡ c = omega arith in part-from head 0 (componentsIn head) c h ∙ ap (partIn head) e
+pub part-row : (head : List ℕ) (c : ℕ) → c < componentsIn head → getD (componentRowsIn head) c [] ≡ componentRowIn head c
+unfolding componentRowsIn
+part-row head c h = let e : 0 + c ≡ c = omega arith in part-from head 0 (componentsIn head) c h ∙ ap (componentRowIn head) e
 
 getD-rows : (cs : List Component) (d : Component) (c : ℕ) → c < length cs → getD (map componentRow cs) c [] ≡ componentRow (getD cs c d)
 getD-rows [] d c h = absurd (omega arith)
 getD-rows (x ∷ cs) d zero h = refl
 getD-rows (x ∷ cs) d (suc c) h = getD-rows cs d c (omega arith)
 
-pub part-is : {D : Domain} {head : List ℕ} → HeadOf D head → (d : Component) (c : ℕ) → c < length (D .template) → partIn head c ≡ componentRow (getD (D .template) c d)
+pub part-is : {D : Domain} {head : List ℕ} → HeadOf D head → (d : Component) (c : ℕ) → c < length (D .template) → componentRowIn head c ≡ componentRow (getD (D .template) c d)
 part-is {D} {head} H d c h =
     let n = H .components in
-    sym (part-row head c (omega arith)) ∙ ap (λ (rs : List (List ℕ)). getD rs c []) (H .parts) ∙ getD-rows (D .template) d c h
+    sym (part-row head c (omega arith)) ∙ ap (λ (rs : List (List ℕ)). getD rs c []) (H .componentRows) ∙ getD-rows (D .template) d c h
 
 -- whether one of them passes a test, from the row c on
 module _ (p : List ℕ → Bool) (head : List ℕ) (n c : ℕ) where
-  pub parts-hit : c < n → p (partIn head c) ≡ true → any p (partsFrom head c (n - c)) ≡ true
+  pub parts-hit : c < n → p (componentRowIn head c) ≡ true → any p (componentRowsFrom head c (n - c)) ≡ true
   parts-hit h e = ap (any p) (parts-next head n c h) ∙ rw e
 
-  pub parts-miss : c < n → p (partIn head c) ≡ false → any p (partsFrom head c (n - c)) ≡ any p (partsFrom head (c + 1) (n - (c + 1)))
+  pub parts-miss : c < n → p (componentRowIn head c) ≡ false → any p (componentRowsFrom head c (n - c)) ≡ any p (componentRowsFrom head (c + 1) (n - (c + 1)))
   parts-miss h e = ap (any p) (parts-next head n c h) ∙ rw e
 
-  pub parts-none : n ≤ c → any p (partsFrom head c (n - c)) ≡ false
+  pub parts-none : n ≤ c → any p (componentRowsFrom head c (n - c)) ≡ false
   parts-none h = ap (any p) (parts-end head n c h)
 
 -- ---- the literals of an action

@@ -13,7 +13,7 @@ use Rattle.records.proofs.Lists.{bool-cases}
 use Rattle.literals.specs.declared.Key.{Key}
 use Rattle.literals.specs.Domain.{key, isKey}
 use Rattle.literals.specs.Decode.{labelOf}
-use Rattle.literals.specs.Held.{within, partIn, keysIn, componentsIn}
+use Rattle.literals.specs.Held.{within, componentRowIn, keysIn, componentsIn}
 use Rattle.literals.specs.Keys.{below, placeUnder}
 use Rattle.literals.proofs.KeyRows.{place-le}
 
@@ -39,14 +39,14 @@ keys-few head = within-few 6 (getD head 3 0)
 -- the places of the first k keys of the component c stand behind those before it
 pub record OwnPlaces (head : List ℕ) (c : ℕ) (places₀ places : List ℕ) (k : ℕ) : Type 0 where
   pub room : length places ≡ length places₀
-  pub own : (i : ℕ) → i < k → getD places (8 * c + i) 0 ≡ placeUnder (key i) (partIn head c)
+  pub own : (i : ℕ) → i < k → getD places (8 * c + i) 0 ≡ placeUnder (key i) (componentRowIn head c)
   pub earlier : (i : ℕ) → i < 8 * c → getD places i 0 ≡ getD places₀ i 0
 
 pub own-none : (head : List ℕ) (c : ℕ) (places : List ℕ) → OwnPlaces head c places places 0
 own-none head c places = record { room = refl; own = λ i h. absurd (omega arith); earlier = λ i h. refl }
 
 pub own-more : (head : List ℕ) (c : ℕ) (places₀ places : List ℕ) (k place : ℕ) → 8 * c + k < length places
-    → place ≡ placeUnder (key k) (partIn head c)
+    → place ≡ placeUnder (key k) (componentRowIn head c)
     → OwnPlaces head c places₀ places k → OwnPlaces head c places₀ (set places (8 * c + k) place) (k + 1)
 own-more head c places₀ places k place g e w =
     record {
@@ -56,7 +56,7 @@ own-more head c places₀ places k place g e w =
     }
   where
     go : (i : ℕ) → i < k + 1 → (eqb i k ≡ true) ⊎ (eqb i k ≡ false)
-        → getD (set places (8 * c + k) place) (8 * c + i) 0 ≡ placeUnder (key i) (partIn head c)
+        → getD (set places (8 * c + k) place) (8 * c + i) 0 ≡ placeUnder (key i) (componentRowIn head c)
     go i h (inl t) = rw (eqb-true i k t) (getD-set-same places (8 * c + k) place 0 g ∙ e)
     go i h (inr f) =
         let n = eqb-false i k f in
@@ -64,17 +64,17 @@ own-more head c places₀ places k place g e w =
 
 -- those of the first n components
 abbrev pub Places : List ℕ → List ℕ → ℕ → Type 0
-Places head places n = (c k : ℕ) → c < n → k < keysIn head → getD places (8 * c + k) 0 ≡ placeUnder (key k) (partIn head c)
+Places head places n = (c k : ℕ) → c < n → k < keysIn head → getD places (8 * c + k) 0 ≡ placeUnder (key k) (componentRowIn head c)
 
 pub places-none : (head places : List ℕ) → Places head places 0
 places-none head places c k h g = absurd (omega arith)
 
 pub places-more : (head places₀ places : List ℕ) (n : ℕ) → Places head places₀ n
-    → ((k : ℕ) → k < keysIn head → getD places (8 * n + k) 0 ≡ placeUnder (key k) (partIn head n))
+    → ((k : ℕ) → k < keysIn head → getD places (8 * n + k) 0 ≡ placeUnder (key k) (componentRowIn head n))
     → ((i : ℕ) → i < 8 * n → getD places i 0 ≡ getD places₀ i 0) → Places head places (n + 1)
 places-more head places₀ places n w own earlier c k h g = go (bool-cases (eqb c n))
   where
-    go : (eqb c n ≡ true) ⊎ (eqb c n ≡ false) → getD places (8 * c + k) 0 ≡ placeUnder (key k) (partIn head c)
+    go : (eqb c n ≡ true) ⊎ (eqb c n ≡ false) → getD places (8 * c + k) 0 ≡ placeUnder (key k) (componentRowIn head c)
     go (inl t) = rw (eqb-true c n t) (own k g)
     go (inr f) = let q = eqb-false c n f in let l : c < n = omega arith in let few = keys-few head in
         earlier (8 * c + k) (omega arith) ∙ w c k l g

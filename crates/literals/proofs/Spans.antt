@@ -23,8 +23,8 @@ module _ {A : Type 0} (f : A → List ℕ) where
       let rest = drop (length (flatMap f (xs ++ (ys ++ zs)))) old in
       let before = length-flat f xs (λ a m. h a (Memᴰ·append-left (ys ++ zs) m)) in
       let own = length-flat f ys (λ a m. h a (Memᴰ·append-right xs (Memᴰ·append-left zs m))) in
-      let parts : flatMap f (xs ++ (ys ++ zs)) ++ rest ≡ flatMap f xs ++ (flatMap f ys ++ (flatMap f zs ++ rest)) = simp (flatMap-append, append-assoc) in
-      ap (λ (t : List ℕ). take (8 * length ys) (drop (8 * length xs) t)) parts
+      let componentRows : flatMap f (xs ++ (ys ++ zs)) ++ rest ≡ flatMap f xs ++ (flatMap f ys ++ (flatMap f zs ++ rest)) = simp (flatMap-append, append-assoc) in
+      ap (λ (t : List ℕ). take (8 * length ys) (drop (8 * length xs) t)) componentRows
       ∙ ap (take (8 * length ys)) (drop-at (flatMap f xs) (flatMap f ys ++ (flatMap f zs ++ rest)) (8 * length xs) before)
       ∙ take-at (flatMap f ys) (flatMap f zs ++ rest) (8 * length ys) own
 

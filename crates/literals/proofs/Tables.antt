@@ -110,7 +110,7 @@ rank r c = cond r 2 (cond c 1 0)
 -- -- the roles: one test of all pairs below 10
 
 abbrev opposed : Role → Role → Bool
-opposed r s = contrary (r .clause) (s .clause) && together (r .time) (s .time)
+opposed r s = contrary (r .usage) (s .usage) && together (r .time) (s .time)
 
 abbrev agrees : ℕ → ℕ → Bool
 agrees a b = eqb (roleRank a b) (rank (sameRole (roleOf a) (roleOf b)) (opposed (roleOf a) (roleOf b)))

@@ -13,9 +13,10 @@ use Rattle.literals.specs.declared.Label.{Label}
 use Rattle.literals.specs.declared.Label.the-variants.{Key as keyed, Counted}
 use Rattle.literals.specs.declared.Time.{Time}
 use Rattle.literals.specs.declared.Time.the-variants.{AtStart}
-use Rattle.literals.specs.declared.Clause.{Clause}
-use Rattle.literals.specs.declared.Clause.the-variants.{Positive, Negative, Add, Delete}
-use Rattle.literals.specs.Domain.{variable, key, sameLiteral, roleOf, sameTime, sameClause, sameRole, Literal, Action, Component, isKey, isCounted, keyBelow, keysOf, labelsFit, Domain, arity, noAction}
+use Rattle.literals.specs.declared.Usage.{Usage}
+use Rattle.literals.specs.declared.Usage.the-variants.{Positive, Negative, Add, Delete}
+use Rattle.literals.specs.Domain.{variable, key, sameLiteral, roleOf, sameTime, sameUsage, sameRole, Literal, Action, Component}
+use Rattle.literals.specs.Domain.{isKey, isCounted, keyBelow, keysOf, labelsFit, Domain, arity, noAction}
 
 -- ---- "Limits: file 65,535 bytes; 64 relations; 64 actions; 64 literals an action; 16 components."
 
@@ -98,9 +99,9 @@ abbrev pub repeats : Literal → Literal → Bool
 repeats l m = sameRole (l .role) (m .role) && sameLiteral (l .atom) (m .atom)
 
 -- one is a true condition, the other a false one
-abbrev pub contrary : Clause → Clause → Bool
-contrary Positive d = sameClause d Negative
-contrary Negative d = sameClause d Positive
+abbrev pub contrary : Usage → Usage → Bool
+contrary Positive d = sameUsage d Negative
+contrary Negative d = sameUsage d Positive
 contrary Add d = false
 contrary Delete d = false
 
@@ -110,7 +111,7 @@ together t u = cond (sameTime t AtStart) (sameTime u AtStart) (not (sameTime u A
 
 -- "20 both true and false among roles 0, 1 or among 4 to 7"
 abbrev pub contradicts : Literal → Literal → Bool
-contradicts l m = contrary (l .role .clause) (m .role .clause) && together (l .role .time) (m .role .time) && sameLiteral (l .atom) (m .atom)
+contradicts l m = contrary (l .role .usage) (m .role .usage) && together (l .role .time) (m .role .time) && sameLiteral (l .atom) (m .atom)
 
 -- "16 role": "Roles 4 to 9 need a lasting action."
 abbrev pub noRole : Action → ℕ → Bool
@@ -296,7 +297,11 @@ fromStart = record { at = 0; closed = false; sofar = noDomain }
 unfoldable pub readFile : List ℕ → Finished
 unfolding readFrom
 readFile f =
-    elim (ltb maxFile (length f)) [ true ↦ record { result = refused (refuse 9 0); read = noDomain } | false ↦ readFrom (suc (length f)) f fromStart ]
+    elim (ltb maxFile (length f)) [
+      | true ↦ record { result = refused (refuse 9 0); read = noDomain }
+      | false ↦ readFrom
+          (suc (length f)) f fromStart
+    ]
 
 -- what a file says
 unfoldable pub decode : List ℕ → Decoded

@@ -12,8 +12,8 @@ use Rattle.literals.specs.declared.Label.{Label}
 use Rattle.literals.specs.declared.Label.the-variants.{Key as keyed, Counted}
 use Rattle.literals.specs.declared.Time.{Time}
 use Rattle.literals.specs.declared.Time.the-variants.{AtStart, OverAll, AtEnd}
-use Rattle.literals.specs.declared.Clause.{Clause}
-use Rattle.literals.specs.declared.Clause.the-variants.{Positive, Negative, Add, Delete}
+use Rattle.literals.specs.declared.Usage.{Usage}
+use Rattle.literals.specs.declared.Usage.the-variants.{Positive, Negative, Add, Delete}
 use Rattle.literals.specs.declared.Role.{Role}
 
 -- ---- "Variables, objects and keys are three separate numberings, each from 0; a number of one is never read as another."
@@ -59,20 +59,20 @@ sameFact = sameAtom sameObject
 -- ---- roles
 
 -- "0 true condition, 1 false condition, 2 add, 3 delete"
-abbrev pub clauseOf : ℕ → Clause
-clauseOf n = cond (eqb n 0) Positive (cond (eqb n 1) Negative (cond (eqb n 2) Add Delete))
+abbrev pub usageOf : ℕ → Usage
+usageOf n = cond (eqb n 0) Positive (cond (eqb n 1) Negative (cond (eqb n 2) Add Delete))
 
 -- "(at once, or at the start); 4 and 5 true and false over all; 6 to 9 the same as 0 to 3, at the end": of a role up to 9
 unfoldable pub roleOf : ℕ → Role
 roleOf r =
-    cond (ltb r 4) (record { time = AtStart; clause = clauseOf r })
-    (cond (ltb r 6) (record { time = OverAll; clause = clauseOf (r - 4) }) (record { time = AtEnd; clause = clauseOf (r - 6) }))
+    cond (ltb r 4) (record { time = AtStart; usage = usageOf r })
+    (cond (ltb r 6) (record { time = OverAll; usage = usageOf (r - 4) }) (record { time = AtEnd; usage = usageOf (r - 6) }))
 
-abbrev pub clauseNumber : Clause → ℕ
-clauseNumber Positive = 0
-clauseNumber Negative = 1
-clauseNumber Add = 2
-clauseNumber Delete = 3
+abbrev pub usageNumber : Usage → ℕ
+usageNumber Positive = 0
+usageNumber Negative = 1
+usageNumber Add = 2
+usageNumber Delete = 3
 
 -- the first role of each time
 abbrev pub firstRole : Time → ℕ
@@ -82,16 +82,16 @@ firstRole AtEnd = 6
 
 -- a role's byte
 abbrev pub roleNumber : Role → ℕ
-roleNumber r = firstRole (r .time) + clauseNumber (r .clause)
+roleNumber r = firstRole (r .time) + usageNumber (r .usage)
 
 abbrev pub sameTime : Time → Time → Bool
 sameTime t u = eqb (firstRole t) (firstRole u)
 
-abbrev pub sameClause : Clause → Clause → Bool
-sameClause c d = eqb (clauseNumber c) (clauseNumber d)
+abbrev pub sameUsage : Usage → Usage → Bool
+sameUsage c d = eqb (usageNumber c) (usageNumber d)
 
 abbrev pub sameRole : Role → Role → Bool
-sameRole r s = sameTime (r .time) (s .time) && sameClause (r .clause) (s .clause)
+sameRole r s = sameTime (r .time) (s .time) && sameUsage (r .usage) (s .usage)
 
 -- ---- actions
 

@@ -13,7 +13,8 @@ use Rattle.literals.specs.Held.{relationsIn, arityIn, variablesIn, lasti
 -- of a literal or component whose arguments start at `first` of its `given` bytes: "17 relation", then "12 wrong length"
 unfoldable pub argumentsStop : List ℕ → ℕ → ℕ → ℕ → ℕ
 unfolding relationsIn arityIn
-argumentsStop head relation first given = cond (leb (relationsIn head) relation) 17 (cond (not (eqb given (first + arityIn head relation))) 12 0)
+argumentsStop head relation first given = cond (leb (relationsIn head) relation) 17
+    (cond (not (eqb given (first + arityIn head relation))) 12 0)
 
 -- the row "fields" of a literal record, of the action i
 unfoldable pub literalFields : List ℕ → ℕ → List ℕ → ℕ

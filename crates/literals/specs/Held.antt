@@ -8,7 +8,8 @@ use lib.ListN.{length, take, drop, getD}
 use Rattle.records.specs.Memory.{over}
 use Rattle.literals.specs.declared.span.Span.{Span}
 use Rattle.literals.specs.Domain.{keysOf, Domain, arity, action}
-use Rattle.literals.specs.Decode.{RecordKind, stopOf, extend, maxRelations, maxArguments, maxActions, maxVariables, maxLiterals, maxComponents}
+use Rattle.literals.specs.Decode.{RecordKind, stopOf, extend, maxRelations, maxArguments, maxActions, maxVariables, maxLiterals}
+use Rattle.literals.specs.Decode.{maxComponents}
 use Rattle.literals.specs.Table.{literalRow, componentRow, allLiterals, tableBytes, Bounded}
 
 -- ---- the sections of a head: a byte for each relation, 8 for each component, then columns with a byte for each action
@@ -16,11 +17,11 @@ use Rattle.literals.specs.Table.{literalRow, componentRow, allLiterals, 
 abbrev pub atArities : ℕ
 atArities = 4
 
-abbrev pub atParts : ℕ
-atParts = atArities + maxRelations
+abbrev pub atComponents : ℕ
+atComponents = atArities + maxRelations
 
 abbrev pub atVariables : ℕ
-atVariables = atParts + 8 * maxComponents
+atVariables = atComponents + 8 * maxComponents
 
 abbrev pub atSorts : ℕ
 atSorts = atVariables + maxActions
@@ -61,18 +62,18 @@ bytesFrom t k zero = []
 bytesFrom t k (suc n) = getD t k 0 ∷ bytesFrom t (suc k) n
 
 -- the row of a component: relation, labels, FF to fill
-unfoldable pub partIn : List ℕ → ℕ → List ℕ
-partIn head c = bytesFrom head (atParts + 8 * c) 8
+unfoldable pub componentRowIn : List ℕ → ℕ → List ℕ
+componentRowIn head c = bytesFrom head (atComponents + 8 * c) 8
 
 -- those of n components from c on
-abbrev pub partsFrom : List ℕ → ℕ → ℕ → List (List ℕ)
-partsFrom head c zero = []
-partsFrom head c (suc n) = partIn head c ∷ partsFrom head (suc c) n
+abbrev pub componentRowsFrom : List ℕ → ℕ → ℕ → List (List ℕ)
+componentRowsFrom head c zero = []
+componentRowsFrom head c (suc n) = componentRowIn head c ∷ componentRowsFrom head (suc c) n
 
 -- those of all components
-unfoldable pub partsIn : List ℕ → List (List ℕ)
+unfoldable pub componentRowsIn : List ℕ → List (List ℕ)
 unfolding componentsIn
-partsIn head = partsFrom head 0 (componentsIn head)
+componentRowsIn head = componentRowsFrom head 0 (componentsIn head)
 
 -- of an action: its variables, whether it lasts, how many literals it has, and the table's row of the first
 unfoldable pub variablesIn : List ℕ → ℕ → ℕ
@@ -96,7 +97,7 @@ pub record HeadOf (D : Domain) (head : List ℕ) : Type 0 where
   pub keys : keysIn head ≡ keysOf (D .template)
   pub arities : (r : ℕ) → arityIn head r ≡ arity D r
   pub components : componentsIn head ≡ length (D .template)
-  pub parts : partsIn head ≡ map componentRow (D .template)
+  pub componentRows : componentRowsIn head ≡ map componentRow (D .template)
   pub variables : (i : ℕ) → i < length (D .actions) → variablesIn head i ≡ action D i .vars
   pub lasting : (i : ℕ) → i < length (D .actions) → lastingIn head i ≡ action D i .lasting
   pub sizes : (i : ℕ) → i < length (D .actions) → sizeIn head i ≡ length (action D i .lits)

@@ -8,10 +8,10 @@ use lib.ListN.{getD, take, drop}
 use Rattle.literals.specs.declared.Key.{Key}
 use Rattle.literals.specs.declared.Time.{Time}
 use Rattle.literals.specs.declared.Role.{Role}
-use Rattle.literals.specs.Domain.{key, isKey, roleOf, clauseNumber, sameTime}
+use Rattle.literals.specs.Domain.{key, isKey, roleOf, usageNumber, sameTime}
 use Rattle.literals.specs.Decode.{maxArguments, byte, labelOf}
 use Rattle.literals.specs.Table.{rowOf}
-use Rattle.literals.specs.Held.{componentsIn, keysIn, partIn, partsIn}
+use Rattle.literals.specs.Held.{componentsIn, keysIn, componentRowIn, componentRowsIn}
 
 -- ---- lists
 
@@ -30,14 +30,14 @@ below n = numbersFrom 0 n
 
 -- ---- roles
 
--- the clause of a role at a time: 1 to 4 for a true condition, false condition, add or delete there, 0 for a role of another time
-abbrev pub clauseAmong : Time → Role → ℕ
-clauseAmong t r = cond (sameTime t (r .time)) (suc (clauseNumber (r .clause))) 0
+-- the usage of a role at a time: 1 to 4 for a true condition, false condition, add or delete there, 0 for a role of another time
+abbrev pub usageAmong : Time → Role → ℕ
+usageAmong t r = cond (sameTime t (r .time)) (suc (usageNumber (r .usage))) 0
 
 -- of a role byte
-unfoldable pub clauseFor : Time → ℕ → ℕ
+unfoldable pub usageFor : Time → ℕ → ℕ
 unfolding roleOf
-clauseFor t r = clauseAmong t (roleOf r)
+usageFor t r = usageAmong t (roleOf r)
 
 -- ---- key tuples, by the bytes of rows
 
@@ -47,7 +47,8 @@ placeUnder k part = position (λ i. isKey k (labelOf (getD part (i + 1) 0))) (be
 
 -- a memory has these places, 8 bytes for each component of a head
 abbrev pub PlacesOf : List ℕ → List ℕ → Type 0
-PlacesOf head places = (c k : ℕ) → c < componentsIn head → k < keysIn head → getD places (8 * c + k) 0 ≡ placeUnder (key k) (partIn head c)
+PlacesOf head places = (c k : ℕ) → c < componentsIn head → k < keysIn head → getD places (8 * c + k) 0
+    ≡ placeUnder (key k) (componentRowIn head c)
 
 -- the byte of the argument at a place of the row at an offset, or FF
 abbrev pub argumentAt : List ℕ → ℕ → ℕ → ℕ
@@ -72,12 +73,12 @@ keyRow n part row = rowOf (underKeys n (drop 1 part) (drop 2 row))
 unfoldable pub keyRows : ℕ → List (List ℕ) → List ℕ → List (List ℕ)
 unfolding keyRow
 keyRows n [] row = []
-keyRows n (part ∷ parts) row = cond (eqb (byte row 1) (byte part 0)) (keyRow n part row ∷ []) (keyRows n parts row)
+keyRows n (part ∷ componentRows) row = cond (eqb (byte row 1) (byte part 0)) (keyRow n part row ∷ []) (keyRows n componentRows row)
 
 -- the same, by the head of a domain
 unfoldable pub keyRowsIn : List ℕ → List ℕ → List (List ℕ)
-unfolding keysIn partsIn keyRows
-keyRowsIn head row = keyRows (keysIn head) (partsIn head) row
+unfolding keysIn componentRowsIn keyRows
+keyRowsIn head row = keyRows (keysIn head) (componentRowsIn head) row
 
 -- ---- key tuples as numbers
 

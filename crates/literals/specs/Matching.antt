@@ -11,11 +11,12 @@ use Rattle.literals.specs.declared.Key.{Key}
 use Rattle.literals.specs.declared.Label.{Label}
 use Rattle.literals.specs.declared.Time.{Time}
 use Rattle.literals.specs.declared.Time.the-variants.{AtStart, OverAll, AtEnd}
-use Rattle.literals.specs.declared.Clause.{Clause}
+use Rattle.literals.specs.declared.Usage.{Usage}
 use Rattle.literals.specs.declared.Role.{Role}
 use Rattle.literals.specs.declared.Moment.{Moment}
 use Rattle.literals.specs.declared.Moment.the-variants.{Start, End}
-use Rattle.literals.specs.Domain.{key, sameObject, Atom, Fact, sameLiteral, sameTime, sameClause, Literal, Action, Component, isKey, keysOf, Domain}
+use Rattle.literals.specs.Domain.{key, sameObject, Atom, Fact, sameLiteral, sameTime, sameUsage, Literal, Action, Component, isKey}
+use Rattle.literals.specs.Domain.{keysOf, Domain}
 
 -- ---- matching and key tuples, of literals and of facts alike
 
@@ -66,15 +67,15 @@ ownTime Start = AtStart
 ownTime End = AtEnd
 
 -- a role of a moment's own
-abbrev pub own : Moment → Clause → Role → Bool
-own m c r = sameTime (ownTime m) (r .time) && sameClause c (r .clause)
+abbrev pub own : Moment → Usage → Role → Bool
+own m c r = sameTime (ownTime m) (r .time) && sameUsage c (r .usage)
 
 -- an over-all role
-abbrev pub overAll : Clause → Role → Bool
-overAll c r = sameTime OverAll (r .time) && sameClause c (r .clause)
+abbrev pub overAll : Usage → Role → Bool
+overAll c r = sameTime OverAll (r .time) && sameUsage c (r .usage)
 
 -- a role that is asked at a moment: "An end's conditions are its own and the over-all ones"
-abbrev pub asked : Moment → Clause → Role → Bool
+abbrev pub asked : Moment → Usage → Role → Bool
 asked Start c r = own Start c r
 asked End c r = own End c r || overAll c r
 
@@ -83,15 +84,15 @@ abbrev pub withRole : (Role → Bool) → List Literal → List (Atom Variable)
 withRole p [] = []
 withRole p (l ∷ ls) = keepIf (p (l .role)) (l .atom) (withRole p ls)
 
--- the action's own literals of one clause at one moment, in file order
-unfoldable pub literalsAt : Action → Moment → Clause → List (Atom Variable)
+-- the action's own literals of one usage at one moment, in file order
+unfoldable pub literalsAt : Action → Moment → Usage → List (Atom Variable)
 literalsAt a m c = dedup sameLiteral (withRole (own m c) (a .lits))
 
 -- what is asked at a moment, in file order, "a literal in both counting once": what must hold in the state that the step is taken from,
 -- and what a witness lists. Adds and deletes have no over-all role
-unfoldable pub required : Action → Moment → Clause → List (Atom Variable)
+unfoldable pub required : Action → Moment → Usage → List (Atom Variable)
 required a m c = dedup sameLiteral (withRole (asked m c) (a .lits))
 
 -- the action's over-all conditions
-abbrev pub overAllLiterals : Action → Clause → List (Atom Variable)
+abbrev pub overAllLiterals : Action → Usage → List (Atom Variable)
 overAllLiterals a c = withRole (overAll c) (a .lits)

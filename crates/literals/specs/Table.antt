@@ -97,7 +97,8 @@ pub record Bounded (D : Domain) : Type 0 where
   pub arguments : (a : Action) → In a (D .actions) → (l : Literal) → In l (a .lits) → length (l .atom .args) ≤ maxArguments
   pub variables : (a : Action) → In a (D .actions) → (l : Literal) → In l (a .lits) → (v : Variable) → In v (l .atom .args) → v .0 < 255
   pub below : (a : Action) → In a (D .actions) → (l : Literal) → In l (a .lits) → (v : Variable) → In v (l .atom .args) → v .0 < a .vars
-  pub roles : (a : Action) → In a (D .actions) → (l : Literal) → In l (a .lits) → (roleNumber (l .role) ≤ 9) × (roleOf (roleNumber (l .role)) ≡ l .role)
+  pub roles : (a : Action) → In a (D .actions) → (l : Literal) → In l (a .lits) → (roleNumber (l .role) ≤ 9)
+      × (roleOf (roleNumber (l .role)) ≡ l .role)
   pub components : length (D .template) ≤ maxComponents
   pub labels : (c : Component) → In c (D .template) → length (c .labels) ≤ maxArguments
   pub literalArity : (a : Action) → In a (D .actions) → (l : Literal) → In l (a .lits) → length (l .atom .args) ≡ arity D (l .atom .rel)

@@ -21,7 +21,7 @@ ghost use Rattle.literals.specs.Domain.{Domain, keysOf, bare};
 ghost use Rattle.literals.specs.Decode.{maxRelations, maxActions, maxVariables, maxArguments, maxLiterals, maxComponents};
 ghost use Rattle.literals.specs.Decode.{relationRecord, actionRecord, literalRecord, componentRecord, componentOf, byte};
 ghost use Rattle.literals.specs.Table.{allLiterals};
-ghost use Rattle.literals.specs.Held.{within, relationsIn, actionsIn, componentsIn, keysIn, arityIn, partIn, partsIn, variablesIn};
+ghost use Rattle.literals.specs.Held.{within, relationsIn, actionsIn, componentsIn, keysIn, arityIn, componentRowIn, componentRowsIn, variablesIn};
 ghost use Rattle.literals.specs.Held.{lastingIn, sizeIn, firstIn, Held, SpanFits, SpanOf, HeadOf, headBytes, Filled, Adds};
 
 pub const HEAD: usize = HIGHS + MAX_ACTIONS;
@@ -96,21 +96,21 @@ pub fn arity_of(head: &Head, relation: u8) -> u8
 }
 
 // A byte of a component: its relation, then its labels.
-pub fn part_byte(head: &Head, c: usize, i: usize) -> u8
+pub fn component_byte(head: &Head, c: usize, i: usize) -> u8
     requires { ⌜ (c < maxComponents) × (i < 8) ⌝ }
-    ensures { λ r. ⌜ r ≡ getD (partIn (now (head .entry)) c) i 0 ⌝ }
+    ensures { λ r. ⌜ r ≡ getD (componentRowIn (now (head .entry)) c) i 0 ⌝ }
 {
     head[PARTS + 8 * c + i]
 }
 
 // Whether a component has this relation.
 pub fn is_used(head: &Head, relation: u8) -> bool
-    ensures { λ r. ⌜ r ≡ any (λ row. eqb relation (byte row 0)) (partsIn (now (head .entry))) ⌝ }
+    ensures { λ r. ⌜ r ≡ any (λ row. eqb relation (byte row 0)) (componentRowsIn (now (head .entry))) ⌝ }
 {
     let n = components_in(head);
     let mut c = 0;
     while c < n {
-        if part_byte(head, c, 0) == relation {
+        if component_byte(head, c, 0) == relation {
             return true;
         }
         c += 1;

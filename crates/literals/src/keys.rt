@@ -1,9 +1,9 @@
 // Key tuples: the component of a relation, and what a literal or a fact has under its keys.
 use super::Key;
 use super::head::Head;
+use super::head::component_byte;
 use super::head::components_in;
 use super::head::keys_in;
-use super::head::part_byte;
 use super::is_key;
 use super::label_of;
 use super::limits::MAX_ARGUMENTS;
@@ -15,7 +15,7 @@ ghost use lib.Dec.{eqb};
 ghost use lib.ListN.{length, getD, take, drop};
 ghost use Rattle.literals.specs.Decode.{maxComponents, byte};
 ghost use Rattle.literals.specs.Domain.{key};
-ghost use Rattle.literals.specs.Held.{componentsIn, keysIn, partIn, partsIn};
+ghost use Rattle.literals.specs.Held.{componentsIn, keysIn, componentRowIn, componentRowsIn};
 ghost use Rattle.literals.specs.Keys.{position, placeUnder, argumentAt, keyRow, keyWord, PlacesOf};
 
 // 8 bytes for each component: the place of the argument under each of its keys.
@@ -23,12 +23,12 @@ pub type KeyPlaces = [u8; 8 * MAX_COMPONENTS];
 
 // The number of the first component with this relation, or how many components there are.
 pub fn component_of(head: &Head, relation: u8) -> usize
-    ensures { λ r. ⌜ r ≡ position (λ row. eqb relation (byte row 0)) (partsIn (now (head .entry))) ⌝ }
+    ensures { λ r. ⌜ r ≡ position (λ row. eqb relation (byte row 0)) (componentRowsIn (now (head .entry))) ⌝ }
 {
     let n = components_in(head);
     let mut c = 0;
     while c < n {
-        if part_byte(head, c, 0) == relation {
+        if component_byte(head, c, 0) == relation {
             return c;
         }
         c += 1;
@@ -39,11 +39,11 @@ pub fn component_of(head: &Head, relation: u8) -> usize
 // The place of the argument under a key of the component `c`, or how many arguments there may be.
 fn place_under(head: &Head, c: usize, k: Key) -> usize
     requires { ⌜ c < maxComponents ⌝ }
-    ensures { λ r. ⌜ r ≡ placeUnder k (partIn (now (head .entry)) c) ⌝ }
+    ensures { λ r. ⌜ r ≡ placeUnder k (componentRowIn (now (head .entry)) c) ⌝ }
 {
     let mut i = 0;
     while i < MAX_ARGUMENTS {
-        let label = label_of(part_byte(head, c, i + 1));
+        let label = label_of(component_byte(head, c, i + 1));
         if is_key(k, label) {
             return i;
         }
@@ -66,7 +66,7 @@ fn argument_byte(rows: &[u8], at: usize, place: usize) -> u8
 // The key tuple of the row at `at` under the component `c`.
 pub fn key_tuple(head: &Head, c: usize, rows: &[u8], at: usize) -> [u8; 8]
     requires { ⌜ (c < maxComponents) × (at + 8 ≤ length (now rows)) ⌝ }
-    ensures { λ r. ⌜ r ≡ keyRow (keysIn (now (head .entry))) (partIn (now (head .entry)) c) (take 8 (drop at (now (rows .entry)))) ⌝ }
+    ensures { λ r. ⌜ r ≡ keyRow (keysIn (now (head .entry))) (componentRowIn (now (head .entry)) c) (take 8 (drop at (now (rows .entry)))) ⌝ }
 {
     let mut t = [255u8; 8];
     for k in 0..keys_in(head) {
@@ -80,7 +80,7 @@ pub fn key_tuple(head: &Head, c: usize, rows: &[u8], at: usize) -> [u8; 8]
 fn put_component_places(head: &Head, c: usize, places: &mut [u8])
     requires { ⌜ (c < maxComponents) × (length (now places) ≡ 8 * maxComponents) ⌝ }
     ensures own { λ _. ⌜ ((k : ℕ) → k < keysIn (now (head .entry))
-        → getD (now (places .exit)) (8 * c + k) 0 ≡ placeUnder (key k) (partIn (now (head .entry)) c)) ⌝ }
+        → getD (now (places .exit)) (8 * c + k) 0 ≡ placeUnder (key k) (componentRowIn (now (head .entry)) c)) ⌝ }
     ensures before { λ _. ⌜ ((i : ℕ) → i < 8 * c → getD (now (places .exit)) i 0 ≡ getD (now (places .entry)) i 0) ⌝ }
 {
     for k in 0..keys_in(head) {
@@ -103,7 +103,7 @@ pub fn put_places(head: &Head, places: &mut [u8])
 pub fn key_word(head: &Head, places: &KeyPlaces, c: usize, rows: &[u8], at: usize) -> u64
     requires places { ⌜ PlacesOf (now head) (now places) ⌝ }
     requires row { ⌜ (c < componentsIn (now head)) × (at + 8 ≤ length (now rows)) ⌝ }
-    ensures { λ r. ⌜ r ≡ keyWord (keysIn (now (head .entry))) (partIn (now (head .entry)) c) (take 8 (drop at (now (rows .entry)))) ⌝ }
+    ensures { λ r. ⌜ r ≡ keyWord (keysIn (now (head .entry))) (componentRowIn (now (head .entry)) c) (take 8 (drop at (now (rows .entry)))) ⌝ }
 {
     let mut word: u64 = 0;
     for k in 0..keys_in(head) {

@@ -9,9 +9,9 @@ pub mod span;
 
 ghost use mathlib.Core.Path.{_≡_};
 ghost use Prim.Native.Nat.{_<_};
-ghost use Rattle.literals.specs.Domain.{clauseOf, roleOf, clauseNumber, firstRole, sameTime, isKey, isCounted};
+ghost use Rattle.literals.specs.Domain.{usageOf, roleOf, usageNumber, firstRole, sameTime, isKey, isCounted};
 ghost use Rattle.literals.specs.Decode.{labelOf};
-ghost use Rattle.literals.specs.Keys.{clauseFor};
+ghost use Rattle.literals.specs.Keys.{usageFor};
 ghost use Rattle.literals.specs.Matching.{momentNumber};
 ghost use Rattle.literals.specs.Table.{conditionGroup, roleRank};
 
@@ -42,7 +42,7 @@ pub enum Time {
 }
 
 // What a literal is there: true condition, false condition, add, delete.
-pub enum Clause {
+pub enum Usage {
     Positive,
     Negative,
     Add,
@@ -51,7 +51,7 @@ pub enum Clause {
 
 pub struct Role {
     pub time: Time,
-    pub clause: Clause,
+    pub usage: Usage,
 }
 
 // What stops a record: its number, and how far behind the record's start the fault stands, 0 for the record itself. Number 0 where
@@ -99,14 +99,14 @@ pub fn is_counted(label: Label) -> bool
     }
 }
 
-fn clause_of(n: u8) -> Clause
-    ensures { λ r. ⌜ r ≡ clauseOf n ⌝ }
+fn usage_of(n: u8) -> Usage
+    ensures { λ r. ⌜ r ≡ usageOf n ⌝ }
 {
     match n {
-        0 => Clause::Positive,
-        1 => Clause::Negative,
-        2 => Clause::Add,
-        _ => Clause::Delete,
+        0 => Usage::Positive,
+        1 => Usage::Negative,
+        2 => Usage::Add,
+        _ => Usage::Delete,
     }
 }
 
@@ -117,29 +117,29 @@ pub fn role_of(role: u8) -> Role
     match role {
         0..=3 => Role {
             time: Time::AtStart,
-            clause: clause_of(role),
+            usage: usage_of(role),
         },
         4..=5 => Role {
             time: Time::OverAll,
-            clause: clause_of(role - 4),
+            usage: usage_of(role - 4),
         },
         _ => Role {
             time: Time::AtEnd,
-            clause: clause_of(role - 6),
+            usage: usage_of(role - 6),
         },
     }
 }
 
-// The number of a clause: the role byte that it has at the start.
-pub fn clause_number(c: Clause) -> u8
-    ensures number { λ r. ⌜ r ≡ clauseNumber c ⌝ }
+// The number of a usage: the role byte that it has at the start.
+pub fn usage_number(c: Usage) -> u8
+    ensures number { λ r. ⌜ r ≡ usageNumber c ⌝ }
     ensures few { λ r. ⌜ r < 4 ⌝ }
 {
     match c {
-        Clause::Positive => 0,
-        Clause::Negative => 1,
-        Clause::Add => 2,
-        Clause::Delete => 3,
+        Usage::Positive => 0,
+        Usage::Negative => 1,
+        Usage::Add => 2,
+        Usage::Delete => 3,
     }
 }
 
@@ -160,15 +160,15 @@ pub fn same_time(t: Time, u: Time) -> bool
     first_role(t) == first_role(u)
 }
 
-// The clause of a role byte at a time: 1 to 4 for a true condition, false condition, add or delete there, 0 for a role of another time.
-pub fn clause_for(time: Time, role: u8) -> u8
-    ensures { λ r. ⌜ r ≡ clauseFor time role ⌝ }
+// The usage of a role byte at a time: 1 to 4 for a true condition, false condition, add or delete there, 0 for a role of another time.
+pub fn usage_for(time: Time, role: u8) -> u8
+    ensures { λ r. ⌜ r ≡ usageFor time role ⌝ }
 {
     let sorted = role_of(role);
     let when = sorted.time;
     if same_time(time, when) {
-        let clause = sorted.clause;
-        return clause_number(clause) + 1;
+        let usage = sorted.usage;
+        return usage_number(usage) + 1;
     }
     0
 }

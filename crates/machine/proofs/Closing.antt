@@ -10,21 +10,21 @@ use borrow.Author.Tests.{ne-eqb, lt-ltb, le-ltb, ltb-true, leb-true, leb-false}
 use Rattle.records.specs.Lists.{In, filterBy, all, elem}
 use Rattle.records.specs.Memory.{over}
 use Rattle.records.proofs.Lists.{or-l, or-r}
-use Rattle.literals.specs.declared.Clause.the-variants.{Delete}
+use Rattle.literals.specs.declared.Usage.the-variants.{Delete}
 use Rattle.literals.specs.Domain.{Fact, sameFact, Domain}
 use Rattle.literals.specs.Table.{rowsIn, Bounded}
 use Rattle.verdict.specs.Judged.{factBytes}
 use Rattle.verdict.specs.Machine.{GroundAction, Event, State, isOpen, ownHold, overAllHold, independent, stepFacts, factsAfter, closeAll, openedBy, next, topWeight}
 use Rattle.store.specs.Index.{Indexed}
-use Rattle.events.specs.Coded.{Open}
-use Rattle.events.specs.Coded.{Waiting}
-use Rattle.runs.specs.RunFile.{maxFacts, maxRunning}
-use Rattle.runs.specs.Play.{forbidden, tooLarge, heldBytes}
-use Rattle.runs.proofs.Allowed.{forbidden-by-own}
+use Rattle.events.specs.Held.{Open}
+use Rattle.events.specs.Held.{Waiting}
+use Rattle.run_semantics.specs.RunFile.{maxFacts, maxRunning}
+use Rattle.run_semantics.specs.Play.{forbidden, tooLarge, heldBytes}
+use Rattle.run_semantics.proofs.Allowed.{forbidden-by-own}
 use Rattle.store.specs.Rows.{factRow, topFrom, FactFits}
-use Rattle.events.specs.Coded.{openOf, waitingOf}
-use Rattle.effects.specs.Effects.{atMost}
-use Rattle.machine.specs.Stepping.{StateRows, stateOf, Kept, closeStop, closeState, closeWaiting, closeWeight, stateThen, Leaves}
+use Rattle.events.specs.Held.{openOf, waitingOf}
+use Rattle.effects.specs.Held.{atMost}
+use Rattle.machine.specs.Held.{StateRows, stateOf, Kept, closeStop, closeState, closeWaiting, closeWeight, stateThen, Leaves}
 use Rattle.machine.proofs.HeldBytes.{fits-few, held-settled, work-rows}
 use Rattle.machine.proofs.TopWeights.{top-after}
 use Rattle.machine.proofs.NextKept.{kept-next}

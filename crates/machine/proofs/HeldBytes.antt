@@ -14,12 +14,12 @@ use Rattle.literals.proofs.Tables.{length-flat, rows-flat}
 use Rattle.verdict.specs.Judged.{objectNumbers, factBytes}
 use Rattle.records.specs.Lists.{In}
 use Rattle.verdict.specs.Machine.{Event, State}
-use Rattle.runs.specs.RunFile.{maxFacts}
-use Rattle.runs.specs.Play.{workBytes, heldBytes}
+use Rattle.run_semantics.specs.RunFile.{maxFacts}
+use Rattle.run_semantics.specs.Play.{workBytes, heldBytes}
 use Rattle.store.specs.Rows.{factRow, Few, FactFits}
-use Rattle.machine.specs.Stepping.{StateRows, stateOf, Kept}
+use Rattle.machine.specs.Held.{StateRows, stateOf, Kept}
 use Rattle.events.proofs.FactRows.{length-fact-row}
-use Rattle.effects.specs.Effects.{Once}
+use Rattle.effects.specs.Held.{Once}
 use Rattle.effects.proofs.StepFacts.{once-facts}
 
 -- facts of the domain have room in a row

@@ -9,7 +9,7 @@ use lib.ListN.{length, length-map}
 use borrow.Author.Tests.{ltb-false}
 use Rattle.records.specs.Lists.{In}
 use Rattle.records.proofs.Lists.{or-out, in-keepIf, getD-in}
-use Rattle.literals.specs.declared.Clause.the-variants.{Add}
+use Rattle.literals.specs.declared.Usage.the-variants.{Add}
 use Rattle.literals.specs.Domain.{Fact, Domain, noAction, action}
 use Rattle.literals.specs.Table.{Bounded}
 use Rattle.literals.specs.Matching.{literalsAt}
@@ -19,11 +19,11 @@ use Rattle.classes.proofs.Roles.{literalsAt-in}
 use Rattle.verdict.proofs.Steps.{After}
 use Rattle.verdict.proofs.Events.{after-in}
 use Rattle.verdict.proofs.Weight.{distinct-after}
-use Rattle.runs.specs.RunFile.{maxFacts, maxRunning}
-use Rattle.runs.specs.Play.{tooLarge}
+use Rattle.run_semantics.specs.RunFile.{maxFacts, maxRunning}
+use Rattle.run_semantics.specs.Play.{tooLarge}
 use Rattle.store.specs.Rows.{FactFits}
-use Rattle.events.specs.Coded.{GroundFits, GroundsFit, EventsFit}
-use Rattle.machine.specs.Stepping.{Kept}
+use Rattle.events.specs.Held.{GroundFits, GroundsFit, EventsFit}
+use Rattle.machine.specs.Held.{Kept}
 use Rattle.events.proofs.Members.{map-in, closed-in}
 
 -- ---- the machine's next state is of the domain too

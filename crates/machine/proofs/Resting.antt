@@ -14,11 +14,11 @@ use Rattle.records.proofs.Lists.{filter-all}
 use Rattle.literals.specs.Domain.{Fact, sameFact, Domain}
 use Rattle.verdict.specs.Machine.{Event, State, overAllHold, stepFacts, factsAfter, next, topWeight}
 use Rattle.store.specs.Index.{noteAt, factIndex, Indexed}
-use Rattle.runs.specs.RunFile.{maxFacts, maxRunning}
-use Rattle.runs.specs.Play.{tooLarge, heldBytes}
+use Rattle.run_semantics.specs.RunFile.{maxFacts, maxRunning}
+use Rattle.run_semantics.specs.Play.{tooLarge, heldBytes}
 use Rattle.store.specs.Rows.{factRow}
-use Rattle.events.specs.Coded.{waitingOf}
-use Rattle.machine.specs.Stepping.{StateRows, stateOf, Kept, Noted, closeStop, closeState, closeWaiting, closeWeight, Leaves}
+use Rattle.events.specs.Held.{waitingOf}
+use Rattle.machine.specs.Held.{StateRows, stateOf, Kept, Noted, closeStop, closeState, closeWaiting, closeWeight, Leaves}
 use Rattle.machine.proofs.Closing.{not-kept, nothing-forbids}
 
 none-struck : (fs : List Fact) → all (λ (f : Fact). not (elem sameFact f [])) fs ≡ true

@@ -11,8 +11,8 @@ use Rattle.records.proofs.Memory.{over-paste, drop-replicate}
 use Rattle.literals.specs.Domain.{Fact}
 use Rattle.literals.proofs.Tables.{length-flat}
 use Rattle.verdict.specs.Judged.{factBytes}
-use Rattle.runs.specs.RunFile.{maxFacts}
-use Rattle.runs.specs.Play.{workBytes, heldBytes}
+use Rattle.run_semantics.specs.RunFile.{maxFacts}
+use Rattle.run_semantics.specs.Play.{workBytes, heldBytes}
 use Rattle.store.specs.Rows.{factRow, Few}
 use Rattle.events.proofs.FactRows.{length-fact-row}
 use Rattle.machine.proofs.HeldBytes.{bytes-flat}

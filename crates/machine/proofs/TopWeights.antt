@@ -9,7 +9,7 @@ use lib.Seq.{drop-at}
 use Rattle.records.specs.Lists.{In, addIf, keepIf, filterBy, countBy, elem, dedup}
 use Rattle.records.proofs.Lists.{count-append, count-some, in-flatMap}
 use Rattle.literals.specs.declared.Object.{Object}
-use Rattle.literals.specs.declared.Clause.the-variants.{Add, Delete}
+use Rattle.literals.specs.declared.Usage.the-variants.{Add, Delete}
 use Rattle.literals.specs.Domain.{Fact, sameFact, Domain}
 use Rattle.literals.specs.Matching.{tuplesOf, matches}
 use Rattle.verdict.specs.Machine.{Event, stepFacts, factsAfter, weight, instancesIn, largest, topWeight}

@@ -1,2 +1,2 @@
 -- The step's close, as the code holds it.
-pub mod Stepping
+pub mod Held

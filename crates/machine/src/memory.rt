@@ -6,7 +6,7 @@ use events::AGENDA;
 use records::bytes::put_bytes;
 ghost use mathlib.Core.Path.{_≡_};
 ghost use lib.ListN.{length};
-ghost use Rattle.events.specs.Coded.{agendaBytes};
+ghost use Rattle.events.specs.Held.{agendaBytes};
 
 impl State {
     // The state with these counts and the agenda of this memory.

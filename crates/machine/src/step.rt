@@ -29,14 +29,14 @@ ghost use Rattle.literals.specs.Table.{rowsIn};
 ghost use Rattle.literals.specs.Held.{Held};
 ghost use Rattle.verdict.specs.Machine.{Event, State as MachineState, topWeight};
 ghost use Rattle.store.specs.Index.{noteAt, Indexed};
-ghost use Rattle.runs.specs.RunFile.{maxFacts};
-ghost use Rattle.runs.specs.Play.{forbidden};
+ghost use Rattle.run_semantics.specs.RunFile.{maxFacts};
+ghost use Rattle.run_semantics.specs.Play.{forbidden};
 ghost use Rattle.store.specs.Rows.{factRow};
-ghost use Rattle.events.specs.Coded.{agendaBytes, openIn, openOf};
+ghost use Rattle.events.specs.Held.{agendaBytes, openIn, openOf};
 ghost use Rattle.events.specs.Grounding.{maxGround, groundedBytes, Grounded};
-ghost use Rattle.effects.specs.Effects.{scratchBytes, literalsIn};
-ghost use Rattle.machine.specs.Stepping.{stateIn, stateOf, Kept, StepHeld, Noted, Closable, closeStop};
-ghost use Rattle.machine.specs.Stepping.{closeState, stateThen, Leaves};
+ghost use Rattle.effects.specs.Held.{scratchBytes, literalsIn};
+ghost use Rattle.machine.specs.Held.{stateIn, stateOf, Kept, StepHeld, Noted, Closable, closeStop};
+ghost use Rattle.machine.specs.Held.{closeState, stateThen, Leaves};
 
 // What closing a step led to: 0 and the state after it, or the number that refuses it and the state as it was; and the highest weight.
 pub struct Closed {

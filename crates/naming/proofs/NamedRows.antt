@@ -20,15 +20,15 @@ use Rattle.literals.proofs.Heads.{literals-after}
 use Rattle.literals.specs.declared.Moment.the-variants.{Start, End}
 use Rattle.classes.specs.declared.Name.{Name}
 use Rattle.classes.specs.Classes.{momentsOf, nameNumber, classes, nameOf, journey}
-use Rattle.classes.specs.Coded.{MomentOf, classNumbers, numbersOf, askedAt, soleAt, reachAt}
+use Rattle.classes.specs.Held.{MomentOf, classNumbers, numbersOf, askedAt, soleAt, reachAt}
 use Rattle.naming.specs.declared.Naming.{Naming}
 use Rattle.verdict.specs.declared.Summary.{Summary}
 use Rattle.verdict.specs.declared.Notes.{Notes}
 use Rattle.verdict.specs.Decision.{Row, rowAt, rowsOfClasses, rowsFrom, rows}
 use Rattle.verdict.specs.Claims.{wellFormed}
 use Rattle.verdict.specs.Summaries.{summaryRows, summaryOf, notesOf}
-use Rattle.verdict.specs.Coded.{rowFor}
-use Rattle.naming.specs.Named.{nameBytes, classCounts, EndOf, Listed, Named, namingOf}
+use Rattle.verdict.specs.Held.{rowFor}
+use Rattle.naming.specs.Held.{nameBytes, classCounts, EndOf, Listed, Named, namingOf}
 
 -- ---- one class or one action more
 
@@ -224,7 +224,7 @@ module _ (D : Domain) where
 
 -- ---- where the loops of naming stand
 
--- which literal of a class is asked as a true condition at the end, by the clauses of what is asked there
+-- which literal of a class is asked as a true condition at the end, by the usages of what is asked there
 pub reach-is : (D : Domain) (a : Action) {numbers asked : List ℕ} → numbers ≡ classNumbers D a → asked ≡ pad 64 (askedAt a End) → (k : ℕ) → soleAt numbers asked k 1 ≡ reachAt D a End k
 unfolding reachAt
 reach-is D a f g k = ap₂ (λ (o c : List ℕ). soleAt o c k 1) f g

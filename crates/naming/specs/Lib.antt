@@ -1,2 +1,2 @@
 -- How the code holds the names of all moments.
-pub mod Named
+pub mod Held

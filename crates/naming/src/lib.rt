@@ -6,11 +6,11 @@ use classes::Marks;
 use classes::Name;
 use classes::Soles;
 use classes::name_number;
-use classes::names::clauses_at;
 use classes::names::is_journey;
 use classes::names::name_at;
 use classes::names::sole_in;
 use classes::names::tally;
+use classes::names::usages_at;
 use classes::number::number_classes;
 use literals::Moment;
 use literals::head::Head;
@@ -37,12 +37,12 @@ ghost use Rattle.literals.specs.Held.{Held, Read};
 ghost use Rattle.literals.specs.Keys.{PlacesOf};
 ghost use Rattle.literals.specs.declared.Moment.the-variants.{Start, End};
 ghost use Rattle.classes.specs.Classes.{momentsOf, classes, nameOf, journey};
-ghost use Rattle.classes.specs.Coded.{ActionOf, MomentOf, Sides, classNumbers, numbersOf};
+ghost use Rattle.classes.specs.Held.{ActionOf, MomentOf, Sides, classNumbers, numbersOf};
 ghost use Rattle.verdict.specs.Decision.{Row, rowAt, rowsOfClasses, rows};
 ghost use Rattle.verdict.specs.Claims.{wellFormed};
 ghost use Rattle.verdict.specs.Summaries.{summaryOf};
-ghost use Rattle.verdict.specs.Coded.{rowFor};
-ghost use Rattle.naming.specs.Named.{nameBytes, classCounts, SolesIn, EndOf, Listed, Named, namingOf};
+ghost use Rattle.verdict.specs.Held.{rowFor};
+ghost use Rattle.naming.specs.Held.{nameBytes, classCounts, SolesIn, EndOf, Listed, Named, namingOf};
 
 // How many classes each action has.
 pub type ClassCounts = [u8; MAX_ACTIONS];
@@ -80,7 +80,7 @@ pub struct NamedDomain {
     pub notes: Notes,
 }
 
-// The names of a class, by the clauses of the action's literals at its start and at its end, and by the true conditions and the adds of
+// The names of a class, by the usages of the action's literals at its start and at its end, and by the true conditions and the adds of
 // each class there. (At an end, a true condition over all is asked too.)
 fn name_class(
     head: &Head,
@@ -191,7 +191,7 @@ impl Naming {
 }
 
 impl Numbered {
-    // Names the rows of its classes, by the clauses of its literals at both moments and by what each class has there.
+    // Names the rows of its classes, by the usages of its literals at both moments and by what each class has there.
     fn name_each(
         self,
         head: &Head,
@@ -244,12 +244,12 @@ impl Numbered {
         let mut soles = [0u8; 5 * MAX_LITERALS];
         let mut at_start = [0u8; MAX_LITERALS];
         tally(rows, numbers, &mut soles);
-        clauses_at(false, rows, n, Moment::Start, &mut at_start);
+        usages_at(false, rows, n, Moment::Start, &mut at_start);
         if !self.lasting {
             return self.name_each(head, rows, numbers, &at_start, &at_start, &soles, names);
         }
         let mut at_end = [0u8; MAX_LITERALS];
-        clauses_at(false, rows, n, Moment::End, &mut at_end);
+        usages_at(false, rows, n, Moment::End, &mut at_end);
         self.name_each(head, rows, numbers, &at_start, &at_end, &soles, names)
     }
 }

@@ -10,5 +10,5 @@ fn main() {
     let n = os::arg(1, &mut domain);
     let mut run = io::buffer();
     let m = os::arg(2, &mut run);
-    playing::play_named(&domain[..n], &run[..m]);
+    print_run::play_named(&domain[..n], &run[..m]);
 }

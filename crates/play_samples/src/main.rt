@@ -10,7 +10,7 @@ fn play_pair(domain_at: usize, run_at: usize) {
     io::write_all(STDOUT_FILENO, b" ");
     io::write_all(STDOUT_FILENO, &run[..m]);
     io::write_all(STDOUT_FILENO, b"\n");
-    playing::play_named(&domain[..n], &run[..m]);
+    print_run::play_named(&domain[..n], &run[..m]);
 }
 
 fn main() {

@@ -13,10 +13,10 @@ use Rattle.literals.specs.Decode.{byte}
 use Rattle.literals.specs.Held.{arityIn, HeadOf}
 use Rattle.verdict.specs.Machine.{Event, State, next, topWeight}
 use Rattle.store.specs.Index.{noteAt, factIndex, totalAt, Indexed}
-use Rattle.runs.specs.RunFile.{RunKind, objectsRecord, factRecord, eventRecord, stepRecord, endRecord, otherRecord, runKindOf, factOf, eventOf, maxFacts, objectsStop, factStop, eventStop, stepStop, endStop}
-use Rattle.runs.specs.Play.{Playing, PlayTurn, goOn, finish, stopAt, unless, begin, withObjects, withFact, withEvent, withClose, beforeRun, tooLarge, forbidden, afterStep, closeStep, playRecord}
+use Rattle.run_semantics.specs.RunFile.{RunKind, objectsRecord, factRecord, eventRecord, stepRecord, endRecord, otherRecord, runKindOf, factOf, eventOf, maxFacts, objectsStop, factStop, eventStop, stepStop, endStop}
+use Rattle.run_semantics.specs.Play.{Playing, PlayTurn, goOn, finish, stopAt, unless, begin, withObjects, withFact, withEvent, withClose, beforeRun, tooLarge, forbidden, afterStep, closeStep, playRecord}
 use Rattle.store.specs.Rows.{factRow}
-use Rattle.machine.specs.Stepping.{Noted, closeStop, closeState}
+use Rattle.machine.specs.Held.{Noted, closeStop, closeState}
 use Rattle.machine.proofs.Resting.{indexed-set, noted-anew, unset}
 use Rattle.player.specs.Player.{WholeTurn as Turn, LeadsTo, NotedAfter}
 use Rattle.player.proofs.Sound.{fact-taken}

@@ -15,12 +15,12 @@ use Rattle.player.specs.declared.run.Ended.{Ended}
 use Rattle.player.specs.declared.play.Fault.{Fault}
 use Rattle.player.specs.declared.play.Fault.the-variants.{Domain as InDomain, Run as InRun}
 use Rattle.player.specs.declared.play.PlayAnswer.{PlayAnswer}
-use Rattle.runs.specs.RunFile.{entriesBefore}
-use Rattle.runs.specs.Play.{workBytes, Outcome, placeOf, heldBytes, playRun, Returned, ofDomain, ofRun, Call, outcomeCall, callBy, call, played, workAfter, returned, returnedBytes}
-use Rattle.runs.specs.Claims.{finalOf, AsMachine, PlaysAsMachine, StaysLow}
+use Rattle.run_semantics.specs.RunFile.{entriesBefore}
+use Rattle.run_semantics.specs.Play.{workBytes, Outcome, placeOf, heldBytes, playRun, Returned, ofDomain, ofRun, Call, outcomeCall, callBy, call, played, workAfter, returned, returnedBytes}
+use Rattle.run_semantics.specs.Claims.{finalOf, AsMachine, PlaysAsMachine, StaysLow}
 use Rattle.player.specs.Player.{endedOf}
 use Rattle.player.specs.Called.{faultOf, fileOf, offsetOf, faultFile, faultOffset, partAt, answerOf, answerBy, answerUnplayed}
-use Rattle.runs.proofs.Never.{played-as-machine, weight-stays-low}
+use Rattle.run_semantics.proofs.Never.{played-as-machine, weight-stays-low}
 
 -- ---- the answer of a run
 

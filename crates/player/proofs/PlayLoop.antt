@@ -13,10 +13,10 @@ use Rattle.literals.specs.Held.{Read}
 use Rattle.verdict.specs.Judged.{factBytes}
 use Rattle.player.specs.declared.run.Ended.{Ended}
 use Rattle.store.specs.Index.{factIndex}
-use Rattle.runs.specs.Play.{workBytes, Playing, beforeRun, Outcome, PlayTurn, goOn, finish, heldBytes, playStep, playFrom, playRun}
-use Rattle.machine.specs.Stepping.{Noted}
+use Rattle.run_semantics.specs.Play.{workBytes, Playing, beforeRun, Outcome, PlayTurn, goOn, finish, heldBytes, playStep, playFrom, playRun}
+use Rattle.machine.specs.Held.{Noted}
 use Rattle.player.specs.Player.{Whole as Player, WholeTurn as Turn, playerOf, Stands, LeadsTo, NotedAfter, Playable, endedOf}
-use Rattle.runs.proofs.Loop.{play-more, play-done, play-at}
+use Rattle.run_semantics.proofs.Loop.{play-more, play-done, play-at}
 use Rattle.player.proofs.Sound.{sound-on, sound-new}
 use Rattle.player.proofs.PlayTurns.{at-is}
 use Rattle.player.proofs.NotedTurns.{noted-none}

@@ -19,15 +19,15 @@ use Rattle.literals.specs.Decode.{byte}
 use Rattle.literals.specs.Table.{rowsIn, Bounded}
 use Rattle.literals.proofs.Bounds.{arity-six}
 use Rattle.verdict.specs.Machine.{Event, State, next, topWeight}
-use Rattle.events.specs.Coded.{Waiting}
+use Rattle.events.specs.Held.{Waiting}
 use Rattle.player.specs.declared.Player.{Player as Small}
 use Rattle.player.specs.declared.Tally.{Tally as Held}
-use Rattle.runs.specs.RunFile.{objectsRecord, factRecord, eventRecord, stepRecord, endRecord, otherRecord, runKindOf, factOf, eventOf, objectsStop, factStop, eventStop, stepStop, endStop}
-use Rattle.runs.specs.Play.{playRecord, playFound, playStep, Playing, onward, PlayTurn, goOn, stopAt, startTally, begin, withObjects, joined, withFact, withEvent, withClose, unless, forbidden, tooLarge, afterStep, closeStep, heldBytes}
+use Rattle.run_semantics.specs.RunFile.{objectsRecord, factRecord, eventRecord, stepRecord, endRecord, otherRecord, runKindOf, factOf, eventOf, objectsStop, factStop, eventStop, stepStop, endStop}
+use Rattle.run_semantics.specs.Play.{playRecord, playFound, playStep, Playing, onward, PlayTurn, goOn, stopAt, startTally, begin, withObjects, joined, withFact, withEvent, withClose, unless, forbidden, tooLarge, afterStep, closeStep, heldBytes}
 use Rattle.store.specs.Rows.{factRow, hasRow, Few}
-use Rattle.events.specs.Coded.{entriesIn, openIn, waitingIn, waitingOf}
+use Rattle.events.specs.Held.{entriesIn, openIn, waitingIn, waitingOf}
 use Rattle.machine.specs.declared.Counts.{Counts}
-use Rattle.machine.specs.Stepping.{StateRows, stateOf, stateIn, closeStop, closeState, closeWaiting, closeWeight, Leaves}
+use Rattle.machine.specs.Held.{StateRows, stateOf, stateIn, closeStop, closeState, closeWaiting, closeWeight, Leaves}
 use Rattle.player.specs.Player.{Whole as Player, WholeTurn as Turn, wholeIn, tallyOf, playerOf, Stands, LeadsTo, NotedAfter}
 use Rattle.events.proofs.FactRows.{has-fact}
 use Rattle.machine.proofs.HeldBytes.{fits-few, state-rows}

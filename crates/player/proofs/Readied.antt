@@ -9,10 +9,10 @@ use Rattle.records.proofs.Memory.{length-over}
 use Rattle.literals.specs.Domain.{Domain}
 use Rattle.literals.specs.Table.{Bounded}
 use Rattle.literals.specs.Held.{HeadOf}
-use Rattle.runs.specs.RunFile.{maxFacts}
-use Rattle.runs.specs.Play.{workBytes, Playing, begin, heldBytes}
-use Rattle.events.specs.Coded.{openOf, waitingOf}
-use Rattle.machine.specs.Stepping.{StateRows, Closable, Noted}
+use Rattle.run_semantics.specs.RunFile.{maxFacts}
+use Rattle.run_semantics.specs.Play.{workBytes, Playing, begin, heldBytes}
+use Rattle.events.specs.Held.{openOf, waitingOf}
+use Rattle.machine.specs.Held.{StateRows, Closable, Noted}
 use Rattle.player.specs.Player.{Whole as Player, playerOf, Stands, Playable}
 use Rattle.machine.proofs.HeldBytes.{fits-few, length-held, state-once}
 use Rattle.player.proofs.Sound.{sound-begin}

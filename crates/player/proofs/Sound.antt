@@ -21,12 +21,12 @@ use Rattle.literals.specs.Matching.{momentNumber}
 use Rattle.verdict.specs.Machine.{Event, State, next, topWeight}
 use Rattle.verdict.proofs.Events.{not-fact}
 use Rattle.verdict.proofs.Weight.{distinct-append}
-use Rattle.runs.proofs.Stops.{eventTests}
-use Rattle.runs.specs.RunFile.{RunKind, objectsRecord, factRecord, eventRecord, stepRecord, endRecord, otherRecord, runKindOf, factOf, momentOf, eventOf, maxObjects, maxFacts, maxEvents, outside, objectsStop, factStop, eventStop, stepStop, endStop}
-use Rattle.runs.specs.Play.{Tally, Playing, beforeRun, onward, PlayTurn, goOn, finish, stopAt, begin, withObjects, joined, withFact, withEvent, forbidden, tooLarge, afterStep, closeStep, withClose, unless, playRecord, playFound, playStep}
+use Rattle.run_semantics.proofs.Stops.{eventTests}
+use Rattle.run_semantics.specs.RunFile.{RunKind, objectsRecord, factRecord, eventRecord, stepRecord, endRecord, otherRecord, runKindOf, factOf, momentOf, eventOf, maxObjects, maxFacts, maxEvents, outside, objectsStop, factStop, eventStop, stepStop, endStop}
+use Rattle.run_semantics.specs.Play.{Tally, Playing, beforeRun, onward, PlayTurn, goOn, finish, stopAt, begin, withObjects, joined, withFact, withEvent, forbidden, tooLarge, afterStep, closeStep, withClose, unless, playRecord, playFound, playStep}
 use Rattle.store.specs.Rows.{FactFits}
-use Rattle.events.specs.Coded.{GroundFits}
-use Rattle.machine.specs.Stepping.{Kept}
+use Rattle.events.specs.Held.{GroundFits}
+use Rattle.machine.specs.Held.{Kept}
 use Rattle.player.specs.Player.{Sound}
 use Rattle.events.proofs.Members.{map-in}
 use Rattle.run_fields.proofs.RunFields.{byte-moment}

@@ -5,7 +5,7 @@ use lib.ListN.{drop}
 use Rattle.player.specs.declared.play.Fault.{Fault}
 use Rattle.player.specs.declared.play.Fault.the-variants.{Domain as InDomain, Run as InRun}
 use Rattle.player.specs.declared.play.PlayAnswer.{PlayAnswer}
-use Rattle.runs.specs.Play.{Outcome, placeOf, Returned, ofDomain, ofRun, Call}
+use Rattle.run_semantics.specs.Play.{Outcome, placeOf, Returned, ofDomain, ofRun, Call}
 
 -- "a part of the domain file or of the run file, from that record to the end"
 abbrev pub faultOf : Returned → Fault

@@ -13,11 +13,11 @@ use Rattle.player.specs.declared.Player.{Player}
 use Rattle.player.specs.declared.Tally.{Tally}
 use Rattle.player.specs.declared.Turn.{Turn}
 use Rattle.player.specs.declared.run.Ended.{Ended}
-use Rattle.runs.specs.RunFile.{maxObjects}
-use Rattle.runs.specs.Play.{workBytes, Tally as Counted, Playing, PlayTurn, goOn, finish, Outcome, heldBytes}
-use Rattle.events.specs.Coded.{agendaBytes, openOf, waitingOf}
-use Rattle.effects.specs.Effects.{scratchBytes}
-use Rattle.machine.specs.Stepping.{StateRows, stateOf, stateIn, Kept, Noted}
+use Rattle.run_semantics.specs.RunFile.{maxObjects}
+use Rattle.run_semantics.specs.Play.{workBytes, Tally as Counted, Playing, PlayTurn, goOn, finish, Outcome, heldBytes}
+use Rattle.events.specs.Held.{agendaBytes, openOf, waitingOf}
+use Rattle.effects.specs.Held.{scratchBytes}
+use Rattle.machine.specs.Held.{StateRows, stateOf, stateIn, Kept, Noted}
 
 -- ---- what the code holds
 

@@ -5,8 +5,8 @@ use literals::head::HEAD;
 use reading::domain::read_domain;
 ghost use mathlib.Core.Path.{_≡_};
 ghost use lib.ListN.{getD};
-ghost use Rattle.runs.specs.Play.{Outcome, call, played, workAfter, returned, returnedBytes};
-ghost use Rattle.runs.specs.Claims.{PlaysAsMachine, StaysLow};
+ghost use Rattle.run_semantics.specs.Play.{Outcome, call, played, workAfter, returned, returnedBytes};
+ghost use Rattle.run_semantics.specs.Claims.{PlaysAsMachine, StaysLow};
 ghost use Rattle.player.specs.Player.{endedOf};
 ghost use Rattle.player.specs.Called.{fileOf, offsetOf, faultFile, faultOffset, partAt, answerOf, answerBy, answerUnplayed};
 

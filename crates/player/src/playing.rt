@@ -33,12 +33,12 @@ ghost use lib.ListN.{length, replicate};
 ghost use Rattle.literals.specs.Domain.{Domain};
 ghost use Rattle.literals.specs.Decode.{byte};
 ghost use Rattle.literals.specs.Held.{HeadOf, Held};
-ghost use Rattle.runs.specs.RunFile.{maxEvents, maxFacts, runKindOf, factOf, eventOf, objectsStop, factStop, eventStop, endStop};
-ghost use Rattle.runs.specs.Play.{workBytes, Playing, beforeRun, goOn, unless, begin, withObjects, withFact};
-ghost use Rattle.runs.specs.Play.{withEvent, closeStep, withClose, playRecord, playStep};
-ghost use Rattle.machine.specs.Stepping.{Noted, Closable};
+ghost use Rattle.run_semantics.specs.RunFile.{maxEvents, maxFacts, runKindOf, factOf, eventOf, objectsStop, factStop, eventStop, endStop};
+ghost use Rattle.run_semantics.specs.Play.{workBytes, Playing, beforeRun, goOn, unless, begin, withObjects, withFact};
+ghost use Rattle.run_semantics.specs.Play.{withEvent, closeStep, withClose, playRecord, playStep};
+ghost use Rattle.machine.specs.Held.{Noted, Closable};
 ghost use Rattle.player.specs.Player.{Whole, wholeIn, turnIn, tallyOf, playerOf, Stands, Playable, RunMemory, LeadsTo, NotedAfter};
-ghost use Rattle.events.specs.Coded.{agendaBytes};
+ghost use Rattle.events.specs.Held.{agendaBytes};
 
 impl Tally {
     // The tally from the first record of kind 18 to 20 on: the start is over, and its facts are weighed.

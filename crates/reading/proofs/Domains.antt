@@ -7,7 +7,7 @@ use Rattle.literals.specs.Domain.{Domain}
 use Rattle.literals.specs.Decode.{Decoded, refused, domain, decode}
 use Rattle.literals.specs.Held.{Held, headBytes}
 use Rattle.reading.specs.declared.Refusal.{Refusal as FileRefusal}
-use Rattle.reading.specs.Reading.{ReadAs}
+use Rattle.reading.specs.Held.{ReadAs}
 
 -- the domain of a file that was read, and the memories that hold it
 pub record Opened (f head table : List ℕ) : Type 0 where

@@ -20,7 +20,7 @@ use Rattle.literals.specs.Decode.{headStop, relationStop, actionStop, literalOf
 use Rattle.literals.specs.Decode.{atRecord, componentOf, labelFault, componentFault, componentStop, closingStop}
 use Rattle.literals.specs.Decode.{fieldStop, fieldPlace, stopOf, stopPlace, extend}
 use Rattle.literals.specs.Table.{literalRow, allLiterals, rowsIn, rowsRank}
-use Rattle.literals.specs.Held.{relationsIn, actionsIn, componentsIn, arityIn, partsIn, variablesIn, lastingIn, HeadOf, Held, SpanOf, Filled}
+use Rattle.literals.specs.Held.{relationsIn, actionsIn, componentsIn, arityIn, componentRowsIn, variablesIn, lastingIn, HeadOf, Held, SpanOf, Filled}
 use Rattle.literals.specs.Fields.{literalFields, componentFields}
 use Rattle.literals.proofs.Stops.{outOfOrder, atLimit, faults-split}
 use Rattle.literals.proofs.Bounds.{arity-six}
@@ -28,7 +28,7 @@ use Rattle.literals.proofs.Tables.{any-component, Comparable, kept, length-lite
 use Rattle.literals.proofs.Held.{stop-order, stop-limit, stop-field, place-limit, place-field}
 use Rattle.literals.proofs.Heads.{arity-limit, literals-after}
 use Rattle.literals.proofs.Fills.{latest-at}
-use Rattle.reading.specs.Reading.{behind, HeldOver}
+use Rattle.reading.specs.Held.{behind, HeldOver}
 
 -- ---- the domain behind a record
 
@@ -160,9 +160,9 @@ module _ {D : Domain} {head : List ℕ} (H : HeadOf D head) (p : List ℕ) {n : 
   pub component-fields-stop : (n ≡ 0 → ⊥) → atRecord n ≡ componentFault D p
   component-fields-stop z = ap atRecord component-fields-are ∙ sym (component-split D p ∙ rw (ne-eqb (componentFieldsOf D p) 0 (λ q. z (component-fields-are ∙ q))))
 
-  module _ (z : n ≡ 0) {u : Bool} (f : u ≡ any (λ row. eqb (byte p 0) (byte row 0)) (partsIn head)) where
+  module _ (z : n ≡ 0) {u : Bool} (f : u ≡ any (λ row. eqb (byte p 0) (byte row 0)) (componentRowsIn head)) where
     used-is : u ≡ any (λ (d : Component). eqb (byte p 0) (d .rel)) (D .template)
-    used-is = f ∙ ap (λ (rs : List (List ℕ)). any (λ row. eqb (byte p 0) (byte row 0)) rs) (H .parts) ∙ any-component (byte p 0) (D .template)
+    used-is = f ∙ ap (λ (rs : List (List ℕ)). any (λ row. eqb (byte p 0) (byte row 0)) rs) (H .componentRows) ∙ any-component (byte p 0) (D .template)
 
     pub component-used : u ≡ true → atRecord 22 ≡ componentFault D p
     component-used t = sym (component-split D p ∙ rw (eq-eqb (componentFieldsOf D p) 0 (sym component-fields-are ∙ z), sym used-is ∙ t))

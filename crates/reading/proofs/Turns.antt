@@ -30,7 +30,7 @@ use Rattle.literals.proofs.Loop.{read-more, read-done, payload-length, goOn-at}
 use Rattle.reading.specs.declared.Progress.{Progress}
 use Rattle.reading.specs.declared.Refusal.{Refusal as FileRefusal}
 use Rattle.reading.specs.declared.read.Stepped.{Stepped}
-use Rattle.reading.specs.Reading.{behind, HeldOver, RecordReady, Standing, atStart, LeadsTo, EnoughTable, StepReady, endedOf, tableAfter, ReadAs}
+use Rattle.reading.specs.Held.{behind, HeldOver, RecordReady, Standing, atStart, LeadsTo, EnoughTable, StepReady, endedOf, tableAfter, ReadAs}
 use Rattle.reading.proofs.Takes.{behind-stop, behind-done, held-over}
 use Rattle.reading.proofs.Written.{length-table}
 

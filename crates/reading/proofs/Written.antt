@@ -19,7 +19,7 @@ use Rattle.literals.proofs.Stops.{passes, literal-passes, role-nine}
 use Rattle.literals.proofs.Bounds.{role-number}
 use Rattle.literals.proofs.Tables.{over-row, length-literals}
 use Rattle.literals.proofs.Held.{literals-snoc, literals-more, literals-in}
-use Rattle.reading.specs.Reading.{behind, HeldOver}
+use Rattle.reading.specs.Held.{behind, HeldOver}
 
 not-empty : {A : Type 0} (l : List A) → empty l ≡ false → 0 < length l
 not-empty [] e = absurd (clash refl e)

@@ -1,2 +1,2 @@
 -- How the code reads a domain file.
-pub mod Reading
+pub mod Held

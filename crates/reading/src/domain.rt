@@ -4,7 +4,7 @@ use super::read::read_into;
 use literals::head::HEAD;
 use literals::head::Head;
 ghost use Rattle.literals.specs.Decode.{decode};
-ghost use Rattle.reading.specs.Reading.{EnoughTable, ReadAs};
+ghost use Rattle.reading.specs.Held.{EnoughTable, ReadAs};
 
 // Reads a domain file into `head` and `table`, which is large enough for it, or refuses it.
 pub fn read_domain(file: &[u8], head: &mut Head, table: &mut [u8]) -> Refusal

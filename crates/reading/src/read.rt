@@ -13,7 +13,7 @@ ghost use Prim.Native.Nat.{ℕ};
 ghost use lib.ListN.{replicate};
 ghost use Rattle.literals.specs.Decode.{Reading, readStep, decode};
 ghost use Rattle.literals.specs.Held.{headBytes};
-ghost use Rattle.reading.specs.Reading.{EnoughTable, LeadsTo, ReadAs, Standing, StepReady, atStart, endedOf, tableAfter};
+ghost use Rattle.reading.specs.Held.{EnoughTable, LeadsTo, ReadAs, Standing, StepReady, atStart, endedOf, tableAfter};
 
 // What one record led to: 0 where reading goes on, 1 where the file is read, else the number that refuses it, with its place.
 pub struct Stepped {

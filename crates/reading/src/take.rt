@@ -30,7 +30,7 @@ ghost use Rattle.literals.specs.Domain.{Domain};
 ghost use Rattle.literals.specs.Decode.{maxArguments, maxActions, literalStop, componentFault, stopOf, stopPlace};
 ghost use Rattle.literals.specs.Decode.{kindOf, relationRecord, actionRecord, literalRecord, componentRecord, closingRecord};
 ghost use Rattle.literals.specs.Held.{HeadOf, Held, headBytes};
-ghost use Rattle.reading.specs.Reading.{Takes, TakesRow, RecordReady};
+ghost use Rattle.reading.specs.Held.{Takes, TakesRow, RecordReady};
 
 pub fn take_relation(head: &mut Head, p: &[u8]) -> u64
     ensures { λ r. ⌜ Takes relationRecord (now (p .entry)) r (now (head .entry)) (now (head .exit)) ⌝ }

@@ -21,11 +21,11 @@ use Rattle.literals.proofs.Heads.{arity-limit, variables-limit}
 use Rattle.literals.specs.Matching.{momentNumber}
 use Rattle.literals.specs.Keys.{below}
 use Rattle.verdict.specs.Machine.{Event, sameEvent, injective}
-use Rattle.events.specs.Coded.{Waiting}
-use Rattle.runs.specs.RunFile.{factOf, momentOf, eventOf, maxFacts, maxEvents, outside, factStop, eventStop, stepStop, endStop}
+use Rattle.events.specs.Held.{Waiting}
+use Rattle.run_semantics.specs.RunFile.{factOf, momentOf, eventOf, maxFacts, maxEvents, outside, factStop, eventStop, stepStop, endStop}
 use Rattle.store.specs.Rows.{factRow, hasRow}
-use Rattle.events.specs.Coded.{groundRow, waitingOf, GroundFits, EventsFit}
-use Rattle.run_fields.specs.Fields.{factFields, eventFields, waitsAt}
+use Rattle.events.specs.Held.{groundRow, waitingOf, GroundFits, EventsFit}
+use Rattle.run_fields.specs.Held.{factFields, eventFields, waitsAt}
 use Rattle.events.proofs.FactRows.{has-fact}
 use Rattle.run_fields.proofs.WaitingRows.{waiting-elem}
 

@@ -1,2 +1,2 @@
 -- The fields of a run file's records.
-pub mod Fields
+pub mod Held

@@ -27,11 +27,11 @@ ghost use Rattle.literals.specs.Domain.{Fact, Domain};
 ghost use Rattle.literals.specs.Table.{rowsIn};
 ghost use Rattle.literals.specs.Held.{lastingIn, HeadOf};
 ghost use Rattle.literals.specs.Keys.{below};
-ghost use Rattle.runs.specs.RunFile.{factOf, eventOf, objectsStop, factStop, eventStop, stepStop, endStop, maxEvents};
+ghost use Rattle.run_semantics.specs.RunFile.{factOf, eventOf, objectsStop, factStop, eventStop, stepStop, endStop, maxEvents};
 ghost use Rattle.verdict.specs.Machine.{Event};
 ghost use Rattle.store.specs.Rows.{factRow, Few};
-ghost use Rattle.events.specs.Coded.{groundBytes, waitingBytes, groundRow, waitingOf, EventsFit};
-ghost use Rattle.run_fields.specs.Fields.{factFields, eventFields, waitsAt};
+ghost use Rattle.events.specs.Held.{groundBytes, waitingBytes, groundRow, waitingOf, EventsFit};
+ghost use Rattle.run_fields.specs.Held.{factFields, eventFields, waitsAt};
 
 // ---- the object count, the close of a step and the close of the run
 

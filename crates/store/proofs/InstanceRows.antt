@@ -13,11 +13,11 @@ use Rattle.records.proofs.Lists.{and-r, eqb-same, eqb-comm, sameList-self, same
 use Rattle.literals.specs.declared.Variable.{Variable}
 use Rattle.literals.specs.declared.Object.{Object}
 use Rattle.literals.specs.declared.Time.the-variants.{AtStart}
-use Rattle.literals.specs.declared.Clause.the-variants.{Positive}
+use Rattle.literals.specs.declared.Usage.the-variants.{Positive}
 use Rattle.literals.specs.Domain.{variable, sameObject, Fact, Literal, Component, keysOf, Domain}
 use Rattle.literals.specs.Decode.{byte}
 use Rattle.literals.specs.Table.{rowOf, literalRow, componentRow, rowsIn}
-use Rattle.literals.specs.Held.{componentsIn, keysIn, partIn, partsIn, HeadOf}
+use Rattle.literals.specs.Held.{componentsIn, keysIn, componentRowIn, componentRowsIn, HeadOf}
 use Rattle.literals.proofs.Bytes.{keys-once}
 use Rattle.literals.proofs.Rows.{part-first, rows-more, rows-end}
 use Rattle.literals.proofs.Tables.{value}
@@ -25,7 +25,7 @@ use Rattle.literals.proofs.Held.{keys-few}
 use Rattle.literals.proofs.Heads.{parts-length, part-row}
 use Rattle.literals.specs.Matching.{keyTuple, isOf, tuplesBy, tuplesOf, hasTuple}
 use Rattle.literals.specs.Keys.{position, underKeys, keyRow, keyRows}
-use Rattle.classes.specs.Coded.{tupleRow}
+use Rattle.classes.specs.Held.{tupleRow}
 use Rattle.literals.proofs.KeyRows.{place-le, length-rows, rows-at}
 use Rattle.classes.proofs.Numbers.{tuples-rows}
 use Rattle.verdict.specs.Judged.{objectNumbers}
@@ -64,23 +64,23 @@ module _ (keys r : ℕ) (row : List ℕ) (e : byte row 0 ≡ r) where
       go false ih k = ih (λ z. k (ap suc z))
 
 -- the fact at an offset, and the place of its relation's component
-module _ (head memory : List ℕ) (at c : ℕ) (e : c ≡ position (starts (getD memory at 0)) (partsIn head)) where
+module _ (head memory : List ℕ) (at c : ℕ) (e : c ≡ position (starts (getD memory at 0)) (componentRowsIn head)) where
   pub component-le : c ≤ componentsIn head
-  component-le = omega (arith, place-le (starts (getD memory at 0)) (partsIn head), parts-length head)
+  component-le = omega (arith, place-le (starts (getD memory at 0)) (componentRowsIn head), parts-length head)
 
-  pub unmatched : c ≡ componentsIn head → record { matched = false; row = replicate 8 255 } ≡ keyedBy (instanceRows (keysIn head) (partsIn head) (take 8 (drop at memory)))
+  pub unmatched : c ≡ componentsIn head → record { matched = false; row = replicate 8 255 } ≡ keyedBy (instanceRows (keysIn head) (componentRowsIn head) (take 8 (drop at memory)))
   unfolding keyedBy
   unmatched f =
-      rw (instance-none (keysIn head) (getD memory at 0) (take 8 (drop at memory)) (part-first memory at) (partsIn head) (sym e ∙ f ∙ sym (parts-length head)))
+      rw (instance-none (keysIn head) (getD memory at 0) (take 8 (drop at memory)) (part-first memory at) (componentRowsIn head) (sym e ∙ f ∙ sym (parts-length head)))
 
-  pub matched : (c ≡ componentsIn head → ⊥) → (t : List ℕ) → t ≡ keyRow (keysIn head) (partIn head c) (take 8 (drop at memory))
-      → record { matched = true; row = t } ≡ keyedBy (instanceRows (keysIn head) (partsIn head) (take 8 (drop at memory)))
+  pub matched : (c ≡ componentsIn head → ⊥) → (t : List ℕ) → t ≡ keyRow (keysIn head) (componentRowIn head c) (take 8 (drop at memory))
+      → record { matched = true; row = t } ≡ keyedBy (instanceRows (keysIn head) (componentRowsIn head) (take 8 (drop at memory)))
   unfolding keyedBy
   matched h t f =
       let v : c < componentsIn head = omega (arith, component-le) in
       sym (ap keyedBy
-      (instance-one (keysIn head) (getD memory at 0) (take 8 (drop at memory)) (part-first memory at) (partsIn head) (λ z. h (e ∙ z ∙ parts-length head))
-      ∙ ap (λ (k : ℕ). keyRow (keysIn head) (getD (partsIn head) k []) (take 8 (drop at memory)) ∷ []) (sym e)
+      (instance-one (keysIn head) (getD memory at 0) (take 8 (drop at memory)) (part-first memory at) (componentRowsIn head) (λ z. h (e ∙ z ∙ parts-length head))
+      ∙ ap (λ (k : ℕ). keyRow (keysIn head) (getD (componentRowsIn head) k []) (take 8 (drop at memory)) ∷ []) (sym e)
       ∙ ap (λ (p : List ℕ). keyRow (keysIn head) p (take 8 (drop at memory)) ∷ []) (part-row head c v)
       ∙ ap (λ (x : List ℕ). x ∷ []) (sym f)))
 
@@ -219,7 +219,7 @@ abbrev asVariable : Object → Variable
 asVariable o = variable (o .0)
 
 abbrev asLiteral : Fact → Literal
-asLiteral f = record { role = record { time = AtStart; clause = Positive }; atom = record { rel = f .rel; args = map asVariable (f .args) } }
+asLiteral f = record { role = record { time = AtStart; usage = Positive }; atom = record { rel = f .rel; args = map asVariable (f .args) } }
 
 numbers-same : (os : List Object) → map value (map asVariable os) ≡ objectNumbers os
 numbers-same [] = refl
@@ -294,10 +294,10 @@ module _ {D : Domain} {head : List ℕ} (h : HeadOf D head) where
   few-keys = keys-few (D .template) (h .bounded .labels)
 
   -- the key tuples of a fact
-  pub instances-are : (f : Fact) → FactFits D f → instanceRows (keysIn head) (partsIn head) (factRow f) ≡ map objectsRow (tuplesOf D f)
+  pub instances-are : (f : Fact) → FactFits D f → instanceRows (keysIn head) (componentRowsIn head) (factRow f) ≡ map objectsRow (tuplesOf D f)
   unfolding tuplesOf
   instances-are f k =
-      ap₂ (λ (n : ℕ) (ps : List (List ℕ)). instanceRows n ps (factRow f)) (h .keys) (h .parts)
+      ap₂ (λ (n : ℕ) (ps : List (List ℕ)). instanceRows n ps (factRow f)) (h .keys) (h .componentRows)
       ∙ rows-same (keysOf (D .template)) f (map componentRow (D .template))
       ∙ tuples-rows D (keysOf (D .template)) few-keys (asLiteral f) (length-map (f .args) asVariable ∙ k .sized) (D .template)
       (λ c m. record { arguments = h .bounded .componentArity c m; keys = keys-once _ _ (h .bounded .keysFit c m) }) (h .bounded .componentsOnce)
@@ -313,7 +313,7 @@ module _ {D : Domain} {head : List ℕ} (h : HeadOf D head) where
   module _ (y : List Object) (e : length y ≡ keysOf (D .template)) where
     -- the weight of an instance
     pub weight-is : (fs : List Fact) → ((f : Fact) → In f fs → FactFits D f)
-        → rowWeight (keysIn head) (partsIn head) (map factRow fs) (objectsRow y) ≡ weight D y fs
+        → rowWeight (keysIn head) (componentRowsIn head) (map factRow fs) (objectsRow y) ≡ weight D y fs
     unfolding rowWeight weight hasTuple
     weight-is [] fit = refl
     weight-is (f ∷ fs) fit =
@@ -322,7 +322,7 @@ module _ {D : Domain} {head : List ℕ} (h : HeadOf D head) where
         (weight-is fs (λ g m. fit g (List·Memᴰ·tail m)))
 
   flat-rows : (fs : List Fact) → ((f : Fact) → In f fs → FactFits D f)
-      → flatMap (instanceRows (keysIn head) (partsIn head)) (map factRow fs) ≡ map objectsRow (instancesIn D fs)
+      → flatMap (instanceRows (keysIn head) (componentRowsIn head)) (map factRow fs) ≡ map objectsRow (instancesIn D fs)
   unfolding flatMap instancesIn
   flat-rows [] fit = refl
   flat-rows (f ∷ fs) fit =
@@ -335,19 +335,19 @@ module _ {D : Domain} {head : List ℕ} (h : HeadOf D head) where
 
   -- the weights of some instances
   weights-are : (fs : List Fact) → ((f : Fact) → In f fs → FactFits D f) → (ys : List (List Object)) → ((y : List Object) → In y ys → length y ≡ keysOf (D .template))
-      → map (rowWeight (keysIn head) (partsIn head) (map factRow fs)) (map objectsRow ys) ≡ map (λ y. weight D y fs) ys
+      → map (rowWeight (keysIn head) (componentRowsIn head) (map factRow fs)) (map objectsRow ys) ≡ map (λ y. weight D y fs) ys
   weights-are fs fit [] k = refl
   weights-are fs fit (y ∷ ys) k = ap₂ _∷_ (weight-is y (k y (List·Memᴰ·head refl)) fs fit) (weights-are fs fit ys (λ z m. k z (List·Memᴰ·tail m)))
 
   pub top-is : (fs : List Fact) → ((f : Fact) → In f fs → FactFits D f) → (from : ℕ)
-      → topRows (keysIn head) (partsIn head) (map factRow fs) from ≡ topFrom D fs from
+      → topRows (keysIn head) (componentRowsIn head) (map factRow fs) from ≡ topFrom D fs from
   unfolding topRows topFrom
   top-is fs fit from =
-      ap (λ (rows : List (List ℕ)). topOf (keysIn head) (partsIn head) (map factRow fs) rows) (drop-map from fs)
-      ∙ ap (λ (rows : List (List ℕ)). largest (map (rowWeight (keysIn head) (partsIn head) (map factRow fs)) rows)) (flat-rows (drop from fs) (λ f m. fit f (dropped from fs m)))
+      ap (λ (rows : List (List ℕ)). topOf (keysIn head) (componentRowsIn head) (map factRow fs) rows) (drop-map from fs)
+      ∙ ap (λ (rows : List (List ℕ)). largest (map (rowWeight (keysIn head) (componentRowsIn head) (map factRow fs)) rows)) (flat-rows (drop from fs) (λ f m. fit f (dropped from fs m)))
       ∙ ap largest (weights-are fs fit (instancesIn D (drop from fs)) (instance-keys (drop from fs)))
 
 -- as the code holds them
 pub top-held : (head memory : List ℕ) (n from : ℕ) (D : Domain) (fs : List Fact) → HeadOf D head → rowsIn n memory ≡ map factRow fs → ((f : Fact) → In f fs → FactFits D f)
-    → topRows (keysIn head) (partsIn head) (rowsIn n memory) from ≡ topFrom D fs from
-top-held head memory n from D fs h e fit = ap (λ (rows : List (List ℕ)). topRows (keysIn head) (partsIn head) rows from) e ∙ top-is h fs fit from
+    → topRows (keysIn head) (componentRowsIn head) (rowsIn n memory) from ≡ topFrom D fs from
+top-held head memory n from D fs h e fit = ap (λ (rows : List (List ℕ)). topRows (keysIn head) (componentRowsIn head) rows from) e ∙ top-is h fs fit from

@@ -13,7 +13,7 @@ use Rattle.records.specs.Lists.{In, addIf, countBy, any, sameList}
 use Rattle.records.proofs.Lists.{off, bool-cases, eqb-same, in-any, any-in, sameList-eq, sameList-self, count-pos, count-none}
 use Rattle.literals.specs.Decode.{byte}
 use Rattle.literals.specs.Table.{rowsIn}
-use Rattle.literals.specs.Held.{keysIn, arityIn, partsIn}
+use Rattle.literals.specs.Held.{keysIn, arityIn, componentRowsIn}
 use Rattle.store.specs.Rows.{instanceRows, rowWeight, hasRow}
 use Rattle.store.specs.Index.{noteAt, factIndex, wrap, plus, wordOf, slotOf, keySlot, amountAt, totalAt, Sized, Indexed}
 use Rattle.store.proofs.InstanceRows.{Single, single}
@@ -51,25 +51,25 @@ keyedAt place ts = countBy (λ (t : List ℕ). eqb place (8192 + keySlot t)) ts
 keyed-low : (place : ℕ) → place < 8192 → (ts : List (List ℕ)) → keyedAt place ts ≡ 0
 keyed-low place h ts = count-none (λ (t : List ℕ). eqb place (8192 + keySlot t)) ts (λ t m e. let k = eqb-true place (8192 + keySlot t) e in omega arith)
 
-module _ (keys : ℕ) (parts : List (List ℕ)) where
+module _ (keys : ℕ) (componentRows : List (List ℕ)) where
   amount-is : (place : ℕ) (row : List ℕ)
-      → amountAt keys parts place row ≡ cond (eqb place (slotOf row)) 1 0 + cond (eqb place (4096 + slotOf row)) (wordOf row) 0 + keyedAt place (instanceRows keys parts row)
+      → amountAt keys componentRows place row ≡ cond (eqb place (slotOf row)) 1 0 + cond (eqb place (4096 + slotOf row)) (wordOf row) 0 + keyedAt place (instanceRows keys componentRows row)
   unfolding amountAt
   amount-is place row = refl
 
   -- at a slot
-  amount-slot : (s : ℕ) → s < 4096 → (row : List ℕ) → amountAt keys parts s row ≡ cond (eqb s (slotOf row)) 1 0
+  amount-slot : (s : ℕ) → s < 4096 → (row : List ℕ) → amountAt keys componentRows s row ≡ cond (eqb s (slotOf row)) 1 0
   amount-slot s h row =
       let w = ne-eqb s (4096 + slotOf row) (λ e. omega arith) in
-      let k = keyed-low s (omega arith) (instanceRows keys parts row) in
+      let k = keyed-low s (omega arith) (instanceRows keys componentRows row) in
       amount-is s row ∙ rw (w, k) (omega arith)
 
   -- at the words of a slot
-  amount-word : (s : ℕ) → s < 4096 → (row : List ℕ) → amountAt keys parts (4096 + s) row ≡ cond (eqb s (slotOf row)) (wordOf row) 0
+  amount-word : (s : ℕ) → s < 4096 → (row : List ℕ) → amountAt keys componentRows (4096 + s) row ≡ cond (eqb s (slotOf row)) (wordOf row) 0
   amount-word s h row =
       let b = slot-below row in
       let w = ne-eqb (4096 + s) (slotOf row) (λ e. omega arith) in
-      let k = keyed-low (4096 + s) (omega arith) (instanceRows keys parts row) in
+      let k = keyed-low (4096 + s) (omega arith) (instanceRows keys componentRows row) in
       amount-is (4096 + s) row ∙ rw (w, k) (go (bool-cases (eqb s (slotOf row))))
     where
       go : (eqb s (slotOf row) ≡ true) ⊎ (eqb s (slotOf row) ≡ false) → 0 + cond (eqb (4096 + s) (4096 + slotOf row)) (wordOf row) 0 + 0 ≡ cond (eqb s (slotOf row)) (wordOf row) 0
@@ -77,7 +77,7 @@ module _ (keys : ℕ) (parts : List (List ℕ)) where
       go (inr f) = rw (f, ne-eqb (4096 + s) (4096 + slotOf row) (λ e. eqb-false s (slotOf row) f (omega arith)))
 
   -- at the slot of an instance
-  amount-key : (s : ℕ) (row : List ℕ) → amountAt keys parts (8192 + s) row ≡ keyedAt (8192 + s) (instanceRows keys parts row)
+  amount-key : (s : ℕ) (row : List ℕ) → amountAt keys componentRows (8192 + s) row ≡ keyedAt (8192 + s) (instanceRows keys componentRows row)
   amount-key s row =
       let b = slot-below row in
       let f = ne-eqb (8192 + s) (slotOf row) (λ e. omega arith) in
@@ -87,15 +87,15 @@ module _ (keys : ℕ) (parts : List (List ℕ)) where
   -- ---- totals
 
   module _ (place : ℕ) where
-    total-none : totalAt keys parts place [] ≡ 0
+    total-none : totalAt keys componentRows place [] ≡ 0
     unfolding totalAt
     total-none = refl
 
-    total-cons : (row : List ℕ) (rows : List (List ℕ)) → totalAt keys parts place (row ∷ rows) ≡ amountAt keys parts place row + totalAt keys parts place rows
+    total-cons : (row : List ℕ) (rows : List (List ℕ)) → totalAt keys componentRows place (row ∷ rows) ≡ amountAt keys componentRows place row + totalAt keys componentRows place rows
     unfolding totalAt
     total-cons row rows = refl
 
-    total-append : (xs ys : List (List ℕ)) → totalAt keys parts place (xs ++ ys) ≡ totalAt keys parts place xs + totalAt keys parts place ys
+    total-append : (xs ys : List (List ℕ)) → totalAt keys componentRows place (xs ++ ys) ≡ totalAt keys componentRows place xs + totalAt keys componentRows place ys
     total-append [] ys = omega (arith, total-none)
     total-append (x ∷ xs) ys = omega (arith, total-cons x (xs ++ ys), total-cons x xs, total-append xs ys)
 
@@ -104,7 +104,7 @@ module _ (keys : ℕ) (parts : List (List ℕ)) where
     abbrev here : List ℕ → Bool
     here row = eqb s (slotOf row)
 
-    total-slot : (rows : List (List ℕ)) → totalAt keys parts s rows ≡ countBy here rows
+    total-slot : (rows : List (List ℕ)) → totalAt keys componentRows s rows ≡ countBy here rows
     total-slot [] = total-none s
     total-slot (x ∷ xs) = total-cons s x xs ∙ ap₂ _+_ (amount-slot s h x) (total-slot xs) ∙ go (here x)
       where
@@ -112,11 +112,11 @@ module _ (keys : ℕ) (parts : List (List ℕ)) where
         go true = omega arith
         go false = omega arith
 
-    words-none : (rows : List (List ℕ)) → countBy here rows ≡ 0 → totalAt keys parts (4096 + s) rows ≡ 0
+    words-none : (rows : List (List ℕ)) → countBy here rows ≡ 0 → totalAt keys componentRows (4096 + s) rows ≡ 0
     words-none [] e = total-none (4096 + s)
-    words-none (x ∷ xs) e = total-cons (4096 + s) x xs ∙ ap (λ (n : ℕ). n + totalAt keys parts (4096 + s) xs) (amount-word s h x) ∙ go (here x) e (λ f. words-none xs f)
+    words-none (x ∷ xs) e = total-cons (4096 + s) x xs ∙ ap (λ (n : ℕ). n + totalAt keys componentRows (4096 + s) xs) (amount-word s h x) ∙ go (here x) e (λ f. words-none xs f)
       where
-        go : (b : Bool) → addIf b (countBy here xs) ≡ 0 → (countBy here xs ≡ 0 → totalAt keys parts (4096 + s) xs ≡ 0) → cond b (wordOf x) 0 + totalAt keys parts (4096 + s) xs ≡ 0
+        go : (b : Bool) → addIf b (countBy here xs) ≡ 0 → (countBy here xs ≡ 0 → totalAt keys componentRows (4096 + s) xs ≡ 0) → cond b (wordOf x) 0 + totalAt keys componentRows (4096 + s) xs ≡ 0
         go true f ih = absurd (omega arith)
         go false f ih = omega (arith, ih f)
 
@@ -124,15 +124,15 @@ module _ (keys : ℕ) (parts : List (List ℕ)) where
     pub record Sole (rows : List (List ℕ)) : Type 0 where
       pub fact : List ℕ
       pub held : In fact rows
-      pub word : totalAt keys parts (4096 + s) rows ≡ wordOf fact
+      pub word : totalAt keys componentRows (4096 + s) rows ≡ wordOf fact
       pub alone : (row : List ℕ) → In row rows → slotOf row ≡ s → row ≡ fact
 
     sole : (rows : List (List ℕ)) → countBy here rows ≡ 1 → Sole rows
     sole [] e = absurd (omega arith)
     sole (x ∷ xs) e = go (here x) refl e (λ f. sole xs f)
       where
-        step : (b : Bool) → here x ≡ b → totalAt keys parts (4096 + s) (x ∷ xs) ≡ cond b (wordOf x) 0 + totalAt keys parts (4096 + s) xs
-        step b t = total-cons (4096 + s) x xs ∙ ap (λ (n : ℕ). n + totalAt keys parts (4096 + s) xs) (amount-word s h x ∙ ap (λ (b : Bool). cond b (wordOf x) 0) t)
+        step : (b : Bool) → here x ≡ b → totalAt keys componentRows (4096 + s) (x ∷ xs) ≡ cond b (wordOf x) 0 + totalAt keys componentRows (4096 + s) xs
+        step b t = total-cons (4096 + s) x xs ∙ ap (λ (n : ℕ). n + totalAt keys componentRows (4096 + s) xs) (amount-word s h x ∙ ap (λ (b : Bool). cond b (wordOf x) 0) t)
 
         only : countBy here xs ≡ 0 → (row : List ℕ) → In row (x ∷ xs) → slotOf row ≡ s → row ≡ x
         only f row (List·Memᴰ·head g) k = g
@@ -152,18 +152,18 @@ module _ (keys : ℕ) (parts : List (List ℕ)) where
 
   -- the facts whose instances have a slot
   module _ (s : ℕ) where
-    instances-few : (row : List ℕ) → keyedAt (8192 + s) (instanceRows keys parts row) ≤ 1
-    instances-few row = go (single keys parts row)
+    instances-few : (row : List ℕ) → keyedAt (8192 + s) (instanceRows keys componentRows row) ≤ 1
+    instances-few row = go (single keys componentRows row)
       where
         one : (b : Bool) → addIf b 0 ≤ 1
         one true = omega arith
         one false = omega arith
 
-        go : Single (instanceRows keys parts row) → keyedAt (8192 + s) (instanceRows keys parts row) ≤ 1
+        go : Single (instanceRows keys componentRows row) → keyedAt (8192 + s) (instanceRows keys componentRows row) ≤ 1
         go (inl e) = rw e (omega arith)
         go (inr (t, e)) = rw e (one (eqb (8192 + s) (8192 + keySlot t)))
 
-    total-few : (rows : List (List ℕ)) → totalAt keys parts (8192 + s) rows ≤ length rows
+    total-few : (rows : List (List ℕ)) → totalAt keys componentRows (8192 + s) rows ≤ length rows
     total-few [] = omega (arith, total-none (8192 + s))
     total-few (x ∷ xs) = omega (arith, total-cons (8192 + s) x xs, amount-key s x, instances-few x, total-few xs)
 
@@ -177,15 +177,15 @@ module _ (keys : ℕ) (parts : List (List ℕ)) where
           (eq-eqb (8192 + keySlot row) (8192 + keySlot (r .0)) (ap (λ (l : List ℕ). 8192 + keySlot l) (sameList-eq eqb eqb-true row (r .0) (r .2))))
       go false t = omega arith
 
-  weight-few : (row : List ℕ) (rows : List (List ℕ)) → rowWeight keys parts rows row ≤ totalAt keys parts (8192 + keySlot row) rows
+  weight-few : (row : List ℕ) (rows : List (List ℕ)) → rowWeight keys componentRows rows row ≤ totalAt keys componentRows (8192 + keySlot row) rows
   unfolding rowWeight
   weight-few row [] = omega arith
   weight-few row (x ∷ xs) =
-      let w = weighs-few row (instanceRows keys parts x) in
+      let w = weighs-few row (instanceRows keys componentRows x) in
       let e = total-cons (8192 + keySlot row) x xs in
       let a = amount-key (keySlot row) x in
-      go (any (sameList eqb row) (instanceRows keys parts x)) (countBy (λ (fact : List ℕ). any (sameList eqb row) (instanceRows keys parts fact)) xs)
-      (totalAt keys parts (8192 + keySlot row) (x ∷ xs)) (totalAt keys parts (8192 + keySlot row) xs)
+      go (any (sameList eqb row) (instanceRows keys componentRows x)) (countBy (λ (fact : List ℕ). any (sameList eqb row) (instanceRows keys componentRows fact)) xs)
+      (totalAt keys componentRows (8192 + keySlot row) (x ∷ xs)) (totalAt keys componentRows (8192 + keySlot row) xs)
       (omega arith) (weight-few row xs)
     where
       go : (b : Bool) (m n k : ℕ) → addIf b 0 + k ≤ n → m ≤ k → addIf b m ≤ n
@@ -263,14 +263,14 @@ module _ (x y : List ℕ) (bx : (i : ℕ) → 2 ≤ i → byte x i < 256) (by : 
 
 -- ---- a fact that comes, or goes
 
-module _ (keys : ℕ) (parts : List (List ℕ)) (row : List ℕ) where
+module _ (keys : ℕ) (componentRows : List (List ℕ)) (row : List ℕ) where
   amount-by : (s w place : ℕ) → s ≡ slotOf row → w ≡ wordOf row
-      → amountAt keys parts place row ≡ cond (eqb place s) 1 0 + cond (eqb place (4096 + s)) w 0 + keyedAt place (instanceRows keys parts row)
+      → amountAt keys componentRows place row ≡ cond (eqb place s) 1 0 + cond (eqb place (4096 + s)) w 0 + keyedAt place (instanceRows keys componentRows row)
   amount-by s w place e f =
-      amount-is keys parts place row
-      ∙ ap₂ (λ (m n : ℕ). cond (eqb place m) 1 0 + cond (eqb place (4096 + m)) n 0 + keyedAt place (instanceRows keys parts row)) (sym e) (sym f)
+      amount-is keys componentRows place row
+      ∙ ap₂ (λ (m n : ℕ). cond (eqb place m) 1 0 + cond (eqb place (4096 + m)) n 0 + keyedAt place (instanceRows keys componentRows row)) (sym e) (sym f)
 
-  one-key : (place k : ℕ) (t : List ℕ) → instanceRows keys parts row ≡ t ∷ [] → k ≡ keySlot t → keyedAt place (instanceRows keys parts row) ≡ cond (eqb place (8192 + k)) 1 0
+  one-key : (place k : ℕ) (t : List ℕ) → instanceRows keys componentRows row ≡ t ∷ [] → k ≡ keySlot t → keyedAt place (instanceRows keys componentRows row) ≡ cond (eqb place (8192 + k)) 1 0
   one-key place k t z q = ap (keyedAt place) z ∙ go (eqb place (8192 + keySlot t)) ∙ ap (λ (n : ℕ). cond (eqb place (8192 + n)) 1 0) (sym q)
     where
       go : (b : Bool) → addIf b 0 ≡ cond b 1 0
@@ -303,14 +303,14 @@ module _ (index first second : List ℕ) (s w : ℕ) (len : length index ≡ fac
 
 -- an index with one fact more
 module _ {head index : List ℕ} {rows : List (List ℕ)} (I : Indexed head index rows) (row : List ℕ) (sized : byte row 1 ≡ arityIn head (byte row 0)) where
-  joined : (last : List ℕ) → length last ≡ factIndex → ((place : ℕ) → place < noteAt → getD last place 0 ≡ (totalAt (keysIn head) (partsIn head) place rows + amountAt (keysIn head) (partsIn head) place row) % wrap)
+  joined : (last : List ℕ) → length last ≡ factIndex → ((place : ℕ) → place < noteAt → getD last place 0 ≡ (totalAt (keysIn head) (componentRowsIn head) place rows + amountAt (keysIn head) (componentRowsIn head) place row) % wrap)
       → Indexed head last (rows ++ (row ∷ []))
   joined last l h = record { numbers = l; totals = sums; sized = all-sized }
     where
-      sums : (place : ℕ) → place < noteAt → getD last place 0 ≡ totalAt (keysIn head) (partsIn head) place (rows ++ (row ∷ [])) % wrap
+      sums : (place : ℕ) → place < noteAt → getD last place 0 ≡ totalAt (keysIn head) (componentRowsIn head) place (rows ++ (row ∷ [])) % wrap
       sums place b =
           h place b
-          ∙ ap (λ (n : ℕ). n % wrap) (omega (arith, total-append (keysIn head) (partsIn head) place rows (row ∷ []), total-cons (keysIn head) (partsIn head) place row [], total-none (keysIn head) (partsIn head) place))
+          ∙ ap (λ (n : ℕ). n % wrap) (omega (arith, total-append (keysIn head) (componentRowsIn head) place rows (row ∷ []), total-cons (keysIn head) (componentRowsIn head) place row [], total-none (keysIn head) (componentRowsIn head) place))
 
       new : (r : List ℕ) → In r rows ⊎ In r (row ∷ []) → byte r 1 ≡ arityIn head (byte r 0)
       new r (inl m) = I .sized r m
@@ -322,35 +322,35 @@ module _ {head index : List ℕ} {rows : List (List ℕ)} (I : Indexed head inde
   module _ (first second : List ℕ) (s w : ℕ) (e : s ≡ slotOf row) (f : w ≡ wordOf row)
       (m : first ≡ set index s (plus (getD index s 0) 1))
       (n : second ≡ set first (4096 + s) (plus (getD first (4096 + s) 0) w)) where
-    pub enter-none : instanceRows (keysIn head) (partsIn head) row ≡ [] → Indexed head second (rows ++ (row ∷ []))
+    pub enter-none : instanceRows (keysIn head) (componentRowsIn head) row ≡ [] → Indexed head second (rows ++ (row ∷ []))
     enter-none z =
         joined second (length-more index first second s w (I .numbers) (omega (arith, slot-below row)) m n)
-        (λ place b. two-more index first second s w (I .numbers) (omega (arith, slot-below row)) m n place (totalAt (keysIn head) (partsIn head) place rows) (I .totals place b)
-        ∙ ap (λ (n : ℕ). n % wrap) (omega (arith, amount-by (keysIn head) (partsIn head) row s w place e f, ap (keyedAt place) z)))
+        (λ place b. two-more index first second s w (I .numbers) (omega (arith, slot-below row)) m n place (totalAt (keysIn head) (componentRowsIn head) place rows) (I .totals place b)
+        ∙ ap (λ (n : ℕ). n % wrap) (omega (arith, amount-by (keysIn head) (componentRowsIn head) row s w place e f, ap (keyedAt place) z)))
 
-    pub enter-one : (t third : List ℕ) (k : ℕ) → instanceRows (keysIn head) (partsIn head) row ≡ t ∷ [] → k ≡ keySlot t
+    pub enter-one : (t third : List ℕ) (k : ℕ) → instanceRows (keysIn head) (componentRowsIn head) row ≡ t ∷ [] → k ≡ keySlot t
         → third ≡ set second (8192 + k) (plus (getD second (8192 + k) 0) 1) → Indexed head third (rows ++ (row ∷ []))
     enter-one t third k z q o =
         let b = slot-below row in
         let l = length-more index first second s w (I .numbers) (omega arith) m n in
         joined third (ap length o ∙ simp length-set l)
         (λ place b. more-at second third (8192 + k) 1 (omega (arith, key-below t)) place
-        (totalAt (keysIn head) (partsIn head) place rows + cond (eqb place s) 1 0 + cond (eqb place (4096 + s)) w 0) o
-        (two-more index first second s w (I .numbers) (omega (arith, slot-below row)) m n place (totalAt (keysIn head) (partsIn head) place rows) (I .totals place b))
-        ∙ ap (λ (n : ℕ). n % wrap) (omega (arith, amount-by (keysIn head) (partsIn head) row s w place e f, one-key (keysIn head) (partsIn head) row place k t z q)))
+        (totalAt (keysIn head) (componentRowsIn head) place rows + cond (eqb place s) 1 0 + cond (eqb place (4096 + s)) w 0) o
+        (two-more index first second s w (I .numbers) (omega (arith, slot-below row)) m n place (totalAt (keysIn head) (componentRowsIn head) place rows) (I .totals place b))
+        ∙ ap (λ (n : ℕ). n % wrap) (omega (arith, amount-by (keysIn head) (componentRowsIn head) row s w place e f, one-key (keysIn head) (componentRowsIn head) row place k t z q)))
 
 -- and with one less
 module _ {head index : List ℕ} (before after : List (List ℕ)) (row : List ℕ) (I : Indexed head index (before ++ (row ∷ after))) where
-  rest : (last : List ℕ) → length last ≡ factIndex → ((place : ℕ) → getD index place 0 ≡ (totalAt (keysIn head) (partsIn head) place (before ++ after) + amountAt (keysIn head) (partsIn head) place row) % wrap
-      → getD last place 0 ≡ totalAt (keysIn head) (partsIn head) place (before ++ after) % wrap) → Indexed head last (before ++ after)
+  rest : (last : List ℕ) → length last ≡ factIndex → ((place : ℕ) → getD index place 0 ≡ (totalAt (keysIn head) (componentRowsIn head) place (before ++ after) + amountAt (keysIn head) (componentRowsIn head) place row) % wrap
+      → getD last place 0 ≡ totalAt (keysIn head) (componentRowsIn head) place (before ++ after) % wrap) → Indexed head last (before ++ after)
   rest last l h = record { numbers = l; totals = sums; sized = all-sized }
     where
-      sums : (place : ℕ) → place < noteAt → getD last place 0 ≡ totalAt (keysIn head) (partsIn head) place (before ++ after) % wrap
+      sums : (place : ℕ) → place < noteAt → getD last place 0 ≡ totalAt (keysIn head) (componentRowsIn head) place (before ++ after) % wrap
       sums place b =
           h place
           (I .totals place b
           ∙ ap (λ (n : ℕ). n % wrap)
-          (omega (arith, total-append (keysIn head) (partsIn head) place before (row ∷ after), total-append (keysIn head) (partsIn head) place before after, total-cons (keysIn head) (partsIn head) place row after)))
+          (omega (arith, total-append (keysIn head) (componentRowsIn head) place before (row ∷ after), total-append (keysIn head) (componentRowsIn head) place before after, total-cons (keysIn head) (componentRowsIn head) place row after)))
 
       old : (r : List ℕ) → In r before ⊎ In r after → In r (before ++ (row ∷ after))
       old r (inl m) = Memᴰ·append-left (row ∷ after) m
@@ -362,21 +362,21 @@ module _ {head index : List ℕ} (before after : List (List ℕ)) (row : List �
   module _ (first second : List ℕ) (s w : ℕ) (e : s ≡ slotOf row) (f : w ≡ wordOf row) (few : w < wrap)
       (m : first ≡ set index s (plus (getD index s 0) (wrap - 1)))
       (n : second ≡ set first (4096 + s) (plus (getD first (4096 + s) 0) (wrap - w))) where
-    pub leave-none : instanceRows (keysIn head) (partsIn head) row ≡ [] → Indexed head second (before ++ after)
+    pub leave-none : instanceRows (keysIn head) (componentRowsIn head) row ≡ [] → Indexed head second (before ++ after)
     leave-none z =
         rest second (length-less index first second s w (I .numbers) (omega (arith, slot-below row)) few m n)
-        (λ place g. two-less index first second s w (I .numbers) (omega (arith, slot-below row)) few m n place (totalAt (keysIn head) (partsIn head) place (before ++ after))
-        (g ∙ ap (λ (n : ℕ). n % wrap) (omega (arith, amount-by (keysIn head) (partsIn head) row s w place e f, ap (keyedAt place) z))))
+        (λ place g. two-less index first second s w (I .numbers) (omega (arith, slot-below row)) few m n place (totalAt (keysIn head) (componentRowsIn head) place (before ++ after))
+        (g ∙ ap (λ (n : ℕ). n % wrap) (omega (arith, amount-by (keysIn head) (componentRowsIn head) row s w place e f, ap (keyedAt place) z))))
 
-    pub leave-one : (t third : List ℕ) (k : ℕ) → instanceRows (keysIn head) (partsIn head) row ≡ t ∷ [] → k ≡ keySlot t
+    pub leave-one : (t third : List ℕ) (k : ℕ) → instanceRows (keysIn head) (componentRowsIn head) row ≡ t ∷ [] → k ≡ keySlot t
         → third ≡ set second (8192 + k) (plus (getD second (8192 + k) 0) (wrap - 1)) → Indexed head third (before ++ after)
     leave-one t third k z q o =
         let b = slot-below row in
         let l = length-less index first second s w (I .numbers) (omega arith) few m n in
         rest third (ap length o ∙ simp length-set l)
-        (λ place g. less-at second third (8192 + k) 1 (omega (arith, key-below t)) place (totalAt (keysIn head) (partsIn head) place (before ++ after)) (omega arith) o
-        (two-less index first second s w (I .numbers) (omega (arith, slot-below row)) few m n place (totalAt (keysIn head) (partsIn head) place (before ++ after) + cond (eqb place (8192 + k)) 1 0)
-        (g ∙ ap (λ (n : ℕ). n % wrap) (omega (arith, amount-by (keysIn head) (partsIn head) row s w place e f, one-key (keysIn head) (partsIn head) row place k t z q)))))
+        (λ place g. less-at second third (8192 + k) 1 (omega (arith, key-below t)) place (totalAt (keysIn head) (componentRowsIn head) place (before ++ after)) (omega arith) o
+        (two-less index first second s w (I .numbers) (omega (arith, slot-below row)) few m n place (totalAt (keysIn head) (componentRowsIn head) place (before ++ after) + cond (eqb place (8192 + k)) 1 0)
+        (g ∙ ap (λ (n : ℕ). n % wrap) (omega (arith, amount-by (keysIn head) (componentRowsIn head) row s w place e f, one-key (keysIn head) (componentRowsIn head) row place k t z q)))))
 
 -- the number behind them stays
 module _ (index after : List ℕ) (p v q : ℕ) where
@@ -419,7 +419,7 @@ module _ {head : List ℕ} (index : List ℕ) (rows : List (List ℕ)) (I : Inde
     count-at : getD index s 0 ≡ countBy (λ (r : List ℕ). eqb s (slotOf r)) rows
     count-at =
         I .totals s (omega (arith, slot-below row))
-        ∙ omega (arith, total-slot (keysIn head) (partsIn head) s (omega (arith, slot-below row)) rows, count-few (λ (r : List ℕ). eqb s (slotOf r)) rows)
+        ∙ omega (arith, total-slot (keysIn head) (componentRowsIn head) s (omega (arith, slot-below row)) rows, count-few (λ (r : List ℕ). eqb s (slotOf r)) rows)
 
     pub held-none : getD index s 0 ≡ 0 → false ≡ hasRow row rows
     held-none z =
@@ -431,8 +431,8 @@ module _ {head : List ℕ} (index : List ℕ) (rows : List (List ℕ)) (I : Inde
         omega (arith, count-at)))
 
     module _ (z : getD index s 0 ≡ 1) (w : ℕ) (f : w ≡ wordOf row) (eight : Eight row) (all-eight : (r : List ℕ) → In r rows → Eight r) (sized : byte row 1 ≡ arityIn head (byte row 0)) where
-      one : Sole (keysIn head) (partsIn head) s (omega (arith, slot-below row)) rows
-      one = sole (keysIn head) (partsIn head) s (omega (arith, slot-below row)) rows (sym count-at ∙ z)
+      one : Sole (keysIn head) (componentRowsIn head) s (omega (arith, slot-below row)) rows
+      one = sole (keysIn head) (componentRowsIn head) s (omega (arith, slot-below row)) rows (sym count-at ∙ z)
 
       word-at : getD index (4096 + s) 0 ≡ wordOf (one .fact)
       word-at = I .totals (4096 + s) (omega (arith, slot-below row)) ∙ omega (arith, one .word, word-small (one .fact) (all-eight (one .fact) (one .held) .1))
@@ -456,8 +456,8 @@ module _ {head : List ℕ} (index : List ℕ) (rows : List (List ℕ)) (I : Inde
               eqb-false (getD index (4096 + s) 0) w t (word-at ∙ ap wordOf (sym (q ∙ a)) ∙ sym f)))
 
   -- the weight of an instance is no more than the facts at its slot
-  pub weight-most : (t : List ℕ) (k : ℕ) → k ≡ keySlot t → rowWeight (keysIn head) (partsIn head) rows t ≤ getD index (8192 + k) 0
+  pub weight-most : (t : List ℕ) (k : ℕ) → k ≡ keySlot t → rowWeight (keysIn head) (componentRowsIn head) rows t ≤ getD index (8192 + k) 0
   weight-most t k e =
       let g = I .totals (8192 + keySlot t) (omega (arith, key-below t)) in
       let q = ap (λ (n : ℕ). getD index (8192 + n) 0) e in
-      omega (arith, weight-few (keysIn head) (partsIn head) t rows, total-few (keysIn head) (partsIn head) (keySlot t) rows)
+      omega (arith, weight-few (keysIn head) (componentRowsIn head) t rows, total-few (keysIn head) (componentRowsIn head) (keySlot t) rows)

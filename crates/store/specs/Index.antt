@@ -8,7 +8,7 @@ use lib.Dec.{eqb}
 use lib.ListN.{length, getD}
 use Rattle.records.specs.Lists.{In, countBy}
 use Rattle.literals.specs.Decode.{byte}
-use Rattle.literals.specs.Held.{keysIn, arityIn, partsIn}
+use Rattle.literals.specs.Held.{keysIn, arityIn, componentRowsIn}
 use Rattle.store.specs.Rows.{instanceRows}
 
 -- the slots; where the sums of words start, the counts of instances, the note; and how many numbers that makes
@@ -51,16 +51,16 @@ keySlot t = 64 * ((byte t 1 + 3 * byte t 2 + 5 * byte t 3 + 7 * byte t 4 + 9 * b
 -- instance's slot
 unfoldable pub amountAt : ℕ → List (List ℕ) → ℕ → List ℕ → ℕ
 unfolding wordOf slotOf keySlot instanceRows
-amountAt keys parts place row =
+amountAt keys componentRows place row =
     cond (eqb place (slotOf row)) 1 0
     + cond (eqb place (wordsAt + slotOf row)) (wordOf row) 0
-    + countBy (λ (t : List ℕ). eqb place (instancesAt + keySlot t)) (instanceRows keys parts row)
+    + countBy (λ (t : List ℕ). eqb place (instancesAt + keySlot t)) (instanceRows keys componentRows row)
 
 -- what the facts held add to it
 unfoldable pub totalAt : ℕ → List (List ℕ) → ℕ → List (List ℕ) → ℕ
 unfolding amountAt
-totalAt keys parts place [] = 0
-totalAt keys parts place (row ∷ rows) = amountAt keys parts place row + totalAt keys parts place rows
+totalAt keys componentRows place [] = 0
+totalAt keys componentRows place (row ∷ rows) = amountAt keys componentRows place row + totalAt keys componentRows place rows
 
 -- each fact with the arity of its relation
 abbrev pub Sized : List ℕ → List (List ℕ) → Type 0
@@ -69,5 +69,5 @@ Sized head rows = (row : List ℕ) → In row rows → byte row 1 ≡ arityIn he
 -- an index of these facts, of a head: each number before the note is their total
 pub record Indexed (head index : List ℕ) (rows : List (List ℕ)) : Type 0 where
   pub numbers : length index ≡ factIndex
-  pub totals : (place : ℕ) → place < noteAt → getD index place 0 ≡ totalAt (keysIn head) (partsIn head) place rows % wrap
+  pub totals : (place : ℕ) → place < noteAt → getD index place 0 ≡ totalAt (keysIn head) (componentRowsIn head) place rows % wrap
   pub sized : Sized head rows

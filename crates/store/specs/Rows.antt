@@ -39,7 +39,8 @@ pub record FactFits (D : Domain) (f : Fact) : Type 0 where
 unfoldable pub instanceRows : ℕ → List (List ℕ) → List ℕ → List (List ℕ)
 unfolding keyRow
 instanceRows n [] row = []
-instanceRows n (part ∷ parts) row = cond (eqb (byte row 0) (byte part 0)) (keyRow n part row ∷ []) (instanceRows n parts row)
+instanceRows n (part ∷ componentRows) row = cond (eqb (byte row 0) (byte part 0)) (keyRow n part row ∷ [])
+    (instanceRows n componentRows row)
 
 -- the highest weight of the instances of the facts from one place on, among all facts
 unfoldable pub topFrom : Domain → List Fact → ℕ → ℕ
@@ -56,9 +57,10 @@ keyedBy (t ∷ ts) = record { matched = true; row = t }
 -- the weight of the instance whose key tuple has this row
 unfoldable pub rowWeight : ℕ → List (List ℕ) → List (List ℕ) → List ℕ → ℕ
 unfolding instanceRows
-rowWeight n parts facts row = countBy (λ fact. any (sameList eqb row) (instanceRows n parts fact)) facts
+rowWeight n componentRows facts row = countBy (λ fact. any (sameList eqb row) (instanceRows n componentRows fact)) facts
 
 -- the highest weight of the instances of the facts from one place on, among all facts
 unfoldable pub topRows : ℕ → List (List ℕ) → List (List ℕ) → ℕ → ℕ
 unfolding instanceRows rowWeight flatMap
-topRows n parts facts from = largest (map (rowWeight n parts facts) (flatMap (instanceRows n parts) (drop from facts)))
+topRows n componentRows facts from = largest
+    (map (rowWeight n componentRows facts) (flatMap (instanceRows n componentRows) (drop from facts)))

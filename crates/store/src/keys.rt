@@ -6,7 +6,7 @@ use literals::keys::key_tuple;
 ghost use mathlib.Core.Path.{_≡_};
 ghost use Prim.Native.Nat.{_+_, _≤_};
 ghost use lib.ListN.{length, take, drop};
-ghost use Rattle.literals.specs.Held.{keysIn, partsIn};
+ghost use Rattle.literals.specs.Held.{keysIn, componentRowsIn};
 ghost use Rattle.store.specs.Rows.{instanceRows, keyedBy};
 
 // The key tuple of a fact, as a row, where its relation has a component.
@@ -19,7 +19,7 @@ pub struct Keyed {
 pub fn key_of(head: &Head, memory: &[u8], at: usize) -> Keyed
     requires { ⌜ at + 8 ≤ length (now memory) ⌝ }
     ensures { λ r. ⌜ r ≡ keyedBy
-        (instanceRows (keysIn (now (head .entry))) (partsIn (now (head .entry))) (take 8 (drop at (now (memory .entry))))) ⌝ }
+        (instanceRows (keysIn (now (head .entry))) (componentRowsIn (now (head .entry))) (take 8 (drop at (now (memory .entry))))) ⌝ }
 {
     let c = component_of(head, memory[at]);
     if c == components_in(head) {

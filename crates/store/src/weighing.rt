@@ -14,7 +14,7 @@ ghost use Rattle.records.specs.Lists.{In, addIf, any, sameList};
 ghost use Rattle.literals.specs.Domain.{Fact, Domain};
 ghost use Rattle.literals.specs.Table.{rowsIn};
 ghost use Rattle.verdict.specs.Machine.{largest};
-ghost use Rattle.literals.specs.Held.{keysIn, partsIn, HeadOf};
+ghost use Rattle.literals.specs.Held.{keysIn, componentRowsIn, HeadOf};
 ghost use Rattle.store.specs.Rows.{factRow, FactFits, instanceRows, topFrom, rowWeight, topRows};
 ghost use Rattle.store.specs.Index.{wrap, Indexed};
 
@@ -22,7 +22,7 @@ ghost use Rattle.store.specs.Index.{wrap, Indexed};
 fn weight_at(head: &Head, memory: &[u8], at: usize, row: [u8; 8]) -> usize
     requires { ⌜ at + 8 ≤ length (now memory) ⌝ }
     ensures { λ r. ⌜ r ≡ addIf (any (sameList eqb row)
-        (instanceRows (keysIn (now (head .entry))) (partsIn (now (head .entry))) (take 8 (drop at (now (memory .entry)))))) 0 ⌝ }
+        (instanceRows (keysIn (now (head .entry))) (componentRowsIn (now (head .entry))) (take 8 (drop at (now (memory .entry)))))) 0 ⌝ }
 {
     let keyed = key_of(head, memory, at);
     if !keyed.matched {
@@ -38,7 +38,7 @@ fn weight_at(head: &Head, memory: &[u8], at: usize, row: [u8; 8]) -> usize
 // The weight of the instance with this key tuple among the first n facts.
 fn weigh(head: &Head, memory: &[u8], n: usize, row: [u8; 8]) -> usize
     requires { ⌜ (8 * n ≤ length (now memory)) ⌝ }
-    ensures { λ r. ⌜ r ≡ rowWeight (keysIn (now (head .entry))) (partsIn (now (head .entry)))
+    ensures { λ r. ⌜ r ≡ rowWeight (keysIn (now (head .entry))) (componentRowsIn (now (head .entry)))
         (rowsIn n (now (memory .entry))) row ⌝ }
 {
     let mut weight: usize = 0;
@@ -65,8 +65,8 @@ fn heavier(
     requires row { ⌜ at + 8 ≤ length (now memory) ⌝ }
     ensures { λ r. ⌜ (Indexed (now (head .entry)) (now (index .entry)) (rowsIn n (now (memory .entry)))
         → r ≡ max least (largest (map
-        (rowWeight (keysIn (now (head .entry))) (partsIn (now (head .entry))) (rowsIn n (now (memory .entry))))
-        (instanceRows (keysIn (now (head .entry))) (partsIn (now (head .entry))) (take 8 (drop at (now (memory .entry)))))))) ⌝ }
+        (rowWeight (keysIn (now (head .entry))) (componentRowsIn (now (head .entry))) (rowsIn n (now (memory .entry))))
+        (instanceRows (keysIn (now (head .entry))) (componentRowsIn (now (head .entry))) (take 8 (drop at (now (memory .entry)))))))) ⌝ }
 {
     let keyed = key_of(head, memory, at);
     if !keyed.matched {
@@ -95,7 +95,7 @@ pub fn top_from(
     requires few { ⌜ n < wrap ⌝ }
     requires rows { ⌜ 8 * n ≤ length (now memory) ⌝ }
     ensures rows { λ r. ⌜ (Indexed (now (head .entry)) (now (index .entry)) (rowsIn n (now (memory .entry)))
-        → r ≡ max least (topRows (keysIn (now (head .entry))) (partsIn (now (head .entry)))
+        → r ≡ max least (topRows (keysIn (now (head .entry))) (componentRowsIn (now (head .entry)))
         (rowsIn n (now (memory .entry))) from)) ⌝ }
     ensures weights { λ r. ⌜ ((D : Domain) (fs : List Fact) → HeadOf D (now (head .entry))
         → Indexed (now (head .entry)) (now (index .entry)) (rowsIn n (now (memory .entry)))

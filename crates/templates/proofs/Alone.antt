@@ -18,7 +18,7 @@ use Rattle.literals.specs.Keys.{below}
 use Rattle.literals.proofs.Indices.{any-below, at-all}
 use Rattle.literals.proofs.Tables.{kept, length-flat, length-literal-row}
 use Rattle.classes.specs.Classes.{classes}
-use Rattle.classes.specs.Coded.{ActionOf}
+use Rattle.classes.specs.Held.{ActionOf}
 use Rattle.classes.proofs.Rows.{literalAt, noLiteral, relation-at}
 use Rattle.verdict.specs.Decision.{rowsOfClasses}
 use Rattle.verdict.specs.Judged.{Answer, answerAt, decided}
@@ -27,10 +27,10 @@ use Rattle.verdict.specs.declared.Place.the-variants.{Missing, Found}
 use Rattle.verdict.specs.declared.Notes.{Notes}
 use Rattle.verdict.specs.Summaries.{summaryRows, summaryOf, summaries, notesOf, answerPlace, faultless, decideNotes, decidedSummaries}
 use Rattle.records.specs.Memory.{over}
-use Rattle.naming.specs.Named.{Listed}
+use Rattle.naming.specs.Held.{Listed}
 use Rattle.literals.specs.Held.{actionsIn, Held}
 use Rattle.verdict.specs.declared.Judgement.{Judgement}
-use Rattle.verdict.specs.Coded.{judgementOf}
+use Rattle.verdict.specs.Held.{judgementOf}
 use Rattle.verdict.specs.Claims.{wellFormed}
 use Rattle.verdict.proofs.Summed.{summaries-decide}
 use Rattle.templates.specs.Listing.{OnlyRelation, mentionedAt}

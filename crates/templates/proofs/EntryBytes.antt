@@ -21,7 +21,7 @@ use Rattle.literals.specs.Decode.{componentOf, componentRecord, stopOf, extend}
 use Rattle.literals.specs.Table.{labelNumber, tableBytes}
 use Rattle.literals.specs.Held.{relationsIn, arityIn, Filled, Held}
 use Rattle.literals.proofs.Bounds.{arity-six}
-use Rattle.reading.specs.Reading.{Takes}
+use Rattle.reading.specs.Held.{Takes}
 use Rattle.reading.proofs.Takes.{behind-done}
 use Rattle.verdict.specs.Claims.{wellFormed}
 use Rattle.literals.specs.Keys.{numbersFrom, below}

@@ -9,8 +9,8 @@ use lib.ListN.{length}
 use Rattle.records.specs.Lists.{In, all, any, filterBy, keepIf, sameList, dedup}
 use Rattle.records.proofs.Lists.{off, bool-cases, clash, any-map, filter-agree, dedup-in, flatMap-in}
 use Rattle.literals.specs.declared.Variable.{Variable}
-use Rattle.literals.specs.declared.Clause.{Clause}
-use Rattle.literals.specs.declared.Clause.the-variants.{Positive, Negative, Add, Delete}
+use Rattle.literals.specs.declared.Usage.{Usage}
+use Rattle.literals.specs.declared.Usage.the-variants.{Positive, Negative, Add, Delete}
 use Rattle.literals.specs.Domain.{sameVariable, Atom, Literal, Action, Domain}
 use Rattle.literals.specs.declared.Moment.{Moment}
 use Rattle.literals.specs.declared.Moment.the-variants.{Start, End}
@@ -107,7 +107,7 @@ module _ (D E : Domain) (same : E .actions ≡ D .actions)
           ∙ any-map φ (λ t. sameList sameVariable t (φ x)) (tuplesOf D p)
           ∙ any-agree (λ t. sameList sameVariable (φ t) (φ x)) (λ t. sameList sameVariable t x) (tuplesOf D p) (λ t m. alike p (l .0 .atom) t x m (l .2))
 
-      class-alike : (m : Moment) (c : Clause) → inClass E a (φ x) m c ≡ inClass D a x m c
+      class-alike : (m : Moment) (c : Usage) → inClass E a (φ x) m c ≡ inClass D a x m c
       unfolding inClass
       class-alike m c = filter-agree (belongs E (φ x)) (belongs D x) (countedForName a m c) (λ p _. belongs-alike p)
 

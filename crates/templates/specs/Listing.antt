@@ -12,7 +12,7 @@ use Rattle.records.specs.Memory.{over}
 use Rattle.literals.specs.Domain.{Component, Domain, arity, bare}
 use Rattle.literals.specs.Keys.{below}
 use Rattle.verdict.specs.Claims.{wellFormed}
-use Rattle.reading.specs.Reading.{HeldOver}
+use Rattle.reading.specs.Held.{HeldOver}
 use Rattle.templates.specs.Templates.{Shape, shape, shapesOf, shapesFrom, componentAt, legalAlone, entry}
 
 -- ---- payloads

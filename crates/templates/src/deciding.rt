@@ -19,7 +19,7 @@ ghost use Rattle.literals.specs.Domain.{Domain, Action, action};
 ghost use Rattle.literals.specs.Decode.{maxActions, maxLiterals};
 ghost use Rattle.literals.specs.Keys.{below};
 ghost use Rattle.literals.specs.Held.{Held};
-ghost use Rattle.classes.specs.Coded.{ActionOf};
+ghost use Rattle.classes.specs.Held.{ActionOf};
 ghost use Rattle.verdict.specs.Judged.{decided};
 ghost use Rattle.verdict.specs.Claims.{wellFormed};
 ghost use Rattle.verdict.specs.Summaries.{summaryOf};

@@ -12,8 +12,8 @@ use borrow.Author.Tests.{ltb-true, ltb-false}
 use Rattle.records.specs.Lists.{keepIf, In}
 use Rattle.records.proofs.Lists.{bool-cases, getD-in, count-le, dedup-few}
 use Rattle.literals.specs.declared.Variable.{Variable}
-use Rattle.literals.specs.declared.Clause.{Clause}
-use Rattle.literals.specs.declared.Clause.the-variants.{Positive}
+use Rattle.literals.specs.declared.Usage.{Usage}
+use Rattle.literals.specs.declared.Usage.the-variants.{Positive}
 use Rattle.literals.specs.declared.Role.{Role}
 use Rattle.literals.specs.Domain.{Atom, Fact, Literal, Action, Component, Domain, sameLiteral, noAction, action}
 use Rattle.literals.specs.Decode.{maxFile, RecordKind, relationRecord, actionRecord, literalRecord, componentRecord, closingRecord, unknownRecord, literalOf, actionOf, withLiteral, extend, refuse, Decoded, refused, domain, Reading, ReadTurn, goOn, finish, readStep, Finished, readFrom, noDomain, fromStart, readFile, decode}
@@ -162,7 +162,7 @@ role-few p (l ∷ ls) = go (p (l .role)) (role-few p ls)
     go true h = omega arith
     go false h = omega arith
 
-required-few : (a : Action) (m : Moment) (c : Clause) → length (required a m c) ≤ length (a .lits)
+required-few : (a : Action) (m : Moment) (c : Usage) → length (required a m c) ≤ length (a .lits)
 unfolding required
 required-few a m c =
     let d = dedup-few sameLiteral (withRole (asked m c) (a .lits)) in

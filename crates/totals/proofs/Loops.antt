@@ -12,7 +12,7 @@ use Rattle.records.proofs.Lists.{and-i}
 use Rattle.totals.specs.Totals.{long, wholeFile, firstFile, behindFile, cutAt, files, withFile, openFrom, opened, totals}
 use Rattle.totals.specs.declared.Opening.the-variants.{Whole, Cut}
 use Rattle.totals.specs.Claims.{behind, added}
-use Rattle.totals.specs.Counted.{openingOf}
+use Rattle.totals.specs.Held.{openingOf}
 use Rattle.totals.proofs.Joining.{open-nil, open-whole, open-cut, whole-within, boxes-joined}
 use Rattle.totals.proofs.Counts.{totals-joined}
 

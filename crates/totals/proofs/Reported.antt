@@ -10,7 +10,7 @@ use Rattle.records.proofs.Memory.{drop-replicate}
 use Rattle.classes.specs.Classes.{nameNumber}
 use Rattle.verdict.specs.Decision.{Row}
 use Rattle.verdict.specs.Judged.{rowBytes}
-use Rattle.totals.specs.Counted.{namesIn}
+use Rattle.totals.specs.Held.{namesIn}
 use Rattle.verdict.proofs.Known.{name-range}
 
 -- ---- the first row

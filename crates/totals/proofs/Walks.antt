@@ -11,7 +11,7 @@ use Rattle.records.specs.Memory.{over}
 use Rattle.records.proofs.Lists.{flatMap-snoc}
 use Rattle.records.proofs.Memory.{over-more, length-over}
 use Rattle.totals.specs.Totals.{lowBytes, totalBytes}
-use Rattle.totals.specs.Counted.{oneMore, tally, nameMark, namesIn, Room}
+use Rattle.totals.specs.Held.{oneMore, tally, nameMark, namesIn, Room}
 use Rattle.totals.proofs.Answers.{low-length, bytes-length}
 use Rattle.totals.proofs.Reported.{names-none, names-some, names-short}
 use Rattle.totals.proofs.Tallied.{more-length, room-less, room-more}

@@ -10,7 +10,8 @@ use Rattle.literals.specs.Decode.{domain, decode}
 use Rattle.literals.specs.Keys.{numbersFrom}
 use Rattle.verdict.specs.Decision.{witness}
 use Rattle.verdict.specs.Judged.{rowBytes, answerAt, decidedFile, judged, reportAfter}
-use Rattle.totals.specs.Totals.{Opened, cutAt, files, opened, rowsOfFile, filesWith, allRows, momentsWith, totals, lowBytes, totalBytes, totalled, totalsAfter}
+use Rattle.totals.specs.Totals.{Opened, cutAt, files, opened, rowsOfFile, filesWith, allRows, momentsWith, totals, lowBytes}
+use Rattle.totals.specs.Totals.{totalBytes, totalled, totalsAfter}
 
 -- ---- "Every total equals a count over the list of files by definition."
 
@@ -24,7 +25,8 @@ TotalOfName = (fs : List (List ℕ)) (k : ℕ) → k < 7 → getD (totals fs) (6
 -- "Each file is judged as if with memory enough": what judging answers, and the rows that it writes, where the report and the witness fit
 abbrev pub JudgedEnough : Type 0
 JudgedEnough =
-    (f report wit : List ℕ) → 4 * length (rowsOfFile f) ≤ length report → ((D : Domain) → decode f ≡ domain D → 8 * length (witness D) ≤ length wit)
+    (f report wit : List ℕ) → 4 * length (rowsOfFile f) ≤ length report
+    → ((D : Domain) → decode f ≡ domain D → 8 * length (witness D) ≤ length wit)
     → (judged f report wit ≡ decidedFile f) × (reportAfter f report wit ≡ over (rowBytes (rowsOfFile f)) report)
 
 abbrev pub sum : List ℕ → ℕ
@@ -81,7 +83,8 @@ abbrev pub TotalledCut : Type 0
 TotalledCut = (b out : List ℕ) (at : ℕ) → opened b ≡ cutAt at → (totalled b out ≡ answerAt 33 at) × (totalsAfter b out ≡ out)
 
 abbrev pub TotalledShort : Type 0
-TotalledShort = (b out : List ℕ) (fs : List (List ℕ)) → opened b ≡ files fs → length out < 568 → (totalled b out ≡ answerAt 30 0) × (totalsAfter b out ≡ out)
+TotalledShort = (b out : List ℕ) (fs : List (List ℕ)) → opened b ≡ files fs → length out < 568 → (totalled b out ≡ answerAt 30 0)
+    × (totalsAfter b out ≡ out)
 
 abbrev pub TotalledDone : Type 0
 TotalledDone =

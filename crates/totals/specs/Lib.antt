@@ -1,4 +1,4 @@
 -- A box of files, its totals, and what is claimed of them.
 pub mod Totals
 pub mod Claims
-pub mod Counted
+pub mod Held

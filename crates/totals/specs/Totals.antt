@@ -49,7 +49,11 @@ unfolding wholeFile firstFile behindFile
 openFrom zero at b = cutAt at
 openFrom (suc fuel) at [] = files []
 openFrom (suc fuel) at (x ∷ xs) =
-    elim (wholeFile (x ∷ xs)) [ true ↦ withFile (firstFile (x ∷ xs)) (openFrom fuel (at + 4 + long (x ∷ xs)) (behindFile (x ∷ xs))) | false ↦ cutAt at ]
+    elim (wholeFile (x ∷ xs)) [
+      | true ↦ withFile (firstFile (x ∷ xs))
+          (openFrom fuel (at + 4 + long (x ∷ xs)) (behindFile (x ∷ xs)))
+      | false ↦ cutAt at
+    ]
 
 unfoldable pub opened : List ℕ → Opened
 unfolding openFrom

@@ -4,7 +4,7 @@ ghost use mathlib.Core.Path.{_≡_};
 ghost use Prim.Native.Nat.{_+_, _≤_, _<_};
 ghost use lib.ListN.{length, drop};
 ghost use Rattle.totals.specs.Totals.{long, wholeFile, opened};
-ghost use Rattle.totals.specs.Counted.{openingOf};
+ghost use Rattle.totals.specs.Held.{openingOf};
 
 fn wide(b: u8) -> usize
     ensures { λ r. ⌜ (r ≡ b) × (r < 256) ⌝ }

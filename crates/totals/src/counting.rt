@@ -10,7 +10,7 @@ ghost use lib.ListN.{length, replicate};
 ghost use Rattle.records.specs.Lists.{In};
 ghost use Rattle.records.specs.Memory.{over};
 ghost use Rattle.totals.specs.Totals.{opened, files, totals};
-ghost use Rattle.totals.specs.Counted.{filesIn, oneMore, tally, namesIn, nameMark, marksOf, Room};
+ghost use Rattle.totals.specs.Held.{filesIn, oneMore, tally, namesIn, nameMark, marksOf, Room};
 
 // One total is one higher.
 fn add_one(counts: &mut [u64], at: usize)

@@ -9,7 +9,7 @@ use written::put_totals;
 ghost use mathlib.Core.Path.{_≡_};
 ghost use Rattle.totals.specs.Totals.{opened, files, totalled, totalsAfter};
 ghost use Rattle.totals.specs.Claims.{CountsFiles, AddsUp};
-ghost use Rattle.totals.specs.Counted.{filesIn};
+ghost use Rattle.totals.specs.Held.{filesIn};
 
 // A whole box, or the offset of the length at which it is cut.
 pub enum Opening {

@@ -12,8 +12,8 @@ use Rattle.records.specs.Lists.{In, all, any, sameList, elem, distinct}
 use Rattle.records.proofs.Lists.{and-l, and-r, or-cases, not-true, clash, filter-in, in-filter, any-in, all-in, elem-in, in-dedup, dedup-in, flatMap-in, in-flatMap}
 use Rattle.literals.specs.declared.Variable.{Variable}
 use Rattle.literals.specs.declared.Object.{Object}
-use Rattle.literals.specs.declared.Clause.{Clause}
-use Rattle.literals.specs.declared.Clause.the-variants.{Positive, Negative, Add, Delete}
+use Rattle.literals.specs.declared.Usage.{Usage}
+use Rattle.literals.specs.declared.Usage.the-variants.{Positive, Negative, Add, Delete}
 use Rattle.literals.specs.Domain.{sameVariable, sameObject, Atom, Fact, sameLiteral, Literal, Action, isCounted, Domain}
 use Rattle.literals.specs.declared.Moment.{Moment}
 use Rattle.literals.specs.declared.Moment.the-variants.{Start, End}
@@ -163,10 +163,10 @@ module _ (D : Domain) (a : Action) (ok : wellFormedAction D a ≡ true) (b : Bin
   lit-below : (l : Literal) → In l (a .lits) → Below (length b) (l .atom .args)
   lit-below l m = rw len (literal-below D a ok l m)
 
-  pub at-below : (m : Moment) (c : Clause) (p : Atom Variable) → In p (literalsAt a m c) → Below (length b) (p .args)
+  pub at-below : (m : Moment) (c : Usage) (p : Atom Variable) → In p (literalsAt a m c) → Below (length b) (p .args)
   at-below m c p h = let r = literalsAt-in a m c h in rw (r .3) (lit-below (r .0) (r .1))
 
-  asked-below : (m : Moment) (c : Clause) (p : Atom Variable) → In p (required a m c) → Below (length b) (p .args)
+  asked-below : (m : Moment) (c : Usage) (p : Atom Variable) → In p (required a m c) → Below (length b) (p .args)
   asked-below m c p h = let r = required-in a m c h in rw (r .3) (lit-below (r .0) (r .1))
 
   -- two of some different literals are bound to two facts
@@ -183,7 +183,7 @@ module _ (D : Domain) (a : Action) (ok : wellFormedAction D a ≡ true) (b : Bin
   class-below x h = let r = class-in D a h in tuple-below D (length b) (r .0 .atom) (lit-below (r .0) (r .1)) (r .2)
 
   -- a fact of the event that the instance matches belongs to a class that is bound to the instance
-  pub some-class : (m : Moment) (c : Clause) (f : Fact) → In f (effect a b m c) → matches D y f ≡ true
+  pub some-class : (m : Moment) (c : Usage) (f : Fact) → In f (effect a b m c) → matches D y f ≡ true
       → (x : List Variable) × In x (classes D a) × (bindTuple b x ≡ y) × ((p : Atom Variable) × In p (inClass D a x m c) × (f ≡ bind b p))
   unfolding inClass
   some-class m c f h t = let o = Memᴰ·of-map (bind b) (literalsAt a m c) h in go (o .0) (o .1) (o .2)
@@ -203,31 +203,31 @@ module _ (D : Domain) (a : Action) (ok : wellFormedAction D a ≡ true) (b : Bin
   one-class x z hx hz ex ez = bindTuple-inj b d x z (class-below x hx) (class-below z hz) (ex ∙ sym ez)
 
   module _ (x : List Variable) (hx : In x (classes D a)) (ex : bindTuple b x ≡ y) (m : Moment) where
-    pub back : (c : Clause) (f : Fact) → In f (effect a b m c) → matches D y f ≡ true → (p : Atom Variable) × In p (inClass D a x m c) × (f ≡ bind b p)
+    pub back : (c : Usage) (f : Fact) → In f (effect a b m c) → matches D y f ≡ true → (p : Atom Variable) × In p (inClass D a x m c) × (f ≡ bind b p)
     back c f h t = let r = some-class m c f h t in rw (one-class x (r .0) hx (r .1) ex (r .2)) (r .3)
 
-    pub class-at : (c : Clause) (p : Atom Variable) → In p (inClass D a x m c) → In p (literalsAt a m c)
+    pub class-at : (c : Usage) (p : Atom Variable) → In p (inClass D a x m c) → In p (literalsAt a m c)
     unfolding inClass
     class-at c p h = filter-in (belongs D x) (literalsAt a m c) h .0
 
-    pub forth : (c : Clause) (p : Atom Variable) → In p (inClass D a x m c) → In (bind b p) (effect a b m c)
+    pub forth : (c : Usage) (p : Atom Variable) → In p (inClass D a x m c) → In (bind b p) (effect a b m c)
     forth c p h = Memᴰ·map (bind b) (class-at c p h)
 
-    pub forth-matches : (c : Clause) (p : Atom Variable) → In p (inClass D a x m c) → matches D y (bind b p) ≡ true
+    pub forth-matches : (c : Usage) (p : Atom Variable) → In p (inClass D a x m c) → matches D y (bind b p) ≡ true
     unfolding inClass
     forth-matches c p h = rw (← ex) (matches-bind D b x p (filter-in (belongs D x) (literalsAt a m c) h .1))
 
-    pub gone : (c : Clause) → inClass D a x m c ≡ [] → (f : Fact) → In f (effect a b m c) → matches D y f ≡ true → ⊥
+    pub gone : (c : Usage) → inClass D a x m c ≡ [] → (f : Fact) → In f (effect a b m c) → matches D y f ≡ true → ⊥
     gone c e f h t = let r = back c f h t in List·Memᴰ·not-nil (rw e at (r .1))
 
-    pub only : (c : Clause) (q : Atom Variable) → inClass D a x m c ≡ q ∷ [] → (f : Fact) → In f (effect a b m c) → matches D y f ≡ true → f ≡ bind b q
+    pub only : (c : Usage) (q : Atom Variable) → inClass D a x m c ≡ q ∷ [] → (f : Fact) → In f (effect a b m c) → matches D y f ≡ true → f ≡ bind b q
     only c q e f h t = let r = back c f h t in r .2 ∙ ap (bind b) (List·Memᴰ·eq-of-singleton (rw e at (r .1)))
 
-    one-in : (c : Clause) {q : Atom Variable} {l : List (Atom Variable)} → inClass D a x m c ≡ q ∷ l → In q (inClass D a x m c)
+    one-in : (c : Usage) {q : Atom Variable} {l : List (Atom Variable)} → inClass D a x m c ≡ q ∷ l → In q (inClass D a x m c)
     one-in c e = rw e (List·Memᴰ·head refl)
 
-    -- two literals of a clause are bound to two facts
-    pub twice : (c : Clause) (p q : Atom Variable) (ps : List (Atom Variable)) → inClass D a x m c ≡ p ∷ q ∷ ps → bind b p ≡ bind b q → ⊥
+    -- two literals of a usage are bound to two facts
+    pub twice : (c : Usage) (p q : Atom Variable) (ps : List (Atom Variable)) → inClass D a x m c ≡ p ∷ q ∷ ps → bind b p ≡ bind b q → ⊥
     twice c = two-facts (inClass D a x m c) (class-distinct D a x m c) (λ p h. at-below m c p (class-at c p h))
 
     -- ---- what is asked: an event with two true conditions in the class never happens where the instance has at most one fact
@@ -270,7 +270,7 @@ module _ (D : Domain) (a : Action) (ok : wellFormedAction D a ≡ true) (b : Bin
           let rel : f .rel ≡ r .0 .rel = sym (eqb-true (k .0 .rel) (f .rel) (and-l _ _ (k .2))) ∙ eqb-true (k .0 .rel) (r .0 .rel) (r .2) in
           which (r .0) rel (List·Memᴰ·append-cases (inClass D a x m Negative) (r .1))
         where
-          is : (c : Clause) (p : Atom Variable) → f .rel ≡ p .rel → In p (inClass D a x m c) → f ≡ bind b p
+          is : (c : Usage) (p : Atom Variable) → f .rel ≡ p .rel → In p (inClass D a x m c) → f ≡ bind b p
           is c p e h = same-fact D okT y f (bind b p) t (forth-matches c p h) e
               (λ k mk ek. and-l (not (any isCounted (k .labels))) _ (all-in (covered (excluding D a x m)) (D .template) cov mk))
 

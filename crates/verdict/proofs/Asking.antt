@@ -6,8 +6,8 @@ use mathlib.Core.List.{List, [], _∷_, map, Memᴰ·of-map, Memᴰ·map}
 use Rattle.records.specs.Lists.{In, all, elem}
 use Rattle.records.proofs.Lists.{and-l, and-r, and-i, all-in, all-of, elem-in}
 use Rattle.literals.specs.declared.Variable.{Variable}
-use Rattle.literals.specs.declared.Clause.{Clause}
-use Rattle.literals.specs.declared.Clause.the-variants.{Positive, Negative}
+use Rattle.literals.specs.declared.Usage.{Usage}
+use Rattle.literals.specs.declared.Usage.the-variants.{Positive, Negative}
 use Rattle.literals.specs.Domain.{Atom, Fact, sameFact, Action, Domain, action}
 use Rattle.literals.specs.declared.Moment.{Moment}
 use Rattle.literals.specs.declared.Moment.the-variants.{Start, End}
@@ -39,7 +39,7 @@ module _ (D : Domain) (s : List Fact) where
       (all-of lacked (eventFacts D e Negative) (λ f m. all-in lacked (requiredFacts D e Negative) (and-r (all held (requiredFacts D e Positive)) _ t) (own-asked-facts D e Negative m)))
 
   -- at an end it is its own and the over-all ones
-  asked-by : (g : GroundAction) (c : Clause) (q : Fact → Bool) → all q (eventFacts D (record { moment = End; ground = g }) c) ≡ true
+  asked-by : (g : GroundAction) (c : Usage) (q : Fact → Bool) → all q (eventFacts D (record { moment = End; ground = g }) c) ≡ true
       → all (λ p. q (bind (g .binding) p)) (overAllLiterals (action D (g .action)) c) ≡ true → all q (requiredFacts D (record { moment = End; ground = g }) c) ≡ true
   unfolding eventFacts requiredFacts
   asked-by g c q t u =

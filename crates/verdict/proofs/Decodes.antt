@@ -12,9 +12,9 @@ use Rattle.records.proofs.Lists.{and-l, and-r, and-i, all-of, any-out, eqb-comm
 use Rattle.literals.specs.declared.Variable.{Variable}
 use Rattle.literals.specs.declared.Time.{Time}
 use Rattle.literals.specs.declared.Time.the-variants.{AtStart}
-use Rattle.literals.specs.declared.Clause.{Clause}
-use Rattle.literals.specs.declared.Clause.the-variants.{Positive, Negative, Add, Delete}
-use Rattle.literals.specs.Domain.{variable, clauseNumber, firstRole, sameTime, Literal, Action, Component, Template, keysOf, labelsFit, Domain, arity}
+use Rattle.literals.specs.declared.Usage.{Usage}
+use Rattle.literals.specs.declared.Usage.the-variants.{Positive, Negative, Add, Delete}
+use Rattle.literals.specs.Domain.{variable, usageNumber, firstRole, sameTime, Literal, Action, Component, Template, keysOf, labelsFit, Domain, arity}
 use Rattle.literals.specs.Decode.{RecordKind, relationRecord, actionRecord, literalRecord, componentRecord, closingRecord, unknownRecord, latest, byte, literalOf, repeats, contrary, together, contradicts, labelOf, componentOf, literalStop, componentStop, fieldStop, stopOf, withLiteral, actionOf, extend, refuse, refused, domain, Reading, ReadTurn, goOn, finish, readStep, Finished, readFrom, noDomain, fromStart, readFile, decode, maxFile}
 use Rattle.literals.proofs.Stops.{passes, literal-passes, ComponentPasses, component-passes}
 use Rattle.literals.proofs.Equality.{literal-comm}
@@ -42,10 +42,10 @@ sameRelation c d = eqb (c .rel) (d .rel)
 
 repeats-comm : (l m : Literal) → repeats l m ≡ repeats m l
 repeats-comm l m =
-    ap₂ _&&_ (ap₂ _&&_ (eqb-comm (firstRole (l .role .time)) (firstRole (m .role .time))) (eqb-comm (clauseNumber (l .role .clause)) (clauseNumber (m .role .clause))))
+    ap₂ _&&_ (ap₂ _&&_ (eqb-comm (firstRole (l .role .time)) (firstRole (m .role .time))) (eqb-comm (usageNumber (l .role .usage)) (usageNumber (m .role .usage))))
     (literal-comm (l .atom) (m .atom))
 
-contrary-comm : (c d : Clause) → contrary c d ≡ contrary d c
+contrary-comm : (c d : Usage) → contrary c d ≡ contrary d c
 contrary-comm Positive Positive = refl
 contrary-comm Positive Negative = refl
 contrary-comm Positive Add = refl
@@ -74,7 +74,7 @@ together-comm t u = go (sameTime t AtStart) (sameTime u AtStart)
 
 contradicts-comm : (l m : Literal) → contradicts l m ≡ contradicts m l
 contradicts-comm l m =
-    ap₂ _&&_ (ap₂ _&&_ (contrary-comm (l .role .clause) (m .role .clause)) (together-comm (l .role .time) (m .role .time))) (literal-comm (l .atom) (m .atom))
+    ap₂ _&&_ (ap₂ _&&_ (contrary-comm (l .role .usage) (m .role .usage)) (together-comm (l .role .time) (m .role .time))) (literal-comm (l .atom) (m .atom))
 
 -- ---- a relation with its arity
 

@@ -9,8 +9,8 @@ use lib.ListN.{length}
 use borrow.Author.Tests.{ltb-true, eqb-true}
 use Rattle.records.specs.Lists.{In, all, filterBy, elem, dedup}
 use Rattle.records.proofs.Lists.{and-l, and-r, or-l, or-r, not-true, off, bool-cases, clash, in-any, all-in, filter-in, in-filter, elem-in, in-elem, not-elem, dedup-in, in-dedup, flatMap-in, in-flatMap}
-use Rattle.literals.specs.declared.Clause.{Clause}
-use Rattle.literals.specs.declared.Clause.the-variants.{Positive, Negative, Add, Delete}
+use Rattle.literals.specs.declared.Usage.{Usage}
+use Rattle.literals.specs.declared.Usage.the-variants.{Positive, Negative, Add, Delete}
 use Rattle.literals.specs.Domain.{Fact, sameFact, Domain, action}
 use Rattle.literals.specs.Matching.{literalsAt}
 use Rattle.classes.proofs.Roles.{own-required}
@@ -30,11 +30,11 @@ fact-elem = in-elem sameFact fact-self
 pub not-fact : (f : Fact) (l : List Fact) → not (elem sameFact f l) ≡ true → In f l → ⊥
 not-fact = not-elem sameFact fact-self
 
-pub stepFacts-in : (D : Domain) (c : Clause) {f : Fact} (es : List Event) → In f (stepFacts D es c) → (e : Event) × In e es × In f (eventFacts D e c)
+pub stepFacts-in : (D : Domain) (c : Usage) {f : Fact} (es : List Event) → In f (stepFacts D es c) → (e : Event) × In e es × In f (eventFacts D e c)
 unfolding stepFacts
 stepFacts-in D c es m = flatMap-in (λ e. eventFacts D e c) es m
 
-pub in-stepFacts : (D : Domain) (c : Clause) {f : Fact} {e : Event} {es : List Event} → In e es → In f (eventFacts D e c) → In f (stepFacts D es c)
+pub in-stepFacts : (D : Domain) (c : Usage) {f : Fact} {e : Event} {es : List Event} → In e es → In f (eventFacts D e c) → In f (stepFacts D es c)
 unfolding stepFacts
 in-stepFacts D c m k = in-flatMap (λ e. eventFacts D e c) m k
 
@@ -97,7 +97,7 @@ asked-holds D s e c = record {
 }
 
 -- the event's own conditions are among it
-pub own-asked-facts : (D : Domain) (e : Event) (c : Clause) {f : Fact} → In f (eventFacts D e c) → In f (requiredFacts D e c)
+pub own-asked-facts : (D : Domain) (e : Event) (c : Usage) {f : Fact} → In f (eventFacts D e c) → In f (requiredFacts D e c)
 unfolding eventFacts requiredFacts
 own-asked-facts D e c m =
     let a = action D (e .ground .action) in

@@ -14,10 +14,10 @@ use Rattle.literals.specs.declared.Variable.{Variable}
 use Rattle.literals.specs.declared.Object.{Object}
 use Rattle.literals.specs.declared.Time.{Time}
 use Rattle.literals.specs.declared.Time.the-variants.{AtStart}
-use Rattle.literals.specs.declared.Clause.{Clause}
-use Rattle.literals.specs.declared.Clause.the-variants.{Positive, Negative, Add, Delete}
+use Rattle.literals.specs.declared.Usage.{Usage}
+use Rattle.literals.specs.declared.Usage.the-variants.{Positive, Negative, Add, Delete}
 use Rattle.literals.specs.declared.Role.{Role}
-use Rattle.literals.specs.Domain.{object, sameObject, Atom, Fact, sameFact, sameLiteral, firstRole, clauseNumber, sameTime, sameClause, Literal, Action, Component, isCounted, keysOf, Domain, action}
+use Rattle.literals.specs.Domain.{object, sameObject, Atom, Fact, sameFact, sameLiteral, firstRole, usageNumber, sameTime, sameUsage, Literal, Action, Component, isCounted, keysOf, Domain, action}
 use Rattle.literals.specs.Decode.{repeats, contrary, together, contradicts}
 use Rattle.literals.specs.declared.Moment.the-variants.{Start}
 use Rattle.literals.specs.Matching.{own, literalsAt, required, matches}
@@ -37,7 +37,7 @@ use Rattle.verdict.proofs.Instances.{class-length, instance-matches, in
 
 -- ---- no condition is both true and false at a start
 
-contrary-of : (c d : Clause) → sameClause Positive c ≡ true → sameClause Negative d ≡ true → (contrary c d ≡ true) × (contrary d c ≡ true)
+contrary-of : (c d : Usage) → sameUsage Positive c ≡ true → sameUsage Negative d ≡ true → (contrary c d ≡ true) × (contrary d c ≡ true)
 contrary-of Positive Positive s t = absurd (false≢true t)
 contrary-of Positive Negative s t = (refl, refl)
 contrary-of Positive Add s t = absurd (false≢true t)
@@ -49,7 +49,7 @@ contrary-of Delete d s t = absurd (false≢true s)
 together-of : (t u : Time) → sameTime AtStart t ≡ true → sameTime AtStart u ≡ true → together t u ≡ true
 together-of t u s r = rw (eqb-comm (firstRole t) 0, s, eqb-comm (firstRole u) 0, r)
 
-own-of : (c : Clause) (r : Role) → own Start c r ≡ true → (sameTime AtStart (r .time) ≡ true) × (sameClause c (r .clause) ≡ true)
+own-of : (c : Usage) (r : Role) → own Start c r ≡ true → (sameTime AtStart (r .time) ≡ true) × (sameUsage c (r .usage) ≡ true)
 own-of c r k = (and-l _ _ k, and-r (sameTime AtStart (r .time)) _ k)
 
 never-both : (D : Domain) (a : Action) → wellFormedAction D a ≡ true → (p : Atom Variable)
@@ -60,18 +60,18 @@ never-both D a ok p m n =
     go (l .0) (k .0) (own-of Positive (l .0 .role) (l .2)) (own-of Negative (k .0 .role) (k .2)) (sym (l .3) ∙ k .3)
     (pairwise-in (λ l m. not (repeats l m) && not (contradicts l m)) (a .lits) (literals-apart D a ok) (l .1) (k .1))
   where
-    go : (l k : Literal) → (sameTime AtStart (l .role .time) ≡ true) × (sameClause Positive (l .role .clause) ≡ true)
-        → (sameTime AtStart (k .role .time) ≡ true) × (sameClause Negative (k .role .clause) ≡ true) → l .atom ≡ k .atom
+    go : (l k : Literal) → (sameTime AtStart (l .role .time) ≡ true) × (sameUsage Positive (l .role .usage) ≡ true)
+        → (sameTime AtStart (k .role .time) ≡ true) × (sameUsage Negative (k .role .usage) ≡ true) → l .atom ≡ k .atom
         → (l ≡ k) ⊎ ((not (repeats l k) && not (contradicts l k) ≡ true) ⊎ (not (repeats k l) && not (contradicts k l) ≡ true)) → ⊥
     go l k hl hk e (inl same) =
-        let y = eqb-true 0 (clauseNumber (l .role .clause)) (hl .1) in
-        let z = eqb-true 1 (clauseNumber (k .role .clause)) (hk .1) in
-        let w : clauseNumber (l .role .clause) ≡ clauseNumber (k .role .clause) = ap (λ (l : Literal). clauseNumber (l .role .clause)) same in omega arith
+        let y = eqb-true 0 (usageNumber (l .role .usage)) (hl .1) in
+        let z = eqb-true 1 (usageNumber (k .role .usage)) (hk .1) in
+        let w : usageNumber (l .role .usage) ≡ usageNumber (k .role .usage) = ap (λ (l : Literal). usageNumber (l .role .usage)) same in omega arith
     go l k hl hk e (inr (inl h)) =
-        clash (and-i (and-i (contrary-of (l .role .clause) (k .role .clause) (hl .1) (hk .1) .0) (together-of (l .role .time) (k .role .time) (hl .0) (hk .0)))
+        clash (and-i (and-i (contrary-of (l .role .usage) (k .role .usage) (hl .1) (hk .1) .0) (together-of (l .role .time) (k .role .time) (hl .0) (hk .0)))
         (sym (ap (sameLiteral (l .atom)) e) ∙ literal-self (l .atom))) (not-true _ (and-r (not (repeats l k)) _ h))
     go l k hl hk e (inr (inr h)) =
-        clash (and-i (and-i (contrary-of (l .role .clause) (k .role .clause) (hl .1) (hk .1) .1) (together-of (k .role .time) (l .role .time) (hk .0) (hl .0)))
+        clash (and-i (and-i (contrary-of (l .role .usage) (k .role .usage) (hl .1) (hk .1) .1) (together-of (k .role .time) (l .role .time) (hk .0) (hl .0)))
         (ap (sameLiteral (k .atom)) e ∙ literal-self (k .atom))) (not-true _ (and-r (not (repeats k l)) _ h))
 
 among-of : (objs os : List Object) → ((o : Object) → In o os → In o objs) → among objs os ≡ true
@@ -110,7 +110,7 @@ module _ (D : Domain) (wf : wellFormed D ≡ true) (i : ℕ) (idx : i < length (
   spare-out : In (spare act) b → ⊥
   spare-out m = let r = objects-range 0 (act .vars) (spare act) m .1 in omega arith
 
-  held-fact : (c : Clause) (f : Fact) → In f (effect act b Start c) → isFact D (plainObjects D i) f ≡ true
+  held-fact : (c : Usage) (f : Fact) → In f (effect act b Start c) → isFact D (plainObjects D i) f ≡ true
   held-fact c f m = let r = Memᴰ·of-map (bind b) (literalsAt act Start c) m in rw (← r .2) (go (r .0) (r .1))
     where
       go : (p : Atom Variable) → In p (literalsAt act Start c) → isFact D (plainObjects D i) (bind b p) ≡ true
@@ -186,21 +186,21 @@ module _ (D : Domain) (wf : wellFormed D ≡ true) (i : ℕ) (idx : i < length (
     over : (o : Object) → In o y → In o (plainObjects D i)
     over o m = bound-in o (value-in x (class-below D act ok b len dis y x hx) o m)
 
-    fact-of : (c : Clause) (p : Atom Variable) → In p (inClass D act x Start c) → In (bind b p) (effect act b Start c)
+    fact-of : (c : Usage) (p : Atom Variable) → In p (inClass D act x Start c) → In (bind b p) (effect act b Start c)
     fact-of = forth D act ok b len dis y x hx refl Start
 
-    fact-matches : (c : Clause) (p : Atom Variable) → In p (inClass D act x Start c) → matches D y (bind b p) ≡ true
+    fact-matches : (c : Usage) (p : Atom Variable) → In p (inClass D act x Start c) → matches D y (bind b p) ≡ true
     fact-matches = forth-matches D act ok b len dis y x hx refl Start
 
-    literal-of : (c : Clause) (f : Fact) → In f (effect act b Start c) → matches D y f ≡ true → (p : Atom Variable) × In p (inClass D act x Start c) × (f ≡ bind b p)
+    literal-of : (c : Usage) (f : Fact) → In f (effect act b Start c) → matches D y f ≡ true → (p : Atom Variable) × In p (inClass D act x Start c) × (f ≡ bind b p)
     literal-of = back D act ok b len dis y x hx refl Start
 
-    args-below : (c : Clause) (p : Atom Variable) → In p (inClass D act x Start c) → Below (length b) (p .args)
+    args-below : (c : Usage) (p : Atom Variable) → In p (inClass D act x Start c) → Below (length b) (p .args)
     args-below c p h = at-below D act ok b len dis y Start c p (class-at D act ok b len dis y x hx refl Start c p h)
 
-    -- a literal of the class whose fact is among those of a clause is of that clause
-    of-clause : (c k : Clause) (p : Atom Variable) → In p (inClass D act x Start c) → In (bind b p) (effect act b Start k) → In p (inClass D act x Start k)
-    of-clause c k p h m =
+    -- a literal of the class whose fact is among those of a usage is of that usage
+    of-usage : (c k : Usage) (p : Atom Variable) → In p (inClass D act x Start c) → In (bind b p) (effect act b Start k) → In p (inClass D act x Start k)
+    of-usage c k p h m =
         let r = literal-of k (bind b p) m (fact-matches c p h) in
         Memᴰ·cast (bind-inj b dis p (r .0) (args-below c p h) (args-below k (r .0) (r .1)) (r .2)) (r .1)
 
@@ -231,10 +231,10 @@ module _ (D : Domain) (wf : wellFormed D ≡ true) (i : ℕ) (idx : i < length (
         alone-harm y size over (one-hold p ep) (bind b c) (bind b p) (fact-of Add c hc)
         (inr (
           fact-of Positive p hp,
-          λ k. unchanged (or-r (elem sameLiteral p (inClass D act x Start Add)) (in-elem sameLiteral literal-self (of-clause Positive Delete p hp k))),
+          λ k. unchanged (or-r (elem sameLiteral p (inClass D act x Start Add)) (in-elem sameLiteral literal-self (of-usage Positive Delete p hp k))),
         ))
         (fact-matches Add c hc) (fact-matches Positive p hp)
-        (λ e. unchanged (or-l (elem sameLiteral p (inClass D act x Start Delete)) (in-elem sameLiteral literal-self (of-clause Positive Add p hp (Memᴰ·cast (sym e) (fact-of Add c hc))))))
+        (λ e. unchanged (or-l (elem sameLiteral p (inClass D act x Start Delete)) (in-elem sameLiteral literal-self (of-usage Positive Add p hp (Memᴰ·cast (sym e) (fact-of Add c hc))))))
       where
         unchanged : changedBy (inClass D act x Start Add) (inClass D act x Start Delete) p ≡ true → ⊥
         unchanged t = clash (rw ep (and-i t refl)) ch
@@ -284,7 +284,7 @@ module _ (D : Domain) (wf : wellFormed D ≡ true) (i : ℕ) (idx : i < length (
             is g (inr m) t = List·Memᴰ·eq-of-singleton m
 
             -- the instance fact of a component that is not covered is no fact of the event
-            bad : (k : Clause) → ((q : Atom Variable) → In q (inClass D act x Start k) → In q (excluding D act x Start)) → In f (effect act b Start k) → ⊥
+            bad : (k : Usage) → ((q : Atom Variable) → In q (inClass D act x Start k) → In q (excluding D act x Start)) → In f (effect act b Start k) → ⊥
             bad k up m = by-label (bool-cases (any isCounted (u .labels)))
               where
                 by-label : (any isCounted (u .labels) ≡ true) ⊎ (any isCounted (u .labels) ≡ false) → ⊥

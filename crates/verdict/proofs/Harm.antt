@@ -10,7 +10,7 @@ use Rattle.records.specs.Lists.{In, all, any, sameList, distinct, dedup}
 use Rattle.records.proofs.Lists.{and-l, and-r, and-i, bool-cases, clash, in-any, any-in, all-in, getD-in, in-getD, count-single, single-count, distinct-dedup}
 use Rattle.literals.specs.declared.Variable.{Variable}
 use Rattle.literals.specs.declared.Object.{Object}
-use Rattle.literals.specs.declared.Clause.the-variants.{Positive}
+use Rattle.literals.specs.declared.Usage.the-variants.{Positive}
 use Rattle.literals.specs.Domain.{sameObject, Fact, sameFact, Action, Domain, action}
 use Rattle.literals.specs.declared.Moment.{Moment}
 use Rattle.literals.specs.declared.Moment.the-variants.{Start, End}

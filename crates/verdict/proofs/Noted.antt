@@ -23,7 +23,7 @@ use Rattle.verdict.specs.declared.Notes.{Notes}
 use Rattle.verdict.specs.Decision.{Row, isUnbounded, isBounded, faultBy, isBoundedOutside, hasFault, firstRow}
 use Rattle.verdict.specs.Judged.{Answer, answerAt}
 use Rattle.verdict.specs.Summaries.{spotOf, firstSpot, hasUnbounded, summaryRows, placeIn, placeElse, firstPlace, notesOf, answerPlace, faultless}
-use Rattle.verdict.specs.Coded.{judgementOf, rowFor, spotElse}
+use Rattle.verdict.specs.Held.{judgementOf, rowFor, spotElse}
 
 -- ---- one row more
 

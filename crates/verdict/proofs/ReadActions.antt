@@ -10,7 +10,7 @@ use Rattle.literals.specs.Decode.{repeats, contradicts}
 use Rattle.literals.specs.Table.{literalRow}
 use Rattle.literals.specs.Held.{Held}
 use Rattle.literals.proofs.Heads.{action-in}
-use Rattle.classes.specs.Coded.{ActionOf}
+use Rattle.classes.specs.Held.{ActionOf}
 use Rattle.verdict.specs.Claims.{wellFormed}
 use Rattle.verdict.proofs.WellFormed.{literals-apart, action-well-formed}
 

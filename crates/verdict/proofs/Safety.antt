@@ -13,7 +13,7 @@ use Rattle.records.specs.Lists.{In, all, any, countBy, sameList, distinct, dedu
 use Rattle.records.proofs.Lists.{and-l, and-r, and-i, bool-cases, clash, in-any, any-in, all-in, all-of, count-pos, count-none, count-some, count-single, single-count, distinct-dedup}
 use Rattle.literals.specs.declared.Variable.{Variable}
 use Rattle.literals.specs.declared.Object.{Object}
-use Rattle.literals.specs.declared.Clause.the-variants.{Positive}
+use Rattle.literals.specs.declared.Usage.the-variants.{Positive}
 use Rattle.literals.specs.Domain.{sameVariable, sameObject, Fact, sameFact, Action, Domain, action}
 use Rattle.literals.specs.declared.Moment.{Moment}
 use Rattle.literals.specs.declared.Moment.the-variants.{Start, End}

@@ -10,15 +10,15 @@ use mathlib.Core.List.{List, [], _∷_, foldr, List·Memᴰ·head, List·Memᴰ�
 use Prim.Native.Nat.{ℕ, _+_, _-_, _≤_}
 use native.Mathlib.Omega.{arith}
 use Rattle.records.specs.Lists.{In}
-use Rattle.literals.specs.declared.Clause.{Clause}
-use Rattle.literals.specs.declared.Clause.the-variants.{Positive, Negative, Add, Delete}
+use Rattle.literals.specs.declared.Usage.{Usage}
+use Rattle.literals.specs.declared.Usage.the-variants.{Positive, Negative, Add, Delete}
 use Rattle.literals.specs.Domain.{Fact}
 
 abbrev pub Facts : Type 1
 Facts = Fact → Type 0
 
 abbrev pub Effect : Type 0
-Effect = Clause → List Fact
+Effect = Usage → List Fact
 
 -- after one event
 abbrev pub One : Facts → Effect → Facts

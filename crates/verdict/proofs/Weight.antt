@@ -4,7 +4,7 @@ use mathlib.Core.Bool.{true, not}
 use mathlib.Core.List.{List, _++_, Memᴰ·cast}
 use Rattle.records.specs.Lists.{In, filterBy, elem, distinct, dedup}
 use Rattle.records.proofs.Lists.{off, filter-in, pairwise-filter, pairwise-append, distinct-dedup}
-use Rattle.literals.specs.declared.Clause.the-variants.{Add, Delete}
+use Rattle.literals.specs.declared.Usage.the-variants.{Add, Delete}
 use Rattle.literals.specs.Domain.{Fact, sameFact, Domain}
 use Rattle.verdict.specs.Machine.{Event, stepFacts, factsAfter}
 use Rattle.verdict.proofs.Equality.{fact-eq}

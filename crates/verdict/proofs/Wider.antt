@@ -5,7 +5,7 @@ use mathlib.Core.Logic.{_⊎_, inl, inr}
 use mathlib.Core.List.{List, _++_, List·Memᴰ·append-cases, Memᴰ·append-left, Memᴰ·append-right}
 use Rattle.records.specs.Lists.{In, all, elem, pairwise}
 use Rattle.records.proofs.Lists.{and-l, and-r, and-i, or-l, or-r, or-cases, in-any, any-in, pairwise-weaken}
-use Rattle.literals.specs.declared.Clause.the-variants.{Positive, Negative}
+use Rattle.literals.specs.declared.Usage.the-variants.{Positive, Negative}
 use Rattle.literals.specs.Domain.{Fact, sameFact, Domain}
 use Rattle.verdict.specs.Machine.{Event, State, eventFacts, requiredFacts, addedFacts, struckFacts, isOpen, conditionsHold, overAllHold, meet, disturbs, interfere, allowed}
 use Rattle.verdict.specs.Claims.{disturbsWithOverAll, interfereWithOverAll, Wider}

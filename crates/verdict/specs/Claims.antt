@@ -9,7 +9,7 @@ use lib.ListN.{length, take, drop}
 use Rattle.records.specs.Lists.{In, all, countBy, pairwise, sameList, elem, distinct}
 use Rattle.literals.specs.declared.Variable.{Variable}
 use Rattle.literals.specs.declared.Object.{Object}
-use Rattle.literals.specs.declared.Clause.the-variants.{Positive, Negative}
+use Rattle.literals.specs.declared.Usage.the-variants.{Positive, Negative}
 use Rattle.literals.specs.Domain.{object, sameObject, Fact, Literal, Action, Component, keysOf, labelsFit, Domain, arity, action}
 use Rattle.literals.specs.Decode.{byte, repeats, contradicts, domain, decode}
 use Rattle.literals.specs.declared.Moment.the-variants.{Start}
@@ -17,7 +17,8 @@ use Rattle.classes.specs.Classes.{classes, nameOf, journey}
 use Rattle.verdict.specs.Binding.{bindTuple, objectsFrom, sameNumbers}
 use Rattle.verdict.specs.Decision.{faultBy, classAt, witnessAt, witness}
 use Rattle.verdict.specs.Judged.{Answer, answerAt, decided, decidedFile, judged}
-use Rattle.verdict.specs.Machine.{GroundAction, Event, State, legal, legalStep, injective, requiredFacts, addedFacts, struckFacts, meet, isOpen, conditionsHold, ownHold, overAllHold, allowed, next, startState, run, weight}
+use Rattle.verdict.specs.Machine.{GroundAction, Event, State, legal, legalStep, injective, requiredFacts, addedFacts, struckFacts}
+use Rattle.verdict.specs.Machine.{meet, isOpen, conditionsHold, ownHold, overAllHold, allowed, next, startState, run, weight}
 
 -- ---- what reading a file ensures of its domain
 
@@ -28,7 +29,8 @@ hasArity D r vs = ltb r (length (D .arities)) && eqb (length vs) (arity D r)
 -- relations with their arities, variables below the count, no literal repeated in its role, none both true and false
 unfoldable pub wellFormedAction : Domain → Action → Bool
 wellFormedAction D a =
-    all (λ (l : Literal). hasArity D (l .atom .rel) (l .atom .args) && all (λ (v : Variable). ltb (v .0) (a .vars)) (l .atom .args)) (a .lits)
+    all (λ (l : Literal). hasArity D (l .atom .rel) (l .atom .args) && all (λ (v : Variable). ltb (v .0) (a .vars)) (l .atom .args))
+    (a .lits)
     && pairwise (λ l m. not (repeats l m) && not (contradicts l m)) (a .lits)
 
 -- relations with their arities, each once, with the keys 0 to n-1 once each and at most one FF
@@ -67,7 +69,8 @@ pub record Chosen (D : Domain) (objs : List Object) (fs : List Fact) (y : List O
 
 -- ---- what an end asks
 
--- the over-all conditions of an end are among those of everything open: where they hold, and every end is open, an event's own conditions are left to ask
+-- the over-all conditions of an end are among those of everything open: where they hold, and every end is open, an event's own conditions
+-- are left to ask
 abbrev pub OwnIsEnough : Type 0
 OwnIsEnough =
     (D : Domain) (s : State) (es : List Event) → all (isOpen (s .running)) es ≡ true → all (overAllHold D (s .facts)) (s .running) ≡ true
@@ -80,7 +83,8 @@ disturbsWithOverAll D e f = meet (requiredFacts D e Positive ++ requiredFacts D 
 abbrev pub interfereWithOverAll : Domain → Event → Event → Bool
 interfereWithOverAll D e f = disturbsWithOverAll D e f || disturbsWithOverAll D f e
 
--- "so both may end together": every step that is allowed by that interference is allowed. (That more is, a case shows: crates/cases, `ends-together`)
+-- "so both may end together": every step that is allowed by that interference is allowed. (That more is, a case shows: crates/cases,
+-- `ends-together`)
 abbrev pub Wider : Type 0
 Wider =
     (D : Domain) (s : State) (es : List Event)
@@ -90,7 +94,8 @@ Wider =
 
 -- ---- safety of an accepted template
 
--- "whatever finite set of objects, start facts with nothing open, instance that weighs at most one, and list of steps .. somebody chooses, in no state reached does the instance weigh two or more"
+-- "whatever finite set of objects, start facts with nothing open, instance that weighs at most one, and list of steps .. somebody chooses,
+-- in no state reached does the instance weigh two or more"
 abbrev pub Safe : Domain → Type 0
 Safe D =
     (objs : List Object) (fs : List Fact) (y : List Object) (steps : List (List Event)) → Chosen D objs fs y steps
@@ -155,7 +160,8 @@ plainObjects D i = objectsFrom 0 (suc (action D i .vars))
 abbrev pub plainInstance : Domain → ℕ → ℕ → List Object
 plainInstance D i j = bindTuple (sameNumbers (action D i)) (classAt D i j)
 
--- "With the witness's facts and nothing open, the named action alone is an allowed step, and the bound key tuple of the named class is an instance that weighs at most one before it and two or more after it."
+-- "With the witness's facts and nothing open, the named action alone is an allowed step, and the bound key tuple of the named class is an
+-- instance that weighs at most one before it and two or more after it."
 pub record Shown (D : Domain) (a : Answer) : Type 0 where
   pub numbered : (40 ≤ a .number) × (a .number ≤ 42)
   pub action-listed : a .first < length (D .actions)
@@ -167,7 +173,8 @@ abbrev pub WitnessShows : Type 0
 WitnessShows = (D : Domain) → wellFormed D ≡ true → noneLasts D ≡ true → refusedForClass (decided D) ≡ true → Shown D (decided D)
 
 abbrev pub WitnessOfFile : Type 0
-WitnessOfFile = (f : List ℕ) (D : Domain) → decode f ≡ domain D → noneLasts D ≡ true → refusedForClass (decidedFile f) ≡ true → Shown D (decidedFile f)
+WitnessOfFile = (f : List ℕ) (D : Domain) → decode f ≡ domain D → noneLasts D ≡ true → refusedForClass (decidedFile f) ≡ true
+    → Shown D (decidedFile f)
 
 -- ---- the same per action and class, whatever lasts elsewhere
 
@@ -192,7 +199,8 @@ abbrev pub HarmIsOfFaultyClass : Type 0
 HarmIsOfFaultyClass =
     (D : Domain) → wellFormed D ≡ true → (objs : List Object) (fs : List Fact) (y : List Object) (e : Event) → Harm D objs fs y e
     → action D (e .ground .action) .lasting ≡ false
-    → (j : ℕ) × ClassAtOnce D (e .ground .action) j × (bindTuple (e .ground .binding) (classAt D (e .ground .action) j) ≡ y) × FaultyClass D (e .ground .action) j
+    → (j : ℕ) × ClassAtOnce D (e .ground .action) j × (bindTuple (e .ground .binding) (classAt D (e .ground .action) j) ≡ y)
+    × FaultyClass D (e .ground .action) j
 
 -- ---- verdict 1: weight and open journeys
 
@@ -231,7 +239,8 @@ NeverRisesOfFile = (f : List ℕ) (D : Domain) → decode f ≡ domain D → dec
 -- "judging answers this decision unless 30 or 31 comes in its place"
 abbrev pub JudgingDecides : Type 0
 JudgingDecides =
-    (f report wit : List ℕ) → (judged f report wit ≡ decidedFile f) ⊎ ((judged f report wit ≡ answerAt 30 0) ⊎ (judged f report wit ≡ answerAt 31 0))
+    (f report wit : List ℕ)
+    → (judged f report wit ≡ decidedFile f) ⊎ ((judged f report wit ≡ answerAt 30 0) ⊎ (judged f report wit ≡ answerAt 31 0))
 
 -- the facts in a witness's bytes, k of them: "8 bytes a fact (relation, arity, arguments, FF to fill)"
 unfoldable pub readFacts : ℕ → List ℕ → List Fact

@@ -10,7 +10,7 @@ use Rattle.literals.specs.declared.Variable.{Variable}
 use Rattle.literals.specs.declared.Object.{Object}
 use Rattle.literals.specs.declared.Label.{Label}
 use Rattle.literals.specs.declared.Label.the-variants.{Key as keyed, Counted}
-use Rattle.literals.specs.declared.Clause.the-variants.{Positive}
+use Rattle.literals.specs.declared.Usage.the-variants.{Positive}
 use Rattle.literals.specs.Domain.{object, Atom, Fact, Action, Component, Domain, action}
 use Rattle.literals.specs.declared.Moment.{Moment}
 use Rattle.literals.specs.declared.Moment.the-variants.{Start, End}
@@ -150,7 +150,8 @@ witnessBy Unbalanced cs fs = cs
 witnessBy Bounded cs fs = []
 witnessBy Unbounded cs fs = cs ++ fs
 
--- "the facts are all true conditions of the action at that moment, matching or not, in file order, once each", of the class x, with "variable i is object i"
+-- "the facts are all true conditions of the action at that moment, matching or not, in file order, once each", of the class x, with
+-- "variable i is object i"
 unfoldable pub witnessAt : Domain → Action → List Variable → Moment → List Fact
 unfolding nameOf excluding required
 witnessAt D a x m =

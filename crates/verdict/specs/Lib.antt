@@ -1,8 +1,9 @@
--- The verdict, the witness, the summaries it can be read off, the machine, what is claimed of them, and how the code holds rows and answers.
+-- The verdict, the witness, the summaries it can be read off, the machine, what is claimed of them, and how the code holds rows and
+-- answers.
 pub mod Binding
 pub mod Decision
 pub mod Judged
 pub mod Summaries
 pub mod Machine
 pub mod Claims
-pub mod Coded
+pub mod Held

@@ -6,8 +6,8 @@ use lib.Dec.{eqb, ltb}
 use lib.ListN.{length}
 use Rattle.records.specs.Lists.{keepIf, filterBy, countBy, all, any, pairwise, sameList, elem, distinct, dedup}
 use Rattle.literals.specs.declared.Object.{Object}
-use Rattle.literals.specs.declared.Clause.{Clause}
-use Rattle.literals.specs.declared.Clause.the-variants.{Positive, Negative, Add, Delete}
+use Rattle.literals.specs.declared.Usage.{Usage}
+use Rattle.literals.specs.declared.Usage.the-variants.{Positive, Negative, Add, Delete}
 use Rattle.literals.specs.Domain.{sameObject, Fact, sameFact, Action, Domain, action}
 use Rattle.literals.specs.declared.Moment.{Moment}
 use Rattle.literals.specs.declared.Moment.the-variants.{Start, End}
@@ -40,18 +40,18 @@ sameMoment m n = eqb (momentNumber m) (momentNumber n)
 abbrev pub sameEvent : Event → Event → Bool
 sameEvent e f = sameMoment (e .moment) (f .moment) && sameGround (e .ground) (f .ground)
 
--- the facts of an event's own literals of one clause
-unfoldable pub eventFacts : Domain → Event → Clause → List Fact
+-- the facts of an event's own literals of one usage
+unfoldable pub eventFacts : Domain → Event → Usage → List Fact
 unfolding literalsAt action
 eventFacts D e c = map (bind (e .ground .binding)) (literalsAt (action D (e .ground .action)) (e .moment) c)
 
 -- the facts that an event's conditions require or forbid in the state that the step is taken from: an end's own and over-all ones
-unfoldable pub requiredFacts : Domain → Event → Clause → List Fact
+unfoldable pub requiredFacts : Domain → Event → Usage → List Fact
 unfolding required action
 requiredFacts D e c = map (bind (e .ground .binding)) (required (action D (e .ground .action)) (e .moment) c)
 
 -- the facts of its conditions that count for interference: "An end's conditions for interference become its own only"
-abbrev pub guardedFacts : Domain → Event → Clause → List Fact
+abbrev pub guardedFacts : Domain → Event → Usage → List Fact
 guardedFacts = eventFacts
 
 -- the facts that it adds, and those that it strikes
@@ -132,7 +132,8 @@ interfere D e f = disturbs D e f || disturbs D f e
 abbrev pub independent : Domain → List Event → Bool
 independent D es = pairwise (λ e f. not (interfere D e f)) es
 
--- "It is allowed if every end is open; every event's conditions hold; the over-all conditions of everything open hold; and no two of its events interfere."
+-- "It is allowed if every end is open; every event's conditions hold; the over-all conditions of everything open hold; and no two of its
+-- events interfere."
 unfoldable pub allowed : Domain → State → List Event → Bool
 unfolding conditionsHold overAllHold interfere
 allowed D s es =
@@ -141,7 +142,7 @@ allowed D s es =
 -- ---- the next state
 
 -- what the events of a step add or strike, by event and literal
-unfoldable pub stepFacts : Domain → List Event → Clause → List Fact
+unfoldable pub stepFacts : Domain → List Event → Usage → List Fact
 unfolding eventFacts flatMap
 stepFacts D es c = flatMap (λ e. eventFacts D e c) es
 

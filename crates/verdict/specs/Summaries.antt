@@ -31,7 +31,8 @@ firstSpot p rs = spotOf (firstRow p rs)
 abbrev pub hasUnbounded : List Row → Bool
 hasUnbounded rs = any (λ (r : Row). isUnbounded (r .name)) rs
 
--- "its first place .. for each of 40, 41 and 42, its first bounded place outside a journey's end, and 1 if it has an unbounded moment": of one action's rows
+-- "its first place .. for each of 40, 41 and 42, its first bounded place outside a journey's end, and 1 if it has an unbounded moment": of
+-- one action's rows
 unfoldable pub summaryRows : List Row → Summary
 summaryRows rs =
     record {
@@ -85,7 +86,8 @@ abbrev pub answerPlace : ℕ → Place → Answer → Answer
 answerPlace n Missing a = a
 answerPlace n (Found i c m) a = record { number = n; first = i; second = c; third = momentNumber m }
 
--- "Else, if some moment is unbounded, the first bounded one that isn't a journey's end: 43. Else accepted: 1 if some moment is unbounded, 0 if none."
+-- "Else, if some moment is unbounded, the first bounded one that isn't a journey's end: 43. Else accepted: 1 if some moment is unbounded, 0
+-- if none."
 abbrev pub faultless : Notes → Answer
 faultless n = cond (n .endless) (answerPlace 43 (n .bounded) (answerAt 1 0)) (answerAt 0 0)
 

@@ -10,7 +10,7 @@ ghost use Rattle.verdict.specs.declared.Summary.{Summary};
 ghost use Rattle.verdict.specs.Decision.{Row};
 ghost use Rattle.verdict.specs.Judged.{Answer, answerAt};
 ghost use Rattle.verdict.specs.Summaries.{summaryRows, placeIn, placeElse, notesOf, answerPlace, faultless, decideNotes};
-ghost use Rattle.verdict.specs.Coded.{judgementOf, rowFor, spotElse};
+ghost use Rattle.verdict.specs.Held.{judgementOf, rowFor, spotElse};
 
 // An answer: the number and three places.
 pub struct Judgement {

@@ -5,11 +5,11 @@ use Prim.Native.Nat.{ℕ, _-_, _*_}
 use native.Mathlib.Omega.{arith}
 use lib.ListN.{length, drop, length-drop}
 use borrow.Author.Needs.{needs}
-use Rattle.literals.specs.declared.Clause.the-variants.{Add, Delete}
+use Rattle.literals.specs.declared.Usage.the-variants.{Add, Delete}
 use Rattle.literals.specs.Table.{rowsIn}
 use Rattle.events.specs.Grounding.{GroundLiteral, groundIn}
 use Rattle.events.proofs.GroundLiterals.{length-ground}
-use Rattle.effects.specs.Effects.{effectsIn, literalsIn, rowsWith}
+use Rattle.effects.specs.Held.{effectsIn, literalsIn, rowsWith}
 use Rattle.effects.proofs.FilledRows.{effects-length, kept-few, kept-effects}
 use Rattle.effects.proofs.EffectRows.{two-few, told, grounded-rows, step-sized}
 use Rattle.effects.proofs.StepFacts.{Done, after-few, holds-after}

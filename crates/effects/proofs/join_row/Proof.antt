@@ -6,10 +6,10 @@ use native.Mathlib.Omega.{arith}
 use lib.ListN.{length, take, drop}
 use borrow.Author.Needs.{needs}
 use Rattle.literals.specs.Table.{rowsIn}
-use Rattle.runs.specs.Play.{workBytes}
+use Rattle.run_semantics.specs.Play.{workBytes}
 use Rattle.store.specs.Index.{Indexed}
 use Rattle.store.specs.Rows.{hasRow}
-use Rattle.effects.specs.Effects.{SizedRow}
+use Rattle.effects.specs.Held.{SizedRow}
 use Rattle.effects.proofs.FilledRows.{row-others, there-count, there-rows, full-count, full-rows, new-count, new-rows}
 use Rattle.effects.proofs.IndexedRows.{sized-as, there-indexed, new-indexed}
 use Rattle.effects.proofs.join_row.Statement.{statement}
@@ -78,8 +78,8 @@ returns-2 c =
 enter-requires : tie.Need-enter-requires
 enter-requires c κs = search needs
 
-put-row-requires : tie.Need-put-row-requires
-put-row-requires c κs = search needs
+append-row-requires : tie.Need-put-row-requires
+append-row-requires c κs = search needs
 
 add-result-2 : tie.Need-add-result-2
 add-result-2 c = search needs
@@ -104,10 +104,10 @@ returns-3 c =
       (
         λ I b. record {
           count = new-count (a .n) (a .scratch .now) g w e (t I b) f;
-          bytes = new-rows (a .n) (a .scratch .now) g w e (t I b) f (c .before .before .put-row .ensures);
+          bytes = new-rows (a .n) (a .scratch .now) g w e (t I b) f (c .before .before .append-row .ensures);
           indexed = λ q. new-indexed rows e (t I b) (v .0 rows I b);
         },
-        (v .1, row-others (a .n) (a .scratch .now) (c .before .before .before .before .before .before .before .before .before .before .before .before .row-at .result) (omega arith) (search needs) f (c .before .before .put-row .ensures)),
+        (v .1, row-others (a .n) (a .scratch .now) (c .before .before .before .before .before .before .before .before .before .before .before .before .row-at .result) (omega arith) (search needs) f (c .before .before .append-row .ensures)),
       ),
     )
 
@@ -123,7 +123,7 @@ join-row-spec =
     same-length-2
     returns-2
     enter-requires
-    put-row-requires
+    append-row-requires
     add-result-2
     same-length-3
     returns-3)

@@ -3,8 +3,8 @@ use mathlib.Core.Path.{_≡_, _∙_}
 use Prim.Native.Nat.{_+_, _-_, _*_, _<_, _≤_}
 use native.Mathlib.Omega.{arith}
 use lib.ListN.{length, drop, length-drop}
-use Rattle.runs.specs.Play.{workBytes}
-use Rattle.effects.specs.Effects.{effectsIn}
+use Rattle.run_semantics.specs.Play.{workBytes}
+use Rattle.effects.specs.Held.{effectsIn}
 use Rattle.effects.proofs.FilledRows.{effects-length}
 use Rattle.effects.proofs.IndexedRows.{joined-turn, Joining, joining-begin, joining-stop, joining-more, joining-all}
 use Rattle.effects.proofs.join_rows.Statement.{statement}

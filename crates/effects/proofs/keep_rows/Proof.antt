@@ -7,7 +7,7 @@ use lib.ListN.{length, drop, length-drop}
 use lib.Seq.{length-take-le}
 use borrow.Author.Needs.{needs}
 use Rattle.literals.specs.Table.{rowsIn}
-use Rattle.effects.specs.Effects.{effectsIn, Marked, struckOf, FirstStruck}
+use Rattle.effects.specs.Held.{effectsIn, Marked, struckOf, FirstStruck}
 use Rattle.effects.proofs.FilledRows.{effects-length, filled-length}
 use Rattle.effects.proofs.IndexedRows.{Keeping, keeping-effects, keeping-begin, keeping-count, keeping-rows, keeping-indexed}
 use Rattle.effects.proofs.KeptRuns.{gone-count, keeping-run, keeping-struck}

@@ -3,9 +3,9 @@ use mathlib.Core.Path.{refl, sym, _∙_}
 use native.Mathlib.Omega.{arith}
 use borrow.Author.Needs.{needs}
 use Rattle.events.specs.Grounding.{groundAt}
-use Rattle.effects.specs.Effects.{effectsIn, literalsIn}
+use Rattle.effects.specs.Held.{effectsIn, literalsIn}
 use Rattle.effects.proofs.FilledRows.{effects-length, effects-put, literals-still}
-use Rattle.effects.proofs.EffectRows.{clause-in, row-in, none-count, none-rows, one-count, one-rows}
+use Rattle.effects.proofs.EffectRows.{usage-in, row-in, none-count, none-rows, one-count, one-rows}
 use Rattle.effects.proofs.put_effect.Statement.{statement}
 use Rattle.effects.proofs.put_effect.Tie as tie
 
@@ -30,15 +30,15 @@ part-put-row-start c = search needs
 part-put-row-end : tie.Need-part-put-row-end
 part-put-row-end c = search needs
 
-put-row-requires : tie.Need-put-row-requires
-put-row-requires c κs =
+append-row-requires : tie.Need-put-row-requires
+append-row-requires c κs =
     let a = c .before .before .before .before .before .before .args in
     let p = c .before .before .before .before .before .before .pre in
     let scratch = a .scratch .now in
     let l = groundAt (literalsIn scratch) (a .i) in
-    let e = sym (clause-in scratch (p .0) (a .i) (p .1 .0)) ∙ c .before .before .before .if1 .taken in
+    let e = sym (usage-in scratch (p .0) (a .i) (p .1 .0)) ∙ c .before .before .before .if1 .taken in
     let size = effects-length scratch (p .0) in
-    let one = one-count (a .clause) l (a .n) (effectsIn scratch) e in
+    let one = one-count (a .usage) l (a .n) (effectsIn scratch) e in
     let room = p .1 .1 in
     omega arith
 
@@ -54,13 +54,13 @@ returns c =
     let p = c .before .before .before .before .before .before .before .before .before .pre in
     let scratch = a .scratch .now in
     let l = groundAt (literalsIn scratch) (a .i) in
-    let e = sym (clause-in scratch (p .0) (a .i) (p .1 .0)) ∙ c .before .before .before .before .before .before .if1 .taken in
+    let e = sym (usage-in scratch (p .0) (a .i) (p .1 .0)) ∙ c .before .before .before .before .before .before .if1 .taken in
     let row = c .before .before .before .before .row-at .ensures ∙ row-in scratch (p .0) (a .i) (p .1 .0) in
-    let put = c .before .before .put-row in
+    let put = c .before .before .append-row in
     let whole = put .kept .0 ∙ effects-length scratch (p .0) in (
-      one-count (a .clause) l (a .n) (effectsIn scratch) e,
+      one-count (a .usage) l (a .n) (effectsIn scratch) e,
       (
-        effects-put scratch (put .last .0) _ (p .0) whole ∙ one-rows (a .clause) l (a .n) (effectsIn scratch) e row (put .ensures),
+        effects-put scratch (put .last .0) _ (p .0) whole ∙ one-rows (a .usage) l (a .n) (effectsIn scratch) e row (put .ensures),
         literals-still scratch (put .last .0) _ (p .0),
       ),
     )
@@ -73,9 +73,9 @@ returns-2 c =
     let l = groundAt (literalsIn scratch) (a .i) in
     let size = effects-length scratch (p .0) in
     let room = p .1 .1 in
-    let e = clause-in scratch (p .0) (a .i) (p .1 .0) in (
-      none-count (a .clause) l (a .n) (effectsIn scratch) (λ f. c .if1 .left (e ∙ f)),
-      (none-rows (a .clause) l (a .n) (effectsIn scratch) (λ f. c .if1 .left (e ∙ f)) (omega arith), refl),
+    let e = usage-in scratch (p .0) (a .i) (p .1 .0) in (
+      none-count (a .usage) l (a .n) (effectsIn scratch) (λ f. c .if1 .left (e ∙ f)),
+      (none-rows (a .usage) l (a .n) (effectsIn scratch) (λ f. c .if1 .left (e ∙ f)) (omega arith), refl),
     )
 
 pub put-effect-spec : {M : Type 1} → statement M
@@ -89,7 +89,7 @@ put-effect-spec =
     sub-put-row
     part-put-row-start
     part-put-row-end
-    put-row-requires
+    append-row-requires
     add-result
     same-length
     returns

@@ -6,7 +6,7 @@ use native.Mathlib.Omega.{arith}
 use lib.ListN.{length, length-set}
 use borrow.Author.Needs.{needs}
 use Rattle.literals.specs.Table.{rowsIn}
-use Rattle.effects.specs.Effects.{Marked}
+use Rattle.effects.specs.Held.{Marked}
 use Rattle.effects.proofs.IndexedRows.{marks-more}
 use Rattle.effects.proofs.put_marks.Statement.{statement}
 use Rattle.effects.proofs.put_marks.Tie as tie

@@ -7,17 +7,17 @@ use lib.ListN.{length}
 use Rattle.records.specs.Memory.{over}
 use Rattle.literals.specs.Table.{rowsIn}
 use Rattle.events.specs.Grounding.{maxGround, groundAt, groundIn}
-use Rattle.effects.specs.Effects.{effectsIn, literalsIn, rowsWith, flat}
+use Rattle.effects.specs.Held.{effectsIn, literalsIn, rowsWith, flat}
 use Rattle.effects.proofs.FilledRows.{effects-length, literals-length, filled-rows}
 use Rattle.effects.proofs.EffectRows.{effects-begin, effects-room, effects-more, filled-count, Selecting}
 use Rattle.effects.proofs.step_effects.Statement.{statement}
 use Rattle.effects.proofs.step_effects.Tie as tie
 
 abbrev Inv-loop : tie.InvT-loop
-Inv-loop scratch₀ at total clause n₀ i₀ scratch n i = Selecting clause at total scratch₀ scratch n i
+Inv-loop scratch₀ at total usage n₀ i₀ scratch n i = Selecting usage at total scratch₀ scratch n i
 
 abbrev μ-loop : tie.MeasureT-loop
-μ-loop scratch₀ at total clause n₀ i₀ scratch n i = total - i
+μ-loop scratch₀ at total usage n₀ i₀ scratch n i = total - i
 
 loop-holds : tie.Need-loop-holds Inv-loop μ-loop
 loop-holds c =
@@ -26,7 +26,7 @@ loop-holds c =
     let scratch = a .scratch .now in
     let size = effects-length scratch (p .0) in
     let room = p .1 .1 in
-    let F = effects-begin (a .clause) (literalsIn scratch) (a .at) (effectsIn scratch) (omega arith) in
+    let F = effects-begin (a .usage) (literalsIn scratch) (a .at) (effectsIn scratch) (omega arith) in
     record { reach = omega arith; count = filled-count (a .at) (effectsIn scratch) _ F; sized = refl; filled = F; literals = refl }
 
 put-effect-requires : tie.Need-put-effect-requires Inv-loop μ-loop
@@ -37,12 +37,12 @@ put-effect-requires c κs =
     let v = l .inv in
     let old = literalsIn (a .scratch .now) in
     let reach = v .reach in
-    let room = effects-room (a .clause) old (literals-length (a .scratch .now) (p .0)) [] (a .at) (a .total) (l .i) (l .n) (omega arith)
+    let room = effects-room (a .usage) old (literals-length (a .scratch .now) (p .0)) [] (a .at) (a .total) (l .i) (l .n) (omega arith)
     (p .1 .1) (v .count) in (
       v .sized ∙ p .0,
       (
         omega arith,
-        subst (λ (t : List ℕ). l .n + length (rowsWith (a .clause) (groundAt t (l .i) ∷ [])) ≤ maxGround) (sym
+        subst (λ (t : List ℕ). l .n + length (rowsWith (a .usage) (groundAt t (l .i) ∷ [])) ≤ maxGround) (sym
             (v .literals)) room,
       ),
     )
@@ -64,12 +64,12 @@ loop-again c =
     let out = effectsIn (l .scratch) in
     let whole = literals-length scratch (p .0) in
     let r = c .before .before .put-effect .ensures in
-    let count = r .0 ∙ ap (λ (t : List ℕ). l .n + length (rowsWith (a .clause) (groundAt t (l .i) ∷ []))) (v .literals) in
+    let count = r .0 ∙ ap (λ (t : List ℕ). l .n + length (rowsWith (a .usage) (groundAt t (l .i) ∷ []))) (v .literals) in
     let rows = r .1 .0
-    ∙ ap (λ (t : List ℕ). over (flat (rowsIn (l .n) out ++ rowsWith (a .clause) (groundAt t (l .i) ∷ []))) out) (v .literals) in
-    let room = effects-room (a .clause) lits whole [] (a .at) (a .total) (l .i) (l .n) (omega arith) (p .1 .1) (v .count) in
+    ∙ ap (λ (t : List ℕ). over (flat (rowsIn (l .n) out ++ rowsWith (a .usage) (groundAt t (l .i) ∷ []))) out) (v .literals) in
+    let room = effects-room (a .usage) lits whole [] (a .at) (a .total) (l .i) (l .n) (omega arith) (p .1 .1) (v .count) in
     let size = effects-length scratch (p .0) in
-    let F = effects-more (a .clause) lits whole (rowsIn (a .at) (effectsIn scratch)) (l .i) (l .n) (omega arith) (omega arith)
+    let F = effects-more (a .usage) lits whole (rowsIn (a .at) (effectsIn scratch)) (l .i) (l .n) (omega arith) (omega arith)
     (v .filled) count rows in
     record {
       reach = omega arith;
@@ -90,9 +90,9 @@ returns c =
     let reach = v .reach in
     let lits = literalsIn (a .scratch .now) in
     let e : l .i ≡ a .total = omega arith in (
-      v .count ∙ ap (λ (i : ℕ). a .at + length (rowsWith (a .clause) (groundIn i lits))) e,
+      v .count ∙ ap (λ (i : ℕ). a .at + length (rowsWith (a .usage) (groundIn i lits))) e,
       (
-        filled-rows (v .filled) ∙ ap (λ (i : ℕ). rowsIn (a .at) (effectsIn (a .scratch .now)) ++ rowsWith (a .clause) (groundIn i lits)) e,
+        filled-rows (v .filled) ∙ ap (λ (i : ℕ). rowsIn (a .at) (effectsIn (a .scratch .now)) ++ rowsWith (a .usage) (groundIn i lits)) e,
         v .literals,
       ),
     )

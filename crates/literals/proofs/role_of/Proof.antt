@@ -6,34 +6,34 @@ use Rattle.literals.specs.Domain.{roleOf}
 use Rattle.literals.proofs.role_of.Statement.{statement}
 use Rattle.literals.proofs.role_of.Tie as tie
 
-clause-of-requires : tie.Need-clause-of-requires
-clause-of-requires c κs = search needs
+usage-of-requires : tie.Need-usage-of-requires
+usage-of-requires c κs = search needs
 
-clause-of-requires-2 : tie.Need-clause-of-requires-2
-clause-of-requires-2 c κs = search needs
+usage-of-requires-2 : tie.Need-usage-of-requires-2
+usage-of-requires-2 c κs = search needs
 
-clause-of-requires-3 : tie.Need-clause-of-requires-3
-clause-of-requires-3 c κs = search needs
+usage-of-requires-3 : tie.Need-usage-of-requires-3
+usage-of-requires-3 c κs = search needs
 
 returns : tie.Need-returns
 unfolding roleOf
-returns c = simp (c .clause-of .ensures, lt-ltb (c .before .before .args .role) 4 (omega arith))
+returns c = simp (c .usage-of .ensures, lt-ltb (c .before .before .args .role) 4 (omega arith))
 
 returns-2 : tie.Need-returns-2
 unfolding roleOf
-returns-2 c = let r = c .before .before .before .args .role in simp (c .clause-of2 .ensures, le-ltb r 4 (omega arith), lt-ltb r 6 (omega arith))
+returns-2 c = let r = c .before .before .before .args .role in simp (c .usage-of2 .ensures, le-ltb r 4 (omega arith), lt-ltb r 6 (omega arith))
 
 returns-3 : tie.Need-returns-3
 unfolding roleOf
-returns-3 c = let r = c .before .before .before .args .role in simp (c .clause-of3 .ensures, le-ltb r 4 (omega arith), le-ltb r 6 (omega arith))
+returns-3 c = let r = c .before .before .before .args .role in simp (c .usage-of3 .ensures, le-ltb r 4 (omega arith), le-ltb r 6 (omega arith))
 
 pub role-of-spec : {M : Type 1} → statement M
 role-of-spec =
     tie.close
     (tie.spec
-    clause-of-requires
-    clause-of-requires-2
-    clause-of-requires-3
+    usage-of-requires
+    usage-of-requires-2
+    usage-of-requires-3
     returns
     returns-2
     returns-3)

@@ -5,7 +5,7 @@ use mathlib.Core.Path.{_∙_, ap₂}
 use mathlib.Core.List.{List}
 use Prim.Native.Nat.{ℕ, _<_}
 use Rattle.literals.specs.declared.Moment.the-variants.{Start, End}
-use Rattle.classes.specs.Coded.{soleOf}
+use Rattle.classes.specs.Held.{soleOf}
 use Rattle.classes.proofs.Decides.{asked-at-start}
 use Rattle.naming.proofs.name_class.Statement.{statement}
 use Rattle.naming.proofs.name_class.Tie as tie
@@ -60,7 +60,7 @@ returns c =
         c .before .name-at2 .ensures D a End (E .own) f (E .reaches k h),
         c .is-journey .ensures D a _ M l
             (c .before .before .before .sole-in2 .ensures ∙ p .1 .1 .0 t k h ∙ ap₂ (λ (o d : List ℕ). soleOf o d k) (E .own .numbers-are) (E
-            .own .clauses-are)) f,
+            .own .usages-are)) f,
       ),
     )
 

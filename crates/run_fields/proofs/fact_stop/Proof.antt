@@ -2,7 +2,7 @@
 use mathlib.Core.Path.{sym, _∙_}
 use native.Mathlib.Omega.{arith}
 use borrow.Author.Needs.{needs}
-use Rattle.runs.specs.RunFile.{factOf}
+use Rattle.run_semantics.specs.RunFile.{factOf}
 use Rattle.run_fields.proofs.RunFields.{fact-short-row, fact-found, fact-stopped, fact-known, fact-full, fact-room}
 use Rattle.run_fields.proofs.fact_stop.Statement.{statement}
 use Rattle.run_fields.proofs.fact_stop.Tie as tie

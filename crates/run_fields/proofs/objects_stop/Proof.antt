@@ -3,7 +3,7 @@ use native.Mathlib.Omega.{arith}
 use borrow.Author.Needs.{needs}
 use borrow.Author.Tests.{lt-ltb, le-ltb, eq-eqb, ne-eqb}
 use lib.ListN.{length, getD}
-use Rattle.runs.specs.RunFile.{objectsStop}
+use Rattle.run_semantics.specs.RunFile.{objectsStop}
 use Rattle.run_fields.proofs.objects_stop.Statement.{statement}
 use Rattle.run_fields.proofs.objects_stop.Tie as tie
 

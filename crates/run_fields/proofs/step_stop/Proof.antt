@@ -1,7 +1,7 @@
 -- `step_stop` meets its contract. Assumes nothing.
 use borrow.Author.Tests.{eq-eqb, ne-eqb}
 use lib.ListN.{length}
-use Rattle.runs.specs.RunFile.{stepStop}
+use Rattle.run_semantics.specs.RunFile.{stepStop}
 use Rattle.run_fields.proofs.step_stop.Statement.{statement}
 use Rattle.run_fields.proofs.step_stop.Tie as tie
 

@@ -1,7 +1,7 @@
 -- `waits_at` meets its contract. Assumes nothing.
 use borrow.Author.Needs.{needs}
 use borrow.Author.Tests.{eq-eqb, ne-eqb}
-use Rattle.run_fields.specs.Fields.{waitsAt}
+use Rattle.run_fields.specs.Held.{waitsAt}
 use Rattle.run_fields.proofs.waits_at.Statement.{statement}
 use Rattle.run_fields.proofs.waits_at.Tie as tie
 

@@ -1,4 +1,4 @@
--- `condition_met` meets its contract, clause by clause. Assumes nothing.
+-- `condition_met` meets its contract, usage by usage. Assumes nothing.
 use borrow.Author.Needs.{needs}
 use Rattle.literals.specs.Table.{rowsIn}
 use Rattle.events.specs.Grounding.{groundAt}
@@ -6,11 +6,11 @@ use Rattle.applicability.proofs.Asked.{met-true, met-false, met-none, r
 use Rattle.applicability.proofs.conditions.condition_met.Statement.{statement}
 use Rattle.applicability.proofs.conditions.condition_met.Tie as tie
 
-add-clause : tie.Need-add-clause
-add-clause c = search needs
+add-usage : tie.Need-add-usage
+add-usage c = search needs
 
-shared-slice-read-clause : tie.Need-shared-slice-read-clause
-shared-slice-read-clause c = search needs
+shared-slice-read-usage : tie.Need-shared-slice-read-usage
+shared-slice-read-usage c = search needs
 
 mul-row-at : tie.Need-mul-row-at
 mul-row-at c = search needs
@@ -56,8 +56,8 @@ pub condition-met-spec : {M : Type 1} → statement M
 condition-met-spec =
     tie.close
     (tie.spec
-    add-clause
-    shared-slice-read-clause
+    add-usage
+    shared-slice-read-usage
     mul-row-at
     row-at-requires
     is-held-requires

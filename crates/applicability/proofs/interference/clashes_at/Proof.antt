@@ -14,7 +14,7 @@ shared-slice-read-if1 c = search needs
 returns : tie.Need-returns
 returns c =
     let a = c .before .before .before .before .args in
-    clash-other (a .clause) (a .word) (groundAt (a .memory .now) (a .j)) _ (c .before .before .before .before .pre .1 .1 .1) (c .if1 .taken)
+    clash-other (a .usage) (a .word) (groundAt (a .memory .now) (a .j)) _ (c .before .before .before .before .pre .1 .1 .1) (c .if1 .taken)
 
 add-clashing : tie.Need-add-clashing
 add-clashing c = search needs
@@ -28,7 +28,7 @@ clashing-requires c κs = search needs
 returns-2 : tie.Need-returns-2
 returns-2 c =
     let a = c .before .before .before .before .before .before .args in
-    clash-same (a .clause) (a .word) (groundAt (a .memory .now) (a .j)) _ (c .before .before .before .before .before .before .pre .1 .1
+    clash-same (a .usage) (a .word) (groundAt (a .memory .now) (a .j)) _ (c .before .before .before .before .before .before .pre .1 .1
     .1) (c .before .before .if1 .left) _ (c .clashing .ensures)
 
 pub clashes-at-spec : {M : Type 1} → statement M

@@ -12,11 +12,11 @@ use Rattle.applicability.proofs.interference.clashes_from.Statement.{st
 use Rattle.applicability.proofs.interference.clashes_from.Tie as tie
 
 abbrev Inv-loop : tie.InvT-loop
-Inv-loop memory words clause word from to j₀ j =
-    any (clashesWith clause word) (drop j (groundIn to memory)) ≡ any (clashesWith clause word) (drop from (groundIn to memory))
+Inv-loop memory words usage word from to j₀ j =
+    any (clashesWith usage word) (drop j (groundIn to memory)) ≡ any (clashesWith usage word) (drop from (groundIn to memory))
 
 abbrev μ-loop : tie.MeasureT-loop
-μ-loop memory words clause word from to j₀ j = to - j
+μ-loop memory words usage word from to j₀ j = to - j
 
 loop-holds : tie.Need-loop-holds Inv-loop μ-loop
 loop-holds c = refl
@@ -30,7 +30,7 @@ returns : tie.Need-returns Inv-loop μ-loop
 returns c =
     let a = c .before .before .before .before .before .before .args in
     let l = c .before .before .before .loop in
-    let test = clashesWith (a .clause) (a .word) in
+    let test = clashesWith (a .usage) (a .word) in
     let k = length-ground (a .memory .now) (a .to) in
     let h : l .j < a .to = omega arith in
     sym (any-hit (groundIn (a .to) (a .memory .now)) (l .j) noLiteral (omega arith) test
@@ -47,7 +47,7 @@ loop-again : tie.Need-loop-again Inv-loop μ-loop
 loop-again c =
     let a = c .before .before .before .before .before .before .args in
     let l = c .before .before .before .loop in
-    let test = clashesWith (a .clause) (a .word) in
+    let test = clashesWith (a .usage) (a .word) in
     let k = length-ground (a .memory .now) (a .to) in
     let h : l .j < a .to = omega arith in
     sym (any-miss (groundIn (a .to) (a .memory .now)) (l .j) noLiteral (omega arith) test
@@ -59,7 +59,7 @@ returns-2 c =
     let a = c .before .before .before .before .args in
     let l = c .before .loop in
     let k = length-ground (a .memory .now) (a .to) in
-    sym (any-end (groundIn (a .to) (a .memory .now)) (l .j) noLiteral (clashesWith (a .clause) (a .word)) (omega arith)) ∙ l .inv
+    sym (any-end (groundIn (a .to) (a .memory .now)) (l .j) noLiteral (clashesWith (a .usage) (a .word)) (omega arith)) ∙ l .inv
 
 pub clashes-from-spec : {M : Type 1} → statement M
 clashes-from-spec =

@@ -7,7 +7,7 @@ use lib.ListN.{getD, drop}
 use borrow.Author.Needs.{needs}
 use Rattle.records.specs.Lists.{any}
 use Rattle.records.proofs.Lists.{any-hit, any-miss, any-end}
-use Rattle.events.specs.Grounding.{GroundLiteral, clausesAt, groundIn}
+use Rattle.events.specs.Grounding.{GroundLiteral, usagesAt, groundIn}
 use Rattle.events.proofs.GroundLiterals.{noLiteral, length-ground, ground-test}
 use Rattle.applicability.specs.Interference.{clashesWith, clashes, literalsClash}
 use Rattle.applicability.proofs.interference.literals_clash.Statement.{statement}
@@ -50,7 +50,7 @@ returns c =
     let k = length-ground (a .memory .now) (a .to) in
     let h : l .i < a .to = omega arith in
     let w = c .before .before .before .before .before .before .before .before .pre .1 .1 .1 .1 (l .i) (omega arith) in
-    let e = c .before .clashes-from .ensures ∙ ap (λ (v : ℕ). any (clashesWith (getD (a .memory .now) (clausesAt + l .i) 0) v) later) w in
+    let e = c .before .clashes-from .ensures ∙ ap (λ (v : ℕ). any (clashesWith (getD (a .memory .now) (usagesAt + l .i) 0) v) later) w in
     sym (any-hit (groundIn (a .to) (a .memory .now)) (l .i) noLiteral (omega arith) test
     (ground-test (a .memory .now) (a .to) (l .i) h test (c .before .clashes-from .result) e ∙ c .if1 .taken))
     ∙ l .inv
@@ -70,7 +70,7 @@ loop-again c =
     let k = length-ground (a .memory .now) (a .to) in
     let h : l .i < a .to = omega arith in
     let w = c .before .before .before .before .before .before .before .before .pre .1 .1 .1 .1 (l .i) (omega arith) in
-    let e = c .before .clashes-from .ensures ∙ ap (λ (v : ℕ). any (clashesWith (getD (a .memory .now) (clausesAt + l .i) 0) v) later) w in
+    let e = c .before .clashes-from .ensures ∙ ap (λ (v : ℕ). any (clashesWith (getD (a .memory .now) (usagesAt + l .i) 0) v) later) w in
     sym (any-miss (groundIn (a .to) (a .memory .now)) (l .i) noLiteral (omega arith) test
     (ground-test (a .memory .now) (a .to) (l .i) h test (c .before .clashes-from .result) e ∙ c .if1 .left))
     ∙ l .inv

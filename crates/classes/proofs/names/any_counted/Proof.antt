@@ -9,14 +9,14 @@ use lib.ListN.{getD}
 use Rattle.records.specs.Lists.{any}
 use Rattle.literals.specs.Domain.{isCounted}
 use Rattle.literals.specs.Decode.{labelOf}
-use Rattle.literals.specs.Held.{partIn}
+use Rattle.literals.specs.Held.{componentRowIn}
 use Rattle.literals.specs.Keys.{below}
 use Rattle.literals.proofs.Indices.{left, left-all, any-hit, any-miss, any-end}
 use Rattle.classes.proofs.names.any_counted.Statement.{statement}
 use Rattle.classes.proofs.names.any_counted.Tie as tie
 
 abbrev isFF : List ℕ → ℕ → ℕ → Bool
-isFF head c i = isCounted (labelOf (getD (partIn head c) (1 + i) 0))
+isFF head c i = isCounted (labelOf (getD (componentRowIn head c) (1 + i) 0))
 
 abbrev Inv-loop : tie.InvT-loop
 Inv-loop head c n i₀ i = any (isFF head c) (left n i) ≡ any (isFF head c) (below n)
@@ -27,11 +27,11 @@ abbrev μ-loop : tie.MeasureT-loop
 loop-holds : tie.Need-loop-holds Inv-loop μ-loop
 loop-holds c = ap (any (isFF (c .args .head .now) (c .args .c))) (left-all (c .args .n))
 
-add-part-byte : tie.Need-add-part-byte Inv-loop μ-loop
-add-part-byte c = omega arith
+add-component-byte : tie.Need-add-component-byte Inv-loop μ-loop
+add-component-byte c = omega arith
 
-part-byte-requires : tie.Need-part-byte-requires Inv-loop μ-loop
-part-byte-requires c κs = (omega arith, omega arith)
+component-byte-requires : tie.Need-component-byte-requires Inv-loop μ-loop
+component-byte-requires c κs = (omega arith, omega arith)
 
 label-of-requires : tie.Need-label-of-requires Inv-loop μ-loop
 label-of-requires c κs = search needs
@@ -42,7 +42,7 @@ is-counted-requires c κs = search needs
 returns : tie.Need-returns Inv-loop μ-loop
 returns c =
     let a = c .before .before .before .before .before .before .args in
-    sym (any-hit (isFF (a .head .now) (a .c)) (a .n) (c .before .before .before .before .before .loop .i) (omega arith) (sym (c .before .is-counted .ensures ∙ ap isCounted (c .before .before .label-of .ensures ∙ ap labelOf (c .before .before .before .part-byte .ensures))) ∙ c .if1 .taken)) ∙ c .before .before .before .before .before .loop .inv
+    sym (any-hit (isFF (a .head .now) (a .c)) (a .n) (c .before .before .before .before .before .loop .i) (omega arith) (sym (c .before .is-counted .ensures ∙ ap isCounted (c .before .before .label-of .ensures ∙ ap labelOf (c .before .before .before .component-byte .ensures))) ∙ c .if1 .taken)) ∙ c .before .before .before .before .before .loop .inv
 
 add-i : tie.Need-add-i Inv-loop μ-loop
 add-i c = omega arith
@@ -53,7 +53,7 @@ loop-less c = omega arith
 loop-again : tie.Need-loop-again Inv-loop μ-loop
 loop-again c =
     let a = c .before .before .before .before .before .before .args in
-    sym (any-miss (isFF (a .head .now) (a .c)) (a .n) (c .before .before .before .before .before .loop .i) (omega arith) (sym (c .before .is-counted .ensures ∙ ap isCounted (c .before .before .label-of .ensures ∙ ap labelOf (c .before .before .before .part-byte .ensures))) ∙ c .if1 .left)) ∙ c .before .before .before .before .before .loop .inv
+    sym (any-miss (isFF (a .head .now) (a .c)) (a .n) (c .before .before .before .before .before .loop .i) (omega arith) (sym (c .before .is-counted .ensures ∙ ap isCounted (c .before .before .label-of .ensures ∙ ap labelOf (c .before .before .before .component-byte .ensures))) ∙ c .if1 .left)) ∙ c .before .before .before .before .before .loop .inv
 
 returns-2 : tie.Need-returns-2 Inv-loop μ-loop
 returns-2 c =
@@ -67,8 +67,8 @@ any-counted-spec =
     Inv-loop
     μ-loop
     loop-holds
-    add-part-byte
-    part-byte-requires
+    add-component-byte
+    component-byte-requires
     label-of-requires
     is-counted-requires
     returns

@@ -6,22 +6,22 @@ use Prim.Native.Nat.{_-_}
 use lib.ListN.{length}
 use Rattle.records.specs.Lists.{any}
 use Rattle.literals.specs.Keys.{below}
-use Rattle.classes.specs.Coded.{excludesAt}
+use Rattle.classes.specs.Held.{excludesAt}
 use Rattle.literals.proofs.Indices.{left, left-all, any-hit, any-miss, any-end}
 use Rattle.classes.proofs.names.any_excluding.Statement.{statement}
 use Rattle.classes.proofs.names.any_excluding.Tie as tie
 
 abbrev Inv-loop : tie.InvT-loop
-Inv-loop rows numbers clauses class relation j₀ j-end j =
-    any (excludesAt rows numbers clauses class relation) (left (length numbers) j) ≡ any (excludesAt rows numbers clauses class relation) (below (length numbers))
+Inv-loop rows numbers usages class relation j₀ j-end j =
+    any (excludesAt rows numbers usages class relation) (left (length numbers) j) ≡ any (excludesAt rows numbers usages class relation) (below (length numbers))
 
 abbrev μ-loop : tie.MeasureT-loop
-μ-loop rows numbers clauses class relation j₀ j-end j = length numbers - j
+μ-loop rows numbers usages class relation j₀ j-end j = length numbers - j
 
 loop-holds : tie.Need-loop-holds Inv-loop μ-loop
 loop-holds c =
     let a = c .before .before .args in
-    ap (any (excludesAt (a .rows .now) (a .numbers .now) (a .clauses .now) (a .class) (a .relation))) (left-all (length (a .numbers .now)))
+    ap (any (excludesAt (a .rows .now) (a .numbers .now) (a .usages .now) (a .class) (a .relation))) (left-all (length (a .numbers .now)))
 
 excludes-requires : tie.Need-excludes-requires Inv-loop μ-loop
 excludes-requires c κs = search needs
@@ -30,7 +30,7 @@ returns : tie.Need-returns Inv-loop μ-loop
 returns c =
     let turn = c .before .before .before in
     let a = turn .before .before .before .args in
-    sym (any-hit (excludesAt (a .rows .now) (a .numbers .now) (a .clauses .now) (a .class) (a .relation)) (length (a .numbers .now)) (turn .loop .j) (omega arith) (sym (c .before .excludes .ensures) ∙ c .if1 .taken))
+    sym (any-hit (excludesAt (a .rows .now) (a .numbers .now) (a .usages .now) (a .class) (a .relation)) (length (a .numbers .now)) (turn .loop .j) (omega arith) (sym (c .before .excludes .ensures) ∙ c .if1 .taken))
     ∙ turn .loop .inv
 
 add-j : tie.Need-add-j Inv-loop μ-loop
@@ -43,14 +43,14 @@ loop-again : tie.Need-loop-again Inv-loop μ-loop
 loop-again c =
     let turn = c .before .before .before in
     let a = turn .before .before .before .args in
-    sym (any-miss (excludesAt (a .rows .now) (a .numbers .now) (a .clauses .now) (a .class) (a .relation)) (length (a .numbers .now)) (turn .loop .j) (omega arith) (sym (c .before .excludes .ensures) ∙ c .if1 .left))
+    sym (any-miss (excludesAt (a .rows .now) (a .numbers .now) (a .usages .now) (a .class) (a .relation)) (length (a .numbers .now)) (turn .loop .j) (omega arith) (sym (c .before .excludes .ensures) ∙ c .if1 .left))
     ∙ turn .loop .inv
 
 returns-2 : tie.Need-returns-2 Inv-loop μ-loop
 returns-2 c =
     let turn = c .before in
     let a = turn .before .before .before .args in
-    sym (any-end (excludesAt (a .rows .now) (a .numbers .now) (a .clauses .now) (a .class) (a .relation)) (length (a .numbers .now)) (turn .loop .j) (omega arith)) ∙ turn .loop .inv
+    sym (any-end (excludesAt (a .rows .now) (a .numbers .now) (a .usages .now) (a .class) (a .relation)) (length (a .numbers .now)) (turn .loop .j) (omega arith)) ∙ turn .loop .inv
 
 pub any-excluding-spec : {M : Type 1} → statement M
 any-excluding-spec =

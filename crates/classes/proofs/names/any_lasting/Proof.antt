@@ -6,7 +6,7 @@ use Prim.Native.Nat.{_-_}
 use lib.ListN.{length}
 use Rattle.records.specs.Lists.{any}
 use Rattle.literals.specs.Keys.{below}
-use Rattle.classes.specs.Coded.{lastsAt}
+use Rattle.classes.specs.Held.{lastsAt}
 use Rattle.literals.proofs.Indices.{left, left-all, any-hit, any-miss, any-end}
 use Rattle.classes.proofs.names.any_lasting.Statement.{statement}
 use Rattle.classes.proofs.names.any_lasting.Tie as tie

@@ -5,23 +5,23 @@ use mathlib.Core.Path.{_≡_, sym, ap, _∙_}
 use Prim.Native.Nat.{_-_}
 use lib.ListN.{length}
 use Rattle.records.specs.Lists.{any}
-use Rattle.classes.specs.Coded.{isSameAt, sameIn}
+use Rattle.classes.specs.Held.{isSameAt, sameIn}
 use Rattle.literals.proofs.Indices.{left, left-all, any-hit, any-miss, any-end}
 use Rattle.classes.proofs.names.any_same.Statement.{statement}
 use Rattle.classes.proofs.names.any_same.Tie as tie
 
 abbrev Inv-loop : tie.InvT-loop
-Inv-loop rows numbers clauses class clause i j₀ j-end j =
-    any (isSameAt rows numbers clauses class clause i) (left (length numbers) j) ≡ sameIn rows numbers clauses class clause i
+Inv-loop rows numbers usages class usage i j₀ j-end j =
+    any (isSameAt rows numbers usages class usage i) (left (length numbers) j) ≡ sameIn rows numbers usages class usage i
 
 abbrev μ-loop : tie.MeasureT-loop
-μ-loop rows numbers clauses class clause i j₀ j-end j = length numbers - j
+μ-loop rows numbers usages class usage i j₀ j-end j = length numbers - j
 
 loop-holds : tie.Need-loop-holds Inv-loop μ-loop
 unfolding sameIn
 loop-holds c =
     let a = c .before .before .args in
-    ap (any (isSameAt (a .rows .now) (a .numbers .now) (a .clauses .now) (a .class) (a .clause) (a .i))) (left-all (length (a .numbers .now)))
+    ap (any (isSameAt (a .rows .now) (a .numbers .now) (a .usages .now) (a .class) (a .usage) (a .i))) (left-all (length (a .numbers .now)))
 
 is-same-at-requires : tie.Need-is-same-at-requires Inv-loop μ-loop
 is-same-at-requires c κs = search needs
@@ -30,7 +30,7 @@ returns : tie.Need-returns Inv-loop μ-loop
 returns c =
     let turn = c .before .before .before in
     let a = turn .before .before .before .args in
-    sym (any-hit (isSameAt (a .rows .now) (a .numbers .now) (a .clauses .now) (a .class) (a .clause) (a .i)) (length (a .numbers .now)) (turn .loop .j) (omega arith) (sym (c .before .is-same-at .ensures) ∙ c .if1 .taken))
+    sym (any-hit (isSameAt (a .rows .now) (a .numbers .now) (a .usages .now) (a .class) (a .usage) (a .i)) (length (a .numbers .now)) (turn .loop .j) (omega arith) (sym (c .before .is-same-at .ensures) ∙ c .if1 .taken))
     ∙ turn .loop .inv
 
 add-j : tie.Need-add-j Inv-loop μ-loop
@@ -43,14 +43,14 @@ loop-again : tie.Need-loop-again Inv-loop μ-loop
 loop-again c =
     let turn = c .before .before .before in
     let a = turn .before .before .before .args in
-    sym (any-miss (isSameAt (a .rows .now) (a .numbers .now) (a .clauses .now) (a .class) (a .clause) (a .i)) (length (a .numbers .now)) (turn .loop .j) (omega arith) (sym (c .before .is-same-at .ensures) ∙ c .if1 .left))
+    sym (any-miss (isSameAt (a .rows .now) (a .numbers .now) (a .usages .now) (a .class) (a .usage) (a .i)) (length (a .numbers .now)) (turn .loop .j) (omega arith) (sym (c .before .is-same-at .ensures) ∙ c .if1 .left))
     ∙ turn .loop .inv
 
 returns-2 : tie.Need-returns-2 Inv-loop μ-loop
 returns-2 c =
     let turn = c .before in
     let a = turn .before .before .before .args in
-    sym (any-end (isSameAt (a .rows .now) (a .numbers .now) (a .clauses .now) (a .class) (a .clause) (a .i)) (length (a .numbers .now)) (turn .loop .j) (omega arith)) ∙ turn .loop .inv
+    sym (any-end (isSameAt (a .rows .now) (a .numbers .now) (a .usages .now) (a .class) (a .usage) (a .i)) (length (a .numbers .now)) (turn .loop .j) (omega arith)) ∙ turn .loop .inv
 
 pub any-same-spec : {M : Type 1} → statement M
 any-same-spec =

@@ -1,7 +1,7 @@
 -- `counts_at` meets its contract, moment by moment. Assumes nothing.
 use mathlib.Core.Path.{sym, ap, _∙_}
 use Rattle.literals.specs.declared.Moment.{Moment}
-use Rattle.classes.specs.Coded.{timed}
+use Rattle.classes.specs.Held.{timed}
 use borrow.Author.Needs.{needs}
 use Rattle.classes.proofs.names.counts_at.Statement.{statement}
 use Rattle.classes.proofs.names.counts_at.Tie as tie

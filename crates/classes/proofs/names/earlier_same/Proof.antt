@@ -4,22 +4,22 @@ use mathlib.Core.Path.{_≡_, sym, ap, _∙_}
 use Prim.Native.Nat.{_-_}
 use Rattle.records.specs.Lists.{any}
 use Rattle.literals.specs.Keys.{below}
-use Rattle.classes.specs.Coded.{saysAt}
+use Rattle.classes.specs.Held.{saysAt}
 use Rattle.literals.proofs.Indices.{left, left-all, any-hit, any-miss, any-end}
 use Rattle.classes.proofs.names.earlier_same.Statement.{statement}
 use Rattle.classes.proofs.names.earlier_same.Tie as tie
 
 abbrev Inv-loop : tie.InvT-loop
-Inv-loop wide rows m clause j i₀ i =
-    any (saysAt wide rows m clause j) (left j i) ≡ any (saysAt wide rows m clause j) (below j)
+Inv-loop wide rows m usage j i₀ i =
+    any (saysAt wide rows m usage j) (left j i) ≡ any (saysAt wide rows m usage j) (below j)
 
 abbrev μ-loop : tie.MeasureT-loop
-μ-loop wide rows m clause j i₀ i = j - i
+μ-loop wide rows m usage j i₀ i = j - i
 
 loop-holds : tie.Need-loop-holds Inv-loop μ-loop
 loop-holds c =
     let a = c .before .args in
-    ap (any (saysAt (a .wide) (a .rows .now) (a .m) (a .clause) (a .j))) (left-all (a .j))
+    ap (any (saysAt (a .wide) (a .rows .now) (a .m) (a .usage) (a .j))) (left-all (a .j))
 
 says-requires : tie.Need-says-requires Inv-loop μ-loop
 says-requires c κs = (omega arith, omega arith)
@@ -28,7 +28,7 @@ returns : tie.Need-returns Inv-loop μ-loop
 returns c =
     let turn = c .before .before .before in
     let a = turn .before .before .args in
-    sym (any-hit (saysAt (a .wide) (a .rows .now) (a .m) (a .clause) (a .j)) (a .j) (turn .loop .i) (omega arith) (sym (c .before .says .ensures) ∙ c .if1 .taken))
+    sym (any-hit (saysAt (a .wide) (a .rows .now) (a .m) (a .usage) (a .j)) (a .j) (turn .loop .i) (omega arith) (sym (c .before .says .ensures) ∙ c .if1 .taken))
     ∙ turn .loop .inv
 
 add-i : tie.Need-add-i Inv-loop μ-loop
@@ -41,14 +41,14 @@ loop-again : tie.Need-loop-again Inv-loop μ-loop
 loop-again c =
     let turn = c .before .before .before in
     let a = turn .before .before .args in
-    sym (any-miss (saysAt (a .wide) (a .rows .now) (a .m) (a .clause) (a .j)) (a .j) (turn .loop .i) (omega arith) (sym (c .before .says .ensures) ∙ c .if1 .left))
+    sym (any-miss (saysAt (a .wide) (a .rows .now) (a .m) (a .usage) (a .j)) (a .j) (turn .loop .i) (omega arith) (sym (c .before .says .ensures) ∙ c .if1 .left))
     ∙ turn .loop .inv
 
 returns-2 : tie.Need-returns-2 Inv-loop μ-loop
 returns-2 c =
     let turn = c .before in
     let a = turn .before .before .args in
-    sym (any-end (saysAt (a .wide) (a .rows .now) (a .m) (a .clause) (a .j)) (a .j) (turn .loop .i) (omega arith)) ∙ turn .loop .inv
+    sym (any-end (saysAt (a .wide) (a .rows .now) (a .m) (a .usage) (a .j)) (a .j) (turn .loop .i) (omega arith)) ∙ turn .loop .inv
 
 pub earlier-same-spec : {M : Type 1} → statement M
 earlier-same-spec =

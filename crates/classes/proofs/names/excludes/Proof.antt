@@ -1,7 +1,7 @@
 -- `excludes` meets its contract, test by test. Assumes nothing.
 use borrow.Author.Needs.{needs}
 use borrow.Author.Tests.{eq-eqb, ne-eqb, le-leb, lt-leb}
-use Rattle.classes.specs.Coded.{excludesAt}
+use Rattle.classes.specs.Held.{excludesAt}
 use Rattle.classes.proofs.names.excludes.Statement.{statement}
 use Rattle.classes.proofs.names.excludes.Tie as tie
 

@@ -7,20 +7,20 @@ use mathlib.Core.List.{List}
 use Prim.Native.Nat.{ℕ, _+_, _-_, _≤_}
 use Rattle.literals.specs.Held.{componentsIn}
 use Rattle.literals.specs.Keys.{position, below}
-use Rattle.classes.specs.Coded.{coveredAt, lackingAt}
+use Rattle.classes.specs.Held.{coveredAt, lackingAt}
 use Rattle.literals.proofs.Indices.{left, left-all, position-hit, position-miss, position-end}
 use Rattle.classes.proofs.names.first_lacking.Statement.{statement}
 use Rattle.classes.proofs.names.first_lacking.Tie as tie
 
 abbrev lacks : List ℕ → List ℕ → List ℕ → List ℕ → ℕ → ℕ → Bool
-lacks head rows numbers clauses class c = not (coveredAt head rows numbers clauses class c)
+lacks head rows numbers usages class c = not (coveredAt head rows numbers usages class c)
 
 abbrev Inv-loop : tie.InvT-loop
-Inv-loop head rows numbers clauses class n c₀ c =
-    (c ≤ n) × (n ≤ 16) × (c + position (lacks head rows numbers clauses class) (left n c) ≡ lackingAt head rows numbers clauses class)
+Inv-loop head rows numbers usages class n c₀ c =
+    (c ≤ n) × (n ≤ 16) × (c + position (lacks head rows numbers usages class) (left n c) ≡ lackingAt head rows numbers usages class)
 
 abbrev μ-loop : tie.MeasureT-loop
-μ-loop head rows numbers clauses class n c₀ c = n - c
+μ-loop head rows numbers usages class n c₀ c = n - c
 
 components-in-requires : tie.Need-components-in-requires Inv-loop μ-loop
 components-in-requires c κs = search needs
@@ -30,7 +30,7 @@ unfolding lackingAt
 loop-holds c =
     let a = c .before .before .before .args in
     let n = c .components-in .ensures in
-    let p = lacks (a .head .now) (a .rows .now) (a .numbers .now) (a .clauses .now) (a .class) in
+    let p = lacks (a .head .now) (a .rows .now) (a .numbers .now) (a .usages .now) (a .class) in
     let e = ap (position p) (left-all (c .components-in .result)) ∙ ap (λ (k : ℕ). position p (below k)) (n .0) in
     (omega arith, n .1, omega arith)
 
@@ -41,7 +41,7 @@ returns : tie.Need-returns Inv-loop μ-loop
 returns c =
     let a = c .before .before .before .before .before .before .before .args in
     let turn = c .before .before .before in
-    let e = position-hit (lacks (a .head .now) (a .rows .now) (a .numbers .now) (a .clauses .now) (a .class)) (turn .before .components-in .result) (turn .loop .c) (omega arith) (ap not (sym (c .before .covers .ensures)) ∙ c .if1 .taken) in
+    let e = position-hit (lacks (a .head .now) (a .rows .now) (a .numbers .now) (a .usages .now) (a .class)) (turn .before .components-in .result) (turn .loop .c) (omega arith) (ap not (sym (c .before .covers .ensures)) ∙ c .if1 .taken) in
     let i = turn .loop .inv .2 in
     omega arith
 
@@ -55,7 +55,7 @@ loop-again : tie.Need-loop-again Inv-loop μ-loop
 loop-again c =
     let a = c .before .before .before .before .before .before .before .args in
     let turn = c .before .before .before in
-    let e = position-miss (lacks (a .head .now) (a .rows .now) (a .numbers .now) (a .clauses .now) (a .class)) (turn .before .components-in .result) (turn .loop .c) (omega arith) (ap not (sym (c .before .covers .ensures)) ∙ c .if1 .left) in
+    let e = position-miss (lacks (a .head .now) (a .rows .now) (a .numbers .now) (a .usages .now) (a .class)) (turn .before .components-in .result) (turn .loop .c) (omega arith) (ap not (sym (c .before .covers .ensures)) ∙ c .if1 .left) in
     let i = turn .loop .inv .2 in
     (omega arith, turn .loop .inv .1, omega arith)
 
@@ -63,7 +63,7 @@ returns-2 : tie.Need-returns-2 Inv-loop μ-loop
 returns-2 c =
     let a = c .before .before .before .before .before .args in
     let l = c .before .loop in
-    let e = position-end (lacks (a .head .now) (a .rows .now) (a .numbers .now) (a .clauses .now) (a .class)) (c .before .before .components-in .result) (l .c) (omega arith) in
+    let e = position-end (lacks (a .head .now) (a .rows .now) (a .numbers .now) (a .usages .now) (a .class)) (c .before .before .components-in .result) (l .c) (omega arith) in
     let i = l .inv .2 in
     omega arith
 

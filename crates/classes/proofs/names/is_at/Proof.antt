@@ -1,7 +1,7 @@
 -- `is_at` meets its contract, test by test. Assumes nothing.
 use borrow.Author.Needs.{needs}
 use borrow.Author.Tests.{eq-eqb, ne-eqb}
-use Rattle.classes.specs.Coded.{isAt}
+use Rattle.classes.specs.Held.{isAt}
 use Rattle.classes.proofs.names.is_at.Statement.{statement}
 use Rattle.classes.proofs.names.is_at.Tie as tie
 

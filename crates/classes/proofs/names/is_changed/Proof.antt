@@ -1,6 +1,6 @@
 -- `is_changed` meets its contract, test by test. Assumes nothing.
 use mathlib.Core.Path.{sym, _∙_}
-use Rattle.classes.specs.Coded.{changedAt}
+use Rattle.classes.specs.Held.{changedAt}
 use borrow.Author.Needs.{needs}
 use Rattle.classes.proofs.names.is_changed.Statement.{statement}
 use Rattle.classes.proofs.names.is_changed.Tie as tie

@@ -34,7 +34,7 @@ sub-any-same c = search needs
 any-same-requires : tie.Need-any-same-requires
 any-same-requires c κs =
     let s = c .before .before .before .before .before .before .before .before .before .before .before .before in
-    (s .pre .0, sole-inside (s .args .numbers .now) (s .args .clauses .now) (s .args .class) (s .pre .0 .few) (s .pre .1) (c .before .before .before .before .before .before .before .if2 .left) (c .before .before .before .before .before .before .if3 .left))
+    (s .pre .0, sole-inside (s .args .numbers .now) (s .args .usages .now) (s .args .class) (s .pre .0 .few) (s .pre .1) (c .before .before .before .before .before .before .before .if2 .left) (c .before .before .before .before .before .before .if3 .left))
 
 returns-7 : tie.Need-returns-7
 returns-7 c D a head M l z h =

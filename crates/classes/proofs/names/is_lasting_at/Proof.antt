@@ -8,7 +8,7 @@ use borrow.Author.Tests.{eq-eqb, ne-eqb}
 use Rattle.literals.specs.declared.Time.the-variants.{OverAll}
 use Rattle.literals.specs.declared.Role.{Role}
 use Rattle.literals.specs.Domain.{roleOf, sameTime}
-use Rattle.classes.specs.Coded.{lastsAt}
+use Rattle.classes.specs.Held.{lastsAt}
 use borrow.Author.Needs.{needs}
 use Rattle.classes.proofs.names.is_lasting_at.Statement.{statement}
 use Rattle.classes.proofs.names.is_lasting_at.Tie as tie

@@ -1,6 +1,6 @@
 -- `is_same_at` meets its contract, test by test. Assumes nothing.
 use mathlib.Core.Path.{sym, _∙_}
-use Rattle.classes.specs.Coded.{isSameAt}
+use Rattle.classes.specs.Held.{isSameAt}
 use borrow.Author.Needs.{needs}
 use Rattle.classes.proofs.names.is_same_at.Statement.{statement}
 use Rattle.classes.proofs.names.is_same_at.Tie as tie

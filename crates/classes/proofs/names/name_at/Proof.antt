@@ -44,7 +44,7 @@ sub-is-changed c = search needs
 is-changed-requires : tie.Need-is-changed-requires
 is-changed-requires c κs =
     let s = c .before .before .before .before .before .before .before in
-    (s .pre .0, sole-inside (s .args .numbers .now) (s .args .clauses .now) (s .args .class) (s .pre .0 .few) (s .pre .1) (c .if5 .left) (c .before .before .before .if2 .left))
+    (s .pre .0, sole-inside (s .args .numbers .now) (s .args .usages .now) (s .args .class) (s .pre .0 .few) (s .pre .1) (c .if5 .left) (c .before .before .before .if2 .left))
 
 returns-7 : tie.Need-returns-7
 returns-7 c D a m M h r =

@@ -4,14 +4,14 @@ use Prim.Native.Nat.{ℕ}
 use Rattle.literals.specs.declared.Time.{Time}
 use Rattle.literals.specs.declared.Role.{Role}
 use Rattle.literals.specs.Domain.{roleOf}
-use Rattle.classes.specs.Coded.{sectionBy, sectionOf}
+use Rattle.classes.specs.Held.{sectionBy, sectionOf}
 use borrow.Author.Needs.{needs}
 use Rattle.classes.proofs.names.section_of.Statement.{statement}
 use Rattle.classes.proofs.names.section_of.Tie as tie
 
-by-time : (r : Role) (role : ℕ) (t : Time) → r ≡ roleOf role → r .time ≡ t → {n : ℕ} → n ≡ sectionBy t (r .clause)
+by-time : (r : Role) (role : ℕ) (t : Time) → r ≡ roleOf role → r .time ≡ t → {n : ℕ} → n ≡ sectionBy t (r .usage)
     → n ≡ sectionOf (roleOf role)
-by-time r role t e f q = q ∙ ap (λ (u : Time). sectionBy u (r .clause)) (sym f) ∙ ap sectionOf e
+by-time r role t e f q = q ∙ ap (λ (u : Time). sectionBy u (r .usage)) (sym f) ∙ ap sectionOf e
 
 role-of-requires : tie.Need-role-of-requires
 role-of-requires c κs = search needs

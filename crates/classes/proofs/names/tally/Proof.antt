@@ -8,7 +8,7 @@ use borrow.Author.Needs.{needs}
 use lib.Dec.{eqb}
 use lib.ListN.{length, getD}
 use Rattle.literals.specs.Table.{pad}
-use Rattle.classes.specs.Coded.{soleMore, countsIn}
+use Rattle.classes.specs.Held.{soleMore, countsIn}
 use Rattle.classes.proofs.Soles.{Tallied, tallied-none, tallied-more, tallied-all}
 use Rattle.classes.proofs.names.tally.Statement.{statement}
 use Rattle.classes.proofs.names.tally.Tie as tie

@@ -5,7 +5,7 @@ use Prim.Native.Nat.{_+_, _-_, _≤_}
 use native.Mathlib.Omega.{arith}
 use lib.ListN.{getD, take, drop, replicate}
 use lib.Seq.{paste, paste-zero}
-use Rattle.events.specs.Coded.{boundBytes}
+use Rattle.events.specs.Held.{boundBytes}
 use Rattle.events.proofs.RowLoops.{bound-more, bound-all}
 use Rattle.events.proofs.facts.bound_row.Statement.{statement}
 use Rattle.events.proofs.facts.bound_row.Tie as tie

@@ -6,17 +6,17 @@ use Rattle.events.proofs.GroundLiterals.{row-none, row-one}
 use Rattle.events.proofs.grounding.ground_row.Statement.{statement}
 use Rattle.events.proofs.grounding.ground_row.Tie as tie
 
-shared-slice-read-clause-for : tie.Need-shared-slice-read-clause-for
-shared-slice-read-clause-for c = search needs
+shared-slice-read-usage-for : tie.Need-shared-slice-read-usage-for
+shared-slice-read-usage-for c = search needs
 
-clause-for-requires : tie.Need-clause-for-requires
-clause-for-requires c κs = search needs
+usage-for-requires : tie.Need-usage-for-requires
+usage-for-requires c κs = search needs
 
 returns : tie.Need-returns
 returns c =
     let a = c .before .before .before .before .before .before .args in
     let first = groundIn (a .n) (a .memory .now) in
-    let e = c .before .clause-for .ensures in
+    let e = c .before .usage-for .ensures in
     (row-none (a .time) (a .head .now) (a .ground .now) (a .rows .now) (a .row) _ e first (c .if1 .taken), refl)
 
 bound-row-requires : tie.Need-bound-row-requires
@@ -35,7 +35,7 @@ returns-2 : tie.Need-returns-2
 returns-2 c =
     let a = c .before .before .before .before .before .before .before .before .before .before .before .args in
     let first = groundIn (a .n) (a .memory .now) in
-    let e = c .before .before .before .before .before .before .clause-for .ensures in
+    let e = c .before .before .before .before .before .before .usage-for .ensures in
     let row = c .before .before .before .bound-row in
     let put = c .before .before .put-literal .ensures in (
       row-one (a .time) (a .head .now) (a .ground .now) (a .rows .now) (a .row) _ e first
@@ -47,8 +47,8 @@ pub ground-row-spec : {M : Type 1} → statement M
 ground-row-spec =
     tie.close
     (tie.spec
-    shared-slice-read-clause-for
-    clause-for-requires
+    shared-slice-read-usage-for
+    usage-for-requires
     returns
     bound-row-requires
     put-literal-requires

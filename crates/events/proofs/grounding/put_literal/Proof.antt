@@ -26,7 +26,7 @@ same-length c = search needs
 returns : tie.Need-returns
 returns c =
     let a = c .before .before .before .before .before .before .args in
-    put-ground (a .memory .now) (a .t4) (a .n) (a .clause) (omega arith) (omega arith) (omega arith) _
+    put-ground (a .memory .now) (a .t4) (a .n) (a .usage) (omega arith) (omega arith) (omega arith) _
     (c .before .before .put-bytes .ensures)
 
 pub put-literal-spec : {M : Type 1} → statement M

@@ -3,8 +3,8 @@ use mathlib.Core.Path.{sym, _∙_}
 use native.Mathlib.Omega.{arith}
 use lib.ListN.{replicate}
 use borrow.Author.Needs.{needs}
-use Rattle.events.specs.Coded.{momentsAt, eventsAt, waitingBytes, momentsIn, eventRowsIn}
-use Rattle.runs.specs.RunFile.{maxEvents}
+use Rattle.events.specs.Held.{momentsAt, eventsAt, waitingBytes, momentsIn, eventRowsIn}
+use Rattle.run_semantics.specs.RunFile.{maxEvents}
 use Rattle.events.proofs.GroundRows.{whole-copy}
 use Rattle.events.proofs.Agenda.{section-length, after-entries, after-waits}
 use Rattle.events.proofs.openings.agenda_after.Statement.{statement}

@@ -5,7 +5,7 @@ use native.Mathlib.Omega.{arith}
 use lib.ListN.{drop}
 use Rattle.records.specs.Lists.{all}
 use Rattle.records.proofs.Lists.{not-true, not-false}
-use Rattle.events.specs.Coded.{groundsIn, eventsIn, endOpen}
+use Rattle.events.specs.Held.{groundsIn, eventsIn, endOpen}
 use Rattle.events.proofs.GroundRows.{events-first, ends-miss, ends-hit, ends-end}
 use Rattle.events.proofs.openings.all_open.Statement.{statement}
 use Rattle.events.proofs.openings.all_open.Tie as tie

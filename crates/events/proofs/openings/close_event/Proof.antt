@@ -2,7 +2,7 @@
 use mathlib.Core.Path.{ap, _∙_}
 use mathlib.Core.List.{List}
 use Prim.Native.Nat.{ℕ, _*_}
-use Rattle.events.specs.Coded.{closeEntry, eventAt}
+use Rattle.events.specs.Held.{closeEntry, eventAt}
 use Rattle.events.proofs.GroundRows.{part-ground, close-start, close-end}
 use borrow.Author.Needs.{needs}
 use Rattle.events.proofs.openings.close_event.Statement.{statement}

@@ -2,7 +2,7 @@
 use mathlib.Core.Path.{ap, _∙_}
 use mathlib.Core.List.{List}
 use Prim.Native.Nat.{ℕ, _*_}
-use Rattle.events.specs.Coded.{groundsIn, eventAt}
+use Rattle.events.specs.Held.{groundsIn, eventAt}
 use Rattle.store.specs.Rows.{hasRow}
 use Rattle.events.proofs.GroundRows.{part-ground, open-start, open-end}
 use borrow.Author.Needs.{needs}

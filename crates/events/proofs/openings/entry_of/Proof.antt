@@ -7,7 +7,7 @@ use lib.ListN.{drop}
 use Rattle.records.specs.Lists.{sameList}
 use Rattle.literals.specs.Keys.{position}
 use Rattle.literals.proofs.KeyRows.{place-first, place-hit, place-miss, place-end}
-use Rattle.events.specs.Coded.{groundsIn}
+use Rattle.events.specs.Held.{groundsIn}
 use Rattle.events.proofs.openings.entry_of.Statement.{statement}
 use Rattle.events.proofs.openings.entry_of.Tie as tie
 

@@ -5,8 +5,8 @@ use Prim.Native.Nat.{_-_, _*_, _≤_}
 use native.Mathlib.Omega.{arith}
 use lib.ListN.{length, drop}
 use Rattle.records.proofs.Lists.{not-true, not-false}
-use Rattle.events.specs.Coded.{Open}
-use Rattle.events.specs.Coded.{EventRow, eventAt, eventsIn, joinEvents, Opened}
+use Rattle.events.specs.Held.{Open}
+use Rattle.events.specs.Held.{EventRow, eventAt, eventsIn, joinEvents, Opened}
 use Rattle.events.proofs.GroundRows.{events-first, joins-few, joins-more, joins-full, joins-end}
 use Rattle.events.proofs.openings.join_all.Statement.{statement}
 use Rattle.events.proofs.openings.join_all.Tie as tie

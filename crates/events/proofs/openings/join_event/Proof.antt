@@ -4,7 +4,7 @@ use mathlib.Core.List.{List}
 use Prim.Native.Nat.{ℕ, _+_, _*_}
 use native.Mathlib.Omega.{arith}
 use Rattle.records.proofs.Lists.{not-true, not-false}
-use Rattle.events.specs.Coded.{joinEntry}
+use Rattle.events.specs.Held.{joinEntry}
 use Rattle.events.proofs.GroundRows.{part-ground, joins-not, joins-no-room, joins-one}
 use borrow.Author.Needs.{needs}
 use Rattle.events.proofs.openings.join_event.Statement.{statement}

@@ -1,7 +1,7 @@
 -- `open_after` meets its contract: what is lent fits, and the rows are those of the entries and events. Assumes nothing.
 use mathlib.Core.Path.{_∙_}
 use native.Mathlib.Omega.{arith}
-use Rattle.events.specs.Coded.{eventsIn}
+use Rattle.events.specs.Held.{eventsIn}
 use Rattle.events.proofs.GroundRows.{closes-fewer}
 use Rattle.events.proofs.OpenRows.{events-few, entries-few, after-held}
 use borrow.Author.Needs.{needs}

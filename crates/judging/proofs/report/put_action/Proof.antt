@@ -7,7 +7,7 @@ use lib.ListN.{length, getD, take, drop}
 use Rattle.literals.specs.declared.Variable.{Variable}
 use Rattle.literals.specs.Domain.{Action, Domain}
 use Rattle.verdict.specs.Decision.{Row, rowsOfClasses}
-use Rattle.judging.specs.Reporting.{Reporting}
+use Rattle.judging.specs.Held.{Reporting}
 use Rattle.judging.proofs.Reported.{classes-begin, classes-open, classes-close, classes-end}
 use Rattle.judging.proofs.report.put_action.Statement.{statement}
 use Rattle.judging.proofs.report.put_action.Tie as tie

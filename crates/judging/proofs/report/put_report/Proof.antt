@@ -11,8 +11,8 @@ use Rattle.literals.specs.Table.{pad}
 use Rattle.literals.specs.Held.{actionsIn, HeadOf}
 use Rattle.classes.specs.Classes.{classes}
 use Rattle.verdict.specs.Decision.{rowsFrom, rows}
-use Rattle.naming.specs.Named.{nameBytes, classCounts}
-use Rattle.judging.specs.Reporting.{Reporting}
+use Rattle.naming.specs.Held.{nameBytes, classCounts}
+use Rattle.judging.specs.Held.{Reporting}
 use Rattle.judging.proofs.Reported.{actions-begin, actions-open, actions-close, actions-end, lasting-is, count-is}
 use Rattle.judging.proofs.report.put_report.Statement.{statement}
 use Rattle.judging.proofs.report.put_report.Tie as tie

@@ -7,14 +7,14 @@ use lib.Dec.{eqb}
 use borrow.Author.Tests.{eq-eqb, ne-eqb}
 use Rattle.records.specs.Lists.{any}
 use Rattle.literals.specs.Decode.{byte}
-use Rattle.literals.specs.Held.{componentsIn, partIn, partsFrom, partsIn}
+use Rattle.literals.specs.Held.{componentsIn, componentRowIn, componentRowsFrom, componentRowsIn}
 use Rattle.literals.proofs.Heads.{parts-hit, parts-miss, parts-none}
 use borrow.Author.Needs.{needs}
 use Rattle.literals.proofs.head.is_used.Statement.{statement}
 use Rattle.literals.proofs.head.is_used.Tie as tie
 
 abbrev Inv-loop : tie.InvT-loop
-Inv-loop head relation n c₀ c = (c ≤ n) × (any (λ (row : List ℕ). eqb relation (byte row 0)) (partsFrom head c (n - c)) ≡ any (λ (row : List ℕ). eqb relation (byte row 0)) (partsIn head))
+Inv-loop head relation n c₀ c = (c ≤ n) × (any (λ (row : List ℕ). eqb relation (byte row 0)) (componentRowsFrom head c (n - c)) ≡ any (λ (row : List ℕ). eqb relation (byte row 0)) (componentRowsIn head))
 
 abbrev μ-loop : tie.MeasureT-loop
 μ-loop head relation n c₀ c = n - c
@@ -23,20 +23,20 @@ components-in-requires : tie.Need-components-in-requires Inv-loop μ-loop
 components-in-requires c κs = search needs
 
 loop-holds : tie.Need-loop-holds Inv-loop μ-loop
-unfolding partsIn
+unfolding componentRowsIn
 loop-holds c =
     let a = c .before .args in
     let e : c .components-in .result - 0 ≡ componentsIn (a .head .now) = omega (arith, c .components-in .ensures .0) in
-    (omega arith, ap (λ (k : ℕ). any (λ (row : List ℕ). eqb (a .relation) (byte row 0)) (partsFrom (a .head .now) 0 k)) e)
+    (omega arith, ap (λ (k : ℕ). any (λ (row : List ℕ). eqb (a .relation) (byte row 0)) (componentRowsFrom (a .head .now) 0 k)) e)
 
-part-byte-requires : tie.Need-part-byte-requires Inv-loop μ-loop
-part-byte-requires c κs = let m = c .before .before .components-in .ensures .1 in (omega arith, omega arith)
+component-byte-requires : tie.Need-component-byte-requires Inv-loop μ-loop
+component-byte-requires c κs = let m = c .before .before .components-in .ensures .1 in (omega arith, omega arith)
 
 returns : tie.Need-returns Inv-loop μ-loop
 returns c =
     let a = c .before .before .before .before .before .args in
     let l = c .before .before .before .loop in
-    sym (parts-hit (λ (row : List ℕ). eqb (a .relation) (byte row 0)) (a .head .now) _ (l .c) (omega arith) (eq-eqb (a .relation) (byte (partIn (a .head .now) (l .c)) 0) (sym (c .if1 .taken) ∙ c .before .part-byte .ensures))) ∙ l .inv .1
+    sym (parts-hit (λ (row : List ℕ). eqb (a .relation) (byte row 0)) (a .head .now) _ (l .c) (omega arith) (eq-eqb (a .relation) (byte (componentRowIn (a .head .now) (l .c)) 0) (sym (c .if1 .taken) ∙ c .before .component-byte .ensures))) ∙ l .inv .1
 
 add-c : tie.Need-add-c Inv-loop μ-loop
 add-c c = let m = c .before .before .before .before .components-in .ensures .1 in omega arith
@@ -48,7 +48,7 @@ loop-again : tie.Need-loop-again Inv-loop μ-loop
 loop-again c =
     let a = c .before .before .before .before .before .args in
     let l = c .before .before .before .loop in
-    (omega arith, sym (parts-miss (λ (row : List ℕ). eqb (a .relation) (byte row 0)) (a .head .now) _ (l .c) (omega arith) (ne-eqb (a .relation) (byte (partIn (a .head .now) (l .c)) 0) (λ z. c .if1 .left (c .before .part-byte .ensures ∙ sym z)))) ∙ l .inv .1)
+    (omega arith, sym (parts-miss (λ (row : List ℕ). eqb (a .relation) (byte row 0)) (a .head .now) _ (l .c) (omega arith) (ne-eqb (a .relation) (byte (componentRowIn (a .head .now) (l .c)) 0) (λ z. c .if1 .left (c .before .component-byte .ensures ∙ sym z)))) ∙ l .inv .1)
 
 returns-2 : tie.Need-returns-2 Inv-loop μ-loop
 returns-2 c =
@@ -64,7 +64,7 @@ is-used-spec =
     μ-loop
     components-in-requires
     loop-holds
-    part-byte-requires
+    component-byte-requires
     returns
     add-c
     loop-less

@@ -8,7 +8,7 @@ use Prim.Native.Nat.{ℕ, suc, _+_, _-_, _≤_, _<_}
 use borrow.Author.Tests.{eq-eqb, ne-eqb}
 use lib.Dec.{eqb}
 use Rattle.literals.specs.Decode.{byte}
-use Rattle.literals.specs.Held.{partIn, partsFrom, partsIn}
+use Rattle.literals.specs.Held.{componentRowIn, componentRowsFrom, componentRowsIn}
 use Rattle.literals.proofs.Heads.{parts-next, parts-end}
 use Rattle.literals.specs.Keys.{position}
 use Rattle.literals.proofs.keys.component_of.Statement.{statement}
@@ -18,18 +18,18 @@ abbrev starts : ℕ → List ℕ → Bool
 starts b row = eqb b (byte row 0)
 
 module _ (b : ℕ) (head : List ℕ) (n c : ℕ) where
-  hit : c < n → starts b (partIn head c) ≡ true → position (starts b) (partsFrom head c (n - c)) ≡ 0
+  hit : c < n → starts b (componentRowIn head c) ≡ true → position (starts b) (componentRowsFrom head c (n - c)) ≡ 0
   hit h e = rw (parts-next head n c h, e)
 
-  miss : c < n → starts b (partIn head c) ≡ false → position (starts b) (partsFrom head c (n - c)) ≡ suc (position (starts b) (partsFrom head (c + 1) (n - (c + 1))))
+  miss : c < n → starts b (componentRowIn head c) ≡ false → position (starts b) (componentRowsFrom head c (n - c)) ≡ suc (position (starts b) (componentRowsFrom head (c + 1) (n - (c + 1))))
   miss h e = rw (parts-next head n c h, e)
 
-  ended : n ≤ c → position (starts b) (partsFrom head c (n - c)) ≡ 0
+  ended : n ≤ c → position (starts b) (componentRowsFrom head c (n - c)) ≡ 0
   ended h = rw (parts-end head n c h)
 
 abbrev Inv-loop : tie.InvT-loop
 Inv-loop head relation n c₀ c =
-    (c ≤ n) × (n ≤ 16) × (c + position (starts relation) (partsFrom head c (n - c)) ≡ position (starts relation) (partsIn head))
+    (c ≤ n) × (n ≤ 16) × (c + position (starts relation) (componentRowsFrom head c (n - c)) ≡ position (starts relation) (componentRowsIn head))
 
 abbrev μ-loop : tie.MeasureT-loop
 μ-loop head relation n c₀ c = n - c
@@ -38,21 +38,21 @@ components-in-requires : tie.Need-components-in-requires Inv-loop μ-loop
 components-in-requires c κs = search needs
 
 loop-holds : tie.Need-loop-holds Inv-loop μ-loop
-unfolding partsIn
+unfolding componentRowsIn
 loop-holds c =
     let a = c .before .args in
     let n = c .components-in .ensures in
-    let e = ap (λ (k : ℕ). position (starts (a .relation)) (partsFrom (a .head .now) 0 k)) (let z : c .components-in .result - 0 ≡ c .components-in .result = omega arith in z ∙ n .0) in
+    let e = ap (λ (k : ℕ). position (starts (a .relation)) (componentRowsFrom (a .head .now) 0 k)) (let z : c .components-in .result - 0 ≡ c .components-in .result = omega arith in z ∙ n .0) in
     (omega arith, n .1, omega arith)
 
-part-byte-requires : tie.Need-part-byte-requires Inv-loop μ-loop
-part-byte-requires c κs = search needs
+component-byte-requires : tie.Need-component-byte-requires Inv-loop μ-loop
+component-byte-requires c κs = search needs
 
 returns : tie.Need-returns Inv-loop μ-loop
 returns c =
     let t = c .before .before .before in
     let a = t .before .before .args in
-    let e = hit (a .relation) (a .head .now) (t .before .components-in .result) (t .loop .c) (omega arith) (eq-eqb _ _ (sym (sym (c .before .part-byte .ensures) ∙ c .if1 .taken))) in
+    let e = hit (a .relation) (a .head .now) (t .before .components-in .result) (t .loop .c) (omega arith) (eq-eqb _ _ (sym (sym (c .before .component-byte .ensures) ∙ c .if1 .taken))) in
     let i = t .loop .inv .2 in
     omega arith
 
@@ -66,7 +66,7 @@ loop-again : tie.Need-loop-again Inv-loop μ-loop
 loop-again c =
     let t = c .before .before .before in
     let a = t .before .before .args in
-    let e = miss (a .relation) (a .head .now) (t .before .components-in .result) (t .loop .c) (omega arith) (ne-eqb _ _ (λ e. c .if1 .left (c .before .part-byte .ensures ∙ sym e))) in
+    let e = miss (a .relation) (a .head .now) (t .before .components-in .result) (t .loop .c) (omega arith) (ne-eqb _ _ (λ e. c .if1 .left (c .before .component-byte .ensures ∙ sym e))) in
     let i = t .loop .inv .2 in
     (omega arith, t .loop .inv .1, omega arith)
 
@@ -86,7 +86,7 @@ component-of-spec =
     μ-loop
     components-in-requires
     loop-holds
-    part-byte-requires
+    component-byte-requires
     returns
     add-c
     loop-less

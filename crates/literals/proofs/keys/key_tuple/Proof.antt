@@ -4,7 +4,7 @@ use borrow.Author.Needs.{needs}
 use mathlib.Core.Path.{_≡_, ap, _∙_}
 use Prim.Native.Nat.{ℕ, _-_, _≤_}
 use lib.ListN.{take, drop}
-use Rattle.literals.specs.Held.{partIn}
+use Rattle.literals.specs.Held.{componentRowIn}
 use Rattle.literals.specs.Keys.{argumentAt, keyRow}
 use Rattle.literals.proofs.Heads.{part-length}
 use Rattle.literals.proofs.KeyRows.{tuple-none, tuple-more, under-place}
@@ -12,7 +12,7 @@ use Rattle.literals.proofs.keys.key_tuple.Statement.{statement}
 use Rattle.literals.proofs.keys.key_tuple.Tie as tie
 
 abbrev Inv-loop : tie.InvT-loop
-Inv-loop head c rows at t₀ k₀ k-end t k = (k ≤ k-end) × (k-end ≤ 6) × (t ≡ keyRow k (partIn head c) (take 8 (drop at rows)))
+Inv-loop head c rows at t₀ k₀ k-end t k = (k ≤ k-end) × (k-end ≤ 6) × (t ≡ keyRow k (componentRowIn head c) (take 8 (drop at rows)))
 
 abbrev μ-loop : tie.MeasureT-loop
 μ-loop head c rows at t₀ k₀ k-end t k = k-end - k
@@ -45,7 +45,7 @@ loop-again : tie.Need-loop-again Inv-loop μ-loop
 loop-again c =
     let a = c .before .before .before .before .before .before .args in
     let l = c .before .before .before .loop in
-    let u = under-place (partIn (a .head .now) (a .c)) (a .rows .now) (a .at) (l .k) (omega arith) (part-length (a .head .now) (a .c)) (c .before .before .before .before .before .before .pre .1) in (
+    let u = under-place (componentRowIn (a .head .now) (a .c)) (a .rows .now) (a .at) (l .k) (omega arith) (part-length (a .head .now) (a .c)) (c .before .before .before .before .before .before .pre .1) in (
       omega arith,
       l .inv .1,
       tuple-more _ _ (l .t) (l .k) (c .argument-byte .result) (omega arith) (l .inv .2)
@@ -58,7 +58,7 @@ returns c =
     let a = c .before .before .before .before .args in
     let k = c .before .before .keys-in .ensures .0 in
     let e : l .k ≡ c .before .before .keys-in .result = omega arith in
-    l .inv .2 ∙ ap (λ (n : ℕ). keyRow n (partIn (a .head .now) (a .c)) (take 8 (drop (a .at) (a .rows .now)))) (e ∙ k)
+    l .inv .2 ∙ ap (λ (n : ℕ). keyRow n (componentRowIn (a .head .now) (a .c)) (take 8 (drop (a .at) (a .rows .now)))) (e ∙ k)
 
 pub key-tuple-spec : {M : Type 1} → statement M
 key-tuple-spec =

@@ -4,7 +4,7 @@ use borrow.Author.Needs.{needs}
 use mathlib.Core.Path.{_≡_, refl, ap, _∙_}
 use Prim.Native.Nat.{ℕ, _-_, _≤_, _<_}
 use lib.ListN.{take, drop}
-use Rattle.literals.specs.Held.{keysIn, partIn}
+use Rattle.literals.specs.Held.{keysIn, componentRowIn}
 use Rattle.literals.specs.Keys.{argumentAt, underKeys, wordFrom, keyWord}
 use Rattle.literals.proofs.Heads.{part-length}
 use Rattle.literals.proofs.Places.{components-few}
@@ -15,7 +15,7 @@ use Rattle.literals.proofs.keys.key_word.Tie as tie
 abbrev Inv-loop : tie.InvT-loop
 Inv-loop head places c rows at word₀ k₀ k-end word k =
     (k ≤ k-end) × (k-end ≤ 6) × (k-end ≡ keysIn head)
-    × (word ≡ wordFrom 0 (underKeys k (drop 1 (partIn head c)) (drop 2 (take 8 (drop at rows))))) × (word < wordLimit k)
+    × (word ≡ wordFrom 0 (underKeys k (drop 1 (componentRowIn head c)) (drop 2 (take 8 (drop at rows))))) × (word < wordLimit k)
 
 abbrev μ-loop : tie.MeasureT-loop
 μ-loop head places c rows at word₀ k₀ k-end word k = k-end - k
@@ -64,14 +64,14 @@ loop-again c =
     let l = c .before .before .before .before .before .loop in
     let w = c .wide2 in
     let u =
-    under-place (partIn (a .head .now) (a .c)) (a .rows .now) (a .at) (l .k) (omega arith) (part-length (a .head .now) (a .c))
+    under-place (componentRowIn (a .head .now) (a .c)) (a .rows .now) (a .at) (l .k) (omega arith) (part-length (a .head .now) (a .c))
     (c .before .before .before .before .before .before .before .before .pre .1 .1)
     in
     let e = l .inv .2 in (
       omega arith,
       l .inv .1,
       l .inv .2,
-      word-more (partIn (a .head .now) (a .c)) (take 8 (drop (a .at) (a .rows .now))) (l .word) (l .k) (w .result) (l .inv .3)
+      word-more (componentRowIn (a .head .now) (a .c)) (take 8 (drop (a .at) (a .rows .now))) (l .word) (l .k) (w .result) (l .inv .3)
           (w .ensures .0
           ∙ c .before .argument-byte .ensures
           ∙ ap (argumentAt (a .rows .now) (a .at)) (c .before .before .wide .ensures .0
@@ -86,7 +86,7 @@ returns c =
     let l = c .before .loop in
     let a = c .before .before .before .before .args in
     let e : l .k ≡ c .before .before .keys-in .result = omega arith in
-    l .inv .3 ∙ word-all (l .k) _ _ ∙ ap (λ (n : ℕ). keyWord n (partIn (a .head .now) (a .c)) (take 8 (drop (a .at) (a .rows .now))))
+    l .inv .3 ∙ word-all (l .k) _ _ ∙ ap (λ (n : ℕ). keyWord n (componentRowIn (a .head .now) (a .c)) (take 8 (drop (a .at) (a .rows .now))))
     (e ∙ l .inv .2)
 
 pub key-word-spec : {M : Type 1} → statement M

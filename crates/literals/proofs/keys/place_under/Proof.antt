@@ -10,17 +10,17 @@ use Rattle.literals.specs.declared.Key.{Key}
 use Rattle.literals.specs.declared.Label.{Label}
 use Rattle.literals.specs.Domain.{isKey}
 use Rattle.literals.specs.Decode.{labelOf}
-use Rattle.literals.specs.Held.{partIn}
+use Rattle.literals.specs.Held.{componentRowIn}
 use Rattle.literals.specs.Keys.{position, below, placeUnder}
 use Rattle.literals.proofs.Indices.{left, left-all, position-hit, position-miss, position-end}
 use Rattle.literals.proofs.keys.place_under.Statement.{statement}
 use Rattle.literals.proofs.keys.place_under.Tie as tie
 
 abbrev stands : List ℕ → ℕ → Key → ℕ → Bool
-stands head c k i = isKey k (labelOf (getD (partIn head c) (i + 1) 0))
+stands head c k i = isKey k (labelOf (getD (componentRowIn head c) (i + 1) 0))
 
 abbrev Inv-loop : tie.InvT-loop
-Inv-loop head c k i₀ i = (i ≤ 6) × (i + position (stands head c k) (left 6 i) ≡ placeUnder k (partIn head c))
+Inv-loop head c k i₀ i = (i ≤ 6) × (i + position (stands head c k) (left 6 i) ≡ placeUnder k (componentRowIn head c))
 
 abbrev μ-loop : tie.MeasureT-loop
 μ-loop head c k i₀ i = 6 - i
@@ -29,11 +29,11 @@ loop-holds : tie.Need-loop-holds Inv-loop μ-loop
 unfolding placeUnder
 loop-holds c = (omega arith, omega arith)
 
-add-part-byte : tie.Need-add-part-byte Inv-loop μ-loop
-add-part-byte c = omega arith
+add-component-byte : tie.Need-add-component-byte Inv-loop μ-loop
+add-component-byte c = omega arith
 
-part-byte-requires : tie.Need-part-byte-requires Inv-loop μ-loop
-part-byte-requires c κs = (omega arith, omega arith)
+component-byte-requires : tie.Need-component-byte-requires Inv-loop μ-loop
+component-byte-requires c κs = (omega arith, omega arith)
 
 label-of-requires : tie.Need-label-of-requires Inv-loop μ-loop
 label-of-requires c κs = search needs
@@ -45,7 +45,7 @@ returns : tie.Need-returns Inv-loop μ-loop
 returns c =
     let a = c .before .before .before .before .before .before .args in
     let l = c .before .before .before .before .before .loop in
-    let e = position-hit (stands (a .head .now) (a .c) (a .k)) 6 (l .i) (omega arith) (sym (c .before .is-key .ensures ∙ ap (isKey (c .before .before .before .before .before .before .args .k)) (c .before .before .label-of .ensures ∙ ap labelOf (c .before .before .before .part-byte .ensures))) ∙ c .if1 .taken) in
+    let e = position-hit (stands (a .head .now) (a .c) (a .k)) 6 (l .i) (omega arith) (sym (c .before .is-key .ensures ∙ ap (isKey (c .before .before .before .before .before .before .args .k)) (c .before .before .label-of .ensures ∙ ap labelOf (c .before .before .before .component-byte .ensures))) ∙ c .if1 .taken) in
     let i = l .inv .1 in
     omega arith
 
@@ -59,7 +59,7 @@ loop-again : tie.Need-loop-again Inv-loop μ-loop
 loop-again c =
     let a = c .before .before .before .before .before .before .args in
     let l = c .before .before .before .before .before .loop in
-    let e = position-miss (stands (a .head .now) (a .c) (a .k)) 6 (l .i) (omega arith) (sym (c .before .is-key .ensures ∙ ap (isKey (c .before .before .before .before .before .before .args .k)) (c .before .before .label-of .ensures ∙ ap labelOf (c .before .before .before .part-byte .ensures))) ∙ c .if1 .left) in
+    let e = position-miss (stands (a .head .now) (a .c) (a .k)) 6 (l .i) (omega arith) (sym (c .before .is-key .ensures ∙ ap (isKey (c .before .before .before .before .before .before .args .k)) (c .before .before .label-of .ensures ∙ ap labelOf (c .before .before .before .component-byte .ensures))) ∙ c .if1 .left) in
     let i = l .inv .1 in
     (omega arith, omega arith)
 
@@ -78,8 +78,8 @@ place-under-spec =
     Inv-loop
     μ-loop
     loop-holds
-    add-part-byte
-    part-byte-requires
+    add-component-byte
+    component-byte-requires
     label-of-requires
     is-key-requires
     returns

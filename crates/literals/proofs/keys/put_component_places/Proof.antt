@@ -4,7 +4,7 @@ use borrow.Author.Needs.{needs}
 use mathlib.Core.Path.{_≡_, sym, _∙_}
 use Prim.Native.Nat.{_-_, _≤_, _<_}
 use Rattle.literals.specs.Domain.{key}
-use Rattle.literals.specs.Held.{keysIn, partIn}
+use Rattle.literals.specs.Held.{keysIn, componentRowIn}
 use Rattle.literals.proofs.Places.{OwnPlaces, place-few, own-none, own-more}
 use Rattle.literals.proofs.keys.put_component_places.Statement.{statement}
 use Rattle.literals.proofs.keys.put_component_places.Tie as tie
@@ -36,7 +36,7 @@ cast-places-2 : tie.Need-cast-places-2 Inv-loop μ-loop
 cast-places-2 c =
     let a = c .before .before .before .before .before .args in
     let l = c .before .before .loop in
-    let h = place-few (key (l .k)) (partIn (a .head .now) (a .c)) in
+    let h = place-few (key (l .k)) (componentRowIn (a .head .now) (a .c)) in
     let e = c .place-under .ensures in
     omega arith
 

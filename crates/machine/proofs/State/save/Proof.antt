@@ -3,7 +3,7 @@ use borrow.Author.Needs.{needs}
 use mathlib.Core.Path.{_≡_, sym, _∙_}
 use native.Mathlib.Omega.{arith}
 use lib.ListN.{length, length-map}
-use Rattle.events.specs.Coded.{agendaBytes}
+use Rattle.events.specs.Held.{agendaBytes}
 use Rattle.machine.proofs.HeldBytes.{put-whole}
 use Rattle.machine.proofs.State.save.Statement.{statement}
 use Rattle.machine.proofs.State.save.Tie as tie

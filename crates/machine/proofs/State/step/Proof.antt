@@ -7,11 +7,11 @@ use native.Mathlib.Omega.{arith}
 use lib.ListN.{length}
 use Rattle.store.specs.Rows.{factRow}
 use borrow.Rule.Slice.PartMut.{putMid, same-len-mid}
-use Rattle.events.specs.Coded.{agendaBytes}
+use Rattle.events.specs.Held.{agendaBytes}
 use Rattle.events.specs.Grounding.{groundedBytes, Grounded}
-use Rattle.effects.specs.Effects.{scratchBytes}
+use Rattle.effects.specs.Held.{scratchBytes}
 use Rattle.effects.proofs.FilledRows.{literals-length, literals-put}
-use Rattle.machine.specs.Stepping.{StateRows, stateIn, stateOf, closeState}
+use Rattle.machine.specs.Held.{StateRows, stateIn, stateOf, closeState}
 use Rattle.machine.proofs.HeldBytes.{state-rows}
 use Rattle.machine.proofs.Closing.{leaves-forbidden, state-refused, state-taken}
 use Rattle.machine.proofs.Resting.{no-events, kept-none, rest-leaves, indexed-set, noted-anew, unset}

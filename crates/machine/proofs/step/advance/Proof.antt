@@ -3,8 +3,8 @@ use borrow.Author.Needs.{needs}
 use mathlib.Core.Path.{sym, ap, _∙_}
 use native.Mathlib.Omega.{arith}
 use Rattle.records.proofs.Lists.{not-true, not-false}
-use Rattle.events.specs.Coded.{openIn, waitingIn}
-use Rattle.machine.specs.Stepping.{StateRows, stateIn}
+use Rattle.events.specs.Held.{openIn, waitingIn}
+use Rattle.machine.specs.Held.{StateRows, stateIn}
 use Rattle.machine.proofs.HeldBytes.{state-rows}
 use Rattle.machine.proofs.Closing.{leaves-large, many-facts, many-open, after-few, after-fits}
 use Rattle.machine.proofs.Closing.{taken-rows, rows-indexed, taken-indexed, leaves-taken}

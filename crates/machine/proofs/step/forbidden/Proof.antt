@@ -4,7 +4,7 @@ use mathlib.Core.Path.{sym, ap, _∙_}
 use native.Mathlib.Omega.{arith}
 use Rattle.records.proofs.Lists.{not-true, not-false}
 use Rattle.events.proofs.FactRows.{waiting-count}
-use Rattle.machine.specs.Stepping.{StateRows}
+use Rattle.machine.specs.Held.{StateRows}
 use Rattle.machine.proofs.Closing.{not-open, not-met, not-kept, not-apart, nothing-forbids}
 use Rattle.machine.proofs.step.forbidden.Statement.{statement}
 use Rattle.machine.proofs.step.forbidden.Tie as tie

@@ -1,11 +1,11 @@
--- `Numbered::name_classes` meets its contract: each class by the clauses of both moments. Assumes nothing.
+-- `Numbered::name_classes` meets its contract: each class by the usages of both moments. Assumes nothing.
 use mathlib.Core.Path.{refl, ap, _∙_}
 use mathlib.Core.Bool.{true}
 use native.Mathlib.Omega.{arith}
 use Rattle.records.proofs.Lists.{not-true, clash}
 use Rattle.literals.specs.Table.{pad}
 use Rattle.literals.specs.declared.Moment.the-variants.{End}
-use Rattle.classes.proofs.Clauses.{clauses-held}
+use Rattle.classes.proofs.Usages.{usages-held}
 use Rattle.classes.proofs.Soles.{start-soles, end-soles, asked-soles}
 use Rattle.naming.proofs.NamedRows.{reach-is}
 use borrow.Author.Needs.{needs}
@@ -18,8 +18,8 @@ slice-aggregate-tally c = search needs
 tally-requires : tie.Need-tally-requires
 tally-requires c κs = search needs
 
-clauses-at-requires : tie.Need-clauses-at-requires
-clauses-at-requires c κs = search needs
+usages-at-requires : tie.Need-usages-at-requires
+usages-at-requires c κs = search needs
 
 name-each-requires : tie.Need-name-each-requires
 name-each-requires c κs =
@@ -27,7 +27,7 @@ name-each-requires c κs =
     let p = c .before .before .before .before .before .before .before .before .before .before .before .before .before .before .pre in
     let soles = c .before .before .before .before .before .before .before .before .before .tally .ensures refl in
     let first = start-soles (a .rows .now) (a .numbers .now) _ _ soles
-    (c .before .before .before .before .before .before .clauses-at .ensures .0 refl) in (
+    (c .before .before .before .before .before .before .usages-at .ensures .0 refl) in (
       record { rowed = omega arith; few = p .1 .0 },
       (
         first,
@@ -46,13 +46,13 @@ returns c =
           w .1 before old D a i N (record {
             whole = A;
             numbers-are = f;
-            clauses-are = c .before .before .before .before .before .before .before .before .before .clauses-at .ensures .1 D a _ A refl;
+            usages-are = c .before .before .before .before .before .before .before .before .before .usages-at .ensures .1 D a _ A refl;
           }) t
           (λ k. absurd (clash k (not-true _ (c .before .before .before .before .before .before .before .if1 .taken)))) g,
     )
 
-clauses-at-requires-2 : tie.Need-clauses-at-requires-2
-clauses-at-requires-2 c κs = search needs
+usages-at-requires-2 : tie.Need-usages-at-requires-2
+usages-at-requires-2 c κs = search needs
 
 name-each-requires-2 : tie.Need-name-each-requires-2
 name-each-requires-2 c κs =
@@ -64,12 +64,12 @@ name-each-requires-2 c κs =
     in
     let soles = c .before .before .before .before .before .before .before .before .before .before .before .tally .ensures refl in
     let first = start-soles (a .rows .now) (a .numbers .now) _ _ soles
-    (c .before .before .before .before .before .before .before .before .clauses-at .ensures .0 refl) in (
+    (c .before .before .before .before .before .before .before .before .usages-at .ensures .0 refl) in (
       record { rowed = omega arith; few = p .1 .0 },
       (
         first,
         (
-          (λ k. end-soles (a .rows .now) (a .numbers .now) _ _ soles (c .before .before .before .before .clauses-at2 .ensures .0 refl)),
+          (λ k. end-soles (a .rows .now) (a .numbers .now) _ _ soles (c .before .before .before .before .usages-at2 .ensures .0 refl)),
           (p .1 .1 .0, p .1 .1 .1),
         ),
       ),
@@ -90,14 +90,14 @@ returns-2 c =
           w .1 before old D a i N (record {
             whole = A;
             numbers-are = f;
-            clauses-are = c .before .before .before .before .before .before .before .before .before .before .before .clauses-at .ensures
+            usages-are = c .before .before .before .before .before .before .before .before .before .before .before .usages-at .ensures
                 .1 D a _ A refl;
           }) t
           (λ k. record {
             own = record {
               whole = A;
               numbers-are = f;
-              clauses-are = c .before .before .before .before .before .before .before .clauses-at2
+              usages-are = c .before .before .before .before .before .before .before .usages-at2
                   .ensures .1 D a _ A refl;
             };
             reaches =
@@ -105,7 +105,7 @@ returns-2 c =
                 asked-soles (b .rows .now) (b .numbers .now) _ _
                 (c .before .before .before .before .before .before .before .before .before .before .before .before .before .before .tally
                 .ensures refl) refl j h
-                ∙ reach-is D a f (ap (pad 64) (clauses-held true End (b .rows .now) _ (A .says .bounded) (A .listed) (A .apart)
+                ∙ reach-is D a f (ap (pad 64) (usages-held true End (b .rows .now) _ (A .says .bounded) (A .listed) (A .apart)
                 (A .literals) (p .0))) j;
           }) g,
     )
@@ -116,11 +116,11 @@ name-classes-spec =
     (tie.spec
     slice-aggregate-tally
     tally-requires
-    clauses-at-requires
+    usages-at-requires
     name-each-requires
     same-length
     returns
-    clauses-at-requires-2
+    usages-at-requires-2
     name-each-requires-2
     same-length-2
     returns-2)

@@ -4,8 +4,8 @@ use mathlib.Core.Path.{refl, sym, _∙_}
 use Prim.Native.Nat.{_+_}
 use native.Mathlib.Omega.{arith}
 use Rattle.records.proofs.Laws.{whole-within}
-use Rattle.runs.specs.RunFile.{runKindOf, stepRecord}
-use Rattle.runs.specs.Play.{begin, playRecord, playStep}
+use Rattle.run_semantics.specs.RunFile.{runKindOf, stepRecord}
+use Rattle.run_semantics.specs.Play.{begin, playRecord, playStep}
 use Rattle.player.specs.Player.{wholeIn}
 use Rattle.player.proofs.Sound.{begun-tally}
 use Rattle.player.proofs.PlayTurns.{kind-19, step-refused, step-passed}

@@ -3,8 +3,8 @@ use borrow.Author.Needs.{needs}
 use mathlib.Core.Path.{sym, ap, _∙_}
 use Prim.Native.Nat.{ℕ}
 use Rattle.player.proofs.PlayTurns.{stops, passes, end-on, objects-are, waiting-are}
-use Rattle.runs.specs.RunFile.{endStop}
-use Rattle.runs.specs.Play.{goOn, withClose}
+use Rattle.run_semantics.specs.RunFile.{endStop}
+use Rattle.run_semantics.specs.Play.{goOn, withClose}
 use Rattle.player.specs.Player.{wholeIn}
 use Rattle.player.proofs.Player.take_end.Statement.{statement}
 use Rattle.player.proofs.Player.take_end.Tie as tie

@@ -3,8 +3,8 @@ use borrow.Author.Needs.{needs}
 use mathlib.Core.Path.{sym, ap, _∙_}
 use Prim.Native.Nat.{ℕ, _+_}
 use native.Mathlib.Omega.{arith}
-use Rattle.runs.specs.RunFile.{eventOf, eventStop}
-use Rattle.runs.specs.Play.{goOn, withEvent}
+use Rattle.run_semantics.specs.RunFile.{eventOf, eventStop}
+use Rattle.run_semantics.specs.Play.{goOn, withEvent}
 use Rattle.player.specs.Player.{wholeIn}
 use Rattle.player.proofs.Sound.{event-taken}
 use Rattle.player.proofs.PlayTurns.{gone-on, event-waits, stops, passes, objects-are, objects-low, waiting-is, event-on}

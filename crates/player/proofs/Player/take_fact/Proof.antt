@@ -7,8 +7,8 @@ use Prim.Native.Nat.{ℕ, _+_}
 use native.Mathlib.Omega.{arith}
 use lib.ListN.{length, take, drop}
 use lib.Seq.{take-all}
-use Rattle.runs.specs.RunFile.{factOf, factStop}
-use Rattle.runs.specs.Play.{goOn, unless, withFact}
+use Rattle.run_semantics.specs.RunFile.{factOf, factStop}
+use Rattle.run_semantics.specs.Play.{goOn, unless, withFact}
 use Rattle.store.specs.Rows.{factRow}
 use Rattle.run_fields.proofs.RunFields.{fact-found}
 use Rattle.player.specs.Player.{wholeIn}

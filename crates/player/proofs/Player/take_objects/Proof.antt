@@ -6,8 +6,8 @@ use borrow.Author.Needs.{needs}
 use Rattle.player.specs.Player.{wholeIn}
 use Rattle.player.proofs.PlayTurns.{stops, passes, objects-on, objects-are}
 use Rattle.literals.specs.Decode.{byte}
-use Rattle.runs.specs.RunFile.{objectsStop}
-use Rattle.runs.specs.Play.{goOn, withObjects}
+use Rattle.run_semantics.specs.RunFile.{objectsStop}
+use Rattle.run_semantics.specs.Play.{goOn, withObjects}
 use Rattle.player.proofs.Player.take_objects.Statement.{statement}
 use Rattle.player.proofs.Player.take_objects.Tie as tie
 

@@ -2,8 +2,8 @@
 use borrow.Author.Needs.{needs}
 use mathlib.Core.Path.{refl}
 use native.Mathlib.Omega.{arith}
-use Rattle.runs.specs.RunFile.{objectsRecord, factRecord, eventRecord, endRecord, otherRecord}
-use Rattle.runs.specs.Play.{begin}
+use Rattle.run_semantics.specs.RunFile.{objectsRecord, factRecord, eventRecord, endRecord, otherRecord}
+use Rattle.run_semantics.specs.Play.{begin}
 use Rattle.player.specs.Player.{wholeIn}
 use Rattle.player.proofs.PlayTurns.{stops-at, kind-16, kind-17, kind-18, kind-20, kind-other}
 use Rattle.player.proofs.PlayTurns.{of-objects, of-fact, of-event, of-end, of-other}

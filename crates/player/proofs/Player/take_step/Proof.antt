@@ -4,7 +4,7 @@ use mathlib.Core.Path.{ap, _∙_}
 use mathlib.Core.Bool.{false}
 use native.Mathlib.Omega.{arith}
 use Rattle.machine.specs.declared.State.{State}
-use Rattle.machine.specs.Stepping.{stateIn}
+use Rattle.machine.specs.Held.{stateIn}
 use Rattle.player.specs.Player.{wholeIn}
 use Rattle.player.proofs.PlayTurns.{saved, close-stops, close-on, state-is, weight-under}
 use Rattle.player.proofs.NotedTurns.{noted-closed}

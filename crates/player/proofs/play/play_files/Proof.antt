@@ -4,7 +4,7 @@ use mathlib.Core.Path.{_∙_}
 use mathlib.Core.Logic.{inl}
 use native.Mathlib.Omega.{arith}
 use Rattle.reading.proofs.Domains.{opened, refusal-is}
-use Rattle.runs.specs.Play.{playRun}
+use Rattle.run_semantics.specs.Play.{playRun}
 use Rattle.player.proofs.PlayCalls.{call-refused, call-small, call-run, call-read}
 use Rattle.player.proofs.play.play_files.Statement.{statement}
 use Rattle.player.proofs.play.play_files.Tie as tie

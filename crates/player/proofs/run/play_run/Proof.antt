@@ -4,7 +4,7 @@ use mathlib.Core.Path.{refl}
 use Prim.Native.Nat.{ℕ}
 use native.Mathlib.Omega.{arith}
 use lib.ListN.{length-replicate}
-use Rattle.effects.specs.Effects.{scratchBytes}
+use Rattle.effects.specs.Held.{scratchBytes}
 use Rattle.player.proofs.PlayLoop.{cleared, cleared-again}
 use Rattle.player.proofs.run.play_run.Statement.{statement}
 use Rattle.player.proofs.run.play_run.Tie as tie

@@ -1,6 +1,6 @@
 -- `end_of` meets its contract. Assumes nothing.
 use borrow.Author.Tests.{eq-eqb, ne-eqb}
-use Rattle.reading.specs.Reading.{endedOf}
+use Rattle.reading.specs.Held.{endedOf}
 use Rattle.reading.proofs.read.end_of.Statement.{statement}
 use Rattle.reading.proofs.read.end_of.Tie as tie
 

@@ -4,7 +4,7 @@ use Prim.Native.Nat.{_+_}
 use native.Mathlib.Omega.{arith}
 use borrow.Author.Needs.{needs}
 use lib.ListN.{take, drop}
-use Rattle.literals.specs.Held.{keysIn, partsIn}
+use Rattle.literals.specs.Held.{keysIn, componentRowsIn}
 use Rattle.literals.specs.Table.{rowsIn}
 use Rattle.store.specs.Index.{wordsAt, instancesAt, noteAt, wordOf, slotOf}
 use Rattle.store.proofs.InstanceRows.{keyed-none, keyed-one}
@@ -60,7 +60,7 @@ returns c =
     let v = c .add-at3 in (
       λ rows i z. enter-one i row z (x .last .0) (y .last .0) (o .result) (w .result)
           e f (x .ensures) (y .ensures) (k .result .row) (v .last .0) (g .result)
-          (keyed-one (k .result) (keysIn (a .head .now)) (partsIn (a .head .now)) row (k .ensures) (c .before .before .before .before .if1 .taken)) (g .ensures .0) (v .ensures),
+          (keyed-one (k .result) (keysIn (a .head .now)) (componentRowsIn (a .head .now)) row (k .ensures) (c .before .before .before .before .if1 .taken)) (g .ensures .0) (v .ensures),
       beside-at (y .last .0) (v .last .0) (instancesAt + g .result) _ noteAt (v .ensures) (omega (arith, g .ensures .1)) ∙ b,
     )
 
@@ -80,7 +80,7 @@ returns-2 c =
     ∙ beside-at (a .index .now) (x .last .0) (o .result) _ noteAt (x .ensures) (omega (arith, o .ensures .1)) in (
       λ rows i z. enter-none i row z (x .last .0) (y .last .0) (o .result) (w .result)
           e f (x .ensures) (y .ensures)
-          (keyed-none (k .result) (keysIn (a .head .now)) (partsIn (a .head .now)) row (k .ensures) (c .if1 .left)),
+          (keyed-none (k .result) (keysIn (a .head .now)) (componentRowsIn (a .head .now)) row (k .ensures) (c .if1 .left)),
       b,
     )
 

@@ -3,7 +3,7 @@ use mathlib.Core.Path.{refl}
 use native.Mathlib.Omega.{arith}
 use borrow.Author.Needs.{needs}
 use lib.ListN.{take, drop}
-use Rattle.literals.specs.Held.{keysIn, partsIn}
+use Rattle.literals.specs.Held.{keysIn, componentRowsIn}
 use Rattle.records.proofs.Lists.{not-true, not-false}
 use Rattle.literals.specs.Table.{rowsIn}
 use Rattle.literals.proofs.KeyRows.{length-rows}
@@ -19,7 +19,7 @@ key-of-requires c κs = search needs
 returns : tie.Need-returns
 returns c = let a = c .before .before .before .before .args in
     let k = c .before .before .key-of in
-    let ps = partsIn (a .head .now) in
+    let ps = componentRowsIn (a .head .now) in
     let rows = rowsIn (a .n) (a .memory .now) in
     let fact = take 8 (drop (a .at) (a .memory .now)) in
     λ i. higher-none (keysIn (a .head .now)) ps rows fact (a .least) (keyed-none (k .result) (keysIn (a .head .now)) ps fact (k .ensures) (not-true (k .result .matched) (c .if1 .taken)))
@@ -39,7 +39,7 @@ element-copy-out-if2 c = search needs
 returns-2 : tie.Need-returns-2
 returns-2 c = let a = c .before .before .before .before .before .before .before .before .args in
     let k = c .before .before .before .before .before .before .key-of in
-    let ps = partsIn (a .head .now) in
+    let ps = componentRowsIn (a .head .now) in
     let rows = rowsIn (a .n) (a .memory .now) in
     let fact = take 8 (drop (a .at) (a .memory .now)) in
     let g = c .before .before .key-slot in
@@ -52,7 +52,7 @@ weigh-requires c κs = search needs
 returns-3 : tie.Need-returns-3
 returns-3 c = let a = c .before .before .before .before .before .before .before .before .before .before .args in
     let k = c .before .before .before .before .before .before .before .before .key-of in
-    let ps = partsIn (a .head .now) in
+    let ps = componentRowsIn (a .head .now) in
     let rows = rowsIn (a .n) (a .memory .now) in
     let fact = take 8 (drop (a .at) (a .memory .now)) in
     λ i. higher-new (keysIn (a .head .now)) ps rows fact (a .least) (k .result .row) (keyed-one (k .result) (keysIn (a .head .now)) ps fact (k .ensures) (not-false (k .result .matched) (c .before .before .before .before .before .before .if1 .left))) (c .before .weigh .result) (c .before .weigh .ensures) (c .if3 .taken)
@@ -60,7 +60,7 @@ returns-3 c = let a = c .before .before .before .before .before .before .before 
 returns-4 : tie.Need-returns-4
 returns-4 c = let a = c .before .before .before .before .before .before .before .before .before .before .args in
     let k = c .before .before .before .before .before .before .before .before .key-of in
-    let ps = partsIn (a .head .now) in
+    let ps = componentRowsIn (a .head .now) in
     let rows = rowsIn (a .n) (a .memory .now) in
     let fact = take 8 (drop (a .at) (a .memory .now)) in
     λ i. higher-old (keysIn (a .head .now)) ps rows fact (a .least) (k .result .row) (keyed-one (k .result) (keysIn (a .head .now)) ps fact (k .ensures) (not-false (k .result .matched) (c .before .before .before .before .before .before .if1 .left))) (c .before .weigh .result) (c .before .weigh .ensures) (c .if3 .left)

@@ -4,7 +4,7 @@ use mathlib.Core.List.{List}
 use Prim.Native.Nat.{ℕ, _-_, _*_, max}
 use native.Mathlib.Omega.{arith}
 use lib.ListN.{drop}
-use Rattle.literals.specs.Held.{keysIn, partsIn}
+use Rattle.literals.specs.Held.{keysIn, componentRowsIn}
 use Rattle.literals.specs.Table.{rowsIn}
 use Rattle.store.specs.Rows.{topRows}
 use Rattle.store.specs.Index.{Indexed}
@@ -15,8 +15,8 @@ use Rattle.store.proofs.weighing.top_from.Tie as tie
 abbrev Inv-loop : tie.InvT-loop
 Inv-loop head memory n from least index top₀ i₀ top i =
     Indexed head index (rowsIn n memory)
-    → max top (topOf (keysIn head) (partsIn head) (rowsIn n memory) (rowsIn (n - i) (drop (8 * i) memory)))
-    ≡ max least (topOf (keysIn head) (partsIn head) (rowsIn n memory) (rowsIn (n - from) (drop (8 * from) memory)))
+    → max top (topOf (keysIn head) (componentRowsIn head) (rowsIn n memory) (rowsIn (n - i) (drop (8 * i) memory)))
+    ≡ max least (topOf (keysIn head) (componentRowsIn head) (rowsIn n memory) (rowsIn (n - from) (drop (8 * from) memory)))
 
 abbrev μ-loop : tie.MeasureT-loop
 μ-loop head memory n from least index top₀ i₀ top i = n - i
@@ -39,15 +39,15 @@ loop-less c = omega arith
 loop-again : tie.Need-loop-again Inv-loop μ-loop
 loop-again c = let a = c .before .before .before .before .args in
     let l = c .before .before .loop in
-    λ h. top-more (keysIn (a .head .now)) (partsIn (a .head .now)) (rowsIn (a .n) (a .memory .now)) (a .memory .now) (a .n) (l .i) (l .top) (c .heavier .result) (omega arith) (c .heavier .ensures h) ∙ l .inv h
+    λ h. top-more (keysIn (a .head .now)) (componentRowsIn (a .head .now)) (rowsIn (a .n) (a .memory .now)) (a .memory .now) (a .n) (l .i) (l .top) (c .heavier .result) (omega arith) (c .heavier .ensures h) ∙ l .inv h
 
 returns : tie.Need-returns Inv-loop μ-loop
 returns c = let a = c .before .before .before .args in
     let l = c .before .loop in
     let e : Indexed (a .head .now) (a .index .now) (rowsIn (a .n) (a .memory .now))
-    → l .top ≡ max (a .least) (topRows (keysIn (a .head .now)) (partsIn (a .head .now)) (rowsIn (a .n) (a .memory .now)) (a .from)) = λ h. sym (top-end (keysIn (a .head .now)) (partsIn (a .head .now)) (rowsIn (a .n) (a .memory .now)) (a .memory .now) (a .n) (l .i) (l .top) (omega arith))
+    → l .top ≡ max (a .least) (topRows (keysIn (a .head .now)) (componentRowsIn (a .head .now)) (rowsIn (a .n) (a .memory .now)) (a .from)) = λ h. sym (top-end (keysIn (a .head .now)) (componentRowsIn (a .head .now)) (rowsIn (a .n) (a .memory .now)) (a .memory .now) (a .n) (l .i) (l .top) (omega arith))
     ∙ l .inv h
-    ∙ ap (max (a .least)) (top-rows (keysIn (a .head .now)) (partsIn (a .head .now)) (a .memory .now) (a .n) (a .from)) in
+    ∙ ap (max (a .least)) (top-rows (keysIn (a .head .now)) (componentRowsIn (a .head .now)) (a .memory .now) (a .n) (a .from)) in
     (e, λ D fs h i r fit. e i ∙ ap (max (a .least)) (top-held (a .head .now) (a .memory .now) (a .n) (a .from) D fs h r fit))
 
 pub top-from-spec : {M : Type 1} → statement M

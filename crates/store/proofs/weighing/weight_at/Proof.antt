@@ -3,7 +3,7 @@ use mathlib.Core.Path.{_≡_}
 use native.Mathlib.Omega.{arith}
 use borrow.Author.Needs.{needs}
 use lib.ListN.{length, take, drop}
-use Rattle.literals.specs.Held.{keysIn, partsIn}
+use Rattle.literals.specs.Held.{keysIn, componentRowsIn}
 use Rattle.records.proofs.Lists.{not-true, not-false}
 use Rattle.literals.specs.Table.{rowsIn}
 use Rattle.store.proofs.InstanceRows.{adds-none, adds-one, adds-other}
@@ -16,7 +16,7 @@ key-of-requires c κs = search needs
 returns : tie.Need-returns
 returns c = let a = c .before .before .before .before .args in
     let k = c .before .before .key-of in
-    adds-none (k .result) (keysIn (a .head .now)) (partsIn (a .head .now)) (take 8 (drop (a .at) (a .memory .now))) (a .row) (k .ensures) (not-true (k .result .matched) (c .if1 .taken))
+    adds-none (k .result) (keysIn (a .head .now)) (componentRowsIn (a .head .now)) (take 8 (drop (a .at) (a .memory .now))) (a .row) (k .ensures) (not-true (k .result .matched) (c .if1 .taken))
 
 slice-aggregate-same-row : tie.Need-slice-aggregate-same-row
 slice-aggregate-same-row c = search needs
@@ -31,14 +31,14 @@ returns-2 : tie.Need-returns-2
 returns-2 c = let a = c .before .before .before .before .before .before .before .before .args in
     let k = c .before .before .before .before .before .before .key-of in
     let h : length (k .result .row) ≡ 8 = search needs in
-    adds-one (k .result) (keysIn (a .head .now)) (partsIn (a .head .now)) (take 8 (drop (a .at) (a .memory .now))) (a .row) (k .ensures) (not-false (k .result .matched) (c .before .before .before .before .if1 .left)) h
+    adds-one (k .result) (keysIn (a .head .now)) (componentRowsIn (a .head .now)) (take 8 (drop (a .at) (a .memory .now))) (a .row) (k .ensures) (not-false (k .result .matched) (c .before .before .before .before .if1 .left)) h
     (c .before .same-row .result) (c .before .same-row .ensures) (c .if2 .taken)
 
 returns-3 : tie.Need-returns-3
 returns-3 c = let a = c .before .before .before .before .before .before .before .before .args in
     let k = c .before .before .before .before .before .before .key-of in
     let h : length (k .result .row) ≡ 8 = search needs in
-    adds-other (k .result) (keysIn (a .head .now)) (partsIn (a .head .now)) (take 8 (drop (a .at) (a .memory .now))) (a .row) (k .ensures) (not-false (k .result .matched) (c .before .before .before .before .if1 .left)) h
+    adds-other (k .result) (keysIn (a .head .now)) (componentRowsIn (a .head .now)) (take 8 (drop (a .at) (a .memory .now))) (a .row) (k .ensures) (not-false (k .result .matched) (c .before .before .before .before .if1 .left)) h
     (c .before .same-row .result) (c .before .same-row .ensures) (c .if2 .left)
 
 pub weight-at-spec : {M : Type 1} → statement M

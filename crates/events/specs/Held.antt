@@ -1,0 +1,204 @@
+-- How the code holds a run: facts, open entries and waiting events as rows of bytes. Assumes nothing.
+use mathlib.Core.Path.{_≡_}
+use mathlib.Core.Bool.{Bool, true, false, _&&_, not, cond}
+use mathlib.Core.List.{List, [], _∷_, _++_, map, flatMap}
+use Prim.Native.Nat.{ℕ, zero, suc, _+_, _-_, _*_, _<_}
+use lib.Dec.{eqb, ltb}
+use lib.ListN.{length, getD, take, drop, replicate}
+use lib.Seq.{paste}
+use Rattle.records.specs.Lists.{In, sameList}
+use Rattle.literals.specs.declared.Object.{Object}
+use Rattle.literals.specs.declared.Time.{Time}
+use Rattle.literals.specs.declared.Time.the-variants.{AtStart, AtEnd}
+use Rattle.literals.specs.Domain.{Domain, action}
+use Rattle.literals.specs.Decode.{byte}
+use Rattle.literals.specs.Table.{pad, rowsBy}
+use Rattle.literals.specs.Held.{actionsIn, arityIn, lastingIn}
+use Rattle.literals.specs.declared.Moment.{Moment}
+use Rattle.literals.specs.declared.Moment.the-variants.{Start, End}
+use Rattle.literals.specs.Matching.{momentNumber}
+use Rattle.literals.specs.Keys.{position}
+use Rattle.verdict.specs.Judged.{objectNumbers}
+use Rattle.verdict.specs.Machine.{GroundAction, Event}
+use Rattle.run_semantics.specs.RunFile.{maxRunning, maxEvents}
+use Rattle.store.specs.Rows.{hasRow}
+
+-- ---- rows
+
+-- the bytes of an action with its objects, and room for those of what is open and of the events of a step
+abbrev pub groundBytes : ℕ
+groundBytes = 17
+
+abbrev pub openBytes : ℕ
+openBytes = 544
+
+abbrev pub waitingBytes : ℕ
+waitingBytes = 272
+
+-- an action with its objects, FF to fill
+abbrev pub groundRow : GroundAction → List ℕ
+groundRow g = g .action ∷ (objectNumbers (g .binding) ++ replicate (16 - length (g .binding)) 255)
+
+-- the first n such rows of a memory
+abbrev pub groundsIn : ℕ → List ℕ → List (List ℕ)
+groundsIn = rowsBy groundBytes
+
+-- ---- what the code holds
+
+-- so many open lasting actions, each a row, 0 behind the last
+pub record Open : Type 0 where
+  pub count : ℕ
+  pub rows : List ℕ
+
+-- so many events of the step that is read: the byte of each one's moment (1 is an end), and its action with objects
+pub record Waiting : Type 0 where
+  pub count : ℕ
+  pub moments : List ℕ
+  pub rows : List ℕ
+
+-- the open entries, in order
+unfoldable pub openOf : List GroundAction → Open
+unfolding flatMap
+openOf gs = record { count = length gs; rows = pad openBytes (flatMap groundRow gs) }
+
+-- the events of the step that is read, in order
+unfoldable pub waitingOf : List Event → Waiting
+unfolding flatMap
+waitingOf es =
+    record {
+      count = length es;
+      moments = pad maxEvents (map (λ (e : Event). momentNumber (e .moment)) es);
+      rows = pad waitingBytes (flatMap (λ (e : Event). groundRow (e .ground)) es);
+    }
+
+-- ---- the agenda: what is open and what waits, in one memory
+
+-- its length, and where the moments of the events that wait and their rows start, behind the entries
+abbrev pub agendaBytes : ℕ
+agendaBytes = 832
+
+abbrev pub momentsAt : ℕ
+momentsAt = 544
+
+abbrev pub eventsAt : ℕ
+eventsAt = 560
+
+-- its sections
+abbrev pub entriesIn : List ℕ → List ℕ
+entriesIn agenda = take openBytes agenda
+
+abbrev pub momentsIn : List ℕ → List ℕ
+momentsIn agenda = take maxEvents (drop momentsAt agenda)
+
+abbrev pub eventRowsIn : List ℕ → List ℕ
+eventRowsIn agenda = take waitingBytes (drop eventsAt agenda)
+
+-- so many entries, and so many events
+abbrev pub openIn : ℕ → List ℕ → Open
+openIn n agenda = record { count = n; rows = entriesIn agenda }
+
+abbrev pub waitingIn : ℕ → List ℕ → Waiting
+waitingIn n agenda = record { count = n; moments = momentsIn agenda; rows = eventRowsIn agenda }
+
+-- ---- actions that fit the domain
+
+-- an action of the domain with an object for each variable, none of them FF
+pub record GroundFits (D : Domain) (g : GroundAction) : Type 0 where
+  pub listed : g .action < length (D .actions)
+  pub bound : length (g .binding) ≡ action D (g .action) .vars
+  pub objects : (o : Object) → In o (g .binding) → o .0 < 255
+
+abbrev pub GroundsFit : Domain → List GroundAction → Type 0
+GroundsFit D gs = (g : GroundAction) → In g gs → GroundFits D g
+
+abbrev pub EventsFit : Domain → List Event → Type 0
+EventsFit D es = (e : Event) → In e es → GroundFits D (e .ground)
+
+-- ---- a literal's row, bound
+
+-- the object of a variable: an action's row has its objects behind the action
+abbrev pub objectOf : List ℕ → ℕ → ℕ
+objectOf ground v = cond (ltb v 16) (getD ground (v + 1) 0) 0
+
+-- the fact of a literal's row, by the arity of its relation
+abbrev pub boundBytes : ℕ → List ℕ → List ℕ → List ℕ
+boundBytes n ground row = byte row 1 ∷ n ∷ (map (objectOf ground) (take n (drop 2 row)) ++ replicate (6 - n) 255)
+
+-- the same, with the arity that the head has
+unfoldable pub boundRow : List ℕ → List ℕ → List ℕ → List ℕ
+unfolding arityIn
+boundRow head ground row = boundBytes (arityIn head (byte row 1)) ground row
+
+-- the time of an event's literals, by its moment
+abbrev pub timeOf : Moment → Time
+timeOf Start = AtStart
+timeOf End = AtEnd
+
+-- ---- openings
+
+-- an event that waits: the byte of its moment, and the row of its action with objects
+pub record EventRow : Type 0 where
+  pub moment : ℕ
+  pub row : List ℕ
+
+-- the event at a place of these memories
+abbrev pub eventAt : List ℕ → List ℕ → ℕ → EventRow
+eventAt moments rows i = record { moment = getD moments i 0; row = take 17 (drop (17 * i) rows) }
+
+-- the first n
+abbrev pub eventsIn : ℕ → List ℕ → List ℕ → List EventRow
+eventsIn zero moments rows = []
+eventsIn (suc n) moments rows = record { moment = getD moments 0 0; row = take 17 rows } ∷ eventsIn n (drop 1 moments) (drop 17 rows)
+
+-- where it is an end, its entry is one of these
+unfoldable pub endOpen : List (List ℕ) → EventRow → Bool
+endOpen rows e = cond (eqb (e .moment) 1) (hasRow (e .row) rows) true
+
+-- without the entry k: the later ones move forward, zeros fill the end
+unfoldable pub withoutEntry : ℕ → Open → Open
+withoutEntry k o = record { count = o .count - 1; rows = take (17 * k) (o .rows) ++ (drop (17 * k + 17) (o .rows) ++ replicate 17 0) }
+
+-- without the first equal entry
+unfoldable pub closeEntry : List ℕ → Open → Open
+unfolding withoutEntry
+closeEntry row o =
+    let k = position (sameList eqb row) (groundsIn (o .count) (o .rows)) in
+    cond (eqb k (o .count)) o (withoutEntry k o)
+
+-- without the entry of an event that is an end
+unfoldable pub closeEvent : EventRow → Open → Open
+unfolding closeEntry
+closeEvent e o = cond (eqb (e .moment) 1) (closeEntry (e .row) o) o
+
+abbrev pub closeEvents : List EventRow → Open → Open
+closeEvents [] o = o
+closeEvents (e ∷ es) o = closeEvents es (closeEvent e o)
+
+-- one entry more
+unfoldable pub joinEntry : List ℕ → Open → Open
+joinEntry row o = record { count = o .count + 1; rows = paste (o .rows) (17 * o .count) row 17 }
+
+-- an event of this moment and action is the start of a lasting action
+unfoldable pub opensBy : List ℕ → ℕ → ℕ → Bool
+unfolding actionsIn lastingIn
+opensBy head moment action = not (eqb moment 1) && ltb action (actionsIn head) && lastingIn head action
+
+-- what a step leaves open, where it fits
+pub record Opened : Type 0 where
+  pub fits : Bool
+  pub running : Open
+
+-- the entry of such a start is added, where there is room for it
+unfoldable pub joinEvent : List ℕ → EventRow → Open → Opened
+unfolding opensBy joinEntry
+joinEvent head e o =
+    cond (opensBy head (e .moment) (byte (e .row) 0))
+    (cond (ltb (o .count) maxRunning) (record { fits = true; running = joinEntry (e .row) o }) (record { fits = false; running = o }))
+    (record { fits = true; running = o })
+
+-- those of several events, up to the first for which there is no room
+abbrev pub joinEvents : List ℕ → List EventRow → Open → Opened
+joinEvents head [] o = record { fits = true; running = o }
+joinEvents head (e ∷ es) o =
+    let joined = joinEvent head e o in
+    cond (joined .fits) (joinEvents head es (joined .running)) joined

@@ -1,2 +1,0 @@
--- The bytes of a witness.
-pub mod Bytes

@@ -1,0 +1,59 @@
+-- `put_if` meets its contract. Assumes nothing.
+use mathlib.Core.Path.{_≡_}
+use native.Mathlib.Omega.{arith}
+use Rattle.witness.proofs.Facts.{left-out, left-behind, put-in, put-behind}
+use borrow.Author.Needs.{needs}
+use Rattle.witness.proofs.put_if.Statement.{statement}
+use Rattle.witness.proofs.put_if.Tie as tie
+
+add-arity-of : tie.Need-add-arity-of
+add-arity-of c = search needs
+
+shared-slice-read-arity-of : tie.Need-shared-slice-read-arity-of
+shared-slice-read-arity-of c = search needs
+
+arity-of-requires : tie.Need-arity-of-requires
+arity-of-requires c κs = search needs
+
+put-condition-requires : tie.Need-put-condition-requires
+put-condition-requires c κs =
+    let e : c .before .before .before .before .before .before .args .usage ≡ 1 = omega arith in
+    let r = c .before .before .before .before .before .before .pre .1 e in
+    (omega arith, omega arith)
+
+add-result : tie.Need-add-result
+add-result c =
+    let e : c .before .before .before .before .before .before .before .before .before .args .usage ≡ 1 = omega arith in
+    let r = c .before .before .before .before .before .before .before .before .before .pre .1 e in
+    omega arith
+
+same-length : tie.Need-same-length
+same-length c = search needs
+
+returns : tie.Need-returns
+returns c =
+    let a = c .before .before .before .before .before .before .before .before .before .args in
+    let e : a .usage ≡ 1 = omega arith in
+    let q = c .before .before .before .arity-of in
+    let w = c .before .before .put-condition in (
+      put-in (a .head .now) (a .rows .now) (a .out .now) (a .at) (a .row) (a .usage) (q .result) (c .before .before .before .before .before .before .before .before .before .pre .0) e (q .ensures .0) (w .last .0) (w .ensures),
+      put-behind (a .head .now) (a .rows .now) (a .out .now) (a .at) (a .row) (a .usage) (q .result) (c .before .before .before .before .before .before .before .before .before .pre .0) e (q .ensures .0),
+    )
+
+returns-2 : tie.Need-returns-2
+returns-2 c =
+    let a = c .before .before .before .args in
+    (left-out (a .head .now) (a .rows .now) (a .out .now) (a .at) (a .row) (a .usage) (λ e. omega arith), left-behind (a .head .now) (a .rows .now) (a .out .now) (a .at) (a .row) (a .usage) (λ e. omega arith))
+
+pub put-if-spec : {M : Type 1} → statement M
+put-if-spec =
+    tie.close
+    (tie.spec
+    add-arity-of
+    shared-slice-read-arity-of
+    arity-of-requires
+    put-condition-requires
+    add-result
+    same-length
+    returns
+    returns-2)

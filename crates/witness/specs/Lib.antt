@@ -1,0 +1,2 @@
+-- The bytes of a witness.
+pub mod Held
