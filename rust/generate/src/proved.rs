@@ -458,7 +458,7 @@ mod tests {
     fn m1_is_listed() {
         let all = Cases::read();
         assert_eq!(all.file("m1"), all.file("m1Bytes"));
-        assert_eq!(all.file("m1"), include_bytes!("../../../crates/samples/data/m1"));
+        assert_eq!(all.file("m1"), include_bytes!("../../../crates/list_samples/data/m1"));
     }
 
     /// A case written out by hand.

@@ -56,7 +56,7 @@ pub fn all() -> Samples {
 fn specification() -> Samples {
     macro_rules! stored {
         ($name:literal) => {
-            Domain { name: $name, file: include_bytes!(concat!("../../../crates/samples/data/", $name)).to_vec() }
+            Domain { name: $name, file: include_bytes!(concat!("../../../crates/list_samples/data/", $name)).to_vec() }
         };
     }
     let domains = vec![
@@ -439,7 +439,7 @@ mod tests {
     /// The text with names is the stored M1, so a run that is written with its names is one of M1.
     #[test]
     fn m1_with_names() {
-        let stored = include_bytes!("../../../crates/samples/data/m1");
+        let stored = include_bytes!("../../../crates/list_samples/data/m1");
         assert_eq!(Named::read(M1).with("at[0,FF], out[0,FF]").file(), stored);
     }
 }
