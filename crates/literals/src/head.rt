@@ -21,7 +21,8 @@ ghost use Rattle.literals.specs.Domain.{Domain, keysOf, bare};
 ghost use Rattle.literals.specs.Decode.{maxRelations, maxActions, maxVariables, maxArguments, maxLiterals, maxComponents};
 ghost use Rattle.literals.specs.Decode.{relationRecord, actionRecord, literalRecord, componentRecord, componentOf, byte};
 ghost use Rattle.literals.specs.Table.{allLiterals};
-ghost use Rattle.literals.specs.Held.{within, relationsIn, actionsIn, componentsIn, keysIn, arityIn, componentRowIn, componentRowsIn, variablesIn};
+ghost use Rattle.literals.specs.Held.{within, relationsIn, actionsIn, componentsIn, keysIn, arityIn, componentRowIn};
+ghost use Rattle.literals.specs.Held.{componentRowsIn, variablesIn};
 ghost use Rattle.literals.specs.Held.{lastingIn, sizeIn, firstIn, Held, SpanFits, SpanOf, HeadOf, headBytes, Filled, Adds};
 
 pub const HEAD: usize = HIGHS + MAX_ACTIONS;

@@ -66,7 +66,8 @@ fn argument_byte(rows: &[u8], at: usize, place: usize) -> u8
 // The key tuple of the row at `at` under the component `c`.
 pub fn key_tuple(head: &Head, c: usize, rows: &[u8], at: usize) -> [u8; 8]
     requires { ⌜ (c < maxComponents) × (at + 8 ≤ length (now rows)) ⌝ }
-    ensures { λ r. ⌜ r ≡ keyRow (keysIn (now (head .entry))) (componentRowIn (now (head .entry)) c) (take 8 (drop at (now (rows .entry)))) ⌝ }
+    ensures { λ r. ⌜ r ≡ keyRow (keysIn (now (head .entry))) (componentRowIn (now (head .entry)) c)
+        (take 8 (drop at (now (rows .entry)))) ⌝ }
 {
     let mut t = [255u8; 8];
     for k in 0..keys_in(head) {
@@ -103,7 +104,8 @@ pub fn put_places(head: &Head, places: &mut [u8])
 pub fn key_word(head: &Head, places: &KeyPlaces, c: usize, rows: &[u8], at: usize) -> u64
     requires places { ⌜ PlacesOf (now head) (now places) ⌝ }
     requires row { ⌜ (c < componentsIn (now head)) × (at + 8 ≤ length (now rows)) ⌝ }
-    ensures { λ r. ⌜ r ≡ keyWord (keysIn (now (head .entry))) (componentRowIn (now (head .entry)) c) (take 8 (drop at (now (rows .entry)))) ⌝ }
+    ensures { λ r. ⌜ r ≡ keyWord (keysIn (now (head .entry))) (componentRowIn (now (head .entry)) c)
+        (take 8 (drop at (now (rows .entry)))) ⌝ }
 {
     let mut word: u64 = 0;
     for k in 0..keys_in(head) {

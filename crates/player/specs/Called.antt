@@ -36,7 +36,14 @@ partAt d r (InDomain at) = drop at d
 partAt d r (InRun at) = drop at r
 
 abbrev pub answerOf : Call → PlayAnswer
-answerOf c = record { number = c .answer .number; place = c .answer .first; steps = c .answer .steps; weight = c .answer .weight; fault = faultOf (c .part) }
+answerOf c =
+    record {
+      number = c .answer .number;
+      place = c .answer .first;
+      steps = c .answer .steps;
+      weight = c .answer .weight;
+      fault = faultOf (c .part);
+    }
 
 -- of a run that was played to its end or to its fault
 abbrev pub answerBy : Outcome → PlayAnswer

@@ -78,7 +78,7 @@ returns-2 c =
 enter-requires : tie.Need-enter-requires
 enter-requires c κs = search needs
 
-append-row-requires : tie.Need-put-row-requires
+append-row-requires : tie.Need-append-row-requires
 append-row-requires c κs = search needs
 
 add-result-2 : tie.Need-add-result-2

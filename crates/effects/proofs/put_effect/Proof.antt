@@ -21,16 +21,16 @@ mul-row-at c = search needs
 row-at-requires : tie.Need-row-at-requires
 row-at-requires c κs = search needs
 
-sub-put-row : tie.Need-sub-put-row
-sub-put-row c = search needs
+sub-append-row : tie.Need-sub-append-row
+sub-append-row c = search needs
 
-part-put-row-start : tie.Need-part-put-row-start
-part-put-row-start c = search needs
+part-append-row-start : tie.Need-part-append-row-start
+part-append-row-start c = search needs
 
-part-put-row-end : tie.Need-part-put-row-end
-part-put-row-end c = search needs
+part-append-row-end : tie.Need-part-append-row-end
+part-append-row-end c = search needs
 
-append-row-requires : tie.Need-put-row-requires
+append-row-requires : tie.Need-append-row-requires
 append-row-requires c κs =
     let a = c .before .before .before .before .before .before .args in
     let p = c .before .before .before .before .before .before .pre in
@@ -86,9 +86,9 @@ put-effect-spec =
     slice-read-if1
     mul-row-at
     row-at-requires
-    sub-put-row
-    part-put-row-start
-    part-put-row-end
+    sub-append-row
+    part-append-row-start
+    part-append-row-end
     append-row-requires
     add-result
     same-length
