@@ -308,7 +308,7 @@ fn the_page_says_which_are_found() {
     assert_eq!(told, 10);
 }
 
-/// The texts are those of the programs: for every stored file of the crates `samples` and `play_samples` the same as
+/// The texts are those of the programs: for every stored file of the crates `list_samples` and `play_samples` the same as
 /// the output that is stored there, which the gate compares with the programs' own.
 #[test]
 fn texts_are_those_of_the_programs() {
@@ -317,10 +317,10 @@ fn texts_are_those_of_the_programs() {
     let lines =
         |path: &str| -> Vec<String> { String::from_utf8(read(path)).unwrap().lines().map(String::from).collect() };
     let mut listings = String::new();
-    for name in lines("samples/args") {
-        listings += &format!("{name}\n{}", listed(judge, &read(&format!("samples/data/{name}"))));
+    for name in lines("list_samples/args") {
+        listings += &format!("{name}\n{}", listed(judge, &read(&format!("list_samples/data/{name}"))));
     }
-    assert!(listings.as_bytes() == read("samples/stdout"), "{listings}");
+    assert!(listings.as_bytes() == read("list_samples/stdout"), "{listings}");
     let mut runs = String::new();
     for pair in lines("play_samples/args").chunks(2) {
         let [domain, run] = [0, 1].map(|file| read(&format!("play_samples/data/{}", pair[file])));
