@@ -335,7 +335,7 @@ fn a_wrong_citation_is_noticed() {
     assert!(lacking("literals/Decode `decode`, `stopOf` and `readStep`; `crates/literals/src/lib.rt`").is_empty());
     assert_eq!(lacking("literals/Decode `decode`, `decoded-twice`; .."), ["literals/Decode `decoded-twice`"]);
     // used there, and defined elsewhere
-    assert_eq!(lacking("runs/Play `playRun`, `factStop`"), ["runs/Play `factStop`"]);
+    assert_eq!(lacking("run_semantics/Play `playRun`, `factStop`"), ["run_semantics/Play `factStop`"]);
     assert_eq!(lacking("literals/Nowhere `decode`"), ["literals/Nowhere"]);
     assert_eq!(lacking("in `crates/literals/src/none.rt`"), ["crates/literals/src/none.rt"]);
     assert!(
