@@ -1,5 +1,7 @@
 // The fields of a record: each check answers the number that stops it, or 0.
+use super::Argument;
 use super::RecordFault;
+use super::argument_of;
 use super::head::Head;
 use super::head::arity_of;
 use super::head::is_lasting;
@@ -7,7 +9,8 @@ use super::head::relations_in;
 use super::head::variables_of;
 use super::limits::MAX_ARGUMENTS;
 use super::limits::MAX_VARIABLES;
-use records::bytes::any_from;
+use super::may_clear;
+use super::role_of;
 use records::bytes::count_from;
 use records::bytes::wide;
 ghost use mathlib.Core.Path.{_≡_};
@@ -17,8 +20,9 @@ ghost use Prim.Native.Nat.{_+_, _<_, _≤_};
 ghost use lib.Dec.{eqb, ltb, leb};
 ghost use lib.ListN.{length, drop};
 ghost use Rattle.records.specs.Lists.{any, countBy, firstAt};
-ghost use Rattle.literals.specs.Domain.{isCounted};
-ghost use Rattle.literals.specs.Decode.{maxActions, maxArguments, relationStop, actionStop, labelOf, labelFault};
+ghost use Rattle.literals.specs.Domain.{variableBelow, clearsOnce, isCounted};
+ghost use Rattle.literals.specs.Decode.{maxActions, maxArguments, relationStop, actionStop, literalOf, noVariable};
+ghost use Rattle.literals.specs.Decode.{labelOf, labelFault};
 ghost use Rattle.literals.specs.Fields.{argumentsStop, literalFields, componentFields, again, highKey, eachOnce};
 
 // A relation: its arity.
@@ -77,7 +81,49 @@ fn arguments_stop(head: &Head, relation: u8, first: usize, given: usize) -> u64
     12
 }
 
-// A literal of the action i: role, relation, one variable per argument.
+// Whether a literal has FF only where it may: in a false condition or a delete, once.
+fn clears_once(p: &[u8]) -> bool
+    requires { ⌜ 2 ≤ length (now p) ⌝ }
+    ensures { λ r. ⌜ r ≡ clearsOnce (literalOf (now (p .entry))) ⌝ }
+{
+    let n = count_from(p, 2, 255);
+    if n == 0 {
+        return true;
+    }
+    let sorted = role_of(p[0]);
+    let clause = sorted.clause;
+    if may_clear(clause) {
+        return n == 1;
+    }
+    false
+}
+
+// Whether an argument is FF or a variable below n.
+fn variable_below(argument: Argument, n: u8) -> bool
+    ensures { λ r. ⌜ r ≡ variableBelow n argument ⌝ }
+{
+    match argument {
+        Argument::Variable(v) => v.0 < n,
+        Argument::Every => true,
+    }
+}
+
+// Whether one of a literal's arguments is neither FF nor one of its action's n variables.
+fn any_unknown(p: &[u8], n: u8) -> bool
+    ensures { λ r. ⌜ r ≡ any (noVariable n) (drop 2 (now (p .entry))) ⌝ }
+{
+    let mut i = 2;
+    while i < p.len() {
+        let argument = argument_of(p[i]);
+        if !variable_below(argument, n) {
+            return true;
+        }
+        i += 1;
+    }
+    false
+}
+
+// A literal of the action i: role, relation, one variable per argument, or FF.
 pub fn literal_fields(head: &Head, i: usize, p: &[u8]) -> u64
     requires { ⌜ i < maxActions ⌝ }
     ensures { λ r. ⌜ r ≡ literalFields (now (head .entry)) i (now (p .entry)) ⌝ }
@@ -92,7 +138,10 @@ pub fn literal_fields(head: &Head, i: usize, p: &[u8]) -> u64
     if stop != 0 {
         return stop;
     }
-    if any_from(p, 2, variables_of(head, i)) {
+    if !clears_once(p) {
+        return 26;
+    }
+    if any_unknown(p, variables_of(head, i)) {
         return 18;
     }
     0
