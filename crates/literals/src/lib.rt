@@ -9,7 +9,7 @@ pub mod span;
 
 ghost use mathlib.Core.Path.{_≡_};
 ghost use Prim.Native.Nat.{_<_};
-ghost use Rattle.literals.specs.Domain.{clauseOf, roleOf, clauseNumber, firstRole, sameTime, mayClear, isKey, isCounted};
+ghost use Rattle.literals.specs.Domain.{isEvery, clauseOf, roleOf, clauseNumber, firstRole, sameTime, mayClear, isKey, isCounted};
 ghost use Rattle.literals.specs.Decode.{argumentOf, labelOf};
 ghost use Rattle.literals.specs.Keys.{clauseFor};
 ghost use Rattle.literals.specs.Matching.{momentNumber};
@@ -104,6 +104,15 @@ pub fn argument_of(b: u8) -> Argument
         return Argument::Every;
     }
     Argument::Variable(Variable(b))
+}
+
+pub fn is_every(argument: Argument) -> bool
+    ensures { λ r. ⌜ r ≡ isEvery argument ⌝ }
+{
+    match argument {
+        Argument::Variable(_) => false,
+        Argument::Every => true,
+    }
 }
 
 pub fn is_counted(label: Label) -> bool
