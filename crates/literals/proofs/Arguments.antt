@@ -14,19 +14,21 @@ use Rattle.records.proofs.Lists.{allBelow, below-in}
 use Rattle.literals.specs.declared.Variable.{Variable}
 use Rattle.literals.specs.declared.Argument.{Argument}
 use Rattle.literals.specs.declared.Argument.the-variants.{Variable as bound, Every}
+use Rattle.literals.specs.declared.Label.{Label}
 use Rattle.literals.specs.declared.Label.the-variants.{Key as keyed, Counted}
 use Rattle.literals.specs.declared.Clause.{Clause}
 use Rattle.literals.specs.declared.Clause.the-variants.{Positive, Negative, Add, Delete}
 use Rattle.literals.specs.Domain.{variable, key, sameVariable, sameArgument, meetArgument, isEvery, variableBelow, variablesOf, Atom}
 use Rattle.literals.specs.Domain.{meets, roleOf, Literal, mayClear, clearsOnce, Component, isCounted, keysBound, keepsKeys}
 use Rattle.literals.specs.Decode.{byte, argumentOf, literalOf, noVariable, labelOf}
+use Rattle.literals.specs.Fields.{keyBeside}
 use Rattle.literals.specs.Table.{argumentNumber, meetByte}
 
-or-false : (a : Bool) → a || false ≡ a
+pub or-false : (a : Bool) → a || false ≡ a
 or-false true = refl
 or-false false = refl
 
-or-true : (a : Bool) → a || true ≡ true
+pub or-true : (a : Bool) → a || true ≡ true
 or-true true = refl
 or-true false = refl
 
@@ -83,6 +85,13 @@ counted-label b = go (eqb b 255)
     go : (t : Bool) → isCounted (cond t Counted (keyed (key b))) ≡ t
     go true = refl
     go false = refl
+
+-- whether a label may stand beside an argument, by their bytes
+pub beside-bytes : (b a : ℕ) {l : Label} {v : Argument} {r : Bool} → l ≡ labelOf b → v ≡ argumentOf a → r ≡ (isCounted l || not (isEvery v))
+    → keyBeside b a ≡ r
+beside-bytes b a e f g =
+    sym (g ∙ ap₂ (λ (l : Label) (v : Argument). isCounted l || not (isEvery v)) e f
+    ∙ ap₂ (λ (s t : Bool). s || not t) (counted-label b) (every-byte a ∙ eqb-comm 255 a))
 
 -- "18 variable": of a byte
 pub variable-byte : (vars b : ℕ) → noVariable vars b ≡ not (eqb b 255 || ltb b vars)

@@ -123,6 +123,14 @@ variables-in (bound w ∷ as′) (List·Memᴰ·head e) = List·Memᴰ·head (ap
 variables-in (bound w ∷ as′) (List·Memᴰ·tail m) = List·Memᴰ·tail (variables-in as′ m)
 variables-in (Every ∷ as′) m = List·Memᴰ·tail (variables-in as′ m)
 
+-- of bytes that are FF or variables below n, the variables are below n
+pub variables-below : (n : ℕ) (bs : List ℕ) → any (noVariable n) bs ≡ false → (v : Variable) → In v (variablesOf (map argumentOf bs))
+    → v .0 < n
+variables-below n bs h v m =
+    let o = Memᴰ·of-map argumentOf bs (variables-in (map argumentOf bs) m) in
+    let g : variableBelow n (argumentOf (o .0)) ≡ true = not-false _ (any-out (noVariable n) h (o .1)) in
+    ltb-true (v .0) n (sym (ap (variableBelow n) (o .2)) ∙ g)
+
 literal-fits : (D : Domain) (p : List ℕ) → Bounded D → stopOf D literalRecord p ≡ 0 → Fits D (latest (D .actions))
     → Fits D (record { vars = latest (D .actions) .vars; lasting = latest (D .actions) .lasting; lits = latest (D .actions) .lits ++ (literalOf p ∷ []) })
 unfolding fieldStop
@@ -164,11 +172,7 @@ literal-fits D p h e f =
     same = let n = length-map (drop 2 p) argumentOf in let d = length-drop 2 p in let g = q .arguments in omega arith
 
     lower : (v : Variable) → In v (variablesOf (map argumentOf (drop 2 p))) → v .0 < last .vars
-    lower v m =
-        let o = Memᴰ·of-map argumentOf (drop 2 p) (variables-in (map argumentOf (drop 2 p)) m) in
-        let g : variableBelow (last .vars) (argumentOf (o .0)) ≡ true = not-false _
-        (any-out (noVariable (last .vars)) (q .variables) (o .1)) in
-        ltb-true (v .0) (last .vars) (sym (ap (variableBelow (last .vars)) (o .2)) ∙ g)
+    lower = variables-below (last .vars) (drop 2 p) (q .variables)
 
     low : (v : Variable) → In v (variablesOf (map argumentOf (drop 2 p))) → v .0 < 255
     low v m = let g = lower v m in let c = f .counts in omega arith

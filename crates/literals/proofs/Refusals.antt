@@ -126,7 +126,7 @@ refuses-from (suc fuel) s r = go (readStep s r) (refuses-step s r) (λ q. refuse
     go (goOn q) h ih = ih q
     go (finish d) h ih = h
 
--- "9 to 23", and 24 and 25
+-- "9 to 23", and 24 to 27
 pub refusal-number : (d : List ℕ) (f : Refusal) → decode d ≡ refused f → Refuses (f .number)
 unfolding decode readFile
 refusal-number d f e = rw e at (go (ltb maxFile (length d)))

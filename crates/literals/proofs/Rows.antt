@@ -1,6 +1,6 @@
 -- Rows of 8 bytes: a payload's row by its bytes, and the loops that write rows, compare them and go through them. Assumes nothing.
 use mathlib.Core.Path.{_≡_, refl, sym, ap, ap₂, _∙_}
-use mathlib.Core.Bool.{Bool, true, false, _&&_, cond}
+use mathlib.Core.Bool.{Bool, true, false, _&&_, not, cond}
 use mathlib.Core.List.{List, [], _∷_, _++_, append-nil, List·Memᴰ·head, List·Memᴰ·tail, List·Memᴰ·not-nil}
 use Prim.Native.Nat.{ℕ, suc, _+_, _-_, _*_, _≤_, _<_, max, zero}
 use native.Mathlib.Numerals.{add-one}
@@ -10,10 +10,11 @@ use lib.Dec.{eqb}
 use lib.ListN.{length, getD, set, take, drop, replicate, length-append, length-replicate, length-drop, getD-replicate, List·getD-append, drop-of-length-le}
 use lib.Seq.{drop-cons, getD-drop, getD-take, getD-append-add, drop-drop, length-take-le, take-all, paste}
 use borrow.Author.Tests.{eq-eqb, ne-eqb, eqb-true}
-use Rattle.records.specs.Lists.{In, any, all, sameList}
+use Rattle.records.specs.Lists.{In, any, all, sameList, sideBySide}
 use Rattle.records.proofs.Lists.{off, sameList-eq}
 use Rattle.records.proofs.Memory.{paste-more, paste-length}
-use Rattle.literals.specs.Decode.{byte}
+use Rattle.literals.specs.Decode.{maxArguments, byte}
+use Rattle.literals.specs.Fields.{keyBeside, keyClearedIn}
 use Rattle.literals.specs.Table.{rowOf, FourAt, meetByte, argumentsMeet, rowsMeet, roleRank, rowRank, rowsBy, rowsIn, rowsRank}
 
 -- ---- a payload's row
@@ -217,6 +218,40 @@ module _ (x y : List ℕ) (i j : ℕ) (h : i + 8 ≤ length x) (g : j + 8 ≤ le
 
   pub rows-apart : (getD x (i + 1) 0 ≡ getD y (j + 1) 0 → ⊥) → false ≡ rowsMeet (take 8 (drop i x)) (take 8 (drop j y))
   rows-apart n = sym (ap (λ (t : Bool). t && argumentsMeet (take 8 (drop i x)) (take 8 (drop j y))) (relations-at ∙ ne-eqb _ _ n))
+
+-- ---- the labels of a component's payload, from label i on, beside the arguments of the literal's row at an offset
+
+module _ (p t : List ℕ) (at : ℕ) (h : at + 8 ≤ length t) where
+  abbrev besides : ℕ → Bool
+  besides i = sideBySide keyBeside (drop i p) (drop (i + 1) (take 8 (drop at t)))
+
+  module _ (i : ℕ) (g : length p ≤ 1 + maxArguments) (l : i < length p) where
+    next-beside : besides i ≡ keyBeside (getD p i 0) (getD t (at + 1 + i) 0) && besides (i + 1)
+    next-beside =
+        let n = length-part 8 t at h in
+        let z : at + (i + 1) ≡ at + 1 + i = omega arith in
+        let a = part-at 8 t at h (i + 1) (omega arith) ∙ ap (λ (k : ℕ). getD t k 0) z in
+        ap₂ (sideBySide keyBeside) (next p i (i + 1) refl l) (next (take 8 (drop at t)) (i + 1) (i + 1 + 1) refl (omega arith))
+        ∙ ap (λ (b : ℕ). keyBeside (getD p i 0) b && besides (i + 1)) a
+
+    pub beside-miss : keyBeside (getD p i 0) (getD t (at + 1 + i) 0) ≡ false → besides i ≡ false
+    beside-miss e = next-beside ∙ ap (λ (b : Bool). b && besides (i + 1)) e
+
+    pub beside-hit : keyBeside (getD p i 0) (getD t (at + 1 + i) 0) ≡ true → besides i ≡ besides (i + 1)
+    beside-hit e = next-beside ∙ ap (λ (b : Bool). b && besides (i + 1)) e
+
+  pub beside-end : (i : ℕ) → length p ≤ i → besides i ≡ true
+  beside-end i l = rw (drop-of-length-le p l)
+
+  -- by the relations
+  relation-at : eqb (byte p 0) (byte (take 8 (drop at t)) 1) ≡ eqb (getD p 0 0) (getD t (at + 1) 0)
+  relation-at = ap (eqb (byte p 0)) (part-at 8 t at h 1 (omega arith))
+
+  pub clears-same : {r : Bool} → getD p 0 0 ≡ getD t (at + 1) 0 → r ≡ besides 1 → not r ≡ keyClearedIn p (take 8 (drop at t))
+  clears-same e f = ap not f ∙ sym (ap (λ (b : Bool). b && not (besides 1)) (relation-at ∙ eq-eqb _ _ e))
+
+  pub clears-other : (getD p 0 0 ≡ getD t (at + 1) 0 → ⊥) → false ≡ keyClearedIn p (take 8 (drop at t))
+  clears-other n = sym (ap (λ (b : Bool). b && not (besides 1)) (relation-at ∙ ne-eqb _ _ n))
 
 -- ---- the rows of w bytes of a memory from row i on
 

@@ -195,8 +195,10 @@ module _ (D : Domain) (l m : Literal) (el : length (l .atom .args) ≡ arity D (
 -- -- both
 
 -- the row of a payload is that of its literal
-payload-row : (a b : ℕ) (q : List ℕ) → a ≤ 9 → rowOf (a ∷ b ∷ q) ≡ literalRow (literalOf (a ∷ b ∷ q))
-payload-row a b q h =
+pub payload-row : (p : List ℕ) → 2 ≤ length p → byte p 0 ≤ 9 → rowOf p ≡ literalRow (literalOf p)
+payload-row [] e h = absurd (omega arith)
+payload-row (a ∷ []) e h = absurd (omega arith)
+payload-row (a ∷ b ∷ q) e h =
     ap₂ (λ (r : ℕ) (x : List ℕ). rowOf (r ∷ b ∷ x)) (sym (role-number a h)) (sym (map-back argumentNumber argumentOf argument-back q))
 
 -- literals of one role are not opposed
@@ -234,7 +236,7 @@ literal-rank [] l h k = let g = h .enough in absurd (omega arith)
 literal-rank (a ∷ []) l h k = let g = h .enough in absurd (omega arith)
 literal-rank {D} (a ∷ b ∷ q) l h k =
     ap₂ (λ (n : ℕ) (x : List ℕ). rowsRanked n (sameList eqb (drop 1 x) (drop 1 (literalRow l))) (rowsMeet x (literalRow l)))
-    roles (payload-row a b q (h .role))
+    roles (payload-row (a ∷ b ∷ q) (h .enough) (h .role))
     ∙ ap₂ (rowsRanked n) (same-rows D m l args (k .arguments) (h .variables) (k .variables))
     (meet-rows D m l args (k .arguments) (h .variables) (k .variables))
     ∙ by-tests (sameRole (m .role) (l .role)) (opposed (m .role) (l .role)) (sameLiteral (m .atom) (l .atom)) (meets (m .atom) (l .atom))

@@ -1,5 +1,6 @@
 // The fields of a record: each check answers the number that stops it, or 0.
 use super::Argument;
+use super::Label;
 use super::RecordFault;
 use super::argument_of;
 use super::head::Head;
@@ -7,6 +8,8 @@ use super::head::arity_of;
 use super::head::is_lasting;
 use super::head::relations_in;
 use super::head::variables_of;
+use super::is_counted;
+use super::label_of;
 use super::limits::MAX_ARGUMENTS;
 use super::limits::MAX_VARIABLES;
 use super::may_clear;
@@ -16,14 +19,16 @@ use records::bytes::wide;
 ghost use mathlib.Core.Path.{_≡_};
 ghost use mathlib.Core.Bool.{_&&_, _||_, not};
 ghost use mathlib.Core.List.{[], map};
-ghost use Prim.Native.Nat.{_+_, _<_, _≤_};
+ghost use Prim.Native.Nat.{_+_, _*_, _<_, _≤_};
 ghost use lib.Dec.{eqb, ltb, leb};
-ghost use lib.ListN.{length, drop};
-ghost use Rattle.records.specs.Lists.{any, countBy, firstAt};
-ghost use Rattle.literals.specs.Domain.{variableBelow, clearsOnce, isCounted};
+ghost use lib.ListN.{length, take, drop};
+ghost use Rattle.records.specs.Lists.{any, countBy, firstAt, sideBySide};
+ghost use Rattle.literals.specs.Domain.{variableBelow, clearsOnce, isCounted, isEvery};
 ghost use Rattle.literals.specs.Decode.{maxActions, maxArguments, relationStop, actionStop, literalOf, noVariable};
 ghost use Rattle.literals.specs.Decode.{labelOf, labelFault};
 ghost use Rattle.literals.specs.Fields.{argumentsStop, literalFields, componentFields, again, highKey, eachOnce};
+ghost use Rattle.literals.specs.Fields.{keyBeside, keyClearedIn};
+ghost use Rattle.literals.specs.Table.{rowsIn};
 
 // A relation: its arity.
 pub fn relation_fields(p: &[u8]) -> u64
@@ -277,6 +282,59 @@ pub fn label_fields(p: &[u8], n: usize) -> RecordFault
         number: 21,
         within: 0,
     }
+}
+
+// Whether a label may stand beside an argument of a literal: a key may not beside FF.
+fn may_stand(label: Label, argument: Argument) -> bool
+    ensures { λ r. ⌜ r ≡ (isCounted label || not (isEvery argument)) ⌝ }
+{
+    match argument {
+        Argument::Variable(_) => true,
+        Argument::Every => is_counted(label),
+    }
+}
+
+// Whether no key of a component stands where the literal's row at an offset has FF.
+fn keys_beside(p: &[u8], table: &[u8], at: usize) -> bool
+    requires { ⌜ (at + 8 ≤ length (now table)) × (length (now p) ≤ 1 + maxArguments) ⌝ }
+    ensures { λ r. ⌜ r ≡ sideBySide keyBeside (drop 1 (now (p .entry))) (drop 2 (take 8 (drop at (now (table .entry))))) ⌝ }
+{
+    let mut i = 1;
+    while i < p.len() {
+        let label = label_of(p[i]);
+        let argument = argument_of(table[at + 1 + i]);
+        if !may_stand(label, argument) {
+            return false;
+        }
+        i += 1;
+    }
+    true
+}
+
+// Whether the literal's row at an offset has the relation of a component, and FF where that has a key.
+fn clears_key(p: &[u8], table: &[u8], at: usize) -> bool
+    requires { ⌜ (at + 8 ≤ length (now table)) × (0 < length (now p)) × (length (now p) ≤ 1 + maxArguments) ⌝ }
+    ensures { λ r. ⌜ r ≡ keyClearedIn (now (p .entry)) (take 8 (drop at (now (table .entry)))) ⌝ }
+{
+    if p[0] == table[at + 1] {
+        return !keys_beside(p, table, at);
+    }
+    false
+}
+
+// Whether one of the first n rows has.
+pub fn any_clears_key(p: &[u8], table: &[u8], n: usize) -> bool
+    requires { ⌜ (8 * n ≤ length (now table)) × (0 < length (now p)) × (length (now p) ≤ 1 + maxArguments) ⌝ }
+    ensures { λ r. ⌜ r ≡ any (keyClearedIn (now (p .entry))) (rowsIn n (now (table .entry))) ⌝ }
+{
+    let mut i = 0;
+    while i < n {
+        if clears_key(p, table, 8 * i) {
+            return true;
+        }
+        i += 1;
+    }
+    false
 }
 
 // The number of labels other than FF.
