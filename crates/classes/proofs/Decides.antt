@@ -46,15 +46,9 @@ use Rattle.classes.proofs.Rows.{noLiteral, literalAt, kept-at, role-at,
 use Rattle.classes.proofs.Clauses.{clauses-few, literals-at, required-at, asked-start}
 use Rattle.classes.proofs.Roles.{own-few}
 use Rattle.classes.proofs.Members.{member}
-use Rattle.classes.proofs.Soles.{sole-none, sole-many, sole-one, sole-less, sole-passes, sole-all}
+use Rattle.classes.proofs.Soles.{and-comm, sole-none, sole-many, sole-one, sole-less, sole-passes, sole-all}
 
 -- ---- the members of a class at a moment
-
-and-comm : (s t : Bool) → s && t ≡ t && s
-and-comm true true = refl
-and-comm true false = refl
-and-comm false true = refl
-and-comm false false = refl
 
 -- ---- tests
 

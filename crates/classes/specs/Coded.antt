@@ -2,7 +2,7 @@
 use mathlib.Core.Path.{_≡_}
 use mathlib.Core.Bool.{Bool, true, false, _&&_, _||_, not, cond}
 use mathlib.Core.List.{List, [], _∷_, _++_, map, flatMap}
-use Prim.Native.Nat.{ℕ, zero, suc, _+_, _-_, _*_, _≤_}
+use Prim.Native.Nat.{ℕ, zero, suc, _+_, _-_, _*_, _≤_, _<_}
 use lib.Dec.{eqb, ltb, leb}
 use lib.ListN.{length, getD, set, take, drop, replicate}
 use Rattle.records.specs.Lists.{In, any, all, pairwise, sameList}
@@ -10,6 +10,7 @@ use Rattle.literals.specs.declared.Variable.{Variable}
 use Rattle.literals.specs.declared.Time.{Time}
 use Rattle.literals.specs.declared.Time.the-variants.{AtStart, OverAll, AtEnd}
 use Rattle.literals.specs.declared.Clause.{Clause}
+use Rattle.literals.specs.declared.Clause.the-variants.{Positive, Negative, Add, Delete}
 use Rattle.literals.specs.declared.Role.{Role}
 use Rattle.literals.specs.Domain.{sameVariable, sameLiteral, isEvery, clauseNumber, roleOf, sameTime, isCounted, Literal, Action, Domain}
 use Rattle.literals.specs.Decode.{maxLiterals, argumentOf, labelOf, repeats}
@@ -229,6 +230,45 @@ soleAt numbers clauses class clause = soleBy (isAt numbers clauses class clause)
 -- the true conditions and the adds of a class
 abbrev pub soleOf : List ℕ → List ℕ → ℕ → Sole
 soleOf numbers clauses class = record { conditions = soleAt numbers clauses class 1; adds = soleAt numbers clauses class 3 }
+
+-- ---- the same of all classes, in sections of a byte for each: true conditions and adds at the start, the same at the end, those asked at the end
+
+-- whether a section counts the row j
+unfoldable pub countsIn : List ℕ → ℕ → ℕ → Bool
+unfolding clauseIn
+countsIn rows zero j = eqb (clauseIn false rows Start j) 1
+countsIn rows (suc zero) j = eqb (clauseIn false rows Start j) 3
+countsIn rows (suc (suc zero)) j = eqb (clauseIn false rows End j) 1
+countsIn rows (suc (suc (suc zero))) j = eqb (clauseIn false rows End j) 3
+countsIn rows (suc (suc (suc (suc s)))) j = eqb (clauseIn true rows End j) 1
+
+-- which literal of a class each of the five sections counts, in a memory
+unfoldable pub SolesOf : List ℕ → List ℕ → List ℕ → Type 0
+unfolding countsIn soleBy
+SolesOf rows numbers soles =
+    (s k : ℕ) → s < 5 → k < maxLiterals → getD soles (maxLiterals * s + k) 0 ≡ soleBy (λ j. eqb (getD numbers j 0) k && countsIn rows s j) (length numbers)
+
+-- the true conditions and the adds of a class, by the section of its true conditions
+abbrev pub soleIn : List ℕ → ℕ → ℕ → Sole
+soleIn soles s class = record { conditions = getD soles (maxLiterals * s + class) 0; adds = getD soles (maxLiterals * (s + 1) + class) 0 }
+
+-- the first section that counts the literals of a role, or 5: a true condition at the end is asked besides
+abbrev pub sectionBy : Time → Clause → ℕ
+sectionBy AtStart Positive = 0
+sectionBy AtStart Add = 1
+sectionBy AtStart Negative = 5
+sectionBy AtStart Delete = 5
+sectionBy OverAll Positive = 4
+sectionBy OverAll Negative = 5
+sectionBy OverAll Add = 5
+sectionBy OverAll Delete = 5
+sectionBy AtEnd Positive = 2
+sectionBy AtEnd Add = 3
+sectionBy AtEnd Negative = 5
+sectionBy AtEnd Delete = 5
+
+abbrev pub sectionOf : Role → ℕ
+sectionOf r = sectionBy (r .time) (r .clause)
 
 -- which literal of a class is asked as a true condition at a moment: 255 says that it is unreachable there
 unfoldable pub reachAt : Domain → Action → Moment → ℕ → ℕ
