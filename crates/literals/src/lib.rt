@@ -222,7 +222,7 @@ fn condition_group(role: u8) -> u8
     }
 }
 
-// The role bytes of two literals with the same atom: 2 where it is repeated in its role, 1 where it is both true and false, else 0.
+// The role bytes of two literals: 2 where they are the same, 1 where one is true and the other false in one group, else 0.
 pub fn role_rank(a: u8, b: u8) -> u64
     ensures { λ r. ⌜ r ≡ roleRank a b ⌝ }
 {
