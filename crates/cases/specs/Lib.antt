@@ -6,3 +6,4 @@ pub mod FurtherRuns
 pub mod Clearing
 pub mod Refuted
 pub mod Boxes
+pub mod OneRelation

@@ -23,7 +23,8 @@ use Rattle.literals.specs.declared.Role.{Role}
 use Rattle.literals.specs.Domain.{roleOf}
 use Rattle.literals.specs.Table.{pad}
 use Rattle.literals.specs.Keys.{numbersFrom, below}
-use Rattle.classes.specs.Coded.{clauseAt, clauseByte, mayMeet, saysAt, clauseIn, isAt, soleMore, soleBy, soleAt, soleOf, sectionOf, countsIn, SolesOf, soleIn}
+use Rattle.classes.specs.Coded.{clauseAt, clauseByte, mayMeet, saysAt, clauseIn, isAt, soleMore, soleBy, soleAt, soleOf}
+use Rattle.classes.specs.Coded.{sectionOf, countsIn, SolesOf, soleIn}
 use Rattle.literals.proofs.Tables.{pad-at}
 use Rattle.literals.proofs.Indices.{below-snoc, below-in, length-from, getD-map}
 
@@ -177,7 +178,8 @@ module _ (soles : List ℕ) (section class j : ℕ) (room : length soles ≡ 320
       → getD (set soles place v) (64 * s + k) 0 ≡ soleMore (eqb section s && eqb class k) j (getD soles (64 * s + k) 0)
   noted v e s k p q = go (bool-cases (eqb place (64 * s + k)))
     where
-      told : {t : Bool} → eqb place (64 * s + k) ≡ t → soleMore t j (getD soles (64 * s + k) 0) ≡ soleMore (eqb section s && eqb class k) j (getD soles (64 * s + k) 0)
+      told : {t : Bool} → eqb place (64 * s + k) ≡ t
+          → soleMore t j (getD soles (64 * s + k) 0) ≡ soleMore (eqb section s && eqb class k) j (getD soles (64 * s + k) 0)
       told f = ap (λ (b : Bool). soleMore b j (getD soles (64 * s + k) 0)) (sym f ∙ same-place section s class k g q)
 
       go : (eqb place (64 * s + k) ≡ true) ⊎ (eqb place (64 * s + k) ≡ false)
@@ -201,13 +203,15 @@ module _ (soles : List ℕ) (section class j : ℕ) (room : length soles ≡ 320
 
 -- unless it is said before
 module _ (said : Bool) (s class k j old : ℕ) where
-  noted-unless : {r : ℕ} (t : Bool) → not said ≡ t → r ≡ soleMore ((t && eqb 4 s) && eqb class k) j old → r ≡ soleMore ((eqb 4 s && not said) && eqb class k) j old
+  noted-unless : {r : ℕ} (t : Bool) → not said ≡ t → r ≡ soleMore ((t && eqb 4 s) && eqb class k) j old
+      → r ≡ soleMore ((eqb 4 s && not said) && eqb class k) j old
   noted-unless t e q = q ∙ ap (λ (b : Bool). soleMore (b && eqb class k) j old) (by-second (eqb 4 s) (not said) t e)
 
   pub noted-said : said ≡ true → old ≡ soleMore ((eqb 4 s && not said) && eqb class k) j old
   noted-said e = noted-unless false (ap not e) refl
 
-  pub noted-asked : said ≡ false → {r : ℕ} → r ≡ soleMore (eqb 4 s && eqb class k) j old → r ≡ soleMore ((eqb 4 s && not said) && eqb class k) j old
+  pub noted-asked : said ≡ false → {r : ℕ} → r ≡ soleMore (eqb 4 s && eqb class k) j old
+      → r ≡ soleMore ((eqb 4 s && not said) && eqb class k) j old
   noted-asked e q = noted-unless true (ap not e) q
 
 -- ---- the sections that count a literal, by its role
@@ -226,7 +230,8 @@ counted said section s = cond (eqb s 4) ((eqb section 4 || eqb section 2) && not
 
 abbrev EachSection : Bool → Role → Type 0
 EachSection said r =
-    (hits said r 0 ≡ counted said (sectionOf r) 0) × (hits said r 1 ≡ counted said (sectionOf r) 1) × (hits said r 2 ≡ counted said (sectionOf r) 2)
+    (hits said r 0 ≡ counted said (sectionOf r) 0) × (hits said r 1 ≡ counted said (sectionOf r) 1)
+    × (hits said r 2 ≡ counted said (sectionOf r) 2)
     × (hits said r 3 ≡ counted said (sectionOf r) 3) × (hits said r 4 ≡ counted said (sectionOf r) 4)
 
 each-section : (said : Bool) (t : Time) (c : Clause) → EachSection said record { time = t; clause = c }
@@ -290,20 +295,24 @@ module _ (rows : List ℕ) (j : ℕ) where
 
   module _ (section class : ℕ) (e : section ≡ sectionOf role) (s k old : ℕ) (h : s < 5) where
     -- what is left to show, by the section
-    told : {b : Bool} → b ≡ counted said section s → {r : ℕ} → r ≡ soleMore (b && eqb class k) j old → r ≡ soleMore (eqb class k && countsIn rows s j) j old
+    told : {b : Bool} → b ≡ counted said section s → {r : ℕ} → r ≡ soleMore (b && eqb class k) j old
+        → r ≡ soleMore (eqb class k && countsIn rows s j) j old
     told {b} f q =
         q
         ∙ ap (λ (t : Bool). soleMore t j old)
-        (ap (λ (t : Bool). t && eqb class k) (f ∙ ap (λ (n : ℕ). counted said n s) e ∙ sym (counts-section s h)) ∙ and-comm (countsIn rows s j) (eqb class k))
+        (ap (λ (t : Bool). t && eqb class k) (f ∙ ap (λ (n : ℕ). counted said n s) e ∙ sym (counts-section s h))
+        ∙ and-comm (countsIn rows s j) (eqb class k))
 
     pub tally-none : 4 < section → old ≡ soleMore (eqb class k && countsIn rows s j) j old
     tally-none f = told (go (bool-cases (eqb s 4))) refl
       where
         go : (eqb s 4 ≡ true) ⊎ (eqb s 4 ≡ false) → false ≡ counted said section s
         go (inl t) = rw (eqb-true s 4 t, ne-eqb section 4 (λ z. omega arith), ne-eqb section 2 (λ z. omega arith))
-        go (inr q) = sym (ap (λ (b : Bool). cond b ((eqb section 4 || eqb section 2) && not said) (eqb section s)) q ∙ ne-eqb section s (λ z. omega arith))
+        go (inr q) = sym (ap (λ (b : Bool). cond b ((eqb section 4 || eqb section 2) && not said) (eqb section s)) q
+            ∙ ne-eqb section s (λ z. omega arith))
 
-    pub tally-asked : section ≡ 4 → {r : ℕ} → r ≡ soleMore ((eqb 4 s && not said) && eqb class k) j old → r ≡ soleMore (eqb class k && countsIn rows s j) j old
+    pub tally-asked : section ≡ 4 → {r : ℕ} → r ≡ soleMore ((eqb 4 s && not said) && eqb class k) j old
+        → r ≡ soleMore (eqb class k && countsIn rows s j) j old
     tally-asked f = told (go s h ∙ ap (λ (n : ℕ). counted said n s) (sym f))
       where
         go : (s : ℕ) → s < 5 → eqb 4 s && not said ≡ counted said 4 s
@@ -314,7 +323,8 @@ module _ (rows : List ℕ) (j : ℕ) where
         go (suc (suc (suc (suc zero)))) h = refl
         go (suc (suc (suc (suc (suc s))))) h = absurd (omega arith)
 
-    pub tally-own : (section ≡ 4 → ⊥) → (section ≡ 2 → ⊥) → {r : ℕ} → r ≡ soleMore (eqb section s && eqb class k) j old → r ≡ soleMore (eqb class k && countsIn rows s j) j old
+    pub tally-own : (section ≡ 4 → ⊥) → (section ≡ 2 → ⊥) → {r : ℕ} → r ≡ soleMore (eqb section s && eqb class k) j old
+        → r ≡ soleMore (eqb class k && countsIn rows s j) j old
     tally-own n m = told (go (bool-cases (eqb s 4)))
       where
         go : (eqb s 4 ≡ true) ⊎ (eqb s 4 ≡ false) → eqb section s ≡ counted said section s
@@ -325,9 +335,12 @@ module _ (rows : List ℕ) (j : ℕ) where
         → r ≡ soleMore ((eqb 4 s && not said) && eqb class k) j own → r ≡ soleMore (eqb class k && countsIn rows s j) j old
     tally-both f {r} {own} p q =
         told (ap (λ (n : ℕ). counted said n s) (sym f))
-        (q ∙ ap (λ (n : ℕ). soleMore ((eqb 4 s && not said) && eqb class k) j n) (p ∙ ap (λ (n : ℕ). soleMore (eqb n s && eqb class k) j old) f) ∙ go s h)
+        (q ∙ ap (λ (n : ℕ). soleMore ((eqb 4 s && not said) && eqb class k) j n)
+        (p ∙ ap (λ (n : ℕ). soleMore (eqb n s && eqb class k) j old) f) ∙ go s h)
       where
-        go : (s : ℕ) → s < 5 → soleMore ((eqb 4 s && not said) && eqb class k) j (soleMore (eqb 2 s && eqb class k) j old) ≡ soleMore (counted said 2 s && eqb class k) j old
+        go : (s : ℕ) → s < 5
+            → soleMore ((eqb 4 s && not said) && eqb class k) j (soleMore (eqb 2 s && eqb class k) j old)
+            ≡ soleMore (counted said 2 s && eqb class k) j old
         go zero h = refl
         go (suc zero) h = refl
         go (suc (suc zero)) h = refl
@@ -337,7 +350,8 @@ module _ (rows : List ℕ) (j : ℕ) where
 
 -- a literal of no class is noted nowhere
 pub tally-outside : (rows : List ℕ) (j class s k old : ℕ) → 64 ≤ class → k < 64 → old ≡ soleMore (eqb class k && countsIn rows s j) j old
-tally-outside rows j class s k old h g = sym (ap (λ (b : Bool). soleMore (b && countsIn rows s j) j old) (ne-eqb class k (λ z. omega arith)))
+tally-outside rows j class s k old h g = sym (ap (λ (b : Bool). soleMore (b && countsIn rows s j) j old)
+    (ne-eqb class k (λ z. omega arith)))
 
 -- ---- the notes of the first j literals
 
@@ -348,7 +362,11 @@ pub record Tallied (rows numbers : List ℕ) (j : ℕ) (soles : List ℕ) : Type
 module _ (rows numbers : List ℕ) where
   pub tallied-none : (soles : List ℕ) → soles ≡ pad 320 [] → Tallied rows numbers 0 soles
   unfolding soleBy
-  tallied-none soles e = record { reach = omega arith; is = λ s k h g. ap (λ (l : List ℕ). getD l (64 * s + k) 0) e ∙ getD-fill [] 320 (64 * s + k) 0 }
+  tallied-none soles e = record {
+    reach = omega arith;
+    is = λ s k h g. ap (λ (l : List ℕ). getD l (64 * s + k) 0) e
+        ∙ getD-fill [] 320 (64 * s + k) 0;
+  }
 
   pub tallied-more : (j : ℕ) (soles soles′ : List ℕ) → j < length numbers → Tallied rows numbers j soles
       → ((s k : ℕ) → s < 5 → k < 64
@@ -384,7 +402,8 @@ from-at i zero j h = absurd (omega arith)
 from-at i (suc n) zero h = omega arith
 from-at i (suc n) (suc j) h = from-at (suc i) n j (omega arith) ∙ omega arith
 
-module _ (rows numbers : List ℕ) (w : Bool) (m : Moment) (clauses : List ℕ) (e : clauses ≡ pad 64 (map (clauseIn w rows m) (below (length numbers)))) where
+module _ (rows numbers : List ℕ) (w : Bool) (m : Moment) (clauses : List ℕ)
+    (e : clauses ≡ pad 64 (map (clauseIn w rows m) (below (length numbers)))) where
   clause-at : (j : ℕ) → j < length numbers → getD clauses j 0 ≡ clauseIn w rows m j
   clause-at j h =
       let z : 0 + j ≡ j = omega arith in
@@ -393,25 +412,29 @@ module _ (rows numbers : List ℕ) (w : Bool) (m : Moment) (clauses : List ℕ) 
       ∙ getD-map (clauseIn w rows m) (below (length numbers)) j 0 0 (omega (arith, length-from 0 (length numbers)))
       ∙ ap (clauseIn w rows m) (from-at 0 (length numbers) j h ∙ z)
 
-  section-is : (k clause : ℕ) → soleBy (λ j. eqb (getD numbers j 0) k && eqb (clauseIn w rows m j) clause) (length numbers) ≡ soleAt numbers clauses k clause
+  section-is : (k clause : ℕ)
+      → soleBy (λ j. eqb (getD numbers j 0) k && eqb (clauseIn w rows m j) clause) (length numbers) ≡ soleAt numbers clauses k clause
   unfolding soleAt isAt
   section-is k clause =
       sole-agree (λ j. eqb (getD numbers j 0) k && eqb (clauseIn w rows m j) clause) (isAt numbers clauses k clause) (length numbers)
       (λ j h. ap (λ (c : ℕ). eqb (getD numbers j 0) k && eqb c clause) (sym (clause-at j h)))
 
 module _ (rows numbers clauses soles : List ℕ) (S : SolesOf rows numbers soles) where
-  pub start-soles : clauses ≡ pad 64 (map (clauseIn false rows Start) (below (length numbers))) → (k : ℕ) → k < 64 → soleIn soles 0 k ≡ soleOf numbers clauses k
+  pub start-soles : clauses ≡ pad 64 (map (clauseIn false rows Start) (below (length numbers))) → (k : ℕ) → k < 64
+      → soleIn soles 0 k ≡ soleOf numbers clauses k
   unfolding SolesOf countsIn
   start-soles e k h =
       let is = section-is rows numbers false Start clauses e k in
       ap₂ (λ (c d : ℕ). record { conditions = c; adds = d }) (S 0 k (omega arith) h ∙ is 1) (S 1 k (omega arith) h ∙ is 3)
 
-  pub end-soles : clauses ≡ pad 64 (map (clauseIn false rows End) (below (length numbers))) → (k : ℕ) → k < 64 → soleIn soles 2 k ≡ soleOf numbers clauses k
+  pub end-soles : clauses ≡ pad 64 (map (clauseIn false rows End) (below (length numbers))) → (k : ℕ) → k < 64
+      → soleIn soles 2 k ≡ soleOf numbers clauses k
   unfolding SolesOf countsIn
   end-soles e k h =
       let is = section-is rows numbers false End clauses e k in
       ap₂ (λ (c d : ℕ). record { conditions = c; adds = d }) (S 2 k (omega arith) h ∙ is 1) (S 3 k (omega arith) h ∙ is 3)
 
-  pub asked-soles : clauses ≡ pad 64 (map (clauseIn true rows End) (below (length numbers))) → (k : ℕ) → k < 64 → getD soles (64 * 4 + k) 0 ≡ soleAt numbers clauses k 1
+  pub asked-soles : clauses ≡ pad 64 (map (clauseIn true rows End) (below (length numbers))) → (k : ℕ) → k < 64
+      → getD soles (64 * 4 + k) 0 ≡ soleAt numbers clauses k 1
   unfolding SolesOf countsIn
   asked-soles e k h = S 4 k (omega arith) h ∙ section-is rows numbers true End clauses e k 1

@@ -231,7 +231,8 @@ soleAt numbers clauses class clause = soleBy (isAt numbers clauses class clause)
 abbrev pub soleOf : List ℕ → List ℕ → ℕ → Sole
 soleOf numbers clauses class = record { conditions = soleAt numbers clauses class 1; adds = soleAt numbers clauses class 3 }
 
--- ---- the same of all classes, in sections of a byte for each: true conditions and adds at the start, the same at the end, those asked at the end
+-- ---- the same of all classes, in sections of a byte for each: the true conditions and the adds at the start, the same two at the end,
+-- and the true conditions that are asked at the end
 
 -- whether a section counts the row j
 unfoldable pub countsIn : List ℕ → ℕ → ℕ → Bool
@@ -246,7 +247,8 @@ countsIn rows (suc (suc (suc (suc s)))) j = eqb (clauseIn true rows End j) 1
 unfoldable pub SolesOf : List ℕ → List ℕ → List ℕ → Type 0
 unfolding countsIn soleBy
 SolesOf rows numbers soles =
-    (s k : ℕ) → s < 5 → k < maxLiterals → getD soles (maxLiterals * s + k) 0 ≡ soleBy (λ j. eqb (getD numbers j 0) k && countsIn rows s j) (length numbers)
+    (s k : ℕ) → s < 5 → k < maxLiterals
+    → getD soles (maxLiterals * s + k) 0 ≡ soleBy (λ j. eqb (getD numbers j 0) k && countsIn rows s j) (length numbers)
 
 -- the true conditions and the adds of a class, by the section of its true conditions
 abbrev pub soleIn : List ℕ → ℕ → ℕ → Sole

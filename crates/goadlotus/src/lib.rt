@@ -3,6 +3,7 @@ use judging::judge;
 use player::play::file_of;
 use player::play::offset_of;
 use player::play::play_files;
+use templates::list_templates;
 use totals::count_box;
 ghost use mathlib.Core.Path.{_≡_};
 ghost use Rattle.verdict.specs.Judged.{judged, reportAfter, witnessAfter};
@@ -11,6 +12,8 @@ ghost use Rattle.judging.specs.Reporting.{DecidesFile};
 ghost use Rattle.runs.specs.Play.{played, workAfter, returned};
 ghost use Rattle.player.specs.Called.{fileOf, offsetOf};
 ghost use Rattle.runs.specs.Claims.{PlaysAsMachine, StaysLow};
+ghost use Rattle.templates.specs.Templates.{listFile, listAfter};
+ghost use Rattle.templates.specs.Claims.{EntriesSafe, NothingMissing};
 ghost use Rattle.totals.specs.Totals.{totalled, totalsAfter};
 ghost use Rattle.totals.specs.Claims.{CountsFiles, AddsUp};
 
@@ -87,4 +90,17 @@ pub extern "C" fn goadlotus_totals(files: &[u8], totals: &mut [u8], first: &mut 
     ensures sums { λ r. ⌜ AddsUp (now (files .entry)) r (now (totals .exit)) ⌝ }
 {
     count_box(files, totals, first)
+}
+
+// Lists every template of a single relation of a domain file, with its verdict: answers the number, and leaves its place and the list,
+// 3 bytes an entry: relation, counted place (FF for none), verdict.
+#[no_mangle]
+pub extern "C" fn goadlotus_templates(file: &[u8], list: &mut [u8], first: &mut u64) -> u64
+    ensures number { λ r. ⌜ r ≡ listFile (now (file .entry)) (now (list .entry)) .number ⌝ }
+    ensures first { λ _. ⌜ now (first .exit) ≡ listFile (now (file .entry)) (now (list .entry)) .first ⌝ }
+    ensures list { λ _. ⌜ now (list .exit) ≡ listAfter (now (file .entry)) (now (list .entry)) ⌝ }
+    ensures safe { λ r. ⌜ EntriesSafe (now (file .entry)) r (now (first .exit)) (now (list .exit)) ⌝ }
+    ensures whole { λ r. ⌜ NothingMissing (now (file .entry)) r (now (first .exit)) (now (list .exit)) ⌝ }
+{
+    list_templates(file, list, first)
 }

@@ -2,7 +2,7 @@
 use mathlib.Core.Path.{_≡_, refl, sym, ap, ap₂, subst, _∙_}
 use mathlib.Core.Bool.{Bool, true, false, not, cond}
 use mathlib.Core.Logic.{_⊎_, inl, inr}
-use mathlib.Core.List.{List, [], _∷_, _++_, map, map-append, append-assoc}
+use mathlib.Core.List.{List, [], _∷_, _++_, map, map-append, append-assoc, List·Memᴰ·not-nil}
 use Prim.Native.Nat.{ℕ, zero, suc, _+_, _-_, _*_, _/_, _%_, _≤_, _<_}
 use native.Mathlib.Numerals.{add-one}
 use native.Mathlib.Omega.{arith}
@@ -15,8 +15,8 @@ use Rattle.records.proofs.Lists.{bool-cases, count-le, map-back}
 use Rattle.records.proofs.Memory.{getD-fill}
 use Rattle.literals.specs.declared.Label.the-variants.{Key as keyed, Counted}
 use Rattle.literals.specs.Decode.{relationRecord, actionRecord, literalRecord, componentRecord, byte, labelOf, componentOf, literalOf, actionOf, withLiteral, latest, fieldStop, stopOf, extend, noDomain, maxRelations, maxArguments, maxActions, maxVariables, maxLiterals, maxComponents}
-use Rattle.literals.specs.Domain.{key, Literal, Action, Component, isCounted, keysOf, Domain, noAction, action}
-use Rattle.literals.specs.Table.{rowOf, labelNumber, componentRow, allLiterals}
+use Rattle.literals.specs.Domain.{key, Literal, Action, Component, isCounted, keysOf, Domain, noAction, action, bare}
+use Rattle.literals.specs.Table.{rowOf, labelNumber, componentRow, allLiterals, Bounded}
 use Rattle.literals.specs.Held.{within, relationsIn, actionsIn, componentsIn, keysIn, arityIn, bytesFrom, partIn, partsFrom, partsIn, variablesIn, lastingIn, sizeIn, firstIn, atArities, atParts, atVariables, atSorts, atSizes, atLows, atHighs, headBytes, HeadOf, Filled}
 use Rattle.literals.proofs.Rows.{length-row}
 use Rattle.literals.proofs.Stops.{passes, relation-passes, action-passes, component-passes}
@@ -552,6 +552,60 @@ module _ {D : Domain} {head : List ℕ} (F : Filled D head) (p : List ℕ) (n ke
 
   pub fills-component : {t : List ℕ} → t ≡ with-row → Filled (extend D componentRecord p) (put component-bytes t)
   fills-component g = subst (λ (t : List ℕ). Filled (extend D componentRecord p) (put component-bytes t)) (sym g) filled-component
+
+-- ---- no component
+
+bounded-bare : {D : Domain} → Bounded D → Bounded (bare D)
+bounded-bare B =
+    record {
+      relations = B .relations;
+      arities = B .arities;
+      actions = B .actions;
+      counts = B .counts;
+      sizes = B .sizes;
+      arguments = B .arguments;
+      variables = B .variables;
+      below = B .below;
+      roles = B .roles;
+      components = omega arith;
+      labels = λ c m. absurd (List·Memᴰ·not-nil m);
+      literalArity = B .literalArity;
+      componentArity = λ c m. absurd (List·Memᴰ·not-nil m);
+      keysFit = λ c m. absurd (List·Memᴰ·not-nil m);
+      componentsOnce = refl;
+    }
+
+module _ {D : Domain} {head : List ℕ} (F : Filled D head) where
+  abbrev bare-bytes : List (ℕ × ℕ)
+  bare-bytes = (3, 0) ∷ (2, 0) ∷ []
+
+  abbrev without-template : List ℕ
+  without-template = put bare-bytes head
+
+  pub fills-bare : Filled (bare D) without-template
+  unfolding relationsIn actionsIn componentsIn keysIn partsIn variablesIn lastingIn sizeIn firstIn action
+  fills-bare =
+      let H = F .says in
+      let kept : (j : ℕ) → (j ≡ 2 → ⊥) → (j ≡ 3 → ⊥) → getD without-template j 0 ≡ getD head j 0 = λ j a b. other bare-bytes head j (b, (a, tt)) in
+      let high : (j : ℕ) → atArities ≤ j → getD without-template j 0 ≡ getD head j 0 = λ j h. kept j (λ z. omega arith) (λ z. omega arith) in
+      let none : getD without-template 2 0 ≡ 0 = hit bare-bytes head (F .room) 2 0 (omega arith) (inr (λ z. omega arith, inl (refl, refl))) in
+      record {
+        says =
+            record {
+              bounded = bounded-bare (H .bounded);
+              relations = ap (within maxRelations) (kept 0 (λ z. omega arith) (λ z. omega arith)) ∙ H .relations;
+              actions = ap (within maxActions) (kept 1 (λ z. omega arith) (λ z. omega arith)) ∙ H .actions;
+              keys = ap (within maxArguments) (hit bare-bytes head (F .room) 3 0 (omega arith) (inl (refl, refl)));
+              arities = λ r. arity-kept head without-template r (λ h. high (atArities + r) (omega arith)) ∙ H .arities r;
+              components = ap (within maxComponents) none;
+              parts = ap (λ (k : ℕ). partsFrom without-template 0 (within maxComponents k)) none;
+              variables = λ i h. ap (within maxVariables) (high (atVariables + i) (omega arith)) ∙ H .variables i h;
+              lasting = λ i h. ap (λ (b : ℕ). eqb b 1) (high (atSorts + i) (omega arith)) ∙ H .lasting i h;
+              sizes = λ i h. ap (within maxLiterals) (high (atSizes + i) (omega arith)) ∙ H .sizes i h;
+              firsts = λ i h. ap₂ (λ (l u : ℕ). l + 256 * u) (high (atLows + i) (omega arith)) (high (atHighs + i) (omega arith)) ∙ H .firsts i h;
+            };
+        room = whole bare-bytes head (F .room);
+      }
 
 -- ---- no record at all
 

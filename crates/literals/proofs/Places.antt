@@ -45,7 +45,8 @@ pub record OwnPlaces (head : List ℕ) (c : ℕ) (places₀ places : List ℕ) (
 pub own-none : (head : List ℕ) (c : ℕ) (places : List ℕ) → OwnPlaces head c places places 0
 own-none head c places = record { room = refl; own = λ i h. absurd (omega arith); earlier = λ i h. refl }
 
-pub own-more : (head : List ℕ) (c : ℕ) (places₀ places : List ℕ) (k place : ℕ) → 8 * c + k < length places → place ≡ placeUnder (key k) (partIn head c)
+pub own-more : (head : List ℕ) (c : ℕ) (places₀ places : List ℕ) (k place : ℕ) → 8 * c + k < length places
+    → place ≡ placeUnder (key k) (partIn head c)
     → OwnPlaces head c places₀ places k → OwnPlaces head c places₀ (set places (8 * c + k) place) (k + 1)
 own-more head c places₀ places k place g e w =
     record {
@@ -54,7 +55,8 @@ own-more head c places₀ places k place g e w =
       earlier = λ i h. getD-set-other places (8 * c + k) i place 0 (λ f. absurd (omega arith)) ∙ w .earlier i h;
     }
   where
-    go : (i : ℕ) → i < k + 1 → (eqb i k ≡ true) ⊎ (eqb i k ≡ false) → getD (set places (8 * c + k) place) (8 * c + i) 0 ≡ placeUnder (key i) (partIn head c)
+    go : (i : ℕ) → i < k + 1 → (eqb i k ≡ true) ⊎ (eqb i k ≡ false)
+        → getD (set places (8 * c + k) place) (8 * c + i) 0 ≡ placeUnder (key i) (partIn head c)
     go i h (inl t) = rw (eqb-true i k t) (getD-set-same places (8 * c + k) place 0 g ∙ e)
     go i h (inr f) =
         let n = eqb-false i k f in
@@ -74,4 +76,5 @@ places-more head places₀ places n w own earlier c k h g = go (bool-cases (eqb 
   where
     go : (eqb c n ≡ true) ⊎ (eqb c n ≡ false) → getD places (8 * c + k) 0 ≡ placeUnder (key k) (partIn head c)
     go (inl t) = rw (eqb-true c n t) (own k g)
-    go (inr f) = let q = eqb-false c n f in let l : c < n = omega arith in let few = keys-few head in earlier (8 * c + k) (omega arith) ∙ w c k l g
+    go (inr f) = let q = eqb-false c n f in let l : c < n = omega arith in let few = keys-few head in
+        earlier (8 * c + k) (omega arith) ∙ w c k l g

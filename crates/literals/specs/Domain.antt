@@ -217,3 +217,7 @@ noAction = record { vars = 0; lasting = false; lits = [] }
 -- the action of a number
 unfoldable pub action : Domain → ℕ → Action
 action D i = getD (D .actions) i noAction
+
+-- the domain without its template, as before the first component is read
+abbrev pub bare : Domain → Domain
+bare D = record { arities = D .arities; actions = D .actions; template = [] }

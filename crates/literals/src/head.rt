@@ -17,12 +17,12 @@ ghost use Prim.Native.Nat.{ℕ, _+_, _*_, _<_, _≤_};
 ghost use lib.Dec.{eqb};
 ghost use lib.ListN.{length, getD};
 ghost use Rattle.records.specs.Lists.{any};
-ghost use Rattle.literals.specs.Domain.{Domain, keysOf};
+ghost use Rattle.literals.specs.Domain.{Domain, keysOf, bare};
 ghost use Rattle.literals.specs.Decode.{maxRelations, maxActions, maxVariables, maxArguments, maxLiterals, maxComponents};
 ghost use Rattle.literals.specs.Decode.{relationRecord, actionRecord, literalRecord, componentRecord, componentOf, byte};
 ghost use Rattle.literals.specs.Table.{allLiterals};
 ghost use Rattle.literals.specs.Held.{within, relationsIn, actionsIn, componentsIn, keysIn, arityIn, partIn, partsIn, variablesIn};
-ghost use Rattle.literals.specs.Held.{lastingIn, sizeIn, firstIn, Held, SpanFits, SpanOf, HeadOf, headBytes, Adds};
+ghost use Rattle.literals.specs.Held.{lastingIn, sizeIn, firstIn, Held, SpanFits, SpanOf, HeadOf, headBytes, Filled, Adds};
 
 pub const HEAD: usize = HIGHS + MAX_ACTIONS;
 
@@ -254,4 +254,12 @@ pub fn add_component(head: &mut Head, p: &[u8])
     put_row(head, PARTS + 8 * n, p);
     head[COMPONENTS] = n as u8 + 1;
     head[KEYS] = keys as u8;
+}
+
+// The head of the domain without its template: as before the first component.
+pub fn clear_template(head: &mut Head)
+    ensures { λ _. ⌜ ((D : Domain) → Filled D (now (head .entry)) → Filled (bare D) (now (head .exit))) ⌝ }
+{
+    head[COMPONENTS] = 0;
+    head[KEYS] = 0;
 }

@@ -117,7 +117,7 @@ module _ (s : List ℕ) (p : Progress) {old : List ℕ} {q : Reading} {head t : 
       let a = S .at in
       let l : length s ≤ q .at = omega arith in
       let e : readStep s q ≡ finish (domain (q .sofar)) = simp (closed-is c, le-ltb (q .at) (length s) l) in
-      rw e (refl, held-over (S .holds), S .holds .rows)
+      rw e (refl, held-over (S .holds), S .holds .rows, S .holds .filled .room)
 
   pub step-cut : p .closed ≡ false → recordAt s (p .at) ≡ Cut → LeadsTo old q (readStep s q) (record { number = 10; place = p .at; progress = p }) head t
   unfolding readFound
@@ -333,5 +333,5 @@ module _ (s old : List ℕ) (p : Progress) (head t : List ℕ) (i : Loop s old p
           (a, after (refused x) e (h .3))
       go (finish (domain D)) e h =
           let b : eqb (o .number) 1 ≡ true = eq-eqb (o .number) 1 (h .0) in
-          let a : ReadAs (decode s) r head′ t′ = rw (finishes (domain D) e, d, b) (refl, h .1) in
+          let a : ReadAs (decode s) r head′ t′ = rw (finishes (domain D) e, d, b) (refl, h .1, h .3) in
           (a, after (domain D) e (h .2))

@@ -13,7 +13,7 @@ use Rattle.reading.specs.declared.read.Stepped.{Stepped}
 use Rattle.literals.specs.Domain.{Domain}
 use Rattle.literals.specs.Decode.{maxFile, maxActions, maxLiterals, latest, RecordKind, stopOf, extend, Decoded, refused, domain, Reading, ReadTurn, goOn, finish, readFile}
 use Rattle.literals.specs.Table.{allLiterals, tableBytes}
-use Rattle.literals.specs.Held.{Filled, Held}
+use Rattle.literals.specs.Held.{Filled, Held, headBytes}
 
 -- ---- what one record leads to
 
@@ -57,7 +57,7 @@ pub record Standing (old : List ℕ) (q : Reading) (p : Progress) (head table : 
 abbrev pub LeadsTo : List ℕ → Reading → ReadTurn → Stepped → List ℕ → List ℕ → Type 0
 LeadsTo old p (goOn q) r head table = (r .number ≡ 0) × Standing old q (r .progress) head table
 LeadsTo old p (finish (refused x)) r head table = (r .number ≡ x .number) × (r .place ≡ x .place) × (r .progress .at ≡ x .start) × (table ≡ over (tableBytes (p .sofar)) old)
-LeadsTo old p (finish (domain D)) r head table = (r .number ≡ 1) × Held D head table × (table ≡ over (tableBytes (p .sofar)) old)
+LeadsTo old p (finish (domain D)) r head table = (r .number ≡ 1) × Held D head table × (table ≡ over (tableBytes (p .sofar)) old) × (length head ≡ headBytes)
 
 -- a table that is enough for a file: for all literals that all actions can have, or by the file, of which a literal takes at least 6 bytes, and 8 of the table
 abbrev pub EnoughTable : List ℕ → List ℕ → Type 0
@@ -88,4 +88,4 @@ tableAfter f table = over (tableBytes (readFile f .read)) table
 -- 9 to 27 as the definition has it, or the domain
 abbrev pub ReadAs : Decoded → FileRefusal → List ℕ → List ℕ → Type 0
 ReadAs (refused x) r head table = (r .number ≡ x .number) × (r .place ≡ x .place) × (r .start ≡ x .start) × (r .number ≡ 0 → ⊥)
-ReadAs (domain D) r head table = (r .number ≡ 0) × Held D head table
+ReadAs (domain D) r head table = (r .number ≡ 0) × Held D head table × (length head ≡ headBytes)

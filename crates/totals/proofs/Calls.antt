@@ -19,7 +19,7 @@ use Rattle.totals.specs.declared.Opening.the-variants.{Whole, Cut}
 use Rattle.totals.specs.Totals.{Opened, cutAt, files, opened, allRows, filesWith, momentsWith, totals, totalBytes, totalled, totalsAfter}
 use Rattle.totals.specs.Claims.{sum, totalIn, CountsFiles, AddsUp}
 use Rattle.totals.specs.Counted.{openingOf, filesOf, filesIn}
-use Rattle.totals.proofs.Known.{file-range, name-range}
+use Rattle.verdict.proofs.Known.{file-range, name-range}
 use Rattle.totals.proofs.Sums.{sum-counts}
 use Rattle.totals.proofs.Counts.{total-of-number, total-of-name}
 use Rattle.totals.proofs.Apart.{total-read}

@@ -14,7 +14,7 @@ use Rattle.classes.specs.Classes.{nameNumber}
 use Rattle.verdict.specs.Decision.{Row}
 use Rattle.verdict.specs.Judged.{decidedFile}
 use Rattle.literals.specs.Keys.{numbersFrom}
-use Rattle.totals.proofs.Known.{Known, known-file, file-range, name-range}
+use Rattle.verdict.proofs.Known.{Known, known-file, file-range, name-range}
 use Rattle.totals.specs.Totals.{rowsOfFile, allRows, filesWith, momentsWith, totals}
 use Rattle.totals.specs.Claims.{sum, TotalOfNumber, TotalOfName, NumbersAddUp, NamesAddUp, RoomNeverCounted, TotalsJoined}
 use Rattle.totals.proofs.Sums.{numbers-at, numbers-length, sum-counts, added-append, added-map}

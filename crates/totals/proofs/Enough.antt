@@ -13,7 +13,7 @@ use Rattle.literals.specs.Domain.{Domain}
 use Rattle.literals.specs.Decode.{Decoded, refused, domain, decode}
 use Rattle.verdict.specs.Decision.{rows, witness}
 use Rattle.verdict.specs.Judged.{rowBytes, Answer, answerAt, decided, decidedBy, decidedFile, writesWitness, judgedDomain, judgedBy, judged, fillsReport, reportBy, reportAfter}
-use Rattle.totals.proofs.Known.{decided-range}
+use Rattle.verdict.proofs.Known.{decided-range}
 use Rattle.totals.specs.Totals.{rowsBy, rowsOfFile}
 use Rattle.totals.specs.Claims.{JudgedEnough}
 

@@ -19,7 +19,7 @@ use Rattle.verdict.specs.Judged.{rowBytes, Answer, decidedFile, judged, reportA
 use Rattle.verdict.specs.Coded.{judgementOf}
 use Rattle.totals.specs.Totals.{long, wholeFile, firstFile, Opened, cutAt, files, opened, rowsOfFile, totals}
 use Rattle.totals.specs.Counted.{filesOf, filesIn, oneMore, tally, nameMark, marksOf, namesIn, Room}
-use Rattle.totals.proofs.Known.{file-range, name-range}
+use Rattle.verdict.proofs.Known.{file-range, name-range}
 use Rattle.totals.proofs.Enough.{judged-enough}
 use Rattle.totals.proofs.Bounds.{rows-few, rows-most, witness-most}
 use Rattle.totals.proofs.Answers.{totals-length}

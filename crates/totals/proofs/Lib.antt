@@ -1,5 +1,4 @@
 -- The claims proved, and laws for the code.
-pub mod Known
 pub mod Joining
 pub mod Sums
 pub mod Counts

@@ -11,7 +11,7 @@ use Rattle.classes.specs.Classes.{nameNumber}
 use Rattle.verdict.specs.Decision.{Row}
 use Rattle.verdict.specs.Judged.{rowBytes}
 use Rattle.totals.specs.Counted.{namesIn}
-use Rattle.totals.proofs.Known.{name-range}
+use Rattle.verdict.proofs.Known.{name-range}
 
 -- ---- the first row
 

@@ -16,7 +16,7 @@ use Rattle.verdict.specs.Decision.{Row}
 use Rattle.verdict.specs.Judged.{decidedFile}
 use Rattle.totals.specs.Totals.{opened, files, rowsOfFile, allRows, filesWith, momentsWith, totals}
 use Rattle.totals.specs.Counted.{oneMore, tally, nameMark, marksOf, Room}
-use Rattle.totals.proofs.Known.{file-range, name-range}
+use Rattle.verdict.proofs.Known.{file-range, name-range}
 use Rattle.totals.proofs.Counts.{total-of-number, total-of-name}
 use Rattle.totals.proofs.Answers.{totals-length}
 use Rattle.totals.proofs.Apart.{added-at}

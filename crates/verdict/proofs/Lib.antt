@@ -19,6 +19,7 @@ pub mod Instances
 pub mod Exact
 pub mod Open
 pub mod Rows
+pub mod Known
 pub mod Noted
 pub mod Summed
 pub mod Safety

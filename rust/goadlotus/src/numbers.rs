@@ -72,7 +72,7 @@ numbers! {
     23 NoComponent BrokenDomain "no component"
     24 KeyTwice BrokenDomain "a key twice in a component"
     25 CountedTwice BrokenDomain "FF twice in a component"
-    30 ReportTooSmall TooLittleMemory "report or totals memory too small"
+    30 ReportTooSmall TooLittleMemory "report memory too small, or that of a service"
     31 WitnessTooSmall TooLittleMemory "witness memory too small"
     33 BoxCut BrokenBox "box cut inside a length or a file"
     40 RefusedHeavy Refused "refused: heavy"

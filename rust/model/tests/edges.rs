@@ -148,6 +148,7 @@ fn every_edge() {
         let outcome = std::panic::catch_unwind(|| match kind {
             "judge" => judge_line(&fields),
             "play" => play_line(&fields),
+            "templates" => service_line(&fields, model::templates),
             "totals" => service_line(&fields, model::totals),
             _ => panic!("no such kind: {kind:?}"),
         });

@@ -8,7 +8,8 @@ use Rattle.naming.proofs.name_action.Statement.{statement}
 use Rattle.naming.proofs.name_action.Tie as tie
 
 number-classes-requires : tie.Need-number-classes-requires
-number-classes-requires c κs = let p = c .before .before .before .before .before .before .pre in (p .0, (p .1 .0, p .1 .1 .0, p .1 .1 .1 .0))
+number-classes-requires c κs = let p = c .before .before .before .before .before .before .pre in
+    (p .0, (p .1 .0, p .1 .1 .0, p .1 .1 .1 .0))
 
 new-requires : tie.Need-new-requires
 new-requires c κs = search needs

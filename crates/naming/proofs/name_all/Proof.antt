@@ -86,7 +86,8 @@ is-lasting-requires c κs = search needs
 
 name-action-requires : tie.Need-name-action-requires Inv-loop μ-loop
 name-action-requires c κs =
-    let H = c .before .before .before .before .before .before .before .before .before .before .before .before .before .before .before .before .before .pre .0 .1 in
+    let H = c .before .before .before .before .before .before .before .before .before .before .before .before .before .before .before
+    .before .before .pre .0 .1 in
     let b = c .before .before .before .before .before .before .rows-of in
     let F = b .ensures .0 in
     let l = c .before .before .before .before .before .before .before .before .loop in
@@ -94,27 +95,38 @@ name-action-requires c κs =
     let m = H .says .actions in
     let o = F .order in
     let f = F .few in
-    let h : l .i < length (c .before .before .before .before .before .before .before .before .before .before .before .before .before .before .before .before .before .pre .0 .0 .actions) = omega arith in
-    let r : length (c .before .before .before .before .before .before .before .before .before .before .before .before .before .before .before .before .before .args .table .now) ≤ 4 * length (l .names) = (let q = l .inv .room in let u = c .before .before .before .before .before .before .before .before .before .before .before .before .before .before .before .before .before .pre .1 .1 in omega arith) in
+    let h : l .i < length (c .before .before .before .before .before .before .before .before .before .before .before .before .before .before
+    .before .before .before .pre .0 .0 .actions) = omega arith in
+    let r : length (c .before .before .before .before .before .before .before .before .before .before .before .before .before .before
+    .before .before .before .args .table .now) ≤ 4 * length (l .names) =
+    (let q = l .inv .room in let u = c .before .before .before .before .before .before .before .before .before .before .before .before
+    .before .before .before .before .before .pre .1 .1 in omega arith) in
     let q = c .before .before .before .name-action-arg2 .given .1 in
-    let e = part-length (c .before .before .before .before .before .before .before .before .before .before .before .before .before .before .before .before .before .args .table .now) (b .result .from) (b .result .to) o (F .room) in
-    let s = names-room H (l .i) h (b .ensures .1 _ H h) F _ (l .inv .few _ H) _ r in
-    (c .before .before .before .before .before .before .before .before .before .before .before .before .put-places .ensures, (e ∙ ap (λ (n : ℕ). 8 * n) q, (omega arith, (l .inv .words-room, omega arith))))
+    let e = part-length (c .before .before .before .before .before .before .before .before .before .before .before .before .before .before
+    .before .before .before .args .table .now) (b .result .from) (b .result .to) o (F .room) in
+    let s = names-room H (l .i) h (b .ensures .1 _ H h) F _ (l .inv .few _ H) _ r in (
+      c .before .before .before .before .before .before .before .before .before .before .before .before .put-places .ensures,
+      (e ∙ ap (λ (n : ℕ). 8 * n) q, (omega arith, (l .inv .words-room, omega arith))),
+    )
 
 cast-counts : tie.Need-cast-counts Inv-loop μ-loop
 cast-counts c =
     let q = c .before .before .before .before .before .before .before .before .before .before .name-action-arg2 .given .1 in
     let k = c .before .before .before .before .before .before .name-action .ensures .1 .0 in
-    let f = c .before .before .before .before .before .before .before .before .before .before .before .before .before .rows-of .ensures .0 .few in
+    let f = c .before .before .before .before .before .before .before .before .before .before .before .before .before .rows-of .ensures .0
+    .few in
     omega arith
 
 element-write-counts : tie.Need-element-write-counts Inv-loop μ-loop
 element-write-counts c =
-    let H = c .before .before .before .before .before .before .before .before .before .before .before .before .before .before .before .before .before .before .before .before .before .before .before .before .pre .0 .1 in
-    let n = c .before .before .before .before .before .before .before .before .before .before .before .before .before .before .before .before .actions-in .ensures in
+    let H = c .before .before .before .before .before .before .before .before .before .before .before .before .before .before .before
+    .before .before .before .before .before .before .before .before .before .pre .0 .1 in
+    let n = c .before .before .before .before .before .before .before .before .before .before .before .before .before .before .before
+    .before .actions-in .ensures in
     let m = H .says .actions in
     let f = H .says .bounded .actions in
-    let t = c .before .before .before .before .before .before .before .before .before .before .before .before .before .before .loop-test .taken in
+    let t = c .before .before .before .before .before .before .before .before .before .before .before .before .before .before .loop-test
+    .taken in
     omega arith
 
 with-requires : tie.Need-with-requires Inv-loop μ-loop
@@ -122,11 +134,14 @@ with-requires c κs = search needs
 
 add-i : tie.Need-add-i Inv-loop μ-loop
 add-i c =
-    let H = c .before .before .before .before .before .before .before .before .before .before .before .before .before .before .before .before .before .before .before .before .before .before .before .before .before .before .pre .0 .1 in
-    let n = c .before .before .before .before .before .before .before .before .before .before .before .before .before .before .before .before .before .before .actions-in .ensures in
+    let H = c .before .before .before .before .before .before .before .before .before .before .before .before .before .before .before
+    .before .before .before .before .before .before .before .before .before .before .before .pre .0 .1 in
+    let n = c .before .before .before .before .before .before .before .before .before .before .before .before .before .before .before
+    .before .before .before .actions-in .ensures in
     let m = H .says .actions in
     let f = H .says .bounded .actions in
-    let t = c .before .before .before .before .before .before .before .before .before .before .before .before .before .before .before .before .loop-test .taken in
+    let t = c .before .before .before .before .before .before .before .before .before .before .before .before .before .before .before
+    .before .loop-test .taken in
     omega arith
 
 loop-less : tie.Need-loop-less Inv-loop μ-loop
@@ -134,11 +149,15 @@ loop-less c = search needs
 
 loop-again : tie.Need-loop-again Inv-loop μ-loop
 loop-again c =
-    let b = c .before .before .before .before .before .before .before .before .before .before .before .before .before .before .before .rows-of in
+    let b = c .before .before .before .before .before .before .before .before .before .before .before .before .before .before .before
+    .rows-of in
     let F = b .ensures .0 in
-    let l = c .before .before .before .before .before .before .before .before .before .before .before .before .before .before .before .before .before .loop in
-    let n = c .before .before .before .before .before .before .before .before .before .before .before .before .before .before .before .before .before .before .actions-in .ensures in
-    let t = c .before .before .before .before .before .before .before .before .before .before .before .before .before .before .before .before .loop-test .taken in
+    let l = c .before .before .before .before .before .before .before .before .before .before .before .before .before .before .before
+    .before .before .loop in
+    let n = c .before .before .before .before .before .before .before .before .before .before .before .before .before .before .before
+    .before .before .before .actions-in .ensures in
+    let t = c .before .before .before .before .before .before .before .before .before .before .before .before .before .before .before
+    .before .loop-test .taken in
     let w = c .before .before .before .before .before .before .before .before .name-action in
     record {
       reach = omega arith;
@@ -150,7 +169,8 @@ loop-again c =
           let h : l .i < length (D .actions) = omega arith in
           let S = b .ensures .1 D H h in
           let A = action-held H wf (l .i) h (S .literals) in
-          ap (λ (t : List ℕ). take (b .result .from) (l .numbers) ++ (w .last .1 .1 .1 .0 ++ t)) (post-is (b .result .from) (b .result .to) (l .numbers) (F .order))
+          ap (λ (t : List ℕ). take (b .result .from) (l .numbers) ++ (w .last .1 .1 .1 .0 ++ t))
+          (post-is (b .result .from) (b .result .to) (l .numbers) (F .order))
           ∙ numbers-more-actions D (l .i) h S (l .numbers) _ _ (l .inv .numbered D H wf) (w .ensures .1 .1 .0 D (action D (l .i)) A);
       room = w .kept .1 .1 .1 .1 .1 .1 .1 .0 ∙ l .inv .room;
       few =

@@ -25,7 +25,8 @@ returns c =
       λ D a M h. c .before .before .before .name-at .ensures D a Start M h (asked-at-start M (s .args .class) (s .pre .1 .0)),
       λ D a M N h r t l. (
         c .before .name-at2 .ensures D a End N h r,
-        c .is-journey .ensures D a _ M l (s .pre .1 .1 t ∙ ap₂ (λ (o d : List ℕ). soleOf o d (s .args .class)) (N .numbers-are) (N .clauses-are)) h,
+        c .is-journey .ensures D a _ M l (s .pre .1 .1 t
+            ∙ ap₂ (λ (o d : List ℕ). soleOf o d (s .args .class)) (N .numbers-are) (N .clauses-are)) h,
       ),
     )
 

@@ -21,7 +21,9 @@ add-if1 c = search needs
 returns : tie.Need-returns
 returns c D a A f v R =
     let k = c .before .count-conditions in
-    open-short (given (c .before .before .before .before .before .before .before .before .args .m) A (c .before .before .before .before .before .before .before .before .pre .1) (c .before .before .before .clauses-at .ensures)) R (k .result) (k .ensures .0) (c .before .before .before .before .before .before .before .before .args .out .now) refl (omega arith)
+    open-short (given (c .before .before .before .before .before .before .before .before .args .m) A
+    (c .before .before .before .before .before .before .before .before .pre .1) (c .before .before .before .clauses-at .ensures .1)) R
+    (k .result) (k .ensures .0) (c .before .before .before .before .before .before .before .before .args .out .now) refl (omega arith)
 
 cast-open-component : tie.Need-cast-open-component
 cast-open-component c = search needs
@@ -35,7 +37,9 @@ components-in-requires c κs = search needs
 returns-2 : tie.Need-returns-2
 returns-2 c D a A f v R =
     let k = c .before .before .before .before .count-conditions in
-    let G = given (c .before .before .before .before .before .before .before .before .before .before .before .args .m) A (c .before .before .before .before .before .before .before .before .before .before .before .pre .1) (c .before .before .before .before .before .before .clauses-at .ensures) in
+    let G = given (c .before .before .before .before .before .before .before .before .before .before .before .args .m) A
+    (c .before .before .before .before .before .before .before .before .before .before .before .pre .1)
+    (c .before .before .before .before .before .before .clauses-at .ensures .1) in
     let o = c .before .before .open-component .ensures D a A f (R .listed) in
     let l = open-inside G R (k .result) (k .ensures .0) (c .before .before .before .before .before .before .before .before .before .before .before .args .out .now) refl in
     let n = A .says .components in
@@ -70,7 +74,12 @@ returns-3 c D a A f v R =
     let t = c .before .before .before .before .before .before .before .before .before .before .class-tuple in
     let w = c .before .before .before .before .before .before .before .put-conditions in
     let p = c .before .before .put-instance in
-    let G = given (c .before .before .before .before .before .before .before .before .before .before .before .before .before .before .before .before .before .before .before .before .before .before .args .m) A (c .before .before .before .before .before .before .before .before .before .before .before .before .before .before .before .before .before .before .before .before .before .before .pre .1) (c .before .before .before .before .before .before .before .before .before .before .before .before .before .before .before .before .before .clauses-at .ensures) in
+    let G = given (c .before .before .before .before .before .before .before .before .before .before .before .before .before .before .before
+    .before .before .before .before .before .before .before .args .m) A
+    (c .before .before .before .before .before .before .before .before .before .before .before .before .before .before .before .before
+    .before .before .before .before .before .before .pre .1)
+    (c .before .before .before .before .before .before .before .before .before .before .before .before .before .before .before .before
+    .before .clauses-at .ensures .1) in
     let g = c .before .before .before .before .before .before .before .before .before .before .before .before .before .before .if1 .left in
     open-shown G R (k .result) (k .ensures .0) (c .before .before .before .before .before .before .before .before .before .before .before .before .before .before .before .before .before .before .before .before .before .before .args .out .now) refl (omega arith) (t .result) (c .before .before .before .before .before .before .before .before .before .before .before .before .before .before .before .before .before .before .before .before .before .before .args .spare .0) (o .result) (t .ensures D a A f (R .listed)) (o .ensures D a A f (R .listed)) v (w .last .0) (p .last .0) (w .ensures) (p .ensures)
 

@@ -18,7 +18,8 @@ returns : tie.Need-returns
 returns c D a j number A R t =
     let s = c .before .before .before .before .before .before .before in
     let k = c .before .count-conditions in
-    plain-short (given (s .args .m) A (s .pre .1) (c .before .before .before .clauses-at .ensures)) R (k .result) (k .ensures .0) (s .args .out .now) t (omega arith)
+    plain-short (given (s .args .m) A (s .pre .1) (c .before .before .before .clauses-at .ensures .1)) R (k .result) (k .ensures .0)
+    (s .args .out .now) t (omega arith)
 
 put-conditions-requires : tie.Need-put-conditions-requires
 put-conditions-requires c κs = search needs
@@ -31,7 +32,8 @@ returns-2 c D a j number A R t =
     let s = c .before .before .before .before .before .before .before .before .before .before .before .before in
     let k = c .before .before .before .before .before .before .count-conditions in
     let w = c .before .before .put-conditions in
-    plain-shown (given (s .args .m) A (s .pre .1) (c .before .before .before .before .before .before .before .before .clauses-at .ensures)) R (k .result) (k .ensures .0) (s .args .out .now) t (omega arith) (w .last .0) (w .ensures)
+    plain-shown (given (s .args .m) A (s .pre .1) (c .before .before .before .before .before .before .before .before .clauses-at .ensures
+    .1)) R (k .result) (k .ensures .0) (s .args .out .now) t (omega arith) (w .last .0) (w .ensures)
 
 pub put-plain-spec : {M : Type 1} → statement M
 put-plain-spec =

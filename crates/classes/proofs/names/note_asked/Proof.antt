@@ -22,7 +22,9 @@ same-length c = search needs
 returns-2 : tie.Need-returns-2
 returns-2 c s k h g =
     let a = c .before .before .before .before .before .before .before .before .args in
-    noted-asked (said (a .rows .now) (a .j)) s (a .class) k (a .j) _ (sym (c .before .before .before .before .before .earlier-same .ensures) ∙ c .before .before .before .before .if1 .left) (c .before .before .note .ensures s k h g)
+    noted-asked (said (a .rows .now) (a .j)) s (a .class) k (a .j) _
+    (sym (c .before .before .before .before .before .earlier-same .ensures) ∙ c .before .before .before .before .if1 .left)
+    (c .before .before .note .ensures s k h g)
 
 pub note-asked-spec : {M : Type 1} → statement M
 note-asked-spec =

@@ -24,13 +24,15 @@ clause-at-requires c κs = search needs
 
 returns : tie.Need-returns
 unfolding saysAt
-returns c = ap (λ (n : ℕ). eqb n (c .before .before .before .before .before .args .clause)) (c .clause-at .ensures) ∙ by-second _ _ _ (sym (c .before .before .before .rows-agree .ensures) ∙ c .before .before .if1 .taken)
+returns c = ap (λ (n : ℕ). eqb n (c .before .before .before .before .before .args .clause)) (c .clause-at .ensures)
+    ∙ by-second _ _ _ (sym (c .before .before .before .rows-agree .ensures) ∙ c .before .before .if1 .taken)
 
 returns-2 : tie.Need-returns-2
 unfolding saysAt
 returns-2 c =
     let a = c .before .before .before .args in
-    by-second (eqb (clauseByte (a .wide) (a .m) (getD (a .rows .now) (8 * a .i) 0)) (a .clause)) _ false (sym (c .before .rows-agree .ensures) ∙ c .if1 .left)
+    by-second (eqb (clauseByte (a .wide) (a .m) (getD (a .rows .now) (8 * a .i) 0)) (a .clause)) _ false
+    (sym (c .before .rows-agree .ensures) ∙ c .if1 .left)
 
 pub says-spec : {M : Type 1} → statement M
 says-spec =

@@ -9,7 +9,8 @@ use borrow.Author.Needs.{needs}
 use Rattle.classes.proofs.names.section_of.Statement.{statement}
 use Rattle.classes.proofs.names.section_of.Tie as tie
 
-by-time : (r : Role) (role : ℕ) (t : Time) → r ≡ roleOf role → r .time ≡ t → {n : ℕ} → n ≡ sectionBy t (r .clause) → n ≡ sectionOf (roleOf role)
+by-time : (r : Role) (role : ℕ) (t : Time) → r ≡ roleOf role → r .time ≡ t → {n : ℕ} → n ≡ sectionBy t (r .clause)
+    → n ≡ sectionOf (roleOf role)
 by-time r role t e f q = q ∙ ap (λ (u : Time). sectionBy u (r .clause)) (sym f) ∙ ap sectionOf e
 
 role-of-requires : tie.Need-role-of-requires
@@ -34,13 +35,19 @@ end-section-requires : tie.Need-end-section-requires
 end-section-requires c κs = search needs
 
 returns : tie.Need-returns
-returns c = by-time (c .before .before .before .role-of .result) (c .before .before .before .before .args .role) _ (c .before .before .before .role-of .ensures) (c .before .enum-told .given .1) (c .start-section .ensures)
+returns c = let r = c .before .before .before .role-of in
+    by-time (r .result) (c .before .before .before .before .args .role) _ (r .ensures) (c .before .enum-told .given .1)
+    (c .start-section .ensures)
 
 returns-2 : tie.Need-returns-2
-returns-2 c = by-time (c .before .before .before .role-of .result) (c .before .before .before .before .args .role) _ (c .before .before .before .role-of .ensures) (c .before .enum-told2 .given .1) (c .over-all-section .ensures)
+returns-2 c = let r = c .before .before .before .role-of in
+    by-time (r .result) (c .before .before .before .before .args .role) _ (r .ensures) (c .before .enum-told2 .given .1)
+    (c .over-all-section .ensures)
 
 returns-3 : tie.Need-returns-3
-returns-3 c = by-time (c .before .before .before .role-of .result) (c .before .before .before .before .args .role) _ (c .before .before .before .role-of .ensures) (c .before .enum-told3 .given .1) (c .end-section .ensures)
+returns-3 c = let r = c .before .before .before .role-of in
+    by-time (r .result) (c .before .before .before .before .args .role) _ (r .ensures) (c .before .enum-told3 .given .1)
+    (c .end-section .ensures)
 
 pub section-of-spec : {M : Type 1} → statement M
 section-of-spec =

@@ -14,13 +14,15 @@ use Rattle.classes.proofs.names.tally.Statement.{statement}
 use Rattle.classes.proofs.names.tally.Tie as tie
 
 abbrev Inv-loop : tie.InvT-loop
-Inv-loop rows numbers soles₀ j₀ j-end soles j = (j ≤ length numbers) × (length soles ≡ length soles₀) × (soles₀ ≡ pad 320 [] → Tallied rows numbers j soles)
+Inv-loop rows numbers soles₀ j₀ j-end soles j = (j ≤ length numbers) × (length soles ≡ length soles₀)
+    × (soles₀ ≡ pad 320 [] → Tallied rows numbers j soles)
 
 abbrev μ-loop : tie.MeasureT-loop
 μ-loop rows numbers soles₀ j₀ j-end soles j = length numbers - j
 
 loop-holds : tie.Need-loop-holds Inv-loop μ-loop
-loop-holds c = let a = c .before .before .before .args in (omega arith, refl, λ e. tallied-none (a .rows .now) (a .numbers .now) (a .soles .now) e)
+loop-holds c = let a = c .before .before .before .args in
+    (omega arith, refl, λ e. tallied-none (a .rows .now) (a .numbers .now) (a .soles .now) e)
 
 shared-slice-read-wide : tie.Need-shared-slice-read-wide Inv-loop μ-loop
 shared-slice-read-wide c = omega arith
@@ -53,14 +55,16 @@ loop-again c =
           tallied-more (a .rows .now) (a .numbers .now) (l .j) (l .soles) (t .last .1 .1 .1 .0) (omega arith) (l .inv .2 e)
           (λ s k p q.
           t .ensures s k p q
-          ∙ ap (λ (n : ℕ). soleMore (eqb n k && countsIn (a .rows .now) s (l .j)) (l .j) (getD (l .soles) (64 * s + k) 0)) (c .before .before .before .before .wide .ensures .0)),
+          ∙ ap (λ (n : ℕ). soleMore (eqb n k && countsIn (a .rows .now) s (l .j)) (l .j) (getD (l .soles) (64 * s + k) 0))
+          (c .before .before .before .before .wide .ensures .0)),
     )
 
 same-length : tie.Need-same-length Inv-loop μ-loop
 same-length c = c .before .loop .inv .1
 
 returns : tie.Need-returns Inv-loop μ-loop
-returns c e = let a = c .before .before .before .before .before .args in let l = c .before .loop in tallied-all (a .rows .now) (a .numbers .now) (l .j) (l .soles) (omega arith) (l .inv .2 e)
+returns c e = let a = c .before .before .before .before .before .args in let l = c .before .loop in
+    tallied-all (a .rows .now) (a .numbers .now) (l .j) (l .soles) (omega arith) (l .inv .2 e)
 
 pub tally-spec : {M : Type 1} → statement M
 tally-spec =

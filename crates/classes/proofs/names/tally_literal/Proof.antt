@@ -18,7 +18,10 @@ section-of-requires : tie.Need-section-of-requires
 section-of-requires c κs = search needs
 
 returns-2 : tie.Need-returns-2
-returns-2 c s k h g = tally-none (c .before .before .before .before .before .before .args .rows .now) (c .before .before .before .before .before .before .args .j) (c .before .section-of .result) (c .before .before .before .before .before .before .args .class) (c .before .section-of .ensures) s k _ h (c .if2 .taken)
+returns-2 c s k h g =
+    let a = c .before .before .before .before .before .before .args in
+    let o = c .before .section-of in
+    tally-none (a .rows .now) (a .j) (o .result) (a .class) (o .ensures) s k _ h (c .if2 .taken)
 
 note-asked-requires : tie.Need-note-asked-requires
 note-asked-requires c κs = search needs
@@ -27,7 +30,11 @@ same-length : tie.Need-same-length
 same-length c = search needs
 
 returns-3 : tie.Need-returns-3
-returns-3 c s k h g = tally-asked (c .before .before .before .before .before .before .before .before .before .before .before .args .rows .now) (c .before .before .before .before .before .before .before .before .before .before .before .args .j) (c .before .before .before .before .before .before .section-of .result) (c .before .before .before .before .before .before .before .before .before .before .before .args .class) (c .before .before .before .before .before .before .section-of .ensures) s k _ h (c .before .before .before .before .if3 .taken) (c .before .before .note-asked .ensures s k h g)
+returns-3 c s k h g =
+    let a = c .before .before .before .before .before .before .before .before .before .before .before .args in
+    let o = c .before .before .before .before .before .before .section-of in
+    tally-asked (a .rows .now) (a .j) (o .result) (a .class) (o .ensures) s k _ h (c .before .before .before .before .if3 .taken)
+    (c .before .before .note-asked .ensures s k h g)
 
 note-requires : tie.Need-note-requires
 note-requires c κs = search needs
@@ -36,7 +43,11 @@ same-length-2 : tie.Need-same-length-2
 same-length-2 c = search needs
 
 returns-4 : tie.Need-returns-4
-returns-4 c s k h g = tally-own (c .before .before .before .before .before .before .before .before .before .before .before .before .args .rows .now) (c .before .before .before .before .before .before .before .before .before .before .before .before .args .j) (c .before .before .before .before .before .before .before .section-of .result) (c .before .before .before .before .before .before .before .before .before .before .before .before .args .class) (c .before .before .before .before .before .before .before .section-of .ensures) s k _ h (c .before .before .before .before .before .if3 .left) (c .if4 .taken) (c .before .before .before .note .ensures s k h g)
+returns-4 c s k h g =
+    let a = c .before .before .before .before .before .before .before .before .before .before .before .before .args in
+    let o = c .before .before .before .before .before .before .before .section-of in
+    tally-own (a .rows .now) (a .j) (o .result) (a .class) (o .ensures) s k _ h (c .before .before .before .before .before .if3 .left)
+    (c .if4 .taken) (c .before .before .before .note .ensures s k h g)
 
 note-asked-requires-2 : tie.Need-note-asked-requires-2
 note-asked-requires-2 c κs = search needs
@@ -45,7 +56,12 @@ same-length-3 : tie.Need-same-length-3
 same-length-3 c = search needs
 
 returns-5 : tie.Need-returns-5
-returns-5 c s k h g = tally-both (c .before .before .before .before .before .before .before .before .before .before .before .before .before .before .before .before .args .rows .now) (c .before .before .before .before .before .before .before .before .before .before .before .before .before .before .before .before .args .j) (c .before .before .before .before .before .before .before .before .before .before .before .section-of .result) (c .before .before .before .before .before .before .before .before .before .before .before .before .before .before .before .before .args .class) (c .before .before .before .before .before .before .before .before .before .before .before .section-of .ensures) s k _ h (c .before .before .before .before .if4 .left) (c .before .before .before .before .before .before .before .note .ensures s k h g) (c .before .before .note-asked2 .ensures s k h g)
+returns-5 c s k h g =
+    let a = c .before .before .before .before .before .before .before .before .before .before .before .before .before .before .before
+    .before .args in
+    let o = c .before .before .before .before .before .before .before .before .before .before .before .section-of in
+    tally-both (a .rows .now) (a .j) (o .result) (a .class) (o .ensures) s k _ h (c .before .before .before .before .if4 .left)
+    (c .before .before .before .before .before .before .before .note .ensures s k h g) (c .before .before .note-asked2 .ensures s k h g)
 
 pub tally-literal-spec : {M : Type 1} → statement M
 tally-literal-spec =

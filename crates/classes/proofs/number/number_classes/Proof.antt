@@ -39,7 +39,9 @@ loop-again c =
     let a = c .before .before .before .before .before .before .before .before .before .args in
     let p = c .before .before .before .before .before .before .before .before .before .pre in
     let l = c .before .before .before .before .before .loop in
-    so-far-more (a .head .now) (a .rows .now) (a .numbers .now) (l .numbers) (a .words .now) (l .words) _ (l .count) (l .j) (c .before .before .number-literal .result) (c .before .before .number-literal .kept .1 .1 .1 .1 .0) (p .1 .0) (omega arith) (l .inv) (omega arith)
+    so-far-more (a .head .now) (a .rows .now) (a .numbers .now) (l .numbers) (a .words .now) (l .words) _ (l .count) (l .j)
+    (c .before .before .number-literal .result) (c .before .before .number-literal .kept .1 .1 .1 .1 .0) (p .1 .0) (omega arith)
+    (l .inv) (omega arith)
     (c .before .before .number-literal .ensures .0) (c .before .before .number-literal .ensures .1)
 
 same-length : tie.Need-same-length Inv-loop μ-loop
@@ -54,8 +56,11 @@ returns c =
     let p = c .before .before .before .before .before .pre in
     let l = c .before .loop in
     let w = l .inv .few in
-    let r = l .inv .reach in
-    (omega arith, so-far-all (a .head .now) (a .rows .now) (a .numbers .now) (l .numbers) (a .words .now) (l .words) (l .count) (l .j) (p .1 .0) (l .inv) (omega arith))
+    let r = l .inv .reach in (
+      omega arith,
+      so-far-all (a .head .now) (a .rows .now) (a .numbers .now) (l .numbers) (a .words .now) (l .words) (l .count) (l .j)
+          (p .1 .0) (l .inv) (omega arith),
+    )
 
 pub number-classes-spec : {M : Type 1} → statement M
 number-classes-spec =

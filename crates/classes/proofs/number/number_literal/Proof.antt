@@ -21,12 +21,15 @@ components-in-requires c κs = search needs
 returns : tie.Need-returns
 returns c =
     let a = c .before .before .before .before .before .before .args in
-    unmatched (a .head .now) (a .rows .now) (a .at) (c .before .before .component-of .result) (c .before .before .before .before .before .before .pre .1 .0) (c .before .before .component-of .ensures) (a .count) (a .words .now) (c .if1 .taken ∙ c .before .components-in .ensures .0)
+    unmatched (a .head .now) (a .rows .now) (a .at) (c .before .before .component-of .result)
+    (c .before .before .before .before .before .before .pre .1 .0) (c .before .before .component-of .ensures) (a .count) (a .words .now)
+    (c .if1 .taken ∙ c .before .components-in .ensures .0)
 
 key-word-requires : tie.Need-key-word-requires
 key-word-requires c κs =
     let a = c .before .before .before .before .before .before .args in
-    let h = component-le (a .head .now) (a .rows .now) (a .at) (c .before .before .component-of .result) (c .before .before .before .before .before .before .pre .1 .0) (c .before .before .component-of .ensures) in
+    let h = component-le (a .head .now) (a .rows .now) (a .at) (c .before .before .component-of .result)
+    (c .before .before .before .before .before .before .pre .1 .0) (c .before .before .component-of .ensures) in
     let n = c .before .components-in .ensures in
     let g = c .if1 .left in
     (c .before .before .before .before .before .before .pre .0, (omega arith, c .before .before .before .before .before .before .pre .1 .0))
@@ -52,13 +55,19 @@ same-length c = search needs
 returns-2 : tie.Need-returns-2
 returns-2 c =
     let a = c .before .before .before .before .before .before .before .before .before .before .args in
-    new-class (a .head .now) (a .rows .now) (a .at) (c .before .before .before .before .before .before .component-of .result) (c .before .before .before .before .before .before .before .before .before .before .pre .1 .0) (c .before .before .before .before .before .before .component-of .ensures) (λ e. c .before .before .before .before .if1 .left (e ∙ sym (c .before .before .before .before .before .components-in .ensures .0)))
+    new-class (a .head .now) (a .rows .now) (a .at) (c .before .before .before .before .before .before .component-of .result)
+    (c .before .before .before .before .before .before .before .before .before .before .pre .1 .0)
+    (c .before .before .before .before .before .before .component-of .ensures)
+    (λ e. c .before .before .before .before .if1 .left (e ∙ sym (c .before .before .before .before .before .components-in .ensures .0)))
     (c .before .before .before .key-word .result) (c .before .before .before .key-word .ensures) (a .count) (a .words .now) (c .before .class-of .result) (c .before .class-of .ensures) (c .if2 .taken) _ refl
 
 cast-t12 : tie.Need-cast-t12
 cast-t12 c =
     let a = c .before .before .before .before .before .before .before .before .before .before .args in
-    let h = class-le (a .head .now) (a .rows .now) (a .at) (c .before .before .before .before .before .before .component-of .result) (c .before .before .before .before .before .before .before .before .before .before .pre .1 .0) (c .before .before .before .before .before .before .component-of .ensures) (λ e. c .before .before .before .before .if1 .left (e ∙ sym (c .before .before .before .before .before .components-in .ensures .0)))
+    let h = class-le (a .head .now) (a .rows .now) (a .at) (c .before .before .before .before .before .before .component-of .result)
+    (c .before .before .before .before .before .before .before .before .before .before .pre .1 .0)
+    (c .before .before .before .before .before .before .component-of .ensures)
+    (λ e. c .before .before .before .before .if1 .left (e ∙ sym (c .before .before .before .before .before .components-in .ensures .0)))
     (c .before .before .before .key-word .result) (c .before .before .before .key-word .ensures) (a .count) (a .words .now) (c .before .class-of .result) (c .before .class-of .ensures) (omega arith) in
     omega arith
 
@@ -68,7 +77,10 @@ same-length-2 c = search needs
 returns-3 : tie.Need-returns-3
 returns-3 c =
     let a = c .before .before .before .before .before .before .before .before .before .before .args in
-    old-class (a .head .now) (a .rows .now) (a .at) (c .before .before .before .before .before .before .component-of .result) (c .before .before .before .before .before .before .before .before .before .before .pre .1 .0) (c .before .before .before .before .before .before .component-of .ensures) (λ e. c .before .before .before .before .if1 .left (e ∙ sym (c .before .before .before .before .before .components-in .ensures .0)))
+    old-class (a .head .now) (a .rows .now) (a .at) (c .before .before .before .before .before .before .component-of .result)
+    (c .before .before .before .before .before .before .before .before .before .before .pre .1 .0)
+    (c .before .before .before .before .before .before .component-of .ensures)
+    (λ e. c .before .before .before .before .if1 .left (e ∙ sym (c .before .before .before .before .before .components-in .ensures .0)))
     (c .before .before .before .key-word .result) (c .before .before .before .key-word .ensures) (a .count) (a .words .now) (c .before .class-of .result) (c .before .class-of .ensures) (c .if2 .left)
 
 pub number-literal-spec : {M : Type 1} → statement M

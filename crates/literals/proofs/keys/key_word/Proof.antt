@@ -45,10 +45,12 @@ wide-requires-2 : tie.Need-wide-requires-2 Inv-loop μ-loop
 wide-requires-2 c κs = search needs
 
 mul-word : tie.Need-mul-word Inv-loop μ-loop
-mul-word c = let i = c .before .before .before .before .before .loop .inv in let f = limit-few (c .before .before .before .before .before .loop .k) (omega arith) in omega arith
+mul-word c = let i = c .before .before .before .before .before .loop .inv in
+    let f = limit-few (c .before .before .before .before .before .loop .k) (omega arith) in omega arith
 
 add-word : tie.Need-add-word Inv-loop μ-loop
-add-word c = let i = c .before .before .before .before .before .loop .inv in let f = limit-few (c .before .before .before .before .before .loop .k) (omega arith) in let w = c .wide2 .ensures .1 in omega arith
+add-word c = let i = c .before .before .before .before .before .loop .inv in
+    let f = limit-few (c .before .before .before .before .before .loop .k) (omega arith) in let w = c .wide2 .ensures .1 in omega arith
 
 add-k : tie.Need-add-k Inv-loop μ-loop
 add-k c = omega arith
@@ -62,7 +64,8 @@ loop-again c =
     let l = c .before .before .before .before .before .loop in
     let w = c .wide2 in
     let u =
-    under-place (partIn (a .head .now) (a .c)) (a .rows .now) (a .at) (l .k) (omega arith) (part-length (a .head .now) (a .c)) (c .before .before .before .before .before .before .before .before .pre .1 .1)
+    under-place (partIn (a .head .now) (a .c)) (a .rows .now) (a .at) (l .k) (omega arith) (part-length (a .head .now) (a .c))
+    (c .before .before .before .before .before .before .before .before .pre .1 .1)
     in
     let e = l .inv .2 in (
       omega arith,
@@ -71,7 +74,9 @@ loop-again c =
       word-more (partIn (a .head .now) (a .c)) (take 8 (drop (a .at) (a .rows .now))) (l .word) (l .k) (w .result) (l .inv .3)
           (w .ensures .0
           ∙ c .before .argument-byte .ensures
-          ∙ ap (argumentAt (a .rows .now) (a .at)) (c .before .before .wide .ensures .0 ∙ c .before .before .before .before .before .before .before .before .pre .0 (a .c) (l .k) (c .before .before .before .before .before .before .before .before .pre .1 .0) (omega arith))
+          ∙ ap (argumentAt (a .rows .now) (a .at)) (c .before .before .wide .ensures .0
+          ∙ c .before .before .before .before .before .before .before .before .pre .0 (a .c) (l .k)
+          (c .before .before .before .before .before .before .before .before .pre .1 .0) (omega arith))
           ∙ u),
       limit-more (l .word) (l .k) (w .result) (l .inv .4) (w .ensures .1),
     )
@@ -81,7 +86,8 @@ returns c =
     let l = c .before .loop in
     let a = c .before .before .before .before .args in
     let e : l .k ≡ c .before .before .keys-in .result = omega arith in
-    l .inv .3 ∙ word-all (l .k) _ _ ∙ ap (λ (n : ℕ). keyWord n (partIn (a .head .now) (a .c)) (take 8 (drop (a .at) (a .rows .now)))) (e ∙ l .inv .2)
+    l .inv .3 ∙ word-all (l .k) _ _ ∙ ap (λ (n : ℕ). keyWord n (partIn (a .head .now) (a .c)) (take 8 (drop (a .at) (a .rows .now))))
+    (e ∙ l .inv .2)
 
 pub key-word-spec : {M : Type 1} → statement M
 key-word-spec =

@@ -19,7 +19,12 @@ keys-in-requires : tie.Need-keys-in-requires Inv-loop μ-loop
 keys-in-requires c κs = search needs
 
 loop-holds : tie.Need-loop-holds Inv-loop μ-loop
-loop-holds c = let a = c .before .before .args in (omega arith, c .keys-in .ensures .1, c .keys-in .ensures .0, own-none (a .head .now) (a .c) (a .places .now))
+loop-holds c = let a = c .before .before .args in (
+  omega arith,
+  c .keys-in .ensures .1,
+  c .keys-in .ensures .0,
+  own-none (a .head .now) (a .c) (a .places .now),
+)
 
 cast-places : tie.Need-cast-places Inv-loop μ-loop
 cast-places c = omega arith
@@ -58,7 +63,8 @@ loop-again c =
       omega arith,
       l .inv .1,
       l .inv .2,
-      own-more (a .head .now) (a .c) (a .places .now) (l .places) (l .k) (c .place-under .result) (omega arith) (c .place-under .ensures) (l .inv .3),
+      own-more (a .head .now) (a .c) (a .places .now) (l .places) (l .k) (c .place-under .result) (omega arith) (c .place-under .ensures)
+          (l .inv .3),
     )
 
 same-length : tie.Need-same-length Inv-loop μ-loop

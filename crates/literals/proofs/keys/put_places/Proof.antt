@@ -26,7 +26,8 @@ loop-holds c =
     (omega arith, n .1, n .0, refl, places-none (a .head .now) (a .places .now))
 
 put-component-places-requires : tie.Need-put-component-places-requires Inv-loop μ-loop
-put-component-places-requires c κs = let l = c .before .before .loop .inv in (omega arith, l .3 ∙ c .before .before .before .before .before .pre)
+put-component-places-requires c κs = let l = c .before .before .loop .inv in
+    (omega arith, l .3 ∙ c .before .before .before .before .before .pre)
 
 add-c : tie.Need-add-c Inv-loop μ-loop
 add-c c = omega arith

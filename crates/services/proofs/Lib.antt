@@ -1,0 +1,3 @@
+-- Laws that the services share.
+pub mod KeyTuples
+pub mod Answers

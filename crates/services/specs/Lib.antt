@@ -1,0 +1,2 @@
+-- What services on one file have in common.
+pub mod Service

@@ -1,0 +1,79 @@
+-- `decide_alone` meets its contract. The loop's invariant is `Deciding` of proofs/Alone. Assumes nothing.
+use mathlib.Core.Path.{sym, ap, _∙_}
+use Prim.Native.Nat.{_-_, _<_}
+use native.Mathlib.Omega.{arith}
+use borrow.Author.Needs.{needs}
+use lib.ListN.{length}
+use Rattle.naming.proofs.NamedRows.{noted-action}
+use Rattle.templates.proofs.Alone.{Deciding, decides, number-byte}
+use Rattle.templates.proofs.deciding.decide_alone.Statement.{statement}
+use Rattle.templates.proofs.deciding.decide_alone.Tie as tie
+
+abbrev Inv-loop : tie.InvT-loop
+Inv-loop head table relation notes₀ i₀ i-end notes i = Deciding head table relation notes i
+
+abbrev μ-loop : tie.MeasureT-loop
+μ-loop head table relation notes₀ i₀ i-end notes i = i-end - i
+
+new-requires : tie.Need-new-requires Inv-loop μ-loop
+new-requires c κs = search needs
+
+actions-in-requires : tie.Need-actions-in-requires Inv-loop μ-loop
+actions-in-requires c κs = search needs
+
+loop-holds : tie.Need-loop-holds Inv-loop μ-loop
+loop-holds c = record { reach = omega arith; noted = λ D H wf only. c .before .new .ensures }
+
+summary-of-requires : tie.Need-summary-of-requires Inv-loop μ-loop
+summary-of-requires c κs = search needs
+
+with-requires : tie.Need-with-requires Inv-loop μ-loop
+with-requires c κs = search needs
+
+add-i : tie.Need-add-i Inv-loop μ-loop
+add-i c = search needs
+
+loop-less : tie.Need-loop-less Inv-loop μ-loop
+loop-less c = omega arith
+
+loop-again : tie.Need-loop-again Inv-loop μ-loop
+loop-again c =
+    let l = c .before .before .before .loop in
+    let few = c .before .before .before .before .actions-in .ensures .0 in
+    record {
+      reach = omega arith;
+      noted =
+          λ D H wf only.
+          let m = H .says .actions in
+          let h : l .i < length (D .actions) = omega arith in
+          noted-action D (l .i) h (l .inv .noted D H wf only) (c .before .summary-of .ensures D H wf h only) (c .with .ensures);
+    }
+
+decide-requires : tie.Need-decide-requires Inv-loop μ-loop
+decide-requires c κs = search needs
+
+returns : tie.Need-returns Inv-loop μ-loop
+returns c =
+    let few = c .before .before .before .actions-in .ensures .0 in (
+      number-byte _ (c .decide .ensures),
+      λ D H wf only.
+          let m = H .says .actions in
+          decides D (c .before .before .loop .i) (c .before .before .loop .inv .noted D H wf only) (omega arith) (c .decide .ensures),
+    )
+
+pub decide-alone-spec : {M : Type 1} → statement M
+decide-alone-spec =
+    tie.close
+    (tie.spec
+    Inv-loop
+    μ-loop
+    new-requires
+    actions-in-requires
+    loop-holds
+    summary-of-requires
+    with-requires
+    add-i
+    loop-less
+    loop-again
+    decide-requires
+    returns)

@@ -1,0 +1,50 @@
+-- `list_file` meets its contract. Assumes nothing.
+use mathlib.Core.Logic.{inl, inr}
+use native.Mathlib.Omega.{arith}
+use Rattle.reading.proofs.Domains.{opened, refusal-is}
+use Rattle.verdict.proofs.Decodes.{decoded-well-formed}
+use Rattle.services.proofs.Answers.{answers-refused, answers-read}
+use Rattle.templates.specs.Templates.{listBytes, listFile, listAfter}
+use borrow.Author.Needs.{needs}
+use Rattle.templates.proofs.list_file.Statement.{statement}
+use Rattle.templates.proofs.list_file.Tie as tie
+
+slice-aggregate-read-domain : tie.Need-slice-aggregate-read-domain
+slice-aggregate-read-domain c = search needs
+
+read-domain-requires : tie.Need-read-domain-requires
+read-domain-requires c κs = inl (omega arith)
+
+returns : tie.Need-returns
+unfolding listFile listAfter
+returns c = answers-refused listBytes (c .before .before .before .before .before .before .before .args .file .now) (c .before .before .before .before .before .before .before .args .list .now) _ (refusal-is (c .before .before .before .before .before .before .before .args .file .now) _ _ _ (c .before .before .read-domain .ensures) (c .if1 .taken))
+
+slice-aggregate-list-domain : tie.Need-slice-aggregate-list-domain
+slice-aggregate-list-domain c = search needs
+
+list-domain-requires : tie.Need-list-domain-requires
+list-domain-requires c κs =
+    let o = opened (c .before .before .before .before .before .before .before .before .before .before .before .args .file .now) _ _ _ (c .before .before .before .before .before .before .read-domain .ensures) (c .before .before .before .before .if1 .left) in
+    ((o .said, o .held), o .whole)
+
+same-length : tie.Need-same-length
+same-length c = search needs
+
+returns-2 : tie.Need-returns-2
+unfolding listFile listAfter
+returns-2 c =
+    let f = c .before .before .before .before .before .before .before .before .before .before .before .before .before .before .args .file .now in
+    let o = opened f _ _ _ (c .before .before .before .before .before .before .before .before .before .read-domain .ensures) (c .before .before .before .before .before .before .before .if1 .left) in
+    answers-read listBytes f (c .before .before .before .before .before .before .before .before .before .before .before .before .before .before .args .list .now) (o .said) (o .decoded) (c .before .before .list-domain .ensures (o .said) (o .held) (decoded-well-formed f (o .said) (o .decoded)))
+
+pub list-file-spec : {M : Type 1} → statement M
+list-file-spec =
+    tie.close
+    (tie.spec
+    slice-aggregate-read-domain
+    read-domain-requires
+    returns
+    slice-aggregate-list-domain
+    list-domain-requires
+    same-length
+    returns-2)

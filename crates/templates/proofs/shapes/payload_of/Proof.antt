@@ -1,0 +1,39 @@
+-- `payload_of` meets its contract. Assumes nothing.
+use mathlib.Core.Path.{refl}
+use mathlib.Core.List.{List, _∷_, []}
+use borrow.Author.Needs.{needs}
+use Rattle.templates.proofs.shapes.payload_of.Statement.{statement}
+use Rattle.templates.proofs.shapes.payload_of.Tie as tie
+
+label-at-requires : tie.Need-label-at-requires
+label-at-requires c κs = search needs
+
+label-at-requires-2 : tie.Need-label-at-requires-2
+label-at-requires-2 c κs = search needs
+
+label-at-requires-3 : tie.Need-label-at-requires-3
+label-at-requires-3 c κs = search needs
+
+label-at-requires-4 : tie.Need-label-at-requires-4
+label-at-requires-4 c κs = search needs
+
+label-at-requires-5 : tie.Need-label-at-requires-5
+label-at-requires-5 c κs = search needs
+
+label-at-requires-6 : tie.Need-label-at-requires-6
+label-at-requires-6 c κs = search needs
+
+returns : tie.Need-returns
+returns c = λ i. c .before .before .before .before .before .before .args .relation ∷ c .before .before .before .before .before .label-at .ensures i ∷ c .before .before .before .before .label-at2 .ensures i ∷ c .before .before .before .label-at3 .ensures i ∷ c .before .before .label-at4 .ensures i ∷ c .before .label-at5 .ensures i ∷ c .label-at6 .ensures i ∷ []
+
+pub payload-of-spec : {M : Type 1} → statement M
+payload-of-spec =
+    tie.close
+    (tie.spec
+    label-at-requires
+    label-at-requires-2
+    label-at-requires-3
+    label-at-requires-4
+    label-at-requires-5
+    label-at-requires-6
+    returns)
