@@ -5,18 +5,20 @@ use mathlib.Core.List.{List, [], _∷_, _++_, map, flatMap}
 use Prim.Native.Nat.{ℕ, suc, _+_, _*_, _≤_, _<_}
 use lib.Dec.{eqb, ltb}
 use lib.ListN.{length, getD, take, drop}
-use Rattle.records.specs.Lists.{In, filterBy, countBy, sameList, elem, distinct}
+use Rattle.records.specs.Lists.{In, any, filterBy, countBy, sameList, elem, distinct}
 use Rattle.records.specs.Memory.{over}
+use Rattle.literals.specs.declared.Object.{Object}
 use Rattle.literals.specs.declared.Clause.{Clause}
 use Rattle.literals.specs.declared.Clause.the-variants.{Delete}
 use Rattle.literals.specs.Domain.{Fact, sameFact, Domain, action}
 use Rattle.literals.specs.Decode.{byte}
-use Rattle.literals.specs.Table.{rowsIn}
+use Rattle.literals.specs.Table.{rowsIn, meetByte}
 use Rattle.literals.specs.Held.{arityIn}
 use Rattle.literals.specs.Matching.{own, withRole}
-use Rattle.verdict.specs.Binding.{bind}
+use Rattle.verdict.specs.Binding.{factsOf}
 use Rattle.verdict.specs.Judged.{factBytes}
 use Rattle.verdict.specs.Machine.{Event, stepFacts, factsAfter}
+use Rattle.verdict.specs.Patterns.{patternsMeet}
 use Rattle.runs.specs.RunFile.{maxFacts}
 use Rattle.runs.specs.Play.{workBytes}
 use Rattle.store.specs.Index.{Indexed}
@@ -47,7 +49,7 @@ pub record Beside (before after : List ℕ) : Type 0 where
 
 -- ---- effects, by rows
 
--- the facts of those ground literals that are of a clause
+-- the rows of those ground literals that are of a clause
 unfoldable pub rowsWith : ℕ → List GroundLiteral → List (List ℕ)
 rowsWith clause ls = map (λ (l : GroundLiteral). l .row) (filterBy (λ (l : GroundLiteral). eqb (l .clause) clause) ls)
 
@@ -82,43 +84,50 @@ pub record HoldsJoined (head : List ℕ) (rows : List (List ℕ)) (old : List �
 abbrev pub Once : List (List ℕ) → Type 0
 Once rows = distinct (sameList eqb) rows ≡ true
 
--- how many of the first n rows of a memory are one of these
-abbrev pub struckOf : List (List ℕ) → List ℕ → ℕ → ℕ
-struckOf struck work n = countBy (λ (row : List ℕ). hasRow row struck) (rowsIn n work)
+-- a delete's row meets this one: the delete is about this fact
+abbrev pub isStruck : List (List ℕ) → List ℕ → Bool
+isStruck struck row = any (λ p. patternsMeet p row) struck
 
--- those that are none of these
+-- how many of the first n rows of a memory are struck
+abbrev pub struckOf : List (List ℕ) → List ℕ → ℕ → ℕ
+struckOf struck work n = countBy (isStruck struck) (rowsIn n work)
+
+-- those that are not
 abbrev pub stays : List (List ℕ) → List ℕ → Bool
-stays struck row = not (hasRow row struck)
+stays struck row = not (isStruck struck row)
 
 abbrev pub keptOf : List (List ℕ) → List ℕ → ℕ → List (List ℕ)
 keptOf struck work n = filterBy (stays struck) (rowsIn n work)
 
--- of the first n rows of a memory, the first from a row on that is one of these; n where there is none
+-- of the first n rows of a memory, the first from a row on that is struck; n where there is none
 pub record FirstStruck (struck : List (List ℕ)) (work : List ℕ) (n from r : ℕ) : Type 0 where
   pub behind : from ≤ r
   pub within : r ≤ n
-  pub others : (j : ℕ) → from ≤ j → j < r → hasRow (take 8 (drop (8 * j) work)) struck ≡ false
-  pub found : r < n → hasRow (take 8 (drop (8 * r) work)) struck ≡ true
+  pub others : (j : ℕ) → from ≤ j → j < r → isStruck struck (take 8 (drop (8 * j) work)) ≡ false
+  pub found : r < n → isStruck struck (take 8 (drop (8 * r) work)) ≡ true
 
--- the third bytes of these rows are marked
+-- the third bytes of all rows that one of these meets are marked
 abbrev pub Marked : List ℕ → List (List ℕ) → Type 0
-Marked marks rows = (row : List ℕ) → In row rows → getD marks (byte row 2) 0 ≡ 1
+Marked marks rows = (row : List ℕ) → In row rows → (b : ℕ) → b < 256 → meetByte (byte row 2) b ≡ true → getD marks b 0 ≡ 1
 
 -- ---- effects
 
--- the facts of an event's literals of one clause, one for each literal: those of `eventFacts`, where a literal that stands twice counts twice
-unfoldable pub eventEffects : Domain → Event → Clause → List Fact
-unfolding action
-eventEffects D e c = map (bind (e .ground .binding)) (withRole (own (e .moment) c) (action D (e .ground .action) .lits))
+-- the facts that an event's literals of one clause stand for, literal by literal: those of `eventFacts`, where a literal that stands twice
+-- counts twice
+unfoldable pub eventEffects : Domain → List Object → Event → Clause → List Fact
+unfolding action factsOf flatMap
+eventEffects D objs e c = flatMap (factsOf objs (e .ground .binding)) (withRole (own (e .moment) c) (action D (e .ground .action) .lits))
 
 -- those of the events of a step
-unfoldable pub stepEffects : Domain → List Event → Clause → List Fact
+unfoldable pub stepEffects : Domain → List Object → List Event → Clause → List Fact
 unfolding eventEffects flatMap
-stepEffects D es c = flatMap (λ e. eventEffects D e c) es
+stepEffects D objs es c = flatMap (λ e. eventEffects D objs e c) es
 
 -- what a step leaves of facts: how many are kept and how many there are then, their bytes, and their index
-pub record HoldsAfter (D : Domain) (fs : List Fact) (es : List Event) (head : List ℕ) (r : After) (out index : List ℕ) : Type 0 where
-  pub kept : r .kept ≡ length (filterBy (λ (f : Fact). not (elem sameFact f (stepFacts D es Delete))) fs)
-  pub facts : r .facts ≡ atMost maxFacts (length (factsAfter D fs es))
-  pub held : length (factsAfter D fs es) ≤ maxFacts → take (8 * length (factsAfter D fs es)) out ≡ factBytes (factsAfter D fs es)
-  pub indexed : length (factsAfter D fs es) ≤ maxFacts → Indexed head index (map factRow (factsAfter D fs es))
+pub record HoldsAfter (D : Domain) (objs : List Object) (fs : List Fact) (es : List Event) (head : List ℕ) (r : After) (out index : List ℕ)
+    : Type 0 where
+  pub kept : r .kept ≡ length (filterBy (λ (f : Fact). not (elem sameFact f (stepFacts D objs es Delete))) fs)
+  pub facts : r .facts ≡ atMost maxFacts (length (factsAfter D objs fs es))
+  pub held : length (factsAfter D objs fs es) ≤ maxFacts
+      → take (8 * length (factsAfter D objs fs es)) out ≡ factBytes (factsAfter D objs fs es)
+  pub indexed : length (factsAfter D objs fs es) ≤ maxFacts → Indexed head index (map factRow (factsAfter D objs fs es))

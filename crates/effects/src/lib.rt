@@ -1,30 +1,38 @@
 // The facts after a step: what it strikes goes out, then what it adds joins, each fact once.
+use events::facts::is_pattern;
 use events::grounding::CLAUSES;
 use events::grounding::GROUNDED;
 use literals::head::Head;
 use literals::limits::MAX_FACTS;
+use literals::row::arguments_meet;
 use records::bytes::put_bytes;
 use records::bytes::wide;
 use store::index::FactIndex;
 use store::index::enter;
 use store::index::is_held;
 use store::index::leave;
-use store::rows::has_row;
 use store::rows::row_at;
 ghost use mathlib.Core.Path.{_≡_};
 ghost use mathlib.Core.List.{List, [], _∷_, _++_, map};
-ghost use Prim.Native.Nat.{_+_, _*_, _<_, _≤_};
+ghost use Prim.Native.Nat.{ℕ, _+_, _*_, _<_, _≤_};
+ghost use lib.Dec.{eqb};
+ghost use mathlib.Core.Bool.{false};
 ghost use lib.ListN.{length, getD, take, drop};
 ghost use Rattle.records.specs.Memory.{over};
+ghost use Rattle.records.specs.Lists.{In, any, sameList};
+ghost use Rattle.literals.specs.declared.Object.{Object};
 ghost use Rattle.literals.specs.Domain.{Fact, Domain};
 ghost use Rattle.literals.specs.Table.{rowsIn};
 ghost use Rattle.runs.specs.RunFile.{maxFacts};
 ghost use Rattle.verdict.specs.Machine.{Event};
+ghost use Rattle.verdict.specs.Patterns.{patternsMeet};
+ghost use Rattle.events.specs.Coded.{Chosen, isPattern};
 ghost use Rattle.store.specs.Index.{noteAt, Sized, Indexed};
-ghost use Rattle.store.specs.Rows.{factRow, hasRow};
+ghost use Rattle.store.specs.Rows.{factRow};
 ghost use Rattle.events.specs.Grounding.{maxGround, groundAt, groundIn, Grounded};
 ghost use Rattle.effects.specs.Effects.{scratchBytes, effectsIn, literalsIn, Beside, rowsWith, flat, HoldsAfter};
-ghost use Rattle.effects.specs.Effects.{Once, struckOf, FirstStruck, Marked, keptOf, SizedRow, joinRow, joinRows, HoldsJoined};
+ghost use Rattle.effects.specs.Effects.{Once, isStruck, struckOf, FirstStruck, Marked, keptOf};
+ghost use Rattle.effects.specs.Effects.{SizedRow, joinRow, joinRows, HoldsJoined};
 
 // The bytes of the facts that are held.
 const FACTS: usize = 8 * MAX_FACTS;
@@ -45,16 +53,67 @@ fn put_row(out: &mut [u8], n: usize, row: [u8; 8])
     }
 }
 
-// Marks the third bytes of the first m rows.
+// Marks the third bytes of all rows that the row at an offset meets: its own, and every one where that is FF.
+fn put_mark(marks: &mut [u8], rows: &[u8], at: usize)
+    requires marks { ⌜ length (now marks) ≡ 256 ⌝ }
+    requires row { ⌜ at + 8 ≤ length (now rows) ⌝ }
+    ensures { λ _. ⌜ ((before : List (List ℕ)) → Marked (now (marks .entry)) before
+        → Marked (now (marks .exit)) (before ++ (take 8 (drop at (now (rows .entry))) ∷ []))) ⌝ }
+{
+    let first = wide(rows[at + 2]);
+    if first == 255 {
+        for b in 0..256 {
+            marks[b] = 1;
+        }
+        return;
+    }
+    marks[first] = 1;
+    // A row with FF there meets every row.
+    marks[255] = 1;
+}
+
+// Those of the first m rows.
 fn put_marks(marks: &mut [u8], rows: &[u8], m: usize)
     requires marks { ⌜ length (now marks) ≡ 256 ⌝ }
     requires rows { ⌜ 8 * m ≤ length (now rows) ⌝ }
     ensures { λ _. ⌜ Marked (now (marks .exit)) (rowsIn m (now (rows .entry))) ⌝ }
 {
     for j in 0..m {
-        let first = wide(rows[8 * j + 2]);
-        marks[first] = 1;
+        put_mark(marks, rows, 8 * j);
     }
+}
+
+// Whether there is a pattern among the first m rows.
+fn has_pattern(rows: &[u8], m: usize) -> bool
+    requires { ⌜ 8 * m ≤ length (now rows) ⌝ }
+    ensures { λ r. ⌜ r ≡ any isPattern (rowsIn m (now (rows .entry))) ⌝ }
+{
+    let mut j = 0;
+    while j < m {
+        if is_pattern(rows, 8 * j) {
+            return true;
+        }
+        j += 1;
+    }
+    false
+}
+
+// Whether one of the first m rows meets the row at an offset of the work memory.
+fn any_meets(rows: &[u8], m: usize, work: &[u8], at: usize) -> bool
+    requires rows { ⌜ 8 * m ≤ length (now rows) ⌝ }
+    requires row { ⌜ at + 8 ≤ length (now work) ⌝ }
+    ensures { λ r. ⌜ r ≡ isStruck (rowsIn m (now (rows .entry))) (take 8 (drop at (now (work .entry)))) ⌝ }
+{
+    let mut j = 0;
+    while j < m {
+        if rows[8 * j] == work[at] {
+            if arguments_meet(rows, 8 * j, work, at) {
+                return true;
+            }
+        }
+        j += 1;
+    }
+    false
 }
 
 // Whether the row at an offset of the work memory is struck; most are told by their third byte, the first argument.
@@ -63,17 +122,17 @@ fn is_struck(work: &[u8], at: usize, marks: &[u8], struck: &[u8], m: usize) -> b
     requires marks { ⌜ length (now marks) ≡ 256 ⌝ }
     requires struck { ⌜ 8 * m ≤ length (now struck) ⌝ }
     requires marked { ⌜ Marked (now marks) (rowsIn m (now struck)) ⌝ }
-    ensures { λ r. ⌜ r ≡ hasRow (take 8 (drop at (now (work .entry)))) (rowsIn m (now (struck .entry))) ⌝ }
+    ensures { λ r. ⌜ r ≡ isStruck (rowsIn m (now (struck .entry))) (take 8 (drop at (now (work .entry)))) ⌝ }
 {
     let first = wide(work[at + 2]);
     if marks[first] == 0 {
         return false;
     }
-    has_row(struck, m, row_at(work, at))
+    any_meets(struck, m, work, at)
 }
 
-// The first struck row of the work memory from a row on, of n; n where there is none. No row stands twice, so none is left to
-// find once as many are gone as are struck.
+// The first struck row of the work memory from a row on, of n; n where there is none. No row stands twice, so none is left to find once
+// as many are gone as strike, where none of these is a pattern, which strikes many.
 fn struck_from(
     work: &[u8],
     n: usize,
@@ -82,6 +141,7 @@ fn struck_from(
     marks: &[u8],
     struck: &[u8],
     m: usize,
+    patterns: bool,
 ) -> usize
     requires few { ⌜ n ≤ maxFacts ⌝ }
     requires rows { ⌜ 8 * n ≤ length (now work) ⌝ }
@@ -91,10 +151,14 @@ fn struck_from(
     requires marked { ⌜ Marked (now marks) (rowsIn m (now struck)) ⌝ }
     requires once { ⌜ Once (rowsIn n (now work)) ⌝ }
     requires gone { ⌜ gone ≡ struckOf (rowsIn m (now struck)) (now work) from ⌝ }
+    requires plain { ⌜ (patterns ≡ false → (p : List ℕ) → In p (rowsIn m (now struck)) → (q : List ℕ) → In q (rowsIn n (now work))
+        → patternsMeet p q ≡ sameList eqb p q) ⌝ }
     ensures { λ r. ⌜ FirstStruck (rowsIn m (now (struck .entry))) (now (work .entry)) n from r ⌝ }
 {
-    if m <= gone {
-        return n;
+    if !patterns {
+        if m <= gone {
+            return n;
+        }
     }
     let mut i = from;
     while i < n {
@@ -131,11 +195,21 @@ fn keep_rows(
 {
     let mut marks = [0u8; 256];
     put_marks(&mut marks, &scratch[FACTS..LITERALS], m);
+    let patterns = has_pattern(&scratch[FACTS..LITERALS], m);
     let mut k = 0;
     let mut i = 0;
     // Most rows stay, so those between two struck ones are put at once.
     loop {
-        let next = struck_from(work, n, i, i - k, &marks, &scratch[FACTS..LITERALS], m);
+        let next = struck_from(
+            work,
+            n,
+            i,
+            i - k,
+            &marks,
+            &scratch[FACTS..LITERALS],
+            m,
+            patterns,
+        );
         let from = 8 * i;
         let to = 8 * next;
         put_bytes(scratch, 8 * k, &work[from..to]);
@@ -204,7 +278,7 @@ fn join_rows(
     n
 }
 
-// The fact of the ground literal i, behind the first n rows of the effects, where it is of this clause; the count then.
+// The row of the ground literal i, behind the first n rows of the effects, where it is of this clause; the count then.
 fn put_effect(scratch: &mut [u8], n: usize, i: usize, clause: u8) -> usize
     requires scratch { ⌜ length (now scratch) ≡ scratchBytes ⌝ }
     requires room { ⌜ n < maxFacts ⌝ }
@@ -261,10 +335,11 @@ pub fn facts_after(
     requires once { ⌜ Once (rowsIn n (now work)) ⌝ }
     requires total { ⌜ total ≤ maxGround ⌝ }
     ensures few { λ r. ⌜ (r .kept ≤ n) × (r .kept ≤ r .facts) × (r .facts ≤ maxFacts + 1) ⌝ }
-    ensures after { λ r. ⌜ ((D : Domain) (es : List Event) (fs : List Fact)
+    ensures after { λ r. ⌜ ((D : Domain) (objs : List Object) (es : List Event) (fs : List Fact)
+        → Chosen D objs fs (map (λ (e : Event). e .ground) es)
         → Grounded D (now (head .entry)) es (literalsIn (now (scratch .entry))) total
         → rowsIn n (now (work .entry)) ≡ map factRow fs → Indexed (now (head .entry)) (now (index .entry)) (map factRow fs)
-        → HoldsAfter D fs es (now (head .entry)) r (now (scratch .exit)) (now (index .exit))) ⌝ }
+        → HoldsAfter D objs fs es (now (head .entry)) r (now (scratch .exit)) (now (index .exit))) ⌝ }
     ensures beside { λ _. ⌜ getD (now (index .exit)) noteAt 0 ≡ getD (now (index .entry)) noteAt 0 ⌝ }
 {
     let m = step_effects(scratch, total, 4);

@@ -1,10 +1,10 @@
--- `condition_met` meets its contract, clause by clause. Assumes nothing.
+-- `plainly_met` meets its contract, clause by clause. Assumes nothing.
 use borrow.Author.Needs.{needs}
 use Rattle.literals.specs.Table.{rowsIn}
 use Rattle.events.specs.Grounding.{groundAt}
 use Rattle.applicability.proofs.Asked.{met-true, met-false, met-none, read-sized}
-use Rattle.applicability.proofs.conditions.condition_met.Statement.{statement}
-use Rattle.applicability.proofs.conditions.condition_met.Tie as tie
+use Rattle.applicability.proofs.conditions.plainly_met.Statement.{statement}
+use Rattle.applicability.proofs.conditions.plainly_met.Tie as tie
 
 add-clause : tie.Need-add-clause
 add-clause c = search needs
@@ -43,7 +43,8 @@ returns-2 c head I s =
     let a = c .before .before .before .before .before .before .before .args in
     let l = groundAt (a .memory .now) (a .i) in
     let row = c .before .row-at2 in
-    met-false (rowsIn (a .n) (a .work .now)) l (c .before .before .before .if1 .left) (c .before .before .if2 .taken) (row .result) _ (row .ensures)
+    met-false (rowsIn (a .n) (a .work .now)) l (c .before .before .before .if1 .left) (c .before .before .if2 .taken)
+    (row .result) _ (row .ensures)
     (c .is-held2 .ensures head I (read-sized head (row .result) (l .row) (row .ensures) s))
 
 returns-3 : tie.Need-returns-3
@@ -51,8 +52,8 @@ returns-3 c head I s =
     let a = c .before .before .before .before .before .args in
     met-none (rowsIn (a .n) (a .work .now)) (groundAt (a .memory .now) (a .i)) (c .before .if1 .left) (c .if2 .left)
 
-pub condition-met-spec : {M : Type 1} → statement M
-condition-met-spec =
+pub plainly-met-spec : {M : Type 1} → statement M
+plainly-met-spec =
     tie.close
     (tie.spec
     add-clause
