@@ -12,7 +12,7 @@ use Rattle.literals.specs.declared.Clause.{Clause}
 use Rattle.literals.specs.declared.Clause.the-variants.{Delete}
 use Rattle.literals.specs.Domain.{Fact, sameFact, Domain, action}
 use Rattle.literals.specs.Decode.{byte}
-use Rattle.literals.specs.Table.{rowsIn, meetByte}
+use Rattle.literals.specs.Table.{rowsIn}
 use Rattle.literals.specs.Held.{arityIn}
 use Rattle.literals.specs.Matching.{own, withRole}
 use Rattle.verdict.specs.Binding.{factsOf}
@@ -23,6 +23,7 @@ use Rattle.runs.specs.RunFile.{maxFacts}
 use Rattle.runs.specs.Play.{workBytes}
 use Rattle.store.specs.Index.{Indexed}
 use Rattle.store.specs.Rows.{factRow, hasRow}
+use Rattle.events.specs.Coded.{isPattern}
 use Rattle.events.specs.Grounding.{GroundLiteral, groundedBytes}
 use Rattle.effects.specs.declared.After.{After}
 
@@ -85,8 +86,13 @@ abbrev pub Once : List (List ℕ) → Type 0
 Once rows = distinct (sameList eqb) rows ≡ true
 
 -- a delete's row meets this one: the delete is about this fact
-abbrev pub isStruck : List (List ℕ) → List ℕ → Bool
-isStruck struck row = any (λ p. patternsMeet p row) struck
+abbrev pub anyMeets : List (List ℕ) → List ℕ → Bool
+anyMeets struck row = any (λ p. patternsMeet p row) struck
+
+-- the same, told by equal rows where no delete is a pattern
+unfoldable pub isStruck : List (List ℕ) → List ℕ → Bool
+unfolding isPattern
+isStruck struck row = cond (any isPattern struck) (anyMeets struck row) (hasRow row struck)
 
 -- how many of the first n rows of a memory are struck
 abbrev pub struckOf : List (List ℕ) → List ℕ → ℕ → ℕ
@@ -106,9 +112,9 @@ pub record FirstStruck (struck : List (List ℕ)) (work : List ℕ) (n from r : 
   pub others : (j : ℕ) → from ≤ j → j < r → isStruck struck (take 8 (drop (8 * j) work)) ≡ false
   pub found : r < n → isStruck struck (take 8 (drop (8 * r) work)) ≡ true
 
--- the third bytes of all rows that one of these meets are marked
+-- the third bytes of these rows are marked
 abbrev pub Marked : List ℕ → List (List ℕ) → Type 0
-Marked marks rows = (row : List ℕ) → In row rows → (b : ℕ) → b < 256 → meetByte (byte row 2) b ≡ true → getD marks b 0 ≡ 1
+Marked marks rows = (row : List ℕ) → In row rows → getD marks (byte row 2) 0 ≡ 1
 
 -- ---- effects
 

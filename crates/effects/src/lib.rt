@@ -11,27 +11,25 @@ use store::index::FactIndex;
 use store::index::enter;
 use store::index::is_held;
 use store::index::leave;
+use store::rows::has_row;
 use store::rows::row_at;
 ghost use mathlib.Core.Path.{_≡_};
 ghost use mathlib.Core.List.{List, [], _∷_, _++_, map};
-ghost use Prim.Native.Nat.{ℕ, _+_, _*_, _<_, _≤_};
-ghost use lib.Dec.{eqb};
-ghost use mathlib.Core.Bool.{false};
+ghost use Prim.Native.Nat.{_+_, _*_, _<_, _≤_};
 ghost use lib.ListN.{length, getD, take, drop};
 ghost use Rattle.records.specs.Memory.{over};
-ghost use Rattle.records.specs.Lists.{In, any, sameList};
+ghost use Rattle.records.specs.Lists.{any};
 ghost use Rattle.literals.specs.declared.Object.{Object};
 ghost use Rattle.literals.specs.Domain.{Fact, Domain};
 ghost use Rattle.literals.specs.Table.{rowsIn};
 ghost use Rattle.runs.specs.RunFile.{maxFacts};
 ghost use Rattle.verdict.specs.Machine.{Event};
-ghost use Rattle.verdict.specs.Patterns.{patternsMeet};
 ghost use Rattle.events.specs.Coded.{Chosen, isPattern};
 ghost use Rattle.store.specs.Index.{noteAt, Sized, Indexed};
 ghost use Rattle.store.specs.Rows.{factRow};
 ghost use Rattle.events.specs.Grounding.{maxGround, groundAt, groundIn, Grounded};
 ghost use Rattle.effects.specs.Effects.{scratchBytes, effectsIn, literalsIn, Beside, rowsWith, flat, HoldsAfter};
-ghost use Rattle.effects.specs.Effects.{Once, isStruck, struckOf, FirstStruck, Marked, keptOf};
+ghost use Rattle.effects.specs.Effects.{Once, anyMeets, isStruck, struckOf, FirstStruck, Marked, keptOf};
 ghost use Rattle.effects.specs.Effects.{SizedRow, joinRow, joinRows, HoldsJoined};
 
 // The bytes of the facts that are held.
@@ -53,33 +51,15 @@ fn put_row(out: &mut [u8], n: usize, row: [u8; 8])
     }
 }
 
-// Marks the third bytes of all rows that the row at an offset meets: its own, and every one where that is FF.
-fn put_mark(marks: &mut [u8], rows: &[u8], at: usize)
-    requires marks { ⌜ length (now marks) ≡ 256 ⌝ }
-    requires row { ⌜ at + 8 ≤ length (now rows) ⌝ }
-    ensures { λ _. ⌜ ((before : List (List ℕ)) → Marked (now (marks .entry)) before
-        → Marked (now (marks .exit)) (before ++ (take 8 (drop at (now (rows .entry))) ∷ []))) ⌝ }
-{
-    let first = wide(rows[at + 2]);
-    if first == 255 {
-        for b in 0..256 {
-            marks[b] = 1;
-        }
-        return;
-    }
-    marks[first] = 1;
-    // A row with FF there meets every row.
-    marks[255] = 1;
-}
-
-// Those of the first m rows.
+// Marks the third bytes of the first m rows.
 fn put_marks(marks: &mut [u8], rows: &[u8], m: usize)
     requires marks { ⌜ length (now marks) ≡ 256 ⌝ }
     requires rows { ⌜ 8 * m ≤ length (now rows) ⌝ }
     ensures { λ _. ⌜ Marked (now (marks .exit)) (rowsIn m (now (rows .entry))) ⌝ }
 {
     for j in 0..m {
-        put_mark(marks, rows, 8 * j);
+        let first = wide(rows[8 * j + 2]);
+        marks[first] = 1;
     }
 }
 
@@ -102,7 +82,7 @@ fn has_pattern(rows: &[u8], m: usize) -> bool
 fn any_meets(rows: &[u8], m: usize, work: &[u8], at: usize) -> bool
     requires rows { ⌜ 8 * m ≤ length (now rows) ⌝ }
     requires row { ⌜ at + 8 ≤ length (now work) ⌝ }
-    ensures { λ r. ⌜ r ≡ isStruck (rowsIn m (now (rows .entry))) (take 8 (drop at (now (work .entry)))) ⌝ }
+    ensures { λ r. ⌜ r ≡ anyMeets (rowsIn m (now (rows .entry))) (take 8 (drop at (now (work .entry)))) ⌝ }
 {
     let mut j = 0;
     while j < m {
@@ -116,19 +96,24 @@ fn any_meets(rows: &[u8], m: usize, work: &[u8], at: usize) -> bool
     false
 }
 
-// Whether the row at an offset of the work memory is struck; most are told by their third byte, the first argument.
-fn is_struck(work: &[u8], at: usize, marks: &[u8], struck: &[u8], m: usize) -> bool
+// Whether the row at an offset of the work memory is struck: where there are patterns, by rows that meet; else by equal ones, and most are
+// told by their third byte, the first argument.
+fn is_struck(work: &[u8], at: usize, marks: &[u8], struck: &[u8], m: usize, patterns: bool) -> bool
     requires row { ⌜ at + 8 ≤ length (now work) ⌝ }
     requires marks { ⌜ length (now marks) ≡ 256 ⌝ }
     requires struck { ⌜ 8 * m ≤ length (now struck) ⌝ }
     requires marked { ⌜ Marked (now marks) (rowsIn m (now struck)) ⌝ }
+    requires told { ⌜ patterns ≡ any isPattern (rowsIn m (now struck)) ⌝ }
     ensures { λ r. ⌜ r ≡ isStruck (rowsIn m (now (struck .entry))) (take 8 (drop at (now (work .entry)))) ⌝ }
 {
+    if patterns {
+        return any_meets(struck, m, work, at);
+    }
     let first = wide(work[at + 2]);
     if marks[first] == 0 {
         return false;
     }
-    any_meets(struck, m, work, at)
+    has_row(struck, m, row_at(work, at))
 }
 
 // The first struck row of the work memory from a row on, of n; n where there is none. No row stands twice, so none is left to find once
@@ -151,8 +136,7 @@ fn struck_from(
     requires marked { ⌜ Marked (now marks) (rowsIn m (now struck)) ⌝ }
     requires once { ⌜ Once (rowsIn n (now work)) ⌝ }
     requires gone { ⌜ gone ≡ struckOf (rowsIn m (now struck)) (now work) from ⌝ }
-    requires plain { ⌜ (patterns ≡ false → (p : List ℕ) → In p (rowsIn m (now struck)) → (q : List ℕ) → In q (rowsIn n (now work))
-        → patternsMeet p q ≡ sameList eqb p q) ⌝ }
+    requires told { ⌜ patterns ≡ any isPattern (rowsIn m (now struck)) ⌝ }
     ensures { λ r. ⌜ FirstStruck (rowsIn m (now (struck .entry))) (now (work .entry)) n from r ⌝ }
 {
     if !patterns {
@@ -162,7 +146,7 @@ fn struck_from(
     }
     let mut i = from;
     while i < n {
-        if is_struck(work, 8 * i, marks, struck, m) {
+        if is_struck(work, 8 * i, marks, struck, m, patterns) {
             return i;
         }
         i += 1;
