@@ -8,32 +8,44 @@ use lib.ListN.{length, length-append}
 use Rattle.records.specs.Lists.{In}
 use Rattle.records.proofs.Lists.{flatMap-in, flatMap-snoc, count-le}
 use Rattle.literals.specs.Domain.{Literal, Action, Component, isCounted, keysOf, Domain}
-use Rattle.literals.specs.Decode.{RecordKind, isUnknown, latest, outOfOrder, atLimit, headStop, withLiteral, fieldStop, fieldPlace, stopOf, stopPlace, maxArguments, maxLiterals}
+use Rattle.literals.specs.declared.RecordFault.{RecordFault}
+use Rattle.literals.specs.Decode.{RecordKind, latest, headStop, withLiteral, fieldStop, fieldPlace, stopOf, stopPlace, maxArguments}
+use Rattle.literals.specs.Decode.{maxLiterals}
 use Rattle.literals.specs.Table.{allLiterals}
+use Rattle.literals.proofs.Stops.{isUnknown, outOfOrder, atLimit, head-number, stop-by-head}
 
 -- ---- the number that stops a record
 
 module _ (D : Domain) (k : RecordKind) (p : List ℕ) (known : isUnknown k ≡ false) where
+  late : outOfOrder D k ≡ true → headStop D k ≡ 13
+  late o = head-number D k ∙ rw (known, o)
+
+  full : outOfOrder D k ≡ false → atLimit D k ≡ true → headStop D k ≡ 14
+  full o l = head-number D k ∙ rw (known, o, l)
+
+  none : outOfOrder D k ≡ false → atLimit D k ≡ false → headStop D k ≡ 0
+  none o l = head-number D k ∙ rw (known, o, l)
+
   pub stop-order : outOfOrder D k ≡ true → stopOf D k p ≡ 13
-  unfolding stopOf headStop
-  stop-order o = simp (known, o)
+  unfolding stopOf
+  stop-order o = ap (λ (f : RecordFault). f .number) (stop-by-head D k p (late o))
 
   pub stop-limit : outOfOrder D k ≡ false → atLimit D k ≡ true → stopOf D k p ≡ 14
-  unfolding stopOf headStop
-  stop-limit o l = simp (known, o, l)
+  unfolding stopOf
+  stop-limit o l = ap (λ (f : RecordFault). f .number) (stop-by-head D k p (full o l))
 
   pub stop-field : outOfOrder D k ≡ false → atLimit D k ≡ false → stopOf D k p ≡ fieldStop D k p
-  unfolding stopOf headStop
-  stop-field o l = simp (known, o, l)
+  unfolding stopOf fieldStop
+  stop-field o l = ap (λ (f : RecordFault). f .number) (stop-by-head D k p (none o l))
 
   -- and its place
   pub place-limit : outOfOrder D k ≡ false → atLimit D k ≡ true → stopPlace D k p ≡ 0
-  unfolding stopPlace headStop
-  place-limit o l = simp (known, o, l)
+  unfolding stopPlace
+  place-limit o l = ap (λ (f : RecordFault). f .within) (stop-by-head D k p (full o l))
 
   pub place-field : outOfOrder D k ≡ false → atLimit D k ≡ false → stopPlace D k p ≡ fieldPlace D k p
-  unfolding stopPlace headStop
-  place-field o l = simp (known, o, l)
+  unfolding stopPlace fieldPlace
+  place-field o l = ap (λ (f : RecordFault). f .within) (stop-by-head D k p (none o l))
 
 -- ---- the literals of all actions
 

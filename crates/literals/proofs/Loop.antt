@@ -14,7 +14,9 @@ use Rattle.records.specs.declared.Record.the-variants.{Whole, Cut, End}
 use Rattle.records.specs.Record.{recordAt, payload}
 use Rattle.records.proofs.Laws.{whole-within}
 use Rattle.literals.specs.Domain.{Domain}
-use Rattle.literals.specs.Decode.{RecordKind, kindOf, isClosing, stopOf, extend, stopAt, Refusal, refuse, refuseAt, Decoded, refused, domain, Reading, ReadTurn, goOn, finish, readRecord, readFound, readStep, Finished, readFrom, noDomain, fromStart, maxFile, readFile, decode}
+use Rattle.literals.specs.Decode.{RecordKind, kindOf, stopOf, extend, stopAt, Refusal, refuse, refuseAt, Decoded, refused, domain}
+use Rattle.literals.specs.Decode.{Reading, ReadTurn, goOn, finish, readRecord, readFound, readStep, Finished, readFrom, noDomain}
+use Rattle.literals.specs.Decode.{fromStart, maxFile, readFile, decode}
 
 -- ---- one turn of the loop
 
@@ -49,7 +51,7 @@ pub record GoesOn (s : List ℕ) (r q : Reading) : Type 0 where
   pub within : q .at ≤ length s
 
 pub goOn-at : (s : List ℕ) (r q : Reading) → readStep s r ≡ goOn q → GoesOn s r q
-unfolding readStep readFound readRecord
+unfolding readStep readFound readRecord stopOf
 goOn-at s r q e = start (r .closed) (ltb (r .at) (length s)) e
   where
     found : (f : Record) → recordAt s (r .at) ≡ f → readFound s r f ≡ goOn q → GoesOn s r q
@@ -59,7 +61,7 @@ goOn-at s r q e = start (r .closed) (ltb (r .at) (length s)) e
         stop = stopOf (r .sofar) (kindOf k) (payload s p n)
 
         after : Reading
-        after = record { at = p + n; closed = isClosing (kindOf k); sofar = extend (r .sofar) (kindOf k) (payload s p n) }
+        after = record { at = p + n; closed = eqb k 5; sofar = extend (r .sofar) (kindOf k) (payload s p n) }
 
         go : (b : Bool) → eqb stop 0 ≡ b → cond b (goOn after) (finish (refused (refuseAt (stopAt (r .sofar) (kindOf k) (payload s p n)) (r .at)))) ≡ goOn q → GoesOn s r q
         go true t z =
@@ -87,7 +89,7 @@ domain-inj e = cc
 
 -- a turn that finishes with a domain finishes with the domain so far
 pub finish-sofar : (s : List ℕ) (r : Reading) (D : Domain) → readStep s r ≡ finish (domain D) → r .sofar ≡ D
-unfolding readStep readFound readRecord
+unfolding readStep readFound readRecord stopOf
 finish-sofar s r D e = start (r .closed) (ltb (r .at) (length s)) e
   where
     found : (f : Record) → readFound s r f ≡ finish (domain D) → r .sofar ≡ D
@@ -97,7 +99,7 @@ finish-sofar s r D e = start (r .closed) (ltb (r .at) (length s)) e
         stop = stopOf (r .sofar) (kindOf k) (payload s p n)
 
         after : Reading
-        after = record { at = p + n; closed = isClosing (kindOf k); sofar = extend (r .sofar) (kindOf k) (payload s p n) }
+        after = record { at = p + n; closed = eqb k 5; sofar = extend (r .sofar) (kindOf k) (payload s p n) }
 
         go : (b : Bool) → cond b (goOn after) (finish (refused (refuseAt (stopAt (r .sofar) (kindOf k) (payload s p n)) (r .at)))) ≡ finish (domain D) → r .sofar ≡ D
         go true z = goOn-domain z

@@ -17,12 +17,12 @@ use Rattle.literals.specs.declared.Label.{Label}
 use Rattle.literals.specs.Domain.{Action, Component, keysOf, labelsFit, Domain}
 use Rattle.literals.specs.declared.RecordFault.{RecordFault}
 use Rattle.literals.specs.Decode.{maxFile, RecordKind, relationRecord, actionRecord, literalRecord, componentRecord, closingRecord}
-use Rattle.literals.specs.Decode.{unknownRecord, kindOf, isUnknown, isClosing, outOfOrder, atLimit, headStop, byte, relationStop}
+use Rattle.literals.specs.Decode.{unknownRecord, kindOf, headStop, byte, relationStop, fieldFault}
 use Rattle.literals.specs.Decode.{actionStop, literalStop, atRecord, atLabel, componentOf, countedAgain, keyAgain, keyTooHigh}
 use Rattle.literals.specs.Decode.{labelFault, keysCleared, clearedFault, closingStop, fieldStop, stopOf, stopAt, refuseAt, extend}
 use Rattle.literals.specs.Decode.{Refusal, refuse, Decoded, refused, domain, Reading, ReadTurn, goOn, finish, readRecord, readFound}
 use Rattle.literals.specs.Decode.{readStep, Finished, readFrom, fromStart, readFile, decode}
-use Rattle.literals.proofs.Stops.{literalRows, componentRows, labelsFault, lastFault, component-number}
+use Rattle.literals.proofs.Stops.{headRows, head-number, literalRows, componentRows, labelsFault, lastFault, component-number}
 
 -- ---- the number that stops a record
 
@@ -39,8 +39,7 @@ stop-rows : (rows : List (Bool × ℕ)) (n : ℕ) → numbered (λ m. leb 9 m &&
 stop-rows rows n t h = by-numbers 9 27 Stop (λ m l u. inr (l, u)) rows n t (λ g. h)
 
 stop-head : (D : Domain) (k : RecordKind) → Stop (headStop D k)
-unfolding headStop
-stop-head D k = stop-rows ((isUnknown k, 11) ∷ (outOfOrder D k, 13) ∷ (atLimit D k, 14) ∷ []) 0 refl (inl refl)
+stop-head D k = rw (head-number D k) (stop-rows (headRows D k) 0 refl (inl refl))
 
 stop-label : (n : ℕ) (ls : List Label) → Stop (labelFault n ls .number)
 unfolding labelFault
@@ -74,10 +73,10 @@ stop-field D closingRecord p = stop-rows ((not (eqb (length p) 0), 12) ∷ (empt
 stop-field D unknownRecord p = inl refl
 
 pub stop-of : (D : Domain) (k : RecordKind) (p : List ℕ) → Stop (stopOf D k p)
-unfolding stopOf
+unfolding stopOf fieldStop
 stop-of D k p = go (eqb (headStop D k) 0)
   where
-    go : (b : Bool) → Stop (cond b (fieldStop D k p) (headStop D k))
+    go : (b : Bool) → Stop (cond b (fieldFault D k p) (atRecord (headStop D k)) .number)
     go true = stop-field D k p
     go false = stop-head D k
 
@@ -91,19 +90,23 @@ abbrev RefusesAt : ReadTurn → Type 0
 RefusesAt (goOn q) = Unit {0}
 RefusesAt (finish d) = RefusesBy d
 
-refuses-record : (r : Reading) (k : RecordKind) (p : List ℕ) (behind : ℕ) → RefusesAt (readRecord r k p behind)
-unfolding readRecord stopAt
-refuses-record r k p behind = go (eqb (stopOf (r .sofar) k p) 0) refl (stop-of (r .sofar) k p)
+refuses-record : (r : Reading) (k : ℕ) (p : List ℕ) (behind : ℕ) → RefusesAt (readRecord r k p behind)
+unfolding readRecord stopOf
+refuses-record r k p behind = go (eqb stop 0) refl (stop-of (r .sofar) (kindOf k) p)
   where
-    go : (b : Bool) → eqb (stopOf (r .sofar) k p) 0 ≡ b → Stop (stopOf (r .sofar) k p)
-        → RefusesAt (cond b (goOn (record { at = behind; closed = isClosing k; sofar = extend (r .sofar) k p })) (finish (refused (refuseAt (stopAt (r .sofar) k p) (r .at)))))
+    stop : ℕ
+    stop = stopOf (r .sofar) (kindOf k) p
+
+    go : (b : Bool) → eqb stop 0 ≡ b → Stop stop
+        → RefusesAt (cond b (goOn (record { at = behind; closed = eqb k 5; sofar = extend (r .sofar) (kindOf k) p }))
+        (finish (refused (refuseAt (stopAt (r .sofar) (kindOf k) p) (r .at)))))
     go true e h = tt
-    go false e (inl z) = absurd (eqb-false (stopOf (r .sofar) k p) 0 e z)
+    go false e (inl z) = absurd (eqb-false stop 0 e z)
     go false e (inr h) = h
 
 refuses-found : (s : List ℕ) (r : Reading) (f : Record) → RefusesAt (readFound s r f)
 unfolding readFound
-refuses-found s r (Whole k start len) = refuses-record r (kindOf k) (payload s start len) (start + len)
+refuses-found s r (Whole k start len) = refuses-record r k (payload s start len) (start + len)
 refuses-found s r Cut = (omega arith, omega arith)
 refuses-found s r End = (omega arith, omega arith)
 

@@ -1,22 +1,67 @@
 -- What is known of a record that no number stops. Assumes nothing.
-use mathlib.Core.Path.{_≡_, refl, sym, _∙_}
-use mathlib.Core.Bool.{Bool, true, false, _&&_, not, cond}
+use mathlib.Core.Path.{_≡_, refl, sym, ap, _∙_}
+use mathlib.Core.Bool.{Bool, true, false, _&&_, _||_, not, cond}
 use mathlib.Core.List.{List, [], _∷_, _++_}
 use Prim.Native.Nat.{ℕ, _+_, _≤_, _<_}
 use lib.Dec.{eqb, ltb, leb}
 use lib.ListN.{length, drop}
 use native.Mathlib.Omega.{arith}
 use borrow.Author.Tests.{ltb-true, ltb-false, leb-false, eqb-true, eqb-false, eq-eqb, ne-eqb}
-use Rattle.records.specs.Lists.{any}
+use Rattle.records.specs.Lists.{any, empty}
 use Rattle.records.proofs.Lists.{and-l, and-r, not-false, clash, or-out}
 use Rattle.records.proofs.Numbers.{numberOf, numbered, none-passes}
 use Rattle.literals.specs.declared.RecordFault.{RecordFault}
 use Rattle.literals.specs.Domain.{clearsOnce, Action, Component, keysOf, labelsFit, Domain, arity}
-use Rattle.literals.specs.Decode.{RecordKind, relationRecord, actionRecord, literalRecord, componentRecord, closingRecord}
-use Rattle.literals.specs.Decode.{unknownRecord, latest, isUnknown, outOfOrder, atLimit, headStop, byte, relationStop, actionStop}
+use Rattle.literals.specs.Decode.{maxRelations, maxActions, maxLiterals, maxComponents, RecordKind, relationRecord, actionRecord}
+use Rattle.literals.specs.Decode.{literalRecord, componentRecord, closingRecord, unknownRecord, latest, headStop, byte}
+use Rattle.literals.specs.Decode.{relationStop, actionStop, fieldFault, stopAt}
 use Rattle.literals.specs.Decode.{literalOf, repeats, contradicts, noRole, noVariable, literalStop, atRecord, componentOf, labelFault}
 use Rattle.literals.specs.Decode.{keysCleared, clearedFault, componentFault, componentStop, fieldStop, fieldPlace, stopOf, stopPlace}
 use Rattle.literals.proofs.Labels.{passes-fit, passes-place}
+
+-- ---- the head of a record, test by test
+
+abbrev pub isUnknown : RecordKind → Bool
+isUnknown relationRecord = false
+isUnknown actionRecord = false
+isUnknown literalRecord = false
+isUnknown componentRecord = false
+isUnknown closingRecord = false
+isUnknown unknownRecord = true
+
+abbrev pub outOfOrder : Domain → RecordKind → Bool
+outOfOrder D relationRecord = not (empty (D .actions) && empty (D .template))
+outOfOrder D actionRecord = not (empty (D .template))
+outOfOrder D literalRecord = empty (D .actions) || not (empty (D .template))
+outOfOrder D componentRecord = false
+outOfOrder D closingRecord = false
+outOfOrder D unknownRecord = false
+
+abbrev pub atLimit : Domain → RecordKind → Bool
+atLimit D relationRecord = leb maxRelations (length (D .arities))
+atLimit D actionRecord = leb maxActions (length (D .actions))
+atLimit D literalRecord = leb maxLiterals (length (latest (D .actions) .lits))
+atLimit D componentRecord = leb maxComponents (length (D .template))
+atLimit D closingRecord = false
+atLimit D unknownRecord = false
+
+abbrev pub headRows : Domain → RecordKind → List (Bool × ℕ)
+headRows D k = (isUnknown k, 11) ∷ (outOfOrder D k, 13) ∷ (atLimit D k, 14) ∷ []
+
+pub head-number : (D : Domain) (k : RecordKind) → headStop D k ≡ numberOf (headRows D k) 0
+unfolding headStop
+head-number D relationRecord = refl
+head-number D actionRecord = refl
+head-number D literalRecord = refl
+head-number D componentRecord = refl
+head-number D closingRecord = refl
+head-number D unknownRecord = refl
+
+-- what stops a record, by the number of its head
+pub stop-by-head : (D : Domain) (k : RecordKind) (p : List ℕ) {n : ℕ} → headStop D k ≡ n
+    → stopAt D k p ≡ cond (eqb n 0) (fieldFault D k p) (atRecord n)
+unfolding stopAt
+stop-by-head D k p e = ap (λ (n : ℕ). cond (eqb n 0) (fieldFault D k p) (atRecord n)) e
 
 -- ---- head and fields
 
@@ -27,12 +72,12 @@ pub record Passes (D : Domain) (k : RecordKind) (p : List ℕ) : Type 0 where
   pub fields : fieldStop D k p ≡ 0
 
 pub passes : (D : Domain) (k : RecordKind) (p : List ℕ) → stopOf D k p ≡ 0 → Passes D k p
-unfolding stopOf headStop
+unfolding stopOf fieldStop
 passes D k p e = go (eqb (headStop D k) 0) refl e
   where
-    go : (b : Bool) → eqb (headStop D k) 0 ≡ b → cond b (fieldStop D k p) (headStop D k) ≡ 0 → Passes D k p
+    go : (b : Bool) → eqb (headStop D k) 0 ≡ b → cond b (fieldFault D k p) (atRecord (headStop D k)) .number ≡ 0 → Passes D k p
     go true q z =
-        let r = none-passes ((isUnknown k, 11) ∷ (outOfOrder D k, 13) ∷ (atLimit D k, 14) ∷ []) 0 refl (eqb-true (headStop D k) 0 q) .0 in
+        let r = none-passes (headRows D k) 0 refl (sym (head-number D k) ∙ eqb-true (headStop D k) 0 q) .0 in
         record { known = r 0; order = r 1; room = r 2; fields = z }
     go false q z = absurd (clash (eq-eqb (headStop D k) 0 z) q)
 
@@ -196,10 +241,10 @@ component-passes D p e =
 
 -- a record whose fields have no place of their own, or whose head stops it, is at fault itself
 by-fields : (D : Domain) (k : RecordKind) (p : List ℕ) → fieldPlace D k p ≡ 0 → stopPlace D k p ≡ 0
-unfolding stopPlace
+unfolding stopPlace fieldPlace
 by-fields D k p e = go (eqb (headStop D k) 0)
   where
-    go : (b : Bool) → cond b (fieldPlace D k p) 0 ≡ 0
+    go : (b : Bool) → cond b (fieldFault D k p) (atRecord (headStop D k)) .within ≡ 0
     go true = e
     go false = refl
 

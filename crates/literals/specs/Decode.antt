@@ -52,29 +52,10 @@ maxComponents = 16
 pub data RecordKind : Type 0 where
   relationRecord actionRecord literalRecord componentRecord closingRecord unknownRecord : RecordKind
 
+-- of a number, from 0 on
 abbrev pub kindOf : ℕ → RecordKind
 kindOf k =
-    cond (eqb k 1) relationRecord
-    (cond (eqb k 2) actionRecord
-    (cond (eqb k 3) literalRecord
-    (cond (eqb k 4) componentRecord
-    (cond (eqb k 5) closingRecord unknownRecord))))
-
-abbrev pub isUnknown : RecordKind → Bool
-isUnknown relationRecord = false
-isUnknown actionRecord = false
-isUnknown literalRecord = false
-isUnknown componentRecord = false
-isUnknown closingRecord = false
-isUnknown unknownRecord = true
-
-abbrev pub isClosing : RecordKind → Bool
-isClosing relationRecord = false
-isClosing actionRecord = false
-isClosing literalRecord = false
-isClosing componentRecord = false
-isClosing closingRecord = true
-isClosing unknownRecord = false
+    getD (unknownRecord ∷ relationRecord ∷ actionRecord ∷ literalRecord ∷ componentRecord ∷ closingRecord ∷ []) k unknownRecord
 
 -- ---- record head, of the domain read so far
 
@@ -84,27 +65,20 @@ latest [] = noAction
 latest (a ∷ []) = a
 latest (a ∷ b ∷ bs) = latest (b ∷ bs)
 
--- "Order: relations, actions each followed by its literals, components, one closing record."
-abbrev pub outOfOrder : Domain → RecordKind → Bool
-outOfOrder D relationRecord = not (empty (D .actions) && empty (D .template))
-outOfOrder D actionRecord = not (empty (D .template))
-outOfOrder D literalRecord = empty (D .actions) || not (empty (D .template))
-outOfOrder D componentRecord = false
-outOfOrder D closingRecord = false
-outOfOrder D unknownRecord = false
+-- "13 kind out of order; 14 over a limit", or 0
+abbrev pub lateOrFull : Bool → Bool → ℕ
+lateOrFull late full = cond late 13 (cond full 14 0)
 
--- one record more would exceed a limit
-abbrev pub atLimit : Domain → RecordKind → Bool
-atLimit D relationRecord = leb maxRelations (length (D .arities))
-atLimit D actionRecord = leb maxActions (length (D .actions))
-atLimit D literalRecord = leb maxLiterals (length (latest (D .actions) .lits))
-atLimit D componentRecord = leb maxComponents (length (D .template))
-atLimit D closingRecord = false
-atLimit D unknownRecord = false
-
--- "11 unknown kind; 13 kind out of order; 14 over a limit", or 0
+-- "11 unknown kind", then "Order: relations, actions each followed by its literals, components, one closing record.", then the limit, which
+-- one record more would exceed
 unfoldable pub headStop : Domain → RecordKind → ℕ
-headStop D k = cond (isUnknown k) 11 (cond (outOfOrder D k) 13 (cond (atLimit D k) 14 0))
+headStop D relationRecord = lateOrFull (not (empty (D .actions) && empty (D .template))) (leb maxRelations (length (D .arities)))
+headStop D actionRecord = lateOrFull (not (empty (D .template))) (leb maxActions (length (D .actions)))
+headStop D literalRecord =
+    lateOrFull (empty (D .actions) || not (empty (D .template))) (leb maxLiterals (length (latest (D .actions) .lits)))
+headStop D componentRecord = lateOrFull false (leb maxComponents (length (D .template)))
+headStop D closingRecord = 0
+headStop D unknownRecord = 11
 
 -- ---- fields, then the rows "literal", "component" and "closing": the number that stops the record, or 0
 
@@ -228,46 +202,24 @@ componentFault D p =
     (cond (any (λ (d : Component). eqb (c .rel) (d .rel)) (D .template)) (atRecord 22)
     (clearedFault (D .actions) c (labelFault (keysOf (D .template ++ (c ∷ []))) (c .labels))))))
 
-unfoldable pub componentStop : Domain → List ℕ → ℕ
-unfolding componentFault
-componentStop D p = componentFault D p .number
-
 -- "no payload", "23 no component"
 unfoldable pub closingStop : Domain → List ℕ → ℕ
 closingStop D p = cond (not (eqb (length p) 0)) 12 (cond (empty (D .template)) 23 0)
 
-unfoldable pub fieldStop : Domain → RecordKind → List ℕ → ℕ
-unfolding relationStop actionStop literalStop componentStop closingStop
-fieldStop D relationRecord p = relationStop p
-fieldStop D actionRecord p = actionStop p
-fieldStop D literalRecord p = literalStop D p
-fieldStop D componentRecord p = componentStop D p
-fieldStop D closingRecord p = closingStop D p
-fieldStop D unknownRecord p = 0
+-- of each kind; only a label has a place of its own
+unfoldable pub fieldFault : Domain → RecordKind → List ℕ → RecordFault
+unfolding relationStop actionStop literalStop componentFault closingStop
+fieldFault D relationRecord p = atRecord (relationStop p)
+fieldFault D actionRecord p = atRecord (actionStop p)
+fieldFault D literalRecord p = atRecord (literalStop D p)
+fieldFault D componentRecord p = componentFault D p
+fieldFault D closingRecord p = atRecord (closingStop D p)
+fieldFault D unknownRecord p = atRecord 0
 
--- how far behind the record's start what stops its fields stands: a label has a place of its own
-unfoldable pub fieldPlace : Domain → RecordKind → List ℕ → ℕ
-unfolding componentFault
-fieldPlace D relationRecord p = 0
-fieldPlace D actionRecord p = 0
-fieldPlace D literalRecord p = 0
-fieldPlace D componentRecord p = componentFault D p .within
-fieldPlace D closingRecord p = 0
-fieldPlace D unknownRecord p = 0
-
--- "each down the rows": the number that stops a whole record, or 0
-unfoldable pub stopOf : Domain → RecordKind → List ℕ → ℕ
-unfolding headStop fieldStop
-stopOf D k p = cond (eqb (headStop D k) 0) (fieldStop D k p) (headStop D k)
-
-unfoldable pub stopPlace : Domain → RecordKind → List ℕ → ℕ
-unfolding headStop fieldPlace
-stopPlace D k p = cond (eqb (headStop D k) 0) (fieldPlace D k p) 0
-
--- the number with its place: what the test of a whole record answers
+-- "each down the rows": what stops a whole record, with its place; number 0 where nothing does
 unfoldable pub stopAt : Domain → RecordKind → List ℕ → RecordFault
-unfolding stopOf stopPlace
-stopAt D k p = record { number = stopOf D k p; within = stopPlace D k p }
+unfolding headStop fieldFault
+stopAt D k p = cond (eqb (headStop D k) 0) (fieldFault D k p) (atRecord (headStop D k))
 
 -- ---- the domain with one record more
 
@@ -320,18 +272,18 @@ pub data ReadTurn : Type 0 where
   goOn : Reading → ReadTurn
   finish : Decoded → ReadTurn
 
--- a whole record, of this kind and payload, and the offset behind it
-unfoldable pub readRecord : Reading → RecordKind → List ℕ → ℕ → ReadTurn
-unfolding stopOf extend stopAt
+-- a whole record, of this kind and payload, and the offset behind it; "Kind 5, closing"
+unfoldable pub readRecord : Reading → ℕ → List ℕ → ℕ → ReadTurn
+unfolding stopAt extend
 readRecord r k p behind =
-    cond (eqb (stopOf (r .sofar) k p) 0)
-    (goOn (record { at = behind; closed = isClosing k; sofar = extend (r .sofar) k p }))
-    (finish (refused (refuseAt (stopAt (r .sofar) k p) (r .at))))
+    cond (eqb (stopAt (r .sofar) (kindOf k) p .number) 0)
+    (goOn (record { at = behind; closed = eqb k 5; sofar = extend (r .sofar) (kindOf k) p }))
+    (finish (refused (refuseAt (stopAt (r .sofar) (kindOf k) p) (r .at))))
 
 -- "10 cut short or no closing record"
 unfoldable pub readFound : List ℕ → Reading → Record → ReadTurn
 unfolding readRecord payload
-readFound s r (Whole k start len) = readRecord r (kindOf k) (payload s start len) (start + len)
+readFound s r (Whole k start len) = readRecord r k (payload s start len) (start + len)
 readFound s r Cut = finish (refused (refuse 10 (r .at)))
 readFound s r End = finish (refused (refuse 10 (r .at)))
 
@@ -370,3 +322,25 @@ readFile f =
 unfoldable pub decode : List ℕ → Decoded
 unfolding readFile
 decode f = readFile f .result
+
+-- ---- number and place of a fault apart, as the code's functions answer them: nothing above speaks of these
+
+unfoldable pub componentStop : Domain → List ℕ → ℕ
+unfolding componentFault
+componentStop D p = componentFault D p .number
+
+unfoldable pub fieldStop : Domain → RecordKind → List ℕ → ℕ
+unfolding fieldFault componentStop
+fieldStop D k p = fieldFault D k p .number
+
+unfoldable pub fieldPlace : Domain → RecordKind → List ℕ → ℕ
+unfolding fieldFault
+fieldPlace D k p = fieldFault D k p .within
+
+unfoldable pub stopOf : Domain → RecordKind → List ℕ → ℕ
+unfolding stopAt
+stopOf D k p = stopAt D k p .number
+
+unfoldable pub stopPlace : Domain → RecordKind → List ℕ → ℕ
+unfolding stopAt
+stopPlace D k p = stopAt D k p .within

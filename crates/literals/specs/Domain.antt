@@ -137,10 +137,7 @@ pub record Literal : Type 0 where
 
 -- the clauses that may have FF: "in a false condition or a delete"
 abbrev pub mayClear : Clause → Bool
-mayClear Positive = false
-mayClear Negative = true
-mayClear Add = false
-mayClear Delete = true
+mayClear c = sameClause c Negative || sameClause c Delete
 
 -- FF "in a false condition or a delete .., at most one in a literal"
 abbrev pub clearsOnce : Literal → Bool

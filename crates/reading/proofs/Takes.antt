@@ -15,14 +15,14 @@ use Rattle.literals.specs.declared.RecordFault.{RecordFault}
 use Rattle.literals.specs.declared.span.Span.{Span}
 use Rattle.literals.specs.Domain.{Literal, clearsOnce, Action, Component, keysOf, Domain, arity, noAction, action}
 use Rattle.literals.specs.Decode.{maxRelations, maxArguments, maxActions, maxLiterals, maxComponents, RecordKind, relationRecord}
-use Rattle.literals.specs.Decode.{actionRecord, literalRecord, componentRecord, closingRecord, unknownRecord, latest, outOfOrder, atLimit}
-use Rattle.literals.specs.Decode.{headStop, byte, relationStop, actionStop, literalOf, repeats, contradicts, noVariable, literalStop}
+use Rattle.literals.specs.Decode.{actionRecord, literalRecord, componentRecord, closingRecord, unknownRecord, latest, byte}
+use Rattle.literals.specs.Decode.{headStop, relationStop, actionStop, literalOf, repeats, contradicts, noVariable, literalStop}
 use Rattle.literals.specs.Decode.{atRecord, componentOf, labelFault, keysCleared, clearedFault, componentFault, componentStop, closingStop}
 use Rattle.literals.specs.Decode.{fieldStop, fieldPlace, stopOf, stopPlace, extend}
 use Rattle.literals.specs.Table.{literalRow, allLiterals, rowsIn, rowsRank}
 use Rattle.literals.specs.Held.{relationsIn, actionsIn, componentsIn, arityIn, partsIn, variablesIn, lastingIn, HeadOf, Held, SpanOf, Filled}
 use Rattle.literals.specs.Fields.{literalFields, componentFields, keyClearedIn}
-use Rattle.literals.proofs.Stops.{lastFault, faults-split}
+use Rattle.literals.proofs.Stops.{outOfOrder, atLimit, lastFault, faults-split}
 use Rattle.literals.proofs.Bounds.{arity-six, variables-below}
 use Rattle.literals.proofs.Tables.{any-component, Comparable, kept, length-literal-row, rows-flat, literals-stop, cleared-rows}
 use Rattle.literals.proofs.Held.{stop-order, stop-limit, stop-field, place-limit, place-field}

@@ -16,7 +16,10 @@ use Rattle.records.proofs.Laws.{whole-within}
 use Rattle.records.proofs.Memory.{length-over}
 use Rattle.literals.specs.declared.RecordFault.{RecordFault}
 use Rattle.literals.specs.Domain.{Action, Domain}
-use Rattle.literals.specs.Decode.{maxFile, maxLiterals, latest, RecordKind, relationRecord, actionRecord, literalRecord, componentRecord, closingRecord, unknownRecord, kindOf, isClosing, literalOf, withLiteral, actionOf, fieldStop, stopOf, stopPlace, stopAt, extend, Refusal, refuse, refuseAt, Decoded, refused, domain, Reading, ReadTurn, goOn, finish, readRecord, readFound, readStep, Finished, readFrom, noDomain, fromStart, readFile, decode}
+use Rattle.literals.specs.Decode.{maxFile, maxLiterals, latest, RecordKind, relationRecord, actionRecord, literalRecord, componentRecord}
+use Rattle.literals.specs.Decode.{closingRecord, unknownRecord, kindOf, literalOf, withLiteral, actionOf, fieldStop, stopOf, stopPlace}
+use Rattle.literals.specs.Decode.{stopAt, extend, Refusal, refuse, refuseAt, Decoded, refused, domain, Reading, ReadTurn, goOn, finish}
+use Rattle.literals.specs.Decode.{readRecord, readFound, readStep, Finished, readFrom, noDomain, fromStart, readFile, decode}
 use Rattle.literals.specs.Table.{allLiterals, tableBytes, Bounded}
 use Rattle.literals.specs.Held.{headBytes}
 use Rattle.literals.proofs.Stops.{passes, literal-passes}
@@ -80,20 +83,6 @@ record-ready {p} {s} {head} {t} r {k} {start} {len} e =
       room = λ l f. row-fits s t (r .stands .holds .filled .says .bounded) (r .reading .at) (r .read) (omega (arith, w .fits, w .start)) (r .enough) f;
     }
 
-closing-five : (k : ℕ) → eqb k 5 ≡ isClosing (kindOf k)
-closing-five k = go (eqb k 5) refl
-  where
-    other : (a b c d : Bool) → false ≡ isClosing (cond a relationRecord (cond b actionRecord (cond c literalRecord (cond d componentRecord unknownRecord))))
-    other true b c d = refl
-    other false true c d = refl
-    other false false true d = refl
-    other false false false true = refl
-    other false false false false = refl
-
-    go : (t : Bool) → eqb k 5 ≡ t → eqb k 5 ≡ isClosing (kindOf k)
-    go true e = rw (eqb-true k 5 e)
-    go false e = rw e (other (eqb k 1) (eqb k 2) (eqb k 3) (eqb k 4))
-
 module _ (s : List ℕ) (p : Progress) {old : List ℕ} {q : Reading} {head t : List ℕ} (S : Standing old q p head t) where
   closed-is : {b : Bool} → p .closed ≡ b → q .closed ≡ b
   closed-is e = sym (S .closed) ∙ e
@@ -135,7 +124,7 @@ module _ (s : List ℕ) (p : Progress) {old : List ℕ} {q : Reading} {head t : 
     unfolding payload
     part-is = let z : start + len - start ≡ len = omega arith in ap (λ (n : ℕ). take n (drop start s)) z
 
-    record-is : readStep s q ≡ readRecord q (kindOf k) (payload s start len) (start + len)
+    record-is : readStep s q ≡ readRecord q k (payload s start len) (start + len)
     unfolding readFound
     record-is = found (Whole k start len) c e
 
@@ -146,14 +135,14 @@ module _ (s : List ℕ) (p : Progress) {old : List ℕ} {q : Reading} {head t : 
     within-is = sym (placed ∙ ap (stopPlace (q .sofar) (kindOf k)) part-is)
 
     pub step-on : o .number ≡ 0 → LeadsTo old q (readStep s q) (record { number = 0; place = 0; progress = record { at = start + len; closed = eqb k 5 } }) after rows
-    unfolding readRecord
+    unfolding readRecord stopOf
     step-on z = rw turn (refl, stands)
       where
         ok : stopOf (q .sofar) (kindOf k) (payload s start len) ≡ 0
         ok = number-is ∙ z
 
         next : Reading
-        next = record { at = start + len; closed = isClosing (kindOf k); sofar = extend (q .sofar) (kindOf k) (payload s start len) }
+        next = record { at = start + len; closed = eqb k 5; sofar = extend (q .sofar) (kindOf k) (payload s start len) }
 
         holds : HeldOver old (extend (q .sofar) (kindOf k) (payload s start len)) after rows
         holds =
@@ -161,13 +150,13 @@ module _ (s : List ℕ) (p : Progress) {old : List ℕ} {q : Reading} {head t : 
             (ap (behind (q .sofar) (kindOf k)) part-is ∙ behind-done (q .sofar) (kindOf k) (payload s start len) ok) (taken .1)
 
         stands : Standing old next (record { at = start + len; closed = eqb k 5 }) after rows
-        stands = record { at = refl; closed = closing-five k; holds = holds }
+        stands = record { at = refl; closed = refl; holds = holds }
 
         turn : readStep s q ≡ goOn next
         turn = record-is ∙ simp (eq-eqb (stopOf (q .sofar) (kindOf k) (payload s start len)) 0 ok)
 
     pub step-stop : (o .number ≡ 0 → ⊥) → {w : ℕ} → w ≡ o .within → LeadsTo old q (readStep s q) (record { number = o .number; place = p .at + w; progress = p }) after rows
-    unfolding readRecord stopAt
+    unfolding readRecord stopOf stopPlace
     step-stop z d = rw turn (refl, ap₂ _+_ (S .at) d, S .at, rows-are)
       where
         rows-are : rows ≡ over (tableBytes (q .sofar)) old
@@ -181,7 +170,8 @@ module _ (s : List ℕ) (p : Progress) {old : List ℕ} {q : Reading} {head t : 
         turn : readStep s q ≡ finish (refused (refusal (o .number) (o .within)))
         turn =
             let b = ne-eqb (stopOf (q .sofar) (kindOf k) (payload s start len)) 0 (λ x. z (sym number-is ∙ x)) in
-            let r : readRecord q (kindOf k) (payload s start len) (start + len) ≡ finish (refused (refuseAt (stopAt (q .sofar) (kindOf k) (payload s start len)) (q .at))) = simp b in
+            let f = stopAt (q .sofar) (kindOf k) (payload s start len) in
+            let r : readRecord q k (payload s start len) (start + len) ≡ finish (refused (refuseAt f (q .at))) = simp b in
             record-is ∙ r ∙ ap₂ (λ (n w : ℕ). finish (refused (refusal n w))) number-is within-is
 
 -- ---- the loop

@@ -2,12 +2,11 @@
 use mathlib.Core.Path.{_≡_, refl, sym, ap, ap₂, subst, _∙_}
 use mathlib.Core.Bool.{Bool, true, false, cond}
 use mathlib.Core.List.{List, [], _∷_, _++_, flatMap, append-nil}
-use Prim.Native.Nat.{ℕ, _*_, _≤_, _<_}
+use Prim.Native.Nat.{ℕ, zero, suc, _*_, _≤_, _<_}
 use native.Mathlib.Omega.{arith}
 use lib.Dec.{eqb}
 use lib.ListN.{length}
 use lib.Seq.{paste}
-use borrow.Author.Tests.{eq-eqb, ne-eqb}
 use Rattle.records.specs.Lists.{empty}
 use Rattle.records.specs.Memory.{over}
 use Rattle.records.proofs.Lists.{clash, or-out, flatMap-snoc}
@@ -102,19 +101,25 @@ module _ (D : Domain) (p : List ℕ) (k : ℕ) (j : RecordKind) (e : kindOf k �
   place-by x = x ∙ ap (λ (i : RecordKind). stopPlace D i p) (sym e)
 
 pub kind-1 : (k : ℕ) → k ≡ 1 → kindOf k ≡ relationRecord
-kind-1 k e = simp (eq-eqb k 1 e)
+kind-1 k e = ap kindOf e
 
 pub kind-2 : (k : ℕ) → k ≡ 2 → kindOf k ≡ actionRecord
-kind-2 k e = simp (ne-eqb k 1 (omega arith), eq-eqb k 2 e)
+kind-2 k e = ap kindOf e
 
 pub kind-3 : (k : ℕ) → k ≡ 3 → kindOf k ≡ literalRecord
-kind-3 k e = simp (ne-eqb k 1 (omega arith), ne-eqb k 2 (omega arith), eq-eqb k 3 e)
+kind-3 k e = ap kindOf e
 
 pub kind-4 : (k : ℕ) → k ≡ 4 → kindOf k ≡ componentRecord
-kind-4 k e = simp (ne-eqb k 1 (omega arith), ne-eqb k 2 (omega arith), ne-eqb k 3 (omega arith), eq-eqb k 4 e)
+kind-4 k e = ap kindOf e
 
 pub kind-5 : (k : ℕ) → k ≡ 5 → kindOf k ≡ closingRecord
-kind-5 k e = simp (ne-eqb k 1 (omega arith), ne-eqb k 2 (omega arith), ne-eqb k 3 (omega arith), ne-eqb k 4 (omega arith), eq-eqb k 5 e)
+kind-5 k e = ap kindOf e
 
 pub kind-other : (k : ℕ) → (k ≡ 1 → ⊥) → (k ≡ 2 → ⊥) → (k ≡ 3 → ⊥) → (k ≡ 4 → ⊥) → (k ≡ 5 → ⊥) → kindOf k ≡ unknownRecord
-kind-other k a b c d e = simp (ne-eqb k 1 a, ne-eqb k 2 b, ne-eqb k 3 c, ne-eqb k 4 d, ne-eqb k 5 e)
+kind-other zero a b c d e = refl
+kind-other (suc zero) a b c d e = absurd (a refl)
+kind-other (suc (suc zero)) a b c d e = absurd (b refl)
+kind-other (suc (suc (suc zero))) a b c d e = absurd (c refl)
+kind-other (suc (suc (suc (suc zero)))) a b c d e = absurd (d refl)
+kind-other (suc (suc (suc (suc (suc zero))))) a b c d e = absurd (e refl)
+kind-other (suc (suc (suc (suc (suc (suc k)))))) a b c d e = refl
