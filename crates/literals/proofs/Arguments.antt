@@ -3,23 +3,20 @@ use mathlib.Core.Path.{_≡_, refl, sym, ap, ap₂, _∙_}
 use mathlib.Core.Bool.{Bool, true, false, _&&_, _||_, not, cond, false≢true}
 use mathlib.Core.Logic.{_⊎_, inl, inr}
 use mathlib.Core.List.{List, [], _∷_, _++_, map, List·Memᴰ·head, List·Memᴰ·tail, List·Memᴰ·not-nil}
-use Prim.Native.Nat.{ℕ, _%_, _≤_, _<_}
+use Prim.Native.Nat.{ℕ, _<_}
 use native.Mathlib.Omega.{arith}
 use lib.Dec.{eqb, ltb, leb}
 use lib.ListN.{length, drop, replicate}
 use borrow.Author.Tests.{eqb-true, eqb-false, ne-eqb, le-leb, lt-leb}
-use Rattle.records.specs.Lists.{In, countBy, sameList, sideBySide}
-use Rattle.records.proofs.Lists.{and-l, and-r, and-i, or-l, or-cases, not-true, clash, eqb-same, eqb-comm, sameList-self, count-map}
-use Rattle.records.proofs.Lists.{allBelow, below-in}
+use Rattle.records.specs.Lists.{In, countBy, sameList}
+use Rattle.records.proofs.Lists.{or-l, or-cases, not-true, clash, eqb-same, eqb-comm, sameList-self, count-map}
 use Rattle.literals.specs.declared.Variable.{Variable}
 use Rattle.literals.specs.declared.Argument.{Argument}
 use Rattle.literals.specs.declared.Argument.the-variants.{Variable as bound, Every}
 use Rattle.literals.specs.declared.Label.{Label}
 use Rattle.literals.specs.declared.Label.the-variants.{Key as keyed, Counted}
-use Rattle.literals.specs.declared.Clause.{Clause}
-use Rattle.literals.specs.declared.Clause.the-variants.{Positive, Negative, Add, Delete}
-use Rattle.literals.specs.Domain.{variable, key, sameVariable, sameArgument, meetArgument, isEvery, variableBelow, variablesOf, Atom}
-use Rattle.literals.specs.Domain.{meets, roleOf, Literal, mayClear, clearsOnce, Component, isCounted, keysBound, keepsKeys}
+use Rattle.literals.specs.Domain.{variable, key, sameArgument, meetArgument, isEvery, variableBelow, variablesOf, Atom}
+use Rattle.literals.specs.Domain.{meets, roleOf, mayClear, clearsOnce, Component, isCounted, keysBound, keepsKeys}
 use Rattle.literals.specs.Decode.{byte, argumentOf, literalOf, noVariable, labelOf}
 use Rattle.literals.specs.Fields.{keyBeside}
 use Rattle.literals.specs.Table.{argumentNumber, meetByte}

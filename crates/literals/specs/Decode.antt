@@ -52,7 +52,7 @@ maxComponents = 16
 pub data RecordKind : Type 0 where
   relationRecord actionRecord literalRecord componentRecord closingRecord unknownRecord : RecordKind
 
--- of a number, from 0 on
+-- by their numbers, from 0 on; those above 5 are of no kind
 abbrev pub kindOf : ℕ → RecordKind
 kindOf k =
     getD (unknownRecord ∷ relationRecord ∷ actionRecord ∷ literalRecord ∷ componentRecord ∷ closingRecord ∷ []) k unknownRecord

@@ -1,5 +1,5 @@
 -- The table with one record more. Assumes nothing.
-use mathlib.Core.Path.{_≡_, refl, sym, ap, ap₂, subst, _∙_}
+use mathlib.Core.Path.{_≡_, refl, sym, ap, subst, _∙_}
 use mathlib.Core.Bool.{Bool, true, false, cond}
 use mathlib.Core.List.{List, [], _∷_, _++_, flatMap, append-nil}
 use Prim.Native.Nat.{ℕ, zero, suc, _*_, _≤_, _<_}
@@ -12,7 +12,7 @@ use Rattle.records.specs.Memory.{over}
 use Rattle.records.proofs.Lists.{clash, or-out, flatMap-snoc}
 use Rattle.literals.specs.Domain.{Domain}
 use Rattle.literals.specs.Decode.{RecordKind, relationRecord, actionRecord, literalRecord, componentRecord, closingRecord, unknownRecord, kindOf, latest, byte, literalOf, actionOf, fieldStop, stopOf, stopPlace, extend}
-use Rattle.literals.specs.Table.{rowOf, literalRow, allLiterals, tableBytes, Bounded}
+use Rattle.literals.specs.Table.{rowOf, literalRow, allLiterals, tableBytes}
 use Rattle.literals.specs.Held.{Filled}
 use Rattle.literals.proofs.Stops.{passes, literal-passes, role-nine}
 use Rattle.literals.proofs.Tables.{over-row, payload-row}
