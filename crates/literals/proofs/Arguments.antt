@@ -144,9 +144,9 @@ same-arguments (bound u ∷ us) (Every ∷ vs) e h g m = let k = h u (List·Mem�
 same-arguments (Every ∷ us) (bound v ∷ vs) e h g m = let k = g v (List·Memᴰ·head refl) in rw (ne-eqb 255 (v .0) (λ z. omega arith))
 same-arguments (Every ∷ us) (Every ∷ vs) e h g m = same-arguments us vs (omega arith) h g m
 
--- an argument's number is FF only where it is FF
-pub every-number : (vs : List Argument) → Small vs → (v : Argument) → In v vs → eqb (argumentNumber v) 255 ≡ isEvery v
-every-number vs h (bound v) m = let k = h v (in-variables vs m) in ne-eqb (v .0) 255 (λ z. omega arith)
+-- the number of an argument is FF only where the argument is
+pub every-number : (vs : List Argument) → Small vs → (v : Argument) → In v vs → isEvery (argumentOf (argumentNumber v)) ≡ isEvery v
+every-number vs h (bound v) m = let k = h v (in-variables vs m) in rw (ne-eqb (v .0) 255 (λ z. omega arith))
 every-number vs h Every m = refl
 
 -- ---- whether they meet, by their numbers

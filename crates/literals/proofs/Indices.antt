@@ -32,6 +32,9 @@ module _ (p : ℕ → Bool) (n i : ℕ) where
   pub any-end : n ≤ i → any p (left n i) ≡ false
   any-end h = rw (left-none n i h)
 
+  pub all-end : n ≤ i → all p (left n i) ≡ true
+  all-end h = rw (left-none n i h)
+
   pub position-end : n ≤ i → position p (left n i) ≡ 0
   position-end h = rw (left-none n i h)
 
@@ -41,6 +44,12 @@ module _ (p : ℕ → Bool) (n i : ℕ) where
 
     pub any-miss : p i ≡ false → any p (left n i) ≡ any p (left n (i + 1))
     any-miss t = rw (left-more n i h, t)
+
+    pub all-hit : p i ≡ true → all p (left n i) ≡ all p (left n (i + 1))
+    all-hit t = rw (left-more n i h, t)
+
+    pub all-miss : p i ≡ false → all p (left n i) ≡ false
+    all-miss t = rw (left-more n i h, t)
 
     pub position-hit : p i ≡ true → position p (left n i) ≡ 0
     position-hit t = rw (left-more n i h, t)

@@ -1,5 +1,5 @@
 // A domain that was read: a head of numbers and rows, in sections, beside the table of its literals (8 bytes a row: role, relation,
-// variables, FF to fill). Every function that reads a head answers within the limits of the format, whatever its bytes are, so that none
+// arguments, FF to fill). Every function that reads a head answers within the limits of the format, whatever its bytes are, so that none
 // asks anything of them. A head is filled record by record, from one that is all 0.
 use super::fields::count_keys;
 use super::limits::MAX_ACTIONS;

@@ -9,7 +9,7 @@ pub mod span;
 
 ghost use mathlib.Core.Path.{_≡_};
 ghost use Prim.Native.Nat.{_<_};
-ghost use Rattle.literals.specs.Domain.{clauseOf, roleOf, clauseNumber, firstRole, sameTime, mayClear, isKey, isCounted};
+ghost use Rattle.literals.specs.Domain.{isEvery, clauseOf, roleOf, clauseNumber, firstRole, sameTime, mayClear, isKey, isCounted};
 ghost use Rattle.literals.specs.Decode.{argumentOf, labelOf};
 ghost use Rattle.literals.specs.Keys.{clauseFor};
 ghost use Rattle.literals.specs.Matching.{momentNumber};
@@ -104,6 +104,15 @@ pub fn argument_of(b: u8) -> Argument
         return Argument::Every;
     }
     Argument::Variable(Variable(b))
+}
+
+pub fn is_every(argument: Argument) -> bool
+    ensures { λ r. ⌜ r ≡ isEvery argument ⌝ }
+{
+    match argument {
+        Argument::Variable(_) => false,
+        Argument::Every => true,
+    }
 }
 
 pub fn is_counted(label: Label) -> bool
@@ -213,7 +222,7 @@ fn condition_group(role: u8) -> u8
     }
 }
 
-// The role bytes of two literals with the same atom: 2 where it is repeated in its role, 1 where it is both true and false, else 0.
+// The role bytes of two literals: 2 where they are the same, 1 where one is true and the other false in one group, else 0.
 pub fn role_rank(a: u8, b: u8) -> u64
     ensures { λ r. ⌜ r ≡ roleRank a b ⌝ }
 {
