@@ -1,25 +1,24 @@
--- Conditions: what the rows of an action's literals ask of the rows of facts is what the machine asks of the facts. Assumes nothing.
+-- Conditions: what ground literals ask of the rows of facts is what the machine asks of the facts. Assumes nothing.
 use mathlib.Core.Path.{_≡_, refl, sym, ap, ap₂, _∙_}
 use mathlib.Core.Bool.{Bool, true, false, _&&_, _||_, not, cond}
-use mathlib.Core.List.{List, [], _∷_, map, List·Memᴰ·head, List·Memᴰ·tail}
-use Prim.Native.Nat.{ℕ, _-_, _*_}
+use mathlib.Core.List.{List, [], _∷_, _++_, map, flatMap, List·Memᴰ·head, List·Memᴰ·tail}
+use Prim.Native.Nat.{ℕ, _*_, _≤_, _<_}
 use native.Mathlib.Omega.{arith}
 use lib.Dec.{eqb}
-use lib.ListN.{getD, take, drop}
-use borrow.Author.Tests.{eqb-true, ne-eqb}
+use lib.ListN.{length, getD, take, drop}
+use borrow.Author.Tests.{eqb-true, eq-eqb, ne-eqb}
 use Rattle.records.specs.Lists.{In, keepIf, filterBy, all, any, elem}
 use Rattle.records.proofs.Lists.{all-map, any-map}
 use Rattle.literals.specs.declared.Variable.{Variable}
-use Rattle.literals.specs.declared.span.Span.{Span}
-use Rattle.literals.specs.Held.{Held, SpanOf}
 use Rattle.literals.specs.declared.Time.{Time}
 use Rattle.literals.specs.declared.Time.the-variants.{AtStart, OverAll, AtEnd}
 use Rattle.literals.specs.declared.Clause.{Clause}
 use Rattle.literals.specs.declared.Clause.the-variants.{Positive, Negative}
 use Rattle.literals.specs.declared.Role.{Role}
 use Rattle.literals.specs.Domain.{Atom, Fact, sameFact, roleNumber, Literal, Domain, action}
-use Rattle.literals.specs.Table.{literalRow, rowsIn}
-use Rattle.literals.proofs.Rows.{part-first}
+use Rattle.literals.specs.Decode.{byte}
+use Rattle.literals.specs.Table.{rowsIn}
+use Rattle.literals.specs.Held.{arityIn, HeadOf, Held}
 use Rattle.literals.proofs.Tables.{Kept}
 use Rattle.literals.specs.declared.Moment.{Moment}
 use Rattle.literals.specs.declared.Moment.the-variants.{Start, End}
@@ -28,29 +27,35 @@ use Rattle.classes.proofs.Clauses.{any-role}
 use Rattle.literals.proofs.Indices.{all-filter}
 use Rattle.verdict.specs.Binding.{bind}
 use Rattle.verdict.specs.Machine.{GroundAction, Event, eventFacts, ownHold, overAllHold}
-use Rattle.store.specs.Rows.{factRow}
+use Rattle.store.specs.Rows.{factRow, hasRow}
 use Rattle.literals.specs.Keys.{clauseFor}
-use Rattle.events.specs.Coded.{groundRow, GroundFits, boundRow, timeOf}
-use Rattle.applicability.specs.Conditions.{conditionMet, rowMet, asked}
-use Rattle.events.proofs.FactRows.{has-fact, countsFor, clause-counts, any-literals, all-literals, held-kept, held-rows, held-bound}
+use Rattle.store.specs.Index.{Indexed}
+use Rattle.events.specs.Coded.{groundRow, Open, openOf, GroundFits, GroundsFit, timeOf}
+use Rattle.events.specs.Grounding.{GroundLiteral, groundLiterals, eventLiterals, groundIn, Grounded}
+use Rattle.applicability.specs.Conditions.{conditionMet}
+use Rattle.events.proofs.FactRows.{has-fact, countsFor, clause-counts, any-literals, all-literals, head-kept, noGround, open-count}
+use Rattle.events.proofs.Listed.{entry-fits, entry-row}
 
--- ---- one row
+-- ---- one ground literal
 
-none-met : (clause : ℕ) (row : List ℕ) (facts : List (List ℕ)) → (clause ≡ 1 → ⊥) → (clause ≡ 2 → ⊥) → true ≡ conditionMet clause row facts
-unfolding conditionMet
-none-met clause row facts n o = rw (ne-eqb clause 1 n, ne-eqb clause 2 o)
+module _ (facts : List (List ℕ)) (l : GroundLiteral) where
+  pub met-true : l .clause ≡ 1 → (row : List ℕ) (r : Bool) → row ≡ l .row → r ≡ hasRow row facts → r ≡ conditionMet facts l
+  unfolding conditionMet
+  met-true e row r f g = rw (eq-eqb (l .clause) 1 e) (g ∙ ap (λ (x : List ℕ). hasRow x facts) f)
 
--- the row at an offset of a memory, of this clause
-module _ (t : Time) (arities ground : List ℕ) (facts : List (List ℕ)) (rows : List ℕ) (at clause : ℕ) (e : clause ≡ clauseFor t (getD rows at 0)) where
-  pub row-none : (clause ≡ 1 → ⊥) → (clause ≡ 2 → ⊥) → true ≡ rowMet t arities ground facts (take 8 (drop at rows))
-  unfolding rowMet
-  row-none n o =
-      none-met clause (boundRow arities ground (take 8 (drop at rows))) facts n o
-      ∙ ap (λ (c : ℕ). conditionMet c (boundRow arities ground (take 8 (drop at rows))) facts) (e ∙ ap (clauseFor t) (sym (part-first rows at)))
+  pub met-false : (l .clause ≡ 1 → ⊥) → l .clause ≡ 2 → (row : List ℕ) (r : Bool) → row ≡ l .row → r ≡ hasRow row facts
+      → not r ≡ conditionMet facts l
+  unfolding conditionMet
+  met-false n e row r f g =
+      rw (ne-eqb (l .clause) 1 n, eq-eqb (l .clause) 2 e) (ap not (g ∙ ap (λ (x : List ℕ). hasRow x facts) f))
 
-  pub row-bound : (fact : List ℕ) (r : Bool) → fact ≡ boundRow arities ground (take 8 (drop at rows)) → r ≡ conditionMet clause fact facts → r ≡ rowMet t arities ground facts (take 8 (drop at rows))
-  unfolding rowMet
-  row-bound fact r f p = p ∙ ap₂ (λ (c : ℕ) (row : List ℕ). conditionMet c row facts) (e ∙ ap (clauseFor t) (sym (part-first rows at))) f
+  pub met-none : (l .clause ≡ 1 → ⊥) → (l .clause ≡ 2 → ⊥) → true ≡ conditionMet facts l
+  unfolding conditionMet
+  met-none n o = rw (ne-eqb (l .clause) 1 n, ne-eqb (l .clause) 2 o)
+
+-- the row of one that is read, with the arity of its relation
+pub read-sized : (head : List ℕ) (row at : List ℕ) → row ≡ at → byte at 1 ≡ arityIn head (byte at 0) → byte row 1 ≡ arityIn head (byte row 0)
+read-sized head row at e h = ap (λ (t : List ℕ). byte t 1) e ∙ h ∙ sym (ap (λ (t : List ℕ). arityIn head (byte t 0)) e)
 
 -- ---- tests of the literals of a clause
 
@@ -123,18 +128,41 @@ by-clause clause b = go (eqb clause 1) refl (eqb clause 2) refl b
     go false e true f false = refl
     go false e false f b = refl
 
-row-asks : (t : Time) (arities : List ℕ) (g : GroundAction) (fs : List Fact) (l : Literal) → Kept l → boundRow arities (groundRow g) (literalRow l) ≡ factRow (bind (g .binding) (l .atom))
-    → rowMet t arities (groundRow g) (map factRow fs) (literalRow l) ≡ asks t g fs l
-unfolding rowMet conditionMet
-row-asks t arities g fs l k h =
+-- a clause of 0 asks for nothing
+none-asked : (clause : ℕ) (b : Bool)
+    → not (not (eqb clause 0)) || cond (eqb clause 1) b (cond (eqb clause 2) (not b) true) ≡ cond (eqb clause 1) b (cond (eqb clause 2) (not b) true)
+none-asked clause b = go (eqb clause 0) refl
+  where
+    go : (t : Bool) → eqb clause 0 ≡ t
+        → not (not t) || cond (eqb clause 1) b (cond (eqb clause 2) (not b) true) ≡ cond (eqb clause 1) b (cond (eqb clause 2) (not b) true)
+    go true e =
+        let z = eqb-true clause 0 e in
+        sym (rw (ne-eqb clause 1 (λ x. omega arith), ne-eqb clause 2 (λ x. omega arith)))
+    go false e = refl
+
+abbrev groundOf : Time → GroundAction → Literal → GroundLiteral
+groundOf t g l = record { clause = clauseFor t (roleNumber (l .role)); row = factRow (bind (g .binding) (l .atom)) }
+
+literal-asks : (t : Time) (g : GroundAction) (fs : List Fact) (l : Literal) → Kept l
+    → not (not (eqb (clauseFor t (roleNumber (l .role))) 0)) || conditionMet (map factRow fs) (groundOf t g l) ≡ asks t g fs l
+unfolding conditionMet
+literal-asks t g fs l k =
     let f = bind (g .binding) (l .atom) in
     let clause = clauseFor t (roleNumber (l .role)) in
-    ap (λ (row : List ℕ). conditionMet clause row (map factRow fs)) h
+    none-asked clause (hasRow (factRow f) (map factRow fs))
     ∙ ap (λ (b : Bool). cond (eqb clause 1) b (cond (eqb clause 2) (not b) true)) (has-fact f fs)
     ∙ by-clause clause (elem sameFact f fs)
-    ∙ ap₂ (λ (x y : Bool). (not x || elem sameFact f fs) && (not y || not (elem sameFact f fs))) (clause-counts t Positive l k) (clause-counts t Negative l k)
+    ∙ ap₂ (λ (x y : Bool). (not x || elem sameFact f fs) && (not y || not (elem sameFact f fs)))
+    (clause-counts t Positive l k) (clause-counts t Negative l k)
 
 -- ---- what an action asks
+
+-- what an action asks of the facts at the start, over all, or at the end, each its own
+unfoldable pub asked : Domain → Time → GroundAction → List Fact → Bool
+unfolding ownHold overAllHold
+asked D AtStart g fs = ownHold D fs (record { moment = Start; ground = g })
+asked D OverAll g fs = overAllHold D fs g
+asked D AtEnd g fs = ownHold D fs (record { moment = End; ground = g })
 
 module _ (D : Domain) (g : GroundAction) (fs : List Fact) where
   event-asks : (m : Moment) → ownHold D fs (record { moment = m; ground = g }) ≡ all (asks (timeOf m) g fs) (action D (g .action) .lits)
@@ -169,16 +197,65 @@ asked-event D e fs = go (e .moment)
     go Start = refl
     go End = refl
 
--- ---- as the code finds it
+-- ---- by ground literals
 
-module _ {D : Domain} {head table : List ℕ} (H : Held D head table) (g : GroundAction) (F : GroundFits D g) (ground : List ℕ) (e : ground ≡ groundRow g) where
-  pub ground-asks : (t : Time) (fs : List Fact) (facts : List (List ℕ)) → facts ≡ map factRow fs → (r : Span) → SpanOf D (g .action) table r
-      → all (rowMet t head ground facts) (rowsIn (r .to - r .from) (take (8 * r .to - 8 * r .from) (drop (8 * r .from) table))) ≡ asked D t g fs
-  ground-asks t fs facts f r S =
+module _ {D : Domain} {head : List ℕ} (H : HeadOf D head) (fs : List Fact) where
+  pub ground-asks : (g : GroundAction) → GroundFits D g → (t : Time) → all (conditionMet (map factRow fs)) (groundLiterals D t g) ≡ asked D t g fs
+  unfolding groundLiterals
+  ground-asks g F t =
       let ls = action D (g .action) .lits in
-      ap₂ (λ (x : List ℕ) (y : List (List ℕ)). all (rowMet t head x y) (rowsIn (r .to - r .from) (take (8 * r .to - 8 * r .from) (drop (8 * r .from) table)))) e f
-      ∙ ap (all (rowMet t head (groundRow g) (map factRow fs))) (held-rows H (g .action) (F .listed) r S)
-      ∙ all-map literalRow (rowMet t head (groundRow g) (map factRow fs)) ls
-      ∙ all-agree (λ (l : Literal). rowMet t head (groundRow g) (map factRow fs) (literalRow l)) (asks t g fs) ls
-      (λ l m. row-asks t head g fs l (held-kept H (g .action) (F .listed) l m) (held-bound H g F l m))
+      let counted : Literal → Bool = λ l. not (eqb (clauseFor t (roleNumber (l .role))) 0) in
+      all-map (groundOf t g) (conditionMet (map factRow fs)) (filterBy counted ls)
+      ∙ all-filter counted (λ (l : Literal). conditionMet (map factRow fs) (groundOf t g l)) ls
+      ∙ all-agree (λ (l : Literal). not (counted l) || conditionMet (map factRow fs) (groundOf t g l)) (asks t g fs) ls
+      (λ l m. literal-asks t g fs l (head-kept H (g .action) (F .listed) l m))
       ∙ sym (asked-all D g fs t)
+
+  -- of an open entry, over all
+  pub entry-asks : (g : GroundAction) → GroundFits D g → all (conditionMet (map factRow fs)) (groundLiterals D OverAll g) ≡ overAllHold D fs g
+  unfolding asked
+  entry-asks g F = ground-asks g F OverAll
+
+-- of every event of a step
+all-parts : {A : Type 0} (q : A → Bool) (parts : List (List A)) → all q (flatMap (λ (part : List A). part) parts) ≡ all (all q) parts
+unfolding flatMap
+all-parts q [] = refl
+all-parts {A} q (part ∷ parts) = joined part ∙ ap (λ (b : Bool). all q part && b) (all-parts q parts)
+  where
+    joined : (l : List A) → all q (l ++ flatMap (λ (part : List A). part) parts) ≡ all q l && all q (flatMap (λ (part : List A). part) parts)
+    joined [] = refl
+    joined (x ∷ xs) = ap (λ (b : Bool). q x && b) (joined xs) ∙ both (q x) (all q xs)
+      where
+        both : (a b : Bool) → a && (b && all q (flatMap (λ (part : List A). part) parts)) ≡ (a && b) && all q (flatMap (λ (part : List A). part) parts)
+        both true b = refl
+        both false b = refl
+
+pub step-asks : {D : Domain} {head : List ℕ} {es : List Event} {memory : List ℕ} {total : ℕ} → Grounded D head es memory total
+    → (fs : List Fact) (facts : List (List ℕ)) → facts ≡ map factRow fs → all (conditionMet facts) (groundIn total memory) ≡ all (ownHold D fs) es
+step-asks {D} {head} {es} G fs facts f =
+    ap₂ (λ (x : List (List ℕ)) (l : List GroundLiteral). all (conditionMet x) l) f (G .laid .filled)
+    ∙ all-parts (conditionMet (map factRow fs)) (map (eventLiterals D) es)
+    ∙ all-map (eventLiterals D) (all (conditionMet (map factRow fs))) es
+    ∙ all-agree (λ (e : Event). all (conditionMet (map factRow fs)) (eventLiterals D e)) (ownHold D fs) es
+    (λ e m. ground-asks (G .says) fs (e .ground) (G .fit e m) (timeOf (e .moment)) ∙ asked-event D e fs)
+
+-- ---- the open entries, one after the other
+
+-- where the loop over them stands
+pub record InEntries (head table : List ℕ) (o : Open) (memory₀ memory index work : List ℕ) (n i : ℕ) : Type 0 where
+  pub reach : i ≤ o .count
+  pub sized : length memory ≡ length memory₀
+  pub rest : (D : Domain) (gs : List GroundAction) (fs : List Fact) → Held D head table → o ≡ openOf gs → GroundsFit D gs
+      → rowsIn n work ≡ map factRow fs → Indexed head index (map factRow fs) → all (overAllHold D fs) (drop i gs) ≡ all (overAllHold D fs) gs
+
+-- the entry of a turn
+pub entry-turn : {head table index : List ℕ} (o : Open) (work : List ℕ) (n i : ℕ) {r : Bool}
+    → ((D : Domain) (g : GroundAction) (fs : List Fact) → Held D head table → GroundFits D g → take 17 (drop (17 * i) (o .rows)) ≡ groundRow g
+    → rowsIn n work ≡ map factRow fs → Indexed head index (map factRow fs) → r ≡ overAllHold D fs g)
+    → i < o .count → (D : Domain) (gs : List GroundAction) (fs : List Fact) → Held D head table → o ≡ openOf gs → GroundsFit D gs
+    → rowsIn n work ≡ map factRow fs → Indexed head index (map factRow fs)
+    → (i < length gs) × (r ≡ overAllHold D fs (getD gs i noGround))
+entry-turn o work n i met h D gs fs L e F f I =
+    let k = open-count gs o e in
+    let b : i < length gs = omega arith in
+    (b, met D (getD gs i noGround) fs L (entry-fits (L .says) i gs F b) (entry-row (L .says) i gs F b o e) f I)

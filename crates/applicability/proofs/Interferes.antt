@@ -1,41 +1,35 @@
--- Interference: the literals of two events have clashing clauses of one fact exactly where the events interfere; by clauses and words. Assumes nothing.
-use mathlib.Core.Path.{_≡_, refl, sym, ap, ap₂, _∙_, subst}
+-- Interference: the ground literals of two events clash exactly where the events interfere. Assumes nothing.
+use mathlib.Core.Path.{_≡_, refl, sym, ap, ap₂, _∙_}
 use mathlib.Core.Bool.{Bool, true, false, _&&_, _||_, not}
 use mathlib.Core.List.{List, [], _∷_, _++_, map, List·Memᴰ·head, List·Memᴰ·tail}
-use Prim.Native.Nat.{ℕ, suc, _+_, _-_, _*_, _≤_, _<_}
-use native.Mathlib.Numerals.{add-one}
+use Prim.Native.Nat.{ℕ, suc, _≤_, _<_}
 use native.Mathlib.Omega.{arith}
 use lib.Dec.{eqb, ltb, leb}
-use lib.ListN.{length, getD, set, take, drop, length-map}
-use lib.Seq.{take-all, take-suc, length-take-le}
+use lib.ListN.{length, length-map}
 use borrow.Author.Tests.{ne-eqb, lt-ltb, le-ltb, ltb-true}
-use Rattle.records.specs.Lists.{In, keepIf, filterBy, any, pairwise, elem}
+use Rattle.records.specs.Lists.{In, filterBy, any, pairwise, elem}
 use Rattle.records.proofs.Lists.{eqb-comm, getD-in, sameList-comm, all-map, any-append, any-map, allBelow, below-in}
 use Rattle.literals.specs.declared.Object.{Object}
-use Rattle.literals.specs.declared.span.Span.{Span}
 use Rattle.literals.specs.declared.Time.{Time}
 use Rattle.literals.specs.declared.Time.the-variants.{AtStart, OverAll, AtEnd}
 use Rattle.literals.specs.declared.Clause.{Clause}
 use Rattle.literals.specs.declared.Clause.the-variants.{Positive, Negative, Add, Delete}
 use Rattle.literals.specs.Domain.{object, sameObject, Fact, sameFact, clauseNumber, roleNumber, Literal, Domain, arity, action}
-use Rattle.literals.specs.Decode.{byte}
-use Rattle.literals.specs.Table.{literalRow, rowsIn}
-use Rattle.literals.specs.Held.{Held, SpanOf}
-use Rattle.literals.proofs.Heads.{action-in}
+use Rattle.literals.specs.Held.{HeadOf}
 use Rattle.literals.proofs.Tables.{Kept}
-use Rattle.literals.proofs.Indices.{any-agree, any-or, any-filter, getD-map}
+use Rattle.literals.proofs.Indices.{any-agree, any-or, any-filter}
 use Rattle.verdict.specs.Binding.{valueOf, bind}
-use Rattle.verdict.specs.Machine.{GroundAction, Event, eventFacts, meet, disturbs, interfere, independent}
+use Rattle.verdict.specs.Machine.{Event, eventFacts, meet, disturbs, interfere, independent}
 use Rattle.store.specs.Index.{wordOf}
-use Rattle.events.specs.declared.Waiting.{Waiting}
 use Rattle.store.specs.Rows.{factRow}
 use Rattle.literals.specs.Keys.{clauseFor}
-use Rattle.events.specs.Coded.{groundRow, waitingOf, GroundFits, EventsFit, boundRow, timeOf}
-use Rattle.applicability.specs.Interference.{clashing, Mark, rowMarks, eventMarks, marksIn, clashes, marksClash, Laid}
+use Rattle.events.specs.Coded.{GroundFits, EventsFit, timeOf}
+use Rattle.events.specs.Grounding.{GroundLiteral, groundLiterals, eventLiterals}
+use Rattle.applicability.specs.Interference.{clashing, clashesWith, clashes, literalsClash}
 use Rattle.events.proofs.Members.{map-in}
-use Rattle.events.proofs.FactRows.{agree, agree-same, countsFor, clause-counts, held-kept, held-bound, held-rows, noEvent}
+use Rattle.events.proofs.FactRows.{agree, agree-same, countsFor, clause-counts, listed-in, head-kept}
 use Rattle.applicability.proofs.Asked.{all-agree, any-event}
-use Rattle.applicability.proofs.Marks.{any-never, laid-more}
+use Rattle.applicability.proofs.Clashes.{any-never}
 use Rattle.applicability.proofs.Words.{Worded, same-word}
 
 -- ---- clashing clauses, test by test
@@ -208,8 +202,8 @@ record Facing (D : Domain) (e : Event) : Type 0 where
   objects : (l : Literal) → In l (literalsOf D e) → (o : Object) → In o (factIn e l .args) → o .0 < 256
 
 module _ (D : Domain) (e f : Event) (E : Facing D e) (F : Facing D f) where
-  abbrev mark : Event → Literal → Mark
-  mark e l = record { clause = clauseIn e l; word = wordOf (factRow (factIn e l)) }
+  abbrev groundOf : Event → Literal → GroundLiteral
+  groundOf e l = record { clause = clauseIn e l; row = factRow (factIn e l) }
 
   abbrev counted : Event → Literal → Bool
   counted e l = not (eqb (clauseIn e l) 0)
@@ -217,91 +211,67 @@ module _ (D : Domain) (e f : Event) (E : Facing D e) (F : Facing D f) where
   worded : (e : Event) → Facing D e → (l : Literal) → In l (literalsOf D e) → Worded (factIn e l)
   worded e E l i = record { few = rw length-map (E .kept l i .fits); objects = E .objects l i }
 
-  mark-clash : (l m : Literal) → In l (literalsOf D e) → In m (literalsOf D f)
-      → counted e l && (counted f m && clashes (mark e l) (mark f m)) ≡ clashing (clauseIn e l) (clauseIn f m) && sameFact (factIn e l) (factIn f m)
-  unfolding clashes
-  mark-clash l m i j =
+  literal-clash : (l m : Literal) → In l (literalsOf D e) → In m (literalsOf D f)
+      → counted e l && (counted f m && clashes (groundOf e l) (groundOf f m))
+      ≡ clashing (clauseIn e l) (clauseIn f m) && sameFact (factIn e l) (factIn f m)
+  unfolding clashesWith
+  literal-clash l m i j =
       ap (λ (s : Bool). counted e l && (counted f m && (s && clashing (clauseIn e l) (clauseIn f m))))
       (same-word (factIn e l) (factIn f m) (worded e E l i) (worded f F m j)
-      (λ q. length-map (l .atom .args) (valueOf (e .ground .binding)) ∙ E .sized l i ∙ ap (arity D) q ∙ sym (length-map (m .atom .args) (valueOf (f .ground .binding)) ∙ F .sized m j)))
-      ∙ clash-counts (clauseIn e l) (clauseIn f m) (clause-small (timeOf (e .moment)) l (E .kept l i)) (clause-small (timeOf (f .moment)) m (F .kept m j)) (sameFact (factIn e l) (factIn f m))
+      (λ q.
+      length-map (l .atom .args) (valueOf (e .ground .binding))
+      ∙ E .sized l i
+      ∙ ap (arity D) q
+      ∙ sym (length-map (m .atom .args) (valueOf (f .ground .binding)) ∙ F .sized m j)))
+      ∙ clash-counts (clauseIn e l) (clauseIn f m) (clause-small (timeOf (e .moment)) l (E .kept l i))
+      (clause-small (timeOf (f .moment)) m (F .kept m j)) (sameFact (factIn e l) (factIn f m))
 
-  marks-interfere : marksClash (eventMarks D e) (eventMarks D f) ≡ interfere D e f
-  unfolding eventMarks
-  marks-interfere =
-      any-map (mark e) (λ (a : Mark). any (clashes a) (eventMarks D f)) (filterBy (counted e) (literalsOf D e))
-      ∙ any-filter (counted e) (λ (l : Literal). any (clashes (mark e l)) (eventMarks D f)) (literalsOf D e)
-      ∙ any-agree (λ (l : Literal). counted e l && any (clashes (mark e l)) (eventMarks D f))
-      (λ (l : Literal). any (λ (m : Literal). clashing (clauseIn e l) (clauseIn f m) && sameFact (factIn e l) (factIn f m)) (literalsOf D f)) (literalsOf D e)
+  literals-interfere : literalsClash (eventLiterals D e) (eventLiterals D f) ≡ interfere D e f
+  unfolding groundLiterals
+  literals-interfere =
+      any-map (groundOf e) (λ (a : GroundLiteral). any (clashes a) (eventLiterals D f)) (filterBy (counted e) (literalsOf D e))
+      ∙ any-filter (counted e) (λ (l : Literal). any (clashes (groundOf e l)) (eventLiterals D f)) (literalsOf D e)
+      ∙ any-agree (λ (l : Literal). counted e l && any (clashes (groundOf e l)) (eventLiterals D f))
+      (λ (l : Literal). any (λ (m : Literal). clashing (clauseIn e l) (clauseIn f m) && sameFact (factIn e l) (factIn f m)) (literalsOf D f))
+      (literalsOf D e)
       (λ l i.
       ap (λ (b : Bool). counted e l && b)
-      (any-map (mark f) (clashes (mark e l)) (filterBy (counted f) (literalsOf D f)) ∙ any-filter (counted f) (λ (m : Literal). clashes (mark e l) (mark f m)) (literalsOf D f))
-      ∙ and-any (counted e l) (λ (m : Literal). counted f m && clashes (mark e l) (mark f m)) (literalsOf D f)
-      ∙ any-agree (λ (m : Literal). counted e l && (counted f m && clashes (mark e l) (mark f m)))
-      (λ (m : Literal). clashing (clauseIn e l) (clauseIn f m) && sameFact (factIn e l) (factIn f m)) (literalsOf D f) (λ m j. mark-clash l m i j))
+      (any-map (groundOf f) (clashes (groundOf e l)) (filterBy (counted f) (literalsOf D f))
+      ∙ any-filter (counted f) (λ (m : Literal). clashes (groundOf e l) (groundOf f m)) (literalsOf D f))
+      ∙ and-any (counted e l) (λ (m : Literal). counted f m && clashes (groundOf e l) (groundOf f m)) (literalsOf D f)
+      ∙ any-agree (λ (m : Literal). counted e l && (counted f m && clashes (groundOf e l) (groundOf f m)))
+      (λ (m : Literal). clashing (clauseIn e l) (clauseIn f m) && sameFact (factIn e l) (factIn f m)) (literalsOf D f)
+      (λ m j. literal-clash l m i j))
       ∙ sym (interfere-pairs D e f (E .kept) (F .kept))
 
 -- ---- the events of a domain
 
--- the marks of an action's rows are those of its literals
-mark-facts : (t : Time) (head : List ℕ) (g : GroundAction) (ls : List Literal)
-    → ((l : Literal) → In l ls → boundRow head (groundRow g) (literalRow l) ≡ factRow (bind (g .binding) (l .atom)))
-    → rowMarks t head (groundRow g) (map literalRow ls)
-    ≡ map (λ (l : Literal). record { clause = clauseFor t (roleNumber (l .role)); word = wordOf (factRow (bind (g .binding) (l .atom))) }) (filterBy (λ (l : Literal). not (eqb (clauseFor t (roleNumber (l .role))) 0)) ls)
-unfolding rowMarks
-mark-facts t head g [] h = refl
-mark-facts t head g (l ∷ ls) h = go (not (eqb (clauseFor t (roleNumber (l .role))) 0)) (mark-facts t head g ls (λ l m. h l (List·Memᴰ·tail m)))
-  where
-    byRow : List ℕ → Mark
-    byRow row = record { clause = clauseFor t (byte row 0); word = wordOf (boundRow head (groundRow g) row) }
-
-    byLiteral : Literal → Mark
-    byLiteral l = record { clause = clauseFor t (roleNumber (l .role)); word = wordOf (factRow (bind (g .binding) (l .atom))) }
-
-    rows : List (List ℕ)
-    rows = filterBy (λ row. not (eqb (clauseFor t (byte row 0)) 0)) (map literalRow ls)
-
-    literals : List Literal
-    literals = filterBy (λ (l : Literal). not (eqb (clauseFor t (roleNumber (l .role))) 0)) ls
-
-    go : (b : Bool) → map byRow rows ≡ map byLiteral literals → map byRow (keepIf b (literalRow l) rows) ≡ map byLiteral (keepIf b l literals)
-    go true e = ap₂ (λ (w : ℕ) (ms : List Mark). record { clause = clauseFor t (roleNumber (l .role)); word = w } ∷ ms) (ap wordOf (h l (List·Memᴰ·head refl))) e
-    go false e = e
-
-module _ {D : Domain} {head table : List ℕ} (H : Held D head table) where
+module _ {D : Domain} {head : List ℕ} (H : HeadOf D head) where
   facing : (e : Event) → GroundFits D (e .ground) → Facing D e
   facing e F =
+      let a = listed-in D (e .ground .action) (F .listed) in
       record {
-        kept = held-kept H (e .ground .action) (F .listed);
-        sized = H .says .bounded .literalArity (action D (e .ground .action)) (action-in H (e .ground .action) (F .listed));
+        kept = head-kept H (e .ground .action) (F .listed);
+        sized = H .bounded .literalArity (action D (e .ground .action)) a;
         objects =
             λ l m o k.
             let r = map-in (valueOf (e .ground .binding)) (l .atom .args) k in
-            let c = H .says .bounded .below (action D (e .ground .action)) (action-in H (e .ground .action) (F .listed)) l m (r .0) (r .1) in
+            let c = H .bounded .below (action D (e .ground .action)) a l m (r .0) (r .1) in
             let b = F .bound in
             let h = F .objects (valueOf (e .ground .binding) (r .0)) (getD-in (e .ground .binding) (r .0 .0) (object 0) (omega arith)) in
             let z = ap (λ (o : Object). o .0) (r .2) in
             omega arith;
       }
 
-  -- the rows of its action, as the code finds them
-  pub held-marks : (e : Event) → GroundFits D (e .ground) → (t : Time) (ground : List ℕ) → t ≡ timeOf (e .moment) → ground ≡ groundRow (e .ground)
-      → (r : Span) → SpanOf D (e .ground .action) table r
-      → rowMarks t head ground (rowsIn (r .to - r .from) (take (8 * r .to - 8 * r .from) (drop (8 * r .from) table))) ≡ eventMarks D e
-  unfolding eventMarks
-  held-marks e F t ground s f r S =
-      ap₂ (λ (u : Time) (x : List ℕ). rowMarks u head x (rowsIn (r .to - r .from) (take (8 * r .to - 8 * r .from) (drop (8 * r .from) table)))) s f
-      ∙ ap (rowMarks (timeOf (e .moment)) head (groundRow (e .ground))) (held-rows H (e .ground .action) (F .listed) r S)
-      ∙ mark-facts (timeOf (e .moment)) head (e .ground) (action D (e .ground .action) .lits) (held-bound H (e .ground) F)
-
-  -- no two interfere, by their marks
-  pub apart-independent : (es : List Event) → EventsFit D es → pairwise (λ first later. not (marksClash first later)) (map (eventMarks D) es) ≡ independent D es
+  -- no two interfere, by their ground literals
+  pub apart-independent : (es : List Event) → EventsFit D es
+      → pairwise (λ first later. not (literalsClash first later)) (map (eventLiterals D) es) ≡ independent D es
   apart-independent [] F = refl
   apart-independent (e ∷ es) F =
       ap₂ _&&_
-      (all-map (eventMarks D) (λ (later : List Mark). not (marksClash (eventMarks D e) later)) es
-      ∙ all-agree (λ (f : Event). not (marksClash (eventMarks D e) (eventMarks D f))) (λ (f : Event). not (interfere D e f)) es
-      (λ f m. ap not (marks-interfere D e f (facing e (F e (List·Memᴰ·head refl))) (facing f (F f (List·Memᴰ·tail m))))))
+      (all-map (eventLiterals D) (λ (later : List GroundLiteral). not (literalsClash (eventLiterals D e) later)) es
+      ∙ all-agree (λ (f : Event). not (literalsClash (eventLiterals D e) (eventLiterals D f))) (λ (f : Event). not (interfere D e f)) es
+      (λ f m. ap not (literals-interfere D e f (facing e (F e (List·Memᴰ·head refl))) (facing f (F f (List·Memᴰ·tail m))))))
       (apart-independent es (λ f m. F f (List·Memᴰ·tail m)))
 
 -- nor do fewer than two
@@ -309,31 +279,3 @@ pub few-independent : (D : Domain) (es : List Event) → length es < 2 → true 
 few-independent D [] h = refl
 few-independent D (e ∷ []) h = refl
 few-independent D (e ∷ f ∷ es) h = absurd (omega arith)
-
--- ---- in memory, event by event
-
-module _ (D : Domain) (es : List Event) (i : ℕ) {words clauses ends : List ℕ} {k : ℕ} where
-  pub laid-event : i < length es → Laid (take i (map (eventMarks D) es)) words clauses ends k → i < length ends → {words′ clauses′ : List ℕ} {m : ℕ}
-      → marksIn m words′ clauses′ ≡ marksIn k words clauses ++ eventMarks D (getD es i noEvent) → Laid (take (i + 1) (map (eventMarks D) es)) words′ clauses′ (set ends i m) m
-  laid-event h L g {words′} {clauses′} {m} e =
-      let l = length-map es (eventMarks D) in
-      subst (λ (parts : List (List Mark)). Laid parts words′ clauses′ (set ends i m) m)
-      (ap (λ (part : List Mark). take i (map (eventMarks D) es) ++ (part ∷ [])) (sym (getD-map (eventMarks D) es i noEvent [] h))
-      ∙ sym (ap (λ (k : ℕ). take k (map (eventMarks D) es)) (add-one i) ∙ take-suc (map (eventMarks D) es) i [] (omega arith)))
-      (laid-more L (eventMarks D (getD es i noEvent)) i (length-take-le i (map (eventMarks D) es) (omega arith)) g e)
-
-  pub laid-all : length es ≤ i → Laid (take i (map (eventMarks D) es)) words clauses ends k → Laid (map (eventMarks D) es) words clauses ends k
-  laid-all h L =
-      let l = length-map es (eventMarks D) in
-      subst (λ (parts : List (List Mark)). Laid parts words clauses ends k) (take-all i (map (eventMarks D) es) (omega arith)) L
-
--- where the loop over the waiting events stands
-pub record InWords (head table : List ℕ) (w : Waiting) (words₀ clauses₀ ends₀ words clauses ends : List ℕ) (k i : ℕ) : Type 0 where
-  pub reach : i ≤ w .count
-  pub few : k ≤ 64 * i
-  pub wordsKept : length words ≡ length words₀
-  pub clausesKept : length clauses ≡ length clauses₀
-  pub endsKept : length ends ≡ length ends₀
-  pub within : (j : ℕ) → j < i → getD ends j 0 ≤ 1024
-  pub laid : (D : Domain) (es : List Event) → Held D head table → w ≡ waitingOf es → EventsFit D es
-      → Laid (take i (map (eventMarks D) es)) words clauses ends k

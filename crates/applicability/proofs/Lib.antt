@@ -1,5 +1,5 @@
 -- Laws of conditions and of interference.
 pub mod Asked
-pub mod Marks
+pub mod Clashes
 pub mod Words
 pub mod Interferes

@@ -1,3 +1,3 @@
-// What a step asks: conditions (conditions), and that no two of its events interfere (interference).
+// What a step asks, by its ground literals: conditions (conditions), and that no two of its events interfere (interference).
 pub mod conditions;
 pub mod interference;

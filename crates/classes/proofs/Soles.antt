@@ -2,21 +2,39 @@
 use mathlib.Core.Path.{_≡_, refl, sym, ap, ap₂, _∙_}
 use mathlib.Core.Bool.{Bool, true, false, _&&_, _||_, not, cond}
 use mathlib.Core.Logic.{_⊎_, inl, inr}
-use mathlib.Core.List.{List, [], _∷_, List·Memᴰ·head, List·Memᴰ·tail, List·Memᴰ·not-nil}
-use Prim.Native.Nat.{ℕ, zero, suc, _+_, _-_, _≤_, _<_}
+use mathlib.Core.List.{List, [], _∷_, map, List·Memᴰ·head, List·Memᴰ·tail, List·Memᴰ·not-nil}
+use Prim.Native.Nat.{ℕ, zero, suc, _+_, _-_, _*_, _≤_, _<_}
 use native.Mathlib.Numerals.{add-one}
 use native.Mathlib.Omega.{arith}
 use lib.Dec.{eqb}
 use lib.ListN.{length, getD, set}
 use lib.Seq.{getD-set-same, getD-set-other}
 use borrow.Author.Tests.{eq-eqb, ne-eqb, eqb-true, eqb-false}
-use Rattle.records.specs.Lists.{In, addIf, countBy, all}
+use Rattle.records.specs.Lists.{In, addIf, countBy, all, any}
 use Rattle.records.proofs.Lists.{bool-cases, clash, count-append}
 use Rattle.records.proofs.Memory.{getD-fill}
+use Rattle.literals.specs.declared.Moment.{Moment}
+use Rattle.literals.specs.declared.Moment.the-variants.{Start, End}
+use Rattle.literals.specs.declared.Time.{Time}
+use Rattle.literals.specs.declared.Time.the-variants.{AtStart, OverAll, AtEnd}
+use Rattle.literals.specs.declared.Clause.{Clause}
+use Rattle.literals.specs.declared.Clause.the-variants.{Positive, Negative, Add, Delete}
+use Rattle.literals.specs.declared.Role.{Role}
+use Rattle.literals.specs.Domain.{roleOf}
 use Rattle.literals.specs.Table.{pad}
-use Rattle.literals.specs.Keys.{below}
-use Rattle.classes.specs.Coded.{isAt, soleMore, soleBy, soleAt}
-use Rattle.literals.proofs.Indices.{below-snoc, below-in}
+use Rattle.literals.specs.Keys.{numbersFrom, below}
+use Rattle.classes.specs.Coded.{clauseAt, clauseByte, mayMeet, saysAt, clauseIn, isAt, soleMore, soleBy, soleAt, soleOf, sectionOf, countsIn, SolesOf, soleIn}
+use Rattle.literals.proofs.Tables.{pad-at}
+use Rattle.literals.proofs.Indices.{below-snoc, below-in, length-from, getD-map}
+
+pub and-comm : (s t : Bool) → s && t ≡ t && s
+and-comm true true = refl
+and-comm true false = refl
+and-comm false true = refl
+and-comm false false = refl
+
+pub by-second : (p q t : Bool) → q ≡ t → t && p ≡ p && q
+by-second p q t e = sym (and-comm p q ∙ ap (λ (b : Bool). b && p) e)
 
 module _ (p : ℕ → Bool) where
   count-next : (n : ℕ) → countBy p (below (suc n)) ≡ countBy p (below n) + addIf (p n) 0
@@ -132,68 +150,268 @@ module _ (p : ℕ → Bool) where
     pub sole-all : (n w : ℕ) → countBy p (below n) ≡ 1 → w < n → p w ≡ true → all (λ j. not (p j) || q j) (below n) ≡ q w
     sole-all n w e h t = all-only (below n) e (below-in n h) t
 
--- ---- one literal more, of a class, in the notes of all classes
+-- ---- one literal more, of a class, in one section of the notes
 
-module _ (soles : List ℕ) (class here clause j : ℕ) where
-  mark-at : (k : ℕ) (t : Bool) → eqb class k && eqb here clause ≡ t → soleMore t j (getD soles k 0) ≡ soleMore (eqb class k && eqb here clause) j (getD soles k 0)
-  mark-at k t e = ap (λ (b : Bool). soleMore b j (getD soles k 0)) (sym e)
+-- a place of the notes tells its section and its class
+same-place : (s t k l : ℕ) → k < 64 → l < 64 → eqb (64 * s + k) (64 * t + l) ≡ eqb s t && eqb k l
+same-place s t k l h g = go (bool-cases (eqb s t)) (bool-cases (eqb k l))
+  where
+    go : (eqb s t ≡ true) ⊎ (eqb s t ≡ false) → (eqb k l ≡ true) ⊎ (eqb k l ≡ false) → eqb (64 * s + k) (64 * t + l) ≡ eqb s t && eqb k l
+    go (inl p) (inl q) =
+        let e = eqb-true s t p in
+        let f = eqb-true k l q in
+        eq-eqb (64 * s + k) (64 * t + l) (omega arith) ∙ sym (ap₂ _&&_ p q)
+    go (inl p) (inr q) =
+        let e = eqb-true s t p in
+        let n = eqb-false k l q in
+        ne-eqb (64 * s + k) (64 * t + l) (λ z. n (omega arith)) ∙ sym (ap₂ _&&_ p q)
+    go (inr p) b =
+        let n = eqb-false s t p in
+        ne-eqb (64 * s + k) (64 * t + l) (λ z. n (omega arith)) ∙ sym (ap (λ (b : Bool). b && eqb k l) p)
 
-  pub mark-none : (here ≡ clause → ⊥) → (k : ℕ) → getD soles k 0 ≡ soleMore (eqb class k && eqb here clause) j (getD soles k 0)
-  mark-none n k = mark-at k false (ap (λ (b : Bool). eqb class k && b) (ne-eqb here clause n) ∙ off (eqb class k))
+module _ (soles : List ℕ) (section class j : ℕ) (room : length soles ≡ 320) (h : section < 5) (g : class < 64) where
+  abbrev place : ℕ
+  place = 64 * section + class
+
+  noted : (v : ℕ) → v ≡ soleMore true j (getD soles place 0) → (s k : ℕ) → s < 5 → k < 64
+      → getD (set soles place v) (64 * s + k) 0 ≡ soleMore (eqb section s && eqb class k) j (getD soles (64 * s + k) 0)
+  noted v e s k p q = go (bool-cases (eqb place (64 * s + k)))
     where
-      off : (b : Bool) → b && false ≡ false
-      off true = refl
-      off false = refl
+      told : {t : Bool} → eqb place (64 * s + k) ≡ t → soleMore t j (getD soles (64 * s + k) 0) ≡ soleMore (eqb section s && eqb class k) j (getD soles (64 * s + k) 0)
+      told f = ap (λ (b : Bool). soleMore b j (getD soles (64 * s + k) 0)) (sym f ∙ same-place section s class k g q)
 
-  pub mark-outside : length soles ≤ class → (k : ℕ) → k < length soles → getD soles k 0 ≡ soleMore (eqb class k && eqb here clause) j (getD soles k 0)
-  mark-outside h k g = mark-at k false (ap (λ (b : Bool). b && eqb here clause) (ne-eqb class k (λ e. omega arith)))
-
-  pub mark-set : (v : ℕ) → here ≡ clause → class < length soles → v ≡ soleMore true j (getD soles class 0) → (k : ℕ) → k < length soles
-      → getD (set soles class v) k 0 ≡ soleMore (eqb class k && eqb here clause) j (getD soles k 0)
-  mark-set v e h f k g = go (bool-cases (eqb class k))
-    where
-      go : (eqb class k ≡ true) ⊎ (eqb class k ≡ false) → getD (set soles class v) k 0 ≡ soleMore (eqb class k && eqb here clause) j (getD soles k 0)
+      go : (eqb place (64 * s + k) ≡ true) ⊎ (eqb place (64 * s + k) ≡ false)
+          → getD (set soles place v) (64 * s + k) 0 ≡ soleMore (eqb section s && eqb class k) j (getD soles (64 * s + k) 0)
       go (inl t) =
-          let q = eqb-true class k t in
-          ap (λ (i : ℕ). getD (set soles class v) i 0) (sym q)
-          ∙ getD-set-same soles class v 0 h
-          ∙ f
-          ∙ ap (λ (i : ℕ). soleMore true j (getD soles i 0)) q
-          ∙ mark-at k true (ap₂ _&&_ t (eq-eqb here clause e))
-      go (inr t) =
-          getD-set-other soles class k v 0 (λ q. eqb-false class k t (sym q))
-          ∙ mark-at k false (ap (λ (b : Bool). b && eqb here clause) t)
+          let same = eqb-true place (64 * s + k) t in
+          ap (λ (i : ℕ). getD (set soles place v) i 0) (sym same)
+          ∙ getD-set-same soles place v 0 (omega arith)
+          ∙ e
+          ∙ ap (λ (i : ℕ). soleMore true j (getD soles i 0)) same
+          ∙ told t
+      go (inr f) = getD-set-other soles place (64 * s + k) v 0 (λ z. eqb-false place (64 * s + k) f (sym z)) ∙ told f
 
-  pub mark-first : getD soles class 0 ≡ 0 → j + 1 ≡ soleMore true j (getD soles class 0)
-  mark-first e = ap (λ (s : ℕ). soleMore true j s) (sym e)
+  pub noted-first : getD soles place 0 ≡ 0 → (s k : ℕ) → s < 5 → k < 64
+      → getD (set soles place (j + 1)) (64 * s + k) 0 ≡ soleMore (eqb section s && eqb class k) j (getD soles (64 * s + k) 0)
+  noted-first e = noted (j + 1) (ap (λ (s : ℕ). soleMore true j s) (sym e))
 
-  pub mark-again : (getD soles class 0 ≡ 0 → ⊥) → 255 ≡ soleMore true j (getD soles class 0)
-  mark-again n = sym (ap (λ (b : Bool). cond b (j + 1) 255) (ne-eqb (getD soles class 0) 0 n))
+  pub noted-again : (getD soles place 0 ≡ 0 → ⊥) → (s k : ℕ) → s < 5 → k < 64
+      → getD (set soles place 255) (64 * s + k) 0 ≡ soleMore (eqb section s && eqb class k) j (getD soles (64 * s + k) 0)
+  noted-again n = noted 255 (sym (ap (λ (b : Bool). cond b (j + 1) 255) (ne-eqb (getD soles place 0) 0 n)))
 
--- the notes of the first j literals
-pub record Noted-first (numbers clauses : List ℕ) (clause j : ℕ) (soles : List ℕ) : Type 0 where
-  pub room : length soles ≡ 64
+-- unless it is said before
+module _ (said : Bool) (s class k j old : ℕ) where
+  noted-unless : {r : ℕ} (t : Bool) → not said ≡ t → r ≡ soleMore ((t && eqb 4 s) && eqb class k) j old → r ≡ soleMore ((eqb 4 s && not said) && eqb class k) j old
+  noted-unless t e q = q ∙ ap (λ (b : Bool). soleMore (b && eqb class k) j old) (by-second (eqb 4 s) (not said) t e)
+
+  pub noted-said : said ≡ true → old ≡ soleMore ((eqb 4 s && not said) && eqb class k) j old
+  noted-said e = noted-unless false (ap not e) refl
+
+  pub noted-asked : said ≡ false → {r : ℕ} → r ≡ soleMore (eqb 4 s && eqb class k) j old → r ≡ soleMore ((eqb 4 s && not said) && eqb class k) j old
+  noted-asked e q = noted-unless true (ap not e) q
+
+-- ---- the sections that count a literal, by its role
+
+-- said: an earlier literal says the same, where it is asked at the end
+abbrev hits : Bool → Role → ℕ → Bool
+hits said r zero = eqb (clauseAt false Start r) 1
+hits said r (suc zero) = eqb (clauseAt false Start r) 3
+hits said r (suc (suc zero)) = eqb (clauseAt false End r) 1
+hits said r (suc (suc (suc zero))) = eqb (clauseAt false End r) 3
+hits said r (suc (suc (suc (suc s)))) = eqb (clauseAt true End r) 1 && not said
+
+-- by the first section that counts it
+abbrev counted : Bool → ℕ → ℕ → Bool
+counted said section s = cond (eqb s 4) ((eqb section 4 || eqb section 2) && not said) (eqb section s)
+
+abbrev EachSection : Bool → Role → Type 0
+EachSection said r =
+    (hits said r 0 ≡ counted said (sectionOf r) 0) × (hits said r 1 ≡ counted said (sectionOf r) 1) × (hits said r 2 ≡ counted said (sectionOf r) 2)
+    × (hits said r 3 ≡ counted said (sectionOf r) 3) × (hits said r 4 ≡ counted said (sectionOf r) 4)
+
+each-section : (said : Bool) (t : Time) (c : Clause) → EachSection said record { time = t; clause = c }
+each-section said AtStart Positive = (refl, refl, refl, refl, refl)
+each-section said AtStart Negative = (refl, refl, refl, refl, refl)
+each-section said AtStart Add = (refl, refl, refl, refl, refl)
+each-section said AtStart Delete = (refl, refl, refl, refl, refl)
+each-section said OverAll Positive = (refl, refl, refl, refl, refl)
+each-section said OverAll Negative = (refl, refl, refl, refl, refl)
+each-section said OverAll Add = (refl, refl, refl, refl, refl)
+each-section said OverAll Delete = (refl, refl, refl, refl, refl)
+each-section said AtEnd Positive = (refl, refl, refl, refl, refl)
+each-section said AtEnd Negative = (refl, refl, refl, refl, refl)
+each-section said AtEnd Add = (refl, refl, refl, refl, refl)
+each-section said AtEnd Delete = (refl, refl, refl, refl, refl)
+
+module _ (rows : List ℕ) (j : ℕ) where
+  abbrev role : Role
+  role = roleOf (getD rows (8 * j) 0)
+
+  abbrev pub said : Bool
+  said = any (saysAt true rows End 1 j) (below j)
+
+  -- a literal asked at the end is not said before
+  asked-once : eqb (clauseIn true rows End j) 1 ≡ eqb (clauseAt true End role) 1 && not said
+  unfolding clauseIn clauseByte
+  asked-once = go (clauseAt true End role) (bool-cases (eqb (clauseAt true End role) 1))
+    where
+      once : (b : Bool) → eqb (cond b 0 1) 1 ≡ not b
+      once true = refl
+      once false = refl
+
+      other : (b : Bool) (n : ℕ) → eqb n 1 ≡ false → eqb (cond b 0 n) 1 ≡ false
+      other true n f = refl
+      other false n f = f
+
+      go : (n : ℕ) → (eqb n 1 ≡ true) ⊎ (eqb n 1 ≡ false)
+          → eqb (cond (mayMeet true End n && any (saysAt true rows End n j) (below j)) 0 n) 1 ≡ eqb n 1 && not said
+      go n (inl t) = rw (eqb-true n 1 t) (once said)
+      go n (inr f) = other (mayMeet true End n && any (saysAt true rows End n j) (below j)) n f ∙ sym (ap (λ (b : Bool). b && not said) f)
+
+  counts-hit : (s : ℕ) → s < 5 → countsIn rows s j ≡ hits said role s
+  unfolding countsIn clauseIn clauseByte
+  counts-hit zero h = refl
+  counts-hit (suc zero) h = refl
+  counts-hit (suc (suc zero)) h = refl
+  counts-hit (suc (suc (suc zero))) h = refl
+  counts-hit (suc (suc (suc (suc zero)))) h = asked-once
+  counts-hit (suc (suc (suc (suc (suc s))))) h = absurd (omega arith)
+
+  counts-section : (s : ℕ) → s < 5 → countsIn rows s j ≡ counted said (sectionOf role) s
+  counts-section s h = counts-hit s h ∙ pick (each-section said (role .time) (role .clause)) s h
+    where
+      pick : EachSection said role → (s : ℕ) → s < 5 → hits said role s ≡ counted said (sectionOf role) s
+      pick e zero h = e .0
+      pick e (suc zero) h = e .1
+      pick e (suc (suc zero)) h = e .2
+      pick e (suc (suc (suc zero))) h = e .3
+      pick e (suc (suc (suc (suc zero)))) h = e .4
+      pick e (suc (suc (suc (suc (suc s))))) h = absurd (omega arith)
+
+  module _ (section class : ℕ) (e : section ≡ sectionOf role) (s k old : ℕ) (h : s < 5) where
+    -- what is left to show, by the section
+    told : {b : Bool} → b ≡ counted said section s → {r : ℕ} → r ≡ soleMore (b && eqb class k) j old → r ≡ soleMore (eqb class k && countsIn rows s j) j old
+    told {b} f q =
+        q
+        ∙ ap (λ (t : Bool). soleMore t j old)
+        (ap (λ (t : Bool). t && eqb class k) (f ∙ ap (λ (n : ℕ). counted said n s) e ∙ sym (counts-section s h)) ∙ and-comm (countsIn rows s j) (eqb class k))
+
+    pub tally-none : 4 < section → old ≡ soleMore (eqb class k && countsIn rows s j) j old
+    tally-none f = told (go (bool-cases (eqb s 4))) refl
+      where
+        go : (eqb s 4 ≡ true) ⊎ (eqb s 4 ≡ false) → false ≡ counted said section s
+        go (inl t) = rw (eqb-true s 4 t, ne-eqb section 4 (λ z. omega arith), ne-eqb section 2 (λ z. omega arith))
+        go (inr q) = sym (ap (λ (b : Bool). cond b ((eqb section 4 || eqb section 2) && not said) (eqb section s)) q ∙ ne-eqb section s (λ z. omega arith))
+
+    pub tally-asked : section ≡ 4 → {r : ℕ} → r ≡ soleMore ((eqb 4 s && not said) && eqb class k) j old → r ≡ soleMore (eqb class k && countsIn rows s j) j old
+    tally-asked f = told (go s h ∙ ap (λ (n : ℕ). counted said n s) (sym f))
+      where
+        go : (s : ℕ) → s < 5 → eqb 4 s && not said ≡ counted said 4 s
+        go zero h = refl
+        go (suc zero) h = refl
+        go (suc (suc zero)) h = refl
+        go (suc (suc (suc zero))) h = refl
+        go (suc (suc (suc (suc zero)))) h = refl
+        go (suc (suc (suc (suc (suc s))))) h = absurd (omega arith)
+
+    pub tally-own : (section ≡ 4 → ⊥) → (section ≡ 2 → ⊥) → {r : ℕ} → r ≡ soleMore (eqb section s && eqb class k) j old → r ≡ soleMore (eqb class k && countsIn rows s j) j old
+    tally-own n m = told (go (bool-cases (eqb s 4)))
+      where
+        go : (eqb s 4 ≡ true) ⊎ (eqb s 4 ≡ false) → eqb section s ≡ counted said section s
+        go (inl t) = rw (eqb-true s 4 t, ne-eqb section 4 n, ne-eqb section 2 m)
+        go (inr f) = sym (ap (λ (b : Bool). cond b ((eqb section 4 || eqb section 2) && not said) (eqb section s)) f)
+
+    pub tally-both : section ≡ 2 → {r own : ℕ} → own ≡ soleMore (eqb section s && eqb class k) j old
+        → r ≡ soleMore ((eqb 4 s && not said) && eqb class k) j own → r ≡ soleMore (eqb class k && countsIn rows s j) j old
+    tally-both f {r} {own} p q =
+        told (ap (λ (n : ℕ). counted said n s) (sym f))
+        (q ∙ ap (λ (n : ℕ). soleMore ((eqb 4 s && not said) && eqb class k) j n) (p ∙ ap (λ (n : ℕ). soleMore (eqb n s && eqb class k) j old) f) ∙ go s h)
+      where
+        go : (s : ℕ) → s < 5 → soleMore ((eqb 4 s && not said) && eqb class k) j (soleMore (eqb 2 s && eqb class k) j old) ≡ soleMore (counted said 2 s && eqb class k) j old
+        go zero h = refl
+        go (suc zero) h = refl
+        go (suc (suc zero)) h = refl
+        go (suc (suc (suc zero))) h = refl
+        go (suc (suc (suc (suc zero)))) h = refl
+        go (suc (suc (suc (suc (suc s))))) h = absurd (omega arith)
+
+-- a literal of no class is noted nowhere
+pub tally-outside : (rows : List ℕ) (j class s k old : ℕ) → 64 ≤ class → k < 64 → old ≡ soleMore (eqb class k && countsIn rows s j) j old
+tally-outside rows j class s k old h g = sym (ap (λ (b : Bool). soleMore (b && countsIn rows s j) j old) (ne-eqb class k (λ z. omega arith)))
+
+-- ---- the notes of the first j literals
+
+pub record Tallied (rows numbers : List ℕ) (j : ℕ) (soles : List ℕ) : Type 0 where
   pub reach : j ≤ length numbers
-  pub is : (k : ℕ) → k < 64 → getD soles k 0 ≡ soleBy (isAt numbers clauses k clause) j
+  pub is : (s k : ℕ) → s < 5 → k < 64 → getD soles (64 * s + k) 0 ≡ soleBy (λ i. eqb (getD numbers i 0) k && countsIn rows s i) j
 
-module _ (numbers clauses : List ℕ) (clause : ℕ) where
-  pub noted-none : (soles : List ℕ) → soles ≡ pad 64 [] → Noted-first numbers clauses clause 0 soles
+module _ (rows numbers : List ℕ) where
+  pub tallied-none : (soles : List ℕ) → soles ≡ pad 320 [] → Tallied rows numbers 0 soles
   unfolding soleBy
-  noted-none soles e = record { room = ap length e; reach = omega arith; is = λ k h. ap (λ (l : List ℕ). getD l k 0) e ∙ getD-fill [] 64 k 0 }
+  tallied-none soles e = record { reach = omega arith; is = λ s k h g. ap (λ (l : List ℕ). getD l (64 * s + k) 0) e ∙ getD-fill [] 320 (64 * s + k) 0 }
 
-  pub noted-more : (j : ℕ) (soles soles′ : List ℕ) → j < length numbers → Noted-first numbers clauses clause j soles → length soles′ ≡ length soles
-      → ((k : ℕ) → k < length soles → getD soles′ k 0 ≡ soleMore (eqb (getD numbers j 0) k && eqb (getD clauses j 0) clause) j (getD soles k 0)) → Noted-first numbers clauses clause (j + 1) soles′
-  unfolding soleBy isAt
-  noted-more j soles soles′ h N l f =
+  pub tallied-more : (j : ℕ) (soles soles′ : List ℕ) → j < length numbers → Tallied rows numbers j soles
+      → ((s k : ℕ) → s < 5 → k < 64
+      → getD soles′ (64 * s + k) 0 ≡ soleMore (eqb (getD numbers j 0) k && countsIn rows s j) j (getD soles (64 * s + k) 0))
+      → Tallied rows numbers (j + 1) soles′
+  unfolding soleBy
+  tallied-more j soles soles′ h T f =
       record {
-        room = l ∙ N .room;
         reach = omega arith;
         is =
-            λ k g.
-            let r = N .room in
-            f k (omega arith) ∙ ap (λ (s : ℕ). soleMore (isAt numbers clauses k clause j) j s) (N .is k g) ∙ ap (soleBy (isAt numbers clauses k clause)) (sym (add-one j));
+            λ s k p q.
+            f s k p q
+            ∙ ap (λ (n : ℕ). soleMore (eqb (getD numbers j 0) k && countsIn rows s j) j n) (T .is s k p q)
+            ∙ ap (soleBy (λ i. eqb (getD numbers i 0) k && countsIn rows s i)) (sym (add-one j));
       }
 
-  pub noted-all : (j : ℕ) (soles : List ℕ) → length numbers ≤ j → Noted-first numbers clauses clause j soles → (k : ℕ) → k < 64 → getD soles k 0 ≡ soleAt numbers clauses k clause
-  unfolding soleAt
-  noted-all j soles h N k g = let r = N .reach in let e : j ≡ length numbers = omega arith in N .is k g ∙ ap (soleBy (isAt numbers clauses k clause)) e
+  pub tallied-all : (j : ℕ) (soles : List ℕ) → length numbers ≤ j → Tallied rows numbers j soles → SolesOf rows numbers soles
+  unfolding SolesOf
+  tallied-all j soles h T s k p q =
+      let r = T .reach in
+      let e : j ≡ length numbers = omega arith in
+      T .is s k p q ∙ ap (soleBy (λ i. eqb (getD numbers i 0) k && countsIn rows s i)) e
+
+-- ---- the notes of a moment, by the clauses of its literals
+
+sole-agree : (p q : ℕ → Bool) (n : ℕ) → ((j : ℕ) → j < n → p j ≡ q j) → soleBy p n ≡ soleBy q n
+unfolding soleBy
+sole-agree p q zero f = refl
+sole-agree p q (suc n) f = ap₂ (λ (b : Bool) (s : ℕ). soleMore b n s) (f n (omega arith)) (sole-agree p q n (λ j h. f j (omega arith)))
+
+from-at : (i n j : ℕ) → j < n → getD (numbersFrom i n) j 0 ≡ i + j
+from-at i zero j h = absurd (omega arith)
+from-at i (suc n) zero h = omega arith
+from-at i (suc n) (suc j) h = from-at (suc i) n j (omega arith) ∙ omega arith
+
+module _ (rows numbers : List ℕ) (w : Bool) (m : Moment) (clauses : List ℕ) (e : clauses ≡ pad 64 (map (clauseIn w rows m) (below (length numbers)))) where
+  clause-at : (j : ℕ) → j < length numbers → getD clauses j 0 ≡ clauseIn w rows m j
+  clause-at j h =
+      let z : 0 + j ≡ j = omega arith in
+      ap (λ (l : List ℕ). getD l j 0) e
+      ∙ pad-at 64 (map (clauseIn w rows m) (below (length numbers))) j
+      ∙ getD-map (clauseIn w rows m) (below (length numbers)) j 0 0 (omega (arith, length-from 0 (length numbers)))
+      ∙ ap (clauseIn w rows m) (from-at 0 (length numbers) j h ∙ z)
+
+  section-is : (k clause : ℕ) → soleBy (λ j. eqb (getD numbers j 0) k && eqb (clauseIn w rows m j) clause) (length numbers) ≡ soleAt numbers clauses k clause
+  unfolding soleAt isAt
+  section-is k clause =
+      sole-agree (λ j. eqb (getD numbers j 0) k && eqb (clauseIn w rows m j) clause) (isAt numbers clauses k clause) (length numbers)
+      (λ j h. ap (λ (c : ℕ). eqb (getD numbers j 0) k && eqb c clause) (sym (clause-at j h)))
+
+module _ (rows numbers clauses soles : List ℕ) (S : SolesOf rows numbers soles) where
+  pub start-soles : clauses ≡ pad 64 (map (clauseIn false rows Start) (below (length numbers))) → (k : ℕ) → k < 64 → soleIn soles 0 k ≡ soleOf numbers clauses k
+  unfolding SolesOf countsIn
+  start-soles e k h =
+      let is = section-is rows numbers false Start clauses e k in
+      ap₂ (λ (c d : ℕ). record { conditions = c; adds = d }) (S 0 k (omega arith) h ∙ is 1) (S 1 k (omega arith) h ∙ is 3)
+
+  pub end-soles : clauses ≡ pad 64 (map (clauseIn false rows End) (below (length numbers))) → (k : ℕ) → k < 64 → soleIn soles 2 k ≡ soleOf numbers clauses k
+  unfolding SolesOf countsIn
+  end-soles e k h =
+      let is = section-is rows numbers false End clauses e k in
+      ap₂ (λ (c d : ℕ). record { conditions = c; adds = d }) (S 2 k (omega arith) h ∙ is 1) (S 3 k (omega arith) h ∙ is 3)
+
+  pub asked-soles : clauses ≡ pad 64 (map (clauseIn true rows End) (below (length numbers))) → (k : ℕ) → k < 64 → getD soles (64 * 4 + k) 0 ≡ soleAt numbers clauses k 1
+  unfolding SolesOf countsIn
+  asked-soles e k h = S 4 k (omega arith) h ∙ section-is rows numbers true End clauses e k 1

@@ -2,26 +2,27 @@
 use mathlib.Core.Path.{_≡_}
 use mathlib.Core.Bool.{Bool, true, false, _&&_, _||_, not, cond}
 use mathlib.Core.List.{List, [], _∷_, _++_, map, flatMap}
-use Prim.Native.Nat.{ℕ, zero, suc, _+_, _-_, _*_, _≤_}
+use Prim.Native.Nat.{ℕ, zero, suc, _+_, _-_, _*_, _≤_, _<_}
 use lib.Dec.{eqb, ltb, leb}
 use lib.ListN.{length, getD, set, take, drop, replicate}
-use Rattle.records.specs.Lists.{In, any, pairwise, sameList}
+use Rattle.records.specs.Lists.{In, any, all, pairwise, sameList}
 use Rattle.literals.specs.declared.Variable.{Variable}
 use Rattle.literals.specs.declared.Time.{Time}
 use Rattle.literals.specs.declared.Time.the-variants.{AtStart, OverAll, AtEnd}
 use Rattle.literals.specs.declared.Clause.{Clause}
+use Rattle.literals.specs.declared.Clause.the-variants.{Positive, Negative, Add, Delete}
 use Rattle.literals.specs.declared.Role.{Role}
-use Rattle.literals.specs.Domain.{sameVariable, sameLiteral, clauseNumber, roleOf, sameTime, isCounted, Literal, Action, Domain}
-use Rattle.literals.specs.Decode.{maxLiterals, labelOf, repeats}
-use Rattle.literals.specs.Table.{rowOf, literalRow, pad}
+use Rattle.literals.specs.Domain.{sameVariable, sameLiteral, isEvery, clauseNumber, roleOf, sameTime, isCounted, Literal, Action, Domain}
+use Rattle.literals.specs.Decode.{maxLiterals, argumentOf, labelOf, repeats}
+use Rattle.literals.specs.Table.{rowOf, literalRow, pad, rowsMeet}
 use Rattle.literals.specs.Held.{componentsIn, arityIn, partIn, HeadOf}
 use Rattle.literals.specs.declared.Moment.{Moment}
 use Rattle.literals.specs.declared.Moment.the-variants.{Start, End}
 use Rattle.classes.specs.declared.Sole.{Sole}
 use Rattle.classes.specs.declared.number.Numbered.{Numbered}
-use Rattle.literals.specs.Matching.{tuplesOf, own, asked}
+use Rattle.literals.specs.Matching.{own, asked}
 use Rattle.literals.specs.Keys.{position, below}
-use Rattle.classes.specs.Classes.{classes, covered, excluding}
+use Rattle.classes.specs.Classes.{literalTuples, classes, covered, excluding}
 
 -- ---- class numbers
 
@@ -32,8 +33,8 @@ classNumberBy xs (t ∷ ts) = position (sameList sameVariable t) xs
 
 -- the class number of each literal of an action, in file order
 unfoldable pub classNumbers : Domain → Action → List ℕ
-unfolding tuplesOf classes
-classNumbers D a = map (λ (l : Literal). classNumberBy (classes D a) (tuplesOf D (l .atom))) (a .lits)
+unfolding literalTuples classes
+classNumbers D a = map (λ (l : Literal). classNumberBy (classes D a) (literalTuples D (l .atom))) (a .lits)
 
 -- those of all literals of these actions, in table order
 unfoldable pub numbersOf : Domain → List Action → List ℕ
@@ -154,21 +155,50 @@ unfoldable pub sameIn : List ℕ → List ℕ → List ℕ → ℕ → ℕ → �
 unfolding isSameAt
 sameIn rows numbers clauses class clause i = any (isSameAt rows numbers clauses class clause i) (below (length numbers))
 
--- a literal with the atom of the row i is an add or a delete of the class
+-- two rows meet
+unfoldable pub meetAt : List ℕ → ℕ → ℕ → Bool
+meetAt rows i j = rowsMeet (rowAt rows i) (rowAt rows j)
+
+-- the row j is a delete of this class, and meets the row i
+unfoldable pub isDeleteAt : List ℕ → List ℕ → List ℕ → ℕ → ℕ → ℕ → Bool
+unfolding isAt meetAt
+isDeleteAt rows numbers clauses class i j = isAt numbers clauses class 4 j && meetAt rows j i
+
+unfoldable pub deletedIn : List ℕ → List ℕ → List ℕ → ℕ → ℕ → Bool
+unfolding isDeleteAt
+deletedIn rows numbers clauses class i = any (isDeleteAt rows numbers clauses class i) (below (length numbers))
+
+-- the atom of the row i is an add of the class, or it is deleted there
 unfoldable pub changedAt : List ℕ → List ℕ → List ℕ → ℕ → ℕ → Bool
-unfolding sameIn
-changedAt rows numbers clauses class i = sameIn rows numbers clauses class 3 i || sameIn rows numbers clauses class 4 i
+unfolding sameIn deletedIn
+changedAt rows numbers clauses class i = sameIn rows numbers clauses class 3 i || deletedIn rows numbers clauses class i
 
 -- the row j is a false condition, add or delete of the class, with this relation
 unfoldable pub excludesAt : List ℕ → List ℕ → List ℕ → ℕ → ℕ → ℕ → Bool
 excludesAt rows numbers clauses class relation j = eqb (getD numbers j 0) class && (leb 2 (getD clauses j 0) && eqb relation (getD rows (8 * j + 1) 0))
 
+-- where the label is FF, the argument beside it is FF
+abbrev pub clearedBeside : ℕ → ℕ → Bool
+clearedBeside label argument = not (isCounted (labelOf label)) || isEvery (argumentOf argument)
+
+-- of the label i of the component c of the head, and of the argument i of the row j
+abbrev pub clearedAt : List ℕ → List ℕ → ℕ → ℕ → ℕ → Bool
+clearedAt head rows c j i = clearedBeside (getD (partIn head c) (1 + i) 0) (getD rows (8 * j + 2 + i) 0)
+
+-- the row j has FF where the component c has it, of as many arguments as its relation has
+unfoldable pub clearsAt : List ℕ → List ℕ → ℕ → ℕ → Bool
+unfolding partIn arityIn
+clearsAt head rows c j = all (clearedAt head rows c j) (below (arityIn head (getD (partIn head c) 0 0)))
+
+-- the row j is one by which the class covers it
+unfoldable pub coversAt : List ℕ → List ℕ → List ℕ → List ℕ → ℕ → ℕ → ℕ → Bool
+unfolding partIn excludesAt clearsAt
+coversAt head rows numbers clauses class c j = excludesAt rows numbers clauses class (getD (partIn head c) 0 0) j && clearsAt head rows c j
+
 -- the class covers the component c of the head
 unfoldable pub coveredAt : List ℕ → List ℕ → List ℕ → List ℕ → ℕ → ℕ → Bool
-unfolding partIn arityIn excludesAt
-coveredAt head rows numbers clauses class c =
-    let part = partIn head c in
-    not (any (λ i. isCounted (labelOf (getD part (1 + i) 0))) (below (arityIn head (getD part 0 0)))) && any (excludesAt rows numbers clauses class (getD part 0 0)) (below (length numbers))
+unfolding coversAt
+coveredAt head rows numbers clauses class c = any (coversAt head rows numbers clauses class c) (below (length numbers))
 
 -- the first component that it does not cover, or their number
 unfoldable pub lackingAt : List ℕ → List ℕ → List ℕ → List ℕ → ℕ → ℕ
@@ -200,6 +230,45 @@ soleAt numbers clauses class clause = soleBy (isAt numbers clauses class clause)
 -- the true conditions and the adds of a class
 abbrev pub soleOf : List ℕ → List ℕ → ℕ → Sole
 soleOf numbers clauses class = record { conditions = soleAt numbers clauses class 1; adds = soleAt numbers clauses class 3 }
+
+-- ---- the same of all classes, in sections of a byte for each: true conditions and adds at the start, the same at the end, those asked at the end
+
+-- whether a section counts the row j
+unfoldable pub countsIn : List ℕ → ℕ → ℕ → Bool
+unfolding clauseIn
+countsIn rows zero j = eqb (clauseIn false rows Start j) 1
+countsIn rows (suc zero) j = eqb (clauseIn false rows Start j) 3
+countsIn rows (suc (suc zero)) j = eqb (clauseIn false rows End j) 1
+countsIn rows (suc (suc (suc zero))) j = eqb (clauseIn false rows End j) 3
+countsIn rows (suc (suc (suc (suc s)))) j = eqb (clauseIn true rows End j) 1
+
+-- which literal of a class each of the five sections counts, in a memory
+unfoldable pub SolesOf : List ℕ → List ℕ → List ℕ → Type 0
+unfolding countsIn soleBy
+SolesOf rows numbers soles =
+    (s k : ℕ) → s < 5 → k < maxLiterals → getD soles (maxLiterals * s + k) 0 ≡ soleBy (λ j. eqb (getD numbers j 0) k && countsIn rows s j) (length numbers)
+
+-- the true conditions and the adds of a class, by the section of its true conditions
+abbrev pub soleIn : List ℕ → ℕ → ℕ → Sole
+soleIn soles s class = record { conditions = getD soles (maxLiterals * s + class) 0; adds = getD soles (maxLiterals * (s + 1) + class) 0 }
+
+-- the first section that counts the literals of a role, or 5: a true condition at the end is asked besides
+abbrev pub sectionBy : Time → Clause → ℕ
+sectionBy AtStart Positive = 0
+sectionBy AtStart Add = 1
+sectionBy AtStart Negative = 5
+sectionBy AtStart Delete = 5
+sectionBy OverAll Positive = 4
+sectionBy OverAll Negative = 5
+sectionBy OverAll Add = 5
+sectionBy OverAll Delete = 5
+sectionBy AtEnd Positive = 2
+sectionBy AtEnd Add = 3
+sectionBy AtEnd Negative = 5
+sectionBy AtEnd Delete = 5
+
+abbrev pub sectionOf : Role → ℕ
+sectionOf r = sectionBy (r .time) (r .clause)
 
 -- which literal of a class is asked as a true condition at a moment: 255 says that it is unreachable there
 unfoldable pub reachAt : Domain → Action → Moment → ℕ → ℕ

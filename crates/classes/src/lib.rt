@@ -20,6 +20,17 @@ pub enum Name {
 // A byte for each literal of an action, or for each of its classes.
 pub type Marks = [u8; MAX_LITERALS];
 
+// In sections of a byte for each class of an action: which of its literals is a true condition at the start, and which an add there; the
+// same two at the end; which is asked as a true condition at the end. 0 for none, k + 1 for the literal k alone, 255 for more.
+pub type Soles = [u8; 5 * MAX_LITERALS];
+
+// The sections by their numbers; those of the adds follow those of the true conditions.
+pub const AT_START: usize = 0;
+
+pub const AT_END: usize = 2;
+
+pub const ASKED: usize = 4;
+
 // The true conditions and the adds of a class at a moment: 0 for none, k + 1 for the literal k alone, 255 for more.
 pub struct Sole {
     pub conditions: u8,

@@ -1,38 +1,48 @@
 // What a class has at a moment: the clause of each literal there, its true conditions and adds, and the name that they decide.
+use super::ASKED;
+use super::AT_END;
+use super::AT_START;
 use super::Marks;
 use super::Name;
 use super::Sole;
+use super::Soles;
+use literals::Clause;
 use literals::Moment;
 use literals::Time;
+use literals::argument_of;
 use literals::clause_number;
 use literals::head::Head;
 use literals::head::arity_of;
 use literals::head::components_in;
 use literals::head::part_byte;
 use literals::is_counted;
+use literals::is_every;
 use literals::label_of;
+use literals::limits::MAX_LITERALS;
 use literals::role_of;
+use literals::row::rows_meet;
 use literals::row::same_four;
 use literals::same_time;
 use records::bytes::wide;
 ghost use mathlib.Core.Path.{_≡_};
-ghost use mathlib.Core.Bool.{true, _&&_};
-ghost use mathlib.Core.List.{List, []};
+ghost use mathlib.Core.Bool.{true, not, _&&_};
+ghost use mathlib.Core.List.{List, [], map};
 ghost use Prim.Native.Nat.{ℕ, _+_, _*_, _≤_, _<_};
 ghost use lib.Dec.{eqb};
 ghost use lib.ListN.{length, getD};
-ghost use Rattle.records.specs.Lists.{any};
-ghost use Rattle.literals.specs.Domain.{Domain, Action, isCounted};
-ghost use Rattle.literals.specs.Decode.{maxArguments, maxLiterals, maxComponents, labelOf};
+ghost use Rattle.records.specs.Lists.{any, all};
+ghost use Rattle.literals.specs.Domain.{Domain, Action, roleOf};
+ghost use Rattle.literals.specs.Decode.{maxArguments, maxLiterals, maxComponents};
 ghost use Rattle.literals.specs.Table.{pad};
-ghost use Rattle.literals.specs.Held.{partIn};
 ghost use Rattle.literals.specs.declared.Moment.{Moment};
 ghost use Rattle.literals.specs.declared.Moment.the-variants.{Start, End};
+ghost use Rattle.literals.specs.declared.Time.the-variants.{AtStart, OverAll, AtEnd};
 ghost use Rattle.classes.specs.Classes.{classes, lastsIn, nameOf, journey};
 ghost use Rattle.literals.specs.Keys.{below};
 ghost use Rattle.classes.specs.Coded.{ActionOf, MomentOf, Sides, clausesBy, clausesAt, classNumbers, uncoveredAt, timed, clauseByte};
-ghost use Rattle.classes.specs.Coded.{mayMeet, sameAtomAt, saysAt, clauseIn, isAt, isSameAt, sameIn, changedAt, excludesAt};
-ghost use Rattle.classes.specs.Coded.{coveredAt, lackingAt, lastsAt, soleMore, soleAt, soleOf, reachAt};
+ghost use Rattle.classes.specs.Coded.{mayMeet, sameAtomAt, saysAt, clauseIn, isAt, isSameAt, sameIn, isDeleteAt, deletedIn};
+ghost use Rattle.classes.specs.Coded.{changedAt, excludesAt, clearedBeside, clearedAt, coversAt, coveredAt, lackingAt, lastsAt};
+ghost use Rattle.classes.specs.Coded.{soleMore, soleOf, reachAt, sectionBy, sectionOf, countsIn, SolesOf, soleIn};
 
 // Whether the literals of a time count at an end: its own, or (wide) all that is asked there, the over-all conditions too.
 fn counts_at_end(wide: bool, time: Time) -> bool
@@ -84,8 +94,8 @@ fn says(wide: bool, rows: &[u8], m: Moment, clause: u8, j: usize, i: usize) -> b
     requires { ⌜ (8 * i + 8 ≤ length (now rows)) × (8 * j + 8 ≤ length (now rows)) ⌝ }
     ensures { λ r. ⌜ r ≡ saysAt wide (now (rows .entry)) m clause j i ⌝ }
 {
-    if clause_at(wide, m, rows[8 * i]) == clause {
-        return rows_agree(rows, i, j);
+    if rows_agree(rows, i, j) {
+        return clause_at(wide, m, rows[8 * i]) == clause;
     }
     false
 }
@@ -137,12 +147,13 @@ fn clause_once(wide: bool, rows: &[u8], m: Moment, j: usize) -> u8
 }
 
 // The clause of each literal at a moment, 0 for none and for one that an earlier literal says already; `clauses` is all 0 before. Of the
-// moment's own literals, which names and journeys are told by, or (wide) of all that is asked there: what unreachable is told by, and
-// what a witness lists.
+// moment's own literals, which names and journeys are told by, or (wide) of all that is asked there, which a witness lists.
 pub fn clauses_at(wide: bool, rows: &[u8], n: usize, m: Moment, clauses: &mut Marks)
     requires rowed { ⌜ length (now rows) ≡ 8 * n ⌝ }
     requires few { ⌜ n ≤ maxLiterals ⌝ }
-    ensures { λ _. ⌜ ((D : Domain) (a : Action) (head : List ℕ) → ActionOf D a head (now (rows .entry))
+    ensures bytes { λ _. ⌜ (now (clauses .entry) ≡ pad maxLiterals []
+        → now (clauses .exit) ≡ pad maxLiterals (map (clauseIn wide (now (rows .entry)) m) (below n))) ⌝ }
+    ensures clauses { λ _. ⌜ ((D : Domain) (a : Action) (head : List ℕ) → ActionOf D a head (now (rows .entry))
         → now (clauses .entry) ≡ pad maxLiterals [] → now (clauses .exit) ≡ pad maxLiterals (clausesBy wide a m)) ⌝ }
 {
     for j in 0..n {
@@ -161,36 +172,127 @@ fn is_at(numbers: &[u8], clauses: &Marks, class: u8, clause: u8, j: usize) -> bo
     false
 }
 
-// Notes the literal `j`, of a class, where what it is here is this clause.
-fn mark(soles: &mut [u8], class: u8, here: u8, clause: u8, j: usize)
-    requires { ⌜ j < maxLiterals ⌝ }
-    ensures { λ _. ⌜ ((k : ℕ) → k < length (now (soles .entry))
-        → getD (now (soles .exit)) k 0 ≡ soleMore (eqb class k && eqb here clause) j (getD (now (soles .entry)) k 0)) ⌝ }
+// Notes the literal `j`, of a class, in a section.
+fn note(soles: &mut [u8], section: usize, class: usize, j: usize)
+    requires { ⌜ (section < 5) × (class < maxLiterals) × (j < maxLiterals) × (length (now soles) ≡ 5 * maxLiterals) ⌝ }
+    ensures { λ _. ⌜ ((s k : ℕ) → s < 5 → k < maxLiterals → getD (now (soles .exit)) (maxLiterals * s + k) 0
+        ≡ soleMore (eqb section s && eqb class k) j (getD (now (soles .entry)) (maxLiterals * s + k) 0)) ⌝ }
 {
-    if here != clause {
+    let at = MAX_LITERALS * section + class;
+    if soles[at] == 0 {
+        soles[at] = j as u8 + 1;
         return;
     }
-    let k = class as usize;
-    if soles.len() <= k {
-        return;
-    }
-    if soles[k] == 0 {
-        soles[k] = j as u8 + 1;
-        return;
-    }
-    soles[k] = 255;
+    soles[at] = 255;
 }
 
-// For each class number, which of its literals has this clause: 0 for none, k + 1 for the literal k alone, 255 for more; `soles` is all 0
-// before.
-pub fn soles_at(numbers: &[u8], clauses: &Marks, clause: u8, soles: &mut [u8])
-    requires few { ⌜ length (now numbers) ≤ maxLiterals ⌝ }
-    requires room { ⌜ length (now soles) ≡ maxLiterals ⌝ }
-    ensures { λ _. ⌜ (now (soles .entry) ≡ pad maxLiterals [] → (k : ℕ) → k < maxLiterals
-        → getD (now (soles .exit)) k 0 ≡ soleAt (now (numbers .entry)) (now (clauses .entry)) k clause) ⌝ }
+// The section that counts the literals of a clause at the start, or 5.
+fn start_section(clause: Clause) -> usize
+    ensures { λ r. ⌜ r ≡ sectionBy AtStart clause ⌝ }
+{
+    match clause {
+        Clause::Positive => AT_START,
+        Clause::Negative => 5,
+        Clause::Add => AT_START + 1,
+        Clause::Delete => 5,
+    }
+}
+
+// The same over all.
+fn over_all_section(clause: Clause) -> usize
+    ensures { λ r. ⌜ r ≡ sectionBy OverAll clause ⌝ }
+{
+    match clause {
+        Clause::Positive => ASKED,
+        Clause::Negative => 5,
+        Clause::Add => 5,
+        Clause::Delete => 5,
+    }
+}
+
+// The same at the end.
+fn end_section(clause: Clause) -> usize
+    ensures { λ r. ⌜ r ≡ sectionBy AtEnd clause ⌝ }
+{
+    match clause {
+        Clause::Positive => AT_END,
+        Clause::Negative => 5,
+        Clause::Add => AT_END + 1,
+        Clause::Delete => 5,
+    }
+}
+
+// The first section that counts the literals of a role byte, or 5. (A true condition at the end is asked besides.)
+fn section_of(role: u8) -> usize
+    ensures { λ r. ⌜ r ≡ sectionOf (roleOf role) ⌝ }
+{
+    let sorted = role_of(role);
+    let when = sorted.time;
+    let clause = sorted.clause;
+    match when {
+        Time::AtStart => start_section(clause),
+        Time::OverAll => over_all_section(clause),
+        Time::AtEnd => end_section(clause),
+    }
+}
+
+// Notes the literal `j`, of a class, among those that are asked as true conditions at the end, unless an earlier literal says the same.
+fn note_asked(rows: &[u8], class: usize, j: usize, soles: &mut [u8])
+    requires { ⌜ (8 * j + 8 ≤ length (now rows)) × (class < maxLiterals) × (j < maxLiterals) × (length (now soles) ≡ 5 * maxLiterals) ⌝ }
+    ensures { λ _. ⌜ ((s k : ℕ) → s < 5 → k < maxLiterals → getD (now (soles .exit)) (maxLiterals * s + k) 0
+        ≡ soleMore ((eqb 4 s && not (any (saysAt true (now (rows .entry)) End 1 j) (below j))) && eqb class k) j
+        (getD (now (soles .entry)) (maxLiterals * s + k) 0)) ⌝ }
+{
+    if earlier_same(true, rows, Moment::End, 1, j) {
+        return;
+    }
+    note(soles, ASKED, class, j);
+}
+
+// Notes the literal `j` in each section of its class that counts it, and nowhere where it has none. Its role is sorted once.
+fn tally_literal(rows: &[u8], class: usize, j: usize, soles: &mut [u8])
+    requires { ⌜ (8 * j + 8 ≤ length (now rows)) × (j < maxLiterals) × (length (now soles) ≡ 5 * maxLiterals) ⌝ }
+    ensures { λ _. ⌜ ((s k : ℕ) → s < 5 → k < maxLiterals → getD (now (soles .exit)) (maxLiterals * s + k) 0
+        ≡ soleMore (eqb class k && countsIn (now (rows .entry)) s j) j (getD (now (soles .entry)) (maxLiterals * s + k) 0)) ⌝ }
+{
+    if MAX_LITERALS <= class {
+        return;
+    }
+    let section = section_of(rows[8 * j]);
+    if ASKED < section {
+        return;
+    }
+    if section == ASKED {
+        note_asked(rows, class, j, soles);
+        return;
+    }
+    note(soles, section, class, j);
+    if section != AT_END {
+        return;
+    }
+    note_asked(rows, class, j, soles);
+}
+
+// What the classes of an action have at its moments, in one pass over its literals, which are these rows; `soles` is all 0 before.
+pub fn tally(rows: &[u8], numbers: &[u8], soles: &mut [u8])
+    requires sides { ⌜ Sides (now rows) (now numbers) ⌝ }
+    requires room { ⌜ length (now soles) ≡ 5 * maxLiterals ⌝ }
+    ensures { λ _. ⌜ (now (soles .entry) ≡ pad (5 * maxLiterals) []
+        → SolesOf (now (rows .entry)) (now (numbers .entry)) (now (soles .exit))) ⌝ }
 {
     for j in 0..numbers.len() {
-        mark(soles, numbers[j], clauses[j], clause, j);
+        tally_literal(rows, wide(numbers[j]), j, soles);
+    }
+}
+
+// The true conditions and the adds of a class at a moment, by the section of its true conditions.
+pub fn sole_in(soles: &Soles, section: usize, class: usize) -> Sole
+    requires { ⌜ (section < 4) × (class < maxLiterals) ⌝ }
+    ensures { λ r. ⌜ r ≡ soleIn (now (soles .entry)) section class ⌝ }
+{
+    Sole {
+        conditions: soles[MAX_LITERALS * section + class],
+        adds: soles[MAX_LITERALS * (section + 1) + class],
     }
 }
 
@@ -226,7 +328,31 @@ fn any_same(rows: &[u8], numbers: &[u8], clauses: &Marks, class: u8, clause: u8,
     false
 }
 
-// Whether a literal with the atom of the row `i` is an add or a delete of a class.
+// Whether the row `j` is a delete of a class, and meets the row `i`.
+fn is_delete_at(rows: &[u8], numbers: &[u8], clauses: &Marks, class: u8, i: usize, j: usize) -> bool
+    requires { ⌜ Sides (now rows) (now numbers) × (i < length (now numbers)) × (j < length (now numbers)) ⌝ }
+    ensures { λ r. ⌜ r ≡ isDeleteAt (now (rows .entry)) (now (numbers .entry)) (now (clauses .entry)) class i j ⌝ }
+{
+    if is_at(numbers, clauses, class, 4, j) {
+        return rows_meet(rows, 8 * j, rows, 8 * i);
+    }
+    false
+}
+
+// Whether a class deletes the literal of the row `i`, a true condition: by one with the same arguments, or with FF.
+fn is_deleted(rows: &[u8], numbers: &[u8], clauses: &Marks, class: u8, i: usize) -> bool
+    requires { ⌜ Sides (now rows) (now numbers) × (i < length (now numbers)) ⌝ }
+    ensures { λ r. ⌜ r ≡ deletedIn (now (rows .entry)) (now (numbers .entry)) (now (clauses .entry)) class i ⌝ }
+{
+    for j in 0..numbers.len() {
+        if is_delete_at(rows, numbers, clauses, class, i, j) {
+            return true;
+        }
+    }
+    false
+}
+
+// Whether a literal with the atom of the row `i` is an add of a class, or the class deletes it.
 fn is_changed(rows: &[u8], numbers: &[u8], clauses: &Marks, class: u8, i: usize) -> bool
     requires { ⌜ Sides (now rows) (now numbers) × (i < length (now numbers)) ⌝ }
     ensures { λ r. ⌜ r ≡ changedAt (now (rows .entry)) (now (numbers .entry)) (now (clauses .entry)) class i ⌝ }
@@ -234,7 +360,7 @@ fn is_changed(rows: &[u8], numbers: &[u8], clauses: &Marks, class: u8, i: usize)
     if any_same(rows, numbers, clauses, class, 3, i) {
         return true;
     }
-    any_same(rows, numbers, clauses, class, 4, i)
+    is_deleted(rows, numbers, clauses, class, i)
 }
 
 // Whether the row `j` is a false condition, add or delete of a class, with this relation.
@@ -251,30 +377,50 @@ fn excludes(rows: &[u8], numbers: &[u8], clauses: &Marks, class: u8, relation: u
     relation == rows[8 * j + 1]
 }
 
-// Whether a false condition, add or delete of a class has this relation.
-fn any_excluding(rows: &[u8], numbers: &[u8], clauses: &Marks, class: u8, relation: u8) -> bool
-    requires { ⌜ Sides (now rows) (now numbers) ⌝ }
-    ensures { λ r. ⌜ r ≡ any (excludesAt (now (rows .entry)) (now (numbers .entry)) (now (clauses .entry)) class relation)
-        (below (length (now (numbers .entry)))) ⌝ }
+// Whether an argument is FF where the label beside it is.
+fn is_cleared(label: u8, argument: u8) -> bool
+    ensures { λ r. ⌜ r ≡ clearedBeside label argument ⌝ }
 {
-    for j in 0..numbers.len() {
-        if excludes(rows, numbers, clauses, class, relation, j) {
-            return true;
-        }
+    let counted = label_of(label);
+    if is_counted(counted) {
+        let cleared = argument_of(argument);
+        return is_every(cleared);
     }
-    false
+    true
 }
 
-// Whether one of the first n labels of the component `c` is that of the counted argument.
-fn any_counted(head: &Head, c: usize, n: usize) -> bool
-    requires { ⌜ (c < maxComponents) × (n ≤ maxArguments) ⌝ }
-    ensures { λ r. ⌜ r ≡ any (λ i. isCounted (labelOf (getD (partIn (now (head .entry)) c) (1 + i) 0))) (below n) ⌝ }
+// Whether the first n arguments of the row `j` are FF where the component `c` has it.
+fn clears(head: &Head, rows: &[u8], c: usize, j: usize, n: usize) -> bool
+    requires component { ⌜ c < maxComponents ⌝ }
+    requires row { ⌜ (8 * j + 8 ≤ length (now rows)) × (j < maxLiterals) ⌝ }
+    requires arguments { ⌜ n ≤ maxArguments ⌝ }
+    ensures { λ r. ⌜ r ≡ all (clearedAt (now (head .entry)) (now (rows .entry)) c j) (below n) ⌝ }
 {
     for i in 0..n {
-        let label = label_of(part_byte(head, c, 1 + i));
-        if is_counted(label) {
-            return true;
+        let label = part_byte(head, c, 1 + i);
+        if !is_cleared(label, rows[8 * j + 2 + i]) {
+            return false;
         }
+    }
+    true
+}
+
+// Whether the row `j` is one by which a class covers the component `c`.
+fn covers_by(
+    head: &Head,
+    rows: &[u8],
+    numbers: &[u8],
+    clauses: &Marks,
+    class: u8,
+    c: usize,
+    j: usize,
+) -> bool
+    requires { ⌜ (c < maxComponents) × Sides (now rows) (now numbers) × (j < length (now numbers)) ⌝ }
+    ensures { λ r. ⌜ r ≡ coversAt (now (head .entry)) (now (rows .entry)) (now (numbers .entry)) (now (clauses .entry)) class c j ⌝ }
+{
+    let relation = part_byte(head, c, 0);
+    if excludes(rows, numbers, clauses, class, relation, j) {
+        return clears(head, rows, c, j, wide(arity_of(head, relation)));
     }
     false
 }
@@ -284,11 +430,12 @@ fn covers(head: &Head, rows: &[u8], numbers: &[u8], clauses: &Marks, class: u8, 
     requires { ⌜ (c < maxComponents) × Sides (now rows) (now numbers) ⌝ }
     ensures { λ r. ⌜ r ≡ coveredAt (now (head .entry)) (now (rows .entry)) (now (numbers .entry)) (now (clauses .entry)) class c ⌝ }
 {
-    let relation = part_byte(head, c, 0);
-    if any_counted(head, c, wide(arity_of(head, relation))) {
-        return false;
+    for j in 0..numbers.len() {
+        if covers_by(head, rows, numbers, clauses, class, c, j) {
+            return true;
+        }
     }
-    any_excluding(rows, numbers, clauses, class, relation)
+    false
 }
 
 // The first component that a class does not cover at the moment of these clauses, or the number of components; `numbers` holds the class
@@ -436,5 +583,5 @@ pub fn is_journey(
     if end.adds == 255 {
         return false;
     }
-    any_same(rows, numbers, clauses, class, 4, condition as usize - 1)
+    is_deleted(rows, numbers, clauses, class, condition as usize - 1)
 }

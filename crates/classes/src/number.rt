@@ -2,6 +2,7 @@
 // elsewhere is known by this number; its key tuple is that of the first literal with it.
 use literals::head::Head;
 use literals::head::components_in;
+use literals::keys::KeyPlaces;
 use literals::keys::component_of;
 use literals::keys::key_tuple;
 use literals::keys::key_word;
@@ -13,7 +14,7 @@ ghost use lib.ListN.{length, getD, take, drop};
 ghost use Rattle.literals.specs.Domain.{Domain, Action};
 ghost use Rattle.literals.specs.Decode.{maxLiterals};
 ghost use Rattle.classes.specs.Classes.{classes};
-ghost use Rattle.literals.specs.Keys.{position, keyRowsIn, keyWordsIn};
+ghost use Rattle.literals.specs.Keys.{position, keyRowsIn, keyWordsIn, PlacesOf};
 ghost use Rattle.classes.specs.Coded.{ActionOf, Sides, numberedBy, wordsAfter, classNumbers, tupleRow, onlyRow};
 
 // The number of a literal's class, FF where it does not match, and the number of classes with it.
@@ -38,8 +39,16 @@ fn class_of(words: &[u64], n: usize, word: u64) -> usize
 }
 
 // The class of the literal whose row is at `at`; `words` has the key tuples of the `count` classes so far, and gets that of a new one.
-fn number_literal(head: &Head, rows: &[u8], at: usize, words: &mut [u64], count: usize) -> Numbered
-    requires { ⌜ (at + 8 ≤ length (now rows)) × (count < length (now words)) × (length (now words) ≡ maxLiterals) ⌝ }
+fn number_literal(
+    head: &Head,
+    places: &KeyPlaces,
+    rows: &[u8],
+    at: usize,
+    words: &mut [u64],
+    count: usize,
+) -> Numbered
+    requires places { ⌜ PlacesOf (now head) (now places) ⌝ }
+    requires room { ⌜ (at + 8 ≤ length (now rows)) × (count < length (now words)) × (length (now words) ≡ maxLiterals) ⌝ }
     ensures number { λ r. ⌜ r
         ≡ numberedBy (keyWordsIn (now (head .entry)) (take 8 (drop at (now (rows .entry))))) count (now (words .entry)) ⌝ }
     ensures words { λ _. ⌜ now (words .exit)
@@ -49,7 +58,7 @@ fn number_literal(head: &Head, rows: &[u8], at: usize, words: &mut [u64], count:
     if c == components_in(head) {
         return Numbered { class: 255, count };
     }
-    let word = key_word(head, c, rows, at);
+    let word = key_word(head, places, c, rows, at);
     let class = class_of(words, count, word);
     if class == count {
         words[count] = word;
@@ -65,9 +74,16 @@ fn number_literal(head: &Head, rows: &[u8], at: usize, words: &mut [u64], count:
 }
 
 // How many classes an action has whose literals are these rows; `numbers` gets the class number of each literal. In `words` the key
-// tuples of the classes stand as numbers meanwhile: one comparison tells two of them apart.
-pub fn number_classes(head: &Head, rows: &[u8], numbers: &mut [u8], words: &mut [u64]) -> usize
-    requires { ⌜ (length (now rows) ≡ 8 * length (now numbers))
+// tuples of the classes stand as numbers meanwhile: one comparison tells two of them apart. `places` has the places of the keys.
+pub fn number_classes(
+    head: &Head,
+    places: &KeyPlaces,
+    rows: &[u8],
+    numbers: &mut [u8],
+    words: &mut [u64],
+) -> usize
+    requires places { ⌜ PlacesOf (now head) (now places) ⌝ }
+    requires room { ⌜ (length (now rows) ≡ 8 * length (now numbers))
         × (length (now numbers) ≤ maxLiterals) × (length (now words) ≡ maxLiterals) ⌝ }
     ensures few { λ r. ⌜ r ≤ length (now (numbers .entry)) ⌝ }
     ensures classes { λ r. ⌜ ((D : Domain) (a : Action) → ActionOf D a (now (head .entry)) (now (rows .entry))
@@ -75,7 +91,7 @@ pub fn number_classes(head: &Head, rows: &[u8], numbers: &mut [u8], words: &mut 
 {
     let mut count: usize = 0;
     for j in 0..numbers.len() {
-        let o = number_literal(head, rows, 8 * j, words, count);
+        let o = number_literal(head, places, rows, 8 * j, words, count);
         numbers[j] = o.class;
         count = o.count;
     }

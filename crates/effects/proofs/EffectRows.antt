@@ -1,150 +1,145 @@
--- What the events of a step add or strike: the rows that the code collects are those of the machine's facts. Assumes nothing.
+-- What a step adds or strikes: the rows that the code selects of its ground literals are those of the machine's facts. Assumes nothing.
 use mathlib.Core.Path.{_≡_, refl, sym, ap, ap₂, _∙_, subst}
-use mathlib.Core.Bool.{Bool, true, false}
+use mathlib.Core.Bool.{Bool, true, false, not}
 use mathlib.Core.Logic.{_⊎_, inl, inr}
-use mathlib.Core.List.{List, [], _∷_, _++_, map, flatMap, map-append, append-nil, append-assoc, List·Memᴰ·head, List·Memᴰ·tail, List·Memᴰ·not-nil, List·Memᴰ·append-cases}
-use Prim.Native.Nat.{ℕ, suc, _+_, _-_, _*_, _≤_, _<_}
+use mathlib.Core.List.{List, [], _∷_, _++_, map, flatMap, map-append, append-nil}
+use mathlib.Core.List.{List·Memᴰ·head, List·Memᴰ·tail, List·Memᴰ·not-nil, List·Memᴰ·append-cases}
+use Prim.Native.Nat.{ℕ, suc, _+_, _*_, _≤_, _<_}
 use native.Mathlib.Numerals.{add-one}
 use native.Mathlib.Omega.{arith}
 use lib.Dec.{eqb}
-use lib.ListN.{length, getD, take, drop, length-append, length-map}
-use lib.Seq.{take-all, take-suc}
-use borrow.Author.Tests.{eq-eqb, ne-eqb}
+use lib.ListN.{length, getD, take, drop, length-map}
+use borrow.Author.Tests.{eqb-true, eq-eqb, ne-eqb}
 use Rattle.records.specs.Lists.{In, keepIf, filterBy, elem, dedup}
 use Rattle.records.specs.Memory.{over}
-use Rattle.records.proofs.Lists.{filter-append, filter-few, flatMap-snoc}
-use Rattle.literals.specs.declared.span.Span.{Span}
+use Rattle.records.proofs.Lists.{filter-append}
 use Rattle.literals.specs.declared.Time.{Time}
 use Rattle.literals.specs.declared.Clause.{Clause}
 use Rattle.literals.specs.declared.Role.{Role}
-use Rattle.literals.specs.Domain.{Fact, sameLiteral, sameFact, clauseNumber, Literal, Domain, action}
+use Rattle.literals.specs.declared.Variable.{Variable}
+use Rattle.literals.specs.Domain.{Atom, Fact, sameLiteral, sameFact, clauseNumber, roleNumber, Literal, Domain, action}
 use Rattle.literals.specs.Decode.{byte}
-use Rattle.literals.specs.Table.{rowsIn, literalRow}
-use Rattle.literals.specs.Held.{arityIn, Held, SpanOf}
-use Rattle.literals.proofs.Heads.{action-in, arity-limit}
+use Rattle.literals.specs.Table.{rowsIn}
+use Rattle.literals.specs.Held.{arityIn, HeadOf}
 use Rattle.literals.proofs.Equality.{literal-eq, fact-eq, fact-self}
-use Rattle.literals.proofs.Rows.{part-first, rows-snoc}
+use Rattle.literals.proofs.Rows.{length-part, part-at}
 use Rattle.literals.specs.declared.Moment.{Moment}
 use Rattle.literals.specs.declared.Moment.the-variants.{Start, End}
 use Rattle.literals.specs.Matching.{own, withRole, literalsAt}
-use Rattle.literals.proofs.KeyRows.{length-rows}
+use Rattle.literals.proofs.Tables.{Kept}
 use Rattle.verdict.specs.Binding.{Binding, valueOf, bind}
-use Rattle.verdict.specs.Machine.{Event, eventFacts, stepFacts, GroundAction}
+use Rattle.verdict.specs.Machine.{GroundAction, Event, eventFacts, stepFacts}
 use Rattle.store.specs.Index.{Sized}
-use Rattle.events.specs.declared.Waiting.{Waiting}
 use Rattle.store.specs.Rows.{factRow}
 use Rattle.literals.specs.Keys.{clauseFor}
-use Rattle.events.specs.Coded.{groundRow, waitingOf, GroundFits, EventsFit, boundRow, timeOf}
-use Rattle.effects.specs.Effects.{effectRows, flat, eventEffects, stepEffects}
-use Rattle.events.proofs.RowLoops.{length-bound}
-use Rattle.events.proofs.FactRows.{length-fact-row, countsFor, held-kept, held-bound, held-rows, noEvent, clause-counts}
+use Rattle.events.specs.Coded.{GroundFits, EventsFit, timeOf}
+use Rattle.events.specs.Grounding.{GroundLiteral, groundLiterals, eventLiterals, maxGround, clausesAt, groundedBytes, groundAt, groundIn, inOne, Grounded}
+use Rattle.effects.specs.Effects.{scratchBytes, effectsIn, literalsIn, rowsWith, flat, eventEffects, stepEffects, Beside}
+use Rattle.effects.specs.Effects.{literalsAt as groundsAt}
+use Rattle.events.proofs.FactRows.{countsFor, clause-counts, listed-in, head-kept}
 use Rattle.effects.proofs.Joins.{dedup-map-dedup, same-append, same-elem}
-use Rattle.effects.proofs.FilledRows.{Whole, rows-own, Filled, filled-rows, filled-more, filled-own}
-use Rattle.literals.proofs.Tables.{Kept}
+use Rattle.effects.proofs.FilledRows.{Whole, section-part, rows-own, Filled, filled-rows, filled-more, filled-own, literals-length}
 
--- ---- the literals of a clause
+-- ---- a ground literal in the scratch memory
 
--- the facts of the rows of a clause are those of the literals that count with it
-pub effect-facts : (t : Time) (c : Clause) (head : List ℕ) (g : GroundAction) (ls : List Literal) → ((l : Literal) → In l ls → Kept l)
-    → ((l : Literal) → In l ls → boundRow head (groundRow g) (literalRow l) ≡ factRow (bind (g .binding) (l .atom)))
-    → effectRows t (suc (clauseNumber c)) head (groundRow g) (map literalRow ls) ≡ map factRow (map (bind (g .binding)) (withRole (countsFor t c) ls))
-unfolding effectRows
-effect-facts t c head g [] k h = refl
-effect-facts t c head g (l ∷ ls) k h =
-    ap (λ (b : Bool). map (boundRow head (groundRow g)) (keepIf b (literalRow l) (filterBy counted (map literalRow ls)))) (clause-counts t c l (k l (List·Memᴰ·head refl)))
-    ∙ go (countsFor t c (l .role)) (effect-facts t c head g ls (λ l m. k l (List·Memᴰ·tail m)) (λ l m. h l (List·Memᴰ·tail m)))
-  where
-    counted : List ℕ → Bool
-    counted row = eqb (clauseFor t (getD row 0 0)) (suc (clauseNumber c))
+module _ (scratch : List ℕ) (size : length scratch ≡ scratchBytes) (i : ℕ) (h : i < maxGround) where
+  pub clause-in : getD scratch (groundsAt + clausesAt + i) 0 ≡ groundAt (literalsIn scratch) i .clause
+  clause-in =
+      let z : groundsAt + clausesAt + i ≡ groundsAt + (clausesAt + i) = omega arith in
+      ap (λ (k : ℕ). getD scratch k 0) z ∙ sym (part-at groundedBytes scratch groundsAt (omega arith) (clausesAt + i) (omega arith))
 
-    go : (b : Bool) → map (boundRow head (groundRow g)) (filterBy counted (map literalRow ls)) ≡ map factRow (map (bind (g .binding)) (withRole (countsFor t c) ls))
-        → map (boundRow head (groundRow g)) (keepIf b (literalRow l) (filterBy counted (map literalRow ls)))
-        ≡ map factRow (map (bind (g .binding)) (keepIf b (l .atom) (withRole (countsFor t c) ls)))
-    go true e = ap₂ (λ (x : List ℕ) (y : List (List ℕ)). x ∷ y) (h l (List·Memᴰ·head refl)) e
-    go false e = e
+  pub row-in : take 8 (drop (groundsAt + 8 * i) scratch) ≡ groundAt (literalsIn scratch) i .row
+  row-in = section-part scratch groundsAt groundedBytes (8 * i) 8 (omega arith) (omega arith)
 
--- ---- the row of one literal
+-- ---- those of a clause
 
-module _ (t : Time) (clause : ℕ) (head ground rows : List ℕ) (at k : ℕ) (e : k ≡ clauseFor t (getD rows at 0)) where
-  abbrev one : List (List ℕ)
-  one = effectRows t clause head ground (take 8 (drop at rows) ∷ [])
+module _ (clause : ℕ) where
+  rows-append : (xs ys : List GroundLiteral) → rowsWith clause (xs ++ ys) ≡ rowsWith clause xs ++ rowsWith clause ys
+  unfolding rowsWith
+  rows-append xs ys =
+      ap (map (λ (l : GroundLiteral). l .row)) (filter-append (λ (l : GroundLiteral). eqb (l .clause) clause) xs ys)
+      ∙ map-append (λ (l : GroundLiteral). l .row) (filterBy (λ (l : GroundLiteral). eqb (l .clause) clause) xs)
+      (filterBy (λ (l : GroundLiteral). eqb (l .clause) clause) ys)
 
-  tested : eqb (clauseFor t (byte (take 8 (drop at rows)) 0)) clause ≡ eqb k clause
-  tested = ap (λ (b : ℕ). eqb (clauseFor t b) clause) (part-first rows at) ∙ ap (λ (n : ℕ). eqb n clause) (sym e)
+  -- of one
+  module _ (l : GroundLiteral) where
+    one-in : l .clause ≡ clause → rowsWith clause (l ∷ []) ≡ l .row ∷ []
+    unfolding rowsWith
+    one-in e = ap (λ (b : Bool). map (λ (l : GroundLiteral). l .row) (keepIf b l [])) (eq-eqb (l .clause) clause e)
 
-  effect-in : k ≡ clause → one ≡ boundRow head ground (take 8 (drop at rows)) ∷ []
-  unfolding effectRows
-  effect-in h = ap (λ (b : Bool). map (boundRow head ground) (keepIf b (take 8 (drop at rows)) [])) (tested ∙ eq-eqb k clause h)
+    one-out : (l .clause ≡ clause → ⊥) → rowsWith clause (l ∷ []) ≡ []
+    unfolding rowsWith
+    one-out n = ap (λ (b : Bool). map (λ (l : GroundLiteral). l .row) (keepIf b l [])) (ne-eqb (l .clause) clause n)
 
-  effect-out : (k ≡ clause → ⊥) → one ≡ []
-  unfolding effectRows
-  effect-out h = ap (λ (b : Bool). map (boundRow head ground) (keepIf b (take 8 (drop at rows)) [])) (tested ∙ ne-eqb k clause h)
-
-  module _ (n : ℕ) (out : List ℕ) where
-    pub none-count : (k ≡ clause → ⊥) → n ≡ n + length one
-    none-count h = let l = ap length (effect-out h) in omega arith
-
-    pub none-rows : (k ≡ clause → ⊥) → 8 * n ≤ length out → out ≡ over (flat (rowsIn n out ++ one)) out
-    none-rows h g =
-        rows-own n out g
-        ∙ ap (λ (l : List (List ℕ)). over (flat l) out) (sym (ap (λ (l : List (List ℕ)). rowsIn n out ++ l) (effect-out h) ∙ append-nil (rowsIn n out)))
-
-    pub one-count : k ≡ clause → n + 1 ≡ n + length one
-    one-count h = let l = ap length (effect-in h) in omega arith
-
-    pub one-rows : k ≡ clause → {row next : List ℕ} → row ≡ boundRow head ground (take 8 (drop at rows)) → next ≡ over (flat (rowsIn n out ++ (row ∷ []))) out
-        → next ≡ over (flat (rowsIn n out ++ one)) out
-    one-rows h f g = g ∙ ap (λ (l : List (List ℕ)). over (flat (rowsIn n out ++ l)) out) (ap {B = List (List ℕ)} (λ r. r ∷ []) f ∙ sym (effect-in h))
-
--- ---- the rows of an action's literals
-
-module _ (t : Time) (clause : ℕ) (head ground : List ℕ) where
-  pub effects-few : (l : List (List ℕ)) → length (effectRows t clause head ground l) ≤ length l
-  unfolding effectRows
-  effects-few l =
-      let f = filter-few (λ (row : List ℕ). eqb (clauseFor t (byte row 0)) clause) l in
-      let m = length-map (filterBy (λ (row : List ℕ). eqb (clauseFor t (byte row 0)) clause) l) (boundRow head ground) in
-      omega arith
-
-  effects-snoc : (l : List (List ℕ)) (row : List ℕ) → effectRows t clause head ground (l ++ (row ∷ [])) ≡ effectRows t clause head ground l ++ effectRows t clause head ground (row ∷ [])
-  unfolding effectRows
-  effects-snoc l row =
-      ap (map (boundRow head ground)) (filter-append (λ (row : List ℕ). eqb (clauseFor t (byte row 0)) clause) l (row ∷ []))
-      ∙ map-append (boundRow head ground) (filterBy (λ (row : List ℕ). eqb (clauseFor t (byte row 0)) clause) l) (filterBy (λ (row : List ℕ). eqb (clauseFor t (byte row 0)) clause) (row ∷ []))
-
-  module _ (rows : List ℕ) where
-    whole-one : (at : ℕ) → at + 8 ≤ length rows → Whole (effectRows t clause head ground (take 8 (drop at rows) ∷ []))
-    unfolding effectRows boundRow
-    whole-one at h = go (eqb (clauseFor t (byte (take 8 (drop at rows)) 0)) clause)
+    pub one-few : length (rowsWith clause (l ∷ [])) ≤ 1
+    unfolding rowsWith
+    one-few = go (eqb (l .clause) clause)
       where
-        go : (b : Bool) → Whole (map (boundRow head ground) (keepIf b (take 8 (drop at rows)) []))
-        go true row (List·Memᴰ·head e) = ap length e ∙ length-bound (arityIn head (byte (take 8 (drop at rows)) 1)) ground rows at h (arity-limit head (byte (take 8 (drop at rows)) 1))
+        go : (b : Bool) → length (map (λ (l : GroundLiteral). l .row) (keepIf b l [])) ≤ 1
+        go true = omega arith
+        go false = omega arith
+
+    whole-one : length (l .row) ≡ 8 → Whole (rowsWith clause (l ∷ []))
+    unfolding rowsWith
+    whole-one w = go (eqb (l .clause) clause)
+      where
+        go : (b : Bool) → Whole (map (λ (l : GroundLiteral). l .row) (keepIf b l []))
+        go true row (List·Memᴰ·head e) = ap length e ∙ w
         go true row (List·Memᴰ·tail m) = absurd (List·Memᴰ·not-nil m)
         go false row m = absurd (List·Memᴰ·not-nil m)
 
-    -- one row more
-    pub effects-more : (first : List (List ℕ)) (j n : ℕ) {out old : List ℕ} → 8 * j + 8 ≤ length rows → 8 * n + 8 ≤ length old
-        → Filled (first ++ effectRows t clause head ground (rowsIn j rows)) n out old
-        → {m : ℕ} {next : List ℕ} → m ≡ n + length (effectRows t clause head ground (take 8 (drop (8 * j) rows) ∷ []))
-        → next ≡ over (flat (rowsIn n out ++ effectRows t clause head ground (take 8 (drop (8 * j) rows) ∷ []))) out
-        → Filled (first ++ effectRows t clause head ground (rowsIn (j + 1) rows)) m next old
-    effects-more first j n {out} {old} h g F {m} {next} e f =
-        let o = effects-few (take 8 (drop (8 * j) rows) ∷ []) in
+    -- where it is of the clause its row is put behind others, else nothing is
+    module _ (n : ℕ) (out : List ℕ) where
+      pub none-count : (l .clause ≡ clause → ⊥) → n ≡ n + length (rowsWith clause (l ∷ []))
+      none-count h = let k = ap length (one-out h) in omega arith
+
+      pub none-rows : (l .clause ≡ clause → ⊥) → 8 * n ≤ length out → out ≡ over (flat (rowsIn n out ++ rowsWith clause (l ∷ []))) out
+      none-rows h g =
+          rows-own n out g
+          ∙ ap (λ (x : List (List ℕ)). over (flat x) out)
+          (sym (ap (λ (x : List (List ℕ)). rowsIn n out ++ x) (one-out h) ∙ append-nil (rowsIn n out)))
+
+      pub one-count : l .clause ≡ clause → n + 1 ≡ n + length (rowsWith clause (l ∷ []))
+      one-count h = let k = ap length (one-in h) in omega arith
+
+      pub one-rows : l .clause ≡ clause → {row next : List ℕ} → row ≡ l .row → next ≡ over (flat (rowsIn n out ++ (row ∷ []))) out
+          → next ≡ over (flat (rowsIn n out ++ rowsWith clause (l ∷ []))) out
+      one-rows h f g =
+          g ∙ ap (λ (x : List (List ℕ)). over (flat (rowsIn n out ++ x)) out) (ap {B = List (List ℕ)} (λ r. r ∷ []) f ∙ sym (one-in h))
+
+  -- of the first ones of a memory
+  module _ (memory : List ℕ) (size : length memory ≡ groundedBytes) where
+    pub effects-begin : (out : List ℕ) → Filled (rowsWith clause (groundIn 0 memory)) 0 out out
+    unfolding rowsWith
+    effects-begin out = filled-own 0 out (omega arith)
+
+    pub effects-more : (i n : ℕ) {out old : List ℕ} → i < maxGround → 8 * n + 8 ≤ length old
+        → Filled (rowsWith clause (groundIn i memory)) n out old
+        → {m : ℕ} {next : List ℕ} → m ≡ n + length (rowsWith clause (groundAt memory i ∷ []))
+        → next ≡ over (flat (rowsIn n out ++ rowsWith clause (groundAt memory i ∷ []))) out
+        → Filled (rowsWith clause (groundIn (i + 1) memory)) m next old
+    effects-more i n {out} {old} h g F {m} {next} e f =
+        let o = one-few (groundAt memory i) in
         subst (λ (l : List (List ℕ)). Filled l m next old)
-        (append-assoc first (effectRows t clause head ground (rowsIn j rows)) (effectRows t clause head ground (take 8 (drop (8 * j) rows) ∷ []))
-        ∙ ap (λ (l : List (List ℕ)). first ++ l) (sym (ap (effectRows t clause head ground) (rows-snoc j rows) ∙ effects-snoc (rowsIn j rows) (take 8 (drop (8 * j) rows)))))
-        (filled-more F (effectRows t clause head ground (take 8 (drop (8 * j) rows) ∷ [])) (whole-one (8 * j) h) e (omega arith) f)
+        (sym (ap (λ (k : ℕ). rowsWith clause (groundIn k memory)) (add-one i) ∙ rows-append (groundIn i memory) (groundAt memory i ∷ [])))
+        (filled-more F (rowsWith clause (groundAt memory i ∷ []))
+        (whole-one (groundAt memory i) (length-part 8 memory (8 * i) (omega arith))) e (omega arith) f)
 
-  -- before the first
-  pub effects-begin : (n : ℕ) (out rows : List ℕ) → 8 * n ≤ length out → Filled (rowsIn n out ++ effectRows t clause head ground (rowsIn 0 rows)) n out out
-  unfolding effectRows
-  effects-begin n out rows h = subst (λ (l : List (List ℕ)). Filled l n out out) (sym (append-nil (rowsIn n out))) (filled-own n out h)
+-- where the loop over the ground literals stands
+pub record Selecting (clause total : ℕ) (old scratch : List ℕ) (n i : ℕ) : Type 0 where
+  pub reach : i ≤ total
+  pub few : n ≤ i
+  pub sized : length scratch ≡ length old
+  pub filled : Filled (rowsWith clause (groundIn i (literalsIn old))) n (effectsIn scratch) (effectsIn old)
+  pub beside : Beside old scratch
 
--- behind the first
-pub length-behind : (at : ℕ) (out : List ℕ) (l : List (List ℕ)) → length (rowsIn at out ++ l) ≡ at + length l
-length-behind at out l = let a = length-append (rowsIn at out) l in let r = length-rows 8 at out in omega arith
+pub beside-self : (scratch : List ℕ) → Beside scratch scratch
+beside-self scratch = record { facts = refl; literals = refl }
 
--- ---- an event's
+pub beside-more : {old scratch next : List ℕ} → Beside old scratch → Beside scratch next → Beside old next
+beside-more B C = record { facts = C .facts ∙ B .facts; literals = C .literals ∙ B .literals }
+
+-- ---- they are the machine's
 
 -- what an event adds or strikes, by its time
 event-at : (D : Domain) (e : Event) (c : Clause) → eventEffects D e c ≡ map (bind (e .ground .binding)) (withRole (countsFor (timeOf (e .moment)) c) (action D (e .ground .action) .lits))
@@ -156,32 +151,68 @@ event-at D e c = go (e .moment)
     go Start = refl
     go End = refl
 
-whole-facts : (b : Binding) (p : Role → Bool) (ls : List Literal) → ((l : Literal) → In l ls → length (l .atom .args) ≤ 6) → Whole (map factRow (map (bind b) (withRole p ls)))
-whole-facts b p [] h row m = absurd (List·Memᴰ·not-nil m)
-whole-facts b p (l ∷ ls) h row m = go (p (l .role)) (λ r k. whole-facts b p ls (λ k m. h k (List·Memᴰ·tail m)) r k) row m
+-- the rows of a clause are those of the literals that count with it
+effect-facts : (t : Time) (c : Clause) (b : Binding) (ls : List Literal) → ((l : Literal) → In l ls → Kept l)
+    → rowsWith (suc (clauseNumber c))
+    (map (λ (l : Literal). record { clause = clauseFor t (roleNumber (l .role)); row = factRow (bind b (l .atom)) })
+    (filterBy (λ (l : Literal). not (eqb (clauseFor t (roleNumber (l .role))) 0)) ls))
+    ≡ map factRow (map (bind b) (withRole (countsFor t c) ls))
+unfolding rowsWith
+effect-facts t c b [] k = refl
+effect-facts t c b (l ∷ ls) k =
+    go (eqb clause 0) refl (countsFor t c (l .role)) (clause-counts t c l (k l (List·Memᴰ·head refl)))
+    (effect-facts t c b ls (λ l m. k l (List·Memᴰ·tail m)))
   where
-    go : (t : Bool) → Whole (map factRow (map (bind b) (withRole p ls))) → Whole (map factRow (map (bind b) (keepIf t (l .atom) (withRole p ls))))
-    go true w row (List·Memᴰ·head e) = ap length e ∙ length-fact-row (bind b (l .atom)) (rw length-map (h l (List·Memᴰ·head refl)))
-    go true w row (List·Memᴰ·tail m) = w row m
-    go false w row m = w row m
+    clause : ℕ
+    clause = clauseFor t (roleNumber (l .role))
 
-module _ {D : Domain} {head table : List ℕ} (H : Held D head table) (e : Event) (F : GroundFits D (e .ground)) (c : Clause) where
-  pub whole-event : Whole (map factRow (eventEffects D e c))
-  whole-event =
-      subst (λ (l : List Fact). Whole (map factRow l)) (sym (event-at D e c))
-      (whole-facts (e .ground .binding) (countsFor (timeOf (e .moment)) c) (action D (e .ground .action) .lits)
-      (λ l m. held-kept H (e .ground .action) (F .listed) l m .fits))
+    ground : Literal → GroundLiteral
+    ground l = record { clause = clauseFor t (roleNumber (l .role)); row = factRow (bind b (l .atom)) }
 
-  -- the rows of its action, as the code finds them
-  pub held-effects : (t : Time) (ground : List ℕ) (clause : ℕ) → t ≡ timeOf (e .moment) → ground ≡ groundRow (e .ground) → clause ≡ suc (clauseNumber c)
-      → (r : Span) → SpanOf D (e .ground .action) table r
-      → effectRows t clause head ground (rowsIn (r .to - r .from) (take (8 * r .to - 8 * r .from) (drop (8 * r .from) table))) ≡ map factRow (eventEffects D e c)
-  held-effects t ground clause s f g r S =
-      let ls = action D (e .ground .action) .lits in
-      ap₂ (λ (u : Time) (x : List ℕ). effectRows u clause head x (rowsIn (r .to - r .from) (take (8 * r .to - 8 * r .from) (drop (8 * r .from) table)))) s f
-      ∙ ap₂ (λ (k : ℕ) (l : List (List ℕ)). effectRows (timeOf (e .moment)) k head (groundRow (e .ground)) l) g (held-rows H (e .ground .action) (F .listed) r S)
-      ∙ effect-facts (timeOf (e .moment)) c head (e .ground) ls (held-kept H (e .ground .action) (F .listed)) (held-bound H (e .ground) F)
+    rest : List GroundLiteral
+    rest = map ground (filterBy (λ (l : Literal). not (eqb (clauseFor t (roleNumber (l .role))) 0)) ls)
+
+    atoms : List (Atom Variable)
+    atoms = withRole (countsFor t c) ls
+
+    one : (d : Bool) → rowsWith (suc (clauseNumber c)) rest ≡ map factRow (map (bind b) atoms)
+        → map (λ (g : GroundLiteral). g .row) (keepIf d (ground l) (filterBy (λ (g : GroundLiteral). eqb (g .clause) (suc (clauseNumber c))) rest))
+        ≡ map factRow (map (bind b) (keepIf d (l .atom) atoms))
+    one true e = ap (λ (r : List (List ℕ)). factRow (bind b (l .atom)) ∷ r) e
+    one false e = e
+
+    go : (z : Bool) → eqb clause 0 ≡ z → (d : Bool) → eqb clause (suc (clauseNumber c)) ≡ d
+        → rowsWith (suc (clauseNumber c)) rest ≡ map factRow (map (bind b) atoms)
+        → rowsWith (suc (clauseNumber c))
+        (map ground (keepIf (not z) l (filterBy (λ (l : Literal). not (eqb (clauseFor t (roleNumber (l .role))) 0)) ls)))
+        ≡ map factRow (map (bind b) (keepIf d (l .atom) atoms))
+    go true x true y e = let p = eqb-true clause 0 x in let q = eqb-true clause (suc (clauseNumber c)) y in absurd (omega arith)
+    go true x false y e = e
+    go false x d y e =
+        ap (λ (d : Bool). map (λ (g : GroundLiteral). g .row)
+        (keepIf d (ground l) (filterBy (λ (g : GroundLiteral). eqb (g .clause) (suc (clauseNumber c))) rest))) y
+        ∙ one d e
+
+module _ {D : Domain} {head : List ℕ} (H : HeadOf D head) (c : Clause) where
+  event-rows : (e : Event) → GroundFits D (e .ground) → rowsWith (suc (clauseNumber c)) (eventLiterals D e) ≡ map factRow (eventEffects D e c)
+  unfolding groundLiterals
+  event-rows e F =
+      effect-facts (timeOf (e .moment)) c (e .ground .binding) (action D (e .ground .action) .lits) (head-kept H (e .ground .action) (F .listed))
       ∙ ap (map factRow) (sym (event-at D e c))
+
+  step-rows : (es : List Event) → EventsFit D es
+      → rowsWith (suc (clauseNumber c)) (inOne (map (eventLiterals D) es)) ≡ map factRow (stepEffects D es c)
+  unfolding stepEffects flatMap rowsWith
+  step-rows [] F = refl
+  step-rows (e ∷ es) F =
+      rows-append (suc (clauseNumber c)) (eventLiterals D e) (inOne (map (eventLiterals D) es))
+      ∙ ap₂ _++_ (event-rows e (F e (List·Memᴰ·head refl))) (step-rows es (λ f m. F f (List·Memᴰ·tail m)))
+      ∙ sym (map-append factRow (eventEffects D e c) (stepEffects D es c))
+
+-- of a step, in memory
+pub grounded-rows : {D : Domain} {head : List ℕ} {es : List Event} {memory : List ℕ} {total : ℕ} → Grounded D head es memory total → (c : Clause)
+    → rowsWith (suc (clauseNumber c)) (groundIn total memory) ≡ map factRow (stepEffects D es c)
+grounded-rows {D} {head} {es} G c = ap (rowsWith (suc (clauseNumber c))) (G .laid .filled) ∙ step-rows (G .says) c es (G .fit)
 
 -- each has the arity of its relation
 sized-facts : (head : List ℕ) (b : Binding) (p : Role → Bool) (ls : List Literal) → ((l : Literal) → In l ls → length (l .atom .args) ≡ arityIn head (l .atom .rel))
@@ -195,13 +226,13 @@ sized-facts head b p (l ∷ ls) h row m = go (p (l .role)) (λ r k. sized-facts 
     go true w row (List·Memᴰ·tail m) = w row m
     go false w row m = w row m
 
-module _ {D : Domain} {head table : List ℕ} (H : Held D head table) (c : Clause) where
+module _ {D : Domain} {head : List ℕ} (H : HeadOf D head) (c : Clause) where
   event-sized : (e : Event) → GroundFits D (e .ground) → Sized head (map factRow (eventEffects D e c))
   event-sized e F =
       let i = e .ground .action in
       subst (λ (l : List Fact). Sized head (map factRow l)) (sym (event-at D e c))
       (sized-facts head (e .ground .binding) (countsFor (timeOf (e .moment)) c) (action D i .lits)
-      (λ l m. H .says .bounded .literalArity (action D i) (action-in H i (F .listed)) l m ∙ sym (H .says .arities (l .atom .rel))))
+      (λ l m. H .bounded .literalArity (action D i) (listed-in D i (F .listed)) l m ∙ sym (H .arities (l .atom .rel))))
 
   pub step-sized : (es : List Event) → EventsFit D es → Sized head (map factRow (stepEffects D es c))
   unfolding stepEffects flatMap
@@ -213,51 +244,6 @@ module _ {D : Domain} {head table : List ℕ} (H : Held D head table) (c : Claus
       by : {A B C : Type 0} → (A → C) → (B → C) → A ⊎ B → C
       by f g (inl a) = f a
       by f g (inr b) = g b
-
--- what the code has written of them
-pub effects-given : (D : Domain) (e : Event) (c : Clause) {rows : List (List ℕ)} → rows ≡ map factRow (eventEffects D e c) → (n : ℕ) (out : List ℕ) {r : ℕ} {next : List ℕ}
-    → r ≡ n + length rows → next ≡ over (flat (rowsIn n out ++ rows)) out
-    → (r ≡ n + length (eventEffects D e c)) × (next ≡ over (flat (rowsIn n out ++ map factRow (eventEffects D e c))) out)
-effects-given D e c x n out p q = (
-  p ∙ ap (λ (k : ℕ). n + k) (ap length x ∙ length-map (eventEffects D e c) factRow),
-  q ∙ ap (λ (l : List (List ℕ)). over (flat (rowsIn n out ++ l)) out) x,
-)
-
--- ---- those of a step, event by event
-
-module _ (D : Domain) (es : List Event) (c : Clause) where
-  step-snoc : (i : ℕ) → i < length es → map factRow (stepEffects D (take (i + 1) es) c) ≡ map factRow (stepEffects D (take i es) c) ++ map factRow (eventEffects D (getD es i noEvent) c)
-  unfolding stepEffects
-  step-snoc i h =
-      ap (λ (l : List Event). map factRow (stepEffects D l c)) (ap (λ (k : ℕ). take k es) (add-one i) ∙ take-suc es i noEvent h)
-      ∙ ap (map factRow) (flatMap-snoc (λ (e : Event). eventEffects D e c) (take i es) (getD es i noEvent))
-      ∙ map-append factRow (stepEffects D (take i es) c) (eventEffects D (getD es i noEvent) c)
-
-  pub step-begin : (out : List ℕ) → Filled (map factRow (stepEffects D (take 0 es) c)) 0 out out
-  unfolding stepEffects flatMap
-  step-begin out = filled-own 0 out (omega arith)
-
-  pub step-more : (i n : ℕ) {out old : List ℕ} → i < length es → Filled (map factRow (stepEffects D (take i es) c)) n out old → Whole (map factRow (eventEffects D (getD es i noEvent) c))
-      → {m : ℕ} {next : List ℕ} → 8 * m ≤ length old → m ≡ n + length (eventEffects D (getD es i noEvent) c)
-      → next ≡ over (flat (rowsIn n out ++ map factRow (eventEffects D (getD es i noEvent) c))) out
-      → Filled (map factRow (stepEffects D (take (i + 1) es) c)) m next old
-  step-more i n {out} {old} h F w {m} {next} r e f =
-      let l = length-map (eventEffects D (getD es i noEvent) c) factRow in
-      subst (λ (l : List (List ℕ)). Filled l m next old) (sym (step-snoc i h)) (filled-more F (map factRow (eventEffects D (getD es i noEvent) c)) w (omega arith) r f)
-
-  pub step-end : (i n : ℕ) {out old : List ℕ} → length es ≤ i → Filled (map factRow (stepEffects D (take i es) c)) n out old
-      → (n ≡ length (stepEffects D es c)) × (rowsIn n out ≡ map factRow (stepEffects D es c))
-  step-end i n h F =
-      let e = ap (λ (l : List Event). stepEffects D l c) (take-all i es h) in
-      (F .count ∙ length-map (stepEffects D (take i es) c) factRow ∙ ap length e, filled-rows F ∙ ap (map factRow) e)
-
--- where the loop over the waiting events stands
-pub record InEvents (head table : List ℕ) (clause : ℕ) (w : Waiting) (old out : List ℕ) (k i : ℕ) : Type 0 where
-  pub reach : i ≤ w .count
-  pub few : k ≤ 64 * i
-  pub sized : length out ≡ length old
-  pub filled : (D : Domain) (es : List Event) (c : Clause) → Held D head table → w ≡ waitingOf es → EventsFit D es → clause ≡ suc (clauseNumber c)
-      → Filled (map factRow (stepEffects D (take i es) c)) k out old
 
 -- ---- as the machine counts them: a literal that stands twice adds or strikes one fact
 

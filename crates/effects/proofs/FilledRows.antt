@@ -6,7 +6,7 @@ use Prim.Native.Nat.{ℕ, zero, suc, _+_, _-_, _*_, _≤_, _<_}
 use native.Mathlib.Omega.{arith}
 use lib.Dec.{eqb, ltb}
 use lib.ListN.{length, take, drop, length-append, length-drop, take-append-drop}
-use lib.Seq.{take-all, take-add, take-append-le, take-append-add, take-at, drop-at, drop-drop, drop-append-add, length-take-le, paste}
+use lib.Seq.{take-all, take-add, take-take, take-append-le, take-append-add, take-at, drop-at, drop-drop, drop-append-add, length-take-le, paste}
 use borrow.Author.Tests.{lt-ltb, le-ltb, ltb-true, ltb-false}
 use Rattle.records.specs.Lists.{In, keepIf, filterBy, sameList, dedup}
 use Rattle.records.specs.Memory.{over}
@@ -19,7 +19,8 @@ use Rattle.literals.proofs.KeyRows.{length-rows}
 use Rattle.runs.specs.RunFile.{maxFacts}
 use Rattle.runs.specs.Play.{workBytes}
 use Rattle.store.specs.Rows.{hasRow}
-use Rattle.effects.specs.Effects.{scratchBytes, effectsIn, flat, joinRow, joinRows, atMost, stays, keptOf}
+use Rattle.events.specs.Grounding.{groundedBytes}
+use Rattle.effects.specs.Effects.{scratchBytes, literalsAt, effectsIn, literalsIn, Beside, flat, joinRow, joinRows, atMost, stays, keptOf}
 use Rattle.effects.proofs.Joins.{joined-rows, join-snoc, join-append}
 
 -- ---- the first rows of a memory
@@ -89,16 +90,31 @@ fill-again rows more old =
     ∙ over-again (flat rows) (flat more) old
     ∙ ap (λ (l : List ℕ). over l old) (sym e)
 
--- what is new at the front of a scratch memory leaves its other part
-pub effects-over : (new old : List ℕ) → length new ≤ workBytes → effectsIn (over new old) ≡ effectsIn old
+-- what is new at the front of a scratch memory leaves its other sections
+pub section-over : (new old : List ℕ) (at w : ℕ) → length new ≤ at → take w (drop at (over new old)) ≡ take w (drop at old)
 unfolding over
-effects-over new old h =
-    let e : workBytes ≡ length new + (workBytes - length new) = omega arith in
-    ap (take workBytes)
+section-over new old at w h =
+    let e : at ≡ length new + (at - length new) = omega arith in
+    ap (take w)
     (ap (λ (k : ℕ). drop k (new ++ drop (length new) old)) e
-    ∙ drop-append-add new (drop (length new) old) (workBytes - length new)
-    ∙ drop-drop (workBytes - length new) (length new) old
+    ∙ drop-append-add new (drop (length new) old) (at - length new)
+    ∙ drop-drop (at - length new) (length new) old
     ∙ ap (λ (k : ℕ). drop k old) (sym e))
+
+pub effects-over : (new old : List ℕ) → length new ≤ workBytes → effectsIn (over new old) ≡ effectsIn old
+effects-over new old h = section-over new old workBytes workBytes h
+
+-- a part of a section, by its place in the whole memory
+pub section-part : (t : List ℕ) (at w j k : ℕ) → at + w ≤ length t → j + k ≤ w → take k (drop (at + j) t) ≡ take k (drop j (take w (drop at t)))
+section-part t at w j k l h =
+    let m = drop at t in
+    let e : w ≡ j + (w - j) = omega arith in
+    let d = length-drop at t in
+    sym
+    (ap (λ (t : List ℕ). take k (drop j t)) (ap (λ (i : ℕ). take i m) e ∙ take-add j (w - j) m)
+    ∙ ap (take k) (drop-at (take j m) (take (w - j) (drop j m)) j (length-take-le j m (omega arith)))
+    ∙ take-take k (w - j) (drop j m) (omega arith)
+    ∙ ap (take k) (drop-drop j at t))
 
 -- so does a row behind the first n
 pub row-others : (n : ℕ) (out row : List ℕ) {next : List ℕ} → 8 * n ≤ length out → length row ≡ 8 → n < maxFacts
@@ -112,12 +128,42 @@ row-others n out row h e g f =
 pub effects-length : (scratch : List ℕ) → length scratch ≡ scratchBytes → length (effectsIn scratch) ≡ workBytes
 effects-length scratch l = length-take-le workBytes (drop workBytes scratch) (omega (arith, length-drop workBytes scratch))
 
--- that part, written anew
-pub effects-put : (scratch effects rest : List ℕ) → length scratch ≡ scratchBytes → length effects ≡ workBytes
-    → effectsIn (take workBytes scratch ++ (effects ++ rest)) ≡ effects
-effects-put scratch effects rest l e =
-    ap (take workBytes) (drop-at (take workBytes scratch) (effects ++ rest) workBytes (length-take-le workBytes scratch (omega arith)))
-    ∙ take-at effects rest workBytes e
+pub literals-length : (scratch : List ℕ) → length scratch ≡ scratchBytes → length (literalsIn scratch) ≡ groundedBytes
+literals-length scratch l = length-take-le groundedBytes (drop literalsAt scratch) (omega (arith, length-drop literalsAt scratch))
+
+-- that section, written anew, and the others then
+module _ (scratch effects : List ℕ) (size : length scratch ≡ scratchBytes) (whole : length effects ≡ workBytes) where
+  abbrev anew : List ℕ
+  anew = take workBytes scratch ++ (effects ++ drop workBytes (drop workBytes scratch))
+
+  front : length (take workBytes scratch) ≡ workBytes
+  front = length-take-le workBytes scratch (omega arith)
+
+  pub effects-put : effectsIn anew ≡ effects
+  effects-put =
+      ap (take workBytes) (drop-at (take workBytes scratch) (effects ++ drop workBytes (drop workBytes scratch)) workBytes front)
+      ∙ take-at effects (drop workBytes (drop workBytes scratch)) workBytes whole
+
+  pub put-beside : Beside scratch anew
+  put-beside =
+      let rest : List ℕ = drop workBytes (drop workBytes scratch) in
+      record {
+        facts = take-at (take workBytes scratch) (effects ++ rest) workBytes front;
+        literals =
+            ap (take groundedBytes)
+            (sym (drop-drop workBytes workBytes anew)
+            ∙ ap (drop workBytes) (drop-at (take workBytes scratch) (effects ++ rest) workBytes front)
+            ∙ drop-at effects rest workBytes whole
+            ∙ drop-drop workBytes workBytes scratch);
+      }
+
+-- the ground literals, written anew
+pub literals-put : (scratch literals : List ℕ) → length scratch ≡ scratchBytes → length literals ≡ groundedBytes
+    → literalsIn (take literalsAt scratch ++ (literals ++ drop groundedBytes (drop literalsAt scratch))) ≡ literals
+literals-put scratch literals size whole =
+    let rest : List ℕ = drop groundedBytes (drop literalsAt scratch) in
+    ap (take groundedBytes) (drop-at (take literalsAt scratch) (literals ++ rest) literalsAt (length-take-le literalsAt scratch (omega arith)))
+    ∙ take-at literals rest groundedBytes whole
 
 -- the first n rows of out are these; behind them it is as before
 pub record Filled (rows : List (List ℕ)) (n : ℕ) (out old : List ℕ) : Type 0 where
@@ -207,6 +253,14 @@ kept-few struck work i =
     let f = filter-few (stays struck) (rowsIn i work) in
     let l = length-rows 8 i work in
     omega arith
+
+-- they leave the ground literals
+pub kept-literals : (struck : List (List ℕ)) (work : List ℕ) (n : ℕ) → n ≤ maxFacts → 8 * n ≤ length work → (old : List ℕ) {out : List ℕ}
+    → out ≡ over (flat (keptOf struck work n)) old → literalsIn out ≡ literalsIn old
+kept-literals struck work n small h old e =
+    let q = kept-few struck work n in
+    let l = length-whole (keptOf struck work n) (λ row i. rows-whole n work h row (filter-in (stays struck) (rowsIn n work) i .0)) in
+    ap literalsIn e ∙ section-over (flat (keptOf struck work n)) old literalsAt groundedBytes (omega arith)
 
 one-few : {A : Type 0} (p : A → Bool) (x : A) → length (filterBy p (x ∷ [])) ≤ 1
 one-few p x = go (p x)

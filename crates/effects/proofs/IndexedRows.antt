@@ -21,7 +21,7 @@ use Rattle.runs.specs.RunFile.{maxFacts}
 use Rattle.runs.specs.Play.{workBytes}
 use Rattle.store.specs.Rows.{hasRow}
 use Rattle.effects.specs.Effects.{scratchBytes, effectsIn, Marked, flat, joinRow, atMost, SizedRow, HoldsJoined, stays, keptOf}
-use Rattle.effects.proofs.FilledRows.{filled-effects, Filled, filled-rows, filled-own, left-out, kept-few, kept-next, kept-more, joinedOf, joined-next, joined-on, stopped-count, stopped-rows, joined-all, joined-out}
+use Rattle.effects.proofs.FilledRows.{section-part, filled-effects, Filled, filled-rows, filled-own, left-out, kept-few, kept-next, kept-more, joinedOf, joined-next, joined-on, stopped-count, stopped-rows, joined-all, joined-out}
 
 -- ---- marks
 
@@ -128,15 +128,7 @@ module _ {head index : List ℕ} (rows : List (List ℕ)) {row at : List ℕ} (e
 -- a row of what a step adds, by its place in the scratch memory
 pub effect-at : (scratch : List ℕ) (j : ℕ) → length scratch ≡ scratchBytes → 8 * j + 8 ≤ workBytes
     → take 8 (drop (workBytes + 8 * j) scratch) ≡ take 8 (drop (8 * j) (effectsIn scratch))
-effect-at scratch j l h =
-    let m = drop workBytes scratch in
-    let e : workBytes ≡ 8 * j + (workBytes - 8 * j) = omega arith in
-    let d = length-drop workBytes scratch in
-    sym
-    (ap (λ (t : List ℕ). take 8 (drop (8 * j) t)) (ap (λ (k : ℕ). take k m) e ∙ take-add (8 * j) (workBytes - 8 * j) m)
-    ∙ ap (take 8) (drop-at (take (8 * j) m) (take (workBytes - 8 * j) (drop (8 * j) m)) (8 * j) (length-take-le (8 * j) m (omega arith)))
-    ∙ take-take 8 (workBytes - 8 * j) (drop (8 * j) m) (omega arith)
-    ∙ ap (take 8) (drop-drop (8 * j) workBytes scratch))
+effect-at scratch j l h = section-part scratch workBytes workBytes (8 * j) 8 (omega arith) h
 
 -- what is told of a row that joins
 pub record Joined (row head out index next index′ : List ℕ) (n r : ℕ) : Type 0 where

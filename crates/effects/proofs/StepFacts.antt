@@ -5,7 +5,7 @@ use mathlib.Core.List.{List, [], _∷_, _++_, map, flatMap, map-append, append-a
 use Prim.Native.Nat.{ℕ, zero, suc, _+_, _-_, _*_, _≤_}
 use native.Mathlib.Omega.{arith}
 use lib.Dec.{eqb}
-use lib.ListN.{length, take, drop, replicate, length-map}
+use lib.ListN.{length, take, drop, replicate, length-map, take-append-drop}
 use lib.Seq.{take-all, take-at}
 use Rattle.records.specs.Lists.{filterBy, sameList, elem, distinct, dedup}
 use Rattle.records.specs.Memory.{over}
@@ -84,7 +84,7 @@ module _ (D : Domain) (fs : List Fact) (es : List Event) where
 
 -- the rows that are struck and those that are added, the work memory, the scratch memory before and after what is kept and
 -- before and after what joins, and the index
-pub record Done (head struck work adds : List ℕ) (m n k : ℕ) (out₀ out₁ rest out₂ index₀ index₁ index₂ : List ℕ) (kept facts : ℕ) : Type 0 where
+pub record Done (head struck work adds : List ℕ) (m n k : ℕ) (out₀ out₁ before out₂ index₀ index₁ index₂ : List ℕ) (kept facts : ℕ) : Type 0 where
   pub small : n ≤ 1024
   pub within : 8 * n ≤ length work
   pub addsWithin : 8 * k ≤ length adds
@@ -93,11 +93,12 @@ pub record Done (head struck work adds : List ℕ) (m n k : ℕ) (out₀ out₁ 
   pub keptBytes : out₁ ≡ over (flat (keptOf (rowsIn m struck) work n)) out₀
   pub keptIndexed : Indexed head index₀ (rowsIn n work) → Indexed head index₁ (keptOf (rowsIn m struck) work n)
   pub joinedFew : (kept ≤ facts) × (facts ≤ 1025)
-  pub joined : Indexed head index₁ (rowsIn kept (take workBytes out₁ ++ rest)) → Sized head (rowsIn k adds)
-      → HoldsJoined head (joinRows (rowsIn kept (take workBytes out₁ ++ rest)) (rowsIn k adds)) (take workBytes out₁ ++ rest) facts out₂ index₂
+  pub still : take workBytes before ≡ take workBytes out₁
+  pub joined : Indexed head index₁ (rowsIn kept before) → Sized head (rowsIn k adds)
+      → HoldsJoined head (joinRows (rowsIn kept before) (rowsIn k adds)) before facts out₂ index₂
 
-module _ {head struck work adds : List ℕ} {m n k : ℕ} {out₀ out₁ rest out₂ index₀ index₁ index₂ : List ℕ} {kept facts : ℕ}
-    (X : Done head struck work adds m n k out₀ out₁ rest out₂ index₀ index₁ index₂ kept facts) where
+module _ {head struck work adds : List ℕ} {m n k : ℕ} {out₀ out₁ before out₂ index₀ index₁ index₂ : List ℕ} {kept facts : ℕ}
+    (X : Done head struck work adds m n k out₀ out₁ before out₂ index₀ index₁ index₂ kept facts) where
   abbrev keptRows : List (List ℕ)
   keptRows = keptOf (rowsIn m struck) work n
 
@@ -113,15 +114,13 @@ module _ {head struck work adds : List ℕ} {m n k : ℕ} {out₀ out₁ rest ou
       record { count = c; room = omega arith; whole = λ row i. rows-whole n work (X .within) row (filter-in (stays (rowsIn m struck)) (rowsIn n work) i .0); bytes = X .keptBytes }
 
   -- what is kept stands there still when what is added is written behind it
-  abbrev before : List ℕ
-  before = take workBytes out₁ ++ rest
-
   kept-still : rowsIn kept before ≡ keptRows
   kept-still =
       let q = kept-few (rowsIn m struck) work n in
       let c = X .keptCount in
       let a = X .small in
-      rows-still filled rest (omega arith)
+      ap (rowsIn kept) (sym (take-append-drop workBytes before) ∙ ap (λ (t : List ℕ). t ++ drop workBytes before) (X .still))
+      ∙ rows-still filled (drop workBytes before) (omega arith)
 
   all-joined : joinRows (rowsIn kept before) (rowsIn k adds) ≡ keptRows ++ newRows
   all-joined = ap (λ (l : List (List ℕ)). joinRows l (rowsIn k adds)) kept-still ∙ joined-rows keptRows (rowsIn k adds)

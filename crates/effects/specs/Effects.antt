@@ -1,13 +1,12 @@
--- What a step adds and strikes, by the rows of its events' literals. Assumes nothing.
+-- What a step adds and strikes, by its ground literals. Assumes nothing.
 use mathlib.Core.Path.{_≡_}
 use mathlib.Core.Bool.{Bool, true, false, not, cond}
 use mathlib.Core.List.{List, [], _∷_, _++_, map, flatMap}
-use Prim.Native.Nat.{ℕ, suc, _*_, _≤_, _<_}
+use Prim.Native.Nat.{ℕ, suc, _+_, _*_, _≤_, _<_}
 use lib.Dec.{eqb, ltb}
 use lib.ListN.{length, getD, take, drop}
 use Rattle.records.specs.Lists.{In, filterBy, countBy, sameList, elem, distinct}
 use Rattle.records.specs.Memory.{over}
-use Rattle.literals.specs.declared.Time.{Time}
 use Rattle.literals.specs.declared.Clause.{Clause}
 use Rattle.literals.specs.declared.Clause.the-variants.{Delete}
 use Rattle.literals.specs.Domain.{Fact, sameFact, Domain, action}
@@ -22,25 +21,35 @@ use Rattle.runs.specs.RunFile.{maxFacts}
 use Rattle.runs.specs.Play.{workBytes}
 use Rattle.store.specs.Index.{Indexed}
 use Rattle.store.specs.Rows.{factRow, hasRow}
-use Rattle.literals.specs.Keys.{clauseFor}
-use Rattle.events.specs.Coded.{boundRow}
+use Rattle.events.specs.Grounding.{GroundLiteral, groundedBytes}
 use Rattle.effects.specs.declared.After.{After}
 
 -- ---- what a step works in
 
--- its scratch memory: room for the facts after it, and behind that for what it strikes and, when that is done with, what it adds
+-- its scratch memory: room for the facts after it, behind that for what it strikes and, when that is done with, what it adds, and
+-- behind that for its ground literals
+abbrev pub literalsAt : ℕ
+literalsAt = workBytes + workBytes
+
 abbrev pub scratchBytes : ℕ
-scratchBytes = 16384
+scratchBytes = literalsAt + groundedBytes
 
 abbrev pub effectsIn : List ℕ → List ℕ
 effectsIn scratch = take workBytes (drop workBytes scratch)
 
+abbrev pub literalsIn : List ℕ → List ℕ
+literalsIn scratch = take groundedBytes (drop literalsAt scratch)
+
+-- only what is struck or added was written
+pub record Beside (before after : List ℕ) : Type 0 where
+  pub facts : take workBytes after ≡ take workBytes before
+  pub literals : literalsIn after ≡ literalsIn before
+
 -- ---- effects, by rows
 
--- the facts of an event's literals of one clause
-unfoldable pub effectRows : Time → ℕ → List ℕ → List ℕ → List (List ℕ) → List (List ℕ)
-unfolding clauseFor boundRow
-effectRows t clause head ground rows = map (boundRow head ground) (filterBy (λ row. eqb (clauseFor t (byte row 0)) clause) rows)
+-- the facts of those ground literals that are of a clause
+unfoldable pub rowsWith : ℕ → List GroundLiteral → List (List ℕ)
+rowsWith clause ls = map (λ (l : GroundLiteral). l .row) (filterBy (λ (l : GroundLiteral). eqb (l .clause) clause) ls)
 
 -- a row more, where it is not there yet; several
 abbrev pub joinRow : List (List ℕ) → List ℕ → List (List ℕ)

@@ -1,13 +1,7 @@
 // The facts after a step: what it strikes goes out, then what it adds joins, each fact once.
-use events::GROUND;
-use events::facts::bound_row;
-use events::facts::time_at;
-use literals::Time;
-use literals::clause_for;
+use events::grounding::CLAUSES;
+use events::grounding::GROUNDED;
 use literals::head::Head;
-use literals::head::actions_in;
-use literals::head::rows_of;
-use literals::limits::MAX_EVENTS;
 use literals::limits::MAX_FACTS;
 use records::bytes::put_bytes;
 use records::bytes::wide;
@@ -19,29 +13,27 @@ use store::rows::has_row;
 use store::rows::row_at;
 ghost use mathlib.Core.Path.{_≡_};
 ghost use mathlib.Core.List.{List, [], _∷_, _++_, map};
-ghost use Prim.Native.Nat.{suc, _+_, _*_, _<_, _≤_};
+ghost use Prim.Native.Nat.{_+_, _*_, _<_, _≤_};
 ghost use lib.ListN.{length, getD, take, drop};
 ghost use Rattle.records.specs.Memory.{over};
-ghost use Rattle.literals.specs.declared.Clause.{Clause};
-ghost use Rattle.literals.specs.Domain.{Fact, clauseNumber, Domain};
+ghost use Rattle.literals.specs.Domain.{Fact, Domain};
 ghost use Rattle.literals.specs.Table.{rowsIn};
-ghost use Rattle.literals.specs.Held.{Held};
-ghost use Rattle.literals.specs.Matching.{momentNumber};
-ghost use Rattle.runs.specs.RunFile.{maxFacts, maxEvents};
-ghost use Rattle.runs.specs.Play.{workBytes};
+ghost use Rattle.runs.specs.RunFile.{maxFacts};
 ghost use Rattle.verdict.specs.Machine.{Event};
 ghost use Rattle.store.specs.Index.{noteAt, Sized, Indexed};
 ghost use Rattle.store.specs.Rows.{factRow, hasRow};
-ghost use Rattle.events.specs.Coded.{groundBytes, waitingBytes, groundRow, waitingOf, GroundFits, EventsFit, timeOf};
-ghost use Rattle.effects.specs.Effects.{scratchBytes, effectsIn, effectRows, flat, eventEffects, stepEffects, HoldsAfter};
+ghost use Rattle.events.specs.Grounding.{maxGround, groundAt, groundIn, Grounded};
+ghost use Rattle.effects.specs.Effects.{scratchBytes, effectsIn, literalsIn, Beside, rowsWith, flat, HoldsAfter};
 ghost use Rattle.effects.specs.Effects.{Once, struckOf, FirstStruck, Marked, keptOf, SizedRow, joinRow, joinRows, HoldsJoined};
-ghost use Rattle.literals.specs.Decode.{maxLiterals};
 
 // The bytes of the facts that are held.
 const FACTS: usize = 8 * MAX_FACTS;
 
-// What a step works in: room for the facts after it, and behind that for what it strikes and, when that is done with, what it adds.
-pub const SCRATCH: usize = FACTS + FACTS;
+// What a step works in, in sections: room for the facts after it, behind that for what it strikes and, when that is done with, what it
+// adds, and behind that for its ground literals.
+pub const LITERALS: usize = FACTS + FACTS;
+
+pub const SCRATCH: usize = LITERALS + GROUNDED;
 
 // A row behind the first n.
 fn put_row(out: &mut [u8], n: usize, row: [u8; 8])
@@ -138,12 +130,12 @@ fn keep_rows(
     ensures beside { λ _. ⌜ getD (now (index .exit)) noteAt 0 ≡ getD (now (index .entry)) noteAt 0 ⌝ }
 {
     let mut marks = [0u8; 256];
-    put_marks(&mut marks, &scratch[FACTS..SCRATCH], m);
+    put_marks(&mut marks, &scratch[FACTS..LITERALS], m);
     let mut k = 0;
     let mut i = 0;
     // Most rows stay, so those between two struck ones are put at once.
     loop {
-        let next = struck_from(work, n, i, i - k, &marks, &scratch[FACTS..SCRATCH], m);
+        let next = struck_from(work, n, i, i - k, &marks, &scratch[FACTS..LITERALS], m);
         let from = 8 * i;
         let to = 8 * next;
         put_bytes(scratch, 8 * k, &work[from..to]);
@@ -212,162 +204,37 @@ fn join_rows(
     n
 }
 
-// The fact of the literal's row at an offset, behind the first n rows of out, where the literal is of this clause at this time;
-// the count then.
-fn put_effect(
-    out: &mut [u8],
-    n: usize,
-    time: Time,
-    clause: u8,
-    head: &Head,
-    ground: &[u8],
-    rows: &[u8],
-    row: usize,
-) -> usize
-    requires bound { ⌜ length (now ground) ≡ groundBytes ⌝ }
-    requires literal { ⌜ row + 8 ≤ length (now rows) ⌝ }
-    requires room { ⌜ 8 * n + 8 ≤ length (now out) ⌝ }
-    ensures count { λ r. ⌜ r ≡ n
-        + length (effectRows time clause (now (head .entry)) (now (ground .entry)) (take 8 (drop row (now (rows .entry))) ∷ [])) ⌝ }
-    ensures rows { λ _. ⌜ now (out .exit) ≡ over (flat (rowsIn n (now (out .entry))
-        ++ effectRows time clause (now (head .entry)) (now (ground .entry)) (take 8 (drop row (now (rows .entry))) ∷ [])))
-        (now (out .entry)) ⌝ }
+// The fact of the ground literal i, behind the first n rows of the effects, where it is of this clause; the count then.
+fn put_effect(scratch: &mut [u8], n: usize, i: usize, clause: u8) -> usize
+    requires scratch { ⌜ length (now scratch) ≡ scratchBytes ⌝ }
+    requires room { ⌜ n < maxFacts ⌝ }
+    requires literal { ⌜ i < maxGround ⌝ }
+    ensures count { λ r. ⌜ r ≡ n + length (rowsWith clause (groundAt (literalsIn (now (scratch .entry))) i ∷ [])) ⌝ }
+    ensures rows { λ _. ⌜ effectsIn (now (scratch .exit)) ≡ over (flat (rowsIn n (effectsIn (now (scratch .entry)))
+        ++ rowsWith clause (groundAt (literalsIn (now (scratch .entry))) i ∷ []))) (effectsIn (now (scratch .entry))) ⌝ }
+    ensures beside { λ _. ⌜ Beside (now (scratch .entry)) (now (scratch .exit)) ⌝ }
 {
-    if clause_for(time, rows[row]) == clause {
-        put_row(out, n, bound_row(head, ground, rows, row));
+    if scratch[LITERALS + CLAUSES + i] == clause {
+        let row = row_at(scratch, LITERALS + 8 * i);
+        put_row(&mut scratch[FACTS..LITERALS], n, row);
         return n + 1;
     }
     n
 }
 
-// Those of the first k rows of an action's literals, behind the first `at` rows of out; the count then.
-fn put_effects(
-    out: &mut [u8],
-    at: usize,
-    time: Time,
-    clause: u8,
-    head: &Head,
-    ground: &[u8],
-    rows: &[u8],
-    k: usize,
-) -> usize
-    requires bound { ⌜ length (now ground) ≡ groundBytes ⌝ }
-    requires literals { ⌜ 8 * k ≤ length (now rows) ⌝ }
-    requires room { ⌜ 8 * (at + k) ≤ length (now out) ⌝ }
-    ensures count { λ r. ⌜ r ≡ at
-        + length (effectRows time clause (now (head .entry)) (now (ground .entry)) (rowsIn k (now (rows .entry)))) ⌝ }
-    ensures rows { λ _. ⌜ now (out .exit) ≡ over (flat (rowsIn at (now (out .entry))
-        ++ effectRows time clause (now (head .entry)) (now (ground .entry)) (rowsIn k (now (rows .entry)))))
-        (now (out .entry)) ⌝ }
-{
-    let mut n = at;
-    for j in 0..k {
-        n = put_effect(out, n, time, clause, head, ground, rows, 8 * j);
-    }
-    n
-}
-
-// Those of an action with its objects.
-fn ground_effects(
-    head: &Head,
-    table: &[u8],
-    time: Time,
-    ground: &[u8],
-    clause: u8,
-    out: &mut [u8],
-    n: usize,
-) -> usize
-    requires bound { ⌜ length (now ground) ≡ groundBytes ⌝ }
-    requires room { ⌜ 8 * (n + maxLiterals) ≤ length (now out) ⌝ }
-    ensures few { λ r. ⌜ r ≤ n + maxLiterals ⌝ }
-    ensures effects { λ r. ⌜ ((D : Domain) (e : Event) (c : Clause)
-        → Held D (now (head .entry)) (now (table .entry)) → GroundFits D (e .ground)
-        → time ≡ timeOf (e .moment) → now (ground .entry) ≡ groundRow (e .ground) → clause ≡ suc (clauseNumber c)
-        → (r ≡ n + length (eventEffects D e c))
-        × (now (out .exit) ≡ over (flat (rowsIn n (now (out .entry)) ++ map factRow (eventEffects D e c))) (now (out .entry)))) ⌝ }
-{
-    let action = wide(ground[0]);
-    if actions_in(head) <= action {
-        return n;
-    }
-    let span = rows_of(head, table, action);
-    let from = 8 * span.from;
-    let to = 8 * span.to;
-    put_effects(
-        out,
-        n,
-        time,
-        clause,
-        head,
-        ground,
-        &table[from..to],
-        span.to - span.from,
-    )
-}
-
-// Those of the waiting event i.
-fn event_effects(
-    head: &Head,
-    table: &[u8],
-    moments: &[u8],
-    rows: &[u8],
-    i: usize,
-    clause: u8,
-    out: &mut [u8],
-    n: usize,
-) -> usize
-    requires moments { ⌜ length (now moments) ≡ maxEvents ⌝ }
-    requires events { ⌜ length (now rows) ≡ waitingBytes ⌝ }
-    requires event { ⌜ i < maxEvents ⌝ }
-    requires room { ⌜ 8 * (n + maxLiterals) ≤ length (now out) ⌝ }
-    ensures few { λ r. ⌜ r ≤ n + maxLiterals ⌝ }
-    ensures effects { λ r. ⌜ ((D : Domain) (e : Event) (c : Clause)
-        → Held D (now (head .entry)) (now (table .entry)) → GroundFits D (e .ground)
-        → getD (now (moments .entry)) i 0 ≡ momentNumber (e .moment)
-        → take groundBytes (drop (groundBytes * i) (now (rows .entry))) ≡ groundRow (e .ground) → clause ≡ suc (clauseNumber c)
-        → (r ≡ n + length (eventEffects D e c))
-        × (now (out .exit) ≡ over (flat (rowsIn n (now (out .entry)) ++ map factRow (eventEffects D e c))) (now (out .entry)))) ⌝ }
-{
-    let at = GROUND * i;
-    let end = at + GROUND;
-    ground_effects(
-        head,
-        table,
-        time_at(moments[i]),
-        &rows[at..end],
-        clause,
-        out,
-        n,
-    )
-}
-
-// Those of every waiting event, in order, at the front of out: what the step adds (clause 3) or strikes (clause 4). An event
-// has at most 64.
-fn step_effects(
-    head: &Head,
-    table: &[u8],
-    moments: &[u8],
-    events: &[u8],
-    count: usize,
-    clause: u8,
-    out: &mut [u8],
-) -> usize
-    requires moments { ⌜ length (now moments) ≡ maxEvents ⌝ }
-    requires events { ⌜ length (now events) ≡ waitingBytes ⌝ }
-    requires room { ⌜ length (now out) ≡ workBytes ⌝ }
+// Those of the first `total` ground literals that are of this clause, in order, at the front of the effects: what the step adds (clause 3)
+// or strikes (clause 4). How many they are.
+fn step_effects(scratch: &mut [u8], total: usize, clause: u8) -> usize
+    requires scratch { ⌜ length (now scratch) ≡ scratchBytes ⌝ }
+    requires total { ⌜ total ≤ maxGround ⌝ }
     ensures few { λ r. ⌜ r ≤ maxFacts ⌝ }
-    ensures effects { λ r. ⌜ ((D : Domain) (es : List Event) (c : Clause)
-        → Held D (now (head .entry)) (now (table .entry))
-        → record { count = count; moments = now (moments .entry); rows = now (events .entry) } ≡ waitingOf es → EventsFit D es
-        → length es ≤ maxEvents → clause ≡ suc (clauseNumber c)
-        → (r ≡ length (stepEffects D es c)) × (rowsIn r (now (out .exit)) ≡ map factRow (stepEffects D es c))) ⌝ }
+    ensures rows { λ r. ⌜ rowsIn r (effectsIn (now (scratch .exit)))
+        ≡ rowsWith clause (groundIn total (literalsIn (now (scratch .entry)))) ⌝ }
+    ensures beside { λ _. ⌜ Beside (now (scratch .entry)) (now (scratch .exit)) ⌝ }
 {
-    if MAX_EVENTS < count {
-        return 0;
-    }
     let mut n = 0;
-    for i in 0..count {
-        n = event_effects(head, table, moments, events, i, clause, out, n);
+    for i in 0..total {
+        n = put_effect(scratch, n, i, clause);
     }
     n
 }
@@ -378,53 +245,31 @@ pub struct After {
     pub facts: usize,
 }
 
-// The facts after the waiting events, at the front of the scratch memory: the first n rows of the work memory without those that
-// a delete strikes, then what is added, each fact once; not beyond 1,024 facts.
+// The facts after the events of a step, whose ground literals stand in the scratch memory, at the front of it: the first n rows of the work
+// memory without those that a delete strikes, then what is added, each fact once; not beyond 1,024 facts.
 pub fn facts_after(
     head: &Head,
-    table: &[u8],
-    moments: &[u8],
-    events: &[u8],
-    count: usize,
     work: &[u8],
     n: usize,
     scratch: &mut [u8],
+    total: usize,
     index: &mut FactIndex,
 ) -> After
     requires few { ⌜ n ≤ maxFacts ⌝ }
     requires rows { ⌜ 8 * n ≤ length (now work) ⌝ }
     requires scratch { ⌜ length (now scratch) ≡ scratchBytes ⌝ }
     requires once { ⌜ Once (rowsIn n (now work)) ⌝ }
-    requires moments { ⌜ length (now moments) ≡ maxEvents ⌝ }
-    requires events { ⌜ length (now events) ≡ waitingBytes ⌝ }
+    requires total { ⌜ total ≤ maxGround ⌝ }
     ensures few { λ r. ⌜ (r .kept ≤ n) × (r .kept ≤ r .facts) × (r .facts ≤ maxFacts + 1) ⌝ }
     ensures after { λ r. ⌜ ((D : Domain) (es : List Event) (fs : List Fact)
-        → Held D (now (head .entry)) (now (table .entry))
-        → record { count = count; moments = now (moments .entry); rows = now (events .entry) } ≡ waitingOf es → EventsFit D es
-        → length es ≤ maxEvents → rowsIn n (now (work .entry)) ≡ map factRow fs
-        → Indexed (now (head .entry)) (now (index .entry)) (map factRow fs)
+        → Grounded D (now (head .entry)) es (literalsIn (now (scratch .entry))) total
+        → rowsIn n (now (work .entry)) ≡ map factRow fs → Indexed (now (head .entry)) (now (index .entry)) (map factRow fs)
         → HoldsAfter D fs es (now (head .entry)) r (now (scratch .exit)) (now (index .exit))) ⌝ }
     ensures beside { λ _. ⌜ getD (now (index .exit)) noteAt 0 ≡ getD (now (index .entry)) noteAt 0 ⌝ }
 {
-    let m = step_effects(
-        head,
-        table,
-        moments,
-        events,
-        count,
-        4,
-        &mut scratch[FACTS..SCRATCH],
-    );
+    let m = step_effects(scratch, total, 4);
     let kept = keep_rows(head, work, n, scratch, m, index);
-    let k = step_effects(
-        head,
-        table,
-        moments,
-        events,
-        count,
-        3,
-        &mut scratch[FACTS..SCRATCH],
-    );
+    let k = step_effects(scratch, total, 3);
     let facts = join_rows(head, scratch, k, kept, index);
     After { kept, facts }
 }

@@ -31,12 +31,11 @@ use Rattle.literals.proofs.Indices.{any-agree}
 use Rattle.verdict.specs.Binding.{Binding, valueOf, bind}
 use Rattle.verdict.specs.Judged.{objectNumbers}
 use Rattle.verdict.specs.Machine.{GroundAction, Event}
-use Rattle.events.specs.declared.Open.{Open}
-use Rattle.events.specs.declared.Waiting.{Waiting}
+use Rattle.events.specs.Coded.{Open}
+use Rattle.events.specs.Coded.{Waiting}
 use Rattle.runs.specs.RunFile.{momentOf}
 use Rattle.literals.specs.declared.span.Span.{Span}
-use Rattle.literals.specs.Held.{actionsIn, arityIn, Held, SpanOf}
-use Rattle.literals.proofs.Heads.{action-in}
+use Rattle.literals.specs.Held.{actionsIn, arityIn, HeadOf, Held, SpanOf}
 use Rattle.store.specs.Rows.{factRow, hasRow}
 use Rattle.store.proofs.InstanceRows.{same-numbers}
 use Rattle.literals.specs.Keys.{clauseFor}
@@ -196,25 +195,30 @@ all-literals a End c q = all-once q (withRole (own End c) (a .lits))
 
 -- ---- head and table of a domain
 
+pub listed-in : (D : Domain) (i : ℕ) → i < length (D .actions) → In (action D i) (D .actions)
+unfolding action
+listed-in D i b = getD-in (D .actions) i noAction b
+
+pub head-kept : {D : Domain} {head : List ℕ} → HeadOf D head → (i : ℕ) → i < length (D .actions) → (l : Literal) → In l (action D i .lits)
+    → Kept l
+head-kept {D} H i b l m = kept (H .bounded) (listed-in D i b) m
+
 module _ {D : Domain} {head table : List ℕ} (H : Held D head table) where
   module _ (i : ℕ) (b : i < length (D .actions)) where
-    pub held-kept : (l : Literal) → In l (action D i .lits) → Kept l
-    held-kept l m = kept (H .says .bounded) (action-in H i b) m
-
     -- the rows of the part of the table that has the action's literals
     pub held-rows : (r : Span) → SpanOf D i table r → rowsIn (r .to - r .from) (take (8 * r .to - 8 * r .from) (drop (8 * r .from) table)) ≡ map literalRow (action D i .lits)
     held-rows r S =
         let s = S .size in
         let z : r .to - r .from ≡ length (action D i .lits) = omega arith in
         ap₂ rowsIn z (S .literals ∙ sym (append-nil (flatMap literalRow (action D i .lits))))
-        ∙ rows-flat literalRow (action D i .lits) [] (λ l m. length-literal-row l (held-kept l m .fits))
+        ∙ rows-flat literalRow (action D i .lits) [] (λ l m. length-literal-row l (head-kept (H .says) i b l m .fits))
 
   -- a literal's row of an action, by the action's objects
   pub held-bound : (g : GroundAction) → GroundFits D g → (l : Literal) → In l (action D (g .action) .lits)
       → boundRow head (groundRow g) (literalRow l) ≡ factRow (bind (g .binding) (l .atom))
   held-bound g F l m =
       let B = H .says .bounded in
-      let i = action-in H (g .action) (F .listed) in
+      let i = listed-in D (g .action) (F .listed) in
       let e = F .bound in
       bound-fact head g l (B .literalArity (action D (g .action)) i l m ∙ sym (H .says .arities (l .atom .rel))) (few-objects B g F)
       (λ v w. let b = B .below (action D (g .action)) i l m v w in omega arith)

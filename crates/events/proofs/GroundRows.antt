@@ -16,7 +16,7 @@ use Rattle.literals.specs.Held.{actionsIn, lastingIn}
 use Rattle.literals.proofs.Rows.{first-at}
 use Rattle.literals.specs.Keys.{position}
 use Rattle.literals.proofs.KeyRows.{place-le, length-rows}
-use Rattle.events.specs.declared.Open.{Open}
+use Rattle.events.specs.Coded.{Open}
 use Rattle.events.specs.Coded.{groundsIn, EventRow, eventAt, eventsIn, endOpen, withoutEntry, closeEntry, closeEvent, closeEvents, joinEntry, opensBy, joinEvent, joinEvents, Opened}
 use Rattle.store.specs.Rows.{hasRow}
 

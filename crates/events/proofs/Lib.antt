@@ -6,3 +6,5 @@ pub mod Listed
 pub mod GroundRows
 pub mod OpenRows
 pub mod MoreWaiting
+pub mod GroundLiterals
+pub mod Agenda

@@ -7,8 +7,8 @@ use Rattle.records.proofs.Lists.{getD-in}
 use Rattle.literals.specs.Domain.{Domain}
 use Rattle.literals.specs.Held.{HeadOf}
 use Rattle.verdict.specs.Machine.{GroundAction, Event}
-use Rattle.events.specs.declared.Open.{Open}
-use Rattle.events.specs.declared.Waiting.{Waiting}
+use Rattle.events.specs.Coded.{Open}
+use Rattle.events.specs.Coded.{Waiting}
 use Rattle.events.specs.Coded.{groundRow, openOf, waitingOf, GroundFits, GroundsFit, EventsFit}
 use Rattle.events.proofs.FactRows.{few-objects, noGround, noEvent, open-row-at, waiting-row-at}
 

@@ -11,7 +11,7 @@ use Rattle.literals.specs.Table.{pad, Bounded}
 use Rattle.literals.proofs.Tables.{length-flat, pad-more, pad-paste}
 use Rattle.literals.specs.Matching.{momentNumber}
 use Rattle.verdict.specs.Machine.{Event}
-use Rattle.events.specs.declared.Waiting.{Waiting}
+use Rattle.events.specs.Coded.{Waiting}
 use Rattle.events.specs.Coded.{groundRow, waitingOf, EventsFit}
 use Rattle.events.proofs.FactRows.{waiting-count}
 use Rattle.events.proofs.OpenRows.{length-ground}

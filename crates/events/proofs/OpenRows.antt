@@ -22,8 +22,8 @@ use Rattle.literals.specs.Matching.{momentNumber}
 use Rattle.literals.specs.Keys.{position}
 use Rattle.literals.proofs.KeyRows.{place-le}
 use Rattle.verdict.specs.Machine.{GroundAction, Event, sameGround, isOpenAt, isOpen, closeOne, closeAt, closeAll, opens, openedBy}
-use Rattle.events.specs.declared.Open.{Open}
-use Rattle.events.specs.declared.Waiting.{Waiting}
+use Rattle.events.specs.Coded.{Open}
+use Rattle.events.specs.Coded.{Waiting}
 use Rattle.events.specs.Coded.{groundRow, groundsIn, openOf, waitingOf, GroundFits, GroundsFit, EventsFit, EventRow, eventsIn, endOpen, withoutEntry, closeEntry, closeEvent, closeEvents, joinEntry, opensBy, joinEvent, joinEvents, Opened}
 use Rattle.store.specs.Rows.{hasRow}
 use Rattle.events.proofs.FactRows.{few-objects, length-ground-row}

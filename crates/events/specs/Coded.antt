@@ -22,8 +22,6 @@ use Rattle.verdict.specs.Judged.{objectNumbers}
 use Rattle.verdict.specs.Machine.{GroundAction, Event}
 use Rattle.runs.specs.RunFile.{maxRunning, maxEvents}
 use Rattle.store.specs.Rows.{hasRow}
-use Rattle.events.specs.declared.Open.{Open}
-use Rattle.events.specs.declared.Waiting.{Waiting}
 
 -- ---- rows
 
@@ -47,6 +45,17 @@ groundsIn = rowsBy groundBytes
 
 -- ---- what the code holds
 
+-- so many open lasting actions, each a row, 0 behind the last
+pub record Open : Type 0 where
+  pub count : ℕ
+  pub rows : List ℕ
+
+-- so many events of the step that is read: the byte of each one's moment (1 is an end), and its action with objects
+pub record Waiting : Type 0 where
+  pub count : ℕ
+  pub moments : List ℕ
+  pub rows : List ℕ
+
 -- the open entries, in order
 unfoldable pub openOf : List GroundAction → Open
 unfolding flatMap
@@ -61,6 +70,35 @@ waitingOf es =
       moments = pad maxEvents (map (λ (e : Event). momentNumber (e .moment)) es);
       rows = pad waitingBytes (flatMap (λ (e : Event). groundRow (e .ground)) es);
     }
+
+-- ---- the agenda: what is open and what waits, in one memory
+
+-- its length, and where the moments of the events that wait and their rows start, behind the entries
+abbrev pub agendaBytes : ℕ
+agendaBytes = 832
+
+abbrev pub momentsAt : ℕ
+momentsAt = 544
+
+abbrev pub eventsAt : ℕ
+eventsAt = 560
+
+-- its sections
+abbrev pub entriesIn : List ℕ → List ℕ
+entriesIn agenda = take openBytes agenda
+
+abbrev pub momentsIn : List ℕ → List ℕ
+momentsIn agenda = take maxEvents (drop momentsAt agenda)
+
+abbrev pub eventRowsIn : List ℕ → List ℕ
+eventRowsIn agenda = take waitingBytes (drop eventsAt agenda)
+
+-- so many entries, and so many events
+abbrev pub openIn : ℕ → List ℕ → Open
+openIn n agenda = record { count = n; rows = entriesIn agenda }
+
+abbrev pub waitingIn : ℕ → List ℕ → Waiting
+waitingIn n agenda = record { count = n; moments = momentsIn agenda; rows = eventRowsIn agenda }
 
 -- ---- what fits it
 

@@ -1,2 +1,3 @@
 -- How the code holds events and open entries.
 pub mod Coded
+pub mod Grounding

@@ -1,6 +1,8 @@
-// Events and open entries as the code holds them (here); the literals of an action as rows (facts), events that wait for the
-// close of their step (waits), the list of open lasting actions (openings).
+// Events and open entries as the code holds them (here); the literals of an action as rows (facts), those of events as they count at
+// a time, ground, in one memory (grounding); events that wait for the close of their step (waits), the list of open lasting actions
+// (openings).
 pub mod facts;
+pub mod grounding;
 pub mod openings;
 pub mod waits;
 
@@ -16,15 +18,10 @@ pub const OPEN_ROWS: usize = GROUND * MAX_RUNNING;
 
 pub const WAITING_ROWS: usize = GROUND * MAX_EVENTS;
 
-// Open lasting actions: 17 bytes an entry (action, objects, FF to fill), 0 behind the last.
-pub struct Open {
-    pub count: usize,
-    pub rows: [u8; OPEN_ROWS],
-}
+// What is open and what waits stand in one memory, the agenda: the entries, 0 behind the last; then of the events of the step that
+// is read the byte of each one's moment (1 is an end), and their rows.
+pub const MOMENTS_AT: usize = OPEN_ROWS;
 
-// The events of the step that is read: the byte of each one's moment (1 is an end), and its action with objects, as in `Open`.
-pub struct Waiting {
-    pub count: usize,
-    pub moments: [u8; MAX_EVENTS],
-    pub rows: [u8; WAITING_ROWS],
-}
+pub const EVENTS_AT: usize = MOMENTS_AT + MAX_EVENTS;
+
+pub const AGENDA: usize = EVENTS_AT + WAITING_ROWS;

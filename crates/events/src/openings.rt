@@ -1,17 +1,22 @@
 // The list of open lasting actions: which ends are open, and what a step leaves of it. An entry is a row of 17 bytes: action,
 // objects, FF to fill.
+use super::AGENDA;
+use super::EVENTS_AT;
 use super::GROUND;
+use super::MOMENTS_AT;
 use super::OPEN_ROWS;
+use super::WAITING_ROWS;
 use literals::head::Head;
 use literals::head::actions_in;
 use literals::head::is_lasting;
 use literals::limits::MAX_EVENTS;
 use literals::limits::MAX_RUNNING;
 use records::bytes::put_bytes;
+use records::bytes::put_zeros;
 use records::bytes::wide;
 ghost use mathlib.Core.Path.{_≡_};
 ghost use mathlib.Core.Bool.{true};
-ghost use mathlib.Core.List.{List, _++_};
+ghost use mathlib.Core.List.{List, [], _++_};
 ghost use Prim.Native.Nat.{_+_, _*_, _≤_, _<_};
 ghost use lib.Dec.{eqb, leb};
 ghost use lib.ListN.{length, take, drop, replicate};
@@ -24,6 +29,7 @@ ghost use Rattle.verdict.specs.Machine.{GroundAction, Event, isOpen, closeAll, 
 ghost use Rattle.events.specs.Coded.{groundBytes, openBytes, waitingBytes, groundsIn, openOf, waitingOf, GroundsFit, EventsFit};
 ghost use Rattle.events.specs.Coded.{eventAt, eventsIn, endOpen, closeEntry, closeEvent, closeEvents};
 ghost use Rattle.events.specs.Coded.{joinEntry, opensBy, joinEvent, joinEvents};
+ghost use Rattle.events.specs.Coded.{agendaBytes, openIn, waitingIn};
 ghost use Rattle.store.specs.Rows.{hasRow};
 ghost use Rattle.runs.specs.RunFile.{maxRunning, maxEvents};
 
@@ -35,6 +41,9 @@ pub struct Joined {
 
 // Where the last entry stands that there is room for.
 const LAST_ROW: usize = OPEN_ROWS - GROUND;
+
+// What the events take in the agenda, their moments too.
+const WAITING: usize = AGENDA - MOMENTS_AT;
 
 // Whether the entry at an offset is this one.
 pub fn same_ground(memory: &[u8], at: usize, ground: &[u8]) -> bool
@@ -292,7 +301,7 @@ fn join_all(
 
 // The entries after a step, in place of those before it: ends leave the list, starts of lasting actions join it. Where they do
 // not fit, what is left there is of no use.
-pub fn open_after(
+fn open_after(
     head: &Head,
     rows: &mut [u8],
     n: usize,
@@ -324,4 +333,31 @@ pub fn open_after(
     }
     let left = close_all(rows, n, moments, events, count);
     join_all(head, rows, left, moments, events, count)
+}
+
+// The agenda after a step: ends leave the list, starts of lasting actions join it, and no event waits. Where the entries do not
+// fit, what is left of them is of no use. (The events are copied, since the entries beside them are changed by them.)
+pub fn agenda_after(head: &Head, agenda: &mut [u8], opened: usize, waits: usize) -> Joined
+    requires { ⌜ length (now agenda) ≡ agendaBytes ⌝ }
+    ensures { λ r. ⌜ ((D : Domain) (gs : List GroundAction) (es : List Event)
+        → HeadOf D (now (head .entry)) → GroundsFit D gs → EventsFit D es → length gs ≤ maxRunning → length es ≤ maxEvents
+        → openIn opened (now (agenda .entry)) ≡ openOf gs → waitingIn waits (now (agenda .entry)) ≡ waitingOf es
+        → (r .fits ≡ leb (length (closeAll es gs ++ openedBy D es)) maxRunning)
+        × (r .fits ≡ true → openIn (r .count) (now (agenda .exit)) ≡ openOf (closeAll es gs ++ openedBy D es))
+        × (waitingIn 0 (now (agenda .exit)) ≡ waitingOf [])) ⌝ }
+{
+    let mut moments = [0u8; MAX_EVENTS];
+    put_bytes(&mut moments, 0, &agenda[MOMENTS_AT..EVENTS_AT]);
+    let mut events = [0u8; WAITING_ROWS];
+    put_bytes(&mut events, 0, &agenda[EVENTS_AT..AGENDA]);
+    let joined = open_after(
+        head,
+        &mut agenda[0..OPEN_ROWS],
+        opened,
+        &moments,
+        &events,
+        waits,
+    );
+    put_zeros(&mut agenda[MOMENTS_AT..AGENDA], 0, WAITING);
+    joined
 }

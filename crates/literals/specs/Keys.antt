@@ -1,16 +1,17 @@
 -- How the code holds key tuples and sorts role bytes. Assumes nothing.
+use mathlib.Core.Path.{_≡_}
 use mathlib.Core.Bool.{Bool, cond}
 use mathlib.Core.List.{List, [], _∷_, _++_, map}
-use Prim.Native.Nat.{ℕ, zero, suc, _+_, _*_}
+use Prim.Native.Nat.{ℕ, zero, suc, _+_, _*_, _<_}
 use lib.Dec.{eqb, ltb}
 use lib.ListN.{getD, take, drop}
 use Rattle.literals.specs.declared.Key.{Key}
 use Rattle.literals.specs.declared.Time.{Time}
 use Rattle.literals.specs.declared.Role.{Role}
-use Rattle.literals.specs.Domain.{isKey, roleOf, clauseNumber, sameTime}
+use Rattle.literals.specs.Domain.{key, isKey, roleOf, clauseNumber, sameTime}
 use Rattle.literals.specs.Decode.{maxArguments, byte, labelOf}
 use Rattle.literals.specs.Table.{rowOf}
-use Rattle.literals.specs.Held.{keysIn, partsIn}
+use Rattle.literals.specs.Held.{componentsIn, keysIn, partIn, partsIn}
 
 -- ---- lists
 
@@ -43,6 +44,10 @@ clauseFor t r = clauseAmong t (roleOf r)
 -- the place of the argument under a key, of a component's row, or how many arguments there may be
 unfoldable pub placeUnder : Key → List ℕ → ℕ
 placeUnder k part = position (λ i. isKey k (labelOf (getD part (i + 1) 0))) (below maxArguments)
+
+-- a memory has these places, 8 bytes for each component of a head
+abbrev pub PlacesOf : List ℕ → List ℕ → Type 0
+PlacesOf head places = (c k : ℕ) → c < componentsIn head → k < keysIn head → getD places (8 * c + k) 0 ≡ placeUnder (key k) (partIn head c)
 
 -- the byte of the argument at a place of the row at an offset, or FF
 abbrev pub argumentAt : List ℕ → ℕ → ℕ → ℕ

@@ -181,6 +181,18 @@ fn literals_in(head: &Head) -> usize
     to
 }
 
+// The same as rows of the table, 0 where it has not so many.
+pub fn all_rows(head: &Head, table: &[u8]) -> usize
+    ensures fits { λ r. ⌜ 8 * r ≤ length (now (table .entry)) ⌝ }
+    ensures number { λ r. ⌜ ((D : Domain) → Held D (now (head .entry)) (now (table .entry)) → r ≡ length (allLiterals (D .actions))) ⌝ }
+{
+    let n = literals_in(head);
+    if table.len() < 8 * n {
+        return 0;
+    }
+    n
+}
+
 // How many keys the template has with this component: its first component tells.
 pub fn keys_with(head: &Head, p: &[u8]) -> usize
     requires { ⌜ length (now p) ≤ 1 + maxArguments ⌝ }

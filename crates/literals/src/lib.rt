@@ -9,8 +9,8 @@ pub mod span;
 
 ghost use mathlib.Core.Path.{_≡_};
 ghost use Prim.Native.Nat.{_<_};
-ghost use Rattle.literals.specs.Domain.{clauseOf, roleOf, clauseNumber, firstRole, sameTime, isKey, isCounted};
-ghost use Rattle.literals.specs.Decode.{labelOf};
+ghost use Rattle.literals.specs.Domain.{isEvery, clauseOf, roleOf, clauseNumber, firstRole, sameTime, mayClear, isKey, isCounted};
+ghost use Rattle.literals.specs.Decode.{argumentOf, labelOf};
 ghost use Rattle.literals.specs.Keys.{clauseFor};
 ghost use Rattle.literals.specs.Matching.{momentNumber};
 ghost use Rattle.literals.specs.Table.{conditionGroup, roleRank};
@@ -26,6 +26,12 @@ pub struct Key(pub u8);
 pub enum Label {
     Key(Key),
     Counted,
+}
+
+// One argument of a literal: a variable, or every object.
+pub enum Argument {
+    Variable(Variable),
+    Every,
 }
 
 // A moment of an action: an action at once has its start alone.
@@ -90,12 +96,43 @@ pub fn is_key(k: Key, label: Label) -> bool
     }
 }
 
+// The argument of a byte: FF is every object, every other a variable.
+pub fn argument_of(b: u8) -> Argument
+    ensures { λ r. ⌜ r ≡ argumentOf b ⌝ }
+{
+    if b == 255 {
+        return Argument::Every;
+    }
+    Argument::Variable(Variable(b))
+}
+
+pub fn is_every(argument: Argument) -> bool
+    ensures { λ r. ⌜ r ≡ isEvery argument ⌝ }
+{
+    match argument {
+        Argument::Variable(_) => false,
+        Argument::Every => true,
+    }
+}
+
 pub fn is_counted(label: Label) -> bool
     ensures { λ r. ⌜ r ≡ isCounted label ⌝ }
 {
     match label {
         Label::Key(_) => false,
         Label::Counted => true,
+    }
+}
+
+// Whether literals of a clause may have FF: false conditions and deletes.
+pub fn may_clear(c: Clause) -> bool
+    ensures { λ r. ⌜ r ≡ mayClear c ⌝ }
+{
+    match c {
+        Clause::Positive => false,
+        Clause::Negative => true,
+        Clause::Add => false,
+        Clause::Delete => true,
     }
 }
 

@@ -16,16 +16,15 @@ use Rattle.literals.specs.Table.{rowsIn, Bounded}
 use Rattle.verdict.specs.Judged.{factBytes}
 use Rattle.verdict.specs.Machine.{GroundAction, Event, State, isOpen, ownHold, overAllHold, independent, stepFacts, factsAfter, closeAll, openedBy, next, topWeight}
 use Rattle.store.specs.Index.{Indexed}
-use Rattle.events.specs.declared.Open.{Open}
-use Rattle.events.specs.declared.Waiting.{Waiting}
-use Rattle.machine.specs.declared.State.{State as Holding}
+use Rattle.events.specs.Coded.{Open}
+use Rattle.events.specs.Coded.{Waiting}
 use Rattle.runs.specs.RunFile.{maxFacts, maxRunning}
 use Rattle.runs.specs.Play.{forbidden, tooLarge, heldBytes}
 use Rattle.runs.proofs.Allowed.{forbidden-by-own}
 use Rattle.store.specs.Rows.{factRow, topFrom, FactFits}
 use Rattle.events.specs.Coded.{openOf, waitingOf}
 use Rattle.effects.specs.Effects.{atMost}
-use Rattle.machine.specs.Stepping.{holdingOf, Kept, closeStop, closeState, closeWaiting, closeWeight, thenHeld, Leaves}
+use Rattle.machine.specs.Stepping.{StateRows, stateOf, Kept, closeStop, closeState, closeWaiting, closeWeight, stateThen, Leaves}
 use Rattle.machine.proofs.HeldBytes.{fits-few, held-settled, work-rows}
 use Rattle.machine.proofs.TopWeights.{top-after}
 use Rattle.machine.proofs.NextKept.{kept-next}
@@ -44,8 +43,12 @@ module _ (D : Domain) (s : State) (es : List Event) where
   pub not-met : all (isOpen (s .running)) es ≡ true → all (ownHold D (s .facts)) es ≡ false → 55 ≡ forbidden D s es
   not-met p q = tested true false _ _ p q refl refl
 
-  pub not-kept : all (isOpen (s .running)) es ≡ true → all (ownHold D (s .facts)) es ≡ true → all (overAllHold D (s .facts)) (s .running) ≡ false → 55 ≡ forbidden D s es
-  not-kept p q r = tested true true false _ p q r refl
+  pub not-kept : all (isOpen (s .running)) es ≡ true → all (overAllHold D (s .facts)) (s .running) ≡ false → 55 ≡ forbidden D s es
+  not-kept p r = go (all (ownHold D (s .facts)) es) refl
+    where
+      go : (b : Bool) → all (ownHold D (s .facts)) es ≡ b → 55 ≡ forbidden D s es
+      go true q = tested true true false _ p q r refl
+      go false q = not-met p q
 
   pub not-apart : all (isOpen (s .running)) es ≡ true → all (ownHold D (s .facts)) es ≡ true → all (overAllHold D (s .facts)) (s .running) ≡ true → independent D es ≡ false → 56 ≡ forbidden D s es
   not-apart p q r t = tested true true true false p q r t
@@ -57,7 +60,7 @@ module _ (D : Domain) (s : State) (es : List Event) where
 
 module _ (D : Domain) (s : State) (es : List Event) (old : List ℕ) (w : ℕ) where
   -- a step that is refused leaves all as it was
-  refused-by : (n : ℕ) → closeStop D s es ≡ n → (n ≡ 0 → ⊥) → (state : Holding) → state ≡ holdingOf s es → (work : List ℕ) → work ≡ over (heldBytes (s .facts)) old → Leaves D s es old w n state w work
+  refused-by : (n : ℕ) → closeStop D s es ≡ n → (n ≡ 0 → ⊥) → (state : StateRows) → state ≡ stateOf s es → (work : List ℕ) → work ≡ over (heldBytes (s .facts)) old → Leaves D s es old w n state w work
   unfolding closeState closeWaiting closeWeight
   refused-by n e z state h work m =
       let f : eqb (closeStop D s es) 0 ≡ false = rw e (ne-eqb n 0 z) in
@@ -68,7 +71,7 @@ module _ (D : Domain) (s : State) (es : List Event) (old : List ℕ) (w : ℕ) w
         work-is = rw f m;
       }
 
-  pub leaves-forbidden : (n : ℕ) → n ≡ forbidden D s es → (n ≡ 0 → ⊥) → (state : Holding) → state ≡ holdingOf s es → (work : List ℕ) → work ≡ over (heldBytes (s .facts)) old → Leaves D s es old w n state w work
+  pub leaves-forbidden : (n : ℕ) → n ≡ forbidden D s es → (n ≡ 0 → ⊥) → (state : StateRows) → state ≡ stateOf s es → (work : List ℕ) → work ≡ over (heldBytes (s .facts)) old → Leaves D s es old w n state w work
   unfolding closeStop
   leaves-forbidden n e z state h work m = let f : eqb (forbidden D s es) 0 ≡ false = rw (sym e) (ne-eqb n 0 z) in refused-by n (rw f (sym e)) z state h work m
 
@@ -77,10 +80,10 @@ module _ (D : Domain) (s : State) (es : List Event) (old : List ℕ) (w : ℕ) w
     unfolding closeStop
     stop-large b e = rw (free, e)
 
-    pub leaves-large : tooLarge (next D s es) ≡ true → (state : Holding) → state ≡ holdingOf s es → (work : List ℕ) → work ≡ over (heldBytes (s .facts)) old → Leaves D s es old w 52 state w work
+    pub leaves-large : tooLarge (next D s es) ≡ true → (state : StateRows) → state ≡ stateOf s es → (work : List ℕ) → work ≡ over (heldBytes (s .facts)) old → Leaves D s es old w 52 state w work
     leaves-large e state h work m = refused-by 52 (stop-large true e) (λ z. omega arith) state h work m
 
-    pub leaves-next : tooLarge (next D s es) ≡ false → (state : Holding) → state ≡ holdingOf (next D s es) [] → (weight : ℕ) → weight ≡ max w (topWeight D (next D s es .facts))
+    pub leaves-next : tooLarge (next D s es) ≡ false → (state : StateRows) → state ≡ stateOf (next D s es) [] → (weight : ℕ) → weight ≡ max w (topWeight D (next D s es .facts))
         → (work : List ℕ) → work ≡ over (heldBytes (next D s es .facts)) old → Leaves D s es old w 0 state weight work
     unfolding closeState closeWaiting closeWeight
     leaves-next e state h weight g work m =
@@ -127,9 +130,10 @@ module _ (D : Domain) (B : Bounded D) (s : State) (es : List Event) (old : List 
   abbrev running : List GroundAction
   running = closeAll es (s .running) ++ openedBy D es
 
-  holding-next : (n : ℕ) (o : Open) → n ≡ length after → o ≡ openOf running → record { facts = n; running = o; waiting = waitingOf [] } ≡ holdingOf (next D s es) []
+  state-next : (n : ℕ) (o : Open) (v : Waiting) → n ≡ length after → o ≡ openOf running → v ≡ waitingOf []
+      → record { facts = n; running = o; waiting = v } ≡ stateOf (next D s es) []
   unfolding next
-  holding-next n o e f i = record { facts = e i; running = f i; waiting = waitingOf [] }
+  state-next n o v e f g i = record { facts = e i; running = f i; waiting = g i }
 
   facts-next : next D s es .facts ≡ after
   unfolding next
@@ -174,13 +178,13 @@ module _ (D : Domain) (B : Bounded D) (s : State) (es : List Event) (old : List 
       pub rows-indexed : (head index : List ℕ) → Indexed head index (map factRow after) → Indexed head index (rowsIn n work′)
       rows-indexed head index h = rw taken-rows h
 
-      pub leaves-taken : (o : Open) → o ≡ openOf running → (weight k : ℕ)
+      pub leaves-taken : (o : Open) → o ≡ openOf running → (v : Waiting) → v ≡ waitingOf [] → (weight k : ℕ)
           → k ≡ length (filterBy (λ (f : Fact). not (elem sameFact f (stepFacts D es Delete))) (s .facts)) → topWeight D (s .facts) ≤ w → weight ≡ max w (topFrom D after k)
-          → Leaves D s es old w 0 (record { facts = n; running = o; waiting = waitingOf [] }) weight work′
-      leaves-taken o oe weight k ke under we =
+          → Leaves D s es old w 0 (record { facts = n; running = o; waiting = v }) weight work′
+      leaves-taken o oe v ve weight k ke under we =
           leaves-next D s es old w free (not-large D s es after-few running-short)
-          (record { facts = n; running = o; waiting = waitingOf [] })
-          (holding-next n o size-is oe)
+          (record { facts = n; running = o; waiting = v })
+          (state-next n o v size-is oe ve)
           weight
           (we ∙ ap (λ (j : ℕ). max w (topFrom D after j)) ke ∙ sym (top-after D (s .facts) es w under) ∙ sym (ap (λ (fs : List Fact). max w (topWeight D fs)) facts-next))
           work′
@@ -188,12 +192,10 @@ module _ (D : Domain) (B : Bounded D) (s : State) (es : List Event) (old : List 
 
 -- ---- by what the step that nothing forbids is told
 
-module _ {D : Domain} {s : State} {es : List Event} {old : List ℕ} {w number : ℕ} (facts n : ℕ) (rows : List ℕ) (before : Holding) {weight : ℕ} {work : List ℕ}
-    (l : Leaves D s es old w number (thenHeld number facts n rows before) weight work) where
-  pub held-refused : (number ≡ 0 → ⊥) → Leaves D s es old w number before weight work
-  held-refused z = subst (λ (b : Bool). Leaves D s es old w number (cond b (record { facts = facts; running = record { count = n; rows = rows }; waiting = waitingOf [] }) before) weight work) (ne-eqb number 0 z) l
+module _ {D : Domain} {s : State} {es : List Event} {old : List ℕ} {w number : ℕ} (then before : StateRows) {weight : ℕ} {work : List ℕ}
+    (l : Leaves D s es old w number (stateThen number then before) weight work) where
+  pub state-refused : (number ≡ 0 → ⊥) → Leaves D s es old w number before weight work
+  state-refused z = subst (λ (b : Bool). Leaves D s es old w number (cond b then before) weight work) (ne-eqb number 0 z) l
 
-  pub held-taken : number ≡ 0 → (v : Waiting) → v ≡ waitingOf [] → Leaves D s es old w 0 (record { facts = facts; running = record { count = n; rows = rows }; waiting = v }) weight work
-  held-taken z v e =
-      subst (λ (v : Waiting). Leaves D s es old w 0 (record { facts = facts; running = record { count = n; rows = rows }; waiting = v }) weight work) (sym e)
-      (subst (λ (k : ℕ). Leaves D s es old w k (thenHeld k facts n rows before) weight work) z l)
+  pub state-taken : number ≡ 0 → Leaves D s es old w 0 then weight work
+  state-taken z = subst (λ (k : ℕ). Leaves D s es old w k (stateThen k then before) weight work) z l

@@ -14,11 +14,10 @@ use Rattle.literals.proofs.Tables.{length-flat, rows-flat}
 use Rattle.verdict.specs.Judged.{objectNumbers, factBytes}
 use Rattle.records.specs.Lists.{In}
 use Rattle.verdict.specs.Machine.{Event, State}
-use Rattle.machine.specs.declared.State.{State as Holding}
 use Rattle.runs.specs.RunFile.{maxFacts}
 use Rattle.runs.specs.Play.{workBytes, heldBytes}
 use Rattle.store.specs.Rows.{factRow, Few, FactFits}
-use Rattle.machine.specs.Stepping.{holdingOf, Kept}
+use Rattle.machine.specs.Stepping.{StateRows, stateOf, Kept}
 use Rattle.events.proofs.FactRows.{length-fact-row}
 use Rattle.effects.specs.Effects.{Once}
 use Rattle.effects.proofs.StepFacts.{once-facts}
@@ -87,13 +86,13 @@ held-settled fs gs hf hg kf kg old =
     ∙ ap (λ (j : ℕ). heldBytes gs ++ drop j old) z
 
 -- the rows of the facts that a state of the machine holds in work memory
-pub state-rows : (D : Domain) → Bounded D → (s : State) (es : List Event) → Kept D s es → (holding : Holding) → holding ≡ holdingOf s es → (work old : List ℕ) → work ≡ over (heldBytes (s .facts)) old
+pub state-rows : (D : Domain) → Bounded D → (s : State) (es : List Event) → Kept D s es → (holding : StateRows) → holding ≡ stateOf s es → (work old : List ℕ) → work ≡ over (heldBytes (s .facts)) old
     → rowsIn (holding .facts) work ≡ map factRow (s .facts)
 state-rows D B s es k holding is work old e =
-    ap (λ (h : Holding). rowsIn (h .facts) work) is ∙ ap (rowsIn (length (s .facts))) e ∙ work-rows (s .facts) (fits-few B (s .facts) (k .facts)) (k .facts-few) old
+    ap (λ (h : StateRows). rowsIn (h .facts) work) is ∙ ap (rowsIn (length (s .facts))) e ∙ work-rows (s .facts) (fits-few B (s .facts) (k .facts)) (k .facts-few) old
 
 -- none of which stands twice
-pub state-once : (D : Domain) → Bounded D → (s : State) (es : List Event) → Kept D s es → (holding : Holding) → holding ≡ holdingOf s es → (work old : List ℕ) → work ≡ over (heldBytes (s .facts)) old
+pub state-once : (D : Domain) → Bounded D → (s : State) (es : List Event) → Kept D s es → (holding : StateRows) → holding ≡ stateOf s es → (work old : List ℕ) → work ≡ over (heldBytes (s .facts)) old
     → Once (rowsIn (holding .facts) work)
 state-once D B s es k holding is work old e = subst Once (sym (state-rows D B s es k holding is work old e)) (once-facts (s .facts) (k .facts-once))
 

@@ -14,21 +14,20 @@ use Rattle.records.proofs.Lists.{filter-all}
 use Rattle.literals.specs.Domain.{Fact, sameFact, Domain}
 use Rattle.verdict.specs.Machine.{Event, State, overAllHold, stepFacts, factsAfter, next, topWeight}
 use Rattle.store.specs.Index.{noteAt, factIndex, Indexed}
-use Rattle.machine.specs.declared.State.{State as Holding}
 use Rattle.runs.specs.RunFile.{maxFacts, maxRunning}
 use Rattle.runs.specs.Play.{tooLarge, heldBytes}
 use Rattle.store.specs.Rows.{factRow}
 use Rattle.events.specs.Coded.{waitingOf}
-use Rattle.machine.specs.Stepping.{holdingOf, Kept, Noted, closeStop, closeState, closeWaiting, closeWeight, Leaves}
+use Rattle.machine.specs.Stepping.{StateRows, stateOf, Kept, Noted, closeStop, closeState, closeWaiting, closeWeight, Leaves}
 use Rattle.machine.proofs.Closing.{not-kept, nothing-forbids}
 
 none-struck : (fs : List Fact) → all (λ (f : Fact). not (elem sameFact f [])) fs ≡ true
 none-struck [] = refl
 none-struck (f ∷ fs) = none-struck fs
 
-pub no-events : (s : State) (es : List Event) (holding : Holding) → holding ≡ holdingOf s es → holding .waiting .count ≡ 0 → es ≡ []
+pub no-events : (s : State) (es : List Event) (holding : StateRows) → holding ≡ stateOf s es → holding .waiting .count ≡ 0 → es ≡ []
 unfolding waitingOf
-no-events s es holding is z = go es (sym (ap (λ (x : Holding). x .waiting .count) is) ∙ z)
+no-events s es holding is z = go es (sym (ap (λ (x : StateRows). x .waiting .count) is) ∙ z)
   where
     go : (l : List Event) → length l ≡ 0 → l ≡ []
     go [] e = refl
@@ -66,7 +65,7 @@ module _ (D : Domain) (s : State) where
   -- an over-all condition fails
   pub unrest : all (overAllHold D (s .facts)) (s .running) ≡ false → 55 ≡ closeStop D s []
   unfolding closeStop
-  unrest h = rw (sym (not-kept D s [] refl refl h))
+  unrest h = rw (sym (not-kept D s [] refl h))
 
   -- all of them hold
   pub rests : Kept D s [] → all (overAllHold D (s .facts)) (s .running) ≡ true → 0 ≡ closeStop D s []
@@ -76,13 +75,13 @@ module _ (D : Domain) (s : State) where
       rw (sym (nothing-forbids D s [] refl refl h refl), ap tooLarge next-none ∙ small)
 
   -- either way all is left as it was
-  pub rest-leaves : (old : List ℕ) (w : ℕ) → topWeight D (s .facts) ≤ w → (n : ℕ) → n ≡ closeStop D s [] → (state : Holding) → state ≡ holdingOf s []
+  pub rest-leaves : (old : List ℕ) (w : ℕ) → topWeight D (s .facts) ≤ w → (n : ℕ) → n ≡ closeStop D s [] → (state : StateRows) → state ≡ stateOf s []
       → (work : List ℕ) → work ≡ over (heldBytes (s .facts)) old → Leaves D s [] old w n state w work
   unfolding closeWaiting closeWeight
   rest-leaves old w under n e state is work m =
       record {
         number-is = e;
-        state-is = is ∙ sym (ap₂ holdingOf rest-state (none-wait (eqb (closeStop D s []) 0)));
+        state-is = is ∙ sym (ap₂ stateOf rest-state (none-wait (eqb (closeStop D s []) 0)));
         weight-is = as-before (eqb (closeStop D s []) 0);
         work-is = m ∙ sym (ap (λ (t : State). over (heldBytes (t .facts)) old) rest-state);
       }

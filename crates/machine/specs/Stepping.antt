@@ -12,26 +12,28 @@ use Rattle.literals.specs.Table.{rowsIn}
 use Rattle.literals.specs.Held.{Held}
 use Rattle.verdict.specs.Machine.{Event, State, next, topWeight, overAllHold}
 use Rattle.store.specs.Index.{noteAt, Indexed}
-use Rattle.machine.specs.declared.State.{State as Holding}
+use Rattle.machine.specs.declared.Counts.{Counts}
 use Rattle.runs.specs.RunFile.{maxFacts, maxRunning, maxEvents}
 use Rattle.runs.specs.Play.{workBytes, forbidden, tooLarge, heldBytes}
 use Rattle.store.specs.Rows.{factRow, FactFits}
-use Rattle.events.specs.Coded.{openOf, waitingOf, GroundsFit, EventsFit}
+use Rattle.events.specs.Coded.{Open, Waiting, openOf, waitingOf, openIn, waitingIn, GroundsFit, EventsFit}
 use Rattle.effects.specs.Effects.{Once}
 
 -- ---- what the code holds
 
-abbrev pub holdingOf : State → List Event → Holding
-holdingOf s es = record { facts = length (s .facts); running = openOf (s .running); waiting = waitingOf es }
+-- a state and the events that wait: how many facts are held, and the rows of what is open and of what waits
+pub record StateRows : Type 0 where
+  pub facts : ℕ
+  pub running : Open
+  pub waiting : Waiting
 
--- so many facts, so many entries of a memory, and so many events of two
-abbrev pub heldAs : ℕ → ℕ → List ℕ → ℕ → List ℕ → List ℕ → Holding
-heldAs facts n rows count moments events =
-    record {
-      facts = facts;
-      running = record { count = n; rows = rows };
-      waiting = record { count = count; moments = moments; rows = events };
-    }
+abbrev pub stateOf : State → List Event → StateRows
+stateOf s es = record { facts = length (s .facts); running = openOf (s .running); waiting = waitingOf es }
+
+-- what counts and an agenda hold
+abbrev pub stateIn : Counts → List ℕ → StateRows
+stateIn counts agenda =
+    record { facts = counts .facts; running = openIn (counts .opened) agenda; waiting = waitingIn (counts .waits) agenda }
 
 -- facts, entries and events of the domain, within the player's limits, and no fact twice
 pub record Kept (D : Domain) (s : State) (es : List Event) : Type 0 where
@@ -45,10 +47,11 @@ pub record Kept (D : Domain) (s : State) (es : List Event) : Type 0 where
 
 -- what the memories hold when a step is closed: a domain, a state, and the events that wait, in work memory that was `old` before
 -- the run
-pub record StepHeld (D : Domain) (s : State) (es : List Event) (head table : List ℕ) (state : Holding) (work old : List ℕ) : Type 0 where
+pub record StepHeld (D : Domain) (s : State) (es : List Event) (head table : List ℕ) (state : StateRows) (work old : List ℕ)
+    : Type 0 where
   pub domain : Held D head table
   pub kept : Kept D s es
-  pub state-is : state ≡ holdingOf s es
+  pub state-is : state ≡ stateOf s es
   pub facts-are : work ≡ over (heldBytes (s .facts)) old
 
 -- what stands beside the facts: their index, whose last number is 1 only where the over-all conditions of everything open are
@@ -59,10 +62,10 @@ pub record Noted (D : Domain) (head index : List ℕ) (s : State) : Type 0 where
 
 -- ---- what the code relies on
 
--- to close a step, whatever is held
-pub record Closable (state : Holding) (work : List ℕ) : Type 0 where
-  pub facts : state .facts ≤ maxFacts
-  pub facts-once : Once (rowsIn (state .facts) work)
+-- to close a step where so many facts are held, whatever they are
+pub record Closable (facts : ℕ) (work : List ℕ) : Type 0 where
+  pub facts-few : facts ≤ maxFacts
+  pub facts-once : Once (rowsIn facts work)
   pub room : workBytes ≤ length work
 
 -- ---- the step's close
@@ -86,13 +89,14 @@ unfoldable pub closeWeight : Domain → State → List Event → ℕ → ℕ
 unfolding closeStop next topWeight
 closeWeight D s es w = cond (eqb (closeStop D s es) 0) (max w (topWeight D (next D s es .facts))) w
 
--- what is held after a step that nothing forbids: with 0 so many facts and so many entries of a memory, and no event waits; else what was
-abbrev pub thenHeld : ℕ → ℕ → ℕ → List ℕ → Holding → Holding
-thenHeld number facts n rows before = cond (eqb number 0) (record { facts = facts; running = record { count = n; rows = rows }; waiting = waitingOf [] }) before
+-- what is held after a step that nothing forbids: with 0 what it leads to, else what was
+abbrev pub stateThen : ℕ → StateRows → StateRows → StateRows
+stateThen number then before = cond (eqb number 0) then before
 
 -- all that a close leaves, of the highest weight w before it and of work memory that was `old` before the run
-pub record Leaves (D : Domain) (s : State) (es : List Event) (old : List ℕ) (w : ℕ) (number : ℕ) (state : Holding) (weight : ℕ) (work : List ℕ) : Type 0 where
+pub record Leaves (D : Domain) (s : State) (es : List Event) (old : List ℕ) (w : ℕ) (number : ℕ) (state : StateRows) (weight : ℕ)
+    (work : List ℕ) : Type 0 where
   pub number-is : number ≡ closeStop D s es
-  pub state-is : state ≡ holdingOf (closeState D s es) (closeWaiting D s es)
+  pub state-is : state ≡ stateOf (closeState D s es) (closeWaiting D s es)
   pub weight-is : weight ≡ closeWeight D s es w
   pub work-is : work ≡ over (heldBytes (closeState D s es .facts)) old

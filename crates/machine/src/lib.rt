@@ -1,15 +1,20 @@
-// The machine: its state as the code holds it (here), out of memories and into them (memory), and the step's close (step). What a
+// The machine: its state as the code holds it (here), out of a memory and into it (memory), and the step's close (step). What a
 // step asks is told by the crate applicability, what it leaves by effects and events; facts are held by the crate store.
 pub mod memory;
 pub mod step;
 
-use events::Open;
-use events::Waiting;
+use events::AGENDA;
 
-// The machine's state and the step that is read, beside the facts in work memory: how many facts those are, what is open, which
-// events wait.
-pub struct State {
+// How many facts are held, how many lasting actions are open, and how many events of the step that is read wait.
+pub struct Counts {
     pub facts: usize,
-    pub running: Open,
-    pub waiting: Waiting,
+    pub opened: usize,
+    pub waits: usize,
+}
+
+// The machine's state and the step that is read, beside the facts in work memory: the counts, and the agenda, which is what is open
+// and what waits.
+pub struct State {
+    pub counts: Counts,
+    pub agenda: [u8; AGENDA],
 }

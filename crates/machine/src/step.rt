@@ -1,13 +1,18 @@
 // The step's close: what forbids it, and the state after it.
+use super::Counts;
 use super::State;
 use applicability::conditions::events_met;
 use applicability::conditions::open_met;
 use applicability::interference::independent;
+use effects::LITERALS;
+use effects::SCRATCH;
 use effects::facts_after;
-use events::Open;
-use events::Waiting;
+use events::AGENDA;
+use events::EVENTS_AT;
+use events::MOMENTS_AT;
+use events::grounding::ground_step;
+use events::openings::agenda_after;
 use events::openings::ends_open;
-use events::openings::open_after;
 use literals::head::Head;
 use literals::limits::MAX_FACTS;
 use records::bytes::put_bytes;
@@ -25,13 +30,14 @@ ghost use Rattle.literals.specs.Table.{rowsIn};
 ghost use Rattle.literals.specs.Held.{Held};
 ghost use Rattle.verdict.specs.Machine.{Event, State as MachineState, topWeight};
 ghost use Rattle.store.specs.Index.{noteAt, Indexed};
-ghost use Rattle.runs.specs.RunFile.{maxEvents, maxFacts};
+ghost use Rattle.runs.specs.RunFile.{maxFacts};
 ghost use Rattle.runs.specs.Play.{forbidden};
 ghost use Rattle.store.specs.Rows.{factRow};
-ghost use Rattle.events.specs.Coded.{openBytes, waitingBytes, openOf};
-ghost use Rattle.effects.specs.Effects.{scratchBytes};
-ghost use Rattle.machine.specs.Stepping.{holdingOf, heldAs, Kept, StepHeld, Noted, Closable, closeStop};
-ghost use Rattle.machine.specs.Stepping.{closeState, thenHeld, Leaves};
+ghost use Rattle.events.specs.Coded.{agendaBytes, openIn, openOf};
+ghost use Rattle.events.specs.Grounding.{maxGround, groundedBytes, Grounded};
+ghost use Rattle.effects.specs.Effects.{scratchBytes, literalsIn};
+ghost use Rattle.machine.specs.Stepping.{stateIn, stateOf, Kept, StepHeld, Noted, Closable, closeStop};
+ghost use Rattle.machine.specs.Stepping.{closeState, stateThen, Leaves};
 
 // What closing a step led to: 0 and the state after it, or the number that refuses it and the state as it was; and the highest weight.
 pub struct Closed {
@@ -40,11 +46,17 @@ pub struct Closed {
     pub weight: usize,
 }
 
-// What a step that nothing forbids leads to: 0, how many facts are held then and how many entries are open, or 52; and the highest weight.
+// What is asked of a step: the number that forbids it, or 0 and how many ground literals it has.
+struct Asked {
+    number: u64,
+    literals: usize,
+}
+
+// What a step that nothing forbids leads to: 0 and how many facts are held then and how many entries are open, or 52 and the
+// counts as they were; and the highest weight.
 struct Advanced {
     number: u64,
-    facts: usize,
-    open: usize,
+    counts: Counts,
     weight: usize,
 }
 
@@ -65,118 +77,131 @@ fn settle(work: &mut [u8], held: usize, rows: &[u8], n: usize)
     }
 }
 
-// The number that forbids a step, or 0: an end that is not open, a condition that fails, interference.
+// What is asked of a step: an end that is not open, a condition that fails, interference. Where nothing forbids it, its ground literals
+// stand in the memory then.
 fn forbidden(
     head: &Head,
     table: &[u8],
-    rows: &[u8],
-    n: usize,
-    moments: &[u8],
-    events: &[u8],
-    count: usize,
+    agenda: &[u8],
+    counts: Counts,
+    memory: &mut [u8],
     index: &FactIndex,
     work: &[u8],
-    facts: usize,
-) -> u64
-    requires entries { ⌜ length (now rows) ≡ openBytes ⌝ }
-    requires moments { ⌜ length (now moments) ≡ maxEvents ⌝ }
-    requires events { ⌜ length (now events) ≡ waitingBytes ⌝ }
-    requires few { ⌜ facts ≤ maxFacts ⌝ }
-    requires facts { ⌜ 8 * facts ≤ length (now work) ⌝ }
-    ensures { λ r. ⌜ ((D : Domain) (s : MachineState) (es : List Event)
-        → Held D (now (head .entry)) (now (table .entry)) → Kept D s es
-        → heldAs facts n (now (rows .entry)) count (now (moments .entry)) (now (events .entry)) ≡ holdingOf s es
-        → rowsIn facts (now (work .entry)) ≡ map factRow (s .facts)
-        → Indexed (now (head .entry)) (now (index .entry)) (map factRow (s .facts)) → r ≡ forbidden D s es) ⌝ }
+) -> Asked
+    requires agenda { ⌜ length (now agenda) ≡ agendaBytes ⌝ }
+    requires memory { ⌜ length (now memory) ≡ groundedBytes ⌝ }
+    requires few { ⌜ counts .facts ≤ maxFacts ⌝ }
+    requires facts { ⌜ 8 * counts .facts ≤ length (now work) ⌝ }
+    ensures few { λ r. ⌜ r .literals ≤ maxGround ⌝ }
+    ensures asked { λ r. ⌜ ((D : Domain) (s : MachineState) (es : List Event)
+        → Held D (now (head .entry)) (now (table .entry)) → Kept D s es → stateIn counts (now (agenda .entry)) ≡ stateOf s es
+        → rowsIn (counts .facts) (now (work .entry)) ≡ map factRow (s .facts)
+        → Indexed (now (head .entry)) (now (index .entry)) (map factRow (s .facts))
+        → (r .number ≡ forbidden D s es)
+        × (r .number ≡ 0 → Grounded D (now (head .entry)) es (now (memory .exit)) (r .literals))) ⌝ }
 {
-    if !ends_open(rows, n, moments, events, count) {
-        return 57;
+    let entries = &agenda[0..MOMENTS_AT];
+    let moments = &agenda[MOMENTS_AT..EVENTS_AT];
+    let events = &agenda[EVENTS_AT..AGENDA];
+    if !ends_open(entries, counts.opened, moments, events, counts.waits) {
+        return Asked {
+            number: 57,
+            literals: 0,
+        };
     }
-    if !events_met(head, table, moments, events, count, index, work, facts) {
-        return 55;
+    if !open_met(
+        head,
+        table,
+        entries,
+        counts.opened,
+        memory,
+        index,
+        work,
+        counts.facts,
+    ) {
+        return Asked {
+            number: 55,
+            literals: 0,
+        };
     }
-    if !open_met(head, table, rows, n, index, work, facts) {
-        return 55;
+    let literals = ground_step(head, table, moments, events, counts.waits, memory);
+    if !events_met(memory, literals, index, work, counts.facts) {
+        return Asked {
+            number: 55,
+            literals: 0,
+        };
     }
-    if !independent(head, table, moments, events, count) {
-        return 56;
+    if !independent(memory, counts.waits, literals) {
+        return Asked {
+            number: 56,
+            literals: 0,
+        };
     }
-    0
+    Asked {
+        number: 0,
+        literals,
+    }
 }
 
-// The step that nothing forbids: its facts in the work memory and its entries in `rows`; 52 where either are too many, and the
-// work memory is as it was. The facts are put together in `scratch` first.
+// The step that nothing forbids: its facts in the work memory, and its entries in the agenda, where no event waits then; 52 where
+// facts or entries are too many, and the work memory is as it was. The facts are put together in `scratch` first, where so many ground
+// literals of the step stand.
 fn advance(
     head: &Head,
-    table: &[u8],
-    rows: &mut [u8],
-    n: usize,
-    moments: &[u8],
-    events: &[u8],
-    count: usize,
+    agenda: &mut [u8],
+    counts: Counts,
     index: &mut FactIndex,
     work: &mut [u8],
-    facts: usize,
     weight: usize,
     scratch: &mut [u8],
+    literals: usize,
 ) -> Advanced
-    requires closable { ⌜ Closable (heldAs facts n (now rows) count (now moments) (now events)) (now work) ⌝ }
-    requires entries { ⌜ length (now rows) ≡ openBytes ⌝ }
-    requires moments { ⌜ length (now moments) ≡ maxEvents ⌝ }
-    requires events { ⌜ length (now events) ≡ waitingBytes ⌝ }
+    requires closable { ⌜ Closable (counts .facts) (now work) ⌝ }
+    requires agenda { ⌜ length (now agenda) ≡ agendaBytes ⌝ }
     requires scratch { ⌜ length (now scratch) ≡ scratchBytes ⌝ }
-    ensures leaves { λ r. ⌜ ((D : Domain) (s : MachineState) (es : List Event) (old : List ℕ)
-        → StepHeld D s es (now (head .entry)) (now (table .entry))
-        (heldAs facts n (now (rows .entry)) count (now (moments .entry)) (now (events .entry))) (now (work .entry)) old
+    requires literals { ⌜ literals ≤ maxGround ⌝ }
+    ensures leaves { λ r. ⌜ ((D : Domain) (s : MachineState) (es : List Event) (table old : List ℕ)
+        → StepHeld D s es (now (head .entry)) table (stateIn counts (now (agenda .entry))) (now (work .entry)) old
+        → Grounded D (now (head .entry)) es (literalsIn (now (scratch .entry))) literals
         → topWeight D (s .facts) ≤ weight → forbidden D s es ≡ 0
         → Indexed (now (head .entry)) (now (index .entry)) (map factRow (s .facts))
         → Leaves D s es old weight (r .number)
-        (thenHeld (r .number) (r .facts) (r .open) (now (rows .exit))
-        (heldAs facts n (now (rows .entry)) count (now (moments .entry)) (now (events .entry))))
+        (stateThen (r .number) (stateIn (r .counts) (now (agenda .exit))) (stateIn counts (now (agenda .entry))))
         (r .weight) (now (work .exit))) ⌝ }
-    ensures indexed { λ r. ⌜ ((D : Domain) (s : MachineState) (es : List Event) (old : List ℕ)
-        → StepHeld D s es (now (head .entry)) (now (table .entry))
-        (heldAs facts n (now (rows .entry)) count (now (moments .entry)) (now (events .entry))) (now (work .entry)) old
+    ensures indexed { λ r. ⌜ ((D : Domain) (s : MachineState) (es : List Event) (table old : List ℕ)
+        → StepHeld D s es (now (head .entry)) table (stateIn counts (now (agenda .entry))) (now (work .entry)) old
+        → Grounded D (now (head .entry)) es (literalsIn (now (scratch .entry))) literals
         → forbidden D s es ≡ 0
         → Indexed (now (head .entry)) (now (index .entry)) (map factRow (s .facts))
         → r .number ≡ 0 → Indexed (now (head .entry)) (now (index .exit)) (map factRow (closeState D s es .facts))) ⌝ }
     ensures beside { λ _. ⌜ getD (now (index .exit)) noteAt 0 ≡ getD (now (index .entry)) noteAt 0 ⌝ }
 {
-    let after = facts_after(
-        head,
-        table,
-        moments,
-        events,
-        count,
-        work,
-        facts,
-        scratch,
-        index,
-    );
-    let then = after.facts;
-    if MAX_FACTS < then {
+    let after = facts_after(head, work, counts.facts, scratch, literals, index);
+    let facts = after.facts;
+    if MAX_FACTS < facts {
         return Advanced {
             number: 52,
-            facts,
-            open: n,
+            counts,
             weight,
         };
     }
-    let opened = open_after(head, rows, n, moments, events, count);
-    if !opened.fits {
+    let joined = agenda_after(head, agenda, counts.opened, counts.waits);
+    if !joined.fits {
         return Advanced {
             number: 52,
-            facts,
-            open: n,
+            counts,
             weight,
         };
     }
-    settle(work, facts, scratch, then);
-    let highest = top_from(head, work, then, after.kept, weight, index);
+    settle(work, counts.facts, scratch, facts);
+    let highest = top_from(head, work, facts, after.kept, weight, index);
     Advanced {
         number: 0,
-        facts: then,
-        open: opened.count,
+        counts: Counts {
+            facts,
+            opened: joined.count,
+            waits: 0,
+        },
         weight: highest,
     }
 }
@@ -186,24 +211,34 @@ fn advance(
 fn rest(
     head: &Head,
     table: &[u8],
-    rows: &[u8],
-    n: usize,
+    agenda: &[u8],
+    counts: Counts,
+    memory: &mut [u8],
     index: &mut FactIndex,
     work: &[u8],
-    facts: usize,
 ) -> u64
-    requires entries { ⌜ length (now rows) ≡ openBytes ⌝ }
-    requires few { ⌜ facts ≤ maxFacts ⌝ }
-    requires facts { ⌜ 8 * facts ≤ length (now work) ⌝ }
+    requires agenda { ⌜ length (now agenda) ≡ agendaBytes ⌝ }
+    requires memory { ⌜ length (now memory) ≡ groundedBytes ⌝ }
+    requires few { ⌜ counts .facts ≤ maxFacts ⌝ }
+    requires facts { ⌜ 8 * counts .facts ≤ length (now work) ⌝ }
     ensures { λ r. ⌜ ((D : Domain) (s : MachineState)
         → Held D (now (head .entry)) (now (table .entry)) → Kept D s []
-        → record { count = n; rows = now (rows .entry) } ≡ openOf (s .running)
-        → rowsIn facts (now (work .entry)) ≡ map factRow (s .facts)
+        → openIn (counts .opened) (now (agenda .entry)) ≡ openOf (s .running)
+        → rowsIn (counts .facts) (now (work .entry)) ≡ map factRow (s .facts)
         → Noted D (now (head .entry)) (now (index .entry)) s
         → (r ≡ closeStop D s []) × (r ≡ 0 → Noted D (now (head .entry)) (now (index .exit)) (closeState D s []))) ⌝ }
 {
     if index[NOTE] != 1 {
-        if !open_met(head, table, rows, n, index, work, facts) {
+        if !open_met(
+            head,
+            table,
+            &agenda[0..MOMENTS_AT],
+            counts.opened,
+            memory,
+            index,
+            work,
+            counts.facts,
+        ) {
             return 55;
         }
         index[NOTE] = 1;
@@ -214,7 +249,7 @@ fn rest(
 impl State {
     // Closes the step that is read: takes it, or refuses it by 57, 55, 56 or 52 and changes nothing. `scratch` is memory
     // to work in.
-    // Entries and events are each lent from one local, since every local of its own would be one copy more of them for each step.
+    // The agenda is lent from one local, since every local of its own would be one copy more of it for each step.
     pub fn step(
         self,
         head: &Head,
@@ -224,22 +259,29 @@ impl State {
         index: &mut FactIndex,
         scratch: &mut [u8],
     ) -> Closed
-        requires closable { ⌜ Closable self (now work) ⌝ }
+        requires closable { ⌜ Closable (self .counts .facts) (now work) ⌝ }
         requires scratch { ⌜ length (now scratch) ≡ scratchBytes ⌝ }
         ensures leaves { λ r. ⌜ ((D : Domain) (s : MachineState) (es : List Event) (old : List ℕ)
-            → StepHeld D s es (now (head .entry)) (now (table .entry)) self (now (work .entry)) old
+            → StepHeld D s es (now (head .entry)) (now (table .entry)) (stateIn (self .counts) (self .agenda)) (now (work .entry)) old
             → topWeight D (s .facts) ≤ weight → Noted D (now (head .entry)) (now (index .entry)) s
-            → Leaves D s es old weight (r .number) (r .state) (r .weight) (now (work .exit))) ⌝ }
+            → Leaves D s es old weight (r .number) (stateIn (r .state .counts) (r .state .agenda)) (r .weight) (now (work .exit))) ⌝ }
         ensures noted { λ r. ⌜ ((D : Domain) (s : MachineState) (es : List Event) (old : List ℕ)
-            → StepHeld D s es (now (head .entry)) (now (table .entry)) self (now (work .entry)) old
+            → StepHeld D s es (now (head .entry)) (now (table .entry)) (stateIn (self .counts) (self .agenda)) (now (work .entry)) old
             → Noted D (now (head .entry)) (now (index .entry)) s
             → r .number ≡ 0 → Noted D (now (head .entry)) (now (index .exit)) (closeState D s es)) ⌝ }
     {
-        let running = self.running;
-        let waiting = self.waiting;
-        let mut rows = running.rows;
-        if waiting.count == 0 {
-            let number = rest(head, table, &rows, running.count, index, work, self.facts);
+        let counts = self.counts;
+        let mut agenda = self.agenda;
+        if counts.waits == 0 {
+            let number = rest(
+                head,
+                table,
+                &agenda,
+                counts,
+                &mut scratch[LITERALS..SCRATCH],
+                index,
+                work,
+            );
             return Closed {
                 number,
                 state: self,
@@ -247,40 +289,31 @@ impl State {
             };
         }
         index[NOTE] = 0;
-        let moments = waiting.moments;
-        let events = waiting.rows;
-        let number = forbidden(
+        let asked = forbidden(
             head,
             table,
-            &rows,
-            running.count,
-            &moments,
-            &events,
-            waiting.count,
+            &agenda,
+            counts,
+            &mut scratch[LITERALS..SCRATCH],
             index,
             work,
-            self.facts,
         );
-        if number != 0 {
+        if asked.number != 0 {
             return Closed {
-                number,
+                number: asked.number,
                 state: self,
                 weight,
             };
         }
         let advanced = advance(
             head,
-            table,
-            &mut rows,
-            running.count,
-            &moments,
-            &events,
-            waiting.count,
+            &mut agenda,
+            counts,
             index,
             work,
-            self.facts,
             weight,
             scratch,
+            asked.literals,
         );
         if advanced.number != 0 {
             return Closed {
@@ -289,15 +322,12 @@ impl State {
                 weight: advanced.weight,
             };
         }
+        let after = advanced.counts;
         Closed {
             number: 0,
             state: State {
-                facts: advanced.facts,
-                running: Open {
-                    count: advanced.open,
-                    rows,
-                },
-                waiting: Waiting::none(),
+                counts: after,
+                agenda,
             },
             weight: advanced.weight,
         }

@@ -20,7 +20,7 @@ use Rattle.literals.proofs.Heads.{literals-after}
 use Rattle.literals.specs.declared.Moment.the-variants.{Start, End}
 use Rattle.classes.specs.declared.Name.{Name}
 use Rattle.classes.specs.Classes.{momentsOf, nameNumber, classes, nameOf, journey}
-use Rattle.classes.specs.Coded.{MomentOf, classNumbers, numbersOf, askedAt, soleAt, soleOf, reachAt}
+use Rattle.classes.specs.Coded.{MomentOf, classNumbers, numbersOf, askedAt, soleAt, reachAt}
 use Rattle.naming.specs.declared.Naming.{Naming}
 use Rattle.verdict.specs.declared.Summary.{Summary}
 use Rattle.verdict.specs.declared.Notes.{Notes}
@@ -28,7 +28,7 @@ use Rattle.verdict.specs.Decision.{Row, rowAt, rowsOfClasses, rowsFrom, rows}
 use Rattle.verdict.specs.Claims.{wellFormed}
 use Rattle.verdict.specs.Summaries.{summaryRows, summaryOf, notesOf}
 use Rattle.verdict.specs.Coded.{rowFor}
-use Rattle.naming.specs.Named.{nameBytes, classCounts, SolesIn, EndOf, Listed, Named, namingOf}
+use Rattle.naming.specs.Named.{nameBytes, classCounts, EndOf, Listed, Named, namingOf}
 
 -- ---- one class or one action more
 
@@ -223,10 +223,6 @@ module _ (D : Domain) where
       )
 
 -- ---- where the loops of naming stand
-
--- a class by its number, of the true conditions and adds of all of them
-pub sole-at : {numbers clauses conditions adds : List ℕ} → SolesIn numbers clauses conditions adds → (k : ℕ) → k < 64 → record { conditions = getD conditions k 0; adds = getD adds k 0 } ≡ soleOf numbers clauses k
-sole-at S k h = λ i. record { conditions = S .conditions-are k h i; adds = S .adds-are k h i }
 
 -- which literal of a class is asked as a true condition at the end, by the clauses of what is asked there
 pub reach-is : (D : Domain) (a : Action) {numbers asked : List ℕ} → numbers ≡ classNumbers D a → asked ≡ pad 64 (askedAt a End) → (k : ℕ) → soleAt numbers asked k 1 ≡ reachAt D a End k

@@ -1,19 +1,27 @@
 // The names of all moments, in the order of the report.
+use classes::ASKED;
+use classes::AT_END;
+use classes::AT_START;
 use classes::Marks;
 use classes::Name;
 use classes::Sole;
+use classes::Soles;
 use classes::name_number;
 use classes::names::clauses_at;
 use classes::names::is_journey;
 use classes::names::name_at;
-use classes::names::soles_at;
+use classes::names::sole_in;
+use classes::names::tally;
 use classes::number::number_classes;
 use literals::Moment;
 use literals::head::Head;
 use literals::head::actions_in;
 use literals::head::is_lasting;
 use literals::head::rows_of;
+use literals::keys::KeyPlaces;
+use literals::keys::put_places;
 use literals::limits::MAX_ACTIONS;
+use literals::limits::MAX_COMPONENTS;
 use literals::limits::MAX_LITERALS;
 use verdict::Notes;
 use verdict::Summary;
@@ -27,6 +35,7 @@ ghost use Rattle.literals.specs.Domain.{Domain, Action};
 ghost use Rattle.literals.specs.Decode.{maxActions, maxLiterals};
 ghost use Rattle.literals.specs.Table.{pad};
 ghost use Rattle.literals.specs.Held.{Held, Read};
+ghost use Rattle.literals.specs.Keys.{PlacesOf};
 ghost use Rattle.literals.specs.declared.Moment.the-variants.{Start, End};
 ghost use Rattle.classes.specs.Classes.{momentsOf, classes, nameOf, journey};
 ghost use Rattle.classes.specs.Coded.{ActionOf, MomentOf, Sides, classNumbers, numbersOf, soleOf, reachAt};
@@ -82,7 +91,7 @@ fn name_class(
 ) -> ClassNames
     requires sides { ⌜ Sides (now rows) (now numbers) ⌝ }
     requires first { ⌜ first ≡ soleOf (now numbers) (now «at_start») class ⌝ }
-    requires last { ⌜ last ≡ soleOf (now numbers) (now «at_end») class ⌝ }
+    requires last { ⌜ (lasting ≡ true → last ≡ soleOf (now numbers) (now «at_end») class) ⌝ }
     ensures start { λ r. ⌜ ((D : Domain) (a : Action)
         → MomentOf D a Start (now (head .entry)) (now (rows .entry)) (now (numbers .entry)) (now («at_start» .entry))
         → class < length (classes D a) → r .start ≡ nameOf D a (getD (classes D a) class []) Start) ⌝ }
@@ -173,8 +182,7 @@ impl Naming {
         started
     }
 
-    // The rows of the classes of an action, of the clauses of its literals at both moments, of each class's own true conditions and adds
-    // there, and of the true conditions that are asked at the end.
+    // The rows of the classes of an action, of the clauses of its literals at both moments, and of what each class has there.
     fn with_each(
         self,
         head: &Head,
@@ -182,18 +190,14 @@ impl Naming {
         numbers: &[u8],
         at_start: &Marks,
         at_end: &Marks,
-        conditions: &Marks,
-        adds: &Marks,
-        reach: &Marks,
-        end_conditions: &Marks,
-        end_adds: &Marks,
+        soles: &Soles,
         count: usize,
         lasting: bool,
         names: &mut [u8],
     ) -> Naming
         requires sides { ⌜ Sides (now rows) (now numbers) ⌝ }
-        requires first { ⌜ SolesIn (now numbers) (now «at_start») (now conditions) (now adds) ⌝ }
-        requires last { ⌜ SolesIn (now numbers) (now «at_end») (now «end_conditions») (now «end_adds») ⌝ }
+        requires first { ⌜ SolesIn (now numbers) (now «at_start») (now soles) 0 ⌝ }
+        requires last { ⌜ (lasting ≡ true → SolesIn (now numbers) (now «at_end») (now soles) 2) ⌝ }
         requires few { ⌜ count ≤ length (now numbers) ⌝ }
         requires room { ⌜ self .rows + 2 * count ≤ length (now names) ⌝ }
         ensures rows { λ r. ⌜ r .rows ≤ self .rows + 2 * count ⌝ }
@@ -202,7 +206,7 @@ impl Naming {
             → MomentOf D a Start (now (head .entry)) (now (rows .entry)) (now (numbers .entry)) (now («at_start» .entry))
             → a .lasting ≡ lasting
             → (lasting ≡ true → EndOf D a (now (head .entry)) (now (rows .entry)) (now (numbers .entry)) (now («at_end» .entry))
-            (now (reach .entry))) → count ≡ length (classes D a)
+            (now (soles .entry))) → count ≡ length (classes D a)
             → Named before (rowsOfClasses D a i 0 (classes D a)) r (now (names .exit)) old) ⌝ }
     {
         let mut next = self;
@@ -213,15 +217,9 @@ impl Naming {
                 numbers,
                 at_start,
                 at_end,
-                Sole {
-                    conditions: conditions[class],
-                    adds: adds[class],
-                },
-                reach[class],
-                Sole {
-                    conditions: end_conditions[class],
-                    adds: end_adds[class],
-                },
+                sole_in(soles, AT_START, class),
+                soles[MAX_LITERALS * ASKED + class],
+                sole_in(soles, AT_END, class),
                 class as u8,
                 lasting,
             );
@@ -253,12 +251,10 @@ impl Naming {
             → Named before (rowsOfClasses D a i 0 (classes D a)) r (now (names .exit)) old) ⌝ }
     {
         let n = numbers.len();
+        let mut soles = [0u8; 5 * MAX_LITERALS];
         let mut at_start = [0u8; MAX_LITERALS];
-        let mut conditions = [0u8; MAX_LITERALS];
-        let mut adds = [0u8; MAX_LITERALS];
+        tally(rows, numbers, &mut soles);
         clauses_at(false, rows, n, Moment::Start, &mut at_start);
-        soles_at(numbers, &at_start, 1, &mut conditions);
-        soles_at(numbers, &at_start, 3, &mut adds);
         if !lasting {
             return self.with_each(
                 head,
@@ -266,37 +262,21 @@ impl Naming {
                 numbers,
                 &at_start,
                 &at_start,
-                &conditions,
-                &adds,
-                &conditions,
-                &conditions,
-                &adds,
+                &soles,
                 count,
                 lasting,
                 names,
             );
         }
         let mut at_end = [0u8; MAX_LITERALS];
-        let mut end_conditions = [0u8; MAX_LITERALS];
-        let mut end_adds = [0u8; MAX_LITERALS];
         clauses_at(false, rows, n, Moment::End, &mut at_end);
-        soles_at(numbers, &at_end, 1, &mut end_conditions);
-        soles_at(numbers, &at_end, 3, &mut end_adds);
-        let mut asked = [0u8; 64];
-        let mut reach = [0u8; 64];
-        clauses_at(true, rows, n, Moment::End, &mut asked);
-        soles_at(numbers, &asked, 1, &mut reach);
         self.with_each(
             head,
             rows,
             numbers,
             &at_start,
             &at_end,
-            &conditions,
-            &adds,
-            &reach,
-            &end_conditions,
-            &end_adds,
+            &soles,
             count,
             lasting,
             names,
@@ -305,9 +285,11 @@ impl Naming {
 }
 
 // The rows of one action, whose literals are these rows, behind as many as are `named` before; `numbers` gets the class number of each
-// literal, by which alone its classes are known from there on. Its summary knows no other action. (`words` is work memory for numbering.)
+// literal, by which alone its classes are known from there on. Its summary knows no other action. (`places` has the places of the keys,
+// and `words` is work memory for numbering.)
 pub fn name_action(
     head: &Head,
+    places: &KeyPlaces,
     rows: &[u8],
     numbers: &mut [u8],
     words: &mut [u64],
@@ -315,6 +297,7 @@ pub fn name_action(
     lasting: bool,
     names: &mut [u8],
 ) -> NamedAction
+    requires places { ⌜ PlacesOf (now head) (now places) ⌝ }
     requires rowed { ⌜ length (now rows) ≡ 8 * length (now numbers) ⌝ }
     requires literals { ⌜ length (now numbers) ≤ maxLiterals ⌝ }
     requires words { ⌜ length (now words) ≡ maxLiterals ⌝ }
@@ -328,7 +311,7 @@ pub fn name_action(
         → (r .classes ≡ length (classes D a)) × (r .summary ≡ summaryOf D a)
         × Listed (before ++ rowsOfClasses D a i 0 (classes D a)) (r .rows) (now (names .exit)) old) ⌝ }
 {
-    let classes = number_classes(head, rows, numbers, words);
+    let classes = number_classes(head, places, rows, numbers, words);
     let naming = Naming::new(named).with_classes(head, rows, numbers, classes, lasting, names);
     let summary = naming.summary;
     NamedAction {
@@ -358,6 +341,8 @@ pub fn name_all(
         → (r ≡ namingOf D) × (now (counts .exit) ≡ pad maxActions (classCounts D (D .actions)))
         × (now (names .exit) ≡ over (nameBytes (rows D)) (now (names .entry)))) ⌝ }
 {
+    let mut places = [0u8; 8 * MAX_COMPONENTS];
+    put_places(head, &mut places);
     let mut words = [0u64; MAX_LITERALS];
     let mut rows = 0;
     let mut notes = Notes::new();
@@ -369,6 +354,7 @@ pub fn name_all(
         let to = 8 * last;
         let named = name_action(
             head,
+            &places,
             &table[from..to],
             &mut numbers[first..last],
             &mut words,

@@ -75,9 +75,9 @@ module _ (D : Domain) (head index : List ℕ) (q : Playing) where
     unfolding playRecord begin
     noted-event h = noted-unless D head index (eventStop D (q .objects) (q .waiting) b) (begin D q) (goOn (withEvent (begin D q) (eventOf b) behind)) h
 
-    pub noted-step-record : NotedAfter D head index (unless (stepStop (begin D q .objects) b) (begin D q) (closeStep D (begin D q) behind)) → NotedAfter D head index (playRecord D q stepRecord b behind)
+    pub noted-step-record : NotedAfter D head index (closeStep D (begin D q) behind) → NotedAfter D head index (playRecord D q stepRecord b behind)
     unfolding playRecord begin
-    noted-step-record h = h
+    noted-step-record h = noted-unless D head index (stepStop (q .objects) b) (begin D q) (closeStep D (begin D q) behind) h
 
     pub noted-end : Noted D head index (q .state) → NotedAfter D head index (playRecord D q endRecord b behind)
     unfolding playRecord begin

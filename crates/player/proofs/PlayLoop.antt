@@ -132,13 +132,13 @@ module _ (D : Domain) (B : Bounded D) {head : List ℕ} (r old : List ℕ) (play
 
 -- what a turn relies on
 pub playable : {head table old : List ℕ} (R : Read head table) → workBytes ≤ length old → (r : List ℕ) (player : Player) (work index : List ℕ)
-    → Loop (R .0) head r old player work index → Playable head table player work index
+    → Loop (R .0) head r old player work index → Playable head player work index
 playable {old = old} R l r player work index i =
     record {
       said = R .0;
       reached = i .reached;
       old = old;
-      held = R .1;
+      says = R .1 .says;
       stands = i .stands;
       room = l;
       noted = i .noted;

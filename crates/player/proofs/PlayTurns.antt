@@ -19,49 +19,57 @@ use Rattle.literals.specs.Decode.{byte}
 use Rattle.literals.specs.Table.{rowsIn, Bounded}
 use Rattle.literals.proofs.Bounds.{arity-six}
 use Rattle.verdict.specs.Machine.{Event, State, next, topWeight}
-use Rattle.machine.specs.declared.State.{State as Holding}
-use Rattle.events.specs.declared.Waiting.{Waiting}
+use Rattle.events.specs.Coded.{Waiting}
 use Rattle.player.specs.declared.Player.{Player as Small}
 use Rattle.player.specs.declared.Tally.{Tally as Held}
 use Rattle.runs.specs.RunFile.{objectsRecord, factRecord, eventRecord, stepRecord, endRecord, otherRecord, runKindOf, factOf, eventOf, objectsStop, factStop, eventStop, stepStop, endStop}
 use Rattle.runs.specs.Play.{playRecord, playFound, playStep, Playing, onward, PlayTurn, goOn, stopAt, startTally, begin, withObjects, joined, withFact, withEvent, withClose, unless, forbidden, tooLarge, afterStep, closeStep, heldBytes}
 use Rattle.store.specs.Rows.{factRow, hasRow, Few}
-use Rattle.events.specs.Coded.{waitingOf}
-use Rattle.machine.specs.Stepping.{holdingOf, heldAs, closeStop, closeState, closeWaiting, closeWeight, Leaves}
-use Rattle.player.specs.Player.{Whole as Player, WholeTurn as Turn, wholeOf, tallyOf, playerOf, Stands, LeadsTo, NotedAfter}
+use Rattle.events.specs.Coded.{entriesIn, openIn, waitingIn, waitingOf}
+use Rattle.machine.specs.declared.Counts.{Counts}
+use Rattle.machine.specs.Stepping.{StateRows, stateOf, stateIn, closeStop, closeState, closeWaiting, closeWeight, Leaves}
+use Rattle.player.specs.Player.{Whole as Player, WholeTurn as Turn, wholeIn, tallyOf, playerOf, Stands, LeadsTo, NotedAfter}
 use Rattle.events.proofs.FactRows.{has-fact}
 use Rattle.machine.proofs.HeldBytes.{fits-few, state-rows}
 use Rattle.machine.proofs.RunRows.{held-more}
 use Rattle.player.proofs.Sound.{FactTaken, fact-taken}
 
--- ---- the player with its memories
+-- ---- the player with its agenda
 
 -- going on behind a record
-pub gone-on : (self new : Small) (behind facts waits : ℕ) (entries moments events : List ℕ)
-    → new ≡ record { at = behind; closed = false; objects = self .objects; facts = facts; opened = self .opened; waits = waits; tally = self .tally }
+pub gone-on : (self new : Small) (behind facts waits : ℕ) (agenda : List ℕ)
+    → new ≡ record {
+      at = behind;
+      closed = false;
+      objects = self .objects;
+      counts = record { facts = facts; opened = self .counts .opened; waits = waits };
+      tally = self .tally;
+    }
     → (new .at ≡ behind) × (new .closed ≡ false) × (new .objects ≡ self .objects)
-    × (wholeOf new entries moments events .state ≡ heldAs facts (self .opened) entries waits moments events) × (new .tally ≡ self .tally)
-gone-on self new behind facts waits entries moments events e = (
+    × (wholeIn new agenda .state ≡ stateIn (record { facts = facts; opened = self .counts .opened; waits = waits }) agenda)
+    × (new .tally ≡ self .tally)
+gone-on self new behind facts waits agenda e = (
   ap (λ (x : Small). x .at) e,
   ap (λ (x : Small). x .closed) e,
   ap (λ (x : Small). x .objects) e,
-  ap (λ (x : Small). heldAs (x .facts) (x .opened) entries (x .waits) moments events) e,
+  ap (λ (x : Small). stateIn (x .counts) agenda) e,
   ap (λ (x : Small). x .tally) e,
 )
 
--- a state that is put into the memories
-pub put-back : (at : ℕ) (closed : Bool) (objects : ℕ) (tally : Held) (s : Holding) (entries moments events : List ℕ) → entries ≡ s .running .rows → moments ≡ s .waiting .moments → events ≡ s .waiting .rows
+-- with one event more, where the entries stay
+pub event-waits : (facts opened waits : ℕ) (agenda more : List ℕ) → entriesIn more ≡ entriesIn agenda
+    → stateIn (record { facts = facts; opened = opened; waits = waits }) more
+    ≡ record { facts = facts; running = openIn opened agenda; waiting = waitingIn waits more }
+event-waits facts opened waits agenda more e i =
+    record { facts = facts; running = record { count = opened; rows = e i }; waiting = waitingIn waits more }
+
+-- a state that is saved
+pub saved : (at : ℕ) (closed : Bool) (objects : ℕ) (tally : Held) (counts : Counts) (own agenda : List ℕ) → agenda ≡ own
     → _≡_ {A = Player}
-    (record { at = at; closed = closed; objects = objects; state = heldAs (s .facts) (s .running .count) entries (s .waiting .count) moments events; tally = tally })
-    (record { at = at; closed = closed; objects = objects; state = s; tally = tally })
-put-back at closed objects tally s entries moments events e f g i =
-    record {
-      at = at;
-      closed = closed;
-      objects = objects;
-      state = record { facts = s .facts; running = record { count = s .running .count; rows = e i }; waiting = record { count = s .waiting .count; moments = f i; rows = g i } };
-      tally = tally;
-    }
+    (record { at = at; closed = closed; objects = objects; state = stateIn counts agenda; tally = tally })
+    (record { at = at; closed = closed; objects = objects; state = stateIn counts own; tally = tally })
+saved at closed objects tally counts own agenda e =
+    ap {B = Player} (λ (t : List ℕ). record { at = at; closed = closed; objects = objects; state = stateIn counts t; tally = tally }) e
 
 -- ---- a record that is refused, and one that passes
 
@@ -90,16 +98,16 @@ module _ (D : Domain) (q : Playing) {player : Player} {work old : List ℕ} (st 
   unfolding playerOf
   objects-are = sym (ap (λ (x : Player). x .objects) (st .is))
 
-  pub state-is : player .state ≡ holdingOf (q .state) (q .waiting)
+  pub state-is : player .state ≡ stateOf (q .state) (q .waiting)
   unfolding playerOf
   state-is = ap (λ (x : Player). x .state) (st .is)
 
   pub waiting-are : length (q .waiting) ≡ player .state .waiting .count
   unfolding waitingOf
-  waiting-are = sym (ap (λ (x : Holding). x .waiting .count) state-is)
+  waiting-are = sym (ap (λ (x : StateRows). x .waiting .count) state-is)
 
   pub waiting-is : player .state .waiting ≡ waitingOf (q .waiting)
-  waiting-is = ap (λ (x : Holding). x .waiting) state-is
+  waiting-is = ap (λ (x : StateRows). x .waiting) state-is
 
   pub begun-is : q .tally .begun ≡ player .tally .begun
   unfolding playerOf
@@ -168,7 +176,7 @@ module _ (D : Domain) (q : Playing) (player : Player) (work old : List ℕ) (st 
 
   -- ---- the same, with another state of the machine
   module _ (s : State) (es : List Event) (new : Player) (work′ : List ℕ)
-      (is : (new .at ≡ behind) × (new .closed ≡ false) × (new .objects ≡ player .objects) × (new .state ≡ holdingOf s es) × (new .tally ≡ player .tally)) (m : work′ ≡ over (heldBytes (s .facts)) old) where
+      (is : (new .at ≡ behind) × (new .closed ≡ false) × (new .objects ≡ player .objects) × (new .state ≡ stateOf s es) × (new .tally ≡ player .tally)) (m : work′ ≡ over (heldBytes (s .facts)) old) where
     pub onward-on : LeadsTo (goOn (onward q behind s es (q .tally))) (record { number = 0; player = new }) work′ old
     unfolding playerOf
     onward-on =
@@ -216,7 +224,7 @@ module _ (D : Domain) (q : Playing) (behind : ℕ) where
       go true f false k = refl
       go false f c k = absurd (eqb-false (forbidden D s es) 0 f (sym k))
 
-  module _ (player : Player) (work old : List ℕ) (st : Stands D q player work old) (number : ℕ) (state : Holding) (weight : ℕ) (work′ : List ℕ) (l : Leaves D s es old (player .tally .weight) number state weight work′) where
+  module _ (player : Player) (work old : List ℕ) (st : Stands D q player work old) (number : ℕ) (state : StateRows) (weight : ℕ) (work′ : List ℕ) (l : Leaves D s es old (player .tally .weight) number state weight work′) where
     weight-was : player .tally .weight ≡ q .tally .weight
     unfolding playerOf
     weight-was = ap (λ (x : Player). x .tally .weight) (st .is)
@@ -248,7 +256,7 @@ module _ (D : Domain) (q : Playing) (behind : ℕ) where
       unfolding closeWeight
       weight-now = (rw taken at (l .weight-is)) ∙ ap (λ (w : ℕ). max w top) weight-was
 
-      state-now : state ≡ holdingOf (next D s es) []
+      state-now : state ≡ stateOf (next D s es) []
       unfolding closeState closeWaiting
       state-now = rw taken at (l .state-is)
 
@@ -324,6 +332,23 @@ module _ (D : Domain) (q : Playing) (k : ℕ) (b : List ℕ) (behind : ℕ) (t :
   unfolding playRecord
   of-other e h = rw e h
 
+-- a step's close, once the start counts: its record refused, or passed
+module _ (D : Domain) (q : Playing) (begun : Player) (work old : List ℕ) (st : Stands D (begin D q) begun work old) (b : List ℕ) (n : ℕ)
+    (e : n ≡ stepStop (begun .objects) b) (k : ℕ) (kind : runKindOf k ≡ stepRecord) (behind : ℕ) where
+  stop-is : n ≡ stepStop (begin D q .objects) b
+  stop-is = e ∙ ap (λ (m : ℕ). stepStop m b) (sym (objects-are D (begin D q) st))
+
+  pub step-refused : (n ≡ 0 → ⊥) → LeadsTo (playRecord D q (runKindOf k) b behind) (record { number = n; player = begun }) work old
+  step-refused z =
+      of-step D q k b behind _ work old kind
+      (stops D (begin D q) begun work old st (stepStop (begin D q .objects) b) n (closeStep D (begin D q) behind) stop-is z)
+
+  pub step-passed : n ≡ 0 → (t : Turn) (work′ : List ℕ) → LeadsTo (closeStep D (begin D q) behind) t work′ old
+      → LeadsTo (playRecord D q (runKindOf k) b behind) t work′ old
+  step-passed z t work′ h =
+      of-step D q k b behind t work′ old kind
+      (passes D (begin D q) (stepStop (begin D q .objects) b) n (closeStep D (begin D q) behind) t work′ old stop-is z h)
+
 -- ---- the next record
 
 module _ (D : Domain) (r : List ℕ) (q : Playing) (player : Player) (work old : List ℕ) (st : Stands D q player work old) where
@@ -382,7 +407,7 @@ module _ (D : Domain) (r : List ℕ) (q : Playing) (player : Player) (work old :
 
 module _ (D : Domain) (B : Bounded D) (q : Playing) (player : Player) (work old : List ℕ) (st : Stands D q player work old) (b : List ℕ) (behind : ℕ) where
   pub facts-count : player .state .facts ≡ length (q .state .facts)
-  facts-count = ap (λ (h : Holding). h .facts) (state-is D q st)
+  facts-count = ap (λ (h : StateRows). h .facts) (state-is D q st)
 
   pub few-facts : Few (q .state .facts)
   few-facts = fits-few B (q .state .facts) (st .sound .kept .facts)
@@ -402,7 +427,7 @@ module _ (D : Domain) (B : Bounded D) (q : Playing) (player : Player) (work old 
         let e : elem sameFact (factOf b) (q .state .facts) ≡ true = sym held-is ∙ h in
         let j : q .state .facts ≡ joined (factOf b) (q .state .facts) = rw e in
         onward-on D q player work old st behind (record { facts = joined (factOf b) (q .state .facts); running = q .state .running }) (q .waiting) new work
-        (is .0, is .1, is .2, is .3 ∙ state-is D q st ∙ ap (λ (fs : List Fact). holdingOf (record { facts = fs; running = q .state .running }) (q .waiting)) j, is .4)
+        (is .0, is .1, is .2, is .3 ∙ state-is D q st ∙ ap (λ (fs : List Fact). stateOf (record { facts = fs; running = q .state .running }) (q .waiting)) j, is .4)
         (st .memory ∙ ap (λ (fs : List Fact). over (heldBytes fs) old) j)
 
     joined-new : held ≡ false → joined (factOf b) (q .state .facts) ≡ q .state .facts ++ (factOf b ∷ [])
@@ -417,7 +442,7 @@ module _ (D : Domain) (B : Bounded D) (q : Playing) (player : Player) (work old 
         omega arith
 
     -- a new one
-    pub fact-new : held ≡ false → (new : Player) (next : Holding) → next ≡ record { facts = player .state .facts + 1; running = player .state .running; waiting = player .state .waiting }
+    pub fact-new : held ≡ false → (new : Player) (next : StateRows) → next ≡ record { facts = player .state .facts + 1; running = player .state .running; waiting = player .state .waiting }
         → (new .at ≡ behind) × (new .closed ≡ false) × (new .objects ≡ player .objects) × (new .state ≡ next) × (new .tally ≡ player .tally)
         → (work′ : List ℕ) → work′ ≡ paste work (8 * player .state .facts) row 8
         → LeadsTo (goOn (withFact q (factOf b) behind)) (record { number = 0; player = new }) work′ old
@@ -427,11 +452,11 @@ module _ (D : Domain) (B : Bounded D) (q : Playing) (player : Player) (work old 
         let m : work′ ≡ over (heldBytes fs) old =
         we ∙ ap (λ (x : List ℕ). paste x (8 * player .state .facts) row 8) (st .memory)
         ∙ held-more (q .state .facts) (factOf b) row old (player .state .facts) few-facts (let e = passed .fits .sized in let k = arity-six D (B .arities) (factOf b .rel) in omega arith) facts-count (fact-room h) re in
-        let s : next ≡ holdingOf (record { facts = fs; running = q .state .running }) (q .waiting) =
+        let s : next ≡ stateOf (record { facts = fs; running = q .state .running }) (q .waiting) =
         ne ∙ (λ i. record { facts = n i; running = state-is D q st i .running; waiting = state-is D q st i .waiting }) in
         let j = sym (joined-new h) in
         onward-on D q player work old st behind (record { facts = joined (factOf b) (q .state .facts); running = q .state .running }) (q .waiting) new work′
-        (is .0, is .1, is .2, is .3 ∙ s ∙ ap (λ (gs : List Fact). holdingOf (record { facts = gs; running = q .state .running }) (q .waiting)) j, is .4)
+        (is .0, is .1, is .2, is .3 ∙ s ∙ ap (λ (gs : List Fact). stateOf (record { facts = gs; running = q .state .running }) (q .waiting)) j, is .4)
         (m ∙ ap (λ (gs : List Fact). over (heldBytes gs) old) j)
 
   -- an event
@@ -440,6 +465,6 @@ module _ (D : Domain) (B : Bounded D) (q : Playing) (player : Player) (work old 
       × (new .state ≡ record { facts = player .state .facts; running = player .state .running; waiting = more }) × (new .tally ≡ player .tally)
       → LeadsTo (goOn (withEvent q (eventOf b) behind)) (record { number = 0; player = new }) work old
   event-on more e new is =
-      let s : new .state ≡ holdingOf (q .state) (q .waiting ++ (eventOf b ∷ [])) =
+      let s : new .state ≡ stateOf (q .state) (q .waiting ++ (eventOf b ∷ [])) =
       is .3 ∙ (λ i. record { facts = state-is D q st i .facts; running = state-is D q st i .running; waiting = e i }) in
       onward-on D q player work old st behind (q .state) (q .waiting ++ (eventOf b ∷ [])) new work (is .0, is .1, is .2, s, is .4) (st .memory)

@@ -8,12 +8,11 @@ use Rattle.records.specs.Memory.{over}
 use Rattle.records.proofs.Memory.{length-over}
 use Rattle.literals.specs.Domain.{Domain}
 use Rattle.literals.specs.Table.{Bounded}
-use Rattle.literals.specs.Held.{HeadOf, Held}
-use Rattle.machine.specs.declared.State.{State as Holding}
+use Rattle.literals.specs.Held.{HeadOf}
 use Rattle.runs.specs.RunFile.{maxFacts}
 use Rattle.runs.specs.Play.{workBytes, Playing, begin, heldBytes}
 use Rattle.events.specs.Coded.{openOf, waitingOf}
-use Rattle.machine.specs.Stepping.{Closable, Noted}
+use Rattle.machine.specs.Stepping.{StateRows, Closable, Noted}
 use Rattle.player.specs.Player.{Whole as Player, playerOf, Stands, Playable}
 use Rattle.machine.proofs.HeldBytes.{fits-few, length-held, state-once}
 use Rattle.player.proofs.Sound.{sound-begin}
@@ -28,15 +27,15 @@ work-length {D} B {q} {player} {work} {old} st l =
 
 -- ---- what playing a record relies on
 
-module _ {head table : List ℕ} {player : Player} {work index : List ℕ} (P : Playable head table player work index) where
+module _ {head : List ℕ} {player : Player} {work index : List ℕ} (P : Playable head player work index) where
   abbrev bounded : Bounded (P .said)
-  bounded = P .held .says .bounded
+  bounded = P .says .bounded
 
   pub room-now : workBytes ≤ length work
   room-now = let e = work-length bounded (P .stands) (P .room) in let r = P .room in omega arith
 
   pub facts-held : player .state .facts ≤ maxFacts
-  facts-held = let e = ap (λ (h : Holding). h .facts) (state-is (P .said) (P .reached) (P .stands)) in let k = P .stands .sound .kept .facts-few in omega arith
+  facts-held = let e = ap (λ (h : StateRows). h .facts) (state-is (P .said) (P .reached) (P .stands)) in let k = P .stands .sound .kept .facts-few in omega arith
 
   pub facts-room : 8 * player .state .facts ≤ length work
   facts-room = let f = facts-held in let r = room-now in omega arith
@@ -45,17 +44,17 @@ module _ {head table : List ℕ} {player : Player} {work index : List ℕ} (P : 
   module _ (begun : Player)
       (is : (D : Domain) (p : Playing) (old : List ℕ) → HeadOf D head → Stands D p player work old → Noted D head index (p .state) → begun ≡ playerOf (begin D p)) where
     -- it stands there, for every domain that is held
-    pub stands-begun : (D : Domain) → Held D head table → (q : Playing) (old : List ℕ) → Stands D q player work old → Noted D head index (q .state) → Stands D (begin D q) begun work old
+    pub stands-begun : (D : Domain) → HeadOf D head → (q : Playing) (old : List ℕ) → Stands D q player work old → Noted D head index (q .state) → Stands D (begin D q) begun work old
     unfolding begin
     stands-begun D H q old st noted =
         record {
-          is = is D q old (H .says) st noted;
+          is = is D q old H st noted;
           memory = st .memory;
           sound = sound-begin D q (st .sound);
         }
 
     abbrev here : Stands (P .said) (begin (P .said) (P .reached)) begun work (P .old)
-    here = stands-begun (P .said) (P .held) (P .reached) (P .old) (P .stands) (P .noted)
+    here = stands-begun (P .said) (P .says) (P .reached) (P .old) (P .stands) (P .noted)
 
     pub waits-few : begun .state .waiting .count ≤ 16
     waits-few =
@@ -63,9 +62,9 @@ module _ {head table : List ℕ} {player : Player} {work index : List ℕ} (P : 
         let k = here .sound .kept .waiting-few in
         omega arith
 
-    pub step-shape : (behind : ℕ) → player .at < behind → Closable (begun .state) work × (begun .tally .steps ≤ begun .at) × (begun .at < behind)
+    pub step-shape : Closable (begun .state .facts) work × (begun .tally .steps ≤ begun .at) × (begun .at ≡ player .at)
     unfolding playerOf begin openOf waitingOf
-    step-shape behind l =
+    step-shape =
         let a : begun .at ≡ P .reached .at = ap (λ (x : Player). x .at) (here .is) in
         let b : player .at ≡ P .reached .at = ap (λ (x : Player). x .at) (P .stands .is) in
         let s : begun .tally .steps ≡ begin (P .said) (P .reached) .tally .steps = ap (λ (x : Player). x .tally .steps) (here .is) in
@@ -73,7 +72,7 @@ module _ {head table : List ℕ} {player : Player} {work index : List ℕ} (P : 
         let k = here .sound .steps in
         let n = here .sound .kept .facts-few in (
           record {
-            facts = omega arith;
+            facts-few = omega arith;
             facts-once = state-once (P .said) bounded (P .reached .state) (P .reached .waiting) (here .sound .kept) (begun .state) (state-is (P .said) (begin (P .said) (P .reached)) here) work (P .old) (P .stands .memory);
             room = room-now;
           },

@@ -7,18 +7,17 @@ use Prim.Native.Nat.{ℕ, _≤_}
 use lib.ListN.{length}
 use Rattle.records.specs.Memory.{over}
 use Rattle.literals.specs.Domain.{Domain}
-use Rattle.literals.specs.Held.{Held}
+use Rattle.literals.specs.Held.{HeadOf}
 use Rattle.verdict.specs.Machine.{topWeight}
-use Rattle.machine.specs.declared.State.{State as Holding}
 use Rattle.player.specs.declared.Player.{Player}
 use Rattle.player.specs.declared.Tally.{Tally}
 use Rattle.player.specs.declared.Turn.{Turn}
 use Rattle.player.specs.declared.run.Ended.{Ended}
-use Rattle.runs.specs.RunFile.{maxObjects, maxEvents}
+use Rattle.runs.specs.RunFile.{maxObjects}
 use Rattle.runs.specs.Play.{workBytes, Tally as Counted, Playing, PlayTurn, goOn, finish, Outcome, heldBytes}
-use Rattle.events.specs.Coded.{openBytes, waitingBytes, openOf, waitingOf}
+use Rattle.events.specs.Coded.{agendaBytes, openOf, waitingOf}
 use Rattle.effects.specs.Effects.{scratchBytes}
-use Rattle.machine.specs.Stepping.{holdingOf, heldAs, Kept, Noted}
+use Rattle.machine.specs.Stepping.{StateRows, stateOf, stateIn, Kept, Noted}
 
 -- ---- what the code holds
 
@@ -26,21 +25,21 @@ use Rattle.machine.specs.Stepping.{holdingOf, heldAs, Kept, Noted}
 abbrev pub tallyOf : Counted → Tally
 tallyOf t = record { begun = t .begun; steps = t .steps; weight = t .weight }
 
--- the player with the machine's state, whose entries and events stand in memories beside it
+-- the player with the machine's state, whose agenda stands in a memory beside it
 pub record Whole : Type 0 where
   pub at : ℕ
   pub closed : Bool
   pub objects : ℕ
-  pub state : Holding
+  pub state : StateRows
   pub tally : Tally
 
-abbrev pub wholeOf : Player → List ℕ → List ℕ → List ℕ → Whole
-wholeOf player entries moments events =
+abbrev pub wholeIn : Player → List ℕ → Whole
+wholeIn player agenda =
     record {
       at = player .at;
       closed = player .closed;
       objects = player .objects;
-      state = heldAs (player .facts) (player .opened) entries (player .waits) moments events;
+      state = stateIn (player .counts) agenda;
       tally = player .tally;
     }
 
@@ -49,8 +48,8 @@ pub record WholeTurn : Type 0 where
   pub number : ℕ
   pub player : Whole
 
-abbrev pub turnOf : Turn → List ℕ → List ℕ → List ℕ → WholeTurn
-turnOf turn entries moments events = record { number = turn .number; player = wholeOf (turn .player) entries moments events }
+abbrev pub turnIn : Turn → List ℕ → WholeTurn
+turnIn turn agenda = record { number = turn .number; player = wholeIn (turn .player) agenda }
 
 -- where playing stands
 unfoldable pub playerOf : Playing → Whole
@@ -60,7 +59,7 @@ playerOf p =
       at = p .at;
       closed = p .closed;
       objects = p .objects;
-      state = holdingOf (p .state) (p .waiting);
+      state = stateOf (p .state) (p .waiting);
       tally = tallyOf (p .tally);
     }
 
@@ -110,18 +109,16 @@ NotedAfter D head index (finish o) = Unit {0}
 -- ---- what the code relies on
 
 -- the memories of a run have their lengths
-pub record RunMemory (entries moments events scratch : List ℕ) : Type 0 where
-  pub entries-length : length entries ≡ openBytes
-  pub moments-length : length moments ≡ maxEvents
-  pub events-length : length events ≡ waitingBytes
+pub record RunMemory (agenda scratch : List ℕ) : Type 0 where
+  pub agenda-length : length agenda ≡ agendaBytes
   pub scratch-length : length scratch ≡ scratchBytes
 
--- to play a record: a domain is held, and the player stands somewhere in its run
-pub record Playable (head table : List ℕ) (player : Whole) (work index : List ℕ) : Type 0 where
+-- to play a record: the head says a domain, and the player stands somewhere in its run
+pub record Playable (head : List ℕ) (player : Whole) (work index : List ℕ) : Type 0 where
   pub said : Domain
   pub reached : Playing
   pub old : List ℕ
-  pub held : Held said head table
+  pub says : HeadOf said head
   pub stands : Stands said reached player work old
   pub room : workBytes ≤ length old
   pub noted : Noted said head index (reached .state)

@@ -3,6 +3,8 @@ pub mod play;
 pub mod playing;
 pub mod run;
 
+use machine::Counts;
+
 // What is counted of a run: whether the start counts (a record of kind 18 to 20 is met), the steps made, the highest weight.
 pub struct Tally {
     pub begun: bool,
@@ -11,15 +13,12 @@ pub struct Tally {
 }
 
 // Where playing stands: the next record's offset, whether the run's close is read, the object count, 0 before its record, and
-// of the machine's state how many facts are held, how many entries are open and
-// how many events wait. Entries and events stand in memories beside it, as the facts do.
+// the counts of the machine's state. The agenda, which is what is open and what waits, stands in a memory beside it, as the facts do.
 pub struct Player {
     pub at: usize,
     pub closed: bool,
     pub objects: u8,
-    pub facts: usize,
-    pub opened: usize,
-    pub waits: usize,
+    pub counts: Counts,
     pub tally: Tally,
 }
 

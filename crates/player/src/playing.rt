@@ -2,9 +2,13 @@
 use super::Player;
 use super::Tally;
 use super::Turn;
+use events::AGENDA;
+use events::EVENTS_AT;
+use events::MOMENTS_AT;
 use events::waits::wait;
 use literals::head::Head;
 use literals::limits::MAX_FACTS;
+use machine::Counts;
 use machine::State;
 use records::Record;
 use records::record_at;
@@ -29,12 +33,12 @@ ghost use lib.ListN.{length, replicate};
 ghost use Rattle.literals.specs.Domain.{Domain};
 ghost use Rattle.literals.specs.Decode.{byte};
 ghost use Rattle.literals.specs.Held.{HeadOf, Held};
-ghost use Rattle.runs.specs.RunFile.{maxEvents, maxFacts, runKindOf, factOf, eventOf, objectsStop, factStop, eventStop, stepStop, endStop};
+ghost use Rattle.runs.specs.RunFile.{maxEvents, maxFacts, runKindOf, factOf, eventOf, objectsStop, factStop, eventStop, endStop};
 ghost use Rattle.runs.specs.Play.{workBytes, Playing, beforeRun, goOn, unless, begin, withObjects, withFact};
 ghost use Rattle.runs.specs.Play.{withEvent, closeStep, withClose, playRecord, playStep};
-ghost use Rattle.machine.specs.Stepping.{heldAs, Noted, Closable};
-ghost use Rattle.player.specs.Player.{Whole, wholeOf, turnOf, tallyOf, playerOf, Stands, Playable, RunMemory, LeadsTo, NotedAfter};
-ghost use Rattle.events.specs.Coded.{openBytes, waitingBytes};
+ghost use Rattle.machine.specs.Stepping.{Noted, Closable};
+ghost use Rattle.player.specs.Player.{Whole, wholeIn, turnIn, tallyOf, playerOf, Stands, Playable, RunMemory, LeadsTo, NotedAfter};
+ghost use Rattle.events.specs.Coded.{agendaBytes};
 
 impl Tally {
     // The start counts once the first record of kind 18 to 20 is met: the tally from then on.
@@ -60,16 +64,17 @@ impl Tally {
 impl Player {
     // Before the run.
     pub fn new() -> Player
-        ensures { λ r. ⌜ wholeOf r (replicate openBytes 0) (replicate maxEvents 0) (replicate waitingBytes 0)
-            ≡ playerOf beforeRun ⌝ }
+        ensures { λ r. ⌜ wholeIn r (replicate agendaBytes 0) ≡ playerOf beforeRun ⌝ }
     {
         Player {
             at: 0,
             closed: false,
             objects: 0,
-            facts: 0,
-            opened: 0,
-            waits: 0,
+            counts: Counts {
+                facts: 0,
+                opened: 0,
+                waits: 0,
+            },
             tally: Tally {
                 begun: false,
                 steps: 0,
@@ -80,21 +85,19 @@ impl Player {
 
     // The player with the tally from then on.
     fn begin(self, head: &Head, work: &[u8], index: &FactIndex) -> Player
-        requires few { ⌜ self .facts ≤ maxFacts ⌝ }
-        requires facts { ⌜ 8 * self .facts ≤ length (now work) ⌝ }
-        ensures { λ r. ⌜ ((D : Domain) (p : Playing) (entries moments events old : List ℕ) → HeadOf D (now (head .entry))
-            → Stands D p (wholeOf self entries moments events) (now (work .entry)) old
-            → Noted D (now (head .entry)) (now (index .entry)) (p .state)
-            → wholeOf r entries moments events ≡ playerOf (begin D p)) ⌝ }
+        requires few { ⌜ self .counts .facts ≤ maxFacts ⌝ }
+        requires facts { ⌜ 8 * self .counts .facts ≤ length (now work) ⌝ }
+        ensures { λ r. ⌜ ((D : Domain) (p : Playing) (agenda old : List ℕ) → HeadOf D (now (head .entry))
+            → Stands D p (wholeIn self agenda) (now (work .entry)) old → Noted D (now (head .entry)) (now (index .entry)) (p .state)
+            → wholeIn r agenda ≡ playerOf (begin D p)) ⌝ }
     {
-        let tally = self.tally.begin(self.facts, head, work, index);
+        let counts = self.counts;
+        let tally = self.tally.begin(counts.facts, head, work, index);
         Player {
             at: self.at,
             closed: self.closed,
             objects: self.objects,
-            facts: self.facts,
-            opened: self.opened,
-            waits: self.waits,
+            counts,
             tally,
         }
     }
@@ -105,30 +108,30 @@ impl Player {
           at = behind;
           closed = false;
           objects = self .objects;
-          facts = facts;
-          opened = self .opened;
-          waits = waits;
+          counts = record { facts = facts; opened = self .counts .opened; waits = waits };
           tally = self .tally;
         } ⌝ }
     {
         let tally = self.tally;
+        let counts = self.counts;
         Player {
             at: behind,
             closed: false,
             objects: self.objects,
-            facts,
-            opened: self.opened,
-            waits,
+            counts: Counts {
+                facts,
+                opened: counts.opened,
+                waits,
+            },
             tally,
         }
     }
 
     // Kind 16: the object count.
     fn take_objects(self, p: &[u8], behind: usize) -> Turn
-        ensures { λ r. ⌜ ((D : Domain) (q : Playing) (entries moments events work old : List ℕ)
-            → Stands D q (wholeOf self entries moments events) work old
+        ensures { λ r. ⌜ ((D : Domain) (q : Playing) (agenda work old : List ℕ) → Stands D q (wholeIn self agenda) work old
             → LeadsTo (unless (objectsStop (q .objects) (now (p .entry))) q (goOn (withObjects q (byte (now (p .entry)) 0) behind)))
-            (turnOf r entries moments events) work old) ⌝ }
+            (turnIn r agenda) work old) ⌝ }
     {
         let number = objects_stop(self.objects, p);
         if number != 0 {
@@ -137,6 +140,7 @@ impl Player {
                 player: self,
             };
         }
+        let counts = self.counts;
         let tally = self.tally;
         Turn {
             number: 0,
@@ -144,9 +148,7 @@ impl Player {
                 at: behind,
                 closed: false,
                 objects: p[0],
-                facts: self.facts,
-                opened: self.opened,
-                waits: self.waits,
+                counts,
                 tally,
             },
         }
@@ -162,22 +164,23 @@ impl Player {
         p: &[u8],
         behind: usize,
     ) -> Turn
-        requires few { ⌜ self .facts ≤ maxFacts ⌝ }
+        requires few { ⌜ self .counts .facts ≤ maxFacts ⌝ }
         requires work { ⌜ workBytes ≤ length (now work) ⌝ }
-        ensures leads { λ r. ⌜ ((D : Domain) (q : Playing) (entries moments events old : List ℕ) → HeadOf D (now (head .entry))
-            → Stands D q (wholeOf self entries moments events) (now (work .entry)) old
+        ensures leads { λ r. ⌜ ((D : Domain) (q : Playing) (agenda old : List ℕ) → HeadOf D (now (head .entry))
+            → Stands D q (wholeIn self agenda) (now (work .entry)) old
             → Noted D (now (head .entry)) (now (index .entry)) (q .state)
             → LeadsTo (unless (factStop D (q .objects) (q .tally .begun) (q .state .facts) (now (p .entry))) q
-            (goOn (withFact q (factOf (now (p .entry))) behind))) (turnOf r entries moments events) (now (work .exit)) old) ⌝ }
-        ensures noted { λ _. ⌜ ((D : Domain) (q : Playing) (entries moments events old : List ℕ) → HeadOf D (now (head .entry))
-            → Stands D q (wholeOf self entries moments events) (now (work .entry)) old
+            (goOn (withFact q (factOf (now (p .entry))) behind))) (turnIn r agenda) (now (work .exit)) old) ⌝ }
+        ensures noted { λ _. ⌜ ((D : Domain) (q : Playing) (agenda old : List ℕ) → HeadOf D (now (head .entry))
+            → Stands D q (wholeIn self agenda) (now (work .entry)) old
             → Noted D (now (head .entry)) (now (index .entry)) (q .state)
             → NotedAfter D (now (head .entry)) (now (index .exit))
             (unless (factStop D (q .objects) (q .tally .begun) (q .state .facts) (now (p .entry))) q
             (goOn (withFact q (factOf (now (p .entry))) behind)))) ⌝ }
     {
         let tally = self.tally;
-        let n = self.facts;
+        let counts = self.counts;
+        let n = counts.facts;
         let number = fact_stop(head, self.objects, tally.begun, work, n, p);
         if number != 0 {
             return Turn {
@@ -189,7 +192,7 @@ impl Player {
         if is_held(index, work, n, row) {
             return Turn {
                 number: 0,
-                player: self.onward(behind, n, self.waits),
+                player: self.onward(behind, n, counts.waits),
             };
         }
         if MAX_FACTS <= n {
@@ -203,89 +206,68 @@ impl Player {
         index[NOTE] = 0;
         Turn {
             number: 0,
-            player: self.onward(behind, n + 1, self.waits),
+            player: self.onward(behind, n + 1, counts.waits),
         }
     }
 
     // Kind 18: an event.
-    fn take_event(
-        self,
-        head: &Head,
-        moments: &mut [u8],
-        events: &mut [u8],
-        p: &[u8],
-        behind: usize,
-    ) -> Turn
-        requires few { ⌜ self .waits ≤ maxEvents ⌝ }
-        requires moments { ⌜ length (now moments) ≡ maxEvents ⌝ }
-        requires events { ⌜ length (now events) ≡ waitingBytes ⌝ }
-        ensures { λ r. ⌜ ((D : Domain) (q : Playing) (entries work old : List ℕ) → HeadOf D (now (head .entry))
-            → Stands D q (wholeOf self entries (now (moments .entry)) (now (events .entry))) work old
+    fn take_event(self, head: &Head, agenda: &mut [u8], p: &[u8], behind: usize) -> Turn
+        requires few { ⌜ self .counts .waits ≤ maxEvents ⌝ }
+        requires agenda { ⌜ length (now agenda) ≡ agendaBytes ⌝ }
+        ensures { λ r. ⌜ ((D : Domain) (q : Playing) (work old : List ℕ) → HeadOf D (now (head .entry))
+            → Stands D q (wholeIn self (now (agenda .entry))) work old
             → LeadsTo (unless (eventStop D (q .objects) (q .waiting) (now (p .entry))) q
-            (goOn (withEvent q (eventOf (now (p .entry))) behind)))
-            (turnOf r entries (now (moments .exit)) (now (events .exit))) work old) ⌝ }
+            (goOn (withEvent q (eventOf (now (p .entry))) behind))) (turnIn r (now (agenda .exit))) work old) ⌝ }
     {
-        let n = self.waits;
-        let number = event_stop(head, self.objects, moments, events, n, p);
+        let counts = self.counts;
+        let n = counts.waits;
+        let number = event_stop(
+            head,
+            self.objects,
+            &agenda[MOMENTS_AT..EVENTS_AT],
+            &agenda[EVENTS_AT..AGENDA],
+            n,
+            p,
+        );
         if number != 0 {
             return Turn {
                 number,
                 player: self,
             };
         }
-        wait(moments, events, n, p[0], ground_row(p));
+        wait(agenda, n, p[0], ground_row(p));
         Turn {
             number: 0,
-            player: self.onward(behind, self.facts, n + 1),
+            player: self.onward(behind, counts.facts, n + 1),
         }
     }
 
-    // Kind 19: the step's close.
+    // Kind 19, whose record passed: the step's close.
     fn take_step(
         self,
         head: &Head,
         table: &[u8],
         work: &mut [u8],
         index: &mut FactIndex,
-        entries: &mut [u8],
-        moments: &mut [u8],
-        events: &mut [u8],
+        agenda: &mut [u8],
         scratch: &mut [u8],
-        p: &[u8],
         behind: usize,
     ) -> Turn
-        requires closable { ⌜ Closable (heldAs (self .facts) (self .opened) (now entries) (self .waits) (now moments) (now events))
-            (now work) ⌝ }
+        requires closable { ⌜ Closable (self .counts .facts) (now work) ⌝ }
         requires steps { ⌜ self .tally .steps ≤ self .at ⌝ }
         requires further { ⌜ self .at < behind ⌝ }
-        requires memory { ⌜ RunMemory (now entries) (now moments) (now events) (now scratch) ⌝ }
+        requires memory { ⌜ RunMemory (now agenda) (now scratch) ⌝ }
         ensures leads { λ r. ⌜ ((D : Domain) (q : Playing) (old : List ℕ) → Held D (now (head .entry)) (now (table .entry))
-            → Stands D q (wholeOf self (now (entries .entry)) (now (moments .entry)) (now (events .entry))) (now (work .entry)) old
+            → Stands D q (wholeIn self (now (agenda .entry))) (now (work .entry)) old
             → q .tally .begun ≡ true → Noted D (now (head .entry)) (now (index .entry)) (q .state)
-            → LeadsTo (unless (stepStop (q .objects) (now (p .entry))) q (closeStep D q behind))
-            (turnOf r (now (entries .exit)) (now (moments .exit)) (now (events .exit))) (now (work .exit)) old) ⌝ }
+            → LeadsTo (closeStep D q behind) (turnIn r (now (agenda .exit))) (now (work .exit)) old) ⌝ }
         ensures noted { λ _. ⌜ ((D : Domain) (q : Playing) (old : List ℕ) → Held D (now (head .entry)) (now (table .entry))
-            → Stands D q (wholeOf self (now (entries .entry)) (now (moments .entry)) (now (events .entry))) (now (work .entry)) old
+            → Stands D q (wholeIn self (now (agenda .entry))) (now (work .entry)) old
             → q .tally .begun ≡ true → Noted D (now (head .entry)) (now (index .entry)) (q .state)
-            → NotedAfter D (now (head .entry)) (now (index .exit))
-            (unless (stepStop (q .objects) (now (p .entry))) q (closeStep D q behind))) ⌝ }
+            → NotedAfter D (now (head .entry)) (now (index .exit)) (closeStep D q behind)) ⌝ }
     {
         let tally = self.tally;
-        let number = step_stop(self.objects, p);
-        if number != 0 {
-            return Turn {
-                number,
-                player: self,
-            };
-        }
-        let state = State::held(
-            self.facts,
-            entries,
-            self.opened,
-            moments,
-            events,
-            self.waits,
-        );
+        let state = State::load(self.counts, agenda);
         let closed = state.step(head, table, work, tally.weight, index, scratch);
         let stop = closed.number;
         let next = closed.state;
@@ -296,7 +278,8 @@ impl Player {
                 player: self,
             };
         }
-        next.put(entries, moments, events);
+        next.save(agenda);
+        let counts = next.counts;
         let counted = Tally {
             begun: tally.begun,
             steps: tally.steps + 1,
@@ -308,9 +291,7 @@ impl Player {
                 at: behind,
                 closed: false,
                 objects: self.objects,
-                facts: next.facts,
-                opened: next.running.count,
-                waits: next.waiting.count,
+                counts,
                 tally: counted,
             },
         }
@@ -318,13 +299,13 @@ impl Player {
 
     // Kind 20: the run's close.
     fn take_end(self, p: &[u8], behind: usize) -> Turn
-        ensures { λ r. ⌜ ((D : Domain) (q : Playing) (entries moments events work old : List ℕ)
-            → Stands D q (wholeOf self entries moments events) work old
+        ensures { λ r. ⌜ ((D : Domain) (q : Playing) (agenda work old : List ℕ) → Stands D q (wholeIn self agenda) work old
             → LeadsTo (unless (endStop (q .objects) (q .waiting) (now (p .entry))) q (goOn (withClose q behind)))
-            (turnOf r entries moments events) work old) ⌝ }
+            (turnIn r agenda) work old) ⌝ }
     {
         let tally = self.tally;
-        let number = end_stop(self.objects, self.waits, p);
+        let counts = self.counts;
+        let number = end_stop(self.objects, counts.waits, p);
         if number != 0 {
             return Turn {
                 number,
@@ -337,40 +318,32 @@ impl Player {
                 at: behind,
                 closed: true,
                 objects: self.objects,
-                facts: self.facts,
-                opened: self.opened,
-                waits: self.waits,
+                counts,
                 tally,
             },
         }
     }
 
-    // A record of any kind; the start counts once one of kind 18 to 20 is met.
+    // A record of any kind but 19, which alone asks for the domain's literals; the start counts once one of kind 18 or 20 is met.
     fn take_record(
         self,
         head: &Head,
-        table: &[u8],
         work: &mut [u8],
         index: &mut FactIndex,
-        entries: &mut [u8],
-        moments: &mut [u8],
-        events: &mut [u8],
-        scratch: &mut [u8],
+        agenda: &mut [u8],
         kind: u16,
         p: &[u8],
         behind: usize,
     ) -> Turn
-        requires playable { ⌜ Playable (now head) (now table) (wholeOf self (now entries) (now moments) (now events)) (now work)
-            (now index) ⌝ }
-        requires further { ⌜ self .at < behind ⌝ }
-        requires memory { ⌜ RunMemory (now entries) (now moments) (now events) (now scratch) ⌝ }
-        ensures leads { λ r. ⌜ ((D : Domain) (q : Playing) (old : List ℕ) → Held D (now (head .entry)) (now (table .entry))
-            → Stands D q (wholeOf self (now (entries .entry)) (now (moments .entry)) (now (events .entry))) (now (work .entry)) old
+        requires playable { ⌜ Playable (now head) (wholeIn self (now agenda)) (now work) (now index) ⌝ }
+        requires agenda { ⌜ length (now agenda) ≡ agendaBytes ⌝ }
+        requires other { ⌜ (kind ≡ 19 → ⊥) ⌝ }
+        ensures leads { λ r. ⌜ ((D : Domain) (q : Playing) (old : List ℕ) → HeadOf D (now (head .entry))
+            → Stands D q (wholeIn self (now (agenda .entry))) (now (work .entry)) old
             → Noted D (now (head .entry)) (now (index .entry)) (q .state)
-            → LeadsTo (playRecord D q (runKindOf kind) (now (p .entry)) behind)
-            (turnOf r (now (entries .exit)) (now (moments .exit)) (now (events .exit))) (now (work .exit)) old) ⌝ }
-        ensures noted { λ _. ⌜ ((D : Domain) (q : Playing) (old : List ℕ) → Held D (now (head .entry)) (now (table .entry))
-            → Stands D q (wholeOf self (now (entries .entry)) (now (moments .entry)) (now (events .entry))) (now (work .entry)) old
+            → LeadsTo (playRecord D q (runKindOf kind) (now (p .entry)) behind) (turnIn r (now (agenda .exit))) (now (work .exit)) old) ⌝ }
+        ensures noted { λ _. ⌜ ((D : Domain) (q : Playing) (old : List ℕ) → HeadOf D (now (head .entry))
+            → Stands D q (wholeIn self (now (agenda .entry))) (now (work .entry)) old
             → Noted D (now (head .entry)) (now (index .entry)) (q .state)
             → NotedAfter D (now (head .entry)) (now (index .exit)) (playRecord D q (runKindOf kind) (now (p .entry)) behind)) ⌝ }
     {
@@ -379,22 +352,7 @@ impl Player {
             17 => self.take_fact(head, work, index, p, behind),
             18 => {
                 let begun = self.begin(head, work, index);
-                begun.take_event(head, moments, events, p, behind)
-            }
-            19 => {
-                let begun = self.begin(head, work, index);
-                begun.take_step(
-                    head,
-                    table,
-                    work,
-                    index,
-                    entries,
-                    moments,
-                    events,
-                    scratch,
-                    p,
-                    behind,
-                )
+                begun.take_event(head, agenda, p, behind)
             }
             20 => {
                 let begun = self.begin(head, work, index);
@@ -415,21 +373,17 @@ impl Player {
         run: &[u8],
         work: &mut [u8],
         index: &mut FactIndex,
-        entries: &mut [u8],
-        moments: &mut [u8],
-        events: &mut [u8],
+        agenda: &mut [u8],
         scratch: &mut [u8],
     ) -> Turn
-        requires playable { ⌜ Playable (now head) (now table) (wholeOf self (now entries) (now moments) (now events)) (now work)
-            (now index) ⌝ }
-        requires memory { ⌜ RunMemory (now entries) (now moments) (now events) (now scratch) ⌝ }
+        requires playable { ⌜ Playable (now head) (wholeIn self (now agenda)) (now work) (now index) ⌝ }
+        requires memory { ⌜ RunMemory (now agenda) (now scratch) ⌝ }
         ensures leads { λ r. ⌜ ((D : Domain) (q : Playing) (old : List ℕ) → Held D (now (head .entry)) (now (table .entry))
-            → Stands D q (wholeOf self (now (entries .entry)) (now (moments .entry)) (now (events .entry))) (now (work .entry)) old
+            → Stands D q (wholeIn self (now (agenda .entry))) (now (work .entry)) old
             → Noted D (now (head .entry)) (now (index .entry)) (q .state)
-            → LeadsTo (playStep D (now (run .entry)) q)
-            (turnOf r (now (entries .exit)) (now (moments .exit)) (now (events .exit))) (now (work .exit)) old) ⌝ }
+            → LeadsTo (playStep D (now (run .entry)) q) (turnIn r (now (agenda .exit))) (now (work .exit)) old) ⌝ }
         ensures noted { λ _. ⌜ ((D : Domain) (q : Playing) (old : List ℕ) → Held D (now (head .entry)) (now (table .entry))
-            → Stands D q (wholeOf self (now (entries .entry)) (now (moments .entry)) (now (events .entry))) (now (work .entry)) old
+            → Stands D q (wholeIn self (now (agenda .entry))) (now (work .entry)) old
             → Noted D (now (head .entry)) (now (index .entry)) (q .state)
             → NotedAfter D (now (head .entry)) (now (index .exit)) (playStep D (now (run .entry)) q)) ⌝ }
     {
@@ -449,19 +403,19 @@ impl Player {
         match record_at(run, at) {
             Record::Whole { kind, start, len } => {
                 let end = start + len;
-                self.take_record(
-                    head,
-                    table,
-                    work,
-                    index,
-                    entries,
-                    moments,
-                    events,
-                    scratch,
-                    kind,
-                    &run[start..end],
-                    end,
-                )
+                let p = &run[start..end];
+                if kind != 19 {
+                    return self.take_record(head, work, index, agenda, kind, p, end);
+                }
+                let begun = self.begin(head, work, index);
+                let number = step_stop(begun.objects, p);
+                if number != 0 {
+                    return Turn {
+                        number,
+                        player: begun,
+                    };
+                }
+                begun.take_step(head, table, work, index, agenda, scratch, end)
             }
             Record::Cut => Turn {
                 number: 50,

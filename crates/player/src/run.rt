@@ -3,10 +3,8 @@ use super::Player;
 use super::Tally;
 use super::Turn;
 use effects::SCRATCH;
-use events::OPEN_ROWS;
-use events::WAITING_ROWS;
+use events::AGENDA;
 use literals::head::Head;
-use literals::limits::MAX_EVENTS;
 use literals::limits::MAX_FACTS;
 use records::bytes::put_bytes;
 use store::index::FACT_INDEX;
@@ -22,8 +20,7 @@ ghost use Rattle.store.specs.Index.{factIndex};
 ghost use Rattle.effects.specs.Effects.{scratchBytes};
 ghost use Rattle.runs.specs.Play.{workBytes, heldBytes, playRun};
 ghost use Rattle.player.specs.Player.{endedOf};
-ghost use Rattle.events.specs.Coded.{openBytes, waitingBytes};
-ghost use Rattle.runs.specs.RunFile.{maxEvents};
+ghost use Rattle.events.specs.Coded.{agendaBytes};
 
 // What the facts take in the work memory.
 const WORK: usize = 8 * MAX_FACTS;
@@ -55,18 +52,14 @@ fn play_records(
     run: &[u8],
     work: &mut [u8],
     index: &mut FactIndex,
-    entries: &mut [u8],
-    moments: &mut [u8],
-    events: &mut [u8],
+    agenda: &mut [u8],
     scratch: &mut [u8],
 ) -> Ended
     requires domain { ⌜ Read (now head) (now table) ⌝ }
     requires room { ⌜ workBytes ≤ length (now work) ⌝ }
     requires no_fact { ⌜ now work ≡ over (heldBytes []) (now work) ⌝ }
     requires index { ⌜ now index ≡ replicate factIndex 0 ⌝ }
-    requires entries { ⌜ now entries ≡ replicate openBytes 0 ⌝ }
-    requires moments { ⌜ now moments ≡ replicate maxEvents 0 ⌝ }
-    requires events { ⌜ now events ≡ replicate waitingBytes 0 ⌝ }
+    requires agenda { ⌜ now agenda ≡ replicate agendaBytes 0 ⌝ }
     requires scratch { ⌜ length (now scratch) ≡ scratchBytes ⌝ }
     ensures { λ r. ⌜ ((D : Domain) (old : List ℕ) → Held D (now (head .entry)) (now (table .entry))
         → now (work .entry) ≡ over (heldBytes []) old
@@ -79,17 +72,7 @@ fn play_records(
     };
     loop {
         let player = turn.player;
-        turn = player.step(
-            head,
-            table,
-            run,
-            work,
-            index,
-            entries,
-            moments,
-            events,
-            scratch,
-        );
+        turn = player.step(head, table, run, work, index, agenda, scratch);
         let number = turn.number;
         if number == 0 {
             continue;
@@ -111,9 +94,7 @@ pub fn play_run(head: &Head, table: &[u8], run: &[u8], work: &mut [u8]) -> Ended
     let zeros = [0u8; WORK];
     put_bytes(work, 0, &zeros);
     let mut index = [0u64; FACT_INDEX];
-    let mut entries = [0u8; OPEN_ROWS];
-    let mut moments = [0u8; MAX_EVENTS];
-    let mut events = [0u8; WAITING_ROWS];
+    let mut agenda = [0u8; AGENDA];
     // Memory that each step works in: cleared here once and for all.
     let mut scratch = [0u8; SCRATCH];
     play_records(
@@ -122,9 +103,7 @@ pub fn play_run(head: &Head, table: &[u8], run: &[u8], work: &mut [u8]) -> Ended
         run,
         work,
         &mut index,
-        &mut entries,
-        &mut moments,
-        &mut events,
+        &mut agenda,
         &mut scratch,
     )
 }

@@ -21,6 +21,7 @@ use Rattle.literals.specs.Table.{allLiterals, tableBytes, Bounded}
 use Rattle.literals.specs.Held.{headBytes}
 use Rattle.literals.proofs.Stops.{passes, literal-passes}
 use Rattle.literals.proofs.Held.{literals-snoc, literals-more, rows-few, rows-fewer}
+use Rattle.literals.proofs.Heads.{length-table}
 use Rattle.literals.proofs.Fills.{filled-none}
 use Rattle.literals.proofs.Refusals.{refusal-number}
 use Rattle.literals.proofs.Loop.{read-more, read-done, payload-length, goOn-at}
@@ -29,7 +30,6 @@ use Rattle.reading.specs.declared.Refusal.{Refusal as FileRefusal}
 use Rattle.reading.specs.declared.read.Stepped.{Stepped}
 use Rattle.reading.specs.Reading.{behind, HeldOver, RecordReady, Standing, atStart, LeadsTo, EnoughTable, StepReady, endedOf, tableAfter, ReadAs}
 use Rattle.reading.proofs.Takes.{behind-stop, behind-done, held-over}
-use Rattle.reading.proofs.Written.{length-table}
 
 -- ---- one record
 

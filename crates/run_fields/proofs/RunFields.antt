@@ -21,7 +21,7 @@ use Rattle.literals.proofs.Heads.{arity-limit, variables-limit}
 use Rattle.literals.specs.Matching.{momentNumber}
 use Rattle.literals.specs.Keys.{below}
 use Rattle.verdict.specs.Machine.{Event, sameEvent, injective}
-use Rattle.events.specs.declared.Waiting.{Waiting}
+use Rattle.events.specs.Coded.{Waiting}
 use Rattle.runs.specs.RunFile.{factOf, momentOf, eventOf, maxFacts, maxEvents, outside, factStop, eventStop, stepStop, endStop}
 use Rattle.store.specs.Rows.{factRow, hasRow}
 use Rattle.events.specs.Coded.{groundRow, waitingOf, GroundFits, EventsFit}

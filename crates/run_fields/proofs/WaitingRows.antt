@@ -13,7 +13,7 @@ use Rattle.literals.specs.Matching.{momentNumber}
 use Rattle.literals.specs.Keys.{below}
 use Rattle.literals.proofs.Indices.{any-below, at-all}
 use Rattle.verdict.specs.Machine.{Event, sameEvent}
-use Rattle.events.specs.declared.Waiting.{Waiting}
+use Rattle.events.specs.Coded.{Waiting}
 use Rattle.events.specs.Coded.{groundRow, waitingOf, GroundFits, EventsFit}
 use Rattle.run_fields.specs.Fields.{waitsAt}
 use Rattle.events.proofs.FactRows.{few-objects, noEvent, waiting-row-at, waiting-moment-at, waiting-count}

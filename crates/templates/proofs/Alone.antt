@@ -11,13 +11,14 @@ use borrow.Author.Tests.{eq-eqb}
 use Rattle.records.specs.Lists.{In, any, keepIf, dedup, sameList}
 use Rattle.records.proofs.Lists.{any-map, eqb-comm, or-out}
 use Rattle.literals.specs.declared.Variable.{Variable}
-use Rattle.literals.specs.Domain.{sameVariable, Atom, Literal, Action, Component, keysOf, Domain}
+use Rattle.literals.specs.declared.Argument.{Argument}
+use Rattle.literals.specs.Domain.{sameVariable, variablesOf, Atom, Literal, Action, Component, keysOf, Domain}
 use Rattle.literals.specs.Table.{literalRow}
 use Rattle.literals.specs.Matching.{keyTuple, isOf, tuplesBy, tuplesOf}
 use Rattle.literals.specs.Keys.{below}
 use Rattle.literals.proofs.Indices.{any-below, at-all}
 use Rattle.literals.proofs.Tables.{kept, length-flat, length-literal-row}
-use Rattle.classes.specs.Classes.{classes}
+use Rattle.classes.specs.Classes.{literalTuples, classes}
 use Rattle.classes.specs.Coded.{ActionOf}
 use Rattle.classes.proofs.Rows.{literalAt, noLiteral, relation-at}
 use Rattle.verdict.specs.Decision.{rowsOfClasses}
@@ -38,7 +39,7 @@ use Rattle.templates.specs.Listing.{OnlyRelation, mentionedAt}
 -- ---- an action that does not mention the relation
 
 -- an atom of another relation has no tuple
-no-tuple : (n r : ℕ) (cs : List Component) → map (λ (c : Component). c .rel) cs ≡ r ∷ [] → (p : Atom Variable) → eqb (p .rel) r ≡ false → tuplesBy n cs p ≡ []
+no-tuple : (n r : ℕ) (cs : List Component) → map (λ (c : Component). c .rel) cs ≡ r ∷ [] → (p : Atom Argument) → eqb (p .rel) r ≡ false → tuplesBy n cs p ≡ []
 no-tuple n r [] e p h = absurd (nil≢cons e)
 no-tuple n r (c ∷ []) e p h =
     let q : eqb (c .rel) (p .rel) ≡ false = ap (λ (k : ℕ). eqb k (p .rel)) (head-eq-of-cons-eq e) ∙ eqb-comm r (p .rel) ∙ h in
@@ -46,12 +47,12 @@ no-tuple n r (c ∷ []) e p h =
 no-tuple n r (c ∷ d ∷ ds) e p h = absurd (cons≢nil (tail-eq-of-cons-eq e))
 
 none-all : (D : Domain) (r : ℕ) → OnlyRelation D r → (ls : List Literal) → any (λ (l : Literal). eqb (l .atom .rel) r) ls ≡ false
-    → flatMap (λ (l : Literal). tuplesOf D (l .atom)) ls ≡ []
-unfolding flatMap tuplesOf
+    → flatMap (λ (l : Literal). literalTuples D (l .atom)) ls ≡ []
+unfolding flatMap tuplesOf literalTuples
 none-all D r only [] h = refl
 none-all D r only (l ∷ ls) h =
-    ap (λ (x : List (List Variable)). x ++ flatMap (λ (l : Literal). tuplesOf D (l .atom)) ls)
-    (no-tuple (keysOf (D .template)) r (D .template) only (l .atom) (or-out (eqb (l .atom .rel) r) (any (λ (l : Literal). eqb (l .atom .rel) r) ls) h .0))
+    ap (λ (x : List (List Variable)). x ++ flatMap (λ (l : Literal). literalTuples D (l .atom)) ls)
+    (ap (map variablesOf) (no-tuple (keysOf (D .template)) r (D .template) only (l .atom) (or-out (eqb (l .atom .rel) r) (any (λ (l : Literal). eqb (l .atom .rel) r) ls) h .0)))
     ∙ none-all D r only ls (or-out (eqb (l .atom .rel) r) (any (λ (l : Literal). eqb (l .atom .rel) r) ls) h .1)
 
 pub no-class : (D : Domain) (a : Action) (r : ℕ) → OnlyRelation D r → any (λ (l : Literal). eqb (l .atom .rel) r) (a .lits) ≡ false → classes D a ≡ []

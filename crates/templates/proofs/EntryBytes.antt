@@ -21,8 +21,8 @@ use Rattle.literals.specs.Decode.{componentOf, componentRecord, stopOf, extend}
 use Rattle.literals.specs.Table.{labelNumber, tableBytes}
 use Rattle.literals.specs.Held.{relationsIn, arityIn, Filled, Held}
 use Rattle.literals.proofs.Bounds.{arity-six}
-use Rattle.reading.specs.Reading.{Takes}
-use Rattle.reading.proofs.Takes.{behind-done}
+use Rattle.reading.specs.Reading.{behind, HeldOver, TakesRow}
+use Rattle.reading.proofs.Takes.{behind-done, held-over}
 use Rattle.verdict.specs.Claims.{wellFormed}
 use Rattle.literals.specs.Keys.{numbersFrom, below}
 use Rattle.literals.proofs.Indices.{below-snoc}
@@ -173,12 +173,12 @@ module _ {D : Domain} {head table : List ℕ} (B : BareHeld D head table) (r b :
   keys : all (keyBelow 255) (component .labels) ≡ true
   keys = with-keys (arity D r) (placeOf b) few (place-below (arity D r) b few P)
 
-  module _ {n k : ℕ} {p after : List ℕ} (e : n ≡ arityIn head r) (q : p ≡ take (n + 1 - 0) (payloadOf r b)) (T : Takes componentRecord p k head after) where
+  module _ {n k : ℕ} {p after : List ℕ} (e : n ≡ arityIn head r) (q : p ≡ take (n + 1 - 0) (payloadOf r b)) (T : TakesRow componentRecord p k head table after table) where
     payload : p ≡ componentBytes component
     payload = q ∙ payload-is D r b (n + 1 - 0) few P (sub-zero (n + 1) ∙ ap (λ (m : ℕ). m + 1) (e ∙ B .holds .filled .says .arities r))
 
     stopped : k ≡ stopOf (bare D) componentRecord (componentBytes component)
-    stopped = T (bare D) (B .holds .filled) .0 ∙ ap (stopOf (bare D) componentRecord) payload
+    stopped = T (bare D) (B .old) (B .holds) .0 ∙ ap (stopOf (bare D) componentRecord) payload
 
     pub refused-entry : (k ≡ 0 → ⊥) → legalAlone D component ≡ false
     unfolding legalAlone
@@ -189,11 +189,11 @@ module _ {D : Domain} {head table : List ℕ} (B : BareHeld D head table) (r b :
     taken-entry z = and-i (eq-eqb _ 0 (sym stopped ∙ z)) keys
 
     pub taken-held : k ≡ 0 → Held (single D component) after table
-    unfolding tableBytes extend
+    unfolding extend
     taken-held z =
-        let F : Filled (single D (componentOf p)) after = subst (λ (E : Domain). Filled E after) (behind-done (bare D) componentRecord p (sym (T (bare D) (B .holds .filled) .0) ∙ z)) (T (bare D) (B .holds .filled) .1) in
-        let G : Filled (single D component) after = subst (λ (c : Component). Filled (single D c) after) (ap componentOf payload ∙ component-back component keys) F in
-        record { says = G .says; old = B .old; rows = B .holds .rows }
+        let K = T (bare D) (B .old) (B .holds) in
+        let e : behind (bare D) componentRecord p ≡ single D component = behind-done (bare D) componentRecord p (sym (K .0) ∙ z) ∙ ap (λ (c : Component). single D c) (ap componentOf payload ∙ component-back component keys) in
+        held-over (subst (λ (E : Domain). HeldOver (B .old) E after table) e (K .1))
 
     pub taken-formed : k ≡ 0 → wellFormed (single D component) ≡ true
     taken-formed z = legal-well-formed D component (B .formed) (taken-entry z)

@@ -1,6 +1,6 @@
 -- Labels numbered from left to right: they fit, and their counted place tells them apart. Assumes nothing.
-use mathlib.Core.Path.{_≡_, refl, ap, _∙_}
-use mathlib.Core.Bool.{Bool, true, false, not, false≢true}
+use mathlib.Core.Path.{_≡_, refl, ap, ap₂, _∙_}
+use mathlib.Core.Bool.{Bool, true, false, not, _&&_, _||_, false≢true}
 use mathlib.Core.Logic.{_⊎_, inl, inr}
 use mathlib.Core.Option.{Option, none, some}
 use mathlib.Core.List.{List, [], _∷_}
@@ -9,13 +9,16 @@ use native.Mathlib.Omega.{arith}
 use lib.Dec.{eqb}
 use lib.ListN.{length}
 use borrow.Author.Tests.{eqb-true, eqb-false, eq-eqb, ne-eqb, lt-ltb, le-leb}
-use Rattle.records.specs.Lists.{addIf, all, countBy, sameList}
-use Rattle.records.proofs.Lists.{and-i, bool-cases}
+use Rattle.records.specs.Lists.{addIf, all, any, countBy, sameList, sideBySide}
+use Rattle.records.proofs.Lists.{and-l, and-r, and-i, bool-cases, any-same}
+use Rattle.literals.specs.declared.Argument.{Argument}
 use Rattle.literals.specs.declared.Label.{Label}
 use Rattle.literals.specs.declared.Label.the-variants.{Key as keyed, Counted}
-use Rattle.literals.specs.Domain.{key, isKey, isCounted, keyBelow, eachKeyOnce, labelsFit}
+use Rattle.literals.specs.Domain.{key, isEvery, Atom, Literal, Action, Component, isKey, isCounted, keyBelow, eachKeyOnce, labelsFit}
+use Rattle.literals.specs.Domain.{keysBound, countedCleared, keepsKeys}
+use Rattle.literals.specs.Decode.{keysCleared}
 use Rattle.templates.specs.Templates.{keysFrom, labelsFrom, labelsWith}
-use Rattle.templates.specs.Claims.{sameMark}
+use Rattle.templates.specs.Claims.{sameMark, sameShape}
 
 abbrev keyLabel : Label → Bool
 keyLabel l = not (isCounted l)
@@ -164,3 +167,29 @@ apart-none n p h t = let e = marked-count (keysFrom 0 n) (labelsFrom 0 n p) t in
 
 pub apart-places : (n p q : ℕ) → p < q → q < n → Marked (labelsFrom 0 n p) (labelsFrom 0 n q) → ⊥
 apart-places n p q h g t = let e = marked-place 0 0 n p q (omega arith) g t in omega arith
+
+marked-side : (r : Bool → Argument → Bool) (ls ms : List Label) (vs : List Argument) → Marked ls ms
+    → sideBySide (λ l v. r (isCounted l) v) ls vs ≡ sideBySide (λ l v. r (isCounted l) v) ms vs
+marked-side r [] [] vs t = refl
+marked-side r [] (m ∷ ms) vs t = absurd (false≢true t)
+marked-side r (l ∷ ls) [] vs t = absurd (false≢true t)
+marked-side r (l ∷ ls) (m ∷ ms) [] t = refl
+marked-side r (keyed k ∷ ls) (keyed j ∷ ms) (v ∷ vs) t = ap (λ b. r false v && b) (marked-side r ls ms vs t)
+marked-side r (keyed k ∷ ls) (Counted ∷ ms) (v ∷ vs) t = absurd (false≢true t)
+marked-side r (Counted ∷ ls) (keyed j ∷ ms) (v ∷ vs) t = absurd (false≢true t)
+marked-side r (Counted ∷ ls) (Counted ∷ ms) (v ∷ vs) t = ap (λ b. r true v && b) (marked-side r ls ms vs t)
+
+pub marked-bound : (ls ms : List Label) (vs : List Argument) → Marked ls ms → keysBound ls vs ≡ keysBound ms vs
+marked-bound = marked-side (λ b v. b || not (isEvery v))
+
+pub marked-cleared : (ls ms : List Label) (vs : List Argument) → Marked ls ms → countedCleared ls vs ≡ countedCleared ms vs
+marked-cleared = marked-side (λ b v. not b || isEvery v)
+
+pub shape-keys : (c d : Component) → sameShape c d ≡ true → (p : Atom Argument) → keepsKeys c p ≡ keepsKeys d p
+shape-keys c d t p =
+    ap₂ (λ (r : ℕ) (b : Bool). not (eqb r (p .rel)) || b) (eqb-true (c .rel) (d .rel) (and-l _ _ t)) (marked-bound (c .labels) (d .labels) (p .args) (and-r (eqb (c .rel) (d .rel)) _ t))
+
+pub shape-cleared : (as′ : List Action) (c d : Component) → sameShape c d ≡ true → keysCleared as′ c ≡ keysCleared as′ d
+shape-cleared as′ c d t =
+    any-same (λ (a : Action). any (λ (l : Literal). not (keepsKeys c (l .atom))) (a .lits)) (λ (a : Action). any (λ (l : Literal). not (keepsKeys d (l .atom))) (a .lits)) as′
+    (λ a. any-same (λ (l : Literal). not (keepsKeys c (l .atom))) (λ (l : Literal). not (keepsKeys d (l .atom))) (a .lits) (λ l. ap not (shape-keys c d t (l .atom))))

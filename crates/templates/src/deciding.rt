@@ -4,6 +4,9 @@ use literals::head::Head;
 use literals::head::actions_in;
 use literals::head::is_lasting;
 use literals::head::rows_of;
+use literals::keys::KeyPlaces;
+use literals::keys::put_places;
+use literals::limits::MAX_COMPONENTS;
 use literals::limits::MAX_LITERALS;
 use naming::name_action;
 use verdict::Notes;
@@ -15,7 +18,7 @@ ghost use lib.ListN.{length};
 ghost use Rattle.records.specs.Lists.{any};
 ghost use Rattle.literals.specs.Domain.{Domain, Action, action};
 ghost use Rattle.literals.specs.Decode.{maxActions, maxLiterals};
-ghost use Rattle.literals.specs.Keys.{below};
+ghost use Rattle.literals.specs.Keys.{below, PlacesOf};
 ghost use Rattle.literals.specs.Held.{Held};
 ghost use Rattle.classes.specs.Coded.{ActionOf};
 ghost use Rattle.verdict.specs.Judged.{decided};
@@ -37,8 +40,16 @@ fn mentions(rows: &[u8], n: usize, relation: u8) -> bool
 }
 
 // The summary of an action, of the rows of its literals.
-fn summarize(head: &Head, rows: &[u8], n: usize, lasting: bool, relation: u8) -> Summary
-    requires { ⌜ (length (now rows) ≡ 8 * n) × (n ≤ maxLiterals) ⌝ }
+fn summarize(
+    head: &Head,
+    places: &KeyPlaces,
+    rows: &[u8],
+    n: usize,
+    lasting: bool,
+    relation: u8,
+) -> Summary
+    requires places { ⌜ PlacesOf (now head) (now places) ⌝ }
+    requires rows { ⌜ (length (now rows) ≡ 8 * n) × (n ≤ maxLiterals) ⌝ }
     ensures { λ r. ⌜ ((D : Domain) (a : Action) → ActionOf D a (now (head .entry)) (now (rows .entry)) → a .lasting ≡ lasting
         → OnlyRelation D relation → r ≡ summaryOf D a) ⌝ }
 {
@@ -48,6 +59,7 @@ fn summarize(head: &Head, rows: &[u8], n: usize, lasting: bool, relation: u8) ->
         let mut names = [0u8; 2 * MAX_LITERALS];
         let named = name_action(
             head,
+            places,
             rows,
             &mut numbers[0..n],
             &mut words,
@@ -61,8 +73,9 @@ fn summarize(head: &Head, rows: &[u8], n: usize, lasting: bool, relation: u8) ->
 }
 
 // That of the action i.
-fn summary_of(head: &Head, table: &[u8], i: usize, relation: u8) -> Summary
-    requires { ⌜ i < maxActions ⌝ }
+fn summary_of(head: &Head, places: &KeyPlaces, table: &[u8], i: usize, relation: u8) -> Summary
+    requires places { ⌜ PlacesOf (now head) (now places) ⌝ }
+    requires listed { ⌜ i < maxActions ⌝ }
     ensures { λ r. ⌜ ((D : Domain) → Held D (now (head .entry)) (now (table .entry)) → wellFormed D ≡ true → i < length (D .actions)
         → OnlyRelation D relation → r ≡ summaryOf D (action D i)) ⌝ }
 {
@@ -73,6 +86,7 @@ fn summary_of(head: &Head, table: &[u8], i: usize, relation: u8) -> Summary
     let to = 8 * last;
     summarize(
         head,
+        places,
         &table[from..to],
         last - first,
         is_lasting(head, i),
@@ -86,9 +100,11 @@ pub fn decide_alone(head: &Head, table: &[u8], relation: u8) -> u64
     ensures number { λ r. ⌜ ((D : Domain) → Held D (now (head .entry)) (now (table .entry)) → wellFormed D ≡ true
         → OnlyRelation D relation → r ≡ decided D .number) ⌝ }
 {
+    let mut places = [0u8; 8 * MAX_COMPONENTS];
+    put_places(head, &mut places);
     let mut notes = Notes::new();
     for i in 0..actions_in(head) {
-        let summary = summary_of(head, table, i, relation);
+        let summary = summary_of(head, &places, table, i, relation);
         notes = notes.with(i, summary);
     }
     let decided = notes.decide();

@@ -4,5 +4,6 @@ pub mod Decision
 pub mod Judged
 pub mod Summaries
 pub mod Machine
+pub mod Patterns
 pub mod Claims
 pub mod Coded

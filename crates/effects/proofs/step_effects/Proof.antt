@@ -1,40 +1,43 @@
--- `step_effects` meets its contract: after i turns what the first i events add or strike is written. Assumes nothing.
-use mathlib.Core.Path.{refl}
-use Prim.Native.Nat.{_-_, _<_}
+-- `step_effects` meets its contract: after i turns those of the first i ground literals are written. Assumes nothing.
+use mathlib.Core.Path.{_≡_, refl, sym, ap, _∙_, subst}
+use mathlib.Core.List.{List, [], _∷_, _++_}
+use Prim.Native.Nat.{ℕ, _+_, _-_, _≤_}
 use native.Mathlib.Omega.{arith}
-use lib.ListN.{length, getD}
-use Rattle.events.proofs.FactRows.{noEvent, waiting-count, waiting-moment-at}
-use Rattle.events.proofs.Listed.{event-fits, event-row}
-use Rattle.effects.proofs.EffectRows.{whole-event, step-begin, step-more, step-end, InEvents}
+use lib.ListN.{length}
+use Rattle.records.specs.Memory.{over}
+use Rattle.literals.specs.Table.{rowsIn}
+use Rattle.events.specs.Grounding.{groundAt, groundIn}
+use Rattle.effects.specs.Effects.{effectsIn, literalsIn, rowsWith, flat}
+use Rattle.effects.proofs.FilledRows.{effects-length, literals-length, filled-rows}
+use Rattle.effects.proofs.EffectRows.{one-few, effects-begin, effects-more, Selecting, beside-self, beside-more}
 use Rattle.effects.proofs.step_effects.Statement.{statement}
 use Rattle.effects.proofs.step_effects.Tie as tie
 
 abbrev Inv-loop : tie.InvT-loop
-Inv-loop head table moments events count clause out₀ n₀ i₀ out n i = InEvents head table clause record { count = count; moments = moments; rows = events } out₀ out n i
+Inv-loop scratch₀ total clause n₀ i₀ scratch n i = Selecting clause total scratch₀ scratch n i
 
 abbrev μ-loop : tie.MeasureT-loop
-μ-loop head table moments events count clause out₀ n₀ i₀ out n i = count - i
-
-returns : tie.Need-returns Inv-loop μ-loop
-returns c = (
-  omega arith,
-  λ D es k H w F h f.
-      let q = waiting-count es _ w in
-      let t = c .if1 .taken in
-      absurd (omega arith),
-)
+μ-loop scratch₀ total clause n₀ i₀ scratch n i = total - i
 
 loop-holds : tie.Need-loop-holds Inv-loop μ-loop
-loop-holds c = record { reach = omega arith; few = omega arith; sized = refl; filled = λ D es k H w F f. step-begin D es k (c .before .before .before .before .before .args .out .now) }
+loop-holds c =
+    let a = c .before .args in
+    let scratch = a .scratch .now in
+    record {
+      reach = omega arith;
+      few = omega arith;
+      sized = refl;
+      filled = effects-begin (a .clause) (literalsIn scratch) (literals-length scratch (c .before .pre .0)) (effectsIn scratch);
+      beside = beside-self scratch;
+    }
 
-event-effects-requires : tie.Need-event-effects-requires Inv-loop μ-loop
-event-effects-requires c κs =
-    let p = c .before .before .before .before .before .before .before .before .pre in
+put-effect-requires : tie.Need-put-effect-requires Inv-loop μ-loop
+put-effect-requires c κs =
+    let p = c .before .before .before .before .pre in
     let v = c .before .before .loop .inv in
-    let k = v .few in
-    let z = v .sized in
-    let o = p .1 .1 in
-    (p .0, (p .1 .0, (omega arith, omega arith)))
+    let few = v .few in
+    let reach = v .reach in
+    (v .sized ∙ p .0, (omega arith, omega arith))
 
 add-i : tie.Need-add-i Inv-loop μ-loop
 add-i c = omega arith
@@ -44,40 +47,43 @@ loop-less c = omega arith
 
 loop-again : tie.Need-loop-again Inv-loop μ-loop
 loop-again c =
-    let a = c .before .before .before .before .before .before .before .before .before .before .before .args in
+    let a = c .before .before .before .before .before .before .before .args in
+    let p = c .before .before .before .before .before .before .before .pre in
     let l = c .before .before .before .before .before .loop in
-    let r = c .before .before .event-effects .ensures in
-    let k = l .inv .few in
-    let z = l .inv .sized in
-    let g = r .0 in
-    let o = c .before .before .before .before .before .before .before .before .before .before .before .pre .1 .1 in
+    let v = l .inv in
+    let scratch = a .scratch .now in
+    let r = c .before .before .put-effect .ensures in
+    let same = v .beside .literals in
+    let count = r .0 ∙ ap (λ (t : List ℕ). l .n + length (rowsWith (a .clause) (groundAt t (l .i) ∷ []))) same in
+    let rows = r .1 .0
+    ∙ ap (λ (t : List ℕ). over (flat (rowsIn (l .n) (effectsIn (l .scratch)) ++ rowsWith (a .clause) (groundAt t (l .i) ∷ []))) (effectsIn (l .scratch))) same in
+    let one = one-few (a .clause) (groundAt (literalsIn scratch) (l .i)) in
+    let few = v .few in
+    let reach = v .reach in
+    let size = effects-length scratch (p .0) in
     record {
       reach = omega arith;
       few = omega arith;
-      sized = omega arith;
+      sized = c .before .before .put-effect .kept .0 ∙ v .sized;
       filled =
-          λ D es k H w F f.
-          let q = waiting-count es _ w in
-          let h : l .i < length es = omega arith in
-          let e = getD es (l .i) noEvent in
-          let G = event-fits (H .says) (l .i) es F h in
-          let x = r .1 D e k H G (waiting-moment-at es _ w (l .i))
-          (event-row (H .says) (l .i) es F h _ w) f in
-          step-more D es k (l .i) (l .n) h (l .inv .filled D es k H w F f)
-          (whole-event H e G k) (omega arith) (x .0) (x .1);
+          effects-more (a .clause) (literalsIn scratch) (literals-length scratch (p .0)) (l .i) (l .n) (omega arith) (omega arith) (v .filled) count rows;
+      beside = beside-more (v .beside) (r .1 .1);
     }
 
 same-length : tie.Need-same-length Inv-loop μ-loop
 same-length c = c .before .loop .inv .sized
 
-returns-2 : tie.Need-returns-2 Inv-loop μ-loop
-returns-2 c =
+returns : tie.Need-returns Inv-loop μ-loop
+returns c =
+    let a = c .before .before .before .args in
+    let p = c .before .before .before .pre in
     let l = c .before .loop in
-    let k = l .inv .few in (
+    let v = l .inv in
+    let few = v .few in
+    let reach = v .reach in
+    let e : l .i ≡ a .total = omega arith in (
       omega arith,
-      λ D es k H w F h f.
-          let q = waiting-count es _ w in
-          step-end D es k (l .i) (l .n) (omega arith) (l .inv .filled D es k H w F f),
+      (filled-rows (v .filled) ∙ ap (λ (i : ℕ). rowsWith (a .clause) (groundIn i (literalsIn (a .scratch .now)))) e, v .beside),
     )
 
 pub step-effects-spec : {M : Type 1} → statement M
@@ -86,11 +92,10 @@ step-effects-spec =
     (tie.spec
     Inv-loop
     μ-loop
-    returns
     loop-holds
-    event-effects-requires
+    put-effect-requires
     add-i
     loop-less
     loop-again
     same-length
-    returns-2)
+    returns)

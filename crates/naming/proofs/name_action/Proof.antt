@@ -8,7 +8,7 @@ use Rattle.naming.proofs.name_action.Statement.{statement}
 use Rattle.naming.proofs.name_action.Tie as tie
 
 number-classes-requires : tie.Need-number-classes-requires
-number-classes-requires c κs = let p = c .before .before .before .before .before .before .pre in (p .0, p .1 .0, p .1 .1 .0)
+number-classes-requires c κs = let p = c .before .before .before .before .before .before .pre in (p .0, (p .1 .0, p .1 .1 .0, p .1 .1 .1 .0))
 
 new-requires : tie.Need-new-requires
 new-requires c κs = search needs
@@ -16,10 +16,10 @@ new-requires c κs = search needs
 with-classes-requires : tie.Need-with-classes-requires
 with-classes-requires c κs =
     let p = c .before .before .before .before .before .before .before .before .before .before .before .before .before .before .pre in
-    let f = c .before .before .before .before .before .before .before .number-classes .kept .1 .1 .0 in
+    let f = c .before .before .before .before .before .before .before .number-classes .kept .1 .1 .1 .0 in
     let k = c .before .before .before .before .before .before .before .number-classes .ensures .0 in
     let z = c .before .before .new .ensures .0 in
-    (p .0 ∙ ap (λ (n : ℕ). 8 * n) (sym f), (omega arith, (omega arith, omega arith)))
+    (p .1 .0 ∙ ap (λ (n : ℕ). 8 * n) (sym f), (omega arith, (omega arith, omega arith)))
 
 same-length : tie.Need-same-length
 same-length c = search needs

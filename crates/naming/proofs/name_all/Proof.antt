@@ -15,11 +15,17 @@ use Rattle.naming.proofs.name_all.Statement.{statement}
 use Rattle.naming.proofs.name_all.Tie as tie
 
 abbrev Inv-loop : tie.InvT-loop
-Inv-loop head table numbers₀ names₀ counts₀ words₀ rows₀ notes₀ i₀ i-end numbers names counts words rows notes i =
+Inv-loop head table numbers₀ names₀ counts₀ places₀ words₀ rows₀ notes₀ i₀ i-end numbers names counts words rows notes i =
     InActions head table numbers₀ names₀ counts₀ numbers names counts words rows notes i
 
 abbrev μ-loop : tie.MeasureT-loop
-μ-loop head table numbers₀ names₀ counts₀ words₀ rows₀ notes₀ i₀ i-end numbers names counts words rows notes i = i-end - i
+μ-loop head table numbers₀ names₀ counts₀ places₀ words₀ rows₀ notes₀ i₀ i-end numbers names counts words rows notes i = i-end - i
+
+slice-aggregate-put-places : tie.Need-slice-aggregate-put-places Inv-loop μ-loop
+slice-aggregate-put-places c = search needs
+
+put-places-requires : tie.Need-put-places-requires Inv-loop μ-loop
+put-places-requires c κs = search needs
 
 new-requires : tie.Need-new-requires Inv-loop μ-loop
 new-requires c κs = search needs
@@ -63,52 +69,52 @@ sub-name-action-2 : tie.Need-sub-name-action-2 Inv-loop μ-loop
 sub-name-action-2 c = search needs
 
 part-name-action-start-2 : tie.Need-part-name-action-start-2 Inv-loop μ-loop
-part-name-action-start-2 c = c .before .rows-of .ensures .0 .order
+part-name-action-start-2 c = c .before .before .rows-of .ensures .0 .order
 
 part-name-action-end-2 : tie.Need-part-name-action-end-2 Inv-loop μ-loop
 part-name-action-end-2 c =
-    let F = c .before .rows-of .ensures .0 .room in
-    let q = c .before .before .before .loop .inv .numbers-room in
-    let u = c .before .before .before .before .before .before .before .before .before .pre .1 .0 in
+    let F = c .before .before .rows-of .ensures .0 .room in
+    let q = c .before .before .before .before .loop .inv .numbers-room in
+    let u = c .before .before .before .before .before .before .before .before .before .before .before .before .before .pre .1 .0 in
     omega arith
 
 slice-aggregate-name-action : tie.Need-slice-aggregate-name-action Inv-loop μ-loop
-slice-aggregate-name-action c = sym (c .before .before .before .before .before .loop .inv .words-room)
+slice-aggregate-name-action c = sym (c .before .before .before .before .before .before .loop .inv .words-room)
 
 is-lasting-requires : tie.Need-is-lasting-requires Inv-loop μ-loop
 is-lasting-requires c κs = search needs
 
 name-action-requires : tie.Need-name-action-requires Inv-loop μ-loop
 name-action-requires c κs =
-    let H = c .before .before .before .before .before .before .before .before .before .before .before .before .before .pre .0 .1 in
-    let b = c .before .before .before .before .before .rows-of in
+    let H = c .before .before .before .before .before .before .before .before .before .before .before .before .before .before .before .before .before .pre .0 .1 in
+    let b = c .before .before .before .before .before .before .rows-of in
     let F = b .ensures .0 in
-    let l = c .before .before .before .before .before .before .before .loop in
-    let n = c .before .before .before .before .before .before .before .before .actions-in .ensures in
+    let l = c .before .before .before .before .before .before .before .before .loop in
+    let n = c .before .before .before .before .before .before .before .before .before .actions-in .ensures in
     let m = H .says .actions in
     let o = F .order in
     let f = F .few in
-    let h : l .i < length (c .before .before .before .before .before .before .before .before .before .before .before .before .before .pre .0 .0 .actions) = omega arith in
-    let r : length (c .before .before .before .before .before .before .before .before .before .before .before .before .before .args .table .now) ≤ 4 * length (l .names) = (let q = l .inv .room in let u = c .before .before .before .before .before .before .before .before .before .before .before .before .before .pre .1 .1 in omega arith) in
+    let h : l .i < length (c .before .before .before .before .before .before .before .before .before .before .before .before .before .before .before .before .before .pre .0 .0 .actions) = omega arith in
+    let r : length (c .before .before .before .before .before .before .before .before .before .before .before .before .before .before .before .before .before .args .table .now) ≤ 4 * length (l .names) = (let q = l .inv .room in let u = c .before .before .before .before .before .before .before .before .before .before .before .before .before .before .before .before .before .pre .1 .1 in omega arith) in
     let q = c .before .before .before .name-action-arg2 .given .1 in
-    let e = part-length (c .before .before .before .before .before .before .before .before .before .before .before .before .before .args .table .now) (b .result .from) (b .result .to) o (F .room) in
+    let e = part-length (c .before .before .before .before .before .before .before .before .before .before .before .before .before .before .before .before .before .args .table .now) (b .result .from) (b .result .to) o (F .room) in
     let s = names-room H (l .i) h (b .ensures .1 _ H h) F _ (l .inv .few _ H) _ r in
-    (e ∙ ap (λ (n : ℕ). 8 * n) q, (omega arith, (l .inv .words-room, omega arith)))
+    (c .before .before .before .before .before .before .before .before .before .before .before .before .put-places .ensures, (e ∙ ap (λ (n : ℕ). 8 * n) q, (omega arith, (l .inv .words-room, omega arith))))
 
 cast-counts : tie.Need-cast-counts Inv-loop μ-loop
 cast-counts c =
     let q = c .before .before .before .before .before .before .before .before .before .before .name-action-arg2 .given .1 in
     let k = c .before .before .before .before .before .before .name-action .ensures .1 .0 in
-    let f = c .before .before .before .before .before .before .before .before .before .before .before .before .rows-of .ensures .0 .few in
+    let f = c .before .before .before .before .before .before .before .before .before .before .before .before .before .rows-of .ensures .0 .few in
     omega arith
 
 element-write-counts : tie.Need-element-write-counts Inv-loop μ-loop
 element-write-counts c =
-    let H = c .before .before .before .before .before .before .before .before .before .before .before .before .before .before .before .before .before .before .before .before .pre .0 .1 in
-    let n = c .before .before .before .before .before .before .before .before .before .before .before .before .before .before .before .actions-in .ensures in
+    let H = c .before .before .before .before .before .before .before .before .before .before .before .before .before .before .before .before .before .before .before .before .before .before .before .before .pre .0 .1 in
+    let n = c .before .before .before .before .before .before .before .before .before .before .before .before .before .before .before .before .actions-in .ensures in
     let m = H .says .actions in
     let f = H .says .bounded .actions in
-    let t = c .before .before .before .before .before .before .before .before .before .before .before .before .before .loop-test .taken in
+    let t = c .before .before .before .before .before .before .before .before .before .before .before .before .before .before .loop-test .taken in
     omega arith
 
 with-requires : tie.Need-with-requires Inv-loop μ-loop
@@ -116,11 +122,11 @@ with-requires c κs = search needs
 
 add-i : tie.Need-add-i Inv-loop μ-loop
 add-i c =
-    let H = c .before .before .before .before .before .before .before .before .before .before .before .before .before .before .before .before .before .before .before .before .before .before .pre .0 .1 in
-    let n = c .before .before .before .before .before .before .before .before .before .before .before .before .before .before .before .before .before .actions-in .ensures in
+    let H = c .before .before .before .before .before .before .before .before .before .before .before .before .before .before .before .before .before .before .before .before .before .before .before .before .before .before .pre .0 .1 in
+    let n = c .before .before .before .before .before .before .before .before .before .before .before .before .before .before .before .before .before .before .actions-in .ensures in
     let m = H .says .actions in
     let f = H .says .bounded .actions in
-    let t = c .before .before .before .before .before .before .before .before .before .before .before .before .before .before .before .loop-test .taken in
+    let t = c .before .before .before .before .before .before .before .before .before .before .before .before .before .before .before .before .loop-test .taken in
     omega arith
 
 loop-less : tie.Need-loop-less Inv-loop μ-loop
@@ -128,25 +134,25 @@ loop-less c = search needs
 
 loop-again : tie.Need-loop-again Inv-loop μ-loop
 loop-again c =
-    let b = c .before .before .before .before .before .before .before .before .before .before .before .before .before .before .rows-of in
+    let b = c .before .before .before .before .before .before .before .before .before .before .before .before .before .before .before .rows-of in
     let F = b .ensures .0 in
-    let l = c .before .before .before .before .before .before .before .before .before .before .before .before .before .before .before .before .loop in
-    let n = c .before .before .before .before .before .before .before .before .before .before .before .before .before .before .before .before .before .actions-in .ensures in
-    let t = c .before .before .before .before .before .before .before .before .before .before .before .before .before .before .before .loop-test .taken in
+    let l = c .before .before .before .before .before .before .before .before .before .before .before .before .before .before .before .before .before .loop in
+    let n = c .before .before .before .before .before .before .before .before .before .before .before .before .before .before .before .before .before .before .actions-in .ensures in
+    let t = c .before .before .before .before .before .before .before .before .before .before .before .before .before .before .before .before .loop-test .taken in
     let w = c .before .before .before .before .before .before .before .before .name-action in
     record {
       reach = omega arith;
       numbers-room = c .before .before .before .before .before .before .before .numbers .given .1 ∙ l .inv .numbers-room;
-      words-room = w .kept .1 .1 .1 .0 ∙ l .inv .words-room;
+      words-room = w .kept .1 .1 .1 .1 .0 ∙ l .inv .words-room;
       numbered =
           λ D H wf.
           let m = H .says .actions in
           let h : l .i < length (D .actions) = omega arith in
           let S = b .ensures .1 D H h in
           let A = action-held H wf (l .i) h (S .literals) in
-          ap (λ (t : List ℕ). take (b .result .from) (l .numbers) ++ (w .last .1 .1 .0 ++ t)) (post-is (b .result .from) (b .result .to) (l .numbers) (F .order))
+          ap (λ (t : List ℕ). take (b .result .from) (l .numbers) ++ (w .last .1 .1 .1 .0 ++ t)) (post-is (b .result .from) (b .result .to) (l .numbers) (F .order))
           ∙ numbers-more-actions D (l .i) h S (l .numbers) _ _ (l .inv .numbered D H wf) (w .ensures .1 .1 .0 D (action D (l .i)) A);
-      room = w .kept .1 .1 .1 .1 .1 .1 .0 ∙ l .inv .room;
+      room = w .kept .1 .1 .1 .1 .1 .1 .1 .0 ∙ l .inv .room;
       few =
           λ D H.
           let m = H .says .actions in
@@ -184,7 +190,7 @@ returns : tie.Need-returns Inv-loop μ-loop
 returns c =
     let l = c .before .loop in
     let n = c .before .before .actions-in .ensures in
-    let H = c .before .before .before .before .before .before .before .pre .0 .1 in
+    let H = c .before .before .before .before .before .before .before .before .before .before .pre .0 .1 in
     let m = H .says .actions in (
       names-few H (l .i) _ (omega arith) (l .inv .few _ H),
       (
@@ -199,6 +205,8 @@ name-all-spec =
     (tie.spec
     Inv-loop
     μ-loop
+    slice-aggregate-put-places
+    put-places-requires
     new-requires
     actions-in-requires
     loop-holds

@@ -14,7 +14,7 @@ name-at-requires : tie.Need-name-at-requires
 name-at-requires c κs = search needs
 
 name-at-requires-2 : tie.Need-name-at-requires-2
-name-at-requires-2 c κs = search needs
+name-at-requires-2 c κs = let p = c .before .before .before .before .pre in (p .0, p .1 .1 (c .if1 .taken))
 
 is-journey-requires : tie.Need-is-journey-requires
 is-journey-requires c κs = search needs
@@ -25,7 +25,7 @@ returns c =
       λ D a M h. c .before .before .before .name-at .ensures D a Start M h (asked-at-start M (s .args .class) (s .pre .1 .0)),
       λ D a M N h r t l. (
         c .before .name-at2 .ensures D a End N h r,
-        c .is-journey .ensures D a _ M l (s .pre .1 .1 ∙ ap₂ (λ (o d : List ℕ). soleOf o d (s .args .class)) (N .numbers-are) (N .clauses-are)) h,
+        c .is-journey .ensures D a _ M l (s .pre .1 .1 t ∙ ap₂ (λ (o d : List ℕ). soleOf o d (s .args .class)) (N .numbers-are) (N .clauses-are)) h,
       ),
     )
 

@@ -1,33 +1,68 @@
 -- `condition_met` meets its contract, clause by clause. Assumes nothing.
-use borrow.Author.Tests.{eq-eqb, ne-eqb}
-use Rattle.applicability.specs.Conditions.{conditionMet}
 use borrow.Author.Needs.{needs}
+use Rattle.literals.specs.Table.{rowsIn}
+use Rattle.events.specs.Grounding.{groundAt}
+use Rattle.applicability.proofs.Asked.{met-true, met-false, met-none, read-sized}
 use Rattle.applicability.proofs.conditions.condition_met.Statement.{statement}
 use Rattle.applicability.proofs.conditions.condition_met.Tie as tie
+
+add-clause : tie.Need-add-clause
+add-clause c = search needs
+
+shared-slice-read-clause : tie.Need-shared-slice-read-clause
+shared-slice-read-clause c = search needs
+
+mul-row-at : tie.Need-mul-row-at
+mul-row-at c = search needs
+
+row-at-requires : tie.Need-row-at-requires
+row-at-requires c κs = search needs
 
 is-held-requires : tie.Need-is-held-requires
 is-held-requires c κs = search needs
 
 returns : tie.Need-returns
-unfolding conditionMet
-returns c head I s = rw (eq-eqb _ _ (c .before .if1 .taken)) (c .is-held .ensures head I s)
+returns c head I s =
+    let a = c .before .before .before .before .before .before .args in
+    let l = groundAt (a .memory .now) (a .i) in
+    let row = c .before .row-at in
+    met-true (rowsIn (a .n) (a .work .now)) l (c .before .before .if1 .taken) (row .result) _ (row .ensures)
+    (c .is-held .ensures head I (read-sized head (row .result) (l .row) (row .ensures) s))
+
+mul-row-at-2 : tie.Need-mul-row-at-2
+mul-row-at-2 c = search needs
+
+row-at-requires-2 : tie.Need-row-at-requires-2
+row-at-requires-2 c κs = search needs
 
 is-held-requires-2 : tie.Need-is-held-requires-2
 is-held-requires-2 c κs = search needs
 
 returns-2 : tie.Need-returns-2
-unfolding conditionMet
-returns-2 c head I s = rw (ne-eqb _ _ (c .before .before .if1 .left), eq-eqb _ _ (c .before .if2 .taken), c .is-held2 .ensures head I s)
+returns-2 c head I s =
+    let a = c .before .before .before .before .before .before .before .args in
+    let l = groundAt (a .memory .now) (a .i) in
+    let row = c .before .row-at2 in
+    met-false (rowsIn (a .n) (a .work .now)) l (c .before .before .before .if1 .left) (c .before .before .if2 .taken) (row .result) _ (row .ensures)
+    (c .is-held2 .ensures head I (read-sized head (row .result) (l .row) (row .ensures) s))
 
 returns-3 : tie.Need-returns-3
-unfolding conditionMet
-returns-3 c head I s = rw (ne-eqb _ _ (c .before .if1 .left), ne-eqb _ _ (c .if2 .left))
+returns-3 c head I s =
+    let a = c .before .before .before .before .before .args in
+    met-none (rowsIn (a .n) (a .work .now)) (groundAt (a .memory .now) (a .i)) (c .before .if1 .left) (c .if2 .left)
 
 pub condition-met-spec : {M : Type 1} → statement M
 condition-met-spec =
-    tie.close (tie.spec
+    tie.close
+    (tie.spec
+    add-clause
+    shared-slice-read-clause
+    mul-row-at
+    row-at-requires
     is-held-requires
     returns
+    mul-row-at-2
+    row-at-requires-2
     is-held-requires-2
     returns-2
     returns-3)

@@ -1,43 +1,47 @@
--- `conditions_met` meets its contract: no row before i fails, so the test is that of the rows from i on. Assumes nothing.
+-- `conditions_met` meets its contract: none before i fails, so the test is that of those from i on. Assumes nothing.
 use borrow.Author.Tests.{not-true, not-false}
-use mathlib.Core.Path.{_≡_, sym, _∙_}
-use Prim.Native.Nat.{_-_, _*_, _≤_}
+use mathlib.Core.Path.{_≡_, refl, sym, _∙_}
+use mathlib.Core.List.{List}
+use Prim.Native.Nat.{ℕ, _-_, _≤_, _<_}
 use native.Mathlib.Omega.{arith}
 use lib.ListN.{drop}
 use Rattle.records.specs.Lists.{all}
+use Rattle.records.proofs.Lists.{all-hit, all-miss, all-end}
 use Rattle.literals.specs.Table.{rowsIn}
-use Rattle.literals.proofs.Rows.{all-first, all-hit, all-miss, all-end}
 use Rattle.store.specs.Index.{Indexed}
-use Rattle.applicability.specs.Conditions.{rowMet}
+use Rattle.events.specs.Grounding.{groundIn, EachSized}
+use Rattle.events.proofs.GroundLiterals.{noLiteral, length-ground, ground-in, ground-test}
+use Rattle.applicability.specs.Conditions.{conditionMet}
 use Rattle.applicability.proofs.conditions.conditions_met.Statement.{statement}
 use Rattle.applicability.proofs.conditions.conditions_met.Tie as tie
 
 abbrev Inv-loop : tie.InvT-loop
-Inv-loop time head ground rows k index work n i₀ i =
-    (i ≤ k) × (Indexed head index (rowsIn n work)
-    → all (rowMet time head ground (rowsIn n work)) (rowsIn (k - i) (drop (8 * i) rows)) ≡ all (rowMet time head ground (rowsIn n work)) (rowsIn k rows))
+Inv-loop memory total index work n i₀ i =
+    (i ≤ total) × ((head : List ℕ) → Indexed head index (rowsIn n work) → EachSized head (groundIn total memory)
+    → all (conditionMet (rowsIn n work)) (drop i (groundIn total memory)) ≡ all (conditionMet (rowsIn n work)) (groundIn total memory))
 
 abbrev μ-loop : tie.MeasureT-loop
-μ-loop time head ground rows k index work n i₀ i = k - i
+μ-loop memory total index work n i₀ i = total - i
 
 loop-holds : tie.Need-loop-holds Inv-loop μ-loop
-loop-holds c =
-    let a = c .before .before .before .args in
-    (omega arith, λ I. all-first (rowMet (a .time) (a .head .now) (a .ground .now) (rowsIn (a .n) (a .work .now))) (a .rows .now) (a .k))
+loop-holds c = (omega arith, λ head I S. refl)
 
-mul-row-met : tie.Need-mul-row-met Inv-loop μ-loop
-mul-row-met c = omega arith
-
-row-met-requires : tie.Need-row-met-requires Inv-loop μ-loop
-row-met-requires c κs =
-    let p = c .before .before .before .before .before .pre in
+condition-met-requires : tie.Need-condition-met-requires Inv-loop μ-loop
+condition-met-requires c κs =
+    let p = c .before .before .before .before .pre in
     (p .0, (omega arith, p .1 .1))
 
 returns : tie.Need-returns Inv-loop μ-loop
-returns c I =
-    let a = c .before .before .before .before .before .before .before .args in
+returns c head I S =
+    let a = c .before .before .before .before .before .before .args in
     let l = c .before .before .before .loop in
-    sym (all-miss (rowMet (a .time) (a .head .now) (a .ground .now) (rowsIn (a .n) (a .work .now))) (a .rows .now) (a .k) (l .i) (omega arith) (sym (c .before .row-met .ensures I) ∙ not-true _ (c .if1 .taken))) ∙ l .inv .1 I
+    let test = conditionMet (rowsIn (a .n) (a .work .now)) in
+    let k = length-ground (a .memory .now) (a .total) in
+    let h : l .i < a .total = omega arith in
+    let e = c .before .condition-met .ensures head I (S _ (ground-in (a .memory .now) (a .total) (l .i) h)) in
+    sym (all-miss (groundIn (a .total) (a .memory .now)) (l .i) noLiteral (omega arith) test
+    (ground-test (a .memory .now) (a .total) (l .i) h test (c .before .condition-met .result) e ∙ not-true _ (c .if1 .taken)))
+    ∙ l .inv .1 head I S
 
 add-i : tie.Need-add-i Inv-loop μ-loop
 add-i c = omega arith
@@ -47,15 +51,26 @@ loop-less c = omega arith
 
 loop-again : tie.Need-loop-again Inv-loop μ-loop
 loop-again c =
-    let a = c .before .before .before .before .before .before .before .args in
+    let a = c .before .before .before .before .before .before .args in
     let l = c .before .before .before .loop in
-    (omega arith, λ I. sym (all-hit (rowMet (a .time) (a .head .now) (a .ground .now) (rowsIn (a .n) (a .work .now))) (a .rows .now) (a .k) (l .i) (omega arith) (sym (c .before .row-met .ensures I) ∙ not-false _ (c .if1 .left))) ∙ l .inv .1 I)
+    let test = conditionMet (rowsIn (a .n) (a .work .now)) in
+    let k = length-ground (a .memory .now) (a .total) in
+    let h : l .i < a .total = omega arith in (
+      omega arith,
+      λ head I S.
+          let e = c .before .condition-met .ensures head I (S _ (ground-in (a .memory .now) (a .total) (l .i) h)) in
+          sym (all-hit (groundIn (a .total) (a .memory .now)) (l .i) noLiteral (omega arith) test
+          (ground-test (a .memory .now) (a .total) (l .i) h test (c .before .condition-met .result) e ∙ not-false _ (c .if1 .left)))
+          ∙ l .inv .1 head I S,
+    )
 
 returns-2 : tie.Need-returns-2 Inv-loop μ-loop
-returns-2 c I =
-    let a = c .before .before .before .before .before .args in
+returns-2 c head I S =
+    let a = c .before .before .before .before .args in
     let l = c .before .loop in
-    sym (all-end (rowMet (a .time) (a .head .now) (a .ground .now) (rowsIn (a .n) (a .work .now))) (a .rows .now) (a .k) (l .i) (omega arith)) ∙ l .inv .1 I
+    let k = length-ground (a .memory .now) (a .total) in
+    sym (all-end (groundIn (a .total) (a .memory .now)) (l .i) noLiteral (conditionMet (rowsIn (a .n) (a .work .now))) (omega arith))
+    ∙ l .inv .1 head I S
 
 pub conditions-met-spec : {M : Type 1} → statement M
 conditions-met-spec =
@@ -64,8 +79,7 @@ conditions-met-spec =
     Inv-loop
     μ-loop
     loop-holds
-    mul-row-met
-    row-met-requires
+    condition-met-requires
     returns
     add-i
     loop-less

@@ -4,48 +4,65 @@ use mathlib.Core.Bool.{not}
 use mathlib.Core.List.{List, []}
 use Prim.Native.Nat.{_-_, _<_, _≤_}
 use native.Mathlib.Omega.{arith}
-use lib.ListN.{length, getD, take, drop}
+use lib.ListN.{length, take, drop}
 use borrow.Author.Needs.{needs}
 use Rattle.records.specs.Lists.{pairwise}
 use Rattle.records.proofs.Lists.{pairwise-hit, pairwise-miss, pairwise-end}
-use Rattle.applicability.specs.Interference.{Mark, marksClash, inOne, Laid}
-use Rattle.applicability.proofs.Marks.{before-first, laid-clash}
+use Rattle.events.specs.Grounding.{GroundLiteral, inOne, Laid}
+use Rattle.applicability.specs.Interference.{literalsClash}
+use Rattle.applicability.proofs.Clashes.{before-first, laid-end, laid-within, laid-clash}
 use Rattle.applicability.proofs.interference.all_apart.Statement.{statement}
 use Rattle.applicability.proofs.interference.all_apart.Tie as tie
 
 abbrev Inv-loop : tie.InvT-loop
-Inv-loop words clauses ends count total from₀ i₀ from i =
-    (i ≤ count) × ((parts : List (List Mark)) → length parts ≡ count → Laid parts words clauses ends total
-    → (from ≡ length (inOne (take i parts))) × (pairwise (λ first later. not (marksClash first later)) (drop i parts) ≡ pairwise (λ first later. not (marksClash first later)) parts))
+Inv-loop memory words count total from₀ i₀ from i =
+    (i ≤ count) × (from ≤ total) × ((parts : List (List GroundLiteral)) → length parts ≡ count → Laid parts memory total
+    → (from ≡ length (inOne (take i parts)))
+    × (pairwise (λ first later. not (literalsClash first later)) (drop i parts) ≡ pairwise (λ first later. not (literalsClash first later)) parts))
 
 abbrev μ-loop : tie.MeasureT-loop
-μ-loop words clauses ends count total from₀ i₀ from i = count - i
+μ-loop memory words count total from₀ i₀ from i = count - i
 
 loop-holds : tie.Need-loop-holds Inv-loop μ-loop
-loop-holds c = (omega arith, λ parts e L. (before-first parts, refl))
+loop-holds c = (omega arith, omega arith, λ parts e L. (before-first parts, refl))
 
-mul-to : tie.Need-mul-to Inv-loop μ-loop
-mul-to c = search needs
+add-wide : tie.Need-add-wide Inv-loop μ-loop
+add-wide c = omega arith
 
-shared-slice-read-to : tie.Need-shared-slice-read-to Inv-loop μ-loop
-shared-slice-read-to c = search needs
+shared-slice-read-wide : tie.Need-shared-slice-read-wide Inv-loop μ-loop
+shared-slice-read-wide c = omega arith
 
-words-clash-requires : tie.Need-words-clash-requires Inv-loop μ-loop
-words-clash-requires c κs =
-    let p = c .before .before .before .before .before .before .pre in
-    let g = p .1 .1 .1 .1 .1 (c .before .before .loop .i) (omega arith) in
-    (omega arith, (omega arith, (omega arith, omega arith)))
+wide-requires : tie.Need-wide-requires Inv-loop μ-loop
+wide-requires c κs = search needs
+
+add-to : tie.Need-add-to Inv-loop μ-loop
+add-to c = let w = c .wide .ensures .1 in let g = c .before .before .before .loop .inv .1 in omega arith
 
 returns : tie.Need-returns Inv-loop μ-loop
 returns c parts e L =
-    let a = c .before .before .before .before .before .before .before .before .args in
     let l = c .before .before .before .before .loop in
-    let v = l .inv .1 parts e L in
-    let q : length parts ≡ a .count = e in
+    let n = c .before .wide in
+    let q : length parts ≡ c .before .before .before .before .before .before .before .args .count = e in
     let h : l .i < length parts = omega arith in
-    sym (pairwise-miss parts (l .i) [] h (λ first later. not (marksClash first later))
-    (laid-clash L (l .i) h (l .from) (getD (a .ends .now) (l .i) 0) (v .0) refl (c .before .words-clash .result) (c .before .words-clash .ensures) ∙ ap not (c .if1 .taken)))
-    ∙ v .1
+    let w = laid-within L (l .i) h (l .from) (l .inv .2 parts e L .0) (n .result) (n .ensures .0) in
+    let t = c .if1 .taken in
+    absurd (omega arith)
+
+literals-clash-requires : tie.Need-literals-clash-requires Inv-loop μ-loop
+literals-clash-requires c κs =
+    let p = c .before .before .before .before .before .before .before .pre in
+    (p .0, (p .1 .0, (p .1 .1 .1 .0, (c .if1 .left, p .1 .1 .1 .1))))
+
+returns-2 : tie.Need-returns-2 Inv-loop μ-loop
+returns-2 c parts e L =
+    let l = c .before .before .before .before .before .before .loop in
+    let n = c .before .before .before .wide in
+    let v = l .inv .2 parts e L in
+    let clash = c .before .literals-clash in
+    let q : length parts ≡ c .before .before .before .before .before .before .before .before .before .args .count = e in
+    let h : l .i < length parts = omega arith in
+    let z = laid-clash L (l .i) h (l .from) (v .0) (n .result) (n .ensures .0) (clash .result) (clash .ensures) in
+    sym (pairwise-miss parts (l .i) [] h (λ first later. not (literalsClash first later)) (z ∙ ap not (c .if2 .taken))) ∙ v .1
 
 add-i : tie.Need-add-i Inv-loop μ-loop
 add-i c = omega arith
@@ -55,25 +72,26 @@ loop-less c = omega arith
 
 loop-again : tie.Need-loop-again Inv-loop μ-loop
 loop-again c =
-    let a = c .before .before .before .before .before .before .before .before .args in
-    let l = c .before .before .before .before .loop in (
+    let l = c .before .before .before .before .before .before .loop in
+    let n = c .before .before .before .wide in
+    let clash = c .before .literals-clash in (
       omega arith,
+      c .before .before .if1 .left,
       λ parts e L.
-          let v = l .inv .1 parts e L in
-          let q : length parts ≡ a .count = e in
-          let h : l .i < length parts = omega arith in (
-            L .ended (l .i) h,
-            sym (pairwise-hit parts (l .i) [] h (λ first later. not (marksClash first later))
-                (laid-clash L (l .i) h (l .from) (getD (a .ends .now) (l .i) 0) (v .0) refl (c .before .words-clash .result) (c .before .words-clash .ensures) ∙ ap not (c .if1 .left)))
-                ∙ v .1,
+          let v = l .inv .2 parts e L in
+          let q : length parts ≡ c .before .before .before .before .before .before .before .before .before .args .count = e in
+          let h : l .i < length parts = omega arith in
+          let z = laid-clash L (l .i) h (l .from) (v .0) (n .result) (n .ensures .0) (clash .result) (clash .ensures) in (
+            laid-end L (l .i) h (l .from) (v .0) (n .result) (n .ensures .0),
+            sym (pairwise-hit parts (l .i) [] h (λ first later. not (literalsClash first later)) (z ∙ ap not (c .if2 .left))) ∙ v .1,
           ),
     )
 
-returns-2 : tie.Need-returns-2 Inv-loop μ-loop
-returns-2 c parts e L =
+returns-3 : tie.Need-returns-3 Inv-loop μ-loop
+returns-3 c parts e L =
     let l = c .before .loop in
-    let q : length parts ≡ c .before .before .before .before .before .args .count = e in
-    sym (pairwise-end parts (l .i) [] (λ first later. not (marksClash first later)) (omega arith)) ∙ l .inv .1 parts e L .1
+    let q : length parts ≡ c .before .before .before .before .args .count = e in
+    sym (pairwise-end parts (l .i) [] (λ first later. not (literalsClash first later)) (omega arith)) ∙ l .inv .2 parts e L .1
 
 pub all-apart-spec : {M : Type 1} → statement M
 all-apart-spec =
@@ -82,11 +100,14 @@ all-apart-spec =
     Inv-loop
     μ-loop
     loop-holds
-    mul-to
-    shared-slice-read-to
-    words-clash-requires
+    add-wide
+    shared-slice-read-wide
+    wide-requires
+    add-to
     returns
+    literals-clash-requires
+    returns-2
     add-i
     loop-less
     loop-again
-    returns-2)
+    returns-3)

@@ -1,37 +1,37 @@
--- `put_words` meets its contract: after i turns those of the first i rows are put. Assumes nothing.
-use mathlib.Core.Path.{_≡_, refl, ap, _∙_}
-use mathlib.Core.List.{_++_}
-use Prim.Native.Nat.{ℕ, _-_}
+-- `put_words` meets its contract: after i turns the words of the first i are put. Assumes nothing.
+use mathlib.Core.Path.{_≡_, refl, _∙_}
+use Prim.Native.Nat.{_-_, _≤_}
 use native.Mathlib.Omega.{arith}
-use Rattle.literals.specs.Table.{rowsIn}
-use Rattle.applicability.specs.Interference.{rowMarks, marksIn}
-use Rattle.applicability.proofs.Marks.{rows-begin, rows-more, rows-few, InRows}
+use borrow.Author.Needs.{needs}
+use lib.ListN.{length, length-set}
+use Rattle.applicability.specs.Interference.{WordsOf}
+use Rattle.applicability.proofs.Clashes.{words-more}
 use Rattle.applicability.proofs.interference.put_words.Statement.{statement}
 use Rattle.applicability.proofs.interference.put_words.Tie as tie
 
 abbrev Inv-loop : tie.InvT-loop
-Inv-loop words₀ clauses₀ at time head ground rows k n₀ i₀ words clauses n i = InRows time head ground rows at k words₀ clauses₀ words clauses n i
+Inv-loop words₀ memory n i₀ words i = (i ≤ n) × (length words ≡ length words₀) × WordsOf i memory words
 
 abbrev μ-loop : tie.MeasureT-loop
-μ-loop words₀ clauses₀ at time head ground rows k n₀ i₀ words clauses n i = k - i
+μ-loop words₀ memory n i₀ words i = n - i
 
 loop-holds : tie.Need-loop-holds Inv-loop μ-loop
-loop-holds c =
-    let a = c .before .before .before .before .args in
-    record { reach = omega arith; wordsKept = refl; clausesKept = refl; filled = rows-begin (a .time) (a .head .now) (a .ground .now) (marksIn (a .at) (a .words .now) (a .clauses .now)) (a .rows .now) }
+loop-holds c = (omega arith, refl, λ i h. absurd (omega arith))
 
-mul-put-word : tie.Need-mul-put-word Inv-loop μ-loop
-mul-put-word c = omega arith
+mul-row-at : tie.Need-mul-row-at Inv-loop μ-loop
+mul-row-at c = omega arith
 
-put-word-requires : tie.Need-put-word-requires Inv-loop μ-loop
-put-word-requires c κs =
-    let a = c .before .before .before .before .before .before .before .before .args in
-    let p = c .before .before .before .before .before .before .before .before .pre in
-    let l = c .before .before .before .loop in
-    let f = rows-few (a .time) (a .head .now) (a .ground .now) (a .rows .now) (l .i) (a .at) (a .words .now) (a .clauses .now) _ _ (l .n) (l .inv .filled) in
-    let w = l .inv .wordsKept in
-    let v = l .inv .clausesKept in
-    (p .0, (omega arith, (omega arith, omega arith)))
+row-at-requires : tie.Need-row-at-requires Inv-loop μ-loop
+row-at-requires c κs = omega arith
+
+word-of-requires : tie.Need-word-of-requires Inv-loop μ-loop
+word-of-requires c κs = search needs
+
+mul-words : tie.Need-mul-words Inv-loop μ-loop
+mul-words c = omega arith
+
+slice-write-words : tie.Need-slice-write-words Inv-loop μ-loop
+slice-write-words c = let k = c .before .before .before .loop .inv .1 in let p = c .before .before .before .before .before .before .pre in omega arith
 
 add-i : tie.Need-add-i Inv-loop μ-loop
 add-i c = omega arith
@@ -41,30 +41,22 @@ loop-less c = omega arith
 
 loop-again : tie.Need-loop-again Inv-loop μ-loop
 loop-again c =
-    let a = c .before .before .before .before .before .before .before .before .before .before .before .before .before .args in
-    let l = c .before .before .before .before .before .before .before .before .loop in
-    let r = c .before .before .before .before .put-word .ensures in
-    let k = c .before .before .before .before .put-word .kept in
-    record {
-      reach = omega arith;
-      wordsKept = k .0 ∙ l .inv .wordsKept;
-      clausesKept = k .1 .0 ∙ l .inv .clausesKept;
-      filled = rows-more (a .time) (a .head .now) (a .ground .now) (marksIn (a .at) (a .words .now) (a .clauses .now)) (a .rows .now) (l .i) (l .inv .filled) r;
-    }
+    let a = c .before .before .before .before .before .before .args in
+    let l = c .before .before .before .loop in
+    let k = l .inv .1 in
+    let p = c .before .before .before .before .before .before .pre in
+    let row = c .before .row-at in
+    let word = c .word-of in (
+      omega arith,
+      length-set (l .words) (l .i) (word .result) ∙ k,
+      words-more (a .memory .now) (l .words) (l .i) (word .result) (row .result) (l .inv .2) (omega arith) (row .ensures) (word .ensures .0),
+    )
 
 same-length : tie.Need-same-length Inv-loop μ-loop
-same-length c = c .before .loop .inv .wordsKept
-
-same-length-2 : tie.Need-same-length-2 Inv-loop μ-loop
-same-length-2 c = c .before .loop .inv .clausesKept
+same-length c = c .before .loop .inv .1
 
 returns : tie.Need-returns Inv-loop μ-loop
-returns c =
-    let a = c .before .before .before .before .before .before .args in
-    let l = c .before .loop in
-    let g = l .inv .reach in
-    let e : l .i ≡ a .k = omega arith in
-    l .inv .filled ∙ ap (λ (i : ℕ). marksIn (a .at) (a .words .now) (a .clauses .now) ++ rowMarks (a .time) (a .head .now) (a .ground .now) (rowsIn i (a .rows .now))) e
+returns c i h = c .before .loop .inv .2 i (omega arith)
 
 pub put-words-spec : {M : Type 1} → statement M
 put-words-spec =
@@ -73,11 +65,13 @@ put-words-spec =
     Inv-loop
     μ-loop
     loop-holds
-    mul-put-word
-    put-word-requires
+    mul-row-at
+    row-at-requires
+    word-of-requires
+    mul-words
+    slice-write-words
     add-i
     loop-less
     loop-again
     same-length
-    same-length-2
     returns)

@@ -41,12 +41,16 @@ loop-again c =
     )
 
 returns : tie.Need-returns Inv-loop μ-loop
-returns c D a head A z =
+returns c =
     let s = c .before .before .before in
     let l = c .before .loop in
     let j : l .j ≡ s .args .n = omega arith in
-    l .inv .1 z
-    ∙ ap (pad 64) (ap (λ (k : ℕ). map (clauseIn (s .args .wide) (s .args .rows .now) (s .args .m)) (below k)) j ∙ clauses-held (s .args .wide) (s .args .m) (s .args .rows .now) (s .args .n) (A .says .bounded) (A .listed) (A .apart) (A .literals) (s .pre .0))
+    let bytes : (s .args .clauses .now ≡ pad 64 [] → l .clauses ≡ pad 64 (map (clauseIn (s .args .wide) (s .args .rows .now) (s .args .m)) (below (s .args .n)))) = λ z. l .inv .1 z ∙ ap (λ (k : ℕ). pad 64 (map (clauseIn (s .args .wide) (s .args .rows .now) (s .args .m)) (below k))) j in (
+      bytes,
+      λ D a head A z.
+          bytes z
+          ∙ ap (pad 64) (clauses-held (s .args .wide) (s .args .m) (s .args .rows .now) (s .args .n) (A .says .bounded) (A .listed) (A .apart) (A .literals) (s .pre .0)),
+    )
 
 pub clauses-at-spec : {M : Type 1} → statement M
 clauses-at-spec =

@@ -1,10 +1,17 @@
 -- `says` meets its contract, test by test. Assumes nothing.
-use borrow.Author.Tests.{eq-eqb, ne-eqb}
-use mathlib.Core.Path.{sym, _∙_}
-use Rattle.classes.specs.Coded.{saysAt}
 use borrow.Author.Needs.{needs}
+use mathlib.Core.Path.{_≡_, sym, ap, _∙_}
+use mathlib.Core.Bool.{false}
+use Prim.Native.Nat.{ℕ, _*_}
+use lib.Dec.{eqb}
+use lib.ListN.{getD}
+use Rattle.classes.specs.Coded.{clauseByte, saysAt}
+use Rattle.classes.proofs.Soles.{by-second}
 use Rattle.classes.proofs.names.says.Statement.{statement}
 use Rattle.classes.proofs.names.says.Tie as tie
+
+rows-agree-requires : tie.Need-rows-agree-requires
+rows-agree-requires c κs = search needs
 
 mul-clause-at : tie.Need-mul-clause-at
 mul-clause-at c = search needs
@@ -15,24 +22,23 @@ shared-slice-read-clause-at c = search needs
 clause-at-requires : tie.Need-clause-at-requires
 clause-at-requires c κs = search needs
 
-rows-agree-requires : tie.Need-rows-agree-requires
-rows-agree-requires c κs = search needs
-
 returns : tie.Need-returns
 unfolding saysAt
-returns c = rw (eq-eqb _ _ (sym (c .before .before .clause-at .ensures) ∙ c .before .if1 .taken)) (c .rows-agree .ensures)
+returns c = ap (λ (n : ℕ). eqb n (c .before .before .before .before .before .args .clause)) (c .clause-at .ensures) ∙ by-second _ _ _ (sym (c .before .before .before .rows-agree .ensures) ∙ c .before .before .if1 .taken)
 
 returns-2 : tie.Need-returns-2
 unfolding saysAt
-returns-2 c = rw (ne-eqb _ _ (λ e. c .if1 .left (c .before .clause-at .ensures ∙ e)))
+returns-2 c =
+    let a = c .before .before .before .args in
+    by-second (eqb (clauseByte (a .wide) (a .m) (getD (a .rows .now) (8 * a .i) 0)) (a .clause)) _ false (sym (c .before .rows-agree .ensures) ∙ c .if1 .left)
 
 pub says-spec : {M : Type 1} → statement M
 says-spec =
     tie.close
     (tie.spec
+    rows-agree-requires
     mul-clause-at
     shared-slice-read-clause-at
     clause-at-requires
-    rows-agree-requires
     returns
     returns-2)

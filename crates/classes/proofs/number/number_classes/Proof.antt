@@ -8,10 +8,10 @@ use Rattle.classes.proofs.number.number_classes.Statement.{statement}
 use Rattle.classes.proofs.number.number_classes.Tie as tie
 
 abbrev Inv-loop : tie.InvT-loop
-Inv-loop head rows numbers₀ words₀ count₀ j₀ j-end numbers words count j = SoFar head rows numbers₀ numbers words₀ words count j
+Inv-loop head places rows numbers₀ words₀ count₀ j₀ j-end numbers words count j = SoFar head rows numbers₀ numbers words₀ words count j
 
 abbrev μ-loop : tie.MeasureT-loop
-μ-loop head rows numbers₀ words₀ count₀ j₀ j-end numbers words count j = length numbers₀ - j
+μ-loop head places rows numbers₀ words₀ count₀ j₀ j-end numbers words count j = length numbers₀ - j
 
 loop-holds : tie.Need-loop-holds Inv-loop μ-loop
 loop-holds c = let a = c .before .before .before .args in so-far-none (a .head .now) (a .rows .now) (a .numbers .now) (a .words .now)
@@ -23,7 +23,7 @@ number-literal-requires : tie.Need-number-literal-requires Inv-loop μ-loop
 number-literal-requires c κs =
     let w = c .before .before .loop .inv .few in
     let r = c .before .before .loop .inv .room in
-    (omega arith, omega arith, omega arith)
+    (c .before .before .before .before .before .before .pre .0, (omega arith, omega arith, omega arith))
 
 slice-write-numbers : tie.Need-slice-write-numbers Inv-loop μ-loop
 slice-write-numbers c = let w = c .before .before .before .before .before .loop .inv .whole in omega arith
@@ -39,7 +39,7 @@ loop-again c =
     let a = c .before .before .before .before .before .before .before .before .before .args in
     let p = c .before .before .before .before .before .before .before .before .before .pre in
     let l = c .before .before .before .before .before .loop in
-    so-far-more (a .head .now) (a .rows .now) (a .numbers .now) (l .numbers) (a .words .now) (l .words) _ (l .count) (l .j) (c .before .before .number-literal .result) (c .before .before .number-literal .kept .1 .1 .1 .0) (p .0) (omega arith) (l .inv) (omega arith)
+    so-far-more (a .head .now) (a .rows .now) (a .numbers .now) (l .numbers) (a .words .now) (l .words) _ (l .count) (l .j) (c .before .before .number-literal .result) (c .before .before .number-literal .kept .1 .1 .1 .1 .0) (p .1 .0) (omega arith) (l .inv) (omega arith)
     (c .before .before .number-literal .ensures .0) (c .before .before .number-literal .ensures .1)
 
 same-length : tie.Need-same-length Inv-loop μ-loop
@@ -55,7 +55,7 @@ returns c =
     let l = c .before .loop in
     let w = l .inv .few in
     let r = l .inv .reach in
-    (omega arith, so-far-all (a .head .now) (a .rows .now) (a .numbers .now) (l .numbers) (a .words .now) (l .words) (l .count) (l .j) (p .0) (l .inv) (omega arith))
+    (omega arith, so-far-all (a .head .now) (a .rows .now) (a .numbers .now) (l .numbers) (a .words .now) (l .words) (l .count) (l .j) (p .1 .0) (l .inv) (omega arith))
 
 pub number-classes-spec : {M : Type 1} → statement M
 number-classes-spec =

@@ -21,15 +21,15 @@ components-in-requires c κs = search needs
 returns : tie.Need-returns
 returns c =
     let a = c .before .before .before .before .before .before .args in
-    unmatched (a .head .now) (a .rows .now) (a .at) (c .before .before .component-of .result) (c .before .before .before .before .before .before .pre .0) (c .before .before .component-of .ensures) (a .count) (a .words .now) (c .if1 .taken ∙ c .before .components-in .ensures .0)
+    unmatched (a .head .now) (a .rows .now) (a .at) (c .before .before .component-of .result) (c .before .before .before .before .before .before .pre .1 .0) (c .before .before .component-of .ensures) (a .count) (a .words .now) (c .if1 .taken ∙ c .before .components-in .ensures .0)
 
 key-word-requires : tie.Need-key-word-requires
 key-word-requires c κs =
     let a = c .before .before .before .before .before .before .args in
-    let h = component-le (a .head .now) (a .rows .now) (a .at) (c .before .before .component-of .result) (c .before .before .before .before .before .before .pre .0) (c .before .before .component-of .ensures) in
+    let h = component-le (a .head .now) (a .rows .now) (a .at) (c .before .before .component-of .result) (c .before .before .before .before .before .before .pre .1 .0) (c .before .before .component-of .ensures) in
     let n = c .before .components-in .ensures in
     let g = c .if1 .left in
-    (omega arith, c .before .before .before .before .before .before .pre .0)
+    (c .before .before .before .before .before .before .pre .0, (omega arith, c .before .before .before .before .before .before .pre .1 .0))
 
 class-of-requires : tie.Need-class-of-requires
 class-of-requires c κs = (omega arith, omega arith)
@@ -40,11 +40,11 @@ mul-words c = search needs
 slice-write-words : tie.Need-slice-write-words
 slice-write-words c = search needs
 
-cast-t17 : tie.Need-cast-t17
-cast-t17 c = search needs
+cast-t18 : tie.Need-cast-t18
+cast-t18 c = search needs
 
-add-t15 : tie.Need-add-t15
-add-t15 c = search needs
+add-t16 : tie.Need-add-t16
+add-t16 c = search needs
 
 same-length : tie.Need-same-length
 same-length c = search needs
@@ -52,13 +52,13 @@ same-length c = search needs
 returns-2 : tie.Need-returns-2
 returns-2 c =
     let a = c .before .before .before .before .before .before .before .before .before .before .args in
-    new-class (a .head .now) (a .rows .now) (a .at) (c .before .before .before .before .before .before .component-of .result) (c .before .before .before .before .before .before .before .before .before .before .pre .0) (c .before .before .before .before .before .before .component-of .ensures) (λ e. c .before .before .before .before .if1 .left (e ∙ sym (c .before .before .before .before .before .components-in .ensures .0)))
+    new-class (a .head .now) (a .rows .now) (a .at) (c .before .before .before .before .before .before .component-of .result) (c .before .before .before .before .before .before .before .before .before .before .pre .1 .0) (c .before .before .before .before .before .before .component-of .ensures) (λ e. c .before .before .before .before .if1 .left (e ∙ sym (c .before .before .before .before .before .components-in .ensures .0)))
     (c .before .before .before .key-word .result) (c .before .before .before .key-word .ensures) (a .count) (a .words .now) (c .before .class-of .result) (c .before .class-of .ensures) (c .if2 .taken) _ refl
 
-cast-t11 : tie.Need-cast-t11
-cast-t11 c =
+cast-t12 : tie.Need-cast-t12
+cast-t12 c =
     let a = c .before .before .before .before .before .before .before .before .before .before .args in
-    let h = class-le (a .head .now) (a .rows .now) (a .at) (c .before .before .before .before .before .before .component-of .result) (c .before .before .before .before .before .before .before .before .before .before .pre .0) (c .before .before .before .before .before .before .component-of .ensures) (λ e. c .before .before .before .before .if1 .left (e ∙ sym (c .before .before .before .before .before .components-in .ensures .0)))
+    let h = class-le (a .head .now) (a .rows .now) (a .at) (c .before .before .before .before .before .before .component-of .result) (c .before .before .before .before .before .before .before .before .before .before .pre .1 .0) (c .before .before .before .before .before .before .component-of .ensures) (λ e. c .before .before .before .before .if1 .left (e ∙ sym (c .before .before .before .before .before .components-in .ensures .0)))
     (c .before .before .before .key-word .result) (c .before .before .before .key-word .ensures) (a .count) (a .words .now) (c .before .class-of .result) (c .before .class-of .ensures) (omega arith) in
     omega arith
 
@@ -68,7 +68,7 @@ same-length-2 c = search needs
 returns-3 : tie.Need-returns-3
 returns-3 c =
     let a = c .before .before .before .before .before .before .before .before .before .before .args in
-    old-class (a .head .now) (a .rows .now) (a .at) (c .before .before .before .before .before .before .component-of .result) (c .before .before .before .before .before .before .before .before .before .before .pre .0) (c .before .before .before .before .before .before .component-of .ensures) (λ e. c .before .before .before .before .if1 .left (e ∙ sym (c .before .before .before .before .before .components-in .ensures .0)))
+    old-class (a .head .now) (a .rows .now) (a .at) (c .before .before .before .before .before .before .component-of .result) (c .before .before .before .before .before .before .before .before .before .before .pre .1 .0) (c .before .before .before .before .before .before .component-of .ensures) (λ e. c .before .before .before .before .if1 .left (e ∙ sym (c .before .before .before .before .before .components-in .ensures .0)))
     (c .before .before .before .key-word .result) (c .before .before .before .key-word .ensures) (a .count) (a .words .now) (c .before .class-of .result) (c .before .class-of .ensures) (c .if2 .left)
 
 pub number-literal-spec : {M : Type 1} → statement M
@@ -84,10 +84,10 @@ number-literal-spec =
     class-of-requires
     mul-words
     slice-write-words
-    cast-t17
-    add-t15
+    cast-t18
+    add-t16
     same-length
     returns-2
-    cast-t11
+    cast-t12
     same-length-2
     returns-3)

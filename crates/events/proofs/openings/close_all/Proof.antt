@@ -4,7 +4,7 @@ use mathlib.Core.List.{List}
 use Prim.Native.Nat.{_-_, _*_, _≤_}
 use native.Mathlib.Omega.{arith}
 use lib.ListN.{length, drop}
-use Rattle.events.specs.declared.Open.{Open}
+use Rattle.events.specs.Coded.{Open}
 use Rattle.events.specs.Coded.{EventRow, eventAt, eventsIn, closeEvents}
 use Rattle.events.proofs.GroundRows.{events-first, close-fewer, closes-more, closes-end}
 use Rattle.events.proofs.openings.close_all.Statement.{statement}

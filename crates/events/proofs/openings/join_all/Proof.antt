@@ -5,7 +5,7 @@ use Prim.Native.Nat.{_-_, _*_, _≤_}
 use native.Mathlib.Omega.{arith}
 use lib.ListN.{length, drop}
 use Rattle.records.proofs.Lists.{not-true, not-false}
-use Rattle.events.specs.declared.Open.{Open}
+use Rattle.events.specs.Coded.{Open}
 use Rattle.events.specs.Coded.{EventRow, eventAt, eventsIn, joinEvents, Opened}
 use Rattle.events.proofs.GroundRows.{events-first, joins-few, joins-more, joins-full, joins-end}
 use Rattle.events.proofs.openings.join_all.Statement.{statement}

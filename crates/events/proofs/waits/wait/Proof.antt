@@ -1,12 +1,25 @@
--- `wait` meets its contract. Assumes nothing.
+-- `wait` meets its contract: the byte and the row go into their sections of the agenda. Assumes nothing.
 use native.Mathlib.Omega.{arith}
+use lib.ListN.{length-set}
+use Rattle.events.proofs.Agenda.{more-length, more-entries, more-waits}
 use borrow.Author.Needs.{needs}
-use Rattle.events.proofs.MoreWaiting.{waiting-more}
 use Rattle.events.proofs.waits.wait.Statement.{statement}
 use Rattle.events.proofs.waits.wait.Tie as tie
 
-slice-write-moments : tie.Need-slice-write-moments
-slice-write-moments c = search needs
+add-agenda : tie.Need-add-agenda
+add-agenda c = search needs
+
+slice-write-agenda : tie.Need-slice-write-agenda
+slice-write-agenda c = search needs
+
+sub-put-bytes : tie.Need-sub-put-bytes
+sub-put-bytes c = search needs
+
+part-put-bytes-start : tie.Need-part-put-bytes-start
+part-put-bytes-start c = search needs
+
+part-put-bytes-end : tie.Need-part-put-bytes-end
+part-put-bytes-end c = simp length-set (omega arith)
 
 mul-put-bytes : tie.Need-mul-put-bytes
 mul-put-bytes c = search needs
@@ -18,24 +31,28 @@ put-bytes-requires : tie.Need-put-bytes-requires
 put-bytes-requires c κs = search needs
 
 same-length : tie.Need-same-length
-same-length c = search needs
-
-same-length-2 : tie.Need-same-length-2
-same-length-2 c = search needs
+same-length c = let a = c .before .before .before .before .before .before .args in let p = c .before .before .before .before .before .before .pre in more-length (a .agenda .now) (a .n) (a .moment) (p .1) (p .0) (c .before .before .put-bytes .last .0) (c .before .before .put-bytes .kept .0)
 
 returns : tie.Need-returns
-returns c D es e b f s m g =
-    let a = c .before .before .before .before .before .before .before .args in
-    waiting-more b es f (record { count = a .n; moments = a .moments .now; rows = a .events .now }) s (omega arith) e _ _ _ m g (c .before .before .put-bytes .ensures)
+returns c =
+    let a = c .before .before .before .before .before .before .args in
+    let p = c .before .before .before .before .before .before .pre in
+    let x = c .before .before .put-bytes in (
+      more-entries (a .agenda .now) (a .n) (a .moment) (p .1) (p .0) (x .last .0) (x .kept .0),
+      λ D es e b f w m g. more-waits (a .agenda .now) (a .n) (a .moment) (p .1) (p .0) (x .last .0) (x .kept .0) b es f w e (a .t4) m g (x .ensures),
+    )
 
 pub wait-spec : {M : Type 1} → statement M
 wait-spec =
     tie.close
     (tie.spec
-    slice-write-moments
+    add-agenda
+    slice-write-agenda
+    sub-put-bytes
+    part-put-bytes-start
+    part-put-bytes-end
     mul-put-bytes
     slice-aggregate-put-bytes
     put-bytes-requires
     same-length
-    same-length-2
     returns)

@@ -4,43 +4,51 @@ use borrow.Author.Needs.{needs}
 use mathlib.Core.Path.{_≡_, refl, ap, _∙_}
 use Prim.Native.Nat.{ℕ, _-_, _≤_, _<_}
 use lib.ListN.{take, drop}
-use Rattle.literals.specs.Held.{partIn}
+use Rattle.literals.specs.Held.{keysIn, partIn}
 use Rattle.literals.specs.Keys.{argumentAt, underKeys, wordFrom, keyWord}
 use Rattle.literals.proofs.Heads.{part-length}
+use Rattle.literals.proofs.Places.{components-few}
 use Rattle.literals.proofs.KeyRows.{under-place, word-more, word-all, wordLimit, limit-more, limit-few}
 use Rattle.literals.proofs.keys.key_word.Statement.{statement}
 use Rattle.literals.proofs.keys.key_word.Tie as tie
 
 abbrev Inv-loop : tie.InvT-loop
-Inv-loop head c rows at word₀ k₀ k-end word k =
-    (k ≤ k-end) × (k-end ≤ 6) × (word ≡ wordFrom 0 (underKeys k (drop 1 (partIn head c)) (drop 2 (take 8 (drop at rows))))) × (word < wordLimit k)
+Inv-loop head places c rows at word₀ k₀ k-end word k =
+    (k ≤ k-end) × (k-end ≤ 6) × (k-end ≡ keysIn head)
+    × (word ≡ wordFrom 0 (underKeys k (drop 1 (partIn head c)) (drop 2 (take 8 (drop at rows))))) × (word < wordLimit k)
 
 abbrev μ-loop : tie.MeasureT-loop
-μ-loop head c rows at word₀ k₀ k-end word k = k-end - k
+μ-loop head places c rows at word₀ k₀ k-end word k = k-end - k
 
 keys-in-requires : tie.Need-keys-in-requires Inv-loop μ-loop
 keys-in-requires c κs = search needs
 
 loop-holds : tie.Need-loop-holds Inv-loop μ-loop
-loop-holds c = (omega arith, c .keys-in .ensures .1, refl, omega arith)
+loop-holds c = (omega arith, c .keys-in .ensures .1, c .keys-in .ensures .0, refl, omega arith)
 
-cast-wide : tie.Need-cast-wide Inv-loop μ-loop
-cast-wide c = omega arith
+mul-wide : tie.Need-mul-wide Inv-loop μ-loop
+mul-wide c = let f = components-few (c .before .before .before .before .args .head .now) in omega arith
 
-place-under-requires : tie.Need-place-under-requires Inv-loop μ-loop
-place-under-requires c κs = omega arith
+add-wide : tie.Need-add-wide Inv-loop μ-loop
+add-wide c = let f = components-few (c .before .before .before .before .args .head .now) in omega arith
 
-argument-byte-requires : tie.Need-argument-byte-requires Inv-loop μ-loop
-argument-byte-requires c κs = omega arith
+element-copy-out-wide : tie.Need-element-copy-out-wide Inv-loop μ-loop
+element-copy-out-wide c = let f = components-few (c .before .before .before .before .args .head .now) in omega arith
 
 wide-requires : tie.Need-wide-requires Inv-loop μ-loop
 wide-requires c κs = search needs
 
+argument-byte-requires : tie.Need-argument-byte-requires Inv-loop μ-loop
+argument-byte-requires c κs = omega arith
+
+wide-requires-2 : tie.Need-wide-requires-2 Inv-loop μ-loop
+wide-requires-2 c κs = search needs
+
 mul-word : tie.Need-mul-word Inv-loop μ-loop
-mul-word c = let i = c .before .before .before .before .loop .inv in let f = limit-few (c .before .before .before .before .loop .k) (omega arith) in omega arith
+mul-word c = let i = c .before .before .before .before .before .loop .inv in let f = limit-few (c .before .before .before .before .before .loop .k) (omega arith) in omega arith
 
 add-word : tie.Need-add-word Inv-loop μ-loop
-add-word c = let i = c .before .before .before .before .loop .inv in let f = limit-few (c .before .before .before .before .loop .k) (omega arith) in let w = c .wide .ensures .1 in omega arith
+add-word c = let i = c .before .before .before .before .before .loop .inv in let f = limit-few (c .before .before .before .before .before .loop .k) (omega arith) in let w = c .wide2 .ensures .1 in omega arith
 
 add-k : tie.Need-add-k Inv-loop μ-loop
 add-k c = omega arith
@@ -50,24 +58,30 @@ loop-less c = omega arith
 
 loop-again : tie.Need-loop-again Inv-loop μ-loop
 loop-again c =
-    let a = c .before .before .before .before .before .before .before .args in
-    let l = c .before .before .before .before .loop in
-    let w = c .wide in
-    let u = under-place (partIn (a .head .now) (a .c)) (a .rows .now) (a .at) (l .k) (omega arith) (part-length (a .head .now) (a .c)) (c .before .before .before .before .before .before .before .pre .1) in (
+    let a = c .before .before .before .before .before .before .before .before .args in
+    let l = c .before .before .before .before .before .loop in
+    let w = c .wide2 in
+    let u =
+    under-place (partIn (a .head .now) (a .c)) (a .rows .now) (a .at) (l .k) (omega arith) (part-length (a .head .now) (a .c)) (c .before .before .before .before .before .before .before .before .pre .1 .1)
+    in
+    let e = l .inv .2 in (
       omega arith,
       l .inv .1,
-      word-more (partIn (a .head .now) (a .c)) (take 8 (drop (a .at) (a .rows .now))) (l .word) (l .k) (w .result) (l .inv .2)
-          (w .ensures .0 ∙ c .before .argument-byte .ensures ∙ ap (argumentAt (a .rows .now) (a .at)) (c .before .before .place-under .ensures) ∙ u),
-      limit-more (l .word) (l .k) (w .result) (l .inv .3) (w .ensures .1),
+      l .inv .2,
+      word-more (partIn (a .head .now) (a .c)) (take 8 (drop (a .at) (a .rows .now))) (l .word) (l .k) (w .result) (l .inv .3)
+          (w .ensures .0
+          ∙ c .before .argument-byte .ensures
+          ∙ ap (argumentAt (a .rows .now) (a .at)) (c .before .before .wide .ensures .0 ∙ c .before .before .before .before .before .before .before .before .pre .0 (a .c) (l .k) (c .before .before .before .before .before .before .before .before .pre .1 .0) (omega arith))
+          ∙ u),
+      limit-more (l .word) (l .k) (w .result) (l .inv .4) (w .ensures .1),
     )
 
 returns : tie.Need-returns Inv-loop μ-loop
 returns c =
     let l = c .before .loop in
     let a = c .before .before .before .before .args in
-    let k = c .before .before .keys-in .ensures .0 in
     let e : l .k ≡ c .before .before .keys-in .result = omega arith in
-    l .inv .2 ∙ word-all (l .k) _ _ ∙ ap (λ (n : ℕ). keyWord n (partIn (a .head .now) (a .c)) (take 8 (drop (a .at) (a .rows .now)))) (e ∙ k)
+    l .inv .3 ∙ word-all (l .k) _ _ ∙ ap (λ (n : ℕ). keyWord n (partIn (a .head .now) (a .c)) (take 8 (drop (a .at) (a .rows .now)))) (e ∙ l .inv .2)
 
 pub key-word-spec : {M : Type 1} → statement M
 key-word-spec =
@@ -77,10 +91,12 @@ key-word-spec =
     μ-loop
     keys-in-requires
     loop-holds
-    cast-wide
-    place-under-requires
-    argument-byte-requires
+    mul-wide
+    add-wide
+    element-copy-out-wide
     wide-requires
+    argument-byte-requires
+    wide-requires-2
     mul-word
     add-word
     add-k

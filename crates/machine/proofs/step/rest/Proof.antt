@@ -10,27 +10,42 @@ use Rattle.machine.proofs.step.rest.Tie as tie
 element-copy-out-if1 : tie.Need-element-copy-out-if1
 element-copy-out-if1 c = search needs
 
+sub-open-met : tie.Need-sub-open-met
+sub-open-met c = search needs
+
+part-open-met-start : tie.Need-part-open-met-start
+part-open-met-start c = search needs
+
+part-open-met-end : tie.Need-part-open-met-end
+part-open-met-end c = search needs
+
 open-met-requires : tie.Need-open-met-requires
 open-met-requires c κs = search needs
 
+same-length : tie.Need-same-length
+same-length c = search needs
+
 returns : tie.Need-returns
 returns c D s lent kept entries rows noted =
-    let met = c .before .open-met .ensures D (s .running) (s .facts) lent entries (kept .running) (kept .running-few) rows (noted .indexed) in
+    let met = c .before .before .before .open-met .ensures D (s .running) (s .facts) lent entries (kept .running) (kept .running-few) rows (noted .indexed) in
     (unrest D s (sym met ∙ not-true _ (c .if2 .taken)), λ z. absurd (omega arith))
 
 element-write-index : tie.Need-element-write-index
 element-write-index c = search needs
 
+same-length-2 : tie.Need-same-length-2
+same-length-2 c = search needs
+
 returns-2 : tie.Need-returns-2
 returns-2 c D s lent kept entries rows noted =
-    let a = c .before .before .before .before .before .before .before .before .args in
-    let met = c .before .open-met .ensures D (s .running) (s .facts) lent entries (kept .running) (kept .running-few) rows (noted .indexed) in
+    let a = c .before .before .before .before .before .before .before .before .before .before .before .before .before .args in
+    let met = c .before .before .before .open-met .ensures D (s .running) (s .facts) lent entries (kept .running) (kept .running-few) rows (noted .indexed) in
     let all-hold = sym met ∙ not-false _ (c .if2 .left) in
     (rests D s kept all-hold, λ z. noted-set (a .head .now) D (a .index .now) s noted all-hold)
 
 returns-3 : tie.Need-returns-3
 returns-3 c D s lent kept entries rows noted =
-    let a = c .before .before .before .before .before .args in
+    let a = c .before .before .before .before .before .before .args in
     (rests D s kept (noted .settled (c .if1 .left)), λ z. noted-rest (a .head .now) D (a .index .now) s noted)
 
 pub rest-spec : {M : Type 1} → statement M
@@ -38,8 +53,13 @@ rest-spec =
     tie.close
     (tie.spec
     element-copy-out-if1
+    sub-open-met
+    part-open-met-start
+    part-open-met-end
     open-met-requires
+    same-length
     returns
     element-write-index
+    same-length-2
     returns-2
     returns-3)

@@ -1,7 +1,7 @@
 -- `Player::begin` meets its contract: all but the tally stays. Assumes nothing.
 use borrow.Author.Needs.{needs}
 use mathlib.Core.Path.{refl}
-use Rattle.player.specs.Player.{wholeOf}
+use Rattle.player.specs.Player.{wholeIn}
 use Rattle.player.proofs.PlayTurns.{begun-player}
 use Rattle.player.proofs.Player.begin.Statement.{statement}
 use Rattle.player.proofs.Player.begin.Tie as tie
@@ -10,9 +10,9 @@ begin-requires : tie.Need-begin-requires
 begin-requires c κs = search needs
 
 returns : tie.Need-returns
-returns c D p entries moments events old H st noted =
-    let a = c .before .before .args in
-    let player = wholeOf (a .self) entries moments events in
+returns c D p agenda old H st noted =
+    let a = c .before .before .before .args in
+    let player = wholeIn (a .self) agenda in
     begun-player D p player (a .work .now) old st _ (c .begin .ensures D p player old H st refl refl noted)
 
 pub begin-spec : {M : Type 1} → statement M

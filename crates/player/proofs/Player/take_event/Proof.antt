@@ -5,11 +5,29 @@ use Prim.Native.Nat.{ℕ, _+_}
 use native.Mathlib.Omega.{arith}
 use Rattle.runs.specs.RunFile.{eventOf, eventStop}
 use Rattle.runs.specs.Play.{goOn, withEvent}
-use Rattle.player.specs.Player.{wholeOf}
+use Rattle.player.specs.Player.{wholeIn}
 use Rattle.player.proofs.Sound.{event-taken}
-use Rattle.player.proofs.PlayTurns.{gone-on, stops, passes, objects-are, objects-low, waiting-is, event-on}
+use Rattle.player.proofs.PlayTurns.{gone-on, event-waits, stops, passes, objects-are, objects-low, waiting-is, event-on}
 use Rattle.player.proofs.Player.take_event.Statement.{statement}
 use Rattle.player.proofs.Player.take_event.Tie as tie
+
+sub-event-stop : tie.Need-sub-event-stop
+sub-event-stop c = search needs
+
+part-event-stop-start : tie.Need-part-event-stop-start
+part-event-stop-start c = search needs
+
+part-event-stop-end : tie.Need-part-event-stop-end
+part-event-stop-end c = search needs
+
+sub-event-stop-2 : tie.Need-sub-event-stop-2
+sub-event-stop-2 c = search needs
+
+part-event-stop-start-2 : tie.Need-part-event-stop-start-2
+part-event-stop-start-2 c = search needs
+
+part-event-stop-end-2 : tie.Need-part-event-stop-end-2
+part-event-stop-end-2 c = search needs
 
 event-stop-requires : tie.Need-event-stop-requires
 event-stop-requires c κs = search needs
@@ -17,26 +35,23 @@ event-stop-requires c κs = search needs
 same-length : tie.Need-same-length
 same-length c = search needs
 
-same-length-2 : tie.Need-same-length-2
-same-length-2 c = search needs
-
 returns : tie.Need-returns
-returns c D q entries work old H st =
-    let a = c .before .before .before .before .before .before .before .args in
+returns c D q work old H st =
+    let a = c .before .before .before .before .before .before .before .before .args in
     let x = c .before .event-stop in
-    let e = x .ensures .0 D (q .waiting) H (objects-low D q st) (waiting-is D q st) (st .sound .kept .waiting) ∙ ap (λ (n : ℕ). eventStop D n (q .waiting) (a .p .now)) (sym (objects-are D q st)) in
-    stops D q (wholeOf (a .self) entries (a .moments .now) (a .events .now)) work old st (eventStop D (q .objects) (q .waiting) (a .p .now)) (x .result) (goOn (withEvent q (eventOf (a .p .now)) (a .behind))) e (c .if1 .taken)
+    let e = x .ensures .0 D (q .waiting) H (objects-low D q st) (waiting-is D q st) (st .sound .kept .waiting)
+    ∙ ap (λ (n : ℕ). eventStop D n (q .waiting) (a .p .now)) (sym (objects-are D q st)) in
+    stops D q (wholeIn (a .self) (a .agenda .now)) work old st (eventStop D (q .objects) (q .waiting) (a .p .now)) (x .result)
+    (goOn (withEvent q (eventOf (a .p .now)) (a .behind))) e (c .if1 .taken)
 
 shared-slice-read-wait : tie.Need-shared-slice-read-wait
-shared-slice-read-wait c = let f = c .before .before .before .before .event-stop .ensures .1 (c .before .before .before .if1 .left) in let l = f .0 in omega arith
+shared-slice-read-wait c = let f = c .before .before .before .event-stop .ensures .1 (c .before .before .if1 .left) in let l = f .0 in omega arith
 
 ground-row-requires : tie.Need-ground-row-requires
-ground-row-requires c κs = let f = c .before .before .before .before .event-stop .ensures .1 (c .before .before .before .if1 .left) in (f .0, f .1)
+ground-row-requires c κs = let f = c .before .before .before .event-stop .ensures .1 (c .before .before .if1 .left) in (f .0, f .1)
 
 wait-requires : tie.Need-wait-requires
-wait-requires c κs =
-    let p = c .before .before .before .before .before .before .before .before .before .before .before .pre in
-    (c .before .before .before .before .before .event-stop .ensures .1 (c .before .before .before .before .if1 .left) .2, p .1 .0, p .1 .1)
+wait-requires c κs = (c .before .before .before .before .event-stop .ensures .1 (c .before .before .before .if1 .left) .2, c .before .before .before .before .before .before .before .before .before .before .before .pre .1)
 
 add-onward : tie.Need-add-onward
 add-onward c = search needs
@@ -44,38 +59,46 @@ add-onward c = search needs
 onward-requires : tie.Need-onward-requires
 onward-requires c κs = search needs
 
-same-length-3 : tie.Need-same-length-3
-same-length-3 c = search needs
-
-same-length-4 : tie.Need-same-length-4
-same-length-4 c = search needs
+same-length-2 : tie.Need-same-length-2
+same-length-2 c = search needs
 
 returns-2 : tie.Need-returns-2
-returns-2 c D q entries work old H st =
-    let a = c .before .before .before .before .before .before .before .before .before .before .before .before .before .before .before .before .before .args in
-    let w = c .before .before .before .before .before .wait in
-    let x = c .before .before .before .before .before .before .before .before .before .before .before .event-stop in
-    let left = c .before .before .before .before .before .before .before .before .before .before .if1 .left in
-    let e = x .ensures .0 D (q .waiting) H (objects-low D q st) (waiting-is D q st) (st .sound .kept .waiting) ∙ ap (λ (n : ℕ). eventStop D n (q .waiting) (a .p .now)) (sym (objects-are D q st)) in
+returns-2 c D q work old H st =
+    let a = c .before .before .before .before .before .before .before .before .before .before .before .before .before .before .before .args in
+    let w = c .before .before .before .wait in
+    let left = c .before .before .before .before .before .before .before .if1 .left in
+    let x = c .before .before .before .before .before .before .before .before .event-stop in
+    let e = x .ensures .0 D (q .waiting) H (objects-low D q st) (waiting-is D q st) (st .sound .kept .waiting)
+    ∙ ap (λ (n : ℕ). eventStop D n (q .waiting) (a .p .now)) (sym (objects-are D q st)) in
     let t = event-taken D q (a .p .now) (st .sound .objects) (sym e ∙ left) in
-    passes D q (eventStop D (q .objects) (q .waiting) (a .p .now)) (x .result) (goOn (withEvent q (eventOf (a .p .now)) (a .behind))) _ work old e left
-    (event-on D (H .bounded) q (wholeOf (a .self) entries (a .moments .now) (a .events .now)) work old st (a .p .now) (a .behind) _
-    (w .ensures D (q .waiting) (eventOf (a .p .now)) (H .bounded) (st .sound .kept .waiting) (waiting-is D q st) (t .moment) (c .before .before .before .before .before .before .ground-row .ensures))
-    _ (gone-on (a .self) (c .onward .result) (a .behind) (a .self .facts) (a .self .waits + 1) entries (w .last .0) (w .last .1 .0) (c .onward .ensures)))
+    let on = gone-on (a .self) (c .onward .result) (a .behind) (a .self .counts .facts) (a .self .counts .waits + 1) (w .last .0)
+    (c .onward .ensures) in
+    let more = event-waits (a .self .counts .facts) (a .self .counts .opened) (a .self .counts .waits + 1) (a .agenda .now) (w .last .0)
+    (w .ensures .0) in
+    passes D q (eventStop D (q .objects) (q .waiting) (a .p .now)) (x .result) (goOn (withEvent q (eventOf (a .p .now)) (a .behind)))
+    _ work old e left
+    (event-on D (H .bounded) q (wholeIn (a .self) (a .agenda .now)) work old st (a .p .now) (a .behind) _
+    (w .ensures .1 D (q .waiting) (eventOf (a .p .now)) (H .bounded) (st .sound .kept .waiting) (waiting-is D q st) (t .moment)
+    (c .before .before .before .before .ground-row .ensures))
+    _ (on .0, on .1, on .2, on .3 ∙ more, on .4))
 
 pub take-event-spec : {M : Type 1} → statement M
 take-event-spec =
     tie.close
     (tie.spec
+    sub-event-stop
+    part-event-stop-start
+    part-event-stop-end
+    sub-event-stop-2
+    part-event-stop-start-2
+    part-event-stop-end-2
     event-stop-requires
     same-length
-    same-length-2
     returns
     shared-slice-read-wait
     ground-row-requires
     wait-requires
     add-onward
     onward-requires
-    same-length-3
-    same-length-4
+    same-length-2
     returns-2)

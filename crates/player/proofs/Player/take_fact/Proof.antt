@@ -11,7 +11,7 @@ use Rattle.runs.specs.RunFile.{factOf, factStop}
 use Rattle.runs.specs.Play.{goOn, unless, withFact}
 use Rattle.store.specs.Rows.{factRow}
 use Rattle.run_fields.proofs.RunFields.{fact-found}
-use Rattle.player.specs.Player.{wholeOf}
+use Rattle.player.specs.Player.{wholeIn}
 use Rattle.player.proofs.PlayTurns.{gone-on, stops, passes, objects-are, begun-is, facts-rows, facts-count, few-facts, fact-again, fact-room, fact-new}
 use Rattle.player.proofs.NotedTurns.{noted-ended, noted-unless, fact-sized, noted-again, noted-fact}
 use Rattle.player.proofs.Player.take_fact.Statement.{statement}
@@ -25,16 +25,16 @@ same-length c = search needs
 
 returns : tie.Need-returns
 returns c =
-    let a = c .before .before .before .before .before .before .args in
+    let a = c .before .before .before .before .before .before .before .args in
     let f = c .before .fact-stop in (
-      λ D q entries moments events old H st noted.
-          let player = wholeOf (a .self) entries moments events in
+      λ D q agenda old H st noted.
+          let player = wholeIn (a .self) agenda in
           let rows = facts-rows D q player (a .work .now) old st (H .bounded) in
           let stop = f .ensures .0 D (q .state .facts) H rows (facts-count D (H .bounded) q player (a .work .now) old st (a .p .now) (a .behind)) (few-facts D (H .bounded) q player (a .work .now) old st (a .p .now) (a .behind))
           ∙ ap₂ (λ (n : ℕ) (b : Bool). factStop D n b (q .state .facts) (a .p .now)) (sym (objects-are D q st)) (sym (begun-is D q st)) in
           stops D q player (a .work .now) old st (factStop D (q .objects) (q .tally .begun) (q .state .facts) (a .p .now)) (f .result) (goOn (withFact q (factOf (a .p .now)) (a .behind))) stop (c .if1 .taken),
-      λ D q entries moments events old H st noted.
-          let player = wholeOf (a .self) entries moments events in
+      λ D q agenda old H st noted.
+          let player = wholeIn (a .self) agenda in
           let rows = facts-rows D q player (a .work .now) old st (H .bounded) in
           let stop = f .ensures .0 D (q .state .facts) H rows (facts-count D (H .bounded) q player (a .work .now) old st (a .p .now) (a .behind)) (few-facts D (H .bounded) q player (a .work .now) old st (a .p .now) (a .behind))
           ∙ ap₂ (λ (n : ℕ) (b : Bool). factStop D n b (q .state .facts) (a .p .now)) (sym (objects-are D q st)) (sym (begun-is D q st)) in
@@ -55,13 +55,13 @@ same-length-2 c = search needs
 
 returns-2 : tie.Need-returns-2
 returns-2 c =
-    let a = c .before .before .before .before .before .before .before .before .before .before .before .before .args in
+    let a = c .before .before .before .before .before .before .before .before .before .before .before .before .before .args in
     let f = c .before .before .before .before .before .before .before .fact-stop in
     let row = c .before .before .before .before .before .fact-row in
     let found = c .before .before .is-held in
     let passed = c .before .before .before .before .before .before .if1 .left in (
-      λ D q entries moments events old H st noted.
-          let player = wholeOf (a .self) entries moments events in
+      λ D q agenda old H st noted.
+          let player = wholeIn (a .self) agenda in
           let rows = facts-rows D q player (a .work .now) old st (H .bounded) in
           let stop = f .ensures .0 D (q .state .facts) H rows (facts-count D (H .bounded) q player (a .work .now) old st (a .p .now) (a .behind)) (few-facts D (H .bounded) q player (a .work .now) old st (a .p .now) (a .behind))
           ∙ ap₂ (λ (n : ℕ) (b : Bool). factStop D n b (q .state .facts) (a .p .now)) (sym (objects-are D q st)) (sym (begun-is D q st)) in
@@ -69,9 +69,9 @@ returns-2 c =
           let sized = fact-sized D (a .head .now) H q (a .p .now) (st .sound .kept .facts-few) zero (row .result) (row .ensures) in
           let is = found .ensures (a .head .now) (rw rows (noted .indexed)) sized in
           passes D q (factStop D (q .objects) (q .tally .begun) (q .state .facts) (a .p .now)) (f .result) (goOn (withFact q (factOf (a .p .now)) (a .behind))) _ (a .work .now) old stop passed
-          (fact-again D (H .bounded) q player (a .work .now) old st (a .p .now) (a .behind) zero (row .result) (row .ensures) (found .result) is (c .before .if2 .taken) (wholeOf (c .onward .result) entries moments events) (gone-on (a .self) (c .onward .result) (a .behind) (a .self .facts) (a .self .waits) entries moments events (c .onward .ensures))),
-      λ D q entries moments events old H st noted.
-          let player = wholeOf (a .self) entries moments events in
+          (fact-again D (H .bounded) q player (a .work .now) old st (a .p .now) (a .behind) zero (row .result) (row .ensures) (found .result) is (c .before .if2 .taken) (wholeIn (c .onward .result) agenda) (gone-on (a .self) (c .onward .result) (a .behind) (a .self .counts .facts) (a .self .counts .waits) agenda (c .onward .ensures))),
+      λ D q agenda old H st noted.
+          let player = wholeIn (a .self) agenda in
           let rows = facts-rows D q player (a .work .now) old st (H .bounded) in
           let stop = f .ensures .0 D (q .state .facts) H rows (facts-count D (H .bounded) q player (a .work .now) old st (a .p .now) (a .behind)) (few-facts D (H .bounded) q player (a .work .now) old st (a .p .now) (a .behind))
           ∙ ap₂ (λ (n : ℕ) (b : Bool). factStop D n b (q .state .facts) (a .p .now)) (sym (objects-are D q st)) (sym (begun-is D q st)) in
@@ -87,13 +87,13 @@ same-length-3 c = search needs
 
 returns-3 : tie.Need-returns-3
 returns-3 c =
-    let a = c .before .before .before .before .before .before .before .before .before .before .before .before .args in
+    let a = c .before .before .before .before .before .before .before .before .before .before .before .before .before .args in
     let f = c .before .before .before .before .before .before .before .fact-stop in
     let row = c .before .before .before .before .before .fact-row in
     let found = c .before .before .is-held in
     let passed = c .before .before .before .before .before .before .if1 .left in (
-      λ D q entries moments events old H st noted.
-          let player = wholeOf (a .self) entries moments events in
+      λ D q agenda old H st noted.
+          let player = wholeIn (a .self) agenda in
           let rows = facts-rows D q player (a .work .now) old st (H .bounded) in
           let stop = f .ensures .0 D (q .state .facts) H rows (facts-count D (H .bounded) q player (a .work .now) old st (a .p .now) (a .behind)) (few-facts D (H .bounded) q player (a .work .now) old st (a .p .now) (a .behind))
           ∙ ap₂ (λ (n : ℕ) (b : Bool). factStop D n b (q .state .facts) (a .p .now)) (sym (objects-are D q st)) (sym (begun-is D q st)) in
@@ -102,8 +102,8 @@ returns-3 c =
           let is = found .ensures (a .head .now) (rw rows (noted .indexed)) sized in
           let l = fact-room D (H .bounded) q player (a .work .now) old st (a .p .now) (a .behind) zero (row .result) (row .ensures) (found .result) is (c .before .if2 .left) in
           absurd (omega arith),
-      λ D q entries moments events old H st noted.
-          let player = wholeOf (a .self) entries moments events in
+      λ D q agenda old H st noted.
+          let player = wholeIn (a .self) agenda in
           let rows = facts-rows D q player (a .work .now) old st (H .bounded) in
           let stop = f .ensures .0 D (q .state .facts) H rows (facts-count D (H .bounded) q player (a .work .now) old st (a .p .now) (a .behind)) (few-facts D (H .bounded) q player (a .work .now) old st (a .p .now) (a .behind))
           ∙ ap₂ (λ (n : ℕ) (b : Bool). factStop D n b (q .state .facts) (a .p .now)) (sym (objects-are D q st)) (sym (begun-is D q st)) in
@@ -137,14 +137,14 @@ same-length-4 c = search needs
 
 returns-4 : tie.Need-returns-4
 returns-4 c =
-    let a = c .before .before .before .before .before .before .before .before .before .before .before .before .before .before .before .before .before .before .before .before .args in
+    let a = c .before .before .before .before .before .before .before .before .before .before .before .before .before .before .before .before .before .before .before .before .before .args in
     let f = c .before .before .before .before .before .before .before .before .before .before .before .before .before .before .before .fact-stop in
     let row = c .before .before .before .before .before .before .before .before .before .before .before .before .before .fact-row in
     let found = c .before .before .before .before .before .before .before .before .before .before .is-held in
     let passed = c .before .before .before .before .before .before .before .before .before .before .before .before .before .before .if1 .left in
     let entered = c .before .enter in (
-      λ D q entries moments events old H st noted.
-          let player = wholeOf (a .self) entries moments events in
+      λ D q agenda old H st noted.
+          let player = wholeIn (a .self) agenda in
           let rows = facts-rows D q player (a .work .now) old st (H .bounded) in
           let stop = f .ensures .0 D (q .state .facts) H rows (facts-count D (H .bounded) q player (a .work .now) old st (a .p .now) (a .behind)) (few-facts D (H .bounded) q player (a .work .now) old st (a .p .now) (a .behind))
           ∙ ap₂ (λ (n : ℕ) (b : Bool). factStop D n b (q .state .facts) (a .p .now)) (sym (objects-are D q st)) (sym (begun-is D q st)) in
@@ -152,9 +152,9 @@ returns-4 c =
           let sized = fact-sized D (a .head .now) H q (a .p .now) (st .sound .kept .facts-few) zero (row .result) (row .ensures) in
           let is = found .ensures (a .head .now) (rw rows (noted .indexed)) sized in
           passes D q (factStop D (q .objects) (q .tally .begun) (q .state .facts) (a .p .now)) (f .result) (goOn (withFact q (factOf (a .p .now)) (a .behind))) _ _ old stop passed
-          (fact-new D (H .bounded) q player (a .work .now) old st (a .p .now) (a .behind) zero (row .result) (row .ensures) (found .result) is (c .before .before .before .before .before .before .before .before .before .if2 .left) (wholeOf (c .onward2 .result) entries moments events) _ refl (gone-on (a .self) (c .onward2 .result) (a .behind) (a .self .facts + 1) (a .self .waits) entries moments events (c .onward2 .ensures)) _ (c .before .before .before .before .before .before .put-fact .ensures)),
-      λ D q entries moments events old H st noted.
-          let player = wholeOf (a .self) entries moments events in
+          (fact-new D (H .bounded) q player (a .work .now) old st (a .p .now) (a .behind) zero (row .result) (row .ensures) (found .result) is (c .before .before .before .before .before .before .before .before .before .if2 .left) (wholeIn (c .onward2 .result) agenda) _ refl (gone-on (a .self) (c .onward2 .result) (a .behind) (a .self .counts .facts + 1) (a .self .counts .waits) agenda (c .onward2 .ensures)) _ (c .before .before .before .before .before .before .put-fact .ensures)),
+      λ D q agenda old H st noted.
+          let player = wholeIn (a .self) agenda in
           let rows = facts-rows D q player (a .work .now) old st (H .bounded) in
           let stop = f .ensures .0 D (q .state .facts) H rows (facts-count D (H .bounded) q player (a .work .now) old st (a .p .now) (a .behind)) (few-facts D (H .bounded) q player (a .work .now) old st (a .p .now) (a .behind))
           ∙ ap₂ (λ (n : ℕ) (b : Bool). factStop D n b (q .state .facts) (a .p .now)) (sym (objects-are D q st)) (sym (begun-is D q st)) in

@@ -3,7 +3,7 @@ use mathlib.Core.Path.{refl, sym, ap, _∙_}
 use Prim.Native.Nat.{ℕ}
 use native.Mathlib.Omega.{arith}
 use borrow.Author.Needs.{needs}
-use Rattle.player.specs.Player.{wholeOf}
+use Rattle.player.specs.Player.{wholeIn}
 use Rattle.player.proofs.PlayTurns.{stops, passes, objects-on, objects-are}
 use Rattle.literals.specs.Decode.{byte}
 use Rattle.runs.specs.RunFile.{objectsStop}
@@ -15,23 +15,23 @@ objects-stop-requires : tie.Need-objects-stop-requires
 objects-stop-requires c κs = search needs
 
 returns : tie.Need-returns
-returns c D q entries moments events work old st =
+returns c D q agenda work old st =
     let a = c .before .before .before .args in
-    stops D q (wholeOf (a .self) entries moments events) work old st (objectsStop (q .objects) (a .p .now)) (c .before .objects-stop .result) (goOn (withObjects q (byte (a .p .now) 0) (a .behind))) (c .before .objects-stop .ensures .0 ∙ ap (λ (n : ℕ). objectsStop n (a .p .now)) (sym (objects-are D q st))) (c .if1 .taken)
+    stops D q (wholeIn (a .self) agenda) work old st (objectsStop (q .objects) (a .p .now)) (c .before .objects-stop .result) (goOn (withObjects q (byte (a .p .now) 0) (a .behind))) (c .before .objects-stop .ensures .0 ∙ ap (λ (n : ℕ). objectsStop n (a .p .now)) (sym (objects-are D q st))) (c .if1 .taken)
 
-shared-slice-read-t8 : tie.Need-shared-slice-read-t8
-shared-slice-read-t8 c = let f = c .before .before .before .objects-stop .ensures .1 (c .before .before .if1 .left) .0 in omega arith
+shared-slice-read-t9 : tie.Need-shared-slice-read-t9
+shared-slice-read-t9 c = let f = c .before .before .before .before .objects-stop .ensures .1 (c .before .before .before .if1 .left) .0 in omega arith
 
 returns-2 : tie.Need-returns-2
-returns-2 c D q entries moments events work old st =
-    let a = c .before .before .before .before .before .args in
-    passes D q (objectsStop (q .objects) (a .p .now)) (c .before .before .before .objects-stop .result) (goOn (withObjects q (byte (a .p .now) 0) (a .behind))) _ work old (c .before .before .before .objects-stop .ensures .0 ∙ ap (λ (n : ℕ). objectsStop n (a .p .now)) (sym (objects-are D q st))) (c .before .before .if1 .left)
-    (objects-on D q (wholeOf (a .self) entries moments events) work old st (a .behind) _ (byte (a .p .now) 0) refl)
+returns-2 c D q agenda work old st =
+    let a = c .before .before .before .before .before .before .args in
+    passes D q (objectsStop (q .objects) (a .p .now)) (c .before .before .before .before .objects-stop .result) (goOn (withObjects q (byte (a .p .now) 0) (a .behind))) _ work old (c .before .before .before .before .objects-stop .ensures .0 ∙ ap (λ (n : ℕ). objectsStop n (a .p .now)) (sym (objects-are D q st))) (c .before .before .before .if1 .left)
+    (objects-on D q (wholeIn (a .self) agenda) work old st (a .behind) _ (byte (a .p .now) 0) refl)
 
 pub take-objects-spec : {M : Type 1} → statement M
 take-objects-spec =
     tie.close (tie.spec
     objects-stop-requires
     returns
-    shared-slice-read-t8
+    shared-slice-read-t9
     returns-2)

@@ -1,4 +1,5 @@
--- `play_records` meets its contract: the loop's invariant is `Loop` of proofs/PlayLoop, for every domain that is lent; the measure is what is left of the file. Assumes nothing.
+-- `play_records` meets its contract: the loop's invariant is `Loop` of proofs/PlayLoop, for every domain that is lent; the measure is
+-- what is left of the file. Assumes nothing.
 use borrow.Author.Needs.{needs}
 use mathlib.Core.Path.{_≡_, refl, ap, _∙_}
 use mathlib.Core.List.{List, []}
@@ -6,91 +7,98 @@ use Prim.Native.Nat.{ℕ, _-_}
 use lib.ListN.{length, replicate, length-replicate}
 use Rattle.records.specs.Memory.{over}
 use Rattle.literals.specs.Domain.{Domain}
-use Rattle.store.specs.Index.{factIndex}
-use Rattle.runs.specs.Play.{heldBytes}
 use Rattle.literals.specs.Held.{Held}
-use Rattle.player.specs.Player.{wholeOf, turnOf}
+use Rattle.store.specs.Index.{factIndex}
+use Rattle.events.specs.Coded.{agendaBytes}
+use Rattle.runs.specs.Play.{heldBytes}
+use Rattle.player.specs.Player.{wholeIn, turnIn}
 use Rattle.player.proofs.PlayLoop.{Loop, begins, playable, loop-on, loop-falls, loop-ends}
 use Rattle.player.proofs.run.play_records.Statement.{statement}
 use Rattle.player.proofs.run.play_records.Tie as tie
 
 abbrev Inv-loop : tie.InvT-loop
-Inv-loop head table run work₀ index₀ entries₀ moments₀ events₀ scratch₀ turn₀ work index entries moments events scratch turn =
-    (length work ≡ length work₀) × (length entries ≡ length entries₀) × (length moments ≡ length moments₀) × (length events ≡ length events₀) × (length scratch ≡ length scratch₀)
-    × ((D : Domain) (old : List ℕ) → Held D head table → work₀ ≡ over (heldBytes []) old → index₀ ≡ replicate factIndex 0 → entries₀ ≡ replicate 544 0 → moments₀ ≡ replicate 16 0 → events₀ ≡ replicate 272 0
-    → Loop D head run old (wholeOf (turn .player) entries moments events) work index)
+Inv-loop head table run work₀ index₀ agenda₀ scratch₀ turn₀ work index agenda scratch turn =
+    (length work ≡ length work₀) × (length agenda ≡ length agenda₀) × (length scratch ≡ length scratch₀)
+    × ((D : Domain) (old : List ℕ) → Held D head table → work₀ ≡ over (heldBytes []) old → index₀ ≡ replicate factIndex 0
+    → agenda₀ ≡ replicate agendaBytes 0 → Loop D head run old (wholeIn (turn .player) agenda) work index)
 
 abbrev μ-loop : tie.MeasureT-loop
-μ-loop head table run work₀ index₀ entries₀ moments₀ events₀ scratch₀ turn₀ work index entries moments events scratch turn = length run - turn .player .at
+μ-loop head table run work₀ index₀ agenda₀ scratch₀ turn₀ work index agenda scratch turn = length run - turn .player .at
 
 new-requires : tie.Need-new-requires Inv-loop μ-loop
 new-requires c κs = search needs
 
 loop-holds : tie.Need-loop-holds Inv-loop μ-loop
 loop-holds c =
-    let a = c .before .before .before .before .before .before .before .before .args in
-    (refl, refl, refl, refl, refl, λ D old H clear zeros e m v. begins D (a .head .now) (a .run .now) old (a .work .now) (a .index .now) (wholeOf (c .new .result) (a .entries .now) (a .moments .now) (a .events .now)) (rw (e, m, v) (c .new .ensures)) clear zeros)
+    let a = c .before .before .before .before .before .before .args in (
+      refl,
+      refl,
+      refl,
+      λ D old H clear zeros e.
+          begins D (a .head .now) (a .run .now) old (a .work .now) (a .index .now) (wholeIn (c .new .result) (a .agenda .now))
+          (rw e (c .new .ensures)) clear zeros,
+    )
 
 step-requires : tie.Need-step-requires Inv-loop μ-loop
 step-requires c κs =
-    let p = c .before .before .before .before .before .before .before .before .before .before .before .before .before .before .before .before .pre in
-    let a = c .before .before .before .before .before .before .before .before .before .before .before .before .before .before .before .before .args in
-    let l = c .before .before .before .before .before .before .before .loop in (
-      playable (p .0) (p .1 .0) (a .run .now) (wholeOf (l .turn .player) (l .entries) (l .moments) (l .events)) (l .work) (l .index) (l .inv .5 (p .0 .0) (a .work .now) (p .0 .1) (p .1 .1 .0) (p .1 .1 .1 .0) (p .1 .1 .1 .1 .0) (p .1 .1 .1 .1 .1 .0) (p .1 .1 .1 .1 .1 .1 .0)),
+    let p = c .before .before .before .before .before .before .before .before .before .before .before .before .pre in
+    let a = c .before .before .before .before .before .before .before .before .before .before .before .before .args in
+    let l = c .before .before .before .before .before .loop in (
+      playable (p .0) (p .1 .0) (a .run .now) (wholeIn (l .turn .player) (l .agenda)) (l .work) (l .index)
+          (l .inv .3 (p .0 .0) (a .work .now) (p .0 .1) (p .1 .1 .0) (p .1 .1 .1 .0) (p .1 .1 .1 .1 .0)),
       record {
-        entries-length = l .inv .1 ∙ ap length (p .1 .1 .1 .1 .0) ∙ length-replicate {A = ℕ} 544 0;
-        moments-length = l .inv .2 ∙ ap length (p .1 .1 .1 .1 .1 .0) ∙ length-replicate {A = ℕ} 16 0;
-        events-length = l .inv .3 ∙ ap length (p .1 .1 .1 .1 .1 .1 .0) ∙ length-replicate {A = ℕ} 272 0;
-        scratch-length = l .inv .4 ∙ p .1 .1 .1 .1 .1 .1 .1;
+        agenda-length = l .inv .1 ∙ ap length (p .1 .1 .1 .1 .0) ∙ length-replicate {A = ℕ} agendaBytes 0;
+        scratch-length = l .inv .2 ∙ p .1 .1 .1 .1 .1;
       },
     )
 
 loop-less : tie.Need-loop-less Inv-loop μ-loop
 loop-less c =
-    let p = c .before .before .before .before .before .before .before .before .before .before .before .before .before .before .before .before .before .before .before .before .before .before .before .before .before .before .before .before .pre in
-    let a = c .before .before .before .before .before .before .before .before .before .before .before .before .before .before .before .before .before .before .before .before .before .before .before .before .before .before .before .before .args in
-    let l = c .before .before .before .before .before .before .before .before .before .before .before .before .before .before .before .before .before .before .before .loop in
-    let s = c .before .before .before .before .before .before .before .before .before .before .before .step in
-    loop-falls (p .0 .0) (p .0 .1 .says .bounded) (a .run .now) (a .work .now) (wholeOf (l .turn .player) (l .entries) (l .moments) (l .events)) (l .work) (l .inv .5 (p .0 .0) (a .work .now) (p .0 .1) (p .1 .1 .0) (p .1 .1 .1 .0) (p .1 .1 .1 .1 .0) (p .1 .1 .1 .1 .1 .0) (p .1 .1 .1 .1 .1 .1 .0)) (turnOf (s .result) (s .last .1 .1 .1 .1 .1 .1 .0) (s .last .1 .1 .1 .1 .1 .1 .1 .0) (s .last .1 .1 .1 .1 .1 .1 .1 .1 .0)) _ _ (λ q o st noted. s .ensures .0 (p .0 .0) q o (p .0 .1) st noted) (λ q o st noted. s .ensures .1 (p .0 .0) q o (p .0 .1) st noted) (c .if1 .taken)
+    let p = c .before .before .before .before .before .before .before .before .before .before .before .before .before .before .before .before .before .before .before .before .pre in
+    let a = c .before .before .before .before .before .before .before .before .before .before .before .before .before .before .before .before .before .before .before .before .args in
+    let l = c .before .before .before .before .before .before .before .before .before .before .before .before .before .loop in
+    let s = c .before .before .before .before .before .before .before .step in
+    loop-falls (p .0 .0) (p .0 .1 .says .bounded) (a .run .now) (a .work .now) (wholeIn (l .turn .player) (l .agenda)) (l .work)
+    (l .inv .3 (p .0 .0) (a .work .now) (p .0 .1) (p .1 .1 .0) (p .1 .1 .1 .0) (p .1 .1 .1 .1 .0))
+    (turnIn (s .result) (s .last .1 .1 .1 .1 .1 .1 .0)) _ _ (λ q o st noted. s .ensures .0 (p .0 .0) q o (p .0 .1) st noted)
+    (λ q o st noted. s .ensures .1 (p .0 .0) q o (p .0 .1) st noted) (c .if1 .taken)
 
 loop-again : tie.Need-loop-again Inv-loop μ-loop
 loop-again c =
-    let a = c .before .before .before .before .before .before .before .before .before .before .before .before .before .before .before .before .before .before .before .before .before .before .before .before .before .before .before .before .args in
-    let l = c .before .before .before .before .before .before .before .before .before .before .before .before .before .before .before .before .before .before .before .loop in
-    let s = c .before .before .before .before .before .before .before .before .before .before .before .step in (
+    let a = c .before .before .before .before .before .before .before .before .before .before .before .before .before .before .before .before .before .before .before .before .args in
+    let l = c .before .before .before .before .before .before .before .before .before .before .before .before .before .loop in
+    let s = c .before .before .before .before .before .before .before .step in (
       s .kept .1 .1 .1 .1 .0 ∙ l .inv .0,
       s .kept .1 .1 .1 .1 .1 .1 .0 ∙ l .inv .1,
       s .kept .1 .1 .1 .1 .1 .1 .1 .0 ∙ l .inv .2,
-      s .kept .1 .1 .1 .1 .1 .1 .1 .1 .0 ∙ l .inv .3,
-      s .kept .1 .1 .1 .1 .1 .1 .1 .1 .1 .0 ∙ l .inv .4,
-      λ D old H clear zeros e m v. loop-on D (H .says .bounded) (a .run .now) old (wholeOf (l .turn .player) (l .entries) (l .moments) (l .events)) (l .work) (l .inv .5 D old H clear zeros e m v) (turnOf (s .result) (s .last .1 .1 .1 .1 .1 .1 .0) (s .last .1 .1 .1 .1 .1 .1 .1 .0) (s .last .1 .1 .1 .1 .1 .1 .1 .1 .0)) _ _ (λ q o st noted. s .ensures .0 D q o H st noted) (λ q o st noted. s .ensures .1 D q o H st noted) (c .if1 .taken),
+      λ D old H clear zeros e.
+          loop-on D (H .says .bounded) (a .run .now) old (wholeIn (l .turn .player) (l .agenda)) (l .work)
+          (l .inv .3 D old H clear zeros e) (turnIn (s .result) (s .last .1 .1 .1 .1 .1 .1 .0)) _ _
+          (λ q o st noted. s .ensures .0 D q o H st noted) (λ q o st noted. s .ensures .1 D q o H st noted) (c .if1 .taken),
     )
 
 ended-by-requires : tie.Need-ended-by-requires Inv-loop μ-loop
 ended-by-requires c κs = search needs
 
 same-length : tie.Need-same-length Inv-loop μ-loop
-same-length c = c .before .before .before .before .before .before .before .before .before .before .before .before .before .before .step .kept .1 .1 .1 .1 .0 ∙ c .before .before .before .before .before .before .before .before .before .before .before .before .before .before .before .before .before .before .before .before .before .before .loop .inv .0
+same-length c = c .before .before .before .before .before .before .before .before .before .before .step .kept .1 .1 .1 .1 .0 ∙ c .before .before .before .before .before .before .before .before .before .before .before .before .before .before .before .before .loop .inv .0
 
 same-length-2 : tie.Need-same-length-2 Inv-loop μ-loop
-same-length-2 c = c .before .before .before .before .before .before .before .before .before .before .before .before .before .before .step .kept .1 .1 .1 .1 .1 .1 .0 ∙ c .before .before .before .before .before .before .before .before .before .before .before .before .before .before .before .before .before .before .before .before .before .before .loop .inv .1
+same-length-2 c = c .before .before .before .before .before .before .before .before .before .before .step .kept .1 .1 .1 .1 .1 .1 .0 ∙ c .before .before .before .before .before .before .before .before .before .before .before .before .before .before .before .before .loop .inv .1
 
 same-length-3 : tie.Need-same-length-3 Inv-loop μ-loop
-same-length-3 c = c .before .before .before .before .before .before .before .before .before .before .before .before .before .before .step .kept .1 .1 .1 .1 .1 .1 .1 .0 ∙ c .before .before .before .before .before .before .before .before .before .before .before .before .before .before .before .before .before .before .before .before .before .before .loop .inv .2
-
-same-length-4 : tie.Need-same-length-4 Inv-loop μ-loop
-same-length-4 c = c .before .before .before .before .before .before .before .before .before .before .before .before .before .before .step .kept .1 .1 .1 .1 .1 .1 .1 .1 .0 ∙ c .before .before .before .before .before .before .before .before .before .before .before .before .before .before .before .before .before .before .before .before .before .before .loop .inv .3
-
-same-length-5 : tie.Need-same-length-5 Inv-loop μ-loop
-same-length-5 c = c .before .before .before .before .before .before .before .before .before .before .before .before .before .before .step .kept .1 .1 .1 .1 .1 .1 .1 .1 .1 .0 ∙ c .before .before .before .before .before .before .before .before .before .before .before .before .before .before .before .before .before .before .before .before .before .before .loop .inv .4
+same-length-3 c = c .before .before .before .before .before .before .before .before .before .before .step .kept .1 .1 .1 .1 .1 .1 .1 .0 ∙ c .before .before .before .before .before .before .before .before .before .before .before .before .before .before .before .before .loop .inv .2
 
 returns : tie.Need-returns Inv-loop μ-loop
 returns c D old H clear =
-    let p = c .before .before .before .before .before .before .before .before .before .before .before .before .before .before .before .before .before .before .before .before .before .before .before .before .before .before .before .before .before .before .before .pre in
-    let a = c .before .before .before .before .before .before .before .before .before .before .before .before .before .before .before .before .before .before .before .before .before .before .before .before .before .before .before .before .before .before .before .args in
-    let l = c .before .before .before .before .before .before .before .before .before .before .before .before .before .before .before .before .before .before .before .before .before .before .loop in
-    let s = c .before .before .before .before .before .before .before .before .before .before .before .before .before .before .step in
-    loop-ends D (H .says .bounded) (a .run .now) old (wholeOf (l .turn .player) (l .entries) (l .moments) (l .events)) (l .work) (l .inv .5 D old H clear (p .1 .1 .1 .0) (p .1 .1 .1 .1 .0) (p .1 .1 .1 .1 .1 .0) (p .1 .1 .1 .1 .1 .1 .0)) (turnOf (s .result) (s .last .1 .1 .1 .1 .1 .1 .0) (s .last .1 .1 .1 .1 .1 .1 .1 .0) (s .last .1 .1 .1 .1 .1 .1 .1 .1 .0)) _ _ (λ q o st noted. s .ensures .0 D q o H st noted) (λ q o st noted. s .ensures .1 D q o H st noted) (c .before .before .before .if1 .left) (c .ended-by .result) (c .ended-by .ensures)
+    let p = c .before .before .before .before .before .before .before .before .before .before .before .before .before .before .before .before .before .before .before .before .before .before .before .pre in
+    let a = c .before .before .before .before .before .before .before .before .before .before .before .before .before .before .before .before .before .before .before .before .before .before .before .args in
+    let l = c .before .before .before .before .before .before .before .before .before .before .before .before .before .before .before .before .loop in
+    let s = c .before .before .before .before .before .before .before .before .before .before .step in
+    loop-ends D (H .says .bounded) (a .run .now) old (wholeIn (l .turn .player) (l .agenda)) (l .work)
+    (l .inv .3 D old H clear (p .1 .1 .1 .0) (p .1 .1 .1 .1 .0)) (turnIn (s .result) (s .last .1 .1 .1 .1 .1 .1 .0)) _ _
+    (λ q o st noted. s .ensures .0 D q o H st noted) (λ q o st noted. s .ensures .1 D q o H st noted) (c .before .before .before .if1 .left) (c .ended-by .result)
+    (c .ended-by .ensures)
 
 pub play-records-spec : {M : Type 1} → statement M
 play-records-spec =
@@ -107,6 +115,4 @@ play-records-spec =
     same-length
     same-length-2
     same-length-3
-    same-length-4
-    same-length-5
     returns)

@@ -1,10 +1,10 @@
 -- `play_run` meets its contract. Assumes nothing.
 use borrow.Author.Needs.{needs}
+use mathlib.Core.Path.{refl}
 use Prim.Native.Nat.{ℕ}
+use native.Mathlib.Omega.{arith}
 use lib.ListN.{length-replicate}
 use Rattle.effects.specs.Effects.{scratchBytes}
-use mathlib.Core.Path.{refl}
-use native.Mathlib.Omega.{arith}
 use Rattle.player.proofs.PlayLoop.{cleared, cleared-again}
 use Rattle.player.proofs.run.play_run.Statement.{statement}
 use Rattle.player.proofs.run.play_run.Tie as tie
@@ -21,28 +21,22 @@ slice-aggregate-play-records c = search needs
 slice-aggregate-play-records-2 : tie.Need-slice-aggregate-play-records-2
 slice-aggregate-play-records-2 c = search needs
 
-slice-aggregate-play-records-3 : tie.Need-slice-aggregate-play-records-3
-slice-aggregate-play-records-3 c = search needs
-
-slice-aggregate-play-records-4 : tie.Need-slice-aggregate-play-records-4
-slice-aggregate-play-records-4 c = search needs
-
 play-records-requires : tie.Need-play-records-requires
 play-records-requires c κs =
-    let old = c .before .before .before .before .before .before .before .before .before .before .before .before .before .before .args .work .now in
-    let p = c .before .before .before .before .before .before .before .before .before .before .before .before .before .before .pre in
-    let put = c .before .before .before .before .before .before .before .before .put-bytes in
+    let old = c .before .before .before .before .before .before .before .before .before .before .before .before .args .work .now in
+    let p = c .before .before .before .before .before .before .before .before .before .before .before .before .pre in
+    let put = c .before .before .before .before .before .before .put-bytes in
     let long = put .kept .0 in
     let room = p .1 in
-    (p .0, (omega arith, (cleared-again old _ (cleared old _ (put .ensures)), (refl, (refl, (refl, (refl, length-replicate {A = ℕ} scratchBytes 0)))))))
+    (p .0, (omega arith, (cleared-again old _ (cleared old _ (put .ensures)), (refl, (refl, length-replicate {A = ℕ} scratchBytes 0)))))
 
 same-length : tie.Need-same-length
 same-length c = search needs
 
 returns : tie.Need-returns
 returns c D H =
-    let old = c .before .before .before .before .before .before .before .before .before .before .before .before .before .before .before .before .before .before .before .before .before .args .work .now in
-    c .before .before .before .before .before .before .play-records .ensures D old H (cleared old _ (c .before .before .before .before .before .before .before .before .before .before .before .before .before .before .before .put-bytes .ensures))
+    let old = c .before .before .before .before .before .before .before .before .before .before .before .before .before .before .before .before .before .args .work .now in
+    c .before .before .before .before .play-records .ensures D old H (cleared old _ (c .before .before .before .before .before .before .before .before .before .before .before .put-bytes .ensures))
 
 pub play-run-spec : {M : Type 1} → statement M
 play-run-spec =
@@ -52,8 +46,6 @@ play-run-spec =
     put-bytes-requires
     slice-aggregate-play-records
     slice-aggregate-play-records-2
-    slice-aggregate-play-records-3
-    slice-aggregate-play-records-4
     play-records-requires
     same-length
     returns)

@@ -10,10 +10,16 @@ use Rattle.templates.proofs.deciding.decide_alone.Statement.{statement}
 use Rattle.templates.proofs.deciding.decide_alone.Tie as tie
 
 abbrev Inv-loop : tie.InvT-loop
-Inv-loop head table relation notes₀ i₀ i-end notes i = Deciding head table relation notes i
+Inv-loop head table relation places notes₀ i₀ i-end notes i = Deciding head table relation notes i
 
 abbrev μ-loop : tie.MeasureT-loop
-μ-loop head table relation notes₀ i₀ i-end notes i = i-end - i
+μ-loop head table relation places notes₀ i₀ i-end notes i = i-end - i
+
+slice-aggregate-put-places : tie.Need-slice-aggregate-put-places Inv-loop μ-loop
+slice-aggregate-put-places c = search needs
+
+put-places-requires : tie.Need-put-places-requires Inv-loop μ-loop
+put-places-requires c κs = search needs
 
 new-requires : tie.Need-new-requires Inv-loop μ-loop
 new-requires c κs = search needs
@@ -25,7 +31,7 @@ loop-holds : tie.Need-loop-holds Inv-loop μ-loop
 loop-holds c = record { reach = omega arith; noted = λ D H wf only. c .before .new .ensures }
 
 summary-of-requires : tie.Need-summary-of-requires Inv-loop μ-loop
-summary-of-requires c κs = search needs
+summary-of-requires c κs = (c .before .before .before .before .before .before .put-places .ensures, search needs)
 
 with-requires : tie.Need-with-requires Inv-loop μ-loop
 with-requires c κs = search needs
@@ -38,8 +44,8 @@ loop-less c = omega arith
 
 loop-again : tie.Need-loop-again Inv-loop μ-loop
 loop-again c =
-    let l = c .before .before .before .loop in
-    let few = c .before .before .before .before .actions-in .ensures .0 in
+    let l = c .before .before .before .before .loop in
+    let few = c .before .before .before .before .before .actions-in .ensures .0 in
     record {
       reach = omega arith;
       noted =
@@ -67,6 +73,8 @@ decide-alone-spec =
     (tie.spec
     Inv-loop
     μ-loop
+    slice-aggregate-put-places
+    put-places-requires
     new-requires
     actions-in-requires
     loop-holds
