@@ -35,4 +35,14 @@ pub record OneRelation : Type 0 where
 
 pub oneRelation : OneRelation
 unfolding listFile listAfter
-oneRelation = record { m1-answer = refl; m1-memory = refl; m1-short = refl; m1-untouched = refl; m11-answer = refl; flag-memory = refl; cleared-memory = refl; cleared-twice = refl }
+oneRelation =
+    record {
+      m1-answer = refl;
+      m1-memory = refl;
+      m1-short = refl;
+      m1-untouched = refl;
+      m11-answer = refl;
+      flag-memory = refl;
+      cleared-memory = refl;
+      cleared-twice = refl;
+    }

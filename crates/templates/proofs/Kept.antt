@@ -71,10 +71,12 @@ module _ {A : Type 0} where
   tuple-kept (suc n) ls vs = ap₂ _++_ (tuple-kept n ls vs) (under-kept (key n) ls vs)
 
   -- and they are read back from the tuple
-  kept-back : (d : A) (y : List A) (ls : List Label) (vs : List A) → length ls ≡ length vs → Reads d y ls vs → kept ls vs ≡ map (λ k. getD y k d) (keyNumbers ls)
+  kept-back : (d : A) (y : List A) (ls : List Label) (vs : List A) → length ls ≡ length vs → Reads d y ls vs
+      → kept ls vs ≡ map (λ k. getD y k d) (keyNumbers ls)
   kept-back d y [] vs e h = refl
   kept-back d y (l ∷ ls) [] e h = absurd (omega arith)
-  kept-back d y (keyed k ∷ ls) (v ∷ vs) e h = ap₂ _∷_ (sym (read-head d y (k .0) ls v vs h)) (kept-back d y ls vs (omega arith) (reads-tail d y (keyed k) ls v vs h))
+  kept-back d y (keyed k ∷ ls) (v ∷ vs) e h =
+      ap₂ _∷_ (sym (read-head d y (k .0) ls v vs h)) (kept-back d y ls vs (omega arith) (reads-tail d y (keyed k) ls v vs h))
   kept-back d y (Counted ∷ ls) (v ∷ vs) e h = kept-back d y ls vs (omega arith) (reads-tail d y Counted ls v vs h)
 
 -- ---- the same marks: one is the other with its keys renamed
@@ -89,10 +91,12 @@ marked-renamed y [] [] t h = refl
 marked-renamed y [] (m ∷ ms) t h = absurd (false≢true t)
 marked-renamed y (l ∷ ls) [] t h = absurd (false≢true t)
 marked-renamed y (keyed k ∷ ls) (keyed j ∷ ms) t h =
-    ap₂ _∷_ (ap (λ (n : ℕ). keyed (key n)) (sym (read-head 0 y (k .0) ls (j .0) (map number ms) h))) (marked-renamed y ls ms t (reads-tail 0 y (keyed k) ls (j .0) (map number ms) h))
+    ap₂ _∷_ (ap (λ (n : ℕ). keyed (key n)) (sym (read-head 0 y (k .0) ls (j .0) (map number ms) h)))
+    (marked-renamed y ls ms t (reads-tail 0 y (keyed k) ls (j .0) (map number ms) h))
 marked-renamed y (keyed k ∷ ls) (Counted ∷ ms) t h = absurd (false≢true t)
 marked-renamed y (Counted ∷ ls) (keyed j ∷ ms) t h = absurd (false≢true t)
-marked-renamed y (Counted ∷ ls) (Counted ∷ ms) t h = ap {B = List Label} (λ l. Counted ∷ l) (marked-renamed y ls ms t (reads-tail 0 y Counted ls 0 (map number ms) h))
+marked-renamed y (Counted ∷ ls) (Counted ∷ ms) t h =
+    ap {B = List Label} (λ l. Counted ∷ l) (marked-renamed y ls ms t (reads-tail 0 y Counted ls 0 (map number ms) h))
 
 renamed-marked : (σ : ℕ → ℕ) (ls : List Label) → Marked ls (map (renamed σ) ls)
 renamed-marked σ [] = refl
@@ -116,7 +120,8 @@ variables-append [] bs = refl
 variables-append (bound v ∷ as′) bs = ap {B = List Variable} (λ l. v ∷ l) (variables-append as′ bs)
 variables-append (Every ∷ as′) bs = variables-append as′ bs
 
-plain-under : (k : Key) (ls : List Label) (vs : List Argument) → keysBound ls vs ≡ true → variablesOf (under k ls vs) ≡ under k ls (map plain vs)
+plain-under : (k : Key) (ls : List Label) (vs : List Argument) → keysBound ls vs ≡ true
+    → variablesOf (under k ls vs) ≡ under k ls (map plain vs)
 unfolding plain
 plain-under k [] vs h = refl
 plain-under k (l ∷ ls) [] h = refl
@@ -124,13 +129,16 @@ plain-under k (Counted ∷ ls) (v ∷ vs) h = plain-under k ls vs h
 plain-under k (keyed j ∷ ls) (Every ∷ vs) h = absurd (false≢true h)
 plain-under k (keyed j ∷ ls) (bound v ∷ vs) h = go (isKey k (keyed j)) (plain-under k ls vs h)
   where
-    go : (b : Bool) → variablesOf (under k ls vs) ≡ under k ls (map plain vs) → variablesOf (keepIf b (bound v) (under k ls vs)) ≡ keepIf b v (under k ls (map plain vs))
+    go : (b : Bool) → variablesOf (under k ls vs) ≡ under k ls (map plain vs)
+        → variablesOf (keepIf b (bound v) (under k ls vs)) ≡ keepIf b v (under k ls (map plain vs))
     go true e = ap {B = List Variable} (λ l. v ∷ l) e
     go false e = e
 
-plain-tuple : (n : ℕ) (ls : List Label) (vs : List Argument) → keysBound ls vs ≡ true → variablesOf (keyTuple n ls vs) ≡ keyTuple n ls (map plain vs)
+plain-tuple : (n : ℕ) (ls : List Label) (vs : List Argument) → keysBound ls vs ≡ true
+    → variablesOf (keyTuple n ls vs) ≡ keyTuple n ls (map plain vs)
 plain-tuple zero ls vs h = refl
-plain-tuple (suc n) ls vs h = variables-append (keyTuple n ls vs) (under (key n) ls vs) ∙ ap₂ _++_ (plain-tuple n ls vs h) (plain-under (key n) ls vs h)
+plain-tuple (suc n) ls vs h =
+    variables-append (keyTuple n ls vs) (under (key n) ls vs) ∙ ap₂ _++_ (plain-tuple n ls vs h) (plain-under (key n) ls vs h)
 
 module _ (D : Domain) (c d : Component) (lc : legalAlone D c ≡ true) (ld : legalAlone D d ≡ true) (sh : sameShape c d ≡ true) where
   rel : c .rel ≡ d .rel
@@ -146,23 +154,28 @@ module _ (D : Domain) (c d : Component) (lc : legalAlone D c ≡ true) (ld : leg
   of-both : (p : Atom Argument) → isOf d p ≡ isOf c p
   of-both p = ap₂ (λ (r n : ℕ). eqb r (p .rel) && eqb n (length (p .args))) (sym rel) (sym (marked-length (c .labels) (d .labels) marked))
 
-  answer-is : (vs : List Variable) → length (c .labels) ≡ length vs → keyTuple (keysOf (d ∷ [])) (d .labels) vs ≡ answer (keyTuple (keysOf (c ∷ [])) (c .labels) vs)
+  answer-is : (vs : List Variable) → length (c .labels) ≡ length vs
+      → keyTuple (keysOf (d ∷ [])) (d .labels) vs ≡ answer (keyTuple (keysOf (c ∷ [])) (c .labels) vs)
   unfolding answer
   answer-is vs e =
       tuple-kept (keysOf (d ∷ [])) (d .labels) vs
       ∙ ap (keyTuple (keysOf (d ∷ [])) (keyLabels (d .labels)))
       (sym (kept-marked (c .labels) (d .labels) vs marked)
-      ∙ kept-back (variable 0) (keyTuple (keysOf (c ∷ [])) (c .labels) vs) (c .labels) vs e (tuple-reads (keysOf (c ∷ [])) (c .labels) vs (variable 0) e (legal-labels D c lc)))
+      ∙ kept-back (variable 0) (keyTuple (keysOf (c ∷ [])) (c .labels) vs) (c .labels) vs e
+      (tuple-reads (keysOf (c ∷ [])) (c .labels) vs (variable 0) e (legal-labels D c lc)))
 
   -- a literal that keeps the keys, of the relation
   bound-of : (p : Atom Argument) → keepsKeys c p ≡ true → isOf c p ≡ true → keysBound (c .labels) (p .args) ≡ true
   bound-of p k t = rw (and-l (eqb (c .rel) (p .rel)) _ t) at k
 
-  plain-of : (p : Atom Argument) → keepsKeys c p ≡ true → isOf c p ≡ true → variablesOf (keyTuple (keysOf (c ∷ [])) (c .labels) (p .args)) ≡ keyTuple (keysOf (c ∷ [])) (c .labels) (map plain (p .args))
+  plain-of : (p : Atom Argument) → keepsKeys c p ≡ true → isOf c p ≡ true
+      → variablesOf (keyTuple (keysOf (c ∷ [])) (c .labels) (p .args)) ≡ keyTuple (keysOf (c ∷ [])) (c .labels) (map plain (p .args))
   plain-of p k t = plain-tuple (keysOf (c ∷ [])) (c .labels) (p .args) (bound-of p k t)
 
-  plain-other : (p : Atom Argument) → keepsKeys c p ≡ true → isOf c p ≡ true → variablesOf (keyTuple (keysOf (d ∷ [])) (d .labels) (p .args)) ≡ keyTuple (keysOf (d ∷ [])) (d .labels) (map plain (p .args))
-  plain-other p k t = plain-tuple (keysOf (d ∷ [])) (d .labels) (p .args) (sym (marked-bound (c .labels) (d .labels) (p .args) marked) ∙ bound-of p k t)
+  plain-other : (p : Atom Argument) → keepsKeys c p ≡ true → isOf c p ≡ true
+      → variablesOf (keyTuple (keysOf (d ∷ [])) (d .labels) (p .args)) ≡ keyTuple (keysOf (d ∷ [])) (d .labels) (map plain (p .args))
+  plain-other p k t =
+      plain-tuple (keysOf (d ∷ [])) (d .labels) (p .args) (sym (marked-bound (c .labels) (d .labels) (p .args) marked) ∙ bound-of p k t)
 
   sized : (p : Atom Argument) → isOf c p ≡ true → length (c .labels) ≡ length (map plain (p .args))
   sized p t = eqb-true _ _ (and-r (eqb (c .rel) (p .rel)) _ t) ∙ sym (length-map (p .args) plain)
@@ -172,8 +185,11 @@ module _ (D : Domain) (c d : Component) (lc : legalAlone D c ≡ true) (ld : leg
   tuples p k = ap (λ b. map variablesOf (keepIf b (keyTuple (keysOf (d ∷ [])) (d .labels) (p .args)) [])) (of-both p) ∙ go (isOf c p) refl
     where
       go : (b : Bool) → isOf c p ≡ b
-          → map variablesOf (keepIf b (keyTuple (keysOf (d ∷ [])) (d .labels) (p .args)) []) ≡ map answer (map variablesOf (keepIf b (keyTuple (keysOf (c ∷ [])) (c .labels) (p .args)) []))
-      go true t = ap {B = List (List Variable)} (λ x. x ∷ []) (plain-other p k t ∙ answer-is (map plain (p .args)) (sized p t) ∙ ap answer (sym (plain-of p k t)))
+          → map variablesOf (keepIf b (keyTuple (keysOf (d ∷ [])) (d .labels) (p .args)) [])
+          ≡ map answer (map variablesOf (keepIf b (keyTuple (keysOf (c ∷ [])) (c .labels) (p .args)) []))
+      go true t =
+          ap {B = List (List Variable)} (λ x. x ∷ [])
+          (plain-other p k t ∙ answer-is (map plain (p .args)) (sized p t) ∙ ap answer (sym (plain-of p k t)))
       go false t = refl
 
   tuple-is : (p : Atom Argument) → keepsKeys c p ≡ true → (x : List Variable) → In x (literalTuples (single D c) p)
@@ -192,25 +208,30 @@ module _ (D : Domain) (c d : Component) (lc : legalAlone D c ≡ true) (ld : leg
   kept-of vs e =
       let l : length (d .labels) ≡ length vs = sym (marked-length (c .labels) (d .labels) marked) ∙ e in
       kept-marked (c .labels) (d .labels) vs marked
-      ∙ kept-back (variable 0) (keyTuple (keysOf (d ∷ [])) (d .labels) vs) (d .labels) vs l (tuple-reads (keysOf (d ∷ [])) (d .labels) vs (variable 0) l (legal-labels D d ld))
+      ∙ kept-back (variable 0) (keyTuple (keysOf (d ∷ [])) (d .labels) vs) (d .labels) vs l
+      (tuple-reads (keysOf (d ∷ [])) (d .labels) vs (variable 0) l (legal-labels D d ld))
 
-  keeps : (p q : Atom Argument) → keepsKeys c p ≡ true → keepsKeys c q ≡ true → (x y : List Variable) → In x (literalTuples (single D c) p) → In y (literalTuples (single D c) q) → answer x ≡ answer y → x ≡ y
+  keeps : (p q : Atom Argument) → keepsKeys c p ≡ true → keepsKeys c q ≡ true → (x y : List Variable) → In x (literalTuples (single D c) p)
+      → In y (literalTuples (single D c) q) → answer x ≡ answer y → x ≡ y
   keeps p q kp kq x y m n e = go (tuple-is p kp x m) (tuple-is q kq y n)
     where
       go : (length (c .labels) ≡ length (map plain (p .args))) × (x ≡ keyTuple (keysOf (c ∷ [])) (c .labels) (map plain (p .args)))
           → (length (c .labels) ≡ length (map plain (q .args))) × (y ≡ keyTuple (keysOf (c ∷ [])) (c .labels) (map plain (q .args))) → x ≡ y
       go (lp, ep) (lq, eq) =
-          let t : keyTuple (keysOf (d ∷ [])) (d .labels) (map plain (p .args)) ≡ keyTuple (keysOf (d ∷ [])) (d .labels) (map plain (q .args))
+          let t : keyTuple (keysOf (d ∷ [])) (d .labels) (map plain (p .args))
+          ≡ keyTuple (keysOf (d ∷ [])) (d .labels) (map plain (q .args))
           = answer-is (map plain (p .args)) lp ∙ ap answer (sym ep) ∙ e ∙ ap answer eq ∙ sym (answer-is (map plain (q .args)) lq) in
           let k : kept (c .labels) (map plain (p .args)) ≡ kept (c .labels) (map plain (q .args))
-          = kept-of (map plain (p .args)) lp ∙ ap (λ (z : List Variable). map (λ k. getD z k (variable 0)) (keyNumbers (d .labels))) t ∙ sym (kept-of (map plain (q .args)) lq) in
+          = kept-of (map plain (p .args)) lp ∙ ap (λ (z : List Variable). map (λ k. getD z k (variable 0)) (keyNumbers (d .labels))) t
+          ∙ sym (kept-of (map plain (q .args)) lq) in
           ep ∙ tuple-kept (keysOf (c ∷ [])) (c .labels) (map plain (p .args)) ∙ ap (keyTuple (keysOf (c ∷ [])) (keyLabels (c .labels))) k
           ∙ sym (tuple-kept (keysOf (c ∷ [])) (c .labels) (map plain (q .args))) ∙ sym eq
 
   cover : (ps : List (Atom Argument)) → all (covered ps) (d ∷ []) ≡ all (covered ps) (c ∷ [])
   cover ps =
       ap (λ (b : Bool). b && true)
-      (any-same (λ (p : Atom Argument). eqb (d .rel) (p .rel) && countedCleared (d .labels) (p .args)) (λ (p : Atom Argument). eqb (c .rel) (p .rel) && countedCleared (c .labels) (p .args)) ps
+      (any-same (λ (p : Atom Argument). eqb (d .rel) (p .rel) && countedCleared (d .labels) (p .args))
+      (λ (p : Atom Argument). eqb (c .rel) (p .rel) && countedCleared (c .labels) (p .args)) ps
       (λ p. ap₂ (λ (r : ℕ) (b : Bool). eqb r (p .rel) && b) (sym rel) (sym (marked-cleared (c .labels) (d .labels) (p .args) marked))))
 
 pub shape-is-renaming : ShapeIsRenaming
@@ -225,7 +246,8 @@ shape-is-renaming D c d lc = (into, back)
           (
             (λ k. getD (keyTuple n (c .labels) vs) k 0),
             marked-renamed (keyTuple n (c .labels) vs) (c .labels) (d .labels) m
-                (tuple-reads n (c .labels) vs 0 (marked-length (c .labels) (d .labels) m ∙ sym (length-map (d .labels) number)) (legal-labels D c lc)),
+                (tuple-reads n (c .labels) vs 0 (marked-length (c .labels) (d .labels) m ∙ sym (length-map (d .labels) number))
+                (legal-labels D c lc)),
           ),
         )
 
@@ -233,4 +255,6 @@ shape-is-renaming D c d lc = (into, back)
     back (e, (σ, q)) = and-i (eq-eqb (c .rel) (d .rel) e) (ap (sameList sameMark (c .labels)) q ∙ renamed-marked σ (c .labels))
 
 pub renamed-alike : RenamedAlike
-renamed-alike D c d lc ld sh = sym (rows-alike (single D c) (single D d) refl (answer D c d lc ld sh) (λ p. keepsKeys c p ≡ true) (legal-bound D c lc) (tuples D c d lc ld sh) (keeps D c d lc ld sh) (cover D c d lc ld sh))
+renamed-alike D c d lc ld sh =
+    sym (rows-alike (single D c) (single D d) refl (answer D c d lc ld sh) (λ p. keepsKeys c p ≡ true) (legal-bound D c lc)
+    (tuples D c d lc ld sh) (keeps D c d lc ld sh) (cover D c d lc ld sh))

@@ -30,7 +30,8 @@ name-action-requires : tie.Need-name-action-requires
 name-action-requires c κs = (c .before .before .before .before .before .before .pre .0, search needs)
 
 returns : tie.Need-returns
-returns c D a A l only = c .before .before .before .before .name-action .ensures .1 .1 .1 D a A l [] (replicate 128 0) 0 (listed-empty (replicate 128 0)) .1
+returns c D a A l only =
+    c .before .before .before .before .name-action .ensures .1 .1 .1 D a A l [] (replicate 128 0) 0 (listed-empty (replicate 128 0)) .1
 
 new-requires : tie.Need-new-requires
 new-requires c κs = search needs
@@ -38,7 +39,8 @@ new-requires c κs = search needs
 returns-2 : tie.Need-returns-2
 returns-2 c D a A l only =
     let none = sym (c .before .before .mentions .ensures) ∙ c .before .if1 .left in
-    c .new .ensures ∙ unmentioned A (c .before .before .before .before .args .relation) (c .before .before .before .before .args .n) (c .before .before .before .before .pre .1 .0) only none
+    c .new .ensures ∙ unmentioned A (c .before .before .before .before .args .relation) (c .before .before .before .before .args .n)
+    (c .before .before .before .before .pre .1 .0) only none
 
 pub summarize-spec : {M : Type 1} → statement M
 summarize-spec =
