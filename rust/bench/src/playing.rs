@@ -68,6 +68,7 @@ fn single_runs(domain: &[u8]) {
         ("M12, refused", &m1[..], runs::m12(), CONDITION_FAILS),
         ("Rovers, 20 steps", &rovers, runs::rovers_20(), PLAYED),
         ("5,000 steps of 1 event", domain, runs::single_events(5_000), PLAYED),
+        ("5,000 steps that clear", domain, runs::clearing_events(5_000), PLAYED),
         ("1,000 steps of 16 events", domain, runs::full_steps(1_000), PLAYED),
         ("10,000 empty, 32 open", domain, runs::empty_steps(10_000), PLAYED),
         ("lending, 1 MB", domain, runs::lending(1_000_000), PLAYED),

@@ -22,6 +22,11 @@ lasting lend(left, right, from, reader)
     all false closed(left)
     end add lent(left, right, reader)
 
+at once put(left, right, from, to)
+    true stands(left, right, from)
+    add stands(left, right, to)
+    delete stands(left, right, *)
+
 lasting give-back(left, right, reader, to)
     start true lent(left, right, reader)
     start delete lent(left, right, reader)
@@ -35,7 +40,8 @@ const STANDS: u8 = 0;
 const PRESENT: u8 = 2;
 const MOVE: u8 = 0;
 const LEND: u8 = 1;
-const GIVE_BACK: u8 = 2;
+const PUT: u8 = 2;
+const GIVE_BACK: u8 = 3;
 
 /// The events of a full step, and half the objects: the first half is shelves, the second readers.
 const FULL: usize = 16;
@@ -81,11 +87,15 @@ fn close(mut records: Vec<Rec>) -> Vec<u8> {
 
 /// So many volumes, and so many steps of so many events, each moving a volume to its next shelf.
 pub fn moves(volumes: usize, steps: usize, events: usize) -> Vec<u8> {
+    moves_by(MOVE, volumes, steps, events)
+}
+
+fn moves_by(action: u8, volumes: usize, steps: usize, events: usize) -> Vec<u8> {
     let mut records = start(volumes);
     for step in 0..steps {
         for moved in step * events..(step + 1) * events {
             let (number, times) = (moved % volumes, moved / volumes);
-            records.push(event(0, MOVE, number, shelf(number, times), shelf(number, times + 1)));
+            records.push(event(0, action, number, shelf(number, times), shelf(number, times + 1)));
         }
         records.push(rec(19, []));
     }
@@ -95,6 +105,11 @@ pub fn moves(volumes: usize, steps: usize, events: usize) -> Vec<u8> {
 /// Steps of one event over 1,000 facts.
 pub fn single_events(steps: usize) -> Vec<u8> {
     moves(1_000, steps, 1)
+}
+
+/// The same with the volume struck from every shelf: a delete that clears.
+pub fn clearing_events(steps: usize) -> Vec<u8> {
+    moves_by(PUT, 1_000, steps, 1)
 }
 
 /// Steps of 16 events over 1,000 facts.
@@ -178,6 +193,7 @@ mod tests {
         assert_eq!(model::judge(&domain, &mut [0; 64], &mut []).number, 1);
         for (run, steps, facts) in [
             (single_events(5_000), 5_000, 1_000),
+            (clearing_events(5_000), 5_000, 1_000),
             (full_steps(1_000), 1_000, 1_000),
             (empty_steps(10_000), 10_002, 960 - 32 + 32),
             (lending(1_000_000), 4 * 1_513, 960 + 32),

@@ -53,8 +53,8 @@ pub fn service_lines(kind: &str) -> Vec<Serving> {
     lines(kind, serving_line)
 }
 
-/// What a line may begin with.
-const KINDS: [&str; 3] = ["judge", "play", "totals"];
+/// What a line may begin with. Classes are looked at in the model alone.
+const KINDS: [&str; 4] = ["judge", "play", "classes", "totals"];
 
 fn lines<T>(kind: &str, read: impl Fn(usize, &[&str]) -> Option<T>) -> Vec<T> {
     let text = include_str!("../../cases/edges.txt");

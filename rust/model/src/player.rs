@@ -52,7 +52,7 @@ const CLOSE_RUN: u16 = 20;
 /// Plays a run file on a domain file.
 pub fn play(domain_file: &[u8], run_file: &[u8], work: &mut [u8]) -> Played {
     let refused = |number, first, part| Played { number, first, second: 0, third: 0, steps: 0, weight: 0, part };
-    // "run, after 9 to 23" (25 with P1); "for 9 the whole domain file"
+    // "run, after 9 to 23" (27 with P1 and P4); "for 9 the whole domain file"
     let domain = match read(domain_file) {
         Ok(domain) => domain,
         Err(stop) => {

@@ -109,6 +109,19 @@ fn play_line(fields: &[&str]) {
     }
 }
 
+fn classes_line(fields: &[&str]) {
+    let &[_, name, domain, numbers] = fields else { panic!("not 4 fields") };
+    let domain = model::read(&bytes(domain)).unwrap_or_else(|stop| panic!("{name}: {stop:?}"));
+    let mut of_actions: Vec<Vec<u8>> = Vec::new();
+    for action in &domain.actions {
+        let classes = model::classes::classes(&domain.template, action);
+        let number = |literal: usize| classes.iter().position(|class| class.literals.into_iter().any(|l| l == literal));
+        of_actions.push((0..action.literals.len()).map(|literal| number(literal).map_or(0xFF, |n| n as u8)).collect());
+    }
+    let told: Vec<Vec<u8>> = numbers.split(' ').map(bytes).collect();
+    assert_eq!(of_actions, told, "{name}");
+}
+
 /// A service on one file, in memory of the length told; where it is done also in just the room needed, which is what
 /// it tells, and in one byte less.
 fn service_line(fields: &[&str], service: impl Fn(&[u8], &mut [u8]) -> Served) {
@@ -148,6 +161,7 @@ fn every_edge() {
         let outcome = std::panic::catch_unwind(|| match kind {
             "judge" => judge_line(&fields),
             "play" => play_line(&fields),
+            "classes" => classes_line(&fields),
             "totals" => service_line(&fields, model::totals),
             _ => panic!("no such kind: {kind:?}"),
         });
