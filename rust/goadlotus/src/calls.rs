@@ -41,7 +41,7 @@ mod raw {
 /// The answer of judging: the number with its three places.
 #[derive(Clone, Copy, PartialEq, Eq, Debug)]
 pub struct Judgement {
-    /// 0, 1, 9 to 25, 30, 31, or 40 to 43.
+    /// 0, 1, 9 to 27, 30, 31, or 40 to 43.
     pub number: u64,
     pub first: u64,
     pub second: u64,
@@ -77,7 +77,7 @@ pub fn judge(file: &[u8], report: &mut [u8], witness: &mut [u8]) -> Judgement {
 /// The answer of playing.
 #[derive(Clone, Copy, PartialEq, Eq, Debug)]
 pub struct Played<'a> {
-    /// 2, 9 to 25, or 50 to 58.
+    /// 2, 9 to 27, or 50 to 58.
     pub number: u64,
     /// The offset of the faulty record; 0 for 2, 9 and 58.
     pub place: u64,
@@ -99,7 +99,7 @@ pub enum Part<'a> {
 /// Plays a run file on a domain file.
 ///
 /// 2 and 50 to 57 write the first 8,192 bytes of work memory: the facts held, 8 bytes each, then zeros. All other
-/// bytes stay as they were; 9 to 25 and 58 write nothing. Every length will do, 0 too.
+/// bytes stay as they were; 9 to 27 and 58 write nothing. Every length will do, 0 too.
 pub fn play<'a>(domain: &'a [u8], run: &'a [u8], work: &mut [u8]) -> Played<'a> {
     // As in `judge`: what the call left alone wouldn't look like an answer.
     let (mut place, mut steps, mut weight) = (u64::MAX, u64::MAX, u64::MAX);
