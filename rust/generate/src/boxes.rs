@@ -27,7 +27,7 @@ pub fn any_file(rng: &mut Rng) -> Vec<u8> {
         80..=129 => valid(rng).file(),
         130..=179 => damaged(rng),
         180..=195 => random(rng),
-        196..=198 => Vec::new(),
+        196..=197 => Vec::new(),
         _ => near_limit(rng),
     }
 }

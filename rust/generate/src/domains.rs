@@ -298,7 +298,7 @@ fn template(rng: &mut Rng, mood: Mood, size: Size) -> Plan {
         Mood::Accepted0 | Mood::Unbounded42 => rng.pick(&[0, 0, 50, 100]),
         _ => rng.pick(&[0, 50, 100]),
     };
-    let least = if mood == Mood::Bounded43 { 2 } else { 1 };
+    let least = if mood == Mood::Bounded43 && percent < 100 { 2 } else { 1 };
     let mut relations: Vec<(u8, Option<Vec<u8>>)> = Vec::new();
     for _ in 0..rng.small(least, size.components.max(least)) {
         let mut labels: Vec<u8> = (0..n as u8).collect();

@@ -300,6 +300,10 @@ pub struct Template {
 pub type Tuple<T> = [T; ARITY];
 
 impl Template {
+    fn empty() -> Template {
+        Template { n: 0, components: Vec::new(), component_of: [None; RELATIONS] }
+    }
+
     /// The component of a relation.
     pub fn component(&self, relation: u8) -> Option<&Component> {
         let number = (*self.component_of.get(relation as usize)?)?;
@@ -379,11 +383,7 @@ pub fn read(file: &[u8]) -> Result<Domain, Stop> {
     if file.len() > FILE {
         return Err(Stop::at(9, 0));
     }
-    let mut domain = Domain {
-        relations: Vec::new(),
-        actions: Vec::new(),
-        template: Template { n: 0, components: Vec::new(), component_of: [None; RELATIONS] },
-    };
+    let mut domain = Domain { relations: Vec::new(), actions: Vec::new(), template: Template::empty() };
     let mut at = 0;
     loop {
         // "10 cut short or no closing record"; "(... missing closing: file length)"
@@ -402,6 +402,13 @@ pub fn read(file: &[u8]) -> Result<Domain, Stop> {
 }
 
 impl Domain {
+    /// Makes this component the whole template, by the rules for the first component of a file; the number
+    /// if they refuse it.
+    pub fn set_template(&mut self, relation: u8, labels: &[u8]) -> Result<(), u8> {
+        self.template = Template::empty();
+        self.component(&[&[relation], labels].concat()).map_err(|fault| fault.number)
+    }
+
     /// Takes in one whole record, or tells its fault.
     fn take(&mut self, record: &Record) -> Result<(), Fault> {
         self.head(record.kind)?;

@@ -162,6 +162,7 @@ fn every_edge() {
             "judge" => judge_line(&fields),
             "play" => play_line(&fields),
             "classes" => classes_line(&fields),
+            "templates" => service_line(&fields, model::templates),
             "totals" => service_line(&fields, model::totals),
             _ => panic!("no such kind: {kind:?}"),
         });
