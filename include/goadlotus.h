@@ -1,11 +1,12 @@
 /*
- * goadlotus: judging a domain file, playing a run, and counting a box of files. The library is libgoadlotus.a, in lib/ of a
- * release, and in target/staticlib/ of a checkout, where `rt staticlib goadlotus` writes it; it links
- * into x86-64 programs.
+ * goadlotus: judging a domain file, playing a run, listing the templates of a single component, and
+ * counting a box of files. The library is libgoadlotus.a, in lib/ of a release, and in target/staticlib/
+ * of a checkout, where `rt staticlib goadlotus` writes it; it links into x86-64 programs.
  *
  * goadlotus_judge_file and goadlotus_play_files, at the end, bring the memory and say how many rows and
- * facts were written; goadlotus_judge and goadlotus_play work in memory that the caller lends.
- * goadlotus_count_box and goadlotus_totals count a box in the same two ways.
+ * facts were written; goadlotus_judge and goadlotus_play work in memory that the caller lends. In the
+ * same two ways goadlotus_list_templates and goadlotus_templates list templates, goadlotus_count_box and
+ * goadlotus_totals count a box.
  */
 #ifndef GOADLOTUS_H
 #define GOADLOTUS_H
@@ -19,8 +20,10 @@
 #define GOADLOTUS_REPORT_SIZE  32768 /* memory for the report that is enough for every file */
 #define GOADLOTUS_WITNESS_SIZE   512 /* memory for the witness that is enough for every file */
 #define GOADLOTUS_WORK_SIZE     8192 /* work memory that playing needs */
+#define GOADLOTUS_TEMPLATES_SIZE 1344 /* memory for the list of templates that is enough for every file */
 #define GOADLOTUS_TOTALS_SIZE    568 /* the totals of a box: 71 numbers of 8 bytes */
 #define GOADLOTUS_ROW_SIZE         4 /* a row of the report */
+#define GOADLOTUS_TEMPLATE_SIZE    3 /* an entry of the list of templates */
 #define GOADLOTUS_FACT_SIZE        8 /* a fact of the witness or of work memory */
 
 /* The numbers that the calls return. */
@@ -47,7 +50,7 @@ enum goadlotus_number {
     GOADLOTUS_COUNTED_TWICE      = 25, /* FF twice in a component */
     GOADLOTUS_WRONG_CLEARING     = 26, /* FF in a literal that can't clear, or twice */
     GOADLOTUS_KEY_CLEARED        = 27, /* a key where a literal of the relation has FF */
-    GOADLOTUS_REPORT_TOO_SMALL   = 30, /* report or totals memory too small */
+    GOADLOTUS_REPORT_TOO_SMALL   = 30, /* report memory too small, or that of a service */
     GOADLOTUS_WITNESS_TOO_SMALL  = 31, /* witness memory too small */
     GOADLOTUS_BOX_CUT            = 33, /* box cut inside a length or a file */
     GOADLOTUS_REFUSED_HEAVY      = 40, /* refused: heavy */
@@ -174,6 +177,30 @@ uint64_t goadlotus_play(const uint8_t *domain, size_t domain_len,
                         uint64_t *part_file, uint64_t *part_at);
 
 /*
+ * Lists the templates of a single component that the domain in the file_len bytes at file could have, each
+ * with its verdict; the file's own components are checked and left aside. The number is returned, and its
+ * place always comes back in *first.
+ *
+ *    0        listed: *first is the number of bytes written.
+ *    9 to 27  not well-formed; the same number and first place as from goadlotus_judge.
+ *   30        list_len is too short for the whole list. *first is 0.
+ *
+ * No other number is returned. The list has 3 bytes for each template: relation, counted place (FF for
+ * none), and the verdict, 0, 1 or 40 to 43, that goadlotus_judge would return with memory enough for the
+ * file with this template in place of its own. Relations rise; of each comes first the template without a
+ * counted place, then those with one, the place rising. Keys are numbered from left to right; how they are
+ * numbered changes no verdict. A template that puts a key where a literal of the relation has FF (27) is
+ * passed over, every other one is there once.
+ *
+ * 9 to 30 write nothing; all other bytes of list stay as they were, and the file stays as it was. No length
+ * is ever exceeded, in reading or in writing, whatever the file says. GOADLOTUS_TEMPLATES_SIZE bytes are
+ * enough for every file. All lengths may be any, 0 too. file, list and first must not overlap; no pointer
+ * may be null, not even one to 0 bytes, and first must be aligned.
+ */
+uint64_t goadlotus_templates(const uint8_t *file, size_t file_len,
+                             uint8_t *list, size_t list_len, uint64_t *first);
+
+/*
  * Counts the files_len bytes at files, a box: domain files in a row, each behind its length in 4 bytes,
  * little-endian. The number is returned, and its place always comes back in *first.
  *
@@ -252,6 +279,21 @@ static inline uint64_t goadlotus_play_files(const uint8_t *domain, size_t domain
                                     &played->part_at);
     played->facts = goadlotus_count_facts(played->work, sizeof played->work);
     return played->number;
+}
+
+/* The templates of a file. */
+struct goadlotus_listed {
+    uint64_t number, first;
+    size_t templates;                        /* how many there are */
+    uint8_t list[GOADLOTUS_TEMPLATES_SIZE];  /* relation, counted place or FF, verdict */
+};
+
+/* Lists the templates of a domain file; the number is also returned, and is never 30. */
+static inline uint64_t goadlotus_list_templates(const uint8_t *file, size_t file_len, struct goadlotus_listed *listed) {
+    memset(listed, 0, sizeof *listed);
+    listed->number = goadlotus_templates(file, file_len, listed->list, sizeof listed->list, &listed->first);
+    listed->templates = listed->number == 0 ? (size_t)listed->first / GOADLOTUS_TEMPLATE_SIZE : 0;
+    return listed->number;
 }
 
 /* The totals of a box. */

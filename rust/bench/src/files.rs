@@ -44,6 +44,8 @@ pub enum Shape {
     Classes,
     /// 63 literals in 21 classes that are journeys, and one literal more.
     Journeys,
+    /// 64 literals, one of each relation.
+    Relations,
 }
 
 /// So many actions of one shape. 64 actions of 64 literals, over 64 relations of arity 6 and 16
@@ -57,7 +59,7 @@ pub fn dense(actions: usize, shape: Shape) -> Vec<u8> {
             let communicate = plan.actions.swap_remove(rovers.action("communicate_soil_data") as usize);
             plan.actions = vec![communicate; actions];
         }
-        Shape::Classes | Shape::Journeys => {
+        Shape::Classes | Shape::Journeys | Shape::Relations => {
             plan.relations = vec![6; 64];
             // Five keys, in another order for each component.
             for component in 0..16u8 {
@@ -65,7 +67,11 @@ pub fn dense(actions: usize, shape: Shape) -> Vec<u8> {
                 labels.rotate_left(component as usize % 6);
                 plan.components.push((4 * component, labels));
             }
-            let action = if shape == Shape::Classes { classes } else { journeys };
+            let action = match shape {
+                Shape::Classes => classes,
+                Shape::Journeys => journeys,
+                _ => relations,
+            };
             plan.actions = (0..actions).map(action).collect();
         }
     }
@@ -102,6 +108,17 @@ fn journeys(number: usize) -> PlanAction {
     action
 }
 
+/// True conditions, deletes and adds by turns, each of a relation of its own.
+fn relations(number: usize) -> PlanAction {
+    let mut action = PlanAction::new(16, true);
+    for relation in 0..63 {
+        let variables = (0..6).map(|place| ((number + relation + place * place) % 16) as u8).collect();
+        action.push([START, START_DELETE, END_ADD, END_DELETE][relation % 4], relation as u8, variables);
+    }
+    action.push(OVER_ALL, 63, vec![0, 1, 2, 3, 4, 5]);
+    action
+}
+
 #[cfg(test)]
 mod tests {
     use super::*;
@@ -132,5 +149,16 @@ mod tests {
         }
         assert_eq!(dense(64, Shape::Classes).len(), 50_036);
         assert_eq!(dense(64, Shape::Journeys).len(), 50_036);
+    }
+
+    /// The list of the last shape has every template, accepted and refused ones.
+    #[test]
+    fn all_relations_are_listed() {
+        let file = dense(64, Shape::Relations);
+        let mut list = [0; 1_344];
+        let served = model::templates(&file, &mut list);
+        assert_eq!((served.number, served.first, file.len()), (0, 1_344, 50_036));
+        let refused = list.chunks_exact(3).filter(|entry| entry[2] >= 40).count();
+        assert!((50..400).contains(&refused), "{refused}");
     }
 }

@@ -107,6 +107,35 @@ fn growth() {
     }
 }
 
+/// The list of every one-relation template.
+fn lists() {
+    println!("\nlisting the one-relation templates, nanoseconds");
+    println!("{:24} {:>6} {:>7} {:>12} {:>12} {:>7}", "file", "bytes", "entries", "library", "model", "ratio");
+    for (name, file) in [
+        ("M1", files::m1()),
+        ("Rovers, 9 actions", files::rovers()),
+        ("64 x 64, 16 named", files::dense(64, Shape::Journeys)),
+        ("64 x 64, all named", files::dense(64, Shape::Relations)),
+    ] {
+        let (mut of_library, mut of_model) = ([0; goadlotus::TEMPLATES], [0; goadlotus::TEMPLATES]);
+        let served = goadlotus::templates(&file, &mut of_library);
+        let by_model = model::templates(&file, &mut of_model);
+        let same = (served.number, served.first) == (by_model.number.into(), by_model.first as u64);
+        assert!(same && of_library == of_model && served.number == 0, "{name}: library and model differ");
+        let timed = take_turns(
+            || {
+                black_box(goadlotus::templates(black_box(&file), black_box(&mut of_library)));
+            },
+            || {
+                black_box(model::templates(black_box(&file), black_box(&mut of_model)));
+            },
+        );
+        let (library, model) = (timed.library, timed.model);
+        let (bytes, entries) = (file.len(), served.first / 3);
+        println!("{name:24} {bytes:>6} {entries:>7} {library:>12.0} {model:>12.0} {:>7.2}", library / model);
+    }
+}
+
 /// How many bytes of files are counted.
 const BOX: usize = 100_000_000;
 
@@ -145,5 +174,6 @@ fn totals() {
 pub fn print() {
     single_files();
     growth();
+    lists();
     totals();
 }

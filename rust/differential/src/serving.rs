@@ -18,6 +18,10 @@ pub struct Service {
     most: usize,
 }
 
+/// P5: every one-relation template.
+pub const TEMPLATES: Service =
+    Service { library: goadlotus::templates, model: model::templates, most: goadlotus::TEMPLATES };
+
 /// P11: figures for a box of files.
 pub const TOTALS: Service = Service { library: goadlotus::totals, model: model::totals, most: goadlotus::TOTALS };
 

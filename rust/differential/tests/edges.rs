@@ -4,7 +4,7 @@
 
 use differential::judging::{compare, expect, expect_at_all_lengths, Judgement};
 use differential::playing::{self, Played, WORK};
-use differential::serving::{self, TOTALS};
+use differential::serving::{self, Service, TEMPLATES, TOTALS};
 use differential::{edges, exact};
 
 const JUDGES: [fn(&[u8], &mut [u8], &mut [u8]) -> Judgement; 2] = [goadlotus::judge, exact::judge];
@@ -120,26 +120,35 @@ fn every_work_length_every_cut_and_every_flip_of_a_run() {
     println!("{cases} cases");
 }
 
-/// Boxes, in memory of every length, and cut everywhere.
-#[test]
-fn every_totals_line() {
-    let lines = edges::service_lines("totals");
+/// The lines of a service, in memory of every length, and cut everywhere.
+fn every_line(kind: &str, service: Service) {
+    let lines = edges::service_lines(kind);
     for (salt, edge) in lines.iter().enumerate() {
         let name = format!("line {}, {}", edge.line, edge.name);
-        let exactly = |file: &[u8], memory: &mut [u8]| exact::serve(TOTALS, file, memory);
-        serving::expect(TOTALS.library, &name, &edge.file, edge.lent, edge.served, &edge.written);
+        let exactly = |file: &[u8], memory: &mut [u8]| exact::serve(service, file, memory);
+        serving::expect(service.library, &name, &edge.file, edge.lent, edge.served, &edge.written);
         serving::expect(exactly, &name, &edge.file, edge.lent, edge.served, &edge.written);
         for lent in 0..=edge.written.len() + 9 {
-            if let Err(text) = TOTALS.compare(exactly, &edge.file, lent, salt) {
+            if let Err(text) = service.compare(exactly, &edge.file, lent, salt) {
                 panic!("{name}\n{text}");
             }
         }
         for cut in 0..edge.file.len() {
-            if let Err(text) = TOTALS.compare(exactly, &edge.file[..cut], edge.lent, salt) {
+            if let Err(text) = service.compare(exactly, &edge.file[..cut], edge.lent, salt) {
                 panic!("{name}, cut at {cut}\n{text}");
             }
         }
     }
-    println!("edges.txt: {} totals lines run", lines.len());
+    println!("edges.txt: {} {kind} lines run", lines.len());
     assert!(!lines.is_empty());
+}
+
+#[test]
+fn every_templates_line() {
+    every_line("templates", TEMPLATES);
+}
+
+#[test]
+fn every_totals_line() {
+    every_line("totals", TOTALS);
 }

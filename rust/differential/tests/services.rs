@@ -3,9 +3,11 @@
 //!
 //! `GOADLOTUS_CASES` is the least number of cases of each service, `GOADLOTUS_SEED` the first seed.
 
+use differential::judging;
 use differential::seeds::{run, setting, show, Counted as _};
-use differential::serving::{Counts, Serve, Served, Service, TOTALS};
+use differential::serving::{Counts, Serve, Served, Service, TEMPLATES, TOTALS};
 use generate::boxes::{any_box, any_file, packed, small};
+use generate::records::{encode, rec, Rec};
 use generate::rng::Rng;
 
 /// The least number of cases that one file gives.
@@ -19,6 +21,16 @@ struct Tried {
     file: fn(u64) -> Vec<u8>,
     numbers: &'static [u64],
 }
+
+/// The files that judging is tried on.
+fn domain_file(seed: u64) -> Vec<u8> {
+    judging::file(seed).1
+}
+
+/// What refuses a domain file, what a short memory gives, and done.
+const OF_ONE_FILE: &[u64] = &[0, 9, 10, 11, 12, 13, 14, 15, 16, 17, 18, 19, 20, 21, 22, 23, 24, 25, 26, 27, 30];
+
+const OF_TEMPLATES: Tried = Tried { service: TEMPLATES, file: domain_file, numbers: OF_ONE_FILE };
 
 fn box_of_files(seed: u64) -> Vec<u8> {
     any_box(&mut Rng::new(seed))
@@ -103,6 +115,63 @@ fn wrong_ones_are_caught(tried: &Tried) {
         let served = model(file, memory);
         if served.number == 0 && served.first > 0 {
             memory[served.first as usize - 1] ^= 1;
+        }
+        served
+    });
+}
+
+#[test]
+fn templates_agree() {
+    agree("templates", OF_TEMPLATES, 30_000);
+}
+
+/// Relations of every arity that no action speaks of, up to the longest list there is, in memory of every length around it.
+#[test]
+fn templates_of_bare_relations() {
+    for (relations, arity) in (0..=6).map(|arity| (64, arity)).chain((1..=64).map(|relations| (relations, 3))) {
+        let mut records: Vec<Rec> = (0..relations).map(|_| rec(1, [arity])).collect();
+        records.extend([rec(4, [vec![0], (0..arity).collect()].concat()), rec(5, [])]);
+        let file = encode(&records);
+        let room = 3 * relations as usize * (1 + arity as usize);
+        for lent in [0, 1, room - 1, room, room + 1] {
+            match TEMPLATES.compare(TEMPLATES.library, &file, lent, lent) {
+                Ok(served) if lent >= room => assert_eq!((served.number, served.first), (0, room as u64)),
+                Ok(served) => assert_eq!((served.number, served.first), (30, 0)),
+                Err(text) => panic!("{text}"),
+            }
+        }
+    }
+}
+
+#[test]
+fn wrong_templates_are_caught() {
+    wrong_ones_are_caught(&OF_TEMPLATES);
+    let model = |file: &[u8], list: &mut [u8]| TEMPLATES.model(file, list);
+    let listed = |served: Served| (served.number == 0).then_some(served.first as usize);
+    // the counted place before none, the relations falling, and the verdict of the file's own template in every entry
+    caught(&OF_TEMPLATES, move |file: &[u8], list: &mut [u8]| {
+        let served = model(file, list);
+        if let Some(end) = listed(served) {
+            let entries: Vec<[u8; 3]> = list[..end].chunks_exact(3).map(|entry| entry.try_into().unwrap()).collect();
+            let mut sorted = entries.clone();
+            sorted.sort();
+            list[..end].copy_from_slice(&sorted.concat());
+        }
+        served
+    });
+    caught(&OF_TEMPLATES, move |file: &[u8], list: &mut [u8]| {
+        let served = model(file, list);
+        if let Some(end) = listed(served) {
+            let entries: Vec<u8> = list[..end].chunks_exact(3).rev().flatten().copied().collect();
+            list[..end].copy_from_slice(&entries);
+        }
+        served
+    });
+    caught(&OF_TEMPLATES, move |file: &[u8], list: &mut [u8]| {
+        let served = model(file, list);
+        if let Some(end) = listed(served) {
+            let own = judging::model(file, &mut [0; 32_768], &mut [0; 512]).number as u8;
+            list[..end].chunks_exact_mut(3).for_each(|entry| entry[2] = own);
         }
         served
     });

@@ -28,6 +28,14 @@ mod raw {
             part_at: *mut u64,
         ) -> u64;
 
+        pub fn goadlotus_templates(
+            file: *const u8,
+            file_len: usize,
+            list: *mut u8,
+            list_len: usize,
+            first: *mut u64,
+        ) -> u64;
+
         pub fn goadlotus_totals(
             files: *const u8,
             files_len: usize,
@@ -137,17 +145,32 @@ pub struct Served {
     pub first: u64,
 }
 
+/// A call that reads one slice and writes one.
+type Service = unsafe extern "C" fn(*const u8, usize, *mut u8, usize, *mut u64) -> u64;
+
+fn serve(service: Service, read: &[u8], memory: &mut [u8]) -> Served {
+    // As in `judge`: what the call left alone wouldn't look like an answer.
+    let mut first = u64::MAX;
+    // SAFETY: each slice is passed with its own length, which the call never exceeds; no pointer is null; what is
+    // written is borrowed mutably, so nothing overlaps.
+    let number = unsafe { service(read.as_ptr(), read.len(), memory.as_mut_ptr(), memory.len(), &mut first) };
+    Served { number, first }
+}
+
+/// Lists every template of a single component that a domain file could have, its own left aside: relation, counted place
+/// (`FF` for none) and verdict, a byte each.
+///
+/// 9 to 27 refuse the file as judging does, with the place; 30 a list that is too short for the whole; both write nothing.
+/// Every length will do, 0 too; bytes behind the list stay as they were.
+pub fn templates(file: &[u8], list: &mut [u8]) -> Served {
+    serve(raw::goadlotus_templates, file, list)
+}
+
 /// Counts a box of domain files, each behind its length in 4 bytes, little-endian: how many met each number from 0 to
 /// 63, then how many moments had each of the seven names, 8 bytes each, little-endian.
 ///
 /// 33 tells a box that is cut inside a length or a file, with the offset of that length; 30 totals of under 568 bytes;
 /// both write nothing. Every length will do, 0 too; bytes behind the totals stay as they were.
 pub fn totals(files: &[u8], totals: &mut [u8]) -> Served {
-    // As in `judge`: what the call left alone wouldn't look like an answer.
-    let mut first = u64::MAX;
-    // SAFETY: each slice is passed with its own length, which the call never exceeds; no pointer is null; what is
-    // written is borrowed mutably, so nothing overlaps.
-    let number =
-        unsafe { raw::goadlotus_totals(files.as_ptr(), files.len(), totals.as_mut_ptr(), totals.len(), &mut first) };
-    Served { number, first }
+    serve(raw::goadlotus_totals, files, totals)
 }

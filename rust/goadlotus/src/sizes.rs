@@ -12,11 +12,17 @@ pub const WITNESS: usize = 512;
 /// The bytes of work memory that playing needs.
 pub const WORK: usize = 8_192;
 
+/// Memory for the list of templates that is enough for every file: 64 relations of 7 templates.
+pub const TEMPLATES: usize = 1_344;
+
 /// The totals of a box: 71 numbers of 8 bytes.
 pub const TOTALS: usize = 568;
 
 /// A row of the report.
 pub const ROW: usize = 4;
+
+/// An entry of the list of templates.
+pub const TEMPLATE: usize = 3;
 
 /// A fact of the witness or of work memory.
 pub const FACT: usize = 8;

@@ -84,6 +84,6 @@ fn written<const N: usize>(memory: &[u8], holds: impl Fn(&[u8; N]) -> bool) -> u
 }
 
 /// The contracts of the calls leave no other number.
-fn known(value: u64) -> Number {
+pub(crate) fn known(value: u64) -> Number {
     Number::of(value).unwrap_or_else(|| panic!("the library answers {value}, which is no number of this version"))
 }

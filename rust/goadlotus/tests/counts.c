@@ -1,5 +1,6 @@
-/* Prints what the header's own functions tell of a domain file and a run file: verdict, rows, facts of the witness; number, facts held; of a
- * box with the domain file twice, how many met its verdict and how many moments had each name; of that box cut by a byte, number and place. */
+/* Prints what the header's own functions tell of a domain file and a run file: verdict, rows, facts of the witness; number, facts held; number
+ * and templates of the list, and the last of them; of a box with the domain file twice, how many met its verdict and how many moments had
+ * each name; of that box cut by a byte, number and place. */
 #include "goadlotus.h"
 #include <inttypes.h>
 #include <stdio.h>
@@ -8,6 +9,7 @@ static uint8_t domain[GOADLOTUS_FILE_LIMIT + 1], run[1 << 20];
 static uint8_t box[2 * (sizeof domain + 4)];
 static struct goadlotus_judged judged;
 static struct goadlotus_played played;
+static struct goadlotus_listed listed;
 static struct goadlotus_counted counted;
 
 static size_t contents(const char *name, uint8_t *memory, size_t size) {
@@ -31,6 +33,10 @@ int main(int argc, char **argv) {
     goadlotus_judge_file(domain, domain_len, &judged);
     goadlotus_play_files(domain, domain_len, run, run_len, &played);
     printf("%" PRIu64 " %zu %zu\n%" PRIu64 " %zu\n", judged.number, judged.rows, judged.facts, played.number, played.facts);
+    memset(&listed, 0xAA, sizeof listed);
+    goadlotus_list_templates(domain, domain_len, &listed);
+    const uint8_t *last = listed.templates == 0 ? listed.list : listed.list + (listed.templates - 1) * GOADLOTUS_TEMPLATE_SIZE;
+    printf("%" PRIu64 " %zu %u %u %u\n", listed.number, listed.templates, last[0], last[1], last[2]);
     size_t box_len = put(put(0, domain_len), domain_len);
     memset(&counted, 0xAA, sizeof counted);
     goadlotus_count_box(box, box_len, &counted);

@@ -91,6 +91,15 @@ fn c_counts() {
             played.answer.number,
             played.facts().len() as u64,
         ];
+        let (number, templates) = match goadlotus::list_templates(&domain) {
+            Ok(templates) => (0, templates),
+            Err(refused) => (refused.number, Vec::new()),
+        };
+        let entry = |template: &goadlotus::Template| {
+            [template.relation.into(), template.counted.unwrap_or(0xFF).into(), template.verdict.value()]
+        };
+        counts.extend([number, templates.len() as u64]);
+        counts.extend(templates.last().map_or([0; 3], entry));
         // the box with the domain file twice, and cut in the second
         let named = |name| judged.rows().filter(|row| row.name as u64 == name).count() as u64;
         counts.extend([0, 568, 2]);

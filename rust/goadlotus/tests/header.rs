@@ -1,6 +1,6 @@
 //! include/goadlotus.h and this crate have the same sizes, numbers and names, and docs/FORMAT.md has every number.
 
-use goadlotus::{Name, Number, FACT, FILE_LIMIT, REPORT, ROW, TOTALS, WITNESS, WORK};
+use goadlotus::{Name, Number, FACT, FILE_LIMIT, REPORT, ROW, TEMPLATE, TEMPLATES, TOTALS, WITNESS, WORK};
 use std::fs;
 use std::path::Path;
 
@@ -66,8 +66,10 @@ fn sizes() {
         ("REPORT_SIZE", REPORT),
         ("WITNESS_SIZE", WITNESS),
         ("WORK_SIZE", WORK),
+        ("TEMPLATES_SIZE", TEMPLATES),
         ("TOTALS_SIZE", TOTALS),
         ("ROW_SIZE", ROW),
+        ("TEMPLATE_SIZE", TEMPLATE),
         ("FACT_SIZE", FACT),
     ];
     assert_eq!(defined, ours);
