@@ -15,6 +15,8 @@ plays runs of the procedures that change them
   goadlotus play DOMAIN RUN    a run step by step, where it stops and why
   goadlotus mark DOMAIN FILE   a student's names against the program's; of many
                                hand-ins or a folder a table
+  goadlotus templates FILE     every template of a single relation, and its
+                               verdict
   goadlotus totals FILE ..     how many files met each verdict or refusal, and
                                how many moments had each name
   goadlotus show FILE          a file in words
@@ -38,6 +40,7 @@ pub fn of(word: &str) -> String {
         "explain" => EXPLAIN,
         "mark" => MARK,
         "play" => PLAY,
+        "templates" => TEMPLATES,
         "totals" => TOTALS,
         "show" => SHOW,
         "write" => WRITE,
@@ -103,6 +106,20 @@ stands there.
 
 Status: 0 played to the end, 3 a step that isn't allowed, 4 a broken file, 1 a
 file can't be read.
+";
+
+const TEMPLATES: &str = "\
+goadlotus templates [--tsv | --json] FILE
+
+Every template of a single relation that the domain could have, each judged by
+itself; the file's own template is left aside. A line each: the template, its
+relation, the place that is counted (from 0; - for none), and the verdict, as
+number and in words. Relations stand in the order of the file; of each comes
+first the template that counts nothing. As columns, as TSV for a spreadsheet, or
+as JSON lines. Below the columns: which templates are passed over, since they
+have a key where a literal has *.
+
+Status: 0 listed, 4 a broken file, 1 it can't be read.
 ";
 
 const TOTALS: &str = "\

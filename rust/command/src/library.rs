@@ -2,7 +2,7 @@
 //! comes from here.
 
 use crate::records::put;
-pub use goadlotus::Name;
+pub use goadlotus::{Name, Template};
 
 /// A row of a report: the name of a class of an action at a moment.
 #[derive(Clone, Copy, PartialEq, Eq, Debug)]
@@ -68,6 +68,11 @@ pub fn judge(file: &[u8]) -> Judged {
         rows: judged.rows().map(Row::from).collect(),
         witness: judged.facts().map(Fact::from).collect(),
     }
+}
+
+/// The templates of a single component that a well-formed domain file could have.
+pub fn templates(file: &[u8]) -> Vec<Template> {
+    goadlotus::list_templates(file).unwrap_or_default()
 }
 
 /// What playing answers.

@@ -6,6 +6,7 @@ pub mod judge;
 pub mod mark;
 pub mod play;
 pub mod show;
+pub mod templates;
 pub mod totals;
 pub mod write;
 
@@ -24,11 +25,12 @@ struct Word {
 
 const NONE: Options = Options { form: false, output: false, rows: false, all: false, boxes: false };
 
-const WORDS: [Word; 7] = [
+const WORDS: [Word; 8] = [
     Word { name: "judge", options: Options { form: true, rows: true, ..NONE }, run: judge::run },
     Word { name: "explain", options: NONE, run: explain::run },
     Word { name: "mark", options: Options { form: true, rows: true, ..NONE }, run: mark::run },
     Word { name: "play", options: Options { all: true, ..NONE }, run: play::run },
+    Word { name: "templates", options: Options { form: true, ..NONE }, run: templates::run },
     Word { name: "totals", options: Options { form: true, all: true, boxes: true, ..NONE }, run: totals::run },
     Word { name: "show", options: Options { output: true, ..NONE }, run: show::run },
     Word { name: "write", options: Options { output: true, ..NONE }, run: write::run },
