@@ -4,9 +4,10 @@
 use differential::judging::{self, Judge};
 use differential::playing::{self, Play};
 use differential::samples::{files, folder, listed, played, states, Files, State};
+use differential::serving::TEMPLATES;
 use generate::literature::{Named, DEPOTS, DRIVERLOG, FLOORTILE, ROVERS, SATELLITE};
 use generate::records::encode;
-use goadlotus::{judge, Judgement};
+use goadlotus::{judge, Judgement, REPORT, WITNESS};
 use std::collections::BTreeSet;
 use std::fs;
 
@@ -238,6 +239,73 @@ fn the_page_has_the_templates() {
             assert_eq!(model::read(file).expect("a domain").template.components.len(), records.len() - 1 - template);
         }
     }
+}
+
+/// The section of the page about the templates of one relation.
+fn page_of_templates(files: &Files) -> String {
+    let page = text(files, PAGE);
+    let (_, section) = page.split_once("\n## Every template of one relation\n").expect("the section");
+    section.split("\n## ").next().unwrap_or_default().to_string()
+}
+
+/// The lists of templates that the page has are those of library and model: a line for each relation, the verdicts of the
+/// template that counts nothing, then by the counted place.
+#[test]
+fn the_page_lists_the_templates() {
+    let files = stored();
+    let section = page_of_templates(&files);
+    let m1 = String::from_utf8(fs::read(folder().join("m1.domain.txt")).expect("M1 in words")).expect("a text");
+    let domains = [
+        ("M1", "m1", m1.as_str()),
+        ("Floortile", "floortile-tile", FLOORTILE),
+        ("Depots", "depots-crate", DEPOTS),
+        ("DriverLog", "driverlog-package", DRIVERLOG),
+        ("Rovers", "rovers-position", ROVERS),
+        ("Satellite", "satellite-pointing", SATELLITE),
+    ];
+    assert_eq!(section.matches("\n### ").count(), domains.len());
+    for (title, name, named) in domains {
+        let named = Named::read(named);
+        let (_, told) = section.split_once(&format!("\n### {title}, `{name}.domain`\n")).expect("its list");
+        let lines = told.lines().skip_while(|line| !line.starts_with('|')).take_while(|line| line.starts_with('|'));
+        let mut list: Vec<u8> = Vec::new();
+        for cells in lines.skip(2).map(cells) {
+            let verdicts = cells[1..].iter().filter(|cell| !cell.is_empty());
+            for (count, verdict) in verdicts.enumerate() {
+                let counted = count.checked_sub(1).map_or(0xFF, |place| place as u8);
+                list.extend([named.relation(cells[0]), counted, verdict.parse().expect("a verdict")]);
+            }
+        }
+        for serve in [TEMPLATES.library, |file: &[u8], list: &mut [u8]| TEMPLATES.model(file, list)] {
+            let mut memory = vec![0; list.len()];
+            let served = serve(&files[&format!("{name}.domain")], &mut memory);
+            assert_eq!((served.number, served.first as usize), (0, list.len()), "{name}");
+            assert_eq!(memory, list, "{name}");
+        }
+    }
+}
+
+/// What the page says of the published templates of one relation: the verdict, and whether it is found.
+#[test]
+fn the_page_says_which_are_found() {
+    let section = page_of_templates(&stored());
+    let mut told = 0;
+    for cells in section.lines().filter(|line| line.starts_with("| ")).map(cells) {
+        let [domain, template, verdict, found] = cells[..] else { continue };
+        let text = match domain {
+            "Floortile" => FLOORTILE,
+            "Depots" => DEPOTS,
+            "Rovers" => ROVERS,
+            "Satellite" => SATELLITE,
+            _ => continue,
+        };
+        let file = Named::read(text).with(template).file();
+        let number = judge(&file, &mut [0; REPORT], &mut [0; WITNESS]).number;
+        assert_eq!(verdict, number.to_string(), "{template}");
+        assert_eq!(found.starts_with("Found"), number < 2, "{template}");
+        told += 1;
+    }
+    assert_eq!(told, 10);
 }
 
 /// The texts are those of the programs: for every stored file of the crates `samples` and `play_samples` the same as
