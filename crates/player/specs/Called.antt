@@ -1,11 +1,14 @@
 -- How the code answers a call of playing. Assumes nothing.
+use mathlib.Core.Bool.{Bool, cond}
 use mathlib.Core.List.{List}
 use Prim.Native.Nat.{ℕ}
 use lib.ListN.{drop}
 use Rattle.player.specs.declared.play.Fault.{Fault}
 use Rattle.player.specs.declared.play.Fault.the-variants.{Domain as InDomain, Run as InRun}
 use Rattle.player.specs.declared.play.PlayAnswer.{PlayAnswer}
-use Rattle.runs.specs.Play.{Outcome, placeOf, Returned, ofDomain, ofRun, Call}
+use Rattle.player.specs.declared.play.Tracked.{Tracked}
+use Rattle.runs.specs.Play.{Outcome, placeOf, Returned, ofDomain, ofRun, Call, call}
+use Rattle.runs.specs.Track.{Tracked as TrackedCall, tracked}
 
 -- "a part of the domain file or of the run file, from that record to the end"
 abbrev pub faultOf : Returned → Fault
@@ -36,7 +39,14 @@ partAt d r (InDomain at) = drop at d
 partAt d r (InRun at) = drop at r
 
 abbrev pub answerOf : Call → PlayAnswer
-answerOf c = record { number = c .answer .number; place = c .answer .first; steps = c .answer .steps; weight = c .answer .weight; fault = faultOf (c .part) }
+answerOf c =
+    record {
+      number = c .answer .number;
+      place = c .answer .first;
+      steps = c .answer .steps;
+      weight = c .answer .weight;
+      fault = faultOf (c .part);
+    }
 
 -- of a run that was played to its end or to its fault
 abbrev pub answerBy : Outcome → PlayAnswer
@@ -45,3 +55,11 @@ answerBy o = record { number = o .number; place = placeOf o; steps = o .steps; w
 -- of a call that plays nothing, 9 to 25 and 58
 abbrev pub answerUnplayed : ℕ → ℕ → Fault → PlayAnswer
 answerUnplayed number place fault = record { number = number; place = place; steps = 0; weight = 0; fault = fault }
+
+-- with an instance, or without one and its total
+unfoldable pub trackedIf : Bool → List ℕ → List ℕ → List ℕ → List ℕ → TrackedCall
+unfolding tracked call
+trackedIf given d y r w = cond given (tracked d y r w) (record { call = call d r w; total = 0 })
+
+abbrev pub trackedOf : TrackedCall → Tracked
+trackedOf t = record { played = answerOf (t .call); total = t .total }
