@@ -23,6 +23,7 @@ use literals::keys::put_places;
 use literals::limits::MAX_ACTIONS;
 use literals::limits::MAX_COMPONENTS;
 use literals::limits::MAX_LITERALS;
+use literals::limits::MAX_RELATIONS;
 use verdict::Notes;
 use verdict::Summary;
 ghost use mathlib.Core.Path.{_≡_};
@@ -285,8 +286,8 @@ impl Naming {
 }
 
 // The rows of one action, whose literals are these rows, behind as many as are `named` before; `numbers` gets the class number of each
-// literal, by which alone its classes are known from there on. Its summary knows no other action. (`places` has the places of the keys,
-// and `words` is work memory for numbering.)
+// literal, by which alone its classes are known from there on. Its summary knows no other action. (`places` has the components of the
+// relations and the places of the keys, and `words` is work memory for numbering.)
 pub fn name_action(
     head: &Head,
     places: &KeyPlaces,
@@ -341,7 +342,7 @@ pub fn name_all(
         → (r ≡ namingOf D) × (now (counts .exit) ≡ pad maxActions (classCounts D (D .actions)))
         × (now (names .exit) ≡ over (nameBytes (rows D)) (now (names .entry)))) ⌝ }
 {
-    let mut places = [0u8; 8 * MAX_COMPONENTS];
+    let mut places = [0u8; MAX_RELATIONS + 8 * MAX_COMPONENTS];
     put_places(head, &mut places);
     let mut words = [0u64; MAX_LITERALS];
     let mut rows = 0;
