@@ -21,7 +21,7 @@ use Rattle.literals.specs.Decode.{unknownRecord, kindOf, headStop, byte,
 use Rattle.literals.specs.Decode.{actionStop, literalStop, atRecord, atLabel, componentOf, countedAgain, keyAgain, keyTooHigh}
 use Rattle.literals.specs.Decode.{labelFault, closingStop, fieldStop, stopOf, stopAt, refuseAt, extend}
 use Rattle.literals.specs.Decode.{Refusal, refuse, Decoded, refused, domain, Reading, ReadTurn, goOn, finish, readRecord, readFound}
-use Rattle.literals.specs.Decode.{readStep, Finished, readFrom, fromStart, readFile, decode}
+use Rattle.literals.specs.Decode.{readStep, readFrom, fromStart, decode}
 use Rattle.literals.proofs.Stops.{headRows, head-number, literalRows, componentRows, labelsFault, component-number}
 
 -- ---- the number that stops a record
@@ -109,21 +109,22 @@ refuses-step s r = go (r .closed) (ltb (r .at) (length s))
     go true false = tt
     go false c = refuses-found s r (recordAt s (r .at))
 
-refuses-from : (fuel : ℕ) (s : List ℕ) (r : Reading) → RefusesBy (readFrom fuel s r .result)
+refuses-from : (fuel : ℕ) (s : List ℕ) (r : Reading) → RefusesBy (readFrom fuel s r)
 unfolding readFrom
 refuses-from zero s r = (omega arith, omega arith)
 refuses-from (suc fuel) s r = go (readStep s r) (refuses-step s r) (λ q. refuses-from fuel s q)
   where
-    go : (t : ReadTurn) → RefusesAt t → ((q : Reading) → RefusesBy (readFrom fuel s q .result))
-        → RefusesBy (elim t as (λ _. Finished) [ goOn next ↦ readFrom fuel s next | finish d ↦ record { result = d; read = r .sofar } ] .result)
+    go : (t : ReadTurn) → RefusesAt t → ((q : Reading) → RefusesBy (readFrom fuel s q))
+        → RefusesBy (elim t as (λ _. Decoded) [ goOn next ↦ readFrom fuel s next | finish d ↦ d ])
     go (goOn q) h ih = ih q
     go (finish d) h ih = h
 
 -- "9 to 23", and 24 and 25
 pub refusal-number : (d : List ℕ) (f : Refusal) → decode d ≡ refused f → Refuses (f .number)
-unfolding decode readFile
+unfolding decode
 refusal-number d f e = rw e at (go (ltb maxFile (length d)))
   where
-    go : (b : Bool) → RefusesBy (elim b as (λ _. Finished) [ true ↦ record { result = refused (refuse 9 0); read = fromStart .sofar } | false ↦ readFrom (suc (length d)) d fromStart ] .result)
+    go : (b : Bool)
+        → RefusesBy (elim b as (λ _. Decoded) [ true ↦ refused (refuse 9 0) | false ↦ readFrom (suc (length d)) d fromStart ])
     go true = (omega arith, omega arith)
     go false = refuses-from (suc (length d)) d fromStart

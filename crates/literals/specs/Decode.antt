@@ -276,16 +276,11 @@ readStep s r =
     (cond (ltb (r .at) (length s)) (finish (refused (refuse 13 (r .at)))) (finish (domain (r .sofar))))
     (readFound s r (recordAt s (r .at)))
 
--- how reading ends, and the domain read until then
-pub record Finished : Type 0 where
-  pub result : Decoded
-  pub read : Domain
-
 -- "Records are checked in file order". More fuel than the file's length changes nothing: `more-fuel` of proofs/Loop
-unfoldable pub readFrom : ℕ → List ℕ → Reading → Finished
+unfoldable pub readFrom : ℕ → List ℕ → Reading → Decoded
 unfolding readStep
-readFrom zero s r = record { result = refused (refuse 10 (r .at)); read = r .sofar }
-readFrom (suc fuel) s r = elim (readStep s r) [ goOn next ↦ readFrom fuel s next | finish d ↦ record { result = d; read = r .sofar } ]
+readFrom zero s r = refused (refuse 10 (r .at))
+readFrom (suc fuel) s r = elim (readStep s r) [ goOn next ↦ readFrom fuel s next | finish d ↦ d ]
 
 abbrev pub noDomain : Domain
 noDomain = record { arities = []; actions = []; template = [] }
@@ -293,20 +288,10 @@ noDomain = record { arities = []; actions = []; template = [] }
 abbrev pub fromStart : Reading
 fromStart = record { at = 0; closed = false; sofar = noDomain }
 
--- "9 too long", else record by record
-unfoldable pub readFile : List ℕ → Finished
-unfolding readFrom
-readFile f =
-    elim (ltb maxFile (length f)) [
-      | true ↦ record { result = refused (refuse 9 0); read = noDomain }
-      | false ↦ readFrom
-          (suc (length f)) f fromStart
-    ]
-
--- what a file says
+-- what a file says: "9 too long", else record by record
 unfoldable pub decode : List ℕ → Decoded
-unfolding readFile
-decode f = readFile f .result
+unfolding readFrom
+decode f = elim (ltb maxFile (length f)) [ true ↦ refused (refuse 9 0) | false ↦ readFrom (suc (length f)) f fromStart ]
 
 -- ---- number and place of a fault apart, as the code's functions answer them: nothing above speaks of these
 

@@ -1,8 +1,8 @@
 -- The domain that a file says is well-formed: each record read keeps it so. Assumes nothing.
-use mathlib.Core.Path.{_≡_, refl, sym, ap, ap₂, _∙_}
+use mathlib.Core.Path.{_≡_, refl, ap, ap₂, _∙_}
 use mathlib.Core.Bool.{Bool, true, false, not, _&&_, cond}
 use mathlib.Core.List.{List, [], _∷_, _++_, map}
-use Prim.Native.Nat.{ℕ, zero, suc, _+_, _-_, _<_}
+use Prim.Native.Nat.{ℕ, _+_, _-_, _<_}
 use native.Mathlib.Omega.{arith}
 use lib.Dec.{eqb, ltb, leb}
 use lib.ListN.{length, drop, length-append, length-drop, length-map, List·getD-append}
@@ -14,11 +14,14 @@ use Rattle.literals.specs.declared.Time.{Time}
 use Rattle.literals.specs.declared.Time.the-variants.{AtStart}
 use Rattle.literals.specs.declared.Usage.{Usage}
 use Rattle.literals.specs.declared.Usage.the-variants.{Positive, Negative, Add, Delete}
-use Rattle.literals.specs.Domain.{variable, usageNumber, firstRole, sameTime, Literal, Action, Component, Template, keysOf, labelsFit, Domain, arity}
-use Rattle.literals.specs.Decode.{RecordKind, relationRecord, actionRecord, literalRecord, componentRecord, closingRecord, unknownRecord, latest, byte, literalOf, repeats, contrary, together, contradicts, labelOf, componentOf, literalStop, componentStop, fieldStop, stopOf, withLiteral, actionOf, extend, refuse, refused, domain, Reading, ReadTurn, goOn, finish, readStep, Finished, readFrom, noDomain, fromStart, readFile, decode, maxFile}
+use Rattle.literals.specs.Domain.{variable, usageNumber, firstRole, sameTime, Literal, Action, Component, Template, keysOf, labelsFit}
+use Rattle.literals.specs.Domain.{Domain, arity}
+use Rattle.literals.specs.Decode.{RecordKind, relationRecord, actionRecord, literalRecord, componentRecord, closingRecord, unknownRecord}
+use Rattle.literals.specs.Decode.{latest, byte, literalOf, repeats, contrary, together, contradicts, labelOf}
+use Rattle.literals.specs.Decode.{componentOf, literalStop, componentStop, fieldStop, stopOf, withLiteral, actionOf, extend, noDomain}
 use Rattle.literals.proofs.Stops.{passes, literal-passes, ComponentPasses, component-passes}
 use Rattle.literals.proofs.Equality.{literal-comm}
-use Rattle.literals.proofs.Loop.{read-more, read-done, goOn-at, finish-sofar}
+use Rattle.literals.proofs.Loop.{decoded-by}
 use Rattle.verdict.specs.Claims.{hasArity, wellFormedAction, wellFormedTemplate, wellFormed, DecodedIsWellFormed}
 
 -- ---- the tests of a literal and of a component
@@ -200,31 +203,9 @@ record-keeps D componentRecord p h e = component-keeps D p h (passes D component
 record-keeps D closingRecord p h e = h
 record-keeps D unknownRecord p h e = h
 
-step-keeps : (s : List ℕ) (r q : Reading) → wellFormed (r .sofar) ≡ true → readStep s r ≡ goOn q → wellFormed (q .sofar) ≡ true
-step-keeps s r q h e = let g = goOn-at s r q e in rw (← (g .extends)) (record-keeps (r .sofar) (g .kind) (g .bytes) h (g .passes))
-
-from-keeps : (fuel : ℕ) (s : List ℕ) (r : Reading) (D : Domain) → wellFormed (r .sofar) ≡ true → readFrom fuel s r .result ≡ domain D → wellFormed D ≡ true
-unfolding readFrom
-from-keeps zero s r D h e = let z : _≡_ {A = ℕ} 0 1 = cc in absurd (omega arith)
-from-keeps (suc fuel) s r D h e = go (λ q. from-keeps fuel s q D) (readStep s r) refl
-  where
-    go : ((q : Reading) → wellFormed (q .sofar) ≡ true → readFrom fuel s q .result ≡ domain D → wellFormed D ≡ true)
-        → (t : ReadTurn) → readStep s r ≡ t → wellFormed D ≡ true
-    go ih (goOn q) t = ih q (step-keeps s r q h t) (ap (λ (x : Finished). x .result) (sym (read-more fuel s r q t)) ∙ e)
-    go ih (finish d) t =
-        let f : d ≡ domain D = ap (λ (x : Finished). x .result) (sym (read-done fuel s r d t)) ∙ e in
-        rw (← (finish-sofar s r D (t ∙ ap finish f))) h
-
 no-domain-fits : wellFormed noDomain ≡ true
 unfolding wellFormed wellFormedTemplate
 no-domain-fits = refl
 
 pub decoded-well-formed : DecodedIsWellFormed
-unfolding decode readFile
-decoded-well-formed f D e = go (ltb maxFile (length f)) e
-  where
-    go : (b : Bool)
-        → (elim b as (λ _. Finished) [ true ↦ record { result = refused (refuse 9 0); read = noDomain } | false ↦ readFrom (suc (length f)) f fromStart ]) .result ≡ domain D
-        → wellFormed D ≡ true
-    go true z = let y : _≡_ {A = ℕ} 0 1 = cc in absurd (omega arith)
-    go false z = from-keeps (suc (length f)) f fromStart D no-domain-fits z
+decoded-well-formed = decoded-by (λ D. wellFormed D ≡ true) record-keeps no-domain-fits
