@@ -3,6 +3,7 @@
 use literals::head::Head;
 use literals::head::components_in;
 use literals::keys::KeyPlaces;
+use literals::keys::component_by;
 use literals::keys::component_of;
 use literals::keys::key_tuple;
 use literals::keys::key_word;
@@ -54,7 +55,7 @@ fn number_literal(
     ensures words { λ _. ⌜ now (words .exit)
         ≡ wordsAfter (keyWordsIn (now (head .entry)) (take 8 (drop at (now (rows .entry))))) count (now (words .entry)) ⌝ }
 {
-    let c = component_of(head, rows[at + 1]);
+    let c = component_by(head, places, rows[at + 1]);
     if c == components_in(head) {
         return Numbered { class: 255, count };
     }
@@ -74,7 +75,8 @@ fn number_literal(
 }
 
 // How many classes an action has whose literals are these rows; `numbers` gets the class number of each literal. In `words` the key
-// tuples of the classes stand as numbers meanwhile: one comparison tells two of them apart. `places` has the places of the keys.
+// tuples of the classes stand as numbers meanwhile: one comparison tells two of them apart. `places` has the components of the relations
+// and the places of the keys.
 pub fn number_classes(
     head: &Head,
     places: &KeyPlaces,

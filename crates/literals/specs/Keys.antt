@@ -9,7 +9,7 @@ use Rattle.literals.specs.declared.Key.{Key}
 use Rattle.literals.specs.declared.Time.{Time}
 use Rattle.literals.specs.declared.Role.{Role}
 use Rattle.literals.specs.Domain.{key, isKey, roleOf, usageNumber, sameTime}
-use Rattle.literals.specs.Decode.{maxArguments, byte, labelOf}
+use Rattle.literals.specs.Decode.{maxRelations, maxArguments, byte, labelOf}
 use Rattle.literals.specs.Table.{rowOf}
 use Rattle.literals.specs.Held.{componentsIn, keysIn, componentRowIn, componentRowsIn}
 
@@ -45,10 +45,30 @@ usageFor t r = usageAmong t (roleOf r)
 unfoldable pub placeUnder : Key → List ℕ → ℕ
 placeUnder k part = position (λ i. isKey k (labelOf (getD part (i + 1) 0))) (below maxArguments)
 
--- a memory has these places, 8 bytes for each component of a head
-abbrev pub PlacesOf : List ℕ → List ℕ → Type 0
-PlacesOf head places = (c k : ℕ) → c < componentsIn head → k < keysIn head → getD places (8 * c + k) 0
-    ≡ placeUnder (key k) (componentRowIn head c)
+-- ---- the same worked out for a domain, in one memory: a byte for each relation, and 8 bytes for each component
+
+-- whether a component's row has this relation
+abbrev pub starts : ℕ → List ℕ → Bool
+starts r part = eqb r (byte part 0)
+
+-- the number of one of n components, and 1; 0 for none
+abbrev pub marked : ℕ → ℕ → ℕ
+marked n c = cond (eqb c n) 0 (suc c)
+
+-- at each relation its first component
+abbrev pub ComponentsIn : List ℕ → List ℕ → Type 0
+ComponentsIn head places = (r : ℕ) → r < maxRelations → getD places r 0 ≡ marked (componentsIn head) (position (starts r) (componentRowsIn head))
+
+-- at each component the places of its keys
+abbrev pub PlacesIn : List ℕ → List ℕ → Type 0
+PlacesIn head places =
+    (c k : ℕ) → c < componentsIn head → k < keysIn head → getD places (maxRelations + 8 * c + k) 0 ≡ placeUnder (key k) (componentRowIn head c)
+
+pub record PlacesOf (head places : List ℕ) : Type 0 where
+  pub components : ComponentsIn head places
+  pub keys : PlacesIn head places
+
+-- ---- what stands under the keys
 
 -- the byte of the argument at a place of the row at an offset, or FF
 abbrev pub argumentAt : List ℕ → ℕ → ℕ → ℕ

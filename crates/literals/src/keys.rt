@@ -8,22 +8,29 @@ use super::is_key;
 use super::label_of;
 use super::limits::MAX_ARGUMENTS;
 use super::limits::MAX_COMPONENTS;
+use super::limits::MAX_RELATIONS;
 use records::bytes::wide;
 ghost use mathlib.Core.Path.{_≡_};
+ghost use mathlib.Core.Bool.{cond};
+ghost use mathlib.Core.List.{[]};
 ghost use Prim.Native.Nat.{ℕ, _+_, _*_, _<_, _≤_};
-ghost use lib.Dec.{eqb};
 ghost use lib.ListN.{length, getD, take, drop};
-ghost use Rattle.literals.specs.Decode.{maxComponents, byte};
+ghost use Rattle.literals.specs.Decode.{maxRelations, maxComponents};
 ghost use Rattle.literals.specs.Domain.{key};
 ghost use Rattle.literals.specs.Held.{componentsIn, keysIn, componentRowIn, componentRowsIn};
-ghost use Rattle.literals.specs.Keys.{position, placeUnder, argumentAt, keyRow, keyWord, PlacesOf};
+ghost use Rattle.literals.specs.Table.{pad};
+ghost use Rattle.literals.specs.Keys.{position, starts, placeUnder, argumentAt, keyRow, keyWord};
+ghost use Rattle.literals.specs.Keys.{ComponentsIn, PlacesIn, PlacesOf};
 
-// 8 bytes for each component: the place of the argument under each of its keys.
-pub type KeyPlaces = [u8; 8 * MAX_COMPONENTS];
+// A byte for each relation: its component's number and 1, or 0. Then 8 bytes for each component: the place of the argument under each of
+// its keys.
+pub const KEY_PLACES: usize = MAX_RELATIONS + 8 * MAX_COMPONENTS;
+
+pub type KeyPlaces = [u8; KEY_PLACES];
 
 // The number of the first component with this relation, or how many components there are.
 pub fn component_of(head: &Head, relation: u8) -> usize
-    ensures { λ r. ⌜ r ≡ position (λ row. eqb relation (byte row 0)) (componentRowsIn (now (head .entry))) ⌝ }
+    ensures { λ r. ⌜ r ≡ position (starts relation) (componentRowsIn (now (head .entry))) ⌝ }
 {
     let n = components_in(head);
     let mut c = 0;
@@ -77,27 +84,81 @@ pub fn key_tuple(head: &Head, c: usize, rows: &[u8], at: usize) -> [u8; 8]
     t
 }
 
-// Writes the places of the keys of the component `c`.
-fn put_component_places(head: &Head, c: usize, places: &mut [u8])
-    requires { ⌜ (c < maxComponents) × (length (now places) ≡ 8 * maxComponents) ⌝ }
-    ensures own { λ _. ⌜ ((k : ℕ) → k < keysIn (now (head .entry))
-        → getD (now (places .exit)) (8 * c + k) 0 ≡ placeUnder (key k) (componentRowIn (now (head .entry)) c)) ⌝ }
-    ensures before { λ _. ⌜ ((i : ℕ) → i < 8 * c → getD (now (places .exit)) i 0 ≡ getD (now (places .entry)) i 0) ⌝ }
+// Writes the component `c` at its relation.
+fn put_component(head: &Head, c: usize, places: &mut [u8])
+    requires { ⌜ (c < maxComponents) × (length (now places) ≡ maxRelations + 8 * maxComponents) ⌝ }
+    ensures { λ _. ⌜ ((r : ℕ) → r < maxRelations
+        → getD (now (places .exit)) r 0 ≡ cond (starts r (componentRowIn (now (head .entry)) c)) (c + 1) (getD (now (places .entry)) r 0)) ⌝ }
 {
-    for k in 0..keys_in(head) {
-        let place = place_under(head, c, Key(k as u8));
-        places[8 * c + k] = place as u8;
+    let relation = wide(component_byte(head, c, 0));
+    if MAX_RELATIONS <= relation {
+        return;
+    }
+    places[relation] = c as u8 + 1;
+}
+
+// The component of each relation: the first is written last. `places` is all 0 before.
+fn put_components(head: &Head, places: &mut [u8])
+    requires { ⌜ length (now places) ≡ maxRelations + 8 * maxComponents ⌝ }
+    ensures { λ _. ⌜ (now (places .entry) ≡ pad (maxRelations + 8 * maxComponents) []
+        → ComponentsIn (now (head .entry)) (now (places .exit))) ⌝ }
+{
+    let mut c = components_in(head);
+    while 0 < c {
+        c -= 1;
+        put_component(head, c, places);
     }
 }
 
-// The places of all keys, worked out once a domain, so that no literal looks for a key again.
-pub fn put_places(head: &Head, places: &mut [u8])
-    requires { ⌜ length (now places) ≡ 8 * maxComponents ⌝ }
-    ensures { λ _. ⌜ PlacesOf (now (head .entry)) (now (places .exit)) ⌝ }
+// Writes the places of the keys of the component `c`.
+fn put_component_places(head: &Head, c: usize, places: &mut [u8])
+    requires { ⌜ (c < maxComponents) × (length (now places) ≡ maxRelations + 8 * maxComponents) ⌝ }
+    ensures own { λ _. ⌜ ((k : ℕ) → k < keysIn (now (head .entry))
+        → getD (now (places .exit)) (maxRelations + 8 * c + k) 0 ≡ placeUnder (key k) (componentRowIn (now (head .entry)) c)) ⌝ }
+    ensures before { λ _. ⌜ ((i : ℕ) → i < maxRelations + 8 * c
+        → getD (now (places .exit)) i 0 ≡ getD (now (places .entry)) i 0) ⌝ }
+{
+    for k in 0..keys_in(head) {
+        let place = place_under(head, c, Key(k as u8));
+        places[MAX_RELATIONS + 8 * c + k] = place as u8;
+    }
+}
+
+// The places of the keys of all components.
+fn put_key_places(head: &Head, places: &mut [u8])
+    requires { ⌜ length (now places) ≡ maxRelations + 8 * maxComponents ⌝ }
+    ensures keys { λ _. ⌜ PlacesIn (now (head .entry)) (now (places .exit)) ⌝ }
+    ensures before { λ _. ⌜ ((i : ℕ) → i < maxRelations → getD (now (places .exit)) i 0 ≡ getD (now (places .entry)) i 0) ⌝ }
 {
     for c in 0..components_in(head) {
         put_component_places(head, c, places);
     }
+}
+
+// Both, worked out once a domain, so that no literal looks for its component or for a key again. `places` is all 0 before.
+pub fn put_places(head: &Head, places: &mut [u8])
+    requires { ⌜ length (now places) ≡ maxRelations + 8 * maxComponents ⌝ }
+    ensures { λ _. ⌜ (now (places .entry) ≡ pad (maxRelations + 8 * maxComponents) []
+        → PlacesOf (now (head .entry)) (now (places .exit))) ⌝ }
+{
+    put_components(head, places);
+    put_key_places(head, places);
+}
+
+// The number of the first component with a relation, or how many components there are, as it was worked out.
+pub fn component_by(head: &Head, places: &KeyPlaces, relation: u8) -> usize
+    requires { ⌜ PlacesOf (now head) (now places) ⌝ }
+    ensures { λ r. ⌜ r ≡ position (starts relation) (componentRowsIn (now (head .entry))) ⌝ }
+{
+    let at = wide(relation);
+    if MAX_RELATIONS <= at {
+        return component_of(head, relation);
+    }
+    let marked = wide(places[at]);
+    if marked == 0 {
+        return components_in(head);
+    }
+    marked - 1
 }
 
 // The key tuple as one number, the byte under the last key lowest. There are at most six keys, so that it is below 2 ^ 48.
@@ -109,7 +170,7 @@ pub fn key_word(head: &Head, places: &KeyPlaces, c: usize, rows: &[u8], at: usiz
 {
     let mut word: u64 = 0;
     for k in 0..keys_in(head) {
-        let place = wide(places[8 * c + k]);
+        let place = wide(places[MAX_RELATIONS + 8 * c + k]);
         let byte = wide(argument_byte(rows, at, place));
         word = 256 * word + byte as u64;
     }

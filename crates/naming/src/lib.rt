@@ -17,10 +17,10 @@ use literals::head::Head;
 use literals::head::actions_in;
 use literals::head::is_lasting;
 use literals::head::rows_of;
+use literals::keys::KEY_PLACES;
 use literals::keys::KeyPlaces;
 use literals::keys::put_places;
 use literals::limits::MAX_ACTIONS;
-use literals::limits::MAX_COMPONENTS;
 use literals::limits::MAX_LITERALS;
 use verdict::Notes;
 use verdict::Summary;
@@ -255,8 +255,8 @@ impl Numbered {
 }
 
 // The rows of one action, whose literals are these rows, behind the `named` rows of the actions before it; `numbers` gets the class
-// number of each literal, from which its classes are known afterwards. The summary is of this action alone. (`places` has the places of
-// the keys, and `words` is work memory for numbering.)
+// number of each literal, from which its classes are known afterwards. The summary is of this action alone. (`places` has the components
+// of the relations and the places of the keys, and `words` is work memory for numbering.)
 pub fn name_action(
     head: &Head,
     places: &KeyPlaces,
@@ -316,7 +316,7 @@ pub fn name_all(
         → (r ≡ namingOf D) × (now (counts .exit) ≡ pad maxActions (classCounts D (D .actions)))
         × (now (names .exit) ≡ over (nameBytes (rows D)) (now (names .entry)))) ⌝ }
 {
-    let mut places = [0u8; 8 * MAX_COMPONENTS];
+    let mut places = [0u8; KEY_PLACES];
     put_places(head, &mut places);
     let mut words = [0u64; MAX_LITERALS];
     let mut rows = 0;

@@ -4,9 +4,9 @@ use literals::head::Head;
 use literals::head::actions_in;
 use literals::head::is_lasting;
 use literals::head::rows_of;
+use literals::keys::KEY_PLACES;
 use literals::keys::KeyPlaces;
 use literals::keys::put_places;
-use literals::limits::MAX_COMPONENTS;
 use literals::limits::MAX_LITERALS;
 use naming::name_action;
 use verdict::Notes;
@@ -100,7 +100,7 @@ pub fn decide_alone(head: &Head, table: &[u8], relation: u8) -> u64
     ensures number { λ r. ⌜ ((D : Domain) → Held D (now (head .entry)) (now (table .entry)) → wellFormed D ≡ true
         → OnlyRelation D relation → r ≡ decided D .number) ⌝ }
 {
-    let mut places = [0u8; 8 * MAX_COMPONENTS];
+    let mut places = [0u8; KEY_PLACES];
     put_places(head, &mut places);
     let mut notes = Notes::new();
     for i in 0..actions_in(head) {

@@ -105,7 +105,7 @@ name-action-requires c κs =
     let e = part-length (c .before .before .before .before .before .before .before .before .before .before .before .before .before .before
     .before .before .before .args .table .now) (b .result .from) (b .result .to) o (F .room) in
     let s = names-room H (l .i) h (b .ensures .1 _ H h) F _ (l .inv .few _ H) _ r in (
-      c .before .before .before .before .before .before .before .before .before .before .before .before .put-places .ensures,
+      c .before .before .before .before .before .before .before .before .before .before .before .before .put-places .ensures refl,
       (e ∙ ap (λ (n : ℕ). 8 * n) q, (omega arith, (l .inv .words-room, omega arith))),
     )
 

@@ -9,23 +9,10 @@ use borrow.Author.Tests.{eq-eqb, ne-eqb}
 use lib.Dec.{eqb}
 use Rattle.literals.specs.Decode.{byte}
 use Rattle.literals.specs.Held.{componentRowIn, componentRowsFrom, componentRowsIn}
-use Rattle.literals.proofs.Heads.{parts-next, parts-end}
-use Rattle.literals.specs.Keys.{position}
+use Rattle.literals.specs.Keys.{position, starts}
+use Rattle.literals.proofs.Places.{first-hit, first-miss, first-end}
 use Rattle.literals.proofs.keys.component_of.Statement.{statement}
 use Rattle.literals.proofs.keys.component_of.Tie as tie
-
-abbrev starts : ℕ → List ℕ → Bool
-starts b row = eqb b (byte row 0)
-
-module _ (b : ℕ) (head : List ℕ) (n c : ℕ) where
-  hit : c < n → starts b (componentRowIn head c) ≡ true → position (starts b) (componentRowsFrom head c (n - c)) ≡ 0
-  hit h e = rw (parts-next head n c h, e)
-
-  miss : c < n → starts b (componentRowIn head c) ≡ false → position (starts b) (componentRowsFrom head c (n - c)) ≡ suc (position (starts b) (componentRowsFrom head (c + 1) (n - (c + 1))))
-  miss h e = rw (parts-next head n c h, e)
-
-  ended : n ≤ c → position (starts b) (componentRowsFrom head c (n - c)) ≡ 0
-  ended h = rw (parts-end head n c h)
 
 abbrev Inv-loop : tie.InvT-loop
 Inv-loop head relation n c₀ c =
@@ -52,7 +39,8 @@ returns : tie.Need-returns Inv-loop μ-loop
 returns c =
     let t = c .before .before .before in
     let a = t .before .before .args in
-    let e = hit (a .relation) (a .head .now) (t .before .components-in .result) (t .loop .c) (omega arith) (eq-eqb _ _ (sym (sym (c .before .component-byte .ensures) ∙ c .if1 .taken))) in
+    let e = first-hit (a .relation) (a .head .now) (t .before .components-in .result) (t .loop .c) (omega arith)
+    (eq-eqb _ _ (sym (sym (c .before .component-byte .ensures) ∙ c .if1 .taken))) in
     let i = t .loop .inv .2 in
     omega arith
 
@@ -66,7 +54,8 @@ loop-again : tie.Need-loop-again Inv-loop μ-loop
 loop-again c =
     let t = c .before .before .before in
     let a = t .before .before .args in
-    let e = miss (a .relation) (a .head .now) (t .before .components-in .result) (t .loop .c) (omega arith) (ne-eqb _ _ (λ e. c .if1 .left (c .before .component-byte .ensures ∙ sym e))) in
+    let e = first-miss (a .relation) (a .head .now) (t .before .components-in .result) (t .loop .c) (omega arith)
+    (ne-eqb _ _ (λ e. c .if1 .left (c .before .component-byte .ensures ∙ sym e))) in
     let i = t .loop .inv .2 in
     (omega arith, t .loop .inv .1, omega arith)
 
@@ -74,7 +63,7 @@ returns-2 : tie.Need-returns-2 Inv-loop μ-loop
 returns-2 c =
     let t = c .before in
     let a = t .before .before .args in
-    let e = ended (a .relation) (a .head .now) (t .before .components-in .result) (t .loop .c) (omega arith) in
+    let e = first-end (a .relation) (a .head .now) (t .before .components-in .result) (t .loop .c) (omega arith) in
     let i = t .loop .inv .2 in
     omega arith
 

@@ -32,6 +32,9 @@ mul-wide c = let f = components-few (c .before .before .before .before .args .he
 add-wide : tie.Need-add-wide Inv-loop μ-loop
 add-wide c = let f = components-few (c .before .before .before .before .args .head .now) in omega arith
 
+add-wide-2 : tie.Need-add-wide-2 Inv-loop μ-loop
+add-wide-2 c = let f = components-few (c .before .before .before .before .args .head .now) in omega arith
+
 element-copy-out-wide : tie.Need-element-copy-out-wide Inv-loop μ-loop
 element-copy-out-wide c = let f = components-few (c .before .before .before .before .args .head .now) in omega arith
 
@@ -75,7 +78,7 @@ loop-again c =
           (w .ensures .0
           ∙ c .before .argument-byte .ensures
           ∙ ap (argumentAt (a .rows .now) (a .at)) (c .before .before .wide .ensures .0
-          ∙ c .before .before .before .before .before .before .before .before .pre .0 (a .c) (l .k)
+          ∙ c .before .before .before .before .before .before .before .before .pre .0 .keys (a .c) (l .k)
           (c .before .before .before .before .before .before .before .before .pre .1 .0) (omega arith))
           ∙ u),
       limit-more (l .word) (l .k) (w .result) (l .inv .4) (w .ensures .1),
@@ -99,6 +102,7 @@ key-word-spec =
     loop-holds
     mul-wide
     add-wide
+    add-wide-2
     element-copy-out-wide
     wide-requires
     argument-byte-requires

@@ -46,6 +46,9 @@ mul-places c = omega arith
 add-places : tie.Need-add-places Inv-loop μ-loop
 add-places c = omega arith
 
+add-places-2 : tie.Need-add-places-2 Inv-loop μ-loop
+add-places-2 c = omega arith
+
 slice-write-places : tie.Need-slice-write-places Inv-loop μ-loop
 slice-write-places c = let w = c .before .before .loop .inv .3 .room in omega arith
 
@@ -89,6 +92,7 @@ put-component-places-spec =
     cast-places-2
     mul-places
     add-places
+    add-places-2
     slice-write-places
     add-k
     loop-less

@@ -1,69 +1,23 @@
--- `put_places` meets its contract: after c turns the places of the first c components stand in the memory. Assumes nothing.
-use native.Mathlib.Omega.{arith}
+-- `put_places` meets its contract: the places of keys leave the components as they are. Assumes nothing.
+use mathlib.Core.Path.{_∙_}
 use borrow.Author.Needs.{needs}
-use mathlib.Core.Path.{_≡_, refl, _∙_}
-use Prim.Native.Nat.{_-_, _≤_}
-use lib.ListN.{length}
-use Rattle.literals.specs.Held.{componentsIn}
-use Rattle.literals.proofs.Places.{Places, places-none, places-more}
 use Rattle.literals.proofs.keys.put_places.Statement.{statement}
 use Rattle.literals.proofs.keys.put_places.Tie as tie
 
-abbrev Inv-loop : tie.InvT-loop
-Inv-loop head places₀ c₀ c-end places c =
-    (c ≤ c-end) × (c-end ≤ 16) × (c-end ≡ componentsIn head) × (length places ≡ length places₀) × Places head places c
+put-components-requires : tie.Need-put-components-requires
+put-components-requires c κs = search needs
 
-abbrev μ-loop : tie.MeasureT-loop
-μ-loop head places₀ c₀ c-end places c = c-end - c
+put-key-places-requires : tie.Need-put-key-places-requires
+put-key-places-requires c κs = search needs
 
-components-in-requires : tie.Need-components-in-requires Inv-loop μ-loop
-components-in-requires c κs = search needs
+same-length : tie.Need-same-length
+same-length c = search needs
 
-loop-holds : tie.Need-loop-holds Inv-loop μ-loop
-loop-holds c =
-    let a = c .before .before .args in
-    let n = c .components-in .ensures in
-    (omega arith, n .1, n .0, refl, places-none (a .head .now) (a .places .now))
-
-put-component-places-requires : tie.Need-put-component-places-requires Inv-loop μ-loop
-put-component-places-requires c κs = let l = c .before .before .loop .inv in
-    (omega arith, l .3 ∙ c .before .before .before .before .before .pre)
-
-add-c : tie.Need-add-c Inv-loop μ-loop
-add-c c = omega arith
-
-loop-less : tie.Need-loop-less Inv-loop μ-loop
-loop-less c = omega arith
-
-loop-again : tie.Need-loop-again Inv-loop μ-loop
-loop-again c =
-    let a = c .before .before .before .before .before .before .before .before .args in
-    let l = c .before .before .before .before .before .loop in
-    let w = c .before .before .put-component-places in (
-      omega arith,
-      l .inv .1,
-      l .inv .2,
-      w .kept .1 .1 .0 ∙ l .inv .3,
-      places-more (a .head .now) (l .places) (w .last .1 .1 .0) (l .c) (l .inv .4) (w .ensures .0) (w .ensures .1),
-    )
-
-same-length : tie.Need-same-length Inv-loop μ-loop
-same-length c = c .before .loop .inv .3
-
-returns : tie.Need-returns Inv-loop μ-loop
-returns c = let l = c .before .loop in let e = l .inv .2 in λ i k h. l .inv .4 i k (omega arith)
+returns : tie.Need-returns
+returns c e =
+    let k = c .before .before .put-key-places .ensures in
+    record { components = λ r h. k .1 r h ∙ c .before .before .before .before .before .before .put-components .ensures e r h; keys = k .0 }
 
 pub put-places-spec : {M : Type 1} → statement M
 put-places-spec =
-    tie.close
-    (tie.spec
-    Inv-loop
-    μ-loop
-    components-in-requires
-    loop-holds
-    put-component-places-requires
-    add-c
-    loop-less
-    loop-again
-    same-length
-    returns)
+    tie.close (tie.spec put-components-requires put-key-places-requires same-length returns)

@@ -1,5 +1,5 @@
 -- `decide_alone` meets its contract. The loop's invariant is `Deciding` of proofs/Alone. Assumes nothing.
-use mathlib.Core.Path.{sym, ap, _∙_}
+use mathlib.Core.Path.{refl, sym, ap, _∙_}
 use Prim.Native.Nat.{_-_, _<_}
 use native.Mathlib.Omega.{arith}
 use borrow.Author.Needs.{needs}
@@ -31,7 +31,9 @@ loop-holds : tie.Need-loop-holds Inv-loop μ-loop
 loop-holds c = record { reach = omega arith; noted = λ D H wf only. c .before .new .ensures }
 
 summary-of-requires : tie.Need-summary-of-requires Inv-loop μ-loop
-summary-of-requires c κs = search needs
+summary-of-requires c κs =
+    let few = c .before .before .before .actions-in .ensures .0 in
+    (omega arith, c .before .before .before .before .before .before .put-places .ensures refl)
 
 with-requires : tie.Need-with-requires Inv-loop μ-loop
 with-requires c κs = search needs
