@@ -15,7 +15,7 @@ use Rattle.player.specs.declared.run.Ended.{Ended}
 use Rattle.player.specs.declared.play.Fault.{Fault}
 use Rattle.player.specs.declared.play.Fault.the-variants.{Domain as InDomain, Run as InRun}
 use Rattle.player.specs.declared.play.PlayAnswer.{PlayAnswer}
-use Rattle.run_semantics.specs.RunFile.{entriesBefore}
+use Rattle.run_semantics.specs.RunFile.{entriesBefore, entriesUpTo, begunIn}
 use Rattle.run_semantics.specs.Play.{workBytes, Outcome, placeOf, heldBytes, playRun, Returned, ofDomain, ofRun, Call, outcomeCall, callBy, call, played, workAfter, returned, returnedBytes}
 use Rattle.run_semantics.specs.Claims.{finalOf, AsMachine, PlaysAsMachine, StaysLow}
 use Rattle.player.specs.Player.{endedOf}
@@ -25,19 +25,19 @@ use Rattle.run_semantics.proofs.Never.{played-as-machine, weight-stays-low}
 -- ---- the answer of a run
 
 module _ (e : Ended) (o : Outcome) (is : e ≡ endedOf o) where
-  pub answer-played : e .number ≡ 2 → record { number = 2; place = 0; steps = e .steps; weight = e .weight; fault = InRun (e .place) } ≡ answerBy o
+  pub answer-played : e .number ≡ 2 → record { number = 2; place = 0; steps = e .tally .steps; weight = e .tally .weight; fault = InRun (e .place) } ≡ answerBy o
   answer-played z =
       let n : o .number ≡ 2 = sym (ap (λ (x : Ended). x .number) is) ∙ z in
       let f : eqb (o .number) 2 ≡ true = eq-eqb (o .number) 2 n in
-      λ i. record { number = sym n i; place = place-none f i; steps = is i .steps; weight = is i .weight; fault = InRun (is i .place) }
+      λ i. record { number = sym n i; place = place-none f i; steps = is i .tally .steps; weight = is i .tally .weight; fault = InRun (is i .place) }
     where
       place-none : eqb (o .number) 2 ≡ true → 0 ≡ cond (eqb (o .number) 2) 0 (o .place)
       place-none f = rw f
 
-  pub answer-stopped : (e .number ≡ 2 → ⊥) → record { number = e .number; place = e .place; steps = e .steps; weight = e .weight; fault = InRun (e .place) } ≡ answerBy o
+  pub answer-stopped : (e .number ≡ 2 → ⊥) → record { number = e .number; place = e .place; steps = e .tally .steps; weight = e .tally .weight; fault = InRun (e .place) } ≡ answerBy o
   answer-stopped z =
       let f : eqb (o .number) 2 ≡ false = ne-eqb (o .number) 2 (λ k. z (ap (λ (x : Ended). x .number) is ∙ k)) in
-      λ i. record { number = is i .number; place = (ap (λ (x : Ended). x .place) is ∙ place-is f) i; steps = is i .steps; weight = is i .weight; fault = InRun (is i .place) }
+      λ i. record { number = is i .number; place = (ap (λ (x : Ended). x .place) is ∙ place-is f) i; steps = is i .tally .steps; weight = is i .tally .weight; fault = InRun (is i .place) }
     where
       place-is : eqb (o .number) 2 ≡ false → o .place ≡ cond (eqb (o .number) 2) 0 (o .place)
       place-is f = rw f
@@ -154,8 +154,12 @@ as-machine d r w number place steps weight memory n p s h m D e l =
     let n′ : number ≡ o .number = n ∙ ap (λ (x : Call). x .answer .number) f in
     let p′ : place ≡ placeOf o = p ∙ ap (λ (x : Call). x .answer .first) f in
     let at : cond (eqb number 2) (length r) place ≡ o .place = ap₂ (λ (x y : ℕ). cond (eqb x 2) (length r) y) n′ p′ ∙ whole-file D r o a in
-    let fs : finalOf D (entriesBefore r (cond (eqb number 2) (length r) place)) .facts ≡ o .facts = ap (λ (x : ℕ). finalOf D (entriesBefore r x) .facts) at ∙ sym (a .facts) in (
-      same-outcome D r o a _ (λ i. record { number = n′ i; place = at i; steps = (s ∙ ap (λ (x : Call). x .answer .steps) f) i; weight = (h ∙ ap (λ (x : Call). x .answer .weight) f) i; facts = fs i }),
+    let fs : finalOf D (entriesBefore r (cond (eqb number 2) (length r) place)) .facts ≡ o .facts = ap (λ (x : ℕ). finalOf D (entriesBefore r x) .facts) at ∙ sym (a .facts) in
+    let gs : finalOf D (entriesBefore r (cond (eqb number 2) (length r) place)) .running ≡ o .running
+    = ap (λ (x : ℕ). finalOf D (entriesBefore r x) .running) at ∙ sym (a .running) in
+    let b : begunIn (entriesUpTo r (cond (eqb number 2) (length r) place)) ≡ o .begun
+    = ap (λ (x : ℕ). begunIn (entriesUpTo r x)) at ∙ sym (a .begun) in (
+      same-outcome D r o a _ (λ i. record { number = n′ i; place = at i; steps = (s ∙ ap (λ (x : Call). x .answer .steps) f) i; weight = (h ∙ ap (λ (x : Call). x .answer .weight) f) i; facts = fs i; running = gs i; begun = b i }),
       m ∙ ap (λ (x : Call). x .memory) f ∙ ap (λ (gs : List Fact). over (heldBytes gs) w) (sym fs),
     )
   where
