@@ -1,10 +1,13 @@
 // Journeys of what is open: which classes of an action are journeys, how many of an open entry's belong to an instance, and the total
 // that is told of it, which is its weight and those.
+use classes::AT_END;
+use classes::AT_START;
 use classes::Marks;
-use classes::Sole;
-use classes::counts::is_journey;
-use classes::counts::soles_at;
-use classes::counts::usages_at;
+use classes::Soles;
+use classes::names::is_journey;
+use classes::names::sole_in;
+use classes::names::tally;
+use classes::names::usages_at;
 use classes::number::number_classes;
 use events::GROUND;
 use events::MOMENTS_AT;
@@ -15,6 +18,8 @@ use literals::head::actions_in;
 use literals::head::is_lasting;
 use literals::head::keys_in;
 use literals::head::rows_of;
+use literals::keys::put_places;
+use literals::limits::MAX_COMPONENTS;
 use literals::limits::MAX_LITERALS;
 use literals::limits::MAX_RUNNING;
 use records::bytes::put_bytes;
@@ -34,7 +39,7 @@ ghost use Rattle.literals.specs.Decode.{maxLiterals};
 ghost use Rattle.literals.specs.Table.{rowOf, rowsIn, pad};
 ghost use Rattle.literals.specs.Held.{Held};
 ghost use Rattle.classes.specs.Classes.{classes, journey};
-ghost use Rattle.classes.specs.Held.{ActionOf, MomentOf, Sides, classNumbers, usagesAt, soleOf};
+ghost use Rattle.classes.specs.Held.{ActionOf, MomentOf, Sides, classNumbers, usagesAt, soleOf, soleIn};
 ghost use Rattle.verdict.specs.Binding.{bindTuple};
 ghost use Rattle.verdict.specs.Judged.{objectNumbers};
 ghost use Rattle.verdict.specs.Machine.{GroundAction, State};
@@ -45,54 +50,40 @@ ghost use Rattle.store.specs.Rows.{factRow, FactFits};
 ghost use Rattle.events.specs.Held.{groundBytes, openBytes, agendaBytes, groundRow, openIn, openOf, GroundFits, GroundsFit};
 ghost use Rattle.journeys.specs.Marked.{journeyMark};
 
-// The mark of a class of a lasting action, of its true conditions and adds at the start, whose usages these are, and at the end: 0 where
-// it is no journey, k + 1 where its true condition at the start is the literal k.
-fn mark_of(rows: &[u8], of: &[u8], usages: &Marks, start: Sole, end: Sole, class: u8) -> u8
-    requires sides { ⌜ Sides (now rows) (now of) ⌝ }
-    requires counted { ⌜ start ≡ soleOf (now of) (now usages) class ⌝ }
+// The mark of a class of a lasting action, by the usages of its literals at the start and by what its classes have at both moments: 0
+// where it is no journey, k + 1 where its true condition at the start is the literal k.
+fn mark_of(rows: &[u8], numbers: &[u8], usages: &Marks, soles: &Soles, class: usize) -> u8
+    requires sides { ⌜ Sides (now rows) (now numbers) ⌝ }
+    requires class { ⌜ class < maxLiterals ⌝ }
+    requires counted { ⌜ soleIn (now soles) 0 class ≡ soleOf (now numbers) (now usages) class ⌝ }
     ensures { λ r. ⌜ ((D : Domain) (a : Action) (head : List ℕ)
-        → MomentOf D a Start head (now (rows .entry)) (now (of .entry)) (now (usages .entry)) → a .lasting ≡ true
-        → end ≡ soleOf (classNumbers D a) (pad maxLiterals (usagesAt a End)) class → class < length (classes D a)
-        → r ≡ journeyMark D a class) ⌝ }
+        → MomentOf D a Start head (now (rows .entry)) (now (numbers .entry)) (now (usages .entry)) → a .lasting ≡ true
+        → soleIn (now (soles .entry)) 2 class ≡ soleOf (classNumbers D a) (pad maxLiterals (usagesAt a End)) class
+        → class < length (classes D a) → r ≡ journeyMark D a class) ⌝ }
 {
-    if is_journey(rows, of, usages, start, end, class) {
+    let start = sole_in(soles, AT_START, class);
+    let end = sole_in(soles, AT_END, class);
+    if is_journey(rows, numbers, usages, start, end, class as u8) {
         return start.conditions;
     }
     0
 }
 
 // Marks the classes of a lasting action, whose literals are these rows and have these class numbers. `marks` is all 0 before.
-fn mark_journeys(rows: &[u8], of: &[u8], count: usize, marks: &mut Marks)
-    requires rowed { ⌜ length (now rows) ≡ 8 * length (now of) ⌝ }
-    requires literals { ⌜ length (now of) ≤ maxLiterals ⌝ }
-    requires few { ⌜ count ≤ length (now of) ⌝ }
+fn mark_journeys(rows: &[u8], numbers: &[u8], count: usize, marks: &mut Marks)
+    requires rowed { ⌜ length (now rows) ≡ 8 * length (now numbers) ⌝ }
+    requires literals { ⌜ length (now numbers) ≤ maxLiterals ⌝ }
+    requires few { ⌜ count ≤ length (now numbers) ⌝ }
     ensures { λ _. ⌜ ((D : Domain) (a : Action) (head : List ℕ) → ActionOf D a head (now (rows .entry)) → a .lasting ≡ true
-        → now (of .entry) ≡ classNumbers D a → count ≡ length (classes D a) → now (marks .entry) ≡ pad maxLiterals []
+        → now (numbers .entry) ≡ classNumbers D a → count ≡ length (classes D a) → now (marks .entry) ≡ pad maxLiterals []
         → (class : ℕ) → class < count → getD (now (marks .exit)) class 0 ≡ journeyMark D a class) ⌝ }
 {
-    let n = of.len();
+    let mut soles = [0u8; 5 * MAX_LITERALS];
     let mut usages = [0u8; MAX_LITERALS];
-    let mut conditions = [0u8; MAX_LITERALS];
-    let mut adds = [0u8; MAX_LITERALS];
-    usages_at(false, rows, n, Moment::Start, &mut usages);
-    soles_at(of, &usages, 1, &mut conditions);
-    soles_at(of, &usages, 3, &mut adds);
-    let mut at_end = [0u8; MAX_LITERALS];
-    let mut end_conditions = [0u8; MAX_LITERALS];
-    let mut end_adds = [0u8; MAX_LITERALS];
-    usages_at(false, rows, n, Moment::End, &mut at_end);
-    soles_at(of, &at_end, 1, &mut end_conditions);
-    soles_at(of, &at_end, 3, &mut end_adds);
+    tally(rows, numbers, &mut soles);
+    usages_at(false, rows, numbers.len(), Moment::Start, &mut usages);
     for class in 0..count {
-        let start = Sole {
-            conditions: conditions[class],
-            adds: adds[class],
-        };
-        let end = Sole {
-            conditions: end_conditions[class],
-            adds: end_adds[class],
-        };
-        marks[class] = mark_of(rows, of, &usages, start, end, class as u8);
+        marks[class] = mark_of(rows, numbers, &usages, &soles, class);
     }
 }
 
@@ -157,11 +148,13 @@ fn journeys_of(head: &Head, rows: &[u8], n: usize, ground: &[u8], row: [u8; 8]) 
         → GroundFits D g → now (ground .entry) ≡ groundRow g → length y ≡ keysOf (D .template) → row ≡ rowOf (objectNumbers y)
         → r ≡ journeysFor D y g) ⌝ }
 {
-    let mut of = [0u8; MAX_LITERALS];
-    let mut tuples = [255u8; 8 * MAX_LITERALS];
-    let count = number_classes(head, rows, &mut of[0..n], &mut tuples);
+    let mut places = [0u8; 8 * MAX_COMPONENTS];
+    put_places(head, &mut places);
+    let mut numbers = [0u8; MAX_LITERALS];
+    let mut words = [0u64; MAX_LITERALS];
+    let count = number_classes(head, &places, rows, &mut numbers[0..n], &mut words);
     let mut marks = [0u8; MAX_LITERALS];
-    mark_journeys(rows, &of[0..n], count, &mut marks);
+    mark_journeys(rows, &numbers[0..n], count, &mut marks);
     count_marked(head, rows, &marks, count, ground, row)
 }
 
