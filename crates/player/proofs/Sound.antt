@@ -288,7 +288,8 @@ module _ (D : Domain) where
 
   kept-from : Bounded D → (fuel : ℕ) (r : List ℕ) (p : Playing) → Sound D p
       → Kept D (record { facts = playFrom fuel D r p .facts; running = playFrom fuel D r p .running }) []
-  kept-from B zero r p h = rw playFrom (stopped 50 p h)
+  unfolding playFrom
+  kept-from B zero r p h = stopped 50 p h
   kept-from B (suc fuel) r p h = go (λ q. kept-from B fuel r q) (playStep D r p) refl (sound-turn B r p h)
     where
       go : ((q : Playing) → Sound D q → Kept D (record { facts = playFrom fuel D r q .facts; running = playFrom fuel D r q .running }) [])

@@ -23,9 +23,10 @@ use Rattle.player.specs.declared.play.Tracked.{Tracked}
 use Rattle.player.specs.declared.run.Ended.{Ended}
 use Rattle.player.specs.Player.{endedOf}
 use Rattle.run_semantics.specs.RunFile.{maxFacts, outside, objectsStop}
-use Rattle.run_semantics.specs.Play.{workBytes, beforeRun, Outcome, outcomeAt, heldBytes, playRun, outcomeCall, callBy, call, workAfter}
+use Rattle.run_semantics.specs.Play.{workBytes, beforeRun, Outcome, outcomeAt, heldBytes, playRun, outcomeCall, callBy, call, workAfter, returnedBytes}
 use Rattle.run_semantics.specs.Track.{instanceOf, noInstance, countOf, countGiven, objectsGiven, instanceStop, trackRun, reportedTotal, trackBy, tracked}
-use Rattle.player.specs.Called.{answerOf, answerBy, answerUnplayed, trackedIf, trackedOf}
+use Rattle.player.specs.Called.{fileOf, offsetOf, faultFile, faultOffset, partAt, answerOf, answerBy, answerUnplayed, trackedIf, trackedOf}
+use Rattle.player.proofs.PlayCalls.{fault-file, fault-offset, fault-part}
 
 -- ---- what the instance stops
 
@@ -114,7 +115,7 @@ module _ (D : Domain) (y r : List ℕ) where
       rw (track-stopped (λ k. z (e ∙ k)))
       ((λ i. record { played = record { number = e i; place = same (eqb (instanceStop D y r) 2) i; steps = 0; weight = 0; fault = InRun 0 }; total = 0 }), w)
     where
-      same : (b : Bool) → 0 ≡ cond b 0 0
+      same : (b : Bool) → _≡_ {A = ℕ} 0 (cond b 0 0)
       same true = refl
       same false = refl
 
@@ -166,3 +167,43 @@ module _ (d y r w : List ℕ) where
           → (t ≡ trackedOf (trackedIf given d y r w)) × (work ≡ trackedIf given d y r w .call .memory)
       unfolding trackedIf tracked outcomeCall
       with-one given g t te work we = rw (g, e, trackBy, le-ltb (length w) workBytes h) (te, we)
+
+-- ---- the two calls
+
+module _ (d y r w : List ℕ) (t : Tracked) (work : List ℕ) where
+  -- without an instance, whatever stands in its place
+  pub without-is : (t ≡ trackedOf (trackedIf false d y r w)) × (work ≡ trackedIf false d y r w .call .memory)
+      → (t .played ≡ answerOf (call d r w)) × (work ≡ workAfter d r w)
+  unfolding trackedIf workAfter
+  without-is e = (ap (λ (x : Tracked). x .played) (e .0), e .1)
+
+  pub with-is : (t ≡ trackedOf (trackedIf true d y r w)) × (work ≡ trackedIf true d y r w .call .memory)
+      → (t ≡ trackedOf (tracked d y r w)) × (work ≡ tracked d y r w .call .memory)
+  unfolding trackedIf
+  with-is e = e
+
+-- the answer's parts
+module _ (d y r w : List ℕ) (t : Tracked) (e : t ≡ trackedOf (tracked d y r w)) where
+  pub told-number : t .played .number ≡ tracked d y r w .call .answer .number
+  told-number = ap (λ (x : Tracked). x .played .number) e
+
+  pub told-place : t .played .place ≡ tracked d y r w .call .answer .first
+  told-place = ap (λ (x : Tracked). x .played .place) e
+
+  pub told-steps : t .played .steps ≡ tracked d y r w .call .answer .steps
+  told-steps = ap (λ (x : Tracked). x .played .steps) e
+
+  pub told-weight : t .played .weight ≡ tracked d y r w .call .answer .weight
+  told-weight = ap (λ (x : Tracked). x .played .weight) e
+
+  pub told-total : t .total ≡ tracked d y r w .total
+  told-total = ap (λ (x : Tracked). x .total) e
+
+  pub told-file : faultFile (t .played .fault) ≡ fileOf (tracked d y r w .call .part)
+  told-file = ap (λ (x : Tracked). faultFile (x .played .fault)) e ∙ fault-file (tracked d y r w .call .part)
+
+  pub told-offset : faultOffset (t .played .fault) ≡ offsetOf (tracked d y r w .call .part)
+  told-offset = ap (λ (x : Tracked). faultOffset (x .played .fault)) e ∙ fault-offset (tracked d y r w .call .part)
+
+  pub told-part : (p : List ℕ) → p ≡ partAt d r (t .played .fault) → p ≡ returnedBytes d r (tracked d y r w .call .part)
+  told-part p f = f ∙ ap (λ (x : Tracked). partAt d r (x .played .fault)) e ∙ fault-part d r (tracked d y r w .call .part)

@@ -126,7 +126,8 @@ pub fn track_run(head: &Head, table: &[u8], run: &[u8], instance: &[u8], work: &
 
 // A domain file, an instance and a run file.
 pub fn track_files(domain: &[u8], run: &[u8], instance: &[u8], work: &mut [u8]) -> Tracked
-    ensures answer { λ r. ⌜ r ≡ trackedOf (tracked (now («domain» .entry)) (now (instance .entry)) (now (run .entry)) (now (work .entry))) ⌝ }
+    ensures answer { λ r. ⌜ r
+        ≡ trackedOf (tracked (now («domain» .entry)) (now (instance .entry)) (now (run .entry)) (now (work .entry))) ⌝ }
     ensures work { λ _. ⌜ now (work .exit)
         ≡ tracked (now («domain» .entry)) (now (instance .entry)) (now (run .entry)) (now (work .entry)) .call .memory ⌝ }
 {

@@ -13,7 +13,8 @@ use Rattle.literals.specs.Domain.{object, keysOf, Domain}
 use Rattle.literals.specs.Decode.{Decoded, refused, domain, decode, byte}
 use Rattle.verdict.specs.Claims.{total}
 use Rattle.run_semantics.specs.RunFile.{outside, objectsStop}
-use Rattle.run_semantics.specs.Play.{workBytes, beforeRun, Outcome, outcomeAt, playRun, ofRun, Call, playedAt, outcomeCall, refusedCall}
+use Rattle.run_semantics.specs.Play.{workBytes, beforeRun, Outcome, outcomeAt, playRun}
+use Rattle.run_semantics.specs.Play.{ofRun, Call, playedAt, outcomeCall, refusedCall}
 
 -- an instance is a byte for each of its objects
 abbrev pub instanceOf : List ℕ → List Object

@@ -22,10 +22,10 @@ unplayed-requires c κs = search needs
 
 returns : tie.Need-returns
 returns c =
-    let a = c .args in
-    let read = c .read-domain in
+    let a = c .before .before .before .before .before .before .before .before .before .before .args in
+    let read = c .before .before .before .read-domain in
     let e = with-refused (a .domain .now) (a .instance .now) (a .run .now) (a .work .now) (a .given) _
-    (refusal-is (a .domain .now) (read .result) _ _ (read .ensures) (c .if1 .taken)) in
+    (refusal-is (a .domain .now) (read .result) _ _ (read .ensures) (c .before .if1 .taken)) in
     ((λ i. record { played = c .unplayed .ensures i; total = 0 }) ∙ e .0, e .1)
 
 unplayed-requires-2 : tie.Need-unplayed-requires-2
@@ -33,10 +33,10 @@ unplayed-requires-2 c κs = search needs
 
 returns-2 : tie.Need-returns-2
 returns-2 c =
-    let a = c .args in
-    let read = c .read-domain in
-    let o = opened (a .domain .now) (read .result) _ _ (read .ensures) (c .if1 .left) in
-    let e = with-small (a .domain .now) (a .instance .now) (a .run .now) (a .work .now) (o .said) (o .decoded) (a .given) (c .if2 .taken) in
+    let a = c .before .before .before .before .before .before .before .before .before .before .before .args in
+    let read = c .before .before .before .before .read-domain in
+    let o = opened (a .domain .now) (read .result) _ _ (read .ensures) (c .before .before .if1 .left) in
+    let e = with-small (a .domain .now) (a .instance .now) (a .run .now) (a .work .now) (o .said) (o .decoded) (a .given) (c .before .if2 .taken) in
     ((λ i. record { played = c .unplayed2 .ensures i; total = 0 }) ∙ e .0, e .1)
 
 slice-aggregate-track-run : tie.Need-slice-aggregate-track-run
@@ -44,22 +44,22 @@ slice-aggregate-track-run c = search needs
 
 track-run-requires : tie.Need-track-run-requires
 track-run-requires c κs =
-    let a = c .args in
-    let read = c .read-domain in
-    let o = opened (a .domain .now) (read .result) _ _ (read .ensures) (c .if1 .left) in
-    ((o .said, o .held), c .if2 .left)
+    let a = c .before .before .before .before .before .before .before .before .before .before .before .before .before .before .args in
+    let read = c .before .before .before .before .before .before .before .read-domain in
+    let o = opened (a .domain .now) (read .result) _ _ (read .ensures) (c .before .before .before .before .before .if1 .left) in
+    ((o .said, o .held), c .before .before .before .before .if2 .left)
 
 same-length : tie.Need-same-length
 same-length c = search needs
 
 returns-3 : tie.Need-returns-3
 returns-3 c =
-    let a = c .args in
-    let read = c .read-domain in
-    let o = opened (a .domain .now) (read .result) _ _ (read .ensures) (c .if1 .left) in
-    let e = c .track-run .ensures (o .said) (o .held) (decoded-well-formed (a .domain .now) (o .said) (o .decoded)) in
-    with-one (a .domain .now) (a .instance .now) (a .run .now) (a .work .now) (o .said) (o .decoded) (c .if2 .left) (a .given) (c .if3 .taken)
-    (c .track-run .result) (e .0) _ (e .1)
+    let a = c .before .before .before .before .before .before .before .before .before .before .before .before .before .before .before .before .before .args in
+    let read = c .before .before .before .before .before .before .before .before .before .before .read-domain in
+    let o = opened (a .domain .now) (read .result) _ _ (read .ensures) (c .before .before .before .before .before .before .before .before .if1 .left) in
+    let e = c .before .before .track-run .ensures (o .said) (o .held) (decoded-well-formed (a .domain .now) (o .said) (o .decoded)) in
+    with-one (a .domain .now) (a .instance .now) (a .run .now) (a .work .now) (o .said) (o .decoded) (c .before .before .before .before .before .before .before .if2 .left) (a .given) (c .before .before .before .before .before .before .if3 .taken)
+    (c .before .before .track-run .result) (e .0) _ (e .1)
 
 slice-aggregate-play-run : tie.Need-slice-aggregate-play-run
 slice-aggregate-play-run c = search needs
@@ -69,10 +69,10 @@ slice-aggregate-play-run-2 c = search needs
 
 play-run-requires : tie.Need-play-run-requires
 play-run-requires c κs =
-    let a = c .args in
-    let read = c .read-domain in
-    let o = opened (a .domain .now) (read .result) _ _ (read .ensures) (c .if1 .left) in
-    ((o .said, o .held), (c .if2 .left, refl))
+    let a = c .before .before .before .before .before .before .before .before .before .before .before .before .before .before .before .args in
+    let read = c .before .before .before .before .before .before .before .before .read-domain in
+    let o = opened (a .domain .now) (read .result) _ _ (read .ensures) (c .before .before .before .before .before .before .if1 .left) in
+    ((o .said, o .held), (c .before .before .before .before .before .if2 .left, refl))
 
 answer-by-requires : tie.Need-answer-by-requires
 answer-by-requires c κs = search needs
@@ -82,12 +82,12 @@ same-length-2 c = search needs
 
 returns-4 : tie.Need-returns-4
 returns-4 c =
-    let a = c .args in
-    let read = c .read-domain in
-    let o = opened (a .domain .now) (read .result) _ _ (read .ensures) (c .if1 .left) in
-    let e = c .play-run .ensures (o .said) (o .held) in
+    let a = c .before .before .before .before .before .before .before .before .before .before .before .before .before .before .before .before .before .before .before .before .args in
+    let read = c .before .before .before .before .before .before .before .before .before .before .before .before .before .read-domain in
+    let o = opened (a .domain .now) (read .result) _ _ (read .ensures) (c .before .before .before .before .before .before .before .before .before .before .before .if1 .left) in
+    let e = c .before .before .before .before .play-run .ensures (o .said) (o .held) in
     let b = c .answer-by in
-    with-none (a .domain .now) (a .instance .now) (a .run .now) (a .work .now) (o .said) (o .decoded) (c .if2 .left) (a .given) (c .if3 .left)
+    with-none (a .domain .now) (a .instance .now) (a .run .now) (a .work .now) (o .said) (o .decoded) (c .before .before .before .before .before .before .before .before .before .before .if2 .left) (a .given) (c .before .before .before .before .before .before .before .before .before .if3 .left)
     (b .result) (b .ensures (playRun (o .said) (a .run .now)) (e .0)) _ (e .1)
 
 pub play-with-spec : {M : Type 1} → statement M

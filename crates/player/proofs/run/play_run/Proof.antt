@@ -20,8 +20,8 @@ slice-aggregate-play-records c = search needs
 
 play-records-requires : tie.Need-play-records-requires
 play-records-requires c κs =
-    let old = c .before .before .before .before .before .before .before .before .before .before .before .before .args .work .now in
-    let p = c .before .before .before .before .before .before .before .before .before .before .before .before .pre in
+    let old = c .before .before .before .before .before .before .before .before .before .before .before .before .before .args .work .now in
+    let p = c .before .before .before .before .before .before .before .before .before .before .before .before .before .pre in
     let put = c .before .before .before .before .before .before .put-bytes in
     let long = put .kept .0 in
     let room = p .1 .0 in
@@ -35,8 +35,8 @@ same-length-2 c = search needs
 
 returns : tie.Need-returns
 returns c D H =
-    let old = c .before .before .before .before .before .before .before .before .before .before .before .before .before .before .before .before .before .args .work .now in
-    c .before .before .before .before .play-records .ensures D old H (cleared old _ (c .before .before .before .before .before .before .before .before .before .before .before .put-bytes .ensures))
+    let old = c .before .before .before .before .before .before .before .before .before .before .before .before .before .before .before .before .before .before .before .args .work .now in
+    c .before .before .before .before .before .play-records .ensures D old H (cleared old _ (c .before .before .before .before .before .before .before .before .before .before .before .before .put-bytes .ensures))
 
 pub play-run-spec : {M : Type 1} → statement M
 play-run-spec =
