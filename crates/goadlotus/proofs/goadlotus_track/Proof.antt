@@ -21,12 +21,12 @@ same-length c = search needs
 
 returns : tie.Need-returns
 returns c =
-    let a = c .args in
+    let a = c .before .before .before .before .before .before .before .before .before .before .before .args in
     let d = a .domain .now in
     let y = a .instance .now in
     let r = a .run .now in
     let w = a .work .now in
-    let f = c .track-files in
+    let f = c .before .before .before .before .before .track-files in
     let t = f .result in
     let e = f .ensures .0 in
     let total = told-total d y r w t e in
@@ -36,7 +36,7 @@ returns c =
     (told-weight d y r w t e,
     (total,
     (f .ensures .1,
-    (c .file-of .ensures ∙ told-file d y r w t e,
+    (c .before .file-of .ensures ∙ told-file d y r w t e,
     (c .offset-of .ensures ∙ told-offset d y r w t e,
     (as-played d y r w, (total-of-run d y r w _ total, nothing-gained d y r w _ total))))))))))
 
