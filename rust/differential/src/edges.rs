@@ -54,7 +54,7 @@ pub fn service_lines(kind: &str) -> Vec<Serving> {
 }
 
 /// What a line may begin with.
-const KINDS: [&str; 4] = ["judge", "play", "templates", "totals"];
+const KINDS: [&str; 5] = ["judge", "play", "track", "templates", "totals"];
 
 fn lines<T>(kind: &str, read: impl Fn(usize, &[&str]) -> Option<T>) -> Vec<T> {
     let text = include_str!("../../cases/edges.txt");
