@@ -185,7 +185,7 @@ uint64_t goadlotus_play(const uint8_t *domain, size_t domain_len,
  *             has such a record; *steps, *weight and *total are then 0, and no fact is held.
  *   *total    the instance's weight plus its open journeys: each open entry counts once for every journey
  *             of its action whose key tuple, bound, is the instance. After the last step made, for 50 to 57
- *             too; 0 while the start doesn't count yet, and for 9 to 27 and 58.
+ *             too; 0 while the start doesn't count yet, and for 9 to 25 and 58.
  *
  * Where the instance is right, everything else is answered and written as by goadlotus_play. Where the
  * template's verdict is 1 and the start weighs at most one, the total never rises from one state to the
