@@ -1,11 +1,13 @@
 /*
- * goadlotus: judging a domain file, playing a run, listing the templates of a single component, and
- * counting a box of files. The library is libgoadlotus.a, in lib/ of a release, and in target/staticlib/
- * of a checkout, where `rt staticlib goadlotus` writes it; it links into x86-64 programs.
+ * goadlotus: judging a domain file, playing a run, also with an instance that is followed, listing the
+ * templates of a single component, and counting a box of files. The library is libgoadlotus.a, in lib/ of
+ * a release, and in target/staticlib/ of a checkout, where `rt staticlib goadlotus` writes it; it links
+ * into x86-64 programs.
  *
  * goadlotus_judge_file and goadlotus_play_files, at the end, bring the memory and say how many rows and
  * facts were written; goadlotus_judge and goadlotus_play work in memory that the caller lends. In the
- * same two ways goadlotus_list_templates and goadlotus_templates list templates, goadlotus_count_box and
+ * same two ways goadlotus_track_files and goadlotus_track play a run with an instance,
+ * goadlotus_list_templates and goadlotus_templates list templates, goadlotus_count_box and
  * goadlotus_totals count a box.
  */
 #ifndef GOADLOTUS_H
@@ -175,6 +177,31 @@ uint64_t goadlotus_play(const uint8_t *domain, size_t domain_len,
                         uint64_t *part_file, uint64_t *part_at);
 
 /*
+ * Plays a run as goadlotus_play does, and follows an instance: instance_len bytes at instance, an object for
+ * each key of the template, in the order of the keys; objects may repeat in it.
+ *
+ *   51        also: instance_len is not the number of keys, or an object is not below the object count. It is
+ *             told at the record of kind 16, after that record's own 50 and 51, so not before the run file
+ *             has such a record; *steps, *weight and *total are then 0, and no fact is held.
+ *   *total    the instance's weight plus its open journeys: each open entry counts once for every journey
+ *             of its action whose key tuple, bound, is the instance. After the last step made, for 50 to 57
+ *             too; 0 while the start doesn't count yet, and for 9 to 25 and 58.
+ *
+ * Where the instance is right, everything else is answered and written as by goadlotus_play. Where the
+ * template's verdict is 1 and the start weighs at most one, the total never rises from one state to the
+ * next: a volume whose weight is 0 and whose total is 1 is on its way, one whose total is 0 is nowhere.
+ * The total is told for every template, whatever its verdict.
+ *
+ * instance may overlap the two files, and nothing else. It may not be null, not even where it has 0 bytes.
+ */
+uint64_t goadlotus_track(const uint8_t *domain, size_t domain_len,
+                         const uint8_t *run, size_t run_len,
+                         const uint8_t *instance, size_t instance_len,
+                         uint8_t *work, size_t work_len,
+                         uint64_t *place, uint64_t *steps, uint64_t *weight, uint64_t *total,
+                         uint64_t *part_file, uint64_t *part_at);
+
+/*
  * Lists the templates of a single component that the domain in the file_len bytes at file could have, each
  * with its verdict; the file's own components are checked and left aside. The number is returned, and its
  * place always comes back in *first.
@@ -276,6 +303,25 @@ static inline uint64_t goadlotus_play_files(const uint8_t *domain, size_t domain
                                     &played->part_at);
     played->facts = goadlotus_count_facts(played->work, sizeof played->work);
     return played->number;
+}
+
+/* A run played with an instance. */
+struct goadlotus_tracked {
+    uint64_t number, place, steps, weight, total, part_file, part_at;
+    size_t facts;                      /* how many are held */
+    uint8_t work[GOADLOTUS_WORK_SIZE]; /* the facts held, then zeros */
+};
+
+/* Plays a run file on a domain file with an instance; the number is also returned, and is never 58. */
+static inline uint64_t goadlotus_track_files(const uint8_t *domain, size_t domain_len, const uint8_t *run,
+                                             size_t run_len, const uint8_t *instance, size_t instance_len,
+                                             struct goadlotus_tracked *tracked) {
+    memset(tracked, 0, sizeof *tracked);
+    tracked->number = goadlotus_track(domain, domain_len, run, run_len, instance, instance_len, tracked->work,
+                                      sizeof tracked->work, &tracked->place, &tracked->steps, &tracked->weight,
+                                      &tracked->total, &tracked->part_file, &tracked->part_at);
+    tracked->facts = goadlotus_count_facts(tracked->work, sizeof tracked->work);
+    return tracked->number;
 }
 
 /* The templates of a file. */

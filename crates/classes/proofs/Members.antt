@@ -40,7 +40,7 @@ module _ (n : ℕ) (f : Atom Variable) where
       go true e r = let k = tuples-none c cs (and-l _ _ h) (eqb-true (c .rel) (f .rel) (and-l _ _ e)) in omega arith
       go false e r = r
 
-tuple-once : (D : Domain) → Bounded D → (f : Atom Variable) → length (tuplesOf D f) ≤ 1
+pub tuple-once : (D : Domain) → Bounded D → (f : Atom Variable) → length (tuplesOf D f) ≤ 1
 unfolding tuplesOf
 tuple-once D B f = tuples-few (keysOf (D .template)) f (D .template) (B .componentsOnce)
 

@@ -3,6 +3,7 @@ use judging::judge;
 use player::play::file_of;
 use player::play::offset_of;
 use player::play::play_files;
+use player::track::track_files;
 use templates::list_templates;
 use totals::count_box;
 ghost use mathlib.Core.Path.{_≡_};
@@ -11,7 +12,8 @@ ghost use Rattle.verdict.specs.Claims.{AcceptedSafe, RefusedHarmful, WitnessHar
 ghost use Rattle.judging.specs.Held.{DecidesFile};
 ghost use Rattle.run_semantics.specs.Play.{played, workAfter, returned};
 ghost use Rattle.player.specs.Called.{fileOf, offsetOf};
-ghost use Rattle.run_semantics.specs.Claims.{PlaysAsMachine, StaysLow};
+ghost use Rattle.run_semantics.specs.Claims.{PlaysAsMachine, StaysLow, AsPlayed, TotalOfRun, NothingGained};
+ghost use Rattle.run_semantics.specs.Track.{tracked};
 ghost use Rattle.templates.specs.Templates.{listFile, listAfter};
 ghost use Rattle.templates.specs.Claims.{EntriesSafe, NothingMissing};
 ghost use Rattle.totals.specs.Totals.{totalled, totalsAfter};
@@ -75,6 +77,54 @@ pub extern "C" fn goadlotus_play(
     *place = answer.place as u64;
     *steps = answer.steps as u64;
     *weight = answer.weight as u64;
+    *part_file = file_of(fault);
+    *part_at = offset_of(fault) as u64;
+    answer.number
+}
+
+// Plays a run file on a domain file with an instance, a byte for each of its objects: answers and leaves what goadlotus_play does, and
+// the instance's total after the last step made.
+#[no_mangle]
+pub extern "C" fn goadlotus_track(
+    domain: &[u8],
+    run: &[u8],
+    instance: &[u8],
+    work: &mut [u8],
+    place: &mut u64,
+    steps: &mut u64,
+    weight: &mut u64,
+    total: &mut u64,
+    part_file: &mut u64,
+    part_at: &mut u64,
+) -> u64
+    ensures number { λ r. ⌜ r
+        ≡ tracked (now («domain» .entry)) (now (instance .entry)) (now (run .entry)) (now (work .entry)) .call .answer .number ⌝ }
+    ensures place { λ _. ⌜ now (place .exit)
+        ≡ tracked (now («domain» .entry)) (now (instance .entry)) (now (run .entry)) (now (work .entry)) .call .answer .first ⌝ }
+    ensures steps { λ _. ⌜ now (steps .exit)
+        ≡ tracked (now («domain» .entry)) (now (instance .entry)) (now (run .entry)) (now (work .entry)) .call .answer .steps ⌝ }
+    ensures weight { λ _. ⌜ now (weight .exit)
+        ≡ tracked (now («domain» .entry)) (now (instance .entry)) (now (run .entry)) (now (work .entry)) .call .answer .weight ⌝ }
+    ensures total { λ _. ⌜ now (total .exit)
+        ≡ tracked (now («domain» .entry)) (now (instance .entry)) (now (run .entry)) (now (work .entry)) .total ⌝ }
+    ensures work { λ _. ⌜ now (work .exit)
+        ≡ tracked (now («domain» .entry)) (now (instance .entry)) (now (run .entry)) (now (work .entry)) .call .memory ⌝ }
+    ensures file { λ _. ⌜ now («part_file» .exit)
+        ≡ fileOf (tracked (now («domain» .entry)) (now (instance .entry)) (now (run .entry)) (now (work .entry)) .call .part) ⌝ }
+    ensures offset { λ _. ⌜ now («part_at» .exit)
+        ≡ offsetOf (tracked (now («domain» .entry)) (now (instance .entry)) (now (run .entry)) (now (work .entry)) .call .part) ⌝ }
+    ensures same { λ _. ⌜ AsPlayed (now («domain» .entry)) (now (instance .entry)) (now (run .entry)) (now (work .entry)) ⌝ }
+    ensures last { λ _. ⌜ TotalOfRun (now («domain» .entry)) (now (instance .entry)) (now (run .entry)) (now (work .entry))
+        (now (total .exit)) ⌝ }
+    ensures gained { λ _. ⌜ NothingGained (now («domain» .entry)) (now (instance .entry)) (now (run .entry)) (now (total .exit)) ⌝ }
+{
+    let told = track_files(domain, run, instance, work);
+    let answer = told.played;
+    let fault = answer.fault;
+    *place = answer.place as u64;
+    *steps = answer.steps as u64;
+    *weight = answer.weight as u64;
+    *total = told.total as u64;
     *part_file = file_of(fault);
     *part_at = offset_of(fault) as u64;
     answer.number

@@ -5,3 +5,4 @@ pub mod Readied
 pub mod PlayLoop
 pub mod PlayCalls
 pub mod NotedTurns
+pub mod TrackCalls

@@ -7,37 +7,37 @@ use native.Mathlib.Omega.{arith}
 use lib.Dec.{eqb}
 use lib.ListN.{length, take, drop, length-drop, drop-of-length-le}
 use lib.Seq.{take-all}
-use borrow.Author.Tests.{eqb-true, eq-eqb, ne-eqb, lt-ltb, le-ltb}
+use borrow.Author.Tests.{eqb-true, eq-eqb, ne-eqb, le-ltb}
 use Rattle.records.specs.Memory.{over}
 use Rattle.literals.specs.Domain.{Fact, Domain}
-use Rattle.literals.specs.Decode.{Refusal, Decoded, refused, domain, decode}
+use Rattle.literals.specs.Decode.{Decoded, domain, decode}
 use Rattle.player.specs.declared.run.Ended.{Ended}
 use Rattle.player.specs.declared.play.Fault.{Fault}
 use Rattle.player.specs.declared.play.Fault.the-variants.{Domain as InDomain, Run as InRun}
 use Rattle.player.specs.declared.play.PlayAnswer.{PlayAnswer}
-use Rattle.run_semantics.specs.RunFile.{entriesBefore}
+use Rattle.run_semantics.specs.RunFile.{entriesBefore, entriesUpTo, begunIn}
 use Rattle.run_semantics.specs.Play.{workBytes, Outcome, placeOf, heldBytes, playRun, Returned, ofDomain, ofRun, Call, outcomeCall, callBy, call, played, workAfter, returned, returnedBytes}
 use Rattle.run_semantics.specs.Claims.{finalOf, AsMachine, PlaysAsMachine, StaysLow}
 use Rattle.player.specs.Player.{endedOf}
-use Rattle.player.specs.Called.{faultOf, fileOf, offsetOf, faultFile, faultOffset, partAt, answerOf, answerBy, answerUnplayed}
+use Rattle.player.specs.Called.{faultOf, fileOf, offsetOf, faultFile, faultOffset, partAt, answerOf, answerBy}
 use Rattle.run_semantics.proofs.Never.{played-as-machine, weight-stays-low}
 
 -- ---- the answer of a run
 
 module _ (e : Ended) (o : Outcome) (is : e ≡ endedOf o) where
-  pub answer-played : e .number ≡ 2 → record { number = 2; place = 0; steps = e .steps; weight = e .weight; fault = InRun (e .place) } ≡ answerBy o
+  pub answer-played : e .number ≡ 2 → record { number = 2; place = 0; steps = e .tally .steps; weight = e .tally .weight; fault = InRun (e .place) } ≡ answerBy o
   answer-played z =
       let n : o .number ≡ 2 = sym (ap (λ (x : Ended). x .number) is) ∙ z in
       let f : eqb (o .number) 2 ≡ true = eq-eqb (o .number) 2 n in
-      λ i. record { number = sym n i; place = place-none f i; steps = is i .steps; weight = is i .weight; fault = InRun (is i .place) }
+      λ i. record { number = sym n i; place = place-none f i; steps = is i .tally .steps; weight = is i .tally .weight; fault = InRun (is i .place) }
     where
       place-none : eqb (o .number) 2 ≡ true → 0 ≡ cond (eqb (o .number) 2) 0 (o .place)
       place-none f = rw f
 
-  pub answer-stopped : (e .number ≡ 2 → ⊥) → record { number = e .number; place = e .place; steps = e .steps; weight = e .weight; fault = InRun (e .place) } ≡ answerBy o
+  pub answer-stopped : (e .number ≡ 2 → ⊥) → record { number = e .number; place = e .place; steps = e .tally .steps; weight = e .tally .weight; fault = InRun (e .place) } ≡ answerBy o
   answer-stopped z =
       let f : eqb (o .number) 2 ≡ false = ne-eqb (o .number) 2 (λ k. z (ap (λ (x : Ended). x .number) is ∙ k)) in
-      λ i. record { number = is i .number; place = (ap (λ (x : Ended). x .place) is ∙ place-is f) i; steps = is i .steps; weight = is i .weight; fault = InRun (is i .place) }
+      λ i. record { number = is i .number; place = (ap (λ (x : Ended). x .place) is ∙ place-is f) i; steps = is i .tally .steps; weight = is i .tally .weight; fault = InRun (is i .place) }
     where
       place-is : eqb (o .number) 2 ≡ false → o .place ≡ cond (eqb (o .number) 2) 0 (o .place)
       place-is f = rw f
@@ -66,73 +66,50 @@ module _ (d r : List ℕ) (at : ℕ) (f : Fault) where
   pub run-past : f ≡ InRun at → length r < at → take (length r - length r) (drop (length r) r) ≡ partAt d r f
   run-past e h = rest-none r at h ∙ sym (ap (partAt d r) e)
 
--- ---- a domain that was read
+-- of the part that comes back
+pub fault-file : (x : Returned) → faultFile (faultOf x) ≡ fileOf x
+fault-file (ofDomain at) = refl
+fault-file (ofRun at) = refl
 
-module _ (D : Domain) (r w : List ℕ) where
-  pub call-small : length w < workBytes → (answerUnplayed 58 0 (InRun (length r)) ≡ answerOf (callBy (domain D) r w)) × (w ≡ callBy (domain D) r w .memory)
-  unfolding callBy
-  call-small h = rw (callBy, lt-ltb (length w) workBytes h) (refl, refl)
+pub fault-offset : (x : Returned) → faultOffset (faultOf x) ≡ offsetOf x
+fault-offset (ofDomain at) = refl
+fault-offset (ofRun at) = refl
 
-  pub call-run : workBytes ≤ length w → (a : PlayAnswer) → a ≡ answerBy (playRun D r) → (work : List ℕ) → work ≡ over (heldBytes (playRun D r .facts)) w
-      → (a ≡ answerOf (callBy (domain D) r w)) × (work ≡ callBy (domain D) r w .memory)
-  unfolding callBy outcomeCall
-  call-run h a e work f = rw (callBy, le-ltb (length w) workBytes h) (e, f)
+pub fault-part : (d r : List ℕ) (x : Returned) → partAt d r (faultOf x) ≡ returnedBytes d r x
+unfolding returnedBytes
+fault-part d r (ofDomain at) = refl
+fault-part d r (ofRun at) = refl
 
--- ---- a domain file
+-- ---- the answer's parts
 
-module _ (d r w : List ℕ) where
-  call-of : (x : Decoded) → decode d ≡ x → (a : PlayAnswer) (work : List ℕ) → (a ≡ answerOf (callBy x r w)) × (work ≡ callBy x r w .memory) → (a ≡ answerOf (call d r w)) × (work ≡ workAfter d r w)
-  unfolding call workAfter
-  call-of x e a work h = (h .0 ∙ ap (λ (y : Decoded). answerOf (callBy y r w)) (sym e), h .1 ∙ ap (λ (y : Decoded). callBy y r w .memory) (sym e))
+module _ (d r w : List ℕ) (a : PlayAnswer) (e : a ≡ answerOf (call d r w)) where
+  pub number-is : a .number ≡ played d r w .number
+  unfolding played
+  number-is = ap (λ (x : PlayAnswer). x .number) e
 
-  pub call-refused : (x : Refusal) → decode d ≡ refused x → (answerUnplayed (x .number) (x .place) (InDomain (x .start)) ≡ answerOf (call d r w)) × (w ≡ workAfter d r w)
-  unfolding callBy
-  call-refused x e = call-of (refused x) e (answerUnplayed (x .number) (x .place) (InDomain (x .start))) w (refl, refl)
+  pub place-is : a .place ≡ played d r w .first
+  unfolding played
+  place-is = ap (λ (x : PlayAnswer). x .place) e
 
-  pub call-read : (D : Domain) → decode d ≡ domain D → (a : PlayAnswer) (work : List ℕ) → (a ≡ answerOf (callBy (domain D) r w)) × (work ≡ callBy (domain D) r w .memory) → (a ≡ answerOf (call d r w)) × (work ≡ workAfter d r w)
-  call-read D e a work h = call-of (domain D) e a work h
+  pub steps-is : a .steps ≡ played d r w .steps
+  unfolding played
+  steps-is = ap (λ (x : PlayAnswer). x .steps) e
 
-  -- ---- the answer's parts
-  module _ (a : PlayAnswer) (e : a ≡ answerOf (call d r w)) where
-    pub number-is : a .number ≡ played d r w .number
-    unfolding played
-    number-is = ap (λ (x : PlayAnswer). x .number) e
+  pub weight-is : a .weight ≡ played d r w .weight
+  unfolding played
+  weight-is = ap (λ (x : PlayAnswer). x .weight) e
 
-    pub place-is : a .place ≡ played d r w .first
-    unfolding played
-    place-is = ap (λ (x : PlayAnswer). x .place) e
+  pub file-is : faultFile (a .fault) ≡ fileOf (returned d r w)
+  unfolding returned
+  file-is = ap (λ (x : PlayAnswer). faultFile (x .fault)) e ∙ fault-file (call d r w .part)
 
-    pub steps-is : a .steps ≡ played d r w .steps
-    unfolding played
-    steps-is = ap (λ (x : PlayAnswer). x .steps) e
+  pub offset-is : faultOffset (a .fault) ≡ offsetOf (returned d r w)
+  unfolding returned
+  offset-is = ap (λ (x : PlayAnswer). faultOffset (x .fault)) e ∙ fault-offset (call d r w .part)
 
-    pub weight-is : a .weight ≡ played d r w .weight
-    unfolding played
-    weight-is = ap (λ (x : PlayAnswer). x .weight) e
-
-    pub file-is : faultFile (a .fault) ≡ fileOf (returned d r w)
-    unfolding returned
-    file-is = ap (λ (x : PlayAnswer). faultFile (x .fault)) e ∙ by-return (call d r w .part)
-      where
-        by-return : (x : Returned) → faultFile (faultOf x) ≡ fileOf x
-        by-return (ofDomain at) = refl
-        by-return (ofRun at) = refl
-
-    pub offset-is : faultOffset (a .fault) ≡ offsetOf (returned d r w)
-    unfolding returned
-    offset-is = ap (λ (x : PlayAnswer). faultOffset (x .fault)) e ∙ by-return (call d r w .part)
-      where
-        by-return : (x : Returned) → faultOffset (faultOf x) ≡ offsetOf x
-        by-return (ofDomain at) = refl
-        by-return (ofRun at) = refl
-
-    pub part-is : (p : List ℕ) → p ≡ partAt d r (a .fault) → p ≡ returnedBytes d r (returned d r w)
-    unfolding returned returnedBytes
-    part-is p f = f ∙ ap (λ (x : PlayAnswer). partAt d r (x .fault)) e ∙ by-return (call d r w .part)
-      where
-        by-return : (x : Returned) → partAt d r (faultOf x) ≡ returnedBytes d r x
-        by-return (ofDomain at) = refl
-        by-return (ofRun at) = refl
+  pub part-is : (p : List ℕ) → p ≡ partAt d r (a .fault) → p ≡ returnedBytes d r (returned d r w)
+  unfolding returned
+  part-is p f = f ∙ ap (λ (x : PlayAnswer). partAt d r (x .fault)) e ∙ fault-part d r (call d r w .part)
 
 -- ---- the call is the machine's
 
@@ -154,8 +131,12 @@ as-machine d r w number place steps weight memory n p s h m D e l =
     let n′ : number ≡ o .number = n ∙ ap (λ (x : Call). x .answer .number) f in
     let p′ : place ≡ placeOf o = p ∙ ap (λ (x : Call). x .answer .first) f in
     let at : cond (eqb number 2) (length r) place ≡ o .place = ap₂ (λ (x y : ℕ). cond (eqb x 2) (length r) y) n′ p′ ∙ whole-file D r o a in
-    let fs : finalOf D (entriesBefore r (cond (eqb number 2) (length r) place)) .facts ≡ o .facts = ap (λ (x : ℕ). finalOf D (entriesBefore r x) .facts) at ∙ sym (a .facts) in (
-      same-outcome D r o a _ (λ i. record { number = n′ i; place = at i; steps = (s ∙ ap (λ (x : Call). x .answer .steps) f) i; weight = (h ∙ ap (λ (x : Call). x .answer .weight) f) i; facts = fs i }),
+    let fs : finalOf D (entriesBefore r (cond (eqb number 2) (length r) place)) .facts ≡ o .facts = ap (λ (x : ℕ). finalOf D (entriesBefore r x) .facts) at ∙ sym (a .facts) in
+    let gs : finalOf D (entriesBefore r (cond (eqb number 2) (length r) place)) .running ≡ o .running
+    = ap (λ (x : ℕ). finalOf D (entriesBefore r x) .running) at ∙ sym (a .running) in
+    let b : begunIn (entriesUpTo r (cond (eqb number 2) (length r) place)) ≡ o .begun
+    = ap (λ (x : ℕ). begunIn (entriesUpTo r x)) at ∙ sym (a .begun) in (
+      same-outcome D r o a _ (λ i. record { number = n′ i; place = at i; steps = (s ∙ ap (λ (x : Call). x .answer .steps) f) i; weight = (h ∙ ap (λ (x : Call). x .answer .weight) f) i; facts = fs i; running = gs i; begun = b i }),
       m ∙ ap (λ (x : Call). x .memory) f ∙ ap (λ (gs : List Fact). over (heldBytes gs) w) (sym fs),
     )
   where

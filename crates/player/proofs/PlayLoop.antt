@@ -14,6 +14,7 @@ use Rattle.verdict.specs.Judged.{factBytes}
 use Rattle.player.specs.declared.run.Ended.{Ended}
 use Rattle.store.specs.Index.{factIndex}
 use Rattle.run_semantics.specs.Play.{workBytes, Playing, beforeRun, Outcome, PlayTurn, goOn, finish, heldBytes, playStep, playFrom, playRun}
+use Rattle.events.specs.Held.{openOf}
 use Rattle.machine.specs.Held.{Noted}
 use Rattle.player.specs.Player.{Whole as Player, WholeTurn as Turn, playerOf, Stands, LeadsTo, NotedAfter, Playable, endedOf}
 use Rattle.run_semantics.proofs.Loop.{play-more, play-done, play-at}
@@ -115,20 +116,38 @@ module _ (D : Domain) (B : Bounded D) {head : List ℕ} (r old : List ℕ) (play
   pub loop-falls : t .number ≡ 0 → length r - t .player .at < length r - player .at
   loop-falls z = let f = turned z .further in let n = turned z .inside in omega arith
 
-  pub loop-ends : (t .number ≡ 0 → ⊥) → (ended : Ended) → (ended .number ≡ t .number) × (ended .place ≡ t .player .at) × (ended .steps ≡ t .player .tally .steps) × (ended .weight ≡ t .player .tally .weight)
+  pub loop-ends : (t .number ≡ 0 → ⊥) → (ended : Ended)
+      → ended ≡ record {
+        number = t .number;
+        place = t .player .at;
+        tally = t .player .tally;
+        facts = t .player .state .facts;
+        opened = t .player .state .running .count;
+      }
       → (ended ≡ endedOf (playRun D r)) × (work′ ≡ over (heldBytes (playRun D r .facts)) old)
+      × (t .player .state .running ≡ openOf (playRun D r .running))
+  unfolding openOf
   loop-ends z ended is = go (playStep D r (i .reached)) refl (step (i .reached) old (i .stands) (i .noted))
     where
       q : Playing
       q = i .reached
 
-      go : (u : PlayTurn) → playStep D r q ≡ u → LeadsTo u t work′ old → (ended ≡ endedOf (playRun D r)) × (work′ ≡ over (heldBytes (playRun D r .facts)) old)
+      go : (u : PlayTurn) → playStep D r q ≡ u → LeadsTo u t work′ old
+          → (ended ≡ endedOf (playRun D r)) × (work′ ≡ over (heldBytes (playRun D r .facts)) old)
+          × (t .player .state .running ≡ openOf (playRun D r .running))
       go (goOn n) e h = absurd (z (h .number))
       go (finish o) e h =
           let f = fuel-left i in
           let p : o ≡ playRun D r = sym (play-done (f .0) D r q o e) ∙ ap (λ (m : ℕ). playFrom m D r q) (sym (f .1)) ∙ i .same in
-          let k : ended ≡ endedOf o = λ j. record { number = (is .0 ∙ h .number) j; place = (is .1 ∙ h .place) j; steps = (is .2 ∙ h .steps) j; weight = (is .3 ∙ h .weight) j } in
-          (k ∙ ap endedOf p, h .memory ∙ ap (λ (x : Outcome). over (heldBytes (x .facts)) old) p)
+          let k : ended ≡ endedOf o = is ∙ (λ j.
+          record {
+            number = h .number j;
+            place = h .place j;
+            tally = h .tally j;
+            facts = h .facts j;
+            opened = h .running j .count;
+          }) in
+          (k ∙ ap endedOf p, h .memory ∙ ap (λ (x : Outcome). over (heldBytes (x .facts)) old) p, h .running ∙ ap (λ (x : Outcome). openOf (x .running)) p)
 
 -- what a turn relies on
 pub playable : {head table old : List ℕ} (R : Read head table) → workBytes ≤ length old → (r : List ℕ) (player : Player) (work index : List ℕ)

@@ -81,8 +81,9 @@ module _ (D : Domain) (q : Playing) (player : Player) (work old : List ℕ) (st 
         number = e;
         some = λ k. z (e ∙ k);
         place = ap (λ (x : Player). x .at) (st .is);
-        steps = ap (λ (x : Player). x .tally .steps) (st .is);
-        weight = ap (λ (x : Player). x .tally .weight) (st .is);
+        tally = ap (λ (x : Player). x .tally) (st .is);
+        facts = ap (λ (x : Player). x .state .facts) (st .is);
+        running = ap (λ (x : Player). x .state .running) (st .is);
         memory = st .memory;
       }
 
@@ -240,8 +241,9 @@ module _ (D : Domain) (q : Playing) (behind : ℕ) where
           number = refl;
           some = z;
           place = ap (λ (x : Player). x .at) (st .is);
-          steps = ap (λ (x : Player). x .tally .steps) (st .is);
-          weight = ap (λ (x : Player). x .tally .weight) (st .is);
+          tally = ap (λ (x : Player). x .tally) (st .is);
+          facts = ap (λ (x : Player). x .state .facts) (st .is);
+          running = ap (λ (x : Player). x .state .running) (st .is);
           memory = m;
         })
 

@@ -2,7 +2,7 @@
 use mathlib.Core.Path.{_≡_, refl, ap}
 use mathlib.Core.Bool.{Bool, true, false, _&&_, _||_, not, cond, false≢true}
 use mathlib.Core.List.{List, [], _∷_, _++_, List·Memᴰ·not-nil}
-use Prim.Native.Nat.{ℕ, _+_, _≤_, _<_, max}
+use Prim.Native.Nat.{ℕ, zero, suc, _+_, _≤_, _<_, max}
 use native.Mathlib.Omega.{arith}
 use lib.Dec.{eqb, ltb, leb}
 use lib.ListN.{length, drop, length-map, length-append, length-drop}
@@ -23,7 +23,7 @@ use Rattle.verdict.proofs.Events.{not-fact}
 use Rattle.verdict.proofs.Weight.{distinct-append}
 use Rattle.run_semantics.proofs.Stops.{eventTests}
 use Rattle.run_semantics.specs.RunFile.{RunKind, objectsRecord, factRecord, eventRecord, stepRecord, endRecord, otherRecord, runKindOf, factOf, momentOf, eventOf, maxObjects, maxFacts, maxEvents, outside, objectsStop, factStop, eventStop, stepStop, endStop}
-use Rattle.run_semantics.specs.Play.{Tally, Playing, beforeRun, onward, PlayTurn, goOn, finish, stopAt, begin, withObjects, joined, withFact, withEvent, forbidden, tooLarge, afterStep, closeStep, withClose, unless, playRecord, playFound, playStep}
+use Rattle.run_semantics.specs.Play.{Tally, Playing, beforeRun, onward, PlayTurn, goOn, finish, stopAt, begin, withObjects, joined, withFact, withEvent, forbidden, tooLarge, afterStep, closeStep, withClose, unless, playRecord, playFound, playStep, playFrom, playRun}
 use Rattle.store.specs.Rows.{FactFits}
 use Rattle.events.specs.Held.{GroundFits}
 use Rattle.machine.specs.Held.{Kept}
@@ -31,6 +31,8 @@ use Rattle.player.specs.Player.{Sound}
 use Rattle.events.proofs.Members.{map-in}
 use Rattle.run_fields.proofs.RunFields.{byte-moment}
 use Rattle.machine.proofs.NextKept.{kept-next}
+use Rattle.machine.proofs.Resting.{kept-none}
+use Rattle.run_semantics.proofs.Loop.{play-more, play-done}
 
 -- ---- the tests of each record, as far as they are needed here
 
@@ -152,17 +154,20 @@ module _ (D : Domain) where
       go true e = with-tally (p .tally) (h .steps) (h .early) (h .weight)
       go false e = with-tally (record { begun = true; steps = 0; weight = top }) (omega arith) (λ q. absurd (clash refl q)) (λ q. omega arith)
 
-  -- a turn that goes on, goes on where it holds
+  -- a turn that goes on, goes on where it holds; one that ends leaves facts and entries of the domain, within the limits
   abbrev SoundTurn : PlayTurn → Type 0
   SoundTurn (goOn q) = Sound D q
-  SoundTurn (finish o) = Unit {0}
+  SoundTurn (finish o) = Kept D (record { facts = o .facts; running = o .running }) []
 
-  sound-unless : (n : ℕ) (p : Playing) (t : PlayTurn) → (n ≡ 0 → SoundTurn t) → SoundTurn (unless n p t)
-  sound-unless n p t h = go (eqb n 0) refl
+  stopped : (n : ℕ) (p : Playing) → Sound D p → SoundTurn (stopAt n p)
+  stopped n p h = kept-none {s = p .state} {es = p .waiting} (h .kept)
+
+  sound-unless : (n : ℕ) (p : Playing) → Sound D p → (t : PlayTurn) → (n ≡ 0 → SoundTurn t) → SoundTurn (unless n p t)
+  sound-unless n p s t h = go (eqb n 0) refl
     where
       go : (b : Bool) → eqb n 0 ≡ b → SoundTurn (cond b t (stopAt n p))
       go true e = h (eqb-true n 0 e)
-      go false e = tt
+      go false e = stopped n p s
 
   module _ (B : Bounded D) (p : Playing) (h : Sound D p) (behind : ℕ) (l : p .at < behind) where
     sound-after : (s : State) → Kept D s [] → p .tally .begun ≡ true → SoundTurn (afterStep p s (topWeight D (s .facts)) behind)
@@ -178,13 +183,13 @@ module _ (D : Domain) where
         after = next D (p .state) (p .waiting)
 
         fits : (t : Bool) → tooLarge after ≡ t → SoundTurn (cond t (stopAt 52 p) (afterStep p after (topWeight D (after .facts)) behind))
-        fits true e = tt
+        fits true e = stopped 52 p h
         fits false e = sound-after after (kept-next D B (p .state) (p .waiting) (h .kept) e) b
 
         go : (t : Bool)
             → SoundTurn (cond t (cond (tooLarge after) (stopAt 52 p) (afterStep p after (topWeight D (after .facts)) behind)) (stopAt (forbidden D (p .state) (p .waiting)) p))
         go true = fits (tooLarge after) refl
-        go false = tt
+        go false = stopped (forbidden D (p .state) (p .waiting)) p h
 
   pub begun-tally : (p : Playing) → begin D p .tally .begun ≡ true
   unfolding begin
@@ -202,10 +207,10 @@ module _ (D : Domain) where
   sound-record : Bounded D → (p : Playing) → Sound D p → (k : RunKind) (b : List ℕ) (behind : ℕ) → p .at < behind → SoundTurn (playRecord D p k b behind)
   unfolding playRecord begin
   sound-record B p h objectsRecord b behind l =
-      sound-unless (objectsStop (p .objects) b) p (goOn (withObjects p (byte b 0) behind))
+      sound-unless (objectsStop (p .objects) b) p h (goOn (withObjects p (byte b 0) behind))
       (λ z. let a = h .steps in record { kept = h .kept; objects = objects-few p b z; steps = omega arith; early = h .early; weight = h .weight })
   sound-record B p h factRecord b behind l =
-      sound-unless (factStop D (p .objects) (p .tally .begun) (p .state .facts) b) p (goOn (withFact p (factOf b) behind))
+      sound-unless (factStop D (p .objects) (p .tally .begun) (p .state .facts) b) p h (goOn (withFact p (factOf b) behind))
       (λ z.
       let t = fact-taken D p b (h .kept .facts-few) z in
       let a = h .steps in
@@ -220,7 +225,7 @@ module _ (D : Domain) where
       let q = begin D p in
       let s = sound-begin p h in
       let e = begin-at p in
-      sound-unless (eventStop D (p .objects) (p .waiting) b) q (goOn (withEvent q (eventOf b) behind))
+      sound-unless (eventStop D (p .objects) (p .waiting) b) q s (goOn (withEvent q (eventOf b) behind))
       (λ z.
       let t = event-taken D q b (s .objects) z in
       let a = s .steps in
@@ -234,27 +239,27 @@ module _ (D : Domain) where
   sound-record B p h stepRecord b behind l =
       let q = begin D p in
       let e = begin-at p in
-      sound-unless (stepStop (p .objects) b) q (closeStep D q behind) (λ z. sound-close B q (sound-begin p h) behind (omega arith) (begun-tally p))
+      sound-unless (stepStop (p .objects) b) q (sound-begin p h) (closeStep D q behind) (λ z. sound-close B q (sound-begin p h) behind (omega arith) (begun-tally p))
   sound-record B p h endRecord b behind l =
       let q = begin D p in
       let s = sound-begin p h in
       let e = begin-at p in
-      sound-unless (endStop (p .objects) (p .waiting) b) q (goOn (withClose q behind))
+      sound-unless (endStop (p .objects) (p .waiting) b) q s (goOn (withClose q behind))
       (λ z. let a = s .steps in record { kept = s .kept; objects = s .objects; steps = omega arith; early = s .early; weight = s .weight })
-  sound-record B p h otherRecord b behind l = tt
+  sound-record B p h otherRecord b behind l = stopped 50 p h
 
   sound-turn : Bounded D → (r : List ℕ) (p : Playing) → Sound D p → SoundTurn (playStep D r p)
   unfolding playStep playFound
   sound-turn B r p h = go (p .closed) (ltb (p .at) (length r)) (recordAt r (p .at)) refl
     where
       go : (b c : Bool) (f : Record) → recordAt r (p .at) ≡ f → SoundTurn (cond b (cond c (stopAt 50 p) (stopAt 2 p)) (playFound D r p f))
-      go true true f e = tt
-      go true false f e = tt
+      go true true f e = stopped 50 p h
+      go true false f e = stopped 2 p h
       go false c (Whole k start len) e =
           let w = whole-within r (p .at) e in
           sound-record B p h (runKindOf k) (payload r start len) (start + len) (omega arith)
-      go false c Cut e = tt
-      go false c End e = tt
+      go false c Cut e = stopped 50 p h
+      go false c End e = stopped 50 p h
 
   pub sound-on : Bounded D → (r : List ℕ) (p q : Playing) → Sound D p → playStep D r p ≡ goOn q → Sound D q
   sound-on B r p q h e = rw e at (sound-turn B r p h)
@@ -278,3 +283,21 @@ module _ (D : Domain) where
         early = λ q. (refl, refl);
         weight = λ q. absurd (false≢true q);
       }
+
+  -- ---- where a run ends
+
+  kept-from : Bounded D → (fuel : ℕ) (r : List ℕ) (p : Playing) → Sound D p
+      → Kept D (record { facts = playFrom fuel D r p .facts; running = playFrom fuel D r p .running }) []
+  unfolding playFrom
+  kept-from B zero r p h = stopped 50 p h
+  kept-from B (suc fuel) r p h = go (λ q. kept-from B fuel r q) (playStep D r p) refl (sound-turn B r p h)
+    where
+      go : ((q : Playing) → Sound D q → Kept D (record { facts = playFrom fuel D r q .facts; running = playFrom fuel D r q .running }) [])
+          → (t : PlayTurn) → playStep D r p ≡ t → SoundTurn t
+          → Kept D (record { facts = playFrom (suc fuel) D r p .facts; running = playFrom (suc fuel) D r p .running }) []
+      go ih (goOn q) e k = rw (play-more fuel D r p q e) (ih q k)
+      go ih (finish o) e k = rw (play-done fuel D r p o e) k
+
+  pub kept-run : Bounded D → (r : List ℕ) → Kept D (record { facts = playRun D r .facts; running = playRun D r .running }) []
+  unfolding playRun
+  kept-run B r = kept-from B (suc (length r)) r beforeRun sound-new

@@ -1,11 +1,14 @@
 -- How the code answers a call of playing. Assumes nothing.
+use mathlib.Core.Bool.{Bool, cond}
 use mathlib.Core.List.{List}
 use Prim.Native.Nat.{ℕ}
 use lib.ListN.{drop}
 use Rattle.player.specs.declared.play.Fault.{Fault}
 use Rattle.player.specs.declared.play.Fault.the-variants.{Domain as InDomain, Run as InRun}
 use Rattle.player.specs.declared.play.PlayAnswer.{PlayAnswer}
-use Rattle.run_semantics.specs.Play.{Outcome, placeOf, Returned, ofDomain, ofRun, Call}
+use Rattle.player.specs.declared.play.Tracked.{Tracked}
+use Rattle.run_semantics.specs.Play.{Outcome, placeOf, Returned, ofDomain, ofRun, Call, call}
+use Rattle.run_semantics.specs.Track.{Tracked as TrackedCall, tracked}
 
 -- "a part of the domain file or of the run file, from that record to the end"
 abbrev pub faultOf : Returned → Fault
@@ -52,3 +55,11 @@ answerBy o = record { number = o .number; place = placeOf o; steps = o .steps; w
 -- of a call that plays nothing, 9 to 25 and 58
 abbrev pub answerUnplayed : ℕ → ℕ → Fault → PlayAnswer
 answerUnplayed number place fault = record { number = number; place = place; steps = 0; weight = 0; fault = fault }
+
+-- with an instance, or without one and its total
+unfoldable pub trackedIf : Bool → List ℕ → List ℕ → List ℕ → List ℕ → TrackedCall
+unfolding tracked call
+trackedIf given d y r w = cond given (tracked d y r w) (record { call = call d r w; total = 0 })
+
+abbrev pub trackedOf : TrackedCall → Tracked
+trackedOf t = record { played = answerOf (t .call); total = t .total }

@@ -93,8 +93,9 @@ pub record Ends (o : Outcome) (t : WholeTurn) (work old : List ℕ) : Type 0 whe
   pub number : t .number ≡ o .number
   pub some : o .number ≡ 0 → ⊥
   pub place : t .player .at ≡ o .place
-  pub steps : t .player .tally .steps ≡ o .steps
-  pub weight : t .player .tally .weight ≡ o .weight
+  pub tally : t .player .tally ≡ record { begun = o .begun; steps = o .steps; weight = o .weight }
+  pub facts : t .player .state .facts ≡ length (o .facts)
+  pub running : t .player .state .running ≡ openOf (o .running)
   pub memory : work ≡ over (heldBytes (o .facts)) old
 
 abbrev pub LeadsTo : PlayTurn → WholeTurn → List ℕ → List ℕ → Type 0
@@ -126,4 +127,11 @@ pub record Playable (head : List ℕ) (player : Whole) (work index : List ℕ) :
 -- ---- how a run ends
 
 abbrev pub endedOf : Outcome → Ended
-endedOf o = record { number = o .number; place = o .place; steps = o .steps; weight = o .weight }
+endedOf o =
+    record {
+      number = o .number;
+      place = o .place;
+      tally = record { begun = o .begun; steps = o .steps; weight = o .weight };
+      facts = length (o .facts);
+      opened = length (o .running);
+    }

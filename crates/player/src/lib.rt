@@ -1,7 +1,9 @@
-// The player: where it stands (here), a run file record by record (playing) and whole (run), and the call (play).
+// The player: where it stands (here), a run file record by record (playing) and whole (run), and the calls: without an instance (play)
+// and with one (track).
 pub mod play;
 pub mod playing;
 pub mod run;
+pub mod track;
 
 use machine::Counts;
 

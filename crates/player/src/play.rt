@@ -1,6 +1,8 @@
 // The call: a domain file, a run file, and lent work memory.
 use super::run::Ended;
 use super::run::play_run;
+use super::track::track_run;
+use events::AGENDA;
 use literals::head::HEAD;
 use reading::domain::read_domain;
 ghost use mathlib.Core.Path.{_≡_};
@@ -9,6 +11,7 @@ ghost use Rattle.run_semantics.specs.Play.{Outcome, call, played, workAfter, re
 ghost use Rattle.run_semantics.specs.Claims.{PlaysAsMachine, StaysLow};
 ghost use Rattle.player.specs.Player.{endedOf};
 ghost use Rattle.player.specs.Called.{fileOf, offsetOf, faultFile, faultOffset, partAt, answerOf, answerBy, answerUnplayed};
+ghost use Rattle.player.specs.Called.{trackedIf, trackedOf};
 
 // Where the record at fault starts: an offset of the domain file, or of the run file.
 pub enum Fault {
@@ -23,6 +26,12 @@ pub struct PlayAnswer {
     pub steps: usize,
     pub weight: usize,
     pub fault: Fault,
+}
+
+// The same with the total of an instance.
+pub struct Tracked {
+    pub played: PlayAnswer,
+    pub total: usize,
 }
 
 // The file of the record at fault: 0 the domain file, 1 the run file.
@@ -47,7 +56,7 @@ pub fn offset_of(fault: Fault) -> usize
 
 // The record at fault as a part of one of the two files, from there to the end. (Each offset is one of its
 // file; the test gives the checker the bound that the slice needs.)
-fn part<'a>(domain: &'a [u8], run: &'a [u8], fault: Fault) -> &'a [u8]
+pub fn part<'a>(domain: &'a [u8], run: &'a [u8], fault: Fault) -> &'a [u8]
     ensures { λ r. ⌜ now r ≡ partAt (now (domain .entry)) (now (run .entry)) fault ⌝ }
 {
     match fault {
@@ -69,24 +78,25 @@ fn part<'a>(domain: &'a [u8], run: &'a [u8], fault: Fault) -> &'a [u8]
 }
 
 // What the end of a run tells: with 2 no record is at fault, and the empty end of the run file comes back.
-fn answer_by(ended: Ended) -> PlayAnswer
+pub fn answer_by(ended: Ended) -> PlayAnswer
     ensures { λ r. ⌜ ((o : Outcome) → ended ≡ endedOf o → r ≡ answerBy o) ⌝ }
 {
     let place = ended.place;
+    let tally = ended.tally;
     if ended.number == 2 {
         return PlayAnswer {
             number: 2,
             place: 0,
-            steps: ended.steps,
-            weight: ended.weight,
+            steps: tally.steps,
+            weight: tally.weight,
             fault: Fault::Run(place),
         };
     }
     PlayAnswer {
         number: ended.number,
         place,
-        steps: ended.steps,
-        weight: ended.weight,
+        steps: tally.steps,
+        weight: tally.weight,
         fault: Fault::Run(place),
     }
 }
@@ -104,10 +114,19 @@ fn unplayed(number: u64, place: usize, fault: Fault) -> PlayAnswer
     }
 }
 
-// A domain file, read or refused 9 to 25, then 58 where the work memory is too small, then the run file.
-pub fn play_files(domain: &[u8], run: &[u8], work: &mut [u8]) -> PlayAnswer
-    ensures answer { λ r. ⌜ r ≡ answerOf (call (now («domain» .entry)) (now (run .entry)) (now (work .entry))) ⌝ }
-    ensures work { λ _. ⌜ now (work .exit) ≡ workAfter (now («domain» .entry)) (now (run .entry)) (now (work .entry)) ⌝ }
+// A domain file, read or refused 9 to 25, then 58 where the work memory is too small, then the run file; with an instance where one is
+// given, and without a total where none is.
+pub fn play_with(
+    domain: &[u8],
+    run: &[u8],
+    instance: &[u8],
+    given: bool,
+    work: &mut [u8],
+) -> Tracked
+    ensures answer { λ r. ⌜ r ≡ trackedOf (trackedIf given (now («domain» .entry)) (now (instance .entry)) (now (run .entry))
+        (now (work .entry))) ⌝ }
+    ensures work { λ _. ⌜ now (work .exit) ≡ trackedIf given (now («domain» .entry)) (now (instance .entry)) (now (run .entry))
+        (now (work .entry)) .call .memory ⌝ }
 {
     let mut head = [0u8; HEAD];
     let mut table = [0u8; 32768];
@@ -115,13 +134,35 @@ pub fn play_files(domain: &[u8], run: &[u8], work: &mut [u8]) -> PlayAnswer
     let number = read.number;
     let room = work.len();
     if number != 0 {
-        return unplayed(number, read.place, Fault::Domain(read.start));
+        return Tracked {
+            played: unplayed(number, read.place, Fault::Domain(read.start)),
+            total: 0,
+        };
     }
     if room < 8192 {
-        return unplayed(58, 0, Fault::Run(run.len()));
+        return Tracked {
+            played: unplayed(58, 0, Fault::Run(run.len())),
+            total: 0,
+        };
     }
-    let ended = play_run(&head, &table, run, work);
-    answer_by(ended)
+    if given {
+        return track_run(&head, &table, run, instance, work);
+    }
+    let mut agenda = [0u8; AGENDA];
+    let ended = play_run(&head, &table, run, work, &mut agenda);
+    Tracked {
+        played: answer_by(ended),
+        total: 0,
+    }
+}
+
+// Plays a run file on a domain file.
+pub fn play_files(domain: &[u8], run: &[u8], work: &mut [u8]) -> PlayAnswer
+    ensures answer { λ r. ⌜ r ≡ answerOf (call (now («domain» .entry)) (now (run .entry)) (now (work .entry))) ⌝ }
+    ensures work { λ _. ⌜ now (work .exit) ≡ workAfter (now («domain» .entry)) (now (run .entry)) (now (work .entry)) ⌝ }
+{
+    let tracked = play_with(domain, run, &run[0..0], false, work);
+    tracked.played
 }
 
 // Plays a run file on a domain file: leaves six numbers (the number, its place, the steps made, the highest weight, and of which file, 0

@@ -3,7 +3,6 @@ use super::Player;
 use super::Tally;
 use super::Turn;
 use effects::SCRATCH;
-use events::AGENDA;
 use literals::head::Head;
 use literals::limits::MAX_FACTS;
 use records::bytes::put_bytes;
@@ -20,32 +19,45 @@ ghost use Rattle.store.specs.Index.{factIndex};
 ghost use Rattle.effects.specs.Held.{scratchBytes};
 ghost use Rattle.run_semantics.specs.Play.{workBytes, heldBytes, playRun};
 ghost use Rattle.player.specs.Player.{endedOf};
-ghost use Rattle.events.specs.Held.{agendaBytes};
+ghost use Rattle.events.specs.Held.{agendaBytes, openIn, openOf};
 
 // The bytes of the facts in the work memory.
-const WORK: usize = 8 * MAX_FACTS;
+pub const WORK: usize = 8 * MAX_FACTS;
 
-// How a run ended: the number (2 when it was played), the offset of the record at fault, the steps made, the highest weight.
+// How a run ended: the number (2 when it was played), the offset of the record at fault, what was counted, and how many facts are held
+// and how many entries are open.
 pub struct Ended {
     pub number: u64,
     pub place: usize,
-    pub steps: usize,
-    pub weight: usize,
+    pub tally: Tally,
+    pub facts: usize,
+    pub opened: usize,
 }
 
-// How a run ended that stopped by a number at an offset, with this tally.
-fn ended_by(number: u64, at: usize, tally: Tally) -> Ended
-    ensures { λ r. ⌜ (r .number ≡ number) × (r .place ≡ at) × (r .steps ≡ tally .steps) × (r .weight ≡ tally .weight) ⌝ }
+// How a run ended that stopped by a number where the player stands.
+fn ended_by(number: u64, last: Player) -> Ended
+    ensures { λ r. ⌜ r ≡ record {
+      number = number;
+      place = last .at;
+      tally = last .tally;
+      facts = last .counts .facts;
+      opened = last .counts .opened;
+    } ⌝ }
 {
+    let at = last.at;
+    let tally = last.tally;
+    let counts = last.counts;
     Ended {
         number,
         place: at,
-        steps: tally.steps,
-        weight: tally.weight,
+        tally,
+        facts: counts.facts,
+        opened: counts.opened,
     }
 }
 
-// The records of a run file, where the work memory holds no fact yet. `scratch` is memory for each step to work in.
+// The records of a run file, where the work memory holds no fact yet and the agenda nothing; it is then that of the end. `scratch` is
+// memory for each step to work in.
 fn play_records(
     head: &Head,
     table: &[u8],
@@ -64,7 +76,8 @@ fn play_records(
     ensures { λ r. ⌜ ((D : Domain) (old : List ℕ) → Held D (now (head .entry)) (now (table .entry))
         → now (work .entry) ≡ over (heldBytes []) old
         → (r ≡ endedOf (playRun D (now (run .entry))))
-        × (now (work .exit) ≡ over (heldBytes (playRun D (now (run .entry)) .facts)) old)) ⌝ }
+        × (now (work .exit) ≡ over (heldBytes (playRun D (now (run .entry)) .facts)) old)
+        × (openIn (r .opened) (now (agenda .exit)) ≡ openOf (playRun D (now (run .entry)) .running))) ⌝ }
 {
     let mut turn = Turn {
         number: 0,
@@ -78,32 +91,24 @@ fn play_records(
             continue;
         }
         let last = turn.player;
-        let tally = last.tally;
-        return ended_by(number, last.at, tally);
+        return ended_by(number, last);
     }
 }
 
-// Plays a run file on a domain that was read.
-pub fn play_run(head: &Head, table: &[u8], run: &[u8], work: &mut [u8]) -> Ended
+// Plays a run file on a domain that was read; the agenda, which is all 0 before, is then that of the end.
+pub fn play_run(head: &Head, table: &[u8], run: &[u8], work: &mut [u8], agenda: &mut [u8]) -> Ended
     requires domain { ⌜ Read (now head) (now table) ⌝ }
     requires room { ⌜ workBytes ≤ length (now work) ⌝ }
+    requires agenda { ⌜ now agenda ≡ replicate agendaBytes 0 ⌝ }
     ensures { λ r. ⌜ ((D : Domain) → Held D (now (head .entry)) (now (table .entry))
         → (r ≡ endedOf (playRun D (now (run .entry))))
-        × (now (work .exit) ≡ over (heldBytes (playRun D (now (run .entry)) .facts)) (now (work .entry)))) ⌝ }
+        × (now (work .exit) ≡ over (heldBytes (playRun D (now (run .entry)) .facts)) (now (work .entry)))
+        × (openIn (r .opened) (now (agenda .exit)) ≡ openOf (playRun D (now (run .entry)) .running))) ⌝ }
 {
     let zeros = [0u8; WORK];
     put_bytes(work, 0, &zeros);
     let mut index = [0u64; FACT_INDEX];
-    let mut agenda = [0u8; AGENDA];
     // Memory that each step works in, cleared only here.
     let mut scratch = [0u8; SCRATCH];
-    play_records(
-        head,
-        table,
-        run,
-        work,
-        &mut index,
-        &mut agenda,
-        &mut scratch,
-    )
+    play_records(head, table, run, work, &mut index, agenda, &mut scratch)
 }

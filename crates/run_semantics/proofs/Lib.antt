@@ -6,3 +6,4 @@ pub mod Runs
 pub mod Stops
 pub mod Traced
 pub mod Never
+pub mod Tracked

@@ -28,7 +28,7 @@ use Rattle.verdict.proofs.TopWeight.{largest-below, below-top, top-below, insta
 -- ---- demand 3, of the highest weight
 
 -- objects among some are among more
-among-more : (ys objs os : List Object) → among objs os ≡ true → among (ys ++ objs) os ≡ true
+pub among-more : (ys objs os : List Object) → among objs os ≡ true → among (ys ++ objs) os ≡ true
 among-more ys objs os =
     all-weaken (λ o. elem sameObject o objs) (λ o. elem sameObject o (ys ++ objs)) os (λ o t. any-append (sameObject o) ys objs ∙ or-r (elem sameObject o ys) t)
 

@@ -178,6 +178,8 @@ module _ (D : Domain) (r : List ℕ) where
         taken = h .reached .taken;
         steps = h .counts .steps;
         facts = ap (λ (s : State). s .facts) (h .reached .state);
+        running = ap (λ (s : State). s .running) (h .reached .state);
+        begun = rw u (h .counts .begun);
         weight = rw u (h .counts .weight);
       })
 

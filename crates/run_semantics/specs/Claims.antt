@@ -2,7 +2,7 @@
 -- proofs/. Assumes nothing.
 use mathlib.Core.Path.{_≡_}
 use mathlib.Core.Bool.{true, _&&_, not, cond}
-use mathlib.Core.List.{List, map}
+use mathlib.Core.List.{List, [], map}
 use Prim.Native.Nat.{ℕ, suc, _≤_}
 use lib.Dec.{eqb, ltb}
 use lib.ListN.{length}
@@ -11,17 +11,18 @@ use Rattle.records.specs.Memory.{over}
 use Rattle.records.specs.declared.Record.{Record}
 use Rattle.records.specs.declared.Record.the-variants.{Whole, Cut, End}
 use Rattle.records.specs.Record.{recordAt, payload}
-use Rattle.literals.specs.Domain.{Domain}
+use Rattle.literals.specs.Domain.{keysOf, Domain}
 use Rattle.literals.specs.Decode.{domain, decode}
 use Rattle.verdict.specs.Binding.{objectsFrom}
 use Rattle.verdict.specs.Judged.{decidedFile}
 use Rattle.verdict.specs.Machine.{Event, State, legalStep, isOpen, ownHold, overAllHold, independent, allowed, next, startState, run}
-use Rattle.verdict.specs.Machine.{lastState, largest, topWeight}
-use Rattle.verdict.specs.Claims.{Accepted, isEvent, isFact}
+use Rattle.verdict.specs.Machine.{lastState, largest, weight, topWeight}
+use Rattle.verdict.specs.Claims.{Accepted, isEvent, isFact, total, neverRising}
 use Rattle.run_semantics.specs.RunFile.{RunKind, objectsRecord, factRecord, eventRecord, stepRecord, endRecord, otherRecord}
 use Rattle.run_semantics.specs.RunFile.{runKindOf, Entry, entriesBefore, entriesUpTo, behindIn, objectsIn, startFactsIn, stepsIn}
 use Rattle.run_semantics.specs.RunFile.{waitingIn, begunIn, closedIn, recordStop}
-use Rattle.run_semantics.specs.Play.{workBytes, Outcome, playRun, heldBytes, played, forbidden, tooLarge}
+use Rattle.run_semantics.specs.Play.{workBytes, Outcome, playRun, heldBytes, call, played, forbidden, tooLarge}
+use Rattle.run_semantics.specs.Track.{instanceOf, objectsGiven, instanceStop, tracked}
 
 -- ---- a run of the machine on what a run file holds
 
@@ -89,7 +90,9 @@ pub record EndsBehind (D : Domain) (r : List ℕ) (es : List Entry) (o : Outcome
   pub taken : length (statesOf D es) ≡ suc (length (stepsIn es))
   pub steps : o .steps ≡ length (stepsIn es)
   pub facts : o .facts ≡ finalOf D es .facts
+  pub running : o .running ≡ finalOf D es .running
   -- the start counts once an uncut record of kind 18 to 20 is met
+  pub begun : o .begun ≡ begunIn (entriesUpTo r (o .place))
   pub weight : o .weight ≡ cond (begunIn (entriesUpTo r (o .place))) (peakOf D es) 0
 
 -- by the records before its place
@@ -107,8 +110,18 @@ abbrev pub PlaysAsMachine : List ℕ → List ℕ → List ℕ → ℕ → ℕ �
 PlaysAsMachine d r w number place steps weight memory =
     (D : Domain) → decode d ≡ domain D → workBytes ≤ length w
     → let at = cond (eqb number 2) (length r) place in
-    let fs = finalOf D (entriesBefore r at) .facts in
-    AsMachine D r (record { number = number; place = at; steps = steps; weight = weight; facts = fs }) × (memory ≡ over (heldBytes fs) w)
+    let s = finalOf D (entriesBefore r at) in
+    AsMachine D r
+    (record {
+      number = number;
+      place = at;
+      steps = steps;
+      weight = weight;
+      facts = s .facts;
+      running = s .running;
+      begun = begunIn (entriesUpTo r at);
+    })
+    × (memory ≡ over (heldBytes (s .facts)) w)
 
 -- a step is allowed exactly where none of 57, 55 and 56 comes
 abbrev pub AllowedIsNotForbidden : Type 0
@@ -143,3 +156,31 @@ StaysLow d r weight =
 
 abbrev pub WeightStaysLow : Type 0
 WeightStaysLow = (d r w : List ℕ) → StaysLow d r (played d r w .weight)
+
+-- ---- playing with an instance
+
+-- the first record of a run file passes exactly where it gives an object count: so the record of kind 16 is the first
+abbrev pub ObjectsFirst : Type 0
+ObjectsFirst = (D : Domain) (r : List ℕ) → eqb (objectsGiven r) 0 ≡ not (eqb (endNumber D r [] 0) 0)
+
+-- where the instance stops nothing, all that a call answers and leaves beside the total is as without one
+abbrev pub AsPlayed : List ℕ → List ℕ → List ℕ → List ℕ → Type 0
+AsPlayed d y r w = (D : Domain) → decode d ≡ domain D → instanceStop D y r ≡ 0 → tracked d y r w .call ≡ call d r w
+
+-- the total answered is that of the state after the last step made, and 0 while the start does not count
+abbrev pub TotalOfRun : List ℕ → List ℕ → List ℕ → List ℕ → ℕ → Type 0
+TotalOfRun d y r w answered =
+    (D : Domain) → decode d ≡ domain D → workBytes ≤ length w → instanceStop D y r ≡ 0
+    → answered ≡ cond (begunIn (entriesUpTo r (playRun D r .place))) (total D (instanceOf y) (finalOf D (playedEntries D r))) 0
+
+-- "the instance's weight plus the number of open journeys belonging to it never rises from one state to the next": over the whole run, so
+-- what is answered is at most the total at the start
+pub record NeverRising (D : Domain) (y : List ℕ) (es : List Entry) (answered : ℕ) : Type 0 where
+  pub states : neverRising (map (total D (instanceOf y)) (statesOf D es)) ≡ true
+  pub at-most : answered ≤ total D (instanceOf y) (startOf es)
+
+-- for a template with verdict 1, an instance of n objects and a run that starts at weight at most one
+abbrev pub NothingGained : List ℕ → List ℕ → List ℕ → ℕ → Type 0
+NothingGained d y r answered =
+    (D : Domain) → decode d ≡ domain D → decidedFile d .number ≡ 1 → length y ≡ keysOf (D .template)
+    → weight D (instanceOf y) (startOf (playedEntries D r) .facts) ≤ 1 → NeverRising D y (playedEntries D r) answered

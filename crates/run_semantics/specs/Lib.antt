@@ -2,3 +2,4 @@
 pub mod RunFile
 pub mod Play
 pub mod Claims
+pub mod Track

@@ -12,7 +12,8 @@ use Rattle.records.specs.Record.{recordAt, payload}
 use Rattle.literals.specs.Domain.{Fact, sameFact, Domain}
 use Rattle.literals.specs.Decode.{Refusal, Decoded, refused, domain, decode, byte}
 use Rattle.verdict.specs.Judged.{factBytes}
-use Rattle.verdict.specs.Machine.{Event, State, startState, isOpen, conditionsHold, overAllHold, interfere, independent, next, topWeight}
+use Rattle.verdict.specs.Machine.{GroundAction, Event, State, startState, isOpen, conditionsHold, overAllHold, interfere, independent}
+use Rattle.verdict.specs.Machine.{next, topWeight}
 use Rattle.run_semantics.specs.RunFile.{RunKind, objectsRecord, factRecord, eventRecord, stepRecord, endRecord, otherRecord}
 use Rattle.run_semantics.specs.RunFile.{runKindOf, factOf, eventOf, maxFacts, maxRunning, objectsStop, factStop, eventStop, stepStop}
 use Rattle.run_semantics.specs.RunFile.{endStop}
@@ -55,13 +56,16 @@ beforeRun = standing 0 false 0 (startState []) [] (record { begun = false; steps
 abbrev pub onward : Playing → ℕ → State → List Event → Tally → Playing
 onward p behind s es t = standing behind false (p .objects) s es t
 
--- how playing ends: "number (2 when played), steps made, highest weight", the offset of the record at fault, and the facts kept
+-- how playing ends: "number (2 when played), steps made, highest weight", the offset of the record at fault, the facts kept, what is
+-- open then, and whether the start counts
 pub record Outcome : Type 0 where
   pub number : ℕ
   pub place : ℕ
   pub steps : ℕ
   pub weight : ℕ
   pub facts : List Fact
+  pub running : List GroundAction
+  pub begun : Bool
 
 -- what one record leads to
 pub data PlayTurn : Type 0 where
@@ -69,7 +73,16 @@ pub data PlayTurn : Type 0 where
   finish : Outcome → PlayTurn
 
 abbrev pub outcomeAt : ℕ → ℕ → State → Tally → Outcome
-outcomeAt n at s t = record { number = n; place = at; steps = t .steps; weight = t .weight; facts = s .facts }
+outcomeAt n at s t =
+    record {
+      number = n;
+      place = at;
+      steps = t .steps;
+      weight = t .weight;
+      facts = s .facts;
+      running = s .running;
+      begun = t .begun;
+    }
 
 -- "50 to 57 leave the state before the step at fault, or the start facts read so far"
 abbrev pub stopAt : ℕ → Playing → PlayTurn

@@ -19,7 +19,7 @@ ghost use Rattle.store.specs.Rows.{factRow, FactFits, instanceRows, topF
 ghost use Rattle.store.specs.Index.{wrap, Indexed};
 
 // 1 where the fact at an offset has this key tuple, else 0: the component by the fact's relation first, then its keys.
-fn weight_at(head: &Head, memory: &[u8], at: usize, row: [u8; 8]) -> usize
+pub fn weight_at(head: &Head, memory: &[u8], at: usize, row: [u8; 8]) -> usize
     requires { ⌜ at + 8 ≤ length (now memory) ⌝ }
     ensures { λ r. ⌜ r ≡ addIf (any (sameList eqb row)
         (instanceRows (keysIn (now (head .entry))) (componentRowsIn (now (head .entry))) (take 8 (drop at (now (memory .entry)))))) 0 ⌝ }
@@ -36,7 +36,7 @@ fn weight_at(head: &Head, memory: &[u8], at: usize, row: [u8; 8]) -> usize
 }
 
 // The weight of the instance with this key tuple among the first n facts.
-fn weigh(head: &Head, memory: &[u8], n: usize, row: [u8; 8]) -> usize
+pub fn weigh(head: &Head, memory: &[u8], n: usize, row: [u8; 8]) -> usize
     requires { ⌜ (8 * n ≤ length (now memory)) ⌝ }
     ensures { λ r. ⌜ r ≡ rowWeight (keysIn (now (head .entry))) (componentRowsIn (now (head .entry)))
         (rowsIn n (now (memory .entry))) row ⌝ }

@@ -103,8 +103,52 @@ fn growth(domain: &[u8]) {
     }
 }
 
+/// Tracking the first volume beside playing: by the library, and by the model.
+fn tracking(domain: &[u8]) {
+    println!("\ntracking an instance beside playing, nanoseconds");
+    println!("{:24} {:>12} {:>12} {:>7} {:>12} {:>7}", "run", "tracked", "played", "ratio", "by model", "lib/mod");
+    let instance = runs::FIRST_VOLUME;
+    for (name, run) in [
+        ("5,000 steps of 1 event", runs::single_events(5_000)),
+        ("10,000 empty, 32 open", runs::empty_steps(10_000)),
+        ("lending, 1 MB", runs::lending(1_000_000)),
+    ] {
+        let (mut work, mut of_model) = (vec![0; model::WORK], vec![0; model::WORK]);
+        let tracked = goadlotus::track(domain, &run, &instance, &mut work);
+        let by_model = model::track(domain, &run, &instance, &mut of_model);
+        let same = (tracked.played.number, tracked.total) == (by_model.played.number.into(), by_model.total.into());
+        assert!(same && work == of_model && tracked.total == 1, "{name}: library and model differ");
+        let mut side = Side::new(by_library);
+        let beside = take_turns(
+            || {
+                black_box(goadlotus::track(black_box(domain), black_box(&run), &instance, black_box(&mut work)).total);
+            },
+            || {
+                black_box(side.play(domain, &run));
+            },
+        );
+        let against = take_turns(
+            || {
+                black_box(goadlotus::track(black_box(domain), black_box(&run), &instance, black_box(&mut work)).total);
+            },
+            || {
+                black_box(model::track(black_box(domain), black_box(&run), &instance, black_box(&mut of_model)).total);
+            },
+        );
+        println!(
+            "{name:24} {:>12.0} {:>12.0} {:>7.2} {:>12.0} {:>7.2}",
+            beside.library,
+            beside.model,
+            beside.library / beside.model,
+            against.model,
+            against.library / against.model
+        );
+    }
+}
+
 pub fn print() {
     let domain = runs::archive();
     single_runs(&domain);
     growth(&domain);
+    tracking(&domain);
 }

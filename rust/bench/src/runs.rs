@@ -45,6 +45,9 @@ pub fn archive() -> Vec<u8> {
     Named::read(ARCHIVE).with(TEMPLATE).file()
 }
 
+/// The instance that is tracked: the two objects of volume 0.
+pub const FIRST_VOLUME: [u8; 2] = [0, HALF as u8];
+
 /// A volume's two objects.
 fn volume(number: usize) -> [u8; 2] {
     [(number / HALF) as u8, (HALF + number % HALF) as u8]
@@ -189,6 +192,16 @@ mod tests {
             assert_eq!(held, facts);
         }
         assert!((1_000_000..1_001_000).contains(&lending(1_000_000).len()));
+    }
+
+    /// The volume that is tracked is somewhere, or on its way, at the end of each run.
+    #[test]
+    fn the_first_volume_is_not_lost() {
+        let domain = archive();
+        for run in [single_events(5_000), empty_steps(10_000), lending(1_000_000)] {
+            let tracked = model::track(&domain, &run, &FIRST_VOLUME, &mut [0; WORK]);
+            assert_eq!((tracked.played.number, tracked.total), (2, 1));
+        }
     }
 
     /// The short ones: M12 comes to what the paper says, and the rover is where it began.

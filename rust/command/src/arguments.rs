@@ -13,6 +13,8 @@ pub struct Arguments {
     pub all: bool,
     /// Every file is a box of files.
     pub boxes: bool,
+    /// An instance is followed, also one of no objects.
+    pub track: bool,
     pub help: bool,
 }
 
@@ -24,6 +26,7 @@ pub struct Options {
     pub rows: bool,
     pub all: bool,
     pub boxes: bool,
+    pub track: bool,
 }
 
 impl Arguments {
@@ -43,6 +46,7 @@ impl Arguments {
                 Some("--rows") if options.rows => arguments.rows = true,
                 Some("--all") if options.all => arguments.all = true,
                 Some("--box") if options.boxes => arguments.boxes = true,
+                Some("--track") if options.track => arguments.track = true,
                 Some("-o" | "--output") if options.output => {
                     let file = given.next().ok_or("-o needs the name of a file behind it")?;
                     arguments.output = Some(file.clone());

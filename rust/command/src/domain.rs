@@ -186,6 +186,11 @@ impl Domain {
         action.literals.push(Literal { time, list, relation: relation as usize, arguments: arguments.to_vec() });
     }
 
+    /// How many keys the template has.
+    pub fn keys(&self) -> usize {
+        self.components.first().map_or(0, |first| first.labels.iter().filter(|&&label| label != FF).count())
+    }
+
     /// The component of a relation.
     pub fn component(&self, relation: usize) -> Option<&Component> {
         self.components.iter().find(|component| component.relation == relation)

@@ -54,7 +54,7 @@ impl Explained<'_> {
 
     /// What is claimed of the instances.
     fn meaning(&self) -> String {
-        let keys = self.domain.components.first().map_or(0, |component| component.under_keys(&component.labels).len());
+        let keys = self.domain.keys();
         let whose = match keys {
             0 => "At most one of these facts is true at any time".to_string(),
             1 => "Of each object under key 0 at most one of these facts is true at any time".to_string(),

@@ -12,7 +12,8 @@ plays runs of the procedures that change them
   goadlotus judge FILE ..      the verdict of a domain and the name of each
                                class; of many files or a folder a table
   goadlotus explain FILE       the verdict in sentences, with every reason
-  goadlotus play DOMAIN RUN    a run step by step, where it stops and why
+  goadlotus play DOMAIN RUN    a run step by step, where it stops and why; with
+                               objects behind it, where such an instance is
   goadlotus mark DOMAIN FILE   a student's names against the program's; of many
                                hand-ins or a folder a table
   goadlotus templates FILE     every template of a single relation, and its
@@ -96,6 +97,7 @@ Status: 0 all are right, 3 something is wrong or missing, 4 a file is broken,
 
 const PLAY: &str = "\
 goadlotus play [--all] DOMAIN RUN
+goadlotus play [--all] [--track] DOMAIN RUN OBJECT ..
 
 A run in sentences. For each step: its events, the facts that go and come, what
 is open, and the weight of each instance that loses or gets a fact. Where it
@@ -103,6 +105,12 @@ stops: which condition fails, what isn't open, or which two events interfere.
 Last a line of time: * at once, [ start, ] end, = open, and the highest weight
 after each step. Of more than 60 steps only the last 20 are told, unless --all
 stands there.
+
+With an OBJECT for each key of the template, by name or by number, one instance
+is followed. Last of all stand its total, which is its facts and its open
+journeys together, and from which step on it is there, on the way (a journey has
+taken it and will bring it), or nowhere. --track alone follows the one instance
+of a template without keys.
 
 Status: 0 played to the end, 3 a step that isn't allowed, 4 a broken file, 1 a
 file can't be read.

@@ -25,4 +25,5 @@ pub mod story;
 pub mod table;
 pub mod timeline;
 pub mod trace;
+pub mod tracked;
 pub mod words;

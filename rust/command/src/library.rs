@@ -106,6 +106,11 @@ pub fn play(domain: &[u8], run: &[u8]) -> Played {
     }
 }
 
+/// Plays a run file on a domain file with an instance: its weight plus its open journeys after the last step made.
+pub fn track(domain: &[u8], run: &[u8], instance: &[u8]) -> u64 {
+    goadlotus::track_files(domain, run, instance).total
+}
+
 /// The highest weight of any instance where these facts hold: that of a run that starts with them and makes no step.
 pub fn weight(domain: &[u8], objects: u8, facts: &[Fact]) -> u64 {
     let mut run = Vec::new();

@@ -49,7 +49,7 @@ impl Story<'_> {
     }
 
     /// The step from which on all is told.
-    fn first(&self) -> usize {
+    pub fn first(&self) -> usize {
         let steps = self.trace.steps();
         if self.all || steps <= SHORT {
             0
@@ -90,11 +90,11 @@ impl Story<'_> {
         self.domain().atom(fact.relation, &fact.objects, |object| self.object(object))
     }
 
-    fn facts(&self, facts: &[Fact]) -> Vec<String> {
+    pub fn facts(&self, facts: &[Fact]) -> Vec<String> {
         facts.iter().map(|fact| self.fact(fact)).collect()
     }
 
-    fn entry(&self, entry: &Entry) -> String {
+    pub fn entry(&self, entry: &Entry) -> String {
         let objects: Vec<String> = entry.objects.iter().map(|&object| self.object(object)).collect();
         format!("{}({})", entry.action(self.domain()).name, objects.join(", "))
     }

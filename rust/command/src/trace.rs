@@ -29,6 +29,19 @@ impl<'d> Trace<'d> {
         Trace { domain, domain_file, run_file, run: Run::of(run_file, domain), played }
     }
 
+    pub fn domain_file(&self) -> &'d [u8] {
+        self.domain_file
+    }
+
+    pub fn run_file(&self) -> &'d [u8] {
+        self.run_file
+    }
+
+    /// The run file cut behind so many of the steps, and closed.
+    pub fn cut(&self, steps: usize) -> Vec<u8> {
+        self.run.cut(self.run_file, steps)
+    }
+
     /// The steps made.
     pub fn steps(&self) -> usize {
         self.played.steps as usize
@@ -43,7 +56,7 @@ impl<'d> Trace<'d> {
 
     /// The state behind so many of the steps made.
     pub fn state(&self, steps: usize) -> State {
-        let played = play(self.domain_file, &self.run.cut(self.run_file, steps));
+        let played = play(self.domain_file, &self.cut(steps));
         let weight = weight(self.domain_file, self.run.objects, &played.facts);
         State { facts: played.facts, open: self.open(steps), weight }
     }

@@ -74,7 +74,7 @@ fn statuses() {
     let wrong = folder.put("wrong.txt", "move heavy\n");
     let missing = folder.0.join("missing.txt");
     let (word, m5, m11) = (OsStr::new, sample("m5.domain"), sample("m11.domain"));
-    let cases: [(&[&OsStr], i32); 32] = [
+    let cases: [(&[&OsStr], i32); 38] = [
         (&[word("judge"), archive.as_ref()], 0),
         (&[word("judge"), m5.as_ref()], 3),
         (&[word("judge"), m11.as_ref()], 4),
@@ -96,6 +96,12 @@ fn statuses() {
         (&[word("play"), m11.as_ref(), run_file.as_ref()], 4),
         (&[word("play"), archive.as_ref(), missing.as_ref()], 1),
         (&[word("play"), archive.as_ref()], 2),
+        (&[word("play"), archive.as_ref(), run_file.as_ref(), word("volume7")], 0),
+        (&[word("play"), archive.as_ref(), refused_step.as_ref(), word("volume7")], 3),
+        (&[word("play"), archive.as_ref(), run_file.as_ref(), word("0")], 0),
+        (&[word("play"), archive.as_ref(), run_file.as_ref(), word("volume9")], 2),
+        (&[word("play"), archive.as_ref(), run_file.as_ref(), word("volume7"), word("shelf2")], 2),
+        (&[word("play"), word("--track"), archive.as_ref(), run_file.as_ref()], 2),
         (&[word("show"), archive.as_ref()], 0),
         (&[word("show"), m11.as_ref()], 4),
         (&[word("write"), archive.as_ref()], 0),

@@ -27,6 +27,14 @@ pub struct Playing {
     pub told: playing::Told,
 }
 
+/// A track line: a play line with its instance and its total.
+#[derive(Clone, PartialEq, Eq, Debug)]
+pub struct Tracking {
+    pub play: Playing,
+    pub instance: Vec<u8>,
+    pub total: u64,
+}
+
 /// A line of a service: what is lent, and what comes back.
 #[derive(Clone, PartialEq, Eq, Debug)]
 pub struct Serving {
@@ -48,13 +56,18 @@ pub fn play_lines() -> Vec<Playing> {
     lines("play", playing_line)
 }
 
+/// Every track line. Panics where a line doesn't have the form that the first lines tell.
+pub fn track_lines() -> Vec<Tracking> {
+    lines("track", tracking_line)
+}
+
 /// Every line of this service. Panics where a line doesn't have the form that the first lines tell.
 pub fn service_lines(kind: &str) -> Vec<Serving> {
     lines(kind, serving_line)
 }
 
 /// What a line may begin with.
-const KINDS: [&str; 4] = ["judge", "play", "templates", "totals"];
+const KINDS: [&str; 5] = ["judge", "play", "track", "templates", "totals"];
 
 fn lines<T>(kind: &str, read: impl Fn(usize, &[&str]) -> Option<T>) -> Vec<T> {
     let text = include_str!("../../cases/edges.txt");
@@ -115,6 +128,13 @@ fn playing_line(line: usize, fields: &[&str]) -> Option<Playing> {
         domain,
         run,
     })
+}
+
+fn tracking_line(line: usize, fields: &[&str]) -> Option<Tracking> {
+    let &[name, domain, run, instance, room, answer, facts, part] = fields else { return None };
+    let (answer, total) = answer.rsplit_once(' ')?;
+    let play = playing_line(line, &[name, domain, run, room, answer, facts, part])?;
+    Some(Tracking { play, instance: bytes(instance)?, total: total.parse().ok()? })
 }
 
 fn serving_line(line: usize, fields: &[&str]) -> Option<Serving> {

@@ -4,6 +4,7 @@
 use crate::judging::Judgement;
 use crate::playing::{self, Played};
 use crate::serving::{Served, Service};
+use crate::tracking::{self, Tracked};
 
 /// `goadlotus::judge` in such memory.
 pub fn judge(file: &[u8], report: &mut [u8], witness: &mut [u8]) -> Judgement {
@@ -22,6 +23,15 @@ pub fn play(domain: &[u8], run: &[u8], work: &mut [u8]) -> Played {
     let played = playing::library(&domain, &run, &mut own_work);
     work.copy_from_slice(&own_work);
     played
+}
+
+/// `tracking::library` in such memory.
+pub fn track(domain: &[u8], run: &[u8], instance: &[u8], work: &mut [u8]) -> Tracked {
+    let (domain, run, instance) = (alone(domain), alone(run), alone(instance));
+    let mut own_work = alone(work);
+    let tracked = tracking::library(&domain, &run, &instance, &mut own_work);
+    work.copy_from_slice(&own_work);
+    tracked
 }
 
 /// A service in such memory.

@@ -3,6 +3,7 @@
 //!
 //! - [`judging`]: a judge against the model, and against what is written down
 //! - [`playing`]: the same for a player
+//! - [`tracking`]: the same for a player with an instance
 //! - [`serving`]: the same for a service, as counting a box
 //! - [`both`]: judging and playing of the same seeds, as many as it takes
 //! - [`exact`]: the library in memory of just the lengths lent, for valgrind
@@ -20,3 +21,4 @@ pub mod playing;
 pub mod samples;
 pub mod seeds;
 pub mod serving;
+pub mod tracking;

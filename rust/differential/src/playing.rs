@@ -29,7 +29,11 @@ impl<F: Fn(&[u8], &[u8], &mut [u8]) -> Played + Sync> Play for F {}
 
 /// The model, answering in the same form.
 pub fn model(domain: &[u8], run: &[u8], work: &mut [u8]) -> Played {
-    let played = model::play(domain, run, work);
+    of_model(domain, run, model::play(domain, run, work))
+}
+
+/// An answer of the model in this form.
+pub fn of_model(domain: &[u8], run: &[u8], played: model::Played) -> Played {
     let whole = if played.part.file == Source::Domain { domain } else { run };
     Played {
         number: played.number.into(),
@@ -44,7 +48,11 @@ pub fn model(domain: &[u8], run: &[u8], work: &mut [u8]) -> Played {
 
 /// The library, answering in the same form.
 pub fn library(domain: &[u8], run: &[u8], work: &mut [u8]) -> Played {
-    let played = goadlotus::play(domain, run, work);
+    of_library(domain, run, goadlotus::play(domain, run, work))
+}
+
+/// An answer of the library in this form.
+pub fn of_library(domain: &[u8], run: &[u8], played: goadlotus::Played) -> Played {
     let (file, whole, part) = match played.part {
         goadlotus::Part::Domain(part) => (Source::Domain, domain, part),
         goadlotus::Part::Run(part) => (Source::Run, run, part),
@@ -63,8 +71,8 @@ pub const NUMBERS: [u64; 27] =
 pub const WORK: usize = model::WORK;
 
 /// The kinds of the records that close a domain file and a run file.
-const CLOSING: u8 = 5;
-const CLOSING_RUN: u8 = 20;
+pub(crate) const CLOSING: u8 = 5;
+pub(crate) const CLOSING_RUN: u8 = 20;
 
 /// The files of a seed, and the lengths at which work memory is lent: one that is enough, and in one of eight pairs
 /// one that isn't.
@@ -121,7 +129,7 @@ pub fn compare(player: impl Play, domain: &[u8], run: &[u8], work: usize, salt: 
 }
 
 /// Work memory in hexadecimal, the zeros at the end of its first 8,192 bytes left out.
-fn facts(work: &[u8]) -> String {
+pub(crate) fn facts(work: &[u8]) -> String {
     let (first, beyond) = work.split_at(work.len().min(WORK));
     let end = first.iter().rposition(|&byte| byte != 0).map_or(0, |last| last + 1);
     format!("{}, zeros to {}, then {}", hex(&first[..end]), first.len(), hex(beyond))

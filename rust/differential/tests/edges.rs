@@ -3,8 +3,10 @@
 //! lengths lent, for valgrind.
 
 use differential::judging::{compare, expect, expect_at_all_lengths, Judgement};
+use differential::memory::{after, pattern};
 use differential::playing::{self, Played, WORK};
 use differential::serving::{self, Service, TEMPLATES, TOTALS};
+use differential::tracking::{self, Tracked};
 use differential::{edges, exact};
 
 const JUDGES: [fn(&[u8], &mut [u8], &mut [u8]) -> Judgement; 2] = [goadlotus::judge, exact::judge];
@@ -69,6 +71,36 @@ fn every_play_line() {
         }
     }
     println!("edges.txt: {} play lines run", lines.len());
+    assert!(!lines.is_empty());
+}
+
+#[test]
+fn every_track_line() {
+    let lines = edges::track_lines();
+    for (salt, edge) in lines.iter().enumerate() {
+        let play = &edge.play;
+        let name = format!("line {}, {}", play.line, play.name);
+        for player in [tracking::library, exact::track] {
+            let mut work = pattern(play.work_lent);
+            let got = player(&play.domain, &play.run, &edge.instance, &mut work);
+            assert_eq!(got, Tracked { played: play.told.played, total: edge.total }, "{name}");
+            assert!(work == after(play.work_lent, &play.told.work), "{name}: work memory");
+            // other instances, and every cut of the run
+            let objects = [&[][..], &[0], &[1], &[2], &[64], &[0, 0], &[0, 1], &[1, 1], &[0, 1, 2]];
+            for instance in objects {
+                if let Err(text) = tracking::compare(player, (&play.domain, &play.run, instance), WORK, salt) {
+                    panic!("{name}\n{text}");
+                }
+            }
+            for cut in 0..play.run.len() {
+                let files = (&play.domain[..], &play.run[..cut], &edge.instance[..]);
+                if let Err(text) = tracking::compare(player, files, WORK, salt) {
+                    panic!("{name}, cut at {cut}\n{text}");
+                }
+            }
+        }
+    }
+    println!("edges.txt: {} track lines run", lines.len());
     assert!(!lines.is_empty());
 }
 

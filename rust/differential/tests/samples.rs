@@ -5,8 +5,9 @@ use differential::judging::{self, Judge};
 use differential::playing::{self, Play};
 use differential::samples::{files, folder, listed, played, states, Files, State};
 use differential::serving::TEMPLATES;
+use differential::tracking;
 use generate::literature::{Named, DEPOTS, DRIVERLOG, FLOORTILE, ROVERS, SATELLITE};
-use generate::records::encode;
+use generate::records::{encode, rec, split};
 use goadlotus::{judge, Judgement, REPORT, WITNESS};
 use std::collections::BTreeSet;
 use std::fs;
@@ -306,6 +307,35 @@ fn the_page_says_which_are_found() {
         told += 1;
     }
     assert_eq!(told, 10);
+}
+
+/// The totals that the page tells of an instance are those of library and model, in every state.
+#[test]
+fn the_page_has_the_totals() {
+    let files = stored();
+    let page = text(&files, PAGE);
+    let mut told = 0;
+    for cells in page.lines().filter(|line| line.starts_with("| `")).map(cells) {
+        let [run, of, _, _, instance, totals, _] = cells[..] else { continue };
+        let [run, domain] = [run, of].map(|name| &files[name.trim_matches('`')][..]);
+        let instance: Vec<u8> = instance.split(' ').map(|object| object.parse().expect("an object")).collect();
+        for track in [tracking::library, tracking::model] {
+            let state = |run: &Vec<u8>| track(domain, run, &instance, &mut [0; goadlotus::WORK]).total.to_string();
+            let states: Vec<String> = cuts(run).iter().map(state).collect();
+            assert_eq!(states.join(" "), totals, "{cells:?}");
+        }
+        told += 1;
+    }
+    assert_eq!(told, 4);
+}
+
+/// The run file cut behind its start facts and behind each of its steps, and closed.
+fn cuts(run: &[u8]) -> Vec<Vec<u8>> {
+    let records = split(run);
+    let start = records.iter().take_while(|record| record.kind < 18).count();
+    let closes = records.iter().enumerate().filter(|(_, record)| record.kind == 19).map(|(at, _)| at + 1);
+    let cut = |end: usize| encode(&[&records[..end], &[rec(20, [])]].concat());
+    [start].into_iter().chain(closes).map(cut).collect()
 }
 
 /// The texts are those of the programs: for every stored file of the crates `list_samples` and `play_samples` the same as

@@ -2,6 +2,7 @@
 //! player, for run files whose records are well-formed. It can be told to misread a sentence, for tests that must
 //! notice it.
 
+use crate::plain_judge::journeys_of;
 use crate::records::Rec;
 use model::domain::{Action, Atom, Domain, Fact, List, Literal, Object, When};
 use model::player::{EVENTS, FACTS, OPEN};
@@ -105,6 +106,10 @@ pub struct Plainly {
     pub steps: usize,
     pub weight: u32,
     pub facts: Vec<Fact>,
+    /// What is open: action and objects.
+    pub open: Vec<(u8, Vec<u8>)>,
+    /// Whether the start state counts.
+    pub started: bool,
 }
 
 struct Machine<'d> {
@@ -317,5 +322,55 @@ pub fn play(domain: &Domain, records: &[Rec], misread: Option<Misread>) -> Plain
         }
         at += 4 + payload.len();
     }
-    Plainly { number, at, steps, weight, facts: machine.facts }
+    Plainly { number, at, steps, weight, facts: machine.facts, open: machine.open, started }
+}
+
+/// A sentence of P13 misread.
+#[derive(Clone, Copy, PartialEq, Eq, Debug)]
+pub enum Miscount {
+    /// The weight alone.
+    WeightAlone,
+    /// Journeys of another instance count.
+    AnyInstance,
+    /// Every open class of the instance counts, journey or not.
+    AnyClass,
+    /// An entry that is open twice counts once.
+    AlikeOnce,
+    /// The start counts before it should.
+    Early,
+}
+
+pub const MISCOUNTS: [Miscount; 5] =
+    [Miscount::WeightAlone, Miscount::AnyInstance, Miscount::AnyClass, Miscount::AlikeOnce, Miscount::Early];
+
+/// P13: the weight of an instance plus its open journeys, in the state that a run left.
+pub fn total(domain: &Domain, left: &Plainly, instance: &[u8], misread: Option<Miscount>) -> u32 {
+    let misreads = |which| misread == Some(which);
+    if !left.started && !misreads(Miscount::Early) {
+        return 0;
+    }
+    let keys = |component: u8, args: &[u8]| -> Option<Vec<u8>> {
+        let component = domain.template.components.iter().find(|c| c.relation == component)?;
+        let places = component.place_of[..domain.template.n as usize].iter();
+        Some(places.map(|&place| args[place as usize]).collect())
+    };
+    let of_fact = |fact: &&Fact| keys(fact.relation, &fact.args.map(|object| object.0)).as_deref() == Some(instance);
+    let weight = left.facts.iter().filter(of_fact).count();
+    if misreads(Miscount::WeightAlone) {
+        return weight as u32;
+    }
+    let mut open = left.open.clone();
+    if misreads(Miscount::AlikeOnce) {
+        open.sort();
+        open.dedup();
+    }
+    let mut journeys = 0;
+    for (number, objects) in &open {
+        for (tuple, is_journey) in journeys_of(domain, *number) {
+            let bound: Vec<u8> = tuple.iter().map(|variable| objects[variable.0 as usize]).collect();
+            let belongs = bound == instance || misreads(Miscount::AnyInstance);
+            journeys += (belongs && (is_journey || misreads(Miscount::AnyClass))) as usize;
+        }
+    }
+    (weight + journeys) as u32
 }

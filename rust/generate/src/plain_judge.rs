@@ -285,3 +285,11 @@ impl<'d> Judge<'d> {
 pub fn judge(domain: &Domain, misread: Option<Misjudge>) -> Judged {
     Judge { domain, misread }.judge()
 }
+
+/// The key tuple of each class of an action, and whether it is a journey.
+pub fn journeys_of(domain: &Domain, action: u8) -> Vec<(Vec<Var>, bool)> {
+    let judge = Judge { domain, misread: None };
+    let action = &domain.actions[action as usize];
+    let classes = judge.classes(action).into_iter();
+    classes.map(|(tuple, literals)| (tuple, judge.is_journey(action, &literals))).collect()
+}

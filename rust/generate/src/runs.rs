@@ -2,7 +2,7 @@
 //! limit, damaged ones.
 
 use crate::domains::{self, Mood, Plan, PlanAction, Size, FF};
-use crate::records::{damage, encode, junk, near, rec, Rec};
+use crate::records::{damage, encode, junk, near, rec, split, Rec};
 use crate::rng::Rng;
 use model::domain::{Atom, Domain, Fact, Object};
 use model::machine::{binding, Event, Refusal, State};
@@ -963,6 +963,7 @@ pub enum Origin {
     NearLimit,
     Duel,
     Jobs,
+    Lendings,
     Wide,
     Heavy,
     Burst,
@@ -980,7 +981,8 @@ pub fn pair(rng: &mut Rng) -> (Origin, Vec<u8>, Vec<u8>) {
     let told = |origin, (domain, run)| (origin, domain, run);
     match rng.below(100) {
         0..=6 => return told(Origin::NearLimit, near_limit(rng)),
-        7..=20 => return told(Origin::Duel, duel(rng)),
+        7..=17 => return told(Origin::Duel, duel(rng)),
+        18..=20 => return told(Origin::Lendings, lendings(rng)),
         21..=24 => return told(Origin::Jobs, jobs(rng)),
         25..=28 => return told(Origin::Wide, wide(rng)),
         29 => {
@@ -1009,5 +1011,127 @@ pub fn pair(rng: &mut Rng) -> (Origin, Vec<u8>, Vec<u8>) {
         3..=4 => (Origin::OtherDomain, domains::damaged(rng), run),
         5 => (Origin::OtherDomain, domains::near_limit(rng), run),
         _ => (origin, file, run),
+    }
+}
+
+/// An instance to track in a run: mostly one that the run speaks of, else any; at times of a wrong count or with an object
+/// that isn't there.
+pub fn instance(rng: &mut Rng, domain_file: &[u8], run: &[u8]) -> Vec<u8> {
+    let Ok(domain) = model::read(domain_file) else { return rng.bytes(1) };
+    let n = domain.template.n as usize;
+    let records = split(run);
+    let objects = match records.first().map(|record| (record.kind, &record.payload[..])) {
+        Some((16, &[count])) => count.clamp(1, 64) as usize,
+        _ => 4,
+    };
+    let spoken_of: Vec<&Rec> = records.iter().take(200).filter(|record| [17, 18].contains(&record.kind)).collect();
+    let mut instance: Vec<u8> = (0..n).map(|_| rng.below(objects) as u8).collect();
+    if !spoken_of.is_empty() && rng.chance(85) {
+        let record = rng.pick(&spoken_of);
+        let named = if record.kind == 17 { of_fact(&domain, &record.payload) } else { of_event(rng, &domain, record) };
+        instance = named.unwrap_or(instance);
+    }
+    match rng.below(40) {
+        0 => {
+            instance.pop();
+        }
+        1 => instance.push(rng.below(objects) as u8),
+        2 if n > 0 => instance[rng.below(n)] = rng.pick(&[objects as u8, 64, 255]),
+        3 if n > 1 => instance[0] = instance[1],
+        _ => {}
+    }
+    instance
+}
+
+/// The instance that a start fact matches.
+fn of_fact(domain: &Domain, payload: &[u8]) -> Option<Vec<u8>> {
+    let (&relation, objects) = payload.split_first()?;
+    let component = domain.template.component(relation).filter(|c| c.arity as usize == objects.len())?;
+    let places = component.place_of[..domain.template.n as usize].iter();
+    Some(places.map(|&place| objects[place as usize]).collect())
+}
+
+/// The instance of some class of an event.
+fn of_event(rng: &mut Rng, domain: &Domain, record: &Rec) -> Option<Vec<u8>> {
+    let action = domain.actions.get(*record.payload.get(1)? as usize)?;
+    let classes = model::classes::classes(&domain.template, action);
+    if classes.is_empty() {
+        return None;
+    }
+    let tuple = rng.pick(&classes).tuple;
+    let variables = tuple[..domain.template.n as usize].iter();
+    variables.map(|variable| record.payload.get(2 + variable.0 as usize).copied()).collect()
+}
+
+/// Lending: volumes leave their shelves and come back or go out, told by one key or by none, alone or two at a time, so
+/// that runs end while journeys are open.
+pub fn lendings(rng: &mut Rng) -> (Vec<u8>, Vec<u8>) {
+    let mut plan = Plan { relations: vec![2, 2, 1], ..Plan::default() };
+    let labels: &[u8] = rng.pick(&[&[0u8, FF] as &[u8], &[0, FF], &[FF, 0], &[0, 1]]);
+    plan.components = vec![(0, labels.to_vec()), (1, labels.to_vec())];
+    if rng.chance(15) {
+        plan.components = vec![(2, vec![FF])];
+    }
+    for _ in 0..rng.range(1, 3) {
+        let mut action = PlanAction::new(rng.range(3, 4) as u8, true);
+        for _ in 0..rng.range(1, 2) {
+            let mut pair = || -> Vec<u8> { (0..2).map(|_| rng.below(action.variables as usize) as u8).collect() };
+            let (from, mut to) = (pair(), pair());
+            for (place, label) in labels.iter().enumerate() {
+                if *label != FF {
+                    to[place] = from[place];
+                }
+            }
+            let (relation, other) = (rng.below(2) as u8, rng.below(2) as u8);
+            let single = plan.components[0].0 == 2;
+            let (first, from) = if single { (2, from[..1].to_vec()) } else { (relation, from) };
+            let (second, to) = if single { (2, to[..1].to_vec()) } else { (other, to) };
+            action.push(0, first, from.clone());
+            action.push(3, first, from);
+            action.push(8, second, to);
+        }
+        plan.actions.push(action);
+    }
+    // a volume that comes from nowhere, so that the same journey may begin twice
+    if rng.chance(40) {
+        let mut action = PlanAction::new(2, false);
+        action.push(2, plan.components[0].0, (0..plan.relations[plan.components[0].0 as usize]).collect());
+        plan.actions.push(action);
+    }
+    let file = plan.file();
+    let Ok(domain) = model::read(&file) else { return (file, Vec::new()) };
+    let mut script = Script::new(&domain, rng.range(3, 6) as u8);
+    start_facts(rng, &mut script);
+    let steps = rng.range(1, 10);
+    legal_steps(rng, &mut script, steps);
+    begin_again(rng, &mut script);
+    script.close_run();
+    (file, encode(&script.records))
+}
+
+/// Brings back what an open journey took away, if the last action can, and begins the same journey again.
+fn begin_again(rng: &mut Rng, script: &mut Script) {
+    let last = script.domain.actions.len() - 1;
+    if script.state.open().is_empty() || script.domain.actions[last].lasting {
+        return;
+    }
+    let entry = rng.pick(script.state.open());
+    let action = &script.domain.actions[entry.action as usize];
+    let taken: Vec<Fact> =
+        action.trues_at[0].map(|literal| action.atom(literal).bind(|v| entry.binding[v.0 as usize])).collect();
+    let back = taken.iter().map(|fact| {
+        let mut objects: Vec<u8> = fact.args().iter().map(|object| object.0).collect();
+        if objects.len() == 1 {
+            objects.extend((0..script.objects).find(|object| *object != objects[0]));
+        }
+        Event { moment: 0, action: last as u8, binding: binding(&objects) }
+    });
+    let back: Vec<Event> = back.filter(|event| event.binding[0] != event.binding[1]).collect();
+    let again = Event { moment: 0, action: entry.action, binding: entry.binding };
+    for event in back.into_iter().chain([again]) {
+        if script.allows_also(event) {
+            script.event(event);
+            script.close();
+        }
     }
 }

@@ -44,6 +44,7 @@ pub fn all() -> Samples {
     let mut samples = specification();
     proved(&mut samples);
     misreadings(&mut samples);
+    on_the_way(&mut samples);
     floortile(&mut samples);
     depots(&mut samples);
     rovers(&mut samples);
@@ -266,6 +267,24 @@ fn misreadings(samples: &mut Samples) {
     let domain = Named::read(BOUNDED_BESIDE_JOURNEY);
     samples.domain("bounded-beside-journey", &domain, "in[0], out[0]");
     samples.run("bounded-beside-journey", ("bounded-beside-journey", &domain), 1, &["in 0"], &lent_and_back);
+}
+
+/// Runs to be played with an instance, volume 0: a journey that is open at the end, the same where the template doesn't see
+/// its end, and one that begins twice.
+fn on_the_way(samples: &mut Samples) {
+    let (m1, lent) = (Named::read(M1), ["start lend 0 1 2"]);
+    samples.run("on-the-way", ("m1", &m1), 3, &["at 0 1"], &lent);
+    samples.run(
+        "on-the-way-and-there",
+        ("m1", &m1),
+        4,
+        &["at 0 1"],
+        &["once move 0 1 3", "start lend 0 3 2", "end lend 0 3 2"],
+    );
+    samples.run("lost", ("m2", &m1), 3, &["at 0 1"], &lent);
+    let domain = Named::read(BOUNDED_BESIDE_JOURNEY);
+    let twice = ["start lend 0", "once take-back 0", "start lend 0", "end lend 0"];
+    samples.run("begun-twice", ("bounded-beside-journey", &domain), 1, &["in 0"], &twice);
 }
 
 fn floortile(samples: &mut Samples) {

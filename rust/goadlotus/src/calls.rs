@@ -28,6 +28,23 @@ mod raw {
             part_at: *mut u64,
         ) -> u64;
 
+        pub fn goadlotus_track(
+            domain: *const u8,
+            domain_len: usize,
+            run: *const u8,
+            run_len: usize,
+            instance: *const u8,
+            instance_len: usize,
+            work: *mut u8,
+            work_len: usize,
+            place: *mut u64,
+            steps: *mut u64,
+            weight: *mut u64,
+            total: *mut u64,
+            part_file: *mut u64,
+            part_at: *mut u64,
+        ) -> u64;
+
         pub fn goadlotus_templates(
             file: *const u8,
             file_len: usize,
@@ -129,12 +146,56 @@ pub fn play<'a>(domain: &'a [u8], run: &'a [u8], work: &mut [u8]) -> Played<'a> 
             &mut part_at,
         )
     };
-    let part = match part_file {
-        0 => Part::Domain(&domain[part_at as usize..]),
-        1 => Part::Run(&run[part_at as usize..]),
-        other => panic!("goadlotus_play answers file {other}, which is neither 0 nor 1"),
+    Played { number, place, steps, weight, part: part_of(domain, run, part_file, part_at) }
+}
+
+fn part_of<'a>(domain: &'a [u8], run: &'a [u8], file: u64, at: u64) -> Part<'a> {
+    match file {
+        0 => Part::Domain(&domain[at as usize..]),
+        1 => Part::Run(&run[at as usize..]),
+        other => panic!("the library answers file {other}, which is neither 0 nor 1"),
+    }
+}
+
+/// The answer of playing with an instance.
+#[derive(Clone, Copy, PartialEq, Eq, Debug)]
+pub struct Tracked<'a> {
+    pub played: Played<'a>,
+    /// The instance's weight plus its open journeys, after the last step made; 0 while the start doesn't count yet.
+    pub total: u64,
+}
+
+/// Plays a run file on a domain file, and follows an instance: an object for each key of the template, a byte each. Objects
+/// may repeat in it.
+///
+/// A wrong count or object is told by 51 at the record of kind 16, after that record's own numbers. All else is answered
+/// and written as by [`play`].
+pub fn track<'a>(domain: &'a [u8], run: &'a [u8], instance: &[u8], work: &mut [u8]) -> Tracked<'a> {
+    // As in `judge`: what the call left alone wouldn't look like an answer.
+    let (mut place, mut steps, mut weight, mut total) = (u64::MAX, u64::MAX, u64::MAX, u64::MAX);
+    let (mut part_file, mut part_at) = (u64::MAX, u64::MAX);
+    // SAFETY: each slice is passed with its own length, which the call never exceeds; no pointer is null; what is
+    // written is borrowed mutably, so it overlaps nothing. The two files and the instance are only read.
+    let number = unsafe {
+        raw::goadlotus_track(
+            domain.as_ptr(),
+            domain.len(),
+            run.as_ptr(),
+            run.len(),
+            instance.as_ptr(),
+            instance.len(),
+            work.as_mut_ptr(),
+            work.len(),
+            &mut place,
+            &mut steps,
+            &mut weight,
+            &mut total,
+            &mut part_file,
+            &mut part_at,
+        )
     };
-    Played { number, place, steps, weight, part }
+    let part = part_of(domain, run, part_file, part_at);
+    Tracked { played: Played { number, place, steps, weight, part }, total }
 }
 
 /// The answer of a service: the number with its first place.

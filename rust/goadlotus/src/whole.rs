@@ -3,7 +3,7 @@
 //! The calls leave every byte alone that they don't write, and no row and no fact consists of zeros. So in memory that held
 //! zeros what was written ends where the first bytes are that hold none.
 
-use crate::calls::{judge, play, Judgement, Played};
+use crate::calls::{judge, play, track, Judgement, Played};
 use crate::numbers::Number;
 use crate::sizes::{FACT, REPORT, ROW, WITNESS, WORK};
 use crate::written::{Fact, Facts, Row, Rows};
@@ -75,6 +75,22 @@ impl PlayedRun<'_> {
     pub fn facts(&self) -> Facts<'_> {
         Facts::of(&self.work)
     }
+}
+
+/// A run played with an instance: the same, and the instance's total.
+#[derive(Clone, PartialEq, Eq, Debug)]
+pub struct TrackedRun<'a> {
+    pub run: PlayedRun<'a>,
+    /// The instance's weight plus its open journeys, after the last step made; 0 while the start doesn't count yet.
+    pub total: u64,
+}
+
+/// Plays a run file on a domain file, and follows an instance, an object for each key. The answer is never 58.
+pub fn track_files<'a>(domain: &'a [u8], run: &'a [u8], instance: &[u8]) -> TrackedRun<'a> {
+    let mut work = vec![0; WORK];
+    let tracked = track(domain, run, instance, &mut work);
+    work.truncate(written(&work, |bytes: &[u8; FACT]| Fact::of(bytes).is_some()));
+    TrackedRun { run: PlayedRun { answer: tracked.played, work }, total: tracked.total }
 }
 
 /// The bytes up to the first that hold nothing.

@@ -1,6 +1,6 @@
-/* Prints what the header's own functions tell of a domain file and a run file: verdict, rows, facts of the witness; number, facts held; number
- * and templates of the list, and the last of them; of a box with the domain file twice, how many met its verdict and how many moments had
- * each name; of that box cut by a byte, number and place. */
+/* Prints what the header's own functions tell of a domain file and a run file: verdict, rows, facts of the witness; number, facts held; the
+ * same with the instance of no object and of object 0, and the total; number and templates of the list, and the last of them; of a box with
+ * the domain file twice, how many met its verdict and how many moments had each name; of that box cut by a byte, number and place. */
 #include "goadlotus.h"
 #include <inttypes.h>
 #include <stdio.h>
@@ -9,6 +9,7 @@ static uint8_t domain[GOADLOTUS_FILE_LIMIT + 1], run[1 << 20];
 static uint8_t box[2 * (sizeof domain + 4)];
 static struct goadlotus_judged judged;
 static struct goadlotus_played played;
+static struct goadlotus_tracked tracked;
 static struct goadlotus_listed listed;
 static struct goadlotus_counted counted;
 
@@ -33,6 +34,12 @@ int main(int argc, char **argv) {
     goadlotus_judge_file(domain, domain_len, &judged);
     goadlotus_play_files(domain, domain_len, run, run_len, &played);
     printf("%" PRIu64 " %zu %zu\n%" PRIu64 " %zu\n", judged.number, judged.rows, judged.facts, played.number, played.facts);
+    for (size_t objects = 0; objects < 2; objects++) {
+        const uint8_t instance[1] = {0};
+        memset(&tracked, 0xAA, sizeof tracked);
+        goadlotus_track_files(domain, domain_len, run, run_len, instance, objects, &tracked);
+        printf("%" PRIu64 " %zu %" PRIu64 "\n", tracked.number, tracked.facts, tracked.total);
+    }
     memset(&listed, 0xAA, sizeof listed);
     goadlotus_list_templates(domain, domain_len, &listed);
     const uint8_t *last = listed.templates == 0 ? listed.list : listed.list + (listed.templates - 1) * GOADLOTUS_TEMPLATE_SIZE;

@@ -91,6 +91,10 @@ fn c_counts() {
             played.answer.number,
             played.facts().len() as u64,
         ];
+        for instance in [&[][..], &[0]] {
+            let tracked = goadlotus::track_files(&domain, &run, instance);
+            counts.extend([tracked.run.answer.number, tracked.run.facts().len() as u64, tracked.total]);
+        }
         let (number, templates) = match goadlotus::list_templates(&domain) {
             Ok(templates) => (0, templates),
             Err(refused) => (refused.number, Vec::new()),

@@ -7,7 +7,7 @@
 //! - [`classes`]: classes, names, journeys
 //! - [`verdict`]: rows, decision, witness, [`judge`]
 //! - [`machine`]: state, events, steps
-//! - [`player`]: the run file, [`play`]
+//! - [`player`]: the run file, [`play`], [`track`]
 //! - [`templates`]: every one-relation template of a file
 //! - [`totals`]: figures for a box of files
 //! - [`service`]: what the services have in common
@@ -23,6 +23,7 @@
 //! - P6: the player's alarm is gone, and with it the judging that the player did only for it.
 //! - P8: of the refusals by class the worst is named, 40 before 41 before 42.
 //! - P11: figures for a whole term.
+//! - P13: playing with an instance tells its weight and its open journeys together.
 //!
 //! The paper leaves some places open; these are the readings taken.
 //! - Zero relations and zero actions are well-formed. An action without matching literals has no
@@ -46,7 +47,7 @@ pub mod verdict;
 
 pub use domain::{read, Domain, Fact, Key, Object, Stop, Var};
 pub use listing::listing;
-pub use player::{play, Part, Played, Source, WORK};
+pub use player::{play, track, Part, Played, Source, Tracked, WORK};
 pub use service::Served;
 pub use templates::templates;
 pub use totals::totals;

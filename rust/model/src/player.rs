@@ -1,7 +1,8 @@
 //! "Playing a run": the run file, the work memory, the answer.
 
-use crate::domain::{read, Atom, Domain, Object, VARIABLES};
-use crate::machine::{binding, Event, State};
+use crate::classes::{classes, is_journey};
+use crate::domain::{read, Argument, Atom, Domain, Object, Tuple, Var, ARITY, VARIABLES};
+use crate::machine::{binding, Entry, Event, State};
 use crate::records::Record;
 use crate::verdict::FACT_BYTES;
 
@@ -49,9 +50,30 @@ const EVENT: u16 = 18;
 const CLOSE_STEP: u16 = 19;
 const CLOSE_RUN: u16 = 20;
 
+/// The answer of playing with an instance.
+#[derive(Clone, Copy, PartialEq, Eq, Debug)]
+pub struct Tracked {
+    pub played: Played,
+    /// P13: "the instance's weight plus the number of open journeys belonging to it", "after the last
+    /// step made (0 while the start state doesn't count yet)"
+    pub total: u32,
+}
+
 /// Plays a run file on a domain file.
 pub fn play(domain_file: &[u8], run_file: &[u8], work: &mut [u8]) -> Played {
-    let refused = |number, first, part| Played { number, first, second: 0, third: 0, steps: 0, weight: 0, part };
+    play_with(domain_file, run_file, None, work).played
+}
+
+/// P13: "The player takes an instance of n objects", a byte each; they may repeat.
+pub fn track(domain_file: &[u8], run_file: &[u8], instance: &[u8], work: &mut [u8]) -> Tracked {
+    play_with(domain_file, run_file, Some(instance), work)
+}
+
+fn play_with(domain_file: &[u8], run_file: &[u8], instance: Option<&[u8]>, work: &mut [u8]) -> Tracked {
+    let refused = |number, first, part| Tracked {
+        played: Played { number, first, second: 0, third: 0, steps: 0, weight: 0, part },
+        total: 0,
+    };
     // "run, after 9 to 23" (25 with P1); "for 9 the whole domain file"
     let domain = match read(domain_file) {
         Ok(domain) => domain,
@@ -64,7 +86,7 @@ pub fn play(domain_file: &[u8], run_file: &[u8], work: &mut [u8]) -> Played {
     if work.len() < WORK {
         return refused(58, 0, no_record);
     }
-    let mut player = Player::new(&domain);
+    let mut player = Player::new(&domain, instance);
     let fault = player.run(run_file);
     player.write(&mut work[..WORK]);
     // "9 to 23, and any later number for a record, give the record's offset as first place"
@@ -72,11 +94,26 @@ pub fn play(domain_file: &[u8], run_file: &[u8], work: &mut [u8]) -> Played {
         None => (2, 0, no_record),
         Some((number, at)) => (number, at, Part { file: Source::Run, at }),
     };
-    Played { number, first, second: 0, third: 0, steps: player.steps, weight: player.weight, part }
+    let (steps, weight) = (player.steps, player.weight);
+    Tracked { played: Played { number, first, second: 0, third: 0, steps, weight, part }, total: player.total() }
+}
+
+/// The number of journeys of an open entry that belong to an instance. P13: "each open entry counted once
+/// for every journey whose bound key tuple is the instance"
+fn journeys_for(domain: &Domain, entry: &Entry, instance: &Tuple<Object>) -> usize {
+    let action = &domain.actions[entry.action as usize];
+    let belongs = |tuple: Tuple<Var>| {
+        let keys = 0..domain.template.n as usize;
+        keys.into_iter().all(|key| entry.binding[tuple[key].0 as usize] == instance[key])
+    };
+    let classes = classes(&domain.template, action);
+    classes.iter().filter(|class| is_journey(action, class) && belongs(class.tuple)).count()
 }
 
 struct Player<'d> {
     domain: &'d Domain,
+    /// The instance that is tracked, if one is.
+    instance: Option<&'d [u8]>,
     /// The object count, once its record is read.
     objects: Option<u8>,
     state: State,
@@ -89,9 +126,10 @@ struct Player<'d> {
 }
 
 impl<'d> Player<'d> {
-    fn new(domain: &'d Domain) -> Player<'d> {
+    fn new(domain: &'d Domain, instance: Option<&'d [u8]>) -> Player<'d> {
         Player {
             domain,
+            instance,
             objects: None,
             state: State::default(),
             started: false,
@@ -144,8 +182,25 @@ impl<'d> Player<'d> {
         if !(1..=OBJECTS).contains(&count) {
             return Err(51);
         }
+        // P13: "a wrong count or object gives 51, last at kind 16"
+        if let Some(instance) = self.instance {
+            if instance.len() != self.domain.template.n as usize || instance.iter().any(|&object| object >= count) {
+                return Err(51);
+            }
+        }
         self.objects = Some(count);
         Ok(())
+    }
+
+    /// The total of the instance, 0 without one.
+    fn total(&self) -> u32 {
+        let Some(objects) = self.instance.filter(|_| self.started && self.objects.is_some()) else { return 0 };
+        let mut instance = [Object::EVERY; ARITY];
+        for (place, &object) in instance.iter_mut().zip(objects) {
+            *place = Object(object);
+        }
+        let open: usize = self.state.open().iter().map(|entry| journeys_for(self.domain, entry, &instance)).sum();
+        self.state.weight(&instance) + open as u32
     }
 
     /// "51 number out of range", of objects in order

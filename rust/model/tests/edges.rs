@@ -1,7 +1,7 @@
 //! Runs every line of cases/edges.txt, as its first lines explain. A line that doesn't have the form
 //! told there fails the test.
 
-use model::{judge, play, Served, Source};
+use model::{judge, play, track, Served, Source, Tracked};
 
 /// What lent memory holds before a call: no two neighbours alike, and neither all 0 nor all FF.
 fn pattern(length: usize) -> Vec<u8> {
@@ -75,10 +75,23 @@ fn judge_line(fields: &[&str]) {
 
 fn play_line(fields: &[&str]) {
     let &[_, name, domain, run, room, answer, facts, part] = fields else { panic!("not 8 fields") };
+    let without = |domain: &[u8], run: &[u8], work: &mut [u8]| Tracked { played: play(domain, run, work), total: 0 };
+    played_line(&[name, domain, run, room, &format!("{answer} 0"), facts, part], without);
+}
+
+fn track_line(fields: &[&str]) {
+    let &[_, name, domain, run, instance, room, answer, facts, part] = fields else { panic!("not 9 fields") };
+    let instance = bytes(instance);
+    let with = |domain: &[u8], run: &[u8], work: &mut [u8]| track(domain, run, &instance, work);
+    played_line(&[name, domain, run, room, answer, facts, part], with);
+}
+
+fn played_line(fields: &[&str; 7], player: impl Fn(&[u8], &[u8], &mut [u8]) -> Tracked) {
+    let &[name, domain, run, room, answer, facts, part] = fields;
     let (domain, run) = (bytes(domain), bytes(run));
     let ["work", lent] = words::<2>(room) else { panic!("room: {room:?}") };
     let lent = number(lent);
-    let [expected_number, first, steps, weight] = words::<4>(answer).map(number);
+    let [expected_number, first, steps, weight, total] = words::<5>(answer).map(number);
     let written = match facts {
         "-" => Vec::new(),
         "none" => vec![0; 8_192],
@@ -101,9 +114,10 @@ fn play_line(fields: &[&str]) {
     let more = if lent >= 8_192 { lent + 1_000 } else { lent };
     for lent in [lent, more] {
         let mut work = pattern(lent);
-        let got = play(&domain, &run, &mut work);
+        let Tracked { played: got, total: got_total } = player(&domain, &run, &mut work);
         assert_eq!([got.number as usize, got.first, got.second, got.third], [expected_number, first, 0, 0], "{name}");
         assert_eq!((got.steps, got.weight as usize), (steps, weight), "{name}: steps and weight");
+        assert_eq!(got_total as usize, total, "{name}: total");
         assert_eq!((got.part.file, got.part.at), (file, at), "{name}: part");
         assert!(work == after(lent, &written), "{name}: work memory");
     }
@@ -148,6 +162,7 @@ fn every_edge() {
         let outcome = std::panic::catch_unwind(|| match kind {
             "judge" => judge_line(&fields),
             "play" => play_line(&fields),
+            "track" => track_line(&fields),
             "templates" => service_line(&fields, model::templates),
             "totals" => service_line(&fields, model::totals),
             _ => panic!("no such kind: {kind:?}"),

@@ -23,13 +23,13 @@ struct Word {
     run: fn(&Arguments) -> Result<Status, Status>,
 }
 
-const NONE: Options = Options { form: false, output: false, rows: false, all: false, boxes: false };
+const NONE: Options = Options { form: false, output: false, rows: false, all: false, boxes: false, track: false };
 
 const WORDS: [Word; 8] = [
     Word { name: "judge", options: Options { form: true, rows: true, ..NONE }, run: judge::run },
     Word { name: "explain", options: NONE, run: explain::run },
     Word { name: "mark", options: Options { form: true, rows: true, ..NONE }, run: mark::run },
-    Word { name: "play", options: Options { all: true, ..NONE }, run: play::run },
+    Word { name: "play", options: Options { all: true, track: true, ..NONE }, run: play::run },
     Word { name: "templates", options: Options { form: true, ..NONE }, run: templates::run },
     Word { name: "totals", options: Options { form: true, all: true, boxes: true, ..NONE }, run: totals::run },
     Word { name: "show", options: Options { output: true, ..NONE }, run: show::run },

@@ -1,17 +1,23 @@
-//! `goadlotus play DOMAIN RUN`: a run in sentences, step by step.
+//! `goadlotus play DOMAIN RUN [OBJECT ..]`: a run in sentences, step by step, and where an instance is.
 
 use super::{misused, troubled};
 use crate::arguments::Arguments;
 use crate::files::{load_domain, load_run, refusal_of_bytes, LoadedRun};
 use crate::library::Played;
+use crate::notation::domain_text::counted;
+use crate::notation::nearest::nearest;
 use crate::notation::source::{tell as told, Fault};
 use crate::numbers::says;
 use crate::output::{print, tell, Status};
 use crate::story::Story;
 use crate::trace::Trace;
+use crate::tracked::Tracked;
+use std::ffi::OsString;
 
 pub fn run(arguments: &Arguments) -> Result<Status, Status> {
-    let [domain, run] = &arguments.files[..] else { return Err(misused("play takes a domain and a run")) };
+    let [domain, run, objects @ ..] = &arguments.files[..] else {
+        return Err(misused("play takes a domain and a run, and the objects of an instance"));
+    };
     let loaded = load_domain(domain).map_err(troubled)?;
     if !loaded.judged.is_read() {
         tell(&loaded.refusal());
@@ -20,8 +26,36 @@ pub fn run(arguments: &Arguments) -> Result<Status, Status> {
     let domain = loaded.domain();
     let run = load_run(run, Some(&domain)).map_err(troubled)?;
     let trace = Trace::of(&domain, &loaded.file, &run.file);
-    print(Story { trace: &trace, run: &run, all: arguments.all }.text().as_bytes())?;
+    let story = Story { trace: &trace, run: &run, all: arguments.all };
+    let mut text = String::new();
+    if arguments.track || !objects.is_empty() {
+        let instance = instance(&trace, &run, objects)?;
+        text = Tracked { story: &story, instance: &instance, verdict: loaded.judged.number }.text();
+    }
+    print((story.text() + &text).as_bytes())?;
     Ok(outcome(&run, &trace))
+}
+
+/// The objects of an instance, one for each key, by their names or their numbers.
+fn instance(trace: &Trace, run: &LoadedRun, names: &[OsString]) -> Result<Vec<u8>, Status> {
+    let keys = trace.domain.keys();
+    if names.len() != keys {
+        let (template, told) = (trace.domain.template_words(), counted(names.len(), "object"));
+        return Err(misused(&format!("the template {template} has {}, and {told} here", counted(keys, "key"))));
+    }
+    names.iter().map(|name| object(trace, run, &name.to_string_lossy())).collect()
+}
+
+fn object(trace: &Trace, run: &LoadedRun, name: &str) -> Result<u8, Status> {
+    let named = (0..trace.run.objects).find(|&object| run.object(object) == name);
+    let numbered = name.parse::<u8>().ok().filter(|&object| object < trace.run.objects);
+    named.or(numbered).ok_or_else(|| {
+        let known: Vec<String> = (0..trace.run.objects).map(|object| run.object(object)).collect();
+        match nearest(name, known.iter().map(String::as_str)) {
+            Some(near) => misused(&format!("there is no object {name}; the nearest is {near}")),
+            None => misused(&format!("there is no object {name}")),
+        }
+    })
 }
 
 /// The status of what was played; of a run file at fault the record or the line is told, too.

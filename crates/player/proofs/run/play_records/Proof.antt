@@ -9,7 +9,8 @@ use Rattle.records.specs.Memory.{over}
 use Rattle.literals.specs.Domain.{Domain}
 use Rattle.literals.specs.Held.{Held}
 use Rattle.store.specs.Index.{factIndex}
-use Rattle.events.specs.Held.{agendaBytes}
+use Rattle.events.specs.Held.{agendaBytes, openIn}
+use Rattle.player.specs.declared.run.Ended.{Ended}
 use Rattle.run_semantics.specs.Play.{heldBytes}
 use Rattle.player.specs.Player.{wholeIn, turnIn}
 use Rattle.player.proofs.PlayLoop.{Loop, begins, playable, loop-on, loop-falls, loop-ends}
@@ -81,24 +82,26 @@ ended-by-requires : tie.Need-ended-by-requires Inv-loop μ-loop
 ended-by-requires c κs = search needs
 
 same-length : tie.Need-same-length Inv-loop μ-loop
-same-length c = c .before .before .before .before .before .before .before .before .before .before .step .kept .1 .1 .1 .1 .0 ∙ c .before .before .before .before .before .before .before .before .before .before .before .before .before .before .before .before .loop .inv .0
+same-length c = c .before .before .before .before .before .before .before .before .before .step .kept .1 .1 .1 .1 .0 ∙ c .before .before .before .before .before .before .before .before .before .before .before .before .before .before .before .loop .inv .0
 
 same-length-2 : tie.Need-same-length-2 Inv-loop μ-loop
-same-length-2 c = c .before .before .before .before .before .before .before .before .before .before .step .kept .1 .1 .1 .1 .1 .1 .0 ∙ c .before .before .before .before .before .before .before .before .before .before .before .before .before .before .before .before .loop .inv .1
+same-length-2 c = c .before .before .before .before .before .before .before .before .before .step .kept .1 .1 .1 .1 .1 .1 .0 ∙ c .before .before .before .before .before .before .before .before .before .before .before .before .before .before .before .loop .inv .1
 
 same-length-3 : tie.Need-same-length-3 Inv-loop μ-loop
-same-length-3 c = c .before .before .before .before .before .before .before .before .before .before .step .kept .1 .1 .1 .1 .1 .1 .1 .0 ∙ c .before .before .before .before .before .before .before .before .before .before .before .before .before .before .before .before .loop .inv .2
+same-length-3 c = c .before .before .before .before .before .before .before .before .before .step .kept .1 .1 .1 .1 .1 .1 .1 .0 ∙ c .before .before .before .before .before .before .before .before .before .before .before .before .before .before .before .loop .inv .2
 
 returns : tie.Need-returns Inv-loop μ-loop
 returns c D old H clear =
-    let p = c .before .before .before .before .before .before .before .before .before .before .before .before .before .before .before .before .before .before .before .before .before .before .before .pre in
-    let a = c .before .before .before .before .before .before .before .before .before .before .before .before .before .before .before .before .before .before .before .before .before .before .before .args in
-    let l = c .before .before .before .before .before .before .before .before .before .before .before .before .before .before .before .before .loop in
-    let s = c .before .before .before .before .before .before .before .before .before .before .step in
-    loop-ends D (H .says .bounded) (a .run .now) old (wholeIn (l .turn .player) (l .agenda)) (l .work)
+    let p = c .before .before .before .before .before .before .before .before .before .before .before .before .before .before .before .before .before .before .before .before .before .before .pre in
+    let a = c .before .before .before .before .before .before .before .before .before .before .before .before .before .before .before .before .before .before .before .before .before .before .args in
+    let l = c .before .before .before .before .before .before .before .before .before .before .before .before .before .before .before .loop in
+    let s = c .before .before .before .before .before .before .before .before .before .step in
+    let b = c .ended-by in
+    let e = loop-ends D (H .says .bounded) (a .run .now) old (wholeIn (l .turn .player) (l .agenda)) (l .work)
     (l .inv .3 D old H clear (p .1 .1 .1 .0) (p .1 .1 .1 .1 .0)) (turnIn (s .result) (s .last .1 .1 .1 .1 .1 .1 .0)) _ _
-    (λ q o st noted. s .ensures .0 D q o H st noted) (λ q o st noted. s .ensures .1 D q o H st noted) (c .before .before .before .if1 .left) (c .ended-by .result)
-    (c .ended-by .ensures)
+    (λ q o st noted. s .ensures .0 D q o H st noted) (λ q o st noted. s .ensures .1 D q o H st noted) (c .before .before .if1 .left) (b .result)
+    (b .ensures) in
+    (e .0, e .1, ap (λ (x : Ended). openIn (x .opened) (s .last .1 .1 .1 .1 .1 .1 .0)) (b .ensures) ∙ e .2)
 
 pub play-records-spec : {M : Type 1} → statement M
 play-records-spec =

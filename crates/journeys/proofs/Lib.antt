@@ -1,0 +1,2 @@
+-- Laws of marks: the journeys of an open entry that belong to an instance.
+pub mod Belonging

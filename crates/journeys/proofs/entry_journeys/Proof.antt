@@ -1,0 +1,111 @@
+-- `entry_journeys` meets its contract: no action of the domain, one at once, or a lasting one. Assumes nothing.
+use borrow.Author.Needs.{needs}
+use mathlib.Core.Path.{_≡_, sym, ap, ap₂, _∙_, subst}
+use mathlib.Core.List.{List, flatMap}
+use Prim.Native.Nat.{ℕ, _<_}
+use native.Mathlib.Omega.{arith}
+use lib.ListN.{length, getD}
+use Rattle.records.proofs.Lists.{not-true, not-false}
+use Rattle.literals.specs.Domain.{action}
+use Rattle.literals.specs.Table.{literalRow}
+use Rattle.literals.specs.Held.{lastingIn}
+use Rattle.literals.proofs.Spans.{part-length}
+use Rattle.verdict.proofs.ReadActions.{action-held}
+use Rattle.events.proofs.FactRows.{ground-listed}
+use Rattle.journeys.proofs.Belonging.{none-at-once}
+use Rattle.journeys.proofs.entry_journeys.Statement.{statement}
+use Rattle.journeys.proofs.entry_journeys.Tie as tie
+
+shared-slice-read-wide : tie.Need-shared-slice-read-wide
+shared-slice-read-wide c = search needs
+
+wide-requires : tie.Need-wide-requires
+wide-requires c κs = search needs
+
+actions-in-requires : tie.Need-actions-in-requires
+actions-in-requires c κs = search needs
+
+returns : tie.Need-returns
+returns c = (
+  omega arith,
+  λ D g y H wf G ge sized re.
+      let t = c .if1 .taken in
+      let n = c .before .actions-in .ensures .0 in
+      let w = c .before .before .wide .ensures .0 in
+      absurd (ground-listed H g G _ ge (omega arith)),
+)
+
+is-lasting-requires : tie.Need-is-lasting-requires
+is-lasting-requires c κs = search needs
+
+returns-2 : tie.Need-returns-2
+returns-2 c = (
+  omega arith,
+  λ D g y H wf G ge sized re.
+      let w : c .before .before .before .before .wide .result ≡ g .action = c .before .before .before .before .wide .ensures .0 ∙ ap (λ (t : List ℕ). getD t 0 0) ge in
+      let l : g .action < length (D .actions) = G .listed in
+      none-at-once D y g
+      (sym (H .says .lasting (g .action) l) ∙ sym (c .before .is-lasting .ensures ∙ ap (λ (i : ℕ). lastingIn (c .before .before .before .before .before .before .before .before .args .head .now) i) w) ∙ not-true _ (c .if2 .taken)),
+)
+
+rows-of-requires : tie.Need-rows-of-requires
+rows-of-requires c κs = search needs
+
+mul-from : tie.Need-mul-from
+mul-from c = search needs
+
+mul-to : tie.Need-mul-to
+mul-to c = search needs
+
+sub-journeys-of : tie.Need-sub-journeys-of
+sub-journeys-of c = search needs
+
+part-journeys-of-start : tie.Need-part-journeys-of-start
+part-journeys-of-start c = search needs
+
+part-journeys-of-end : tie.Need-part-journeys-of-end
+part-journeys-of-end c = search needs
+
+sub-journeys-of-2 : tie.Need-sub-journeys-of-2
+sub-journeys-of-2 c = search needs
+
+journeys-of-requires : tie.Need-journeys-of-requires
+journeys-of-requires c κs =
+    let F = c .before .before .before .before .rows-of .ensures .0 in
+    let o = F .order in
+    let few = F .few in
+    (part-length _ _ _ o (F .room), (omega arith, c .before .before .before .before .before .before .before .before .before .before .before .before .before .pre))
+
+returns-3 : tie.Need-returns-3
+returns-3 c =
+    let j = c .journeys-of in (
+      j .ensures .0,
+      λ D g y H wf G ge sized re.
+          let w : c .before .before .before .before .before .before .before .before .before .before .wide .result ≡ g .action = c .before .before .before .before .before .before .before .before .before .before .wide .ensures .0 ∙ ap (λ (t : List ℕ). getD t 0 0) ge in
+          let l : g .action < length (D .actions) = G .listed in
+          let S = c .before .before .before .before .before .rows-of .ensures .1 D H (omega arith) in
+          let A = action-held H wf (g .action) l (S .literals ∙ ap (λ (i : ℕ). flatMap literalRow (action D i .lits)) w) in
+          j .ensures .1 D g y A
+          (sym (H .says .lasting (g .action) l) ∙ sym (c .before .before .before .before .before .before .before .is-lasting .ensures ∙ ap (λ (i : ℕ). lastingIn (c .before .before .before .before .before .before .before .before .before .before .before .before .before .before .args .head .now) i) w) ∙ not-false _ (c .before .before .before .before .before .before .if2 .left))
+          G ge sized re,
+    )
+
+pub entry-journeys-spec : {M : Type 1} → statement M
+entry-journeys-spec =
+    tie.close
+    (tie.spec
+    shared-slice-read-wide
+    wide-requires
+    actions-in-requires
+    returns
+    is-lasting-requires
+    returns-2
+    rows-of-requires
+    mul-from
+    mul-to
+    sub-journeys-of
+    part-journeys-of-start
+    part-journeys-of-end
+    sub-journeys-of-2
+    journeys-of-requires
+    returns-3)

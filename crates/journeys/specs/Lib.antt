@@ -1,0 +1,2 @@
+-- How the code marks the journeys of an action.
+pub mod Marked
