@@ -1,5 +1,5 @@
 -- Reading a file goes record by record, each at least 4 bytes further on, so the fuel is never used up. Assumes nothing.
-use mathlib.Core.Path.{_≡_, refl, sym, ap, _∙_}
+use mathlib.Core.Path.{_≡_, refl, sym, ap, subst, _∙_}
 use mathlib.Core.Bool.{Bool, true, false, cond}
 use mathlib.Core.List.{List}
 use Prim.Native.Nat.{ℕ, zero, suc, _+_, _≤_, _<_}
@@ -15,8 +15,8 @@ use Rattle.records.specs.Record.{recordAt, payload}
 use Rattle.records.proofs.Laws.{whole-within}
 use Rattle.literals.specs.Domain.{Domain}
 use Rattle.literals.specs.Decode.{RecordKind, kindOf, stopOf, extend, stopAt, Refusal, refuse, refuseAt, Decoded, refused, domain}
-use Rattle.literals.specs.Decode.{Reading, ReadTurn, goOn, finish, readRecord, readFound, readStep, Finished, readFrom, noDomain}
-use Rattle.literals.specs.Decode.{fromStart, maxFile, readFile, decode}
+use Rattle.literals.specs.Decode.{Reading, ReadTurn, goOn, finish, readRecord, readFound, readStep, readFrom, noDomain}
+use Rattle.literals.specs.Decode.{fromStart, maxFile, decode}
 
 -- ---- one turn of the loop
 
@@ -24,7 +24,7 @@ pub read-more : (fuel : ℕ) (s : List ℕ) (r q : Reading) → readStep s r ≡
 unfolding readFrom
 read-more fuel s r q e = rw (e, readFrom)
 
-pub read-done : (fuel : ℕ) (s : List ℕ) (r : Reading) (d : Decoded) → readStep s r ≡ finish d → readFrom (suc fuel) s r ≡ record { result = d; read = r .sofar }
+pub read-done : (fuel : ℕ) (s : List ℕ) (r : Reading) (d : Decoded) → readStep s r ≡ finish d → readFrom (suc fuel) s r ≡ d
 unfolding readFrom
 read-done fuel s r d e = rw (e, readFrom)
 
@@ -126,53 +126,42 @@ more-fuel-from k (suc fuel) s r h l = rw add-suc (go (λ q. more-fuel-from k fue
         read-more (k + fuel) s r q e ∙ ih q (f .within) (omega arith) ∙ sym (read-more fuel s r q e)
     go ih (finish d) e = read-done (k + fuel) s r d e ∙ sym (read-done fuel s r d e)
 
--- more fuel than `readFile` takes changes nothing: the fuel is a device and nothing else
+-- more fuel than `decode` takes changes nothing: the fuel is a device and nothing else
 pub more-fuel : (k : ℕ) (s : List ℕ) → readFrom (k + suc (length s)) s fromStart ≡ readFrom (suc (length s)) s fromStart
 more-fuel k s = more-fuel-from k (suc (length s)) s fromStart (omega arith) (omega arith)
 
 -- ---- what every record keeps, the domain of a file has
 
-module _ (P : Domain → Type 0) (keeps : (D : Domain) (k : RecordKind) (p : List ℕ) → P D → stopOf D k p ≡ 0 → P (extend D k p)) where
-  read-by : (fuel : ℕ) (s : List ℕ) (r : Reading) (D : Domain) → P (r .sofar) → readFrom fuel s r .result ≡ domain D → P D
+-- of an offset and the domain read until there
+module _ (P : ℕ → Domain → Type 0)
+    (keeps : (n : ℕ) (D : Domain) (k : RecordKind) (p : List ℕ) → P n D → stopOf D k p ≡ 0 → P (n + 4 + length p) (extend D k p)) where
+  read-by : (fuel : ℕ) (s : List ℕ) (r : Reading) (D : Domain) → r .at ≤ length s → P (r .at) (r .sofar) → readFrom fuel s r ≡ domain D
+      → (n : ℕ) × (n ≤ length s) × P n D
   unfolding readFrom
-  read-by zero s r D h e = let z : _≡_ {A = ℕ} 0 1 = cc in absurd (omega arith)
-  read-by (suc fuel) s r D h e = go (λ q k d. read-by fuel s q D k d) (readStep s r) refl e
+  read-by zero s r D w h e = let z : _≡_ {A = ℕ} 0 1 = cc in absurd (omega arith)
+  read-by (suc fuel) s r D w h e = go (λ q v k d. read-by fuel s q D v k d) (readStep s r) refl e
     where
-      go : ((q : Reading) → P (q .sofar) → readFrom fuel s q .result ≡ domain D → P D) → (t : ReadTurn) → readStep s r ≡ t
-          → elim t as (λ _. Finished) [ goOn next ↦ readFrom fuel s next | finish d ↦ record { result = d; read = r .sofar } ] .result ≡ domain D → P D
-      go ih (goOn q) t z = let g = goOn-at s r q t in ih q (rw (← (g .extends)) (keeps (r .sofar) (g .kind) (g .bytes) h (g .passes))) z
-      go ih (finish d) t z = rw (← (finish-sofar s r D (t ∙ ap finish z))) h
+      go : ((q : Reading) → q .at ≤ length s → P (q .at) (q .sofar) → readFrom fuel s q ≡ domain D → (n : ℕ) × (n ≤ length s) × P n D)
+          → (t : ReadTurn) → readStep s r ≡ t
+          → elim t as (λ _. Decoded) [ goOn next ↦ readFrom fuel s next | finish d ↦ d ] ≡ domain D
+          → (n : ℕ) × (n ≤ length s) × P n D
+      go ih (goOn q) t z =
+          let g = goOn-at s r q t in
+          let k = keeps (r .at) (r .sofar) (g .kind) (g .bytes) h (g .passes) in
+          ih q (g .within) (subst (λ (n : ℕ). P n (q .sofar)) (g .on) (subst (P (r .at + 4 + length (g .bytes))) (g .extends) k)) z
+      go ih (finish d) t z = (r .at, w, rw (← (finish-sofar s r D (t ∙ ap finish z))) h)
 
-  pub decoded-by : P noDomain → (f : List ℕ) (D : Domain) → decode f ≡ domain D → P D
-  unfolding decode readFile
-  decoded-by none f D e = go (ltb maxFile (length f)) e
+  pub decoded-at : P 0 noDomain → (f : List ℕ) (D : Domain) → decode f ≡ domain D → (n : ℕ) × (n ≤ length f) × P n D
+  unfolding decode
+  decoded-at none f D e = go (ltb maxFile (length f)) e
     where
-      go : (b : Bool) → elim b as (λ _. Finished) [ true ↦ record { result = refused (refuse 9 0); read = noDomain } | false ↦ readFrom (suc (length f)) f fromStart ] .result ≡ domain D → P D
+      go : (b : Bool)
+          → elim b as (λ _. Decoded) [ true ↦ refused (refuse 9 0) | false ↦ readFrom (suc (length f)) f fromStart ] ≡ domain D
+          → (n : ℕ) × (n ≤ length f) × P n D
       go true z = let y : _≡_ {A = ℕ} 0 1 = cc in absurd (omega arith)
-      go false z = read-by (suc (length f)) f fromStart D none z
+      go false z = read-by (suc (length f)) f fromStart D (omega arith) none z
 
--- ---- the domain that was read
-
--- where a file says a domain, that domain was read
-read-sofar : (fuel : ℕ) (s : List ℕ) (r : Reading) (D : Domain) → readFrom fuel s r .result ≡ domain D → readFrom fuel s r .read ≡ D
-unfolding readFrom
-read-sofar zero s r D e = let z : _≡_ {A = ℕ} 0 1 = cc in absurd (omega arith)
-read-sofar (suc fuel) s r D e = go (λ q. read-sofar fuel s q D) (readStep s r) refl e
-  where
-    by : ReadTurn → Finished
-    by t = elim t as (λ _. Finished) [ goOn next ↦ readFrom fuel s next | finish d ↦ record { result = d; read = r .sofar } ]
-
-    go : ((q : Reading) → readFrom fuel s q .result ≡ domain D → readFrom fuel s q .read ≡ D) → (t : ReadTurn) → readStep s r ≡ t → by t .result ≡ domain D → by t .read ≡ D
-    go ih (goOn q) t z = ih q z
-    go ih (finish d) t z = finish-sofar s r D (t ∙ ap finish z)
-
-pub read-is : (f : List ℕ) (D : Domain) → decode f ≡ domain D → readFile f .read ≡ D
-unfolding decode readFile
-read-is f D e = go (ltb maxFile (length f)) e
-  where
-    by : Bool → Finished
-    by b = elim b as (λ _. Finished) [ true ↦ record { result = refused (refuse 9 0); read = noDomain } | false ↦ readFrom (suc (length f)) f fromStart ]
-
-    go : (b : Bool) → by b .result ≡ domain D → by b .read ≡ D
-    go true z = let y : _≡_ {A = ℕ} 0 1 = cc in absurd (omega arith)
-    go false z = read-sofar (suc (length f)) f fromStart D z
+-- of the domain alone
+module _ (P : Domain → Type 0) (keeps : (D : Domain) (k : RecordKind) (p : List ℕ) → P D → stopOf D k p ≡ 0 → P (extend D k p)) where
+  pub decoded-by : P noDomain → (f : List ℕ) (D : Domain) → decode f ≡ domain D → P D
+  decoded-by none f D e = decoded-at (λ n D. P D) (λ n D k p. keeps D k p) none f D e .2

@@ -1,13 +1,13 @@
 -- The code that reads a file against its definition: what one record leads to, the loop over the file, and the answer. Assumes nothing.
 use mathlib.Core.Path.{_≡_, refl, sym, ap, ap₂, subst, _∙_}
-use mathlib.Core.Bool.{Bool, true, false, cond}
+use mathlib.Core.Bool.{Bool, true, false}
 use mathlib.Core.Logic.{inl, inr}
 use mathlib.Core.List.{List, [], _∷_, flatMap, append-nil}
 use Prim.Native.Nat.{ℕ, zero, suc, _+_, _-_, _*_, _≤_, _<_}
 use native.Mathlib.Omega.{arith}
 use lib.Dec.{eqb}
 use lib.ListN.{length, take, drop, replicate, length-append}
-use borrow.Author.Tests.{eqb-true, lt-ltb, le-ltb, eq-eqb, ne-eqb}
+use borrow.Author.Tests.{lt-ltb, le-ltb, eq-eqb, ne-eqb}
 use Rattle.records.specs.declared.Record.{Record}
 use Rattle.records.specs.declared.Record.the-variants.{Whole, Cut, End}
 use Rattle.records.specs.Record.{recordAt, payload}
@@ -19,20 +19,21 @@ use Rattle.literals.specs.Domain.{Action, Domain}
 use Rattle.literals.specs.Decode.{maxFile, maxLiterals, latest, RecordKind, relationRecord, actionRecord, literalRecord, componentRecord}
 use Rattle.literals.specs.Decode.{closingRecord, unknownRecord, kindOf, literalOf, withLiteral, actionOf, fieldStop, stopOf, stopPlace}
 use Rattle.literals.specs.Decode.{stopAt, extend, Refusal, refuse, refuseAt, Decoded, refused, domain, Reading, ReadTurn, goOn, finish}
-use Rattle.literals.specs.Decode.{readRecord, readFound, readStep, Finished, readFrom, noDomain, fromStart, readFile, decode}
+use Rattle.literals.specs.Decode.{readRecord, readFound, readStep, readFrom, noDomain, fromStart, decode}
 use Rattle.literals.specs.Table.{allLiterals, tableBytes, Bounded}
 use Rattle.literals.specs.Held.{headBytes}
 use Rattle.literals.proofs.Stops.{passes, literal-passes}
 use Rattle.literals.proofs.Held.{literals-snoc, literals-more, rows-few, rows-fewer}
+use Rattle.literals.proofs.Heads.{length-table}
 use Rattle.literals.proofs.Fills.{filled-none}
 use Rattle.literals.proofs.Refusals.{refusal-number}
 use Rattle.literals.proofs.Loop.{read-more, read-done, payload-length, goOn-at}
 use Rattle.reading.specs.declared.Progress.{Progress}
 use Rattle.reading.specs.declared.Refusal.{Refusal as FileRefusal}
 use Rattle.reading.specs.declared.read.Stepped.{Stepped}
-use Rattle.reading.specs.Held.{behind, HeldOver, RecordReady, Standing, atStart, LeadsTo, EnoughTable, StepReady, endedOf, tableAfter, ReadAs}
+use Rattle.reading.specs.Held.{behind, HeldOver, RecordReady, Standing, atStart, LeadsTo, EnoughTable, StepReady, endedOf}
+use Rattle.reading.specs.Held.{readUntil, readOf, tableAfter, ReadAs}
 use Rattle.reading.proofs.Takes.{behind-stop, behind-done, held-over}
-use Rattle.reading.proofs.Written.{length-table}
 
 -- ---- one record
 
@@ -176,13 +177,22 @@ module _ (s : List ℕ) (p : Progress) {old : List ℕ} {q : Reading} {head t : 
 
 -- ---- the loop
 
-read-short : (s : List ℕ) → length s ≤ maxFile → readFile s ≡ readFrom (suc (length s)) s fromStart
-unfolding readFile
-read-short s h = rw (le-ltb maxFile (length s) h, readFile)
+read-short : (s : List ℕ) → length s ≤ maxFile → (readFrom (suc (length s)) s fromStart ≡ decode s)
+    × (readUntil (suc (length s)) s fromStart ≡ readOf s)
+unfolding decode readOf
+read-short s h = (rw (le-ltb maxFile (length s) h, decode), rw (le-ltb maxFile (length s) h, readOf))
 
-read-long : (s : List ℕ) → maxFile < length s → readFile s ≡ record { result = refused (refuse 9 0); read = noDomain }
-unfolding readFile
-read-long s h = rw (lt-ltb maxFile (length s) h, readFile)
+read-long : (s : List ℕ) → maxFile < length s → (decode s ≡ refused (refuse 9 0)) × (readOf s ≡ noDomain)
+unfolding decode readOf
+read-long s h = (rw (lt-ltb maxFile (length s) h, decode), rw (lt-ltb maxFile (length s) h, readOf))
+
+until-more : (fuel : ℕ) (s : List ℕ) (r q : Reading) → readStep s r ≡ goOn q → readUntil (suc fuel) s r ≡ readUntil fuel s q
+unfolding readUntil
+until-more fuel s r q e = rw (e, readUntil)
+
+until-done : (fuel : ℕ) (s : List ℕ) (r : Reading) (d : Decoded) → readStep s r ≡ finish d → readUntil (suc fuel) s r ≡ r .sofar
+unfolding readUntil
+until-done fuel s r d e = rw (e, readUntil)
 
 table-none : (t : List ℕ) → t ≡ over (tableBytes noDomain) t
 unfolding over tableBytes allLiterals flatMap
@@ -190,13 +200,13 @@ table-none t = refl
 
 -- a file that is too long: nothing is read
 pub too-long : (s head t : List ℕ) → maxFile < length s → ReadAs (decode s) (record { number = 9; place = 0; start = 0 }) head t × (t ≡ tableAfter s t)
-unfolding decode tableAfter
+unfolding tableAfter
 too-long s head t h =
-    let e : decode s ≡ refused (refuse 9 0) = ap (λ (x : Finished). x .result) (read-long s h) in
-    let a : ReadAs (decode s) (record { number = 9; place = 0; start = 0 }) head t = rw e (refl, refl, refl, λ z. omega arith) in
-    (a, table-none t ∙ ap (λ (x : Finished). over (tableBytes (x .read)) t) (sym (read-long s h)))
+    let e = read-long s h in
+    let a : ReadAs (decode s) (record { number = 9; place = 0; start = 0 }) head t = rw (e .0) (refl, refl, refl, λ z. omega arith) in
+    (a, table-none t ∙ ap (λ (D : Domain). over (tableBytes D) t) (sym (e .1)))
 
--- where the loop stands: it has read a part of the file as `readFile` does, and the fuel that is left suffices
+-- where the loop stands: it has read a part of the file as `decode` does, and the fuel that is left suffices
 pub record Loop (s old : List ℕ) (p : Progress) (head t : List ℕ) : Type 0 where
   pub short : length s ≤ maxFile
   pub reading : Reading
@@ -205,7 +215,8 @@ pub record Loop (s old : List ℕ) (p : Progress) (head t : List ℕ) : Type 0 w
   pub within : reading .at ≤ length s
   pub left : ℕ
   pub enough : length s < reading .at + left
-  pub same : readFrom left s reading ≡ readFile s
+  pub same : readFrom left s reading ≡ decode s
+  pub until : readUntil left s reading ≡ readOf s
 
 pub begins : (s head t : List ℕ) (p : Progress) → p ≡ atStart → head ≡ replicate headBytes 0 → length s ≤ maxFile → Loop s t p head t
 unfolding over tableBytes allLiterals flatMap
@@ -218,7 +229,8 @@ begins s head t p e z h =
       within = omega arith;
       left = suc (length s);
       enough = omega arith;
-      same = sym (read-short s h);
+      same = read-short s h .0;
+      until = read-short s h .1;
     }
 
 -- the table is still as long, and a turn may come
@@ -253,12 +265,16 @@ module _ (s old : List ℕ) (p : Progress) (head t : List ℕ) (i : Loop s old p
       go (suc f) e = (f, e)
 
   -- what a record finishes with, the file says
-  ends : (d : Decoded) → readStep s (i .reading) ≡ finish d → readFile s ≡ record { result = d; read = i .reading .sofar }
-  ends d e = let f = fuel-left in sym (sym (read-done (f .0) s (i .reading) d e) ∙ ap (λ (m : ℕ). readFrom m s (i .reading)) (sym (f .1)) ∙ i .same)
-
   finishes : (d : Decoded) → readStep s (i .reading) ≡ finish d → decode s ≡ d
-  unfolding decode
-  finishes d e = ap (λ (x : Finished). x .result) (ends d e)
+  finishes d e =
+      let f = fuel-left in
+      sym (sym (read-done (f .0) s (i .reading) d e) ∙ ap (λ (m : ℕ). readFrom m s (i .reading)) (sym (f .1)) ∙ i .same)
+
+  -- and the domain until then is what was read of it
+  ends : (d : Decoded) → readStep s (i .reading) ≡ finish d → i .reading .sofar ≡ readOf s
+  ends d e =
+      let f = fuel-left in
+      sym (until-done (f .0) s (i .reading) d e) ∙ ap (λ (m : ℕ). readUntil m s (i .reading)) (sym (f .1)) ∙ i .until
 
   turned : o .number ≡ 0 → Turned
   turned z = go (readStep s (i .reading)) refl (step (i .reading) old (i .stands))
@@ -289,6 +305,7 @@ module _ (s old : List ℕ) (p : Progress) (head t : List ℕ) (i : Loop s old p
                   left = f .0;
                   enough = omega arith;
                   same = sym (read-more (f .0) s q n e) ∙ ap (λ (m : ℕ). readFrom m s q) (sym (f .1)) ∙ i .same;
+                  until = sym (until-more (f .0) s q n e) ∙ ap (λ (m : ℕ). readUntil m s q) (sym (f .1)) ∙ i .until;
                 };
             further = omega arith;
           }
@@ -310,10 +327,12 @@ module _ (s old : List ℕ) (p : Progress) (head t : List ℕ) (i : Loop s old p
   unfolding endedOf tableAfter
   loop-answer z r d = go (readStep s (i .reading)) refl (step (i .reading) old (i .stands))
     where
-      after : (x : Decoded) → readStep s (i .reading) ≡ finish x → t′ ≡ over (tableBytes (i .reading .sofar)) old → t′ ≡ over (tableBytes (readFile s .read)) old
-      after x e f = f ∙ ap (λ (y : Finished). over (tableBytes (y .read)) old) (sym (ends x e))
+      after : (x : Decoded) → readStep s (i .reading) ≡ finish x → t′ ≡ over (tableBytes (i .reading .sofar)) old
+          → t′ ≡ over (tableBytes (readOf s)) old
+      after x e f = f ∙ ap (λ (D : Domain). over (tableBytes D) old) (ends x e)
 
-      go : (n : ReadTurn) → readStep s (i .reading) ≡ n → LeadsTo old (i .reading) n o head′ t′ → ReadAs (decode s) r head′ t′ × (t′ ≡ over (tableBytes (readFile s .read)) old)
+      go : (n : ReadTurn) → readStep s (i .reading) ≡ n → LeadsTo old (i .reading) n o head′ t′
+          → ReadAs (decode s) r head′ t′ × (t′ ≡ over (tableBytes (readOf s)) old)
       go (goOn n) e h = absurd (z (h .0))
       go (finish (refused x)) e h =
           let n = refusal-number s x (finishes (refused x) e) .0 in

@@ -1,10 +1,10 @@
 -- How the code reads a domain file: what one record leads to, where reading stands, the answer. Assumes nothing.
 use mathlib.Core.Path.{_≡_}
-use mathlib.Core.Bool.{false, cond}
+use mathlib.Core.Bool.{true, false, cond}
 use mathlib.Core.Logic.{_⊎_}
 use mathlib.Core.List.{List}
-use Prim.Native.Nat.{ℕ, _+_, _*_, _≤_, _<_}
-use lib.Dec.{eqb}
+use Prim.Native.Nat.{ℕ, zero, suc, _+_, _*_, _≤_, _<_}
+use lib.Dec.{eqb, ltb}
 use lib.ListN.{length}
 use Rattle.records.specs.Memory.{over}
 use Rattle.reading.specs.declared.Progress.{Progress}
@@ -12,7 +12,7 @@ use Rattle.reading.specs.declared.Refusal.{Refusal as FileRefusal}
 use Rattle.reading.specs.declared.read.Stepped.{Stepped}
 use Rattle.literals.specs.Domain.{Domain}
 use Rattle.literals.specs.Decode.{maxFile, maxActions, maxLiterals, latest, RecordKind, stopOf, extend, Decoded, refused, domain, Reading}
-use Rattle.literals.specs.Decode.{ReadTurn, goOn, finish, readFile}
+use Rattle.literals.specs.Decode.{ReadTurn, goOn, finish, readStep, noDomain, fromStart}
 use Rattle.literals.specs.Table.{allLiterals, tableBytes}
 use Rattle.literals.specs.Held.{Filled, Held, headBytes}
 
@@ -87,12 +87,22 @@ endedOf o =
     cond (eqb (o .number) 1) (record { number = 0; place = 0; start = 0 })
     (record { number = o .number; place = o .place; start = o .progress .at })
 
+-- the domain that is read before reading ends, and that of a file
+unfoldable pub readUntil : ℕ → List ℕ → Reading → Domain
+unfolding readStep
+readUntil zero s r = r .sofar
+readUntil (suc fuel) s r = elim (readStep s r) [ goOn next ↦ readUntil fuel s next | finish d ↦ r .sofar ]
+
+unfoldable pub readOf : List ℕ → Domain
+unfolding readUntil
+readOf f = elim (ltb maxFile (length f)) [ true ↦ noDomain | false ↦ readUntil (suc (length f)) f fromStart ]
+
 -- the table afterwards: the literals that were read, the rest untouched
 unfoldable pub tableAfter : List ℕ → List ℕ → List ℕ
-unfolding readFile tableBytes over
-tableAfter f table = over (tableBytes (readFile f .read)) table
+unfolding readOf tableBytes over
+tableAfter f table = over (tableBytes (readOf f)) table
 
--- "9 to 23" as the definition has it, or the domain
+-- 9 to 27 as the definition has it, or the domain
 abbrev pub ReadAs : Decoded → FileRefusal → List ℕ → List ℕ → Type 0
 ReadAs (refused x) r head table = (r .number ≡ x .number) × (r .place ≡ x .place) × (r .start ≡ x .start) × (r .number ≡ 0 → ⊥)
 ReadAs (domain D) r head table = (r .number ≡ 0) × Held D head table × (length head ≡ headBytes)

@@ -1,10 +1,10 @@
 -- No total is above the number of the box's bytes: a file has at most as many moments as bytes. Assumes nothing.
-use mathlib.Core.Path.{_≡_, refl, ap, _∙_}
+use mathlib.Core.Path.{_≡_, refl, ap}
 use mathlib.Core.Bool.{Bool, true, false, cond}
 use mathlib.Core.Logic.{_⊎_, inl, inr}
 use mathlib.Core.List.{List, [], _∷_, _++_, map, flatMap, List·Memᴰ·head, List·Memᴰ·tail, List·Memᴰ·append-cases, Memᴰ·of-map}
 use mathlib.Core.Option.{Option, none, some}
-use Prim.Native.Nat.{ℕ, zero, suc, _+_, _*_, _≤_}
+use Prim.Native.Nat.{ℕ, suc, _+_, _*_, _≤_}
 use native.Mathlib.Omega.{arith}
 use lib.Dec.{eqb, ltb}
 use lib.ListN.{length, getD, length-append, length-map, List·getD-eq-default}
@@ -16,9 +16,10 @@ use Rattle.literals.specs.declared.Usage.{Usage}
 use Rattle.literals.specs.declared.Usage.the-variants.{Positive}
 use Rattle.literals.specs.declared.Role.{Role}
 use Rattle.literals.specs.Domain.{Atom, Fact, Literal, Action, Component, Domain, sameLiteral, noAction, action}
-use Rattle.literals.specs.Decode.{maxFile, RecordKind, relationRecord, actionRecord, literalRecord, componentRecord, closingRecord, unknownRecord, literalOf, actionOf, withLiteral, extend, refuse, Decoded, refused, domain, Reading, ReadTurn, goOn, finish, readStep, Finished, readFrom, noDomain, fromStart, readFile, decode}
+use Rattle.literals.specs.Decode.{RecordKind, relationRecord, actionRecord, literalRecord, componentRecord, closingRecord, unknownRecord}
+use Rattle.literals.specs.Decode.{literalOf, actionOf, withLiteral, extend, Decoded, refused, domain, decode}
 use Rattle.literals.specs.Table.{Bounded}
-use Rattle.literals.proofs.Loop.{goOn-at, finish-sofar}
+use Rattle.literals.proofs.Loop.{decoded-at}
 use Rattle.literals.proofs.Bounds.{decoded-bounded}
 use Rattle.literals.specs.declared.Moment.{Moment}
 use Rattle.literals.specs.declared.Moment.the-variants.{Start, End}
@@ -61,32 +62,11 @@ count-extend D closingRecord p = omega arith
 count-extend D unknownRecord p = omega arith
 
 -- each record takes four bytes or more
-count-from : (fuel : ℕ) (s : List ℕ) (r : Reading) (D : Domain) → r .at ≤ length s → 4 * literalCount (r .sofar .actions) ≤ r .at → readFrom fuel s r .result ≡ domain D
-    → 4 * literalCount (D .actions) ≤ length s
-unfolding readFrom
-count-from zero s r D w h e = let z : _≡_ {A = ℕ} 0 1 = cc in absurd (omega arith)
-count-from (suc fuel) s r D w h e = go (λ q v k d. count-from fuel s q D v k d) (readStep s r) refl e
-  where
-    go : ((q : Reading) → q .at ≤ length s → 4 * literalCount (q .sofar .actions) ≤ q .at → readFrom fuel s q .result ≡ domain D → 4 * literalCount (D .actions) ≤ length s)
-        → (t : ReadTurn) → readStep s r ≡ t
-        → elim t as (λ _. Finished) [ goOn next ↦ readFrom fuel s next | finish d ↦ record { result = d; read = r .sofar } ] .result ≡ domain D → 4 * literalCount (D .actions) ≤ length s
-    go ih (goOn q) t z =
-        let g = goOn-at s r q t in
-        let c = count-extend (r .sofar) (g .kind) (g .bytes) in
-        let f : literalCount (extend (r .sofar) (g .kind) (g .bytes) .actions) ≡ literalCount (q .sofar .actions) = ap (λ (E : Domain). literalCount (E .actions)) (g .extends) in
-        let o = g .on in
-        ih q (g .within) (omega arith) z
-    go ih (finish d) t z =
-        let f : literalCount (r .sofar .actions) ≡ literalCount (D .actions) = ap (λ (E : Domain). literalCount (E .actions)) (finish-sofar s r D (t ∙ ap finish z)) in omega arith
-
 literals-few : (f : List ℕ) (D : Domain) → decode f ≡ domain D → 4 * literalCount (D .actions) ≤ length f
-unfolding decode readFile
-literals-few f D e = go (ltb maxFile (length f)) e
-  where
-    go : (b : Bool) → elim b as (λ _. Finished) [ true ↦ record { result = refused (refuse 9 0); read = noDomain } | false ↦ readFrom (suc (length f)) f fromStart ] .result ≡ domain D
-        → 4 * literalCount (D .actions) ≤ length f
-    go true z = let y : _≡_ {A = ℕ} 0 1 = cc in absurd (omega arith)
-    go false z = count-from (suc (length f)) f fromStart D (omega arith) (omega arith) z
+literals-few f D e =
+    let r = decoded-at (λ n E. 4 * literalCount (E .actions) ≤ n) (λ n E k p h s. let c = count-extend E k p in omega arith) (omega arith) f D
+    e in
+    omega (arith, r .1, r .2)
 
 -- ---- rows and literals
 
