@@ -9,7 +9,7 @@ use lib.ListN.{length, getD, take, drop}
 use borrow.Author.Tests.{eqb-true, eq-eqb, ne-eqb}
 use Rattle.records.specs.Lists.{In, keepIf, filterBy, all, any, elem}
 use Rattle.records.proofs.Lists.{all-map, any-map}
-use Rattle.literals.specs.declared.Variable.{Variable}
+use Rattle.literals.specs.declared.Argument.{Argument}
 use Rattle.literals.specs.declared.Time.{Time}
 use Rattle.literals.specs.declared.Time.the-variants.{AtStart, OverAll, AtEnd}
 use Rattle.literals.specs.declared.Usage.{Usage}
@@ -32,25 +32,25 @@ use Rattle.literals.specs.Keys.{usageFor}
 use Rattle.store.specs.Index.{Indexed}
 use Rattle.events.specs.Held.{groundRow, Open, openOf, GroundFits, GroundsFit, timeOf}
 use Rattle.events.specs.Grounding.{GroundLiteral, groundLiterals, eventLiterals, groundIn, Grounded}
-use Rattle.applicability.specs.Conditions.{conditionMet}
+use Rattle.applicability.specs.Conditions.{conditionMet, plainlyMet, asksPattern, forbids}
 use Rattle.events.proofs.FactRows.{has-fact, countsFor, usage-counts, any-literals, all-literals, head-kept, noGround, open-count}
 use Rattle.events.proofs.Listed.{entry-fits, entry-row}
 
--- ---- one ground literal
+-- ---- one ground literal, by equal rows
 
 module _ (facts : List (List ℕ)) (l : GroundLiteral) where
-  pub met-true : l .usage ≡ 1 → (row : List ℕ) (r : Bool) → row ≡ l .row → r ≡ hasRow row facts → r ≡ conditionMet facts l
-  unfolding conditionMet
+  pub met-true : l .usage ≡ 1 → (row : List ℕ) (r : Bool) → row ≡ l .row → r ≡ hasRow row facts → r ≡ plainlyMet facts l
+  unfolding plainlyMet
   met-true e row r f g = rw (eq-eqb (l .usage) 1 e) (g ∙ ap (λ (x : List ℕ). hasRow x facts) f)
 
   pub met-false : (l .usage ≡ 1 → ⊥) → l .usage ≡ 2 → (row : List ℕ) (r : Bool) → row ≡ l .row → r ≡ hasRow row facts
-      → not r ≡ conditionMet facts l
-  unfolding conditionMet
+      → not r ≡ plainlyMet facts l
+  unfolding plainlyMet
   met-false n e row r f g =
       rw (ne-eqb (l .usage) 1 n, eq-eqb (l .usage) 2 e) (ap not (g ∙ ap (λ (x : List ℕ). hasRow x facts) f))
 
-  pub met-none : (l .usage ≡ 1 → ⊥) → (l .usage ≡ 2 → ⊥) → true ≡ conditionMet facts l
-  unfolding conditionMet
+  pub met-none : (l .usage ≡ 1 → ⊥) → (l .usage ≡ 2 → ⊥) → true ≡ plainlyMet facts l
+  unfolding plainlyMet
   met-none n o = rw (ne-eqb (l .usage) 1 n, ne-eqb (l .usage) 2 o)
 
 -- the row of one that is read, with the arity of its relation
@@ -66,10 +66,10 @@ with-role p (l ∷ ls) = go (p (l .role)) (with-role p ls)
   where
     go : (b : Bool) → withRole p ls ≡ map (λ (l : Literal). l .atom) (filterBy (λ (l : Literal). p (l .role)) ls)
         → keepIf b (l .atom) (withRole p ls) ≡ map (λ (l : Literal). l .atom) (keepIf b l (filterBy (λ (l : Literal). p (l .role)) ls))
-    go true h = ap (λ (x : List (Atom Variable)). l .atom ∷ x) h
+    go true h = ap (λ (x : List (Atom Argument)). l .atom ∷ x) h
     go false h = h
 
-module _ (p : Role → Bool) (q : Atom Variable → Bool) (ls : List Literal) where
+module _ (p : Role → Bool) (q : Atom Argument → Bool) (ls : List Literal) where
   pub all-role : all q (withRole p ls) ≡ all (λ (l : Literal). not (p (l .role)) || q (l .atom)) ls
   all-role =
       ap (all q) (with-role p ls)

@@ -1,11 +1,29 @@
 -- Conditions, by ground literals and the rows of facts. Assumes nothing.
-use mathlib.Core.Bool.{Bool, true, not, cond}
+use mathlib.Core.Bool.{Bool, true, _&&_, not, cond}
 use mathlib.Core.List.{List}
 use Prim.Native.Nat.{ℕ}
 use lib.Dec.{eqb}
+use Rattle.records.specs.Lists.{any}
+use Rattle.verdict.specs.Patterns.{patternsMeet}
 use Rattle.store.specs.Rows.{hasRow}
+use Rattle.events.specs.Held.{isPattern}
 use Rattle.events.specs.Grounding.{GroundLiteral}
 
--- a ground literal holds where it is a condition: a true one asks for its fact, a false one for its absence, an effect for nothing
+-- a ground literal holds where it is a condition: a true one asks for its fact, a false one that its row meet no fact's, an effect for
+-- nothing
 unfoldable pub conditionMet : List (List ℕ) → GroundLiteral → Bool
-conditionMet facts l = cond (eqb (l .usage) 1) (hasRow (l .row) facts) (cond (eqb (l .usage) 2) (not (hasRow (l .row) facts)) true)
+conditionMet facts l =
+    cond (eqb (l .usage) 1) (hasRow (l .row) facts) (cond (eqb (l .usage) 2) (not (any (patternsMeet (l .row)) facts)) true)
+
+-- the same by equal rows, which is all of it where the row is no pattern
+unfoldable pub plainlyMet : List (List ℕ) → GroundLiteral → Bool
+plainlyMet facts l = cond (eqb (l .usage) 1) (hasRow (l .row) facts) (cond (eqb (l .usage) 2) (not (hasRow (l .row) facts)) true)
+
+-- a false condition whose row is a pattern
+unfoldable pub asksPattern : GroundLiteral → Bool
+unfolding isPattern
+asksPattern l = eqb (l .usage) 2 && isPattern (l .row)
+
+-- a false condition that this fact's row meets
+unfoldable pub forbids : List ℕ → GroundLiteral → Bool
+forbids fact l = eqb (l .usage) 2 && patternsMeet (l .row) fact

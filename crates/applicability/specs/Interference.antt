@@ -1,11 +1,12 @@
--- Interference, by ground literals: two of one fact, told by its word, whose usages may not stand in two events. Assumes nothing.
+-- Interference, by ground literals: two about a fact in common, whose usages may not stand in two events. Assumes nothing.
 use mathlib.Core.Path.{_≡_}
-use mathlib.Core.Bool.{Bool, _&&_, not, cond}
+use mathlib.Core.Bool.{Bool, false, _&&_, not, cond}
 use mathlib.Core.List.{List}
 use Prim.Native.Nat.{ℕ, _<_}
 use lib.Dec.{eqb, ltb, leb}
 use lib.ListN.{getD}
-use Rattle.records.specs.Lists.{any}
+use Rattle.records.specs.Lists.{any, sameList}
+use Rattle.verdict.specs.Patterns.{patternsMeet}
 use Rattle.store.specs.Index.{wordOf}
 use Rattle.events.specs.Grounding.{GroundLiteral, groundAt}
 
@@ -13,13 +14,10 @@ use Rattle.events.specs.Grounding.{GroundLiteral, groundAt}
 unfoldable pub clashing : ℕ → ℕ → Bool
 clashing c d = cond (ltb c 3) (not (eqb c 0) && leb 3 d) (cond (ltb d 3) (not (eqb d 0)) (not (eqb c d)))
 
--- a ground literal clashes with one of this usage whose fact has this word; two ground literals clash
-unfoldable pub clashesWith : ℕ → ℕ → GroundLiteral → Bool
-unfolding clashing wordOf
-clashesWith usage word b = eqb (wordOf (b .row)) word && clashing usage (b .usage)
-
-abbrev pub clashes : GroundLiteral → GroundLiteral → Bool
-clashes a b = clashesWith (a .usage) (wordOf (a .row)) b
+-- two ground literals clash: their rows meet, and their usages clash
+unfoldable pub clashes : GroundLiteral → GroundLiteral → Bool
+unfolding clashing
+clashes a b = patternsMeet (a .row) (b .row) && clashing (a .usage) (b .usage)
 
 -- a ground literal of the first list clashes with one of the second
 abbrev pub literalsClash : List GroundLiteral → List GroundLiteral → Bool
@@ -28,3 +26,10 @@ literalsClash first later = any (λ a. any (clashes a) later) first
 -- these are the words of the first n ground literals of a memory
 abbrev pub WordsOf : ℕ → List ℕ → List ℕ → Type 0
 WordsOf n memory words = (i : ℕ) → i < n → getD words i 0 ≡ wordOf (groundAt memory i .row)
+
+-- two rows meet only where they are the same, unless there are patterns; any two of the first n ground literals of a memory
+abbrev pub ToldApart : Bool → List ℕ → List ℕ → Type 0
+ToldApart patterns p q = patterns ≡ false → patternsMeet p q ≡ sameList eqb p q
+
+abbrev pub AllToldApart : Bool → ℕ → List ℕ → Type 0
+AllToldApart patterns n memory = (i j : ℕ) → i < n → j < n → ToldApart patterns (groundAt memory i .row) (groundAt memory j .row)

@@ -1,18 +1,22 @@
 // Conditions: whether the facts meet what a step asks, by its ground literals.
 use events::GROUND;
+use events::facts::is_pattern;
 use events::grounding::CLAUSES;
 use events::grounding::ground_action;
 use literals::Time;
 use literals::head::Head;
 use literals::limits::MAX_RUNNING;
+use literals::row::arguments_meet;
 use store::index::FactIndex;
 use store::index::is_held;
 use store::rows::row_at;
 ghost use mathlib.Core.Path.{_≡_};
-ghost use mathlib.Core.List.{List, map};
-ghost use Prim.Native.Nat.{ℕ, _*_, _<_, _≤_};
+ghost use mathlib.Core.Bool.{true, not};
+ghost use mathlib.Core.List.{List, [], _∷_, map};
+ghost use Prim.Native.Nat.{ℕ, _+_, _*_, _<_, _≤_};
 ghost use lib.ListN.{length, take, drop};
-ghost use Rattle.records.specs.Lists.{all};
+ghost use Rattle.records.specs.Lists.{all, any};
+ghost use Rattle.literals.specs.declared.Object.{Object};
 ghost use Rattle.literals.specs.Domain.{Fact, Domain};
 ghost use Rattle.literals.specs.Decode.{byte};
 ghost use Rattle.literals.specs.Table.{rowsIn};
@@ -21,20 +25,20 @@ ghost use Rattle.run_semantics.specs.RunFile.{maxFacts, maxRunning};
 ghost use Rattle.verdict.specs.Machine.{GroundAction, Event, ownHold, overAllHold};
 ghost use Rattle.store.specs.Index.{Indexed};
 ghost use Rattle.store.specs.Rows.{factRow};
-ghost use Rattle.events.specs.Held.{groundBytes, openBytes, groundRow, openOf, GroundFits, GroundsFit};
-ghost use Rattle.events.specs.Grounding.{maxGround, groundedBytes, groundAt, groundIn, EachSized, Grounded};
-ghost use Rattle.applicability.specs.Conditions.{conditionMet};
+ghost use Rattle.events.specs.Held.{groundBytes, openBytes, groundRow, openOf, GroundFits, GroundsFit, Chosen, isPattern};
+ghost use Rattle.events.specs.Grounding.{GroundLiteral, maxGround, groundedBytes, groundAt, groundIn, EachSized, MeetSame, Grounded};
+ghost use Rattle.applicability.specs.Conditions.{conditionMet, plainlyMet, asksPattern, forbids};
 
-// Whether the first n rows of the work memory meet the ground literal i: a true condition asks for its fact, a false one for its absence,
-// an effect for nothing.
-fn condition_met(memory: &[u8], i: usize, index: &FactIndex, work: &[u8], n: usize) -> bool
+// Whether the first n rows of the work memory meet the ground literal i, by equal rows: a true condition asks for its fact, a false one for
+// its absence, an effect for nothing.
+fn plainly_met(memory: &[u8], i: usize, index: &FactIndex, work: &[u8], n: usize) -> bool
     requires memory { ⌜ length (now memory) ≡ groundedBytes ⌝ }
     requires literal { ⌜ i < maxGround ⌝ }
     requires few { ⌜ n ≤ maxFacts ⌝ }
     requires facts { ⌜ 8 * n ≤ length (now work) ⌝ }
     ensures { λ r. ⌜ ((head : List ℕ) → Indexed head (now (index .entry)) (rowsIn n (now (work .entry)))
         → byte (groundAt (now (memory .entry)) i .row) 1 ≡ arityIn head (byte (groundAt (now (memory .entry)) i .row) 0)
-        → r ≡ conditionMet (rowsIn n (now (work .entry))) (groundAt (now (memory .entry)) i)) ⌝ }
+        → r ≡ plainlyMet (rowsIn n (now (work .entry))) (groundAt (now (memory .entry)) i)) ⌝ }
 {
     let usage = memory[CLAUSES + i];
     if usage == 1 {
@@ -46,7 +50,89 @@ fn condition_met(memory: &[u8], i: usize, index: &FactIndex, work: &[u8], n: usi
     true
 }
 
-// Whether those rows meet the first `total` ground literals.
+// Whether they so meet the first `total` ground literals.
+fn all_plainly_met(memory: &[u8], total: usize, index: &FactIndex, work: &[u8], n: usize) -> bool
+    requires memory { ⌜ length (now memory) ≡ groundedBytes ⌝ }
+    requires total { ⌜ total ≤ maxGround ⌝ }
+    requires few { ⌜ n ≤ maxFacts ⌝ }
+    requires facts { ⌜ 8 * n ≤ length (now work) ⌝ }
+    ensures { λ r. ⌜ ((head : List ℕ) → Indexed head (now (index .entry)) (rowsIn n (now (work .entry)))
+        → EachSized head (groundIn total (now (memory .entry)))
+        → r ≡ all (plainlyMet (rowsIn n (now (work .entry)))) (groundIn total (now (memory .entry)))) ⌝ }
+{
+    for i in 0..total {
+        if !plainly_met(memory, i, index, work, n) {
+            return false;
+        }
+    }
+    true
+}
+
+// Whether there is a pattern among the false conditions.
+fn asks_pattern(memory: &[u8], total: usize) -> bool
+    requires memory { ⌜ length (now memory) ≡ groundedBytes ⌝ }
+    requires total { ⌜ total ≤ maxGround ⌝ }
+    ensures { λ r. ⌜ r ≡ any asksPattern (groundIn total (now (memory .entry))) ⌝ }
+{
+    for i in 0..total {
+        if memory[CLAUSES + i] == 2 {
+            if is_pattern(memory, 8 * i) {
+                return true;
+            }
+        }
+    }
+    false
+}
+
+// Whether the ground literal i is a false condition that the row at an offset of the work memory meets.
+fn forbids(memory: &[u8], i: usize, work: &[u8], at: usize) -> bool
+    requires memory { ⌜ length (now memory) ≡ groundedBytes ⌝ }
+    requires literal { ⌜ i < maxGround ⌝ }
+    requires fact { ⌜ at + 8 ≤ length (now work) ⌝ }
+    ensures { λ r. ⌜ r ≡ forbids (take 8 (drop at (now (work .entry)))) (groundAt (now (memory .entry)) i) ⌝ }
+{
+    if memory[CLAUSES + i] != 2 {
+        return false;
+    }
+    if memory[8 * i] != work[at] {
+        return false;
+    }
+    arguments_meet(memory, 8 * i, work, at)
+}
+
+// Whether one of the first `total` ground literals is.
+fn is_forbidden(memory: &[u8], total: usize, work: &[u8], at: usize) -> bool
+    requires memory { ⌜ length (now memory) ≡ groundedBytes ⌝ }
+    requires total { ⌜ total ≤ maxGround ⌝ }
+    requires fact { ⌜ at + 8 ≤ length (now work) ⌝ }
+    ensures { λ r. ⌜ r ≡ any (forbids (take 8 (drop at (now (work .entry))))) (groundIn total (now (memory .entry))) ⌝ }
+{
+    for i in 0..total {
+        if forbids(memory, i, work, at) {
+            return true;
+        }
+    }
+    false
+}
+
+// Whether one of the first n rows of the work memory meets a false condition: the facts are walked once, for all patterns together.
+fn any_forbidden(memory: &[u8], total: usize, work: &[u8], n: usize) -> bool
+    requires memory { ⌜ length (now memory) ≡ groundedBytes ⌝ }
+    requires total { ⌜ total ≤ maxGround ⌝ }
+    requires facts { ⌜ 8 * n ≤ length (now work) ⌝ }
+    ensures { λ r. ⌜ r ≡ any (λ fact. any (forbids fact) (groundIn total (now (memory .entry)))) (rowsIn n (now (work .entry))) ⌝ }
+{
+    let mut i = 0;
+    while i < n {
+        if is_forbidden(memory, total, work, 8 * i) {
+            return true;
+        }
+        i += 1;
+    }
+    false
+}
+
+// Whether they meet the first `total` ground literals: those without FF by the index, and only where there are patterns by a walk.
 fn conditions_met(memory: &[u8], total: usize, index: &FactIndex, work: &[u8], n: usize) -> bool
     requires memory { ⌜ length (now memory) ≡ groundedBytes ⌝ }
     requires total { ⌜ total ≤ maxGround ⌝ }
@@ -54,14 +140,17 @@ fn conditions_met(memory: &[u8], total: usize, index: &FactIndex, work: &[u8], n
     requires facts { ⌜ 8 * n ≤ length (now work) ⌝ }
     ensures { λ r. ⌜ ((head : List ℕ) → Indexed head (now (index .entry)) (rowsIn n (now (work .entry)))
         → EachSized head (groundIn total (now (memory .entry)))
+        → MeetSame (map (λ (l : GroundLiteral). l .row) (groundIn total (now (memory .entry)))) (rowsIn n (now (work .entry)))
+        → all (λ fact. not (isPattern fact)) (rowsIn n (now (work .entry))) ≡ true
         → r ≡ all (conditionMet (rowsIn n (now (work .entry)))) (groundIn total (now (memory .entry)))) ⌝ }
 {
-    for i in 0..total {
-        if !condition_met(memory, i, index, work, n) {
-            return false;
-        }
+    if !all_plainly_met(memory, total, index, work, n) {
+        return false;
     }
-    true
+    if !asks_pattern(memory, total) {
+        return true;
+    }
+    !any_forbidden(memory, total, work, n)
 }
 
 // Whether they meet the conditions of every event of a step at its own moment, whose ground literals are in the memory. (Over-all
@@ -73,7 +162,8 @@ pub fn events_met(memory: &[u8], total: usize, index: &FactIndex, work: &[u8], n
     requires facts { ⌜ 8 * n ≤ length (now work) ⌝ }
     ensures { λ r. ⌜ ((D : Domain) (head : List ℕ) (es : List Event) (fs : List Fact)
         → Grounded D head es (now (memory .entry)) total → rowsIn n (now (work .entry)) ≡ map factRow fs
-        → Indexed head (now (index .entry)) (map factRow fs) → r ≡ all (ownHold D fs) es) ⌝ }
+        → Indexed head (now (index .entry)) (map factRow fs) → (objs : List Object)
+        → Chosen D objs fs (map (λ (e : Event). e .ground) es) → r ≡ all (ownHold D objs fs) es) ⌝ }
 {
     conditions_met(memory, total, index, work, n)
 }
@@ -98,7 +188,8 @@ fn entry_met(
         → Held D (now (head .entry)) (now (table .entry)) → GroundFits D g
         → take groundBytes (drop (groundBytes * i) (now (rows .entry))) ≡ groundRow g
         → rowsIn n (now (work .entry)) ≡ map factRow fs
-        → Indexed (now (head .entry)) (now (index .entry)) (map factRow fs) → r ≡ overAllHold D fs g) ⌝ }
+        → Indexed (now (head .entry)) (now (index .entry)) (map factRow fs) → (objs : List Object)
+        → Chosen D objs fs (g ∷ []) → r ≡ overAllHold D objs fs g) ⌝ }
 {
     let at = GROUND * i;
     let end = at + GROUND;
@@ -125,7 +216,8 @@ pub fn open_met(
         → Held D (now (head .entry)) (now (table .entry))
         → record { count = count; rows = now (rows .entry) } ≡ openOf gs → GroundsFit D gs
         → length gs ≤ maxRunning → rowsIn n (now (work .entry)) ≡ map factRow fs
-        → Indexed (now (head .entry)) (now (index .entry)) (map factRow fs) → r ≡ all (overAllHold D fs) gs) ⌝ }
+        → Indexed (now (head .entry)) (now (index .entry)) (map factRow fs) → (objs : List Object)
+        → Chosen D objs fs gs → r ≡ all (overAllHold D objs fs) gs) ⌝ }
 {
     if MAX_RUNNING < count {
         return false;

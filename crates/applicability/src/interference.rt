@@ -1,23 +1,28 @@
-// Interference: whether two events of a step have literals of one fact that may not stand together.
+// Interference: whether two events of a step have literals about a fact in common that may not stand together.
+use events::facts::is_pattern;
 use events::grounding::CLAUSES;
 use events::grounding::COUNTS;
 use events::grounding::MAX_GROUND;
 use literals::limits::MAX_EVENTS;
+use literals::row::arguments_meet;
 use records::bytes::wide;
 use store::index::word_of;
 use store::rows::row_at;
 ghost use mathlib.Core.Path.{_≡_};
 ghost use mathlib.Core.Bool.{not};
-ghost use mathlib.Core.List.{List};
+ghost use mathlib.Core.List.{List, [], map};
 ghost use Prim.Native.Nat.{ℕ, _<_, _≤_};
 ghost use lib.ListN.{length, getD, drop};
 ghost use Rattle.records.specs.Lists.{any, pairwise};
+ghost use Rattle.literals.specs.declared.Object.{Object};
 ghost use Rattle.literals.specs.Domain.{Domain};
 ghost use Rattle.run_semantics.specs.RunFile.{maxEvents};
 ghost use Rattle.verdict.specs.Machine.{Event, independent};
+ghost use Rattle.verdict.specs.Patterns.{patternsMeet};
 ghost use Rattle.store.specs.Index.{wordOf};
+ghost use Rattle.events.specs.Held.{Chosen, isPattern};
 ghost use Rattle.events.specs.Grounding.{GroundLiteral, maxGround, groundedBytes, groundAt, groundIn, Laid, Grounded};
-ghost use Rattle.applicability.specs.Interference.{clashing, clashesWith, literalsClash, WordsOf};
+ghost use Rattle.applicability.specs.Interference.{clashing, clashes, literalsClash, WordsOf, ToldApart, AllToldApart};
 
 // Whether two usages of one fact may not stand in two events: a condition with an add or delete, an add with a delete.
 fn clashing(c: u8, d: u8) -> bool
@@ -47,31 +52,78 @@ fn put_words(words: &mut [u64], memory: &[u8], n: usize)
     }
 }
 
-// Whether the ground literal j clashes with one of this usage and word.
-fn clashes_at(memory: &[u8], words: &[u64], j: usize, usage: u8, word: u64) -> bool
+// Whether there is a pattern among the first n ground literals.
+fn has_pattern(memory: &[u8], n: usize) -> bool
     requires memory { ⌜ length (now memory) ≡ groundedBytes ⌝ }
-    requires words { ⌜ length (now words) ≡ maxGround ⌝ }
-    requires literal { ⌜ j < maxGround ⌝ }
-    requires worded { ⌜ getD (now words) j 0 ≡ wordOf (groundAt (now memory) j .row) ⌝ }
-    ensures { λ r. ⌜ r ≡ clashesWith usage word (groundAt (now (memory .entry)) j) ⌝ }
+    requires few { ⌜ n ≤ maxGround ⌝ }
+    ensures { λ r. ⌜ r ≡ any (λ (l : GroundLiteral). isPattern (l .row)) (groundIn n (now (memory .entry))) ⌝ }
 {
-    if words[j] != word {
-        return false;
+    for i in 0..n {
+        if is_pattern(memory, 8 * i) {
+            return true;
+        }
     }
-    clashing(usage, memory[CLAUSES + j])
+    false
 }
 
-// Whether one of the ground literals from `from` up to `to` clashes with one of this usage and word.
-fn clashes_from(memory: &[u8], words: &[u64], usage: u8, word: u64, from: usize, to: usize) -> bool
+// Whether the rows of the ground literals i and j meet. Most are told by their words; bytes are looked at where there are patterns.
+fn literals_meet(memory: &[u8], words: &[u64], patterns: bool, i: usize, j: usize) -> bool
+    requires memory { ⌜ length (now memory) ≡ groundedBytes ⌝ }
+    requires words { ⌜ length (now words) ≡ maxGround ⌝ }
+    requires literals { ⌜ (i < maxGround) × (j < maxGround) ⌝ }
+    requires worded { ⌜ (getD (now words) i 0 ≡ wordOf (groundAt (now memory) i .row))
+        × (getD (now words) j 0 ≡ wordOf (groundAt (now memory) j .row)) ⌝ }
+    ensures { λ r. ⌜ (ToldApart patterns (groundAt (now (memory .entry)) i .row) (groundAt (now (memory .entry)) j .row)
+        → r ≡ patternsMeet (groundAt (now (memory .entry)) i .row) (groundAt (now (memory .entry)) j .row)) ⌝ }
+{
+    if words[i] == words[j] {
+        return true;
+    }
+    if !patterns {
+        return false;
+    }
+    if memory[8 * i] != memory[8 * j] {
+        return false;
+    }
+    arguments_meet(memory, 8 * i, memory, 8 * j)
+}
+
+// Whether the ground literals i and j clash.
+fn clashes_at(memory: &[u8], words: &[u64], patterns: bool, i: usize, j: usize) -> bool
+    requires memory { ⌜ length (now memory) ≡ groundedBytes ⌝ }
+    requires words { ⌜ length (now words) ≡ maxGround ⌝ }
+    requires literals { ⌜ (i < maxGround) × (j < maxGround) ⌝ }
+    requires worded { ⌜ (getD (now words) i 0 ≡ wordOf (groundAt (now memory) i .row))
+        × (getD (now words) j 0 ≡ wordOf (groundAt (now memory) j .row)) ⌝ }
+    ensures { λ r. ⌜ (ToldApart patterns (groundAt (now (memory .entry)) i .row) (groundAt (now (memory .entry)) j .row)
+        → r ≡ clashes (groundAt (now (memory .entry)) i) (groundAt (now (memory .entry)) j)) ⌝ }
+{
+    if !literals_meet(memory, words, patterns, i, j) {
+        return false;
+    }
+    clashing(memory[CLAUSES + i], memory[CLAUSES + j])
+}
+
+// Whether the ground literal i clashes with one of those from `from` up to `to`.
+fn clashes_from(
+    memory: &[u8],
+    words: &[u64],
+    patterns: bool,
+    i: usize,
+    from: usize,
+    to: usize,
+) -> bool
     requires memory { ⌜ length (now memory) ≡ groundedBytes ⌝ }
     requires words { ⌜ length (now words) ≡ maxGround ⌝ }
     requires few { ⌜ to ≤ maxGround ⌝ }
+    requires literal { ⌜ i < to ⌝ }
     requires worded { ⌜ WordsOf to (now memory) (now words) ⌝ }
-    ensures { λ r. ⌜ r ≡ any (clashesWith usage word) (drop from (groundIn to (now (memory .entry)))) ⌝ }
+    ensures { λ r. ⌜ (AllToldApart patterns to (now (memory .entry))
+        → r ≡ any (clashes (groundAt (now (memory .entry)) i)) (drop from (groundIn to (now (memory .entry))))) ⌝ }
 {
     let mut j = from;
     while j < to {
-        if clashes_at(memory, words, j, usage, word) {
+        if clashes_at(memory, words, patterns, i, j) {
             return true;
         }
         j += 1;
@@ -80,18 +132,25 @@ fn clashes_from(memory: &[u8], words: &[u64], usage: u8, word: u64, from: usize,
 }
 
 // Whether one of the ground literals from `from` up to `to` clashes with one of those behind, up to `total`.
-fn literals_clash(memory: &[u8], words: &[u64], from: usize, to: usize, total: usize) -> bool
+fn literals_clash(
+    memory: &[u8],
+    words: &[u64],
+    patterns: bool,
+    from: usize,
+    to: usize,
+    total: usize,
+) -> bool
     requires memory { ⌜ length (now memory) ≡ groundedBytes ⌝ }
     requires words { ⌜ length (now words) ≡ maxGround ⌝ }
     requires few { ⌜ total ≤ maxGround ⌝ }
     requires order { ⌜ to ≤ total ⌝ }
     requires worded { ⌜ WordsOf total (now memory) (now words) ⌝ }
-    ensures { λ r. ⌜ r ≡ literalsClash (drop from (groundIn to (now (memory .entry))))
-        (drop to (groundIn total (now (memory .entry)))) ⌝ }
+    ensures { λ r. ⌜ (AllToldApart patterns total (now (memory .entry))
+        → r ≡ literalsClash (drop from (groundIn to (now (memory .entry)))) (drop to (groundIn total (now (memory .entry))))) ⌝ }
 {
     let mut i = from;
     while i < to {
-        if clashes_from(memory, words, memory[CLAUSES + i], words[i], to, total) {
+        if clashes_from(memory, words, patterns, i, to, total) {
             return true;
         }
         i += 1;
@@ -100,14 +159,14 @@ fn literals_clash(memory: &[u8], words: &[u64], from: usize, to: usize, total: u
 }
 
 // Whether no ground literal clashes with one of a later event. (The memory also has how many ground literals each event has.)
-fn all_apart(memory: &[u8], words: &[u64], count: usize, total: usize) -> bool
+fn all_apart(memory: &[u8], words: &[u64], patterns: bool, count: usize, total: usize) -> bool
     requires memory { ⌜ length (now memory) ≡ groundedBytes ⌝ }
     requires words { ⌜ length (now words) ≡ maxGround ⌝ }
     requires count { ⌜ count ≤ maxEvents ⌝ }
     requires few { ⌜ total ≤ maxGround ⌝ }
     requires worded { ⌜ WordsOf total (now memory) (now words) ⌝ }
     ensures { λ r. ⌜ ((parts : List (List GroundLiteral)) → length parts ≡ count → Laid parts (now (memory .entry)) total
-        → r ≡ pairwise (λ first later. not (literalsClash first later)) parts) ⌝ }
+        → AllToldApart patterns total (now (memory .entry)) → r ≡ pairwise (λ first later. not (literalsClash first later)) parts) ⌝ }
 {
     let mut from = 0;
     for i in 0..count {
@@ -115,7 +174,7 @@ fn all_apart(memory: &[u8], words: &[u64], count: usize, total: usize) -> bool
         if total < to {
             return false;
         }
-        if literals_clash(memory, words, from, to, total) {
+        if literals_clash(memory, words, patterns, from, to, total) {
             return false;
         }
         from = to;
@@ -123,12 +182,14 @@ fn all_apart(memory: &[u8], words: &[u64], count: usize, total: usize) -> bool
     true
 }
 
-// Whether no two of the events of a step interfere, whose ground literals stand in the memory; they are compared by their words.
+// Whether no two of the events of a step interfere, whose ground literals stand in the memory; they are compared by their words, and by
+// their bytes too where there are patterns.
 pub fn independent(memory: &[u8], count: usize, total: usize) -> bool
     requires memory { ⌜ length (now memory) ≡ groundedBytes ⌝ }
     requires few { ⌜ total ≤ maxGround ⌝ }
     ensures { λ r. ⌜ ((D : Domain) (head : List ℕ) (es : List Event) → Grounded D head es (now (memory .entry)) total
-        → length es ≡ count → length es ≤ maxEvents → r ≡ independent D es) ⌝ }
+        → length es ≡ count → length es ≤ maxEvents → (objs : List Object) → Chosen D objs [] (map (λ (e : Event). e .ground) es)
+        → r ≡ independent D objs es) ⌝ }
 {
     if MAX_EVENTS < count {
         return false;
@@ -138,5 +199,5 @@ pub fn independent(memory: &[u8], count: usize, total: usize) -> bool
     }
     let mut words = [0u64; MAX_GROUND];
     put_words(&mut words, memory, total);
-    all_apart(memory, &words, count, total)
+    all_apart(memory, &words, has_pattern(memory, total), count, total)
 }

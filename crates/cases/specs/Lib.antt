@@ -3,6 +3,7 @@ pub mod Written
 pub mod Samples
 pub mod Further
 pub mod FurtherRuns
+pub mod Clearing
 pub mod Refuted
 pub mod Boxes
 pub mod OneRelation

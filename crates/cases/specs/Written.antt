@@ -160,7 +160,7 @@ written b = b ++ lent (24 - length b)
 abbrev pub answers : ℕ → ℕ → ℕ → ℕ → List ℕ → List ℕ → AfterJudging
 answers n action class moment rows facts = leaves n action class moment (written rows) (written facts)
 
--- 9 to 25: a number with the offset of the record, or of the label, at fault, and nothing is written
+-- 9 to 27: a number with the offset of the record, or of the label, at fault, and nothing is written
 abbrev pub refuses : ℕ → ℕ → AfterJudging
 refuses n offset = leaves n offset 0 0 (lent 24) (lent 24)
 

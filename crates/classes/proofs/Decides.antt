@@ -3,7 +3,7 @@ use mathlib.Core.Path.{_≡_, refl, sym, ap, ap₂, _∙_}
 use mathlib.Core.Bool.{Bool, true, false, _&&_, _||_, not, cond}
 use mathlib.Core.Logic.{_⊎_, inl, inr}
 use mathlib.Core.List.{List, [], _++_, map, flatMap}
-use Prim.Native.Nat.{ℕ, suc, _+_, _-_, _≤_, _<_}
+use Prim.Native.Nat.{ℕ, suc, _+_, _-_, _*_, _≤_, _<_}
 use native.Mathlib.Omega.{arith}
 use lib.Dec.{eqb, leb}
 use lib.ListN.{length, getD, replicate, length-map, List·getD-append}
@@ -11,14 +11,18 @@ use borrow.Author.Tests.{eq-eqb, ne-eqb, eqb-true, eqb-false, le-leb, lt-leb, le
 use Rattle.records.specs.Lists.{In, filterBy, countBy, any, all, elem}
 use Rattle.records.proofs.Lists.{below-in, bool-cases, not-true, getD-in, all-in, any-map, all-map, any-append, count-filter}
 use Rattle.literals.specs.declared.Variable.{Variable}
+use Rattle.literals.specs.declared.Argument.{Argument}
+use Rattle.literals.specs.declared.Argument.the-variants.{Every}
 use Rattle.literals.specs.declared.Label.{Label}
 use Rattle.literals.specs.declared.Label.the-variants.{Key as keyed, Counted}
 use Rattle.literals.specs.declared.Time.the-variants.{OverAll}
 use Rattle.literals.specs.declared.Usage.{Usage}
 use Rattle.literals.specs.declared.Usage.the-variants.{Positive, Negative, Add, Delete}
 use Rattle.literals.specs.declared.Role.{Role}
-use Rattle.literals.specs.Domain.{Atom, sameLiteral, usageNumber, roleNumber, roleOf, sameTime, Literal, Action, Component, isCounted, keyBelow, keysOf, Domain}
-use Rattle.literals.specs.Decode.{labelOf}
+use Rattle.literals.specs.Domain.{isEvery, Atom, sameLiteral, meets, usageNumber, roleNumber, roleOf, sameTime, Literal, Action}
+use Rattle.literals.specs.Domain.{Component, isCounted, keyBelow, countedCleared, keysOf, Domain, arity}
+use Rattle.literals.specs.Decode.{argumentOf, labelOf}
+use Rattle.literals.proofs.Arguments.{every-number}
 use Rattle.literals.specs.Table.{literalRow, labelNumber, pad, Bounded as BoundedDomain}
 use Rattle.literals.specs.Held.{arityIn, componentRowIn, HeadOf}
 use Rattle.literals.proofs.Bytes.{keys-below}
@@ -29,12 +33,16 @@ use Rattle.literals.specs.declared.Moment.{Moment}
 use Rattle.literals.specs.declared.Moment.the-variants.{Start, End}
 use Rattle.classes.specs.declared.Name.the-variants.{Unreachable, Irrelevant, Heavy, Balanced, Unbalanced, Bounded, Unbounded}
 use Rattle.classes.specs.declared.Sole.{Sole}
-use Rattle.literals.specs.Matching.{required, tuplesOf}
-use Rattle.classes.specs.Classes.{belongs, classes, inClass, reachIn, lastsIn, deletedBy, changedBy, covered, excluding, nameBy, nameOf, journey}
+use Rattle.literals.specs.Matching.{required}
+use Rattle.classes.specs.Classes.{literalTuples, belongs, classes, inClass, reachIn, lastsIn, deletedBy, changedBy, covered}
+use Rattle.classes.specs.Classes.{excluding, nameBy, nameOf, journey}
 use Rattle.literals.specs.Keys.{position, below}
-use Rattle.classes.specs.Held.{ActionOf, MomentOf, classNumberBy, classNumbers, usagesAt, askedAt, uncoveredAt, isAt, isSameAt, sameIn, changedAt, excludesAt, coveredAt, lackingAt, lastsAt, soleBy, soleAt, soleOf, reachAt}
-use Rattle.literals.proofs.Indices.{at-all, any-below, filter-below, position-below, any-filter, all-filter, filter-filter, filter-map, any-or, position-map, position-none, getD-map}
-use Rattle.classes.proofs.Rows.{noLiteral, literalAt, kept-at, role-at, relation-at, atoms-at}
+use Rattle.classes.specs.Held.{ActionOf, MomentOf, classNumberBy, classNumbers, usagesAt, askedAt, uncoveredAt, isAt, isSameAt}
+use Rattle.classes.specs.Held.{sameIn, isDeleteAt, deletedIn, changedAt, excludesAt, clearedAt, clearsAt, coversAt, coveredAt}
+use Rattle.classes.specs.Held.{lackingAt, lastsAt, soleBy, soleAt, soleOf, reachAt}
+use Rattle.literals.proofs.Indices.{at-all, any-below, all-below, side-all, filter-below, position-below, any-filter, all-filter}
+use Rattle.literals.proofs.Indices.{filter-filter, filter-map, any-or, position-map, position-none, getD-map}
+use Rattle.classes.proofs.Rows.{noLiteral, literalAt, kept-at, role-at, relation-at, atoms-at, meet-at, argument-at}
 use Rattle.classes.proofs.Usages.{usages-few, literals-at, required-at, asked-start}
 use Rattle.classes.proofs.Roles.{own-few}
 use Rattle.classes.proofs.Members.{member}
@@ -84,13 +92,12 @@ module _ {D : Domain} {head : List ℕ} (H : HeadOf D head) (c : ℕ) (h : c < l
       ∙ List·getD-append ns (replicate (8 - suc (length ns)) 255) 0 i (omega arith)
       ∙ getD-map labelNumber (componentAt D c .labels) i Counted 0 g
 
-  part-counted : any (λ i. isCounted (labelOf (getD (componentRowIn head c) (1 + i) 0))) (below (arityIn head (getD (componentRowIn head c) 0 0))) ≡ any isCounted (componentAt D c .labels)
-  part-counted =
-      ap (λ (n : ℕ). any (λ i. isCounted (labelOf (getD (componentRowIn head c) (1 + i) 0))) (below n)) part-arity
-      ∙ any-below (λ i. isCounted (labelOf (getD (componentRowIn head c) (1 + i) 0))) (λ i. isCounted (getD ls i Counted)) (length ls)
-      (λ i g. ap (λ (b : ℕ). isCounted (labelOf b)) (part-label i g) ∙ counted-byte count (keys-few (D .template) (H .bounded .labels)) (getD ls i Counted) (all-in (keyBelow count) ls fits (getD-in ls i Counted g)))
-      ∙ sym (any-map (λ i. getD ls i Counted) isCounted (below (length ls)))
-      ∙ ap (any isCounted) (at-all Counted ls)
+  part-counted : (i : ℕ) → i < length (componentAt D c .labels)
+      → isCounted (labelOf (getD (componentRowIn head c) (1 + i) 0)) ≡ isCounted (getD (componentAt D c .labels) i Counted)
+  part-counted i g =
+      ap (λ (b : ℕ). isCounted (labelOf b)) (part-label i g)
+      ∙ counted-byte count (keys-few (D .template) (H .bounded .labels)) (getD ls i Counted)
+      (all-in (keyBelow count) ls fits (getD-in ls i Counted g))
     where
       ls : List Label
       ls = componentAt D c .labels
@@ -121,11 +128,17 @@ each-usage true p q r t = spread p (q || r) t ∙ ap (λ (b : Bool). (p && t) ||
     spread false s t = refl
 each-usage false p q r t = refl
 
+regroup : (o e t z w : Bool) → (t ≡ true → z ≡ w) → (o && (e && t)) && z ≡ o && (e && (t && w))
+regroup true true true z w h = h refl
+regroup true true false z w h = refl
+regroup true false t z w h = refl
+regroup false e t z w h = refl
+
 module _ (D : Domain) (a : Action) (B : BoundedDomain D) (i : In a (D .actions)) (m : Moment) (k : ℕ) (h : k < length (classes D a)) where
   abbrev n : ℕ
   n = length (a .lits)
 
-  abbrev atom : ℕ → Atom Variable
+  abbrev atom : ℕ → Atom Argument
   atom j = literalAt (a .lits) j .atom
 
   abbrev x : List Variable
@@ -141,7 +154,7 @@ module _ (D : Domain) (a : Action) (B : BoundedDomain D) (i : In a (D .actions))
   isMember usage = isAt (classNumbers D a) usages k usage
 
   -- of literals that are those with the usage d
-  class-members : (d : ℕ) (is : List ℕ) (ls : List (Atom Variable)) → ls ≡ map atom (filterBy (λ j. eqb (getD is j 0) d) (below n))
+  class-members : (d : ℕ) (is : List ℕ) (ls : List (Atom Argument)) → ls ≡ map atom (filterBy (λ j. eqb (getD is j 0) d) (below n))
       → filterBy (belongs D x) ls ≡ map atom (filterBy (isAt (classNumbers D a) (pad 64 is) k d) (below n))
   unfolding isAt
   class-members d is ls e =
@@ -181,13 +194,15 @@ module _ (D : Domain) (a : Action) (B : BoundedDomain D) (i : In a (D .actions))
       ∙ ap length (sym (in-class c))
 
   -- whether one passes a test
-  any-member : (c : Usage) (q : Atom Variable → Bool) → any q (inClass D a x m c) ≡ any (λ j. isMember (suc (usageNumber c)) j && q (atom j)) (below n)
+  any-member : (c : Usage) (q : Atom Argument → Bool) → any q (inClass D a x m c)
+      ≡ any (λ j. isMember (suc (usageNumber c)) j && q (atom j)) (below n)
   any-member c q =
       ap (any q) (in-class c)
       ∙ any-map atom q (filterBy (isMember (suc (usageNumber c))) (below n))
       ∙ any-filter (isMember (suc (usageNumber c))) (λ j. q (atom j)) (below n)
 
-  all-member : (c : Usage) (q : Atom Variable → Bool) → all q (inClass D a x m c) ≡ all (λ j. not (isMember (suc (usageNumber c)) j) || q (atom j)) (below n)
+  all-member : (c : Usage) (q : Atom Argument → Bool) → all q (inClass D a x m c)
+      ≡ all (λ j. not (isMember (suc (usageNumber c)) j) || q (atom j)) (below n)
   all-member c q =
       ap (all q) (in-class c)
       ∙ all-map atom q (filterBy (isMember (suc (usageNumber c))) (below n))
@@ -195,9 +210,9 @@ module _ (D : Domain) (a : Action) (B : BoundedDomain D) (i : In a (D .actions))
 
   length-numbers : length (classNumbers D a) ≡ n
   unfolding classNumbers
-  length-numbers = length-map (a .lits) (λ (l : Literal). classNumberBy (classes D a) (tuplesOf D (l .atom)))
+  length-numbers = length-map (a .lits) (λ (l : Literal). classNumberBy (classes D a) (literalTuples D (l .atom)))
 
-  kept-in : (l : Literal) → In l (a .lits) → Kept l
+  kept-in : (l : Literal) → In l (a .lits) → Kept D l
   kept-in l j = kept B i j
 
   same-in : (c : Usage) (j : ℕ) → j < n → sameIn rows (classNumbers D a) usages k (suc (usageNumber c)) j ≡ elem sameLiteral (atom j) (inClass D a x m c)
@@ -207,6 +222,14 @@ module _ (D : Domain) (a : Action) (B : BoundedDomain D) (i : In a (D .actions))
       ∙ any-below (isSameAt rows (classNumbers D a) usages k (suc (usageNumber c)) j) (λ l. isMember (suc (usageNumber c)) l && sameLiteral (atom j) (atom l)) n
       (λ l f. ap (λ (t : Bool). isMember (suc (usageNumber c)) l && t) (atoms-at (a .lits) kept-in j l g f))
       ∙ sym (any-member c (sameLiteral (atom j)))
+
+  deletes-in : (j : ℕ) → j < n → deletedIn rows (classNumbers D a) usages k j ≡ deletedBy (inClass D a x m Delete) (atom j)
+  unfolding deletedIn isDeleteAt
+  deletes-in j g =
+      ap (λ (l : ℕ). any (isDeleteAt rows (classNumbers D a) usages k j) (below l)) length-numbers
+      ∙ any-below (isDeleteAt rows (classNumbers D a) usages k j) (λ l. isMember 4 l && meets (atom l) (atom j)) n
+      (λ l f. ap (λ (t : Bool). isMember 4 l && t) (meet-at (a .lits) kept-in l j f g))
+      ∙ sym (any-member Delete (λ q. meets q (atom j)))
 
   sole-in : (c : Usage) → soleAt (classNumbers D a) usages k (suc (usageNumber c)) ≡ soleBy (isMember (suc (usageNumber c))) n
   unfolding soleAt
@@ -253,7 +276,7 @@ module _ (D : Domain) (a : Action) (B : BoundedDomain D) (i : In a (D .actions))
     place-less : place < n
     place-less = rw place-is (sole-less (isMember (suc (usageNumber c))) n few (λ e. some (sole-in c ∙ e)) (λ e. not-many (sole-in c ∙ e)))
 
-    all-one : (q : Atom Variable → Bool) → all q (inClass D a x m c) ≡ q (atom place)
+    all-one : (q : Atom Argument → Bool) → all q (inClass D a x m c) ≡ q (atom place)
     all-one q =
         all-member c q
         ∙ sole-all (isMember (suc (usageNumber c))) (λ j. q (atom j)) n place counted-one place-less
@@ -263,41 +286,71 @@ module _ (D : Domain) (a : Action) (B : BoundedDomain D) (i : In a (D .actions))
     pub changed-in : changedAt rows (classNumbers D a) usages k (soleAt (classNumbers D a) usages k 1 - 1) ≡ all (changedBy (inClass D a x m Add) (inClass D a x m Delete)) (inClass D a x m Positive)
     unfolding changedAt
     changed-in =
-        ap₂ _||_ (same-in Add (place Positive some not-many) (place-less Positive some not-many)) (same-in Delete (place Positive some not-many) (place-less Positive some not-many))
+        ap₂ _||_ (same-in Add (place Positive some not-many) (place-less Positive some not-many))
+        (deletes-in (place Positive some not-many) (place-less Positive some not-many))
         ∙ sym (all-one Positive some not-many (changedBy (inClass D a x m Add) (inClass D a x m Delete)))
 
-    pub deleted-in : sameIn rows (classNumbers D a) usages k 4 (soleAt (classNumbers D a) usages k 1 - 1) ≡ all (deletedBy (inClass D a x m Delete)) (inClass D a x m Positive)
-    deleted-in = same-in Delete (place Positive some not-many) (place-less Positive some not-many) ∙ sym (all-one Positive some not-many (deletedBy (inClass D a x m Delete)))
-
-  -- a relation among the false conditions, adds and deletes
-  excludes-in : (r : ℕ) → any (excludesAt rows (classNumbers D a) usages k r) (below (length (classNumbers D a))) ≡ any (λ (p : Atom Variable). eqb r (p .rel)) (excluding D a x m)
-  unfolding excludesAt excluding isAt
-  excludes-in r =
-      ap (λ (l : ℕ). any (excludesAt rows (classNumbers D a) usages k r) (below l)) length-numbers
-      ∙ any-below (excludesAt rows (classNumbers D a) usages k r) (λ j. with 2 j || (with 3 j || with 4 j)) n agree
-      ∙ sym (any-or (with 2) (λ j. with 3 j || with 4 j) (below n))
-      ∙ ap (λ (t : Bool). any (with 2) (below n) || t) (sym (any-or (with 3) (with 4) (below n)))
-      ∙ sym (any-append q (inClass D a x m Negative) (inClass D a x m Add ++ inClass D a x m Delete)
-      ∙ ap₂ _||_ (any-member Negative q) (any-append q (inClass D a x m Add) (inClass D a x m Delete) ∙ ap₂ _||_ (any-member Add q) (any-member Delete q)))
-    where
-      q : Atom Variable → Bool
-      q p = eqb r (p .rel)
-
-      with : ℕ → ℕ → Bool
-      with usage j = isMember usage j && q (atom j)
-
-      agree : (j : ℕ) → j < n → excludesAt rows (classNumbers D a) usages k r j ≡ with 2 j || (with 3 j || with 4 j)
-      agree j g =
-          let s : getD usages j 0 ≤ 4 = rw (pad-at 64 (usagesAt a m) j) (usages-few false a m j g) in
-          ap₂ (λ (e t : Bool). eqb (getD (classNumbers D a) j 0) k && (e && t)) (usage-excludes (getD usages j 0) s) (ap (eqb r) (relation-at (a .lits) kept-in j g))
-          ∙ each-usage (eqb (getD (classNumbers D a) j 0) k) (eqb (getD usages j 0) 2) (eqb (getD usages j 0) 3) (eqb (getD usages j 0) 4) (q (atom j))
+    pub deleted-in : deletedIn rows (classNumbers D a) usages k (soleAt (classNumbers D a) usages k 1 - 1)
+        ≡ all (deletedBy (inClass D a x m Delete)) (inClass D a x m Positive)
+    deleted-in = deletes-in (place Positive some not-many) (place-less Positive some not-many)
+        ∙ sym (all-one Positive some not-many (deletedBy (inClass D a x m Delete)))
 
   module _ {head : List ℕ} (H : HeadOf D head) where
-    covered-in : (c : ℕ) → c < length (D .template) → coveredAt head rows (classNumbers D a) usages k c ≡ covered (excluding D a x m) (componentAt D c)
-    unfolding coveredAt
+    -- a literal of the component's relation has FF in its counted place
+    clears-in : (c : ℕ) → c < length (D .template) → (j : ℕ) → j < n → eqb (componentAt D c .rel) (atom j .rel) ≡ true
+        → clearsAt head rows c j ≡ countedCleared (componentAt D c .labels) (atom j .args)
+    unfolding clearsAt
+    clears-in c g j f t =
+        ap (λ (w : ℕ). all (clearedAt head rows c j) (below w)) (part-arity H c g)
+        ∙ all-below (clearedAt head rows c j) (λ i. not (isCounted (getD ls i Counted)) || isEvery (getD vs i Every)) (length ls)
+        (λ i w. ap₂ (λ (s t : Bool). not s || t) (part-counted H c g i w)
+        (ap (λ (b : ℕ). isEvery (argumentOf b)) (argument-at (a .lits) kept-in j i f (omega (arith, sized)))
+        ∙ every-number vs (kept-in (literalAt (a .lits) j) there .variables) (getD vs i Every) (getD-in vs i Every (omega (arith, sized)))))
+        ∙ side-all (λ l v. not (isCounted l) || isEvery v) Counted Every ls vs sized
+      where
+        ls : List Label
+        ls = componentAt D c .labels
+
+        vs : List Argument
+        vs = atom j .args
+
+        there : In (literalAt (a .lits) j) (a .lits)
+        there = getD-in (a .lits) j noLiteral f
+
+        sized : length ls ≡ length vs
+        sized =
+            H .bounded .componentArity (componentAt D c) (here H c g)
+            ∙ ap (arity D) (eqb-true (componentAt D c .rel) (atom j .rel) t)
+            ∙ sym (kept-in (literalAt (a .lits) j) there .arguments)
+
+    covered-in : (c : ℕ) → c < length (D .template)
+        → coveredAt head rows (classNumbers D a) usages k c ≡ covered (excluding D a x m) (componentAt D c)
+    unfolding coveredAt coversAt excludesAt excluding isAt
     covered-in c g =
-        ap₂ (λ (s t : Bool). not s && t) (part-counted H c g)
-        (ap (λ (r : ℕ). any (excludesAt rows (classNumbers D a) usages k r) (below (length (classNumbers D a)))) (part-relation H c g) ∙ excludes-in (componentAt D c .rel))
+        ap (λ (l : ℕ). any (coversAt head rows (classNumbers D a) usages k c) (below l)) length-numbers
+        ∙ any-below (coversAt head rows (classNumbers D a) usages k c) (λ j. with 2 j || (with 3 j || with 4 j)) n agree
+        ∙ sym (any-or (with 2) (λ j. with 3 j || with 4 j) (below n))
+        ∙ ap (λ (t : Bool). any (with 2) (below n) || t) (sym (any-or (with 3) (with 4) (below n)))
+        ∙ sym (any-append q (inClass D a x m Negative) (inClass D a x m Add ++ inClass D a x m Delete)
+        ∙ ap₂ _||_ (any-member Negative q)
+        (any-append q (inClass D a x m Add) (inClass D a x m Delete) ∙ ap₂ _||_ (any-member Add q) (any-member Delete q)))
+      where
+        q : Atom Argument → Bool
+        q p = eqb (componentAt D c .rel) (p .rel) && countedCleared (componentAt D c .labels) (p .args)
+
+        with : ℕ → ℕ → Bool
+        with usage j = isMember usage j && q (atom j)
+
+        agree : (j : ℕ) → j < n → coversAt head rows (classNumbers D a) usages k c j ≡ with 2 j || (with 3 j || with 4 j)
+        agree j f =
+            let s : getD usages j 0 ≤ 4 = rw (pad-at 64 (usagesAt a m) j) (usages-few false a m j f) in
+            ap₂ (λ (e t : Bool). (eqb (getD (classNumbers D a) j 0) k && (e && t)) && clearsAt head rows c j)
+            (usage-excludes (getD usages j 0) s) (ap₂ eqb (part-relation H c g) (relation-at (a .lits) kept-in j f))
+            ∙ regroup (eqb (getD (classNumbers D a) j 0) k) (excludes (getD usages j 0)) (eqb (componentAt D c .rel) (atom j .rel))
+            (clearsAt head rows c j) (countedCleared (componentAt D c .labels) (atom j .args)) (clears-in c g j f)
+            ∙ each-usage (eqb (getD (classNumbers D a) j 0) k) (eqb (getD usages j 0) 2) (eqb (getD usages j 0) 3)
+            (eqb (getD usages j 0) 4)
+            (q (atom j))
 
     uncovered-in : lackingAt head rows (classNumbers D a) usages k ≡ uncoveredAt D a x m
     unfolding uncoveredAt lackingAt
@@ -371,10 +424,10 @@ module _ {D : Domain} {a : Action} {m : Moment} {head rows numbers usages : List
         (λ t. changedAt (M .whole .literals t) (M .numbers-are t) (M .usages-are t) k (conditions-are t - 1))
         ∙ changed-in D a (its-bounds M) (M .whole .listed) m k h (λ w. some (conditions-are ∙ w)) (λ w. few (conditions-are ∙ w))
 
-    pub deleted-held : sameIn rows numbers usages k 4 (sole .conditions - 1)
+    pub deleted-held : deletedIn rows numbers usages k (sole .conditions - 1)
         ≡ all (deletedBy (inClass D a (getD (classes D a) k []) m Delete)) (inClass D a (getD (classes D a) k []) m Positive)
     deleted-held =
-        (λ t. sameIn (M .whole .literals t) (M .numbers-are t) (M .usages-are t) k 4 (conditions-are t - 1))
+        (λ t. deletedIn (M .whole .literals t) (M .numbers-are t) (M .usages-are t) k (conditions-are t - 1))
         ∙ deleted-in D a (its-bounds M) (M .whole .listed) m k h (λ w. some (conditions-are ∙ w)) (λ w. few (conditions-are ∙ w))
 
 -- where the only condition stands, a loop may look
@@ -387,7 +440,8 @@ sole-inside numbers usages class h e some few =
 
 -- ---- whether a class has an over-all literal
 
-lasts-byte : (l : Literal) → Kept l → sameTime OverAll (roleOf (roleNumber (l .role)) .time) ≡ sameTime OverAll (l .role .time)
+lasts-byte : {D : Domain} (l : Literal) → Kept D l → sameTime OverAll (roleOf (roleNumber (l .role)) .time) ≡ sameTime OverAll
+    (l .role .time)
 lasts-byte l k = ap (λ (r : Role). sameTime OverAll (r .time)) (k .back)
 
 pub lasts-held : {D : Domain} {a : Action} {head rows numbers : List ℕ} → ActionOf D a head rows → numbers ≡ classNumbers D a → {k : ℕ} → k < length (classes D a)

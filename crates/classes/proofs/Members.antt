@@ -5,16 +5,17 @@ use mathlib.Core.List.{List, [], _∷_, flatMap}
 use Prim.Native.Nat.{ℕ, zero, suc, _≤_, _<_}
 use native.Mathlib.Omega.{arith}
 use lib.Dec.{eqb, eqb·zero-suc, eqb·suc-zero, eqb·suc-suc}
-use lib.ListN.{length, getD}
+use lib.ListN.{length, getD, length-map}
 use borrow.Author.Tests.{eqb-true, ne-eqb}
 use Rattle.records.specs.Lists.{In, keepIf, any, all, distinct, sameList}
 use Rattle.records.proofs.Lists.{and-l, and-r, not-true, eqb-comm, all-in, getD-in, distinct-dedup, dedup-few, flat-few}
 use Rattle.literals.specs.declared.Variable.{Variable}
-use Rattle.literals.specs.Domain.{sameVariable, Atom, Literal, Action, Component, keysOf, Domain}
+use Rattle.literals.specs.declared.Argument.{Argument}
+use Rattle.literals.specs.Domain.{sameVariable, variablesOf, Atom, Literal, Action, Component, keysOf, Domain}
 use Rattle.literals.specs.Table.{Bounded}
 use Rattle.literals.proofs.Equality.{variables-eq}
-use Rattle.literals.specs.Matching.{isOf, keyTuple, tuplesBy, tuplesOf, hasTuple}
-use Rattle.classes.specs.Classes.{belongs, classes}
+use Rattle.literals.specs.Matching.{isOf, keyTuple, tuplesBy, tuplesOf}
+use Rattle.classes.specs.Classes.{literalTuples, belongs, classes}
 use Rattle.literals.specs.Keys.{position}
 use Rattle.classes.specs.Held.{classNumberBy, classNumbers}
 use Rattle.literals.proofs.Indices.{getD-map}
@@ -25,7 +26,7 @@ use Rattle.classes.proofs.Rows.{noLiteral, literalAt}
 abbrev sameRelation : Component → Component → Bool
 sameRelation c d = eqb (c .rel) (d .rel)
 
-module _ (n : ℕ) (f : Atom Variable) where
+module _ {A : Type 0} (n : ℕ) (f : Atom A) where
   -- of components that have another relation
   tuples-none : (c : Component) (cs : List Component) → all (λ d. not (sameRelation c d)) cs ≡ true → c .rel ≡ f .rel → length (tuplesBy n cs f) ≡ 0
   tuples-none c [] h e = refl
@@ -40,17 +41,17 @@ module _ (n : ℕ) (f : Atom Variable) where
       go true e r = let k = tuples-none c cs (and-l _ _ h) (eqb-true (c .rel) (f .rel) (and-l _ _ e)) in omega arith
       go false e r = r
 
-pub tuple-once : (D : Domain) → Bounded D → (f : Atom Variable) → length (tuplesOf D f) ≤ 1
-unfolding tuplesOf
-tuple-once D B f = tuples-few (keysOf (D .template)) f (D .template) (B .componentsOnce)
+pub tuple-once : (D : Domain) → Bounded D → (f : Atom Argument) → length (literalTuples D f) ≤ 1
+unfolding literalTuples tuplesOf
+tuple-once D B f = rw (length-map (tuplesOf D f) variablesOf) (tuples-few (keysOf (D .template)) f (D .template) (B .componentsOnce))
 
 -- ---- there are at most as many classes as literals
 
 pub classes-few : (D : Domain) (a : Action) → Bounded D → length (classes D a) ≤ length (a .lits)
 unfolding classes
 classes-few D a B =
-    let h = flat-few (λ (l : Literal). tuplesOf D (l .atom)) (a .lits) (λ l. tuple-once D B (l .atom)) in
-    let g = dedup-few (sameList sameVariable) (flatMap (λ (l : Literal). tuplesOf D (l .atom)) (a .lits)) in
+    let h = flat-few (λ (l : Literal). literalTuples D (l .atom)) (a .lits) (λ l. tuple-once D B (l .atom)) in
+    let g = dedup-few (sameList sameVariable) (flatMap (λ (l : Literal). literalTuples D (l .atom)) (a .lits)) in
     omega arith
 
 -- ---- the place of an element that stands once
@@ -75,15 +76,15 @@ module _ {A : Type 0} (eq : A → A → Bool) (sound : (a b : A) → eq a b ≡ 
 
 pub classes-distinct : (D : Domain) (a : Action) → distinct (sameList sameVariable) (classes D a) ≡ true
 unfolding classes
-classes-distinct D a = distinct-dedup (sameList sameVariable) (flatMap (λ (l : Literal). tuplesOf D (l .atom)) (a .lits))
+classes-distinct D a = distinct-dedup (sameList sameVariable) (flatMap (λ (l : Literal). literalTuples D (l .atom)) (a .lits))
 
 -- a literal has the number of a class exactly where it belongs to it
 pub member : {D : Domain} {a : Action} (k : ℕ) → Bounded D → In a (D .actions) → k < length (classes D a) → (j : ℕ) → j < length (a .lits)
     → eqb (getD (classNumbers D a) j 0) k ≡ belongs D (getD (classes D a) k []) (literalAt (a .lits) j .atom)
-unfolding classNumbers hasTuple
+unfolding classNumbers
 member {D} {a} k B i h j g =
-    ap (λ (n : ℕ). eqb n k) (getD-map (λ (l : Literal). classNumberBy (classes D a) (tuplesOf D (l .atom))) (a .lits) j noLiteral 0 g)
-    ∙ by-tuple (tuplesOf D (literalAt (a .lits) j .atom)) (tuple-once D B (literalAt (a .lits) j .atom))
+    ap (λ (n : ℕ). eqb n k) (getD-map (λ (l : Literal). classNumberBy (classes D a) (literalTuples D (l .atom))) (a .lits) j noLiteral 0 g)
+    ∙ by-tuple (literalTuples D (literalAt (a .lits) j .atom)) (tuple-once D B (literalAt (a .lits) j .atom))
   where
     few : k < 255
     few = let s = classes-few D a B in let t = B .sizes a i in omega arith

@@ -22,8 +22,8 @@ use Rattle.literals.proofs.Equality.{variables-eq, variables-self}
 use Rattle.literals.proofs.Tables.{kept, length-literals}
 use Rattle.literals.proofs.Held.{keys-few}
 use Rattle.classes.specs.declared.number.Numbered.{Numbered}
-use Rattle.literals.specs.Matching.{tuplesOf, hasTuple}
-use Rattle.classes.specs.Classes.{belongs, classes}
+use Rattle.literals.specs.Matching.{tuplesOf}
+use Rattle.classes.specs.Classes.{literalTuples, belongs, classes}
 use Rattle.literals.specs.Keys.{position, keyRows, keyRowsIn, rowWord, keyWordsIn}
 use Rattle.classes.specs.Held.{ActionOf, rowAt, classNumberBy, classNumbers, tupleRow, onlyRow, numberedBy, wordsAfter}
 use Rattle.classes.proofs.Rows.{noLiteral, literalAt, row-at}
@@ -35,7 +35,7 @@ or-none true t = refl
 or-none false t = t
 
 abbrev pub tuples : Domain → Literal → List (List Variable)
-tuples D l = tuplesOf D (l .atom)
+tuples D l = literalTuples D (l .atom)
 
 -- the classes and the class numbers of these literals, as the code holds them
 pub record Numbered-by (D : Domain) (ls : List Literal) (numbers₀ numbers′ words₀ words : List ℕ) (count : ℕ) : Type 0 where
@@ -56,15 +56,20 @@ module _ {D : Domain} {a : Action} {head rows : List ℕ} (A : ActionOf D a head
   fits c m = record { arguments = B .componentArity c m; keys = keys-once _ _ (B .keysFit c m) }
 
   pub one : (l : Literal) → In l (a .lits) → One (keysOf (D .template)) (tuples D l)
-  unfolding tuplesOf
-  one l m = tuples-one D (keysOf (D .template)) few-keys l (B .literalArity a (A .listed) l m) (λ v k. let b = B .variables a (A .listed) l m v k in omega arith) (D .template) fits (B .componentsOnce)
+  unfolding literalTuples tuplesOf
+  one l m =
+      tuples-one D (keysOf (D .template)) few-keys l (B .literalArity a (A .listed) l m)
+      (λ v k. let b = B .variables a (A .listed) l m v k in omega arith) (D .template) fits (B .keysKept a (A .listed) l m)
+      (B .componentsOnce)
 
   -- the key tuples of a literal, by the bytes of the index
   pub tuples-are : (l : Literal) → In l (a .lits) → keyRowsIn head (literalRow l) ≡ map tupleRow (tuples D l)
-  unfolding tuplesOf keyRowsIn
+  unfolding literalTuples tuplesOf keyRowsIn
   tuples-are l m =
       ap₂ (λ (k : ℕ) (ps : List (List ℕ)). keyRows k ps (literalRow l)) (A .says .keys) (A .says .componentRows)
-      ∙ tuples-rows D (keysOf (D .template)) few-keys l (B .literalArity a (A .listed) l m) (D .template) fits (B .componentsOnce)
+      ∙ tuples-rows D (keysOf (D .template)) few-keys l (B .literalArity a (A .listed) l m) (D .template) fits
+      (B .keysKept a (A .listed) l m)
+      (B .componentsOnce)
 
   -- and as numbers
   its-words : (l : Literal) → In l (a .lits) → keyWordsIn head (literalRow l) ≡ map tupleWord (tuples D l)
@@ -211,7 +216,7 @@ module _ {D : Domain} {a : Action} {head rows numbers′ : List ℕ} (A : Action
 
   -- a literal with its number has its tuple
   pub tuple-found : (j : ℕ) → 8 * j < length rows → getD numbers′ j 0 ≡ k → onlyRow (keyRowsIn head (take 8 (drop (8 * j) rows))) ≡ tupleRow its-tuple
-  unfolding hasTuple
+  unfolding literalTuples
   tuple-found j g q =
       ap (λ (t : List ℕ). onlyRow (keyRowsIn head t)) (row-of A j inside)
       ∙ ap onlyRow (tuples-are A x (getD-in (a .lits) j noLiteral inside))
@@ -231,13 +236,13 @@ module _ {D : Domain} {a : Action} {head rows numbers′ : List ℕ} (A : Action
 
   -- every class has such a literal
   pub tuple-somewhere : ((j : ℕ) → j < length numbers′ → eqb (getD numbers′ j 0) k ≡ false) → ⊥
-  unfolding classes classNumbers hasTuple
+  unfolding classes classNumbers literalTuples
   tuple-somewhere none =
       let d = dedup-in (sameList sameVariable) (flatMap (tuples D) (a .lits)) (getD-in (classes D a) k [] h) in
       let f = flatMap-in (tuples D) (a .lits) d in
       let i = in-getD (a .lits) noLiteral (f .1) in
       let inside = i .1 in
-      let n = ap length e ∙ length-map (a .lits) (λ (l : Literal). classNumberBy (classes D a) (tuplesOf D (l .atom))) in
+      let n = ap length e ∙ length-map (a .lits) (λ (l : Literal). classNumberBy (classes D a) (literalTuples D (l .atom))) in
       let w : i .0 < length numbers′ = omega arith in
       clash (told (i .0) inside ∙ ap (λ (y : Literal). belongs D its-tuple (y .atom)) (i .2) ∙ in-any (λ t. sameList sameVariable t its-tuple) (f .2) (variables-self its-tuple)) (none (i .0) w)
 

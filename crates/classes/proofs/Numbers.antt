@@ -1,6 +1,6 @@
 -- The numbers of an action's classes, literal by literal: what the loops over rows find in a domain. Assumes nothing.
 use mathlib.Core.Path.{_≡_, refl, sym, ap, ap₂, subst, _∙_}
-use mathlib.Core.Bool.{Bool, true, false, _&&_, _||_, not, cond}
+use mathlib.Core.Bool.{Bool, true, false, _&&_, _||_, not, cond, false≢true}
 use mathlib.Core.Logic.{_⊎_, inl, inr}
 use mathlib.Core.List.{List, [], _∷_, _++_, map, flatMap, map-append, append-nil, List·Memᴰ·head, List·Memᴰ·tail, List·Memᴰ·not-nil, List·Memᴰ·eq-of-singleton, List·Memᴰ·append-cases}
 use Prim.Native.Nat.{ℕ, zero, suc, _+_, _-_, _*_, _≤_, _<_}
@@ -14,11 +14,16 @@ use Rattle.records.specs.Memory.{over}
 use Rattle.records.proofs.Lists.{and-l, and-r, bool-cases, clash, not-true, all-in, eqb-comm, eqb-same, in-keepIf, in-elem, in-dedup, dedup-in, flatMap-in, in-flatMap, flatMap-append, dedup-snoc}
 use Rattle.records.proofs.Memory.{over-more}
 use Rattle.literals.specs.declared.Variable.{Variable}
+use Rattle.literals.specs.declared.Argument.{Argument}
+use Rattle.literals.specs.declared.Argument.the-variants.{Variable as bound, Every}
 use Rattle.literals.specs.declared.Key.{Key}
 use Rattle.literals.specs.declared.Label.{Label}
 use Rattle.literals.specs.declared.Label.the-variants.{Key as keyed, Counted}
-use Rattle.literals.specs.Domain.{key, sameVariable, Literal, Component, isKey, eachKeyOnce, Domain, arity}
-use Rattle.literals.specs.Table.{rowOf, literalRow, labelNumber, componentRow}
+use Rattle.literals.specs.Domain.{key, sameVariable, variablesOf, Literal, Component, isKey, isCounted, keysBound, keepsKeys, eachKeyOnce}
+use Rattle.literals.specs.Domain.{Domain, arity}
+use Rattle.literals.specs.Table.{rowOf, argumentNumber, literalRow, labelNumber, componentRow}
+use Rattle.literals.proofs.Arguments.{variables-append, in-variables, keys-bound}
+use Rattle.literals.proofs.Bounds.{variables-in}
 use Rattle.literals.proofs.Equality.{variables-eq, variables-self}
 use Rattle.literals.proofs.Tables.{value}
 use Rattle.literals.specs.Matching.{under, keyTuple, tuplesBy}
@@ -73,7 +78,7 @@ module _ (k : ℕ) (h : k < 255) where
   key-byte (keyed m) = refl
   key-byte Counted = sym (ne-eqb k 255 (λ e. omega arith))
 
-  under-absent : (ls : List Label) (vs : List Variable) → countBy (isKey (key k)) ls ≡ 0 → under (key k) ls vs ≡ []
+  under-absent : {A : Type 0} (ls : List Label) (vs : List A) → countBy (isKey (key k)) ls ≡ 0 → under (key k) ls vs ≡ []
   under-absent [] vs e = refl
   under-absent (l ∷ ls) [] e = refl
   under-absent (l ∷ ls) (v ∷ vs) e = go (isKey (key k) l) e (under-absent ls vs)
@@ -82,27 +87,37 @@ module _ (k : ℕ) (h : k < 255) where
       go true e ih = absurd (omega arith)
       go false e ih = ih e
 
-  -- under a key that stands once
-  under-once : (ls : List Label) (vs : List Variable) (xs ys : List ℕ) → length ls ≡ length vs → countBy (isKey (key k)) ls ≡ 1
-      → map value (under (key k) ls vs) ≡ underKey k (map labelNumber ls ++ xs) (map value vs ++ ys) ∷ []
-  under-once [] vs xs ys e c = absurd (omega arith)
-  under-once (l ∷ ls) [] xs ys e c = absurd (omega arith)
-  under-once (l ∷ ls) (v ∷ vs) xs ys e c =
-      go (isKey (key k) l) c (under-once ls vs xs ys (omega arith))
-      ∙ ap (λ (b : Bool). cond b (v .0) (underKey k (map labelNumber ls ++ xs) (map value vs ++ ys)) ∷ []) (key-byte l)
+  -- under a key that stands once, and not where the literal has FF
+  under-once : (ls : List Label) (vs : List Argument) (xs ys : List ℕ) → keysBound ls vs ≡ true → length ls ≡ length vs → countBy
+      (isKey (key k)) ls ≡ 1
+      → map value (variablesOf (under (key k) ls vs)) ≡ underKey k (map labelNumber ls ++ xs) (map argumentNumber vs ++ ys) ∷ []
+  under-once [] vs xs ys b e c = absurd (omega arith)
+  under-once (l ∷ ls) [] xs ys b e c = absurd (omega arith)
+  under-once (keyed j ∷ ls) (Every ∷ vs) xs ys b e c = absurd (false≢true b)
+  under-once (Counted ∷ ls) (Every ∷ vs) xs ys b e c =
+      under-once ls vs xs ys b (omega arith) c ∙ ap
+      (λ (t : Bool). cond t 255 (underKey k (map labelNumber ls ++ xs) (map argumentNumber vs ++ ys)) ∷ []) (key-byte Counted)
+  under-once (l ∷ ls) (bound v ∷ vs) xs ys b e c =
+      go (isKey (key k) l) c (under-once ls vs xs ys (and-r (isCounted l || true) _ b) (omega arith))
+      ∙ ap (λ (b : Bool). cond b (v .0) (underKey k (map labelNumber ls ++ xs) (map argumentNumber vs ++ ys)) ∷ []) (key-byte l)
     where
       go : (b : Bool) → addIf b (countBy (isKey (key k)) ls) ≡ 1
-          → (countBy (isKey (key k)) ls ≡ 1 → map value (under (key k) ls vs) ≡ underKey k (map labelNumber ls ++ xs) (map value vs ++ ys) ∷ [])
-          → map value (keepIf b v (under (key k) ls vs)) ≡ cond b (v .0) (underKey k (map labelNumber ls ++ xs) (map value vs ++ ys)) ∷ []
-      go true c ih = ap (λ (l : List Variable). v .0 ∷ map value l) (under-absent ls vs (omega arith))
+          → (countBy (isKey (key k)) ls ≡ 1 → map value (variablesOf (under (key k) ls vs)) ≡ underKey k (map labelNumber ls ++ xs)
+          (map argumentNumber vs ++ ys) ∷ [])
+          → map value (variablesOf (keepIf b (bound v) (under (key k) ls vs))) ≡ cond b (v .0)
+          (underKey k (map labelNumber ls ++ xs) (map argumentNumber vs ++ ys)) ∷ []
+      go true c ih = ap (λ (l : List Argument). v .0 ∷ map value (variablesOf l)) (under-absent ls vs (omega arith))
       go false c ih = ih c
 
-key-bytes : (n : ℕ) (ls : List Label) (vs : List Variable) (xs ys : List ℕ) → n ≤ 255 → length ls ≡ length vs → eachKeyOnce n ls ≡ true
-    → map value (keyTuple n ls vs) ≡ underKeys n (map labelNumber ls ++ xs) (map value vs ++ ys)
-key-bytes zero ls vs xs ys h e t = refl
-key-bytes (suc n) ls vs xs ys h e t =
-    map-append value (keyTuple n ls vs) (under (key n) ls vs)
-    ∙ ap₂ _++_ (key-bytes n ls vs xs ys (omega arith) e (and-l _ _ t)) (under-once n (omega arith) ls vs xs ys e (eqb-true _ 1 (and-r (eachKeyOnce n ls) _ t)))
+key-bytes : (n : ℕ) (ls : List Label) (vs : List Argument) (xs ys : List ℕ) → n ≤ 255 → keysBound ls vs ≡ true → length ls ≡ length vs
+    → eachKeyOnce n ls ≡ true
+    → map value (variablesOf (keyTuple n ls vs)) ≡ underKeys n (map labelNumber ls ++ xs) (map argumentNumber vs ++ ys)
+key-bytes zero ls vs xs ys h b e t = refl
+key-bytes (suc n) ls vs xs ys h b e t =
+    ap (map value) (variables-append (keyTuple n ls vs) (under (key n) ls vs))
+    ∙ map-append value (variablesOf (keyTuple n ls vs)) (variablesOf (under (key n) ls vs))
+    ∙ ap₂ _++_ (key-bytes n ls vs xs ys (omega arith) b e (and-l _ _ t))
+    (under-once n (omega arith) ls vs xs ys b e (eqb-true _ 1 (and-r (eachKeyOnce n ls) _ t)))
 
 -- ---- a tuple's members are arguments
 
@@ -142,26 +157,31 @@ pub record Fits (D : Domain) (n : ℕ) (c : Component) : Type 0 where
   pub keys : eachKeyOnce n (c .labels) ≡ true
 
 module _ (D : Domain) (n : ℕ) (small : n ≤ 6) (l : Literal) (e : length (l .atom .args) ≡ arity D (l .atom .rel)) where
-  -- of a component of its relation
-  module _ (c : Component) (f : Fits D n c) (r : c .rel ≡ l .atom .rel) where
+  -- the variables under the keys of a component
+  abbrev its : Component → List Variable
+  its c = variablesOf (keyTuple n (c .labels) (l .atom .args))
+
+  -- of a component of its relation, with no key where the literal has FF
+  module _ (c : Component) (f : Fits D n c) (b : keepsKeys c (l .atom) ≡ true) (r : c .rel ≡ l .atom .rel) where
     same-length : length (c .labels) ≡ length (l .atom .args)
     same-length = f .arguments ∙ ap (arity D) r ∙ sym e
 
-    tuple-bytes : map value (keyTuple n (c .labels) (l .atom .args)) ≡ underKeys n (drop 1 (componentRow c)) (drop 2 (literalRow l))
+    tuple-bytes : map value (its c) ≡ underKeys n (drop 1 (componentRow c)) (drop 2 (literalRow l))
     tuple-bytes =
         key-bytes n (c .labels) (l .atom .args)
         (replicate (8 - suc (length (map labelNumber (c .labels)))) 255)
-        (replicate (8 - suc (suc (length (map value (l .atom .args))))) 255)
+        (replicate (8 - suc (suc (length (map argumentNumber (l .atom .args))))) 255)
         (omega arith)
+        (keys-bound c (l .atom) (eq-eqb (c .rel) (l .atom .rel) r) b)
         same-length
         (f .keys)
 
-    tuple-row : keyRow n (componentRow c) (literalRow l) ≡ tupleRow (keyTuple n (c .labels) (l .atom .args))
+    tuple-row : keyRow n (componentRow c) (literalRow l) ≡ tupleRow (its c)
     unfolding keyRow
     tuple-row = ap rowOf (sym tuple-bytes)
 
-    tuple-length : length (keyTuple n (c .labels) (l .atom .args)) ≡ n
-    tuple-length = sym (length-map (keyTuple n (c .labels) (l .atom .args)) value) ∙ ap length tuple-bytes ∙ length-keys n (drop 1 (componentRow c)) (drop 2 (literalRow l))
+    tuple-length : length (its c) ≡ n
+    tuple-length = sym (length-map (its c) value) ∙ ap length tuple-bytes ∙ length-keys n (drop 1 (componentRow c)) (drop 2 (literalRow l))
 
   tuples-none : (cs : List Component) → ((c : Component) → In c cs → eqb (c .rel) (l .atom .rel) ≡ false) → tuplesBy n cs (l .atom) ≡ []
   tuples-none [] h = refl
@@ -173,47 +193,73 @@ module _ (D : Domain) (n : ℕ) (small : n ≤ 6) (l : Literal) (e : length (l .
       tuples-none cs
       (λ d m. eqb-comm (d .rel) (l .atom .rel) ∙ ap (λ (k : ℕ). eqb k (d .rel)) (sym r) ∙ not-true _ (all-in (λ (y : Component). not (eqb (c .rel) (y .rel))) cs (and-l _ _ o) m))
 
-  module _ (c : Component) (cs : List Component) (f : Fits D n c) (o : Once (c ∷ cs)) where
+  -- the literal's key tuples by these components
+  abbrev pub tuplesIn : List Component → List (List Variable)
+  tuplesIn cs = map variablesOf (tuplesBy n cs (l .atom))
+
+  module _ (c : Component) (cs : List Component) (f : Fits D n c) (b : keepsKeys c (l .atom) ≡ true) (o : Once (c ∷ cs)) where
     -- by whether the first component has its relation
-    tuples-first : eqb (c .rel) (l .atom .rel) ≡ true → tuplesBy n (c ∷ cs) (l .atom) ≡ keyTuple n (c .labels) (l .atom .args) ∷ []
+    tuples-first : eqb (c .rel) (l .atom .rel) ≡ true → tuplesIn (c ∷ cs) ≡ its c ∷ []
     tuples-first q =
         let r = eqb-true (c .rel) (l .atom .rel) q in
-        rw (q, eq-eqb (length (c .labels)) (length (l .atom .args)) (same-length c f r)) (ap (λ (ts : List (List Variable)). keyTuple n (c .labels) (l .atom .args) ∷ ts) (later-none c cs o r))
+        rw (q, eq-eqb (length (c .labels)) (length (l .atom .args)) (same-length c f b r))
+        (ap (λ (ts : List (List Argument)). its c ∷ map variablesOf ts) (later-none c cs o r))
 
-    tuples-later : eqb (c .rel) (l .atom .rel) ≡ false → tuplesBy n (c ∷ cs) (l .atom) ≡ tuplesBy n cs (l .atom)
+    tuples-later : eqb (c .rel) (l .atom .rel) ≡ false → tuplesIn (c ∷ cs) ≡ tuplesIn cs
     tuples-later q = rw q
 
-  pub tuples-one : Small (l .atom .args) → (cs : List Component) → ((c : Component) → In c cs → Fits D n c) → Once cs → One n (tuplesBy n cs (l .atom))
-  tuples-one b [] f o = inl refl
-  tuples-one b (c ∷ cs) f o = go (bool-cases (eqb (c .rel) (l .atom .rel))) (tuples-one b cs (λ d m. f d (List·Memᴰ·tail m)) (and-r (all (λ (y : Component). not (eqb (c .rel) (y .rel))) cs) _ o))
+  pub tuples-one : Small (variablesOf (l .atom .args)) → (cs : List Component) → ((c : Component) → In c cs → Fits D n c)
+      → ((c : Component) → In c cs → keepsKeys c (l .atom) ≡ true) → Once cs → One n (tuplesIn cs)
+  tuples-one s [] f b o = inl refl
+  tuples-one s (c ∷ cs) f b o =
+      go (bool-cases (eqb (c .rel) (l .atom .rel)))
+      (tuples-one s cs (λ d m. f d (List·Memᴰ·tail m)) (λ d m. b d (List·Memᴰ·tail m))
+      (and-r (all (λ (y : Component). not (eqb (c .rel) (y .rel))) cs) _ o))
     where
       here : Fits D n c
       here = f c (List·Memᴰ·head refl)
 
-      go : (eqb (c .rel) (l .atom .rel) ≡ true) ⊎ (eqb (c .rel) (l .atom .rel) ≡ false) → One n (tuplesBy n cs (l .atom)) → One n (tuplesBy n (c ∷ cs) (l .atom))
-      go (inl q) ih = inr (keyTuple n (c .labels) (l .atom .args), tuples-first c cs here o q, tuple-length c here (eqb-true _ _ q), λ v m. b v (keyTuple-in n (c .labels) (l .atom .args) m))
-      go (inr q) ih = rw (tuples-later c cs here o q) ih
+      kept : keepsKeys c (l .atom) ≡ true
+      kept = b c (List·Memᴰ·head refl)
+
+      -- its variables are the literal's
+      low : Small (its c)
+      low v m =
+          s v (in-variables (l .atom .args)
+          (keyTuple-in n (c .labels) (l .atom .args) (variables-in (keyTuple n (c .labels) (l .atom .args)) m)))
+
+      go : (eqb (c .rel) (l .atom .rel) ≡ true) ⊎ (eqb (c .rel) (l .atom .rel) ≡ false) → One n (tuplesIn cs) → One n (tuplesIn (c ∷ cs))
+      go (inl q) ih = inr (its c, tuples-first c cs here kept o q, tuple-length c here kept (eqb-true _ _ q), low)
+      go (inr q) ih = rw (tuples-later c cs here kept o q) ih
 
   -- as the rows of the template give them
-  pub tuples-rows : (cs : List Component) → ((c : Component) → In c cs → Fits D n c) → Once cs
-      → keyRows n (map componentRow cs) (literalRow l) ≡ map tupleRow (tuplesBy n cs (l .atom))
+  pub tuples-rows : (cs : List Component) → ((c : Component) → In c cs → Fits D n c) →
+      ((c : Component) → In c cs → keepsKeys c (l .atom) ≡ true) → Once cs
+      → keyRows n (map componentRow cs) (literalRow l) ≡ map tupleRow (tuplesIn cs)
   unfolding keyRows
-  tuples-rows [] f o = refl
-  tuples-rows (c ∷ cs) f o =
+  tuples-rows [] f b o = refl
+  tuples-rows (c ∷ cs) f b o =
       ap (λ (b : Bool). cond b (keyRow n (componentRow c) (literalRow l) ∷ []) (keyRows n (map componentRow cs) (literalRow l))) (eqb-comm (l .atom .rel) (c .rel))
-      ∙ go (bool-cases (eqb (c .rel) (l .atom .rel))) (tuples-rows cs (λ d m. f d (List·Memᴰ·tail m)) (and-r (all (λ (y : Component). not (eqb (c .rel) (y .rel))) cs) _ o))
+      ∙ go (bool-cases (eqb (c .rel) (l .atom .rel)))
+      (tuples-rows cs (λ d m. f d (List·Memᴰ·tail m)) (λ d m. b d (List·Memᴰ·tail m))
+      (and-r (all (λ (y : Component). not (eqb (c .rel) (y .rel))) cs) _ o))
     where
       here : Fits D n c
       here = f c (List·Memᴰ·head refl)
 
-      go : (eqb (c .rel) (l .atom .rel) ≡ true) ⊎ (eqb (c .rel) (l .atom .rel) ≡ false) → keyRows n (map componentRow cs) (literalRow l) ≡ map tupleRow (tuplesBy n cs (l .atom))
-          → cond (eqb (c .rel) (l .atom .rel)) (keyRow n (componentRow c) (literalRow l) ∷ []) (keyRows n (map componentRow cs) (literalRow l)) ≡ map tupleRow (tuplesBy n (c ∷ cs) (l .atom))
+      kept : keepsKeys c (l .atom) ≡ true
+      kept = b c (List·Memᴰ·head refl)
+
+      go : (eqb (c .rel) (l .atom .rel) ≡ true) ⊎ (eqb (c .rel) (l .atom .rel) ≡ false) → keyRows n (map componentRow cs) (literalRow l)
+          ≡ map tupleRow (tuplesIn cs)
+          → cond (eqb (c .rel) (l .atom .rel)) (keyRow n (componentRow c) (literalRow l) ∷ [])
+          (keyRows n (map componentRow cs) (literalRow l)) ≡ map tupleRow (tuplesIn (c ∷ cs))
       go (inl q) ih = ap (λ (b : Bool). cond b (keyRow n (componentRow c) (literalRow l) ∷ []) (keyRows n (map componentRow cs) (literalRow l))) q
-          ∙ ap (λ (x : List ℕ). x ∷ []) (tuple-row c here (eqb-true _ _ q))
-          ∙ ap (map tupleRow) (sym (tuples-first c cs here o q))
+          ∙ ap (λ (x : List ℕ). x ∷ []) (tuple-row c here kept (eqb-true _ _ q))
+          ∙ ap (map tupleRow) (sym (tuples-first c cs here kept o q))
       go (inr q) ih = ap (λ (b : Bool). cond b (keyRow n (componentRow c) (literalRow l) ∷ []) (keyRows n (map componentRow cs) (literalRow l))) q
           ∙ ih
-          ∙ ap (map tupleRow) (sym (tuples-later c cs here o q))
+          ∙ ap (map tupleRow) (sym (tuples-later c cs here kept o q))
 
 -- ---- classes so far, and the class numbers of the literals so far
 

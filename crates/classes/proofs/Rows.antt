@@ -5,16 +5,17 @@ use mathlib.Core.List.{List, [], _++_, map, flatMap, append-nil}
 use Prim.Native.Nat.{ℕ, suc, _+_, _-_, _*_, _≤_, _<_}
 use native.Mathlib.Omega.{arith}
 use lib.Dec.{eqb}
-use lib.ListN.{length, getD, take, drop, length-append, length-map}
+use lib.ListN.{length, getD, take, drop, replicate, length-append, length-map, List·getD-append}
 use Rattle.records.specs.Lists.{In, sameList}
 use Rattle.records.proofs.Lists.{getD-in}
+use Rattle.literals.specs.declared.Argument.the-variants.{Every}
 use Rattle.literals.specs.declared.Time.the-variants.{AtStart}
 use Rattle.literals.specs.declared.Usage.the-variants.{Positive}
-use Rattle.literals.specs.Domain.{sameLiteral, roleNumber, Literal}
-use Rattle.literals.specs.Table.{literalRow}
+use Rattle.literals.specs.Domain.{sameLiteral, meets, roleNumber, Literal, Domain}
+use Rattle.literals.specs.Table.{argumentNumber, literalRow, rowsMeet}
 use Rattle.literals.proofs.Rows.{seven-by-four, part-at}
-use Rattle.literals.proofs.Tables.{Kept, length-flat, rows-flat, length-literal-row, value, same-filled}
-use Rattle.classes.specs.Held.{rowAt, sameAtomAt}
+use Rattle.literals.proofs.Tables.{Kept, length-flat, rows-flat, length-literal-row, same-rows, meet-rows}
+use Rattle.classes.specs.Held.{rowAt, sameAtomAt, meetAt}
 use Rattle.literals.proofs.Indices.{getD-map}
 use Rattle.literals.proofs.KeyRows.{rows-at}
 
@@ -52,18 +53,8 @@ noLiteral = record { role = record { time = AtStart; usage = Positive }; atom = 
 abbrev pub literalAt : List Literal → ℕ → Literal
 literalAt ls j = getD ls j noLiteral
 
--- two rows agree behind their roles where the literals have the same atom
-same-rows : (l m : Literal) → Kept l → Kept m → sameList eqb (drop 1 (literalRow l)) (drop 1 (literalRow m)) ≡ sameLiteral (l .atom) (m .atom)
-same-rows l m h k =
-    let f = h .fits in
-    let g = k .fits in
-    let u = length-map (l .atom .args) value in
-    let w = length-map (m .atom .args) value in
-    ap (λ (t : Bool). eqb (l .atom .rel) (m .atom .rel) && t)
-    (same-filled value (l .atom .args) (m .atom .args) (8 - suc (suc (length (map value (l .atom .args))))) (8 - suc (suc (length (map value (m .atom .args))))) (h .arguments) (k .arguments) (omega arith))
-
-module _ (ls : List Literal) (k : (l : Literal) → In l ls → Kept l) where
-  pub kept-at : (j : ℕ) → j < length ls → Kept (literalAt ls j)
+module _ {D : Domain} (ls : List Literal) (k : (l : Literal) → In l ls → Kept D l) where
+  pub kept-at : (j : ℕ) → j < length ls → Kept D (literalAt ls j)
   kept-at j h = k (literalAt ls j) (getD-in ls j noLiteral h)
 
   literal-row : (l : Literal) → In l ls → length (literalRow l) ≡ 8
@@ -85,4 +76,26 @@ module _ (ls : List Literal) (k : (l : Literal) → In l ls → Kept l) where
   unfolding sameAtomAt
   atoms-at i j h g =
       ap₂ (λ (x y : List ℕ). sameList eqb (drop 1 x) (drop 1 y)) (row-at i h) (row-at j g)
-      ∙ same-rows (literalAt ls i) (literalAt ls j) (kept-at i h) (kept-at j g)
+      ∙ same-rows D (literalAt ls i) (literalAt ls j) (kept-at i h .arguments) (kept-at j g .arguments) (kept-at i h .variables)
+      (kept-at j g .variables)
+
+  pub meet-at : (i j : ℕ) → i < length ls → j < length ls
+      → meetAt (flatMap literalRow ls) i j ≡ meets (literalAt ls i .atom) (literalAt ls j .atom)
+  unfolding meetAt
+  meet-at i j h g =
+      ap₂ rowsMeet (row-at i h) (row-at j g)
+      ∙ meet-rows D (literalAt ls i) (literalAt ls j) (kept-at i h .arguments) (kept-at j g .arguments) (kept-at i h .variables)
+      (kept-at j g .variables)
+
+  -- an argument's byte
+  pub argument-at : (j i : ℕ) → j < length ls → i < length (literalAt ls j .atom .args) → getD (flatMap literalRow ls) (8 * j + 2 + i) 0
+      ≡ argumentNumber (getD (literalAt ls j .atom .args) i Every)
+  argument-at j i h g =
+      let f = kept-at j h .fits in
+      let e : 8 * j + 2 + i ≡ 8 * j + suc (suc i) = omega arith in
+      let vs = literalAt ls j .atom .args in
+      let n = length-map (literalAt ls j .atom .args) argumentNumber in
+      ap (λ (m : ℕ). getD (flatMap literalRow ls) m 0) e
+      ∙ byte-at j (suc (suc i)) h (omega arith)
+      ∙ List·getD-append (map argumentNumber vs) (replicate (8 - suc (suc (length (map argumentNumber vs)))) 255) 0 i (omega arith)
+      ∙ getD-map argumentNumber vs i Every 0 g

@@ -12,8 +12,7 @@ use Rattle.literals.specs.Domain.{Literal, Action, Domain, noAction, action}
 use Rattle.literals.specs.Table.{allLiterals}
 use Rattle.literals.specs.declared.span.Span.{Span}
 use Rattle.literals.specs.Held.{SpanOf}
-use Rattle.literals.specs.Matching.{tuplesOf}
-use Rattle.classes.specs.Classes.{classes}
+use Rattle.classes.specs.Classes.{literalTuples, classes}
 use Rattle.classes.specs.Held.{classNumberBy, classNumbers, numbersOf}
 
 -- a part of a memory, written behind what is there
@@ -30,7 +29,7 @@ over-part xs ys old from to e f =
 module _ (D : Domain) where
   pub numbers-count : (a : Action) → length (classNumbers D a) ≡ length (a .lits)
   unfolding classNumbers
-  numbers-count a = length-map (a .lits) (λ (l : Literal). classNumberBy (classes D a) (tuplesOf D (l .atom)))
+  numbers-count a = length-map (a .lits) (λ (l : Literal). classNumberBy (classes D a) (literalTuples D (l .atom)))
 
   all-count : (as′ : List Action) → length (numbersOf D as′) ≡ length (allLiterals as′)
   unfolding numbersOf allLiterals flatMap

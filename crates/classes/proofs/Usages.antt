@@ -12,7 +12,7 @@ use lib.Seq.{take-suc, take-length}
 use borrow.Author.Tests.{eq-eqb, ne-eqb, eqb-true, eqb-false}
 use Rattle.records.specs.Lists.{In, keepIf, filterBy, any, pairwise, elem, dedup}
 use Rattle.records.proofs.Lists.{and-l, and-r, and-i, not-true, any-in, in-take, pairwise-before, allBelow, below-in, bool-cases, off, clash, eqb-same, eqb-comm, any-map, elem-in, in-elem, in-dedup, dedup-in, dedup-snoc}
-use Rattle.literals.specs.declared.Variable.{Variable}
+use Rattle.literals.specs.declared.Argument.{Argument}
 use Rattle.literals.specs.declared.Time.{Time}
 use Rattle.literals.specs.declared.Time.the-variants.{AtStart, OverAll, AtEnd}
 use Rattle.literals.specs.declared.Usage.{Usage}
@@ -33,7 +33,8 @@ use Rattle.classes.proofs.Rows.{noLiteral, literalAt, kept-at, role-at,
 
 -- ---- literals with some roles, each once
 
-pub any-role : (r : Role → Bool) (q : Atom Variable → Bool) (ls : List Literal) → any q (withRole r ls) ≡ any (λ (l : Literal). r (l .role) && q (l .atom)) ls
+pub any-role : (r : Role → Bool) (q : Atom Argument → Bool) (ls : List Literal) → any q (withRole r ls)
+    ≡ any (λ (l : Literal). r (l .role) && q (l .atom)) ls
 any-role r q [] = refl
 any-role r q (l ∷ ls) = go (r (l .role)) (any-role r q ls)
   where
@@ -48,17 +49,17 @@ with-snoc r (k ∷ ls) l = go (r (k .role)) (with-snoc r ls l)
   where
     go : (t : Bool) → withRole r (ls ++ (l ∷ [])) ≡ withRole r ls ++ keepIf (r (l .role)) (l .atom) []
         → keepIf t (k .atom) (withRole r (ls ++ (l ∷ []))) ≡ keepIf t (k .atom) (withRole r ls) ++ keepIf (r (l .role)) (l .atom) []
-    go true h = ap {B = List (Atom Variable)} (λ x. k .atom ∷ x) h
+    go true h = ap {B = List (Atom Argument)} (λ x. k .atom ∷ x) h
     go false h = h
 
-elem-dedup : (x : Atom Variable) (l : List (Atom Variable)) → elem sameLiteral x (dedup sameLiteral l) ≡ elem sameLiteral x l
+elem-dedup : (x : Atom Argument) (l : List (Atom Argument)) → elem sameLiteral x (dedup sameLiteral l) ≡ elem sameLiteral x l
 elem-dedup x l = go (bool-cases (elem sameLiteral x l))
   where
     go : (elem sameLiteral x l ≡ true) ⊎ (elem sameLiteral x l ≡ false) → elem sameLiteral x (dedup sameLiteral l) ≡ elem sameLiteral x l
     go (inl t) = in-elem sameLiteral literal-self (in-dedup sameLiteral literal-eq (elem-in sameLiteral literal-eq x l t)) ∙ sym t
     go (inr f) = off _ (λ t. clash (in-elem sameLiteral literal-self (dedup-in sameLiteral l (elem-in sameLiteral literal-eq x _ t))) f) ∙ sym f
 
-dedup-keep : (t : Bool) (x : Atom Variable) (l : List (Atom Variable))
+dedup-keep : (t : Bool) (x : Atom Argument) (l : List (Atom Argument))
     → dedup sameLiteral (l ++ keepIf t x []) ≡ dedup sameLiteral l ++ keepIf (t && not (elem sameLiteral x l)) x []
 dedup-keep false x l = ap (dedup sameLiteral) (append-nil l) ∙ sym (append-nil (dedup sameLiteral l))
 dedup-keep true x l = dedup-snoc sameLiteral literal-eq literal-self l x ∙ ap (λ (b : Bool). cond b (dedup sameLiteral l) (dedup sameLiteral l ++ (x ∷ []))) (elem-dedup x l) ∙ go (elem sameLiteral x l)
@@ -111,7 +112,7 @@ usage-timed w m r =
 module _ (w : Bool) where
   -- ---- by bytes
 
-  usage-byte : (m : Moment) (l : Literal) → Kept l → usageByte w m (roleNumber (l .role)) ≡ usageAt w m (l .role)
+  usage-byte : {D : Domain} (m : Moment) (l : Literal) → Kept D l → usageByte w m (roleNumber (l .role)) ≡ usageAt w m (l .role)
   unfolding usageByte
   usage-byte m l k = ap (usageAt w m) (k .back)
 
@@ -125,7 +126,8 @@ module _ (w : Bool) where
       go p q r s ep eq er t = rw (ep, eq, er) at t
 
   -- so a literal that says the same as another there repeats it
-  repeated : (m : Moment) (l k : Literal) → Kept l → Kept k → usageAt w m (l .role) ≡ usageAt w m (k .role) → mayMeet w m (usageAt w m (k .role)) ≡ false → (usageAt w m (k .role) ≡ 0 → ⊥)
+  repeated : {D : Domain} (m : Moment) (l k : Literal) → Kept D l → Kept D k → usageAt w m (l .role) ≡ usageAt w m (k .role)
+      → mayMeet w m (usageAt w m (k .role)) ≡ false → (usageAt w m (k .role) ≡ 0 → ⊥)
       → sameLiteral (l .atom) (k .atom) ≡ true → repeats l k ≡ true
   repeated m l k u v e f n t =
       let h = u .small in
@@ -150,7 +152,7 @@ module _ (w : Bool) where
   length-usages m earlier [] = refl
   length-usages m earlier (l ∷ ls) = ap suc (length-usages m (earlier ++ (l ∷ [])) ls)
 
-  module _ (ls : List Literal) (k : (l : Literal) → In l ls → Kept l) (m : Moment) where
+  module _ {D : Domain} (ls : List Literal) (k : (l : Literal) → In l ls → Kept D l) (m : Moment) where
     usage-at : (j : ℕ) → j < length ls → usageByte w m (getD (flatMap literalRow ls) (8 * j) 0) ≡ usageAt w m (literalAt ls j .role)
     usage-at j h = ap (usageByte w m) (role-at ls k j h) ∙ usage-byte m (literalAt ls j) (kept-at ls k j h)
 
@@ -288,7 +290,7 @@ module _ (w : Bool) where
       ap (λ (t : List Literal). dedup sameLiteral (withRole (counts w m c) t)) (take-suc ls n noLiteral (omega arith))
       ∙ ap (dedup sameLiteral) (with-snoc (counts w m c) (take n ls) (literalAt ls n))
       ∙ dedup-keep (counts w m c (literalAt ls n .role)) (literalAt ls n .atom) (withRole (counts w m c) (take n ls))
-      ∙ ap₂ (λ (x : List (Atom Variable)) (b : Bool). x ++ keepIf b (literalAt ls n .atom) []) (literals-first m c ls n (omega arith))
+      ∙ ap₂ (λ (x : List (Atom Argument)) (b : Bool). x ++ keepIf b (literalAt ls n .atom) []) (literals-first m c ls n (omega arith))
       (sym (ap (λ (k : ℕ). eqb k (suc (usageNumber c))) (usages-at m ls n (omega arith)) ∙ once-counts m c (take n ls) (literalAt ls n)))
       ∙ sym (pick-snoc (λ j. eqb (getD (usagesFrom w m [] ls) j 0) (suc (usageNumber c))) (λ j. literalAt ls j .atom) n)
 

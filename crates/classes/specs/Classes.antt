@@ -1,16 +1,18 @@
 -- Classes of an action: their moments, the seven names, journeys. Assumes nothing.
-use mathlib.Core.Bool.{Bool, _&&_, _||_, not, cond}
-use mathlib.Core.List.{List, [], _∷_, _++_, flatMap}
+use mathlib.Core.Bool.{Bool, _&&_, _||_, cond}
+use mathlib.Core.List.{List, [], _∷_, _++_, map, flatMap}
 use Prim.Native.Nat.{ℕ}
 use lib.Dec.{eqb, leb}
 use lib.ListN.{length}
 use Rattle.records.specs.Lists.{filterBy, all, any, sameList, elem, dedup}
 use Rattle.literals.specs.declared.Variable.{Variable}
+use Rattle.literals.specs.declared.Argument.{Argument}
 use Rattle.literals.specs.declared.Time.the-variants.{OverAll}
 use Rattle.literals.specs.declared.Usage.{Usage}
 use Rattle.literals.specs.declared.Usage.the-variants.{Positive, Negative, Add, Delete}
-use Rattle.literals.specs.Domain.{sameVariable, Atom, sameLiteral, sameTime, Literal, Action, Component, isCounted, Domain}
-use Rattle.literals.specs.Matching.{tuplesOf, hasTuple, literalsAt, required}
+use Rattle.literals.specs.Domain.{sameVariable, variablesOf, Atom, sameLiteral, meets, sameTime, Literal, Action, Component}
+use Rattle.literals.specs.Domain.{countedCleared, Domain}
+use Rattle.literals.specs.Matching.{tuplesOf, literalsAt, required}
 use Rattle.literals.specs.declared.Moment.{Moment}
 use Rattle.literals.specs.declared.Moment.the-variants.{Start, End}
 use Rattle.classes.specs.declared.Name.{Name}
@@ -23,38 +25,43 @@ abbrev pub momentsOf : Action → List Moment
 momentsOf a = cond (a .lasting) (Start ∷ End ∷ []) (Start ∷ [])
 
 -- the true conditions that count towards unreachable: "they count towards unreachable and towards nothing else"
-abbrev pub countedForReach : Action → Moment → List (Atom Variable)
+abbrev pub countedForReach : Action → Moment → List (Atom Argument)
 countedForReach a m = required a m Positive
 
 -- the literals that count towards every other name, and for journeys: the moment's own
-abbrev pub countedForName : Action → Moment → Usage → List (Atom Variable)
+abbrev pub countedForName : Action → Moment → Usage → List (Atom Argument)
 countedForName = literalsAt
 
 -- ---- classes: each is its key tuple
 
+-- "Its key tuple is the variables under keys 0, 1, .. n-1.": no key stands at FF (27)
+unfoldable pub literalTuples : Domain → Atom Argument → List (List Variable)
+unfolding tuplesOf
+literalTuples D p = map variablesOf (tuplesOf D p)
+
 -- "Literals of one action with equal tuples form a class; with n = 0 all matching literals form one. Classes are numbered by first literal
 -- in the file."
 unfoldable pub classes : Domain → Action → List (List Variable)
-unfolding tuplesOf flatMap
-classes D a = dedup (sameList sameVariable) (flatMap (λ (l : Literal). tuplesOf D (l .atom)) (a .lits))
+unfolding literalTuples flatMap
+classes D a = dedup (sameList sameVariable) (flatMap (λ (l : Literal). literalTuples D (l .atom)) (a .lits))
 
 -- the literal belongs to the class of the key tuple x
-abbrev pub belongs : Domain → List Variable → Atom Variable → Bool
-belongs D x p = hasTuple sameVariable D x p
+abbrev pub belongs : Domain → List Variable → Atom Argument → Bool
+belongs D x p = any (λ t. sameList sameVariable t x) (literalTuples D p)
 
 -- "Only the class's literals of that moment count"
-unfoldable pub inClass : Domain → Action → List Variable → Moment → Usage → List (Atom Variable)
-unfolding hasTuple literalsAt
+unfoldable pub inClass : Domain → Action → List Variable → Moment → Usage → List (Atom Argument)
+unfolding literalTuples literalsAt
 inClass D a x m c = filterBy (belongs D x) (countedForName a m c)
 
 -- the class's true conditions towards unreachable
-unfoldable pub reachIn : Domain → Action → List Variable → Moment → List (Atom Variable)
-unfolding hasTuple required
+unfoldable pub reachIn : Domain → Action → List Variable → Moment → List (Atom Argument)
+unfolding literalTuples required
 reachIn D a x m = filterBy (belongs D x) (countedForReach a m)
 
 -- the class has an over-all literal
 unfoldable pub lastsIn : Domain → Action → List Variable → Bool
-unfolding hasTuple
+unfolding literalTuples
 lastsIn D a x = any (λ (l : Literal). sameTime OverAll (l .role .time) && belongs D x (l .atom)) (a .lits)
 
 -- ---- the seven names
@@ -78,20 +85,21 @@ nameBy reach conditions adds changed covered =
     (cond (eqb conditions 1) (cond changed Balanced Unbalanced)
     (cond covered Bounded Unbounded))))
 
--- a literal is deleted by one of these deletes
-abbrev pub deletedBy : List (Atom Variable) → Atom Variable → Bool
-deletedBy dels p = elem sameLiteral p dels
+-- a literal is deleted by one of these deletes: "a delete of at(0,FF) deletes at(0,1) for balanced, for journeys .."
+abbrev pub deletedBy : List (Atom Argument) → Atom Argument → Bool
+deletedBy dels p = any (λ q. meets q p) dels
 
 -- "one true condition, also an add or a delete"
-abbrev pub changedBy : List (Atom Variable) → List (Atom Variable) → Atom Variable → Bool
+abbrev pub changedBy : List (Atom Argument) → List (Atom Argument) → Atom Argument → Bool
 changedBy adds dels p = elem sameLiteral p adds || deletedBy dels p
 
--- "covered, that is, has no FF and its relation occurs among them"
-abbrev pub covered : List (Atom Variable) → Component → Bool
-covered ps c = not (any isCounted (c .labels)) && any (λ (p : Atom Variable). eqb (c .rel) (p .rel)) ps
+-- "covered, that is, has no FF and its relation occurs among them"; "A component with FF becomes covered when the class has such a
+-- literal with FF in that same place"
+abbrev pub covered : List (Atom Argument) → Component → Bool
+covered ps c = any (λ (p : Atom Argument). eqb (c .rel) (p .rel) && countedCleared (c .labels) (p .args)) ps
 
 -- "among them as false condition, add or delete"
-unfoldable pub excluding : Domain → Action → List Variable → Moment → List (Atom Variable)
+unfoldable pub excluding : Domain → Action → List Variable → Moment → List (Atom Argument)
 unfolding inClass
 excluding D a x m = inClass D a x m Negative ++ (inClass D a x m Add ++ inClass D a x m Delete)
 

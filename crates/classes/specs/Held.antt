@@ -6,24 +6,24 @@ use mathlib.Core.List.{List, [], _∷_, _++_, map, flatMap}
 use Prim.Native.Nat.{ℕ, zero, suc, _+_, _-_, _*_, _≤_, _<_}
 use lib.Dec.{eqb, ltb, leb}
 use lib.ListN.{length, getD, set, take, drop, replicate}
-use Rattle.records.specs.Lists.{In, any, pairwise, sameList}
+use Rattle.records.specs.Lists.{In, any, all, pairwise, sameList}
 use Rattle.literals.specs.declared.Variable.{Variable}
 use Rattle.literals.specs.declared.Time.{Time}
 use Rattle.literals.specs.declared.Time.the-variants.{AtStart, OverAll, AtEnd}
 use Rattle.literals.specs.declared.Usage.{Usage}
 use Rattle.literals.specs.declared.Usage.the-variants.{Positive, Negative, Add, Delete}
 use Rattle.literals.specs.declared.Role.{Role}
-use Rattle.literals.specs.Domain.{sameVariable, sameLiteral, usageNumber, roleOf, sameTime, isCounted, Literal, Action, Domain}
-use Rattle.literals.specs.Decode.{maxLiterals, labelOf, repeats}
-use Rattle.literals.specs.Table.{rowOf, literalRow, pad}
+use Rattle.literals.specs.Domain.{sameVariable, sameLiteral, isEvery, usageNumber, roleOf, sameTime, isCounted, Literal, Action, Domain}
+use Rattle.literals.specs.Decode.{maxLiterals, argumentOf, labelOf, repeats}
+use Rattle.literals.specs.Table.{rowOf, literalRow, pad, rowsMeet}
 use Rattle.literals.specs.Held.{componentsIn, arityIn, componentRowIn, HeadOf}
 use Rattle.literals.specs.declared.Moment.{Moment}
 use Rattle.literals.specs.declared.Moment.the-variants.{Start, End}
 use Rattle.classes.specs.declared.Sole.{Sole}
 use Rattle.classes.specs.declared.number.Numbered.{Numbered}
-use Rattle.literals.specs.Matching.{tuplesOf, own, asked}
+use Rattle.literals.specs.Matching.{own, asked}
 use Rattle.literals.specs.Keys.{position, below}
-use Rattle.classes.specs.Classes.{classes, covered, excluding}
+use Rattle.classes.specs.Classes.{literalTuples, classes, covered, excluding}
 
 -- ---- class numbers
 
@@ -34,8 +34,8 @@ classNumberBy xs (t ∷ ts) = position (sameList sameVariable t) xs
 
 -- the class number of each literal of an action, in file order
 unfoldable pub classNumbers : Domain → Action → List ℕ
-unfolding tuplesOf classes
-classNumbers D a = map (λ (l : Literal). classNumberBy (classes D a) (tuplesOf D (l .atom))) (a .lits)
+unfolding literalTuples classes
+classNumbers D a = map (λ (l : Literal). classNumberBy (classes D a) (literalTuples D (l .atom))) (a .lits)
 
 -- those of all literals of these actions, in table order
 unfoldable pub numbersOf : Domain → List Action → List ℕ
@@ -158,23 +158,52 @@ unfoldable pub sameIn : List ℕ → List ℕ → List ℕ → ℕ → ℕ → �
 unfolding isSameAt
 sameIn rows numbers usages class usage i = any (isSameAt rows numbers usages class usage i) (below (length numbers))
 
--- a literal with the atom of the row i is an add or a delete of the class
+-- two rows meet
+unfoldable pub meetAt : List ℕ → ℕ → ℕ → Bool
+meetAt rows i j = rowsMeet (rowAt rows i) (rowAt rows j)
+
+-- the row j is a delete of this class, and meets the row i
+unfoldable pub isDeleteAt : List ℕ → List ℕ → List ℕ → ℕ → ℕ → ℕ → Bool
+unfolding isAt meetAt
+isDeleteAt rows numbers usages class i j = isAt numbers usages class 4 j && meetAt rows j i
+
+unfoldable pub deletedIn : List ℕ → List ℕ → List ℕ → ℕ → ℕ → Bool
+unfolding isDeleteAt
+deletedIn rows numbers usages class i = any (isDeleteAt rows numbers usages class i) (below (length numbers))
+
+-- the atom of the row i is an add of the class, or it is deleted there
 unfoldable pub changedAt : List ℕ → List ℕ → List ℕ → ℕ → ℕ → Bool
-unfolding sameIn
-changedAt rows numbers usages class i = sameIn rows numbers usages class 3 i || sameIn rows numbers usages class 4 i
+unfolding sameIn deletedIn
+changedAt rows numbers usages class i = sameIn rows numbers usages class 3 i || deletedIn rows numbers usages class i
 
 -- the row j is a false condition, add or delete of the class, with this relation
 unfoldable pub excludesAt : List ℕ → List ℕ → List ℕ → ℕ → ℕ → ℕ → Bool
 excludesAt rows numbers usages class relation j = eqb (getD numbers j 0) class
     && (leb 2 (getD usages j 0) && eqb relation (getD rows (8 * j + 1) 0))
 
+-- where the label is FF, the argument beside it is FF
+abbrev pub clearedBeside : ℕ → ℕ → Bool
+clearedBeside label argument = not (isCounted (labelOf label)) || isEvery (argumentOf argument)
+
+-- of the label i of the component c of the head, and of the argument i of the row j
+abbrev pub clearedAt : List ℕ → List ℕ → ℕ → ℕ → ℕ → Bool
+clearedAt head rows c j i = clearedBeside (getD (componentRowIn head c) (1 + i) 0) (getD rows (8 * j + 2 + i) 0)
+
+-- the row j has FF where the component c has it, of as many arguments as its relation has
+unfoldable pub clearsAt : List ℕ → List ℕ → ℕ → ℕ → Bool
+unfolding componentRowIn arityIn
+clearsAt head rows c j = all (clearedAt head rows c j) (below (arityIn head (getD (componentRowIn head c) 0 0)))
+
+-- the row j is one by which the class covers it
+unfoldable pub coversAt : List ℕ → List ℕ → List ℕ → List ℕ → ℕ → ℕ → ℕ → Bool
+unfolding componentRowIn excludesAt clearsAt
+coversAt head rows numbers usages class c j =
+    excludesAt rows numbers usages class (getD (componentRowIn head c) 0 0) j && clearsAt head rows c j
+
 -- the class covers the component c of the head
 unfoldable pub coveredAt : List ℕ → List ℕ → List ℕ → List ℕ → ℕ → ℕ → Bool
-unfolding componentRowIn arityIn excludesAt
-coveredAt head rows numbers usages class c =
-    let part = componentRowIn head c in
-    not (any (λ i. isCounted (labelOf (getD part (1 + i) 0))) (below (arityIn head (getD part 0 0))))
-    && any (excludesAt rows numbers usages class (getD part 0 0)) (below (length numbers))
+unfolding coversAt
+coveredAt head rows numbers usages class c = any (coversAt head rows numbers usages class c) (below (length numbers))
 
 -- the first component that it does not cover, or their number
 unfoldable pub lackingAt : List ℕ → List ℕ → List ℕ → List ℕ → ℕ → ℕ

@@ -9,14 +9,17 @@ use super::Soles;
 use literals::Moment;
 use literals::Time;
 use literals::Usage;
+use literals::argument_of;
 use literals::head::Head;
 use literals::head::arity_of;
 use literals::head::component_byte;
 use literals::head::components_in;
 use literals::is_counted;
+use literals::is_every;
 use literals::label_of;
 use literals::limits::MAX_LITERALS;
 use literals::role_of;
+use literals::row::rows_meet;
 use literals::row::same_four;
 use literals::same_time;
 use literals::usage_number;
@@ -27,20 +30,19 @@ ghost use mathlib.Core.List.{List, [], map};
 ghost use Prim.Native.Nat.{ℕ, _+_, _*_, _≤_, _<_};
 ghost use lib.Dec.{eqb};
 ghost use lib.ListN.{length, getD};
-ghost use Rattle.records.specs.Lists.{any};
-ghost use Rattle.literals.specs.Domain.{Domain, Action, isCounted, roleOf};
-ghost use Rattle.literals.specs.Decode.{maxArguments, maxLiterals, maxComponents, labelOf};
+ghost use Rattle.records.specs.Lists.{any, all};
+ghost use Rattle.literals.specs.Domain.{Domain, Action, roleOf};
+ghost use Rattle.literals.specs.Decode.{maxArguments, maxLiterals, maxComponents};
 ghost use Rattle.literals.specs.Table.{pad};
-ghost use Rattle.literals.specs.Held.{componentRowIn};
 ghost use Rattle.literals.specs.declared.Moment.{Moment};
 ghost use Rattle.literals.specs.declared.Moment.the-variants.{Start, End};
 ghost use Rattle.literals.specs.declared.Time.the-variants.{AtStart, OverAll, AtEnd};
 ghost use Rattle.classes.specs.Classes.{classes, lastsIn, nameOf, journey};
 ghost use Rattle.literals.specs.Keys.{below};
 ghost use Rattle.classes.specs.Held.{ActionOf, MomentOf, Sides, usagesBy, usagesAt, classNumbers, uncoveredAt, timed, usageByte};
-ghost use Rattle.classes.specs.Held.{mayMeet, sameAtomAt, saysAt, usageIn, isAt, isSameAt, sameIn, changedAt, excludesAt};
-ghost use Rattle.classes.specs.Held.{coveredAt, lackingAt, lastsAt, soleMore, soleOf, reachAt};
-ghost use Rattle.classes.specs.Held.{sectionBy, sectionOf, countsIn, SolesOf, soleIn};
+ghost use Rattle.classes.specs.Held.{mayMeet, sameAtomAt, saysAt, usageIn, isAt, isSameAt, sameIn, isDeleteAt, deletedIn};
+ghost use Rattle.classes.specs.Held.{changedAt, excludesAt, clearedBeside, clearedAt, coversAt, coveredAt, lackingAt, lastsAt};
+ghost use Rattle.classes.specs.Held.{soleMore, soleOf, reachAt, sectionBy, sectionOf, countsIn, SolesOf, soleIn};
 
 // Whether the literals of a time count at an end: its own, or (wide) all that is asked there, the over-all conditions too.
 fn counts_at_end(wide: bool, time: Time) -> bool
@@ -326,7 +328,31 @@ fn any_same(rows: &[u8], numbers: &[u8], usages: &Marks, class: u8, usage: u8, i
     false
 }
 
-// Whether a literal with the atom of the row `i` is an add or a delete of a class.
+// Whether the row `j` is a delete of a class, and meets the row `i`.
+fn is_delete_at(rows: &[u8], numbers: &[u8], usages: &Marks, class: u8, i: usize, j: usize) -> bool
+    requires { ⌜ Sides (now rows) (now numbers) × (i < length (now numbers)) × (j < length (now numbers)) ⌝ }
+    ensures { λ r. ⌜ r ≡ isDeleteAt (now (rows .entry)) (now (numbers .entry)) (now (usages .entry)) class i j ⌝ }
+{
+    if is_at(numbers, usages, class, 4, j) {
+        return rows_meet(rows, 8 * j, rows, 8 * i);
+    }
+    false
+}
+
+// Whether a class deletes the literal of the row `i`, a true condition: by one with the same arguments, or with FF.
+fn is_deleted(rows: &[u8], numbers: &[u8], usages: &Marks, class: u8, i: usize) -> bool
+    requires { ⌜ Sides (now rows) (now numbers) × (i < length (now numbers)) ⌝ }
+    ensures { λ r. ⌜ r ≡ deletedIn (now (rows .entry)) (now (numbers .entry)) (now (usages .entry)) class i ⌝ }
+{
+    for j in 0..numbers.len() {
+        if is_delete_at(rows, numbers, usages, class, i, j) {
+            return true;
+        }
+    }
+    false
+}
+
+// Whether a literal with the atom of the row `i` is an add of a class, or the class deletes it.
 fn is_changed(rows: &[u8], numbers: &[u8], usages: &Marks, class: u8, i: usize) -> bool
     requires { ⌜ Sides (now rows) (now numbers) × (i < length (now numbers)) ⌝ }
     ensures { λ r. ⌜ r ≡ changedAt (now (rows .entry)) (now (numbers .entry)) (now (usages .entry)) class i ⌝ }
@@ -334,7 +360,7 @@ fn is_changed(rows: &[u8], numbers: &[u8], usages: &Marks, class: u8, i: usize) 
     if any_same(rows, numbers, usages, class, 3, i) {
         return true;
     }
-    any_same(rows, numbers, usages, class, 4, i)
+    is_deleted(rows, numbers, usages, class, i)
 }
 
 // Whether the row `j` is a false condition, add or delete of a class, with this relation.
@@ -351,30 +377,50 @@ fn excludes(rows: &[u8], numbers: &[u8], usages: &Marks, class: u8, relation: u8
     relation == rows[8 * j + 1]
 }
 
-// Whether a false condition, add or delete of a class has this relation.
-fn any_excluding(rows: &[u8], numbers: &[u8], usages: &Marks, class: u8, relation: u8) -> bool
-    requires { ⌜ Sides (now rows) (now numbers) ⌝ }
-    ensures { λ r. ⌜ r ≡ any (excludesAt (now (rows .entry)) (now (numbers .entry)) (now (usages .entry)) class relation)
-        (below (length (now (numbers .entry)))) ⌝ }
+// Whether an argument is FF where the label beside it is.
+fn is_cleared(label: u8, argument: u8) -> bool
+    ensures { λ r. ⌜ r ≡ clearedBeside label argument ⌝ }
 {
-    for j in 0..numbers.len() {
-        if excludes(rows, numbers, usages, class, relation, j) {
-            return true;
-        }
+    let counted = label_of(label);
+    if is_counted(counted) {
+        let cleared = argument_of(argument);
+        return is_every(cleared);
     }
-    false
+    true
 }
 
-// Whether one of the first n labels of the component `c` is that of the counted argument.
-fn any_counted(head: &Head, c: usize, n: usize) -> bool
-    requires { ⌜ (c < maxComponents) × (n ≤ maxArguments) ⌝ }
-    ensures { λ r. ⌜ r ≡ any (λ i. isCounted (labelOf (getD (componentRowIn (now (head .entry)) c) (1 + i) 0))) (below n) ⌝ }
+// Whether the first n arguments of the row `j` are FF where the component `c` has it.
+fn clears(head: &Head, rows: &[u8], c: usize, j: usize, n: usize) -> bool
+    requires component { ⌜ c < maxComponents ⌝ }
+    requires row { ⌜ (8 * j + 8 ≤ length (now rows)) × (j < maxLiterals) ⌝ }
+    requires arguments { ⌜ n ≤ maxArguments ⌝ }
+    ensures { λ r. ⌜ r ≡ all (clearedAt (now (head .entry)) (now (rows .entry)) c j) (below n) ⌝ }
 {
     for i in 0..n {
-        let label = label_of(component_byte(head, c, 1 + i));
-        if is_counted(label) {
-            return true;
+        let label = component_byte(head, c, 1 + i);
+        if !is_cleared(label, rows[8 * j + 2 + i]) {
+            return false;
         }
+    }
+    true
+}
+
+// Whether the row `j` is one by which a class covers the component `c`.
+fn covers_by(
+    head: &Head,
+    rows: &[u8],
+    numbers: &[u8],
+    usages: &Marks,
+    class: u8,
+    c: usize,
+    j: usize,
+) -> bool
+    requires { ⌜ (c < maxComponents) × Sides (now rows) (now numbers) × (j < length (now numbers)) ⌝ }
+    ensures { λ r. ⌜ r ≡ coversAt (now (head .entry)) (now (rows .entry)) (now (numbers .entry)) (now (usages .entry)) class c j ⌝ }
+{
+    let relation = component_byte(head, c, 0);
+    if excludes(rows, numbers, usages, class, relation, j) {
+        return clears(head, rows, c, j, wide(arity_of(head, relation)));
     }
     false
 }
@@ -384,11 +430,12 @@ fn covers(head: &Head, rows: &[u8], numbers: &[u8], usages: &Marks, class: u8, c
     requires { ⌜ (c < maxComponents) × Sides (now rows) (now numbers) ⌝ }
     ensures { λ r. ⌜ r ≡ coveredAt (now (head .entry)) (now (rows .entry)) (now (numbers .entry)) (now (usages .entry)) class c ⌝ }
 {
-    let relation = component_byte(head, c, 0);
-    if any_counted(head, c, wide(arity_of(head, relation))) {
-        return false;
+    for j in 0..numbers.len() {
+        if covers_by(head, rows, numbers, usages, class, c, j) {
+            return true;
+        }
     }
-    any_excluding(rows, numbers, usages, class, relation)
+    false
 }
 
 // The first component that a class does not cover at the moment of these usages, or the number of components; `numbers` holds the class
@@ -530,5 +577,5 @@ pub fn is_journey(
     if end.adds == 255 {
         return false;
     }
-    any_same(rows, numbers, usages, class, 4, condition as usize - 1)
+    is_deleted(rows, numbers, usages, class, condition as usize - 1)
 }

@@ -5,8 +5,9 @@ use mathlib.Core.List.{List, [], _∷_, _++_, map, flatMap}
 use Prim.Native.Nat.{ℕ, suc, _+_, _*_, _≤_, _<_}
 use lib.Dec.{eqb, ltb}
 use lib.ListN.{length, getD, take, drop}
-use Rattle.records.specs.Lists.{In, filterBy, countBy, sameList, elem, distinct}
+use Rattle.records.specs.Lists.{In, any, filterBy, countBy, sameList, elem, distinct}
 use Rattle.records.specs.Memory.{over}
+use Rattle.literals.specs.declared.Object.{Object}
 use Rattle.literals.specs.declared.Usage.{Usage}
 use Rattle.literals.specs.declared.Usage.the-variants.{Delete}
 use Rattle.literals.specs.Domain.{Fact, sameFact, Domain, action}
@@ -14,13 +15,15 @@ use Rattle.literals.specs.Decode.{byte}
 use Rattle.literals.specs.Table.{rowsIn}
 use Rattle.literals.specs.Held.{arityIn}
 use Rattle.literals.specs.Matching.{own, withRole}
-use Rattle.verdict.specs.Binding.{bind}
+use Rattle.verdict.specs.Binding.{factsOf}
 use Rattle.verdict.specs.Judged.{factBytes}
 use Rattle.verdict.specs.Machine.{Event, stepFacts, factsAfter}
+use Rattle.verdict.specs.Patterns.{patternsMeet}
 use Rattle.run_semantics.specs.RunFile.{maxFacts}
 use Rattle.run_semantics.specs.Play.{workBytes}
 use Rattle.store.specs.Index.{Indexed}
 use Rattle.store.specs.Rows.{factRow, hasRow}
+use Rattle.events.specs.Held.{isPattern}
 use Rattle.events.specs.Grounding.{GroundLiteral, groundedBytes}
 use Rattle.effects.specs.declared.After.{After}
 
@@ -39,7 +42,7 @@ effectsIn scratch = take workBytes (drop groundedBytes scratch)
 
 -- ---- effects, by rows
 
--- the facts of those ground literals that are of a usage
+-- the rows of those ground literals that are of a usage
 unfoldable pub rowsWith : ℕ → List GroundLiteral → List (List ℕ)
 rowsWith usage ls = map (λ (l : GroundLiteral). l .row) (filterBy (λ (l : GroundLiteral). eqb (l .usage) usage) ls)
 
@@ -74,13 +77,22 @@ pub record HoldsJoined (head : List ℕ) (rows : List (List ℕ)) (old : List �
 abbrev pub Once : List (List ℕ) → Type 0
 Once rows = distinct (sameList eqb) rows ≡ true
 
+-- a delete's row meets this one: the delete is about this fact
+abbrev pub anyMeets : List (List ℕ) → List ℕ → Bool
+anyMeets struck row = any (λ p. patternsMeet p row) struck
+
+-- the same, told by equal rows where no delete is a pattern
+unfoldable pub isStruck : List (List ℕ) → List ℕ → Bool
+unfolding isPattern
+isStruck struck row = cond (any isPattern struck) (anyMeets struck row) (hasRow row struck)
+
 -- how many of the first n rows of a memory are struck
 abbrev pub struckOf : List (List ℕ) → List ℕ → ℕ → ℕ
-struckOf struck work n = countBy (λ (row : List ℕ). hasRow row struck) (rowsIn n work)
+struckOf struck work n = countBy (isStruck struck) (rowsIn n work)
 
 -- the rows that are not struck
 abbrev pub stays : List (List ℕ) → List ℕ → Bool
-stays struck row = not (hasRow row struck)
+stays struck row = not (isStruck struck row)
 
 abbrev pub keptOf : List (List ℕ) → List ℕ → ℕ → List (List ℕ)
 keptOf struck work n = filterBy (stays struck) (rowsIn n work)
@@ -89,8 +101,8 @@ keptOf struck work n = filterBy (stays struck) (rowsIn n work)
 pub record FirstStruck (struck : List (List ℕ)) (work : List ℕ) (n from r : ℕ) : Type 0 where
   pub behind : from ≤ r
   pub within : r ≤ n
-  pub others : (j : ℕ) → from ≤ j → j < r → hasRow (take 8 (drop (8 * j) work)) struck ≡ false
-  pub found : r < n → hasRow (take 8 (drop (8 * r) work)) struck ≡ true
+  pub others : (j : ℕ) → from ≤ j → j < r → isStruck struck (take 8 (drop (8 * j) work)) ≡ false
+  pub found : r < n → isStruck struck (take 8 (drop (8 * r) work)) ≡ true
 
 -- the third bytes of these rows are marked
 abbrev pub Marked : List ℕ → List (List ℕ) → Type 0
@@ -98,19 +110,22 @@ Marked marks rows = (row : List ℕ) → In row rows → getD marks (byte row 2)
 
 -- ---- effects
 
--- the facts of an event's literals of one usage, one for each literal: those of `eventFacts`, a literal that occurs twice counted twice
-unfoldable pub eventEffects : Domain → Event → Usage → List Fact
-unfolding action
-eventEffects D e c = map (bind (e .ground .binding)) (withRole (own (e .moment) c) (action D (e .ground .action) .lits))
+-- the facts that an event's literals of one usage stand for, literal by literal: those of `eventFacts`, a literal that occurs twice counted
+-- twice
+unfoldable pub eventEffects : Domain → List Object → Event → Usage → List Fact
+unfolding action factsOf flatMap
+eventEffects D objs e c = flatMap (factsOf objs (e .ground .binding)) (withRole (own (e .moment) c) (action D (e .ground .action) .lits))
 
 -- those of the events of a step
-unfoldable pub stepEffects : Domain → List Event → Usage → List Fact
+unfoldable pub stepEffects : Domain → List Object → List Event → Usage → List Fact
 unfolding eventEffects flatMap
-stepEffects D es c = flatMap (λ e. eventEffects D e c) es
+stepEffects D objs es c = flatMap (λ e. eventEffects D objs e c) es
 
 -- what a step leaves of facts: how many are kept and how many there are then, their bytes, and their index
-pub record HoldsAfter (D : Domain) (fs : List Fact) (es : List Event) (head : List ℕ) (r : After) (out index : List ℕ) : Type 0 where
-  pub kept : r .kept ≡ length (filterBy (λ (f : Fact). not (elem sameFact f (stepFacts D es Delete))) fs)
-  pub facts : r .facts ≡ atMost maxFacts (length (factsAfter D fs es))
-  pub held : length (factsAfter D fs es) ≤ maxFacts → take (8 * length (factsAfter D fs es)) out ≡ factBytes (factsAfter D fs es)
-  pub indexed : length (factsAfter D fs es) ≤ maxFacts → Indexed head index (map factRow (factsAfter D fs es))
+pub record HoldsAfter (D : Domain) (objs : List Object) (fs : List Fact) (es : List Event) (head : List ℕ) (r : After) (out index : List ℕ)
+    : Type 0 where
+  pub kept : r .kept ≡ length (filterBy (λ (f : Fact). not (elem sameFact f (stepFacts D objs es Delete))) fs)
+  pub facts : r .facts ≡ atMost maxFacts (length (factsAfter D objs fs es))
+  pub held : length (factsAfter D objs fs es) ≤ maxFacts
+      → take (8 * length (factsAfter D objs fs es)) out ≡ factBytes (factsAfter D objs fs es)
+  pub indexed : length (factsAfter D objs fs es) ≤ maxFacts → Indexed head index (map factRow (factsAfter D objs fs es))

@@ -1,9 +1,11 @@
 // The facts after a step: what it strikes goes out, then what it adds joins, each fact once.
+use events::facts::is_pattern;
 use events::grounding::CLAUSES;
 use events::grounding::GROUNDED;
 use events::grounding::MAX_GROUND;
 use literals::head::Head;
 use literals::limits::MAX_FACTS;
+use literals::row::arguments_meet;
 use records::bytes::put_bytes;
 use records::bytes::wide;
 use store::index::FactIndex;
@@ -17,15 +19,19 @@ ghost use mathlib.Core.List.{List, [], _∷_, _++_, map};
 ghost use Prim.Native.Nat.{_+_, _*_, _<_, _≤_};
 ghost use lib.ListN.{length, getD, take, drop};
 ghost use Rattle.records.specs.Memory.{over};
+ghost use Rattle.records.specs.Lists.{any};
+ghost use Rattle.literals.specs.declared.Object.{Object};
 ghost use Rattle.literals.specs.Domain.{Fact, Domain};
 ghost use Rattle.literals.specs.Table.{rowsIn};
 ghost use Rattle.run_semantics.specs.RunFile.{maxFacts};
 ghost use Rattle.verdict.specs.Machine.{Event};
+ghost use Rattle.events.specs.Held.{Chosen, isPattern};
 ghost use Rattle.store.specs.Index.{noteAt, Sized, Indexed};
-ghost use Rattle.store.specs.Rows.{factRow, hasRow};
+ghost use Rattle.store.specs.Rows.{factRow};
 ghost use Rattle.events.specs.Grounding.{maxGround, groundAt, groundIn, Grounded};
 ghost use Rattle.effects.specs.Held.{scratchBytes, effectsIn, literalsIn, rowsWith, flat, HoldsAfter};
-ghost use Rattle.effects.specs.Held.{Once, struckOf, FirstStruck, Marked, keptOf, SizedRow, joinRow, joinRows, HoldsJoined};
+ghost use Rattle.effects.specs.Held.{Once, anyMeets, isStruck, struckOf, FirstStruck, Marked, keptOf};
+ghost use Rattle.effects.specs.Held.{SizedRow, joinRow, joinRows, HoldsJoined};
 
 // What a step works in, in two sections: its ground literals, in whose place the facts after it are put together when what it strikes and
 // adds is told; and behind that what it strikes and then what it adds, which together are no more than its literals.
@@ -55,14 +61,52 @@ fn put_marks(marks: &mut [u8], rows: &[u8], m: usize)
     }
 }
 
-// Whether the row at an offset of the work memory is struck. The third byte, the first argument, is enough to rule most rows out.
-fn is_struck(work: &[u8], at: usize, marks: &[u8], struck: &[u8], m: usize) -> bool
+// Whether there is a pattern among the first m rows.
+fn has_pattern(rows: &[u8], m: usize) -> bool
+    requires { ⌜ 8 * m ≤ length (now rows) ⌝ }
+    ensures { λ r. ⌜ r ≡ any isPattern (rowsIn m (now (rows .entry))) ⌝ }
+{
+    let mut j = 0;
+    while j < m {
+        if is_pattern(rows, 8 * j) {
+            return true;
+        }
+        j += 1;
+    }
+    false
+}
+
+// Whether one of the first m rows meets the row at an offset of the work memory.
+fn any_meets(rows: &[u8], m: usize, work: &[u8], at: usize) -> bool
+    requires rows { ⌜ 8 * m ≤ length (now rows) ⌝ }
+    requires row { ⌜ at + 8 ≤ length (now work) ⌝ }
+    ensures { λ r. ⌜ r ≡ anyMeets (rowsIn m (now (rows .entry))) (take 8 (drop at (now (work .entry)))) ⌝ }
+{
+    let mut j = 0;
+    while j < m {
+        if rows[8 * j] == work[at] {
+            if arguments_meet(rows, 8 * j, work, at) {
+                return true;
+            }
+        }
+        j += 1;
+    }
+    false
+}
+
+// Whether the row at an offset of the work memory is struck: where there are patterns, by rows that meet; else by equal ones, and most are
+// told by their third byte, the first argument.
+fn is_struck(work: &[u8], at: usize, marks: &[u8], struck: &[u8], m: usize, patterns: bool) -> bool
     requires row { ⌜ at + 8 ≤ length (now work) ⌝ }
     requires marks { ⌜ length (now marks) ≡ 256 ⌝ }
     requires struck { ⌜ 8 * m ≤ length (now struck) ⌝ }
     requires marked { ⌜ Marked (now marks) (rowsIn m (now struck)) ⌝ }
-    ensures { λ r. ⌜ r ≡ hasRow (take 8 (drop at (now (work .entry)))) (rowsIn m (now (struck .entry))) ⌝ }
+    requires told { ⌜ patterns ≡ any isPattern (rowsIn m (now struck)) ⌝ }
+    ensures { λ r. ⌜ r ≡ isStruck (rowsIn m (now (struck .entry))) (take 8 (drop at (now (work .entry)))) ⌝ }
 {
+    if patterns {
+        return any_meets(struck, m, work, at);
+    }
     let first = wide(work[at + 2]);
     if marks[first] == 0 {
         return false;
@@ -71,7 +115,7 @@ fn is_struck(work: &[u8], at: usize, marks: &[u8], struck: &[u8], m: usize) -> b
 }
 
 // The first struck row of the work memory from a row on, of n; n where there is none. No row occurs twice, so there is none once `gone`
-// rows, as many as are struck, were found.
+// rows, as many as are struck, were found, where none of these is a pattern, which strikes many.
 fn struck_from(
     work: &[u8],
     n: usize,
@@ -80,6 +124,7 @@ fn struck_from(
     marks: &[u8],
     struck: &[u8],
     m: usize,
+    patterns: bool,
 ) -> usize
     requires few { ⌜ n ≤ maxFacts ⌝ }
     requires rows { ⌜ 8 * n ≤ length (now work) ⌝ }
@@ -89,14 +134,17 @@ fn struck_from(
     requires marked { ⌜ Marked (now marks) (rowsIn m (now struck)) ⌝ }
     requires once { ⌜ Once (rowsIn n (now work)) ⌝ }
     requires gone { ⌜ gone ≡ struckOf (rowsIn m (now struck)) (now work) from ⌝ }
+    requires told { ⌜ patterns ≡ any isPattern (rowsIn m (now struck)) ⌝ }
     ensures { λ r. ⌜ FirstStruck (rowsIn m (now (struck .entry))) (now (work .entry)) n from r ⌝ }
 {
-    if m <= gone {
-        return n;
+    if !patterns {
+        if m <= gone {
+            return n;
+        }
     }
     let mut i = from;
     while i < n {
-        if is_struck(work, 8 * i, marks, struck, m) {
+        if is_struck(work, 8 * i, marks, struck, m, patterns) {
             return i;
         }
         i += 1;
@@ -129,11 +177,21 @@ fn keep_rows(
 {
     let mut marks = [0u8; 256];
     put_marks(&mut marks, &scratch[EFFECTS..SCRATCH], m);
+    let patterns = has_pattern(&scratch[EFFECTS..SCRATCH], m);
     let mut k = 0;
     let mut i = 0;
     // Most rows stay, so all rows between two struck ones are copied at once.
     loop {
-        let next = struck_from(work, n, i, i - k, &marks, &scratch[EFFECTS..SCRATCH], m);
+        let next = struck_from(
+            work,
+            n,
+            i,
+            i - k,
+            &marks,
+            &scratch[EFFECTS..SCRATCH],
+            m,
+            patterns,
+        );
         let from = 8 * i;
         let to = 8 * next;
         put_bytes(scratch, 8 * k, &work[from..to]);
@@ -203,7 +261,7 @@ fn join_rows(
     n
 }
 
-// Appends the fact of the ground literal i to the first n rows of the effects, if it is of this usage; answers the new count.
+// Appends the row of the ground literal i to the first n rows of the effects, if it is of this usage; answers the new count.
 fn put_effect(scratch: &mut [u8], n: usize, i: usize, usage: u8) -> usize
     requires scratch { ⌜ length (now scratch) ≡ scratchBytes ⌝ }
     requires literal { ⌜ i < maxGround ⌝ }
@@ -261,10 +319,11 @@ pub fn facts_after(
     requires once { ⌜ Once (rowsIn n (now work)) ⌝ }
     requires total { ⌜ total ≤ maxGround ⌝ }
     ensures few { λ r. ⌜ (r .kept ≤ n) × (r .kept ≤ r .facts) × (r .facts ≤ maxFacts + 1) ⌝ }
-    ensures after { λ r. ⌜ ((D : Domain) (es : List Event) (fs : List Fact)
+    ensures after { λ r. ⌜ ((D : Domain) (objs : List Object) (es : List Event) (fs : List Fact)
+        → Chosen D objs fs (map (λ (e : Event). e .ground) es)
         → Grounded D (now (head .entry)) es (literalsIn (now (scratch .entry))) total
         → rowsIn n (now (work .entry)) ≡ map factRow fs → Indexed (now (head .entry)) (now (index .entry)) (map factRow fs)
-        → HoldsAfter D fs es (now (head .entry)) r (now (scratch .exit)) (now (index .exit))) ⌝ }
+        → HoldsAfter D objs fs es (now (head .entry)) r (now (scratch .exit)) (now (index .exit))) ⌝ }
     ensures beside { λ _. ⌜ getD (now (index .exit)) noteAt 0 ≡ getD (now (index .entry)) noteAt 0 ⌝ }
 {
     let m = step_effects(scratch, 0, total, 4);

@@ -2,7 +2,7 @@
 use mathlib.Core.Path.{_≡_, refl, sym, ap, ap₂, _∙_}
 use mathlib.Core.Bool.{Bool, true, false, _&&_, not, cond}
 use mathlib.Core.Logic.{_⊎_, inl, inr}
-use mathlib.Core.List.{List, [], _∷_, _++_, map, flatMap, append-nil, List·Memᴰ·head, List·Memᴰ·tail}
+use mathlib.Core.List.{List, [], _∷_, _++_, map, flatMap, append-nil, List·Memᴰ·head, List·Memᴰ·tail, List·Memᴰ·not-nil}
 use Prim.Native.Nat.{ℕ, zero, suc, _+_, _-_, _*_, _≤_, _<_}
 use native.Mathlib.Numerals.{add-one}
 use native.Mathlib.Omega.{arith}
@@ -14,13 +14,16 @@ use Rattle.records.specs.Lists.{In, all, any, sameList, elem, dedup}
 use Rattle.records.proofs.Lists.{bool-cases, off, clash, any-map, any-in, in-any, all-in, all-of, getD-in, allBelow, below-in, in-dedup, dedup-in}
 use Rattle.literals.specs.declared.Variable.{Variable}
 use Rattle.literals.specs.declared.Object.{Object}
+use Rattle.literals.specs.declared.Argument.{Argument}
+use Rattle.literals.specs.declared.Argument.the-variants.{Variable as bound, Every}
 use Rattle.literals.specs.declared.Time.{Time}
 use Rattle.literals.specs.declared.Time.the-variants.{AtStart, OverAll, AtEnd}
 use Rattle.literals.specs.declared.Usage.{Usage}
 use Rattle.literals.specs.declared.Usage.the-variants.{Positive, Negative, Add, Delete}
 use Rattle.literals.specs.declared.Role.{Role}
-use Rattle.literals.specs.Domain.{object, sameObject, Atom, Fact, sameLiteral, sameFact, usageNumber, roleNumber, roleOf, Literal, Action, Domain, arity, noAction, action}
-use Rattle.literals.specs.Table.{literalRow, rowsIn, Bounded}
+use Rattle.literals.specs.Domain.{object, sameObject, variablesOf, Atom, Fact, sameLiteral, sameFact, usageNumber, roleNumber, roleOf}
+use Rattle.literals.specs.Domain.{Literal, Action, Domain, arity, noAction, action}
+use Rattle.literals.specs.Table.{argumentNumber, literalRow, rowsIn, Bounded}
 use Rattle.literals.proofs.Equality.{literal-eq}
 use Rattle.literals.proofs.Tables.{Kept, kept, length-literal-row, rows-flat, pad-at}
 use Rattle.literals.specs.declared.Moment.{Moment}
@@ -28,7 +31,8 @@ use Rattle.literals.specs.declared.Moment.the-variants.{Start, End}
 use Rattle.literals.specs.Matching.{momentNumber, own, overAll, withRole, literalsAt}
 use Rattle.classes.proofs.Rows.{row-flat}
 use Rattle.literals.proofs.Indices.{any-agree}
-use Rattle.verdict.specs.Binding.{Binding, valueOf, bind}
+use Rattle.verdict.specs.Binding.{Binding, valueOf}
+use Rattle.verdict.specs.Patterns.{argumentByte, patternRow}
 use Rattle.verdict.specs.Judged.{objectNumbers}
 use Rattle.verdict.specs.Machine.{GroundAction, Event}
 use Rattle.events.specs.Held.{Open}
@@ -39,7 +43,7 @@ use Rattle.literals.specs.Held.{actionsIn, arityIn, HeadOf, Held, SpanOf}
 use Rattle.store.specs.Rows.{factRow, hasRow}
 use Rattle.store.proofs.InstanceRows.{same-numbers}
 use Rattle.literals.specs.Keys.{usageFor}
-use Rattle.events.specs.Held.{groundRow, GroundFits, objectOf, boundRow, timeOf, openOf, waitingOf}
+use Rattle.events.specs.Held.{groundRow, GroundFits, boundArgument, boundRow, timeOf, openOf, waitingOf}
 
 -- ---- equal rows are rows of equal facts
 
@@ -92,36 +96,49 @@ getD-number [] i = refl
 getD-number (o ∷ os) zero = refl
 getD-number (o ∷ os) (suc i) = getD-number os i
 
-pub object-at : (g : GroundAction) (v : Variable) → v .0 < length (g .binding) → length (g .binding) ≤ 16 → objectOf (groundRow g) (v .0) ≡ valueOf (g .binding) v .0
-object-at g v h k =
+-- an argument, bound by the row of an action
+pub argument-at : (g : GroundAction) (x : Argument) → ((v : Variable) → In v (variablesOf (x ∷ [])) → v .0 < length (g .binding))
+    → length (g .binding) ≤ 16 → boundArgument (groundRow g) (argumentNumber x) ≡ argumentByte (g .binding) x
+argument-at g Every h k = refl
+argument-at g (bound v) h k =
+    let l = h v (List·Memᴰ·head refl) in
     let b : v .0 < 16 = omega arith in
-    ap (λ (t : Bool). cond t (getD (groundRow g) (v .0 + 1) 0) 0) (lt-ltb (v .0) 16 b)
+    ap (λ (t : Bool). cond t (getD (groundRow g) (v .0 + 1) 0) 255) (lt-ltb (v .0) 16 b)
     ∙ ap (λ (i : ℕ). getD (groundRow g) i 0) (add-one (v .0))
-    ∙ List·getD-append (objectNumbers (g .binding)) (replicate (16 - length (g .binding)) 255) 0 (v .0) (rw length-map h)
+    ∙ List·getD-append (objectNumbers (g .binding)) (replicate (16 - length (g .binding)) 255) 0 (v .0) (rw length-map l)
     ∙ getD-number (g .binding) (v .0)
 
 -- ---- a literal's row, bound
 
-objects-at : (g : GroundAction) (vs : List Variable) → length (g .binding) ≤ 16 → ((v : Variable) → In v vs → v .0 < length (g .binding))
-    → map (objectOf (groundRow g)) (map (λ (v : Variable). v .0) vs) ≡ objectNumbers (map (valueOf (g .binding)) vs)
-objects-at g [] k h = refl
-objects-at g (v ∷ vs) k h =
-    ap₂ (λ (n : ℕ) (l : List ℕ). n ∷ l) (object-at g v (h v (List·Memᴰ·head refl)) k) (objects-at g vs k (λ w m. h w (List·Memᴰ·tail m)))
+arguments-at : (g : GroundAction) (xs : List Argument) → length (g .binding) ≤ 16
+    → ((v : Variable) → In v (variablesOf xs) → v .0 < length (g .binding))
+    → map (boundArgument (groundRow g)) (map argumentNumber xs) ≡ map (argumentByte (g .binding)) xs
+arguments-at g [] k h = refl
+arguments-at g (Every ∷ xs) k h = ap (λ (l : List ℕ). 255 ∷ l) (arguments-at g xs k h)
+arguments-at g (bound v ∷ xs) k h =
+    ap₂ (λ (n : ℕ) (l : List ℕ). n ∷ l) (argument-at g (bound v) (first v h) k)
+    (arguments-at g xs k (λ w m. h w (List·Memᴰ·tail m)))
+  where
+    first : (v : Variable) → ((w : Variable) → In w (v ∷ variablesOf xs) → w .0 < length (g .binding))
+        → (w : Variable) → In w (v ∷ []) → w .0 < length (g .binding)
+    first v h w (List·Memᴰ·head e) = h w (List·Memᴰ·head e)
+    first v h w (List·Memᴰ·tail m) = absurd (List·Memᴰ·not-nil m)
 
--- the fact of a literal whose relation has this arity, by an action's objects
-pub bound-fact : (head : List ℕ) (g : GroundAction) (l : Literal) → length (l .atom .args) ≡ arityIn head (l .atom .rel) → length (g .binding) ≤ 16
-    → ((v : Variable) → In v (l .atom .args) → v .0 < length (g .binding)) → boundRow head (groundRow g) (literalRow l) ≡ factRow (bind (g .binding) (l .atom))
-unfolding boundRow
-bound-fact head g l e k h =
-    ap (λ (n : ℕ). l .atom .rel ∷ n ∷ (map (objectOf (groundRow g)) (take n (numbers ++ fill)) ++ replicate (6 - n) 255)) (sym e)
-    ∙ ap (λ (x : List ℕ). l .atom .rel ∷ length (l .atom .args) ∷ (map (objectOf (groundRow g)) x ++ replicate (6 - length (l .atom .args)) 255))
-    (take-at numbers fill (length (l .atom .args)) (length-map (l .atom .args) (λ (v : Variable). v .0)))
-    ∙ ap (λ (x : List ℕ). l .atom .rel ∷ length (l .atom .args) ∷ (x ++ replicate (6 - length (l .atom .args)) 255)) (objects-at g (l .atom .args) k h)
-    ∙ ap (λ (n : ℕ). l .atom .rel ∷ n ∷ (objectNumbers (map (valueOf (g .binding)) (l .atom .args)) ++ replicate (6 - n) 255))
-    (sym (length-map (l .atom .args) (valueOf (g .binding))))
+-- that of a literal whose relation has this arity, by an action's objects
+pub bound-pattern : (head : List ℕ) (g : GroundAction) (l : Literal) → length (l .atom .args) ≡ arityIn head (l .atom .rel)
+    → length (g .binding) ≤ 16 → ((v : Variable) → In v (variablesOf (l .atom .args)) → v .0 < length (g .binding))
+    → boundRow head (groundRow g) (literalRow l) ≡ patternRow (g .binding) (l .atom)
+unfolding boundRow patternRow
+bound-pattern head g l e k h =
+    ap (λ (n : ℕ). l .atom .rel ∷ n ∷ (map (boundArgument (groundRow g)) (take n (numbers ++ fill)) ++ replicate (6 - n) 255)) (sym e)
+    ∙ ap (λ (x : List ℕ). l .atom .rel ∷ length (l .atom .args)
+    ∷ (map (boundArgument (groundRow g)) x ++ replicate (6 - length (l .atom .args)) 255))
+    (take-at numbers fill (length (l .atom .args)) (length-map (l .atom .args) argumentNumber))
+    ∙ ap (λ (x : List ℕ). l .atom .rel ∷ length (l .atom .args) ∷ (x ++ replicate (6 - length (l .atom .args)) 255))
+    (arguments-at g (l .atom .args) k h)
   where
     numbers : List ℕ
-    numbers = map (λ (v : Variable). v .0) (l .atom .args)
+    numbers = map argumentNumber (l .atom .args)
 
     fill : List ℕ
     fill = replicate (8 - suc (suc (length numbers))) 255
@@ -161,21 +178,22 @@ all-agree AtEnd Negative = refl
 all-agree AtEnd Add = refl
 all-agree AtEnd Delete = refl
 
-pub usage-counts : (t : Time) (c : Usage) (l : Literal) → Kept l → eqb (usageFor t (roleNumber (l .role))) (suc (usageNumber c)) ≡ countsFor t c (l .role)
+pub usage-counts : {D : Domain} (t : Time) (c : Usage) (l : Literal) → Kept D l
+    → eqb (usageFor t (roleNumber (l .role))) (suc (usageNumber c)) ≡ countsFor t c (l .role)
 usage-counts t c l k =
     let h = k .small in
     agree-same _ _ (below-in 10 (agrees t c) (all-agree t c) (roleNumber (l .role)) (omega arith)) ∙ ap (countsFor t c) (k .back)
 
 -- ---- what counts once
 
-pub any-once : (q : Atom Variable → Bool) (l : List (Atom Variable)) → any q (dedup sameLiteral l) ≡ any q l
+pub any-once : (q : Atom Argument → Bool) (l : List (Atom Argument)) → any q (dedup sameLiteral l) ≡ any q l
 any-once q l = go (bool-cases (any q l))
   where
     go : (any q l ≡ true) ⊎ (any q l ≡ false) → any q (dedup sameLiteral l) ≡ any q l
     go (inl t) = let r = any-in q l t in in-any q (in-dedup sameLiteral literal-eq (r .1)) (r .2) ∙ sym t
     go (inr f) = off _ (λ t. let r = any-in q (dedup sameLiteral l) t in clash (in-any q (dedup-in sameLiteral l (r .1)) (r .2)) f) ∙ sym f
 
-pub all-once : (q : Atom Variable → Bool) (l : List (Atom Variable)) → all q (dedup sameLiteral l) ≡ all q l
+pub all-once : (q : Atom Argument → Bool) (l : List (Atom Argument)) → all q (dedup sameLiteral l) ≡ all q l
 all-once q l = go (bool-cases (all q l))
   where
     go : (all q l ≡ true) ⊎ (all q l ≡ false) → all q (dedup sameLiteral l) ≡ all q l
@@ -183,12 +201,14 @@ all-once q l = go (bool-cases (all q l))
     go (inr f) = off _ (λ t. clash (all-of q l (λ a m. all-in q (dedup sameLiteral l) t (in-dedup sameLiteral literal-eq m))) f) ∙ sym f
 
 -- the literals of a moment, as a test of them sees them
-pub any-literals : (a : Action) (m : Moment) (c : Usage) (q : Atom Variable → Bool) → any q (literalsAt a m c) ≡ any q (withRole (countsFor (timeOf m) c) (a .lits))
+pub any-literals : (a : Action) (m : Moment) (c : Usage) (q : Atom Argument → Bool)
+    → any q (literalsAt a m c) ≡ any q (withRole (countsFor (timeOf m) c) (a .lits))
 unfolding literalsAt
 any-literals a Start c q = any-once q (withRole (own Start c) (a .lits))
 any-literals a End c q = any-once q (withRole (own End c) (a .lits))
 
-pub all-literals : (a : Action) (m : Moment) (c : Usage) (q : Atom Variable → Bool) → all q (literalsAt a m c) ≡ all q (withRole (countsFor (timeOf m) c) (a .lits))
+pub all-literals : (a : Action) (m : Moment) (c : Usage) (q : Atom Argument → Bool)
+    → all q (literalsAt a m c) ≡ all q (withRole (countsFor (timeOf m) c) (a .lits))
 unfolding literalsAt
 all-literals a Start c q = all-once q (withRole (own Start c) (a .lits))
 all-literals a End c q = all-once q (withRole (own End c) (a .lits))
@@ -200,7 +220,7 @@ unfolding action
 listed-in D i b = getD-in (D .actions) i noAction b
 
 pub head-kept : {D : Domain} {head : List ℕ} → HeadOf D head → (i : ℕ) → i < length (D .actions) → (l : Literal) → In l (action D i .lits)
-    → Kept l
+    → Kept D l
 head-kept {D} H i b l m = kept (H .bounded) (listed-in D i b) m
 
 module _ {D : Domain} {head table : List ℕ} (H : Held D head table) where
@@ -215,12 +235,12 @@ module _ {D : Domain} {head table : List ℕ} (H : Held D head table) where
 
   -- a literal's row of an action, by the action's objects
   pub held-bound : (g : GroundAction) → GroundFits D g → (l : Literal) → In l (action D (g .action) .lits)
-      → boundRow head (groundRow g) (literalRow l) ≡ factRow (bind (g .binding) (l .atom))
+      → boundRow head (groundRow g) (literalRow l) ≡ patternRow (g .binding) (l .atom)
   held-bound g F l m =
       let B = H .says .bounded in
       let i = listed-in D (g .action) (F .listed) in
       let e = F .bound in
-      bound-fact head g l (B .literalArity (action D (g .action)) i l m ∙ sym (H .says .arities (l .atom .rel))) (few-objects B g F)
+      bound-pattern head g l (B .literalArity (action D (g .action)) i l m ∙ sym (H .says .arities (l .atom .rel))) (few-objects B g F)
       (λ v w. let b = B .below (action D (g .action)) i l m v w in omega arith)
 
   -- an action with its objects, found by its row: it is one of the domain's

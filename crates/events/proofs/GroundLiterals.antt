@@ -24,9 +24,8 @@ use Rattle.literals.specs.Keys.{usageFor}
 use Rattle.literals.proofs.Indices.{getD-map}
 use Rattle.literals.proofs.KeyRows.{length-rows}
 use Rattle.literals.proofs.Rows.{part-first, rows-snoc}
-use Rattle.verdict.specs.Binding.{valueOf, bind}
+use Rattle.verdict.specs.Patterns.{patternRow}
 use Rattle.verdict.specs.Machine.{GroundAction, Event}
-use Rattle.store.specs.Rows.{factRow}
 use Rattle.events.specs.Held.{groundRow, Waiting, waitingOf, GroundFits, EventsFit, boundRow}
 use Rattle.events.specs.Grounding.{GroundLiteral, groundLiterals, eventLiterals, rowLiterals, maxGround, usagesAt, countsAt}
 use Rattle.events.specs.Grounding.{groundedBytes, groundAt, groundIn, inOne, Laid, Grounded, EachSized}
@@ -297,9 +296,9 @@ rows-few t head ground rows i at memory₀ memory n e =
 
 -- the ground literals of an action's rows are those of its literals
 row-ground : (t : Time) (head : List ℕ) (g : GroundAction) (ls : List Literal)
-    → ((l : Literal) → In l ls → boundRow head (groundRow g) (literalRow l) ≡ factRow (bind (g .binding) (l .atom)))
+    → ((l : Literal) → In l ls → boundRow head (groundRow g) (literalRow l) ≡ patternRow (g .binding) (l .atom))
     → rowLiterals t head (groundRow g) (map literalRow ls)
-    ≡ map (λ (l : Literal). record { usage = usageFor t (roleNumber (l .role)); row = factRow (bind (g .binding) (l .atom)) })
+    ≡ map (λ (l : Literal). record { usage = usageFor t (roleNumber (l .role)); row = patternRow (g .binding) (l .atom) })
     (filterBy (λ (l : Literal). not (eqb (usageFor t (roleNumber (l .role))) 0)) ls)
 unfolding rowLiterals
 row-ground t head g [] h = refl
@@ -307,7 +306,7 @@ row-ground t head g (l ∷ ls) h =
     go (not (eqb (usageFor t (roleNumber (l .role))) 0)) (row-ground t head g ls (λ l m. h l (List·Memᴰ·tail m)))
   where
     byLiteral : Literal → GroundLiteral
-    byLiteral l = record { usage = usageFor t (roleNumber (l .role)); row = factRow (bind (g .binding) (l .atom)) }
+    byLiteral l = record { usage = usageFor t (roleNumber (l .role)); row = patternRow (g .binding) (l .atom) }
 
     rows : List (List ℕ)
     rows = filterBy (rowCounts t) (map literalRow ls)
@@ -337,17 +336,16 @@ module _ {D : Domain} {head table : List ℕ} (H : Held D head table) where
       ∙ ap (rowLiterals t head (groundRow g)) (held-rows H (g .action) (F .listed) r S)
       ∙ row-ground t head g (action D (g .action) .lits) (held-bound H g F))
 
--- ---- each fact has the arity of its relation
+-- ---- each row has the arity of its relation
 
 module _ {D : Domain} {head : List ℕ} (H : HeadOf D head) where
   pub ground-sized : (t : Time) (g : GroundAction) → GroundFits D g → EachSized head (groundLiterals D t g)
-  unfolding groundLiterals
+  unfolding groundLiterals patternRow
   ground-sized t g F x m =
       let r = map-in _ _ m in
       let l = r .0 in
       let i = filter-in _ (action D (g .action) .lits) (r .1) .0 in
       ap (λ (x : GroundLiteral). byte (x .row) 1) (r .2)
-      ∙ length-map (l .atom .args) (valueOf (g .binding))
       ∙ H .bounded .literalArity (action D (g .action)) (listed-in D (g .action) (F .listed)) l i
       ∙ sym (H .arities (l .atom .rel))
       ∙ sym (ap (λ (x : GroundLiteral). arityIn head (byte (x .row) 0)) (r .2))

@@ -1,4 +1,4 @@
--- Laws of the fact that a literal's row is bound to, and of the rows of an action. Assumes nothing.
+-- Laws of a literal's row, bound, and of the rows of an action. Assumes nothing.
 use mathlib.Core.Path.{_≡_, refl, sym, ap, _∙_}
 use mathlib.Core.List.{List, [], _++_, map, append-nil}
 use Prim.Native.Nat.{ℕ, zero, suc, _+_, _-_, _≤_, _<_}
@@ -11,28 +11,28 @@ use Rattle.literals.specs.Decode.{byte}
 use Rattle.literals.proofs.Rows.{length-part, part-at}
 use Rattle.literals.proofs.Indices.{getD-map}
 use Rattle.literals.specs.Held.{arityIn}
-use Rattle.events.specs.Held.{objectOf, boundBytes, boundRow}
+use Rattle.events.specs.Held.{boundArgument, boundBytes, boundRow}
 
--- ---- the fact that a literal's row is bound to
+-- ---- a literal's row, bound
 
-pub object-in : (ground : List ℕ) (v : ℕ) → v < 16 → getD ground (v + 1) 0 ≡ objectOf ground v
-object-in ground v h = rw (lt-ltb v 16 h)
+pub argument-bound : (ground : List ℕ) (v : ℕ) → v < 16 → getD ground (v + 1) 0 ≡ boundArgument ground v
+argument-bound ground v h = rw (lt-ltb v 16 h)
 
-pub object-out : (ground : List ℕ) (v : ℕ) → 16 ≤ v → 0 ≡ objectOf ground v
-object-out ground v h = rw (le-ltb v 16 h)
+pub argument-stays : (ground : List ℕ) (v : ℕ) → 16 ≤ v → 255 ≡ boundArgument ground v
+argument-stays ground v h = rw (le-ltb v 16 h)
 
 module _ (arity : ℕ) (ground t : List ℕ) (at : ℕ) (h : at + 8 ≤ length t) (g : arity ≤ 6) where
   abbrev row : List ℕ
   row = take 8 (drop at t)
 
   abbrev objects : List ℕ
-  objects = map (objectOf ground) (take arity (drop 2 row))
+  objects = map (boundArgument ground) (take arity (drop 2 row))
 
   length-arguments : length (take arity (drop 2 row)) ≡ arity
   length-arguments = let l = length-part 8 t at h in length-take-le arity (drop 2 row) (simp length-drop (omega arith))
 
   length-objects : length objects ≡ arity
-  length-objects = length-map (take arity (drop 2 row)) (objectOf ground) ∙ length-arguments
+  length-objects = length-map (take arity (drop 2 row)) (boundArgument ground) ∙ length-arguments
 
   pub length-bound : length (boundBytes arity ground row) ≡ 8
   length-bound =
@@ -44,7 +44,8 @@ module _ (arity : ℕ) (ground t : List ℕ) (at : ℕ) (h : at + 8 ≤ length t
   pub bound-first : (i : ℕ) → i ≡ 0 → getD t (at + 1) 0 ≡ getD (boundBytes arity ground row) i 0
   bound-first i e = sym (part-at 8 t at h 1 (omega arith)) ∙ ap (λ (i : ℕ). getD (boundBytes arity ground row) i 0) (sym e)
 
-  pub bound-object : (i r : ℕ) → (i ≡ 0 → ⊥) → (i ≡ 1 → ⊥) → i < 2 + arity → r ≡ objectOf ground (getD t (at + i) 0) → r ≡ getD (boundBytes arity ground row) i 0
+  pub bound-object : (i r : ℕ) → (i ≡ 0 → ⊥) → (i ≡ 1 → ⊥) → i < 2 + arity
+      → r ≡ boundArgument ground (getD t (at + i) 0) → r ≡ getD (boundBytes arity ground row) i 0
   bound-object zero r n o l e = absurd (n refl)
   bound-object (suc zero) r n o l e = absurd (o refl)
   bound-object (suc (suc k)) r n o l e =
@@ -52,11 +53,11 @@ module _ (arity : ℕ) (ground t : List ℕ) (at : ℕ) (h : at + 8 ≤ length t
       let q = length-objects in
       let z : suc (suc k) ≡ 2 + k = omega arith in
       e
-      ∙ ap (λ (i : ℕ). objectOf ground (getD t (at + i) 0)) z
+      ∙ ap (λ (i : ℕ). boundArgument ground (getD t (at + i) 0)) z
       ∙ sym
       (List·getD-append objects (replicate (6 - arity) 255) 0 k (omega arith)
-      ∙ getD-map (objectOf ground) (take arity (drop 2 row)) k 0 0 (omega arith)
-      ∙ ap (objectOf ground) (getD-take arity (drop 2 row) k 0 (omega arith) ∙ getD-drop 2 row k 0 ∙ part-at 8 t at h (2 + k) (omega arith)))
+      ∙ getD-map (boundArgument ground) (take arity (drop 2 row)) k 0 0 (omega arith)
+      ∙ ap (boundArgument ground) (getD-take arity (drop 2 row) k 0 (omega arith) ∙ getD-drop 2 row k 0 ∙ part-at 8 t at h (2 + k) (omega arith)))
 
   pub bound-fill : (i : ℕ) → i < 8 → (i ≡ 0 → ⊥) → (i ≡ 1 → ⊥) → 2 + arity ≤ i → 255 ≡ getD (boundBytes arity ground row) i 0
   bound-fill zero l n o m = absurd (n refl)

@@ -1,35 +1,34 @@
 -- Ground literals: those of an action with its objects that count at a time, and how a memory holds those of a step. Assumes nothing.
 use mathlib.Core.Path.{_≡_}
-use mathlib.Core.Bool.{Bool, not}
+use mathlib.Core.Bool.{Bool, false, not}
 use mathlib.Core.List.{List, [], _∷_, _++_, map, flatMap}
 use Prim.Native.Nat.{ℕ, zero, suc, _+_, _*_, _<_}
 use lib.Dec.{eqb}
 use lib.ListN.{length, getD, take, drop}
-use Rattle.records.specs.Lists.{In, filterBy}
+use Rattle.records.specs.Lists.{In, filterBy, sameList}
 use Rattle.literals.specs.declared.Time.{Time}
 use Rattle.literals.specs.Domain.{roleNumber, Literal, Domain, action}
 use Rattle.literals.specs.Decode.{byte, maxLiterals}
 use Rattle.literals.specs.Held.{arityIn, HeadOf}
 use Rattle.literals.specs.Keys.{usageFor}
-use Rattle.verdict.specs.Binding.{bind}
+use Rattle.verdict.specs.Patterns.{patternRow, patternsMeet}
 use Rattle.verdict.specs.Machine.{GroundAction, Event}
 use Rattle.run_semantics.specs.RunFile.{maxEvents}
-use Rattle.store.specs.Rows.{factRow}
-use Rattle.events.specs.Held.{EventsFit, boundRow, timeOf}
+use Rattle.events.specs.Held.{EventsFit, boundRow, isPattern, timeOf}
 
 -- ---- ground literals
 
--- a literal bound to objects, as it counts at a time: its usage (1 true condition, 2 false condition, 3 add, 4 delete), and its fact
--- as a row
+-- a literal bound to objects, as it counts at a time: its usage (1 true condition, 2 false condition, 3 add, 4 delete), and its row:
+-- that of its fact, or with FF for every object a pattern, which is about every fact whose row it meets
 pub record GroundLiteral : Type 0 where
   pub usage : ℕ
   pub row : List ℕ
 
 -- those of an action with its objects that count at the start, over all, or at the end, in the order of its literals
 unfoldable pub groundLiterals : Domain → Time → GroundAction → List GroundLiteral
-unfolding usageFor action
+unfolding usageFor action patternRow
 groundLiterals D t g =
-    map (λ l. record { usage = usageFor t (roleNumber (l .role)); row = factRow (bind (g .binding) (l .atom)) })
+    map (λ l. record { usage = usageFor t (roleNumber (l .role)); row = patternRow (g .binding) (l .atom) })
     (filterBy (λ (l : Literal). not (eqb (usageFor t (roleNumber (l .role))) 0)) (action D (g .action) .lits))
 
 -- those of an event
@@ -81,6 +80,11 @@ pub record Grounded (D : Domain) (head : List ℕ) (es : List Event) (memory : L
   pub fit : EventsFit D es
   pub laid : Laid (map (eventLiterals D) es) memory total
 
--- each fact has the arity of its relation
+-- each row has the arity of its relation
 abbrev pub EachSized : List ℕ → List GroundLiteral → Type 0
 EachSized head ls = (l : GroundLiteral) → In l ls → byte (l .row) 1 ≡ arityIn head (byte (l .row) 0)
+
+-- rows of these and of those, none of them a pattern, meet only where they are the same
+abbrev pub MeetSame : List (List ℕ) → List (List ℕ) → Type 0
+MeetSame rows others =
+    (p q : List ℕ) → In p rows → In q others → isPattern p ≡ false → isPattern q ≡ false → patternsMeet p q ≡ sameList eqb p q

@@ -6,11 +6,11 @@ use Prim.Native.Nat.{ℕ, zero, suc, _+_, _-_, _*_, _<_}
 use lib.Dec.{eqb, ltb}
 use lib.ListN.{length, getD, take, drop, replicate}
 use lib.Seq.{paste}
-use Rattle.records.specs.Lists.{In, sameList}
+use Rattle.records.specs.Lists.{In, any, sameList}
 use Rattle.literals.specs.declared.Object.{Object}
 use Rattle.literals.specs.declared.Time.{Time}
 use Rattle.literals.specs.declared.Time.the-variants.{AtStart, AtEnd}
-use Rattle.literals.specs.Domain.{Domain, action}
+use Rattle.literals.specs.Domain.{Fact, Domain, action}
 use Rattle.literals.specs.Decode.{byte}
 use Rattle.literals.specs.Table.{pad, rowsBy}
 use Rattle.literals.specs.Held.{actionsIn, arityIn, lastingIn}
@@ -20,6 +20,7 @@ use Rattle.literals.specs.Matching.{momentNumber}
 use Rattle.literals.specs.Keys.{position}
 use Rattle.verdict.specs.Judged.{objectNumbers}
 use Rattle.verdict.specs.Machine.{GroundAction, Event}
+use Rattle.verdict.specs.Patterns.{FactOver}
 use Rattle.run_semantics.specs.RunFile.{maxRunning, maxEvents}
 use Rattle.store.specs.Rows.{hasRow}
 
@@ -114,20 +115,31 @@ GroundsFit D gs = (g : GroundAction) → In g gs → GroundFits D g
 abbrev pub EventsFit : Domain → List Event → Type 0
 EventsFit D es = (e : Event) → In e es → GroundFits D (e .ground)
 
+-- "whose facts and bindings use no objects but those chosen": there is one, and none is FF
+pub record Chosen (D : Domain) (objs : List Object) (fs : List Fact) (gs : List GroundAction) : Type 0 where
+  pub some : (o : Object) × In o objs
+  pub low : (o : Object) → In o objs → o .0 < 255
+  pub facts : (f : Fact) → In f fs → FactOver D objs f
+  pub bindings : (g : GroundAction) → In g gs → (o : Object) → In o (g .binding) → In o objs
+
 -- ---- a literal's row, bound
 
--- the object of a variable: an action's row has its objects behind the action
-abbrev pub objectOf : List ℕ → ℕ → ℕ
-objectOf ground v = cond (ltb v 16) (getD ground (v + 1) 0) 0
+-- an argument: the object of a variable, which an action's row has behind the action; FF, every object, stays
+abbrev pub boundArgument : List ℕ → ℕ → ℕ
+boundArgument ground v = cond (ltb v 16) (getD ground (v + 1) 0) 255
 
--- the fact of a literal's row, by the arity of its relation
+-- the row of a literal, so bound, by the arity of its relation
 abbrev pub boundBytes : ℕ → List ℕ → List ℕ → List ℕ
-boundBytes n ground row = byte row 1 ∷ n ∷ (map (objectOf ground) (take n (drop 2 row)) ++ replicate (6 - n) 255)
+boundBytes n ground row = byte row 1 ∷ n ∷ (map (boundArgument ground) (take n (drop 2 row)) ++ replicate (6 - n) 255)
 
 -- the same, with the arity that the head has
 unfoldable pub boundRow : List ℕ → List ℕ → List ℕ → List ℕ
 unfolding arityIn
 boundRow head ground row = boundBytes (arityIn head (byte row 1)) ground row
+
+-- a pattern: FF stands among the arguments of the row
+unfoldable pub isPattern : List ℕ → Bool
+isPattern row = any (eqb 255) (take (byte row 1) (drop 2 row))
 
 -- the time of an event's literals, by its moment
 abbrev pub timeOf : Moment → Time

@@ -1,29 +1,27 @@
-// The literals of an action as rows: the facts that its objects make of them, and the time that an event's moment asks of them.
-use literals::Object;
+// The literals of an action as rows, bound to its objects: the row of a fact, or a pattern with FF for every object; and the time that
+// an event's moment asks of them.
 use literals::Time;
-use literals::Variable;
 use literals::head::Head;
 use literals::head::arity_of;
+use records::bytes::wide;
 ghost use mathlib.Core.Path.{_≡_};
 ghost use Prim.Native.Nat.{_+_, _<_, _≤_};
 ghost use lib.ListN.{length, getD, take, drop};
-ghost use Rattle.literals.specs.Domain.{object};
 ghost use Rattle.run_semantics.specs.RunFile.{momentOf};
-ghost use Rattle.events.specs.Held.{objectOf, boundBytes, boundRow, timeOf};
+ghost use Rattle.events.specs.Held.{boundArgument, boundBytes, boundRow, isPattern, timeOf};
 
-// The object that an action's row has for a variable.
-fn object_of(ground: &[u8], v: Variable) -> Object
+// An argument's byte, bound: the object that an action's row has for a variable; FF, every object, stays.
+fn bound_argument(ground: &[u8], argument: u8) -> u8
     requires { ⌜ length (now ground) ≡ 17 ⌝ }
-    ensures { λ r. ⌜ r ≡ object (objectOf (now (ground .entry)) (v .0)) ⌝ }
+    ensures { λ r. ⌜ r ≡ boundArgument (now (ground .entry)) argument ⌝ }
 {
-    if v.0 < 16 {
-        let o = ground[v.0 as usize + 1];
-        return Object(o);
+    if argument < 16 {
+        return ground[argument as usize + 1];
     }
-    Object(0)
+    255
 }
 
-// A byte of the fact of the literal's row at an offset; `arity` is its relation's.
+// A byte of the literal's row at an offset, bound; `arity` is its relation's.
 fn bound_byte(arity: u8, ground: &[u8], rows: &[u8], row: usize, i: usize) -> u8
     requires bound { ⌜ length (now ground) ≡ 17 ⌝ }
     requires literal { ⌜ row + 8 ≤ length (now rows) ⌝ }
@@ -38,14 +36,13 @@ fn bound_byte(arity: u8, ground: &[u8], rows: &[u8], row: usize, i: usize) -> u8
         return arity;
     }
     if i < 2 + arity as usize {
-        let v = rows[row + i];
-        let o = object_of(ground, Variable(v));
-        return o.0;
+        let argument = rows[row + i];
+        return bound_argument(ground, argument);
     }
     255
 }
 
-// The fact of the literal's row at an offset.
+// The literal's row at an offset, bound.
 pub fn bound_row(head: &Head, ground: &[u8], rows: &[u8], row: usize) -> [u8; 8]
     requires bound { ⌜ length (now ground) ≡ 17 ⌝ }
     requires literal { ⌜ row + 8 ≤ length (now rows) ⌝ }
@@ -57,6 +54,23 @@ pub fn bound_row(head: &Head, ground: &[u8], rows: &[u8], row: usize) -> [u8; 8]
         fact[i] = bound_byte(arity, ground, rows, row, i);
     }
     fact
+}
+
+// Whether FF stands among the arguments of the row at an offset: a pattern, which is about every fact whose row it meets.
+pub fn is_pattern(rows: &[u8], at: usize) -> bool
+    requires { ⌜ at + 8 ≤ length (now rows) ⌝ }
+    ensures { λ r. ⌜ r ≡ isPattern (take 8 (drop at (now (rows .entry)))) ⌝ }
+{
+    let end = 2 + wide(rows[at + 1]);
+    for k in 2..8 {
+        if end <= k {
+            return false;
+        }
+        if rows[at + k] == 255 {
+            return true;
+        }
+    }
+    false
 }
 
 // The time of an event's literals, by the byte of its moment: 1 is an end.

@@ -30,8 +30,9 @@ ghost use Rattle.events.specs.Grounding.{groundIn, Grounded};
 // How many a step has at most.
 pub const MAX_GROUND: usize = MAX_EVENTS * MAX_LITERALS;
 
-// Their memory, in sections: a row for each one's fact (relation, arity, objects, FF to fill), behind the rows a byte for each one's usage
-// (1 true condition, 2 false condition, 3 add, 4 delete), and behind that a byte for each event of a step, how many it has.
+// Their memory, in sections: a row for each one (relation, arity, arguments: objects, or FF for every object; FF to fill), behind the rows
+// a byte for each one's usage (1 true condition, 2 false condition, 3 add, 4 delete), and behind that a byte for each event of a step, how
+// many it has.
 pub const CLAUSES: usize = 8 * MAX_GROUND;
 
 pub const COUNTS: usize = CLAUSES + MAX_GROUND;

@@ -1,5 +1,5 @@
 -- Every record that is read keeps the domain within the bounds of head and table, with the arities of its relations and the keys of its template. Assumes nothing.
-use mathlib.Core.Path.{_≡_, refl, ap, _∙_}
+use mathlib.Core.Path.{_≡_, refl, sym, ap, _∙_}
 use mathlib.Core.Bool.{Bool, true, false, not}
 use mathlib.Core.Logic.{_⊎_, inl, inr}
 use mathlib.Core.List.{List, [], _∷_, _++_, map, Memᴰ·of-map, List·Memᴰ·head, List·Memᴰ·tail, List·Memᴰ·not-nil, List·Memᴰ·eq-of-singleton}
@@ -7,12 +7,19 @@ use Prim.Native.Nat.{ℕ, suc, _≤_, _<_}
 use native.Mathlib.Omega.{arith}
 use lib.Dec.{eqb, leb}
 use lib.ListN.{length, drop, length-append, length-drop, length-map, List·getD-eq-default}
-use borrow.Author.Tests.{leb-true, leb-false, eqb-true}
+use borrow.Author.Tests.{leb-true, leb-false, ltb-true, eqb-true}
 use Rattle.records.specs.Lists.{In, any, empty, distinct}
-use Rattle.records.proofs.Lists.{any-out, any-none, getD-in, in-snoc, below-in, and-l, and-r, not-false, clash, eqb-comm, pairwise-snoc}
+use Rattle.records.proofs.Lists.{any-out, any-none, getD-in, in-snoc, below-in, and-l, and-r, or-out, not-false, clash, eqb-comm}
+use Rattle.records.proofs.Lists.{pairwise-snoc}
 use Rattle.literals.specs.declared.Variable.{Variable}
-use Rattle.literals.specs.Domain.{variable, roleOf, roleNumber, Literal, Action, Component, Template, keysOf, labelsFit, Domain, arity}
-use Rattle.literals.specs.Decode.{maxRelations, maxArguments, maxActions, maxVariables, maxLiterals, maxComponents, RecordKind, relationRecord, actionRecord, literalRecord, componentRecord, closingRecord, unknownRecord, latest, byte, literalOf, labelOf, componentOf, actionOf, withLiteral, fieldStop, stopOf, extend, noDomain, domain, decode}
+use Rattle.literals.specs.declared.Argument.{Argument}
+use Rattle.literals.specs.declared.Argument.the-variants.{Variable as bound, Every}
+use Rattle.literals.specs.Domain.{variablesOf, variableBelow, roleOf, roleNumber, Literal, clearsOnce, Action, Component, keepsKeys}
+use Rattle.literals.specs.Domain.{Template, keysOf, labelsFit, Domain, arity}
+use Rattle.literals.specs.Decode.{maxRelations, maxArguments, maxActions, maxVariables, maxLiterals, maxComponents, RecordKind}
+use Rattle.literals.specs.Decode.{relationRecord, actionRecord, literalRecord, componentRecord, closingRecord, unknownRecord, latest}
+use Rattle.literals.specs.Decode.{byte, argumentOf, literalOf, noVariable, labelOf, componentOf, actionOf, withLiteral, fieldStop}
+use Rattle.literals.specs.Decode.{stopOf, extend, noDomain, domain, decode}
 use Rattle.literals.specs.Table.{Bounded}
 use Rattle.literals.proofs.Loop.{decoded-by}
 use Rattle.literals.proofs.Stops.{Passes, passes, relation-passes, action-passes, LiteralPasses, literal-passes, role-nine, ComponentPasses, component-passes}
@@ -45,10 +52,12 @@ record Fits (D : Domain) (a : Action) : Type 0 where
   counts : a .vars ≤ maxVariables
   sizes : length (a .lits) ≤ maxLiterals
   arguments : (l : Literal) → In l (a .lits) → length (l .atom .args) ≤ maxArguments
-  variables : (l : Literal) → In l (a .lits) → (v : Variable) → In v (l .atom .args) → v .0 < 255
-  below : (l : Literal) → In l (a .lits) → (v : Variable) → In v (l .atom .args) → v .0 < a .vars
+  variables : (l : Literal) → In l (a .lits) → (v : Variable) → In v (variablesOf (l .atom .args)) → v .0 < 255
+  below : (l : Literal) → In l (a .lits) → (v : Variable) → In v (variablesOf (l .atom .args)) → v .0 < a .vars
   roles : (l : Literal) → In l (a .lits) → (roleNumber (l .role) ≤ 9) × (roleOf (roleNumber (l .role)) ≡ l .role)
   literalArity : (l : Literal) → In l (a .lits) → length (l .atom .args) ≡ arity D (l .atom .rel)
+  clears : (l : Literal) → In l (a .lits) → clearsOnce l ≡ true
+  keysKept : (l : Literal) → In l (a .lits) → (c : Component) → In c (D .template) → keepsKeys c (l .atom) ≡ true
 
 fits-of : (D : Domain) → Bounded D → (a : Action) → In a (D .actions) → Fits D a
 fits-of D h a m =
@@ -60,6 +69,8 @@ fits-of D h a m =
       below = h .below a m;
       roles = h .roles a m;
       literalArity = h .literalArity a m;
+      clears = h .clears a m;
+      keysKept = h .keysKept a m;
     }
 
 bounded-actions : (D : Domain) (as′ : List Action) → Bounded D → length as′ ≤ maxActions → ((a : Action) → In a as′ → Fits D a)
@@ -78,6 +89,8 @@ bounded-actions D as′ h n f =
       components = h .components;
       labels = h .labels;
       literalArity = λ a m. f a m .literalArity;
+      clears = λ a m. f a m .clears;
+      keysKept = λ a m. f a m .keysKept;
       componentArity = h .componentArity;
       keysFit = h .keysFit;
       componentsOnce = h .componentsOnce;
@@ -103,6 +116,21 @@ length-withLiteral l [] = refl
 length-withLiteral l (a ∷ []) = refl
 length-withLiteral l (a ∷ b ∷ bs) = ap suc (length-withLiteral l (b ∷ bs))
 
+-- a variable among some arguments is one of them
+pub variables-in : (as′ : List Argument) {v : Variable} → In v (variablesOf as′) → In (bound v) as′
+variables-in [] m = absurd (List·Memᴰ·not-nil m)
+variables-in (bound w ∷ as′) (List·Memᴰ·head e) = List·Memᴰ·head (ap bound e)
+variables-in (bound w ∷ as′) (List·Memᴰ·tail m) = List·Memᴰ·tail (variables-in as′ m)
+variables-in (Every ∷ as′) m = List·Memᴰ·tail (variables-in as′ m)
+
+-- of bytes that are FF or variables below n, the variables are below n
+pub variables-below : (n : ℕ) (bs : List ℕ) → any (noVariable n) bs ≡ false → (v : Variable) → In v (variablesOf (map argumentOf bs))
+    → v .0 < n
+variables-below n bs h v m =
+    let o = Memᴰ·of-map argumentOf bs (variables-in (map argumentOf bs) m) in
+    let g : variableBelow n (argumentOf (o .0)) ≡ true = not-false _ (any-out (noVariable n) h (o .1)) in
+    ltb-true (v .0) n (sym (ap (variableBelow n) (o .2)) ∙ g)
+
 literal-fits : (D : Domain) (p : List ℕ) → Bounded D → stopOf D literalRecord p ≡ 0 → Fits D (latest (D .actions))
     → Fits D (record { vars = latest (D .actions) .vars; lasting = latest (D .actions) .lasting; lits = latest (D .actions) .lits ++ (literalOf p ∷ []) })
 unfolding fieldStop
@@ -111,10 +139,16 @@ literal-fits D p h e f =
       counts = f .counts;
       sizes = let n = length-append (last .lits) (literalOf p ∷ []) in let r = leb-false maxLiterals (length (last .lits)) (ok .room) in omega arith;
       arguments = in-snoc {P = λ l. length (l .atom .args) ≤ maxArguments} (last .lits) (literalOf p) (f .arguments) six;
-      variables = in-snoc {P = λ l. (v : Variable) → In v (l .atom .args) → v .0 < 255} (last .lits) (literalOf p) (f .variables) low;
-      below = in-snoc {P = λ l. (v : Variable) → In v (l .atom .args) → v .0 < last .vars} (last .lits) (literalOf p) (f .below) lower;
+      variables = in-snoc {P = λ l. (v : Variable) → In v (variablesOf (l .atom .args)) → v .0 < 255} (last .lits) (literalOf p)
+          (f .variables) low;
+      below = in-snoc {P = λ l. (v : Variable) → In v (variablesOf (l .atom .args)) → v .0 < last .vars} (last .lits) (literalOf p)
+          (f .below) lower;
       roles = in-snoc {P = λ l. (roleNumber (l .role) ≤ 9) × (roleOf (roleNumber (l .role)) ≡ l .role)} (last .lits) (literalOf p) (f .roles) ranged;
       literalArity = in-snoc {P = λ l. length (l .atom .args) ≡ arity D (l .atom .rel)} (last .lits) (literalOf p) (f .literalArity) same;
+      clears = in-snoc {P = λ l. clearsOnce l ≡ true} (last .lits) (literalOf p) (f .clears) (q .clears);
+      keysKept = in-snoc {P = λ l. (c : Component) → In c (D .template) → keepsKeys c (l .atom) ≡ true} (last .lits) (literalOf p)
+          (f .keysKept)
+          (λ c m. absurd (empty-none (D .template) (not-false _ (or-out (empty (D .actions)) _ (ok .order) .1)) m));
     }
   where
     last : Action
@@ -126,20 +160,21 @@ literal-fits D p h e f =
     q : LiteralPasses D p
     q = literal-passes D p (ok .fields)
 
-    six : length (map variable (drop 2 p)) ≤ maxArguments
-    six = let a = arity-six D (h .arities) (byte p 1) in let n = length-map (drop 2 p) variable in let d = length-drop 2 p in let g = q .arguments in omega arith
-
-    same : length (map variable (drop 2 p)) ≡ arity D (byte p 1)
-    same = let n = length-map (drop 2 p) variable in let d = length-drop 2 p in let g = q .arguments in omega arith
-
-    lower : (v : Variable) → In v (map variable (drop 2 p)) → v .0 < last .vars
-    lower v m =
-        let o = Memᴰ·of-map variable (drop 2 p) m in
-        let g : o .0 < last .vars = leb-false (last .vars) (o .0) (any-out (leb (last .vars)) (q .variables) (o .1)) in
-        let z : o .0 ≡ v .0 = ap (λ (w : Variable). w .0) (o .2) in
+    six : length (map argumentOf (drop 2 p)) ≤ maxArguments
+    six =
+        let a = arity-six D (h .arities) (byte p 1) in
+        let n = length-map (drop 2 p) argumentOf in
+        let d = length-drop 2 p in
+        let g = q .arguments in
         omega arith
 
-    low : (v : Variable) → In v (map variable (drop 2 p)) → v .0 < 255
+    same : length (map argumentOf (drop 2 p)) ≡ arity D (byte p 1)
+    same = let n = length-map (drop 2 p) argumentOf in let d = length-drop 2 p in let g = q .arguments in omega arith
+
+    lower : (v : Variable) → In v (variablesOf (map argumentOf (drop 2 p))) → v .0 < last .vars
+    lower = variables-below (last .vars) (drop 2 p) (q .variables)
+
+    low : (v : Variable) → In v (variablesOf (map argumentOf (drop 2 p))) → v .0 < 255
     low v m = let g = lower v m in let c = f .counts in omega arith
 
     ranged : (roleNumber (roleOf (byte p 0)) ≤ 9) × (roleOf (roleNumber (roleOf (byte p 0))) ≡ roleOf (byte p 0))
@@ -192,6 +227,8 @@ bounded-extend D relationRecord p h e =
       components = h .components;
       labels = h .labels;
       literalArity = λ a m. absurd (empty-none (D .actions) (and-l _ _ first) m);
+      clears = h .clears;
+      keysKept = h .keysKept;
       componentArity = λ c m. absurd (empty-none (D .template) (and-r (empty (D .actions)) _ first) m);
       keysFit = h .keysFit;
       componentsOnce = h .componentsOnce;
@@ -210,6 +247,8 @@ bounded-extend D actionRecord p h e =
       below = λ l m. absurd (List·Memᴰ·not-nil m);
       roles = λ l m. absurd (List·Memᴰ·not-nil m);
       literalArity = λ l m. absurd (List·Memᴰ·not-nil m);
+      clears = λ l m. absurd (List·Memᴰ·not-nil m);
+      keysKept = λ l m. absurd (List·Memᴰ·not-nil m);
     }))
 bounded-extend D literalRecord p h e =
     let n = length-withLiteral (literalOf p) (D .actions) in
@@ -236,11 +275,20 @@ bounded-extend D componentRecord p h e =
       components = omega arith;
       labels = in-snoc {P = λ c. length (c .labels) ≤ maxArguments} (D .template) (componentOf p) (h .labels) (six (component-passes D p (ok .fields)));
       literalArity = h .literalArity;
+      clears = h .clears;
+      keysKept = λ a m l i. in-snoc {P = λ c. keepsKeys c (l .atom) ≡ true} (D .template) (componentOf p) (h .keysKept a m l i)
+          (new (component-passes D p (ok .fields)) a m l i);
       componentArity = in-snoc {P = λ c. length (c .labels) ≡ arity D (c .rel)} (D .template) (componentOf p) (h .componentArity) (same (component-passes D p (ok .fields)));
       keysFit = fit-snoc (D .template) (componentOf p) (h .keysFit) (component-passes D p (ok .fields) .labels);
       componentsOnce = once-snoc (D .template) (componentOf p) (h .componentsOnce) (component-passes D p (ok .fields) .once);
     }
   where
+    new : ComponentPasses D p → (a : Action) → In a (D .actions) → (l : Literal) → In l (a .lits)
+        → keepsKeys (componentOf p) (l .atom) ≡ true
+    new q a m l i =
+        not-false _ (any-out (λ (l : Literal). not (keepsKeys (componentOf p) (l .atom)))
+        (any-out (λ (a : Action). any (λ (l : Literal). not (keepsKeys (componentOf p) (l .atom))) (a .lits)) (q .keys) m) i)
+
     same : ComponentPasses D p → length (map labelOf (drop 1 p)) ≡ arity D (byte p 0)
     same q = let n = length-map (drop 1 p) labelOf in let d = length-drop 1 p in let g = q .arguments in omega arith
 
@@ -264,6 +312,8 @@ bounded-none =
       components = omega arith;
       labels = λ c m. absurd (List·Memᴰ·not-nil m);
       literalArity = λ a m. absurd (List·Memᴰ·not-nil m);
+      clears = λ a m. absurd (List·Memᴰ·not-nil m);
+      keysKept = λ a m. absurd (List·Memᴰ·not-nil m);
       componentArity = λ c m. absurd (List·Memᴰ·not-nil m);
       keysFit = λ c m. absurd (List·Memᴰ·not-nil m);
       componentsOnce = refl;

@@ -15,8 +15,9 @@ use Rattle.records.proofs.Lists.{and-l, and-r, and-i, bool-cases, or-r, eqb-com
 use Rattle.records.proofs.Numbers.{rows-split, cond-or}
 use Rattle.literals.specs.declared.Label.{Label}
 use Rattle.literals.specs.declared.Label.the-variants.{Key as keyed, Counted}
-use Rattle.literals.specs.Domain.{key, isKey, isCounted, keyBelow, eachKeyOnce, labelsFit}
-use Rattle.literals.specs.Decode.{byte, labelOf, countedAgain, sameLabelKey, keyAgain, keyTooHigh, atRecord, atLabel, labelFault}
+use Rattle.literals.specs.Domain.{key, isKey, isCounted, keyBelow, eachKeyOnce, labelsFit, clearsOnce}
+use Rattle.literals.specs.Decode.{byte, literalOf, noVariable, labelOf, countedAgain, sameLabelKey, keyAgain, keyTooHigh, atRecord}
+use Rattle.literals.specs.Decode.{atLabel, labelFault}
 use Rattle.literals.specs.Held.{relationsIn, arityIn, variablesIn, lastingIn}
 use Rattle.literals.specs.Fields.{argumentsStop, literalFields, again, highKey, keysBelow, eachOnce}
 use Rattle.literals.proofs.Labels.{first-map, found-map}
@@ -42,13 +43,26 @@ pub literal-by : (head : List ℕ) (i : ℕ) (p : List ℕ)
     → literalFields head i p
     ≡ cond (ltb (length p) 2) 12
     (cond (ltb 9 (byte p 0) || (ltb 3 (byte p 0) && not (lastingIn head i))) 16
-    (cond (eqb (argumentsStop head (byte p 1) 2 (length p)) 0) (cond (any (leb (variablesIn head i)) (drop 2 p)) 18 0) (argumentsStop head (byte p 1) 2 (length p))))
+    (cond (eqb (argumentsStop head (byte p 1) 2 (length p)) 0)
+    (cond (not (clearsOnce (literalOf p))) 26 (cond (any (noVariable (variablesIn head i)) (drop 2 p)) 18 0))
+    (argumentsStop head (byte p 1) 2 (length p))))
 unfolding literalFields argumentsStop
 literal-by head i p =
     ap (cond (ltb (length p) 2) 12)
     (sym (cond-or (ltb 9 (byte p 0)) (ltb 3 (byte p 0) && not (lastingIn head i)) 16 _)
     ∙ ap (cond (ltb 9 (byte p 0) || (ltb 3 (byte p 0) && not (lastingIn head i))) 16)
-    (rows-split ((leb (relationsIn head) (byte p 1), 17) ∷ (not (eqb (length p) (2 + arityIn head (byte p 1))), 12) ∷ []) (cond (any (leb (variablesIn head i)) (drop 2 p)) 18 0) refl))
+    (rows-split ((leb (relationsIn head) (byte p 1), 17) ∷ (not (eqb (length p) (2 + arityIn head (byte p 1))), 12) ∷ [])
+    (cond (not (clearsOnce (literalOf p))) 26 (cond (any (noVariable (variablesIn head i)) (drop 2 p)) 18 0)) refl))
+
+-- the same by what they answer
+abbrev literalTold : (short role none clears unknown : Bool) → ℕ → ℕ
+literalTold short role none clears unknown stop = cond short 12 (cond role 16 (cond none (cond (not clears) 26 (cond unknown 18 0)) stop))
+
+pub literal-told : (head : List ℕ) (i : ℕ) (p : List ℕ) {short role none clears unknown : Bool} {stop : ℕ} → ltb (length p) 2 ≡ short
+    → role ≡ (ltb 9 (byte p 0) || (ltb 3 (byte p 0) && not (lastingIn head i))) → stop ≡ argumentsStop head (byte p 1) 2 (length p)
+    → eqb stop 0 ≡ none → clears ≡ clearsOnce (literalOf p) → unknown ≡ any (noVariable (variablesIn head i)) (drop 2 p)
+    → literalTold short role none clears unknown stop ≡ literalFields head i p
+literal-told head i p s r e z c u = rw (r, ← z, ← s, e, c, u) (sym (literal-by head i p))
 
 -- ---- labels, as bytes
 

@@ -14,9 +14,10 @@ use Rattle.records.specs.Memory.{over}
 use Rattle.records.proofs.Lists.{bool-cases, getD-in, flatMap-in}
 use Rattle.literals.specs.Decode.{maxRelations, maxArguments, maxVariables}
 use Rattle.literals.specs.Domain.{Literal, Action, Component, Domain, noAction, action}
-use Rattle.literals.specs.Table.{literalRow, componentRow, allLiterals, tableBytes}
+use Rattle.literals.specs.Table.{literalRow, componentRow, allLiterals, tableBytes, rowsIn, Bounded}
 use Rattle.literals.specs.Held.{within, keysIn, componentsIn, arityIn, bytesFrom, componentRowIn, componentRowsFrom, componentRowsIn, variablesIn, sizeIn, firstIn, HeadOf, Held, SpanOf, atArities, atComponents, atVariables}
-use Rattle.literals.proofs.Tables.{length-literal-row, length-flat}
+use Rattle.literals.proofs.Tables.{length-literal-row, length-flat, length-literals, rows-flat}
+use Rattle.literals.proofs.Held.{literals-in}
 use Rattle.literals.proofs.Spans.{part-flat, literals-split, literals-next}
 
 -- ---- a number within its limit
@@ -190,6 +191,30 @@ module _ {D : Domain} {head table : List ℕ} (H : Held D head table) (i : ℕ) 
               ∙ part-flat literalRow before (action D i .lits) behind (H .old) eights;
         },
       )
+
+-- ---- the literals of all actions
+
+-- 8 bytes a literal
+pub length-table : {D : Domain} → Bounded D → length (tableBytes D) ≡ 8 * length (allLiterals (D .actions))
+unfolding tableBytes
+length-table {D} B =
+    length-literals (allLiterals (D .actions)) (λ l m. let o = literals-in (D .actions) m in B .arguments (o .0) (o .1) l (o .2))
+
+-- the table has room for them, and their rows
+module _ {D : Domain} {head table : List ℕ} (H : Held D head table) where
+  pub all-room : 8 * length (allLiterals (D .actions)) ≤ length table
+  unfolding over
+  all-room =
+      let n = length-table (H .says .bounded) in
+      let e = ap length (H .rows) ∙ length-append (tableBytes D) (drop (length (tableBytes D)) (H .old)) in
+      omega arith
+
+  pub all-rows : rowsIn (length (allLiterals (D .actions))) table ≡ map literalRow (allLiterals (D .actions))
+  unfolding tableBytes over
+  all-rows =
+      ap (rowsIn (length (allLiterals (D .actions)))) (H .rows)
+      ∙ rows-flat literalRow (allLiterals (D .actions)) (drop (length (tableBytes D)) (H .old))
+      (λ l m. let o = literals-in (D .actions) m in length-literal-row l (H .says .bounded .arguments (o .0) (o .1) l (o .2)))
 
 -- ---- limits of what a head says, whatever its bytes are
 

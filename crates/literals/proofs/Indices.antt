@@ -10,7 +10,7 @@ use native.Mathlib.Omega.{arith}
 use lib.Dec.{eqb, eqb·suc-suc}
 use lib.ListN.{length, getD, take}
 use borrow.Author.Tests.{ne-eqb, eqb-true, eqb-false}
-use Rattle.records.specs.Lists.{In, keepIf, filterBy, all, any}
+use Rattle.records.specs.Lists.{In, keepIf, filterBy, all, any, sideBySide}
 use Rattle.records.proofs.Lists.{bool-cases, filter-append, filter-agree}
 use Rattle.literals.specs.Keys.{position, numbersFrom, below}
 
@@ -32,6 +32,9 @@ module _ (p : ℕ → Bool) (n i : ℕ) where
   pub any-end : n ≤ i → any p (left n i) ≡ false
   any-end h = rw (left-none n i h)
 
+  pub all-end : n ≤ i → all p (left n i) ≡ true
+  all-end h = rw (left-none n i h)
+
   pub position-end : n ≤ i → position p (left n i) ≡ 0
   position-end h = rw (left-none n i h)
 
@@ -41,6 +44,12 @@ module _ (p : ℕ → Bool) (n i : ℕ) where
 
     pub any-miss : p i ≡ false → any p (left n i) ≡ any p (left n (i + 1))
     any-miss t = rw (left-more n i h, t)
+
+    pub all-hit : p i ≡ true → all p (left n i) ≡ all p (left n (i + 1))
+    all-hit t = rw (left-more n i h, t)
+
+    pub all-miss : p i ≡ false → all p (left n i) ≡ false
+    all-miss t = rw (left-more n i h, t)
 
     pub position-hit : p i ≡ true → position p (left n i) ≡ 0
     position-hit t = rw (left-more n i h, t)
@@ -96,9 +105,16 @@ module _ {A : Type 0} (p q : A → Bool) where
   position-agree [] h = refl
   position-agree (x ∷ xs) h = ap₂ (λ (t : Bool) (k : ℕ). cond t zero (suc k)) (h x (List·Memᴰ·head refl)) (position-agree xs (λ a m. h a (List·Memᴰ·tail m)))
 
+  all-agree : (l : List A) → ((a : A) → In a l → p a ≡ q a) → all p l ≡ all q l
+  all-agree [] h = refl
+  all-agree (x ∷ xs) h = ap₂ _&&_ (h x (List·Memᴰ·head refl)) (all-agree xs (λ a m. h a (List·Memᴰ·tail m)))
+
 module _ (p q : ℕ → Bool) (n : ℕ) (h : (j : ℕ) → j < n → p j ≡ q j) where
   pub any-below : any p (below n) ≡ any q (below n)
   any-below = any-agree p q (below n) (λ j m. h j (below-less n m))
+
+  pub all-below : all p (below n) ≡ all q (below n)
+  all-below = all-agree p q (below n) (λ j m. h j (below-less n m))
 
   pub filter-below : filterBy p (below n) ≡ filterBy q (below n)
   filter-below = filter-agree p q (below n) (λ j m. h j (below-less n m))
@@ -121,6 +137,20 @@ module _ {A : Type 0} (d : A) where
   pub at-all : (l : List A) → map (λ j. getD l j d) (below (length l)) ≡ l
   at-all [] = refl
   at-all (x ∷ xs) = ap {B = List A} (λ l. x ∷ l) (map-from (λ j. getD (x ∷ xs) j d) 0 (length xs) ∙ at-all xs)
+
+-- two lists of one length, side by side
+pub side-all : {A B : Type 0} (r : A → B → Bool) (d : A) (e : B) (xs : List A) (ys : List B) → length xs ≡ length ys
+    → all (λ i. r (getD xs i d) (getD ys i e)) (below (length xs)) ≡ sideBySide r xs ys
+side-all r d e [] ys h = refl
+side-all r d e (x ∷ xs) [] h = absurd (omega arith)
+side-all r d e (x ∷ xs) (y ∷ ys) h =
+    ap (λ (t : Bool). r x y && t)
+    (from 0 (length xs) ∙ side-all r d e xs ys (omega arith))
+  where
+    from : (i n : ℕ) → all (λ i. r (getD (x ∷ xs) i d) (getD (y ∷ ys) i e)) (numbersFrom (suc i) n) ≡ all
+        (λ i. r (getD xs i d) (getD ys i e)) (numbersFrom i n)
+    from i zero = refl
+    from i (suc n) = ap (λ (t : Bool). r (getD xs i d) (getD ys i e) && t) (from (suc i) n)
 
 -- the default does not matter
 pub getD-map : {A B : Type 0} (f : A → B) (l : List A) (i : ℕ) (d : A) (e : B) → i < length l → getD (map f l) i e ≡ f (getD l i d)

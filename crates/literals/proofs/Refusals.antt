@@ -1,4 +1,4 @@
--- A file that is not well-formed is refused with a number from 9 to 25. Assumes nothing.
+-- A file that is not well-formed is refused with a number from 9 to 27. Assumes nothing.
 use mathlib.Core.Path.{_≡_, refl}
 use mathlib.Core.Bool.{Bool, true, false, not, _&&_, cond}
 use mathlib.Core.Logic.{_⊎_, inl, inr}
@@ -19,24 +19,24 @@ use Rattle.literals.specs.declared.RecordFault.{RecordFault}
 use Rattle.literals.specs.Decode.{maxFile, RecordKind, relationRecord, actionRecord, literalRecord, componentRecord, closingRecord}
 use Rattle.literals.specs.Decode.{unknownRecord, kindOf, headStop, byte, relationStop, fieldFault}
 use Rattle.literals.specs.Decode.{actionStop, literalStop, atRecord, atLabel, componentOf, countedAgain, keyAgain, keyTooHigh}
-use Rattle.literals.specs.Decode.{labelFault, closingStop, fieldStop, stopOf, stopAt, refuseAt, extend}
+use Rattle.literals.specs.Decode.{labelFault, keysCleared, clearedFault, closingStop, fieldStop, stopOf, stopAt, refuseAt, extend}
 use Rattle.literals.specs.Decode.{Refusal, refuse, Decoded, refused, domain, Reading, ReadTurn, goOn, finish, readRecord, readFound}
 use Rattle.literals.specs.Decode.{readStep, readFrom, fromStart, decode}
-use Rattle.literals.proofs.Stops.{headRows, head-number, literalRows, componentRows, labelsFault, component-number}
+use Rattle.literals.proofs.Stops.{headRows, head-number, literalRows, componentRows, labelsFault, lastFault, component-number}
 
 -- ---- the number that stops a record
 
 -- a number of the table down to the row "closing", and of the labels
 abbrev pub Refuses : ℕ → Type 0
-Refuses n = (9 ≤ n) × (n ≤ 25)
+Refuses n = (9 ≤ n) × (n ≤ 27)
 
 -- such a number, or 0 where nothing stops the record
 abbrev pub Stop : ℕ → Type 0
 Stop n = (n ≡ 0) ⊎ Refuses n
 
 -- rows with such numbers stop a record by one of them
-stop-rows : (rows : List (Bool × ℕ)) (n : ℕ) → numbered (λ m. leb 9 m && leb m 25) rows ≡ true → Stop n → Stop (numberOf rows n)
-stop-rows rows n t h = by-numbers 9 25 Stop (λ m l u. inr (l, u)) rows n t (λ g. h)
+stop-rows : (rows : List (Bool × ℕ)) (n : ℕ) → numbered (λ m. leb 9 m && leb m 27) rows ≡ true → Stop n → Stop (numberOf rows n)
+stop-rows rows n t h = by-numbers 9 27 Stop (λ m l u. inr (l, u)) rows n t (λ g. h)
 
 stop-head : (D : Domain) (k : RecordKind) → Stop (headStop D k)
 stop-head D k = rw (head-number D k) (stop-rows (headRows D k) 0 refl (inl refl))
@@ -52,13 +52,23 @@ stop-label n ls = go (found countedAgain ls) (found keyAgain ls) (found (keyTooH
     go false false false true = inl refl
     go false false false false = inr (omega arith, omega arith)
 
+-- 27 where nothing else stops it
+stop-cleared : (as′ : List Action) (c : Component) (f : RecordFault) → Stop (f .number) → Stop (clearedFault as′ c f .number)
+stop-cleared as′ c f h = go (eqb (f .number) 0 && keysCleared as′ c)
+  where
+    go : (b : Bool) → Stop (cond b (atRecord 27) f .number)
+    go true = inr (omega arith, omega arith)
+    go false = h
+
 stop-field : (D : Domain) (k : RecordKind) (p : List ℕ) → Stop (fieldStop D k p)
 unfolding fieldStop relationStop actionStop literalStop closingStop
 stop-field D relationRecord p = stop-rows ((not (eqb (length p) 1), 12) ∷ (ltb 6 (byte p 0), 15) ∷ []) 0 refl (inl refl)
 stop-field D actionRecord p = stop-rows ((not (eqb (length p) 2), 12) ∷ (ltb 16 (byte p 0), 15) ∷ (ltb 1 (byte p 1), 15) ∷ []) 0 refl (inl refl)
 stop-field D literalRecord p = stop-rows (literalRows D p) 0 refl (inl refl)
 stop-field D componentRecord p =
-    rw (component-number D p) (stop-rows (componentRows D p) (labelsFault D p .number) refl (stop-label (keysOf (D .template ++ (componentOf p ∷ []))) (componentOf p .labels)))
+    rw (component-number D p) (stop-rows (componentRows D p) (lastFault D p .number) refl
+    (stop-cleared (D .actions) (componentOf p) (labelsFault D p)
+    (stop-label (keysOf (D .template ++ (componentOf p ∷ []))) (componentOf p .labels))))
 stop-field D closingRecord p = stop-rows ((not (eqb (length p) 0), 12) ∷ (empty (D .template), 23) ∷ []) 0 refl (inl refl)
 stop-field D unknownRecord p = inl refl
 
@@ -119,7 +129,7 @@ refuses-from (suc fuel) s r = go (readStep s r) (refuses-step s r) (λ q. refuse
     go (goOn q) h ih = ih q
     go (finish d) h ih = h
 
--- "9 to 23", and 24 and 25
+-- "9 to 23", and 24 to 27
 pub refusal-number : (d : List ℕ) (f : Refusal) → decode d ≡ refused f → Refuses (f .number)
 unfolding decode
 refusal-number d f e = rw e at (go (ltb maxFile (length d)))

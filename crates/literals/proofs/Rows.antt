@@ -1,6 +1,6 @@
 -- Rows of 8 bytes: a payload's row by its bytes, and the loops that write rows, compare them and go through them. Assumes nothing.
 use mathlib.Core.Path.{_≡_, refl, sym, ap, ap₂, _∙_}
-use mathlib.Core.Bool.{Bool, true, false, _&&_}
+use mathlib.Core.Bool.{Bool, true, false, _&&_, not, cond}
 use mathlib.Core.List.{List, [], _∷_, _++_, append-nil, List·Memᴰ·head, List·Memᴰ·tail, List·Memᴰ·not-nil}
 use Prim.Native.Nat.{ℕ, suc, _+_, _-_, _*_, _≤_, _<_, max, zero}
 use native.Mathlib.Numerals.{add-one}
@@ -10,11 +10,12 @@ use lib.Dec.{eqb}
 use lib.ListN.{length, getD, set, take, drop, replicate, length-append, length-replicate, length-drop, getD-replicate, List·getD-append, drop-of-length-le}
 use lib.Seq.{drop-cons, getD-drop, getD-take, getD-append-add, drop-drop, length-take-le, take-all, paste}
 use borrow.Author.Tests.{eq-eqb, ne-eqb, eqb-true}
-use Rattle.records.specs.Lists.{In, any, all, sameList}
+use Rattle.records.specs.Lists.{In, any, all, sameList, sideBySide}
 use Rattle.records.proofs.Lists.{off, sameList-eq}
 use Rattle.records.proofs.Memory.{paste-more, paste-length}
-use Rattle.literals.specs.Decode.{byte}
-use Rattle.literals.specs.Table.{rowOf, FourAt, roleRank, rowRank, rowsBy, rowsIn, rowsRank}
+use Rattle.literals.specs.Decode.{maxArguments, byte}
+use Rattle.literals.specs.Fields.{keyBeside, keyClearedIn}
+use Rattle.literals.specs.Table.{rowOf, FourAt, meetByte, argumentsMeet, rowsMeet, roleRank, rowRank, rowsBy, rowsIn, rowsRank}
 
 -- ---- a payload's row
 
@@ -42,15 +43,26 @@ put-length p out₀ out at i h g l e = paste-length (rowOf p) out₀ out at i 8 
 
 -- ---- comparing two lists from an index on
 
+module _ (test : ℕ → ℕ → Bool) (x y : List ℕ) (i : ℕ) where
+  pub test-miss : i < length x → i < length y → test (getD x i 0) (getD y i 0) ≡ false → sameList test (drop i x) (drop i y) ≡ false
+  test-miss h g e = rw (drop-cons x i 0 h, drop-cons y i 0 g, e)
+
+  pub test-hit : i < length x → i < length y → test (getD x i 0) (getD y i 0) ≡ true
+      → sameList test (drop i x) (drop i y) ≡ sameList test (drop (i + 1) x) (drop (i + 1) y)
+  test-hit h g e = rw (drop-cons x i 0 h, drop-cons y i 0 g, e, add-one)
+
+  pub test-end : length x ≤ i → length y ≤ i → sameList test (drop i x) (drop i y) ≡ true
+  test-end h g = rw (drop-of-length-le x h, drop-of-length-le y g)
+
 module _ (x y : List ℕ) (i : ℕ) where
   pub same-miss : i < length x → i < length y → (getD x i 0 ≡ getD y i 0 → ⊥) → sameList eqb (drop i x) (drop i y) ≡ false
-  same-miss h g n = rw (drop-cons x i 0 h, drop-cons y i 0 g, ne-eqb (getD x i 0) (getD y i 0) n)
+  same-miss h g n = test-miss eqb x y i h g (ne-eqb (getD x i 0) (getD y i 0) n)
 
   pub same-hit : i < length x → i < length y → getD x i 0 ≡ getD y i 0 → sameList eqb (drop i x) (drop i y) ≡ sameList eqb (drop (i + 1) x) (drop (i + 1) y)
-  same-hit h g e = rw (drop-cons x i 0 h, drop-cons y i 0 g, eq-eqb (getD x i 0) (getD y i 0) e, add-one)
+  same-hit h g e = test-hit eqb x y i h g (eq-eqb (getD x i 0) (getD y i 0) e)
 
   pub same-end : length x ≤ i → length y ≤ i → sameList eqb (drop i x) (drop i y) ≡ true
-  same-end h g = rw (drop-of-length-le x h, drop-of-length-le y g)
+  same-end h g = test-end eqb x y i h g
 
 -- ---- four bytes at a time
 
@@ -171,6 +183,76 @@ module _ (w : ℕ) (t : List ℕ) (at : ℕ) (h : at + w ≤ length t) where
   pub part-at : (i : ℕ) → i < w → getD (take w (drop at t)) i 0 ≡ getD t (at + i) 0
   part-at i g = getD-take w (drop at t) i 0 g ∙ getD-drop at t i 0
 
+-- ---- whether the arguments of two rows at offsets meet, from byte k on
+
+module _ (x y : List ℕ) (i j k : ℕ) (h : i + 8 ≤ length x) (g : j + 8 ≤ length y) where
+  abbrev left : ℕ → Bool
+  left n = sameList meetByte (drop n (take 8 (drop i x))) (drop n (take 8 (drop j y)))
+
+  at-both : k < 8 → meetByte (getD (take 8 (drop i x)) k 0) (getD (take 8 (drop j y)) k 0) ≡ meetByte (getD x (i + k) 0) (getD y (j + k) 0)
+  at-both l = ap₂ meetByte (part-at 8 x i h k l) (part-at 8 y j g k l)
+
+  pub meet-miss : k < 8 → meetByte (getD x (i + k) 0) (getD y (j + k) 0) ≡ false → left k ≡ false
+  meet-miss l e =
+      test-miss meetByte (take 8 (drop i x)) (take 8 (drop j y)) k (omega (arith, length-part 8 x i h)) (omega (arith, length-part 8 y j g))
+      (at-both l ∙ e)
+
+  pub meet-hit : k < 8 → meetByte (getD x (i + k) 0) (getD y (j + k) 0) ≡ true → left k ≡ left (k + 1)
+  meet-hit l e =
+      test-hit meetByte (take 8 (drop i x)) (take 8 (drop j y)) k (omega (arith, length-part 8 x i h)) (omega (arith, length-part 8 y j g))
+      (at-both l ∙ e)
+
+  pub meet-end : 8 ≤ k → left k ≡ true
+  meet-end l =
+      test-end meetByte (take 8 (drop i x)) (take 8 (drop j y)) k (omega (arith, length-part 8 x i h)) (omega (arith, length-part 8 y j g))
+
+-- two rows of literals, by their relations
+module _ (x y : List ℕ) (i j : ℕ) (h : i + 8 ≤ length x) (g : j + 8 ≤ length y) where
+  relations-at : eqb (byte (take 8 (drop i x)) 1) (byte (take 8 (drop j y)) 1) ≡ eqb (getD x (i + 1) 0) (getD y (j + 1) 0)
+  relations-at = ap₂ eqb (part-at 8 x i h 1 (omega arith)) (part-at 8 y j g 1 (omega arith))
+
+  pub rows-meeting : {r : Bool} → getD x (i + 1) 0 ≡ getD y (j + 1) 0 → r ≡ argumentsMeet (take 8 (drop i x)) (take 8 (drop j y))
+      → r ≡ rowsMeet (take 8 (drop i x)) (take 8 (drop j y))
+  rows-meeting e f =
+      f ∙ sym (ap (λ (t : Bool). t && argumentsMeet (take 8 (drop i x)) (take 8 (drop j y))) (relations-at ∙ eq-eqb _ _ e))
+
+  pub rows-apart : (getD x (i + 1) 0 ≡ getD y (j + 1) 0 → ⊥) → false ≡ rowsMeet (take 8 (drop i x)) (take 8 (drop j y))
+  rows-apart n = sym (ap (λ (t : Bool). t && argumentsMeet (take 8 (drop i x)) (take 8 (drop j y))) (relations-at ∙ ne-eqb _ _ n))
+
+-- ---- the labels of a component's payload, from label i on, beside the arguments of the literal's row at an offset
+
+module _ (p t : List ℕ) (at : ℕ) (h : at + 8 ≤ length t) where
+  abbrev besides : ℕ → Bool
+  besides i = sideBySide keyBeside (drop i p) (drop (i + 1) (take 8 (drop at t)))
+
+  module _ (i : ℕ) (g : length p ≤ 1 + maxArguments) (l : i < length p) where
+    next-beside : besides i ≡ keyBeside (getD p i 0) (getD t (at + 1 + i) 0) && besides (i + 1)
+    next-beside =
+        let n = length-part 8 t at h in
+        let z : at + (i + 1) ≡ at + 1 + i = omega arith in
+        let a = part-at 8 t at h (i + 1) (omega arith) ∙ ap (λ (k : ℕ). getD t k 0) z in
+        ap₂ (sideBySide keyBeside) (next p i (i + 1) refl l) (next (take 8 (drop at t)) (i + 1) (i + 1 + 1) refl (omega arith))
+        ∙ ap (λ (b : ℕ). keyBeside (getD p i 0) b && besides (i + 1)) a
+
+    pub beside-miss : keyBeside (getD p i 0) (getD t (at + 1 + i) 0) ≡ false → besides i ≡ false
+    beside-miss e = next-beside ∙ ap (λ (b : Bool). b && besides (i + 1)) e
+
+    pub beside-hit : keyBeside (getD p i 0) (getD t (at + 1 + i) 0) ≡ true → besides i ≡ besides (i + 1)
+    beside-hit e = next-beside ∙ ap (λ (b : Bool). b && besides (i + 1)) e
+
+  pub beside-end : (i : ℕ) → length p ≤ i → besides i ≡ true
+  beside-end i l = rw (drop-of-length-le p l)
+
+  -- by the relations
+  relation-at : eqb (byte p 0) (byte (take 8 (drop at t)) 1) ≡ eqb (getD p 0 0) (getD t (at + 1) 0)
+  relation-at = ap (eqb (byte p 0)) (part-at 8 t at h 1 (omega arith))
+
+  pub clears-same : {r : Bool} → getD p 0 0 ≡ getD t (at + 1) 0 → r ≡ besides 1 → not r ≡ keyClearedIn p (take 8 (drop at t))
+  clears-same e f = ap not f ∙ sym (ap (λ (b : Bool). b && not (besides 1)) (relation-at ∙ eq-eqb _ _ e))
+
+  pub clears-other : (getD p 0 0 ≡ getD t (at + 1) 0 → ⊥) → false ≡ keyClearedIn p (take 8 (drop at t))
+  clears-other n = sym (ap (λ (b : Bool). b && not (besides 1)) (relation-at ∙ ne-eqb _ _ n))
+
 -- ---- the rows of w bytes of a memory from row i on
 
 pub rows-more : (w : ℕ) (t : List ℕ) (n i : ℕ) → i < n → rowsBy w (n - i) (drop (w * i) t) ≡ take w (drop (w * i) t) ∷ rowsBy w (n - (i + 1)) (drop (w * (i + 1)) t)
@@ -216,13 +298,23 @@ pub row-full : (row : List ℕ) → length row ≡ 8 → rowOf row ≡ row
 row-full row g = let z : 8 - length row ≡ 0 = omega arith in rw z (append-nil row)
 
 module _ (row t : List ℕ) (at : ℕ) (g : length row ≡ 8) where
-  pub rank-same : (r : ℕ) → sameList eqb (drop 1 row) (drop 1 (take 8 (drop at t))) ≡ true → r ≡ roleRank (getD row 0 0) (getD t at 0) → r ≡ rowRank row (take 8 (drop at t))
-  unfolding rowRank
-  rank-same r e f = rw (row-full row g, e, part-first t at) f
+  -- by the rank of the roles
+  module _ {k : ℕ} (f : k ≡ roleRank (getD row 0 0) (getD t at 0)) where
+    pub rank-two : {b : Bool} → k ≡ 2 → b ≡ sameList eqb (drop 1 row) (drop 1 (take 8 (drop at t))) → cond b 2 0 ≡ rowRank row
+        (take 8 (drop at t))
+    unfolding rowRank
+    rank-two e s = rw s (let q : roleRank (getD row 0 0) (getD t at 0) ≡ 2 = sym f ∙ e in rw (row-full row g, part-first t at, q))
 
-  pub rank-other : sameList eqb (drop 1 row) (drop 1 (take 8 (drop at t))) ≡ false → 0 ≡ rowRank row (take 8 (drop at t))
-  unfolding rowRank
-  rank-other e = rw (row-full row g, e)
+    pub rank-one : {b : Bool} → k ≡ 1 → b ≡ rowsMeet (take 8 (drop 0 row)) (take 8 (drop at t)) → cond b 1 0 ≡ rowRank row
+        (take 8 (drop at t))
+    unfolding rowRank
+    rank-one e s =
+        rw (s, take-all 8 row (omega arith))
+        (let q : roleRank (getD row 0 0) (getD t at 0) ≡ 1 = sym f ∙ e in rw (row-full row g, part-first t at, q))
+
+    pub rank-none : (k ≡ 2 → ⊥) → (k ≡ 1 → ⊥) → 0 ≡ rowRank row (take 8 (drop at t))
+    unfolding rowRank
+    rank-none n m = rw (part-first t at, ← f, ne-eqb k 2 n, ne-eqb k 1 m)
 
 -- a payload ranks as its row does
 ranks-row : (p : List ℕ) (rows : List (List ℕ)) → 0 < length p → length p ≤ 8 → rowsRank (rowOf p) rows ≡ rowsRank p rows

@@ -11,12 +11,12 @@ use Rattle.records.specs.Lists.{any, empty}
 use Rattle.records.proofs.Lists.{and-l, and-r, not-false, clash, or-out}
 use Rattle.records.proofs.Numbers.{numberOf, numbered, none-passes}
 use Rattle.literals.specs.declared.RecordFault.{RecordFault}
-use Rattle.literals.specs.Domain.{Action, Component, keysOf, labelsFit, Domain, arity}
+use Rattle.literals.specs.Domain.{clearsOnce, Action, Component, keysOf, labelsFit, Domain, arity}
 use Rattle.literals.specs.Decode.{maxRelations, maxActions, maxLiterals, maxComponents, RecordKind, relationRecord, actionRecord}
 use Rattle.literals.specs.Decode.{literalRecord, componentRecord, closingRecord, unknownRecord, latest, headStop, byte}
 use Rattle.literals.specs.Decode.{relationStop, actionStop, fieldFault, stopAt}
-use Rattle.literals.specs.Decode.{literalOf, repeats, contradicts, noRole, literalStop, atRecord, componentOf, labelFault}
-use Rattle.literals.specs.Decode.{componentFault, componentStop, fieldStop, fieldPlace, stopOf, stopPlace}
+use Rattle.literals.specs.Decode.{literalOf, repeats, contradicts, noRole, noVariable, literalStop, atRecord, componentOf, labelFault}
+use Rattle.literals.specs.Decode.{keysCleared, clearedFault, componentFault, componentStop, fieldStop, fieldPlace, stopOf, stopPlace}
 use Rattle.literals.proofs.Labels.{passes-fit, passes-place}
 
 -- ---- the head of a record, test by test
@@ -100,7 +100,8 @@ pub record LiteralPasses (D : Domain) (p : List ℕ) : Type 0 where
   pub role : noRole (latest (D .actions)) (byte p 0) ≡ false
   pub relation : byte p 1 < length (D .arities)
   pub arguments : length p ≡ 2 + arity D (byte p 1)
-  pub variables : any (leb (latest (D .actions) .vars)) (drop 2 p) ≡ false
+  pub clears : clearsOnce (literalOf p) ≡ true
+  pub variables : any (noVariable (latest (D .actions) .vars)) (drop 2 p) ≡ false
   pub once : any (repeats (literalOf p)) (latest (D .actions) .lits) ≡ false
   pub agrees : any (contradicts (literalOf p)) (latest (D .actions) .lits) ≡ false
 
@@ -112,7 +113,8 @@ literalRows D p =
     ∷ (noRole a (byte p 0), 16)
     ∷ (leb (length (D .arities)) (byte p 1), 17)
     ∷ (not (eqb (length p) (2 + arity D (byte p 1))), 12)
-    ∷ (any (leb (a .vars)) (drop 2 p), 18)
+    ∷ (not (clearsOnce (literalOf p)), 26)
+    ∷ (any (noVariable (a .vars)) (drop 2 p), 18)
     ∷ (any (repeats (literalOf p)) (a .lits), 19)
     ∷ (any (contradicts (literalOf p)) (a .lits), 20)
     ∷ []
@@ -126,9 +128,10 @@ literal-passes D p e =
       role = r 1;
       relation = leb-false _ _ (r 2);
       arguments = eqb-true _ _ (not-false _ (r 3));
-      variables = r 4;
-      once = r 5;
-      agrees = r 6;
+      clears = not-false _ (r 4);
+      variables = r 5;
+      once = r 6;
+      agrees = r 7;
     }
 
 pub role-nine : (a : Action) (r : ℕ) → noRole a r ≡ false → r ≤ 9
@@ -140,6 +143,7 @@ pub record ComponentPasses (D : Domain) (p : List ℕ) : Type 0 where
   pub arguments : length p ≡ 1 + arity D (byte p 0)
   pub once : any (λ (d : Component). eqb (byte p 0) (d .rel)) (D .template) ≡ false
   pub labels : labelsFit (keysOf (D .template ++ (componentOf p ∷ []))) (componentOf p .labels) ≡ true
+  pub keys : keysCleared (D .actions) (componentOf p) ≡ false
 
 -- the rows of a component, but the last one
 abbrev pub componentRows : Domain → List ℕ → List (Bool × ℕ)
@@ -153,6 +157,28 @@ componentRows D p =
 -- the labels of a component, of the template with it
 abbrev pub labelsFault : Domain → List ℕ → RecordFault
 labelsFault D p = labelFault (keysOf (D .template ++ (componentOf p ∷ []))) (componentOf p .labels)
+
+-- then its keys, where the literals of its relation have FF
+abbrev pub lastFault : Domain → List ℕ → RecordFault
+lastFault D p = clearedFault (D .actions) (componentOf p) (labelsFault D p)
+
+pub cleared-passes : (as′ : List Action) (c : Component) (f : RecordFault) → clearedFault as′ c f .number ≡ 0
+    → (f .number ≡ 0) × (keysCleared as′ c ≡ false)
+cleared-passes as′ c f = go (eqb (f .number) 0) (keysCleared as′ c) refl
+  where
+    go : (b t : Bool) → eqb (f .number) 0 ≡ b → cond (b && t) (atRecord 27) f .number ≡ 0 → (f .number ≡ 0) × (t ≡ false)
+    go true true e z = absurd (omega arith)
+    go true false e z = (z, refl)
+    go false t e z = absurd (eqb-false (f .number) 0 e z)
+
+-- where nothing stops it there is no place
+pub cleared-place : (as′ : List Action) (c : Component) (f : RecordFault) → (f .number ≡ 0 → f .within ≡ 0)
+    → clearedFault as′ c f .number ≡ 0 → clearedFault as′ c f .within ≡ 0
+cleared-place as′ c f h = go (eqb (f .number) 0 && keysCleared as′ c)
+  where
+    go : (b : Bool) → cond b (atRecord 27) f .number ≡ 0 → cond b (atRecord 27) f .within ≡ 0
+    go true e = refl
+    go false e = h e
 
 -- rows at the record, and a fault behind them
 abbrev pub faultBy : List (Bool × ℕ) → RecordFault → RecordFault
@@ -187,23 +213,28 @@ faults-none (row ∷ rows) f t h e = go (row .0) e (faults-none rows f (and-r (l
     go true e ih = refl
     go false e ih = ih e
 
-pub component-number : (D : Domain) (p : List ℕ) → componentStop D p ≡ numberOf (componentRows D p) (labelsFault D p .number)
+pub component-number : (D : Domain) (p : List ℕ) → componentStop D p ≡ numberOf (componentRows D p) (lastFault D p .number)
 unfolding componentStop componentFault
-component-number D p = fault-number (componentRows D p) (labelsFault D p)
+component-number D p = fault-number (componentRows D p) (lastFault D p)
 
 pub component-place : (D : Domain) (p : List ℕ) → componentStop D p ≡ 0 → componentFault D p .within ≡ 0
 unfolding componentStop componentFault
-component-place D p = faults-none (componentRows D p) (labelsFault D p) refl (passes-place (keysOf (D .template ++ (componentOf p ∷ []))) (componentOf p .labels))
+component-place D p =
+    faults-none (componentRows D p) (lastFault D p) refl
+    (cleared-place (D .actions) (componentOf p) (labelsFault D p)
+    (passes-place (keysOf (D .template ++ (componentOf p ∷ []))) (componentOf p .labels)))
 
 pub component-passes : (D : Domain) (p : List ℕ) → componentStop D p ≡ 0 → ComponentPasses D p
 component-passes D p e =
-    let r = none-passes (componentRows D p) (labelsFault D p .number) refl (sym (component-number D p) ∙ e) in
+    let r = none-passes (componentRows D p) (lastFault D p .number) refl (sym (component-number D p) ∙ e) in
+    let s = cleared-passes (D .actions) (componentOf p) (labelsFault D p) (r .1) in
     record {
       long = ltb-false _ _ (r .0 0);
       relation = leb-false _ _ (r .0 1);
       arguments = eqb-true _ _ (not-false _ (r .0 2));
       once = r .0 3;
-      labels = passes-fit (keysOf (D .template ++ (componentOf p ∷ []))) (componentOf p .labels) (r .1);
+      labels = passes-fit (keysOf (D .template ++ (componentOf p ∷ []))) (componentOf p .labels) (s .0);
+      keys = s .1;
     }
 
 -- ---- the place

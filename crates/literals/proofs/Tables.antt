@@ -1,24 +1,35 @@
 -- Laws of the tables that reading fills: rows of literals and of components, lists in arrays, and what the ranks of rows say of literals. Assumes nothing.
 use mathlib.Core.Path.{_≡_, refl, sym, ap, ap₂, _∙_}
-use mathlib.Core.Bool.{Bool, true, false, _&&_, _||_, cond}
-use mathlib.Core.List.{List, [], _∷_, _++_, map, flatMap, append-assoc, List·Memᴰ·head, List·Memᴰ·tail, Memᴰ·of-map}
+use mathlib.Core.Bool.{Bool, true, false, _&&_, _||_, not, cond, false≢true}
+use mathlib.Core.Logic.{_⊎_, inl, inr}
+use mathlib.Core.List.{List, [], _∷_, _++_, map, flatMap, append-assoc, List·Memᴰ·head, List·Memᴰ·tail}
 use Prim.Native.Nat.{ℕ, zero, suc, _+_, _-_, _*_, _≤_, _<_, max}
 use native.Mathlib.Nat.{add-comm, mul-zero, mul-suc}
 use native.Mathlib.Omega.{arith}
 use lib.Dec.{eqb}
-use lib.ListN.{length, getD, set, drop, replicate, length-append, length-map, length-replicate}
+use lib.ListN.{length, getD, set, drop, replicate, length-append, length-map, length-drop, length-replicate}
 use lib.Seq.{take-at, drop-at, paste}
 use borrow.Author.Tests.{eqb-true, ne-eqb}
-use Rattle.records.specs.Lists.{In, any, sameList}
+use Rattle.records.specs.Lists.{In, any, sameList, sideBySide}
 use Rattle.records.specs.Memory.{over}
-use Rattle.records.proofs.Lists.{eqb-same, sameList-self, any-map, map-back, allBelow, below-in}
+use Rattle.records.proofs.Lists.{and-r, bool-cases, eqb-same, sameList-self, any-map, any-append, map-back, allBelow, below-in}
 use Rattle.records.proofs.Memory.{over-more, over-paste, drop-replicate, getD-fill}
 use Rattle.literals.specs.declared.Variable.{Variable}
+use Rattle.literals.specs.declared.Argument.{Argument}
+use Rattle.literals.specs.declared.Argument.the-variants.{Variable as bound, Every}
+use Rattle.literals.specs.declared.Usage.{Usage}
+use Rattle.literals.specs.declared.Usage.the-variants.{Positive, Negative, Add, Delete}
 use Rattle.literals.specs.declared.Role.{Role}
-use Rattle.literals.specs.Domain.{variable, sameLiteral, roleOf, roleNumber, sameRole, Literal, Action, Component, Domain}
-use Rattle.literals.specs.Decode.{maxArguments, byte, literalOf, repeats, contrary, together, contradicts}
-use Rattle.literals.specs.Table.{rowOf, literalRow, labelNumber, componentRow, pad, roleRank, rowRank, rowsBy, rowsRank, Bounded}
+use Rattle.literals.specs.Domain.{sameArgument, meetArgument, sameAtom, sameLiteral, meets, roleOf, roleNumber, sameTime, sameUsage}
+use Rattle.literals.specs.Domain.{sameRole, Literal, Action, Component, isCounted, keysBound, keepsKeys, Domain, arity}
+use Rattle.literals.specs.Decode.{maxArguments, byte, argumentOf, literalOf, repeats, contrary, together, contradicts, labelOf}
+use Rattle.literals.specs.Decode.{componentOf, keysCleared}
+use Rattle.literals.specs.Fields.{keyBeside, keyClearedIn}
+use Rattle.literals.specs.Table.{rowOf, argumentNumber, literalRow, labelNumber, componentRow, allLiterals, pad, meetByte, rowsMeet}
+use Rattle.literals.specs.Table.{roleRank, rowRank, rowsBy, rowsRank, Bounded}
 use Rattle.literals.proofs.Rows.{length-row}
+use Rattle.literals.proofs.Bounds.{role-number}
+use Rattle.literals.proofs.Arguments.{counted-label, argument-back, Small, same-arguments, meet-arguments}
 
 -- ---- a row at the seam of a table
 
@@ -52,7 +63,7 @@ module _ {A : Type 0} (f : A → List ℕ) where
 -- ---- of literals and of components
 
 pub length-literal-row : (l : Literal) → length (l .atom .args) ≤ maxArguments → length (literalRow l) ≡ 8
-length-literal-row l h = length-row (roleNumber (l .role) ∷ l .atom .rel ∷ map (λ (v : Variable). v .0) (l .atom .args)) (rw length-map (omega arith))
+length-literal-row l h = length-row (roleNumber (l .role) ∷ l .atom .rel ∷ map argumentNumber (l .atom .args)) (rw length-map (omega arith))
 
 pub length-component-row : (c : Component) → length (c .labels) ≤ maxArguments → length (componentRow c) ≡ 8
 length-component-row c h = length-row (c .rel ∷ map labelNumber (c .labels)) (rw length-map (omega arith))
@@ -87,21 +98,30 @@ pad-paste n l p at k e f = ap (λ (a : List ℕ). paste a at p k) (pad-over n l)
 -- ---- ranks: what the bytes of a literal's row say of the literal
 
 -- what reading has checked of a payload, before it compares it with the rows
-pub record Comparable (p : List ℕ) : Type 0 where
+pub record Comparable (D : Domain) (p : List ℕ) : Type 0 where
   pub enough : 2 ≤ length p
   pub fits : length p ≤ 8
   pub role : byte p 0 ≤ 9
-  pub arguments : (b : ℕ) → In b (drop 2 p) → b < 255
+  pub arguments : length p ≡ 2 + arity D (byte p 1)
+  pub variables : Small (literalOf p .atom .args)
 
 -- and what it has kept of a literal
-pub record Kept (l : Literal) : Type 0 where
+pub record Kept (D : Domain) (l : Literal) : Type 0 where
   pub fits : length (l .atom .args) ≤ maxArguments
-  pub arguments : (v : Variable) → In v (l .atom .args) → v .0 < 255
+  pub arguments : length (l .atom .args) ≡ arity D (l .atom .rel)
+  pub variables : Small (l .atom .args)
   pub small : roleNumber (l .role) ≤ 9
   pub back : roleOf (roleNumber (l .role)) ≡ l .role
 
-pub kept : {D : Domain} → Bounded D → {a : Action} → In a (D .actions) → {l : Literal} → In l (a .lits) → Kept l
-kept B {a} i {l} j = record { fits = B .arguments a i l j; arguments = B .variables a i l j; small = B .roles a i l j .0; back = B .roles a i l j .1 }
+pub kept : {D : Domain} → Bounded D → {a : Action} → In a (D .actions) → {l : Literal} → In l (a .lits) → Kept D l
+kept B {a} i {l} j =
+    record {
+      fits = B .arguments a i l j;
+      arguments = B .literalArity a i l j;
+      variables = B .variables a i l j;
+      small = B .roles a i l j .0;
+      back = B .roles a i l j .1;
+    }
 
 -- the rank of two literals, by two tests
 abbrev rank : Bool → Bool → ℕ
@@ -139,40 +159,102 @@ module _ {A : Type 0} (number : A → ℕ) where
 abbrev pub value : Variable → ℕ
 value v = v .0
 
-same-atoms : (a b : ℕ) (q : List ℕ) (l : Literal) → Comparable (a ∷ b ∷ q) → Kept l
-    → sameList eqb (drop 1 (rowOf (a ∷ b ∷ q))) (drop 1 (literalRow l)) ≡ sameLiteral (literalOf (a ∷ b ∷ q) .atom) (l .atom)
-same-atoms a b q l h k =
-    let g = h .fits in
-    let f = k .fits in
-    let n = length-map (l .atom .args) value in
-    let o = length-map q variable in
-    let m = 8 - suc (suc (length (map value (l .atom .args)))) in
-    ap (λ (t : Bool). eqb b (l .atom .rel) && t)
-    (ap (λ (x : List ℕ). sameList eqb (x ++ replicate (8 - suc (suc (length q))) 255) (map value (l .atom .args) ++ replicate m 255)) (sym (map-back value variable (λ b. refl) q))
-    ∙ same-filled value (map variable q) (l .atom .args) (8 - suc (suc (length q))) m small (k .arguments) (omega arith))
-  where
-    small : (v : Variable) → In v (map variable q) → v .0 < 255
-    small v i = let r = Memᴰ·of-map variable q i in let e = ap value (r .2) in let j = h .arguments (r .0) (r .1) in omega arith
+-- -- rows of two literals, behind the relation, are the same, or meet, exactly where the atoms do: one relation has one arity, so that FF
+-- stands for FF, or fills beside what fills
+
+module _ (D : Domain) (l m : Literal) (el : length (l .atom .args) ≡ arity D (l .atom .rel))
+    (em : length (m .atom .args) ≡ arity D (m .atom .rel)) where
+  abbrev fill : ℕ
+  fill = 8 - suc (suc (length (map argumentNumber (l .atom .args))))
+
+  by-arguments : (test : ℕ → ℕ → Bool) (eq : Argument → Argument → Bool)
+      → (length (l .atom .args) ≡ length (m .atom .args)
+      → sameList test (map argumentNumber (l .atom .args) ++ replicate fill 255) (map argumentNumber (m .atom .args) ++ replicate fill 255)
+      ≡ sameList eq (l .atom .args) (m .atom .args))
+      → eqb (l .atom .rel) (m .atom .rel) && sameList test (drop 2 (literalRow l)) (drop 2 (literalRow m)) ≡ sameAtom eq (l .atom) (m .atom)
+  by-arguments test eq h = by (bool-cases (eqb (l .atom .rel) (m .atom .rel)))
+    where
+      by : (eqb (l .atom .rel) (m .atom .rel) ≡ true) ⊎ (eqb (l .atom .rel) (m .atom .rel) ≡ false)
+          → eqb (l .atom .rel) (m .atom .rel) && sameList test (drop 2 (literalRow l)) (drop 2 (literalRow m)) ≡ sameAtom eq (l .atom)
+          (m .atom)
+      by (inr f) = rw f
+      by (inl t) =
+          let e : length (l .atom .args) ≡ length (m .atom .args) = el ∙ ap (arity D) (eqb-true (l .atom .rel) (m .atom .rel) t) ∙ sym em in
+          let u = length-map (l .atom .args) argumentNumber in
+          let w = length-map (m .atom .args) argumentNumber in
+          let q : fill ≡ 8 - suc (suc (length (map argumentNumber (m .atom .args)))) = omega arith in
+          ap (λ (t : Bool). eqb (l .atom .rel) (m .atom .rel) && t) (rw (← q) (h e))
+
+  module _ (sl : Small (l .atom .args)) (sm : Small (m .atom .args)) where
+    pub same-rows : sameList eqb (drop 1 (literalRow l)) (drop 1 (literalRow m)) ≡ sameLiteral (l .atom) (m .atom)
+    same-rows = by-arguments eqb sameArgument (λ e. same-arguments (l .atom .args) (m .atom .args) e sl sm fill)
+
+    pub meet-rows : rowsMeet (literalRow l) (literalRow m) ≡ meets (l .atom) (m .atom)
+    meet-rows = by-arguments meetByte meetArgument (λ e. meet-arguments (l .atom .args) (m .atom .args) e sl sm fill)
 
 -- -- both
 
-by-tests : (s r c : Bool) → cond s (rank r c) 0 ≡ rank (r && s) (c && s)
-by-tests true true c = refl
-by-tests true false true = refl
-by-tests true false false = refl
-by-tests false true true = refl
-by-tests false true false = refl
-by-tests false false true = refl
-by-tests false false false = refl
+-- the row of a payload is that of its literal
+pub payload-row : (p : List ℕ) → 2 ≤ length p → byte p 0 ≤ 9 → rowOf p ≡ literalRow (literalOf p)
+payload-row [] e h = absurd (omega arith)
+payload-row (a ∷ []) e h = absurd (omega arith)
+payload-row (a ∷ b ∷ q) e h =
+    ap₂ (λ (r : ℕ) (x : List ℕ). rowOf (r ∷ b ∷ x)) (sym (role-number a h)) (sym (map-back argumentNumber argumentOf argument-back q))
 
-pub literal-rank : (p : List ℕ) (l : Literal) → Comparable p → Kept l → rowRank p (literalRow l) ≡ cond (repeats (literalOf p) l) 2 (cond (contradicts (literalOf p) l) 1 0)
+-- literals of one role are not opposed
+same-opposed : (r s : Role) → sameRole r s ≡ true → opposed r s ≡ false
+same-opposed r s t = go (r .usage) (s .usage) (and-r (sameTime (r .time) (s .time)) _ t)
+  where
+    go : (c d : Usage) → sameUsage c d ≡ true → contrary c d && together (r .time) (s .time) ≡ false
+    go Positive Positive t = refl
+    go Positive Negative t = absurd (false≢true t)
+    go Positive Add t = absurd (false≢true t)
+    go Positive Delete t = absurd (false≢true t)
+    go Negative Positive t = absurd (false≢true t)
+    go Negative Negative t = refl
+    go Negative Add t = absurd (false≢true t)
+    go Negative Delete t = absurd (false≢true t)
+    go Add d t = refl
+    go Delete d t = refl
+
+by-tests : (r c s o : Bool) → (r ≡ true → c ≡ false)
+    → _≡_ {A = ℕ} (cond (eqb (rank r c) 2) (cond s 2 0) (cond (eqb (rank r c) 1) (cond o 1 0) 0)) (cond (r && s) 2 (cond (c && o) 1 0))
+by-tests true true s o f = absurd (false≢true (sym (f refl)))
+by-tests true false true o f = refl
+by-tests true false false o f = refl
+by-tests false true s o f = refl
+by-tests false false s o f = refl
+
+-- of a payload's row and a literal's
+abbrev rowsRanked : ℕ → Bool → Bool → ℕ
+rowsRanked n s o = cond (eqb n 2) (cond s 2 0) (cond (eqb n 1) (cond o 1 0) 0)
+
+pub literal-rank : {D : Domain} (p : List ℕ) (l : Literal) → Comparable D p → Kept D l
+    → rowRank p (literalRow l) ≡ cond (repeats (literalOf p) l) 2 (cond (contradicts (literalOf p) l) 1 0)
 unfolding rowRank
 literal-rank [] l h k = let g = h .enough in absurd (omega arith)
 literal-rank (a ∷ []) l h k = let g = h .enough in absurd (omega arith)
-literal-rank (a ∷ b ∷ q) l h k =
-    let roles = role-rank a (roleNumber (l .role)) (h .role) (k .small) ∙ ap (λ (r : Role). rank (sameRole (roleOf a) r) (opposed (roleOf a) r)) (k .back) in
-    ap₂ (λ (s : Bool) (n : ℕ). cond s n 0) (same-atoms a b q l h k) roles
-    ∙ by-tests (sameLiteral (literalOf (a ∷ b ∷ q) .atom) (l .atom)) (sameRole (roleOf a) (l .role)) (opposed (roleOf a) (l .role))
+literal-rank {D} (a ∷ b ∷ q) l h k =
+    ap₂ (λ (n : ℕ) (x : List ℕ). rowsRanked n (sameList eqb (drop 1 x) (drop 1 (literalRow l))) (rowsMeet x (literalRow l)))
+    roles (payload-row (a ∷ b ∷ q) (h .enough) (h .role))
+    ∙ ap₂ (rowsRanked n) (same-rows D m l args (k .arguments) (h .variables) (k .variables))
+    (meet-rows D m l args (k .arguments) (h .variables) (k .variables))
+    ∙ by-tests (sameRole (m .role) (l .role)) (opposed (m .role) (l .role)) (sameLiteral (m .atom) (l .atom)) (meets (m .atom) (l .atom))
+    (same-opposed (m .role) (l .role))
+  where
+    m : Literal
+    m = literalOf (a ∷ b ∷ q)
+
+    n : ℕ
+    n = rank (sameRole (m .role) (l .role)) (opposed (m .role) (l .role))
+
+    roles : roleRank a (roleNumber (l .role)) ≡ n
+    roles =
+        role-rank a (roleNumber (l .role)) (h .role) (k .small)
+        ∙ ap (λ (r : Role). rank (sameRole (roleOf a) r) (opposed (roleOf a) r)) (k .back)
+
+    args : length (m .atom .args) ≡ arity D b
+    args = let e = length-map q argumentOf in let z = h .arguments in omega arith
 
 max-rank : (r c s d : Bool) → max (rank r c) (rank s d) ≡ rank (r || s) (c || d)
 max-rank true c true d = refl
@@ -186,7 +268,7 @@ max-rank false false false true = refl
 max-rank false false false false = refl
 
 -- the highest rank with the rows of literals
-pub literals-rank : (p : List ℕ) (ls : List Literal) → Comparable p → ((l : Literal) → In l ls → Kept l)
+pub literals-rank : {D : Domain} (p : List ℕ) (ls : List Literal) → Comparable D p → ((l : Literal) → In l ls → Kept D l)
     → rowsRank p (map literalRow ls) ≡ cond (any (repeats (literalOf p)) ls) 2 (cond (any (contradicts (literalOf p)) ls) 1 0)
 unfolding rowsRank
 literals-rank p [] h k = refl
@@ -195,7 +277,7 @@ literals-rank p (l ∷ ls) h k =
     ∙ max-rank (repeats (literalOf p) l) (contradicts (literalOf p) l) (any (repeats (literalOf p)) ls) (any (contradicts (literalOf p)) ls)
 
 -- "19 repeated in its role; 20 both true and false", by the highest rank
-pub literals-stop : (p : List ℕ) (ls : List Literal) → Comparable p → ((l : Literal) → In l ls → Kept l)
+pub literals-stop : {D : Domain} (p : List ℕ) (ls : List Literal) → Comparable D p → ((l : Literal) → In l ls → Kept D l)
     → _≡_ {A = ℕ} (cond (eqb (rowsRank p (map literalRow ls)) 2) 19 (cond (eqb (rowsRank p (map literalRow ls)) 1) 20 0))
     (cond (any (repeats (literalOf p)) ls) 19 (cond (any (contradicts (literalOf p)) ls) 20 0))
 literals-stop p ls h k =
@@ -206,3 +288,52 @@ literals-stop p ls h k =
     told true c = refl
     told false true = refl
     told false false = refl
+
+-- ---- "27": a component's labels beside the rows of all literals
+
+keys-row : (bs : List ℕ) (vs : List Argument) (m : ℕ) → length bs ≡ length vs → Small vs
+    → keysBound (map labelOf bs) vs ≡ sideBySide keyBeside bs (map argumentNumber vs ++ replicate m 255)
+keys-row [] vs m e h = refl
+keys-row (b ∷ bs) [] m e h = absurd (omega arith)
+keys-row (b ∷ bs) (bound v ∷ vs) m e h =
+    let k = h v (List·Memᴰ·head refl) in
+    ap₂ _&&_
+    (ap (λ (t : Bool). isCounted (labelOf b) || not t) (sym (ne-eqb (v .0) 255 (λ z. omega arith)))
+    ∙ ap (λ (t : Bool). t || not (eqb (v .0) 255)) (counted-label b))
+    (keys-row bs vs m (omega arith) (λ w i. h w (List·Memᴰ·tail i)))
+keys-row (b ∷ bs) (Every ∷ vs) m e h = ap₂ _&&_ (ap (λ (t : Bool). t || false) (counted-label b)) (keys-row bs vs m (omega arith) h)
+
+pub cleared-rows : (D : Domain) → Bounded D → (p : List ℕ) → length p ≡ 1 + arity D (byte p 0)
+    → keysCleared (D .actions) (componentOf p) ≡ any (keyClearedIn p) (map literalRow (allLiterals (D .actions)))
+unfolding allLiterals flatMap
+cleared-rows D B p e =
+    go (D .actions) (λ a m l i. row l (B .literalArity a m l i) (B .variables a m l i))
+    ∙ sym (any-map literalRow (keyClearedIn p) (flatMap (λ (a : Action). a .lits) (D .actions)))
+  where
+    row : (l : Literal) → length (l .atom .args) ≡ arity D (l .atom .rel) → Small (l .atom .args)
+        → not (keepsKeys (componentOf p) (l .atom)) ≡ keyClearedIn p (literalRow l)
+    row l el sl = by (bool-cases (eqb (byte p 0) (l .atom .rel)))
+      where
+        by : (eqb (byte p 0) (l .atom .rel) ≡ true) ⊎ (eqb (byte p 0) (l .atom .rel) ≡ false)
+            → not (keepsKeys (componentOf p) (l .atom)) ≡ keyClearedIn p (literalRow l)
+        by (inr f) = rw f
+        by (inl t) =
+            let d = length-drop 1 p in
+            let a : arity D (byte p 0) ≡ arity D (l .atom .rel) = ap (arity D) (eqb-true (byte p 0) (l .atom .rel) t) in
+            let n = 8 - suc (suc (length (map argumentNumber (l .atom .args)))) in
+            rw t (ap not (keys-row (drop 1 p) (l .atom .args) n (omega arith) sl))
+
+    lits : (ls : List Literal)
+        → ((l : Literal) → In l ls → not (keepsKeys (componentOf p) (l .atom)) ≡ keyClearedIn p (literalRow l))
+        → any (λ (l : Literal). not (keepsKeys (componentOf p) (l .atom))) ls ≡ any (λ (l : Literal). keyClearedIn p (literalRow l)) ls
+    lits [] h = refl
+    lits (l ∷ ls) h = ap₂ _||_ (h l (List·Memᴰ·head refl)) (lits ls (λ k m. h k (List·Memᴰ·tail m)))
+
+    go : (as′ : List Action)
+        → ((a : Action) → In a as′ → (l : Literal) → In l (a .lits)
+        → not (keepsKeys (componentOf p) (l .atom)) ≡ keyClearedIn p (literalRow l))
+        → keysCleared as′ (componentOf p) ≡ any (λ (l : Literal). keyClearedIn p (literalRow l)) (flatMap (λ (a : Action). a .lits) as′)
+    go [] h = refl
+    go (a ∷ as′) h =
+        ap₂ _||_ (lits (a .lits) (h a (List·Memᴰ·head refl))) (go as′ (λ b m. h b (List·Memᴰ·tail m)))
+        ∙ sym (any-append (λ (l : Literal). keyClearedIn p (literalRow l)) (a .lits) (flatMap (λ (a : Action). a .lits) as′))

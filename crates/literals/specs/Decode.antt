@@ -9,6 +9,8 @@ use Rattle.records.specs.declared.Record.{Record}
 use Rattle.records.specs.declared.Record.the-variants.{Whole, Cut, End}
 use Rattle.records.specs.Record.{recordAt, payload}
 use Rattle.literals.specs.declared.RecordFault.{RecordFault}
+use Rattle.literals.specs.declared.Argument.{Argument}
+use Rattle.literals.specs.declared.Argument.the-variants.{Variable as bound, Every}
 use Rattle.literals.specs.declared.Label.{Label}
 use Rattle.literals.specs.declared.Label.the-variants.{Key as keyed, Counted}
 use Rattle.literals.specs.declared.Time.{Time}
@@ -16,7 +18,8 @@ use Rattle.literals.specs.declared.Time.the-variants.{AtStart}
 use Rattle.literals.specs.declared.Usage.{Usage}
 use Rattle.literals.specs.declared.Usage.the-variants.{Positive, Negative, Add, Delete}
 use Rattle.literals.specs.Domain.{variable, key, sameLiteral, roleOf, sameTime, sameUsage, sameRole, Literal, Action, Component}
-use Rattle.literals.specs.Domain.{isKey, isCounted, keyBelow, keysOf, labelsFit, Domain, arity, noAction}
+use Rattle.literals.specs.Domain.{isKey, isCounted, keyBelow, keysOf, labelsFit, Domain, arity, noAction, variableBelow, meets}
+use Rattle.literals.specs.Domain.{clearsOnce, keepsKeys}
 
 -- ---- "Limits: file 65,535 bytes; 64 relations; 64 actions; 64 literals an action; 16 components."
 
@@ -90,9 +93,13 @@ relationStop p = cond (not (eqb (length p) 1)) 12 (cond (ltb maxArguments (byte 
 unfoldable pub actionStop : List ℕ → ℕ
 actionStop p = cond (not (eqb (length p) 2)) 12 (cond (ltb maxVariables (byte p 0)) 15 (cond (ltb 1 (byte p 1)) 15 0))
 
--- "role, relation, one variable per argument"
+-- a variable, or FF for every object
+abbrev pub argumentOf : ℕ → Argument
+argumentOf b = cond (eqb b 255) Every (bound (variable b))
+
+-- "role, relation, one variable per argument", or FF
 abbrev pub literalOf : List ℕ → Literal
-literalOf p = record { role = roleOf (byte p 0); atom = record { rel = byte p 1; args = map variable (drop 2 p) } }
+literalOf p = record { role = roleOf (byte p 0); atom = record { rel = byte p 1; args = map argumentOf (drop 2 p) } }
 
 -- "19 repeated in its role"
 abbrev pub repeats : Literal → Literal → Bool
@@ -109,16 +116,20 @@ contrary Delete d = false
 abbrev pub together : Time → Time → Bool
 together t u = cond (sameTime t AtStart) (sameTime u AtStart) (not (sameTime u AtStart))
 
--- "20 both true and false among roles 0, 1 or among 4 to 7"
+-- "20 both true and false among roles 0, 1 or among 4 to 7"; "true at(0,1) with false at(0,FF) is a contradiction (20)"
 abbrev pub contradicts : Literal → Literal → Bool
-contradicts l m = contrary (l .role .usage) (m .role .usage) && together (l .role .time) (m .role .time) && sameLiteral (l .atom) (m .atom)
+contradicts l m = contrary (l .role .usage) (m .role .usage) && together (l .role .time) (m .role .time) && meets (l .atom) (m .atom)
 
 -- "16 role": "Roles 4 to 9 need a lasting action."
 abbrev pub noRole : Action → ℕ → Bool
 noRole a r = ltb 9 r || (ltb 3 r && not (a .lasting))
 
--- "16 role; 17 relation; 18 variable", "19 repeated in its role; 20 both true and false"; "A length .. comes first where it is fixed or
--- too short for the relation or action, else once that is known."
+-- "18 variable": neither FF nor a variable of the action
+abbrev pub noVariable : ℕ → ℕ → Bool
+noVariable vars b = not (variableBelow vars (argumentOf b))
+
+-- "16 role; 17 relation; 18 variable", "FF in another role or twice gives 26 just before 18", "19 repeated in its role; 20 both true and
+-- false"; "A length .. comes first where it is fixed or too short for the relation or action, else once that is known."
 unfoldable pub literalStop : Domain → List ℕ → ℕ
 unfolding roleOf
 literalStop D p =
@@ -127,9 +138,10 @@ literalStop D p =
     (cond (noRole a (byte p 0)) 16
     (cond (leb (length (D .arities)) (byte p 1)) 17
     (cond (not (eqb (length p) (2 + arity D (byte p 1)))) 12
-    (cond (any (leb (a .vars)) (drop 2 p)) 18
+    (cond (not (clearsOnce (literalOf p))) 26
+    (cond (any (noVariable (a .vars)) (drop 2 p)) 18
     (cond (any (repeats (literalOf p)) (a .lits)) 19
-    (cond (any (contradicts (literalOf p)) (a .lits)) 20 0))))))
+    (cond (any (contradicts (literalOf p)) (a .lits)) 20 0)))))))
 
 -- "A label is a key number, or FF for counted."
 abbrev pub labelOf : ℕ → Label
@@ -172,6 +184,14 @@ labelFault n ls =
     (cond (found (keyTooHigh n) ls) (atLabel 21 (firstAt (keyTooHigh n) [] ls))
     (cond (labelsFit n ls) (atRecord 0) (atRecord 21))))
 
+-- "a component that puts a key where one of its relation's literals has FF": of any action
+abbrev pub keysCleared : List Action → Component → Bool
+keysCleared as′ c = any (λ (a : Action). any (λ (l : Literal). not (keepsKeys c (l .atom))) (a .lits)) as′
+
+-- of labels that nothing else stops: "27 after 21"
+abbrev pub clearedFault : List Action → Component → RecordFault → RecordFault
+clearedFault as′ c f = cond (eqb (f .number) 0 && keysCleared as′ c) (atRecord 27) f
+
 -- "22 relation used before", then the labels
 unfoldable pub componentFault : Domain → List ℕ → RecordFault
 unfolding labelFault
@@ -181,7 +201,7 @@ componentFault D p =
     (cond (leb (length (D .arities)) (byte p 0)) (atRecord 17)
     (cond (not (eqb (length p) (1 + arity D (byte p 0)))) (atRecord 12)
     (cond (any (λ (d : Component). eqb (c .rel) (d .rel)) (D .template)) (atRecord 22)
-    (labelFault (keysOf (D .template ++ (c ∷ []))) (c .labels)))))
+    (clearedFault (D .actions) c (labelFault (keysOf (D .template ++ (c ∷ []))) (c .labels))))))
 
 -- "no payload", "23 no component"
 unfoldable pub closingStop : Domain → List ℕ → ℕ
@@ -230,7 +250,7 @@ pub record Refusal : Type 0 where
   pub place : ℕ
   pub start : ℕ
 
--- "9 to 23 .. give the record's offset as first place"
+-- "9 to 23 .. give the record's offset as first place"; so do 26 and 27
 abbrev pub refuse : ℕ → ℕ → Refusal
 refuse n start = record { number = n; place = start; start = start }
 

@@ -1,13 +1,15 @@
 -- A domain without its bytes: relations, actions with their literals, and the template. Assumes nothing.
-use mathlib.Core.Bool.{Bool, true, false, _&&_, not, cond}
+use mathlib.Core.Bool.{Bool, true, false, _&&_, _||_, not, cond}
 use mathlib.Core.List.{List, [], _∷_}
 use Prim.Native.Nat.{ℕ, zero, suc, _+_, _-_}
 use lib.Dec.{eqb, ltb, leb}
 use lib.ListN.{getD}
-use Rattle.records.specs.Lists.{all, countBy, sameList}
+use Rattle.records.specs.Lists.{all, countBy, sameList, sideBySide}
 use Rattle.literals.specs.declared.Variable.{Variable}
 use Rattle.literals.specs.declared.Object.{Object}
 use Rattle.literals.specs.declared.Key.{Key}
+use Rattle.literals.specs.declared.Argument.{Argument}
+use Rattle.literals.specs.declared.Argument.the-variants.{Variable as bound, Every}
 use Rattle.literals.specs.declared.Label.{Label}
 use Rattle.literals.specs.declared.Label.the-variants.{Key as keyed, Counted}
 use Rattle.literals.specs.declared.Time.{Time}
@@ -36,7 +38,35 @@ sameObject o p = eqb (o .0) (p .0)
 abbrev pub sameKey : Key → Key → Bool
 sameKey k l = eqb (k .0) (l .0)
 
--- ---- atoms: a relation with one argument per place, variables in a literal and objects in a fact
+-- ---- arguments of a literal: "An argument FF in a false condition or a delete is to mean every object"
+
+abbrev pub sameArgument : Argument → Argument → Bool
+sameArgument (bound v) (bound w) = sameVariable v w
+sameArgument (bound v) Every = false
+sameArgument Every (bound w) = false
+sameArgument Every Every = true
+
+-- two arguments stand for an object in common: they are the same, or one of them is FF
+abbrev pub meetArgument : Argument → Argument → Bool
+meetArgument (bound v) (bound w) = sameVariable v w
+meetArgument (bound v) Every = true
+meetArgument Every w = true
+
+abbrev pub isEvery : Argument → Bool
+isEvery (bound v) = false
+isEvery Every = true
+
+abbrev pub variableBelow : ℕ → Argument → Bool
+variableBelow n (bound v) = ltb (v .0) n
+variableBelow n Every = true
+
+-- the variables among some arguments, in order
+abbrev pub variablesOf : List Argument → List Variable
+variablesOf [] = []
+variablesOf (bound v ∷ as′) = v ∷ variablesOf as′
+variablesOf (Every ∷ as′) = variablesOf as′
+
+-- ---- atoms: a relation with one argument per place, variables or FF in a literal and objects in a fact
 
 pub record Atom (A : Type 0) : Type 0 where
   pub rel : ℕ
@@ -49,9 +79,14 @@ Fact = Atom Object
 abbrev pub sameAtom : {A : Type 0} → (A → A → Bool) → Atom A → Atom A → Bool
 sameAtom eq f g = eqb (f .rel) (g .rel) && sameList eq (f .args) (g .args)
 
--- the same relation with the same variables
-abbrev pub sameLiteral : Atom Variable → Atom Variable → Bool
-sameLiteral = sameAtom sameVariable
+-- the same relation with the same arguments
+abbrev pub sameLiteral : Atom Argument → Atom Argument → Bool
+sameLiteral = sameAtom sameArgument
+
+-- two literals stand for a fact in common: the same relation, and at each place the same argument, or FF in one of them. "A literal
+-- then covers others": true conditions and adds have no FF, and a literal covers one without FF exactly where the two meet
+abbrev pub meets : Atom Argument → Atom Argument → Bool
+meets = sameAtom meetArgument
 
 abbrev pub sameFact : Fact → Fact → Bool
 sameFact = sameAtom sameObject
@@ -95,10 +130,18 @@ sameRole r s = sameTime (r .time) (s .time) && sameUsage (r .usage) (s .usage)
 
 -- ---- actions
 
--- "role, relation, one variable per argument"
+-- "role, relation, one variable per argument", or FF
 pub record Literal : Type 0 where
   pub role : Role
-  pub atom : Atom Variable
+  pub atom : Atom Argument
+
+-- the usages that may have FF: "in a false condition or a delete"
+abbrev pub mayClear : Usage → Bool
+mayClear c = sameUsage c Negative || sameUsage c Delete
+
+-- FF "in a false condition or a delete .., at most one in a literal"
+abbrev pub clearsOnce : Literal → Bool
+clearsOnce l = leb (countBy isEvery (l .atom .args)) (cond (mayClear (l .role .usage)) 1 0)
 
 -- an action schema: "variable count ..; sort, 0 at once, 1 lasting", and its literals
 pub record Action : Type 0 where
@@ -127,6 +170,18 @@ isCounted Counted = true
 abbrev pub keyBelow : ℕ → Label → Bool
 keyBelow n (keyed k) = ltb (k .0) n
 keyBelow n Counted = true
+
+-- of the labels of a component and the arguments of a literal of its relation: no key stands where the literal has FF
+abbrev pub keysBound : List Label → List Argument → Bool
+keysBound ls vs = sideBySide (λ l v. isCounted l || not (isEvery v)) ls vs
+
+-- the literal has FF in the component's counted place, if there is one
+abbrev pub countedCleared : List Label → List Argument → Bool
+countedCleared ls vs = sideBySide (λ l v. not (isCounted l) || isEvery v) ls vs
+
+-- of a component and a literal: it is not "a component that puts a key where one of its relation's literals has FF"
+abbrev pub keepsKeys : Component → Atom Argument → Bool
+keepsKeys c p = not (eqb (c .rel) (p .rel)) || keysBound (c .labels) (p .args)
 
 -- "The first component's labels other than FF number n"
 abbrev pub keysOf : Template → ℕ

@@ -4,8 +4,9 @@ use mathlib.Core.List.{List}
 use Prim.Native.Nat.{ℕ, zero, suc, _+_}
 use lib.Dec.{eqb, ltb, leb}
 use lib.ListN.{length, drop}
-use Rattle.records.specs.Lists.{all, any, countBy}
-use Rattle.literals.specs.Decode.{byte}
+use Rattle.records.specs.Lists.{all, any, countBy, sideBySide}
+use Rattle.literals.specs.Domain.{roleOf, clearsOnce}
+use Rattle.literals.specs.Decode.{byte, literalOf, noVariable}
 use Rattle.literals.specs.Held.{relationsIn, arityIn, variablesIn, lastingIn}
 
 -- ---- of a head
@@ -18,14 +19,15 @@ argumentsStop head relation first given = cond (leb (relationsIn head) relation)
 
 -- the row "fields" of a literal record, of the action i
 unfoldable pub literalFields : List ℕ → ℕ → List ℕ → ℕ
-unfolding relationsIn arityIn variablesIn lastingIn
+unfolding relationsIn arityIn variablesIn lastingIn roleOf
 literalFields head i p =
     cond (ltb (length p) 2) 12
     (cond (ltb 9 (byte p 0)) 16
     (cond (ltb 3 (byte p 0) && not (lastingIn head i)) 16
     (cond (leb (relationsIn head) (byte p 1)) 17
     (cond (not (eqb (length p) (2 + arityIn head (byte p 1)))) 12
-    (cond (any (leb (variablesIn head i)) (drop 2 p)) 18 0)))))
+    (cond (not (clearsOnce (literalOf p))) 26
+    (cond (any (noVariable (variablesIn head i)) (drop 2 p)) 18 0))))))
 
 -- the row "fields" of a component record
 unfoldable pub componentFields : List ℕ → List ℕ → ℕ
@@ -53,3 +55,13 @@ keysBelow n bs = all (λ b. eqb b 255 || ltb b n) bs
 abbrev pub eachOnce : ℕ → List ℕ → Bool
 eachOnce zero bs = true
 eachOnce (suc n) bs = eachOnce n bs && eqb (countBy (eqb n) bs) 1
+
+-- ---- labels beside the arguments of a literal's row
+
+-- no key stands at FF
+abbrev pub keyBeside : ℕ → ℕ → Bool
+keyBeside label argument = eqb label 255 || not (eqb argument 255)
+
+-- the row of a literal has the relation of a component's payload, and FF where one of its labels is a key
+abbrev pub keyClearedIn : List ℕ → List ℕ → Bool
+keyClearedIn p row = eqb (byte p 0) (byte row 1) && not (sideBySide keyBeside (drop 1 p) (drop 2 row))

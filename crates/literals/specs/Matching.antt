@@ -5,7 +5,7 @@ use Prim.Native.Nat.{ℕ, zero, suc}
 use lib.Dec.{eqb}
 use lib.ListN.{length}
 use Rattle.records.specs.Lists.{keepIf, any, sameList, dedup}
-use Rattle.literals.specs.declared.Variable.{Variable}
+use Rattle.literals.specs.declared.Argument.{Argument}
 use Rattle.literals.specs.declared.Object.{Object}
 use Rattle.literals.specs.declared.Key.{Key}
 use Rattle.literals.specs.declared.Label.{Label}
@@ -80,19 +80,19 @@ asked Start c r = own Start c r
 asked End c r = own End c r || overAll c r
 
 -- the atoms of the literals whose role passes a test, in file order
-abbrev pub withRole : (Role → Bool) → List Literal → List (Atom Variable)
+abbrev pub withRole : (Role → Bool) → List Literal → List (Atom Argument)
 withRole p [] = []
 withRole p (l ∷ ls) = keepIf (p (l .role)) (l .atom) (withRole p ls)
 
 -- the action's own literals of one usage at one moment, in file order
-unfoldable pub literalsAt : Action → Moment → Usage → List (Atom Variable)
+unfoldable pub literalsAt : Action → Moment → Usage → List (Atom Argument)
 literalsAt a m c = dedup sameLiteral (withRole (own m c) (a .lits))
 
 -- what is asked at a moment, in file order, "a literal in both counting once": what must hold in the state that the step is taken from,
 -- and what a witness lists. Adds and deletes have no over-all role
-unfoldable pub required : Action → Moment → Usage → List (Atom Variable)
+unfoldable pub required : Action → Moment → Usage → List (Atom Argument)
 required a m c = dedup sameLiteral (withRole (asked m c) (a .lits))
 
 -- the action's over-all conditions
-abbrev pub overAllLiterals : Action → Usage → List (Atom Variable)
+abbrev pub overAllLiterals : Action → Usage → List (Atom Argument)
 overAllLiterals a c = withRole (overAll c) (a .lits)

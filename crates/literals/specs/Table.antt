@@ -1,15 +1,18 @@
 -- The table of a domain's literals, 8 bytes a literal, the ranks of its rows, and the bounds of a domain that was read. Assumes nothing.
 use mathlib.Core.Path.{_≡_}
-use mathlib.Core.Bool.{true, cond}
+use mathlib.Core.Bool.{Bool, true, _&&_, _||_, cond}
 use mathlib.Core.List.{List, [], _∷_, _++_, map, flatMap, foldr}
 use Prim.Native.Nat.{ℕ, zero, suc, _+_, _-_, _*_, _%_, _≤_, _<_, max}
 use lib.Dec.{eqb, ltb}
 use lib.ListN.{length, take, drop, getD, replicate}
 use Rattle.records.specs.Lists.{In, sameList, distinct}
 use Rattle.literals.specs.declared.Variable.{Variable}
+use Rattle.literals.specs.declared.Argument.{Argument}
+use Rattle.literals.specs.declared.Argument.the-variants.{Variable as bound, Every}
 use Rattle.literals.specs.declared.Label.{Label}
 use Rattle.literals.specs.declared.Label.the-variants.{Key as keyed, Counted}
-use Rattle.literals.specs.Domain.{roleNumber, roleOf, Literal, Action, Component, keysOf, labelsFit, Domain, arity}
+use Rattle.literals.specs.Domain.{variablesOf, roleNumber, roleOf, Literal, clearsOnce, Action, Component, keepsKeys, keysOf}
+use Rattle.literals.specs.Domain.{labelsFit, Domain, arity}
 use Rattle.literals.specs.Decode.{byte, maxRelations, maxArguments, maxActions, maxVariables, maxLiterals, maxComponents}
 
 -- ---- rows of 8 bytes
@@ -18,9 +21,14 @@ use Rattle.literals.specs.Decode.{byte, maxRelations, maxArguments, maxA
 abbrev pub rowOf : List ℕ → List ℕ
 rowOf p = p ++ replicate (8 - length p) 255
 
--- a literal: role, relation, variables
+-- FF for every object
+abbrev pub argumentNumber : Argument → ℕ
+argumentNumber (bound v) = v .0
+argumentNumber Every = 255
+
+-- a literal: role, relation, arguments
 abbrev pub literalRow : Literal → List ℕ
-literalRow l = rowOf (roleNumber (l .role) ∷ l .atom .rel ∷ map (λ (v : Variable). v .0) (l .atom .args))
+literalRow l = rowOf (roleNumber (l .role) ∷ l .atom .rel ∷ map argumentNumber (l .atom .args))
 
 abbrev pub labelNumber : Label → ℕ
 labelNumber (keyed k) = k .0
@@ -54,6 +62,21 @@ pub record FourAt (s : List ℕ) (at r : ℕ) : Type 0 where
   pub third : getD s (at + 2) 0 < 256
   pub fourth : getD s (at + 3) 0 < 256
 
+-- ---- whether two rows meet: FF, every object, meets every argument. What fills a row is FF too, and so beside what fills the other, as
+-- one relation has one arity
+
+-- two bytes at a place: they are the same, or one is FF
+abbrev pub meetByte : ℕ → ℕ → Bool
+meetByte a b = eqb a b || (eqb a 255 || eqb b 255)
+
+-- the arguments of two rows, behind two bytes
+abbrev pub argumentsMeet : List ℕ → List ℕ → Bool
+argumentsMeet p q = sameList meetByte (drop 2 p) (drop 2 q)
+
+-- two rows of literals
+abbrev pub rowsMeet : List ℕ → List ℕ → Bool
+rowsMeet p q = eqb (byte p 1) (byte q 1) && argumentsMeet p q
+
 -- the roles whose conditions may contradict each other: 1 for 0 and 1, 2 for 4 to 7, 0 for the others
 abbrev pub conditionGroup : ℕ → ℕ
 conditionGroup r = cond (ltb r 2) 1 (cond (ltb r 4) 0 (cond (ltb r 8) 2 0))
@@ -65,10 +88,12 @@ roleRank a b =
     (cond (eqb (conditionGroup a) 0) 0
     (cond (eqb (conditionGroup b) (conditionGroup a)) (cond (eqb (a % 2) (b % 2)) 0 1) 0))
 
--- of a payload and a row: the rank of their roles where their atoms are the same, else 0
+-- of a payload and a row: 2 where role and atom are the same; 1 where one is true and the other false in one group, and they meet; else 0
 unfoldable pub rowRank : List ℕ → List ℕ → ℕ
 unfolding roleRank
-rowRank p row = cond (sameList eqb (drop 1 (rowOf p)) (drop 1 row)) (roleRank (byte p 0) (byte row 0)) 0
+rowRank p row =
+    let rank = roleRank (byte p 0) (byte row 0) in
+    cond (eqb rank 2) (cond (sameList eqb (drop 1 (rowOf p)) (drop 1 row)) 2 0) (cond (eqb rank 1) (cond (rowsMeet (rowOf p) row) 1 0) 0)
 
 -- the first n rows of w bytes of a memory
 abbrev pub rowsBy : ℕ → ℕ → List ℕ → List (List ℕ)
@@ -87,7 +112,8 @@ rowsRank p rows = foldr (λ row n. max (rowRank p row) n) 0 rows
 -- ---- a domain that was read
 
 -- what holds of every domain that was read: it is within the limits, so that it fits the head and the table; variables are below their
--- count; literals and components have the arities of their relations; no relation has two components; a component has each key once
+-- count; FF occurs only where it may, and no component has a key there; literals and components have the arities of their relations; no
+-- relation has two components; a component has each key once
 pub record Bounded (D : Domain) : Type 0 where
   pub relations : length (D .arities) ≤ maxRelations
   pub arities : (n : ℕ) → In n (D .arities) → n ≤ maxArguments
@@ -95,10 +121,15 @@ pub record Bounded (D : Domain) : Type 0 where
   pub counts : (a : Action) → In a (D .actions) → a .vars ≤ maxVariables
   pub sizes : (a : Action) → In a (D .actions) → length (a .lits) ≤ maxLiterals
   pub arguments : (a : Action) → In a (D .actions) → (l : Literal) → In l (a .lits) → length (l .atom .args) ≤ maxArguments
-  pub variables : (a : Action) → In a (D .actions) → (l : Literal) → In l (a .lits) → (v : Variable) → In v (l .atom .args) → v .0 < 255
-  pub below : (a : Action) → In a (D .actions) → (l : Literal) → In l (a .lits) → (v : Variable) → In v (l .atom .args) → v .0 < a .vars
+  pub variables : (a : Action) → In a (D .actions) → (l : Literal) → In l (a .lits)
+      → (v : Variable) → In v (variablesOf (l .atom .args)) → v .0 < 255
+  pub below : (a : Action) → In a (D .actions) → (l : Literal) → In l (a .lits)
+      → (v : Variable) → In v (variablesOf (l .atom .args)) → v .0 < a .vars
   pub roles : (a : Action) → In a (D .actions) → (l : Literal) → In l (a .lits) → (roleNumber (l .role) ≤ 9)
       × (roleOf (roleNumber (l .role)) ≡ l .role)
+  pub clears : (a : Action) → In a (D .actions) → (l : Literal) → In l (a .lits) → clearsOnce l ≡ true
+  pub keysKept : (a : Action) → In a (D .actions) → (l : Literal) → In l (a .lits)
+      → (c : Component) → In c (D .template) → keepsKeys c (l .atom) ≡ true
   pub components : length (D .template) ≤ maxComponents
   pub labels : (c : Component) → In c (D .template) → length (c .labels) ≤ maxArguments
   pub literalArity : (a : Action) → In a (D .actions) → (l : Literal) → In l (a .lits) → length (l .atom .args) ≡ arity D (l .atom .rel)

@@ -1,25 +1,34 @@
 // The fields of a record: each check answers the number that stops it, or 0.
+use super::Argument;
+use super::Label;
 use super::RecordFault;
+use super::argument_of;
 use super::head::Head;
 use super::head::arity_of;
 use super::head::is_lasting;
 use super::head::relations_in;
 use super::head::variables_of;
+use super::is_counted;
+use super::label_of;
 use super::limits::MAX_ARGUMENTS;
 use super::limits::MAX_VARIABLES;
-use records::bytes::any_from;
+use super::may_clear;
+use super::role_of;
 use records::bytes::count_from;
 use records::bytes::wide;
 ghost use mathlib.Core.Path.{_≡_};
 ghost use mathlib.Core.Bool.{_&&_, _||_, not};
 ghost use mathlib.Core.List.{[], map};
-ghost use Prim.Native.Nat.{_+_, _<_, _≤_};
-ghost use lib.Dec.{eqb, ltb, leb};
-ghost use lib.ListN.{length, drop};
-ghost use Rattle.records.specs.Lists.{any, countBy, firstAt};
-ghost use Rattle.literals.specs.Domain.{isCounted};
-ghost use Rattle.literals.specs.Decode.{maxActions, maxArguments, relationStop, actionStop, labelOf, labelFault};
+ghost use Prim.Native.Nat.{_+_, _*_, _<_, _≤_};
+ghost use lib.Dec.{eqb, ltb};
+ghost use lib.ListN.{length, take, drop};
+ghost use Rattle.records.specs.Lists.{any, countBy, firstAt, sideBySide};
+ghost use Rattle.literals.specs.Domain.{variableBelow, clearsOnce, isCounted, isEvery};
+ghost use Rattle.literals.specs.Decode.{maxActions, maxArguments, relationStop, actionStop, literalOf, noVariable};
+ghost use Rattle.literals.specs.Decode.{labelOf, labelFault};
 ghost use Rattle.literals.specs.Fields.{argumentsStop, literalFields, componentFields, again, highKey, eachOnce};
+ghost use Rattle.literals.specs.Fields.{keyBeside, keyClearedIn};
+ghost use Rattle.literals.specs.Table.{rowsIn};
 
 // A relation: its arity.
 pub fn relation_fields(p: &[u8]) -> u64
@@ -77,7 +86,49 @@ fn arguments_stop(head: &Head, relation: u8, first: usize, given: usize) -> u64
     12
 }
 
-// A literal of the action i: role, relation, one variable per argument.
+// Whether a literal has FF only where it may: in a false condition or a delete, once.
+fn clears_once(p: &[u8]) -> bool
+    requires { ⌜ 2 ≤ length (now p) ⌝ }
+    ensures { λ r. ⌜ r ≡ clearsOnce (literalOf (now (p .entry))) ⌝ }
+{
+    let n = count_from(p, 2, 255);
+    if n == 0 {
+        return true;
+    }
+    let sorted = role_of(p[0]);
+    let usage = sorted.usage;
+    if may_clear(usage) {
+        return n == 1;
+    }
+    false
+}
+
+// Whether an argument is FF or a variable below n.
+fn variable_below(argument: Argument, n: u8) -> bool
+    ensures { λ r. ⌜ r ≡ variableBelow n argument ⌝ }
+{
+    match argument {
+        Argument::Variable(v) => v.0 < n,
+        Argument::Every => true,
+    }
+}
+
+// Whether one of a literal's arguments is neither FF nor one of its action's n variables.
+fn any_unknown(p: &[u8], n: u8) -> bool
+    ensures { λ r. ⌜ r ≡ any (noVariable n) (drop 2 (now (p .entry))) ⌝ }
+{
+    let mut i = 2;
+    while i < p.len() {
+        let argument = argument_of(p[i]);
+        if !variable_below(argument, n) {
+            return true;
+        }
+        i += 1;
+    }
+    false
+}
+
+// A literal of the action i: role, relation, one variable per argument, or FF.
 pub fn literal_fields(head: &Head, i: usize, p: &[u8]) -> u64
     requires { ⌜ i < maxActions ⌝ }
     ensures { λ r. ⌜ r ≡ literalFields (now (head .entry)) i (now (p .entry)) ⌝ }
@@ -92,7 +143,10 @@ pub fn literal_fields(head: &Head, i: usize, p: &[u8]) -> u64
     if stop != 0 {
         return stop;
     }
-    if any_from(p, 2, variables_of(head, i)) {
+    if !clears_once(p) {
+        return 26;
+    }
+    if any_unknown(p, variables_of(head, i)) {
         return 18;
     }
     0
@@ -228,6 +282,59 @@ pub fn label_fields(p: &[u8], n: usize) -> RecordFault
         number: 21,
         within: 0,
     }
+}
+
+// Whether a label may stand beside an argument of a literal: a key may not beside FF.
+fn may_stand(label: Label, argument: Argument) -> bool
+    ensures { λ r. ⌜ r ≡ (isCounted label || not (isEvery argument)) ⌝ }
+{
+    match argument {
+        Argument::Variable(_) => true,
+        Argument::Every => is_counted(label),
+    }
+}
+
+// Whether no key of a component stands where the literal's row at an offset has FF.
+fn keys_beside(p: &[u8], table: &[u8], at: usize) -> bool
+    requires { ⌜ (at + 8 ≤ length (now table)) × (length (now p) ≤ 1 + maxArguments) ⌝ }
+    ensures { λ r. ⌜ r ≡ sideBySide keyBeside (drop 1 (now (p .entry))) (drop 2 (take 8 (drop at (now (table .entry))))) ⌝ }
+{
+    let mut i = 1;
+    while i < p.len() {
+        let label = label_of(p[i]);
+        let argument = argument_of(table[at + 1 + i]);
+        if !may_stand(label, argument) {
+            return false;
+        }
+        i += 1;
+    }
+    true
+}
+
+// Whether the literal's row at an offset has the relation of a component, and FF where that has a key.
+fn clears_key(p: &[u8], table: &[u8], at: usize) -> bool
+    requires { ⌜ (at + 8 ≤ length (now table)) × (0 < length (now p)) × (length (now p) ≤ 1 + maxArguments) ⌝ }
+    ensures { λ r. ⌜ r ≡ keyClearedIn (now (p .entry)) (take 8 (drop at (now (table .entry)))) ⌝ }
+{
+    if p[0] == table[at + 1] {
+        return !keys_beside(p, table, at);
+    }
+    false
+}
+
+// Whether one of the first n rows has.
+pub fn any_clears_key(p: &[u8], table: &[u8], n: usize) -> bool
+    requires { ⌜ (8 * n ≤ length (now table)) × (0 < length (now p)) × (length (now p) ≤ 1 + maxArguments) ⌝ }
+    ensures { λ r. ⌜ r ≡ any (keyClearedIn (now (p .entry))) (rowsIn n (now (table .entry))) ⌝ }
+{
+    let mut i = 0;
+    while i < n {
+        if clears_key(p, table, 8 * i) {
+            return true;
+        }
+        i += 1;
+    }
+    false
 }
 
 // The number of labels other than FF.

@@ -1,5 +1,5 @@
 // A domain that was read: a head of numbers and rows, in sections, and the table of its literals (8 bytes a row: role, relation,
-// variables, FF to fill). Every function that reads a head answers within the limits of the format, whatever its bytes are, so that none
+// arguments, FF to fill). Every function that reads a head answers within the limits of the format, whatever its bytes are, so that none
 // has a condition on them. A head is filled record by record, from one that is all 0.
 use super::fields::count_keys;
 use super::limits::MAX_ACTIONS;
@@ -180,6 +180,18 @@ fn literals_in(head: &Head) -> usize
         return 0;
     }
     to
+}
+
+// The same as rows of the table, 0 where it has not so many.
+pub fn all_rows(head: &Head, table: &[u8]) -> usize
+    ensures fits { λ r. ⌜ 8 * r ≤ length (now (table .entry)) ⌝ }
+    ensures number { λ r. ⌜ ((D : Domain) → Held D (now (head .entry)) (now (table .entry)) → r ≡ length (allLiterals (D .actions))) ⌝ }
+{
+    let n = literals_in(head);
+    if table.len() < 8 * n {
+        return 0;
+    }
+    n
 }
 
 // How many keys the template has with this component: the first component determines it.

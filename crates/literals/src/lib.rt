@@ -9,8 +9,8 @@ pub mod span;
 
 ghost use mathlib.Core.Path.{_≡_};
 ghost use Prim.Native.Nat.{_<_};
-ghost use Rattle.literals.specs.Domain.{usageOf, roleOf, usageNumber, firstRole, sameTime, isKey, isCounted};
-ghost use Rattle.literals.specs.Decode.{labelOf};
+ghost use Rattle.literals.specs.Domain.{isEvery, usageOf, roleOf, usageNumber, firstRole, sameTime, mayClear, isKey, isCounted};
+ghost use Rattle.literals.specs.Decode.{argumentOf, labelOf};
 ghost use Rattle.literals.specs.Keys.{usageFor};
 ghost use Rattle.literals.specs.Matching.{momentNumber};
 ghost use Rattle.literals.specs.Table.{conditionGroup, roleRank};
@@ -26,6 +26,12 @@ pub struct Key(pub u8);
 pub enum Label {
     Key(Key),
     Counted,
+}
+
+// One argument of a literal: a variable, or every object.
+pub enum Argument {
+    Variable(Variable),
+    Every,
 }
 
 // A moment of an action: an action at once has its start alone.
@@ -90,12 +96,43 @@ pub fn is_key(k: Key, label: Label) -> bool
     }
 }
 
+// The argument of a byte: FF is every object, every other a variable.
+pub fn argument_of(b: u8) -> Argument
+    ensures { λ r. ⌜ r ≡ argumentOf b ⌝ }
+{
+    if b == 255 {
+        return Argument::Every;
+    }
+    Argument::Variable(Variable(b))
+}
+
+pub fn is_every(argument: Argument) -> bool
+    ensures { λ r. ⌜ r ≡ isEvery argument ⌝ }
+{
+    match argument {
+        Argument::Variable(_) => false,
+        Argument::Every => true,
+    }
+}
+
 pub fn is_counted(label: Label) -> bool
     ensures { λ r. ⌜ r ≡ isCounted label ⌝ }
 {
     match label {
         Label::Key(_) => false,
         Label::Counted => true,
+    }
+}
+
+// Whether literals of a usage may have FF: false conditions and deletes.
+pub fn may_clear(c: Usage) -> bool
+    ensures { λ r. ⌜ r ≡ mayClear c ⌝ }
+{
+    match c {
+        Usage::Positive => false,
+        Usage::Negative => true,
+        Usage::Add => false,
+        Usage::Delete => true,
     }
 }
 
@@ -185,7 +222,7 @@ fn condition_group(role: u8) -> u8
     }
 }
 
-// The role bytes of two literals with the same atom: 2 where it is repeated in its role, 1 where it is both true and false, else 0.
+// The role bytes of two literals: 2 where they are the same, 1 where one is true and the other false in one group, else 0.
 pub fn role_rank(a: u8, b: u8) -> u64
     ensures { λ r. ⌜ r ≡ roleRank a b ⌝ }
 {

@@ -6,7 +6,7 @@ ghost use lib.Dec.{eqb};
 ghost use lib.ListN.{length, take, drop, getD};
 ghost use lib.Seq.{paste};
 ghost use Rattle.records.specs.Lists.{sameList};
-ghost use Rattle.literals.specs.Table.{rowOf, FourAt, rowRank, rowsIn, rowsRank};
+ghost use Rattle.literals.specs.Table.{rowOf, FourAt, meetByte, argumentsMeet, rowsMeet, rowRank, rowsIn, rowsRank};
 
 // A byte of the row of a payload.
 pub fn row_byte(p: &[u8], i: usize) -> u8
@@ -70,13 +70,60 @@ pub fn same_atom(table: &[u8], at: usize, row: &[u8]) -> bool
     false
 }
 
-// The rank of a row with the row at an offset.
+// Whether two bytes at a place meet: they are the same, or one is FF, every object.
+fn bytes_meet(a: u8, b: u8) -> bool
+    ensures { λ r. ⌜ r ≡ meetByte a b ⌝ }
+{
+    if a == b {
+        return true;
+    }
+    if a == 255 {
+        return true;
+    }
+    b == 255
+}
+
+// Whether the arguments of the row at an offset meet those of the row at an offset of another memory: the bytes 2 to 7.
+pub fn arguments_meet(x: &[u8], i: usize, y: &[u8], j: usize) -> bool
+    requires { ⌜ (i + 8 ≤ length (now x)) × (j + 8 ≤ length (now y)) ⌝ }
+    ensures { λ r. ⌜ r ≡ argumentsMeet (take 8 (drop i (now (x .entry)))) (take 8 (drop j (now (y .entry)))) ⌝ }
+{
+    for k in 2..8 {
+        if !bytes_meet(x[i + k], y[j + k]) {
+            return false;
+        }
+    }
+    true
+}
+
+// Whether the literal's row at an offset meets the literal's row at an offset of another memory.
+pub fn rows_meet(x: &[u8], i: usize, y: &[u8], j: usize) -> bool
+    requires { ⌜ (i + 8 ≤ length (now x)) × (j + 8 ≤ length (now y)) ⌝ }
+    ensures { λ r. ⌜ r ≡ rowsMeet (take 8 (drop i (now (x .entry)))) (take 8 (drop j (now (y .entry)))) ⌝ }
+{
+    if x[i + 1] == y[j + 1] {
+        return arguments_meet(x, i, y, j);
+    }
+    false
+}
+
+// The rank of a row with the row at an offset: what their roles say, where the atoms are the same, or the rows meet.
 pub fn row_rank(table: &[u8], at: usize, row: &[u8]) -> u64
     requires { ⌜ (at + 8 ≤ length (now table)) × (length (now row) ≡ 8) ⌝ }
     ensures { λ r. ⌜ r ≡ rowRank (now (row .entry)) (take 8 (drop at (now (table .entry)))) ⌝ }
 {
-    if same_atom(table, at, row) {
-        return role_rank(row[0], table[at]);
+    let rank = role_rank(row[0], table[at]);
+    if rank == 2 {
+        if same_atom(table, at, row) {
+            return 2;
+        }
+        return 0;
+    }
+    if rank == 1 {
+        if rows_meet(row, 0, table, at) {
+            return 1;
+        }
+        return 0;
     }
     0
 }

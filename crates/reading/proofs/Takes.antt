@@ -7,26 +7,26 @@ use native.Mathlib.Omega.{arith}
 use lib.Dec.{eqb, ltb, leb}
 use lib.ListN.{length, drop, take-append-drop}
 use lib.Seq.{take-all}
-use borrow.Author.Tests.{le-leb, lt-leb, eq-eqb, ne-eqb, eqb-true, ltb-false, leb-false}
+use borrow.Author.Tests.{le-leb, lt-leb, eq-eqb, ne-eqb, eqb-true, ltb-false}
 use Rattle.records.specs.Lists.{In, any, empty}
-use Rattle.records.proofs.Lists.{not-false, any-out, empty-no, empty-yes, getD-in}
+use Rattle.records.proofs.Lists.{not-false, empty-no, empty-yes, getD-in}
 use Rattle.records.proofs.Numbers.{numberOf, none-passes, rows-split, cond-or}
 use Rattle.literals.specs.declared.RecordFault.{RecordFault}
 use Rattle.literals.specs.declared.span.Span.{Span}
-use Rattle.literals.specs.Domain.{Literal, Action, Component, keysOf, Domain, arity, noAction, action}
+use Rattle.literals.specs.Domain.{Literal, clearsOnce, Action, Component, keysOf, Domain, arity, noAction, action}
 use Rattle.literals.specs.Decode.{maxRelations, maxArguments, maxActions, maxLiterals, maxComponents, RecordKind, relationRecord}
 use Rattle.literals.specs.Decode.{actionRecord, literalRecord, componentRecord, closingRecord, unknownRecord, latest, byte}
-use Rattle.literals.specs.Decode.{headStop, relationStop, actionStop, literalOf, repeats, contradicts, literalStop}
-use Rattle.literals.specs.Decode.{atRecord, componentOf, labelFault, componentFault, componentStop, closingStop}
+use Rattle.literals.specs.Decode.{headStop, relationStop, actionStop, literalOf, repeats, contradicts, noVariable, literalStop}
+use Rattle.literals.specs.Decode.{atRecord, componentOf, labelFault, keysCleared, clearedFault, componentFault, componentStop, closingStop}
 use Rattle.literals.specs.Decode.{fieldStop, fieldPlace, stopOf, stopPlace, extend}
 use Rattle.literals.specs.Table.{literalRow, allLiterals, rowsIn, rowsRank}
 use Rattle.literals.specs.Held.{relationsIn, actionsIn, componentsIn, arityIn, componentRowsIn, variablesIn, lastingIn, HeadOf, Held, SpanOf, Filled}
-use Rattle.literals.specs.Fields.{literalFields, componentFields}
-use Rattle.literals.proofs.Stops.{outOfOrder, atLimit, faults-split}
-use Rattle.literals.proofs.Bounds.{arity-six}
-use Rattle.literals.proofs.Tables.{any-component, Comparable, kept, length-literal-row, rows-flat, literals-stop}
+use Rattle.literals.specs.Fields.{literalFields, componentFields, keyClearedIn}
+use Rattle.literals.proofs.Stops.{outOfOrder, atLimit, lastFault, faults-split}
+use Rattle.literals.proofs.Bounds.{arity-six, variables-below}
+use Rattle.literals.proofs.Tables.{any-component, Comparable, kept, length-literal-row, rows-flat, literals-stop, cleared-rows}
 use Rattle.literals.proofs.Held.{stop-order, stop-limit, stop-field, place-limit, place-field}
-use Rattle.literals.proofs.Heads.{arity-limit, literals-after}
+use Rattle.literals.proofs.Heads.{arity-limit, literals-after, all-rows}
 use Rattle.literals.proofs.Fills.{latest-at}
 use Rattle.reading.specs.Held.{behind, HeldOver}
 
@@ -138,39 +138,66 @@ componentFieldsOf D p = numberOf (componentFieldRows (length (D .arities)) (arit
 component-split : (D : Domain) (p : List ℕ)
     → componentFault D p
     ≡ cond (eqb (componentFieldsOf D p) 0)
-    (cond (any (λ (d : Component). eqb (byte p 0) (d .rel)) (D .template)) (atRecord 22) (labelFault (keysOf (D .template ++ (componentOf p ∷ []))) (componentOf p .labels)))
+    (cond (any (λ (d : Component). eqb (byte p 0) (d .rel)) (D .template)) (atRecord 22) (lastFault D p))
     (atRecord (componentFieldsOf D p))
 unfolding componentFault
 component-split D p = faults-split (componentFieldRows (length (D .arities)) (arity D (byte p 0)) p) _ refl
 
 -- a component whose fields pass has at most as many labels as a relation has places
-pub component-short : (head p : List ℕ) → componentFields head p ≡ 0 → (1 ≤ length p) × (length p ≤ 1 + maxArguments)
+pub component-short : (head p : List ℕ) {n : ℕ} → n ≡ componentFields head p → n ≡ 0 → (1 ≤ length p) × (length p ≤ 1 + maxArguments)
 unfolding componentFields
-component-short head p e =
-    let r = none-passes (componentFieldRows (relationsIn head) (arityIn head (byte p 0)) p) 0 refl e .0 in
+component-short head p e z =
+    let r = none-passes (componentFieldRows (relationsIn head) (arityIn head (byte p 0)) p) 0 refl (sym e ∙ z) .0 in
     let l = eqb-true (length p) (1 + arityIn head (byte p 0)) (not-false _ (r 2)) in
     let s = arity-limit head (byte p 0) in
     (ltb-false (length p) 1 (r 0), omega arith)
 
-module _ {D : Domain} {head : List ℕ} (H : HeadOf D head) (p : List ℕ) {n : ℕ} (e : n ≡ componentFields head p) where
+module _ {D : Domain} {head table : List ℕ} (K : Held D head table) (p : List ℕ) {n : ℕ} (e : n ≡ componentFields head p) where
   component-fields-are : n ≡ componentFieldsOf D p
   unfolding componentFields
-  component-fields-are = e ∙ ap₂ (λ (k a : ℕ). numberOf (componentFieldRows k a p) 0) (H .relations) (H .arities (byte p 0))
+  component-fields-are =
+      e ∙ ap₂ (λ (k a : ℕ). numberOf (componentFieldRows k a p) 0) (K .says .relations) (K .says .arities (byte p 0))
 
   pub component-fields-stop : (n ≡ 0 → ⊥) → atRecord n ≡ componentFault D p
-  component-fields-stop z = ap atRecord component-fields-are ∙ sym (component-split D p ∙ rw (ne-eqb (componentFieldsOf D p) 0 (λ q. z (component-fields-are ∙ q))))
+  component-fields-stop z =
+      ap atRecord component-fields-are
+      ∙ sym (component-split D p ∙ rw (ne-eqb (componentFieldsOf D p) 0 (λ q. z (component-fields-are ∙ q))))
 
   module _ (z : n ≡ 0) {u : Bool} (f : u ≡ any (λ row. eqb (byte p 0) (byte row 0)) (componentRowsIn head)) where
     used-is : u ≡ any (λ (d : Component). eqb (byte p 0) (d .rel)) (D .template)
-    used-is = f ∙ ap (λ (rs : List (List ℕ)). any (λ row. eqb (byte p 0) (byte row 0)) rs) (H .componentRows) ∙ any-component (byte p 0) (D .template)
+    used-is =
+        f ∙ ap (any (λ row. eqb (byte p 0) (byte row 0))) (K .says .componentRows) ∙ any-component (byte p 0) (D .template)
 
     pub component-used : u ≡ true → atRecord 22 ≡ componentFault D p
     component-used t = sym (component-split D p ∙ rw (eq-eqb (componentFieldsOf D p) 0 (sym component-fields-are ∙ z), sym used-is ∙ t))
 
-    pub component-labels : u ≡ false → {k : ℕ} {m : RecordFault} → k ≡ keysOf (D .template ++ (componentOf p ∷ [])) → m ≡ labelFault k (componentOf p .labels) → m ≡ componentFault D p
-    component-labels t q r =
-        r ∙ ap (λ (k : ℕ). labelFault k (componentOf p .labels)) q
-        ∙ sym (component-split D p ∙ rw (eq-eqb (componentFieldsOf D p) 0 (sym component-fields-are ∙ z), sym used-is ∙ t))
+    -- the labels, then the keys where the rows have FF
+    module _ (t : u ≡ false) {k : ℕ} {m : RecordFault} (q : k ≡ keysOf (D .template ++ (componentOf p ∷ [])))
+        (r : m ≡ labelFault k (componentOf p .labels)) where
+      by-labels : componentFault D p ≡ clearedFault (D .actions) (componentOf p) m
+      by-labels =
+          component-split D p
+          ∙ rw (eq-eqb (componentFieldsOf D p) 0 (sym component-fields-are ∙ z), sym used-is ∙ t)
+          (ap (clearedFault (D .actions) (componentOf p)) (sym (r ∙ ap (λ (k : ℕ). labelFault k (componentOf p .labels)) q)))
+
+      pub component-labels : (m .number ≡ 0 → ⊥) → m ≡ componentFault D p
+      component-labels l = sym (by-labels ∙ rw (ne-eqb (m .number) 0 l))
+
+      module _ (l : m .number ≡ 0) {w : ℕ} (c : w ≡ length (allLiterals (D .actions))) {b : Bool}
+          (d : b ≡ any (keyClearedIn p) (rowsIn w table)) where
+        cleared-is : b ≡ keysCleared (D .actions) (componentOf p)
+        cleared-is =
+            let B = K .says .bounded in
+            let rows = componentFieldRows (length (D .arities)) (arity D (byte p 0)) p in
+            let s = none-passes rows 0 refl (sym component-fields-are ∙ z) .0 in
+            d ∙ ap (any (keyClearedIn p)) (ap (λ (k : ℕ). rowsIn k table) c ∙ all-rows K)
+            ∙ sym (cleared-rows D B p (eqb-true (length p) (1 + arity D (byte p 0)) (not-false _ (s 2))))
+
+        pub component-cleared : b ≡ true → atRecord 27 ≡ componentFault D p
+        component-cleared y = sym (by-labels ∙ rw (eq-eqb (m .number) 0 l, sym cleared-is ∙ y))
+
+        pub component-kept : b ≡ false → m ≡ componentFault D p
+        component-kept y = sym (by-labels ∙ rw (eq-eqb (m .number) 0 l, sym cleared-is ∙ y))
 
 module _ {D : Domain} {head : List ℕ} (H : HeadOf D head) (p : List ℕ) where
   components-full : maxComponents ≤ componentsIn head → atLimit D componentRecord ≡ true
@@ -204,11 +231,14 @@ literalFieldRows relations arity vars lasting p =
     ∷ (ltb 3 (byte p 0) && not lasting, 16)
     ∷ (leb relations (byte p 1), 17)
     ∷ (not (eqb (length p) (2 + arity)), 12)
-    ∷ (any (leb vars) (drop 2 p), 18)
+    ∷ (not (clearsOnce (literalOf p)), 26)
+    ∷ (any (noVariable vars) (drop 2 p), 18)
     ∷ []
 
 abbrev literalFieldsOf : Domain → List ℕ → ℕ
-literalFieldsOf D p = numberOf (literalFieldRows (length (D .arities)) (arity D (byte p 1)) (latest (D .actions) .vars) (latest (D .actions) .lasting) p) 0
+literalFieldsOf D p =
+    let a = latest (D .actions) in
+    numberOf (literalFieldRows (length (D .arities)) (arity D (byte p 1)) (a .vars) (a .lasting) p) 0
 
 -- those and the rows "literal"
 literal-split : (D : Domain) (p : List ℕ)
@@ -226,12 +256,13 @@ record FieldsPass (arity vars : ℕ) (p : List ℕ) : Type 0 where
   long : 2 ≤ length p
   role : byte p 0 ≤ 9
   arguments : length p ≡ 2 + arity
-  variables : any (leb vars) (drop 2 p) ≡ false
+  variables : any (noVariable vars) (drop 2 p) ≡ false
 
-fields-pass : (relations arity vars : ℕ) (lasting : Bool) (p : List ℕ) → numberOf (literalFieldRows relations arity vars lasting p) 0 ≡ 0 → FieldsPass arity vars p
+fields-pass : (relations arity vars : ℕ) (lasting : Bool) (p : List ℕ) → numberOf (literalFieldRows relations arity vars lasting p) 0 ≡ 0
+    → FieldsPass arity vars p
 fields-pass relations arity vars lasting p e =
     let r = none-passes (literalFieldRows relations arity vars lasting p) 0 refl e .0 in
-    record { long = ltb-false _ _ (r 0); role = ltb-false _ _ (r 1); arguments = eqb-true _ _ (not-false _ (r 4)); variables = r 5 }
+    record { long = ltb-false _ _ (r 0); role = ltb-false _ _ (r 1); arguments = eqb-true _ _ (not-false _ (r 4)); variables = r 6 }
 
 pub literal-short : (head : List ℕ) (i : ℕ) (p : List ℕ) → literalFields head i p ≡ 0 → (2 ≤ length p) × (length p ≤ 8)
 unfolding literalFields
@@ -266,18 +297,20 @@ module _ {D : Domain} {head table : List ℕ} (K : Held D head table) (p : List 
     latest-listed : In (latest (D .actions)) (D .actions)
     latest-listed = subst (λ (a : Action). In a (D .actions)) (latest-at (D .actions) last (omega arith)) (getD-in (D .actions) last noAction (omega arith))
 
-    comparable : Comparable p
+    comparable : Comparable D p
     comparable =
         let B = K .says .bounded in
-        let f = fields-pass (length (D .arities)) (arity D (byte p 1)) (latest (D .actions) .vars) (latest (D .actions) .lasting) p (sym literal-fields-are ∙ z) in
+        let last = latest (D .actions) in
+        let f = fields-pass (length (D .arities)) (arity D (byte p 1)) (last .vars) (last .lasting) p (sym literal-fields-are ∙ z) in
         let s = arity-six D (B .arities) (byte p 1) in
         let a = f .arguments in
-        let v = B .counts (latest (D .actions)) latest-listed in
+        let n = B .counts last latest-listed in
         record {
           enough = f .long;
           fits = omega arith;
           role = f .role;
-          arguments = λ b m. let k = leb-false (latest (D .actions) .vars) b (any-out (leb (latest (D .actions) .vars)) (f .variables) m) in omega arith;
+          arguments = a;
+          variables = λ v m. let k = variables-below (last .vars) (drop 2 p) (f .variables) v m in omega arith;
         }
 
     rank-is : r ≡ rowsRank p (map literalRow lits)

@@ -1,13 +1,13 @@
 -- The code that reads a file against its definition: what one record leads to, the loop over the file, and the answer. Assumes nothing.
 use mathlib.Core.Path.{_≡_, refl, sym, ap, ap₂, subst, _∙_}
-use mathlib.Core.Bool.{Bool, true, false, cond}
+use mathlib.Core.Bool.{Bool, true, false}
 use mathlib.Core.Logic.{inl, inr}
 use mathlib.Core.List.{List, [], _∷_, flatMap, append-nil}
 use Prim.Native.Nat.{ℕ, zero, suc, _+_, _-_, _*_, _≤_, _<_}
 use native.Mathlib.Omega.{arith}
 use lib.Dec.{eqb}
 use lib.ListN.{length, take, drop, replicate, length-append}
-use borrow.Author.Tests.{eqb-true, lt-ltb, le-ltb, eq-eqb, ne-eqb}
+use borrow.Author.Tests.{lt-ltb, le-ltb, eq-eqb, ne-eqb}
 use Rattle.records.specs.declared.Record.{Record}
 use Rattle.records.specs.declared.Record.the-variants.{Whole, Cut, End}
 use Rattle.records.specs.Record.{recordAt, payload}
@@ -24,6 +24,7 @@ use Rattle.literals.specs.Table.{allLiterals, tableBytes, Bounded}
 use Rattle.literals.specs.Held.{headBytes}
 use Rattle.literals.proofs.Stops.{passes, literal-passes}
 use Rattle.literals.proofs.Held.{literals-snoc, literals-more, rows-few, rows-fewer}
+use Rattle.literals.proofs.Heads.{length-table}
 use Rattle.literals.proofs.Fills.{filled-none}
 use Rattle.literals.proofs.Refusals.{refusal-number}
 use Rattle.literals.proofs.Loop.{read-more, read-done, payload-length, goOn-at}
@@ -33,7 +34,6 @@ use Rattle.reading.specs.declared.read.Stepped.{Stepped}
 use Rattle.reading.specs.Held.{behind, HeldOver, RecordReady, Standing, atStart, LeadsTo, EnoughTable, StepReady, endedOf}
 use Rattle.reading.specs.Held.{readUntil, readOf, tableAfter, ReadAs}
 use Rattle.reading.proofs.Takes.{behind-stop, behind-done, held-over}
-use Rattle.reading.proofs.Written.{length-table}
 
 -- ---- one record
 

@@ -1,5 +1,5 @@
 -- The table with one record more. Assumes nothing.
-use mathlib.Core.Path.{_≡_, refl, sym, ap, ap₂, subst, _∙_}
+use mathlib.Core.Path.{_≡_, refl, sym, ap, subst, _∙_}
 use mathlib.Core.Bool.{Bool, true, false, cond}
 use mathlib.Core.List.{List, [], _∷_, _++_, flatMap, append-nil}
 use Prim.Native.Nat.{ℕ, zero, suc, _*_, _≤_, _<_}
@@ -9,16 +9,15 @@ use lib.ListN.{length}
 use lib.Seq.{paste}
 use Rattle.records.specs.Lists.{empty}
 use Rattle.records.specs.Memory.{over}
-use Rattle.records.proofs.Lists.{clash, or-out, flatMap-snoc, map-back}
-use Rattle.literals.specs.declared.Variable.{Variable}
-use Rattle.literals.specs.Domain.{variable, Domain}
+use Rattle.records.proofs.Lists.{clash, or-out, flatMap-snoc}
+use Rattle.literals.specs.Domain.{Domain}
 use Rattle.literals.specs.Decode.{RecordKind, relationRecord, actionRecord, literalRecord, componentRecord, closingRecord, unknownRecord, kindOf, latest, byte, literalOf, actionOf, fieldStop, stopOf, stopPlace, extend}
-use Rattle.literals.specs.Table.{rowOf, literalRow, allLiterals, tableBytes, Bounded}
+use Rattle.literals.specs.Table.{rowOf, literalRow, allLiterals, tableBytes}
 use Rattle.literals.specs.Held.{Filled}
 use Rattle.literals.proofs.Stops.{passes, literal-passes, role-nine}
-use Rattle.literals.proofs.Bounds.{role-number}
-use Rattle.literals.proofs.Tables.{over-row, length-literals}
-use Rattle.literals.proofs.Held.{literals-snoc, literals-more, literals-in}
+use Rattle.literals.proofs.Tables.{over-row, payload-row}
+use Rattle.literals.proofs.Held.{literals-snoc, literals-more}
+use Rattle.literals.proofs.Heads.{length-table}
 use Rattle.reading.specs.Held.{behind, HeldOver}
 
 not-empty : {A : Type 0} (l : List A) → empty l ≡ false → 0 < length l
@@ -56,17 +55,6 @@ same-unknown D p = table-same D unknownRecord p refl
 
 -- ---- a literal
 
--- a literal's payload is its row
-literal-row : (p : List ℕ) → 2 ≤ length p → byte p 0 ≤ 9 → rowOf p ≡ literalRow (literalOf p)
-literal-row [] h r = absurd (omega arith)
-literal-row (a ∷ []) h r = absurd (omega arith)
-literal-row (a ∷ b ∷ q) h r = ap₂ (λ (x : ℕ) (y : List ℕ). rowOf (x ∷ b ∷ y)) (sym (role-number a r)) (sym (map-back (λ (v : Variable). v .0) variable (λ b. refl) q))
-
--- 8 bytes a literal
-pub length-table : {D : Domain} → Bounded D → length (tableBytes D) ≡ 8 * length (allLiterals (D .actions))
-unfolding tableBytes
-length-table {D} b = length-literals (allLiterals (D .actions)) (λ l m. let o = literals-in (D .actions) m in b .arguments (o .0) (o .1) l (o .2))
-
 -- head and table with a literal more
 pub literal-held : {old : List ℕ} {D : Domain} {head table : List ℕ} → HeldOver old D head table → (p : List ℕ) → stopOf D literalRecord p ≡ 0
     → {after : List ℕ} → Filled (extend D literalRecord p) after → {rows : List ℕ} (at : ℕ) → at ≡ length (allLiterals (D .actions)) → length p ≤ 8
@@ -83,7 +71,8 @@ literal-held {old} {D} K p e F at a l v =
           v ∙ ap (λ (m : List ℕ). paste m (8 * at) (rowOf p) 8) (K .rows)
           ∙ over-row (tableBytes D) old p (8 * at) (length-table (K .filled .says .bounded) ∙ ap (λ (n : ℕ). 8 * n) (sym a)) l
           ∙ ap (λ (m : List ℕ). over m old)
-          (ap (λ (r : List ℕ). flatMap literalRow (allLiterals (D .actions)) ++ r) (literal-row p (s .long) (role-nine (latest (D .actions)) (byte p 0) (s .role)))
+          (ap (λ (r : List ℕ). flatMap literalRow (allLiterals (D .actions)) ++ r)
+          (payload-row p (s .long) (role-nine (latest (D .actions)) (byte p 0) (s .role)))
           ∙ sym (flatMap-snoc literalRow (allLiterals (D .actions)) (literalOf p))
           ∙ ap (flatMap literalRow) (sym (literals-more (literalOf p) (D .actions) listed)));
     }

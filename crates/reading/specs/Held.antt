@@ -102,7 +102,7 @@ unfoldable pub tableAfter : List ℕ → List ℕ → List ℕ
 unfolding readOf tableBytes over
 tableAfter f table = over (tableBytes (readOf f)) table
 
--- "9 to 23" as the definition has it, or the domain
+-- 9 to 27 as the definition has it, or the domain
 abbrev pub ReadAs : Decoded → FileRefusal → List ℕ → List ℕ → Type 0
 ReadAs (refused x) r head table = (r .number ≡ x .number) × (r .place ≡ x .place) × (r .start ≡ x .start) × (r .number ≡ 0 → ⊥)
 ReadAs (domain D) r head table = (r .number ≡ 0) × Held D head table × (length head ≡ headBytes)

@@ -2,6 +2,7 @@
 // stops it and leaves all as it was.
 use literals::RecordFault;
 use literals::fields::action_fields;
+use literals::fields::any_clears_key;
 use literals::fields::component_fields;
 use literals::fields::label_fields;
 use literals::fields::literal_fields;
@@ -12,6 +13,7 @@ use literals::head::add_action;
 use literals::head::add_component;
 use literals::head::add_literal;
 use literals::head::add_relation;
+use literals::head::all_rows;
 use literals::head::components_in;
 use literals::head::is_used;
 use literals::head::keys_with;
@@ -117,9 +119,9 @@ pub fn take_literal(head: &mut Head, table: &mut [u8], p: &[u8]) -> u64
     number
 }
 
-// What stops a component.
-fn component_fault(head: &Head, p: &[u8]) -> RecordFault
-    ensures fault { λ r. ⌜ ((D : Domain) → HeadOf D (now (head .entry)) → r ≡ componentFault D (now (p .entry))) ⌝ }
+// What stops a component: its fields, then its labels, then a key where a literal of its relation has FF.
+fn component_fault(head: &Head, table: &[u8], p: &[u8]) -> RecordFault
+    ensures fault { λ r. ⌜ ((D : Domain) → Held D (now (head .entry)) (now (table .entry)) → r ≡ componentFault D (now (p .entry))) ⌝ }
     ensures fits { λ r. ⌜ (r .number ≡ 0 → length (now (p .entry)) ≤ 1 + maxArguments) ⌝ }
 {
     let fields = component_fields(head, p);
@@ -135,13 +137,26 @@ fn component_fault(head: &Head, p: &[u8]) -> RecordFault
             within: 0,
         };
     }
-    label_fields(p, keys_with(head, p))
+    let labels = label_fields(p, keys_with(head, p));
+    let number = labels.number;
+    if number != 0 {
+        return labels;
+    }
+    if any_clears_key(p, table, all_rows(head, table)) {
+        return RecordFault {
+            number: 27,
+            within: 0,
+        };
+    }
+    labels
 }
 
-pub fn take_component(head: &mut Head, p: &[u8]) -> RecordFault
+pub fn take_component(head: &mut Head, table: &[u8], p: &[u8]) -> RecordFault
     requires { ⌜ length (now head) ≡ headBytes ⌝ }
-    ensures number { λ r. ⌜ Takes componentRecord (now (p .entry)) (r .number) (now (head .entry)) (now (head .exit)) ⌝ }
-    ensures place { λ r. ⌜ ((D : Domain) → HeadOf D (now (head .entry)) → r .within ≡ stopPlace D componentRecord (now (p .entry))) ⌝ }
+    ensures number { λ r. ⌜ TakesRow componentRecord (now (p .entry)) (r .number)
+        (now (head .entry)) (now (table .entry)) (now (head .exit)) (now (table .entry)) ⌝ }
+    ensures place { λ r. ⌜ ((D : Domain) → Held D (now (head .entry)) (now (table .entry))
+        → r .within ≡ stopPlace D componentRecord (now (p .entry))) ⌝ }
 {
     if MAX_COMPONENTS <= components_in(head) {
         return RecordFault {
@@ -149,7 +164,7 @@ pub fn take_component(head: &mut Head, p: &[u8]) -> RecordFault
             within: 0,
         };
     }
-    let fault = component_fault(head, p);
+    let fault = component_fault(head, table, p);
     let number = fault.number;
     if number == 0 {
         add_component(head, p);
@@ -175,7 +190,8 @@ pub fn take_record(head: &mut Head, table: &mut [u8], kind: u16, p: &[u8]) -> Re
     requires { ⌜ RecordReady (now head) (now table) (now p) ⌝ }
     ensures number { λ r. ⌜ TakesRow (kindOf kind) (now (p .entry)) (r .number)
         (now (head .entry)) (now (table .entry)) (now (head .exit)) (now (table .exit)) ⌝ }
-    ensures place { λ r. ⌜ ((D : Domain) → HeadOf D (now (head .entry)) → r .within ≡ stopPlace D (kindOf kind) (now (p .entry))) ⌝ }
+    ensures place { λ r. ⌜ ((D : Domain) → Held D (now (head .entry)) (now (table .entry))
+        → r .within ≡ stopPlace D (kindOf kind) (now (p .entry))) ⌝ }
 {
     match kind {
         1 => RecordFault {
@@ -190,7 +206,7 @@ pub fn take_record(head: &mut Head, table: &mut [u8], kind: u16, p: &[u8]) -> Re
             number: take_literal(head, table, p),
             within: 0,
         },
-        4 => take_component(head, p),
+        4 => take_component(head, table, p),
         5 => RecordFault {
             number: take_closing(head, p),
             within: 0,

@@ -11,6 +11,12 @@ abbrev pub addIf : Bool → ℕ → ℕ
 addIf true n = suc n
 addIf false n = n
 
+-- every two elements at the same place pass
+abbrev pub sideBySide : {A B : Type 0} → (A → B → Bool) → List A → List B → Bool
+sideBySide r [] ys = true
+sideBySide r (x ∷ xs) [] = true
+sideBySide r (x ∷ xs) (y ∷ ys) = r x y && sideBySide r xs ys
+
 module _ {A : Type 0} where
   -- x in front of l where the test passes
   abbrev pub keepIf : Bool → A → List A → List A

@@ -11,8 +11,9 @@ use Rattle.run_semantics.specs.Claims.{AllowedIsNotForbidden, ForbiddenB
 
 pub allowed-not-forbidden : AllowedIsNotForbidden
 unfolding allowed forbidden
-allowed-not-forbidden D s es =
-    four (all (isOpen (s .running)) es) (all (conditionsHold D (s .facts)) es) (all (overAllHold D (s .facts)) (s .running)) (independent D es)
+allowed-not-forbidden D objs s es =
+    four (all (isOpen (s .running)) es) (all (conditionsHold D objs (s .facts)) es) (all (overAllHold D objs (s .facts)) (s .running))
+    (independent D objs es)
   where
     four : (a b c d : Bool) → (a && b && c && d) ≡ eqb (cond (not a) 57 (cond (not (b && c)) 55 (cond (not d) 56 0))) 0
     four false b c d = refl
@@ -23,9 +24,10 @@ allowed-not-forbidden D s es =
 
 pub forbidden-by-own : ForbiddenByOwn
 unfolding forbidden
-forbidden-by-own D s es =
-    go (all (isOpen (s .running)) es) (all (overAllHold D (s .facts)) (s .running)) (all (conditionsHold D (s .facts)) es) (all (ownHold D (s .facts)) es)
-    (cond (not (independent D es)) 56 0) (own-is-enough D s es)
+forbidden-by-own D objs s es =
+    go (all (isOpen (s .running)) es) (all (overAllHold D objs (s .facts)) (s .running)) (all (conditionsHold D objs (s .facts)) es)
+    (all (ownHold D objs (s .facts)) es)
+    (cond (not (independent D objs es)) 56 0) (own-is-enough D objs s es)
   where
     go : (o v c w : Bool) (n : ℕ) → (o ≡ true → v ≡ true → c ≡ w) → cond (not o) 57 (cond (not (c && v)) 55 n) ≡ cond (not o) 57 (cond (not (w && v)) 55 n)
     go false v c w n same = refl

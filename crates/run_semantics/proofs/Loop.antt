@@ -15,7 +15,9 @@ use Rattle.literals.specs.Domain.{Domain}
 use Rattle.literals.specs.Decode.{byte}
 use Rattle.verdict.specs.Machine.{State, next, topWeight}
 use Rattle.run_semantics.specs.RunFile.{RunKind, objectsRecord, factRecord, eventRecord, stepRecord, endRecord, otherRecord, runKindOf, factOf, eventOf, objectsStop, factStop, eventStop, stepStop, endStop}
-use Rattle.run_semantics.specs.Play.{Playing, beforeRun, Outcome, PlayTurn, goOn, finish, stopAt, begin, withObjects, withFact, withEvent, forbidden, tooLarge, afterStep, closeStep, withClose, playRecord, playFound, playStep, playFrom}
+use Rattle.run_semantics.specs.Play.{Playing, beforeRun, Outcome, PlayTurn, goOn, finish, stopAt, begin, withObjects, withFact, withEvent}
+use Rattle.run_semantics.specs.Play.{runObjects, forbidden, tooLarge, afterStep, closeStep, withClose, playRecord, playFound, playStep}
+use Rattle.run_semantics.specs.Play.{playFrom}
 
 -- ---- one turn of the loop
 
@@ -40,12 +42,13 @@ at-cond n false t u h k = k
 at-close : (D : Domain) (p : Playing) (behind : ℕ) → At behind (closeStep D p behind)
 unfolding closeStep
 at-close D p behind =
-    at-cond behind (eqb (forbidden D (p .state) (p .waiting)) 0) (cond (tooLarge after) (stopAt 52 p) (afterStep p after top behind)) (stopAt (forbidden D (p .state) (p .waiting)) p)
+    at-cond behind (eqb (forbidden D (runObjects p) (p .state) (p .waiting)) 0)
+    (cond (tooLarge after) (stopAt 52 p) (afterStep p after top behind)) (stopAt (forbidden D (runObjects p) (p .state) (p .waiting)) p)
     (at-cond behind (tooLarge after) (stopAt 52 p) (afterStep p after top behind) tt refl)
     tt
   where
     after : State
-    after = next D (p .state) (p .waiting)
+    after = next D (runObjects p) (p .state) (p .waiting)
 
     top : ℕ
     top = topWeight D (after .facts)

@@ -11,6 +11,7 @@ use borrow.Author.Tests.{eqb-true, eqb-false, eq-eqb, lt-ltb, leb-false}
 use Rattle.records.specs.Lists.{any, all, empty, elem}
 use Rattle.records.proofs.Lists.{and-l, and-r, and-i, or-l, or-r, or-out, not-false, bool-cases, off, clash, eqb-same, all-snoc, pairwise-snoc, any-none, all-map}
 use Rattle.records.proofs.Numbers.{numberOf, testOf, numbered, by-numbers}
+use Rattle.literals.specs.declared.Object.{Object}
 use Rattle.literals.specs.Domain.{object, sameObject, Fact, sameFact, Action, Domain, arity, action}
 use Rattle.literals.specs.Decode.{byte}
 use Rattle.literals.specs.declared.Moment.{Moment}
@@ -160,13 +161,14 @@ end-tested n ws b = tested ((eqb n 0, 50) ∷ (not (eqb (length b) 0), 50) ∷ [
     go (v ∷ vs) e = inr (record { low = omega arith; high = omega arith })
 
 -- "57 end not open; 55 condition fails; 56 interference"
-pub forbidden-by : (D : Domain) (s : State) (es : List Event) → (forbidden D s es ≡ 0) ⊎ ((55 ≤ forbidden D s es) × (forbidden D s es ≤ 57))
+pub forbidden-by : (D : Domain) (objs : List Object) (s : State) (es : List Event)
+    → (forbidden D objs s es ≡ 0) ⊎ ((55 ≤ forbidden D objs s es) × (forbidden D objs s es ≤ 57))
 unfolding forbidden
-forbidden-by D s es =
+forbidden-by D objs s es =
     by-numbers 55 57 (λ n. (n ≡ 0) ⊎ ((55 ≤ n) × (n ≤ 57))) (λ n l u. inr (l, u))
     ((not (all (isOpen (s .running)) es), 57)
-    ∷ (not (all (conditionsHold D (s .facts)) es && all (overAllHold D (s .facts)) (s .running)), 55)
-    ∷ (not (independent D es), 56)
+    ∷ (not (all (conditionsHold D objs (s .facts)) es && all (overAllHold D objs (s .facts)) (s .running)), 55)
+    ∷ (not (independent D objs es), 56)
     ∷ [])
     0 refl (λ g. inl refl)
 

@@ -13,18 +13,22 @@ use Rattle.records.specs.declared.Record.{Record}
 use Rattle.records.specs.declared.Record.the-variants.{Whole, Cut, End}
 use Rattle.records.specs.Record.{recordAt, payload}
 use Rattle.records.proofs.Lists.{and-l, or-r, clash, all-snoc, in-snoc}
+use Rattle.literals.specs.declared.Object.{Object}
 use Rattle.literals.specs.Domain.{Fact, sameFact, Domain}
 use Rattle.literals.specs.Decode.{byte}
 use Rattle.verdict.specs.Binding.{objectsFrom}
 use Rattle.verdict.specs.Machine.{Event, State, legalStep, allowed, next, startState, topWeight}
 use Rattle.verdict.specs.Claims.{isEvent, isFact}
 use Rattle.run_semantics.specs.RunFile.{RunKind, objectsRecord, factRecord, eventRecord, stepRecord, endRecord, otherRecord, runKindOf, factOf, eventOf, Entry, entriesBefore, entriesUpTo, objectsIn, startFactsIn, stepsIn, waitingIn, begunIn, isEnd, closedIn, objectsStop, factStop, eventStop, stepStop, endStop, recordStop}
-use Rattle.run_semantics.specs.Play.{Tally, Playing, beforeRun, PlayTurn, goOn, finish, outcomeAt, stopAt, startTally, begin, withObjects, joined, withFact, withEvent, forbidden, tooLarge, tallied, afterStep, closeStep, withClose, unless, playRecord, playFound, playStep, playFrom, playRun}
-use Rattle.run_semantics.specs.Claims.{finalOf, stepEnd, closeEnd, recordEnd, foundEnd, endNumber, AsMachine}
+use Rattle.run_semantics.specs.Play.{Tally, Playing, beforeRun, PlayTurn, goOn, finish, outcomeAt, stopAt, startTally, begin, withObjects}
+use Rattle.run_semantics.specs.Play.{joined, withFact, withEvent, runObjects, forbidden, tooLarge, tallied, afterStep, closeStep, withClose}
+use Rattle.run_semantics.specs.Play.{unless, playRecord, playFound, playStep, playFrom, playRun}
+use Rattle.run_semantics.specs.Claims.{startOf, stepEnd, closeEnd, recordEnd, foundEnd, endNumber, AsMachine}
 use Rattle.run_semantics.proofs.Allowed.{allowed-not-forbidden}
 use Rattle.run_semantics.proofs.Loop.{play-more, play-done, play-at}
 use Rattle.run_semantics.proofs.Entries.{entryAt, Chain, here, snoc, chain-within, chain-behind, before-chain, up-to-whole, up-to-none, facts-snoc, waiting-snoc, steps-snoc, objects-snoc, closed-snoc, facts-keep, steps-keep, begun-keep, begun-here, begun-before, nothing-early}
-use Rattle.run_semantics.proofs.Runs.{final, Taken, peak, no-steps, taken-snoc, final-snoc, peak-snoc, start-snoc}
+use Rattle.run_semantics.proofs.Runs.{final, Taken, peak, no-steps, taken-none, final-none, peak-none, taken-snoc, final-snoc, peak-snoc}
+use Rattle.run_semantics.proofs.Runs.{start-snoc}
 use Rattle.run_semantics.proofs.Stops.{Tested, objects-tested, fact-tested, event-tested, step-tested, end-tested, forbidden-by, no-events, legal-snoc}
 
 -- ---- what holds of the machine, of start facts, steps taken and events that wait
@@ -37,14 +41,14 @@ pub record Reached (D : Domain) (n : ℕ) (s : State) (fs : List Fact) (ess : Li
   pub waiting-events : all (isEvent D (objectsFrom 0 n)) ws ≡ true
   -- before the object count nothing is read
   pub none-yet : n ≡ 0 → (fs ≡ []) × (ess ≡ []) × (ws ≡ [])
-  pub taken : Taken D (startState fs) ess
-  pub state : s ≡ final D (startState fs) ess
+  pub taken : Taken D (objectsFrom 0 n) (startState fs) ess
+  pub state : s ≡ final D (objectsFrom 0 n) (startState fs) ess
 
 -- the tally, where the start counts or does not
-pub record Counts (D : Domain) (b : Bool) (fs : List Fact) (ess : List (List Event)) (t : Tally) : Type 0 where
+pub record Counts (D : Domain) (n : ℕ) (b : Bool) (fs : List Fact) (ess : List (List Event)) (t : Tally) : Type 0 where
   pub begun : t .begun ≡ b
   pub steps : t .steps ≡ length ess
-  pub weight : t .weight ≡ cond b (peak D (startState fs) ess) 0
+  pub weight : t .weight ≡ cond b (peak D (objectsFrom 0 n) (startState fs) ess) 0
 
 module _ (D : Domain) {n : ℕ} {s : State} {fs : List Fact} {ess : List (List Event)} {ws : List Event} where
   -- the object count
@@ -58,8 +62,21 @@ module _ (D : Domain) {n : ℕ} {s : State} {fs : List Fact} {ess : List (List E
         waiting-legal = h .waiting-legal;
         waiting-events = rw (e .2);
         none-yet = λ _. e;
-        taken = h .taken;
-        state = h .state;
+        taken = taken-none D (objectsFrom 0 m) (startState fs) (e .1);
+        state =
+            h .state ∙ final-none D (objectsFrom 0 n) (startState fs) (e .1) ∙ sym (final-none D (objectsFrom 0 m) (startState fs) (e .1));
+      }
+
+  count-objects : (m : ℕ) {b : Bool} {t : Tally} → n ≡ 0 → Reached D n s fs ess ws → Counts D n b fs ess t → Counts D m b fs ess t
+  count-objects m {b} z h k =
+      let e = h .none-yet z .1 in
+      record {
+        begun = k .begun;
+        steps = k .steps;
+        weight =
+            k .weight
+            ∙ ap (λ (x : ℕ). cond b x 0)
+            (peak-none D (objectsFrom 0 n) (startState fs) e ∙ sym (peak-none D (objectsFrom 0 m) (startState fs) e));
       }
 
   -- one event more
@@ -77,9 +94,10 @@ module _ (D : Domain) {n : ℕ} {s : State} {fs : List Fact} {ess : List (List E
       }
 
   -- one step more
-  with-step : (n ≡ 0 → ⊥) → allowed D s ws ≡ true → Reached D n s fs ess ws → Reached D n (next D s ws) fs (ess ++ (ws ∷ [])) []
+  with-step : (n ≡ 0 → ⊥) → allowed D (objectsFrom 0 n) s ws ≡ true → Reached D n s fs ess ws
+      → Reached D n (next D (objectsFrom 0 n) s ws) fs (ess ++ (ws ∷ [])) []
   with-step z a h =
-      let b : allowed D (final D (startState fs) ess) ws ≡ true = rw (h .state) at a in
+      let b : allowed D (objectsFrom 0 n) (final D (objectsFrom 0 n) (startState fs) ess) ws ≡ true = rw (h .state) at a in
       record {
         facts-legal = h .facts-legal;
         steps-legal = all-snoc (legalStep D) ess ws (h .steps-legal) (h .waiting-legal);
@@ -87,15 +105,16 @@ module _ (D : Domain) {n : ℕ} {s : State} {fs : List Fact} {ess : List (List E
         waiting-legal = no-events D;
         waiting-events = refl;
         none-yet = λ q. absurd (z q);
-        taken = taken-snoc D (startState fs) ess ws (h .taken) b;
-        state = rw (h .state) (sym (final-snoc D (startState fs) ess ws (h .taken) b));
+        taken = taken-snoc D (objectsFrom 0 n) (startState fs) ess ws (h .taken) b;
+        state = rw (h .state) (sym (final-snoc D (objectsFrom 0 n) (startState fs) ess ws (h .taken) b));
       }
 
   -- the start counts from now on
-  count-start : {b : Bool} {t : Tally} → (b ≡ false → ess ≡ []) → Reached D n s fs ess ws → Counts D b fs ess t → Counts D true fs ess (startTally t (topWeight D (s .facts)))
+  count-start : {b : Bool} {t : Tally} → (b ≡ false → ess ≡ []) → Reached D n s fs ess ws → Counts D n b fs ess t
+      → Counts D n true fs ess (startTally t (topWeight D (s .facts)))
   count-start {b} {t} z h k = go b z k
     where
-      go : (b : Bool) → (b ≡ false → ess ≡ []) → Counts D b fs ess t → Counts D true fs ess (startTally t (topWeight D (s .facts)))
+      go : (b : Bool) → (b ≡ false → ess ≡ []) → Counts D n b fs ess t → Counts D n true fs ess (startTally t (topWeight D (s .facts)))
       go true z k = rw (k .begun) (record { begun = refl; steps = k .steps; weight = k .weight })
       go false z k =
           let e : ess ≡ [] = z refl in
@@ -108,13 +127,14 @@ module _ (D : Domain) {n : ℕ} {s : State} {fs : List Fact} {ess : List (List E
           })
 
   -- one step more counts
-  count-step : {t : Tally} → allowed D s ws ≡ true → Reached D n s fs ess ws → Counts D true fs ess t → Counts D true fs (ess ++ (ws ∷ [])) (tallied t (topWeight D (next D s ws .facts)))
+  count-step : {t : Tally} → allowed D (objectsFrom 0 n) s ws ≡ true → Reached D n s fs ess ws → Counts D n true fs ess t
+      → Counts D n true fs (ess ++ (ws ∷ [])) (tallied t (topWeight D (next D (objectsFrom 0 n) s ws .facts)))
   count-step {t} a h k =
-      let b : allowed D (final D (startState fs) ess) ws ≡ true = rw (h .state) at a in
+      let b : allowed D (objectsFrom 0 n) (final D (objectsFrom 0 n) (startState fs) ess) ws ≡ true = rw (h .state) at a in
       record {
         begun = k .begun;
         steps = ap suc (k .steps) ∙ simp length-append (omega arith);
-        weight = rw (k .weight, h .state) (sym (peak-snoc D (startState fs) ess ws (h .taken) b));
+        weight = rw (k .weight, h .state) (sym (peak-snoc D (objectsFrom 0 n) (startState fs) ess ws (h .taken) b));
       }
 
 -- one start fact more, before any step
@@ -133,7 +153,8 @@ with-fact D {n} {s} {fs} {ws} f z i h =
       state = rw (no-steps, e) (ap (λ (x : List Fact). record { facts = x; running = [] }) (sym (start-snoc fs f)));
     }
 
-count-fact : (D : Domain) {fs : List Fact} {t : Tally} (f : Fact) → Counts D false fs [] t → Counts D false (fs ++ (f ∷ [])) [] t
+count-fact : (D : Domain) {n : ℕ} {fs : List Fact} {t : Tally} (f : Fact) → Counts D n false fs [] t
+    → Counts D n false (fs ++ (f ∷ [])) [] t
 count-fact D f k = record { begun = k .begun; steps = k .steps; weight = k .weight }
 
 -- ---- where playing stands, told by the records before it
@@ -143,7 +164,7 @@ pub record Stands (D : Domain) (r : List ℕ) (es : List Entry) (b : Bool) (p : 
   pub earlier : (e : Entry) → In e es → endNumber D r (entriesBefore r (e .at)) (e .at) ≡ 0
   pub objects : p .objects ≡ objectsIn es
   pub reached : Reached D (p .objects) (p .state) (startFactsIn es) (stepsIn es) (waitingIn es)
-  pub counts : Counts D b (startFactsIn es) (stepsIn es) (p .tally)
+  pub counts : Counts D (p .objects) b (startFactsIn es) (stepsIn es) (p .tally)
   pub waiting : p .waiting ≡ waitingIn es
 
 pub record Inv (D : Domain) (r : List ℕ) (p : Playing) : Type 0 where
@@ -175,12 +196,12 @@ module _ (D : Domain) (r : List ℕ) where
         facts-legal = rw (← (h .objects)) (h .reached .facts-legal);
         steps-legal = h .reached .steps-legal;
         events-legal = rw (← (h .objects)) (h .reached .events-legal);
-        taken = h .reached .taken;
+        taken = rw (← (h .objects)) (h .reached .taken);
         steps = h .counts .steps;
-        facts = ap (λ (s : State). s .facts) (h .reached .state);
-        running = ap (λ (s : State). s .running) (h .reached .state);
+        facts = rw (← (h .objects)) (ap (λ (s : State). s .facts) (h .reached .state));
+        running = rw (← (h .objects)) (ap (λ (s : State). s .running) (h .reached .state));
         begun = rw u (h .counts .begun);
-        weight = rw u (h .counts .weight);
+        weight = rw (← (h .objects), u) (h .counts .weight);
       })
 
   begun : {es : List Entry} (p : Playing) → Stands D r es (begunIn es) p → Stands D r es true (begin D p)
@@ -260,21 +281,28 @@ module _ (D : Domain) (r : List ℕ) where
       → recordStop D es stepRecord b ≡ 0 → Good D r (closeStep D p behind)
   unfolding closeStep
   good-close {es} p b behind z h f stop =
-      good-cond D r (eqb (forbidden D (p .state) (p .waiting)) 0) (cond (tooLarge after) (stopAt 52 p) (afterStep p after top behind)) (stopAt (forbidden D (p .state) (p .waiting)) p)
+      good-cond D r (eqb number 0) (cond (tooLarge after) (stopAt 52 p) (afterStep p after top behind)) (stopAt number p)
       (λ q.
-      let a = allowed-not-forbidden D (p .state) (p .waiting) ∙ q in
+      let a = allowed-not-forbidden D objs (p .state) (p .waiting) ∙ q in
       good-cond D r (tooLarge after) (stopAt 52 p) (afterStep p after top behind)
       (λ l. ends D r p h u 52 (sym (said ∙ rw (a, l))) (λ y. omega arith) (λ y. absurd (omega arith)))
       (λ l. went a (said ∙ rw (a, l))))
       (λ q.
-      let a = allowed-not-forbidden D (p .state) (p .waiting) ∙ q in
-      ends D r p h u (forbidden D (p .state) (p .waiting)) (sym (said ∙ rw a)) (λ y. clash (eq-eqb (forbidden D (p .state) (p .waiting)) 0 y) q) (λ y. absurd (not-two y (forbidden-by D (p .state) (p .waiting)))))
+      let a = allowed-not-forbidden D objs (p .state) (p .waiting) ∙ q in
+      ends D r p h u number (sym (said ∙ rw a)) (λ y. clash (eq-eqb number 0 y) q)
+      (λ y. absurd (not-two y (forbidden-by D objs (p .state) (p .waiting)))))
     where
       e : Entry
       e = entry p stepRecord b
 
+      objs : List Object
+      objs = runObjects p
+
+      number : ℕ
+      number = forbidden D objs (p .state) (p .waiting)
+
       after : State
-      after = next D (p .state) (p .waiting)
+      after = next D objs (p .state) (p .waiting)
 
       top : ℕ
       top = topWeight D (after .facts)
@@ -282,16 +310,20 @@ module _ (D : Domain) (r : List ℕ) where
       u : begunIn (entriesUpTo r (p .at)) ≡ true
       u = rw (f .up-to) (begun-here es e refl)
 
-      said : endNumber D r es (p .at) ≡ stepEnd D (p .state) (p .waiting)
-      said = by-close D r f stop ∙ sym (ap (λ (s : State). stepEnd D s (p .waiting)) (h .reached .state) ∙ ap (stepEnd D (finalOf D es)) (h .waiting))
+      said : endNumber D r es (p .at) ≡ stepEnd D objs (p .state) (p .waiting)
+      said =
+          by-close D r f stop
+          ∙ sym (ap (λ (s : State). stepEnd D objs s (p .waiting)) (h .reached .state)
+          ∙ ap (stepEnd D objs (final D objs (startOf es) (stepsIn es))) (h .waiting)
+          ∙ ap (λ (n : ℕ). stepEnd D (objectsFrom 0 n) (final D (objectsFrom 0 n) (startOf es) (stepsIn es)) (waitingIn es)) (h .objects))
 
-      not-two : forbidden D (p .state) (p .waiting) ≡ 2 → (forbidden D (p .state) (p .waiting) ≡ 0) ⊎ ((55 ≤ forbidden D (p .state) (p .waiting)) × (forbidden D (p .state) (p .waiting) ≤ 57)) → ⊥
+      not-two : number ≡ 2 → (number ≡ 0) ⊎ ((55 ≤ number) × (number ≤ 57)) → ⊥
       not-two y (inl k) = omega arith
       not-two y (inr k) = omega arith
 
-      went : allowed D (p .state) (p .waiting) ≡ true → endNumber D r es (p .at) ≡ 0 → Good D r (afterStep p after top behind)
+      went : allowed D objs (p .state) (p .waiting) ≡ true → endNumber D r es (p .at) ≡ 0 → Good D r (afterStep p after top behind)
       went a n =
-          let w : allowed D (p .state) (waitingIn es) ≡ true = rw (h .waiting) at a in
+          let w : allowed D objs (p .state) (waitingIn es) ≡ true = rw (h .waiting) at a in
           let k = with-step D z w (h .reached) in
           record {
             es = es ++ (e ∷ []);
@@ -323,7 +355,8 @@ module _ (D : Domain) (r : List ℕ) where
               earlier = earlier-more D r f (h .stands .earlier) (by-close D r f s);
               objects = sym (objects-snoc es e);
               reached = rw (facts-keep es e refl, steps-keep es e refl, waiting-snoc es e) (with-objects D (byte b 0) z (h .stands .reached));
-              counts = rw (begun-keep es e refl, facts-keep es e refl, steps-keep es e refl) (h .stands .counts);
+              counts = rw (begun-keep es e refl, facts-keep es e refl, steps-keep es e refl)
+                  (count-objects D (byte b 0) z (h .stands .reached) (h .stands .counts));
               waiting = h .stands .waiting ∙ sym (waiting-snoc es e);
             };
         closed = closed-now D r f false refl;

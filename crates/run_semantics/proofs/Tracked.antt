@@ -28,7 +28,7 @@ use Rattle.run_semantics.specs.Play.{callBy, call}
 use Rattle.run_semantics.specs.Track.{instanceOf, countOf, countGiven, objectsGiven, instanceStop, trackRun, reportedTotal, Tracked, trackBy, tracked}
 use Rattle.run_semantics.specs.Claims.{startOf, statesOf, finalOf, playedEntries, recordEnd, foundEnd, endNumber}
 use Rattle.run_semantics.specs.Claims.{ObjectsFirst, AsPlayed, TotalOfRun, NeverRising, NothingGained}
-use Rattle.run_semantics.proofs.Never.{played-as-machine, among-more}
+use Rattle.run_semantics.proofs.Never.{among-facts, played-as-machine}
 
 -- ---- where the instance stops nothing, playing is as without one
 
@@ -127,48 +127,36 @@ last-falls f s (t ∷ l) h =
     let b = last-falls f t l (and-r (leb (f t) (f s)) _ h) in
     omega arith
 
-run-falls : (f : State → ℕ) (D : Domain) (s : State) (ess : List (List Event)) → neverRising (map f (run D s ess)) ≡ true
-    → f (lastState s (run D s ess)) ≤ f s
+run-falls : (f : State → ℕ) (D : Domain) (objs : List Object) (s : State) (ess : List (List Event))
+    → neverRising (map f (run D objs s ess)) ≡ true → f (lastState s (run D objs s ess)) ≤ f s
 unfolding run
-run-falls f D s [] h = omega arith
-run-falls f D s (es ∷ ess) h = last-falls f s (cond (allowed D s es) (run D (next D s es) ess) []) h
+run-falls f D objs s [] h = omega arith
+run-falls f D objs s (es ∷ ess) h = last-falls f s (cond (allowed D objs s es) (run D objs (next D objs s es) ess) []) h
 
 module _ (d : List ℕ) (D : Domain) (e : decode d ≡ domain D) (one : decidedFile d .number ≡ 1) (y r : List ℕ)
-    (sized : length y ≡ keysOf (D .template)) (low : weight D (instanceOf y) (startOf (playedEntries D r) .facts) ≤ 1) where
+    (among : isInstance D (objectsOf (playedEntries D r)) (instanceOf y) ≡ true)
+    (low : weight D (instanceOf y) (startOf (playedEntries D r) .facts) ≤ 1) where
   abbrev es : List Entry
   es = playedEntries D r
 
   abbrev objs : List Object
-  objs = objectsFrom 0 (objectsIn es)
+  objs = objectsOf es
 
-  -- the objects of the instance may be any: they join those of the run
-  chosen : Chosen D (instanceOf y ++ objs) (startFactsIn es) (instanceOf y) (stepsIn es)
+  chosen : Chosen D objs (startFactsIn es) (instanceOf y) (stepsIn es)
   chosen =
       let told = played-as-machine d D e r in
       record {
-        facts-over =
-            all-weaken (isFact D objs) (λ (f : Fact). among (instanceOf y ++ objs) (f .args)) (startFactsIn es)
-            (λ f t. among-more (instanceOf y) objs (f .args) (and-r (hasArity D (f .rel) (f .args)) _ t)) (told .facts-legal);
-        instance =
-            and-i (eq-eqb _ _ (length-map y object ∙ sized))
-            (all-of (λ o. elem sameObject o (instanceOf y ++ objs)) (instanceOf y)
-            (λ o k. in-elem sameObject object-self (Memᴰ·append-left objs k)));
+        facts-over = among-facts D objs (startFactsIn es) (told .facts-legal);
+        instance = among;
         steps-legal = told .steps-legal;
-        events =
-            all-weaken (all (isEvent D objs)) (all (isEvent D (instanceOf y ++ objs))) (stepsIn es)
-            (λ es. all-weaken (isEvent D objs) (isEvent D (instanceOf y ++ objs)) es event) (told .events-legal);
+        events = told .events-legal;
       }
-    where
-      event : (e : Event) → isEvent D objs e ≡ true → isEvent D (instanceOf y ++ objs) e ≡ true
-      event e t =
-          and-i (and-l (legal D e && injective e) (among objs (e .ground .binding)) t)
-          (among-more (instanceOf y) objs (e .ground .binding) (and-r (legal D e && injective e) _ t))
 
   states-fall : neverRising (map (total D (instanceOf y)) (statesOf D es)) ≡ true
-  states-fall = file-never-rises d D e one (instanceOf y ++ objs) (startFactsIn es) (instanceOf y) (stepsIn es) chosen low
+  states-fall = file-never-rises d D e one objs (startFactsIn es) (instanceOf y) (stepsIn es) chosen low
 
   final-low : total D (instanceOf y) (finalOf D es) ≤ total D (instanceOf y) (startOf es)
-  final-low = run-falls (total D (instanceOf y)) D (startOf es) (stepsIn es) states-fall
+  final-low = run-falls (total D (instanceOf y)) D objs (startOf es) (stepsIn es) states-fall
 
   -- of playing, with or without a stop by the instance
   played-low : reportedTotal D y (playRun D r) ≤ total D (instanceOf y) (startOf es)
@@ -205,8 +193,8 @@ module _ (d : List ℕ) (D : Domain) (e : decode d ≡ domain D) (one : decidedF
       go false = tracked-low
 
 pub nothing-gained : (d y r w : List ℕ) (answered : ℕ) → answered ≡ tracked d y r w .total → NothingGained d y r answered
-nothing-gained d y r w answered a D e one sized low =
+nothing-gained d y r w answered a D e one among low =
     record {
-      states = states-fall d D e one y r sized low;
-      at-most = let l = answered-low d D e one y r sized low w in omega arith;
+      states = states-fall d D e one y r among low;
+      at-most = let l = answered-low d D e one y r among low w in omega arith;
     }

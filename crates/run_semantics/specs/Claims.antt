@@ -11,13 +11,14 @@ use Rattle.records.specs.Memory.{over}
 use Rattle.records.specs.declared.Record.{Record}
 use Rattle.records.specs.declared.Record.the-variants.{Whole, Cut, End}
 use Rattle.records.specs.Record.{recordAt, payload}
-use Rattle.literals.specs.Domain.{keysOf, Domain}
+use Rattle.literals.specs.declared.Object.{Object}
+use Rattle.literals.specs.Domain.{Domain}
 use Rattle.literals.specs.Decode.{domain, decode}
 use Rattle.verdict.specs.Binding.{objectsFrom}
 use Rattle.verdict.specs.Judged.{decidedFile}
 use Rattle.verdict.specs.Machine.{Event, State, legalStep, isOpen, ownHold, overAllHold, independent, allowed, next, startState, run}
 use Rattle.verdict.specs.Machine.{lastState, largest, weight, topWeight}
-use Rattle.verdict.specs.Claims.{Accepted, isEvent, isFact, total, neverRising}
+use Rattle.verdict.specs.Claims.{Accepted, isEvent, isFact, isInstance, total, neverRising}
 use Rattle.run_semantics.specs.RunFile.{RunKind, objectsRecord, factRecord, eventRecord, stepRecord, endRecord, otherRecord}
 use Rattle.run_semantics.specs.RunFile.{runKindOf, Entry, entriesBefore, entriesUpTo, behindIn, objectsIn, startFactsIn, stepsIn}
 use Rattle.run_semantics.specs.RunFile.{waitingIn, begunIn, closedIn, recordStop}
@@ -26,13 +27,17 @@ use Rattle.run_semantics.specs.Track.{instanceOf, objectsGiven, instance
 
 -- ---- a run of the machine on what a run file holds
 
+-- the objects of these records: "object count" says how many, none before it is read
+abbrev pub objectsOf : List Entry → List Object
+objectsOf es = objectsFrom 0 (objectsIn es)
+
 -- the start state of these records
 abbrev pub startOf : List Entry → State
 startOf es = startState (startFactsIn es)
 
 -- the states that the machine reaches on their steps
 abbrev pub statesOf : Domain → List Entry → List State
-statesOf D es = run D (startOf es) (stepsIn es)
+statesOf D es = run D (objectsOf es) (startOf es) (stepsIn es)
 
 -- the last of them
 abbrev pub finalOf : Domain → List Entry → State
@@ -45,14 +50,14 @@ peakOf D es = largest (map (λ (s : State). topWeight D (s .facts)) (statesOf D 
 -- ---- where playing ends, and by which number, told by the records before it
 
 -- a step that the records close: "57, 55, 56", then "52 over 1,024 facts or 32 open", or 0
-abbrev pub stepEnd : Domain → State → List Event → ℕ
-stepEnd D s es = cond (allowed D s es) (cond (tooLarge (next D s es)) 52 0) (forbidden D s es)
+abbrev pub stepEnd : Domain → List Object → State → List Event → ℕ
+stepEnd D objs s es = cond (allowed D objs s es) (cond (tooLarge (next D objs s es)) 52 0) (forbidden D objs s es)
 
 abbrev pub closeEnd : Domain → List Entry → RunKind → ℕ
 closeEnd D es objectsRecord = 0
 closeEnd D es factRecord = 0
 closeEnd D es eventRecord = 0
-closeEnd D es stepRecord = stepEnd D (finalOf D es) (waitingIn es)
+closeEnd D es stepRecord = stepEnd D (objectsOf es) (finalOf D es) (waitingIn es)
 closeEnd D es endRecord = 0
 closeEnd D es otherRecord = 0
 
@@ -83,9 +88,9 @@ pub record EndsBehind (D : Domain) (r : List ℕ) (es : List Entry) (o : Outcome
   -- 2: the whole file is played
   pub whole : o .number ≡ 2 → o .place ≡ length r
   -- their start facts and events are ones of the domain over the run's objects, with different objects for different variables
-  pub facts-legal : all (isFact D (objectsFrom 0 (objectsIn es))) (startFactsIn es) ≡ true
+  pub facts-legal : all (isFact D (objectsOf es)) (startFactsIn es) ≡ true
   pub steps-legal : all (legalStep D) (stepsIn es) ≡ true
-  pub events-legal : all (all (isEvent D (objectsFrom 0 (objectsIn es)))) (stepsIn es) ≡ true
+  pub events-legal : all (all (isEvent D (objectsOf es))) (stepsIn es) ≡ true
   -- the machine takes all of their steps
   pub taken : length (statesOf D es) ≡ suc (length (stepsIn es))
   pub steps : o .steps ≡ length (stepsIn es)
@@ -125,16 +130,17 @@ PlaysAsMachine d r w number place steps weight memory =
 
 -- a step is allowed exactly where none of 57, 55 and 56 comes
 abbrev pub AllowedIsNotForbidden : Type 0
-AllowedIsNotForbidden = (D : Domain) (s : State) (es : List Event) → allowed D s es ≡ eqb (forbidden D s es) 0
+AllowedIsNotForbidden =
+    (D : Domain) (objs : List Object) (s : State) (es : List Event) → allowed D objs s es ≡ eqb (forbidden D objs s es) 0
 
 -- of a step whose ends are open the player need ask an event's own conditions alone: an end's over-all ones are asked of everything open
 abbrev pub ForbiddenByOwn : Type 0
 ForbiddenByOwn =
-    (D : Domain) (s : State) (es : List Event)
-    → forbidden D s es
+    (D : Domain) (objs : List Object) (s : State) (es : List Event)
+    → forbidden D objs s es
     ≡ cond (not (all (isOpen (s .running)) es)) 57
-    (cond (not (all (ownHold D (s .facts)) es && all (overAllHold D (s .facts)) (s .running))) 55
-    (cond (not (independent D es)) 56 0))
+    (cond (not (all (ownHold D objs (s .facts)) es && all (overAllHold D objs (s .facts)) (s .running))) 55
+    (cond (not (independent D objs es)) 56 0))
 
 -- ---- what demand 3 says of the player
 
@@ -179,8 +185,8 @@ pub record NeverRising (D : Domain) (y : List ℕ) (es : List Entry) (answered :
   pub states : neverRising (map (total D (instanceOf y)) (statesOf D es)) ≡ true
   pub at-most : answered ≤ total D (instanceOf y) (startOf es)
 
--- for a template with verdict 1, an instance of n objects and a run that starts at weight at most one
+-- for a template with verdict 1, an instance of n of the run's objects and a run that starts at weight at most one
 abbrev pub NothingGained : List ℕ → List ℕ → List ℕ → ℕ → Type 0
 NothingGained d y r answered =
-    (D : Domain) → decode d ≡ domain D → decidedFile d .number ≡ 1 → length y ≡ keysOf (D .template)
+    (D : Domain) → decode d ≡ domain D → decidedFile d .number ≡ 1 → isInstance D (objectsOf (playedEntries D r)) (instanceOf y) ≡ true
     → weight D (instanceOf y) (startOf (playedEntries D r) .facts) ≤ 1 → NeverRising D y (playedEntries D r) answered

@@ -9,8 +9,10 @@ use Rattle.records.specs.Memory.{over}
 use Rattle.records.specs.declared.Record.{Record}
 use Rattle.records.specs.declared.Record.the-variants.{Whole, Cut, End}
 use Rattle.records.specs.Record.{recordAt, payload}
+use Rattle.literals.specs.declared.Object.{Object}
 use Rattle.literals.specs.Domain.{Fact, sameFact, Domain}
 use Rattle.literals.specs.Decode.{Refusal, Decoded, refused, domain, decode, byte}
+use Rattle.verdict.specs.Binding.{objectsFrom}
 use Rattle.verdict.specs.Judged.{factBytes}
 use Rattle.verdict.specs.Machine.{GroundAction, Event, State, startState, isOpen, conditionsHold, overAllHold, interfere, independent}
 use Rattle.verdict.specs.Machine.{next, topWeight}
@@ -114,13 +116,17 @@ withEvent p e behind = onward p behind (p .state) (p .waiting ++ (e ∷ [])) (p 
 
 -- ---- the step's close
 
+-- the objects of the run
+abbrev pub runObjects : Playing → List Object
+runObjects p = objectsFrom 0 (p .objects)
+
 -- "57 end not open; 55 condition fails; 56 interference", or 0
-unfoldable pub forbidden : Domain → State → List Event → ℕ
+unfoldable pub forbidden : Domain → List Object → State → List Event → ℕ
 unfolding conditionsHold overAllHold interfere
-forbidden D s es =
+forbidden D objs s es =
     cond (not (all (isOpen (s .running)) es)) 57
-    (cond (not (all (conditionsHold D (s .facts)) es && all (overAllHold D (s .facts)) (s .running))) 55
-    (cond (not (independent D es)) 56 0))
+    (cond (not (all (conditionsHold D objs (s .facts)) es && all (overAllHold D objs (s .facts)) (s .running))) 55
+    (cond (not (independent D objs es)) 56 0))
 
 -- "52 over 1,024 facts or 32 open"
 abbrev pub tooLarge : State → Bool
@@ -138,10 +144,10 @@ afterStep p s top behind = goOn (onward p behind s [] (tallied (p .tally) top))
 unfoldable pub closeStep : Domain → Playing → ℕ → PlayTurn
 unfolding next topWeight forbidden
 closeStep D p behind =
-    cond (eqb (forbidden D (p .state) (p .waiting)) 0)
-    (let after = next D (p .state) (p .waiting) in
+    cond (eqb (forbidden D (runObjects p) (p .state) (p .waiting)) 0)
+    (let after = next D (runObjects p) (p .state) (p .waiting) in
     cond (tooLarge after) (stopAt 52 p) (afterStep p after (topWeight D (after .facts)) behind))
-    (stopAt (forbidden D (p .state) (p .waiting)) p)
+    (stopAt (forbidden D (runObjects p) (p .state) (p .waiting)) p)
 
 abbrev pub withClose : Playing → ℕ → Playing
 withClose p behind = standing behind true (p .objects) (p .state) (p .waiting) (p .tally)

@@ -28,12 +28,22 @@ module _ (bytes out : List ℕ) where
   pub leaves-short : length out < length bytes → DeliveredAs bytes out 30 0 out
   leaves-short h =
       let r = delivers-short h in
-      record { numbered = sym (ap (λ (a : Answer). a .number) (r .0)); placed = sym (ap (λ (a : Answer). a .first) (r .0)); memory = sym (r .1) }
+      record {
+        numbered = sym (ap (λ (a : Answer). a .number) (r .0));
+        placed = sym (ap (λ (a : Answer). a .first) (r .0));
+        memory = sym
+            (r .1);
+      }
 
   pub leaves-done : length bytes ≤ length out → {after : List ℕ} → after ≡ over bytes out → DeliveredAs bytes out 0 (length bytes) after
   leaves-done h e =
       let r = delivers h in
-      record { numbered = sym (ap (λ (a : Answer). a .number) (r .0)); placed = sym (ap (λ (a : Answer). a .first) (r .0)); memory = e ∙ sym (r .1) }
+      record {
+        numbered = sym (ap (λ (a : Answer). a .number) (r .0));
+        placed = sym (ap (λ (a : Answer). a .first) (r .0));
+        memory = e
+            ∙ sym (r .1);
+      }
 
 -- ---- on a file
 
@@ -54,7 +64,8 @@ module _ (bytesOf : Domain → List ℕ) (f out : List ℕ) where
     served-short h = (served-read .0 ∙ delivers-short (bytesOf D) out h .0, served-read .1 ∙ delivers-short (bytesOf D) out h .1)
 
     -- memory enough
-    pub served-done : length (bytesOf D) ≤ length out → (served bytesOf f out ≡ answerAt 0 (length (bytesOf D))) × (servedAfter bytesOf f out ≡ over (bytesOf D) out)
+    pub served-done : length (bytesOf D) ≤ length out
+        → (served bytesOf f out ≡ answerAt 0 (length (bytesOf D))) × (servedAfter bytesOf f out ≡ over (bytesOf D) out)
     served-done h = (served-read .0 ∙ delivers (bytesOf D) out h .0, served-read .1 ∙ delivers (bytesOf D) out h .1)
 
 -- as the code answers: the number, the first place, the memory afterwards
@@ -67,7 +78,8 @@ module _ (bytesOf : Domain → List ℕ) (f out : List ℕ) where
       let s = served-refused bytesOf f out r e in
       (sym (ap (λ (a : Answer). a .number) (s .0)), (sym (ap (λ (a : Answer). a .first) (s .0)), sym (s .1)))
 
-  pub answers-read : (D : Domain) → decode f ≡ domain D → {n k : ℕ} {after : List ℕ} → DeliveredAs (bytesOf D) out n k after → ServedAs n k after
+  pub answers-read : (D : Domain) → decode f ≡ domain D → {n k : ℕ} {after : List ℕ} → DeliveredAs (bytesOf D) out n k after
+      → ServedAs n k after
   answers-read D e d =
       let s = served-read bytesOf f out D e in (
         d .numbered ∙ sym (ap (λ (a : Answer). a .number) (s .0)),

@@ -36,11 +36,13 @@ module _ {A : Type 0} where
       one : length (under (key n) ls vs) ≡ 1
       one = under-count (key n) ls vs e ∙ eqb-true _ 1 (and-r (eachKeyOnce n ls) _ o)
 
-      go : (eqb k n ≡ true) ⊎ (eqb k n ≡ false) → (k < n → getD (keyTuple n ls vs) k d ≡ v) → getD (keyTuple n ls vs ++ under (key n) ls vs) k d ≡ v
+      go : (eqb k n ≡ true) ⊎ (eqb k n ≡ false) → (k < n → getD (keyTuple n ls vs) k d ≡ v)
+          → getD (keyTuple n ls vs ++ under (key n) ls vs) k d ≡ v
       go (inl t) ih =
           let q : k ≡ n = eqb-true k n t in
           let m′ : In v (under (key n) ls vs) = rw q at m in
-          ap (λ (l : List A). getD (keyTuple n ls vs ++ l) k d) (only-one (under (key n) ls vs) v one m′) ∙ getD-at (keyTuple n ls vs) v [] d k (size ∙ sym q)
+          ap (λ (l : List A). getD (keyTuple n ls vs ++ l) k d) (only-one (under (key n) ls vs) v one m′)
+          ∙ getD-at (keyTuple n ls vs) v [] d k (size ∙ sym q)
       go (inr f) ih =
           let q = eqb-false k n f in
           List·getD-append (keyTuple n ls vs) (under (key n) ls vs) d k (let s = size in omega arith) ∙ ih (omega arith)
@@ -50,7 +52,8 @@ module _ {A : Type 0} where
   under-below n k [] vs v b m = absurd (List·Memᴰ·not-nil m)
   under-below n k (l ∷ ls) [] v b m = absurd (List·Memᴰ·not-nil m)
   under-below n k (Counted ∷ ls) (w ∷ ws) v b m = under-below n k ls ws v b m
-  under-below n k (keyed j ∷ ls) (w ∷ ws) v b m = go (λ i. under-below n k ls ws v (and-r (ltb (j .0) n) _ b) i) (in-keepIf (eqb k (j .0)) w (under (key k) ls ws) m)
+  under-below n k (keyed j ∷ ls) (w ∷ ws) v b m =
+      go (λ i. under-below n k ls ws v (and-r (ltb (j .0) n) _ b) i) (in-keepIf (eqb k (j .0)) w (under (key k) ls ws) m)
     where
       go : (In v (under (key k) ls ws) → k < n) → ((eqb k (j .0) ≡ true) × (v ≡ w)) ⊎ In v (under (key k) ls ws) → k < n
       go ih (inl h) = let e = eqb-true k (j .0) (h .0) in let l = ltb-true (j .0) n (and-l _ _ b) in omega arith
@@ -65,11 +68,13 @@ module _ {A : Type 0} where
   reads-tail d y (keyed j) ls v vs h k w m = h k w (keepIf-tail (eqb k (j .0)) v m)
   reads-tail d y Counted ls v vs h k w m = h k w m
 
-  pub read-head : (d : A) (y : List A) (k : ℕ) (ls : List Label) (v : A) (vs : List A) → Reads d y (keyed (key k) ∷ ls) (v ∷ vs) → getD y k d ≡ v
+  pub read-head : (d : A) (y : List A) (k : ℕ) (ls : List Label) (v : A) (vs : List A) → Reads d y (keyed (key k) ∷ ls) (v ∷ vs)
+      → getD y k d ≡ v
   read-head d y k ls v vs h = h k v (rw (eqb-same k) (List·Memᴰ·head refl))
 
   -- of labels that fit
-  pub tuple-reads : (n : ℕ) (ls : List Label) (vs : List A) (d : A) → length ls ≡ length vs → labelsFit n ls ≡ true → Reads d (keyTuple n ls vs) ls vs
+  pub tuple-reads : (n : ℕ) (ls : List Label) (vs : List A) (d : A) → length ls ≡ length vs → labelsFit n ls ≡ true
+      → Reads d (keyTuple n ls vs) ls vs
   tuple-reads n ls vs d e f k v m = tuple-at n ls vs d e (keys-once n ls f) k v (under-below n k ls vs v (keys-below n ls f) m) m
 
 pub one-counted : (n : ℕ) (ls : List Label) → labelsFit n ls ≡ true → countBy isCounted ls ≤ 1

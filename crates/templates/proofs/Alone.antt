@@ -1,4 +1,5 @@
--- A template of one component: an action none of whose literals has its relation has no class, and what the decision can be. Assumes nothing.
+-- A template of one component: an action none of whose literals has its relation has no class, and what the decision can be. Assumes
+-- nothing.
 use mathlib.Core.Path.{_≡_, refl, sym, ap, _∙_}
 use mathlib.Core.Bool.{Bool, true, false, cond, _&&_}
 use mathlib.Core.List.{List, [], _∷_, _++_, map, flatMap, nil≢cons, cons≢nil, head-eq-of-cons-eq, tail-eq-of-cons-eq}
@@ -11,13 +12,14 @@ use borrow.Author.Tests.{eq-eqb}
 use Rattle.records.specs.Lists.{In, any, keepIf, dedup, sameList}
 use Rattle.records.proofs.Lists.{any-map, eqb-comm, or-out}
 use Rattle.literals.specs.declared.Variable.{Variable}
-use Rattle.literals.specs.Domain.{sameVariable, Atom, Literal, Action, Component, keysOf, Domain}
+use Rattle.literals.specs.declared.Argument.{Argument}
+use Rattle.literals.specs.Domain.{sameVariable, variablesOf, Atom, Literal, Action, Component, keysOf, Domain}
 use Rattle.literals.specs.Table.{literalRow}
 use Rattle.literals.specs.Matching.{keyTuple, isOf, tuplesBy, tuplesOf}
 use Rattle.literals.specs.Keys.{below}
 use Rattle.literals.proofs.Indices.{any-below, at-all}
 use Rattle.literals.proofs.Tables.{kept, length-flat, length-literal-row}
-use Rattle.classes.specs.Classes.{classes}
+use Rattle.classes.specs.Classes.{literalTuples, classes}
 use Rattle.classes.specs.Held.{ActionOf}
 use Rattle.classes.proofs.Rows.{literalAt, noLiteral, relation-at}
 use Rattle.verdict.specs.Decision.{rowsOfClasses}
@@ -38,7 +40,8 @@ use Rattle.templates.specs.Listing.{OnlyRelation, mentionedAt}
 -- ---- an action that does not mention the relation
 
 -- an atom of another relation has no tuple
-no-tuple : (n r : ℕ) (cs : List Component) → map (λ (c : Component). c .rel) cs ≡ r ∷ [] → (p : Atom Variable) → eqb (p .rel) r ≡ false → tuplesBy n cs p ≡ []
+no-tuple : (n r : ℕ) (cs : List Component) → map (λ (c : Component). c .rel) cs ≡ r ∷ [] → (p : Atom Argument) → eqb (p .rel) r ≡ false
+    → tuplesBy n cs p ≡ []
 no-tuple n r [] e p h = absurd (nil≢cons e)
 no-tuple n r (c ∷ []) e p h =
     let q : eqb (c .rel) (p .rel) ≡ false = ap (λ (k : ℕ). eqb k (p .rel)) (head-eq-of-cons-eq e) ∙ eqb-comm r (p .rel) ∙ h in
@@ -46,15 +49,17 @@ no-tuple n r (c ∷ []) e p h =
 no-tuple n r (c ∷ d ∷ ds) e p h = absurd (cons≢nil (tail-eq-of-cons-eq e))
 
 none-all : (D : Domain) (r : ℕ) → OnlyRelation D r → (ls : List Literal) → any (λ (l : Literal). eqb (l .atom .rel) r) ls ≡ false
-    → flatMap (λ (l : Literal). tuplesOf D (l .atom)) ls ≡ []
-unfolding flatMap tuplesOf
+    → flatMap (λ (l : Literal). literalTuples D (l .atom)) ls ≡ []
+unfolding flatMap tuplesOf literalTuples
 none-all D r only [] h = refl
 none-all D r only (l ∷ ls) h =
-    ap (λ (x : List (List Variable)). x ++ flatMap (λ (l : Literal). tuplesOf D (l .atom)) ls)
-    (no-tuple (keysOf (D .template)) r (D .template) only (l .atom) (or-out (eqb (l .atom .rel) r) (any (λ (l : Literal). eqb (l .atom .rel) r) ls) h .0))
+    ap (λ (x : List (List Variable)). x ++ flatMap (λ (l : Literal). literalTuples D (l .atom)) ls)
+    (ap (map variablesOf) (no-tuple (keysOf (D .template)) r (D .template) only (l .atom)
+    (or-out (eqb (l .atom .rel) r) (any (λ (l : Literal). eqb (l .atom .rel) r) ls) h .0)))
     ∙ none-all D r only ls (or-out (eqb (l .atom .rel) r) (any (λ (l : Literal). eqb (l .atom .rel) r) ls) h .1)
 
-pub no-class : (D : Domain) (a : Action) (r : ℕ) → OnlyRelation D r → any (λ (l : Literal). eqb (l .atom .rel) r) (a .lits) ≡ false → classes D a ≡ []
+pub no-class : (D : Domain) (a : Action) (r : ℕ) → OnlyRelation D r → any (λ (l : Literal). eqb (l .atom .rel) r) (a .lits) ≡ false
+    → classes D a ≡ []
 unfolding classes
 no-class D a r only h = ap (dedup (sameList sameVariable)) (none-all D r only (a .lits) h)
 
@@ -109,7 +114,8 @@ listed-empty names = record { room = omega arith; counted = refl; bytes = refl }
 -- where deciding stands: the summaries of the actions before i are noted
 pub record Deciding (head table : List ℕ) (relation : ℕ) (notes : Notes) (i : ℕ) : Type 0 where
   pub reach : i ≤ actionsIn head
-  pub noted : (D : Domain) → Held D head table → wellFormed D ≡ true → OnlyRelation D relation → notes ≡ notesOf (map (summaryOf D) (take i (D .actions)))
+  pub noted : (D : Domain) → Held D head table → wellFormed D ≡ true → OnlyRelation D relation
+      → notes ≡ notesOf (map (summaryOf D) (take i (D .actions)))
 
 -- all of them
 pub decides : (D : Domain) {notes : Notes} (i : ℕ) → notes ≡ notesOf (map (summaryOf D) (take i (D .actions))) → length (D .actions) ≤ i
@@ -117,7 +123,8 @@ pub decides : (D : Domain) {notes : Notes} (i : ℕ) → notes ≡ notesOf (map 
 unfolding decidedSummaries summaries
 decides D {notes} i e h f =
     ap (λ (j : Judgement). j .number) f
-    ∙ ap (λ (n : Notes). decideNotes n .number) (e ∙ ap (λ (as′ : List Action). notesOf (map (summaryOf D) as′)) (take-all i (D .actions) h))
+    ∙ ap (λ (n : Notes). decideNotes n .number)
+    (e ∙ ap (λ (as′ : List Action). notesOf (map (summaryOf D) as′)) (take-all i (D .actions) h))
     ∙ ap (λ (a : Answer). a .number) (summaries-decide D)
 
 pub number-byte : (notes : Notes) {r : Judgement} → r ≡ judgementOf (decideNotes notes) → r .number < 256

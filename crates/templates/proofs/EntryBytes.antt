@@ -21,13 +21,14 @@ use Rattle.literals.specs.Decode.{componentOf, componentRecord, stopOf, extend}
 use Rattle.literals.specs.Table.{labelNumber, tableBytes}
 use Rattle.literals.specs.Held.{relationsIn, arityIn, Filled, Held}
 use Rattle.literals.proofs.Bounds.{arity-six}
-use Rattle.reading.specs.Held.{Takes}
-use Rattle.reading.proofs.Takes.{behind-done}
+use Rattle.reading.specs.Held.{behind, HeldOver, TakesRow}
+use Rattle.reading.proofs.Takes.{behind-done, held-over}
 use Rattle.verdict.specs.Claims.{wellFormed}
 use Rattle.literals.specs.Keys.{numbersFrom, below}
 use Rattle.literals.proofs.Indices.{below-snoc}
 use Rattle.services.specs.Service.{DeliveredAs}
-use Rattle.templates.specs.Templates.{keysFrom, labelsFrom, labelsWith, Shape, shape, componentAt, shapesOf, shapesFrom, shapes, single, componentBytes, legalAlone, listed, placeByte, verdictOf, entry, listBytes}
+use Rattle.templates.specs.Templates.{keysFrom, labelsFrom, labelsWith, Shape, shape, componentAt, shapesOf, shapesFrom, shapes}
+use Rattle.templates.specs.Templates.{single, componentBytes, legalAlone, listed, placeByte, verdictOf, entry, listBytes}
 use Rattle.templates.specs.Listing.{labelAt, payloadOf, placeOf, shapeOf, entriesOf, BareHeld, Listing, PlaceFits, shapesUpTo}
 use Rattle.templates.proofs.Labels.{PlaceBelow, with-keys}
 use Rattle.templates.proofs.Legal.{component-back, legal-well-formed}
@@ -112,7 +113,8 @@ module _ (D : Domain) (ss : List Shape) (s : Shape) where
 
   entries-snoc : entriesOf D (ss ++ (s ∷ [])) ≡ entriesOf D ss ++ entriesOf D (s ∷ [])
   unfolding entriesOf
-  entries-snoc = ap (flatMap (entry D)) (filter-append legal ss (s ∷ [])) ∙ flatMap-append (entry D) (filterBy legal ss) (filterBy legal (s ∷ []))
+  entries-snoc =
+      ap (flatMap (entry D)) (filter-append legal ss (s ∷ [])) ∙ flatMap-append (entry D) (filterBy legal ss) (filterBy legal (s ∷ []))
 
   entries-more : legal s ≡ true → entriesOf D (ss ++ (s ∷ [])) ≡ entriesOf D ss ++ entry D s
   unfolding entriesOf flatMap
@@ -122,7 +124,8 @@ module _ (D : Domain) (ss : List Shape) (s : Shape) where
   entries-passed : legal s ≡ false → entriesOf D (ss ++ (s ∷ [])) ≡ entriesOf D ss
   unfolding entriesOf flatMap
   entries-passed t =
-      entries-snoc ∙ ap (λ (l : List ℕ). entriesOf D ss ++ l) (ap (λ (b : Bool). flatMap (entry D) (keepIf b s [])) t) ∙ append-nil (entriesOf D ss)
+      entries-snoc ∙ ap (λ (l : List ℕ). entriesOf D ss ++ l) (ap (λ (b : Bool). flatMap (entry D) (keepIf b s [])) t)
+      ∙ append-nil (entriesOf D ss)
 
   module _ {at : ℕ} {list old : List ℕ} (L : Listing D ss at list old) where
     pub listing-passed : legal s ≡ false → Listing D (ss ++ (s ∷ [])) at list old
@@ -134,7 +137,8 @@ module _ (D : Domain) (ss : List Shape) (s : Shape) where
         → Listing D (ss ++ (s ∷ [])) (at + 3) (set (set (set list at r) (at + 1) b) (at + 2) v) old
     listing-more t r b v e h =
         record {
-          written = (let l = length-append new (r ∷ b ∷ v ∷ []) in let w = L .written in let g : length (new ++ (r ∷ b ∷ v ∷ [])) ≡ at + 3 = omega arith in sym g) ∙ ap length (sym same);
+          written = (let l = length-append new (r ∷ b ∷ v ∷ []) in let w = L .written in
+              let g : length (new ++ (r ∷ b ∷ v ∷ [])) ≡ at + 3 = omega arith in sym g) ∙ ap length (sym same);
           bytes = made ∙ ap (λ (l : List ℕ). over l old) (sym same);
         }
       where
@@ -173,12 +177,13 @@ module _ {D : Domain} {head table : List ℕ} (B : BareHeld D head table) (r b :
   keys : all (keyBelow 255) (component .labels) ≡ true
   keys = with-keys (arity D r) (placeOf b) few (place-below (arity D r) b few P)
 
-  module _ {n k : ℕ} {p after : List ℕ} (e : n ≡ arityIn head r) (q : p ≡ take (n + 1 - 0) (payloadOf r b)) (T : Takes componentRecord p k head after) where
+  module _ {n k : ℕ} {p after : List ℕ} (e : n ≡ arityIn head r) (q : p ≡ take (n + 1 - 0) (payloadOf r b))
+      (T : TakesRow componentRecord p k head table after table) where
     payload : p ≡ componentBytes component
     payload = q ∙ payload-is D r b (n + 1 - 0) few P (sub-zero (n + 1) ∙ ap (λ (m : ℕ). m + 1) (e ∙ B .holds .filled .says .arities r))
 
     stopped : k ≡ stopOf (bare D) componentRecord (componentBytes component)
-    stopped = T (bare D) (B .holds .filled) .0 ∙ ap (stopOf (bare D) componentRecord) payload
+    stopped = T (bare D) (B .old) (B .holds) .0 ∙ ap (stopOf (bare D) componentRecord) payload
 
     pub refused-entry : (k ≡ 0 → ⊥) → legalAlone D component ≡ false
     unfolding legalAlone
@@ -189,11 +194,12 @@ module _ {D : Domain} {head table : List ℕ} (B : BareHeld D head table) (r b :
     taken-entry z = and-i (eq-eqb _ 0 (sym stopped ∙ z)) keys
 
     pub taken-held : k ≡ 0 → Held (single D component) after table
-    unfolding tableBytes extend
+    unfolding extend
     taken-held z =
-        let F : Filled (single D (componentOf p)) after = subst (λ (E : Domain). Filled E after) (behind-done (bare D) componentRecord p (sym (T (bare D) (B .holds .filled) .0) ∙ z)) (T (bare D) (B .holds .filled) .1) in
-        let G : Filled (single D component) after = subst (λ (c : Component). Filled (single D c) after) (ap componentOf payload ∙ component-back component keys) F in
-        record { says = G .says; old = B .old; rows = B .holds .rows }
+        let K = T (bare D) (B .old) (B .holds) in
+        let e : behind (bare D) componentRecord p ≡ single D component = behind-done (bare D) componentRecord p (sym (K .0) ∙ z)
+        ∙ ap (λ (c : Component). single D c) (ap componentOf payload ∙ component-back component keys) in
+        held-over (subst (λ (E : Domain). HeldOver (B .old) E after table) e (K .1))
 
     pub taken-formed : k ≡ 0 → wellFormed (single D component) ≡ true
     taken-formed z = legal-well-formed D component (B .formed) (taken-entry z)
@@ -209,7 +215,8 @@ pub record InPlaces (head table : List ℕ) (r : ℕ) (list₀ : List ℕ) (end�
   pub reach : k ≤ arityIn head r
   pub few : end ≤ end₀ + 3 * k
   pub same : length list ≡ length list₀
-  pub listing : (D : Domain) (ss : List Shape) (old : List ℕ) → BareHeld D head table → r < length (D .arities) → Listing D ss end₀ list₀ old
+  pub listing : (D : Domain) (ss : List Shape) (old : List ℕ) → BareHeld D head table → r < length (D .arities)
+      → Listing D ss end₀ list₀ old
       → Listing D (ss ++ map (λ p. shape r (some p)) (below k)) end list old
 
 pub places-none : {D : Domain} (ss : List Shape) (r : ℕ) {end : ℕ} {list old : List ℕ} → Listing D ss end list old
@@ -219,7 +226,9 @@ places-none {D} ss r {end} {list} {old} L = subst (λ (l : List Shape). Listing 
 module _ {D : Domain} (ss : List Shape) (r : ℕ) {end : ℕ} {list old : List ℕ} where
   pub places-next : (k : ℕ) → k < 6 → Listing D ((ss ++ map (λ p. shape r (some p)) (below k)) ++ (shapeOf r k ∷ [])) end list old
       → Listing D (ss ++ map (λ p. shape r (some p)) (below (k + 1))) end list old
-  places-next k h L = subst (λ (l : List Shape). Listing D l end list old) (append-assoc ss (map place (below k)) (shapeOf r k ∷ []) ∙ ap (λ (l : List Shape). ss ++ l) more) L
+  places-next k h L =
+      subst (λ (l : List Shape). Listing D l end list old)
+      (append-assoc ss (map place (below k)) (shapeOf r k ∷ []) ∙ ap (λ (l : List Shape). ss ++ l) more) L
     where
       place : ℕ → Shape
       place p = shape r (some p)
@@ -245,12 +254,14 @@ pub record InRelations (head table list₀ list : List ℕ) (end k : ℕ) : Type
   pub same : length list ≡ length list₀
   pub listing : (D : Domain) (old : List ℕ) → BareHeld D head table → Listing D [] 0 list₀ old → Listing D (shapesUpTo D k) end list old
 
-shapes-snoc : (r k : ℕ) (ns : List ℕ) → k < length ns → shapesFrom r (take (suc k) ns) ≡ shapesFrom r (take k ns) ++ shapesOf (r + k) (getD ns k 0)
+shapes-snoc : (r k : ℕ) (ns : List ℕ) → k < length ns
+    → shapesFrom r (take (suc k) ns) ≡ shapesFrom r (take k ns) ++ shapesOf (r + k) (getD ns k 0)
 shapes-snoc r k [] h = absurd (omega arith)
 shapes-snoc r zero (n ∷ ns) h = let z : r ≡ r + 0 = omega arith in append-nil (shapesOf r n) ∙ ap (λ (m : ℕ). shapesOf m n) z
 shapes-snoc r (suc k) (n ∷ ns) h =
     let z : suc r + k ≡ r + suc k = omega arith in
-    ap (λ (l : List Shape). shapesOf r n ++ l) (shapes-snoc (suc r) k ns (omega arith) ∙ ap (λ (m : ℕ). shapesFrom (suc r) (take k ns) ++ shapesOf m (getD ns k 0)) z)
+    ap (λ (l : List Shape). shapesOf r n ++ l)
+    (shapes-snoc (suc r) k ns (omega arith) ∙ ap (λ (m : ℕ). shapesFrom (suc r) (take k ns) ++ shapesOf m (getD ns k 0)) z)
     ∙ sym (append-assoc (shapesOf r n) (shapesFrom (suc r) (take k ns)) (shapesOf (r + suc k) (getD ns k 0)))
 
 pub relations-next : (D : Domain) (k : ℕ) {end : ℕ} {list old : List ℕ} → k < length (D .arities)
@@ -258,9 +269,11 @@ pub relations-next : (D : Domain) (k : ℕ) {end : ℕ} {list old : List ℕ} �
 relations-next D k {end} {list} {old} h L =
     let z : 0 + k ≡ k = omega arith in
     subst (λ (l : List Shape). Listing D l end list old)
-    (sym (ap (λ (n : ℕ). shapesUpTo D n) (add-one k) ∙ shapes-snoc 0 k (D .arities) h ∙ ap (λ (m : ℕ). shapesUpTo D k ++ shapesOf m (arity D k)) z)) L
+    (sym (ap (λ (n : ℕ). shapesUpTo D n) (add-one k) ∙ shapes-snoc 0 k (D .arities) h
+    ∙ ap (λ (m : ℕ). shapesUpTo D k ++ shapesOf m (arity D k)) z)) L
 
-pub relations-all : (D : Domain) (k : ℕ) {end : ℕ} {list old : List ℕ} → length (D .arities) ≤ k → Listing D (shapesUpTo D k) end list old → Listing D (shapes D) end list old
+pub relations-all : (D : Domain) (k : ℕ) {end : ℕ} {list old : List ℕ} → length (D .arities) ≤ k → Listing D (shapesUpTo D k) end list old
+    → Listing D (shapes D) end list old
 unfolding shapes
 relations-all D k {end} {list} {old} h L = subst (λ (ns : List ℕ). Listing D (shapesFrom 0 ns) end list old) (take-all k (D .arities) h) L
 
@@ -285,10 +298,12 @@ made-is {D} {n} {list} {old} L =
     ∙ list-is D
 
 -- the head without its template, beside the table
-pub bare-held : {D : Domain} {head after table : List ℕ} → Held D head table → Filled (bare D) after → wellFormed D ≡ true → BareHeld D after table
+pub bare-held : {D : Domain} {head after table : List ℕ} → Held D head table → Filled (bare D) after → wellFormed D ≡ true
+    → BareHeld D after table
 unfolding tableBytes
 bare-held H F wf = record { old = H .old; holds = record { filled = F; rows = H .rows }; formed = wf }
 
 -- what is handed over is the list
-pub list-delivered : {made bytes out after : List ℕ} {n k : ℕ} → made ≡ bytes → DeliveredAs made out n k after → DeliveredAs bytes out n k after
+pub list-delivered : {made bytes out after : List ℕ} {n k : ℕ} → made ≡ bytes → DeliveredAs made out n k after
+    → DeliveredAs bytes out n k after
 list-delivered {made} {bytes} {out} {after} {n} {k} e d = subst (λ (l : List ℕ). DeliveredAs l out n k after) e d

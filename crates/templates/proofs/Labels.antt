@@ -1,6 +1,6 @@
 -- Labels numbered from left to right: they fit, and their counted place tells them apart. Assumes nothing.
-use mathlib.Core.Path.{_≡_, refl, ap, _∙_}
-use mathlib.Core.Bool.{Bool, true, false, not, false≢true}
+use mathlib.Core.Path.{_≡_, refl, ap, ap₂, _∙_}
+use mathlib.Core.Bool.{Bool, true, false, not, _&&_, _||_, false≢true}
 use mathlib.Core.Logic.{_⊎_, inl, inr}
 use mathlib.Core.Option.{Option, none, some}
 use mathlib.Core.List.{List, [], _∷_}
@@ -9,13 +9,16 @@ use native.Mathlib.Omega.{arith}
 use lib.Dec.{eqb}
 use lib.ListN.{length}
 use borrow.Author.Tests.{eqb-true, eqb-false, eq-eqb, ne-eqb, lt-ltb, le-leb}
-use Rattle.records.specs.Lists.{addIf, all, countBy, sameList}
-use Rattle.records.proofs.Lists.{and-i, bool-cases}
+use Rattle.records.specs.Lists.{addIf, all, any, countBy, sameList, sideBySide}
+use Rattle.records.proofs.Lists.{and-l, and-r, and-i, bool-cases, any-same}
+use Rattle.literals.specs.declared.Argument.{Argument}
 use Rattle.literals.specs.declared.Label.{Label}
 use Rattle.literals.specs.declared.Label.the-variants.{Key as keyed, Counted}
-use Rattle.literals.specs.Domain.{key, isKey, isCounted, keyBelow, eachKeyOnce, labelsFit}
+use Rattle.literals.specs.Domain.{key, isEvery, Atom, Literal, Action, Component, isKey, isCounted, keyBelow, eachKeyOnce, labelsFit}
+use Rattle.literals.specs.Domain.{keysBound, countedCleared, keepsKeys}
+use Rattle.literals.specs.Decode.{keysCleared}
 use Rattle.templates.specs.Templates.{keysFrom, labelsFrom, labelsWith}
-use Rattle.templates.specs.Claims.{sameMark}
+use Rattle.templates.specs.Claims.{sameMark, sameShape}
 
 abbrev keyLabel : Label → Bool
 keyLabel l = not (isCounted l)
@@ -36,10 +39,12 @@ keys-counted k (suc n) = keys-counted (suc k) n
 
 keys-low : (k n j : ℕ) → j < k → countBy (isKey (key j)) (keysFrom k n) ≡ 0
 keys-low k zero j h = refl
-keys-low k (suc n) j h = ap (λ b. addIf b (countBy (isKey (key j)) (keysFrom (suc k) n))) (ne-eqb j k (λ e. omega arith)) ∙ keys-low (suc k) n j (omega arith)
+keys-low k (suc n) j h =
+    ap (λ b. addIf b (countBy (isKey (key j)) (keysFrom (suc k) n))) (ne-eqb j k (λ e. omega arith)) ∙ keys-low (suc k) n j (omega arith)
 
 -- one key more in front
-key-front : (j k : ℕ) (ls : List Label) → k ≤ j → (j ≡ k → countBy (isKey (key j)) ls ≡ 0) → (k < j → countBy (isKey (key j)) ls ≡ 1) → countBy (isKey (key j)) (keyed (key k) ∷ ls) ≡ 1
+key-front : (j k : ℕ) (ls : List Label) → k ≤ j → (j ≡ k → countBy (isKey (key j)) ls ≡ 0) → (k < j → countBy (isKey (key j)) ls ≡ 1)
+    → countBy (isKey (key j)) (keyed (key k) ∷ ls) ≡ 1
 key-front j k ls h first later = go (bool-cases (eqb j k))
   where
     go : (eqb j k ≡ true) ⊎ (eqb j k ≡ false) → addIf (eqb j k) (countBy (isKey (key j)) ls) ≡ 1
@@ -48,7 +53,8 @@ key-front j k ls h first later = go (bool-cases (eqb j k))
 
 keys-one : (k n j : ℕ) → k ≤ j → j < k + n → countBy (isKey (key j)) (keysFrom k n) ≡ 1
 keys-one k zero j h l = absurd (omega arith)
-keys-one k (suc n) j h l = key-front j k (keysFrom (suc k) n) h (λ e. keys-low (suc k) n j (omega arith)) (λ g. keys-one (suc k) n j (omega arith) (omega arith))
+keys-one k (suc n) j h l =
+    key-front j k (keysFrom (suc k) n) h (λ e. keys-low (suc k) n j (omega arith)) (λ g. keys-one (suc k) n j (omega arith) (omega arith))
 
 keys-under : (k n m : ℕ) → k + n ≤ m → all (keyBelow m) (keysFrom k n) ≡ true
 keys-under k zero m h = refl
@@ -74,13 +80,16 @@ labels-counted k (suc n) (suc p) h = labels-counted (suc k) n p (omega arith)
 labels-low : (k n p j : ℕ) → j < k → countBy (isKey (key j)) (labelsFrom k n p) ≡ 0
 labels-low k zero p j h = refl
 labels-low k (suc n) zero j h = keys-low k n j h
-labels-low k (suc n) (suc p) j h = ap (λ b. addIf b (countBy (isKey (key j)) (labelsFrom (suc k) n p))) (ne-eqb j k (λ e. omega arith)) ∙ labels-low (suc k) n p j (omega arith)
+labels-low k (suc n) (suc p) j h =
+    ap (λ b. addIf b (countBy (isKey (key j)) (labelsFrom (suc k) n p))) (ne-eqb j k (λ e. omega arith))
+    ∙ labels-low (suc k) n p j (omega arith)
 
 labels-one : (k n p j : ℕ) → p < n → k ≤ j → suc j < k + n → countBy (isKey (key j)) (labelsFrom k n p) ≡ 1
 labels-one k zero p j q h l = absurd (omega arith)
 labels-one k (suc n) zero j q h l = keys-one k n j h (omega arith)
 labels-one k (suc n) (suc p) j q h l =
-    key-front j k (labelsFrom (suc k) n p) h (λ e. labels-low (suc k) n p j (omega arith)) (λ g. labels-one (suc k) n p j (omega arith) (omega arith) (omega arith))
+    key-front j k (labelsFrom (suc k) n p) h (λ e. labels-low (suc k) n p j (omega arith))
+    (λ g. labels-one (suc k) n p j (omega arith) (omega arith) (omega arith))
 
 labels-under : (k n p m : ℕ) → p < n → k + n ≤ suc m → all (keyBelow m) (labelsFrom k n p) ≡ true
 labels-under k zero p m q h = absurd (omega arith)
@@ -132,12 +141,14 @@ marked-keys k (keyed j ∷ ls) z = marked-keys (suc k) ls z
 marked-keys k (Counted ∷ ls) z = absurd (omega arith)
 
 -- labels with at most one counted place have that of some labels in order
-pub marked-with : (k : ℕ) (ls : List Label) → countBy isCounted ls ≤ 1 → Marked ls (keysFrom k (length ls)) ⊎ ((p : ℕ) × (p < length ls) × Marked ls (labelsFrom k (length ls) p))
+pub marked-with : (k : ℕ) (ls : List Label) → countBy isCounted ls ≤ 1
+    → Marked ls (keysFrom k (length ls)) ⊎ ((p : ℕ) × (p < length ls) × Marked ls (labelsFrom k (length ls) p))
 marked-with k [] h = inl refl
 marked-with k (keyed j ∷ ls) h = go (marked-with (suc k) ls h)
   where
     go : Marked ls (keysFrom (suc k) (length ls)) ⊎ ((p : ℕ) × (p < length ls) × Marked ls (labelsFrom (suc k) (length ls) p))
-        → Marked ls (keysFrom (suc k) (length ls)) ⊎ ((p : ℕ) × (p < suc (length ls)) × Marked (keyed j ∷ ls) (labelsFrom k (suc (length ls)) p))
+        → Marked ls (keysFrom (suc k) (length ls)) ⊎
+        ((p : ℕ) × (p < suc (length ls)) × Marked (keyed j ∷ ls) (labelsFrom k (suc (length ls)) p))
     go (inl m) = inl m
     go (inr (p, l, m)) = inr (suc p, omega arith, m)
 marked-with k (Counted ∷ ls) h = inr (0, omega arith, marked-keys k ls (omega arith))
@@ -160,7 +171,37 @@ marked-place k l (suc n) (suc p) (suc q) h g t = ap suc (marked-place (suc k) (s
 
 -- none is not marked as one with a counted place, and two are only with the same
 pub apart-none : (n p : ℕ) → p < n → Marked (keysFrom 0 n) (labelsFrom 0 n p) → ⊥
-apart-none n p h t = let e = marked-count (keysFrom 0 n) (labelsFrom 0 n p) t in let a = keys-counted 0 n in let b = labels-counted 0 n p h in omega arith
+apart-none n p h t =
+    let e = marked-count (keysFrom 0 n) (labelsFrom 0 n p) t in let a = keys-counted 0 n in let b = labels-counted 0 n p h in omega arith
 
 pub apart-places : (n p q : ℕ) → p < q → q < n → Marked (labelsFrom 0 n p) (labelsFrom 0 n q) → ⊥
 apart-places n p q h g t = let e = marked-place 0 0 n p q (omega arith) g t in omega arith
+
+marked-side : (r : Bool → Argument → Bool) (ls ms : List Label) (vs : List Argument) → Marked ls ms
+    → sideBySide (λ l v. r (isCounted l) v) ls vs ≡ sideBySide (λ l v. r (isCounted l) v) ms vs
+marked-side r [] [] vs t = refl
+marked-side r [] (m ∷ ms) vs t = absurd (false≢true t)
+marked-side r (l ∷ ls) [] vs t = absurd (false≢true t)
+marked-side r (l ∷ ls) (m ∷ ms) [] t = refl
+marked-side r (keyed k ∷ ls) (keyed j ∷ ms) (v ∷ vs) t = ap (λ b. r false v && b) (marked-side r ls ms vs t)
+marked-side r (keyed k ∷ ls) (Counted ∷ ms) (v ∷ vs) t = absurd (false≢true t)
+marked-side r (Counted ∷ ls) (keyed j ∷ ms) (v ∷ vs) t = absurd (false≢true t)
+marked-side r (Counted ∷ ls) (Counted ∷ ms) (v ∷ vs) t = ap (λ b. r true v && b) (marked-side r ls ms vs t)
+
+pub marked-bound : (ls ms : List Label) (vs : List Argument) → Marked ls ms → keysBound ls vs ≡ keysBound ms vs
+marked-bound = marked-side (λ b v. b || not (isEvery v))
+
+pub marked-cleared : (ls ms : List Label) (vs : List Argument) → Marked ls ms → countedCleared ls vs ≡ countedCleared ms vs
+marked-cleared = marked-side (λ b v. not b || isEvery v)
+
+pub shape-keys : (c d : Component) → sameShape c d ≡ true → (p : Atom Argument) → keepsKeys c p ≡ keepsKeys d p
+shape-keys c d t p =
+    ap₂ (λ (r : ℕ) (b : Bool). not (eqb r (p .rel)) || b) (eqb-true (c .rel) (d .rel) (and-l _ _ t))
+    (marked-bound (c .labels) (d .labels) (p .args) (and-r (eqb (c .rel) (d .rel)) _ t))
+
+pub shape-cleared : (as′ : List Action) (c d : Component) → sameShape c d ≡ true → keysCleared as′ c ≡ keysCleared as′ d
+shape-cleared as′ c d t =
+    any-same (λ (a : Action). any (λ (l : Literal). not (keepsKeys c (l .atom))) (a .lits))
+    (λ (a : Action). any (λ (l : Literal). not (keepsKeys d (l .atom))) (a .lits)) as′
+    (λ a. any-same (λ (l : Literal). not (keepsKeys c (l .atom))) (λ (l : Literal). not (keepsKeys d (l .atom))) (a .lits)
+    (λ l. ap not (shape-keys c d t (l .atom))))

@@ -19,7 +19,8 @@ use Rattle.verdict.specs.Judged.{Answer, answerAt}
 use Rattle.verdict.specs.Claims.{Safe}
 use Rattle.verdict.proofs.Decodes.{decoded-well-formed}
 use Rattle.services.proofs.Answers.{served-short, served-done}
-use Rattle.templates.specs.Templates.{Shape, shape, componentAt, single, listed, placeByte, verdictOf, entry, listBytes, listFile, listAfter}
+use Rattle.templates.specs.Templates.{Shape, shape, componentAt, single, listed, placeByte, verdictOf, entry, listBytes, listFile}
+use Rattle.templates.specs.Templates.{listAfter}
 use Rattle.templates.specs.Claims.{Limited, shapeIn, componentIn, verdictIn, EntriesSafe, NothingMissing, sameShape}
 use Rattle.templates.specs.Listing.{placeOf}
 use Rattle.templates.proofs.Labels.{PlaceBelow}
@@ -34,7 +35,8 @@ pub record EntryAt (D : Domain) (s : Shape) (list : List ℕ) (i : ℕ) : Type 0
   pub place : byte list (3 * i + 1) ≡ placeByte (s .place)
   pub verdict : byte list (3 * i + 2) ≡ verdictOf D (componentAt D s)
 
-entry-at : (D : Domain) (l : List Shape) (rest : List ℕ) (d : Shape) (i : ℕ) → i < length l → EntryAt D (getD l i d) (flatMap (entry D) l ++ rest) i
+entry-at : (D : Domain) (l : List Shape) (rest : List ℕ) (d : Shape) (i : ℕ) → i < length l
+    → EntryAt D (getD l i d) (flatMap (entry D) l ++ rest) i
 unfolding flatMap
 entry-at D [] rest d i h = absurd (omega arith)
 entry-at D (s ∷ ss) rest d zero h = record { relation = refl; place = refl; verdict = refl }
@@ -55,19 +57,23 @@ place-back : (n : ℕ) (o : Option ℕ) → n ≤ 6 → PlaceBelow n o → place
 place-back n none h b = refl
 place-back n (some p) h b = ap (λ (t : Bool). cond t none (some p)) (ne-eqb p 255 (λ e. omega arith))
 
-shape-back : {D : Domain} {s : Shape} {list : List ℕ} {i : ℕ} → EntryAt D s list i → arity D (s .rel) ≤ 6 → PlaceBelow (arity D (s .rel)) (s .place) → shapeIn list i ≡ s
-shape-back {D} {s} E h b = ap₂ (λ (r : ℕ) (o : Option ℕ). shape r o) (E .relation) (ap placeOf (E .place) ∙ place-back (arity D (s .rel)) (s .place) h b)
+shape-back : {D : Domain} {s : Shape} {list : List ℕ} {i : ℕ} → EntryAt D s list i → arity D (s .rel) ≤ 6
+    → PlaceBelow (arity D (s .rel)) (s .place) → shapeIn list i ≡ s
+shape-back {D} {s} E h b =
+    ap₂ (λ (r : ℕ) (o : Option ℕ). shape r o) (E .relation) (ap placeOf (E .place) ∙ place-back (arity D (s .rel)) (s .place) h b)
 
 -- ---- of an answer
 
-module _ (f out : List ℕ) (n k : ℕ) (list : List ℕ) (en : n ≡ listFile f out .number) (ek : k ≡ listFile f out .first) (el : list ≡ listAfter f out) where
+module _ (f out : List ℕ) (n k : ℕ) (list : List ℕ) (en : n ≡ listFile f out .number) (ek : k ≡ listFile f out .first)
+    (el : list ≡ listAfter f out) where
   module _ (D : Domain) (e : decode f ≡ domain D) (z : n ≡ 0) where
     -- the list is whole
     done : (k ≡ 3 * length (listed D)) × (list ≡ over (listBytes D) out)
     unfolding listFile listAfter
     done = go (bool-cases (ltb (length out) (length (listBytes D))))
       where
-        go : (ltb (length out) (length (listBytes D)) ≡ true) ⊎ (ltb (length out) (length (listBytes D)) ≡ false) → (k ≡ 3 * length (listed D)) × (list ≡ over (listBytes D) out)
+        go : (ltb (length out) (length (listBytes D)) ≡ true) ⊎ (ltb (length out) (length (listBytes D)) ≡ false)
+            → (k ≡ 3 * length (listed D)) × (list ≡ over (listBytes D) out)
         go (inl t) =
             let s = served-short listBytes f out D e (ltb-true _ _ t) .0 in
             let q : _≡_ {A = ℕ} 0 30 = sym z ∙ en ∙ ap (λ (a : Answer). a .number) s in

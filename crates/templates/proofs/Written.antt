@@ -30,8 +30,13 @@ rows-decide D E e = ap (λ (rs : List Row). answerRow (decideRows rs .number) (d
 
 pub verdict-listed : VerdictListed
 verdict-listed D L c t =
-    let r = listed-all D L c t in
-    (r .0, r .1, r .2, ap (λ a. a .number) (rows-decide (single D c) (single D (componentAt D (r .0))) (renamed-alike D c (componentAt D (r .0)) t (listed-legal D (r .0) (r .1)) (r .2))))
+    let r = listed-all D L c t in (
+      r .0,
+      r .1,
+      r .2,
+      ap (λ a. a .number) (rows-decide (single D c) (single D (componentAt D (r .0)))
+          (renamed-alike D c (componentAt D (r .0)) t (listed-legal D (r .0) (r .1)) (r .2))),
+    )
 
 pub entry-safe : EntrySafe
 entry-safe D wf s m h = safety (single D (componentAt D s)) (legal-well-formed D (componentAt D s) wf (listed-legal D s m)) h
@@ -54,7 +59,8 @@ list-of-file f out D e h =
     let r = served-done listBytes f out D e (omega arith) in
     (r .0 ∙ ap (answerAt 0) n, r .1)
 
-entry-bytes : (D : Domain) (l : List Shape) → ((s : Shape) → In s l → (s .rel < 64) × (placeByte (s .place) ≤ 255)) → all (λ b. ltb b 256) (flatMap (entry D) l) ≡ true
+entry-bytes : (D : Domain) (l : List Shape) → ((s : Shape) → In s l → (s .rel < 64) × (placeByte (s .place) ≤ 255))
+    → all (λ b. ltb b 256) (flatMap (entry D) l) ≡ true
 unfolding flatMap
 entry-bytes D [] h = refl
 entry-bytes D (s ∷ ss) h =
@@ -62,7 +68,8 @@ entry-bytes D (s ∷ ss) h =
     let a = r .0 in
     let b = r .1 in
     and-i (lt-ltb (s .rel) 256 (omega arith)) (and-i (lt-ltb (placeByte (s .place)) 256 (omega arith))
-    (and-i (lt-ltb (verdictOf D (componentAt D s)) 256 (small (known-domain (single D (componentAt D s))))) (entry-bytes D ss (λ z m. h z (List·Memᴰ·tail m)))))
+    (and-i (lt-ltb (verdictOf D (componentAt D s)) 256 (small (known-domain (single D (componentAt D s)))))
+    (entry-bytes D ss (λ z m. h z (List·Memᴰ·tail m)))))
   where
     small : {n : ℕ} → Known n → n < 256
     small (inl h) = omega arith

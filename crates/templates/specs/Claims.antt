@@ -1,18 +1,18 @@
 -- What is claimed of the list of one-relation templates, each proved in proofs/. Assumes nothing.
 use mathlib.Core.Path.{_≡_}
-use mathlib.Core.Bool.{Bool, true, false, _&&_, _||_, cond}
+use mathlib.Core.Bool.{Bool, true, false, _&&_, _||_, not, cond}
 use mathlib.Core.Logic.{_⊎_, _↔_}
 use mathlib.Core.List.{List, map}
 use mathlib.Core.Option.{Option, none, some}
 use Prim.Native.Nat.{ℕ, _+_, _*_, _≤_, _<_}
 use lib.Dec.{eqb, ltb}
 use lib.ListN.{length}
-use Rattle.records.specs.Lists.{In, all, pairwise, sameList, distinct}
+use Rattle.records.specs.Lists.{In, filterBy, all, pairwise, sameList, distinct}
 use Rattle.records.specs.Memory.{over}
 use Rattle.literals.specs.declared.Label.{Label}
 use Rattle.literals.specs.declared.Label.the-variants.{Key as keyed, Counted}
 use Rattle.literals.specs.Domain.{key, Component, Domain, arity, bare}
-use Rattle.literals.specs.Decode.{maxArguments, byte, componentOf, componentRecord, stopOf, domain, decode}
+use Rattle.literals.specs.Decode.{maxArguments, byte, componentOf, keysCleared, componentRecord, stopOf, domain, decode}
 use Rattle.verdict.specs.Decision.{rows}
 use Rattle.verdict.specs.Judged.{answerAt}
 use Rattle.verdict.specs.Claims.{wellFormed, Safe}
@@ -89,9 +89,9 @@ rises s t = ltb (s .rel) (t .rel) || (eqb (s .rel) (t .rel) && placeRises (s .pl
 abbrev pub ListedRising : Type 0
 ListedRising = (D : Domain) → pairwise rises (listed D) ≡ true
 
--- by the file rules as they are, nothing is passed over
-abbrev pub NonePassedOver : Type 0
-NonePassedOver = (D : Domain) → Limited D → listed D ≡ shapes D
+-- passed over are the templates with a key where a literal of the relation has FF (27), and no others
+abbrev pub ClearedPassedOver : Type 0
+ClearedPassedOver = (D : Domain) → Limited D → listed D ≡ filterBy (λ s. not (keysCleared (D .actions) (componentAt D s))) (shapes D)
 
 -- ---- the numbering of the keys does not matter: same rows, so same verdict
 

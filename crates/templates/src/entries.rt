@@ -34,7 +34,7 @@ fn put_entry(
     let payload = payload_of(relation, counted);
     let size = arity_of(head, relation) as usize + 1;
     let mut alone = *head;
-    let fault = take_component(&mut alone, &payload[0..size]);
+    let fault = take_component(&mut alone, table, &payload[0..size]);
     if fault.number != 0 {
         return at;
     }

@@ -1,34 +1,31 @@
 -- The domain that a file says is well-formed: each record read keeps it so. Assumes nothing.
 use mathlib.Core.Path.{_≡_, refl, ap, ap₂, _∙_}
-use mathlib.Core.Bool.{Bool, true, false, not, _&&_, cond}
+use mathlib.Core.Bool.{Bool, true, false, not, _&&_, cond, false≢true}
 use mathlib.Core.List.{List, [], _∷_, _++_, map}
 use Prim.Native.Nat.{ℕ, _+_, _-_, _<_}
 use native.Mathlib.Omega.{arith}
-use lib.Dec.{eqb, ltb, leb}
+use lib.Dec.{eqb, ltb}
 use lib.ListN.{length, drop, length-append, length-drop, length-map, List·getD-append}
-use borrow.Author.Tests.{ltb-true, leb-false, lt-ltb, eq-eqb}
-use Rattle.records.specs.Lists.{all, any, distinct}
-use Rattle.records.proofs.Lists.{and-l, and-r, and-i, all-of, any-out, eqb-comm, all-snoc, pairwise-snoc, all-weaken, any-none, all-map}
-use Rattle.literals.specs.declared.Variable.{Variable}
+use borrow.Author.Tests.{ltb-true, lt-ltb, eq-eqb}
+use Rattle.records.specs.Lists.{In, all, any, empty, distinct}
+use Rattle.records.proofs.Lists.{and-l, and-r, and-i, or-out, not-false, all-in, all-of, any-out, eqb-comm, all-snoc, pairwise-snoc}
+use Rattle.records.proofs.Lists.{all-weaken, any-none, all-map}
 use Rattle.literals.specs.declared.Time.{Time}
 use Rattle.literals.specs.declared.Time.the-variants.{AtStart}
 use Rattle.literals.specs.declared.Usage.{Usage}
 use Rattle.literals.specs.declared.Usage.the-variants.{Positive, Negative, Add, Delete}
-use Rattle.literals.specs.Domain.{variable, usageNumber, firstRole, sameTime, Literal, Action, Component, Template, keysOf, labelsFit}
-use Rattle.literals.specs.Domain.{Domain, arity}
+use Rattle.literals.specs.Domain.{variableBelow, usageNumber, firstRole, sameTime, Literal, clearsOnce, Action, Component, keepsKeys}
+use Rattle.literals.specs.Domain.{Template, keysOf, labelsFit, Domain, arity}
 use Rattle.literals.specs.Decode.{RecordKind, relationRecord, actionRecord, literalRecord, componentRecord, closingRecord, unknownRecord}
-use Rattle.literals.specs.Decode.{latest, byte, literalOf, repeats, contrary, together, contradicts, labelOf}
+use Rattle.literals.specs.Decode.{latest, byte, argumentOf, literalOf, noVariable, repeats, contrary, together, contradicts, labelOf}
 use Rattle.literals.specs.Decode.{componentOf, literalStop, componentStop, fieldStop, stopOf, withLiteral, actionOf, extend, noDomain}
 use Rattle.literals.proofs.Stops.{passes, literal-passes, ComponentPasses, component-passes}
 use Rattle.literals.proofs.Equality.{literal-comm}
+use Rattle.literals.proofs.Arguments.{meets-comm}
 use Rattle.literals.proofs.Loop.{decoded-by}
-use Rattle.verdict.specs.Claims.{hasArity, wellFormedAction, wellFormedTemplate, wellFormed, DecodedIsWellFormed}
+use Rattle.verdict.specs.Claims.{hasArity, literalFits, wellFormedAction, wellFormedTemplate, wellFormed, DecodedIsWellFormed}
 
 -- ---- the tests of a literal and of a component
-
--- a literal of an action with n variables
-abbrev literalFits : Domain → ℕ → Literal → Bool
-literalFits D n l = hasArity D (l .atom .rel) (l .atom .args) && all (λ (v : Variable). ltb (v .0) n) (l .atom .args)
 
 -- the earlier literal first
 abbrev agree : Literal → Literal → Bool
@@ -40,6 +37,16 @@ componentFits D n c = hasArity D (c .rel) (c .labels) && labelsFit n (c .labels)
 
 abbrev sameRelation : Component → Component → Bool
 sameRelation c d = eqb (c .rel) (d .rel)
+
+literal-parts : (D : Domain) (n : ℕ) (l : Literal) → literalFits D n l ≡ true
+    → (hasArity D (l .atom .rel) (l .atom .args) ≡ true) × (all (variableBelow n) (l .atom .args) ≡ true) × (clearsOnce l ≡ true)
+    × (all (λ c. keepsKeys c (l .atom)) (D .template) ≡ true)
+literal-parts D n l h = (
+  and-l _ _ (and-l _ _ (and-l _ _ h)),
+  and-r (hasArity D (l .atom .rel) (l .atom .args)) _ (and-l _ _ (and-l _ _ h)),
+  and-r (hasArity D (l .atom .rel) (l .atom .args) && all (variableBelow n) (l .atom .args)) _ (and-l _ _ h),
+  and-r (hasArity D (l .atom .rel) (l .atom .args) && all (variableBelow n) (l .atom .args) && clearsOnce l) _ h,
+)
 
 -- ---- the tests of two literals do not mind which comes first
 
@@ -77,7 +84,8 @@ together-comm t u = go (sameTime t AtStart) (sameTime u AtStart)
 
 contradicts-comm : (l m : Literal) → contradicts l m ≡ contradicts m l
 contradicts-comm l m =
-    ap₂ _&&_ (ap₂ _&&_ (contrary-comm (l .role .usage) (m .role .usage)) (together-comm (l .role .time) (m .role .time))) (literal-comm (l .atom) (m .atom))
+    ap₂ _&&_ (ap₂ _&&_ (contrary-comm (l .role .usage) (m .role .usage)) (together-comm (l .role .time) (m .role .time)))
+    (meets-comm (l .atom) (m .atom))
 
 -- ---- a relation with its arity
 
@@ -97,12 +105,15 @@ arity-more D p r vs t =
 
 module _ (D : Domain) (p : List ℕ) where
   relation-action : (a : Action) → wellFormedAction D a ≡ true → wellFormedAction (extend D relationRecord p) a ≡ true
-  unfolding wellFormedAction
+  unfolding wellFormedAction extend
   relation-action a t =
       and-i (all-weaken (literalFits D (a .vars)) (literalFits (extend D relationRecord p) (a .vars)) (a .lits) fits (and-l _ _ t)) (and-r (all (literalFits D (a .vars)) (a .lits)) _ t)
     where
       fits : (l : Literal) → literalFits D (a .vars) l ≡ true → literalFits (extend D relationRecord p) (a .vars) l ≡ true
-      fits l h = and-i (arity-more D p (l .atom .rel) (l .atom .args) (and-l _ _ h)) (and-r (hasArity D (l .atom .rel) (l .atom .args)) _ h)
+      fits l h =
+          let g = literal-parts D (a .vars) l h in
+          and-i {b = all (λ c. keepsKeys c (l .atom)) (D .template)}
+          (and-i (and-i (arity-more D p (l .atom .rel) (l .atom .args) (g .0)) (g .1)) (g .2)) (g .3)
 
   relation-template : wellFormedTemplate D ≡ true → wellFormedTemplate (extend D relationRecord p) ≡ true
   unfolding wellFormedTemplate extend
@@ -143,9 +154,17 @@ literal-agrees l ms f g =
     all-of (λ m. agree m l) ms
     (λ m i. and-i (ap not (repeats-comm m l ∙ any-out (repeats l) f i)) (ap not (contradicts-comm m l ∙ any-out (contradicts l) g i)))
 
-literal-keeps : (D : Domain) (p : List ℕ) → wellFormed D ≡ true → literalStop D p ≡ 0 → wellFormed (extend D literalRecord p) ≡ true
+-- no component is read yet
+all-empty : (t : Component → Bool) (cs : List Component) → empty cs ≡ true → all t cs ≡ true
+all-empty t [] e = refl
+all-empty t (c ∷ cs) e = absurd (false≢true e)
+
+literal-keeps : (D : Domain) (p : List ℕ) → wellFormed D ≡ true → empty (D .template) ≡ true → literalStop D p ≡ 0
+    → wellFormed (extend D literalRecord p) ≡ true
 unfolding wellFormed wellFormedAction wellFormedTemplate extend
-literal-keeps D p h e = and-i (all-withLiteral (wellFormedAction D) (literalOf p) (D .actions) keeps (and-l _ _ h)) (and-r (all (wellFormedAction D) (D .actions)) _ h)
+literal-keeps D p h none e =
+    and-i (all-withLiteral (wellFormedAction D) (literalOf p) (D .actions) keeps (and-l _ _ h))
+    (and-r (all (wellFormedAction D) (D .actions)) _ h)
   where
     a : Action
     a = latest (D .actions)
@@ -154,9 +173,11 @@ literal-keeps D p h e = and-i (all-withLiteral (wellFormedAction D) (literalOf p
     keeps t =
         let q = literal-passes D p e in
         let new =
-        and-i (has-arity D (byte p 1) (length p) 2 (map variable (drop 2 p)) (q .relation) (q .arguments) (length-map (drop 2 p) variable ∙ length-drop 2 p))
-        (all-map variable (λ (v : Variable). ltb (v .0) (a .vars)) (drop 2 p)
-        ∙ any-none (leb (a .vars)) (λ n. ltb n (a .vars)) (drop 2 p) (λ n k. lt-ltb n (a .vars) (leb-false (a .vars) n k)) (q .variables)) in
+        and-i (and-i (and-i (has-arity D (byte p 1) (length p) 2 (map argumentOf (drop 2 p)) (q .relation) (q .arguments)
+        (length-map (drop 2 p) argumentOf ∙ length-drop 2 p))
+        (all-map argumentOf (variableBelow (a .vars)) (drop 2 p)
+        ∙ any-none (noVariable (a .vars)) (λ n. variableBelow (a .vars) (argumentOf n)) (drop 2 p) (λ n k. not-false _ k) (q .variables)))
+        (q .clears)) (all-empty (λ c. keepsKeys c (literalOf p .atom)) (D .template) none) in
         and-i (all-snoc (literalFits D (a .vars)) (a .lits) (literalOf p) (and-l _ _ t) new)
         (pairwise-snoc agree (a .lits) (literalOf p) (and-r (all (literalFits D (a .vars)) (a .lits)) _ t) (literal-agrees (literalOf p) (a .lits) (q .once) (q .agrees)))
 
@@ -170,7 +191,7 @@ keys-kept D (d ∷ ds) c h = h
 component-keeps : (D : Domain) (p : List ℕ) → wellFormed D ≡ true → componentStop D p ≡ 0 → wellFormed (extend D componentRecord p) ≡ true
 unfolding wellFormed wellFormedAction wellFormedTemplate extend
 component-keeps D p h e =
-    and-i {a = all (wellFormedAction D) (D .actions)} (and-l _ _ h)
+    and-i (all-of (wellFormedAction (extend D componentRecord p)) (D .actions) actions)
     (and-i (pairwise-snoc (λ d x. not (sameRelation d x)) (D .template) c (and-l _ _ t) other)
     (all-snoc (componentFits D n) (D .template) c (keys-kept D (D .template) c (and-r (distinct sameRelation (D .template)) _ t)) new))
   where
@@ -186,6 +207,25 @@ component-keeps D p h e =
     q : ComponentPasses D p
     q = component-passes D p e
 
+    keys : (a : Action) → In a (D .actions) → (l : Literal) → In l (a .lits) → keepsKeys c (l .atom) ≡ true
+    keys a m l i =
+        not-false _ (any-out (λ (l : Literal). not (keepsKeys c (l .atom)))
+        (any-out (λ (a : Action). any (λ (l : Literal). not (keepsKeys c (l .atom))) (a .lits)) (q .keys) m) i)
+
+    actions : (a : Action) → In a (D .actions) → wellFormedAction (extend D componentRecord p) a ≡ true
+    actions a m =
+        let ok = all-in (wellFormedAction D) (D .actions) (and-l _ _ h) m in
+        and-i (all-of (literalFits (extend D componentRecord p) (a .vars)) (a .lits)
+        (λ l i. fits l i (literal-parts D (a .vars) l (all-in (literalFits D (a .vars)) (a .lits) (and-l _ _ ok) i))))
+        (and-r (all (literalFits D (a .vars)) (a .lits)) _ ok)
+      where
+        fits : (l : Literal) → In l (a .lits)
+            → (hasArity D (l .atom .rel) (l .atom .args) ≡ true) × (all (variableBelow (a .vars)) (l .atom .args) ≡ true)
+            × (clearsOnce l ≡ true) × (all (λ c. keepsKeys c (l .atom)) (D .template) ≡ true)
+            → literalFits (extend D componentRecord p) (a .vars) l ≡ true
+        fits l i g =
+            and-i (and-i (and-i (g .0) (g .1)) (g .2)) (all-snoc (λ c. keepsKeys c (l .atom)) (D .template) c (g .3) (keys a m l i))
+
     other : all (λ d. not (sameRelation d c)) (D .template) ≡ true
     other = any-none (sameRelation c) (λ d. not (sameRelation d c)) (D .template) (λ d k. ap not (eqb-comm (d .rel) (c .rel) ∙ k)) (q .once)
 
@@ -198,7 +238,9 @@ record-keeps : (D : Domain) (k : RecordKind) (p : List ℕ) → wellFormed D ≡
 unfolding fieldStop extend
 record-keeps D relationRecord p h e = relation-keeps D p h
 record-keeps D actionRecord p h e = action-keeps D p h
-record-keeps D literalRecord p h e = literal-keeps D p h (passes D literalRecord p e .fields)
+record-keeps D literalRecord p h e =
+    literal-keeps D p h (not-false _ (or-out (empty (D .actions)) _ (passes D literalRecord p e .order) .1))
+    (passes D literalRecord p e .fields)
 record-keeps D componentRecord p h e = component-keeps D p h (passes D componentRecord p e .fields)
 record-keeps D closingRecord p h e = h
 record-keeps D unknownRecord p h e = h

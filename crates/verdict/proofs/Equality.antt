@@ -4,7 +4,9 @@ use mathlib.Core.Bool.{true}
 use lib.Dec.{eqb}
 use borrow.Author.Tests.{eqb-true}
 use Rattle.records.proofs.Lists.{and-l, and-r}
-pub use Rattle.literals.proofs.Equality.{variable-eq, variable-self, object-eq, object-self, atom-of, atom-eq, atom-self, literal-eq, literal-self, fact-eq, fact-self, variables-eq, variables-self, objects-eq, objects-self}
+pub use Rattle.literals.proofs.Equality.{variable-eq, variable-self, argument-eq, argument-self, object-eq, object-self, atom-of, atom-eq}
+pub use Rattle.literals.proofs.Equality.{atom-self, literal-eq, literal-self, fact-eq, fact-self, variables-eq, variables-self, objects-eq}
+pub use Rattle.literals.proofs.Equality.{objects-self}
 use Rattle.verdict.specs.Machine.{GroundAction, sameGround}
 
 pub ground-eq : (g h : GroundAction) → sameGround g h ≡ true → g ≡ h

@@ -1,13 +1,14 @@
 -- Of an action at once: a class is faulty exactly where its witness does harm, and all harm is of a faulty class. Assumes nothing.
 use mathlib.Core.Path.{_≡_, refl, sym, ap, _∙_}
-use mathlib.Core.Bool.{true, false}
+use mathlib.Core.Bool.{true, false, _&&_}
 use mathlib.Core.Logic.{_⊎_, inl, inr}
 use mathlib.Core.List.{List, [], _∷_, List·Memᴰ·eq-of-singleton}
 use Prim.Native.Nat.{ℕ, _≤_, _<_}
 use native.Mathlib.Omega.{arith}
 use lib.ListN.{length}
 use Rattle.records.specs.Lists.{In, all, any, sameList, distinct, dedup}
-use Rattle.records.proofs.Lists.{and-l, and-r, and-i, bool-cases, clash, in-any, any-in, all-in, getD-in, in-getD, count-single, single-count, distinct-dedup}
+use Rattle.records.proofs.Lists.{and-l, and-r, and-i, bool-cases, clash, in-any, any-in, all-in, getD-in, in-getD, count-single}
+use Rattle.records.proofs.Lists.{single-count, distinct-dedup, dedup-in}
 use Rattle.literals.specs.declared.Variable.{Variable}
 use Rattle.literals.specs.declared.Object.{Object}
 use Rattle.literals.specs.declared.Usage.the-variants.{Positive}
@@ -20,14 +21,18 @@ use Rattle.literals.specs.Matching.{matches}
 use Rattle.classes.specs.Classes.{classes, nameOf}
 use Rattle.verdict.specs.Binding.{Binding, bindTuple}
 use Rattle.verdict.specs.Decision.{faultBy, classAt, witnessAt}
-use Rattle.verdict.specs.Machine.{Event, eventFacts, requiredFacts, hasMoment, legal, isOpen, conditionsHold, allowed, factsAfter, next, startState, weight}
-use Rattle.verdict.specs.Claims.{wellFormedAction, wellFormed, Harm, plainObjects, plainInstance, plainEvent, ClassExactness, HarmIsOfFaultyClass}
+use Rattle.verdict.specs.Machine.{Event, eventFacts, requiredFacts, hasMoment, legal, isOpen, conditionsHold, allowed, factsAfter}
+use Rattle.verdict.specs.Machine.{next, startState, weight, injective}
+use Rattle.verdict.specs.Claims.{wellFormedAction, wellFormed, Harm, plainObjects, plainInstance, plainEvent, ClassExactness}
+use Rattle.verdict.specs.Claims.{HarmIsOfFaultyClass, hasArity, isEvent, isFact}
 use Rattle.verdict.proofs.Equality.{fact-self, objects-eq, objects-self}
 use Rattle.verdict.proofs.Steps.{Inv, Act, inv-after, inv-less}
 use Rattle.verdict.proofs.Events.{after-in, legal-listed, legal-moment, legal-length, asked-holds, holds-of, quiets-of}
 use Rattle.verdict.proofs.Weight.{distinct-after}
 use Rattle.verdict.proofs.WellFormed.{action-well-formed, template-well-formed}
-use Rattle.verdict.proofs.Acts.{Alive, Harmless, effect, harmless-act, apart-act}
+use Rattle.verdict.proofs.Acts.{Alive, Harmless, effect, harmless-act, apart-act, instanceHas}
+use Rattle.verdict.proofs.Objects.{among-of, among-in}
+use Rattle.verdict.proofs.Over.{Over, after-over}
 use Rattle.verdict.proofs.Exact.{fault-harms}
 
 -- outside a journey's end, bounded moments allowed, what is not faulty is harmless
@@ -41,40 +46,63 @@ harmless-fault Bounded z = refl
 harmless-fault Unbounded z = absurd (omega arith)
 
 -- the conditions of one allowed event hold
-met : (D : Domain) (fs : List Fact) (e : Event) → allowed D (startState fs) (e ∷ []) ≡ true → conditionsHold D (startState fs .facts) e ≡ true
+met : (D : Domain) (objs : List Object) (fs : List Fact) (e : Event) → allowed D objs (startState fs) (e ∷ []) ≡ true
+    → conditionsHold D objs (startState fs .facts) e ≡ true
 unfolding allowed
-met D fs e al = and-l _ _ (and-r (all (isOpen []) (e ∷ [])) _ (and-l _ _ (and-l _ _ al)))
+met D objs fs e al = and-l _ _ (and-r (all (isOpen []) (e ∷ [])) _ (and-l _ _ (and-l _ _ al)))
 
 -- what it asks has at most one fact of an instance that weighs at most one
-alive-of : (D : Domain) (y : List Object) (fs : List Fact) (e : Event) → weight D y (startState fs .facts) ≤ 1 → allowed D (startState fs) (e ∷ []) ≡ true
-    → Alive (matches D y) (requiredFacts D e Positive)
+alive-of : (D : Domain) (objs y : List Object) (fs : List Fact) (e : Event) → weight D y (startState fs .facts) ≤ 1
+    → allowed D objs (startState fs) (e ∷ []) ≡ true
+    → Alive (instanceHas D objs y) (requiredFacts D objs e Positive)
 unfolding weight
-alive-of D y fs e w al f g mf mg =
-    let h = asked-holds D (startState fs .facts) e (met D fs e al) in count-single (matches D y) (startState fs .facts) w f g (h .yes f mf) (h .yes g mg)
+alive-of D objs y fs e w al f g mf mg ef eg =
+    let h = asked-holds D objs (startState fs .facts) e (met D objs fs e al) in
+    count-single (matches D y) (startState fs .facts) w f g (h .yes f mf) (h .yes g mg) (and-l _ _ ef) (and-l _ _ eg)
 
 -- one event that starts and ends no journey keeps the weight at most one
-one-event : (D : Domain) (y : List Object) (fs : List Fact) (e : Event) → Act (matches D y) true (eventFacts D e) 0 0
-    → weight D y (startState fs .facts) ≤ 1 → allowed D (startState fs) (e ∷ []) ≡ true → weight D y (next D (startState fs) (e ∷ []) .facts) ≤ 1
+one-event : (D : Domain) → wellFormed D ≡ true → (objs : List Object) (y : List Object) (fs : List Fact) (e : Event)
+    → all (isFact D objs) fs ≡ true → isEvent D objs e ≡ true → Act (instanceHas D objs y) true (eventFacts D objs e) 0 0
+    → weight D y (startState fs .facts) ≤ 1 → allowed D objs (startState fs) (e ∷ []) ≡ true
+    → weight D y (next D objs (startState fs) (e ∷ []) .facts) ≤ 1
 unfolding weight next
-one-event D y fs e act w al =
-    single-count (matches D y) sameFact fact-self (factsAfter D s (e ∷ [])) (distinct-after D s (e ∷ []) (distinct-dedup sameFact fs)) (after .single)
+one-event D wf objs y fs e fo ev act w al =
+    single-count (matches D y) sameFact fact-self (factsAfter D objs s (e ∷ []))
+    (distinct-after D objs s (e ∷ []) (distinct-dedup sameFact fs))
+    (λ f g m n t q. after .single f g m n (fits f m t) (fits g n q))
   where
     s : List Fact
     s = dedup sameFact fs
 
-    holds : all (conditionsHold D s) (e ∷ []) ≡ true
-    holds = and-i (met D fs e al) refl
+    holds : all (conditionsHold D objs s) (e ∷ []) ≡ true
+    holds = and-i (met D objs fs e al) refl
 
-    before : Inv (matches D y) true (λ f. In f s) 0
-    before = record { single = count-single (matches D y) s w; free = λ f m t. refl; few = omega arith; none-open = λ _. refl }
+    before : Inv (instanceHas D objs y) true (λ f. In f s) 0
+    before =
+        record {
+          single = λ f g m n t q. count-single (matches D y) s w f g m n (and-l _ _ t)
+              (and-l _ _ q);
+          free = λ f m t. refl;
+          few = omega arith;
+          none-open = λ _. refl;
+        }
 
-    same : (d : Event) → d ≡ e → Act (matches D y) true (eventFacts D d) 0 0
+    start-over : (f : Fact) → In f s → Over objs f
+    start-over f m =
+        among-in objs (f .args) (and-r (hasArity D (f .rel) (f .args)) _ (all-in (isFact D objs) fs fo (dedup-in sameFact fs m)))
+
+    fits : (f : Fact) → In f (factsAfter D objs s (e ∷ [])) → matches D y f ≡ true → instanceHas D objs y f ≡ true
+    fits f m t =
+        and-i t (among-of objs (f .args)
+        (after-over D wf objs s (e ∷ []) (λ d i. ap (isEvent D objs) (List·Memᴰ·eq-of-singleton i) ∙ ev) start-over f m))
+
+    same : (d : Event) → d ≡ e → Act (instanceHas D objs y) true (eventFacts D objs d) 0 0
     same d q = rw q act
 
-    after : Inv (matches D y) true (λ f. In f (factsAfter D s (e ∷ []))) 0
-    after = inv-less (matches D y) true (after-in D s (e ∷ []))
-        (inv-after (matches D y) true (eventFacts D) (λ _. 0) (λ _. 0) (λ f. In f s) (e ∷ []) 0 0 before
-        (λ d m. holds-of D s d (all-in (conditionsHold D s) (e ∷ []) holds m)) (quiets-of D (e ∷ []) refl)
+    after : Inv (instanceHas D objs y) true (λ f. In f (factsAfter D objs s (e ∷ []))) 0
+    after = inv-less (instanceHas D objs y) true (after-in D objs s (e ∷ []))
+        (inv-after (instanceHas D objs y) true (eventFacts D objs) (λ _. 0) (λ _. 0) (λ f. In f s) (e ∷ []) 0 0 before
+        (λ d m. holds-of D objs s d (all-in (conditionsHold D objs s) (e ∷ []) holds m)) (quiets-of D objs (e ∷ []) refl)
         (λ d m. same d (List·Memᴰ·eq-of-singleton m)) (omega arith) (omega arith))
 
 module _ (D : Domain) (wf : wellFormed D ≡ true) (objs : List Object) (fs : List Fact) (y : List Object) (e : Event) (h : Harm D objs fs y e) where
@@ -99,15 +127,19 @@ module _ (D : Domain) (wf : wellFormed D ≡ true) (objs : List Object) (fs : Li
   ok : wellFormedAction D a ≡ true
   ok = action-well-formed D wf (e .ground .action) harm-listed
 
+  inside : (o : Object) → In o b → In o objs
+  inside = among-in objs b (and-r (legal D e && injective e) _ (h .event))
+
   -- the event is not one that keeps the weight
-  not-kept : Act (matches D y) true (effect a b (e .moment)) 0 0 → ⊥
+  not-kept : Act (instanceHas D objs y) true (effect objs a b (e .moment)) 0 0 → ⊥
   unfolding eventFacts
-  not-kept act = let w = one-event D y fs e act (h .before) (h .can) in let z = h .after in omega arith
+  not-kept act = let w = one-event D wf objs y fs e (h .facts-over) (h .event) act (h .before) (h .can) in let z = h .after in omega arith
 
   faulty : (x : List Variable) → In x (classes D a) → bindTuple b x ≡ y → faultBy (nameOf D a x (e .moment)) false ≡ 0 → ⊥
   unfolding requiredFacts
   faulty x hx ex z =
-      not-kept (harmless-act D a ok b len dis y x hx ex (e .moment) true (template-well-formed D wf) 0 0 (alive-of D y fs e (h .before) (h .can)) refl refl (harmless-fault (nameOf D a x (e .moment)) z))
+      not-kept (harmless-act D a ok objs b len dis inside y x hx ex (e .moment) true (template-well-formed D wf) 0 0
+      (alive-of D objs y fs e (h .before) (h .can)) refl refl (harmless-fault (nameOf D a x (e .moment)) z))
 
   -- some class is bound to the instance
   bound : (x : List Variable) × In x (classes D a) × (bindTuple b x ≡ y)
@@ -116,7 +148,7 @@ module _ (D : Domain) (wf : wellFormed D ≡ true) (objs : List Object) (fs : Li
       go : (any (λ x. sameList sameObject (bindTuple b x) y) (classes D a) ≡ true) ⊎ (any (λ x. sameList sameObject (bindTuple b x) y) (classes D a) ≡ false)
           → (x : List Variable) × In x (classes D a) × (bindTuple b x ≡ y)
       go (inl t) = let r = any-in (λ x. sameList sameObject (bindTuple b x) y) (classes D a) t in (r .0, r .1, objects-eq _ y (r .2))
-      go (inr f) = absurd (not-kept (apart-act D a ok b len dis y true 0 0 (e .moment) refl refl
+      go (inr f) = absurd (not-kept (apart-act D a ok objs b len dis inside y true 0 0 (e .moment) refl refl
           (λ x hx ex. clash (in-any (λ x. sameList sameObject (bindTuple b x) y) hx (rw ex (objects-self y))) f)))
 
 start-only : (a : Action) (m : Moment) → hasMoment a m ≡ true → a .lasting ≡ false → m ≡ Start

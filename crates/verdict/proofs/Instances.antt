@@ -1,45 +1,67 @@
 -- The key tuple of an instance fact is the instance; the first component that is not covered. Assumes nothing.
 use mathlib.Core.Path.{_≡_, refl, sym, ap, ap₂, _∙_}
-use mathlib.Core.Bool.{Bool, true, false, _&&_, true≢false, false≢true, cond}
+use mathlib.Core.Bool.{Bool, true, false, _&&_, true≢false, cond}
 use mathlib.Core.Logic.{_⊎_, inl, inr}
-use mathlib.Core.List.{List, [], _∷_, _++_, map, List·Memᴰ·head, List·Memᴰ·tail, List·Memᴰ·not-nil, Memᴰ·of-map}
+use mathlib.Core.List.{List, [], _∷_, _++_, map, List·Memᴰ·head, List·Memᴰ·tail, List·Memᴰ·not-nil, Memᴰ·of-map, Memᴰ·cast}
+use mathlib.Core.List.{List·Memᴰ·eq-of-singleton}
 use Prim.Native.Nat.{ℕ, zero, suc, _≤_, _<_}
 use native.Mathlib.Omega.{arith}
 use lib.Dec.{eqb}
 use lib.ListN.{getD, length, take, length-map}
 use lib.Seq.{take-suc, take-all}
 use borrow.Author.Tests.{eqb-true, ltb-true}
-use Rattle.records.specs.Lists.{In, all, any, countBy}
+use Rattle.records.specs.Lists.{In, all, countBy}
 use Rattle.records.proofs.Lists.{and-l, and-r, and-i, eqb-same, in-keepIf, keepIf-tail, all-in, getD-in}
 use Rattle.literals.specs.declared.Variable.{Variable}
 use Rattle.literals.specs.declared.Object.{Object}
+use Rattle.literals.specs.declared.Argument.{Argument}
+use Rattle.literals.specs.declared.Argument.the-variants.{Variable as bound, Every}
 use Rattle.literals.specs.declared.Key.{Key}
 use Rattle.literals.specs.declared.Label.{Label}
 use Rattle.literals.specs.declared.Label.the-variants.{Key as keyed, Counted}
-use Rattle.literals.specs.Domain.{object, key, Atom, Action, Component, isKey, isCounted, keyBelow, eachKeyOnce, keysOf, Domain}
+use Rattle.literals.specs.Domain.{object, key, variablesOf, Atom, Literal, Action, Component, isKey, keyBelow, keysBound, countedCleared}
+use Rattle.literals.specs.Domain.{keepsKeys, eachKeyOnce, keysOf, Domain}
+use Rattle.literals.proofs.Arguments.{keys-bound}
 use Rattle.literals.proofs.Bytes.{keys-below, keys-once}
 use Rattle.literals.specs.Matching.{under, keyTuple, isOf, tuplesBy, tuplesOf, matches}
 use Rattle.classes.specs.Classes.{classes, covered}
+use Rattle.verdict.specs.Binding.{Binding, valueOf}
 use Rattle.verdict.specs.Decision.{objectUnder, instanceFact, firstUncovered}
-use Rattle.verdict.specs.Claims.{wellFormedTemplate}
-use Rattle.verdict.proofs.Tuples.{matches-of, component-of}
-use Rattle.verdict.proofs.WellFormed.{labels-fit}
+use Rattle.verdict.specs.Claims.{wellFormedAction, wellFormedTemplate}
+use Rattle.verdict.proofs.Tuples.{matches-of, literal-component, Below}
+use Rattle.verdict.proofs.Facts.{Stands, stand-length, keyTuple-stand}
+use Rattle.verdict.proofs.Arguments.{filled, filled-stands}
+use Rattle.verdict.proofs.WellFormed.{literal-keys, labels-fit}
 use Rattle.verdict.proofs.Acts.{class-in}
 use Rattle.verdict.proofs.TopWeight.{under-count, tuple-size}
 
 -- ---- a tuple has one element a key
 
--- where each component has each key once
+-- a literal's variables under the keys, of which none stands at FF
+variables-size : (n : ℕ) (ls : List Label) (vs : List Argument) → keysBound ls vs ≡ true → length ls ≡ length vs → eachKeyOnce n ls ≡ true
+    → length (variablesOf (keyTuple n ls vs)) ≡ n
+variables-size n ls vs kb e h =
+    let s = filled-stands [] vs in
+    let l = stand-length (object 0 ∷ []) [] vs (filled [] vs) s in
+    let t = ap length (keyTuple-stand (object 0 ∷ []) [] n ls vs (filled [] vs) kb s) in
+    let m = length-map (variablesOf (keyTuple n ls vs)) (valueOf []) in
+    let z = tuple-size n ls (filled [] vs) (omega arith) h in
+    omega arith
+
+-- where each component has each key once, and none where a literal of its relation has FF
 pub class-keys : (D : Domain) (a : Action) → ((c : Component) → In c (D .template) → eachKeyOnce (keysOf (D .template)) (c .labels) ≡ true)
+    → ((l : Literal) → In l (a .lits) → all (λ c. keepsKeys c (l .atom)) (D .template) ≡ true)
     → (x : List Variable) → In x (classes D a) → length x ≡ keysOf (D .template)
-class-keys D a once x m =
+class-keys D a once keys x m =
     let l = class-in D a m in
-    let c = component-of D (l .0 .atom) (l .2) in
-    ap length (c .3) ∙ tuple-size (keysOf (D .template)) (c .0 .labels) (l .0 .atom .args)
+    let c = literal-component D (l .0 .atom) (l .2) in
+    ap length (c .3) ∙ variables-size (keysOf (D .template)) (c .0 .labels) (l .0 .atom .args)
+    (keys-bound (c .0) (l .0 .atom) (and-l _ _ (c .2)) (all-in (λ k. keepsKeys k (l .0 .atom)) (D .template) (keys (l .0) (l .1)) (c .1)))
     (eqb-true _ _ (and-r (eqb (c .0 .rel) (l .0 .atom .rel)) _ (c .2))) (once (c .0) (c .1))
 
-pub class-length : (D : Domain) (a : Action) → wellFormedTemplate D ≡ true → (x : List Variable) → In x (classes D a) → length x ≡ keysOf (D .template)
-class-length D a ok = class-keys D a (λ c m. keys-once _ _ (labels-fit D ok c m))
+pub class-length : (D : Domain) (a : Action) → wellFormedAction D a ≡ true → wellFormedTemplate D ≡ true
+    → (x : List Variable) → In x (classes D a) → length x ≡ keysOf (D .template)
+class-length D a ok okT = class-keys D a (λ c m. keys-once _ _ (labels-fit D okT c m)) (literal-keys D a ok)
 
 -- ---- the tuple of an instance fact is the instance
 
@@ -98,15 +120,21 @@ module _ (D : Domain) (ok : wellFormedTemplate D ≡ true) (s : Object) (y : Lis
       go Counted b e = inr (sym e)
       go (keyed k) b e = let z : k .0 < keysOf (D .template) = ltb-true _ _ b in inl (rw (← e) (getD-in y (k .0) (object 0) (omega arith)))
 
--- a counted place has the spare object
-pub spare-in : (s : Object) (y : List Object) (ls : List Label) → any isCounted ls ≡ true → In s (map (objectUnder s y) ls)
-spare-in s y [] h = absurd (false≢true h)
-spare-in s y (keyed k ∷ ls) h = List·Memᴰ·tail (spare-in s y ls h)
-spare-in s y (Counted ∷ ls) h = List·Memᴰ·head refl
+-- a counted place has the spare object: a literal that stands for the fact has FF there
+pub spare-cleared : (objs : List Object) (b : Binding) (s : Object) → (In s b → ⊥)
+    → (y : List Object) (ls : List Label) (vs : List Argument) → Below (length b) (variablesOf vs)
+    → Stands objs b vs (map (objectUnder s y) ls) → countedCleared ls vs ≡ true
+spare-cleared objs b s out y [] vs h t = refl
+spare-cleared objs b s out y (l ∷ ls) [] h t = refl
+spare-cleared objs b s out y (keyed k ∷ ls) (bound v ∷ vs) h t = spare-cleared objs b s out y ls vs (λ w m. h w (List·Memᴰ·tail m)) (t .1)
+spare-cleared objs b s out y (keyed k ∷ ls) (Every ∷ vs) h t = spare-cleared objs b s out y ls vs h (t .1)
+spare-cleared objs b s out y (Counted ∷ ls) (Every ∷ vs) h t = spare-cleared objs b s out y ls vs h (t .1)
+spare-cleared objs b s out y (Counted ∷ ls) (bound v ∷ vs) h t =
+    absurd (out (Memᴰ·cast (List·Memᴰ·eq-of-singleton (t .0)) (getD-in b (v .0) (object 0) (h v (List·Memᴰ·head refl)))))
 
 -- ---- the first component that is not covered
 
-pub first-uncovered : (ps : List (Atom Variable)) (cs : List Component) → all (covered ps) cs ≡ false
+pub first-uncovered : (ps : List (Atom Argument)) (cs : List Component) → all (covered ps) cs ≡ false
     → (u : Component) × In u cs × (covered ps u ≡ false) × (firstUncovered ps cs ≡ u ∷ [])
 first-uncovered ps [] h = absurd (true≢false h)
 first-uncovered ps (c ∷ cs) h = go (covered ps c) refl h (λ k. first-uncovered ps cs k)

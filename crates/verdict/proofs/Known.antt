@@ -19,7 +19,7 @@ use Rattle.verdict.proofs.Rows.{by-fault}
 
 -- an accepted template, one refused for a class, or a file that does not read
 abbrev pub Known : ℕ → Type 0
-Known n = (n ≤ 25) ⊎ ((40 ≤ n) × (n ≤ 43))
+Known n = (n ≤ 27) ⊎ ((40 ≤ n) × (n ≤ 43))
 
 -- of a domain
 abbrev pub Decides : ℕ → Type 0

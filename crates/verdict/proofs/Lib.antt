@@ -6,12 +6,15 @@ pub mod Asking
 pub mod Wider
 pub mod Weight
 pub mod Tuples
+pub mod Facts
 pub mod WellFormed
 pub mod Decodes
 pub mod Answers
 pub mod Arguments
-pub mod Acts
 pub mod Objects
+pub mod Acts
+pub mod Over
+pub mod Patterns
 pub mod Instances
 pub mod Exact
 pub mod Open

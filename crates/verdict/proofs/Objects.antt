@@ -1,18 +1,30 @@
--- The objects of the witness: "variable i is object i". Assumes nothing.
+-- Objects among others, and those of the witness: "variable i is object i". Assumes nothing.
 use mathlib.Core.Path.{_≡_, refl, ap}
 use mathlib.Core.Bool.{true, false, not}
 use mathlib.Core.Logic.{_⊎_, inl, inr}
-use mathlib.Core.List.{List·Memᴰ·head, List·Memᴰ·tail, List·Memᴰ·not-nil}
+use mathlib.Core.List.{List, List·Memᴰ·head, List·Memᴰ·tail, List·Memᴰ·not-nil}
 use Prim.Native.Nat.{ℕ, zero, suc, _+_, _≤_, _<_}
 use native.Mathlib.Omega.{arith}
 use lib.Dec.{eqb}
 use lib.ListN.{length}
 use borrow.Author.Tests.{ne-eqb, eqb-true, eqb-false}
-use Rattle.records.specs.Lists.{In, distinct}
-use Rattle.records.proofs.Lists.{and-i, all-of, bool-cases}
+use Rattle.records.specs.Lists.{In, elem, distinct}
+use Rattle.records.proofs.Lists.{and-i, all-in, all-of, elem-in, in-elem, bool-cases}
 use Rattle.literals.specs.declared.Object.{Object}
 use Rattle.literals.specs.Domain.{object, sameObject}
 use Rattle.verdict.specs.Binding.{objectsFrom}
+use Rattle.verdict.specs.Claims.{among}
+use Rattle.verdict.proofs.Equality.{object-eq, object-self}
+
+-- ---- objects among others
+
+pub among-of : (objs os : List Object) → ((o : Object) → In o os → In o objs) → among objs os ≡ true
+among-of objs os h = all-of (λ o. elem sameObject o objs) os (λ o m. in-elem sameObject object-self (h o m))
+
+pub among-in : (objs os : List Object) → among objs os ≡ true → (o : Object) → In o os → In o objs
+among-in objs os h o m = elem-in sameObject object-eq o objs (all-in (λ o. elem sameObject o objs) os h m)
+
+-- ---- n objects from k on
 
 pub objects-length : (k n : ℕ) → length (objectsFrom k n) ≡ n
 objects-length k zero = refl

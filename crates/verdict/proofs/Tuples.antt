@@ -2,22 +2,28 @@
 use mathlib.Core.Path.{_≡_, refl, sym, ap, ap₂, _∙_}
 use mathlib.Core.Bool.{Bool, true, false, not}
 use mathlib.Core.Logic.{_⊎_, inl, inr}
-use mathlib.Core.List.{List, [], _∷_, _++_, map, map-append, List·Memᴰ·head, List·Memᴰ·tail, List·Memᴰ·not-nil, List·Memᴰ·append-cases, Memᴰ·of-map, Memᴰ·map, Memᴰ·cast, nil≢cons, cons≢nil, head-eq-of-cons-eq, tail-eq-of-cons-eq}
+use mathlib.Core.List.{List, [], _∷_, _++_, map, map-append, List·Memᴰ·head, List·Memᴰ·tail, List·Memᴰ·not-nil}
+use mathlib.Core.List.{Memᴰ·of-map, Memᴰ·cast, nil≢cons, cons≢nil, head-eq-of-cons-eq, tail-eq-of-cons-eq}
 use Prim.Native.Nat.{ℕ, zero, suc, _<_}
 use native.Mathlib.Nat.{not-suc-le-zero, le-of-suc-le-suc}
-use lib.ListN.{getD, length, length-map}
+use lib.ListN.{getD, length}
 use Rattle.records.specs.Lists.{In, all, keepIf, sameList, distinct}
 use Rattle.records.proofs.Lists.{and-l, and-r, in-any, any-in, all-in, in-keepIf, getD-in, not-true, clash, sameList-eq, sameList-self}
 use Rattle.literals.specs.declared.Variable.{Variable}
 use Rattle.literals.specs.declared.Object.{Object}
+use Rattle.literals.specs.declared.Argument.{Argument}
+use Rattle.literals.specs.declared.Argument.the-variants.{Variable as bound}
 use Rattle.literals.specs.declared.Key.{Key}
 use Rattle.literals.specs.declared.Label.{Label}
-use Rattle.literals.specs.Domain.{variable, object, key, sameVariable, sameObject, Atom, Fact, Component, isKey, keysOf, Domain}
+use Rattle.literals.specs.Domain.{variable, object, key, sameVariable, sameObject, variablesOf, Atom, Fact, Component, isKey, keysOf}
+use Rattle.literals.specs.Domain.{Domain}
 use Rattle.literals.specs.Matching.{under, keyTuple, isOf, tuplesBy, tuplesOf, hasTuple, matches}
-use Rattle.classes.specs.Classes.{belongs}
+use Rattle.classes.specs.Classes.{literalTuples, belongs}
 use Rattle.classes.proofs.Numbers.{keyTuple-in}
-use Rattle.verdict.specs.Binding.{Binding, valueOf, bind, bindTuple}
-use Rattle.verdict.proofs.Equality.{variable-eq, variable-self, object-eq, object-self, atom-of}
+use Rattle.verdict.specs.Binding.{Binding, valueOf, bindTuple}
+use Rattle.literals.proofs.Bounds.{variables-in}
+use Rattle.literals.proofs.Arguments.{in-variables}
+use Rattle.verdict.proofs.Equality.{object-eq, object-self, variables-eq, variables-self}
 
 -- ---- tuples of the arguments' images
 
@@ -35,17 +41,6 @@ module _ {A B : Type 0} (f : A → B) where
   keyTuple-map zero ls vs = refl
   keyTuple-map (suc n) ls vs = ap₂ _++_ (keyTuple-map n ls vs) (under-map (key n) ls vs) ∙ sym (map-append f (keyTuple n ls vs) (under (key n) ls vs))
 
--- the tuples of a bound literal are the bound tuples
-pub tuples-bind : (b : Binding) (n : ℕ) (cs : List Component) (p : Atom Variable) → tuplesBy n cs (bind b p) ≡ map (bindTuple b) (tuplesBy n cs p)
-tuples-bind b n [] p = refl
-tuples-bind b n (c ∷ cs) p = rw (length-map (p .args) (valueOf b)) (go (isOf c p) (tuples-bind b n cs p))
-  where
-    go : (t : Bool) → tuplesBy n cs (bind b p) ≡ map (bindTuple b) (tuplesBy n cs p)
-        → keepIf t (keyTuple n (c .labels) (map (valueOf b) (p .args))) (tuplesBy n cs (bind b p))
-        ≡ map (bindTuple b) (keepIf t (keyTuple n (c .labels) (p .args)) (tuplesBy n cs p))
-    go true h = ap₂ _∷_ (keyTuple-map (valueOf b) n (c .labels) (p .args)) h
-    go false h = h
-
 -- ---- a literal of the class, a fact of the instance
 
 module _ {A : Type 0} (eq : A → A → Bool) where
@@ -57,11 +52,12 @@ module _ {A : Type 0} (eq : A → A → Bool) where
   unfolding hasTuple
   tuple-of sound D x p h = let r = any-in (λ t. sameList eq t x) (tuplesOf D p) h in Memᴰ·cast (sym (sameList-eq eq sound (r .0) x (r .2))) (r .1)
 
-pub belongs-of : (D : Domain) (x : List Variable) (p : Atom Variable) → In x (tuplesOf D p) → belongs D x p ≡ true
-belongs-of = has-of sameVariable variable-self
+pub belongs-of : (D : Domain) (x : List Variable) (p : Atom Argument) → In x (literalTuples D p) → belongs D x p ≡ true
+belongs-of D x p m = in-any (λ t. sameList sameVariable t x) m (variables-self x)
 
-pub belongs-tuple : (D : Domain) (x : List Variable) (p : Atom Variable) → belongs D x p ≡ true → In x (tuplesOf D p)
-belongs-tuple = tuple-of sameVariable variable-eq
+pub belongs-tuple : (D : Domain) (x : List Variable) (p : Atom Argument) → belongs D x p ≡ true → In x (literalTuples D p)
+belongs-tuple D x p h =
+    let r = any-in (λ t. sameList sameVariable t x) (literalTuples D p) h in Memᴰ·cast (sym (variables-eq (r .0) x (r .2))) (r .1)
 
 pub matches-of : (D : Domain) (y : List Object) (f : Fact) → In y (tuplesOf D f) → matches D y f ≡ true
 matches-of = has-of sameObject object-self
@@ -69,23 +65,10 @@ matches-of = has-of sameObject object-self
 pub matches-tuple : (D : Domain) (y : List Object) (f : Fact) → matches D y f ≡ true → In y (tuplesOf D f)
 matches-tuple = tuple-of sameObject object-eq
 
--- a literal of the class, bound, is a fact of the bound instance
-pub matches-bind : (D : Domain) (b : Binding) (x : List Variable) (p : Atom Variable) → belongs D x p ≡ true → matches D (bindTuple b x) (bind b p) ≡ true
-unfolding tuplesOf
-matches-bind D b x p h =
-    matches-of D (bindTuple b x) (bind b p) (rw (tuples-bind b (keysOf (D .template)) (D .template) p) (Memᴰ·map (bindTuple b) (belongs-tuple D x p h)))
-
--- a bound literal that the instance y matches: its tuple, bound, is y
-pub bound-tuple : (D : Domain) (b : Binding) (y : List Object) (p : Atom Variable) → matches D y (bind b p) ≡ true
-    → (u : List Variable) × In u (tuplesOf D p) × (bindTuple b u ≡ y)
-unfolding tuplesOf
-bound-tuple D b y p h =
-    Memᴰ·of-map (bindTuple b) (tuplesOf D p) (rw (tuples-bind b (keysOf (D .template)) (D .template) p) at (matches-tuple D y (bind b p) h))
-
 -- ---- a tuple's members are arguments
 
 module _ {A : Type 0} where
-  tuples-in : (n : ℕ) (cs : List Component) (p : Atom A) {u : List A} → In u (tuplesBy n cs p)
+  pub tuples-in : (n : ℕ) (cs : List Component) (p : Atom A) {u : List A} → In u (tuplesBy n cs p)
       → (c : Component) × In c cs × (isOf c p ≡ true) × (u ≡ keyTuple n (c .labels) (p .args))
   tuples-in n [] p m = absurd (List·Memᴰ·not-nil m)
   tuples-in n (c ∷ cs) p {u} m = go (λ k. tuples-in n cs p k) (in-keepIf (isOf c p) (keyTuple n (c .labels) (p .args)) (tuplesBy n cs p) m)
@@ -101,13 +84,31 @@ module _ {A : Type 0} where
   unfolding tuplesOf
   component-of D p m = tuples-in (keysOf (D .template)) (D .template) p m
 
+-- the component of a literal's key tuple
+pub literal-component : (D : Domain) (p : Atom Argument) {u : List Variable} → In u (literalTuples D p)
+    → (c : Component) × In c (D .template) × (isOf c p ≡ true) × (u ≡ variablesOf (keyTuple (keysOf (D .template)) (c .labels) (p .args)))
+unfolding literalTuples
+literal-component D p m =
+    let t = Memᴰ·of-map variablesOf (tuplesOf D p) m in
+    let r = component-of D p (t .1) in
+    (r .0, r .1, r .2, sym (t .2) ∙ ap variablesOf (r .3))
+
+-- a variable among some arguments that are among others
+pub variables-among : (us vs : List Argument) → ((w : Argument) → In w us → In w vs) → {v : Variable} → In v (variablesOf us)
+    → In v (variablesOf vs)
+variables-among us vs h m = in-variables vs (h (bound _) (variables-in us m))
+
 -- ---- injective bindings
 
 abbrev pub Below : ℕ → List Variable → Type 0
 Below n u = (v : Variable) → In v u → v .0 < n
 
-pub tuple-below : (D : Domain) (n : ℕ) (p : Atom Variable) {u : List Variable} → Below n (p .args) → In u (tuplesOf D p) → Below n u
-tuple-below D n p h m v k = let r = component-of D p m in h v (keyTuple-in (keysOf (D .template)) (r .0 .labels) (p .args) (rw (r .3) at k))
+pub tuple-below : (D : Domain) (n : ℕ) (p : Atom Argument) {u : List Variable} → Below n (variablesOf (p .args)) → In u (literalTuples D p)
+    → Below n u
+tuple-below D n p h m v k =
+    let r = literal-component D p m in
+    h v (variables-among (keyTuple (keysOf (D .template)) (r .0 .labels) (p .args)) (p .args)
+    (λ w i. keyTuple-in (keysOf (D .template)) (r .0 .labels) (p .args) i) (rw (r .3) at k))
 
 -- the first element stands nowhere else
 other : (x : Object) (xs : List Object) → distinct sameObject (x ∷ xs) ≡ true → In x xs → ⊥
@@ -132,6 +133,3 @@ module _ (b : Binding) (d : distinct sameObject b ≡ true) where
   bindTuple-inj (x ∷ xs) (y ∷ ys) h k e =
       ap₂ _∷_ (value-inj x y (h x (List·Memᴰ·head refl)) (k y (List·Memᴰ·head refl)) (head-eq-of-cons-eq e))
       (bindTuple-inj xs ys (λ v m. h v (List·Memᴰ·tail m)) (λ v m. k v (List·Memᴰ·tail m)) (tail-eq-of-cons-eq e))
-
-  pub bind-inj : (p q : Atom Variable) → Below (length b) (p .args) → Below (length b) (q .args) → bind b p ≡ bind b q → p ≡ q
-  bind-inj p q h k e = atom-of (ap (λ (f : Fact). f .rel) e) (bindTuple-inj (p .args) (q .args) h k (ap (λ (f : Fact). f .args) e))

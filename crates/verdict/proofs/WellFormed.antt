@@ -1,38 +1,50 @@
 -- What a well-formed domain gives the proofs, as facts. Assumes nothing.
 use mathlib.Core.Path.{_≡_, sym, ap, _∙_}
-use mathlib.Core.Bool.{Bool, true, not, _&&_}
+use mathlib.Core.Bool.{true, not, _&&_}
 use mathlib.Core.List.{List, [], _∷_, List·Memᴰ·head, List·Memᴰ·tail, List·Memᴰ·not-nil}
 use Prim.Native.Nat.{ℕ, _<_}
-use lib.Dec.{eqb, ltb}
+use lib.Dec.{eqb}
 use lib.ListN.{length}
 use borrow.Author.Tests.{ltb-true, eq-eqb}
 use Rattle.records.specs.Lists.{In, all, pairwise, distinct}
 use Rattle.records.proofs.Lists.{and-l, and-r, all-in, getD-in, not-true, clash}
-use Rattle.literals.specs.declared.Variable.{Variable}
-use Rattle.literals.specs.Domain.{Literal, Action, Component, keysOf, labelsFit, Domain, noAction, action}
+use Rattle.literals.specs.Domain.{variablesOf, variableBelow, Literal, clearsOnce, Action, Component, keepsKeys, keysOf, labelsFit, Domain}
+use Rattle.literals.specs.Domain.{noAction, action}
 use Rattle.literals.specs.Decode.{repeats, contradicts}
-use Rattle.verdict.specs.Claims.{hasArity, wellFormedAction, wellFormedTemplate, wellFormed}
+use Rattle.literals.proofs.Bounds.{variables-in}
+use Rattle.verdict.specs.Claims.{hasArity, literalFits, wellFormedAction, wellFormedTemplate, wellFormed}
 use Rattle.verdict.proofs.Tuples.{Below}
 
 -- ---- actions
 
-abbrev literalFits : Domain → Action → Literal → Bool
-literalFits D a l = hasArity D (l .atom .rel) (l .atom .args) && all (λ (v : Variable). ltb (v .0) (a .vars)) (l .atom .args)
+module _ (D : Domain) (a : Action) (ok : wellFormedAction D a ≡ true) where
+  module _ (l : Literal) (m : In l (a .lits)) where
+    fits-literal : literalFits D (a .vars) l ≡ true
+    unfolding wellFormedAction
+    fits-literal = all-in (literalFits D (a .vars)) (a .lits) (and-l _ _ ok) m
 
-pub literal-arity : (D : Domain) (a : Action) → wellFormedAction D a ≡ true → (l : Literal) → In l (a .lits) → hasArity D (l .atom .rel) (l .atom .args) ≡ true
-unfolding wellFormedAction
-literal-arity D a ok l m = and-l _ _ (all-in (literalFits D a) (a .lits) (and-l _ _ ok) m)
+    pub literal-arity : hasArity D (l .atom .rel) (l .atom .args) ≡ true
+    literal-arity = and-l _ _ (and-l _ _ (and-l _ _ fits-literal))
 
-pub literal-below : (D : Domain) (a : Action) → wellFormedAction D a ≡ true → (l : Literal) → In l (a .lits) → Below (a .vars) (l .atom .args)
-unfolding wellFormedAction
-literal-below D a ok l m v k =
-    ltb-true (v .0) (a .vars)
-    (all-in (λ (v : Variable). ltb (v .0) (a .vars)) (l .atom .args)
-    (and-r (hasArity D (l .atom .rel) (l .atom .args)) _ (all-in (literalFits D a) (a .lits) (and-l _ _ ok) m)) k)
+    pub literal-below : Below (a .vars) (variablesOf (l .atom .args))
+    literal-below v k =
+        ltb-true (v .0) (a .vars)
+        (all-in (variableBelow (a .vars)) (l .atom .args)
+        (and-r (hasArity D (l .atom .rel) (l .atom .args)) _ (and-l _ _ (and-l _ _ fits-literal))) (variables-in (l .atom .args) k))
 
-pub literals-apart : (D : Domain) (a : Action) → wellFormedAction D a ≡ true → pairwise (λ l m. not (repeats l m) && not (contradicts l m)) (a .lits) ≡ true
-unfolding wellFormedAction
-literals-apart D a ok = and-r (all (literalFits D a) (a .lits)) _ ok
+    -- at most one FF, and only in a false condition or a delete
+    pub literal-clears : clearsOnce l ≡ true
+    literal-clears =
+        and-r (hasArity D (l .atom .rel) (l .atom .args) && all (variableBelow (a .vars)) (l .atom .args)) _ (and-l _ _ fits-literal)
+
+    -- no component has a key where the literal has FF
+    pub literal-keys : all (λ c. keepsKeys c (l .atom)) (D .template) ≡ true
+    literal-keys =
+        and-r (hasArity D (l .atom .rel) (l .atom .args) && all (variableBelow (a .vars)) (l .atom .args) && clearsOnce l) _ fits-literal
+
+  pub literals-apart : pairwise (λ l m. not (repeats l m) && not (contradicts l m)) (a .lits) ≡ true
+  unfolding wellFormedAction
+  literals-apart = and-r (all (literalFits D (a .vars)) (a .lits)) _ ok
 
 -- the action of a number in the file
 pub action-in : (D : Domain) (i : ℕ) → i < length (D .actions) → In (action D i) (D .actions)

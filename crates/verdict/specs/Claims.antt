@@ -7,10 +7,10 @@ use Prim.Native.Nat.{ℕ, zero, suc, _+_, _*_, _≤_, _<_}
 use lib.Dec.{eqb, ltb, leb}
 use lib.ListN.{length, take, drop}
 use Rattle.records.specs.Lists.{In, all, countBy, pairwise, sameList, elem, distinct}
-use Rattle.literals.specs.declared.Variable.{Variable}
 use Rattle.literals.specs.declared.Object.{Object}
 use Rattle.literals.specs.declared.Usage.the-variants.{Positive, Negative}
-use Rattle.literals.specs.Domain.{object, sameObject, Fact, Literal, Action, Component, keysOf, labelsFit, Domain, arity, action}
+use Rattle.literals.specs.Domain.{object, sameObject, variableBelow, Fact, Literal, clearsOnce, Action, Component, keepsKeys, keysOf}
+use Rattle.literals.specs.Domain.{labelsFit, Domain, arity, action}
 use Rattle.literals.specs.Decode.{byte, repeats, contradicts, domain, decode}
 use Rattle.literals.specs.declared.Moment.the-variants.{Start}
 use Rattle.classes.specs.Classes.{classes, nameOf, journey}
@@ -26,12 +26,16 @@ use Rattle.verdict.specs.Machine.{meet, isOpen, conditionsHold, ownHold,
 abbrev pub hasArity : {A : Type 0} → Domain → ℕ → List A → Bool
 hasArity D r vs = ltb r (length (D .arities)) && eqb (length vs) (arity D r)
 
--- relations with their arities, variables below the count, no literal repeated in its role, none both true and false
+-- a literal of an action with n variables: a relation with its arity, variables below the count, at most one FF and only where it may
+-- stand, and no component with a key there
+abbrev pub literalFits : Domain → ℕ → Literal → Bool
+literalFits D n l =
+    hasArity D (l .atom .rel) (l .atom .args) && all (variableBelow n) (l .atom .args) && clearsOnce l
+    && all (λ c. keepsKeys c (l .atom)) (D .template)
+
+-- literals that fit, none repeated in its role, none both true and false
 unfoldable pub wellFormedAction : Domain → Action → Bool
-wellFormedAction D a =
-    all (λ (l : Literal). hasArity D (l .atom .rel) (l .atom .args) && all (λ (v : Variable). ltb (v .0) (a .vars)) (l .atom .args))
-    (a .lits)
-    && pairwise (λ l m. not (repeats l m) && not (contradicts l m)) (a .lits)
+wellFormedAction D a = all (literalFits D (a .vars)) (a .lits) && pairwise (λ l m. not (repeats l m) && not (contradicts l m)) (a .lits)
 
 -- relations with their arities, each once, with the keys 0 to n-1 once each and at most one FF
 unfoldable pub wellFormedTemplate : Domain → Bool
@@ -73,24 +77,27 @@ pub record Chosen (D : Domain) (objs : List Object) (fs : List Fact) (y : List O
 -- are left to ask
 abbrev pub OwnIsEnough : Type 0
 OwnIsEnough =
-    (D : Domain) (s : State) (es : List Event) → all (isOpen (s .running)) es ≡ true → all (overAllHold D (s .facts)) (s .running) ≡ true
-    → all (conditionsHold D (s .facts)) es ≡ all (ownHold D (s .facts)) es
+    (D : Domain) (objs : List Object) (s : State) (es : List Event) → all (isOpen (s .running)) es ≡ true
+    → all (overAllHold D objs (s .facts)) (s .running) ≡ true
+    → all (conditionsHold D objs (s .facts)) es ≡ all (ownHold D objs (s .facts)) es
 
 -- interference, where all that an end asks counts for it, over all too
-abbrev pub disturbsWithOverAll : Domain → Event → Event → Bool
-disturbsWithOverAll D e f = meet (requiredFacts D e Positive ++ requiredFacts D e Negative) (addedFacts D f ++ struckFacts D f) || meet (addedFacts D e) (struckFacts D f)
+abbrev pub disturbsWithOverAll : Domain → List Object → Event → Event → Bool
+disturbsWithOverAll D objs e f =
+    meet (requiredFacts D objs e Positive ++ requiredFacts D objs e Negative) (addedFacts D objs f ++ struckFacts D objs f)
+    || meet (addedFacts D objs e) (struckFacts D objs f)
 
-abbrev pub interfereWithOverAll : Domain → Event → Event → Bool
-interfereWithOverAll D e f = disturbsWithOverAll D e f || disturbsWithOverAll D f e
+abbrev pub interfereWithOverAll : Domain → List Object → Event → Event → Bool
+interfereWithOverAll D objs e f = disturbsWithOverAll D objs e f || disturbsWithOverAll D objs f e
 
 -- "so both may end together": every step that is allowed by that interference is allowed. (That more is, a case shows: crates/cases,
 -- `ends-together`)
 abbrev pub Wider : Type 0
 Wider =
-    (D : Domain) (s : State) (es : List Event)
-    → all (isOpen (s .running)) es && all (conditionsHold D (s .facts)) es && all (overAllHold D (s .facts)) (s .running)
-    && pairwise (λ e f. not (interfereWithOverAll D e f)) es ≡ true
-    → allowed D s es ≡ true
+    (D : Domain) (objs : List Object) (s : State) (es : List Event)
+    → all (isOpen (s .running)) es && all (conditionsHold D objs (s .facts)) es && all (overAllHold D objs (s .facts)) (s .running)
+    && pairwise (λ e f. not (interfereWithOverAll D objs e f)) es ≡ true
+    → allowed D objs s es ≡ true
 
 -- ---- safety of an accepted template
 
@@ -100,7 +107,7 @@ abbrev pub Safe : Domain → Type 0
 Safe D =
     (objs : List Object) (fs : List Fact) (y : List Object) (steps : List (List Event)) → Chosen D objs fs y steps
     → weight D y (startState fs .facts) ≤ 1
-    → (s : State) → In s (run D (startState fs) steps) → weight D y (s .facts) ≤ 1
+    → (s : State) → In s (run D objs (startState fs) steps) → weight D y (s .facts) ≤ 1
 
 -- "accepted (0, 1)"
 abbrev pub Accepted : Answer → Type 0
@@ -124,8 +131,8 @@ pub record Harm (D : Domain) (objs : List Object) (fs : List Fact) (y : List Obj
   pub instance : isInstance D objs y ≡ true
   pub event : isEvent D objs e ≡ true
   pub before : weight D y (startState fs .facts) ≤ 1
-  pub can : allowed D (startState fs) (e ∷ []) ≡ true
-  pub after : 2 ≤ weight D y (next D (startState fs) (e ∷ []) .facts)
+  pub can : allowed D objs (startState fs) (e ∷ []) ≡ true
+  pub after : 2 ≤ weight D y (next D objs (startState fs) (e ∷ []) .facts)
 
 abbrev pub Harmful : Domain → Type 0
 Harmful D = (objs : List Object) × (fs : List Fact) × (y : List Object) × (e : Event) × Harm D objs fs y e
@@ -226,7 +233,7 @@ abbrev pub TotalNeverRises : Domain → Type 0
 TotalNeverRises D =
     (objs : List Object) (fs : List Fact) (y : List Object) (steps : List (List Event)) → Chosen D objs fs y steps
     → weight D y (startState fs .facts) ≤ 1
-    → neverRising (map (total D y) (run D (startState fs) steps)) ≡ true
+    → neverRising (map (total D y) (run D objs (startState fs) steps)) ≡ true
 
 abbrev pub NeverRises : Type 0
 NeverRises = (D : Domain) → wellFormed D ≡ true → decided D .number ≡ 1 → TotalNeverRises D

@@ -8,6 +8,7 @@ use lib.ListN.{getD}
 use Rattle.records.specs.Lists.{any, filterBy}
 use Rattle.literals.specs.declared.Variable.{Variable}
 use Rattle.literals.specs.declared.Object.{Object}
+use Rattle.literals.specs.declared.Argument.{Argument}
 use Rattle.literals.specs.declared.Label.{Label}
 use Rattle.literals.specs.declared.Label.the-variants.{Key as keyed, Counted}
 use Rattle.literals.specs.declared.Usage.the-variants.{Positive}
@@ -136,7 +137,7 @@ abbrev pub instanceFact : Object → List Object → Component → Fact
 instanceFact s y c = record { rel = c .rel; args = map (objectUnder s y) (c .labels) }
 
 -- "the first uncovered component", or none
-abbrev pub firstUncovered : List (Atom Variable) → List Component → List Component
+abbrev pub firstUncovered : List (Atom Argument) → List Component → List Component
 firstUncovered ps [] = []
 firstUncovered ps (c ∷ cs) = cond (covered ps c) (firstUncovered ps cs) (c ∷ [])
 
@@ -150,8 +151,8 @@ witnessBy Unbalanced cs fs = cs
 witnessBy Bounded cs fs = []
 witnessBy Unbounded cs fs = cs ++ fs
 
--- "the facts are all true conditions of the action at that moment, matching or not, in file order, once each", of the class x, with
--- "variable i is object i"
+-- "the facts are all true conditions of the action at that moment, matching or not, in file order, once each" (none has FF), of the class
+-- x, with "variable i is object i"
 unfoldable pub witnessAt : Domain → Action → List Variable → Moment → List Fact
 unfolding nameOf excluding required
 witnessAt D a x m =

@@ -40,7 +40,7 @@ pub record Answer : Type 0 where
 abbrev pub answerAt : ℕ → ℕ → Answer
 answerAt n at = record { number = n; first = at; second = 0; third = 0 }
 
--- "9 to 23 .. give the record's offset as first place"
+-- "9 to 23 (and 26, 27) .. give the record's offset as first place"
 abbrev pub answerRefusal : Refusal → Answer
 answerRefusal r = answerAt (r .number) (r .place)
 
@@ -58,7 +58,7 @@ abbrev pub decidedBy : Decoded → Answer
 decidedBy (refused r) = answerRefusal r
 decidedBy (domain D) = decided D
 
--- "decided as above for the file alone, whatever memory is lent"; 9 to 25 for a file that isn't well-formed
+-- "decided as above for the file alone, whatever memory is lent"; 9 to 27 for a file that isn't well-formed
 unfoldable pub decidedFile : List ℕ → Answer
 unfolding decode decided
 decidedFile f = decidedBy (decode f)

@@ -5,5 +5,6 @@ pub mod Decision
 pub mod Judged
 pub mod Summaries
 pub mod Machine
+pub mod Patterns
 pub mod Claims
 pub mod Held

@@ -1,4 +1,5 @@
--- The machine: states, events, interference, allowed steps, the next state, runs, instances and their weight. Assumes nothing.
+-- The machine: states, events, interference, allowed steps, the next state, runs, instances and their weight. What a literal with FF stands
+-- for depends on the objects that are chosen, so these (objs) are given to the machine. Assumes nothing.
 use mathlib.Core.Bool.{Bool, true, false, _&&_, _||_, not, cond}
 use mathlib.Core.List.{List, [], _∷_, _++_, map, flatMap, foldr}
 use Prim.Native.Nat.{ℕ, max}
@@ -12,7 +13,7 @@ use Rattle.literals.specs.Domain.{sameObject, Fact, sameFact, Action, Domain, a
 use Rattle.literals.specs.declared.Moment.{Moment}
 use Rattle.literals.specs.declared.Moment.the-variants.{Start, End}
 use Rattle.literals.specs.Matching.{momentNumber, literalsAt, required, overAllLiterals, tuplesOf, hasTuple, matches}
-use Rattle.verdict.specs.Binding.{Binding, bind}
+use Rattle.verdict.specs.Binding.{Binding, factsOf}
 
 -- ---- states and events
 
@@ -40,26 +41,31 @@ sameMoment m n = eqb (momentNumber m) (momentNumber n)
 abbrev pub sameEvent : Event → Event → Bool
 sameEvent e f = sameMoment (e .moment) (f .moment) && sameGround (e .ground) (f .ground)
 
--- the facts of an event's own literals of one usage
-unfoldable pub eventFacts : Domain → Event → Usage → List Fact
-unfolding literalsAt action
-eventFacts D e c = map (bind (e .ground .binding)) (literalsAt (action D (e .ground .action)) (e .moment) c)
+-- the facts that an event's own literals of one usage stand for
+unfoldable pub eventFacts : Domain → List Object → Event → Usage → List Fact
+unfolding literalsAt action factsOf flatMap
+eventFacts D objs e c = flatMap (factsOf objs (e .ground .binding)) (literalsAt (action D (e .ground .action)) (e .moment) c)
 
 -- the facts that an event's conditions require or forbid in the state that the step is taken from: an end's own and over-all ones
-unfoldable pub requiredFacts : Domain → Event → Usage → List Fact
-unfolding required action
-requiredFacts D e c = map (bind (e .ground .binding)) (required (action D (e .ground .action)) (e .moment) c)
+unfoldable pub requiredFacts : Domain → List Object → Event → Usage → List Fact
+unfolding required action factsOf flatMap
+requiredFacts D objs e c = flatMap (factsOf objs (e .ground .binding)) (required (action D (e .ground .action)) (e .moment) c)
 
 -- the facts of its conditions that count for interference: "An end's conditions for interference become its own only"
-abbrev pub guardedFacts : Domain → Event → Usage → List Fact
+abbrev pub guardedFacts : Domain → List Object → Event → Usage → List Fact
 guardedFacts = eventFacts
 
 -- the facts that it adds, and those that it strikes
-abbrev pub addedFacts : Domain → Event → List Fact
-addedFacts D e = eventFacts D e Add
+abbrev pub addedFacts : Domain → List Object → Event → List Fact
+addedFacts D objs e = eventFacts D objs e Add
 
-abbrev pub struckFacts : Domain → Event → List Fact
-struckFacts D e = eventFacts D e Delete
+abbrev pub struckFacts : Domain → List Object → Event → List Fact
+struckFacts D objs e = eventFacts D objs e Delete
+
+-- the facts of the over-all conditions of an open action
+unfoldable pub overAllFacts : Domain → List Object → GroundAction → Usage → List Fact
+unfolding action factsOf flatMap
+overAllFacts D objs g c = flatMap (factsOf objs (g .binding)) (overAllLiterals (action D (g .action)) c)
 
 -- ---- what an event and a step are
 
@@ -95,63 +101,65 @@ abbrev pub isOpen : List GroundAction → Event → Bool
 isOpen gs e = isOpenAt (e .moment) gs (e .ground)
 
 -- "every event's conditions hold"; "Its over-all conditions must still hold in the state the step is taken from"
-unfoldable pub conditionsHold : Domain → List Fact → Event → Bool
+unfoldable pub conditionsHold : Domain → List Object → List Fact → Event → Bool
 unfolding requiredFacts
-conditionsHold D s e =
-    all (λ f. elem sameFact f s) (requiredFacts D e Positive) && all (λ f. not (elem sameFact f s)) (requiredFacts D e Negative)
+conditionsHold D objs s e =
+    all (λ f. elem sameFact f s) (requiredFacts D objs e Positive) && all (λ f. not (elem sameFact f s)) (requiredFacts D objs e Negative)
 
 -- its own hold. In a step whose ends are open and with the over-all conditions of everything open this is the same (Claims, `OwnIsEnough`)
-unfoldable pub ownHold : Domain → List Fact → Event → Bool
+unfoldable pub ownHold : Domain → List Object → List Fact → Event → Bool
 unfolding eventFacts
-ownHold D s e =
-    all (λ f. elem sameFact f s) (eventFacts D e Positive) && all (λ f. not (elem sameFact f s)) (eventFacts D e Negative)
+ownHold D objs s e =
+    all (λ f. elem sameFact f s) (eventFacts D objs e Positive) && all (λ f. not (elem sameFact f s)) (eventFacts D objs e Negative)
 
 -- "the over-all conditions of everything open hold"
-unfoldable pub overAllHold : Domain → List Fact → GroundAction → Bool
-unfolding action
-overAllHold D s g =
-    all (λ p. elem sameFact (bind (g .binding) p) s) (overAllLiterals (action D (g .action)) Positive)
-    && all (λ p. not (elem sameFact (bind (g .binding) p) s)) (overAllLiterals (action D (g .action)) Negative)
+unfoldable pub overAllHold : Domain → List Object → List Fact → GroundAction → Bool
+unfolding overAllFacts
+overAllHold D objs s g =
+    all (λ f. elem sameFact f s) (overAllFacts D objs g Positive) && all (λ f. not (elem sameFact f s)) (overAllFacts D objs g Negative)
 
 -- two lists of facts have one in common
 abbrev pub meet : List Fact → List Fact → Bool
 meet fs gs = any (λ f. elem sameFact f gs) fs
 
--- "a condition of one, true or false, is an add or delete of the other, or an add of one is a delete of the other", one way round
-unfoldable pub disturbs : Domain → Event → Event → Bool
+-- "a condition of one, true or false, is an add or delete of the other, or an add of one is a delete of the other", one way round: they
+-- stand for a fact in common
+unfoldable pub disturbs : Domain → List Object → Event → Event → Bool
 unfolding eventFacts
-disturbs D e f =
-    meet (guardedFacts D e Positive ++ guardedFacts D e Negative) (addedFacts D f ++ struckFacts D f) || meet (addedFacts D e) (struckFacts D f)
+disturbs D objs e f =
+    meet (guardedFacts D objs e Positive ++ guardedFacts D objs e Negative) (addedFacts D objs f ++ struckFacts D objs f)
+    || meet (addedFacts D objs e) (struckFacts D objs f)
 
 -- "Two events interfere if .."
-unfoldable pub interfere : Domain → Event → Event → Bool
+unfoldable pub interfere : Domain → List Object → Event → Event → Bool
 unfolding disturbs
-interfere D e f = disturbs D e f || disturbs D f e
+interfere D objs e f = disturbs D objs e f || disturbs D objs f e
 
 -- "no two of its events interfere"
-abbrev pub independent : Domain → List Event → Bool
-independent D es = pairwise (λ e f. not (interfere D e f)) es
+abbrev pub independent : Domain → List Object → List Event → Bool
+independent D objs es = pairwise (λ e f. not (interfere D objs e f)) es
 
 -- "It is allowed if every end is open; every event's conditions hold; the over-all conditions of everything open hold; and no two of its
 -- events interfere."
-unfoldable pub allowed : Domain → State → List Event → Bool
+unfoldable pub allowed : Domain → List Object → State → List Event → Bool
 unfolding conditionsHold overAllHold interfere
-allowed D s es =
-    all (isOpen (s .running)) es && all (conditionsHold D (s .facts)) es && all (overAllHold D (s .facts)) (s .running) && independent D es
+allowed D objs s es =
+    all (isOpen (s .running)) es && all (conditionsHold D objs (s .facts)) es && all (overAllHold D objs (s .facts)) (s .running)
+    && independent D objs es
 
 -- ---- the next state
 
 -- what the events of a step add or strike, by event and literal
-unfoldable pub stepFacts : Domain → List Event → Usage → List Fact
+unfoldable pub stepFacts : Domain → List Object → List Event → Usage → List Fact
 unfolding eventFacts flatMap
-stepFacts D es c = flatMap (λ e. eventFacts D e c) es
+stepFacts D objs es c = flatMap (λ e. eventFacts D objs e c) es
 
 -- "all deletes out, then all adds in"; "kept ones in order, new ones by event and literal (a fact deleted and added again is new)"
-unfoldable pub factsAfter : Domain → List Fact → List Event → List Fact
+unfoldable pub factsAfter : Domain → List Object → List Fact → List Event → List Fact
 unfolding stepFacts
-factsAfter D s es =
-    let kept = filterBy (λ f. not (elem sameFact f (stepFacts D es Delete))) s in
-    kept ++ filterBy (λ f. not (elem sameFact f kept)) (dedup sameFact (stepFacts D es Add))
+factsAfter D objs s es =
+    let kept = filterBy (λ f. not (elem sameFact f (stepFacts D objs es Delete))) s in
+    kept ++ filterBy (λ f. not (elem sameFact f kept)) (dedup sameFact (stepFacts D objs es Add))
 
 -- "ends leave the list (one entry each)": the first equal entry
 abbrev pub closeOne : GroundAction → List GroundAction → List GroundAction
@@ -176,9 +184,9 @@ openedBy D [] = []
 openedBy D (e ∷ es) = keepIf (opens (e .moment) (action D (e .ground .action))) (e .ground) (openedBy D es)
 
 -- "Afterwards: .."
-unfoldable pub next : Domain → State → List Event → State
+unfoldable pub next : Domain → List Object → State → List Event → State
 unfolding factsAfter action
-next D s es = record { facts = factsAfter D (s .facts) es; running = closeAll es (s .running) ++ openedBy D es }
+next D objs s es = record { facts = factsAfter D objs (s .facts) es; running = closeAll es (s .running) ++ openedBy D es }
 
 -- ---- runs
 
@@ -187,10 +195,10 @@ abbrev pub startState : List Fact → State
 startState fs = record { facts = dedup sameFact fs; running = [] }
 
 -- the states reached: "the start and the one after each step taken"; "The first step that isn't allowed changes nothing and ends the run."
-unfoldable pub run : Domain → State → List (List Event) → List State
+unfoldable pub run : Domain → List Object → State → List (List Event) → List State
 unfolding allowed next
-run D s [] = s ∷ []
-run D s (es ∷ rest) = s ∷ cond (allowed D s es) (run D (next D s es) rest) []
+run D objs s [] = s ∷ []
+run D objs s (es ∷ rest) = s ∷ cond (allowed D objs s es) (run D objs (next D objs s es) rest) []
 
 -- the last of the states, or s where there is none
 abbrev pub lastState : State → List State → State

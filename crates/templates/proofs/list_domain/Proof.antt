@@ -14,8 +14,11 @@ slice-aggregate-put-list c = search needs
 
 put-list-requires : tie.Need-put-list-requires
 put-list-requires c κs =
-    let read = c .before .before .before .before .before .before .pre .0 in
-    (c .before .before .clear-template .ensures (read .0) (record { says = read .1 .says; room = c .before .before .before .before .before .before .pre .1 }) .room, omega arith)
+    let read = c .before .before .before .before .before .before .pre .0 in (
+      c .before .before .clear-template .ensures (read .0)
+          (record { says = read .1 .says; room = c .before .before .before .before .before .before .pre .1 }) .room,
+      omega arith,
+    )
 
 sub-deliver : tie.Need-sub-deliver
 sub-deliver c = search needs
@@ -34,8 +37,11 @@ same-length c = search needs
 
 returns : tie.Need-returns
 returns c D H wf =
-    let B = bare-held H (c .before .before .before .before .before .before .before .before .before .before .before .clear-template .ensures D (record { says = H .says; room = c .before .before .before .before .before .before .before .before .before .before .before .before .before .before .before .pre .1 })) wf in
-    list-delivered (made-is (c .before .before .before .before .before .before .before .before .put-list .ensures .1 D _ B (listing-none D _))) (c .before .before .deliver .ensures)
+    let listed = c .before .before .before .before .before .before .before .before in
+    let cleared = listed .before .before .before in
+    let room = cleared .before .before .before .before .pre .1 in
+    let B = bare-held H (cleared .clear-template .ensures D (record { says = H .says; room = room })) wf in
+    list-delivered (made-is (listed .put-list .ensures .1 D _ B (listing-none D _))) (c .before .before .deliver .ensures)
 
 pub list-domain-spec : {M : Type 1} → statement M
 list-domain-spec =

@@ -17,14 +17,18 @@ read-domain-requires c κs = inl (omega arith)
 
 returns : tie.Need-returns
 unfolding listFile listAfter
-returns c = answers-refused listBytes (c .before .before .before .before .before .before .before .args .file .now) (c .before .before .before .before .before .before .before .args .list .now) _ (refusal-is (c .before .before .before .before .before .before .before .args .file .now) _ _ _ (c .before .before .read-domain .ensures) (c .if1 .taken))
+returns c =
+    let f = c .before .before .before .before .before .before .before .args .file .now in
+    let out = c .before .before .before .before .before .before .before .args .list .now in
+    answers-refused listBytes f out _ (refusal-is f _ _ _ (c .before .before .read-domain .ensures) (c .if1 .taken))
 
 slice-aggregate-list-domain : tie.Need-slice-aggregate-list-domain
 slice-aggregate-list-domain c = search needs
 
 list-domain-requires : tie.Need-list-domain-requires
 list-domain-requires c κs =
-    let o = opened (c .before .before .before .before .before .before .before .before .before .before .before .args .file .now) _ _ _ (c .before .before .before .before .before .before .read-domain .ensures) (c .before .before .before .before .if1 .left) in
+    let o = opened (c .before .before .before .before .before .before .before .before .before .before .before .args .file .now) _ _ _
+    (c .before .before .before .before .before .before .read-domain .ensures) (c .before .before .before .before .if1 .left) in
     ((o .said, o .held), o .whole)
 
 same-length : tie.Need-same-length
@@ -33,9 +37,12 @@ same-length c = search needs
 returns-2 : tie.Need-returns-2
 unfolding listFile listAfter
 returns-2 c =
-    let f = c .before .before .before .before .before .before .before .before .before .before .before .before .before .before .args .file .now in
-    let o = opened f _ _ _ (c .before .before .before .before .before .before .before .before .before .read-domain .ensures) (c .before .before .before .before .before .before .before .if1 .left) in
-    answers-read listBytes f (c .before .before .before .before .before .before .before .before .before .before .before .before .before .before .args .list .now) (o .said) (o .decoded) (c .before .before .list-domain .ensures (o .said) (o .held) (decoded-well-formed f (o .said) (o .decoded)))
+    let entry = c .before .before .before .before .before .before .before .before .before .before .before .before .before .before .args in
+    let f = entry .file .now in
+    let left = c .before .before .before .before .before .before .before .if1 .left in
+    let o = opened f _ _ _ (c .before .before .before .before .before .before .before .before .before .read-domain .ensures) left in
+    let made = c .before .before .list-domain .ensures (o .said) (o .held) (decoded-well-formed f (o .said) (o .decoded)) in
+    answers-read listBytes f (entry .list .now) (o .said) (o .decoded) made
 
 pub list-file-spec : {M : Type 1} → statement M
 list-file-spec =

@@ -1,71 +1,68 @@
--- `covers` meets its contract: no label is FF, and a row excludes. Assumes nothing.
-use mathlib.Core.Path.{_≡_, sym, ap, ap₂, _∙_}
-use mathlib.Core.Bool.{Bool, true, false, _&&_, not}
-use mathlib.Core.List.{List}
-use Prim.Native.Nat.{ℕ, _+_}
-use lib.Dec.{eqb}
-use lib.ListN.{length, getD}
-use Rattle.records.specs.Lists.{any}
-use Rattle.literals.specs.Domain.{isCounted}
-use Rattle.literals.specs.Decode.{labelOf}
-use Rattle.literals.specs.Held.{arityIn, componentRowIn}
-use Rattle.literals.specs.Keys.{below}
-use Rattle.classes.specs.Held.{excludesAt, coveredAt}
+-- `covers` meets its contract: no row before j covers, so the test is that of the rows left. Assumes nothing.
+use native.Mathlib.Omega.{arith}
 use borrow.Author.Needs.{needs}
+use mathlib.Core.Path.{_≡_, sym, ap, _∙_}
+use Prim.Native.Nat.{_-_}
+use lib.ListN.{length}
+use Rattle.records.specs.Lists.{any}
+use Rattle.classes.specs.Held.{coversAt, coveredAt}
+use Rattle.literals.proofs.Indices.{left, left-all, any-hit, any-miss, any-end}
 use Rattle.classes.proofs.names.covers.Statement.{statement}
 use Rattle.classes.proofs.names.covers.Tie as tie
 
-module _ (head rows numbers usages : List ℕ) (class c relation n : ℕ) (r : relation ≡ getD (componentRowIn head c) 0 0) (e : n ≡ arityIn head relation)
-    (t : Bool) (f : t ≡ any (λ i. isCounted (labelOf (getD (componentRowIn head c) (1 + i) 0))) (below n)) where
-  abbrev excluded : Bool
-  excluded = any (excludesAt rows numbers usages class relation) (below (length numbers))
+abbrev Inv-loop : tie.InvT-loop
+Inv-loop head rows numbers usages class c j₀ j-end j =
+    any (coversAt head rows numbers usages class c) (left (length numbers) j) ≡ coveredAt head rows numbers usages class c
 
-  by-test : not t && excluded ≡ coveredAt head rows numbers usages class c
-  unfolding coveredAt
-  by-test =
-      ap₂ (λ (b : Bool) (k : ℕ). not b && any (excludesAt rows numbers usages class k) (below (length numbers)))
-      (f ∙ ap (λ (k : ℕ). any (λ i. isCounted (labelOf (getD (componentRowIn head c) (1 + i) 0))) (below k)) (e ∙ ap (arityIn head) r))
-      r
+abbrev μ-loop : tie.MeasureT-loop
+μ-loop head rows numbers usages class c j₀ j-end j = length numbers - j
 
-  counted : t ≡ true → false ≡ coveredAt head rows numbers usages class c
-  counted g = sym (ap (λ (b : Bool). not b && excluded) g) ∙ by-test
+loop-holds : tie.Need-loop-holds Inv-loop μ-loop
+unfolding coveredAt
+loop-holds c =
+    let a = c .before .before .args in
+    ap (any (coversAt (a .head .now) (a .rows .now) (a .numbers .now) (a .usages .now) (a .class) (a .c)))
+    (left-all (length (a .numbers .now)))
 
-  keyed : t ≡ false → (u : Bool) → u ≡ excluded → u ≡ coveredAt head rows numbers usages class c
-  keyed g u h = h ∙ sym (ap (λ (b : Bool). not b && excluded) g) ∙ by-test
+covers-by-requires : tie.Need-covers-by-requires Inv-loop μ-loop
+covers-by-requires c κs = search needs
 
-component-byte-requires : tie.Need-component-byte-requires
-component-byte-requires c κs = search needs
-
-arity-of-requires : tie.Need-arity-of-requires
-arity-of-requires c κs = search needs
-
-wide-requires : tie.Need-wide-requires
-wide-requires c κs = search needs
-
-any-counted-requires : tie.Need-any-counted-requires
-any-counted-requires c κs = search needs
-
-returns : tie.Need-returns
+returns : tie.Need-returns Inv-loop μ-loop
 returns c =
-    counted _ _ _ _ _ _ _ _ (c .before .before .before .before .component-byte .ensures) (c .before .before .wide .ensures .0 ∙ c .before .before .before .arity-of .ensures .0)
-    _ (c .before .any-counted .ensures) (c .if1 .taken)
+    let a = c .before .before .before .before .before .before .args in
+    sym (any-hit (coversAt (a .head .now) (a .rows .now) (a .numbers .now) (a .usages .now) (a .class) (a .c)) (length (a .numbers .now))
+    (c .before .before .before .loop .j) (omega arith) (sym (c .before .covers-by .ensures) ∙ c .if1 .taken))
+    ∙ c .before .before .before .loop .inv
 
-any-excluding-requires : tie.Need-any-excluding-requires
-any-excluding-requires c κs = search needs
+add-j : tie.Need-add-j Inv-loop μ-loop
+add-j c = omega arith
 
-returns-2 : tie.Need-returns-2
+loop-less : tie.Need-loop-less Inv-loop μ-loop
+loop-less c = omega arith
+
+loop-again : tie.Need-loop-again Inv-loop μ-loop
+loop-again c =
+    let a = c .before .before .before .before .before .before .args in
+    sym (any-miss (coversAt (a .head .now) (a .rows .now) (a .numbers .now) (a .usages .now) (a .class) (a .c)) (length (a .numbers .now))
+    (c .before .before .before .loop .j) (omega arith) (sym (c .before .covers-by .ensures) ∙ c .if1 .left))
+    ∙ c .before .before .before .loop .inv
+
+returns-2 : tie.Need-returns-2 Inv-loop μ-loop
 returns-2 c =
-    keyed _ _ _ _ _ _ _ _ (c .before .before .before .before .before .component-byte .ensures) (c .before .before .before .wide .ensures .0 ∙ c .before .before .before .before .arity-of .ensures .0)
-    _ (c .before .before .any-counted .ensures) (c .before .if1 .left) _ (c .any-excluding .ensures)
+    let a = c .before .before .before .before .args in
+    sym (any-end (coversAt (a .head .now) (a .rows .now) (a .numbers .now) (a .usages .now) (a .class) (a .c)) (length (a .numbers .now))
+    (c .before .loop .j) (omega arith)) ∙ c .before .loop .inv
 
 pub covers-spec : {M : Type 1} → statement M
 covers-spec =
     tie.close
     (tie.spec
-    component-byte-requires
-    arity-of-requires
-    wide-requires
-    any-counted-requires
+    Inv-loop
+    μ-loop
+    loop-holds
+    covers-by-requires
     returns
-    any-excluding-requires
+    add-j
+    loop-less
+    loop-again
     returns-2)

@@ -12,12 +12,12 @@ returns : tie.Need-returns
 unfolding changedAt
 returns c = rw (sym (c .before .any-same .ensures) ∙ c .if1 .taken)
 
-any-same-requires-2 : tie.Need-any-same-requires-2
-any-same-requires-2 c κs = search needs
+is-deleted-requires : tie.Need-is-deleted-requires
+is-deleted-requires c κs = search needs
 
 returns-2 : tie.Need-returns-2
 unfolding changedAt
-returns-2 c = rw (sym (c .before .before .any-same .ensures) ∙ c .before .if1 .left) (c .any-same2 .ensures)
+returns-2 c = rw (sym (c .before .before .any-same .ensures) ∙ c .before .if1 .left) (c .is-deleted .ensures)
 
 pub is-changed-spec : {M : Type 1} → statement M
-is-changed-spec = tie.close (tie.spec any-same-requires returns any-same-requires-2 returns-2)
+is-changed-spec = tie.close (tie.spec any-same-requires returns is-deleted-requires returns-2)

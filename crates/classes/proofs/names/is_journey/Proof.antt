@@ -25,14 +25,14 @@ returns-5 c D a head M l z h = not-one-add D a _ (λ o. let n = no-adds (moment-
 returns-6 : tie.Need-returns-6
 returns-6 c D a head M l z h = not-one-add D a _ (λ o. let n = many-adds (moment-of M End) h z (c .if6 .taken) in omega arith)
 
-cast-any-same : tie.Need-cast-any-same
-cast-any-same c = search needs
+cast-is-deleted : tie.Need-cast-is-deleted
+cast-is-deleted c = search needs
 
-sub-any-same : tie.Need-sub-any-same
-sub-any-same c = search needs
+sub-is-deleted : tie.Need-sub-is-deleted
+sub-is-deleted c = search needs
 
-any-same-requires : tie.Need-any-same-requires
-any-same-requires c κs =
+is-deleted-requires : tie.Need-is-deleted-requires
+is-deleted-requires c κs =
     let s = c .before .before .before .before .before .before .before .before .before .before .before .before in
     (s .pre .0, sole-inside (s .args .numbers .now) (s .args .usages .now) (s .args .class) (s .pre .0 .few) (s .pre .1) (c .before .before .before .before .before .before .before .if2 .left) (c .before .before .before .before .before .before .if3 .left))
 
@@ -42,7 +42,8 @@ returns-7 c D a head M l z h =
     let some = c .before .before .before .before .before .before .before .before .if2 .left in
     let few = c .before .before .before .before .before .before .before .if3 .left in
     journey-deletes D a _ l (no-adds M h s (c .before .before .before .before .before .before .before .before .before .if1 .left)) (one-condition M h s some few) (no-conditions (moment-of M End) h z (c .before .before .before .before .before .if4 .left))
-    (one-add (moment-of M End) h z (c .before .before .before .if5 .left) (c .before .if6 .left)) (c .any-same .result) (c .any-same .ensures ∙ deleted-held M h s some few)
+    (one-add (moment-of M End) h z (c .before .before .before .if5 .left) (c .before .if6 .left)) (c .is-deleted .result)
+    (c .is-deleted .ensures ∙ deleted-held M h s some few)
 
 pub is-journey-spec : {M : Type 1} → statement M
 is-journey-spec =
@@ -54,7 +55,7 @@ is-journey-spec =
     returns-4
     returns-5
     returns-6
-    cast-any-same
-    sub-any-same
-    any-same-requires
+    cast-is-deleted
+    sub-is-deleted
+    is-deleted-requires
     returns-7)

@@ -1,8 +1,6 @@
 -- `bound_byte` meets its contract. Assumes nothing.
-use mathlib.Core.Path.{ap}
 use borrow.Author.Needs.{needs}
 use native.Mathlib.Omega.{arith}
-use Rattle.literals.specs.declared.Object.{Object}
 use Rattle.events.proofs.RowLoops.{bound-first, bound-object, bound-fill}
 use Rattle.events.proofs.facts.bound_byte.Statement.{statement}
 use Rattle.events.proofs.facts.bound_byte.Tie as tie
@@ -22,17 +20,19 @@ returns-2 c = search needs
 add-if3 : tie.Need-add-if3
 add-if3 c = search needs
 
-add-v : tie.Need-add-v
-add-v c = search needs
+add-argument : tie.Need-add-argument
+add-argument c = search needs
 
-shared-slice-read-v : tie.Need-shared-slice-read-v
-shared-slice-read-v c = search needs
+shared-slice-read-argument : tie.Need-shared-slice-read-argument
+shared-slice-read-argument c = search needs
 
-object-of-requires : tie.Need-object-of-requires
-object-of-requires c κs = search needs
+bound-argument-requires : tie.Need-bound-argument-requires
+bound-argument-requires c κs = search needs
 
 returns-3 : tie.Need-returns-3
-returns-3 c = let a = c .before .before .before .before .before .before .before .args in bound-object (a .arity) (a .ground .now) (a .rows .now) (a .row) (omega arith) (omega arith) (a .i) (c .object-of .result .0) (λ e. omega arith) (λ e. omega arith) (omega arith) (ap (λ (o : Object). o .0) (c .object-of .ensures))
+returns-3 c = let a = c .before .before .before .before .before .before .before .args in
+    bound-object (a .arity) (a .ground .now) (a .rows .now) (a .row) (omega arith) (omega arith) (a .i) _
+    (λ e. omega arith) (λ e. omega arith) (omega arith) (c .bound-argument .ensures)
 
 returns-4 : tie.Need-returns-4
 returns-4 c = let a = c .before .before .before .before .before .args in bound-fill (a .arity) (a .ground .now) (a .rows .now) (a .row) (omega arith) (omega arith) (a .i) (omega arith) (λ e. omega arith) (λ e. omega arith) (omega arith)
@@ -46,8 +46,8 @@ bound-byte-spec =
     returns
     returns-2
     add-if3
-    add-v
-    shared-slice-read-v
-    object-of-requires
+    add-argument
+    shared-slice-read-argument
+    bound-argument-requires
     returns-3
     returns-4)

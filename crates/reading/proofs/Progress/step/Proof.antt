@@ -2,6 +2,7 @@
 use mathlib.Core.Path.{sym, _∙_}
 use native.Mathlib.Omega.{arith}
 use Rattle.records.proofs.Laws.{whole-within}
+use Rattle.reading.proofs.Takes.{held-over}
 use Rattle.reading.proofs.Turns.{record-ready, step-behind, step-end, step-cut, step-none, step-on, step-stop}
 use borrow.Author.Needs.{needs}
 use Rattle.reading.proofs.Progress.step.Statement.{statement}
@@ -40,7 +41,11 @@ same-length c = search needs
 returns-3 : tie.Need-returns-3
 returns-3 c q old S =
     let t = c .before .before .before .take-record in
-    step-on _ _ S (c .before .before .before .before .before .before .before .before .before .before .before .if1 .left) (sym (c .before .before .before .before .before .before .before .before .before .before .record-at .ensures) ∙ c .before .before .before .before .before .before .before .before .kind .given .1) (t .result) (t .ensures .0 (q .sofar) old (S .holds)) (t .ensures .1 (q .sofar) (S .holds .filled .says)) (c .if3 .taken)
+    step-on _ _ S (c .before .before .before .before .before .before .before .before .before .before .before .if1 .left)
+    (sym (c .before .before .before .before .before .before .before .before .before .before .record-at .ensures)
+    ∙ c .before .before .before .before .before .before .before .before .kind .given .1)
+    (t .result) (t .ensures .0 (q .sofar) old (S .holds))
+    (t .ensures .1 (q .sofar) (held-over (S .holds))) (c .if3 .taken)
 
 wide-requires : tie.Need-wide-requires
 wide-requires c κs = search needs
@@ -60,7 +65,11 @@ same-length-2 c = search needs
 returns-4 : tie.Need-returns-4
 returns-4 c q old S =
     let t = c .before .before .before .before .take-record in
-    step-stop _ _ S (c .before .before .before .before .before .before .before .before .before .before .before .before .if1 .left) (sym (c .before .before .before .before .before .before .before .before .before .before .before .record-at .ensures) ∙ c .before .before .before .before .before .before .before .before .before .kind .given .1) (t .result) (t .ensures .0 (q .sofar) old (S .holds)) (t .ensures .1 (q .sofar) (S .holds .filled .says)) (c .before .if3 .left) (c .wide .ensures .0)
+    step-stop _ _ S (c .before .before .before .before .before .before .before .before .before .before .before .before .if1 .left)
+    (sym (c .before .before .before .before .before .before .before .before .before .before .before .record-at .ensures)
+    ∙ c .before .before .before .before .before .before .before .before .before .kind .given .1)
+    (t .result) (t .ensures .0 (q .sofar) old (S .holds))
+    (t .ensures .1 (q .sofar) (held-over (S .holds))) (c .before .if3 .left) (c .wide .ensures .0)
 
 returns-5 : tie.Need-returns-5
 returns-5 c q old S = step-cut _ _ S (c .before .before .before .if1 .left) (sym (c .before .before .record-at .ensures) ∙ c .enum-told .given .1)

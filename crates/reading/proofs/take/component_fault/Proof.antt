@@ -1,7 +1,7 @@
 -- `component_fault` meets its contract. Assumes nothing.
-use mathlib.Core.Path.{_≡_, sym, _∙_}
 use native.Mathlib.Omega.{arith}
 use Rattle.reading.proofs.Takes.{component-short, component-fields-stop, component-used, component-labels}
+use Rattle.reading.proofs.Takes.{component-cleared, component-kept}
 use borrow.Author.Needs.{needs}
 use Rattle.reading.proofs.take.component_fault.Statement.{statement}
 use Rattle.reading.proofs.take.component_fault.Tie as tie
@@ -10,25 +10,81 @@ component-fields-requires : tie.Need-component-fields-requires
 component-fields-requires c κs = search needs
 
 returns : tie.Need-returns
-returns c = (λ D H. component-fields-stop H _ (c .before .component-fields .ensures) (λ z. c .if1 .taken z), λ z. absurd (c .if1 .taken z))
+returns c = (
+  λ D K. component-fields-stop K _ (c .before .component-fields .ensures) (λ z. c .if1 .taken z),
+  λ z. absurd (c .if1 .taken z),
+)
 
 shared-slice-read-is-used : tie.Need-shared-slice-read-is-used
-shared-slice-read-is-used c = let f = component-short _ _ (sym (c .before .before .component-fields .ensures) ∙ (let z : c .before .before .component-fields .result ≡ 0 = omega arith in z)) in omega (arith, f .0)
+shared-slice-read-is-used c =
+    let f = component-short _ _ (c .before .before .component-fields .ensures) (omega arith) in
+    omega (arith, f .0)
 
 is-used-requires : tie.Need-is-used-requires
 is-used-requires c κs = search needs
 
 returns-2 : tie.Need-returns-2
-returns-2 c = (λ D H. component-used H _ (c .before .before .before .before .component-fields .ensures) (omega arith) (c .before .is-used .ensures) (c .if2 .taken), λ z. absurd (omega arith))
+returns-2 c = (
+  λ D K. component-used K _ (c .before .before .before .before .component-fields .ensures) (omega arith)
+      (c .before .is-used .ensures) (c .if2 .taken),
+  λ z. absurd (omega arith),
+)
 
 keys-with-requires : tie.Need-keys-with-requires
-keys-with-requires c κs = component-short _ _ (sym (c .before .before .before .before .component-fields .ensures) ∙ (let z : c .before .before .before .before .component-fields .result ≡ 0 = omega arith in z)) .1
+keys-with-requires c κs = component-short _ _ (c .before .before .before .before .component-fields .ensures) (omega arith) .1
 
 label-fields-requires : tie.Need-label-fields-requires
-label-fields-requires c κs = (c .keys-with .ensures .1, component-short _ _ (sym (c .before .before .before .before .before .component-fields .ensures) ∙ (let z : c .before .before .before .before .before .component-fields .result ≡ 0 = omega arith in z)) .1)
+label-fields-requires c κs = (
+  c .keys-with .ensures .1,
+  component-short _ _ (c .before .before .before .before .before .component-fields .ensures) (omega arith) .1,
+)
 
 returns-3 : tie.Need-returns-3
-returns-3 c = (λ D H. component-labels H _ (c .before .before .before .before .before .before .component-fields .ensures) (omega arith) (c .before .before .before .is-used .ensures) (c .before .before .if2 .left) (c .before .keys-with .ensures .0 D H) (c .label-fields .ensures), λ z. component-short _ _ (sym (c .before .before .before .before .before .before .component-fields .ensures) ∙ (let z : c .before .before .before .before .before .before .component-fields .result ≡ 0 = omega arith in z)) .1)
+returns-3 c = (
+  λ D K.
+      let f = c .before .before .before .before .before .before .before .component-fields .ensures in
+      let u = c .before .before .before .before .is-used .ensures in
+      let k = c .before .before .keys-with .ensures .0 D (K .says) in
+      component-labels K _ f (omega arith) u (c .before .before .before .if2 .left) k (c .before .label-fields .ensures)
+      (λ z. omega arith),
+  λ z. absurd (omega arith),
+)
+
+all-rows-requires : tie.Need-all-rows-requires
+all-rows-requires c κs = search needs
+
+any-clears-key-requires : tie.Need-any-clears-key-requires
+any-clears-key-requires c κs =
+    let f = component-short _ _ (c .before .before .before .before .before .before .before .before .component-fields .ensures)
+    (omega arith) in
+    (c .all-rows .ensures .0, omega (arith, f .0), f .1)
+
+returns-4 : tie.Need-returns-4
+returns-4 c = (
+  λ D K.
+      let f = c .before .before .before .before .before .before .before .before .before .before .component-fields .ensures in
+      let u = c .before .before .before .before .before .before .before .is-used .ensures in
+      let k = c .before .before .before .before .before .keys-with .ensures .0 D (K .says) in
+      let r = c .before .before .all-rows .ensures .1 D K in
+      let a = c .before .any-clears-key .ensures in
+      component-cleared K _ f (omega arith) u (c .before .before .before .before .before .before .if2 .left) k
+      (c .before .before .before .before .label-fields .ensures) (omega arith) r a (c .if4 .taken),
+  λ z. absurd (omega arith),
+)
+
+returns-5 : tie.Need-returns-5
+returns-5 c = (
+  λ D K.
+      let f = c .before .before .before .before .before .before .before .before .before .before .component-fields .ensures in
+      let u = c .before .before .before .before .before .before .before .is-used .ensures in
+      let k = c .before .before .before .before .before .keys-with .ensures .0 D (K .says) in
+      let r = c .before .before .all-rows .ensures .1 D K in
+      let a = c .before .any-clears-key .ensures in
+      component-kept K _ f (omega arith) u (c .before .before .before .before .before .before .if2 .left) k
+      (c .before .before .before .before .label-fields .ensures) (omega arith) r a (c .if4 .left),
+  λ z. component-short _ _ (c .before .before .before .before .before .before .before .before .before .before .component-fields .ensures)
+      (omega arith) .1,
+)
 
 pub component-fault-spec : {M : Type 1} → statement M
 component-fault-spec =
@@ -41,4 +97,8 @@ component-fault-spec =
     returns-2
     keys-with-requires
     label-fields-requires
-    returns-3)
+    returns-3
+    all-rows-requires
+    any-clears-key-requires
+    returns-4
+    returns-5)

@@ -4,7 +4,8 @@ use native.Mathlib.Omega.{arith}
 use Rattle.literals.specs.Decode.{relationRecord, actionRecord, literalRecord, componentRecord, closingRecord, unknownRecord}
 use Rattle.literals.proofs.Stops.{place-record}
 use Rattle.reading.proofs.Takes.{take-stop, not-zero, unknown-stop}
-use Rattle.reading.proofs.Written.{unwritten, by-kind, place-by, closing-kept, same-relation, same-action, same-component, same-closing, same-unknown, kind-1, kind-2, kind-3, kind-4, kind-5, kind-other}
+use Rattle.reading.proofs.Written.{unwritten, by-kind, place-by, closing-kept, same-relation, same-action, same-closing}
+use Rattle.reading.proofs.Written.{same-unknown, kind-1, kind-2, kind-3, kind-4, kind-5, kind-other}
 use borrow.Author.Needs.{needs}
 use Rattle.reading.proofs.take.take_record.Statement.{statement}
 use Rattle.reading.proofs.take.take_record.Tie as tie
@@ -51,11 +52,14 @@ returns-3 c =
       λ D H. place-by D (a .p .now) (a .kind) literalRecord e (sym (place-record D literalRecord _ refl)),
     )
 
+same-length-2 : tie.Need-same-length-2
+same-length-2 c = search needs
+
 returns-4 : tie.Need-returns-4
 returns-4 c =
-    let a = c .before .before .before .before .before .args in
+    let a = c .before .before .before .before .before .before .args in
     let e = kind-4 (a .kind) (omega arith) in (
-      λ D old K. by-kind D (a .p .now) (a .kind) componentRecord e (unwritten K componentRecord _ (same-component D _) (c .take-component .ensures .0 D (K .filled))),
+      λ D old K. by-kind D (a .p .now) (a .kind) componentRecord e (c .take-component .ensures .0 D old K),
       λ D H. place-by D (a .p .now) (a .kind) componentRecord e (c .take-component .ensures .1 D H),
     )
 
@@ -88,6 +92,7 @@ take-record-spec =
     returns-2
     same-length
     returns-3
+    same-length-2
     returns-4
     returns-5
     returns-6)

@@ -34,7 +34,8 @@ shared-slice-read-if1 c = search needs
 returns : tie.Need-returns Inv-loop μ-loop
 returns c =
     let a = c .before .before .before .before .args in
-    sym (any-hit (mentionedAt (a .rows .now) (a .relation)) (a .n) (c .before .before .before .loop .j) (omega arith) (eq-eqb _ _ (c .if1 .taken)))
+    sym (any-hit (mentionedAt (a .rows .now) (a .relation)) (a .n) (c .before .before .before .loop .j) (omega arith)
+    (eq-eqb _ _ (c .if1 .taken)))
     ∙ c .before .before .before .loop .inv
 
 add-j : tie.Need-add-j Inv-loop μ-loop
@@ -46,7 +47,8 @@ loop-less c = omega arith
 loop-again : tie.Need-loop-again Inv-loop μ-loop
 loop-again c =
     let a = c .before .before .before .before .args in
-    sym (any-miss (mentionedAt (a .rows .now) (a .relation)) (a .n) (c .before .before .before .loop .j) (omega arith) (ne-eqb _ _ (c .if1 .left)))
+    sym (any-miss (mentionedAt (a .rows .now) (a .relation)) (a .n) (c .before .before .before .loop .j) (omega arith)
+    (ne-eqb _ _ (c .if1 .left)))
     ∙ c .before .before .before .loop .inv
 
 returns-2 : tie.Need-returns-2 Inv-loop μ-loop

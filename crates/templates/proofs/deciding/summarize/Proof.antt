@@ -30,7 +30,8 @@ name-action-requires : tie.Need-name-action-requires
 name-action-requires c κs = (c .before .before .before .before .before .before .pre .1, (search needs, (search needs, (search needs, search needs))))
 
 returns : tie.Need-returns
-returns c D a A l only = c .before .before .before .before .name-action .ensures .1 .1 .1 D a A l [] (replicate 128 0) 0 (listed-empty (replicate 128 0)) .1
+returns c D a A l only =
+    c .before .before .before .before .name-action .ensures .1 .1 .1 D a A l [] (replicate 128 0) 0 (listed-empty (replicate 128 0)) .1
 
 new-requires : tie.Need-new-requires
 new-requires c κs = search needs

@@ -40,7 +40,10 @@ returns c = (
   λ D ss old B h P L.
       let a = c .before .before .before .before .before .before .before .before .before .before .before .args in
       listing-passed D ss (shapeOf (a .relation) (a .counted)) L
-      (refused-entry B (a .relation) (a .counted) P (c .before .before .before .before .before .before .before .arity-of .ensures .0) (ap (take (c .before .before .before .before .before .before .before .arity-of .result + 1 - 0)) (c .before .before .before .before .before .before .before .before .payload-of .ensures)) (c .before .before .take-component .ensures .0) (c .if1 .taken)),
+      (refused-entry B (a .relation) (a .counted) P (c .before .before .before .before .before .before .before .arity-of .ensures .0)
+      (ap (take (c .before .before .before .before .before .before .before .arity-of .result + 1 - 0))
+      (c .before .before .before .before .before .before .before .before .payload-of .ensures))
+      (c .before .before .take-component .ensures .0) (c .if1 .taken)),
 )
 
 slice-write-list : tie.Need-slice-write-list
@@ -50,7 +53,10 @@ add-list : tie.Need-add-list
 add-list c = search needs
 
 slice-write-list-2 : tie.Need-slice-write-list-2
-slice-write-list-2 c = let l = length-set (c .before .before .before .before .before .before .before .before .before .before .before .args .list .now) (c .before .before .before .before .before .before .before .before .before .before .before .args .at) (c .before .before .before .before .before .before .before .before .before .before .before .args .relation) in omega arith
+slice-write-list-2 c =
+    let l = length-set (c .before .before .before .before .before .before .before .before .before .before .before .args .list .now)
+    (c .before .before .before .before .before .before .before .before .before .before .before .args .at)
+    (c .before .before .before .before .before .before .before .before .before .before .before .args .relation) in omega arith
 
 decide-alone-requires : tie.Need-decide-alone-requires
 decide-alone-requires c κs = search needs
@@ -82,11 +88,14 @@ returns-2 c = (
       let r = a .relation in
       let b = a .counted in
       let e = c .before .before .before .before .before .before .before .before .before .arity-of .ensures .0 in
-      let q = ap (take (c .before .before .before .before .before .before .before .before .before .arity-of .result + 1 - 0)) (c .before .before .before .before .before .before .before .before .before .before .payload-of .ensures) in
+      let q = ap (take (c .before .before .before .before .before .before .before .before .before .arity-of .result + 1 - 0))
+      (c .before .before .before .before .before .before .before .before .before .before .payload-of .ensures) in
       let T = c .before .before .before .before .take-component .ensures .0 in
       let z = c .before .before .if1 .left in
-      let v = c .decide-alone .ensures .1 (single D (componentAt D (shapeOf r b))) (taken-held B r b P e q T z) (taken-formed B r b P e q T z) refl in
-      listing-more D ss (shapeOf r b) L (taken-entry B r b P e q T z) r b _ (entry-is D r b _ v) (c .before .before .before .before .before .before .before .before .before .before .before .before .before .pre .1),
+      let v = c .decide-alone .ensures .1 (single D (componentAt D (shapeOf r b))) (taken-held B r b P e q T z)
+      (taken-formed B r b P e q T z) refl in
+      listing-more D ss (shapeOf r b) L (taken-entry B r b P e q T z) r b _ (entry-is D r b _ v)
+      (c .before .before .before .before .before .before .before .before .before .before .before .before .before .pre .1),
 )
 
 pub put-entry-spec : {M : Type 1} → statement M

@@ -59,9 +59,12 @@ loop-again c =
       same = c .before .before .put-entry2 .kept .1 .1 .1 .1 .0 ∙ l .inv .same;
       listing =
           λ D ss old B h L.
-          let a = n ∙ B .holds .filled .says .arities (c .before .before .before .before .before .before .before .before .before .before .before .before .before .args .relation) in
-          let p : l .place < arity D (c .before .before .before .before .before .before .before .before .before .before .before .before .before .args .relation) = omega arith in
-          places-next ss (c .before .before .before .before .before .before .before .before .before .before .before .before .before .args .relation) (l .place) (omega arith) (c .before .before .put-entry2 .ensures .1 D _ old B h (inr p) (l .inv .listing D ss old B h L));
+          let turn = c .before .before .before .before .before in
+          let r = turn .before .before .before .before .before .before .before .before .args .relation in
+          let a = n ∙ B .holds .filled .says .arities r in
+          let p : l .place < arity D r = omega arith in
+          places-next ss r (l .place) (omega arith)
+          (c .before .before .put-entry2 .ensures .1 D _ old B h (inr p) (l .inv .listing D ss old B h L));
     }
 
 same-length : tie.Need-same-length Inv-loop μ-loop
@@ -71,13 +74,15 @@ returns : tie.Need-returns Inv-loop μ-loop
 returns c =
     let l = c .before .loop in
     let n = c .before .before .arity-of .ensures .0 in
-    let m = c .before .before .arity-of .ensures .1 in (
-      (let f = l .inv .few in let e = c .before .before .before .before .before .put-entry .ensures .0 in let q = l .inv .reach in omega arith),
+    let m = c .before .before .arity-of .ensures .1 in
+    let first = c .before .before .before .before .before .put-entry in
+    let r = c .before .before .before .before .before .before .before .before .before .args .relation in (
+      (let f = l .inv .few in let e = first .ensures .0 in let q = l .inv .reach in omega arith),
       λ D ss old B h L.
-          let a = n ∙ B .holds .filled .says .arities (c .before .before .before .before .before .before .before .before .before .args .relation) in
+          let a = n ∙ B .holds .filled .says .arities r in
           let q = l .inv .reach in
-          places-all ss (c .before .before .before .before .before .before .before .before .before .args .relation) (l .place) (omega arith)
-          (l .inv .listing D (ss ++ (shapeOf (c .before .before .before .before .before .before .before .before .before .args .relation) 255 ∷ [])) old B h (c .before .before .before .before .before .put-entry .ensures .1 D ss old B h (inl refl) L)),
+          places-all ss r (l .place) (omega arith)
+          (l .inv .listing D (ss ++ (shapeOf r 255 ∷ [])) old B h (first .ensures .1 D ss old B h (inl refl) L)),
     )
 
 pub put-relation-spec : {M : Type 1} → statement M

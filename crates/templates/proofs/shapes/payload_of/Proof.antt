@@ -24,7 +24,10 @@ label-at-requires-6 : tie.Need-label-at-requires-6
 label-at-requires-6 c κs = search needs
 
 returns : tie.Need-returns
-returns c = λ i. c .before .before .before .before .before .before .args .relation ∷ c .before .before .before .before .before .label-at .ensures i ∷ c .before .before .before .before .label-at2 .ensures i ∷ c .before .before .before .label-at3 .ensures i ∷ c .before .before .label-at4 .ensures i ∷ c .before .label-at5 .ensures i ∷ c .label-at6 .ensures i ∷ []
+returns c =
+    let d = c .before .before .before in
+    λ i. d .before .before .before .args .relation ∷ d .before .before .label-at .ensures i ∷ d .before .label-at2 .ensures i
+    ∷ d .label-at3 .ensures i ∷ c .before .before .label-at4 .ensures i ∷ c .before .label-at5 .ensures i ∷ c .label-at6 .ensures i ∷ []
 
 pub payload-of-spec : {M : Type 1} → statement M
 payload-of-spec =

@@ -1,10 +1,10 @@
--- `condition_met` meets its contract, usage by usage. Assumes nothing.
+-- `plainly_met` meets its contract, usage by usage. Assumes nothing.
 use borrow.Author.Needs.{needs}
 use Rattle.literals.specs.Table.{rowsIn}
 use Rattle.events.specs.Grounding.{groundAt}
 use Rattle.applicability.proofs.Asked.{met-true, met-false, met-none, read-sized}
-use Rattle.applicability.proofs.conditions.condition_met.Statement.{statement}
-use Rattle.applicability.proofs.conditions.condition_met.Tie as tie
+use Rattle.applicability.proofs.conditions.plainly_met.Statement.{statement}
+use Rattle.applicability.proofs.conditions.plainly_met.Tie as tie
 
 add-usage : tie.Need-add-usage
 add-usage c = search needs
@@ -52,8 +52,8 @@ returns-3 c head I s =
     let a = c .before .before .before .before .before .args in
     met-none (rowsIn (a .n) (a .work .now)) (groundAt (a .memory .now) (a .i)) (c .before .if1 .left) (c .if2 .left)
 
-pub condition-met-spec : {M : Type 1} → statement M
-condition-met-spec =
+pub plainly-met-spec : {M : Type 1} → statement M
+plainly-met-spec =
     tie.close
     (tie.spec
     add-usage

@@ -1,0 +1,39 @@
+-- `clears_key` meets its contract. Assumes nothing.
+use native.Mathlib.Omega.{arith}
+use borrow.Author.Needs.{needs}
+use Rattle.literals.proofs.Rows.{clears-same, clears-other}
+use Rattle.literals.proofs.fields.clears_key.Statement.{statement}
+use Rattle.literals.proofs.fields.clears_key.Tie as tie
+
+shared-slice-read-if1 : tie.Need-shared-slice-read-if1
+shared-slice-read-if1 c = search needs
+
+add-if1 : tie.Need-add-if1
+add-if1 c = search needs
+
+shared-slice-read-if1-2 : tie.Need-shared-slice-read-if1-2
+shared-slice-read-if1-2 c = search needs
+
+keys-beside-requires : tie.Need-keys-beside-requires
+keys-beside-requires c κs = search needs
+
+returns : tie.Need-returns
+returns c =
+    let a = c .before .before .before .before .before .before .args in
+    clears-same (a .p .now) (a .table .now) (a .at) (omega arith) (c .before .if1 .taken) (c .keys-beside .ensures)
+
+returns-2 : tie.Need-returns-2
+returns-2 c =
+    let a = c .before .before .before .before .before .args in
+    clears-other (a .p .now) (a .table .now) (a .at) (omega arith) (λ z. c .if1 .left z)
+
+pub clears-key-spec : {M : Type 1} → statement M
+clears-key-spec =
+    tie.close
+    (tie.spec
+    shared-slice-read-if1
+    add-if1
+    shared-slice-read-if1-2
+    keys-beside-requires
+    returns
+    returns-2)
