@@ -1,32 +1,29 @@
 -- Playing with an instance: where the instance stops it, and what the total is. Assumes nothing.
 use mathlib.Core.Path.{_≡_, refl, sym, ap, _∙_}
 use mathlib.Core.Bool.{Bool, true, false, _&&_, _||_, not, cond}
-use mathlib.Core.List.{List, [], _∷_, _++_, map, Memᴰ·append-left}
+use mathlib.Core.List.{List, [], _∷_, map}
 use Prim.Native.Nat.{ℕ, _≤_, _<_}
 use native.Mathlib.Omega.{arith}
 use lib.Dec.{eqb, ltb, leb}
-use lib.ListN.{length, length-map}
-use borrow.Author.Tests.{eq-eqb, eqb-true, ltb-true, leb-true, le-ltb}
-use Rattle.records.specs.Lists.{In, all, elem}
+use lib.ListN.{length}
+use borrow.Author.Tests.{leb-true, le-ltb}
 use Rattle.records.specs.declared.Record.{Record}
 use Rattle.records.specs.declared.Record.the-variants.{Whole, Cut, End}
 use Rattle.records.specs.Record.{recordAt, payload}
-use Rattle.records.proofs.Lists.{and-l, and-r, and-i, all-of, all-weaken, in-elem}
+use Rattle.records.proofs.Lists.{and-l, and-r}
 use Rattle.literals.specs.declared.Object.{Object}
-use Rattle.literals.specs.Domain.{object, sameObject, Fact, keysOf, Domain}
+use Rattle.literals.specs.Domain.{Domain}
 use Rattle.literals.specs.Decode.{Refusal, Decoded, refused, domain, decode, byte}
-use Rattle.verdict.specs.Binding.{objectsFrom}
 use Rattle.verdict.specs.Judged.{decidedFile}
-use Rattle.verdict.specs.Machine.{Event, State, allowed, next, legal, legalStep, injective, startState, run, lastState, weight}
-use Rattle.verdict.specs.Claims.{among, isEvent, hasArity, isFact, isInstance, Chosen, total, neverRising}
-use Rattle.verdict.proofs.Equality.{object-self}
+use Rattle.verdict.specs.Machine.{Event, State, allowed, next, run, lastState, weight}
+use Rattle.verdict.specs.Claims.{isInstance, Chosen, total, neverRising}
 use Rattle.verdict.proofs.Files.{file-never-rises}
 use Rattle.run_semantics.specs.RunFile.{objectsRecord, factRecord, eventRecord, stepRecord, endRecord, otherRecord, runKindOf}
-use Rattle.run_semantics.specs.RunFile.{maxObjects, objectsStop, recordStop, objectsIn, startFactsIn, stepsIn, begunIn, entriesUpTo, Entry}
+use Rattle.run_semantics.specs.RunFile.{maxObjects, objectsStop, recordStop, startFactsIn, stepsIn, begunIn, entriesUpTo, Entry}
 use Rattle.run_semantics.specs.Play.{workBytes, beforeRun, Outcome, outcomeAt, playRun, ofRun, Call, playedAt, outcomeCall, refusedCall}
 use Rattle.run_semantics.specs.Play.{callBy, call}
 use Rattle.run_semantics.specs.Track.{instanceOf, countOf, countGiven, objectsGiven, instanceStop, trackRun, reportedTotal, Tracked, trackBy, tracked}
-use Rattle.run_semantics.specs.Claims.{startOf, statesOf, finalOf, playedEntries, recordEnd, foundEnd, endNumber}
+use Rattle.run_semantics.specs.Claims.{objectsOf, startOf, statesOf, finalOf, playedEntries, recordEnd, foundEnd, endNumber}
 use Rattle.run_semantics.specs.Claims.{ObjectsFirst, AsPlayed, TotalOfRun, NeverRising, NothingGained}
 use Rattle.run_semantics.proofs.Never.{among-facts, played-as-machine}
 
