@@ -1,6 +1,6 @@
 -- Rows that are marked by a byte, and the index beside rows that are kept or joined. Assumes nothing.
 use mathlib.Core.Path.{_≡_, refl, sym, ap, _∙_, subst}
-use mathlib.Core.Bool.{Bool, true, false, cond}
+use mathlib.Core.Bool.{Bool, true, false, _&&_, cond}
 use mathlib.Core.Logic.{_⊎_, inl, inr}
 use mathlib.Core.List.{List, [], _∷_, _++_, append-nil}
 use Prim.Native.Nat.{ℕ, _+_, _-_, _*_, _≤_, _<_}
@@ -21,7 +21,7 @@ use Rattle.run_semantics.specs.RunFile.{maxFacts}
 use Rattle.run_semantics.specs.Play.{workBytes}
 use Rattle.store.specs.Rows.{hasRow}
 use Rattle.events.specs.Grounding.{groundedBytes}
-use Rattle.effects.specs.Held.{scratchBytes, effectsIn, Marked, flat, joinRow, atMost, SizedRow, HoldsJoined, stays, keptOf}
+use Rattle.effects.specs.Held.{scratchBytes, effectsIn, Marked, flat, joinRow, atMost, SizedRow, HoldsJoined, isStruck, stays, keptOf}
 use Rattle.effects.proofs.FilledRows.{section-part, filled-effects, Filled, filled-rows, filled-own, left-out, kept-few, kept-next}
 use Rattle.effects.proofs.FilledRows.{kept-more, joinedOf, joined-next, joined-on, stopped-count, stopped-rows, joined-all}
 use Rattle.effects.proofs.FilledRows.{joined-out}
@@ -48,7 +48,7 @@ unmarked marks rows row M z = sym (off (hasRow row rows) (λ t. let e = M row (e
 -- ---- the index beside rows that are kept
 
 module _ {head index : List ℕ} (struck : List (List ℕ)) (row : List ℕ) (before after : List (List ℕ)) where
-  pub left-indexed : hasRow row struck ≡ true → Indexed head index (before ++ after)
+  pub left-indexed : isStruck struck row ≡ true → Indexed head index (before ++ after)
       → Indexed head index ((before ++ filterBy (stays struck) (row ∷ [])) ++ after)
   left-indexed t I =
       subst (λ (l : List (List ℕ)). Indexed head index (l ++ after))
