@@ -3,7 +3,7 @@ use mathlib.Core.Path.{_≡_, refl, sym, ap, ap₂, _∙_}
 use mathlib.Core.Bool.{Bool, true, false, _&&_, _||_, cond}
 use mathlib.Core.Logic.{_⊎_, inl, inr}
 use mathlib.Core.List.{List, [], _∷_, _++_, map, foldr, List·Memᴰ·head, List·Memᴰ·tail, List·Memᴰ·not-nil}
-use Prim.Native.Nat.{ℕ, _+_, _-_, _*_, _≤_, _<_}
+use Prim.Native.Nat.{ℕ, zero, suc, _+_, _-_, _*_, _≤_, _<_}
 use native.Mathlib.Numerals.{add-one}
 use native.Mathlib.Nat.{add-zero}
 use native.Mathlib.Omega.{arith}
@@ -11,24 +11,27 @@ use lib.Dec.{eqb}
 use lib.ListN.{length, getD, take, drop, set, length-set, length-map, length-append, drop-of-length-le}
 use lib.Seq.{drop-cons, take-all, take-at, getD-set-same, getD-set-other}
 use borrow.Author.Tests.{eqb-true, eqb-false}
-use Rattle.records.specs.Lists.{In, addIf, countBy, any, sameList}
-use Rattle.records.proofs.Lists.{and-l, and-r, bool-cases, clash, getD-in, count-not, count-none, in-flatMap}
+use Rattle.records.specs.Lists.{In, addIf, countBy, any, all, sameList}
+use Rattle.records.proofs.Lists.{and-l, and-r, all-of, bool-cases, clash, getD-in, count-not, count-none, in-flatMap}
 use Rattle.literals.specs.declared.Object.{Object}
 use Rattle.literals.specs.declared.Variable.{Variable}
+use Rattle.literals.specs.declared.Argument.{Argument}
 use Rattle.literals.specs.declared.Moment.the-variants.{Start}
 use Rattle.literals.specs.declared.Usage.the-variants.{Positive}
-use Rattle.literals.specs.Domain.{sameObject, sameVariable, Atom, Literal, Fact, keysOf, Domain, Action, action}
+use Rattle.literals.specs.Domain.{sameObject, sameVariable, isEvery, variablesOf, usageNumber, mayClear, keepsKeys, Atom, Literal, Fact}
+use Rattle.literals.specs.Domain.{keysOf, Domain, Action, noAction, action}
 use Rattle.literals.specs.Decode.{maxLiterals}
-use Rattle.literals.specs.Table.{rowOf, rowsIn, literalRow, pad, Bounded}
+use Rattle.literals.specs.Table.{argumentNumber, rowOf, rowsIn, literalRow, pad, Bounded}
 use Rattle.run_semantics.specs.Track.{instanceOf}
 use Rattle.literals.specs.Held.{keysIn, componentRowsIn, HeadOf}
 use Rattle.literals.proofs.Bounds.{arity-six}
 use Rattle.literals.proofs.Bytes.{keys-once}
 use Rattle.literals.proofs.KeyRows.{length-rows}
-use Rattle.literals.proofs.Tables.{kept, length-flat, length-literal-row}
+use Rattle.literals.proofs.Tables.{kept, length-flat, length-literal-row, pad-at}
+use Rattle.literals.proofs.Arguments.{plain-numbers}
 use Rattle.literals.specs.Matching.{tuplesOf, hasTuple, matches}
-use Rattle.classes.specs.Classes.{classes, inClass, belongs, journey}
-use Rattle.classes.specs.Held.{ActionOf, classNumbers, usagesAt, isAt, soleAt, rowAt}
+use Rattle.classes.specs.Classes.{literalTuples, classes, inClass, belongs, journey}
+use Rattle.classes.specs.Held.{ActionOf, classNumbers, counts, usageAt, usagesFrom, usagesBy, usagesAt, isAt, soleAt, rowAt}
 use Rattle.classes.proofs.Rows.{noLiteral, literalAt, row-at}
 use Rattle.classes.proofs.Members.{tuple-once, member}
 use Rattle.classes.proofs.Soles.{sole-less, sole-passes}
@@ -37,14 +40,16 @@ use Rattle.verdict.specs.Binding.{valueOf, bind, bindTuple}
 use Rattle.verdict.specs.Judged.{objectNumbers}
 use Rattle.verdict.specs.Machine.{GroundAction, State, weight, instancesIn}
 use Rattle.verdict.specs.Claims.{wellFormed, journeysFor, total}
-use Rattle.verdict.proofs.Tuples.{tuples-bind, belongs-tuple, matches-tuple}
+use Rattle.verdict.proofs.Tuples.{belongs-tuple, matches-tuple}
+use Rattle.verdict.proofs.Facts.{tuples-fact, plain-in}
+use Rattle.verdict.proofs.Patterns.{plain-row, literal-plain}
 use Rattle.verdict.proofs.TopWeight.{instance-size}
 use Rattle.verdict.proofs.Equality.{objects-eq}
 use Rattle.verdict.proofs.Instances.{class-keys}
 use Rattle.store.specs.Rows.{factRow, FactFits, instanceRows, rowWeight}
 use Rattle.store.proofs.InstanceRows.{weight-is}
 use Rattle.events.specs.Held.{groundRow, boundRow, GroundFits, GroundsFit}
-use Rattle.events.proofs.FactRows.{noGround, few-objects, bound-fact, length-fact-row}
+use Rattle.events.proofs.FactRows.{noGround, few-objects, bound-pattern, length-fact-row}
 use Rattle.journeys.specs.Marked.{journeyMark}
 
 -- the rows of an action's literals
@@ -53,6 +58,30 @@ rows-length {a = a} A =
     ap length (A .literals) ∙ length-flat literalRow (a .lits) (λ l m. length-literal-row l (kept (A .says .bounded) (A .listed) m .fits))
 
 -- ---- the mark of a class
+
+-- a literal with usage 1 is a true condition, which may not have FF
+true-plain : (earlier ls : List Literal) (i : ℕ) → getD (usagesFrom false Start earlier ls) i 0 ≡ 1
+    → mayClear (literalAt ls i .role .usage) ≡ false
+true-plain earlier [] i e = absurd (omega arith)
+true-plain earlier (l ∷ ls) (suc i) e = true-plain (earlier ++ (l ∷ [])) ls i e
+true-plain earlier (l ∷ ls) zero e = once (any _ earlier) e
+  where
+    by-number : (n : ℕ) → suc n ≡ 1 → eqb n 1 || eqb n 3 ≡ false
+    by-number zero h = refl
+    by-number (suc n) h = absurd (omega arith)
+
+    counted : (c : Bool) → cond c (suc (usageNumber (l .role .usage))) 0 ≡ 1 → mayClear (l .role .usage) ≡ false
+    counted true h = by-number (usageNumber (l .role .usage)) h
+    counted false h = absurd (omega arith)
+
+    once : (b : Bool) → cond b 0 (usageAt false Start (l .role)) ≡ 1 → mayClear (l .role .usage) ≡ false
+    once true h = absurd (omega arith)
+    once false h = counted (counts false Start (l .role .usage) (l .role)) h
+
+-- without FF there is a variable for each argument
+plain-length : (vs : List Argument) → countBy isEvery vs ≡ 0 → length (variablesOf vs) ≡ length vs
+plain-length vs h =
+    sym (length-map (variablesOf vs) (λ (v : Variable). v .0)) ∙ ap length (sym (plain-numbers vs h)) ∙ length-map vs argumentNumber
 
 module _ (D : Domain) (a : Action) {head rows : List ℕ} (A : ActionOf D a head rows) (class : ℕ) (h : class < length (classes D a)) where
   abbrev x : List Variable
@@ -112,27 +141,46 @@ module _ (D : Domain) (a : Action) {head rows : List ℕ} (A : ActionOf D a head
     abbrev place : ℕ
     place = journeyMark D a class - 1
 
-    abbrev atom : Atom Variable
+    abbrev atom : Atom Argument
     atom = literalAt (a .lits) place .atom
 
+    -- it is in the class with usage 1
+    at-mark : isAt (classNumbers D a) (pad maxLiterals (usagesAt a Start)) class 1 (sole - 1) ≡ true
+    unfolding soleAt
+    at-mark =
+        sole-passes (isAt (classNumbers D a) (pad maxLiterals (usagesAt a Start)) class 1) (length (classNumbers D a)) few
+        (λ e. some (mark-is ∙ e)) not-many
+
     pub mark-belongs : belongs D x atom ≡ true
-    unfolding soleAt isAt
+    unfolding isAt
     mark-belongs =
         let m = mark-is in
-        let p = sole-passes (isAt (classNumbers D a) (pad maxLiterals (usagesAt a Start)) class 1) (length (classNumbers D a)) few
-        (λ e. some (mark-is ∙ e)) not-many in
+        let p = at-mark in
         sym (member class (A .says .bounded) (A .listed) h place mark-inside)
         ∙ ap (λ (k : ℕ). eqb (getD (classNumbers D a) (k - 1) 0) class) m ∙ and-l _ _ p
+
+    -- as a true condition it has no FF
+    pub mark-plain : countBy isEvery (atom .args) ≡ 0
+    unfolding isAt usagesBy
+    mark-plain =
+        let m = mark-is in
+        let p = at-mark in
+        let u : getD (usagesAt a Start) (sole - 1) 0 ≡ 1 =
+            sym (pad-at maxLiterals (usagesAt a Start) (sole - 1)) ∙ eqb-true _ 1 (and-r (eqb (getD (classNumbers D a) (sole - 1) 0) class) _ p) in
+        let v = rw (← (ap (λ (k : ℕ). k - 1) m)) at u in
+        literal-plain (A .says .bounded) (A .listed) (literalAt (a .lits) place) (getD-in (a .lits) place noLiteral mark-inside)
+        (true-plain [] (a .lits) place v)
 
 -- ---- its fact
 
 -- an instance matches it where it is the bound key tuple
-bound-matches : (D : Domain) {head : List ℕ} → HeadOf D head → (b : List Object) (p : Atom Variable) (x : List Variable) → belongs D x p ≡ true
+bound-matches : (D : Domain) {head : List ℕ} → HeadOf D head → (b : List Object) (p : Atom Argument) → countBy isEvery (p .args) ≡ 0
+    → all (λ c. keepsKeys c p) (D .template) ≡ true → (x : List Variable) → belongs D x p ≡ true
     → (y : List Object) → matches D y (bind b p) ≡ sameList sameObject (bindTuple b x) y
-unfolding tuplesOf hasTuple
-bound-matches D H b p x t y =
-    ap (any (λ u. sameList sameObject u y)) (tuples-bind b (keysOf (D .template)) (D .template) p)
-    ∙ go (tuplesOf D p) (tuple-once D (H .bounded) p) (belongs-tuple D x p t)
+unfolding hasTuple
+bound-matches D H b p plain ks x t y =
+    ap (any (λ u. sameList sameObject u y)) (tuples-fact [] b D p ks (bind b p) (plain-in [] b p plain))
+    ∙ go (literalTuples D p) (tuple-once D (H .bounded) p) (belongs-tuple D x p t)
   where
     or-false : (c : Bool) → c || false ≡ c
     or-false true = refl
@@ -170,10 +218,19 @@ module _ {D : Domain} {head rows : List ℕ} (g : GroundAction) (A : ActionOf D 
   condition-in : In condition (a .lits)
   condition-in = getD-in (a .lits) at noLiteral at-inside
 
+  plain : countBy isEvery (condition .atom .args) ≡ 0
+  plain = mark-plain D a A class h some
+
+  keeps : all (λ c. keepsKeys c (condition .atom)) (D .template) ≡ true
+  keeps = all-of (λ c. keepsKeys c (condition .atom)) (D .template) (λ c m. A .says .bounded .keysKept a (A .listed) condition condition-in c m)
+
   fact-fits : FactFits D fact
   fact-fits =
       record {
-        sized = length-map (condition .atom .args) (valueOf (g .binding)) ∙ A .says .bounded .literalArity a (A .listed) condition condition-in;
+        sized =
+            length-map (variablesOf (condition .atom .args)) (valueOf (g .binding))
+            ∙ plain-length (condition .atom .args) plain
+            ∙ A .says .bounded .literalArity a (A .listed) condition condition-in;
       }
 
   -- the row of the fact
@@ -183,9 +240,10 @@ module _ {D : Domain} {head rows : List ℕ} (g : GroundAction) (A : ActionOf D 
       let n = G .bound in
       ap (λ (t : List ℕ). boundRow head (groundRow g) (rowAt t at)) (A .literals)
       ∙ ap (boundRow head (groundRow g)) (row-at (a .lits) (λ l m. kept B (A .listed) m) at at-inside)
-      ∙ bound-fact head g condition
+      ∙ bound-pattern head g condition
       (B .literalArity a (A .listed) condition condition-in ∙ sym (A .says .arities (condition .atom .rel))) (few-objects B g G)
       (λ v w. let b = B .below a (A .listed) condition condition-in v w in omega arith)
+      ∙ plain-row (g .binding) (condition .atom) plain
 
   fact-length : length (factRow fact) ≡ 8
   fact-length =
@@ -215,7 +273,7 @@ module _ {D : Domain} {head rows : List ℕ} (g : GroundAction) (A : ActionOf D 
       we
       ∙ ap₂ (λ (r t : List ℕ). addIf (any (sameList eqb r) (instanceRows (keysIn head) (componentRowsIn head) t)) 0) re t
       ∙ weighed
-      ∙ ap (λ (b : Bool). addIf b 0) (bound-matches D (A .says) (g .binding) (condition .atom) tuple (mark-belongs D a A class h some) y)
+      ∙ ap (λ (b : Bool). addIf b 0) (bound-matches D (A .says) (g .binding) (condition .atom) plain keeps tuple (mark-belongs D a A class h some) y)
       ∙ ap (λ (b : Bool). addIf (b && sameList sameObject (bindTuple (g .binding) tuple) y) 0) (sym (mark-journey D a A class h some))
 
 -- no journey belongs to any
@@ -330,12 +388,16 @@ module _ (D : Domain) (B : Bounded D) (wf : wellFormed D ≡ true) (y : List Obj
   no-weight fs = count-none (matches D y) fs (λ f m t. off (instance-size D wf fs y (in-flatMap (tuplesOf D) m (matches-tuple D y f t))))
 
   no-journey : (g : GroundAction) → GroundFits D g → journeysFor D y g ≡ 0
+  unfolding action
   no-journey g G =
       journeys-are D y g
       ∙ count-none (journeyFor D y g) (classes D (action D (g .action)))
       (λ x m t.
       let e = objects-eq (bindTuple (g .binding) x) y (and-r (journey D (action D (g .action)) x) _ t) in
-      off (ap length (sym e) ∙ length-map x (valueOf (g .binding)) ∙ class-keys D (action D (g .action)) (λ c k. keys-once _ _ (B .keysFit c k)) x m))
+      off (ap length (sym e) ∙ length-map x (valueOf (g .binding))
+      ∙ class-keys D (action D (g .action)) (λ c k. keys-once _ _ (B .keysFit c k))
+      (λ l k. all-of (λ c. keepsKeys c (l .atom)) (D .template)
+      (λ c j. B .keysKept (action D (g .action)) (getD-in (D .actions) (g .action) noAction (G .listed)) l k c j)) x m))
 
   no-journeys : (gs : List GroundAction) → GroundsFit D gs → sumOf (journeysFor D y) gs ≡ 0
   no-journeys [] F = refl

@@ -18,8 +18,8 @@ use literals::head::actions_in;
 use literals::head::is_lasting;
 use literals::head::keys_in;
 use literals::head::rows_of;
+use literals::keys::KEY_PLACES;
 use literals::keys::put_places;
-use literals::limits::MAX_COMPONENTS;
 use literals::limits::MAX_LITERALS;
 use literals::limits::MAX_RUNNING;
 use records::bytes::put_bytes;
@@ -148,7 +148,7 @@ fn journeys_of(head: &Head, rows: &[u8], n: usize, ground: &[u8], row: [u8; 8]) 
         → GroundFits D g → now (ground .entry) ≡ groundRow g → length y ≡ keysOf (D .template) → row ≡ rowOf (objectNumbers y)
         → r ≡ journeysFor D y g) ⌝ }
 {
-    let mut places = [0u8; 8 * MAX_COMPONENTS];
+    let mut places = [0u8; KEY_PLACES];
     put_places(head, &mut places);
     let mut numbers = [0u8; MAX_LITERALS];
     let mut words = [0u64; MAX_LITERALS];

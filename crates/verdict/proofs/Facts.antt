@@ -145,7 +145,7 @@ module _ (objs : List Object) (b : Binding) where
 
   module _ (D : Domain) (p : Atom Argument) (ks : all (λ c. keepsKeys c p) (D .template) ≡ true) (f : Fact)
       (m : In f (factsOf objs b p)) where
-    tuples-fact : tuplesOf D f ≡ map (bindTuple b) (literalTuples D p)
+    pub tuples-fact : tuplesOf D f ≡ map (bindTuple b) (literalTuples D p)
     unfolding tuplesOf literalTuples
     tuples-fact = let r = facts-in p f m in tuples-stand (keysOf (D .template)) (D .template) p f (r .0) (r .1) ks
 

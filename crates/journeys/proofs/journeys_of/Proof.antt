@@ -26,7 +26,7 @@ slice-aggregate-number-classes : tie.Need-slice-aggregate-number-classes
 slice-aggregate-number-classes c = search needs
 
 number-classes-requires : tie.Need-number-classes-requires
-number-classes-requires c κs = search needs
+number-classes-requires c κs = (c .before .before .before .before .put-places .ensures refl, search needs)
 
 sub-mark-journeys : tie.Need-sub-mark-journeys
 sub-mark-journeys c = search needs
