@@ -20,7 +20,7 @@ use Rattle.literals.specs.Decode.{byte}
 use Rattle.literals.specs.Table.{Bounded}
 use Rattle.literals.specs.Matching.{momentNumber}
 use Rattle.verdict.specs.Binding.{objectsFrom}
-use Rattle.verdict.specs.Machine.{Event, State, next, topWeight}
+use Rattle.verdict.specs.Machine.{GroundAction, Event, State, next, topWeight}
 use Rattle.verdict.specs.Patterns.{FactOver}
 use Rattle.verdict.proofs.Events.{not-fact}
 use Rattle.verdict.proofs.Objects.{objects-range, object-in}
@@ -216,13 +216,17 @@ module _ (D : Domain) where
       go true e = with-tally (p .tally) (h .steps) (h .early) (h .weight)
       go false e = with-tally (record { begun = true; steps = 0; weight = top }) (omega arith) (λ q. absurd (clash refl q)) (λ q. omega arith)
 
-  -- a turn that goes on, goes on where it holds; one that ends leaves facts and entries of the domain, within the limits
+  -- facts and entries of the domain over some objects, within the limits
+  abbrev KeptOver : List Fact → List GroundAction → Type 0
+  KeptOver fs gs = (objs : List Object) × Kept D objs (record { facts = fs; running = gs }) []
+
+  -- a turn that goes on, goes on where it holds; one that ends leaves such
   abbrev SoundTurn : PlayTurn → Type 0
   SoundTurn (goOn q) = Sound D q
-  SoundTurn (finish o) = Kept D (record { facts = o .facts; running = o .running }) []
+  SoundTurn (finish o) = KeptOver (o .facts) (o .running)
 
   stopped : (n : ℕ) (p : Playing) → Sound D p → SoundTurn (stopAt n p)
-  stopped n p h = kept-none {s = p .state} {es = p .waiting} (h .kept)
+  stopped n p h = (runObjects p, kept-none {s = p .state} {es = p .waiting} (h .kept))
 
   sound-unless : (n : ℕ) (p : Playing) → Sound D p → (t : PlayTurn) → (n ≡ 0 → SoundTurn t) → SoundTurn (unless n p t)
   sound-unless n p s t h = go (eqb n 0) refl
@@ -377,17 +381,17 @@ module _ (D : Domain) where
   -- ---- where a run ends
 
   kept-from : Bounded D → (fuel : ℕ) (r : List ℕ) (p : Playing) → Sound D p
-      → Kept D (record { facts = playFrom fuel D r p .facts; running = playFrom fuel D r p .running }) []
+      → KeptOver (playFrom fuel D r p .facts) (playFrom fuel D r p .running)
   unfolding playFrom
   kept-from B zero r p h = stopped 50 p h
   kept-from B (suc fuel) r p h = go (λ q. kept-from B fuel r q) (playStep D r p) refl (sound-turn B r p h)
     where
-      go : ((q : Playing) → Sound D q → Kept D (record { facts = playFrom fuel D r q .facts; running = playFrom fuel D r q .running }) [])
+      go : ((q : Playing) → Sound D q → KeptOver (playFrom fuel D r q .facts) (playFrom fuel D r q .running))
           → (t : PlayTurn) → playStep D r p ≡ t → SoundTurn t
-          → Kept D (record { facts = playFrom (suc fuel) D r p .facts; running = playFrom (suc fuel) D r p .running }) []
+          → KeptOver (playFrom (suc fuel) D r p .facts) (playFrom (suc fuel) D r p .running)
       go ih (goOn q) e k = rw (play-more fuel D r p q e) (ih q k)
       go ih (finish o) e k = rw (play-done fuel D r p o e) k
 
-  pub kept-run : Bounded D → (r : List ℕ) → Kept D (record { facts = playRun D r .facts; running = playRun D r .running }) []
+  pub kept-run : Bounded D → (r : List ℕ) → KeptOver (playRun D r .facts) (playRun D r .running)
   unfolding playRun
   kept-run B r = kept-from B (suc (length r)) r beforeRun sound-new

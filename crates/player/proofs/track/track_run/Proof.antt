@@ -61,7 +61,7 @@ total-of-requires c κs =
     let H = p .0 .1 in
     let e = c .before .before .before .before .before .before .before .before .play-run .ensures D H in
     let n = ap (λ (x : Ended). x .facts) (e .0) in
-    let k = kept-run D (H .says .bounded) (a .run .now) .facts-few in
+    let k = kept-run D (H .says .bounded) (a .run .now) .1 .facts-few in
     let room = p .1 in
     let l = c .before .before .before .before .before .before .before .before .play-run .kept .1 .1 .1 .0 in
     (omega arith, (omega arith, c .before .before .before .before .before .before .before .before .play-run .kept .1 .1 .1 .1 .0 ∙ length-replicate {A = ℕ} agendaBytes 0))
@@ -78,7 +78,7 @@ returns-3 c D H wf =
     let e = c .before .before .before .before .before .before .before .before .before .before .play-run .ensures D H in
     let o = playRun D (a .run .now) in
     let z = sym (c .before .before .before .before .before .before .before .before .before .before .before .before .before .before .instance-stop .ensures D (H .says)) ∙ c .before .before .before .before .before .before .before .before .before .before .before .before .before .if1 .left in
-    let k = kept-run D (H .says .bounded) (a .run .now) in
+    let k = kept-run D (H .says .bounded) (a .run .now) .1 in
     let n = ap (λ (x : Ended). x .facts) (e .0) in
     total-answer D (a .instance .now) (a .run .now) z (c .before .before .before .before .before .before .before .before .before .before .play-run .result) (e .0) (not-false _ (c .before .before .before .before .if2 .left)) (c .answer-by2 .result)
     (c .answer-by2 .ensures o (e .0)) (c .before .total-of .result)
