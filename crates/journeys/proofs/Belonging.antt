@@ -17,7 +17,7 @@ use Rattle.literals.specs.declared.Object.{Object}
 use Rattle.literals.specs.declared.Variable.{Variable}
 use Rattle.literals.specs.declared.Moment.the-variants.{Start}
 use Rattle.literals.specs.declared.Usage.the-variants.{Positive}
-use Rattle.literals.specs.Domain.{sameObject, sameVariable, Atom, Literal, Fact, keysOf, Domain, Action, action}
+use Rattle.literals.specs.Domain.{sameObject, Atom, Literal, Fact, keysOf, Domain, Action, action}
 use Rattle.literals.specs.Decode.{maxLiterals}
 use Rattle.literals.specs.Table.{rowOf, rowsIn, literalRow, pad, Bounded}
 use Rattle.run_semantics.specs.Track.{instanceOf}
@@ -27,7 +27,7 @@ use Rattle.literals.proofs.Bytes.{keys-once}
 use Rattle.literals.proofs.KeyRows.{length-rows}
 use Rattle.literals.proofs.Tables.{kept, length-flat, length-literal-row}
 use Rattle.literals.specs.Matching.{tuplesOf, hasTuple, matches}
-use Rattle.classes.specs.Classes.{classes, inClass, belongs, journey}
+use Rattle.classes.specs.Classes.{classes, belongs, journey}
 use Rattle.classes.specs.Held.{ActionOf, classNumbers, usagesAt, isAt, soleAt, rowAt}
 use Rattle.classes.proofs.Rows.{noLiteral, literalAt, row-at}
 use Rattle.classes.proofs.Members.{tuple-once, member}
@@ -127,8 +127,8 @@ module _ (D : Domain) (a : Action) {head rows : List ℕ} (A : ActionOf D a head
 -- ---- its fact
 
 -- an instance matches it where it is the bound key tuple
-bound-matches : (D : Domain) {head : List ℕ} → HeadOf D head → (b : List Object) (p : Atom Variable) (x : List Variable) → belongs D x p ≡ true
-    → (y : List Object) → matches D y (bind b p) ≡ sameList sameObject (bindTuple b x) y
+bound-matches : (D : Domain) {head : List ℕ} → HeadOf D head → (b : List Object) (p : Atom Variable) (x : List Variable)
+    → belongs D x p ≡ true → (y : List Object) → matches D y (bind b p) ≡ sameList sameObject (bindTuple b x) y
 unfolding tuplesOf hasTuple
 bound-matches D H b p x t y =
     ap (any (λ u. sameList sameObject u y)) (tuples-bind b (keysOf (D .template)) (D .template) p)
@@ -173,7 +173,9 @@ module _ {D : Domain} {head rows : List ℕ} (g : GroundAction) (A : ActionOf D 
   fact-fits : FactFits D fact
   fact-fits =
       record {
-        sized = length-map (condition .atom .args) (valueOf (g .binding)) ∙ A .says .bounded .literalArity a (A .listed) condition condition-in;
+        sized =
+            length-map (condition .atom .args) (valueOf (g .binding))
+            ∙ A .says .bounded .literalArity a (A .listed) condition condition-in;
       }
 
   -- the row of the fact
@@ -228,7 +230,8 @@ belongs-none j s e = rw e
 abbrev pub journeyFor : Domain → List Object → GroundAction → List Variable → Bool
 journeyFor D y g x = journey D (action D (g .action)) x && sameList sameObject (bindTuple (g .binding) x) y
 
-pub journeys-are : (D : Domain) (y : List Object) (g : GroundAction) → journeysFor D y g ≡ countBy (journeyFor D y g) (classes D (action D (g .action)))
+pub journeys-are : (D : Domain) (y : List Object) (g : GroundAction)
+    → journeysFor D y g ≡ countBy (journeyFor D y g) (classes D (action D (g .action)))
 unfolding journeysFor
 journeys-are D y g = refl
 
@@ -335,7 +338,8 @@ module _ (D : Domain) (B : Bounded D) (wf : wellFormed D ≡ true) (y : List Obj
       ∙ count-none (journeyFor D y g) (classes D (action D (g .action)))
       (λ x m t.
       let e = objects-eq (bindTuple (g .binding) x) y (and-r (journey D (action D (g .action)) x) _ t) in
-      off (ap length (sym e) ∙ length-map x (valueOf (g .binding)) ∙ class-keys D (action D (g .action)) (λ c k. keys-once _ _ (B .keysFit c k)) x m))
+      off (ap length (sym e) ∙ length-map x (valueOf (g .binding))
+      ∙ class-keys D (action D (g .action)) (λ c k. keys-once _ _ (B .keysFit c k)) x m))
 
   no-journeys : (gs : List GroundAction) → GroundsFit D gs → sumOf (journeysFor D y) gs ≡ 0
   no-journeys [] F = refl

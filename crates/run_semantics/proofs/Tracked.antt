@@ -2,32 +2,34 @@
 use mathlib.Core.Path.{_≡_, refl, sym, ap, _∙_}
 use mathlib.Core.Bool.{Bool, true, false, _&&_, _||_, not, cond}
 use mathlib.Core.List.{List, [], _∷_, _++_, map, Memᴰ·append-left}
-use Prim.Native.Nat.{ℕ, _≤_, _<_}
+use Prim.Native.Nat.{ℕ, _≤_}
 use native.Mathlib.Omega.{arith}
 use lib.Dec.{eqb, ltb, leb}
 use lib.ListN.{length, length-map}
-use borrow.Author.Tests.{eq-eqb, eqb-true, ltb-true, leb-true, le-ltb}
-use Rattle.records.specs.Lists.{In, all, elem}
+use borrow.Author.Tests.{eq-eqb, leb-true, le-ltb}
+use Rattle.records.specs.Lists.{all, elem}
 use Rattle.records.specs.declared.Record.{Record}
 use Rattle.records.specs.declared.Record.the-variants.{Whole, Cut, End}
 use Rattle.records.specs.Record.{recordAt, payload}
 use Rattle.records.proofs.Lists.{and-l, and-r, and-i, all-of, all-weaken, in-elem}
 use Rattle.literals.specs.declared.Object.{Object}
 use Rattle.literals.specs.Domain.{object, sameObject, Fact, keysOf, Domain}
-use Rattle.literals.specs.Decode.{Refusal, Decoded, refused, domain, decode, byte}
+use Rattle.literals.specs.Decode.{Decoded, domain, decode, byte}
 use Rattle.verdict.specs.Binding.{objectsFrom}
 use Rattle.verdict.specs.Judged.{decidedFile}
-use Rattle.verdict.specs.Machine.{Event, State, allowed, next, legal, legalStep, injective, startState, run, lastState, weight}
-use Rattle.verdict.specs.Claims.{among, isEvent, hasArity, isFact, isInstance, Chosen, total, neverRising}
+use Rattle.verdict.specs.Machine.{Event, State, allowed, next, legal, injective, run, lastState, weight}
+use Rattle.verdict.specs.Claims.{among, isEvent, hasArity, isFact, Chosen, total, neverRising}
 use Rattle.verdict.proofs.Equality.{object-self}
 use Rattle.verdict.proofs.Files.{file-never-rises}
-use Rattle.run_semantics.specs.RunFile.{objectsRecord, factRecord, eventRecord, stepRecord, endRecord, otherRecord, runKindOf}
-use Rattle.run_semantics.specs.RunFile.{maxObjects, objectsStop, recordStop, objectsIn, startFactsIn, stepsIn, begunIn, entriesUpTo, Entry}
-use Rattle.run_semantics.specs.Play.{workBytes, beforeRun, Outcome, outcomeAt, playRun, ofRun, Call, playedAt, outcomeCall, refusedCall}
+use Rattle.run_semantics.specs.RunFile.{objectsRecord, factRecord, eventRecord, stepRecord, endRecord, otherRecord}
+use Rattle.run_semantics.specs.RunFile.{maxObjects, objectsStop, recordStop, objectsIn, startFactsIn, stepsIn, begunIn, entriesUpTo}
+use Rattle.run_semantics.specs.RunFile.{Entry}
+use Rattle.run_semantics.specs.Play.{workBytes, beforeRun, Outcome, outcomeAt, playRun, ofRun, Call, playedAt, outcomeCall}
 use Rattle.run_semantics.specs.Play.{callBy, call}
-use Rattle.run_semantics.specs.Track.{instanceOf, countOf, countGiven, objectsGiven, instanceStop, trackRun, reportedTotal, Tracked, trackBy, tracked}
+use Rattle.run_semantics.specs.Track.{instanceOf, countOf, countGiven, objectsGiven, instanceStop, trackRun, reportedTotal, Tracked}
+use Rattle.run_semantics.specs.Track.{trackBy, tracked}
 use Rattle.run_semantics.specs.Claims.{startOf, statesOf, finalOf, playedEntries, recordEnd, foundEnd, endNumber}
-use Rattle.run_semantics.specs.Claims.{ObjectsFirst, AsPlayed, TotalOfRun, NeverRising, NothingGained}
+use Rattle.run_semantics.specs.Claims.{ObjectsFirst, AsPlayed, TotalOfRun, NothingGained}
 use Rattle.run_semantics.proofs.Never.{played-as-machine, among-more}
 
 -- ---- where the instance stops nothing, playing is as without one
