@@ -18,7 +18,7 @@ use Rattle.literals.specs.declared.Variable.{Variable}
 use Rattle.literals.specs.declared.Argument.{Argument}
 use Rattle.literals.specs.declared.Moment.the-variants.{Start}
 use Rattle.literals.specs.declared.Usage.the-variants.{Positive}
-use Rattle.literals.specs.Domain.{sameObject, sameVariable, isEvery, variablesOf, usageNumber, mayClear, keepsKeys, Atom, Literal, Fact}
+use Rattle.literals.specs.Domain.{sameObject, isEvery, variablesOf, usageNumber, mayClear, keepsKeys, Atom, Literal, Fact}
 use Rattle.literals.specs.Domain.{keysOf, Domain, Action, noAction, action}
 use Rattle.literals.specs.Decode.{maxLiterals}
 use Rattle.literals.specs.Table.{argumentNumber, rowOf, rowsIn, literalRow, pad, Bounded}
@@ -30,7 +30,7 @@ use Rattle.literals.proofs.KeyRows.{length-rows}
 use Rattle.literals.proofs.Tables.{kept, length-flat, length-literal-row, pad-at}
 use Rattle.literals.proofs.Arguments.{plain-numbers}
 use Rattle.literals.specs.Matching.{tuplesOf, hasTuple, matches}
-use Rattle.classes.specs.Classes.{literalTuples, classes, inClass, belongs, journey}
+use Rattle.classes.specs.Classes.{literalTuples, classes, belongs, journey}
 use Rattle.classes.specs.Held.{ActionOf, classNumbers, counts, usageAt, usagesFrom, usagesBy, usagesAt, isAt, soleAt, rowAt}
 use Rattle.classes.proofs.Rows.{noLiteral, literalAt, row-at}
 use Rattle.classes.proofs.Members.{tuple-once, member}
@@ -286,7 +286,8 @@ belongs-none j s e = rw e
 abbrev pub journeyFor : Domain → List Object → GroundAction → List Variable → Bool
 journeyFor D y g x = journey D (action D (g .action)) x && sameList sameObject (bindTuple (g .binding) x) y
 
-pub journeys-are : (D : Domain) (y : List Object) (g : GroundAction) → journeysFor D y g ≡ countBy (journeyFor D y g) (classes D (action D (g .action)))
+pub journeys-are : (D : Domain) (y : List Object) (g : GroundAction)
+    → journeysFor D y g ≡ countBy (journeyFor D y g) (classes D (action D (g .action)))
 unfolding journeysFor
 journeys-are D y g = refl
 

@@ -30,7 +30,7 @@ ghost use mathlib.Core.Path.{_≡_};
 ghost use mathlib.Core.Bool.{true, _&&_};
 ghost use mathlib.Core.List.{List, [], map, foldr};
 ghost use Prim.Native.Nat.{ℕ, _+_, _*_, _<_, _≤_};
-ghost use lib.ListN.{length, getD, take, drop};
+ghost use lib.ListN.{length, getD};
 ghost use Rattle.records.specs.Lists.{In, addIf, sameList};
 ghost use Rattle.literals.specs.declared.Object.{Object};
 ghost use Rattle.literals.specs.declared.Moment.the-variants.{Start, End};

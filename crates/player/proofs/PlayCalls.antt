@@ -10,7 +10,7 @@ use lib.Seq.{take-all}
 use borrow.Author.Tests.{eqb-true, eq-eqb, ne-eqb, le-ltb}
 use Rattle.records.specs.Memory.{over}
 use Rattle.literals.specs.Domain.{Fact, Domain}
-use Rattle.literals.specs.Decode.{Decoded, domain, decode}
+use Rattle.literals.specs.Decode.{Decoded, domain}
 use Rattle.player.specs.declared.run.Ended.{Ended}
 use Rattle.player.specs.declared.play.Fault.{Fault}
 use Rattle.player.specs.declared.play.Fault.the-variants.{Domain as InDomain, Run as InRun}

@@ -1,6 +1,6 @@
 -- The call of playing with an instance or without one: from what reading and the run promise to the answer. Assumes nothing.
 use mathlib.Core.Path.{_≡_, refl, sym, ap, ap₂, _∙_}
-use mathlib.Core.Bool.{Bool, true, false, _&&_, _||_, not, cond}
+use mathlib.Core.Bool.{Bool, true, false, _&&_, cond}
 use mathlib.Core.List.{List, [], map}
 use Prim.Native.Nat.{ℕ, _+_, _-_, _≤_, _<_}
 use native.Mathlib.Omega.{arith}
@@ -12,7 +12,7 @@ use Rattle.records.specs.Memory.{over}
 use Rattle.records.specs.declared.Record.the-variants.{Whole, Cut, End}
 use Rattle.records.specs.Record.{recordAt, payload}
 use Rattle.literals.specs.Domain.{Fact, keysOf, Domain}
-use Rattle.literals.specs.Decode.{Refusal, Decoded, refused, domain, decode, byte}
+use Rattle.literals.specs.Decode.{Refusal, refused, domain, decode, byte}
 use Rattle.literals.specs.Table.{rowsIn, Bounded}
 use Rattle.verdict.specs.Claims.{total}
 use Rattle.store.specs.Rows.{factRow, FactFits}
@@ -23,9 +23,12 @@ use Rattle.player.specs.declared.play.Tracked.{Tracked}
 use Rattle.player.specs.declared.run.Ended.{Ended}
 use Rattle.player.specs.Player.{endedOf}
 use Rattle.run_semantics.specs.RunFile.{maxFacts, outside, objectsStop}
-use Rattle.run_semantics.specs.Play.{workBytes, beforeRun, Outcome, outcomeAt, heldBytes, playRun, outcomeCall, callBy, call, workAfter, returnedBytes}
-use Rattle.run_semantics.specs.Track.{instanceOf, noInstance, countOf, countGiven, objectsGiven, instanceStop, trackRun, reportedTotal, trackBy, tracked}
-use Rattle.player.specs.Called.{fileOf, offsetOf, faultFile, faultOffset, partAt, answerOf, answerBy, answerUnplayed, trackedIf, trackedOf}
+use Rattle.run_semantics.specs.Play.{workBytes, beforeRun, outcomeAt, heldBytes, playRun, outcomeCall, callBy, call, workAfter}
+use Rattle.run_semantics.specs.Play.{returnedBytes}
+use Rattle.run_semantics.specs.Track.{instanceOf, countOf, countGiven, objectsGiven, instanceStop, trackRun, reportedTotal, trackBy}
+use Rattle.run_semantics.specs.Track.{tracked}
+use Rattle.player.specs.Called.{fileOf, offsetOf, faultFile, faultOffset, partAt, answerOf, answerBy, answerUnplayed, trackedIf}
+use Rattle.player.specs.Called.{trackedOf}
 use Rattle.player.proofs.PlayCalls.{fault-file, fault-offset, fault-part}
 
 -- ---- what the instance stops
@@ -89,8 +92,8 @@ module _ (r : List ℕ) where
 -- ---- playing with an instance
 
 -- the rows of the facts that are left
-pub end-rows : (D : Domain) → Bounded D → (fs : List Fact) → ((f : Fact) → In f fs → FactFits D f) → length fs ≤ maxFacts → (n : ℕ) → n ≡ length fs
-    → (work old : List ℕ) → work ≡ over (heldBytes fs) old → rowsIn n work ≡ map factRow fs
+pub end-rows : (D : Domain) → Bounded D → (fs : List Fact) → ((f : Fact) → In f fs → FactFits D f) → length fs ≤ maxFacts
+    → (n : ℕ) → n ≡ length fs → (work old : List ℕ) → work ≡ over (heldBytes fs) old → rowsIn n work ≡ map factRow fs
 end-rows D B fs fit few n e work old w = ap₂ rowsIn e w ∙ work-rows fs (fits-few B fs fit) few old
 
 module _ (D : Domain) (y r : List ℕ) where
@@ -112,8 +115,13 @@ module _ (D : Domain) (y r : List ℕ) where
       → Told (record { played = record { number = n; place = 0; steps = 0; weight = 0; fault = InRun 0 }; total = 0 }) work old
   unfolding reportedTotal
   stopped-answer n e z work old w =
-      rw (track-stopped (λ k. z (e ∙ k)))
-      ((λ i. record { played = record { number = e i; place = same (eqb (instanceStop D y r) 2) i; steps = 0; weight = 0; fault = InRun 0 }; total = 0 }), w)
+      rw (track-stopped (λ k. z (e ∙ k))) (
+        (λ i. record {
+          played = record { number = e i; place = same (eqb (instanceStop D y r) 2) i; steps = 0; weight = 0; fault = InRun 0 };
+          total = 0;
+        }),
+        w,
+      )
     where
       same : (b : Bool) → _≡_ {A = ℕ} 0 (cond b 0 0)
       same true = refl

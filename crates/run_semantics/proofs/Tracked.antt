@@ -2,7 +2,7 @@
 use mathlib.Core.Path.{_≡_, refl, sym, ap, _∙_}
 use mathlib.Core.Bool.{Bool, true, false, _&&_, _||_, not, cond}
 use mathlib.Core.List.{List, [], _∷_, map}
-use Prim.Native.Nat.{ℕ, _≤_, _<_}
+use Prim.Native.Nat.{ℕ, _≤_}
 use native.Mathlib.Omega.{arith}
 use lib.Dec.{eqb, ltb, leb}
 use lib.ListN.{length}
@@ -13,18 +13,19 @@ use Rattle.records.specs.Record.{recordAt, payload}
 use Rattle.records.proofs.Lists.{and-l, and-r}
 use Rattle.literals.specs.declared.Object.{Object}
 use Rattle.literals.specs.Domain.{Domain}
-use Rattle.literals.specs.Decode.{Refusal, Decoded, refused, domain, decode, byte}
+use Rattle.literals.specs.Decode.{Decoded, domain, decode, byte}
 use Rattle.verdict.specs.Judged.{decidedFile}
 use Rattle.verdict.specs.Machine.{Event, State, allowed, next, run, lastState, weight}
 use Rattle.verdict.specs.Claims.{isInstance, Chosen, total, neverRising}
 use Rattle.verdict.proofs.Files.{file-never-rises}
-use Rattle.run_semantics.specs.RunFile.{objectsRecord, factRecord, eventRecord, stepRecord, endRecord, otherRecord, runKindOf}
+use Rattle.run_semantics.specs.RunFile.{objectsRecord, factRecord, eventRecord, stepRecord, endRecord, otherRecord}
 use Rattle.run_semantics.specs.RunFile.{maxObjects, objectsStop, recordStop, startFactsIn, stepsIn, begunIn, entriesUpTo, Entry}
-use Rattle.run_semantics.specs.Play.{workBytes, beforeRun, Outcome, outcomeAt, playRun, ofRun, Call, playedAt, outcomeCall, refusedCall}
+use Rattle.run_semantics.specs.Play.{workBytes, beforeRun, Outcome, outcomeAt, playRun, ofRun, Call, playedAt, outcomeCall}
 use Rattle.run_semantics.specs.Play.{callBy, call}
-use Rattle.run_semantics.specs.Track.{instanceOf, countOf, countGiven, objectsGiven, instanceStop, trackRun, reportedTotal, Tracked, trackBy, tracked}
+use Rattle.run_semantics.specs.Track.{instanceOf, countOf, countGiven, objectsGiven, instanceStop, trackRun, reportedTotal, Tracked}
+use Rattle.run_semantics.specs.Track.{trackBy, tracked}
 use Rattle.run_semantics.specs.Claims.{objectsOf, startOf, statesOf, finalOf, playedEntries, recordEnd, foundEnd, endNumber}
-use Rattle.run_semantics.specs.Claims.{ObjectsFirst, AsPlayed, TotalOfRun, NeverRising, NothingGained}
+use Rattle.run_semantics.specs.Claims.{ObjectsFirst, AsPlayed, TotalOfRun, NothingGained}
 use Rattle.run_semantics.proofs.Never.{among-facts, played-as-machine}
 
 -- ---- where the instance stops nothing, playing is as without one

@@ -29,16 +29,31 @@ returns c =
     let f = c .before .before .before .before .before .track-files in
     let t = f .result in
     let e = f .ensures .0 in
-    let total = told-total d y r w t e in
-    (told-number d y r w t e,
-    (told-place d y r w t e,
-    (told-steps d y r w t e,
-    (told-weight d y r w t e,
-    (total,
-    (f .ensures .1,
-    (c .before .file-of .ensures ∙ told-file d y r w t e,
-    (c .offset-of .ensures ∙ told-offset d y r w t e,
-    (as-played d y r w, (total-of-run d y r w _ total, nothing-gained d y r w _ total))))))))))
+    let total = told-total d y r w t e in (
+      told-number d y r w t e,
+      (
+        told-place d y r w t e,
+        (
+          told-steps d y r w t e,
+          (
+            told-weight d y r w t e,
+            (
+              total,
+              (
+                f .ensures .1,
+                (
+                  c .before .file-of .ensures ∙ told-file d y r w t e,
+                  (
+                    c .offset-of .ensures ∙ told-offset d y r w t e,
+                    (as-played d y r w, (total-of-run d y r w _ total, nothing-gained d y r w _ total)),
+                  ),
+                ),
+              ),
+            ),
+          ),
+        ),
+      ),
+    )
 
 pub goadlotus-track-spec : {M : Type 1} → statement M
 goadlotus-track-spec = tie.close (tie.spec track-files-requires file-of-requires offset-of-requires same-length returns)

@@ -59,11 +59,14 @@ returns-3 : tie.Need-returns-3
 returns-3 c =
     let x = c .before .before .before .before .before .before .before .before .args in
     let w = c .weight-at in (
-      at-most (any (sameList eqb (x .row)) (instanceRows (keysIn (x .head .now)) (componentRowsIn (x .head .now)) (take 8 (drop 0 (c .before .before .bound-row .result))))) (w .result) (w .ensures),
+      at-most (any (sameList eqb (x .row)) (instanceRows (keysIn (x .head .now)) (componentRowsIn (x .head .now)) (take 8 (drop 0 (c .before
+          .before .bound-row .result))))) (w .result) (w .ensures),
       λ D g y class A G ge sized re h m.
           let k = c .before .before .before .before .before .wide .ensures .0 in
-          belongs-is g A G y sized class h (λ z. c .before .before .before .before .if1 .left (k ∙ m ∙ z)) (x .ground .now) _ (c .before .before .bound-row .result) (w .result) ge re
-          (c .before .before .bound-row .ensures ∙ ap (λ (j : ℕ). boundRow (x .head .now) (x .ground .now) (take 8 (drop (8 * (j - 1)) (x .rows .now)))) (k ∙ m)) (w .ensures),
+          belongs-is g A G y sized class h (λ z. c .before .before .before .before .if1 .left (k ∙ m ∙ z)) (x .ground .now) _ (c .before
+          .before .bound-row .result) (w .result) ge re
+          (c .before .before .bound-row .ensures ∙ ap (λ (j : ℕ). boundRow (x .head .now) (x .ground .now) (take 8 (drop (8 * (j - 1)) (x
+          .rows .now)))) (k ∙ m)) (w .ensures),
     )
 
 pub belongs-by-spec : {M : Type 1} → statement M

@@ -1,6 +1,6 @@
 -- `entry_journeys` meets its contract: no action of the domain, one at once, or a lasting one. Assumes nothing.
 use borrow.Author.Needs.{needs}
-use mathlib.Core.Path.{_≡_, sym, ap, ap₂, _∙_, subst}
+use mathlib.Core.Path.{_≡_, sym, ap, _∙_}
 use mathlib.Core.List.{List, flatMap}
 use Prim.Native.Nat.{ℕ, _<_}
 use native.Mathlib.Omega.{arith}
@@ -42,10 +42,12 @@ returns-2 : tie.Need-returns-2
 returns-2 c = (
   omega arith,
   λ D g y H wf G ge sized re.
-      let w : c .before .before .before .before .wide .result ≡ g .action = c .before .before .before .before .wide .ensures .0 ∙ ap (λ (t : List ℕ). getD t 0 0) ge in
+      let w : c .before .before .before .before .wide .result ≡ g .action = c .before .before .before .before .wide .ensures .0
+      ∙ ap (λ (t : List ℕ). getD t 0 0) ge in
       let l : g .action < length (D .actions) = G .listed in
       none-at-once D y g
-      (sym (H .says .lasting (g .action) l) ∙ sym (c .before .is-lasting .ensures ∙ ap (λ (i : ℕ). lastingIn (c .before .before .before .before .before .before .before .before .args .head .now) i) w) ∙ not-true _ (c .if2 .taken)),
+      (sym (H .says .lasting (g .action) l) ∙ sym (c .before .is-lasting .ensures ∙ ap (λ (i : ℕ). lastingIn (c .before .before .before
+      .before .before .before .before .before .args .head .now) i) w) ∙ not-true _ (c .if2 .taken)),
 )
 
 rows-of-requires : tie.Need-rows-of-requires
@@ -73,20 +75,29 @@ journeys-of-requires : tie.Need-journeys-of-requires
 journeys-of-requires c κs =
     let F = c .before .before .before .before .rows-of .ensures .0 in
     let o = F .order in
-    let few = F .few in
-    (part-length _ _ _ o (F .room), (omega arith, c .before .before .before .before .before .before .before .before .before .before .before .before .before .pre))
+    let few = F .few in (
+      part-length _ _ _ o (F .room),
+      (
+        omega arith,
+        c .before .before .before .before .before .before .before .before .before .before .before
+            .before .before .pre,
+      ),
+    )
 
 returns-3 : tie.Need-returns-3
 returns-3 c =
     let j = c .journeys-of in (
       j .ensures .0,
       λ D g y H wf G ge sized re.
-          let w : c .before .before .before .before .before .before .before .before .before .before .wide .result ≡ g .action = c .before .before .before .before .before .before .before .before .before .before .wide .ensures .0 ∙ ap (λ (t : List ℕ). getD t 0 0) ge in
+          let w : c .before .before .before .before .before .before .before .before .before .before .wide .result ≡ g .action = c .before
+          .before .before .before .before .before .before .before .before .before .wide .ensures .0 ∙ ap (λ (t : List ℕ). getD t 0 0) ge in
           let l : g .action < length (D .actions) = G .listed in
           let S = c .before .before .before .before .before .rows-of .ensures .1 D H (omega arith) in
           let A = action-held H wf (g .action) l (S .literals ∙ ap (λ (i : ℕ). flatMap literalRow (action D i .lits)) w) in
           j .ensures .1 D g y A
-          (sym (H .says .lasting (g .action) l) ∙ sym (c .before .before .before .before .before .before .before .is-lasting .ensures ∙ ap (λ (i : ℕ). lastingIn (c .before .before .before .before .before .before .before .before .before .before .before .before .before .before .args .head .now) i) w) ∙ not-false _ (c .before .before .before .before .before .before .if2 .left))
+          (sym (H .says .lasting (g .action) l) ∙ sym (c .before .before .before .before .before .before .before .is-lasting .ensures ∙ ap
+          (λ (i : ℕ). lastingIn (c .before .before .before .before .before .before .before .before .before .before .before .before .before
+          .before .args .head .now) i) w) ∙ not-false _ (c .before .before .before .before .before .before .if2 .left))
           G ge sized re,
     )
 

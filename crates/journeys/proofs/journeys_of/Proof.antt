@@ -36,7 +36,8 @@ part-mark-journeys-start c = search needs
 
 part-mark-journeys-end : tie.Need-part-mark-journeys-end
 part-mark-journeys-end c =
-    let f = c .before .before .before .number-classes .kept .1 .1 .1 .0 ∙ sym (c .before .before .before .before .before .numbers .given .1) ∙ sub-zero _ in
+    let f = c .before .before .before .number-classes .kept .1 .1 .1 .0 ∙ sym (c .before .before .before .before .before .numbers .given .1)
+    ∙ sub-zero _ in
     part-within (c .before .before .before .number-classes .last .1 .1 .1 .0) _ _ f
 
 mark-journeys-requires : tie.Need-mark-journeys-requires
@@ -47,9 +48,11 @@ count-marked-requires c κs = search needs
 
 returns : tie.Need-returns
 returns c =
-    let p = c .before .before .before .before .before .before .before .before .before .before .before .before .before .before .before .before .before .pre in
+    let p = c .before .before .before .before .before .before .before .before .before .before .before .before .before .before .before
+    .before .before .pre in
     let few = p .1 .0 in
-    let f = c .before .before .before .before .before .before .before .before .number-classes .kept .1 .1 .1 .0 ∙ sym (c .before .before .before .before .before .before .before .before .before .before .numbers .given .1) ∙ sub-zero _ in
+    let f = c .before .before .before .before .before .before .before .before .number-classes .kept .1 .1 .1 .0 ∙ sym (c .before .before
+    .before .before .before .before .before .before .before .before .numbers .given .1) ∙ sub-zero _ in
     let n = c .before .before .before .before .before .before .before .before .number-classes .ensures in
     let k = n .0 in
     let m = c .count-marked in
@@ -58,7 +61,8 @@ returns c =
       λ D g y A lasting G ge sized re.
           let t = n .1 D _ A in
           m .ensures .1 D g y A G ge sized re (t .0)
-          (c .before .before .mark-journeys .ensures D _ _ A lasting (part-again (c .before .before .before .before .before .before .before .before .number-classes .last .1 .1 .1 .0) _ _ f ∙ t .1) (t .0) refl),
+          (c .before .before .mark-journeys .ensures D _ _ A lasting (part-again (c .before .before .before .before .before .before .before
+          .before .number-classes .last .1 .1 .1 .0) _ _ f ∙ t .1) (t .0) refl),
     )
 
 pub journeys-of-spec : {M : Type 1} → statement M

@@ -52,7 +52,11 @@ mark-of-requires c κs =
     let t = c .before .before .loop-test .taken in
     let h : l .class < 64 = omega arith in (
       record { rowed = omega arith; few = p .1 .0 },
-      (h, start-soles (x .rows .now) (x .numbers .now) _ _ (c .before .before .before .before .before .before .before .tally .ensures refl) (c .before .before .before .before .usages-at .ensures .0 refl) (l .class) h),
+      (
+        h,
+        start-soles (x .rows .now) (x .numbers .now) _ _ (c .before .before .before .before .before .before .before .tally .ensures refl)
+            (c .before .before .before .before .usages-at .ensures .0 refl) (l .class) h,
+      ),
     )
 
 element-write-marks : tie.Need-element-write-marks Inv-loop μ-loop
@@ -85,11 +89,17 @@ loop-again c =
       n,
       λ D a head A lasting o m z.
           let used = usages-held false End (x .rows .now) _ (A .says .bounded) (A .listed) (A .apart) (A .literals) (p .0) in
-          let ends = end-soles (x .rows .now) (x .numbers .now) _ _ (c .before .before .before .before .before .before .before .before .tally .ensures refl) refl k h
+          let ends = end-soles (x .rows .now) (x .numbers .now) _ _ (c .before .before .before .before .before .before .before .before
+          .tally .ensures refl) refl k h
           ∙ ap₂ (λ (o d : List ℕ). soleOf o d k) o (ap (pad 64) used) in
           marked-more D a (l .marks) k _ (l .inv .2 D a head A lasting o m z) h
           (c .mark-of .ensures D a head
-          (record { whole = A; numbers-are = o; usages-are = c .before .before .before .before .before .usages-at .ensures .1 D a head A refl }) lasting ends (omega arith)),
+          (record {
+            whole = A;
+            numbers-are = o;
+            usages-are = c .before .before .before .before .before .usages-at .ensures .1 D a head A
+                refl;
+          }) lasting ends (omega arith)),
     )
 
 returns : tie.Need-returns Inv-loop μ-loop

@@ -24,7 +24,8 @@ returns c D a head M lasting ends h =
     let j = c .before .is-journey in
     mark-yes D a (x .class) (j .result) (x .numbers .now) (x .usages .now) _ (c .if1 .taken)
     (j .ensures D a head M lasting (c .before .before .sole-in2 .ensures ∙ ends) h) (M .numbers-are) (M .usages-are)
-    (ap (λ (s : Sole). s .conditions) (c .before .before .before .sole-in .ensures ∙ c .before .before .before .before .before .before .pre .1 .1))
+    (ap (λ (s : Sole). s .conditions) (c .before .before .before .sole-in .ensures ∙ c .before .before .before .before .before .before .pre
+    .1 .1))
 
 returns-2 : tie.Need-returns-2
 returns-2 c D a head M lasting ends h =

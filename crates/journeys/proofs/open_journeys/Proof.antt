@@ -2,8 +2,8 @@
 use borrow.Author.Needs.{needs}
 use mathlib.Core.Path.{_≡_, sym, ap, _∙_}
 use mathlib.Core.Bool.{true}
-use mathlib.Core.List.{List, foldr}
-use Prim.Native.Nat.{ℕ, _+_, _-_, _*_, _≤_, _<_}
+use mathlib.Core.List.{List}
+use Prim.Native.Nat.{_+_, _-_, _*_, _≤_, _<_}
 use native.Mathlib.Nat.{zero-add}
 use native.Mathlib.Omega.{arith}
 use lib.ListN.{length, getD, drop}
@@ -52,13 +52,31 @@ part-entry-journeys-start : tie.Need-part-entry-journeys-start Inv-loop μ-loop
 part-entry-journeys-start c = search needs
 
 part-entry-journeys-end : tie.Need-part-entry-journeys-end Inv-loop μ-loop
-part-entry-journeys-end c = let l = c .before .loop .inv in let n = l .1 in let t = c .loop-test .taken in let p = c .before .before .before .before .pre .1 in omega arith
+part-entry-journeys-end c =
+    let l = c .before .loop .inv in
+    let n = l .1 in
+    let t = c .loop-test .taken in
+    let p = c .before .before .before .before .pre .1 in
+    omega arith
 
 entry-journeys-requires : tie.Need-entry-journeys-requires Inv-loop μ-loop
-entry-journeys-requires c κs = let l = c .before .before .loop .inv in let n = l .1 in let t = c .before .loop-test .taken in let p = c .before .before .before .before .before .pre .1 in ap length (part-ground (c .before .before .before .before .before .args .entries .now) (17 * c .before .before .loop .i)) ∙ section-length (c .before .before .before .before .before .args .entries .now) (17 * c .before .before .loop .i) 17 (omega arith)
+entry-journeys-requires c κs =
+    let l = c .before .before .loop .inv in
+    let n = l .1 in
+    let t = c .before .loop-test .taken in
+    let p = c .before .before .before .before .before .pre .1 in
+    let entries = c .before .before .before .before .before .args .entries .now in
+    let at = 17 * c .before .before .loop .i in
+    ap length (part-ground entries at) ∙ section-length entries at 17 (omega arith)
 
 add-found : tie.Need-add-found Inv-loop μ-loop
-add-found c = let l = c .before .before .before .loop .inv in let n = l .1 in let k = l .2 in let t = c .before .before .loop-test .taken in let f = c .entry-journeys .ensures .0 in omega arith
+add-found c =
+    let l = c .before .before .before .loop .inv in
+    let n = l .1 in
+    let k = l .2 in
+    let t = c .before .before .loop-test .taken in
+    let f = c .entry-journeys .ensures .0 in
+    omega arith
 
 add-i : tie.Need-add-i Inv-loop μ-loop
 add-i c = let l = c .before .before .before .loop .inv in let n = l .1 in let t = c .before .before .loop-test .taken in omega arith
@@ -82,7 +100,8 @@ loop-again c =
           let h : l .i < length gs = omega arith in
           entry-more (journeysFor D y) gs (l .i) (l .found) (e .result) h
           (e .ensures .1 D (getD gs (l .i) noGround) y H wf (entry-fits (H .says) (l .i) gs F h)
-          (part-ground (c .before .before .before .before .before .before .args .entries .now) (17 * l .i) ∙ entry-row (H .says) (l .i) gs F h _ o) sized re)
+          (part-ground (c .before .before .before .before .before .before .args .entries .now) (17 * l .i) ∙ entry-row (H .says) (l .i) gs F
+          h _ o) sized re)
           ∙ l .inv .3 D gs y H wf F o sized re,
     )
 

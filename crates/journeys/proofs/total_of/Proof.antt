@@ -1,14 +1,11 @@
 -- `total_of` meets its contract: the weight, and the open journeys. Assumes nothing.
 use borrow.Author.Needs.{needs}
-use mathlib.Core.Path.{_≡_, sym, ap, ap₂, _∙_}
-use mathlib.Core.List.{List}
-use Prim.Native.Nat.{ℕ, _+_}
+use mathlib.Core.Path.{sym, ap, ap₂, _∙_}
 use native.Mathlib.Omega.{arith}
-use lib.ListN.{length, length-map}
+use lib.ListN.{length-map}
 use Rattle.literals.specs.Domain.{object}
 use Rattle.literals.specs.Table.{rowOf}
 use Rattle.literals.specs.Held.{keysIn, componentRowsIn}
-use Rattle.verdict.specs.Machine.{GroundAction}
 use Rattle.run_semantics.specs.Track.{instanceOf}
 use Rattle.store.specs.Rows.{rowWeight}
 use Rattle.store.proofs.InstanceRows.{weight-is}
@@ -23,7 +20,8 @@ returns c D s H wf r F o G few = let n = open-count (s .running) _ o in let t = 
 returns-2 : tie.Need-returns-2
 returns-2 c D s H wf r F o G few =
     no-total D (H .says .bounded) wf (instanceOf (c .before .before .before .before .before .before .before .args .instance .now))
-    (λ e. c .if2 .taken (sym (length-map (c .before .before .before .before .before .before .before .args .instance .now) object) ∙ e ∙ sym (H .says .keys) ∙ sym (c .before .keys-in .ensures .0))) s G
+    (λ e. c .if2 .taken (sym (length-map (c .before .before .before .before .before .before .before .args .instance .now) object) ∙ e ∙ sym
+    (H .says .keys) ∙ sym (c .before .keys-in .ensures .0))) s G
 
 keys-in-requires : tie.Need-keys-in-requires
 keys-in-requires c κs = search needs
@@ -49,7 +47,8 @@ open-journeys-requires c κs = search needs
 add-result : tie.Need-add-result
 add-result c =
     let a = c .before .before .before .before .before .before .before .before .before .before .before .args in
-    let w = weight-few (keysIn (a .head .now)) (componentRowsIn (a .head .now)) (a .work .now) (a .facts) _ (c .before .before .weigh .result) (c .before .before .weigh .ensures) in
+    let w = weight-few (keysIn (a .head .now)) (componentRowsIn (a .head .now)) (a .work .now) (a .facts) _ (c .before .before .weigh
+    .result) (c .before .before .weigh .ensures) in
     let j = c .open-journeys .ensures .0 in
     let f = c .before .before .before .before .before .before .before .before .before .before .before .pre .0 in
     let n = c .before .before .before .before .before .before .if1 .left in
@@ -60,9 +59,11 @@ returns-3 c D s H wf r F o G few =
     let a = c .before .before .before .before .before .before .before .before .before .before .before .args in
     let y = instanceOf (a .instance .now) in
     let re = c .before .before .before .instance-row .ensures ∙ ap rowOf (sym (numbers-back (a .instance .now))) in
-    let l = length-map (a .instance .now) object ∙ c .before .before .before .before .if2 .left ∙ c .before .before .before .before .before .keys-in .ensures .0 ∙ H .says .keys in
+    let l = length-map (a .instance .now) object ∙ c .before .before .before .before .if2 .left ∙ c .before .before .before .before .before
+    .keys-in .ensures .0 ∙ H .says .keys in
     total-is D y s (c .before .before .weigh .result) (c .open-journeys .result)
-    (c .before .before .weigh .ensures ∙ ap₂ (rowWeight (keysIn (a .head .now)) (componentRowsIn (a .head .now))) r re ∙ weight-is (H .says) y l (s .facts) F)
+    (c .before .before .weigh .ensures ∙ ap₂ (rowWeight (keysIn (a .head .now)) (componentRowsIn (a .head .now))) r re ∙ weight-is (H .says)
+    y l (s .facts) F)
     (c .open-journeys .ensures .1 D (s .running) y H wf G o l re)
 
 pub total-of-spec : {M : Type 1} → statement M

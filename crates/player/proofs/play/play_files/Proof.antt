@@ -22,7 +22,8 @@ same-length c = search needs
 returns : tie.Need-returns
 returns c =
     let a = c .before .before .before .before .before .before .before .before .before .args in
-    without-is (a .domain .now) _ (a .run .now) (a .work .now) (c .before .before .before .play-with .result) _ (c .before .before .before .play-with .ensures)
+    let p = c .before .before .before .play-with in
+    without-is (a .domain .now) _ (a .run .now) (a .work .now) (p .result) _ (p .ensures)
 
 pub play-files-spec : {M : Type 1} → statement M
 play-files-spec =

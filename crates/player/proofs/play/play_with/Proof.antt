@@ -6,7 +6,6 @@ use native.Mathlib.Omega.{arith}
 use Rattle.reading.proofs.Domains.{opened, refusal-is}
 use Rattle.verdict.proofs.Decodes.{decoded-well-formed}
 use Rattle.run_semantics.specs.Play.{playRun}
-use Rattle.player.specs.declared.play.Tracked.{Tracked}
 use Rattle.player.proofs.TrackCalls.{with-refused, with-small, with-none, with-one}
 use Rattle.player.proofs.play.play_with.Statement.{statement}
 use Rattle.player.proofs.play.play_with.Tie as tie
@@ -36,7 +35,8 @@ returns-2 c =
     let a = c .before .before .before .before .before .before .before .before .before .before .before .args in
     let read = c .before .before .before .before .read-domain in
     let o = opened (a .domain .now) (read .result) _ _ (read .ensures) (c .before .before .if1 .left) in
-    let e = with-small (a .domain .now) (a .instance .now) (a .run .now) (a .work .now) (o .said) (o .decoded) (a .given) (c .before .if2 .taken) in
+    let e = with-small (a .domain .now) (a .instance .now) (a .run .now) (a .work .now) (o .said) (o .decoded) (a .given) (c .before .if2
+    .taken) in
     ((λ i. record { played = c .unplayed2 .ensures i; total = 0 }) ∙ e .0, e .1)
 
 slice-aggregate-track-run : tie.Need-slice-aggregate-track-run
@@ -54,11 +54,14 @@ same-length c = search needs
 
 returns-3 : tie.Need-returns-3
 returns-3 c =
-    let a = c .before .before .before .before .before .before .before .before .before .before .before .before .before .before .before .before .before .args in
+    let a = c .before .before .before .before .before .before .before .before .before .before .before .before .before .before .before
+    .before .before .args in
     let read = c .before .before .before .before .before .before .before .before .before .before .read-domain in
-    let o = opened (a .domain .now) (read .result) _ _ (read .ensures) (c .before .before .before .before .before .before .before .before .if1 .left) in
+    let o = opened (a .domain .now) (read .result) _ _ (read .ensures) (c .before .before .before .before .before .before .before .before
+    .if1 .left) in
     let e = c .before .before .track-run .ensures (o .said) (o .held) (decoded-well-formed (a .domain .now) (o .said) (o .decoded)) in
-    with-one (a .domain .now) (a .instance .now) (a .run .now) (a .work .now) (o .said) (o .decoded) (c .before .before .before .before .before .before .before .if2 .left) (a .given) (c .before .before .before .before .before .before .if3 .taken)
+    with-one (a .domain .now) (a .instance .now) (a .run .now) (a .work .now) (o .said) (o .decoded) (c .before .before .before .before
+    .before .before .before .if2 .left) (a .given) (c .before .before .before .before .before .before .if3 .taken)
     (c .before .before .track-run .result) (e .0) _ (e .1)
 
 slice-aggregate-play-run : tie.Need-slice-aggregate-play-run
@@ -69,7 +72,8 @@ slice-aggregate-play-run-2 c = search needs
 
 play-run-requires : tie.Need-play-run-requires
 play-run-requires c κs =
-    let a = c .before .before .before .before .before .before .before .before .before .before .before .before .before .before .before .args in
+    let a = c .before .before .before .before .before .before .before .before .before .before .before .before .before .before .before .args
+    in
     let read = c .before .before .before .before .before .before .before .before .read-domain in
     let o = opened (a .domain .now) (read .result) _ _ (read .ensures) (c .before .before .before .before .before .before .if1 .left) in
     ((o .said, o .held), (c .before .before .before .before .before .if2 .left, refl))
@@ -82,12 +86,16 @@ same-length-2 c = search needs
 
 returns-4 : tie.Need-returns-4
 returns-4 c =
-    let a = c .before .before .before .before .before .before .before .before .before .before .before .before .before .before .before .before .before .before .before .before .args in
+    let a = c .before .before .before .before .before .before .before .before .before .before .before .before .before .before .before
+    .before .before .before .before .before .args in
     let read = c .before .before .before .before .before .before .before .before .before .before .before .before .before .read-domain in
-    let o = opened (a .domain .now) (read .result) _ _ (read .ensures) (c .before .before .before .before .before .before .before .before .before .before .before .if1 .left) in
+    let o = opened (a .domain .now) (read .result) _ _ (read .ensures) (c .before .before .before .before .before .before .before .before
+    .before .before .before .if1 .left) in
     let e = c .before .before .before .before .play-run .ensures (o .said) (o .held) in
     let b = c .answer-by in
-    with-none (a .domain .now) (a .instance .now) (a .run .now) (a .work .now) (o .said) (o .decoded) (c .before .before .before .before .before .before .before .before .before .before .if2 .left) (a .given) (c .before .before .before .before .before .before .before .before .before .if3 .left)
+    with-none (a .domain .now) (a .instance .now) (a .run .now) (a .work .now) (o .said) (o .decoded) (c .before .before .before .before
+    .before .before .before .before .before .before .if2 .left) (a .given) (c .before .before .before .before .before .before .before
+    .before .before .if3 .left)
     (b .result) (b .ensures (playRun (o .said) (a .run .now)) (e .0)) _ (e .1)
 
 pub play-with-spec : {M : Type 1} → statement M

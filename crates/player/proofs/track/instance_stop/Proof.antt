@@ -1,6 +1,6 @@
 -- `instance_stop` meets its contract: the tests in their order. Assumes nothing.
 use borrow.Author.Needs.{needs}
-use mathlib.Core.Path.{_≡_, sym, _∙_}
+use mathlib.Core.Path.{sym, _∙_}
 use Rattle.player.proofs.TrackCalls.{stop-none, stop-count, stop-object, stop-right}
 use Rattle.player.proofs.track.instance_stop.Statement.{statement}
 use Rattle.player.proofs.track.instance_stop.Tie as tie
@@ -9,14 +9,17 @@ objects-given-requires : tie.Need-objects-given-requires
 objects-given-requires c κs = search needs
 
 returns : tie.Need-returns
-returns c D H = stop-none D (c .before .before .before .before .args .instance .now) (c .before .before .before .before .args .run .now) (c .before .objects-given .result) (c .before .objects-given .ensures) (c .if1 .taken)
+returns c D H = stop-none D (c .before .before .before .before .args .instance .now) (c .before .before .before .before .args .run .now) (c
+    .before .objects-given .result) (c .before .objects-given .ensures) (c .if1 .taken)
 
 keys-in-requires : tie.Need-keys-in-requires
 keys-in-requires c κs = search needs
 
 returns-2 : tie.Need-returns-2
 returns-2 c D H =
-    stop-count D (c .before .before .before .before .before .before .args .instance .now) (c .before .before .before .before .before .before .args .run .now) (c .before .before .before .objects-given .result) (c .before .before .before .objects-given .ensures) (c .before .before .if1 .left)
+    stop-count D (c .before .before .before .before .before .before .args .instance .now) (c .before .before .before .before .before .before
+    .args .run .now) (c .before .before .before .objects-given .result) (c .before .before .before .objects-given .ensures) (c .before
+    .before .if1 .left)
     (λ e. c .if2 .taken (e ∙ sym (H .keys) ∙ sym (c .before .keys-in .ensures .0)))
 
 any-from-requires : tie.Need-any-from-requires
@@ -24,13 +27,19 @@ any-from-requires c κs = search needs
 
 returns-3 : tie.Need-returns-3
 returns-3 c D H =
-    stop-object D (c .before .before .before .before .before .before .before .before .args .instance .now) (c .before .before .before .before .before .before .before .before .args .run .now) (c .before .before .before .before .before .objects-given .result) (c .before .before .before .before .before .objects-given .ensures) (c .before .before .before .before .if1 .left)
-    (c .before .before .if2 .left ∙ c .before .before .before .keys-in .ensures .0 ∙ H .keys) (sym (c .before .any-from .ensures) ∙ c .if3 .taken)
+    stop-object D (c .before .before .before .before .before .before .before .before .args .instance .now) (c .before .before .before
+    .before .before .before .before .before .args .run .now) (c .before .before .before .before .before .objects-given .result) (c .before
+    .before .before .before .before .objects-given .ensures) (c .before .before .before .before .if1 .left)
+    (c .before .before .if2 .left ∙ c .before .before .before .keys-in .ensures .0 ∙ H .keys) (sym (c .before .any-from .ensures) ∙ c .if3
+    .taken)
 
 returns-4 : tie.Need-returns-4
 returns-4 c D H =
-    stop-right D (c .before .before .before .before .before .before .before .before .args .instance .now) (c .before .before .before .before .before .before .before .before .args .run .now) (c .before .before .before .before .before .objects-given .result) (c .before .before .before .before .before .objects-given .ensures) (c .before .before .before .before .if1 .left)
-    (c .before .before .if2 .left ∙ c .before .before .before .keys-in .ensures .0 ∙ H .keys) (sym (c .before .any-from .ensures) ∙ c .if3 .left)
+    stop-right D (c .before .before .before .before .before .before .before .before .args .instance .now) (c .before .before .before .before
+    .before .before .before .before .args .run .now) (c .before .before .before .before .before .objects-given .result) (c .before .before
+    .before .before .before .objects-given .ensures) (c .before .before .before .before .if1 .left)
+    (c .before .before .if2 .left ∙ c .before .before .before .keys-in .ensures .0 ∙ H .keys) (sym (c .before .any-from .ensures) ∙ c .if3
+    .left)
 
 pub instance-stop-spec : {M : Type 1} → statement M
 instance-stop-spec =

@@ -24,22 +24,38 @@ same-length c = search needs
 returns : tie.Need-returns
 returns c =
     let d = c .before .before .before .before .before .before .before .before .before .before .before .before .before .args .domain .now in
-    let y = c .before .before .before .before .before .before .before .before .before .before .before .before .before .args .instance .now in
+    let y = c .before .before .before .before .before .before .before .before .before .before .before .before .before .args .instance .now
+    in
     let r = c .before .before .before .before .before .before .before .before .before .before .before .before .before .args .run .now in
     let w = c .before .before .before .before .before .before .before .before .before .before .before .before .before .args .work .now in
     let f = c .before .before .before .before .before .before .before .track-files in
     let t = f .result in
     let e = f .ensures .0 in
-    let total = told-total d y r w t e in
-    (told-number d y r w t e,
-    (told-place d y r w t e,
-    (told-steps d y r w t e,
-    (told-weight d y r w t e,
-    (total,
-    (c .before .before .before .file-of .ensures ∙ told-file d y r w t e,
-    (c .before .before .offset-of .ensures ∙ told-offset d y r w t e,
-    (told-part d y r w t e _ (c .part .ensures),
-    (f .ensures .1, (as-played d y r w, (total-of-run d y r w _ total, nothing-gained d y r w _ total)))))))))))
+    let total = told-total d y r w t e in (
+      told-number d y r w t e,
+      (
+        told-place d y r w t e,
+        (
+          told-steps d y r w t e,
+          (
+            told-weight d y r w t e,
+            (
+              total,
+              (
+                c .before .before .before .file-of .ensures ∙ told-file d y r w t e,
+                (
+                  c .before .before .offset-of .ensures ∙ told-offset d y r w t e,
+                  (
+                    told-part d y r w t e _ (c .part .ensures),
+                    (f .ensures .1, (as-played d y r w, (total-of-run d y r w _ total, nothing-gained d y r w _ total))),
+                  ),
+                ),
+              ),
+            ),
+          ),
+        ),
+      ),
+    )
 
 pub track-spec : {M : Type 1} → statement M
 track-spec =
