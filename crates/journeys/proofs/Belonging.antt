@@ -166,7 +166,7 @@ module _ (D : Domain) (a : Action) {head rows : List ℕ} (A : ActionOf D a head
         let m = mark-is in
         let p = at-mark in
         let u : getD (usagesAt a Start) (sole - 1) 0 ≡ 1 =
-            sym (pad-at maxLiterals (usagesAt a Start) (sole - 1)) ∙ eqb-true _ 1 (and-r (eqb (getD (classNumbers D a) (sole - 1) 0) class) _ p) in
+        sym (pad-at maxLiterals (usagesAt a Start) (sole - 1)) ∙ eqb-true _ 1 (and-r (eqb (getD (classNumbers D a) (sole - 1) 0) class) _ p) in
         let v = rw (← (ap (λ (k : ℕ). k - 1) m)) at u in
         literal-plain (A .says .bounded) (A .listed) (literalAt (a .lits) place) (getD-in (a .lits) place noLiteral mark-inside)
         (true-plain [] (a .lits) place v)
