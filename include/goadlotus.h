@@ -50,6 +50,8 @@ enum goadlotus_number {
     GOADLOTUS_NO_COMPONENT       = 23, /* no component */
     GOADLOTUS_KEY_TWICE          = 24, /* a key twice in a component */
     GOADLOTUS_COUNTED_TWICE      = 25, /* FF twice in a component */
+    GOADLOTUS_WRONG_CLEARING     = 26, /* FF in a literal that can't clear, or twice */
+    GOADLOTUS_KEY_CLEARED        = 27, /* a key where a literal of the relation has FF */
     GOADLOTUS_REPORT_TOO_SMALL   = 30, /* report memory too small, or that of a service */
     GOADLOTUS_WITNESS_TOO_SMALL  = 31, /* witness memory too small */
     GOADLOTUS_BOX_CUT            = 33, /* box cut inside a length or a file */
@@ -88,7 +90,7 @@ extern "C" {
  * *first, *second and *third, an unused place as 0.
  *
  *    0, 1     accepted; 1 if some moment is unbounded. Places 0, 0, 0.
- *    9 to 25  not well-formed. First place: the offset of the faulty record (9: 0; no closing record:
+ *    9 to 27  not well-formed. First place: the offset of the faulty record (9: 0; no closing record:
  *             file_len). For 24, a key twice in a component, and 25, a second FF, it is the offset of
  *             the label that repeats one; for 21 that of the first key not below the number of keys,
  *             or the record's where a key is only missing.
@@ -125,7 +127,7 @@ uint64_t goadlotus_judge(const uint8_t *file, size_t file_len,
  * number is returned; *place, *steps, *weight, *part_file and *part_at always come back.
  *
  *    2        played: every step is allowed, and the run is closed.
- *    9 to 25  the domain file is not well-formed; the same number as from goadlotus_judge.
+ *    9 to 27  the domain file is not well-formed; the same number as from goadlotus_judge.
  *   50        the run file: form, order or length.
  *   51        a number out of range, or moment 1 of an action at once.
  *   52        over a limit of the player: a step's 17th event, the 1,025th different start fact, a step
@@ -137,20 +139,20 @@ uint64_t goadlotus_judge(const uint8_t *file, size_t file_len,
  *   57        a step not allowed: an end is not open.
  *   58        work_len is under 8,192.
  *
- * No other number is returned. 9 to 25 come before 58, and 58 before anything of the run file.
+ * No other number is returned. 9 to 27 come before 58, and 58 before anything of the run file.
  *
  * What comes back:
  *
- *   *place      the offset of the faulty record: for 9 to 25 in the domain file, as goadlotus_judge tells
+ *   *place      the offset of the faulty record: for 9 to 27 in the domain file, as goadlotus_judge tells
  *               it; for 50 to 57 in the run file, for a step that of its closing record. A record cut
  *               short is faulty where it begins, a missing one at run_len, bytes behind the run's
  *               closing record at the first of them. 0 for 2 and 58.
- *   *steps      the steps made, without the one at fault. 0 for 9 to 25 and 58.
+ *   *steps      the steps made, without the one at fault. 0 for 9 to 27 and 58.
  *   *weight     the highest weight of any instance of the template in any state reached, the start
  *               included once the first uncut record of kind 18 to 20 is met. 0 before that, and for 9
- *               to 25 and 58.
+ *               to 27 and 58.
  *   *part_file  the file of which a part is returned: 0 the domain file, 1 the run file.
- *   *part_at    the offset at which that part begins; it ends with its file. For 9 to 25 the domain file
+ *   *part_at    the offset at which that part begins; it ends with its file. For 9 to 27 the domain file
  *               from the faulty record on, not from its label (9: all of it), for 50 to 57 the run file from the faulty
  *               record on, for 2 and 58 the empty end of the run file. Never above the file's length.
  *
@@ -160,7 +162,7 @@ uint64_t goadlotus_judge(const uint8_t *file, size_t file_len,
  *                  FF to fill), then zeros. With 2 they are those of the last state, else those before
  *                  the step at fault, or the start facts read so far. Facts kept stay in order; new ones
  *                  follow by event and literal, also one that the same step deletes and adds again.
- *    9 to 25, 58   nothing
+ *    9 to 27, 58   nothing
  *
  * All other bytes of work stay as they were, and both files stay as they were. No length is ever
  * exceeded, in reading or in writing, whatever the files say. The answer depends on the two files and on
@@ -185,7 +187,7 @@ uint64_t goadlotus_play(const uint8_t *domain, size_t domain_len,
  *             has such a record; *steps, *weight and *total are then 0, and no fact is held.
  *   *total    the instance's weight plus its open journeys: each open entry counts once for every journey
  *             of its action whose key tuple, bound, is the instance. After the last step made, for 50 to 57
- *             too; 0 while the start doesn't count yet, and for 9 to 25 and 58.
+ *             too; 0 while the start doesn't count yet, and for 9 to 27 and 58.
  *
  * Where the instance is right, everything else is answered and written as by goadlotus_play. Where the
  * template's verdict is 1 and the start weighs at most one, the total never rises from one state to the
@@ -207,14 +209,15 @@ uint64_t goadlotus_track(const uint8_t *domain, size_t domain_len,
  * place always comes back in *first.
  *
  *    0        listed: *first is the number of bytes written.
- *    9 to 25  not well-formed; the same number and first place as from goadlotus_judge.
+ *    9 to 27  not well-formed; the same number and first place as from goadlotus_judge.
  *   30        list_len is too short for the whole list. *first is 0.
  *
  * No other number is returned. The list has 3 bytes for each template: relation, counted place (FF for
  * none), and the verdict, 0, 1 or 40 to 43, that goadlotus_judge would return with memory enough for the
  * file with this template in place of its own. Relations rise; of each comes first the template without a
  * counted place, then those with one, the place rising. Keys are numbered from left to right; how they are
- * numbered changes no verdict. Every template that the rules for a file allow is there, once.
+ * numbered changes no verdict. A template that puts a key where a literal of the relation has FF (27) is
+ * passed over, every other one is there once.
  *
  * 9 to 30 write nothing; all other bytes of list stay as they were, and the file stays as it was. No length
  * is ever exceeded, in reading or in writing, whatever the file says. GOADLOTUS_TEMPLATES_SIZE bytes are
@@ -235,7 +238,7 @@ uint64_t goadlotus_templates(const uint8_t *file, size_t file_len,
  * No other number is returned; 33 comes before 30. The totals are 71 numbers of 8 bytes, little-endian:
  * how many files met each number from 0 to 63, then how many moments had each of the seven names, in the
  * order of their numbers 1 to 7. Each file is judged as by goadlotus_judge with memory enough, so that 30
- * and 31 are never counted; of a file that is refused 9 to 25 no moment is. The first 64 totals add up to
+ * and 31 are never counted; of a file that is refused 9 to 27 no moment is. The first 64 totals add up to
  * the number of files, and the totals of two boxes joined are the sums, so that a long row of files may be
  * counted in parts.
  *

@@ -63,11 +63,13 @@ fn single_runs(domain: &[u8]) {
         "{:24} {:>7} {:>6} {:>12} {:>12} {:>7} {:>9} {:>9} {:>9} {:>9} {:>7}",
         "run", "bytes", "steps", "library", "model", "ratio", "lib/step", "mod/step", "lib/byte", "mod/byte", "rounds"
     );
-    let (m1, rovers) = (files::m1(), files::rovers());
+    let (m1, rovers, clearing) = (files::m1(), files::rovers(), runs::clearing_archive());
     for (name, domain, run, number) in [
         ("M12, refused", &m1[..], runs::m12(), CONDITION_FAILS),
         ("Rovers, 20 steps", &rovers, runs::rovers_20(), PLAYED),
         ("5,000 steps of 1 event", domain, runs::single_events(5_000), PLAYED),
+        ("5,000, a plain delete", &clearing, runs::plain_events(5_000), PLAYED),
+        ("5,000, a clearing delete", &clearing, runs::clearing_events(5_000), PLAYED),
         ("1,000 steps of 16 events", domain, runs::full_steps(1_000), PLAYED),
         ("10,000 empty, 32 open", domain, runs::empty_steps(10_000), PLAYED),
         ("lending, 1 MB", domain, runs::lending(1_000_000), PLAYED),

@@ -3,6 +3,7 @@
 
 use generate::literature::{Named, ROVERS};
 use generate::records::{encode, rec, Rec};
+use generate::rng::Rng;
 
 const ARCHIVE: &str = "
 relation stands/3
@@ -29,6 +30,15 @@ lasting give-back(left, right, reader, to)
     end add stands(left, right, to)
 ";
 
+/// The same move with the volume struck from every shelf: a delete that clears. It comes behind the others, so that they keep
+/// their numbers.
+const PUTTING: &str = "
+at once put(left, right, from, to)
+    true stands(left, right, from)
+    add stands(left, right, to)
+    delete stands(left, right, *)
+";
+
 const TEMPLATE: &str = "stands[0,1,FF], lent[0,1,FF]";
 
 const STANDS: u8 = 0;
@@ -36,6 +46,7 @@ const PRESENT: u8 = 2;
 const MOVE: u8 = 0;
 const LEND: u8 = 1;
 const GIVE_BACK: u8 = 2;
+const PUT: u8 = 3;
 
 /// The events of a full step, and half the objects: the first half is shelves, the second readers.
 const FULL: usize = 16;
@@ -43,6 +54,11 @@ const HALF: usize = 32;
 
 pub fn archive() -> Vec<u8> {
     Named::read(ARCHIVE).with(TEMPLATE).file()
+}
+
+/// The archive with an action that clears.
+pub fn clearing_archive() -> Vec<u8> {
+    Named::read(&format!("{ARCHIVE}{PUTTING}")).with(TEMPLATE).file()
 }
 
 /// The instance that is tracked: the two objects of volume 0.
@@ -98,6 +114,30 @@ pub fn moves(volumes: usize, steps: usize, events: usize) -> Vec<u8> {
 /// Steps of one event over 1,000 facts.
 pub fn single_events(steps: usize) -> Vec<u8> {
     moves(1_000, steps, 1)
+}
+
+/// The same with volumes that are drawn, so that what is deleted stands anywhere among the facts; the same ones for both.
+fn drawn(action: u8, steps: usize) -> Vec<u8> {
+    const VOLUMES: usize = 1_000;
+    let mut records = start(VOLUMES);
+    let (mut rng, mut times) = (Rng::new(4), [0; VOLUMES]);
+    for _ in 0..steps {
+        let number = rng.below(VOLUMES);
+        records.push(event(0, action, number, shelf(number, times[number]), shelf(number, times[number] + 1)));
+        records.push(rec(19, []));
+        times[number] += 1;
+    }
+    close(records)
+}
+
+/// One plain delete a step.
+pub fn plain_events(steps: usize) -> Vec<u8> {
+    drawn(MOVE, steps)
+}
+
+/// One clearing delete a step, which strikes the same fact.
+pub fn clearing_events(steps: usize) -> Vec<u8> {
+    drawn(PUT, steps)
 }
 
 /// Steps of 16 events over 1,000 facts.
@@ -177,16 +217,18 @@ mod tests {
     /// All are played to their end over an accepted template, with the steps and facts that their names tell.
     #[test]
     fn all_are_played() {
-        let domain = archive();
-        assert_eq!(model::judge(&domain, &mut [0; 64], &mut []).number, 1);
-        for (run, steps, facts) in [
-            (single_events(5_000), 5_000, 1_000),
-            (full_steps(1_000), 1_000, 1_000),
-            (empty_steps(10_000), 10_002, 960 - 32 + 32),
-            (lending(1_000_000), 4 * 1_513, 960 + 32),
+        let (archive, clearing) = (archive(), clearing_archive());
+        for (domain, run, steps, facts) in [
+            (&archive, single_events(5_000), 5_000, 1_000),
+            (&clearing, plain_events(5_000), 5_000, 1_000),
+            (&clearing, clearing_events(5_000), 5_000, 1_000),
+            (&archive, full_steps(1_000), 1_000, 1_000),
+            (&archive, empty_steps(10_000), 10_002, 960 - 32 + 32),
+            (&archive, lending(1_000_000), 4 * 1_513, 960 + 32),
         ] {
+            assert_eq!(model::judge(domain, &mut [0; 64], &mut []).number, 1);
             let mut work = [0; WORK];
-            let played = play(&domain, &run, &mut work);
+            let played = play(domain, &run, &mut work);
             assert_eq!((played.number, played.steps, played.weight), (2, steps, 1));
             let held = work.chunks_exact(8).filter(|fact| fact[7] == 0xFF).count();
             assert_eq!(held, facts);
@@ -202,6 +244,21 @@ mod tests {
             let tracked = model::track(&domain, &run, &FIRST_VOLUME, &mut [0; WORK]);
             assert_eq!((tracked.played.number, tracked.total), (2, 1));
         }
+    }
+
+    /// A clearing step leaves what the plain one leaves, and what it strikes stands anywhere among the facts.
+    #[test]
+    fn clearing_is_fair() {
+        let domain = clearing_archive();
+        let [plain, clearing] = [plain_events(5_000), clearing_events(5_000)].map(|run| {
+            let mut work = [0; WORK];
+            play(&domain, &run, &mut work);
+            work
+        });
+        assert!(plain == clearing);
+        // a volume that is never drawn again stays among the first: some of the first hundred are unmoved, many are not
+        let unmoved = plain.chunks_exact(8).take(100).filter(|fact| fact[4] == fact[2] % 32 + 1).count();
+        assert!((1..100).contains(&unmoved), "{unmoved}");
     }
 
     /// The short ones: M12 comes to what the paper says, and the rover is where it began.

@@ -2,6 +2,9 @@
 
 use crate::records::{split, ACTION, COMPONENT, FF, LITERAL, RELATION};
 
+/// The sign for every object, which may stand in place of a variable.
+pub const EVERY: &str = "*";
+
 /// When a literal counts; the literals of an action at once count at its start.
 #[derive(Clone, Copy, PartialEq, Eq, Debug)]
 pub enum Time {
@@ -111,10 +114,36 @@ pub struct Literal {
 }
 
 impl Literal {
-    /// Whether both are of the same relation with the same variables.
+    /// Whether both are of the same relation with the same arguments.
     pub fn is_about_same(&self, other: &Literal) -> bool {
         self.relation == other.relation && self.arguments == other.arguments
     }
+
+    /// Whether it stands for every object in some place.
+    pub fn clears(&self) -> bool {
+        self.arguments.contains(&FF)
+    }
+
+    /// Whether it stands for all that the other one stands for: they are the same but where it has every object.
+    pub fn covers(&self, other: &Literal) -> bool {
+        self.relation == other.relation && row_covers(&self.arguments, &other.arguments)
+    }
+}
+
+/// Whether two rows of arguments are alike in all places but those where the first stands for every object.
+pub fn row_covers(row: &[u8], other: &[u8]) -> bool {
+    row.len() == other.len() && row.iter().zip(other).all(|(one, of_other)| one == of_other || *one == FF)
+}
+
+/// What two rows of arguments both stand for; none where they are unlike in a place that is no "every object".
+pub fn row_common(row: &[u8], other: &[u8]) -> Option<Vec<u8>> {
+    let common = |(&one, &of_other): (&u8, &u8)| match (one, of_other) {
+        (FF, of_other) => Some(of_other),
+        (one, FF) => Some(one),
+        (one, of_other) => (one == of_other).then_some(one),
+    };
+    let common: Option<Vec<u8>> = row.iter().zip(other).map(common).collect();
+    common.filter(|_| row.len() == other.len())
 }
 
 #[derive(Clone, Debug)]
@@ -132,8 +161,9 @@ pub struct Component {
 }
 
 impl Component {
-    pub fn has_counted(&self) -> bool {
-        self.labels.contains(&FF)
+    /// The place of the counted argument.
+    pub fn counted(&self) -> Option<usize> {
+        self.labels.iter().position(|&label| label == FF)
     }
 
     /// What stands in the places of the keys 0, 1, ..
@@ -238,7 +268,7 @@ impl Action {
     pub fn variable(&self, number: u8) -> String {
         match self.variables.get(number as usize) {
             Some(name) => name.clone(),
-            None if number == FF => "_".to_string(),
+            None if number == FF => EVERY.to_string(),
             None => format!("v{number}"),
         }
     }

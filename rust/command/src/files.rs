@@ -1,12 +1,12 @@
 //! Files that are named on the command line, in words or in bytes.
 
-use crate::domain::{Domain, Names};
+use crate::domain::{Domain, Names, EVERY};
 use crate::library::{judge, Judged};
 use crate::notation::source::{tell, Fault};
 use crate::notation::written::Written;
 use crate::notation::{domain_text, refused, run_text};
 use crate::numbers::says_at;
-use crate::records::{split, Record, EVENT, OBJECTS};
+use crate::records::{split, Record, EVENT, FF, OBJECTS};
 use std::ffi::OsStr;
 use std::fs::File;
 use std::io::{self, Read};
@@ -130,7 +130,11 @@ pub struct LoadedRun {
 
 impl LoadedRun {
     pub fn object(&self, number: u8) -> String {
-        self.objects.get(number as usize).cloned().unwrap_or_else(|| format!("o{number}"))
+        match self.objects.get(number as usize) {
+            Some(name) => name.clone(),
+            None if number == FF => EVERY.to_string(),
+            None => format!("o{number}"),
+        }
     }
 
     /// Where an offset is for people: a line of the text, or the offset itself.

@@ -124,7 +124,8 @@ itself; the file's own template is left aside. A line each: the template, its
 relation, the place that is counted (from 0; - for none), and the verdict, as
 number and in words. Relations stand in the order of the file; of each comes
 first the template that counts nothing. As columns, as TSV for a spreadsheet, or
-as JSON lines.
+as JSON lines. Below the columns: which templates are passed over, since they
+have a key where a literal has *.
 
 Status: 0 listed, 4 a broken file, 1 it can't be read.
 ";

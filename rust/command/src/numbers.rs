@@ -20,6 +20,8 @@ pub fn says(number: u64) -> &'static str {
         23 => "the template is missing",
         24 => "a key that stands twice in its component",
         25 => "a second `_` in a component: at most one argument is counted",
+        26 => "`*`, every object, stands in a false or a delete alone, and once at most",
+        27 => "a key in a place where a literal of the relation has `*`",
         30 => "too little memory for the report",
         31 => "too little memory for the witness",
         50 => "this is out of order, or too long or short, or the run isn't closed as it should be",

@@ -3,6 +3,7 @@
 
 use crate::domain::{Action, Component, Domain, List, Literal, Time};
 use crate::library::Name;
+use crate::records::FF;
 
 /// What an action says about one instance: its matching literals with one key tuple.
 #[derive(Clone, Debug)]
@@ -85,7 +86,7 @@ pub fn has_over_all(class: &Class) -> bool {
 /// Why a component isn't covered.
 #[derive(Clone, Copy, PartialEq, Eq, Debug)]
 pub enum Lack {
-    /// It has a counted argument, so the instance may have a fact of it that no literal names.
+    /// It has a counted argument that no literal clears, so the instance may have a fact of it that no literal names.
     Counted,
     /// No literal names its relation as false condition, add or delete.
     Unnamed,
@@ -94,13 +95,34 @@ pub enum Lack {
 /// The reason for a name.
 #[derive(Clone, Debug)]
 pub enum Why<'d> {
-    Unreachable { trues: Vec<&'d Literal> },
-    Irrelevant { condition: Option<&'d Literal> },
-    Heavy { adds: Vec<&'d Literal> },
-    Balanced { condition: &'d Literal, added: bool, add: &'d Literal },
-    Unbalanced { condition: &'d Literal, add: &'d Literal },
-    Bounded { add: &'d Literal, covered: Vec<(usize, &'d Literal)> },
-    Unbounded { add: &'d Literal, component: usize, lack: Lack },
+    Unreachable {
+        trues: Vec<&'d Literal>,
+    },
+    Irrelevant {
+        condition: Option<&'d Literal>,
+    },
+    Heavy {
+        adds: Vec<&'d Literal>,
+    },
+    /// What deletes the condition; none where it is added.
+    Balanced {
+        condition: &'d Literal,
+        deleted: Option<&'d Literal>,
+        add: &'d Literal,
+    },
+    Unbalanced {
+        condition: &'d Literal,
+        add: &'d Literal,
+    },
+    Bounded {
+        add: &'d Literal,
+        covered: Vec<(usize, &'d Literal)>,
+    },
+    Unbounded {
+        add: &'d Literal,
+        component: usize,
+        lack: Lack,
+    },
 }
 
 impl Why<'_> {
@@ -129,10 +151,10 @@ pub fn why<'d>(domain: &Domain, counting: &Counting<'d>) -> Why<'d> {
         return Why::Heavy { adds: counting.adds.clone() };
     }
     if let Some(condition) = condition {
-        let added = add.is_about_same(condition);
-        let deleted = counting.deletes.iter().any(|delete| delete.is_about_same(condition));
-        return match added || deleted {
-            true => Why::Balanced { condition, added, add },
+        let deleted = deleting(counting, condition);
+        return match add.is_about_same(condition) {
+            true => Why::Balanced { condition, deleted: None, add },
+            false if deleted.is_some() => Why::Balanced { condition, deleted, add },
             false => Why::Unbalanced { condition, add },
         };
     }
@@ -142,18 +164,24 @@ pub fn why<'d>(domain: &Domain, counting: &Counting<'d>) -> Why<'d> {
     }
 }
 
-/// The literal that covers a component: of its relation, a false condition, an add or a delete.
+/// The delete that takes a condition away, as it stands or with every object in a place.
+fn deleting<'d>(counting: &Counting<'d>, condition: &Literal) -> Option<&'d Literal> {
+    counting.deletes.iter().copied().find(|delete| delete.covers(condition))
+}
+
+/// The literal that covers a component: of its relation, a false condition, an add or a delete; where the component
+/// has a counted place, with every object there.
 fn covering<'d>(component: &Component, counting: &Counting<'d>) -> Option<&'d Literal> {
     let naming = counting.falses.iter().chain(&counting.adds).chain(&counting.deletes);
-    naming.copied().find(|literal| literal.relation == component.relation)
+    let clears = |literal: &Literal| component.counted().is_none_or(|place| literal.arguments.get(place) == Some(&FF));
+    naming.copied().find(|literal| literal.relation == component.relation && clears(literal))
 }
 
 fn first_uncovered(domain: &Domain, counting: &Counting) -> Option<(usize, Lack)> {
-    domain.components.iter().enumerate().find_map(|(number, component)| match covering(component, counting) {
-        _ if component.has_counted() => Some((number, Lack::Counted)),
-        None => Some((number, Lack::Unnamed)),
-        Some(_) => None,
-    })
+    let lack = |component: &Component| if component.counted().is_some() { Lack::Counted } else { Lack::Unnamed };
+    let mut components = domain.components.iter().enumerate();
+    let uncovered = components.find(|(_, component)| covering(component, counting).is_none())?;
+    Some((uncovered.0, lack(uncovered.1)))
 }
 
 fn covered<'d>(domain: &Domain, counting: &Counting<'d>) -> Vec<(usize, &'d Literal)> {
@@ -165,7 +193,7 @@ fn covered<'d>(domain: &Domain, counting: &Counting<'d>) -> Vec<(usize, &'d Lite
 /// its end asks for none itself and gives one back.
 pub fn is_journey(action: &Action, class: &Class) -> bool {
     let (start, end) = (counting(class, 0), counting(class, 1));
-    let taken = |condition: &&Literal| start.deletes.iter().any(|delete| delete.is_about_same(condition));
+    let taken = |condition: &&Literal| deleting(&start, condition).is_some();
     action.lasting
         && start.adds.is_empty()
         && start.trues.len() == 1

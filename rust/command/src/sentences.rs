@@ -62,12 +62,13 @@ impl<'d> Sentences<'d> {
             ),
             Why::Irrelevant { .. } => format!("it adds no fact of {about}."),
             Why::Heavy { adds } => format!("it adds {} facts of {about}: {}.", adds.len(), self.literals(adds)),
-            Why::Balanced { add, added: true, .. } => {
+            Why::Balanced { add, deleted: None, .. } => {
                 format!("the one fact of {about} that it adds, {}, is the one that it asks for.", self.literal(add))
             }
-            Why::Balanced { condition, add, .. } => {
+            Why::Balanced { condition, deleted: Some(delete), add } => {
+                let with = if delete.clears() { format!(" with {}", self.literal(delete)) } else { String::new() };
                 let (condition, add) = (self.literal(condition), self.literal(add));
-                format!("it asks for {condition} and deletes it, and {add} comes in its place.")
+                format!("it asks for {condition} and deletes it{with}, and {add} comes in its place.")
             }
             Why::Unbalanced { condition, add } => {
                 let (condition, add) = (self.literal(condition), self.literal(add));
@@ -110,7 +111,7 @@ impl<'d> Sentences<'d> {
         let relation = self.domain.relation_name(component.relation);
         match lack {
             Lack::Counted => {
-                format!("the component {words} has a counted place, so there are facts of it that no literal names")
+                format!("the component {words} has a counted place, and no false or delete here has * there, so there are facts of it that no literal names")
             }
             Lack::Unnamed => {
                 let about = &self.about;

@@ -1,7 +1,9 @@
 //! Why the machine doesn't allow a step: the rules of a step, worked out again for showing. That it isn't allowed is the
 //! library's answer; a reason of another number would be a mistake here, and the tests look for one.
+//!
+//! A literal with its objects is a fact, or with `*` in a place, which FF stands for here, a fact for each object.
 
-use crate::domain::{Action, Domain, List, Literal, Time};
+use crate::domain::{row_common, row_covers, Action, Domain, List, Literal, Time};
 use crate::library::Fact;
 use crate::run::{Entry, Event};
 
@@ -10,12 +12,28 @@ use crate::run::{Entry, Event};
 pub enum Stop {
     /// The end of something that isn't open.
     NotOpen(Event),
-    /// A condition of an event that doesn't hold: the fact, and whether it should be true.
-    Condition { event: Event, fact: Fact, wanted: bool },
+    /// A condition of an event that doesn't hold.
+    Condition { event: Event, unmet: Unmet },
     /// A condition over all of something open.
-    OverAll { entry: Entry, fact: Fact, wanted: bool },
-    /// Two events and the fact that they disagree about, with what each has to do with it.
-    Interference { one: Event, of_one: List, other: Event, of_other: List, fact: Fact },
+    OverAll { entry: Entry, unmet: Unmet },
+    /// Two events that disagree about a fact.
+    Interference { one: Touch, other: Touch, fact: Fact },
+}
+
+/// A condition that doesn't hold: what is asked, whether it should be true, and the fact that is missing or there.
+#[derive(Clone, PartialEq, Eq, Debug)]
+pub struct Unmet {
+    pub asked: Fact,
+    pub wanted: bool,
+    pub fact: Fact,
+}
+
+/// What an event has to do with a fact: by a literal of this list.
+#[derive(Clone, PartialEq, Eq, Debug)]
+pub struct Touch {
+    pub event: Event,
+    pub list: List,
+    pub literal: Fact,
 }
 
 impl Stop {
@@ -46,8 +64,8 @@ pub fn stops(domain: &Domain, facts: &[Fact], open: &[Entry], events: &[Event]) 
 fn failing(domain: &Domain, facts: &[Fact], open: &[Entry], events: &[Event]) -> Vec<Stop> {
     let mut stops = Vec::new();
     for event in events {
-        for (fact, wanted) in unmet(facts, &event.entry, own(event.entry.action(domain), event.moment)) {
-            stops.push(Stop::Condition { event: event.clone(), fact, wanted });
+        for unmet in unmet(facts, &event.entry, own(event.entry.action(domain), event.moment)) {
+            stops.push(Stop::Condition { event: event.clone(), unmet });
         }
     }
     for (count, entry) in open.iter().enumerate() {
@@ -56,8 +74,8 @@ fn failing(domain: &Domain, facts: &[Fact], open: &[Entry], events: &[Event]) ->
             continue;
         }
         let over_all = entry.action(domain).literals.iter().filter(|literal| literal.time == Time::All);
-        for (fact, wanted) in unmet(facts, entry, over_all) {
-            stops.push(Stop::OverAll { entry: entry.clone(), fact, wanted });
+        for unmet in unmet(facts, entry, over_all) {
+            stops.push(Stop::OverAll { entry: entry.clone(), unmet });
         }
     }
     stops
@@ -70,44 +88,59 @@ fn own(action: &Action, moment: u8) -> impl Iterator<Item = &Literal> {
 }
 
 /// The conditions among these literals that don't hold.
-fn unmet<'l>(facts: &[Fact], entry: &Entry, literals: impl Iterator<Item = &'l Literal>) -> Vec<(Fact, bool)> {
+fn unmet<'l>(facts: &[Fact], entry: &Entry, literals: impl Iterator<Item = &'l Literal>) -> Vec<Unmet> {
     let conditions = literals.filter(|literal| literal.list.is_condition());
-    let bound = conditions.map(|literal| (bind(entry, literal), literal.list == List::True));
-    bound.filter(|(fact, wanted)| facts.contains(fact) != *wanted).collect()
+    conditions.filter_map(|literal| unmet_one(facts, bind(entry, literal), literal.list == List::True)).collect()
 }
 
-/// The fact that a literal is for an entry.
+fn unmet_one(facts: &[Fact], asked: Fact, wanted: bool) -> Option<Unmet> {
+    let found = facts.iter().find(|fact| stands_for(&asked, fact));
+    match (found, wanted) {
+        (None, true) => Some(Unmet { fact: asked.clone(), asked, wanted }),
+        (Some(fact), false) => Some(Unmet { fact: fact.clone(), asked, wanted }),
+        _ => None,
+    }
+}
+
+fn stands_for(literal: &Fact, fact: &Fact) -> bool {
+    literal.relation == fact.relation && row_covers(&literal.objects, &fact.objects)
+}
+
+/// What a literal is for an entry.
 pub fn bind(entry: &Entry, literal: &Literal) -> Fact {
     let object = |&variable: &u8| entry.objects.get(variable as usize).copied().unwrap_or(variable);
     Fact { relation: literal.relation, objects: literal.arguments.iter().map(object).collect() }
 }
 
 /// The literals of an event by which it interferes with others: its own. What an end asks over all ends just before it.
-fn touching(domain: &Domain, event: &Event) -> Vec<(List, Fact)> {
+fn touching(domain: &Domain, event: &Event) -> Vec<Touch> {
     let literals = own(event.entry.action(domain), event.moment);
-    literals.map(|literal| (literal.list, bind(&event.entry, literal))).collect()
+    let touch =
+        |literal: &Literal| Touch { event: event.clone(), list: literal.list, literal: bind(&event.entry, literal) };
+    literals.map(touch).collect()
 }
 
 fn interfering(domain: &Domain, events: &[Event]) -> Vec<Stop> {
-    let touching: Vec<Vec<(List, Fact)>> = events.iter().map(|event| touching(domain, event)).collect();
+    let touching: Vec<Vec<Touch>> = events.iter().map(|event| touching(domain, event)).collect();
     let mut stops = Vec::new();
-    for (first, one) in events.iter().enumerate() {
-        for (second, other) in events.iter().enumerate().skip(first + 1) {
-            let clash = touching[first].iter().find_map(|(of_one, fact)| {
-                let (of_other, _) =
-                    touching[second].iter().find(|(of_other, same)| same == fact && clash(*of_one, *of_other))?;
-                Some((*of_one, *of_other, fact.clone()))
-            });
-            if let Some((of_one, of_other, fact)) = clash {
-                stops.push(Stop::Interference { one: one.clone(), of_one, other: other.clone(), of_other, fact });
-            }
+    for (first, one) in touching.iter().enumerate() {
+        for other in &touching[first + 1..] {
+            let found = one.iter().find_map(|of_one| other.iter().find_map(|of_other| clash(of_one, of_other)));
+            stops.extend(found);
         }
     }
     stops
 }
 
-/// Whether two literals of one fact are in each other's way: a condition and an effect, or an add and a delete.
-fn clash(one: List, other: List) -> bool {
-    one.is_condition() != other.is_condition()
-        || matches!((one, other), (List::Add, List::Delete) | (List::Delete, List::Add))
+/// Two literals that are in each other's way: a condition and an effect, or an add and a delete, of a fact that both
+/// stand for.
+fn clash(one: &Touch, other: &Touch) -> Option<Stop> {
+    let disagree = one.list.is_condition() != other.list.is_condition()
+        || matches!((one.list, other.list), (List::Add, List::Delete) | (List::Delete, List::Add));
+    if !disagree || one.literal.relation != other.literal.relation {
+        return None;
+    }
+    let objects = row_common(&one.literal.objects, &other.literal.objects)?;
+    let fact = Fact { relation: one.literal.relation, objects };
+    Some(Stop::Interference { one: one.clone(), other: other.clone(), fact })
 }

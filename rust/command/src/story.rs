@@ -7,7 +7,7 @@ use crate::library::Fact;
 use crate::numbers::says;
 use crate::prose::{listed, paragraph, wrap};
 use crate::run::{Entry, Event};
-use crate::stops::{stops, Stop};
+use crate::stops::{stops, Stop, Touch, Unmet};
 use crate::timeline::{timeline, Column, Line, Mark};
 use crate::trace::{State, Trace};
 
@@ -206,44 +206,53 @@ impl Story<'_> {
             Stop::NotOpen(event) => {
                 format!("{}: this is not open, so it can't end.", self.event(event))
             }
-            Stop::Condition { event, fact, wanted } => {
-                format!(
-                    "{} asks for {}, {}.",
-                    self.event(event),
-                    self.asked(fact, *wanted),
-                    self.since(fact, *wanted, first, states)
-                )
+            Stop::Condition { event, unmet } => {
+                let (asked, since) = (self.asked(unmet), self.since(unmet, first, states));
+                format!("{} asks for {asked}, {since}.", self.event(event))
             }
-            Stop::OverAll { entry, fact, wanted } => format!(
-                "{} is open and asks over all for {}, {}.",
-                self.entry(entry),
-                self.asked(fact, *wanted),
-                self.since(fact, *wanted, first, states)
-            ),
-            Stop::Interference { one, of_one, other, of_other, fact } => format!(
+            Stop::OverAll { entry, unmet } => {
+                let (asked, since) = (self.asked(unmet), self.since(unmet, first, states));
+                format!("{} is open and asks over all for {asked}, {since}.", self.entry(entry))
+            }
+            Stop::Interference { one, other, fact } => format!(
                 "{} and {} interfere about {}: one {}, the other {}.",
-                self.event(one),
-                self.event(other),
+                self.event(&one.event),
+                self.event(&other.event),
                 self.fact(fact),
-                touch_word(*of_one),
-                touch_word(*of_other)
+                self.touch(one, fact),
+                self.touch(other, fact)
             ),
         }
     }
 
-    fn asked(&self, fact: &Fact, wanted: bool) -> String {
-        let fact = self.fact(fact);
-        if wanted {
-            fact
+    /// What an event does with a fact; told is the literal, too, where it stands for more than this one.
+    fn touch(&self, touch: &Touch, fact: &Fact) -> String {
+        let with = match touch.literal == *fact {
+            true => String::new(),
+            false => format!(" with {}", self.fact(&touch.literal)),
+        };
+        format!("{}{with}", touch_word(touch.list))
+    }
+
+    fn asked(&self, unmet: &Unmet) -> String {
+        let asked = self.fact(&unmet.asked);
+        if unmet.wanted {
+            asked
         } else {
-            format!("{fact} to be false")
+            format!("{asked} to be false")
         }
     }
 
     /// How a condition came to fail: since which step the fact is gone or there.
-    fn since(&self, fact: &Fact, wanted: bool, first: usize, states: &[State]) -> String {
+    fn since(&self, unmet: &Unmet, first: usize, states: &[State]) -> String {
+        let Unmet { asked, wanted, fact } = unmet;
+        let wanted = *wanted;
         let held = |state: &&State| state.facts.contains(fact) == wanted;
-        let word = if wanted { "which is not true" } else { "but it is true" };
+        let word = match wanted {
+            true => "which is not true".to_string(),
+            false if asked == fact => "but it is true".to_string(),
+            false => format!("but {} is true", self.fact(fact)),
+        };
         let Some(place) = states.iter().rposition(|state| held(&state)) else {
             let since = if first == 0 { " at any time before" } else { "" };
             return format!("{word}{}", if wanted { since } else { "" });

@@ -325,7 +325,8 @@ fn a_hand_in_is_marked() {
          not heavy: it adds only at(volume, to). \
          lend, about volume, at the end: nothing is told, it is unbounded \
          unbounded: it adds out(volume, reader) and asks for no fact of volume, so volume may have one already: \
-         the component at[0,_] has a counted place, so there are facts of it that no literal names."
+         the component at[0,_] has a counted place, and no false or delete here has * there, \
+         so there are facts of it that no literal names."
     );
 }
 

@@ -170,8 +170,9 @@ at once shelve(volume, shelf)
     THE FAULT
       add    at(volume, shelf)
     unbounded: it adds at(volume, shelf) and asks for no fact of volume, so
-      volume may have one already: the component at[0,_] has a counted place, so
-      there are facts of it that no literal names.
+      volume may have one already: the component at[0,_] has a counted place,
+      and no false or delete here has * there, so there are facts of it that no
+      literal names.
     not bounded: for that every component would have to be covered.
 
 at once light(lamp)
@@ -229,6 +230,42 @@ fn over_all_counts_for_unreachable_alone() {
     ));
     assert!(held.contains("asks for no fact of v itself (at(v, a) over all counts for unreachable alone)"), "{held}");
     assert!(held.contains("witness: none is written for an end whose class has a condition over all."), "{held}");
+}
+
+/// A literal with every object deletes the condition, covers the counted place and makes a journey; one of the other
+/// moment, or of another volume, does none of this.
+#[test]
+fn every_object_covers() {
+    let flat = |text: &str| text.split_whitespace().collect::<Vec<_>>().join(" ");
+    let said: [(&str, &str); 8] = [
+        ("put(v, a): delete at(v, *), add at(v, a)", "so no other fact of v is true then: at[0,_] by delete at(v, *)."),
+        ("put(v, a): false at(v, *), add at(v, a)", "so no other fact of v is true then: at[0,_] by false at(v, *)."),
+        (
+            "put(v, a): add at(v, a)",
+            "the component at[0,_] has a counted place, and no false or delete here has * there, so there are facts",
+        ),
+        (
+            "move(v, a, b): true at(v, a), add at(v, b), delete at(v, *)",
+            "balanced: it asks for at(v, a) and deletes it with at(v, *), and at(v, b) comes in its place.",
+        ),
+        ("swap(v, a, w, b): true at(v, a), add at(v, b), delete at(w, *)", "unbalanced: it asks for at(v, a)"),
+        (
+            "lasting lend(v, a, b): start true at(v, a), start delete at(v, *), end add at(v, b)",
+            "at the end: unbounded, the end of a journey",
+        ),
+        (
+            "lasting put(v, a): start add at(v, a), end delete at(v, *)",
+            "refused (42): put is unbounded about v, at the start.",
+        ),
+        (
+            "lasting put(v, a): all false at(v, *), end add at(v, a)",
+            "refused (42): put is unbounded about v, at the end.",
+        ),
+    ];
+    for (action, words) in said {
+        let text = flat(&explained(&format!("at/2; {action}; at[0,_]")));
+        assert!(text.contains(words) && !text.contains("no reason was found"), "{action}: {text}");
+    }
 }
 
 /// Of several faults the worst is named, whatever the order of the actions.

@@ -191,7 +191,7 @@ fn marks_stand_under_their_place() {
 /// Each slip with the words that it must be told with.
 #[test]
 fn each_slip_has_its_words() {
-    let slips: [(&str, &str, &str); 22] = [
+    let slips: [(&str, &str, &str); 25] = [
         ("relation at/2", "relation at", "expected `/` and the number of arguments, as in at/2"),
         ("relation at/2", "relation at/two", "`two` is no number"),
         ("relation at/2", "relation at/300", "300 is too large"),
@@ -206,6 +206,9 @@ fn each_slip_has_its_words() {
         ("end add", "add", "`lend` lasts, so add needs its time: start, all or end"),
         ("end add", "all add", "what counts over all is a condition"),
         ("end add", "end ad", "the nearest is `add`"),
+        ("delete at(volume, from)", "delete at(volume, _)", "every object is `*`"),
+        ("(volume, from, to)", "(volume, from, *)", "`*` is no name, and a variable is expected here"),
+        ("at[0,_] out", "at[0,*] out", "`*` is no label"),
         ("at[0,_] out", "at(0,_) out", "expected `[` and a label for each argument"),
         ("at[0,_] out", "at[0] out", "`at` has 2 arguments, and 1 label here"),
         ("at[0,_] out", "at[0,x] out", "`x` is no label"),
@@ -226,13 +229,18 @@ fn each_slip_has_its_words() {
 #[test]
 fn refusals_are_told_by_number_and_line() {
     let many = |count: usize, line: &str| (0..count).map(|n| line.replace('#', &n.to_string())).collect::<String>();
-    let slips: [(&str, String, u64, usize); 14] = [
+    let slips: [(&str, String, u64, usize); 19] = [
         ("relation out/2", "relation out/2\nrelation more/7".to_string(), 15, 4),
         ("relation out/2\n", format!("relation out/2\n{}", many(63, "relation more#/0\n")), 14, 66),
         ("(volume, from, to)", "(volume, from, to, 1, 2, 3, 4, 5, 6, 7, 8, 9, 10, 11, 12, 13, 14)".to_string(), 15, 5),
         ("template", "relation late/1\ntemplate".to_string(), 13, 14),
         ("true at(volume, from)", "end true at(volume, from)".to_string(), 16, 6),
-        ("true at(volume, from)", "true at(volume, _)".to_string(), 18, 6),
+        ("true at(volume, from)", "true at(volume, *)".to_string(), 26, 6),
+        ("add at(volume, to)", "add at(volume, *)".to_string(), 26, 7),
+        ("delete at(volume, from)", "delete at(*, *)".to_string(), 26, 8),
+        ("delete at(volume, from)", "false at(volume, *)".to_string(), 20, 8),
+        ("delete at(volume, from)", "delete at(*, from)".to_string(), 27, 14),
+        ("delete at(volume, from)", "record 3 03 00 00 03".to_string(), 18, 8),
         ("add at(volume, to)", "true at(volume, from)".to_string(), 19, 7),
         ("add at(volume, to)", "false at(volume, from)".to_string(), 20, 7),
         ("at[0,_] out", "at[_,_] out".to_string(), 25, 14),
@@ -274,6 +282,44 @@ fn the_label_at_fault_is_marked() {
             "{told}"
         );
     }
+}
+
+/// Every object is `*`, and FF where no variable has that name, as the paper writes it; bytes are shown with `*`.
+#[test]
+fn every_object_has_a_sign() {
+    let text = M1.replace("delete at(volume, from)\n", "delete at(volume, *)\n");
+    let file = domain(&text);
+    assert_eq!(file[32..40], [4, 0, 3, 0, 3, 0, 0, 0xFF]);
+    assert_eq!(domain(&PAPER.replace("delete at(0,1);", "delete at(0,FF);")), file);
+    let shown = show::domain(&file, &domain_text::read(&text).expect("a domain").names, None);
+    assert!(shown.contains("\n    delete at(volume, *)\n"), "{shown}");
+    assert_eq!(domain(&shown), file);
+    let named = M1.replace("from", "FF");
+    assert_eq!(domain(&named), m1());
+}
+
+/// The `*` at fault is marked itself, and so is the key that stands where a literal has one.
+#[test]
+fn the_every_at_fault_is_marked() {
+    let marked = |right: &str, wrong: &str| told(&M1.replacen(right, wrong, 1));
+    assert_eq!(
+        marked("delete at(volume, from)", "delete at(*, *)"),
+        "\
+d.txt:8:18: `*`, every object, stands in a false or a delete alone, and once at most (26)
+  8 |     delete at(*, *)
+    |                  ^
+"
+    );
+    assert_eq!(
+        marked("delete at(volume, from)", "delete at(*, from)"),
+        "\
+d.txt:14:13: a key in a place where a literal of the relation has `*` (27)
+ 14 | template at[0,_] out[0,_]
+    |             ^ the `*` is in line 8
+"
+    );
+    let told = marked("delete at(volume, from)", "false at(volume, *)");
+    assert!(told.contains("(20)\n") && told.contains("the other is in line 6"), "{told}");
 }
 
 /// Of literals and components every refusal is told in one go.
@@ -352,7 +398,7 @@ fn slips_in_a_run() {
 #[test]
 fn damaged_texts_are_told() {
     let of = Domain::of(&m1(), &domain_text::read(M1).expect("m1").names);
-    let signs: Vec<char> = "()[],:;/#_ \n0aé本\t\"".chars().collect();
+    let signs: Vec<char> = "()[],:;/#_* \n0aé本\t\"".chars().collect();
     let words = [
         "true ",
         "end ",

@@ -203,6 +203,61 @@ fn each_stop_has_its_words() {
     }
 }
 
+/// Steps with every object: what they take, what keeps them from being made, and by what they interfere.
+#[test]
+fn every_object_in_a_step() {
+    let domain = "\
+relation at/2
+relation none/0
+at once strike(volume)
+    delete at(volume, *)
+at once empty(shelf)
+    delete at(*, shelf)
+at once put(volume, shelf)
+    false at(volume, *)
+    add at(volume, shelf)
+lasting keep-away(volume)
+    all false at(volume, *)
+at once check(shelf)
+    false at(*, shelf)
+template none[]
+";
+    let told = |steps: &str| {
+        let text = story(domain.as_bytes(), format!("{START}{steps}").as_bytes(), false);
+        text.split_whitespace().collect::<Vec<_>>().join(" ")
+    };
+    let said: [(&str, &str); 7] = [
+        ("step strike(volume7), empty(shelf2)", "gone: at(volume7, shelf2), at(volume8, shelf2)"),
+        (
+            "step put(volume7, shelf3)",
+            "put(volume7, shelf3) asks for at(volume7, *) to be false, but at(volume7, shelf2) is true.",
+        ),
+        (
+            "step strike(volume7)\nstep put(volume7, shelf3)\nstep put(volume7, shelf2)",
+            "asks for at(volume7, *) to be false, but at(volume7, shelf3) is true: it came in step 2.",
+        ),
+        (
+            "step start keep-away(volume7)\nstep",
+            "keep-away(volume7) is open and asks over all for at(volume7, *) to be false, but at(volume7, shelf2) is true.",
+        ),
+        (
+            "step strike(volume7), strike(volume8)\nstep put(volume7, shelf2), check(shelf2)",
+            "interfere about at(volume7, shelf2): one adds it, the other asks for it to be false with at(*, shelf2).",
+        ),
+        (
+            "step strike(volume7), strike(volume8)\nstep strike(volume7), check(shelf3)",
+            "interfere about at(volume7, shelf3): one deletes it with at(volume7, *), the other asks for it to be false with at(*, shelf3).",
+        ),
+        (
+            "step strike(volume7), strike(volume8)\nstep strike(volume7), put(volume7, shelf2)",
+            "interfere about at(volume7, *): one deletes it, the other asks for it to be false.",
+        ),
+    ];
+    for (steps, words) in said {
+        assert!(told(steps).contains(words), "{steps}\n{}", told(steps));
+    }
+}
+
 /// What is asked over all ends just before the end, so an end is free to meet what takes it away.
 #[test]
 fn over_all_ends_before_the_end() {

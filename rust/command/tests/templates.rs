@@ -47,10 +47,11 @@ out[0,_]  out       1        42      refused: unbounded outside a journey's end
     assert!(json.starts_with(first) && json.lines().count() == 6, "{json}");
 }
 
-/// Every template of every sample that is read, in the place of its own: judging says what the list says.
+/// Every template of every sample that is read, in the place of its own: judging says what the list says. What isn't in
+/// the list is refused by 27.
 #[test]
 fn each_is_judged_as_it_is_listed() {
-    let mut listed = 0;
+    let (mut listed, mut passed_over) = (0, 0);
     for entry in fs::read_dir(SAMPLES).expect("samples") {
         let path = entry.expect("an entry").path();
         if !text(&path).ends_with(".domain.txt") {
@@ -68,22 +69,27 @@ fn each_is_judged_as_it_is_listed() {
             continue;
         };
         let shown = said(&output);
-        for line in shown.lines().skip(1) {
+        let (table, missing) = shown.split_once("\n\npassed over").unwrap_or((&shown, ""));
+        for line in table.lines().skip(1) {
             let cells: Vec<&str> = line.split_whitespace().collect();
             assert_eq!(cells[3].parse(), Ok(judged(cells[0])), "{path:?}: {line}");
             let place = cells[0].split(['[', ',', ']']).skip(1).position(|label| label == "_");
             assert_eq!(cells[2], place.map_or("-".to_string(), |place| place.to_string()), "{line}");
             listed += 1;
         }
+        for template in missing.split_whitespace().filter(|word| word.contains('[')) {
+            assert_eq!(judged(template), 27, "{path:?}: {template}");
+            passed_over += 1;
+        }
     }
-    assert!(listed > 500, "{listed}");
+    assert!(listed > 500 && passed_over > 5, "{listed} {passed_over}");
 }
 
 #[test]
 fn what_is_not_listed() {
     let folder = Folder::new("templates");
     let broken = folder.put("broken.txt", "relation at/2\nat once put(volume)\n    ad at(volume, volume)\n");
-    let none = folder.put("none.txt", "relation at/2\nat once put(volume)\n    delete at(volume, volume)\n");
+    let none = folder.put("none.txt", "relation at/2\nat once put(volume)\n    delete at(volume, *)\n");
     for (file, said) in [(&broken, "the nearest is `add`"), (&none, "the template is missing (23)")] {
         let output = run(&[text(file)]);
         let complained = String::from_utf8_lossy(&output.stderr);
@@ -92,4 +98,10 @@ fn what_is_not_listed() {
     for wrong in [&[][..], &["a", "b"], &["--rows", "a"]] {
         assert_eq!(run(wrong).status.code(), Some(2));
     }
+    let row = folder.put("row.txt", "relation at/2\nat once put(v)\n    delete at(v, *)\ntemplate at[0,_]\n");
+    let shown = said(&run(&[text(&row)]));
+    let passed = "\n\npassed over, as a literal has * where a key would be (27): at[0,1] at[_,0]\n";
+    assert!(shown.ends_with(passed) && shown.lines().count() == 4, "{shown}");
+    let tsv = said(&run(&["--tsv", text(&row)]));
+    assert!(tsv.lines().count() == 2 && !tsv.contains("passed over"), "{tsv}");
 }

@@ -121,7 +121,7 @@ moments          3      all
     // every number that a file can meet
     let all = said(&run(&["--tsv", "--all", &m1], b""));
     let numbers: Vec<&str> = all.lines().skip(1).filter(|line| line.starts_with("files\t")).collect();
-    assert_eq!(numbers.len(), 2 + 17 + 4 + 1, "{all}");
+    assert_eq!(numbers.len(), 2 + 19 + 4 + 1, "{all}");
 }
 
 #[test]

@@ -66,8 +66,8 @@ pub fn service_lines(kind: &str) -> Vec<Serving> {
     lines(kind, serving_line)
 }
 
-/// What a line may begin with.
-const KINDS: [&str; 5] = ["judge", "play", "track", "templates", "totals"];
+/// What a line may begin with. Classes are looked at in the model alone.
+const KINDS: [&str; 6] = ["judge", "play", "track", "classes", "templates", "totals"];
 
 fn lines<T>(kind: &str, read: impl Fn(usize, &[&str]) -> Option<T>) -> Vec<T> {
     let text = include_str!("../../cases/edges.txt");

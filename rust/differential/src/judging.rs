@@ -26,8 +26,8 @@ pub fn model(file: &[u8], report: &mut [u8], witness: &mut [u8]) -> Judgement {
 }
 
 /// The numbers that judging may answer; a run must meet each.
-pub const NUMBERS: [u64; 25] =
-    [0, 1, 9, 10, 11, 12, 13, 14, 15, 16, 17, 18, 19, 20, 21, 22, 23, 24, 25, 30, 31, 40, 41, 42, 43];
+pub const NUMBERS: [u64; 27] =
+    [0, 1, 9, 10, 11, 12, 13, 14, 15, 16, 17, 18, 19, 20, 21, 22, 23, 24, 25, 26, 27, 30, 31, 40, 41, 42, 43];
 
 /// The least number of cases that one file gives.
 pub const CASES_A_FILE: u64 = 4;

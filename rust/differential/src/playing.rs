@@ -64,8 +64,8 @@ pub fn of_library(domain: &[u8], run: &[u8], played: goadlotus::Played) -> Playe
 }
 
 /// The numbers that playing may answer; a run of cases must meet each.
-pub const NUMBERS: [u64; 27] =
-    [2, 9, 10, 11, 12, 13, 14, 15, 16, 17, 18, 19, 20, 21, 22, 23, 24, 25, 50, 51, 52, 53, 54, 55, 56, 57, 58];
+pub const NUMBERS: [u64; 29] =
+    [2, 9, 10, 11, 12, 13, 14, 15, 16, 17, 18, 19, 20, 21, 22, 23, 24, 25, 26, 27, 50, 51, 52, 53, 54, 55, 56, 57, 58];
 
 /// The bytes of work memory that a player needs.
 pub const WORK: usize = model::WORK;

@@ -182,10 +182,10 @@ fn only_the_first_step_made() {
     });
 }
 
-/// 9 to 25 write nothing, nor does 58, whatever length is lent to it.
+/// 9 to 27 write nothing, nor does 58, whatever length is lent to it.
 #[test]
 fn a_byte_written_by_a_refusal() {
-    for number in 9..=25 {
+    for number in 9..=27 {
         change_caught("written", number, |_, work| work[0] = !work[0]);
     }
     caught("written by 58", |domain: &[u8], run: &[u8], work: &mut [u8]| {
@@ -239,7 +239,7 @@ fn another_length_of_work_memory() {
         work.copy_from_slice(&memory[..work.len()]);
         played
     });
-    // 9 to 25 come before 58.
+    // 9 to 27 come before 58.
     caught("58 first", |domain: &[u8], run: &[u8], work: &mut [u8]| {
         if work.len() < WORK {
             let (file, at) = (Source::Run, run.len());

@@ -443,5 +443,5 @@ fn a_wrong_answer_is_noticed() {
     };
     let weighs_two = |name: &&str| text(&stored, &format!("{name}.played")).lines().next().unwrap().ends_with(" 2");
     let heavy = names(&stored, ".run").filter(weighs_two).count();
-    assert_eq!((wrong_texts(judge, light, &stored).len(), heavy), (21, 21));
+    assert_eq!((wrong_texts(judge, light, &stored).len(), heavy), (23, 23));
 }

@@ -28,7 +28,7 @@ fn domain_file(seed: u64) -> Vec<u8> {
 }
 
 /// What refuses a domain file, what a short memory gives, and done.
-const OF_ONE_FILE: &[u64] = &[0, 9, 10, 11, 12, 13, 14, 15, 16, 17, 18, 19, 20, 21, 22, 23, 24, 25, 30];
+const OF_ONE_FILE: &[u64] = &[0, 9, 10, 11, 12, 13, 14, 15, 16, 17, 18, 19, 20, 21, 22, 23, 24, 25, 26, 27, 30];
 
 const OF_TEMPLATES: Tried = Tried { service: TEMPLATES, file: domain_file, numbers: OF_ONE_FILE };
 

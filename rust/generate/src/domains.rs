@@ -36,7 +36,12 @@ impl PlanAction {
             (4 | 6, 5 | 7) | (5 | 7, 4 | 6) => true,
             _ => false,
         };
-        let taken = self.literals.iter().any(|l| l.1 == relation && l.2 == arguments && clash(l.0));
+        let alike = |(a, b): (&u8, &u8)| a == b || *a == FF || *b == FF;
+        let meets = |other: &(u8, u8, Vec<u8>)| match other.0 == role {
+            true => other.2 == arguments,
+            false => other.2.iter().zip(&arguments).all(alike),
+        };
+        let taken = self.literals.iter().any(|l| l.1 == relation && clash(l.0) && meets(l));
         if self.literals.len() < 64 && !taken {
             self.literals.push((role, relation, arguments));
         }
@@ -68,6 +73,15 @@ impl Plan {
 
     pub fn file(&self) -> Vec<u8> {
         encode(&self.records())
+    }
+
+    /// The places of a relation where a literal may have FF: its component's counted one, or any if it has none.
+    pub fn clearable(&self, relation: u8) -> Vec<usize> {
+        let places = 0..self.relations[relation as usize] as usize;
+        match self.labels(relation) {
+            Some(labels) => places.filter(|&place| labels[place] == FF).collect(),
+            None => places.collect(),
+        }
     }
 
     fn labels(&self, relation: u8) -> Option<&[u8]> {
@@ -280,7 +294,7 @@ fn template(rng: &mut Rng, mood: Mood, size: Size) -> Plan {
     };
     // Which components have an FF: none (so that moments may be bounded), all, or some.
     let percent = match mood {
-        Mood::Bounded43 => 0,
+        Mood::Bounded43 => rng.pick(&[0, 0, 0, 50, 100]),
         Mood::Accepted0 | Mood::Unbounded42 => rng.pick(&[0, 0, 50, 100]),
         _ => rng.pick(&[0, 50, 100]),
     };
@@ -354,7 +368,8 @@ fn action(rng: &mut Rng, plan: &Plan, mood: Mood, size: Size) -> PlanAction {
     noise(rng, plan, &mut action);
     let harmless = [Aim::Balanced, Aim::Balanced, Aim::Irrelevant, Aim::Unreachable, Aim::Nothing];
     let bounded = [Aim::Balanced, Aim::Bounded, Aim::Bounded, Aim::Irrelevant, Aim::Unreachable, Aim::Nothing];
-    let uncounted = plan.components.iter().all(|c| !c.1.contains(&FF));
+    // A component with FF is covered too, by a literal that clears it.
+    let uncounted = plan.components.iter().all(|c| !c.1.contains(&FF)) || rng.chance(40);
     let aims: &[Aim] = if mood == Mood::Accepted0 && uncounted { &bounded } else { &harmless };
     let classes = if plan.n() == 0 { 1 } else { rng.small(1, size.classes) };
     let special = rng.below(classes);
@@ -397,7 +412,8 @@ fn action(rng: &mut Rng, plan: &Plan, mood: Mood, size: Size) -> PlanAction {
 
 /// A true or false condition, in the roles that it may have at this moment: an end's is its own, or its own and an
 /// over-all one, at times only an over-all one, which counts for less.
-fn condition(rng: &mut Rng, action: &mut PlanAction, end: bool, truth: bool, atom: &PlanAtom) {
+fn condition(rng: &mut Rng, plan: &Plan, action: &mut PlanAction, end: bool, truth: bool, atom: &PlanAtom) {
+    let atom = &if truth { atom.clone() } else { cleared(rng, plan, atom, CLEARING) };
     let role = if truth { 0 } else { 1 };
     let roles: &[u8] = match (end, rng.below(12)) {
         (false, _) => &[0],
@@ -415,8 +431,22 @@ fn add(action: &mut PlanAction, end: bool, atom: &PlanAtom) {
     action.push(if end { 8 } else { 2 }, atom.0, atom.1.clone());
 }
 
-fn delete(action: &mut PlanAction, end: bool, atom: &PlanAtom) {
-    action.push(if end { 9 } else { 3 }, atom.0, atom.1.clone());
+fn delete(rng: &mut Rng, plan: &Plan, action: &mut PlanAction, end: bool, atom: &PlanAtom) {
+    let (relation, arguments) = cleared(rng, plan, atom, CLEARING);
+    action.push(if end { 9 } else { 3 }, relation, arguments);
+}
+
+/// How many of a hundred false conditions and deletes clear, where they may.
+const CLEARING: usize = 15;
+
+/// The atom, in so many of a hundred cases with FF in a place where it may stand.
+fn cleared(rng: &mut Rng, plan: &Plan, atom: &PlanAtom, percent: usize) -> PlanAtom {
+    let (relation, mut arguments) = atom.clone();
+    let places = plan.clearable(relation);
+    if !places.is_empty() && rng.chance(percent) {
+        arguments[rng.pick(&places)] = FF;
+    }
+    (relation, arguments)
 }
 
 /// Literals of one class at one moment.
@@ -426,9 +456,9 @@ fn moment_of(rng: &mut Rng, plan: &Plan, action: &mut PlanAction, tuple: &[u8], 
     match aim {
         Aim::Nothing => {}
         Aim::Unreachable => {
-            condition(rng, action, end, true, &first);
+            condition(rng, plan, action, end, true, &first);
             if let Some(second) = second {
-                condition(rng, action, end, true, &second);
+                condition(rng, plan, action, end, true, &second);
                 if rng.chance(60) {
                     add(action, end, &second);
                 }
@@ -439,11 +469,11 @@ fn moment_of(rng: &mut Rng, plan: &Plan, action: &mut PlanAction, tuple: &[u8], 
         }
         Aim::Irrelevant => {
             if rng.chance(60) {
-                delete(action, end, &first);
+                delete(rng, plan, action, end, &first);
             }
             if rng.chance(60) {
                 let truth = rng.chance(50);
-                condition(rng, action, end, truth, &second.unwrap_or(first));
+                condition(rng, plan, action, end, truth, &second.unwrap_or(first));
             }
         }
         Aim::Heavy => {
@@ -453,27 +483,27 @@ fn moment_of(rng: &mut Rng, plan: &Plan, action: &mut PlanAction, tuple: &[u8], 
             }
             if let (true, Some(third)) = (rng.chance(50), any_atom(rng, plan, action, tuple)) {
                 let truth = rng.chance(60);
-                condition(rng, action, end, truth, &third);
+                condition(rng, plan, action, end, truth, &third);
                 if rng.chance(50) {
-                    delete(action, end, &third);
+                    delete(rng, plan, action, end, &third);
                 }
             }
         }
         Aim::Balanced => {
-            condition(rng, action, end, true, &first);
+            condition(rng, plan, action, end, true, &first);
             if rng.chance(15) {
                 add(action, end, &first);
             } else {
-                delete(action, end, &first);
+                delete(rng, plan, action, end, &first);
                 add(action, end, &second.unwrap_or(first));
             }
         }
         Aim::Unbalanced => {
             if let Some(second) = second {
-                condition(rng, action, end, true, &first);
+                condition(rng, plan, action, end, true, &first);
                 add(action, end, &second);
                 if rng.chance(20) {
-                    delete(action, end, &second);
+                    delete(rng, plan, action, end, &second);
                 }
             }
         }
@@ -484,10 +514,13 @@ fn moment_of(rng: &mut Rng, plan: &Plan, action: &mut PlanAction, tuple: &[u8], 
                 covering.extend(atom(rng, plan, action, component.0, tuple));
             }
             for atom in covering {
+                // a component with FF is covered by clearing alone
+                let counted = plan.labels(atom.0).is_some_and(|labels| labels.contains(&FF));
+                let atom = cleared(rng, plan, &atom, if counted { 95 } else { 0 });
                 match rng.below(3) {
                     _ if atom == first && rng.chance(70) => {}
-                    0 => condition(rng, action, end, false, &atom),
-                    _ => delete(action, end, &atom),
+                    0 => condition(rng, plan, action, end, false, &atom),
+                    _ => delete(rng, plan, action, end, &atom),
                 }
             }
         }
@@ -495,10 +528,10 @@ fn moment_of(rng: &mut Rng, plan: &Plan, action: &mut PlanAction, tuple: &[u8], 
             add(action, end, &first);
             if let Some(second) = second {
                 if rng.chance(40) {
-                    condition(rng, action, end, false, &second);
+                    condition(rng, plan, action, end, false, &second);
                 }
                 if rng.chance(20) {
-                    delete(action, end, &second);
+                    delete(rng, plan, action, end, &second);
                 }
             }
         }
@@ -509,9 +542,9 @@ fn moment_of(rng: &mut Rng, plan: &Plan, action: &mut PlanAction, tuple: &[u8], 
 /// missing.
 fn journey(rng: &mut Rng, plan: &Plan, action: &mut PlanAction, tuple: &[u8], bounded: bool) {
     let Some(first) = any_atom(rng, plan, action, tuple) else { return };
-    condition(rng, action, false, true, &first);
+    condition(rng, plan, action, false, true, &first);
     if !rng.chance(3) {
-        delete(action, false, &first);
+        delete(rng, plan, action, false, &first);
     }
     if bounded {
         moment_of(rng, plan, action, tuple, true, Aim::Bounded);
@@ -520,11 +553,14 @@ fn journey(rng: &mut Rng, plan: &Plan, action: &mut PlanAction, tuple: &[u8], bo
     if let Some(last) = any_atom(rng, plan, action, tuple) {
         add(action, true, &last);
         match rng.below(20) {
-            0 => delete(action, true, &last),
-            1 => condition(rng, action, true, false, &last),
+            0 => delete(rng, plan, action, true, &last),
+            1 => condition(rng, plan, action, true, false, &last),
             2 => action.push(5, first.0, first.1),
             3 => action.push(1, last.0, last.1),
-            4 => action.push(3, last.0, last.1),
+            4 => {
+                let last = cleared(rng, plan, &last, 50);
+                action.push(3, last.0, last.1);
+            }
             // over-all conditions don't unmake a journey, two true ones name its end all the same
             5 => action.push(4, last.0, last.1),
             6..=8 => {
@@ -540,7 +576,8 @@ fn journey(rng: &mut Rng, plan: &Plan, action: &mut PlanAction, tuple: &[u8], bo
 /// An over-all condition under a key tuple.
 fn over_all(rng: &mut Rng, plan: &Plan, action: &mut PlanAction, tuple: &[u8]) {
     let role = if rng.chance(60) { 4 } else { 5 };
-    if let Some((relation, arguments)) = any_atom(rng, plan, action, tuple) {
+    if let Some(atom) = any_atom(rng, plan, action, tuple) {
+        let (relation, arguments) = cleared(rng, plan, &atom, if role == 5 { 2 * CLEARING } else { 0 });
         action.push(role, relation, arguments);
     }
 }
@@ -566,16 +603,22 @@ fn anything(rng: &mut Rng, plan: &Plan, action: &mut PlanAction) {
 
 fn literal(rng: &mut Rng, plan: &Plan, action: &mut PlanAction, relation: u8) {
     let arity = plan.relations[relation as usize];
+    let role = rng.below(if action.lasting { 10 } else { 4 });
     if arity > 0 && action.variables == 0 {
+        // without variables only every object can be told
+        if arity == 1 && MAY_CLEAR.contains(&(role as u8)) && !plan.clearable(relation).is_empty() {
+            action.push(role as u8, relation, vec![FF]);
+        }
         return;
     }
-    let role = rng.below(if action.lasting { 10 } else { 4 });
-    let mut arguments = Vec::new();
-    for _ in 0..arity {
-        arguments.push(rng.below(action.variables as usize) as u8);
-    }
+    let arguments = (0..arity).map(|_| rng.below(action.variables as usize) as u8).collect();
+    let clears = if MAY_CLEAR.contains(&(role as u8)) { 2 * CLEARING } else { 0 };
+    let (relation, arguments) = cleared(rng, plan, &(relation, arguments), clears);
     action.push(role as u8, relation, arguments);
 }
+
+/// The roles of false conditions and deletes.
+pub const MAY_CLEAR: [u8; 5] = [1, 3, 5, 7, 9];
 
 /// A file near a limit, on either side of it.
 pub fn near_limit(rng: &mut Rng) -> Vec<u8> {
@@ -823,13 +866,13 @@ pub fn random(rng: &mut Rng) -> Vec<u8> {
     }
 }
 
-/// A valid file damaged anyhow, or so that it stops with a number from 10 to 25.
+/// A valid file damaged anyhow, or so that it stops with a number from 10 to 27.
 pub fn damaged(rng: &mut Rng) -> Vec<u8> {
     let plan = valid(rng);
     if rng.chance(50) {
         return damage(rng, &plan.records());
     }
-    let number = rng.range(10, 25) as u8;
+    let number = rng.range(10, 27) as u8;
     damaged_for(rng, plan, number)
 }
 
@@ -898,14 +941,14 @@ pub fn damaged_for(rng: &mut Rng, mut plan: Plan, number: u8) -> Vec<u8> {
             }
         }
         // a literal with two faults, so that it shows which comes first
-        16..=18 => {
+        16..=18 | 26 => {
             if with_literal.is_empty() {
                 plan.actions.push(PlanAction { variables: 2, lasting: rng.chance(50), literals: vec![(2, 0, vec![])] });
                 records = plan.records();
             }
             let literals: Vec<usize> = (0..records.len()).filter(|&at| records[at].kind == 3).collect();
             let at = rng.pick(&literals);
-            let second = rng.range(16, 21) as u8;
+            let second = rng.pick(&[16, 17, 18, 18, 19, 20, 21, 26]);
             for fault in [number, second] {
                 let payload = &mut records[at].payload;
                 if payload.len() < 2 {
@@ -917,7 +960,19 @@ pub fn damaged_for(rng: &mut Rng, mut plan: Plan, number: u8) -> Vec<u8> {
                     18 => {
                         let place = rng.range(2, payload.len());
                         if place < payload.len() {
-                            payload[place] = rng.pick(&[16, 17, 64, 255]);
+                            payload[place] = rng.pick(&[16, 17, 64, 254]);
+                        }
+                    }
+                    // FF once or twice, in any role
+                    26 => {
+                        for _ in 0..rng.range(1, 2) {
+                            let place = rng.range(2, payload.len());
+                            if place < payload.len() {
+                                payload[place] = FF;
+                            }
+                        }
+                        if rng.chance(50) {
+                            payload[0] = rng.below(10) as u8;
                         }
                     }
                     19 => payload.push(rng.below(20) as u8),
@@ -953,15 +1008,18 @@ pub fn damaged_for(rng: &mut Rng, mut plan: Plan, number: u8) -> Vec<u8> {
             }
             records = plan.records();
         }
-        21 | 22 | 24 | 25 => {
+        21 | 22 | 24 | 25 | 27 => {
             let at = rng.below(plan.components.len());
+            if number == 27 {
+                clears_a_key(rng, &mut plan, at);
+            }
             if number == 22 {
                 let copy = plan.components[at].clone();
                 let to = rng.below(plan.components.len() + 1);
                 plan.components.insert(to, copy);
             }
             // one label, and at times a second, so that it shows which comes first
-            for fault in [number, rng.pick(&[0, 0, 0, 21, 24, 25])] {
+            for fault in [number, rng.pick(&[0, 0, 0, 0, 21, 24, 25])] {
                 label_fault(rng, &mut plan, at, fault);
             }
             // a second fault, so that it shows which comes first
@@ -992,6 +1050,26 @@ pub fn damaged_for(rng: &mut Rng, mut plan: Plan, number: u8) -> Vec<u8> {
         }
     }
     encode(&records)
+}
+
+/// A literal of some action that has FF where this component has a key.
+fn clears_a_key(rng: &mut Rng, plan: &mut Plan, at: usize) {
+    let (relation, labels) = plan.components[at].clone();
+    let keys: Vec<usize> = (0..labels.len()).filter(|&place| labels[place] != FF).collect();
+    if keys.is_empty() {
+        return;
+    }
+    if plan.actions.is_empty() {
+        plan.actions.push(PlanAction::new(2, rng.chance(50)));
+    }
+    let number = rng.below(plan.actions.len());
+    let action = &mut plan.actions[number];
+    if action.variables == 0 {
+        return;
+    }
+    let mut arguments: Vec<u8> = labels.iter().map(|_| rng.below(action.variables as usize) as u8).collect();
+    arguments[rng.pick(&keys)] = FF;
+    action.push(if action.lasting { rng.pick(&MAY_CLEAR) } else { rng.pick(&[1, 3]) }, relation, arguments);
 }
 
 /// Changes a label of a component, so that it mostly stops with this number: 25 another FF, 24 a key that stands twice,
@@ -1025,12 +1103,15 @@ pub struct Labelled {
     /// The labels of the component before it, if there is one, and its own.
     pub first: Option<Vec<u8>>,
     pub labels: Vec<u8>,
+    /// The place that a literal of its relation clears, if there is one.
+    pub cleared: Option<usize>,
     /// The offset of its record.
     pub record: usize,
 }
 
 /// Every row of up to four labels out of 0, 1, 2, 3 and FF, as first component and behind right ones of up to three
-/// keys, with and without FF. (It takes four to have two FF and a key that stands twice.)
+/// keys, with and without FF. (It takes four to have two FF and a key that stands twice.) Those of up to three also
+/// with an action that clears any place of their relation.
 pub fn all_labels() -> Vec<Labelled> {
     let mut rows: Vec<Vec<u8>> = vec![Vec::new()];
     for shorter in 0..1 + 5 + 25 + 125 {
@@ -1045,13 +1126,118 @@ pub fn all_labels() -> Vec<Labelled> {
     let mut files = Vec::new();
     for first in &before {
         for labels in &rows {
-            let all: Vec<&Vec<u8>> = first.iter().chain([labels]).collect();
-            let mut plan = Plan { relations: all.iter().map(|labels| labels.len() as u8).collect(), ..Plan::default() };
-            plan.components = all.iter().enumerate().map(|(at, labels)| (at as u8, labels.to_vec())).collect();
-            let records = plan.records();
-            let record = encode(&records[..records.len() - 2]).len();
-            files.push(Labelled { file: plan.file(), first: first.clone(), labels: labels.clone(), record });
+            let places = if labels.len() <= 3 { labels.len() } else { 0 };
+            for cleared in [None].into_iter().chain((0..places).map(Some)) {
+                let all: Vec<&Vec<u8>> = first.iter().chain([labels]).collect();
+                let mut plan =
+                    Plan { relations: all.iter().map(|labels| labels.len() as u8).collect(), ..Plan::default() };
+                plan.components = all.iter().enumerate().map(|(at, labels)| (at as u8, labels.to_vec())).collect();
+                if let Some(cleared) = cleared {
+                    let mut arguments = vec![0; labels.len()];
+                    arguments[cleared] = FF;
+                    let mut action = PlanAction::new(1, true);
+                    action.push(MAY_CLEAR[files.len() % MAY_CLEAR.len()], all.len() as u8 - 1, arguments);
+                    plan.actions.push(action);
+                }
+                let records = plan.records();
+                let record = encode(&records[..records.len() - 2]).len();
+                files.push(Labelled {
+                    file: plan.file(),
+                    first: first.clone(),
+                    labels: labels.clone(),
+                    cleared,
+                    record,
+                });
+            }
         }
     }
     files
+}
+
+/// A file whose only fault, if it has one, is the last literal of an action of two variables.
+pub struct Literate {
+    pub file: Vec<u8>,
+    pub lasting: bool,
+    /// Role and arguments of the literal before it, if there is one, and its own; all are of relation 0, of arity 2.
+    pub earlier: Option<(u8, [u8; 2])>,
+    pub literal: (u8, [u8; 2]),
+    /// The offset of its record.
+    pub record: usize,
+}
+
+/// Every literal of two arguments out of 0, 1, FF and one that is no variable, in every role and one that isn't one, of
+/// an action at once and of a lasting one; alone, and behind every right literal.
+pub fn all_literals() -> Vec<Literate> {
+    let pairs =
+        |from: &[u8]| -> Vec<[u8; 2]> { from.iter().flat_map(|&a| from.iter().map(move |&b| [a, b])).collect() };
+    let mut files = Vec::new();
+    for lasting in [false, true] {
+        let roles = if lasting { 10 } else { 4 };
+        let mut before: Vec<Option<(u8, [u8; 2])>> = vec![None];
+        for role in 0..roles {
+            let all = if MAY_CLEAR.contains(&role) { pairs(&[0, 1, FF]) } else { pairs(&[0, 1]) };
+            before.extend(all.into_iter().filter(|arguments| *arguments != [FF; 2]).map(|args| Some((role, args))));
+        }
+        for &earlier in &before {
+            for role in 0..=roles {
+                for arguments in pairs(&[0, 1, 2, FF]) {
+                    let literals: Vec<(u8, u8, Vec<u8>)> =
+                        earlier.iter().chain([&(role, arguments)]).map(|l| (l.0, 0, l.1.to_vec())).collect();
+                    let plan = Plan {
+                        relations: vec![2, 0],
+                        actions: vec![PlanAction { variables: 2, lasting, literals }],
+                        components: vec![(1, Vec::new())],
+                    };
+                    let records = plan.records();
+                    let record = encode(&records[..records.len() - 3]).len();
+                    files.push(Literate { file: plan.file(), lasting, earlier, literal: (role, arguments), record });
+                }
+            }
+        }
+    }
+    files
+}
+
+/// A domain of actions at once that is small enough to try every set of facts: relations of up to two places, up to
+/// three variables, a few literals, many of them clearing.
+pub fn tiny(rng: &mut Rng) -> Plan {
+    let n = rng.pick(&[0, 0, 1, 1, 1, 1, 1, 2]);
+    let mut plan = Plan::default();
+    for _ in 0..rng.range(1, 2) {
+        let mut labels: Vec<u8> = (0..n).collect();
+        if n < 2 && rng.chance(85) {
+            labels.insert(rng.below(labels.len() + 1), FF);
+        }
+        plan.components.push((plan.relations.len() as u8, labels.clone()));
+        plan.relations.push(labels.len() as u8);
+    }
+    if rng.chance(20) {
+        plan.relations.push(rng.below(2) as u8);
+    }
+    let most = if plan.relations.contains(&2) { 2 } else { 3 };
+    for _ in 0..rng.pick(&[1, 1, 2]) {
+        let mut action = PlanAction::new(rng.range(0, most) as u8, false);
+        // a key is mostly variable 0, so that classes have several literals
+        let keys: Vec<u8> = (0..n).map(|_| if rng.chance(70) { 0 } else { rng.below(2) as u8 }).collect();
+        for number in 0..rng.range(2, 5) {
+            let relation = rng.below(plan.relations.len()) as u8;
+            let arity = plan.relations[relation as usize];
+            let role = if number == 0 && rng.chance(80) { 2 } else { rng.pick(&[0, 0, 1, 2, 3, 3]) };
+            if arity > 0 && action.variables == 0 {
+                literal(rng, &plan, &mut action, relation);
+                continue;
+            }
+            let labels = plan.labels(relation).unwrap_or(&[]);
+            let argument = |place: usize| match labels.get(place) {
+                Some(&key) if key != FF && rng.chance(85) => keys[key as usize].min(action.variables - 1),
+                _ => rng.below(action.variables as usize) as u8,
+            };
+            let arguments = (0..arity as usize).map(argument).collect();
+            let clears = if MAY_CLEAR.contains(&role) { 40 } else { 0 };
+            let (relation, arguments) = cleared(rng, &plan, &(relation, arguments), clears);
+            action.push(role, relation, arguments);
+        }
+        plan.actions.push(action);
+    }
+    plan
 }

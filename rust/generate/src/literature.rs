@@ -3,8 +3,8 @@
 //! The texts are in the notation of the command (`rust/command/src/notation`). Read here are its plain lines alone, so
 //! that the two readers can be compared: `relation NAME/ARITY`; `lasting NAME(VARIABLE, ..)` and `at once NAME(..)`, each
 //! followed by its literals; a literal is its time (`start`, `all`, `end`; none at once), its list (`true`, `false`,
-//! `add`, `delete`), and its relation with its variables. The template is passed over, since each domain is tried with
-//! several. A line that starts with # is a remark.
+//! `add`, `delete`), and its relation with its variables, or `*` for every object. The template is passed over, since each
+//! domain is tried with several. A line that starts with # is a remark.
 
 use crate::domains::{Plan, PlanAction, FF};
 use crate::records::{rec, Rec};
@@ -54,14 +54,17 @@ impl Named {
         domain
     }
 
-    /// A literal of the latest action: its list, its relation and its variables; `first` is the first role of its time.
+    /// A literal of the latest action: its list, its relation and its arguments; `first` is the first role of its time.
     fn literal(&mut self, first: u8, words: &[&str], variables: &[&str]) {
         let [list, relation, of @ ..] = words else { panic!("not a line of a domain: {words:?}") };
         let lists = ["true", "false", "add", "delete"];
         let role = first + lists.iter().position(|other| other == list).expect("a list") as u8;
         let relation = place(&self.relations, relation) as u8;
-        let of = of.iter().map(|name| variables.iter().position(|other| other == name).expect("a variable"));
-        let of: Vec<u8> = of.map(|number| number as u8).collect();
+        let argument = |name: &&str| match *name {
+            "*" => FF,
+            name => variables.iter().position(|other| *other == name).expect("a variable") as u8,
+        };
+        let of: Vec<u8> = of.iter().map(argument).collect();
         assert_eq!(of.len(), self.relations[relation as usize].1 as usize, "{words:?}");
         let (_, action) = self.actions.last_mut().expect("an action before its literals");
         action.literals.push((role, relation, of));

@@ -31,6 +31,18 @@ pub enum Met {
     OverAllTrueMeetsEffect,
     OverAllFalseMeetsEffect,
     BothStrikeOut,
+    /// A clearing delete takes several facts, or none; a fact is cleared and added again; clearing deletes of two events
+    /// have facts in common and neither covers the other.
+    ClearsSeveral,
+    ClearsNothing,
+    ClearedAndAdded,
+    ClearingDeletesMeet,
+    /// 55: a clearing false condition, of an event or only over all of something open.
+    ClearingFalseFails,
+    OverAllClearingFails,
+    /// 56: by a clearing literal and one that doesn't clear, or by two that clear of which neither covers the other.
+    ClearingMeetsOne,
+    ClearingMeetsClearing,
     /// As many as may be, and 52 for one more.
     StartFacts1024,
     StartFact1025,
@@ -73,7 +85,7 @@ pub enum Met {
     WeightFalls,
 }
 
-pub const ALL: [Met; 44] = [
+pub const ALL: [Met; 52] = [
     Met::EndNotOpen,
     Met::TrueFails,
     Met::FalseFails,
@@ -90,6 +102,14 @@ pub const ALL: [Met; 44] = [
     Met::OverAllTrueMeetsEffect,
     Met::OverAllFalseMeetsEffect,
     Met::BothStrikeOut,
+    Met::ClearsSeveral,
+    Met::ClearsNothing,
+    Met::ClearedAndAdded,
+    Met::ClearingDeletesMeet,
+    Met::ClearingFalseFails,
+    Met::OverAllClearingFails,
+    Met::ClearingMeetsOne,
+    Met::ClearingMeetsClearing,
     Met::StartFacts1024,
     Met::StartFact1025,
     Met::Facts1024,
@@ -142,8 +162,14 @@ pub fn met(domain_file: &[u8], run: &[u8]) -> Vec<Met> {
     watch.met
 }
 
+/// Whether some fact is one of both; a bound literal that clears stands for several.
 fn meet(some: &[Fact], others: &[Fact]) -> bool {
-    some.iter().any(|fact| others.contains(fact))
+    some.iter().any(|fact| others.iter().any(|other| fact.meets(other)))
+}
+
+/// Whether a fact is one of these deletes.
+fn taken(fact: &Fact, deletes: &[Fact]) -> bool {
+    deletes.iter().any(|delete| delete.covers(fact))
 }
 
 struct Watch<'d> {
@@ -238,14 +264,25 @@ impl Watch<'_> {
         for event in &events {
             let (added, deleted) = (self.facts(event, |m| m.adds), self.facts(event, |m| m.deletes));
             self.note(Met::AddedByTwo, added.iter().any(|fact| adds.contains(fact)));
-            self.note(Met::DeletedByTwo, deleted.iter().any(|f| deletes.contains(f) && self.state.holds(f)));
+            let twice = |held: &&Fact| taken(held, &deletes) && taken(held, &deleted);
+            self.note(Met::DeletedByTwo, self.state.facts().iter().any(|fact| twice(&fact)));
+            let apart = |a: &Fact, b: &Fact| a.meets(b) && !a.covers(b) && !b.covers(a);
+            self.note(Met::ClearingDeletesMeet, deleted.iter().any(|a| deletes.iter().any(|b| apart(a, b))));
+            for clearing in deleted.iter().filter(|delete| delete.cleared().is_some()) {
+                let gone: Vec<&Fact> = self.state.facts().iter().filter(|fact| clearing.covers(fact)).collect();
+                let again = gone.iter().any(|fact| added.contains(fact));
+                let count = gone.len();
+                self.note(Met::ClearsSeveral, count > 1);
+                self.note(Met::ClearsNothing, count == 0);
+                self.note(Met::ClearedAndAdded, again);
+            }
             adds.extend(added);
             deletes.extend(deleted);
         }
         self.ends_together(&events);
         let held = |fact: &Fact| self.state.holds(fact);
         let (again, although): (Vec<Fact>, Vec<Fact>) =
-            adds.iter().filter(|fact| held(fact)).partition(|fact| deletes.contains(fact));
+            adds.iter().filter(|fact| held(fact)).partition(|fact| taken(fact, &deletes));
         self.note(Met::DeletedAndAdded, !again.is_empty());
         self.note(Met::AddedAlthoughHeld, !although.is_empty());
         let different = |fact: &&Fact| (0..6).all(|i| fact.arity == 6 && !fact.args[..i].contains(&fact.args[i]));
@@ -283,24 +320,29 @@ impl Watch<'_> {
 
     fn failing(&mut self) {
         let fails = |trues: Vec<Fact>, falses: Vec<Fact>, state: &State| {
-            (trues.iter().any(|fact| !state.holds(fact)), falses.iter().any(|fact| state.holds(fact)))
+            // no true condition, a false one that doesn't clear, one that clears
+            let held = |literal: &Fact| state.facts().iter().any(|fact| literal.covers(fact));
+            let (clearing, plain): (Vec<Fact>, Vec<Fact>) = falses.iter().partition(|l| l.cleared().is_some());
+            [trues.iter().any(|fact| !state.holds(fact)), plain.iter().any(held), clearing.iter().any(held)]
         };
-        let (mut of_events, mut of_open) = ((false, false), (false, false));
+        let (mut of_events, mut of_open) = ([false; 3], [false; 3]);
         for event in &self.events {
             let now = fails(self.facts(event, |m| m.trues), self.facts(event, |m| m.falses), &self.state);
-            of_events = (of_events.0 | now.0, of_events.1 | now.1);
+            of_events = [0, 1, 2].map(|which| of_events[which] | now[which]);
         }
         for entry in self.state.open() {
             let over_all = self.domain.actions[entry.action as usize].over_all;
             let bound = |set| self.bound(entry.action, &entry.binding, set);
             let now = fails(bound(over_all.trues), bound(over_all.falses), &self.state);
-            of_open = (of_open.0 | now.0, of_open.1 | now.1);
+            of_open = [0, 1, 2].map(|which| of_open[which] | now[which]);
         }
-        let only_open = of_events == (false, false);
-        self.note(Met::TrueFails, of_events.0);
-        self.note(Met::FalseFails, of_events.1);
-        self.note(Met::OverAllTrueFails, only_open && of_open.0);
-        self.note(Met::OverAllFalseFails, only_open && of_open.1);
+        let only_open = of_events == [false; 3];
+        self.note(Met::TrueFails, of_events[0]);
+        self.note(Met::FalseFails, of_events[1]);
+        self.note(Met::ClearingFalseFails, of_events == [false, false, true]);
+        self.note(Met::OverAllTrueFails, only_open && of_open[0]);
+        self.note(Met::OverAllFalseFails, only_open && of_open[1]);
+        self.note(Met::OverAllClearingFails, only_open && of_open == [false, false, true]);
     }
 
     fn interfering(&mut self) {
@@ -317,6 +359,7 @@ impl Watch<'_> {
                 self.note(Met::DeleteMeetsCondition, meet(&a.2, &b.0));
                 self.note(Met::AddMeetsDelete, meet(&a.1, &b.2));
                 self.note(Met::DeleteMeetsAdd, meet(&a.2, &b.1));
+                self.clearing(&a, &b);
                 for (event, other) in [(earlier, later), (later, earlier)] {
                     let effects = self.facts(other, |m| m.adds.or(m.deletes));
                     self.note(Met::FalseMeetsEffect, meet(&self.facts(event, |m| m.falses), &effects));
@@ -331,4 +374,22 @@ impl Watch<'_> {
             }
         }
     }
+
+    /// Of two events the conditions, adds and deletes: by what that clears they interfere.
+    fn clearing(&mut self, a: &Named, b: &Named) {
+        let pairs = [(&a.0, &b.1), (&a.0, &b.2), (&a.1, &b.0), (&a.2, &b.0), (&a.1, &b.2), (&a.2, &b.1)];
+        for (some, others) in pairs {
+            for one in some {
+                for other in others.iter().filter(|other| one.meets(other)) {
+                    let both = one.cleared().is_some() && other.cleared().is_some();
+                    let apart = !one.covers(other) && !other.covers(one);
+                    self.note(Met::ClearingMeetsOne, one.cleared().is_some() != other.cleared().is_some());
+                    self.note(Met::ClearingMeetsClearing, both && apart);
+                }
+            }
+        }
+    }
 }
+
+/// Conditions, adds and deletes of an event.
+type Named = (Vec<Fact>, Vec<Fact>, Vec<Fact>);

@@ -62,9 +62,15 @@ pub enum Misread {
     RepeatsHeld,
     /// A repeated event is told from the 17th last.
     SeventeenthFirst,
+    /// A clearing literal stands for the facts of the objects that its event binds.
+    BoundObjectsOnly,
+    /// Two literals interfere only where one of them covers the other.
+    ByCovering,
+    /// A fact that is cleared and added again keeps its place.
+    ClearedKeepsPlace,
 }
 
-pub const MISREADINGS: [Misread; 26] = [
+pub const MISREADINGS: [Misread; 29] = [
     Misread::OverAllForgotten,
     Misread::OverAllOfStarts,
     Misread::OneWay,
@@ -91,6 +97,9 @@ pub const MISREADINGS: [Misread; 26] = [
     Misread::FirstInstance,
     Misread::RepeatsHeld,
     Misread::SeventeenthFirst,
+    Misread::BoundObjectsOnly,
+    Misread::ByCovering,
+    Misread::ClearedKeepsPlace,
 ];
 
 /// Moment, action, objects.
@@ -115,13 +124,10 @@ pub struct Plainly {
 struct Machine<'d> {
     domain: &'d Domain,
     misread: Option<Misread>,
+    /// How many objects are chosen.
+    objects: u8,
     facts: Vec<Fact>,
     open: Vec<Entry>,
-}
-
-fn fact(atom: &Atom<model::Var>, objects: &[u8]) -> Fact {
-    let objects: Vec<Object> = atom.args().iter().map(|variable| Object(objects[variable.0 as usize])).collect();
-    Atom::new(atom.relation, objects.into_iter())
 }
 
 fn meet(some: &[Fact], others: &[Fact]) -> bool {
@@ -137,6 +143,24 @@ impl<'d> Machine<'d> {
         &self.domain.actions[event.1 as usize]
     }
 
+    /// P4: "Each clearing literal stands for one fact per object in the machine", any other for one fact.
+    fn facts_for(&self, atom: &Atom<model::Var>, bound: &[u8]) -> Vec<Fact> {
+        const EVERY: u8 = 0xFF;
+        let every: Vec<u8> = match atom.args().iter().any(|variable| variable.0 == EVERY) {
+            false => vec![EVERY],
+            true if self.misreads(Misread::BoundObjectsOnly) => bound.to_vec(),
+            true => (0..self.objects).collect(),
+        };
+        let one = |every: u8| {
+            let object = |variable: &model::Var| match variable.0 {
+                EVERY => Object(every),
+                variable => Object(bound[variable as usize]),
+            };
+            Atom::new(atom.relation, atom.args().iter().map(object).collect::<Vec<_>>().into_iter())
+        };
+        every.into_iter().map(one).collect()
+    }
+
     /// The facts of an event's own literals in these lists, straight from the literals.
     fn facts_of(&self, event: &Event, lists: &[List]) -> Vec<Fact> {
         let now = if event.0 == 0 { When::Start } else { When::End };
@@ -145,13 +169,18 @@ impl<'d> Machine<'d> {
 
     fn facts_when(&self, event: &Event, when: When, lists: &[List]) -> Vec<Fact> {
         let so = |literal: &&Literal| literal.when == when && lists.contains(&literal.list);
-        self.action(event).literals.iter().filter(so).map(|literal| fact(&literal.atom, &event.2)).collect()
+        self.action(event)
+            .literals
+            .iter()
+            .filter(so)
+            .flat_map(|literal| self.facts_for(&literal.atom, &event.2))
+            .collect()
     }
 
     fn over_all_holds(&self, action: u8, objects: &[u8]) -> bool {
         self.domain.actions[action as usize].literals.iter().all(|literal| {
-            literal.when != When::OverAll
-                || self.facts.contains(&fact(&literal.atom, objects)) == (literal.list == List::True)
+            let holds = |fact: &Fact| self.facts.contains(fact) == (literal.list == List::True);
+            literal.when != When::OverAll || self.facts_for(&literal.atom, objects).iter().all(holds)
         })
     }
 
@@ -165,6 +194,9 @@ impl<'d> Machine<'d> {
             }
             facts
         };
+        if self.misreads(Misread::ByCovering) {
+            return self.interfere_by_covering(a, b);
+        }
         let effects = |event: &Event| self.facts_of(event, &[List::Add, List::Delete]);
         let of = |event: &Event, list: List| self.facts_of(event, &[list]);
         if self.misreads(Misread::OneWay) {
@@ -176,6 +208,23 @@ impl<'d> Machine<'d> {
             || (by_effects && !self.misreads(Misread::ConditionsOnly))
             || (self.misreads(Misread::AddsAlike) && meet(&of(a, List::Add), &of(b, List::Add)))
             || (self.misreads(Misread::DeletesAlike) && meet(&of(a, List::Delete), &of(b, List::Delete)))
+    }
+
+    /// Interference where one of the two literals stands for all that the other does, and not where they share a fact.
+    fn interfere_by_covering(&self, a: &Event, b: &Event) -> bool {
+        let own = |event: &Event| -> Vec<(List, Vec<Fact>)> {
+            let now = if event.0 == 0 { When::Start } else { When::End };
+            let literals = self.action(event).literals.iter().filter(|literal| literal.when == now);
+            literals.map(|literal| (literal.list, self.facts_for(&literal.atom, &event.2))).collect()
+        };
+        let condition = |list: List| matches!(list, List::True | List::False);
+        let clash = |a: List, b: List| a != b && !(condition(a) && condition(b));
+        let within = |some: &[Fact], others: &[Fact]| some.iter().all(|fact| others.contains(fact));
+        let (of_a, of_b) = (own(a), own(b));
+        let covering = |(a, some): &(List, Vec<Fact>), (b, others): &(List, Vec<Fact>)| {
+            clash(*a, *b) && (within(some, others) || within(others, some))
+        };
+        of_a.iter().any(|some| of_b.iter().any(|others| covering(some, others)))
     }
 
     /// "It is allowed if every end is open; every event's conditions hold; the over-all conditions of everything open
@@ -213,6 +262,14 @@ impl<'d> Machine<'d> {
         order.iter().find(|(_, refused)| *refused).map(|(number, _)| *number)
     }
 
+    /// The facts of an event's deletes that don't clear.
+    fn plain_deletes(&self, event: &Event) -> Vec<Fact> {
+        let now = if event.0 == 0 { When::Start } else { When::End };
+        let so = |literal: &&Literal| literal.when == now && literal.list == List::Delete;
+        let plain = self.action(event).literals.iter().filter(so).filter(|literal| literal.atom.cleared().is_none());
+        plain.flat_map(|literal| self.facts_for(&literal.atom, &event.2)).collect()
+    }
+
     /// "Afterwards: all deletes out, then all adds in; ends leave the list (one entry each), starts join it."
     /// None if that is too much for the player.
     fn after(&self, events: &[Event]) -> Option<(Vec<Fact>, Vec<Entry>)> {
@@ -223,7 +280,12 @@ impl<'d> Machine<'d> {
         }
         let adds: Vec<Fact> = in_order.iter().flat_map(|event| self.facts_of(event, &[List::Add])).collect();
         let mut facts = self.facts.clone();
-        let stays = |fact: &Fact| self.misreads(Misread::KeepsPlace) && adds.contains(fact);
+        let plainly: Vec<Fact> = events.iter().flat_map(|event| self.plain_deletes(event)).collect();
+        let stays = |fact: &Fact| match self.misread {
+            Some(Misread::KeepsPlace) => adds.contains(fact),
+            Some(Misread::ClearedKeepsPlace) => adds.contains(fact) && !plainly.contains(fact),
+            _ => false,
+        };
         facts.retain(|fact| !deletes.contains(fact) || stays(fact));
         for &new in &adds {
             if facts.contains(&new) {
@@ -271,7 +333,7 @@ impl<'d> Machine<'d> {
 
 /// Plays the records of a well-formed run file.
 pub fn play(domain: &Domain, records: &[Rec], misread: Option<Misread>) -> Plainly {
-    let mut machine = Machine { domain, misread, facts: Vec::new(), open: Vec::new() };
+    let mut machine = Machine { domain, misread, objects: 0, facts: Vec::new(), open: Vec::new() };
     let mut events: Vec<Event> = Vec::new();
     let (mut at, mut steps, mut weight, mut started) = (0, 0, 0, false);
     let mut number = 2;
@@ -282,6 +344,7 @@ pub fn play(domain: &Domain, records: &[Rec], misread: Option<Misread>) -> Plain
         }
         let payload = &record.payload;
         match record.kind {
+            16 => machine.objects = payload[0],
             17 => {
                 let objects: Vec<Object> = payload[1..].iter().map(|&object| Object(object)).collect();
                 let new = Atom::new(payload[0], objects.into_iter());

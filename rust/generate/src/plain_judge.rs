@@ -34,6 +34,12 @@ pub enum Misjudge {
     ByRelation,
     /// Bounded moments are accepted beside an unbounded journey's end.
     BoundedAccepted,
+    /// A delete that clears the true condition doesn't count for balanced, or for journeys.
+    BalancedByEquality,
+    JourneyByEquality,
+    /// A component with FF is never covered, or by any literal of its relation.
+    CountedNeverCovered,
+    CountedByAnyName,
     /// The earliest fault is named, whatever its number.
     EarliestFault,
     /// Of one number the last place is named.
@@ -44,7 +50,7 @@ pub enum Misjudge {
     EarliestWitness,
 }
 
-pub const MISJUDGEMENTS: [Misjudge; 18] = [
+pub const MISJUDGEMENTS: [Misjudge; 22] = [
     Misjudge::OverAllUncounted,
     Misjudge::CountedTwice,
     Misjudge::OverAllBalances,
@@ -59,6 +65,10 @@ pub const MISJUDGEMENTS: [Misjudge; 18] = [
     Misjudge::AnyStartExcuses,
     Misjudge::ByRelation,
     Misjudge::BoundedAccepted,
+    Misjudge::BalancedByEquality,
+    Misjudge::JourneyByEquality,
+    Misjudge::CountedNeverCovered,
+    Misjudge::CountedByAnyName,
     Misjudge::EarliestFault,
     Misjudge::LastPlace,
     Misjudge::BoundedBeside,
@@ -117,6 +127,14 @@ fn trues<'d>(literals: &[&'d Literal], moment: u8) -> Vec<&'d Literal> {
     found
 }
 
+/// Whether a delete takes the atom away: it is the same, or has FF in a place and is the same in all others.
+fn deleted(atom: &Atom<Var>, deletes: &[&Literal], by_equality: bool) -> bool {
+    let alike = |(of_delete, of_atom): (&Var, &Var)| of_delete == of_atom || (*of_delete == Var(0xFF) && !by_equality);
+    let takes =
+        |delete: &Atom<Var>| delete.relation == atom.relation && delete.args().iter().zip(atom.args()).all(alike);
+    deletes.iter().any(|literal| takes(&literal.atom))
+}
+
 impl<'d> Judge<'d> {
     fn misreads(&self, misread: Misjudge) -> bool {
         self.misread == Some(misread)
@@ -159,12 +177,13 @@ impl<'d> Judge<'d> {
             own_trues = trues(class, moment);
         }
         let (adds, deletes) = (at(List::Add), at(List::Delete));
-        let among = |atom: &Atom<Var>, literals: &[&Literal]| literals.iter().any(|literal| literal.atom == *atom);
+        let added = |atom: &Atom<Var>| adds.iter().any(|literal| literal.atom == *atom);
+        let by_equality = self.misreads(Misjudge::BalancedByEquality);
         match (counted, adds.len(), own_trues.first()) {
             (2.., _, _) => UNREACHABLE,
             (_, 0, _) => IRRELEVANT,
             (_, 2.., _) => HEAVY,
-            (_, _, Some(one)) if among(&one.atom, &adds) || among(&one.atom, &deletes) => BALANCED,
+            (_, _, Some(one)) if added(&one.atom) || deleted(&one.atom, &deletes, by_equality) => BALANCED,
             (_, _, Some(_)) => UNBALANCED,
             _ if self.uncovered(class, moment).is_none() => BOUNDED,
             _ => UNBOUNDED,
@@ -177,23 +196,28 @@ impl<'d> Judge<'d> {
             let now = literal.when == own(moment)
                 || self.misreads(Misjudge::CoveredByOtherMoment)
                 || (moment == 1 && literal.when == When::OverAll && self.misreads(Misjudge::OverAllCovers));
-            now && literal.list != List::True && literal.atom.relation == component.relation
+            let enough = match component.counted {
+                None => true,
+                Some(_) if self.misreads(Misjudge::CountedNeverCovered) => false,
+                Some(_) if self.misreads(Misjudge::CountedByAnyName) => true,
+                Some(place) => literal.atom.args[place as usize] == Var(0xFF),
+            };
+            now && enough && literal.list != List::True && literal.atom.relation == component.relation
         };
-        let covered = |component: &&Component| {
-            component.counted.is_none() && class.iter().any(|literal| covers(component, literal))
-        };
+        let covered = |component: &&Component| class.iter().any(|literal| covers(component, literal));
         self.domain.template.components.iter().find(|component| !covered(component))
     }
 
     fn is_journey(&self, action: &Action, class: &[&Literal]) -> bool {
         let at = |when, list| those(class, when, list);
-        let deleted = at(When::Start, List::Delete);
+        let deletes = at(When::Start, List::Delete);
+        let by_equality = self.misreads(Misjudge::JourneyByEquality);
         let start = at(When::Start, List::True);
         let mut end = at(When::End, List::True);
         if self.misreads(Misjudge::OverAllUnmakesJourney) {
             end.extend(at(When::OverAll, List::True));
         }
-        let leaves = start.len() == 1 && deleted.iter().any(|literal| literal.atom == start[0].atom);
+        let leaves = start.len() == 1 && deleted(&start[0].atom, &deletes, by_equality);
         action.lasting
             && at(When::Start, List::Add).is_empty()
             && (leaves || self.misreads(Misjudge::AnyStartExcuses))

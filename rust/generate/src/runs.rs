@@ -1,7 +1,7 @@
 //! Run files for a domain: legal concurrent runs, forbidden steps of every kind, runs near every
 //! limit, damaged ones.
 
-use crate::domains::{self, Mood, Plan, PlanAction, Size, FF};
+use crate::domains::{self, Mood, Plan, PlanAction, Size, FF, MAY_CLEAR};
 use crate::records::{damage, encode, junk, near, rec, split, Rec};
 use crate::rng::Rng;
 use model::domain::{Atom, Domain, Fact, Object};
@@ -684,7 +684,11 @@ pub fn duel(rng: &mut Rng) -> (Vec<u8>, Vec<u8>) {
             }
             let role =
                 if action.lasting { rng.pick(&[0, 1, 2, 3, 4, 4, 5, 5, 6, 7, 8, 9]) } else { rng.below(4) as u8 };
-            let arguments = (0..arity).map(|_| rng.below(action.variables as usize) as u8).collect();
+            let mut arguments: Vec<u8> = (0..arity).map(|_| rng.below(action.variables as usize) as u8).collect();
+            let places = plan.clearable(relation);
+            if MAY_CLEAR.contains(&role) && !places.is_empty() && rng.chance(25) {
+                arguments[rng.pick(&places)] = FF;
+            }
             action.push(role, relation, arguments);
         }
         plan.actions.push(action);
@@ -702,6 +706,61 @@ pub fn duel(rng: &mut Rng) -> (Vec<u8>, Vec<u8>) {
     let steps = rng.below(5);
     legal_steps(rng, &mut script, steps);
     if rng.chance(80) {
+        refused_step(rng, &mut script, refusal);
+        script.close();
+    }
+    script.close_run();
+    (file, encode(&script.records))
+}
+
+/// Actions that clear a relation of two places now in the one and now in the other, beside actions that name single
+/// facts of it, and runs in which they meet: on one template that counts a place, or on another relation's.
+pub fn clearings(rng: &mut Rng) -> (Vec<u8>, Vec<u8>) {
+    let mut plan = Plan { relations: vec![2, 1, 0], ..Plan::default() };
+    plan.components = match rng.below(5) {
+        0 => vec![(0, vec![0, FF])],
+        1 => vec![(0, vec![FF, 0]), (1, vec![0])],
+        2 => vec![(1, vec![FF]), (2, vec![])],
+        _ => vec![(2, vec![])],
+    };
+    for _ in 0..rng.range(2, 5) {
+        let mut action = PlanAction::new(rng.range(0, 2) as u8, rng.chance(35));
+        for _ in 0..rng.range(1, 2) {
+            let relation = rng.pick(&[0, 0, 0, 1]);
+            let roles: &[u8] = match (action.lasting, rng.chance(60)) {
+                (false, true) => &[1, 3, 3],
+                (false, false) => &[0, 1, 2, 2, 3],
+                (true, true) => &[1, 3, 5, 7, 9, 9],
+                (true, false) => &[0, 2, 4, 5, 6, 8, 8, 9],
+            };
+            let role = rng.pick(roles);
+            let arity = plan.relations[relation as usize] as usize;
+            let places = plan.clearable(relation);
+            let clears = MAY_CLEAR.contains(&role) && !places.is_empty() && rng.chance(70);
+            if (action.variables as usize) < (arity - clears as usize).min(1) {
+                continue;
+            }
+            let variables = action.variables.max(1) as usize;
+            let mut arguments: Vec<u8> = (0..arity).map(|_| rng.below(variables) as u8).collect();
+            if clears {
+                arguments[rng.pick(&places)] = FF;
+            }
+            action.push(role, relation, arguments);
+        }
+        plan.actions.push(action);
+    }
+    let file = plan.file();
+    let Ok(domain) = model::read(&file) else { return (file, Vec::new()) };
+    let mut script = Script::new(&domain, rng.range(1, 4) as u8);
+    for _ in 0..rng.below(9) {
+        if let Some(fact) = any_fact(rng, &script) {
+            script.start(fact);
+        }
+    }
+    let steps = rng.below(6);
+    legal_steps(rng, &mut script, steps);
+    if rng.chance(70) {
+        let refusal = rng.pick(&[Refusal::Interference, Refusal::Interference, Refusal::ConditionFails]);
         refused_step(rng, &mut script, refusal);
         script.close();
     }
@@ -962,6 +1021,7 @@ pub fn random(rng: &mut Rng) -> Vec<u8> {
 pub enum Origin {
     NearLimit,
     Duel,
+    Clearings,
     Jobs,
     Lendings,
     Wide,
@@ -981,8 +1041,9 @@ pub fn pair(rng: &mut Rng) -> (Origin, Vec<u8>, Vec<u8>) {
     let told = |origin, (domain, run)| (origin, domain, run);
     match rng.below(100) {
         0..=6 => return told(Origin::NearLimit, near_limit(rng)),
-        7..=17 => return told(Origin::Duel, duel(rng)),
-        18..=20 => return told(Origin::Lendings, lendings(rng)),
+        7..=13 => return told(Origin::Duel, duel(rng)),
+        14..=16 => return told(Origin::Lendings, lendings(rng)),
+        17..=20 => return told(Origin::Clearings, clearings(rng)),
         21..=24 => return told(Origin::Jobs, jobs(rng)),
         25..=28 => return told(Origin::Wide, wide(rng)),
         29 => {

@@ -43,6 +43,7 @@ impl Samples {
 pub fn all() -> Samples {
     let mut samples = specification();
     proved(&mut samples);
+    clearing(&mut samples);
     misreadings(&mut samples);
     on_the_way(&mut samples);
     floortile(&mut samples);
@@ -121,7 +122,7 @@ const RULES: [&str; 21] = [
     "unbounded-beside-bounded",
 ];
 
-/// A broken file for each number, 9 to 25.
+/// A broken file for each number, 9 to 25; `CLEARING` has those of 26 and 27.
 const BROKEN: [&str; 20] = [
     "too-long",
     "head-cut",
@@ -193,6 +194,141 @@ fn proved(samples: &mut Samples) {
             let Call::Play { domain, run, .. } = &cases.case(group, name).call else { panic!("{name} isn't played") };
             assert_eq!(domain, cases.file(of), "{name} isn't a run of {of}");
             samples.runs.push(Run { name, of, file: run.clone() });
+        }
+    }
+}
+
+/// A domain with its name, its text, its template, and its runs: name, objects, facts and steps.
+type Clearing = (&'static str, &'static str, &'static str, &'static [ClearingRun]);
+type ClearingRun = (&'static str, u8, &'static [&'static str], &'static [&'static str]);
+
+const STRIKE_AND_PUT: &str = "
+relation at/2
+
+at once put(volume, shelf)
+    delete at(volume, *)
+    add at(volume, shelf)
+";
+
+const PUT_WHERE_NONE: &str = "
+relation at/2
+
+at once put(volume, shelf)
+    false at(volume, *)
+    add at(volume, shelf)
+";
+
+const STRUCK_BY_MOVING: &str = "
+relation at/2
+
+at once move(volume, from, to)
+    true at(volume, from)
+    add at(volume, to)
+    delete at(volume, *)
+
+lasting repair(volume, shelf)
+    start true at(volume, shelf)
+    start delete at(volume, *)
+    end add at(volume, shelf)
+";
+
+const STRUCK_AT_THE_END: &str = "
+relation at/2
+
+lasting put(volume, shelf)
+    start add at(volume, shelf)
+    end delete at(volume, *)
+";
+
+const ONE_LAMP: &str = "
+relation lit/1
+
+at once light(lamp)
+    false lit(*)
+    add lit(lamp)
+";
+
+const ROW_AND_COLUMN: &str = "
+relation at/2
+relation open/0
+
+at once strike(volume)
+    delete at(volume, *)
+
+at once empty(shelf)
+    delete at(*, shelf)
+
+at once check(shelf)
+    false at(*, shelf)
+";
+
+const ASKED_AND_STRUCK: &str = "
+relation at/2
+
+at once see(volume, shelf)
+    true at(volume, shelf)
+    false at(volume, *)
+";
+
+const EVERY_IN_ADD: &str = "
+relation at/2
+
+at once put(volume)
+    add at(volume, *)
+";
+
+const KEY_WHERE_EVERY: &str = "
+relation at/2
+
+at once strike(volume)
+    delete at(volume, *)
+";
+
+/// Every object: what covers, what contradicts, what interferes, and what can't be read.
+const CLEARING: [Clearing; 9] = [
+    (
+        "strike-and-put",
+        STRIKE_AND_PUT,
+        "at[0,FF]",
+        &[("strike-and-put", 4, &["at 0 1", "at 0 2", "at 3 1"], &["once put 0 1", "once put 3 2, once put 0 2"])],
+    ),
+    ("put-where-none", PUT_WHERE_NONE, "at[0,FF]", &[("put-where-none", 3, &["at 0 1"], &["once put 0 2"])]),
+    ("struck-by-moving", STRUCK_BY_MOVING, "at[0,FF]", &[]),
+    (
+        "struck-at-the-end",
+        STRUCK_AT_THE_END,
+        "at[0,FF]",
+        &[("struck-at-the-end", 3, &["at 0 2"], &["start put 0 1", "end put 0 1"])],
+    ),
+    (
+        "one-lamp",
+        ONE_LAMP,
+        "lit[FF]",
+        &[
+            ("one-lamp-together", 2, &[], &["once light 0, once light 1"]),
+            ("one-lamp-in-turn", 2, &[], &["once light 0", "once light 1"]),
+        ],
+    ),
+    (
+        "row-and-column",
+        ROW_AND_COLUMN,
+        "open[]",
+        &[
+            ("row-and-column", 4, &["at 0 1", "at 0 3", "at 2 1", "at 2 3"], &["once strike 0, once empty 1"]),
+            ("row-and-check", 2, &[], &["once strike 0, once check 1"]),
+        ],
+    ),
+    ("asked-and-struck", ASKED_AND_STRUCK, "at[0,FF]", &[]),
+    ("every-in-add", EVERY_IN_ADD, "at[0,FF]", &[]),
+    ("key-where-every", KEY_WHERE_EVERY, "at[0,1]", &[]),
+];
+
+fn clearing(samples: &mut Samples) {
+    for (name, text, template, runs) in CLEARING {
+        let domain = Named::read(text);
+        samples.domain(name, &domain, template);
+        for (run, objects, facts, steps) in runs {
+            samples.run(run, (name, &domain), *objects, facts, steps);
         }
     }
 }
@@ -357,12 +493,9 @@ fn depots(samples: &mut Samples) {
         &["start drop 0 1 2 3", "end drop 0 1 2 3"],
     );
     let (twice, loading) = (depots_dropping_twice(), depots_dropping_and_loading());
-    for (name, told) in [
-        ("depots-clear", &twice),
-        ("depots-surface", &twice),
-        ("depots-stacked", &loading),
-        ("depots-crate", &loading),
-    ] {
+    for (name, told) in
+        [("depots-clear", &twice), ("depots-surface", &twice), ("depots-stacked", &loading), ("depots-crate", &loading)]
+    {
         samples.run(name, (name, &domain), 7, &told.facts(), &told.events());
     }
 }

@@ -1,5 +1,5 @@
 //! Every component of up to four labels out of 0, 1, 2, 3 and FF, as first and as second one, gets the number and the
-//! place of a second reading of P1, which can misread it.
+//! place of a second reading of P1, which can misread it; and, with P4, where a literal clears one of its places.
 
 use generate::domains::{all_labels, Labelled, FF};
 use model::read;
@@ -16,10 +16,21 @@ enum Mislabel {
     MissingAtLabel,
     /// Only a key below n can stand twice.
     BelowNOnly,
+    /// A key in a place that is cleared is told first.
+    ClearedFirst,
+    /// It is told at its label.
+    ClearedAtLabel,
 }
 
-const MISLABELS: [Mislabel; 5] =
-    [Mislabel::KeyFirst, Mislabel::FirstFF, Mislabel::PlaceOfRecord, Mislabel::MissingAtLabel, Mislabel::BelowNOnly];
+const MISLABELS: [Mislabel; 7] = [
+    Mislabel::KeyFirst,
+    Mislabel::FirstFF,
+    Mislabel::PlaceOfRecord,
+    Mislabel::MissingAtLabel,
+    Mislabel::BelowNOnly,
+    Mislabel::ClearedFirst,
+    Mislabel::ClearedAtLabel,
+];
 
 /// The number, and its place.
 fn expected(file: &Labelled, misread: Option<Mislabel>) -> Option<(u8, usize)> {
@@ -54,14 +65,20 @@ fn expected(file: &Labelled, misread: Option<Mislabel>) -> Option<(u8, usize)> {
         let last = file.labels.len().max(1) - 1;
         order.push((21, if misreads(Mislabel::MissingAtLabel) { label(last) } else { file.record }));
     }
+    let cleared = file.cleared.filter(|&place| file.labels[place] != FF);
+    let told = cleared.map(|at| (27, if misreads(Mislabel::ClearedAtLabel) { label(at) } else { file.record }));
+    order.extend(told);
+    if misreads(Mislabel::ClearedFirst) {
+        order.rotate_right(told.is_some() as usize);
+    }
     order.first().copied()
 }
 
 #[test]
 fn every_row_of_labels() {
     let files = all_labels();
-    assert_eq!(files.len(), 9 * (1 + 5 + 25 + 125 + 625));
-    let mut met = [0; 4];
+    assert_eq!(files.len(), 9 * (1 + 5 * 2 + 25 * 3 + 125 * 4 + 625));
+    let mut met = [0; 5];
     let mut told = MISLABELS.map(|_| 0);
     for file in &files {
         let stop = read(&file.file).err();
@@ -71,12 +88,13 @@ fn every_row_of_labels() {
         match got {
             None => met[0] += 1,
             Some((21, at)) => met[1 + (at > file.record) as usize] += 1,
-            Some(_) => met[3] += 1,
+            Some((24..=25, _)) => met[3] += 1,
+            Some(_) => met[4] += 1,
         }
         for (misread, count) in MISLABELS.into_iter().zip(&mut told) {
             *count += (expected(file, Some(misread)) != got) as usize;
         }
     }
-    println!("right, 21 at the record, 21 at a label, 24 or 25: {met:?}; {MISLABELS:?} told by {told:?}");
+    println!("right, 21 at the record, 21 at a label, 24 or 25, 27: {met:?}; {MISLABELS:?} told by {told:?}");
     assert!(met.iter().chain(&told).all(|&count| count >= 10));
 }

@@ -7,9 +7,9 @@ use std::collections::BTreeMap;
 const CASES: u64 = 20_000;
 
 /// Numbers that must occur, and no others may: the paper's, but for what the requests took away.
-const EXPECTED: [u8; 35] = [
-    0, 1, 2, 9, 10, 11, 12, 13, 14, 15, 16, 17, 18, 19, 20, 21, 22, 23, 24, 25, 30, 31, 40, 41, 42, 43, 50, 51, 52, 53,
-    54, 55, 56, 57, 58,
+const EXPECTED: [u8; 37] = [
+    0, 1, 2, 9, 10, 11, 12, 13, 14, 15, 16, 17, 18, 19, 20, 21, 22, 23, 24, 25, 26, 27, 30, 31, 40, 41, 42, 43, 50, 51,
+    52, 53, 54, 55, 56, 57, 58,
 ];
 
 fn pattern(length: usize) -> Vec<u8> {
@@ -48,7 +48,7 @@ fn every_number_occurs() {
                 steps += answer.steps;
                 longest = longest.max(answer.steps);
                 heaviest = heaviest.max(answer.weight);
-                if (9..=25).contains(&answer.number) || answer.number == 58 {
+                if (9..=27).contains(&answer.number) || answer.number == 58 {
                     assert!(memory == pattern(work), "seed {seed}");
                 } else {
                     assert!(memory[8_192..] == pattern(work)[8_192..], "seed {seed}");

@@ -23,8 +23,8 @@ fn with(records: &[Rec], relation: u8, labels: &[u8]) -> Vec<u8> {
     encode(&other)
 }
 
-/// What the list of a well-formed file should be.
-fn expected(rng: &mut Rng, file: &[u8]) -> Vec<u8> {
+/// What the list of a well-formed file should be; a template is passed over where its file is refused.
+fn expected(rng: &mut Rng, file: &[u8], passed_over: &mut usize) -> Vec<u8> {
     let records = split(file);
     let arities: Vec<u8> = records.iter().filter(|record| record.kind == 1).map(|record| record.payload[0]).collect();
     let mut list = Vec::new();
@@ -44,6 +44,7 @@ fn expected(rng: &mut Rng, file: &[u8]) -> Vec<u8> {
             assert_eq!(verdict(&with(&records, relation as u8, &others)), number, "{labels:?} or {others:?}");
             match number {
                 0 | 1 | 40..=43 => list.extend([relation as u8, counted.map_or(FF, |place| place as u8), number]),
+                27 => *passed_over += 1,
                 _ => panic!("{labels:?} gives {number}"),
             }
         }
@@ -53,7 +54,7 @@ fn expected(rng: &mut Rng, file: &[u8]) -> Vec<u8> {
 
 #[test]
 fn the_list_is_what_judging_says() {
-    let (mut listed, mut refused, mut met) = (0, 0, [0; 44]);
+    let (mut listed, mut passed_over, mut refused, mut met) = (0, 0, 0, [0; 44]);
     for seed in 0..FILES {
         let rng = &mut Rng::new(0x0505_0000 + seed);
         let file = match rng.below(20) {
@@ -71,7 +72,7 @@ fn the_list_is_what_judging_says() {
             refused += 1;
             continue;
         }
-        let expected = expected(rng, &file);
+        let expected = expected(rng, &file, &mut passed_over);
         assert_eq!((served.number, served.first), (0, expected.len()), "seed {seed}");
         assert_eq!(list[..expected.len()], expected, "seed {seed}");
         assert!(list[expected.len()..].iter().all(|&byte| byte == 0xA5), "seed {seed}");
@@ -82,12 +83,9 @@ fn the_list_is_what_judging_says() {
             assert_eq!((served.number, served.first), (30, 0), "seed {seed}");
         }
     }
-    // an add covers a component without a counted place, and nothing covers one with it: no template of one relation has
-    // bounded and unbounded moments side by side
-    assert_eq!(met[43], 0);
-    let met = [0, 1, 40, 41, 42].map(|number| (number, met[number]));
-    println!("{listed} templates listed, {refused} files refused; verdicts {met:?}");
-    assert!(refused >= 50 && met.iter().all(|&(_, count)| count >= 20));
+    let met = [0, 1, 40, 41, 42, 43].map(|number| (number, met[number]));
+    println!("{listed} templates listed, {passed_over} passed over, {refused} files refused; verdicts {met:?}");
+    assert!(passed_over >= 100 && refused >= 50 && met.iter().all(|&(_, count)| count >= 20));
 }
 
 /// The lists of the domains of the literature, as they stand and with all actions at once.
@@ -106,7 +104,7 @@ fn lists_of_the_literature() {
             let mut list = [0; LIST];
             let served = templates(&file, &mut list);
             assert_eq!(served.number, 0);
-            assert_eq!(list[..served.first], expected(&mut Rng::new(5), &file));
+            assert_eq!(list[..served.first], expected(&mut Rng::new(5), &file, &mut 0));
         }
     }
 }

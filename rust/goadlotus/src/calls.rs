@@ -66,7 +66,7 @@ mod raw {
 /// The answer of judging: the number with its three places.
 #[derive(Clone, Copy, PartialEq, Eq, Debug)]
 pub struct Judgement {
-    /// 0, 1, 9 to 25, 30, 31, or 40 to 43.
+    /// 0, 1, 9 to 27, 30, 31, or 40 to 43.
     pub number: u64,
     pub first: u64,
     pub second: u64,
@@ -102,7 +102,7 @@ pub fn judge(file: &[u8], report: &mut [u8], witness: &mut [u8]) -> Judgement {
 /// The answer of playing.
 #[derive(Clone, Copy, PartialEq, Eq, Debug)]
 pub struct Played<'a> {
-    /// 2, 9 to 25, or 50 to 58.
+    /// 2, 9 to 27, or 50 to 58.
     pub number: u64,
     /// The offset of the faulty record; 0 for 2, 9 and 58.
     pub place: u64,
@@ -124,7 +124,7 @@ pub enum Part<'a> {
 /// Plays a run file on a domain file.
 ///
 /// 2 and 50 to 57 write the first 8,192 bytes of work memory: the facts held, 8 bytes each, then zeros. All other
-/// bytes stay as they were; 9 to 25 and 58 write nothing. Every length will do, 0 too.
+/// bytes stay as they were; 9 to 27 and 58 write nothing. Every length will do, 0 too.
 pub fn play<'a>(domain: &'a [u8], run: &'a [u8], work: &mut [u8]) -> Played<'a> {
     // As in `judge`: what the call left alone wouldn't look like an answer.
     let (mut place, mut steps, mut weight) = (u64::MAX, u64::MAX, u64::MAX);
@@ -221,7 +221,7 @@ fn serve(service: Service, read: &[u8], memory: &mut [u8]) -> Served {
 /// Lists every template of a single component that a domain file could have, its own left aside: relation, counted place
 /// (`FF` for none) and verdict, a byte each.
 ///
-/// 9 to 25 refuse the file as judging does, with the place; 30 a list that is too short for the whole; both write nothing.
+/// 9 to 27 refuse the file as judging does, with the place; 30 a list that is too short for the whole; both write nothing.
 /// Every length will do, 0 too; bytes behind the list stay as they were.
 pub fn templates(file: &[u8], list: &mut [u8]) -> Served {
     serve(raw::goadlotus_templates, file, list)

@@ -23,7 +23,7 @@ impl Template {
 }
 
 /// Lists the templates of a domain file, relations rising, of each first the one without a counted place. Where the file is
-/// refused, the number, 9 to 25, and its place.
+/// refused, the number, 9 to 27, and its place.
 pub fn list_templates(file: &[u8]) -> Result<Vec<Template>, Served> {
     let mut list = vec![0; TEMPLATES];
     let served = templates(file, &mut list);

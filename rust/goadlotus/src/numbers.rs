@@ -72,6 +72,8 @@ numbers! {
     23 NoComponent BrokenDomain "no component"
     24 KeyTwice BrokenDomain "a key twice in a component"
     25 CountedTwice BrokenDomain "FF twice in a component"
+    26 WrongClearing BrokenDomain "FF in a literal that can't clear, or twice"
+    27 KeyCleared BrokenDomain "a key where a literal of the relation has FF"
     30 ReportTooSmall TooLittleMemory "report memory too small, or that of a service"
     31 WitnessTooSmall TooLittleMemory "witness memory too small"
     33 BoxCut BrokenBox "box cut inside a length or a file"

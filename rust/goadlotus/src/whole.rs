@@ -30,7 +30,7 @@ impl Judged {
         known(self.answer.number)
     }
 
-    /// The rows; none for 9 to 25.
+    /// The rows; none for 9 to 27.
     pub fn rows(&self) -> Rows<'_> {
         Rows::of(&self.report)
     }
@@ -71,7 +71,7 @@ impl PlayedRun<'_> {
         known(self.answer.number)
     }
 
-    /// The facts held after the last step made; none for 9 to 25.
+    /// The facts held after the last step made; none for 9 to 27.
     pub fn facts(&self) -> Facts<'_> {
         Facts::of(&self.work)
     }

@@ -1,6 +1,6 @@
 //! "Classes of an action": classes, names, journeys.
 
-use crate::domain::{Action, Literals, Moment, Template, Tuple, Var};
+use crate::domain::{Action, Component, Literals, Moment, Template, Tuple, Var};
 
 /// "Literals of one action with equal tuples form a class; with n = 0 all matching literals form
 /// one."
@@ -90,7 +90,7 @@ pub fn name(template: &Template, action: &Action, class: &Class, moment: usize) 
     // "balanced: one true condition, also an add or a delete"
     // "unbalanced: one true condition, neither"
     if let Some(condition) = class.trues.into_iter().next() {
-        return if action.among(class.adds.or(class.deletes), action.atom(condition)) {
+        return if action.covered(class.adds.or(class.deletes), action.atom(condition)) {
             Name::Balanced
         } else {
             Name::Unbalanced
@@ -106,14 +106,25 @@ pub fn name(template: &Template, action: &Action, class: &Class, moment: usize) 
 
 /// The number of the first component that isn't covered. "covered, that is, has no FF and its
 /// relation occurs among them as false condition, add or delete", where "they" are the class's
-/// literals of the moment.
+/// literals of the moment. P4: "A component with FF becomes covered when the class has such a literal
+/// with FF in that same place", a false condition or a delete that clears it.
 pub fn first_uncovered(template: &Template, action: &Action, class: &Moment) -> Option<usize> {
-    let mut occurring = 0u64;
-    for literal in class.falses.or(class.adds).or(class.deletes) {
+    let (mut occurring, mut cleared) = (0u64, 0u64);
+    let named = class.falses.or(class.adds).or(class.deletes);
+    for literal in named {
         occurring |= 1 << action.atom(literal).relation;
     }
-    let covered = |counted: Option<u8>, relation: u8| counted.is_none() && occurring >> relation & 1 == 1;
-    template.components.iter().position(|component| !covered(component.counted, component.relation))
+    for literal in named.and(action.clearing) {
+        let atom = action.atom(literal);
+        if template.component(atom.relation).is_some_and(|component| component.counted == atom.cleared()) {
+            cleared |= 1 << atom.relation;
+        }
+    }
+    let covered = |component: &Component| {
+        let those = if component.counted.is_some() { cleared } else { occurring };
+        those >> component.relation & 1 == 1
+    };
+    template.components.iter().position(|component| !covered(component))
 }
 
 /// "A journey is a class of a lasting action whose start has no add and exactly one true condition,
@@ -127,7 +138,7 @@ pub fn is_journey(action: &Action, class: &Class) -> bool {
     let end = class.at(&action.moments[1]);
     start.adds.is_empty()
         && start.trues.count() == 1
-        && start.trues.into_iter().all(|condition| action.among(start.deletes, action.atom(condition)))
+        && start.trues.into_iter().all(|condition| action.covered(start.deletes, action.atom(condition)))
         && end.trues.is_empty()
         && end.adds.count() == 1
 }

@@ -1,4 +1,4 @@
-//! The domain file: what it says, and where reading it stops (numbers 9 to 25).
+//! The domain file: what it says, and where reading it stops (numbers 9 to 27).
 
 use crate::records::Record;
 use std::hash::{Hash, Hasher};
@@ -14,26 +14,28 @@ pub struct Key(pub u8);
 
 /// What may stand in an argument: a variable in a literal, an object in a fact.
 pub trait Argument: Copy + Eq {
-    /// Fills the unused places.
-    const FILL: Self;
+    /// In an argument it means every object (P4); it also fills the places that aren't arguments, so that
+    /// the arity tells the one from the other.
+    const EVERY: Self;
     fn byte(self) -> u8;
 }
 
 impl Argument for Var {
-    const FILL: Var = Var(0xFF);
+    const EVERY: Var = Var(0xFF);
     fn byte(self) -> u8 {
         self.0
     }
 }
 
 impl Argument for Object {
-    const FILL: Object = Object(0xFF);
+    const EVERY: Object = Object(0xFF);
     fn byte(self) -> u8 {
         self.0
     }
 }
 
-/// A relation with its arguments, unused places filled.
+/// A relation with its arguments, the places behind them filled. One argument at most is EVERY, and the
+/// atom then stands for one fact per object.
 #[derive(Clone, Copy, PartialEq, Eq, PartialOrd, Ord, Debug)]
 pub struct Atom<T> {
     pub relation: u8,
@@ -41,12 +43,12 @@ pub struct Atom<T> {
     pub args: [T; ARITY],
 }
 
-/// A fact is an atom of objects.
+/// A fact is an atom of objects, none of them EVERY.
 pub type Fact = Atom<Object>;
 
 impl<T: Argument> Atom<T> {
     pub fn new(relation: u8, args: impl ExactSizeIterator<Item = T>) -> Atom<T> {
-        let mut atom = Atom { relation, arity: args.len() as u8, args: [T::FILL; ARITY] };
+        let mut atom = Atom { relation, arity: args.len() as u8, args: [T::EVERY; ARITY] };
         for (place, arg) in atom.args.iter_mut().zip(args) {
             *place = arg;
         }
@@ -62,6 +64,23 @@ impl<T: Argument> Atom<T> {
     pub fn args(&self) -> &[T] {
         &self.args[..self.arity as usize]
     }
+
+    /// The place of the argument that means every object.
+    pub fn cleared(&self) -> Option<u8> {
+        self.args().iter().position(|&arg| arg == T::EVERY).map(|place| place as u8)
+    }
+
+    /// Whether some fact is one of both, if there are objects at all.
+    pub fn meets(&self, other: &Atom<T>) -> bool {
+        let alike = |(a, b): (&T, &T)| a == b || *a == T::EVERY || *b == T::EVERY;
+        self.relation == other.relation && self.args.iter().zip(&other.args).all(alike)
+    }
+
+    /// P4: "A literal then covers others": every fact of the other one is one of this.
+    pub fn covers(&self, other: &Atom<T>) -> bool {
+        let within = |(a, b): (&T, &T)| a == b || *a == T::EVERY;
+        self.relation == other.relation && self.args.iter().zip(&other.args).all(within)
+    }
 }
 
 impl<T: Argument> Hash for Atom<T> {
@@ -71,13 +90,16 @@ impl<T: Argument> Hash for Atom<T> {
 }
 
 impl Atom<Var> {
-    /// The fact that the atom is under a binding of variables to objects.
-    pub fn bind(&self, object: impl Fn(Var) -> Object) -> Fact {
-        let mut fact = Atom { relation: self.relation, arity: self.arity, args: [Object::FILL; ARITY] };
+    /// The atom under a binding of variables to objects: a fact, or every fact with any object in one
+    /// place.
+    pub fn bind(&self, object: impl Fn(Var) -> Object) -> Atom<Object> {
+        let mut bound = Atom { relation: self.relation, arity: self.arity, args: [Object::EVERY; ARITY] };
         for place in 0..self.arity as usize {
-            fact.args[place] = object(self.args[place]);
+            if self.args[place] != Var::EVERY {
+                bound.args[place] = object(self.args[place]);
+            }
         }
-        fact
+        bound
     }
 }
 
@@ -142,6 +164,10 @@ impl Literals {
     pub fn or(self, other: Literals) -> Literals {
         Literals(self.0 | other.0)
     }
+
+    pub fn without(self, other: Literals) -> Literals {
+        Literals(self.0 & !other.0)
+    }
 }
 
 /// In the order of the file.
@@ -190,6 +216,8 @@ pub struct Action {
     /// The true conditions that hold where a moment comes: an end's are its own and the over-all ones,
     /// "a literal in both counting once". The one that stands first in the file is the one that counts.
     pub trues_at: [Literals; 2],
+    /// The literals that clear, of any list.
+    pub clearing: Literals,
 }
 
 impl Action {
@@ -201,6 +229,7 @@ impl Action {
             moments: [Moment::default(); 2],
             over_all: Moment::default(),
             trues_at: [Literals::default(); 2],
+            clearing: Literals::default(),
         }
     }
 
@@ -222,6 +251,12 @@ impl Action {
         set.any(|literal| self.atom(literal) == atom)
     }
 
+    /// Whether some literal of the set covers the atom. P4: "a delete of at(0,FF) deletes at(0,1) for
+    /// balanced, for journeys".
+    pub fn covered(&self, mut set: Literals, atom: &Atom<Var>) -> bool {
+        set.any(|literal| self.atom(literal).covers(atom))
+    }
+
     fn push(&mut self, literal: Literal) {
         let number = self.literals.len();
         self.literals.push(literal);
@@ -231,6 +266,9 @@ impl Action {
             When::End => (&mut self.moments[1], 1),
         };
         of.list(literal.list).insert(number);
+        if literal.atom.cleared().is_some() {
+            self.clearing.insert(number);
+        }
         if literal.list == List::True && !self.among(self.trues_at[moment], &literal.atom) {
             self.trues_at[moment].insert(number);
         }
@@ -276,7 +314,7 @@ impl Template {
     /// 0, 1, .. n-1." The same of a fact: the instance that it matches.
     pub fn tuple<T: Argument>(&self, atom: &Atom<T>) -> Option<Tuple<T>> {
         let component = self.component(atom.relation)?;
-        let mut tuple = [T::FILL; ARITY];
+        let mut tuple = [T::EVERY; ARITY];
         for (under_key, place) in tuple.iter_mut().zip(component.place_of).take(self.n as usize) {
             *under_key = atom.args[place as usize];
         }
@@ -292,7 +330,7 @@ pub struct Domain {
     pub template: Template,
 }
 
-/// Where reading stops: a number from 9 to 25, its place, and the offset of the record. The place is
+/// Where reading stops: a number from 9 to 27, its place, and the offset of the record. The place is
 /// the record's offset but where a label is at fault, then it is the label's.
 #[derive(Clone, Copy, PartialEq, Eq, Debug)]
 pub struct Stop {
@@ -444,23 +482,33 @@ impl Domain {
         if variables.len() != arity as usize {
             return Err(12);
         }
-        if variables.iter().any(|&variable| variable >= action.variables) {
+        // P4: "An argument FF in a false condition or a delete is to mean every object, at most one in a
+        // literal." "FF in another role or twice gives 26 just before 18"
+        let every = |variable: u8| Var(variable) == Var::EVERY;
+        let cleared = variables.iter().filter(|&&variable| every(variable)).count();
+        let may_clear = matches!(list, List::False | List::Delete);
+        if cleared > 1 || (cleared == 1 && !may_clear) {
+            return Err(26);
+        }
+        if variables.iter().any(|&variable| variable >= action.variables && !every(variable)) {
             return Err(18);
         }
         let literal = Literal { when, list, atom: Atom::new(relation, variables.iter().map(|&v| Var(v))) };
-        // "19 repeated in its role"
-        let of_atom = || action.literals.iter().filter(|earlier| earlier.atom == literal.atom);
-        if of_atom().any(|earlier| earlier.when == when && earlier.list == list) {
+        // "19 repeated in its role", as it is written
+        let same_role = |earlier: &Literal| earlier.when == when && earlier.list == list;
+        if action.literals.iter().any(|earlier| same_role(earlier) && earlier.atom == literal.atom) {
             return Err(19);
         }
-        // "20 both true and false among roles 0, 1 or among 4 to 7"
+        // "20 both true and false among roles 0, 1 or among 4 to 7"; P4: "true at(0,1) with false at(0,FF)
+        // is a contradiction (20)"
         let opposite = match list {
             List::True => Some(List::False),
             List::False => Some(List::True),
             List::Add | List::Delete => None,
         };
         let same_group = |earlier: &Literal| (earlier.when == When::Start) == (when == When::Start);
-        if opposite.is_some_and(|opposite| of_atom().any(|e| e.list == opposite && same_group(e))) {
+        let contradicts = |earlier: &Literal| same_group(earlier) && earlier.atom.meets(&literal.atom);
+        if opposite.is_some_and(|opposite| action.literals.iter().any(|e| e.list == opposite && contradicts(e))) {
             return Err(20);
         }
         action.push(literal);
@@ -488,6 +536,12 @@ impl Domain {
         // P1: "Where a key is only missing it stays the record's."
         if keys != n {
             return Err(21.into());
+        }
+        // P4: "a component that puts a key where one of its relation's literals has FF gives 27 after 21"
+        let mut clearing = self.actions.iter().flat_map(|action| action.clearing.map(|literal| action.atom(literal)));
+        let has_key = |place: u8| labels[place as usize] != COUNTED;
+        if clearing.any(|atom| atom.relation == relation && atom.cleared().is_some_and(has_key)) {
+            return Err(27.into());
         }
         let mut place_of = [COUNTED; ARITY];
         let mut counted = None;

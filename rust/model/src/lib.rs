@@ -3,7 +3,7 @@
 //! quotation marks beside the code that follows them, those of a request with its name (P6).
 //!
 //! - [`records`]: the record form that both files share
-//! - [`domain`]: reading a domain file, numbers 9 to 25
+//! - [`domain`]: reading a domain file, numbers 9 to 27
 //! - [`classes`]: classes, names, journeys
 //! - [`verdict`]: rows, decision, witness, [`judge`]
 //! - [`machine`]: state, events, steps
@@ -19,6 +19,7 @@
 //! - P2: over all ends just before the end. An end's over-all conditions must hold in the state that
 //!   its step is taken from, count towards unreachable, and stand in a witness that is written; they
 //!   count neither for any other name nor for interference.
+//! - P4: FF in a false condition or a delete means every object.
 //! - P5: every one-relation template, listed.
 //! - P6: the player's alarm is gone, and with it the judging that the player did only for it.
 //! - P8: of the refusals by class the worst is named, 40 before 41 before 42.

@@ -1,6 +1,6 @@
 //! "The machine": state, events, steps. It has no size limits.
 
-use crate::domain::{Domain, Fact, Literals, Moment, Object, Template, Tuple, VARIABLES};
+use crate::domain::{Argument, Atom, Domain, Fact, Literals, Moment, Object, Template, Tuple, VARIABLES};
 use std::collections::{HashMap, HashSet};
 use std::hash::{BuildHasherDefault, Hasher};
 
@@ -9,7 +9,7 @@ pub type Binding = [Object; VARIABLES];
 
 /// The binding of variable i to the i-th of these objects.
 pub fn binding(objects: &[u8]) -> Binding {
-    let mut binding = [Object(0xFF); VARIABLES];
+    let mut binding = [Object::EVERY; VARIABLES];
     for (place, &object) in binding.iter_mut().zip(objects) {
         *place = Object(object);
     }
@@ -43,8 +43,14 @@ impl Event {
         &domain.actions[self.action as usize].moments[self.moment as usize]
     }
 
-    /// The facts that the literals of a set are for this event, in the order of the file.
-    fn facts<'d>(&self, domain: &'d Domain, set: Literals) -> impl Iterator<Item = Fact> + 'd {
+    /// The literals by the roles that interfere with each other: conditions, adds, deletes.
+    fn roles(&self, domain: &Domain) -> [Literals; 3] {
+        let moment = self.moment(domain);
+        [moment.trues.or(moment.falses), moment.adds, moment.deletes]
+    }
+
+    /// What the literals of a set are for this event, in the order of the file.
+    fn bound<'d>(&self, domain: &'d Domain, set: Literals) -> impl Iterator<Item = Atom<Object>> + 'd {
         bound(domain, self.entry(), set)
     }
 }
@@ -56,7 +62,7 @@ pub struct Entry {
     pub binding: Binding,
 }
 
-fn bound(domain: &Domain, entry: Entry, set: Literals) -> impl Iterator<Item = Fact> + '_ {
+fn bound(domain: &Domain, entry: Entry, set: Literals) -> impl Iterator<Item = Atom<Object>> + '_ {
     let action = &domain.actions[entry.action as usize];
     set.map(move |literal| action.atom(literal).bind(|variable| entry.binding[variable.0 as usize]))
 }
@@ -110,6 +116,13 @@ impl State {
         self.held.contains(fact)
     }
 
+    /// The facts held that a bound literal which clears stands for. P4: "Each clearing literal stands for one
+    /// fact per object in the machine, whose facts and bindings use no objects but those chosen": so
+    /// every fact held that fits it is one of them.
+    fn met<'s>(&'s self, bound: &'s Atom<Object>) -> impl Iterator<Item = &'s Fact> + 's {
+        self.facts.iter().filter(|fact| bound.covers(fact))
+    }
+
     /// Puts in a fact that isn't held, and tells the weight of the instance that it matches, 0 if its
     /// relation has no component.
     pub fn insert(&mut self, template: &Template, fact: Fact) -> u32 {
@@ -158,8 +171,10 @@ impl State {
     }
 
     fn conditions_hold(&self, domain: &Domain, entry: Entry, conditions: &Moment) -> bool {
+        let clearing = domain.actions[entry.action as usize].clearing;
         bound(domain, entry, conditions.trues).all(|fact| self.holds(&fact))
-            && bound(domain, entry, conditions.falses).all(|fact| !self.holds(&fact))
+            && bound(domain, entry, conditions.falses.without(clearing)).all(|fact| !self.holds(&fact))
+            && bound(domain, entry, conditions.falses.and(clearing)).all(|bound| self.met(&bound).next().is_none())
     }
 
     /// What an allowed step changes. "Afterwards: all deletes out, then all adds in; ends leave the
@@ -167,10 +182,14 @@ impl State {
     pub fn change(&self, domain: &Domain, events: &[Event]) -> Change {
         let mut change = Change::default();
         for event in events {
-            for fact in event.facts(domain, event.moment(domain).deletes) {
+            let (deletes, clearing) = (event.moment(domain).deletes, domain.actions[event.action as usize].clearing);
+            for fact in event.bound(domain, deletes.without(clearing)) {
                 if self.holds(&fact) {
                     change.gone.push(fact);
                 }
+            }
+            for bound in event.bound(domain, deletes.and(clearing)) {
+                change.gone.extend(self.met(&bound));
             }
             if event.is_end() {
                 change.ends.push(event.entry());
@@ -183,7 +202,7 @@ impl State {
         // "new ones by event and literal (a fact deleted and added again is new)"
         let mut added: HashSet<Fact, Quick> = HashSet::default();
         for event in events {
-            for fact in event.facts(domain, event.moment(domain).adds) {
+            for fact in event.bound(domain, event.moment(domain).adds) {
                 let kept = self.holds(&fact) && change.gone.binary_search(&fact).is_err();
                 if !kept && added.insert(fact) {
                     change.new.push(fact);
@@ -259,8 +278,8 @@ impl Events {
 
 /// "Two events interfere if a condition of one, true or false, is an add or delete of the other, or
 /// an add of one is a delete of the other." P2: "An end's conditions for interference become its own
-/// only." Told for each fact that the events name, instead of for
-/// each pair of events.
+/// only." Told for each fact that the events name, instead of for each pair of events; literals that
+/// clear are then held against all others, since they interfere by any fact that both stand for.
 fn some_interfere(domain: &Domain, events: &[Event]) -> bool {
     if events.len() < 2 {
         return false;
@@ -268,10 +287,9 @@ fn some_interfere(domain: &Domain, events: &[Event]) -> bool {
     let literals = events.iter().map(|event| domain.actions[event.action as usize].literals.len()).sum();
     let mut named: HashMap<Fact, [Events; 3], Quick> = HashMap::with_capacity_and_hasher(literals, Quick::default());
     for (number, event) in events.iter().enumerate() {
-        let moment = event.moment(domain);
-        let roles = [moment.trues.or(moment.falses), moment.adds, moment.deletes];
-        for (role, set) in roles.into_iter().enumerate() {
-            for fact in event.facts(domain, set) {
+        let clearing = domain.actions[event.action as usize].clearing;
+        for (role, set) in event.roles(domain).into_iter().enumerate() {
+            for fact in event.bound(domain, set.without(clearing)) {
                 let roles = named.entry(fact).or_default();
                 roles[role].insert(number);
                 let [conditions, adds, deletes] = *roles;
@@ -281,7 +299,20 @@ fn some_interfere(domain: &Domain, events: &[Event]) -> bool {
             }
         }
     }
-    false
+    events.iter().any(|event| events.iter().any(|other| event != other && clearing_interferes(domain, event, other)))
+}
+
+/// Whether a literal of one event that clears has a fact in common with one of the other, in roles that
+/// interfere.
+fn clearing_interferes(domain: &Domain, event: &Event, other: &Event) -> bool {
+    let clearing = domain.actions[event.action as usize].clearing;
+    !clearing.is_empty()
+        && event.roles(domain).into_iter().enumerate().any(|(role, set)| {
+            event.bound(domain, set.and(clearing)).any(|bound| {
+                let others = other.roles(domain).into_iter().enumerate().filter(|(of_other, _)| *of_other != role);
+                others.into_iter().any(|(_, set)| other.bound(domain, set).any(|other| bound.meets(&other)))
+            })
+        })
 }
 
 /// A quick hash for facts and instances.

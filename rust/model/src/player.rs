@@ -74,7 +74,7 @@ fn play_with(domain_file: &[u8], run_file: &[u8], instance: Option<&[u8]>, work:
         played: Played { number, first, second: 0, third: 0, steps: 0, weight: 0, part },
         total: 0,
     };
-    // "run, after 9 to 23" (25 with P1); "for 9 the whole domain file"
+    // "run, after 9 to 23" (27 with P1 and P4); "for 9 the whole domain file"
     let domain = match read(domain_file) {
         Ok(domain) => domain,
         Err(stop) => {

@@ -123,6 +123,19 @@ fn played_line(fields: &[&str; 7], player: impl Fn(&[u8], &[u8], &mut [u8]) -> T
     }
 }
 
+fn classes_line(fields: &[&str]) {
+    let &[_, name, domain, numbers] = fields else { panic!("not 4 fields") };
+    let domain = model::read(&bytes(domain)).unwrap_or_else(|stop| panic!("{name}: {stop:?}"));
+    let mut of_actions: Vec<Vec<u8>> = Vec::new();
+    for action in &domain.actions {
+        let classes = model::classes::classes(&domain.template, action);
+        let number = |literal: usize| classes.iter().position(|class| class.literals.into_iter().any(|l| l == literal));
+        of_actions.push((0..action.literals.len()).map(|literal| number(literal).map_or(0xFF, |n| n as u8)).collect());
+    }
+    let told: Vec<Vec<u8>> = numbers.split(' ').map(bytes).collect();
+    assert_eq!(of_actions, told, "{name}");
+}
+
 /// A service on one file, in memory of the length told; where it is done also in just the room needed, which is what
 /// it tells, and in one byte less.
 fn service_line(fields: &[&str], service: impl Fn(&[u8], &mut [u8]) -> Served) {
@@ -163,6 +176,7 @@ fn every_edge() {
             "judge" => judge_line(&fields),
             "play" => play_line(&fields),
             "track" => track_line(&fields),
+            "classes" => classes_line(&fields),
             "templates" => service_line(&fields, model::templates),
             "totals" => service_line(&fields, model::totals),
             _ => panic!("no such kind: {kind:?}"),

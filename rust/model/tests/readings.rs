@@ -166,3 +166,64 @@ fn order_in_a_start_fact() {
         assert_eq!((played.number, played.first), (number, 5));
     }
 }
+
+const EVERY: u8 = 0xFF;
+
+/// P4: at/2, at[0,FF]; a lasting action that adds at(0,0) at its start and clears at(0,FF) at its end. The start isn't
+/// covered by what the end clears; from at(0,1) it makes two.
+#[test]
+fn the_other_moment_covers_nothing() {
+    let domain =
+        file(&[(1, &[2]), (2, &[1, 1]), (3, &[2, 0, 0, 0]), (3, &[9, 0, 0, EVERY]), (4, &[0, 0, 0xFF]), (5, &[])]);
+    let (mut report, mut witness) = ([0; 8], [0; 8]);
+    let answer = judge(&domain, &mut report, &mut witness);
+    assert_eq!([answer.number as usize, answer.first, answer.second, answer.third], [42, 0, 0, 0]);
+    assert_eq!((report, witness), ([0, 0, 0, 7, 0, 0, 1, 2], [0, 2, 0, 1, 0xFF, 0xFF, 0xFF, 0xFF]));
+    let (played, _) = run(&domain, &[(16, &[2]), (17, &[0, 0, 1]), (18, &[0, 0, 0]), (19, &[]), (20, &[])]);
+    assert_eq!((played.number, played.steps, played.weight), (2, 1, 2));
+}
+
+/// P4: p/1, p[FF]; an action at once, false p(FF), add p(0). It is bounded; bound to 0 and to 1 in one step it interferes,
+/// since each adds what the other needs to be false.
+#[test]
+fn clearing_conditions_interfere_by_every_fact() {
+    let domain = file(&[(1, &[1]), (2, &[1, 0]), (3, &[1, 0, EVERY]), (3, &[2, 0, 0]), (4, &[0, 0xFF]), (5, &[])]);
+    let (mut report, mut witness) = ([0; 4], [0; 8]);
+    assert_eq!(judge(&domain, &mut report, &mut witness).number, 0);
+    assert_eq!(report, [0, 0, 0, 6]);
+    let (played, facts) = run(&domain, &[(16, &[2]), (18, &[0, 0, 0]), (18, &[0, 0, 1]), (19, &[]), (20, &[])]);
+    assert_eq!((played.number, played.steps, facts), (56, 0, vec![]));
+    let (played, facts) =
+        run(&domain, &[(16, &[2]), (18, &[0, 0, 0]), (19, &[]), (18, &[0, 0, 1]), (19, &[]), (20, &[])]);
+    assert_eq!((played.number, played.steps, facts), (55, 1, vec![p(0)]));
+}
+
+/// P4: at/2 without a component; one action deletes at(0,FF), another needs at(FF,0) to be false. Neither literal covers the
+/// other, and bound to 0 and 1 both stand for at(0,1).
+#[test]
+fn clearing_literals_interfere_where_they_overlap() {
+    let domain = file(&[
+        (1, &[2]),
+        (1, &[0]),
+        (2, &[1, 0]),
+        (3, &[3, 0, 0, EVERY]),
+        (2, &[1, 0]),
+        (3, &[1, 0, EVERY, 0]),
+        (4, &[1]),
+        (5, &[]),
+    ]);
+    let both = |first: u8, second: u8| {
+        run(&domain, &[(16, &[2]), (18, &[0, 0, first]), (18, &[0, 1, second]), (19, &[]), (20, &[])]).0
+    };
+    assert_eq!(both(0, 1).number, 56);
+    assert_eq!(both(1, 1).number, 56);
+}
+
+/// P4: "a fact that a step clears and adds again is new".
+#[test]
+fn cleared_and_added_again_is_new() {
+    let domain = file(&[(1, &[1]), (2, &[1, 0]), (3, &[2, 0, 0]), (3, &[3, 0, EVERY]), (4, &[0, 0xFF]), (5, &[])]);
+    let (played, facts) =
+        run(&domain, &[(16, &[3]), (17, &[0, 0]), (17, &[0, 1]), (18, &[0, 0, 0]), (19, &[]), (20, &[])]);
+    assert_eq!((played.number, played.weight, facts), (2, 2, vec![p(0)]));
+}

@@ -3,6 +3,7 @@
 use super::nearest::nearest;
 use super::source::{Fault, Span};
 use super::words::{Kind, Token};
+use crate::domain::EVERY;
 
 /// A word of the text and where it stands.
 #[derive(Clone, PartialEq, Eq, Debug)]
@@ -78,11 +79,11 @@ impl<'t> Cursor<'t> {
         Ok(Name { text: text.to_string(), span: self.advance() })
     }
 
-    /// A name that is declared: any word but `_`.
+    /// A name that is declared: any word but `_` and `*`.
     pub fn expect_name(&mut self, what: &str) -> Parsed<Name> {
         let name = self.expect_word(what)?;
-        if name.text == "_" {
-            return Err(Fault::new(name.span, format!("`_` is no name, and {what} is expected here")));
+        if name.text == "_" || name.text == EVERY {
+            return Err(Fault::new(name.span, format!("`{}` is no name, and {what} is expected here", name.text)));
         }
         Ok(name)
     }

@@ -7,7 +7,7 @@ use super::raw::{self, Raw};
 use super::source::{Fault, Span};
 use super::words::Kind;
 use super::written::Written;
-use crate::domain::{role_number, ActionNames, List, Names, Time};
+use crate::domain::{role_number, ActionNames, List, Names, Time, EVERY};
 use crate::records::{ACTION, CLOSING, COMPONENT, FF, LITERAL, RELATION};
 
 /// A domain file written from words, and the names in them.
@@ -260,7 +260,7 @@ impl Reader<'_, Item> {
         if !self.cursor.sign_ahead(0, '(') {
             return Err(self.cursor.unexpected(&format!("`(` and the arguments of {}", relation.text)));
         }
-        let arguments = self.cursor.in_parentheses("a variable")?;
+        let arguments = self.cursor.in_parentheses("a variable, or `*` for every object")?;
         let span = arguments.last().map_or(relation.span, |last| relation.span.to(last.span));
         Ok(Atom { relation, arguments, span })
     }
@@ -414,13 +414,20 @@ impl<'f> Writer<'f> {
         None
     }
 
-    /// The number of a variable; FF for `_`, every object.
+    /// The number of a variable; FF for `*`, every object, which may be written FF where no variable has that name.
     fn variable(&mut self, action: usize, name: &Name) -> Option<u8> {
-        if name.text == "_" {
+        if name.text == EVERY {
             return Some(FF);
+        }
+        if name.text == "_" {
+            self.faults.push(Fault::new(name.span, "`_` is a label of the template").beside("every object is `*`"));
+            return None;
         }
         let variables = self.actions[action].what.1.as_ref()?;
         let found = variables.iter().position(|variable| variable.text == name.text);
+        if found.is_none() && name.text == "FF" {
+            return Some(FF);
+        }
         if found.is_none() {
             let known = variables.iter().map(|variable| variable.text.as_str());
             let fault = unknown("variable", name, known).note(format!("of the action `{}`", self.actions[action].name));

@@ -18,8 +18,8 @@
 //! template at[0,_] out[0,_]
 //! ```
 //! The times of a lasting action's literals are `start`, `all` (or `over all`) and `end`; an action at once has none.
-//! The lists are `true`, `false`, `add` and `delete`. Labels are keys, 0, 1, .., and `_` (or `FF`) for the counted
-//! argument. Several things may stand on one line with `,` or `;` between them, so the paper's own line is read, too:
+//! The lists are `true`, `false`, `add` and `delete`. In a false condition or a delete one argument may be `*`, every
+//! object: `delete at(volume, *)` (or `FF`). Labels are keys, 0, 1, .., and `_` (or `FF`) for the counted argument. Several things may stand on one line with `,` or `;` between them, so the paper's own line is read, too:
 //! ```text
 //! at/2, out/2; move(0,1,2): true at(0,1), add at(0,2), delete at(0,1); at[0,FF], out[0,FF]
 //! ```

@@ -3,6 +3,7 @@
 use super::domain_text::DomainText;
 use super::source::Fault;
 use super::written::Written;
+use crate::domain::row_common;
 use crate::library::{judge, play};
 use crate::numbers::says;
 use crate::records::{split, Record, COMPONENT, FF, LITERAL};
@@ -49,18 +50,41 @@ fn origin(offsets: &[(usize, usize)], offset: usize) -> (usize, usize) {
 }
 
 fn fault(written: &Written, number: u64, at: usize, within: usize) -> Fault {
-    let fault = Fault::new(written.place(at + within), format!("{} ({number})", says(number)));
-    let Some(record) = Record::read(&written.file, at) else { return fault };
+    let said = format!("{} ({number})", says(number));
+    let fault = |offset: usize| Fault::new(written.place(offset), said);
+    let Some(record) = Record::read(&written.file, at) else { return fault(at + within) };
+    let of_payload = |place: usize| record.end() - record.payload.len() + place;
     match number {
-        18 if record.payload.iter().skip(2).any(|&argument| argument == FF) => {
-            fault.note("`_` stands for every object, which is not taken here")
-        }
         19 | 20 | 22 => match earlier(written, &record, number) {
-            Some(line) => fault.beside(format!("the other is in line {}", line + 1)),
-            None => fault,
+            Some(line) => fault(at + within).beside(format!("the other is in line {}", line + 1)),
+            None => fault(at + within),
         },
-        _ => fault,
+        // the place is the record's; the words have one for each argument and each label
+        26 => fault(every(&record).last().map_or(at, |&place| of_payload(place))),
+        27 => match cleared_key(written, &record) {
+            Some((place, line)) => fault(of_payload(place)).beside(format!("the `*` is in line {}", line + 1)),
+            None => fault(at),
+        },
+        _ => fault(at + within),
     }
+}
+
+/// The places of the payload of a literal where every object stands.
+fn every(literal: &Record) -> Vec<usize> {
+    (2..literal.payload.len()).filter(|&place| literal.payload[place] == FF).collect()
+}
+
+/// The place of the payload of a component that has a key where a literal of its relation has every object, and the
+/// line of that literal.
+fn cleared_key(written: &Written, component: &Record) -> Option<(usize, usize)> {
+    let (records, _) = split(&written.file);
+    let literals = records.iter().filter(|record| record.kind == LITERAL);
+    literals.filter(|literal| literal.payload.get(1) == component.payload.first()).find_map(|literal| {
+        // the labels stand behind the relation alone, the arguments behind a role, too
+        let place = every(literal).into_iter().map(|place| place - 1);
+        let key = place.into_iter().find(|&place| component.payload.get(place).is_some_and(|&label| label != FF))?;
+        Some((key, written.place(literal.at).line))
+    })
 }
 
 /// The line of the record that this one repeats or contradicts.
@@ -70,10 +94,15 @@ fn earlier(written: &Written, record: &Record, number: u64) -> Option<usize> {
     let since_action = before.filter(|other| other.kind == record.kind).filter(|other| match number {
         22 => other.payload.first() == record.payload.first(),
         19 => other.payload == record.payload,
-        _ => other.payload.get(1..) == record.payload.get(1..) && are_opposite(other.payload[0], record.payload[0]),
+        _ => are_opposite(other.payload[0], record.payload[0]) && meet(&other.payload[1..], &record.payload[1..]),
     });
     let found = since_action.last()?;
     Some(written.place(found.at).line)
+}
+
+/// Whether two literals, each a relation and its arguments, stand for a fact that is of both.
+fn meet(one: &[u8], other: &[u8]) -> bool {
+    one[0] == other[0] && row_common(&one[1..], &other[1..]).is_some()
 }
 
 /// Whether two roles are a true and a false condition of the same time, over all and the end being one.

@@ -1,7 +1,7 @@
 //! Files in words. What can't be said in words is told as records and bytes, so that the words make the same file again.
 
 use super::raw::hexadecimal;
-use crate::domain::{labels, role_of, Domain, Names};
+use crate::domain::{labels, role_of, Domain, Names, EVERY};
 use crate::prose::wrap;
 use crate::records::{
     split, Record, ACTION, CLOSE_RUN, CLOSE_STEP, CLOSING, COMPONENT, EVENT, FF, LITERAL, OBJECTS, RELATION, START_FACT,
@@ -169,7 +169,7 @@ impl ShownDomain<'_> {
             return None;
         }
         let name = |&variable: &u8| match variable {
-            FF => "_".to_string(),
+            FF => EVERY.to_string(),
             variable => self.names.variable(number, variable as usize),
         };
         let arguments: Vec<String> = arguments.iter().map(name).collect();

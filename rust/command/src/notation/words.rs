@@ -4,7 +4,7 @@ use super::source::{Fault, Span};
 
 #[derive(Clone, Copy, PartialEq, Eq, Debug)]
 pub enum Kind<'t> {
-    /// A name, a number, or a word of the notation.
+    /// A name, a number, a word of the notation, or `*`, which stands where a name could.
     Word(&'t str),
     /// One of `( ) [ ] , : ; /`.
     Sign(char),
@@ -63,6 +63,8 @@ fn words_of_line<'t>(line: usize, content: &'t str, tokens: &mut Vec<Token<'t>>,
             continue;
         } else if SIGNS.contains(sign) {
             tokens.push(Token { kind: Kind::Sign(sign), span });
+        } else if sign == '*' {
+            tokens.push(Token { kind: Kind::Word(&content[begin..begin + 1]), span });
         } else if is_in_words(sign) {
             let mut end = begin + sign.len_utf8();
             while let Some((at, (begin, sign))) = signs.next_if(|(_, (_, sign))| is_in_words(*sign)) {
