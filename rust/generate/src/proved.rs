@@ -12,6 +12,7 @@ const WRITTEN: &str = include_str!("../../../crates/cases/specs/Written.antt");
 const SAMPLES: &str = include_str!("../../../crates/cases/specs/Samples.antt");
 const FURTHER: &str = include_str!("../../../crates/cases/specs/Further.antt");
 const FURTHER_RUNS: &str = include_str!("../../../crates/cases/specs/FurtherRuns.antt");
+const CLEARING: &str = include_str!("../../../crates/cases/specs/Clearing.antt");
 
 /// A call, with the memory lent to it.
 #[derive(Clone, PartialEq, Eq, Debug)]
@@ -60,7 +61,7 @@ impl Cases {
         let mut shared = Definitions::default();
         shared.add(WRITTEN);
         shared.add(SAMPLES);
-        for text in [SAMPLES, FURTHER, FURTHER_RUNS] {
+        for text in [SAMPLES, FURTHER, FURTHER_RUNS, CLEARING] {
             let mut own = shared.clone();
             own.add(text);
             all.add(&Rc::new(own), text);
