@@ -52,7 +52,7 @@ answerOf c =
 abbrev pub answerBy : Outcome → PlayAnswer
 answerBy o = record { number = o .number; place = placeOf o; steps = o .steps; weight = o .weight; fault = InRun (o .place) }
 
--- of a call that plays nothing, 9 to 25 and 58
+-- of a call that plays nothing, 9 to 27 and 58
 abbrev pub answerUnplayed : ℕ → ℕ → Fault → PlayAnswer
 answerUnplayed number place fault = record { number = number; place = place; steps = 0; weight = 0; fault = fault }
 

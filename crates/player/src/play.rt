@@ -114,7 +114,7 @@ fn unplayed(number: u64, place: usize, fault: Fault) -> PlayAnswer
     }
 }
 
-// A domain file, read or refused 9 to 25, then 58 where the work memory is too small, then the run file; with an instance where one is
+// A domain file, read or refused 9 to 27, then 58 where the work memory is too small, then the run file; with an instance where one is
 // given, and without a total where none is.
 pub fn play_with(
     domain: &[u8],

@@ -58,33 +58,21 @@ relation out/2
 lasting lend(volume, shelf, reader)
     start true and delete at(volume, shelf)
     end add out(volume, reader)
+at once find(volume, shelf)
+    false at(volume, *), out(volume, *)
+    add at(volume, shelf)
 at once lose(volume, shelf)
     delete at(volume, shelf)
 template at[0,_] out[0,_]
 ";
 
-/// A volume on its way can be put back: the template is refused (43).
-const BACK: &str = "\
-relation in/1
-relation out/1
-lasting lend(volume)
-    start true and delete in(volume)
-    end add out(volume)
-at once take-back(volume)
-    add in(volume)
-    delete out(volume)
-template in[0] out[0]
-";
+const START: &str = "objects volume7 volume8 shelf2 shelf3 reader5\nfact at(volume7, shelf2)\n";
 
-const SHELVED: &str = "objects volume7 volume8 shelf2 shelf3 reader5\nfact at(volume7, shelf2)\n";
-
-const IN: &str = "objects volume7\nfact in(volume7)\n";
-
-/// What is told of an instance behind a run from these facts.
-fn told(domain: &str, start: &str, steps: &str, instance: &[u8]) -> String {
+/// What is told of an instance of the archive behind its run.
+fn told(domain: &str, steps: &str, instance: &[u8]) -> String {
     let loaded = domain_of("d", domain.as_bytes().to_vec()).expect("a domain");
     let of = loaded.domain();
-    let run = run_of("r", format!("{start}{steps}").into_bytes(), Some(&of)).expect("a run");
+    let run = run_of("r", format!("{START}{steps}").into_bytes(), Some(&of)).expect("a run");
     let trace = Trace::of(&of, &loaded.file, &run.file);
     let story = Story { trace: &trace, run: &run, all: false };
     Tracked { story: &story, instance, verdict: loaded.judged.number }.text()
@@ -92,9 +80,13 @@ fn told(domain: &str, start: &str, steps: &str, instance: &[u8]) -> String {
 
 #[test]
 fn there_on_the_way_and_nowhere() {
+    let domain = ARCHIVE.replace(
+        "at once find(volume, shelf)\n    false at(volume, *), out(volume, *)\n    add at(volume, shelf)\n",
+        "",
+    );
     let steps = "step start lend(volume7, shelf2, reader5)\nstep\nstep end lend(volume7, shelf2, reader5)\n";
     assert_eq!(
-        told(ARCHIVE, SHELVED, steps, &[0]),
+        told(&domain, steps, &[0]),
         "
 total 1
   at the start volume7 is there: at(volume7, shelf2)
@@ -105,12 +97,12 @@ total 1
   what is nowhere stays so.
 "
     );
-    let lost = told(ARCHIVE, SHELVED, "step lose(volume7, shelf2)\nstep\n", &[0]);
+    let lost = told(&domain, "step lose(volume7, shelf2)\nstep\n", &[0]);
     assert!(
         lost.starts_with("\ntotal 0\n  at the start volume7 is there: at(volume7, shelf2)\n  from step 1 on volume7 is nowhere (lost): "),
         "{lost}"
     );
-    let other = told(ARCHIVE, SHELVED, steps, &[1]);
+    let other = told(&domain, steps, &[1]);
     assert!(
         other.starts_with("\ntotal 0\n  at the start volume8 is nowhere (lost): ")
             && other.matches("volume8").count() == 1,
@@ -118,21 +110,22 @@ total 1
     );
 }
 
-/// A journey begun twice, since the volume was put back meanwhile: the total is 2.
+/// A journey begun twice, since the volume was found meanwhile: the template is refused (43), and the total is 2.
 #[test]
 fn begun_twice() {
-    let lend = "step start lend(volume7)\n";
-    let text = told(BACK, IN, &format!("{lend}step take-back(volume7)\n{lend}"), &[0]);
+    let lend = "step start lend(volume7, shelf2, reader5)\n";
+    let text = told(ARCHIVE, &format!("{lend}step find(volume7, shelf2)\n{lend}"), &[0]);
     assert_eq!(
         text,
         "
 total 2
-  at the start volume7 is there: in(volume7)
-  from step 1 on volume7 is on the way (in transit): lend(volume7) is open
-  from step 2 on volume7 is there and on the way as well: in(volume7);
-      lend(volume7) is open
-  from step 3 on volume7 is on the way (in transit): lend(volume7) and
-      lend(volume7) are open
+  at the start volume7 is there: at(volume7, shelf2)
+  from step 1 on volume7 is on the way (in transit):
+      lend(volume7, shelf2, reader5) is open
+  from step 2 on volume7 is there and on the way as well: at(volume7, shelf2);
+      lend(volume7, shelf2, reader5) is open
+  from step 3 on volume7 is on the way (in transit):
+      lend(volume7, shelf2, reader5) and lend(volume7, shelf2, reader5) are open
 "
     );
 }
@@ -140,6 +133,6 @@ total 2
 /// Before the first uncut record of an event or a close the start doesn't count.
 #[test]
 fn a_start_that_does_not_count() {
-    let text = told(ARCHIVE, SHELVED, "record 17 00 09 09\n", &[0]);
+    let text = told(ARCHIVE, "record 17 00 09 09\n", &[0]);
     assert_eq!(text, "\ntotal 0\n  The start doesn't count yet.\n");
 }

@@ -195,7 +195,7 @@ impl<'d> Player<'d> {
     /// The total of the instance, 0 without one.
     fn total(&self) -> u32 {
         let Some(objects) = self.instance.filter(|_| self.started && self.objects.is_some()) else { return 0 };
-        let mut instance = [Object::FILL; ARITY];
+        let mut instance = [Object::EVERY; ARITY];
         for (place, &object) in instance.iter_mut().zip(objects) {
             *place = Object(object);
         }
