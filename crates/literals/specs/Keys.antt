@@ -57,12 +57,14 @@ marked n c = cond (eqb c n) 0 (suc c)
 
 -- at each relation its first component
 abbrev pub ComponentsIn : List ℕ → List ℕ → Type 0
-ComponentsIn head places = (r : ℕ) → r < maxRelations → getD places r 0 ≡ marked (componentsIn head) (position (starts r) (componentRowsIn head))
+ComponentsIn head places =
+    (r : ℕ) → r < maxRelations → getD places r 0 ≡ marked (componentsIn head) (position (starts r) (componentRowsIn head))
 
 -- at each component the places of its keys
 abbrev pub PlacesIn : List ℕ → List ℕ → Type 0
 PlacesIn head places =
-    (c k : ℕ) → c < componentsIn head → k < keysIn head → getD places (maxRelations + 8 * c + k) 0 ≡ placeUnder (key k) (componentRowIn head c)
+    (c k : ℕ) → c < componentsIn head → k < keysIn head
+    → getD places (maxRelations + 8 * c + k) 0 ≡ placeUnder (key k) (componentRowIn head c)
 
 pub record PlacesOf (head places : List ℕ) : Type 0 where
   pub components : ComponentsIn head places

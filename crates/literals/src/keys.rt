@@ -87,8 +87,8 @@ pub fn key_tuple(head: &Head, c: usize, rows: &[u8], at: usize) -> [u8; 8]
 // Writes the component `c` at its relation.
 fn put_component(head: &Head, c: usize, places: &mut [u8])
     requires { ⌜ (c < maxComponents) × (length (now places) ≡ maxRelations + 8 * maxComponents) ⌝ }
-    ensures { λ _. ⌜ ((r : ℕ) → r < maxRelations
-        → getD (now (places .exit)) r 0 ≡ cond (starts r (componentRowIn (now (head .entry)) c)) (c + 1) (getD (now (places .entry)) r 0)) ⌝ }
+    ensures { λ _. ⌜ ((r : ℕ) → r < maxRelations → getD (now (places .exit)) r 0
+        ≡ cond (starts r (componentRowIn (now (head .entry)) c)) (c + 1) (getD (now (places .entry)) r 0)) ⌝ }
 {
     let relation = wide(component_byte(head, c, 0));
     if MAX_RELATIONS <= relation {
