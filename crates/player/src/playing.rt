@@ -88,7 +88,8 @@ impl Player {
         requires few { ⌜ self .counts .facts ≤ maxFacts ⌝ }
         requires facts { ⌜ 8 * self .counts .facts ≤ length (now work) ⌝ }
         ensures { λ r. ⌜ ((D : Domain) (p : Playing) (agenda old : List ℕ) → HeadOf D (now (head .entry))
-            → Stands D p (wholeIn self agenda) (now (work .entry)) old → Noted D (runObjects p) (now (head .entry)) (now (index .entry)) (p .state)
+            → Stands D p (wholeIn self agenda) (now (work .entry)) old
+            → Noted D (runObjects p) (now (head .entry)) (now (index .entry)) (p .state)
             → wholeIn r agenda ≡ playerOf (begin D p)) ⌝ }
     {
         let counts = self.counts;

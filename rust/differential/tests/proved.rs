@@ -60,7 +60,10 @@ fn wrong_answers_are_noticed() {
         }
         answer
     };
-    assert_eq!(wrong(&cases, wordy, playing::library), ["m10-judged", "bounded-later", "first-bounded", "no-witness"]);
+    assert_eq!(
+        wrong(&cases, wordy, playing::library),
+        ["m10-judged", "bounded-later", "first-bounded", "no-witness", "beside-journey"]
+    );
     let eager = |domain: &[u8], run: &[u8], work: &mut [u8]| {
         let played = playing::library(domain, run, work);
         playing::Played { steps: played.steps + (played.number == 57) as u64, ..played }

@@ -437,8 +437,8 @@ mod tests {
     fn every_case_is_read() {
         let all = Cases::read();
         let count = |group| all.cases.iter().filter(|case| case.group == group).count();
-        let groups = ["Samples", "Names", "Room", "Refusals", "Steps", "RunFiles", "Parts"];
-        assert_eq!(groups.map(count), [12, 47, 12, 74, 57, 54, 7]);
+        let groups = ["Samples", "Names", "Room", "Refusals", "Refused", "Steps", "RunFiles", "Parts"];
+        assert_eq!(groups.map(count), [12, 62, 12, 74, 30, 76, 54, 7]);
         let limits = ["facts-1024", "facts-1025", "start-1024", "start-1025", "start-repeated", "start-outside"]
             .map(String::from);
         let others = [
@@ -451,7 +451,8 @@ mod tests {
             "counted-refused",
         ]
         .map(String::from);
-        assert_eq!(all.others, [&others[..], &limits].concat());
+        let over_objects = ["one-each", "no-object", "apart", "together"].map(String::from);
+        assert_eq!(all.others, [&others[..], &limits, &over_objects].concat());
     }
 
     /// M1 is the paper's, on its bytes.
