@@ -24,7 +24,7 @@ use Rattle.literals.specs.Domain.{Component, isCounted, keyBelow, countedCleare
 use Rattle.literals.specs.Decode.{argumentOf, labelOf}
 use Rattle.literals.proofs.Arguments.{every-number}
 use Rattle.literals.specs.Table.{literalRow, labelNumber, pad, Bounded as BoundedDomain}
-use Rattle.literals.specs.Held.{arityIn, componentRowIn, HeadOf}
+use Rattle.literals.specs.Held.{arityIn, componentRowIn, TemplateOf}
 use Rattle.literals.proofs.Bytes.{keys-below}
 use Rattle.literals.proofs.Tables.{Kept, kept, pad-at}
 use Rattle.literals.proofs.Heads.{part-is}
@@ -73,7 +73,7 @@ counted-byte : (n : ℕ) → n ≤ 6 → (l : Label) → keyBelow n l ≡ true �
 counted-byte n h (keyed k) t = let g = ltb-true (k .0) n t in rw (ne-eqb (k .0) 255 (λ e. omega arith))
 counted-byte n h Counted t = refl
 
-module _ {D : Domain} {head : List ℕ} (H : HeadOf D head) (c : ℕ) (h : c < length (D .template)) where
+module _ {D : Domain} {head : List ℕ} (H : TemplateOf D head) (c : ℕ) (h : c < length (D .template)) where
   here : In (componentAt D c) (D .template)
   here = getD-in (D .template) c noComponent h
 
@@ -295,7 +295,7 @@ module _ (D : Domain) (a : Action) (B : BoundedDomain D) (i : In a (D .actions))
     deleted-in = deletes-in (place Positive some not-many) (place-less Positive some not-many)
         ∙ sym (all-one Positive some not-many (deletedBy (inClass D a x m Delete)))
 
-  module _ {head : List ℕ} (H : HeadOf D head) where
+  module _ {head : List ℕ} (H : TemplateOf D head) where
     -- a literal of the component's relation has FF in its counted place
     clears-in : (c : ℕ) → c < length (D .template) → (j : ℕ) → j < n → eqb (componentAt D c .rel) (atom j .rel) ≡ true
         → clearsAt head rows c j ≡ countedCleared (componentAt D c .labels) (atom j .args)

@@ -16,7 +16,7 @@ use Rattle.literals.specs.declared.Role.{Role}
 use Rattle.literals.specs.Domain.{sameVariable, sameLiteral, isEvery, usageNumber, roleOf, sameTime, isCounted, Literal, Action, Domain}
 use Rattle.literals.specs.Decode.{maxLiterals, argumentOf, labelOf, repeats}
 use Rattle.literals.specs.Table.{rowOf, literalRow, pad, rowsMeet}
-use Rattle.literals.specs.Held.{componentsIn, arityIn, componentRowIn, HeadOf}
+use Rattle.literals.specs.Held.{componentsIn, arityIn, componentRowIn, TemplateOf}
 use Rattle.literals.specs.declared.Moment.{Moment}
 use Rattle.literals.specs.declared.Moment.the-variants.{Start, End}
 use Rattle.classes.specs.declared.Sole.{Sole}
@@ -289,9 +289,9 @@ pub record Sides (rows numbers : List ℕ) : Type 0 where
   pub rowed : 8 * length numbers ≤ length rows
   pub few : length numbers ≤ maxLiterals
 
--- an action of the domain of a head, by the rows of its literals, none of which is repeated in its role
+-- an action of a domain whose template is that of a head, by the rows of its literals, none of which is repeated in its role
 pub record ActionOf (D : Domain) (a : Action) (head rows : List ℕ) : Type 0 where
-  pub says : HeadOf D head
+  pub says : TemplateOf D head
   pub listed : In a (D .actions)
   pub apart : noRepeats a ≡ true
   pub literals : rows ≡ flatMap literalRow (a .lits)

@@ -23,7 +23,7 @@ use Rattle.literals.specs.Domain.{keysOf, Domain, Action, noAction, action}
 use Rattle.literals.specs.Decode.{maxLiterals}
 use Rattle.literals.specs.Table.{argumentNumber, rowOf, rowsIn, literalRow, pad, Bounded}
 use Rattle.run_semantics.specs.Track.{instanceOf}
-use Rattle.literals.specs.Held.{keysIn, componentRowsIn, HeadOf}
+use Rattle.literals.specs.Held.{keysIn, componentRowsIn, TemplateOf}
 use Rattle.literals.proofs.Bounds.{arity-six}
 use Rattle.literals.proofs.Bytes.{keys-once}
 use Rattle.literals.proofs.KeyRows.{length-rows}
@@ -174,7 +174,7 @@ module _ (D : Domain) (a : Action) {head rows : List ℕ} (A : ActionOf D a head
 -- ---- its fact
 
 -- an instance matches it where it is the bound key tuple
-bound-matches : (D : Domain) {head : List ℕ} → HeadOf D head → (b : List Object) (p : Atom Argument) → countBy isEvery (p .args) ≡ 0
+bound-matches : (D : Domain) {head : List ℕ} → TemplateOf D head → (b : List Object) (p : Atom Argument) → countBy isEvery (p .args) ≡ 0
     → all (λ c. keepsKeys c p) (D .template) ≡ true → (x : List Variable) → belongs D x p ≡ true
     → (y : List Object) → matches D y (bind b p) ≡ sameList sameObject (bindTuple b x) y
 unfolding hasTuple

@@ -48,18 +48,18 @@ arity-six D h r = go (leb (length (D .arities)) r) refl
 -- ---- one literal more
 
 -- what an action adds
-record Fits (D : Domain) (a : Action) : Type 0 where
-  counts : a .vars ≤ maxVariables
-  sizes : length (a .lits) ≤ maxLiterals
-  arguments : (l : Literal) → In l (a .lits) → length (l .atom .args) ≤ maxArguments
-  variables : (l : Literal) → In l (a .lits) → (v : Variable) → In v (variablesOf (l .atom .args)) → v .0 < 255
-  below : (l : Literal) → In l (a .lits) → (v : Variable) → In v (variablesOf (l .atom .args)) → v .0 < a .vars
-  roles : (l : Literal) → In l (a .lits) → (roleNumber (l .role) ≤ 9) × (roleOf (roleNumber (l .role)) ≡ l .role)
-  literalArity : (l : Literal) → In l (a .lits) → length (l .atom .args) ≡ arity D (l .atom .rel)
-  clears : (l : Literal) → In l (a .lits) → clearsOnce l ≡ true
-  keysKept : (l : Literal) → In l (a .lits) → (c : Component) → In c (D .template) → keepsKeys c (l .atom) ≡ true
+pub record Fits (D : Domain) (a : Action) : Type 0 where
+  pub counts : a .vars ≤ maxVariables
+  pub sizes : length (a .lits) ≤ maxLiterals
+  pub arguments : (l : Literal) → In l (a .lits) → length (l .atom .args) ≤ maxArguments
+  pub variables : (l : Literal) → In l (a .lits) → (v : Variable) → In v (variablesOf (l .atom .args)) → v .0 < 255
+  pub below : (l : Literal) → In l (a .lits) → (v : Variable) → In v (variablesOf (l .atom .args)) → v .0 < a .vars
+  pub roles : (l : Literal) → In l (a .lits) → (roleNumber (l .role) ≤ 9) × (roleOf (roleNumber (l .role)) ≡ l .role)
+  pub literalArity : (l : Literal) → In l (a .lits) → length (l .atom .args) ≡ arity D (l .atom .rel)
+  pub clears : (l : Literal) → In l (a .lits) → clearsOnce l ≡ true
+  pub keysKept : (l : Literal) → In l (a .lits) → (c : Component) → In c (D .template) → keepsKeys c (l .atom) ≡ true
 
-fits-of : (D : Domain) → Bounded D → (a : Action) → In a (D .actions) → Fits D a
+pub fits-of : (D : Domain) → Bounded D → (a : Action) → In a (D .actions) → Fits D a
 fits-of D h a m =
     record {
       counts = h .counts a m;
@@ -73,7 +73,7 @@ fits-of D h a m =
       keysKept = h .keysKept a m;
     }
 
-bounded-actions : (D : Domain) (as′ : List Action) → Bounded D → length as′ ≤ maxActions → ((a : Action) → In a as′ → Fits D a)
+pub bounded-actions : (D : Domain) (as′ : List Action) → Bounded D → length as′ ≤ maxActions → ((a : Action) → In a as′ → Fits D a)
     → Bounded (record { arities = D .arities; actions = as′; template = D .template })
 bounded-actions D as′ h n f =
     record {

@@ -15,7 +15,7 @@ use Rattle.records.proofs.Lists.{bool-cases, getD-in, flatMap-in}
 use Rattle.literals.specs.Decode.{maxRelations, maxArguments, maxVariables}
 use Rattle.literals.specs.Domain.{Literal, Action, Component, Domain, noAction, action}
 use Rattle.literals.specs.Table.{literalRow, componentRow, allLiterals, tableBytes, rowsIn, Bounded}
-use Rattle.literals.specs.Held.{within, keysIn, componentsIn, arityIn, bytesFrom, componentRowIn, componentRowsFrom, componentRowsIn, variablesIn, sizeIn, firstIn, HeadOf, Held, SpanOf, atArities, atComponents, atVariables}
+use Rattle.literals.specs.Held.{within, keysIn, componentsIn, arityIn, bytesFrom, componentRowIn, componentRowsFrom, componentRowsIn, variablesIn, sizeIn, firstIn, HeadOf, TemplateOf, Held, SpanOf, atArities, atComponents, atVariables}
 use Rattle.literals.proofs.Tables.{length-literal-row, length-flat, length-literals, rows-flat}
 use Rattle.literals.proofs.Held.{literals-in}
 use Rattle.literals.proofs.Spans.{part-flat, literals-split, literals-next}
@@ -119,7 +119,10 @@ getD-rows [] d c h = absurd (omega arith)
 getD-rows (x ∷ cs) d zero h = refl
 getD-rows (x ∷ cs) d (suc c) h = getD-rows cs d c (omega arith)
 
-pub part-is : {D : Domain} {head : List ℕ} → HeadOf D head → (d : Component) (c : ℕ) → c < length (D .template) → componentRowIn head c ≡ componentRow (getD (D .template) c d)
+pub template-of : {D : Domain} {head : List ℕ} → HeadOf D head → TemplateOf D head
+template-of H = record { bounded = H .bounded; keys = H .keys; arities = H .arities; components = H .components; componentRows = H .componentRows }
+
+pub part-is : {D : Domain} {head : List ℕ} → TemplateOf D head → (d : Component) (c : ℕ) → c < length (D .template) → componentRowIn head c ≡ componentRow (getD (D .template) c d)
 part-is {D} {head} H d c h =
     let n = H .components in
     sym (part-row head c (omega arith)) ∙ ap (λ (rs : List (List ℕ)). getD rs c []) (H .componentRows) ∙ getD-rows (D .template) d c h

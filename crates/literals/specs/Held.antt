@@ -103,6 +103,14 @@ pub record HeadOf (D : Domain) (head : List ℕ) : Type 0 where
   pub sizes : (i : ℕ) → i < length (D .actions) → sizeIn head i ≡ length (action D i .lits)
   pub firsts : (i : ℕ) → i < length (D .actions) → firstIn head i ≡ length (allLiterals (take i (D .actions)))
 
+-- what it says of the relations and the template, which is all that the classes of an action ask for
+pub record TemplateOf (D : Domain) (head : List ℕ) : Type 0 where
+  pub bounded : Bounded D
+  pub keys : keysIn head ≡ keysOf (D .template)
+  pub arities : (r : ℕ) → arityIn head r ≡ arity D r
+  pub components : componentsIn head ≡ length (D .template)
+  pub componentRows : componentRowsIn head ≡ map componentRow (D .template)
+
 pub record Held (D : Domain) (head table : List ℕ) : Type 0 where
   pub says : HeadOf D head
   pub old : List ℕ

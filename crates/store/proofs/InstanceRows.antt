@@ -20,11 +20,11 @@ use Rattle.literals.specs.declared.Label.{Label}
 use Rattle.literals.specs.Domain.{variable, sameObject, variablesOf, Fact, Literal, Component, isCounted, keysBound, keepsKeys, keysOf, Domain}
 use Rattle.literals.specs.Decode.{byte}
 use Rattle.literals.specs.Table.{argumentNumber, rowOf, literalRow, componentRow, rowsIn}
-use Rattle.literals.specs.Held.{componentsIn, keysIn, componentRowIn, componentRowsIn, HeadOf}
+use Rattle.literals.specs.Held.{componentsIn, keysIn, componentRowIn, componentRowsIn, HeadOf, TemplateOf}
 use Rattle.literals.proofs.Bytes.{keys-once}
 use Rattle.literals.proofs.Rows.{part-first, rows-more, rows-end}
 use Rattle.literals.proofs.Held.{keys-few}
-use Rattle.literals.proofs.Heads.{parts-length, part-row}
+use Rattle.literals.proofs.Heads.{parts-length, part-row, template-of}
 use Rattle.literals.specs.Matching.{keyTuple, isOf, tuplesBy, tuplesOf, hasTuple}
 use Rattle.literals.specs.Keys.{position, underKeys, keyRow, keyRows}
 use Rattle.classes.specs.Held.{tupleRow}
@@ -304,7 +304,7 @@ any-same : (y : List Object) (ts : List (List Object)) → ((t : List Object) �
 any-same y [] h = refl
 any-same y (t ∷ ts) h = ap₂ _||_ (same-rows y t (h t (List·Memᴰ·head refl))) (any-same y ts (λ u m. h u (List·Memᴰ·tail m)))
 
-module _ {D : Domain} {head : List ℕ} (h : HeadOf D head) where
+module _ {D : Domain} {head : List ℕ} (h : TemplateOf D head) where
   few-keys : keysOf (D .template) ≤ 6
   few-keys = keys-few (D .template) (h .bounded .labels)
 
@@ -365,4 +365,4 @@ module _ {D : Domain} {head : List ℕ} (h : HeadOf D head) where
 -- as the code holds them
 pub top-held : (head memory : List ℕ) (n from : ℕ) (D : Domain) (fs : List Fact) → HeadOf D head → rowsIn n memory ≡ map factRow fs → ((f : Fact) → In f fs → FactFits D f)
     → topRows (keysIn head) (componentRowsIn head) (rowsIn n memory) from ≡ topFrom D fs from
-top-held head memory n from D fs h e fit = ap (λ (rows : List (List ℕ)). topRows (keysIn head) (componentRowsIn head) rows from) e ∙ top-is h fs fit from
+top-held head memory n from D fs h e fit = ap (λ (rows : List (List ℕ)). topRows (keysIn head) (componentRowsIn head) rows from) e ∙ top-is (template-of h) fs fit from

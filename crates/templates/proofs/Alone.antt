@@ -40,7 +40,7 @@ use Rattle.templates.specs.Listing.{OnlyRelation, mentionedAt}
 -- ---- an action that does not mention the relation
 
 -- an atom of another relation has no tuple
-no-tuple : (n r : ℕ) (cs : List Component) → map (λ (c : Component). c .rel) cs ≡ r ∷ [] → (p : Atom Argument) → eqb (p .rel) r ≡ false
+pub no-tuple : (n r : ℕ) (cs : List Component) → map (λ (c : Component). c .rel) cs ≡ r ∷ [] → (p : Atom Argument) → eqb (p .rel) r ≡ false
     → tuplesBy n cs p ≡ []
 no-tuple n r [] e p h = absurd (nil≢cons e)
 no-tuple n r (c ∷ []) e p h =
@@ -65,7 +65,7 @@ no-class D a r only h = ap (dedup (sameList sameVariable)) (none-all D r only (a
 
 module _ {D : Domain} {a : Action} {head rows : List ℕ} (A : ActionOf D a head rows) (r n : ℕ) (w : length rows ≡ 8 * n) where
   -- as many rows as literals
-  size : n ≡ length (a .lits)
+  pub size : n ≡ length (a .lits)
   size =
       let l = length-flat literalRow (a .lits) (λ l m. length-literal-row l (kept (A .says .bounded) (A .listed) m .fits)) in
       let e = ap length (A .literals) in

@@ -6,5 +6,6 @@ pub mod Renamed
 pub mod Kept
 pub mod Written
 pub mod Alone
+pub mod Narrowed
 pub mod EntryBytes
 pub mod Said

@@ -29,7 +29,7 @@ any-agree : {A : Type 0} (p q : A → Bool) (l : List A) → ((a : A) → In a l
 any-agree p q [] h = refl
 any-agree p q (x ∷ xs) h = ap₂ _||_ (h x (List·Memᴰ·head refl)) (any-agree p q xs (λ a m. h a (List·Memᴰ·tail m)))
 
-map-agree : {A B : Type 0} (f g : A → B) (l : List A) → ((a : A) → f a ≡ g a) → map f l ≡ map g l
+pub map-agree : {A B : Type 0} (f g : A → B) (l : List A) → ((a : A) → f a ≡ g a) → map f l ≡ map g l
 map-agree f g [] h = refl
 map-agree f g (x ∷ xs) h = ap₂ _∷_ (h x) (map-agree f g xs h)
 
@@ -62,21 +62,21 @@ flatMap-map g f f′ (x ∷ xs) h =
 
 -- ---- a name by the lists that it looks at
 
-abbrev nameVia : List (Atom Argument) → List (Atom Argument) → List (Atom Argument) → List (Atom Argument) → List (Atom Argument)
+abbrev pub nameVia : List (Atom Argument) → List (Atom Argument) → List (Atom Argument) → List (Atom Argument) → List (Atom Argument)
     → (List (Atom Argument) → Bool) → Name
 nameVia r p a d n cov = nameBy (length r) (length p) (length a) (all (changedBy a d) p) (cov (n ++ (a ++ d)))
 
-name-via : (D : Domain) (a : Action) (x : List Variable) (m : Moment)
+pub name-via : (D : Domain) (a : Action) (x : List Variable) (m : Moment)
     → nameOf D a x m ≡ nameVia (reachIn D a x m) (inClass D a x m Positive) (inClass D a x m Add) (inClass D a x m Delete)
     (inClass D a x m Negative) (λ ps. all (covered ps) (D .template))
 unfolding nameOf excluding
 name-via D a x m = refl
 
-abbrev journeyVia : Bool → List (Atom Argument) → List (Atom Argument) → List (Atom Argument) → List (Atom Argument) → List (Atom Argument)
+abbrev pub journeyVia : Bool → List (Atom Argument) → List (Atom Argument) → List (Atom Argument) → List (Atom Argument) → List (Atom Argument)
     → Bool
 journeyVia l sa sp sd ep ea = l && eqb (length sa) 0 && eqb (length sp) 1 && all (deletedBy sd) sp && eqb (length ep) 0 && eqb (length ea) 1
 
-journey-via : (D : Domain) (a : Action) (x : List Variable)
+pub journey-via : (D : Domain) (a : Action) (x : List Variable)
     → journey D a x ≡ journeyVia (a .lasting) (inClass D a x Start Add) (inClass D a x Start Positive) (inClass D a x Start Delete)
     (inClass D a x End Positive) (inClass D a x End Add)
 unfolding journey

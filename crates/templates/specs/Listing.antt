@@ -4,13 +4,14 @@ use mathlib.Core.Bool.{Bool, true, cond}
 use mathlib.Core.Logic.{_⊎_}
 use mathlib.Core.List.{List, [], _∷_, _++_, map, flatMap}
 use mathlib.Core.Option.{Option, none, some}
-use Prim.Native.Nat.{ℕ, _+_, _-_, _*_, _≤_, _<_}
+use Prim.Native.Nat.{ℕ, zero, suc, _+_, _-_, _*_, _≤_, _<_}
 use lib.Dec.{eqb, ltb}
 use lib.ListN.{length, getD, take}
 use Rattle.records.specs.Lists.{filterBy, any}
 use Rattle.records.specs.Memory.{over}
 use Rattle.literals.specs.Domain.{Component, Domain, arity, bare}
 use Rattle.literals.specs.Keys.{below}
+use Rattle.classes.specs.Held.{rowAt}
 use Rattle.verdict.specs.Claims.{wellFormed}
 use Rattle.reading.specs.Held.{HeldOver}
 use Rattle.templates.specs.Templates.{Shape, shape, shapesOf, shapesFrom, componentAt, legalAlone, entry}
@@ -38,9 +39,14 @@ shapeOf r b = shape r (placeOf b)
 abbrev pub OnlyRelation : Domain → ℕ → Type 0
 OnlyRelation D r = map (λ (c : Component). c .rel) (D .template) ≡ r ∷ []
 
--- a literal of these n rows has the relation
+-- the row j has the relation
 abbrev pub mentionedAt : List ℕ → ℕ → ℕ → Bool
 mentionedAt rows r j = eqb (getD rows (8 * j + 1) 0) r
+
+-- those of the first n rows that have it, one behind the other
+unfoldable pub rowsWith : List ℕ → ℕ → ℕ → List ℕ
+rowsWith rows r zero = []
+rowsWith rows r (suc j) = rowsWith rows r j ++ cond (mentionedAt rows r j) (rowAt rows j) []
 
 -- ---- where listing stands
 

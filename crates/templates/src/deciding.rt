@@ -1,5 +1,5 @@
-// The decision of a domain whose template is one component, by the summaries of its actions. An action without a literal of the relation
-// has no class, and is passed over.
+// The decision of a domain whose template is one component, by the summaries of its actions. Of an action, the literals of the relation
+// alone are named: the others do not match. One without such a literal has no class, and is passed over.
 use literals::head::Head;
 use literals::head::actions_in;
 use literals::head::is_lasting;
@@ -9,22 +9,24 @@ use literals::keys::KeyPlaces;
 use literals::keys::put_places;
 use literals::limits::MAX_LITERALS;
 use naming::name_action;
+use records::bytes::put_bytes;
 use verdict::Notes;
 use verdict::Summary;
 ghost use mathlib.Core.Path.{_≡_};
-ghost use mathlib.Core.Bool.{true};
-ghost use Prim.Native.Nat.{_*_, _≤_, _<_};
-ghost use lib.ListN.{length};
+ghost use mathlib.Core.Bool.{true, cond};
+ghost use Prim.Native.Nat.{_+_, _*_, _≤_, _<_};
+ghost use lib.ListN.{length, take};
+ghost use lib.Seq.{paste};
 ghost use Rattle.records.specs.Lists.{any};
 ghost use Rattle.literals.specs.Domain.{Domain, Action, action};
 ghost use Rattle.literals.specs.Decode.{maxActions, maxLiterals};
 ghost use Rattle.literals.specs.Keys.{below, PlacesOf};
 ghost use Rattle.literals.specs.Held.{Held};
-ghost use Rattle.classes.specs.Held.{ActionOf};
+ghost use Rattle.classes.specs.Held.{ActionOf, rowAt};
 ghost use Rattle.verdict.specs.Judged.{decided};
 ghost use Rattle.verdict.specs.Claims.{wellFormed};
 ghost use Rattle.verdict.specs.Summaries.{summaryOf};
-ghost use Rattle.templates.specs.Listing.{OnlyRelation, mentionedAt};
+ghost use Rattle.templates.specs.Listing.{OnlyRelation, mentionedAt, rowsWith};
 
 // Whether a literal of these rows has the relation.
 fn mentions(rows: &[u8], n: usize, relation: u8) -> bool
@@ -37,6 +39,35 @@ fn mentions(rows: &[u8], n: usize, relation: u8) -> bool
         }
     }
     false
+}
+
+// Puts the row `j` behind the `k` rows that are kept, if it has the relation: how many are kept then.
+fn keep_row(rows: &[u8], j: usize, relation: u8, kept: &mut [u8], k: usize) -> usize
+    requires { ⌜ (8 * j + 8 ≤ length (now rows)) × (8 * k + 8 ≤ length (now kept)) ⌝ }
+    ensures count { λ r. ⌜ r ≡ cond (mentionedAt (now (rows .entry)) relation j) (k + 1) k ⌝ }
+    ensures rows { λ _. ⌜ now (kept .exit) ≡ cond (mentionedAt (now (rows .entry)) relation j)
+        (paste (now (kept .entry)) (8 * k) (rowAt (now (rows .entry)) j) 8) (now (kept .entry)) ⌝ }
+{
+    if rows[8 * j + 1] == relation {
+        let from = 8 * j;
+        let to = from + 8;
+        put_bytes(kept, 8 * k, &rows[from..to]);
+        return k + 1;
+    }
+    k
+}
+
+// The rows that have the relation, one behind the other: how many they are.
+fn keep_rows(rows: &[u8], n: usize, relation: u8, kept: &mut [u8]) -> usize
+    requires { ⌜ (length (now rows) ≡ 8 * n) × (8 * n ≤ length (now kept)) ⌝ }
+    ensures few { λ r. ⌜ r ≤ n ⌝ }
+    ensures rows { λ r. ⌜ take (8 * r) (now (kept .exit)) ≡ rowsWith (now (rows .entry)) relation n ⌝ }
+{
+    let mut k = 0;
+    for j in 0..n {
+        k = keep_row(rows, j, relation, kept, k);
+    }
+    k
 }
 
 // The summary of an action, of the rows of its literals.
@@ -54,14 +85,17 @@ fn summarize(
         → OnlyRelation D relation → r ≡ summaryOf D a) ⌝ }
 {
     if mentions(rows, n, relation) {
+        let mut kept = [0u8; 8 * MAX_LITERALS];
+        let count = keep_rows(rows, n, relation, &mut kept);
+        let end = 8 * count;
         let mut numbers = [0u8; MAX_LITERALS];
         let mut words = [0u64; MAX_LITERALS];
         let mut names = [0u8; 2 * MAX_LITERALS];
         let named = name_action(
             head,
             places,
-            rows,
-            &mut numbers[0..n],
+            &kept[0..end],
+            &mut numbers[0..count],
             &mut words,
             0,
             lasting,

@@ -9,7 +9,7 @@ use Rattle.literals.specs.Domain.{Domain, action}
 use Rattle.literals.specs.Decode.{repeats, contradicts}
 use Rattle.literals.specs.Table.{literalRow}
 use Rattle.literals.specs.Held.{Held}
-use Rattle.literals.proofs.Heads.{action-in}
+use Rattle.literals.proofs.Heads.{template-of, action-in}
 use Rattle.classes.specs.Held.{ActionOf}
 use Rattle.verdict.specs.Claims.{wellFormed}
 use Rattle.verdict.proofs.WellFormed.{literals-apart, action-well-formed}
@@ -18,7 +18,7 @@ pub action-held : {D : Domain} {head table : List ℕ} → Held D head table →
     → ActionOf D (action D i) head rows
 action-held {D} H wf i h e =
     record {
-      says = H .says;
+      says = template-of (H .says);
       listed = action-in H i h;
       apart = pairwise-weaken (λ l m. not (repeats l m) && not (contradicts l m)) (λ l m. not (repeats l m)) (action D i .lits) (λ l m t. and-l _ _ t) (literals-apart D (action D i) (action-well-formed D wf i h));
       literals = e;

@@ -22,7 +22,7 @@ use Rattle.literals.specs.Domain.{object, isEvery, variablesOf, Atom, Fact, Lit
 use Rattle.literals.specs.Decode.{labelOf}
 use Rattle.literals.specs.Table.{argumentNumber, literalRow, labelNumber, componentRow, rowsIn, pad, Bounded}
 use Rattle.literals.specs.declared.span.Span.{Span}
-use Rattle.literals.specs.Held.{arityIn, componentRowIn, HeadOf, Held, SpanFits}
+use Rattle.literals.specs.Held.{arityIn, componentRowIn, TemplateOf, Held, SpanFits}
 use Rattle.literals.proofs.Arguments.{plain-numbers}
 use Rattle.literals.proofs.Bytes.{keys-below, keys-once}
 use Rattle.literals.proofs.Rows.{length-row, row-inside}
@@ -272,7 +272,7 @@ pub record Given (D : Domain) (a : Action) (head : List ℕ) (m : Moment) (rows 
   pub selected : selectBy isCondition (askedAt a m) (map (λ (l : Literal). l .atom) (a .lits)) ≡ required a m Positive
 
 module _ {D : Domain} {a : Action} {head : List ℕ} {m : Moment} {rows usages : List ℕ} {n : ℕ} (G : Given D a head m rows usages n) where
-  H : HeadOf D head
+  H : TemplateOf D head
   H = G .action .says
 
   B : Bounded D

@@ -6,6 +6,7 @@ use lib.ListN.{length-map}
 use Rattle.literals.specs.Domain.{object}
 use Rattle.literals.specs.Table.{rowOf}
 use Rattle.literals.specs.Held.{keysIn, componentRowsIn}
+use Rattle.literals.proofs.Heads.{template-of}
 use Rattle.run_semantics.specs.Track.{instanceOf}
 use Rattle.store.specs.Rows.{rowWeight}
 use Rattle.store.proofs.InstanceRows.{weight-is}
@@ -62,8 +63,8 @@ returns-3 c D s H wf r F o G few =
     let l = length-map (a .instance .now) object ∙ c .before .before .before .before .if2 .left ∙ c .before .before .before .before .before
     .keys-in .ensures .0 ∙ H .says .keys in
     total-is D y s (c .before .before .weigh .result) (c .open-journeys .result)
-    (c .before .before .weigh .ensures ∙ ap₂ (rowWeight (keysIn (a .head .now)) (componentRowsIn (a .head .now))) r re ∙ weight-is (H .says)
-    y l (s .facts) F)
+    (c .before .before .weigh .ensures ∙ ap₂ (rowWeight (keysIn (a .head .now)) (componentRowsIn (a .head .now))) r re
+    ∙ weight-is (template-of (H .says)) y l (s .facts) F)
     (c .open-journeys .ensures .1 D (s .running) y H wf G o l re)
 
 pub total-of-spec : {M : Type 1} → statement M
