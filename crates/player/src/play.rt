@@ -4,9 +4,12 @@ use super::run::play_run;
 use super::track::track_run;
 use events::AGENDA;
 use literals::head::HEAD;
+use literals::limits::MAX_ACTIONS;
+use literals::limits::MAX_LITERALS;
 use reading::domain::read_domain;
 ghost use mathlib.Core.Path.{_≡_};
 ghost use lib.ListN.{getD};
+ghost use Rattle.reading.specs.Held.{EnoughTable};
 ghost use Rattle.run_semantics.specs.Play.{Outcome, call, played, workAfter, returned, returnedBytes};
 ghost use Rattle.run_semantics.specs.Claims.{PlaysAsMachine, StaysLow};
 ghost use Rattle.player.specs.Player.{endedOf};
@@ -114,23 +117,24 @@ fn unplayed(number: u64, place: usize, fault: Fault) -> PlayAnswer
     }
 }
 
-// A domain file, read or refused 9 to 27, then 58 where the work memory is too small, then the run file; with an instance where one is
-// given, and without a total where none is.
-pub fn play_with(
+// A domain file, read into this table or refused 9 to 27, then 58 where the work memory is too small, then the run file; with an
+// instance where one is given, and without a total where none is.
+fn play_in(
     domain: &[u8],
     run: &[u8],
     instance: &[u8],
     given: bool,
+    table: &mut [u8],
     work: &mut [u8],
 ) -> Tracked
+    requires { ⌜ EnoughTable (now «domain») (now table) ⌝ }
     ensures answer { λ r. ⌜ r ≡ trackedOf (trackedIf given (now («domain» .entry)) (now (instance .entry)) (now (run .entry))
         (now (work .entry))) ⌝ }
     ensures work { λ _. ⌜ now (work .exit) ≡ trackedIf given (now («domain» .entry)) (now (instance .entry)) (now (run .entry))
         (now (work .entry)) .call .memory ⌝ }
 {
     let mut head = [0u8; HEAD];
-    let mut table = [0u8; 32768];
-    let read = read_domain(domain, &mut head, &mut table);
+    let read = read_domain(domain, &mut head, table);
     let number = read.number;
     let room = work.len();
     if number != 0 {
@@ -146,14 +150,35 @@ pub fn play_with(
         };
     }
     if given {
-        return track_run(&head, &table, run, instance, work);
+        return track_run(&head, table, run, instance, work);
     }
     let mut agenda = [0u8; AGENDA];
-    let ended = play_run(&head, &table, run, work, &mut agenda);
+    let ended = play_run(&head, table, run, work, &mut agenda);
     Tracked {
         played: answer_by(ended),
         total: 0,
     }
+}
+
+// The same with a table of its own: a small one for a small domain file, since clearing a large one would cost more than a short run.
+pub fn play_with(
+    domain: &[u8],
+    run: &[u8],
+    instance: &[u8],
+    given: bool,
+    work: &mut [u8],
+) -> Tracked
+    ensures answer { λ r. ⌜ r ≡ trackedOf (trackedIf given (now («domain» .entry)) (now (instance .entry)) (now (run .entry))
+        (now (work .entry))) ⌝ }
+    ensures work { λ _. ⌜ now (work .exit) ≡ trackedIf given (now («domain» .entry)) (now (instance .entry)) (now (run .entry))
+        (now (work .entry)) .call .memory ⌝ }
+{
+    if domain.len() <= 3072 {
+        let mut table = [0u8; 4096];
+        return play_in(domain, run, instance, given, &mut table, work);
+    }
+    let mut table = [0u8; 8 * MAX_LITERALS * MAX_ACTIONS];
+    play_in(domain, run, instance, given, &mut table, work)
 }
 
 // Plays a run file on a domain file.
