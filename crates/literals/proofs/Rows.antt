@@ -1,9 +1,8 @@
 -- Rows of 8 bytes: a payload's row by its bytes, and the loops that write rows, compare them and go through them. Assumes nothing.
 use mathlib.Core.Path.{_≡_, refl, sym, ap, ap₂, _∙_}
-use mathlib.Core.Bool.{Bool, true, false, _&&_, _||_, not, cond}
-use mathlib.Core.Logic.{_⊎_, inl, inr}
+use mathlib.Core.Bool.{Bool, true, false, _&&_, not, cond}
 use mathlib.Core.List.{List, [], _∷_, _++_, append-nil, List·Memᴰ·head, List·Memᴰ·tail, List·Memᴰ·not-nil}
-use Prim.Native.Nat.{ℕ, suc, _+_, _-_, _*_, _≤_, _<_, max, zero}
+use Prim.Native.Nat.{ℕ, suc, _+_, _-_, _*_, _%_, _≤_, _<_, max, zero}
 use native.Mathlib.Numerals.{add-one}
 use native.Mathlib.Nat.{sub-zero, mul-suc}
 use native.Mathlib.Omega.{arith}
@@ -12,11 +11,11 @@ use lib.ListN.{length, getD, set, take, drop, replicate, length-append, length-r
 use lib.Seq.{drop-cons, getD-drop, getD-take, getD-append-add, drop-drop, length-take-le, take-all, paste}
 use borrow.Author.Tests.{eq-eqb, ne-eqb, eqb-true}
 use Rattle.records.specs.Lists.{In, any, all, sameList, sideBySide}
-use Rattle.records.proofs.Lists.{and-i, or-l, bool-cases, clash, off, eqb-same, sameList-eq, sameList-self}
+use Rattle.records.proofs.Lists.{off, sameList-eq}
 use Rattle.records.proofs.Memory.{paste-more, paste-length}
 use Rattle.literals.specs.Decode.{maxArguments, byte}
 use Rattle.literals.specs.Fields.{keyBeside, keyClearedIn}
-use Rattle.literals.specs.Table.{rowOf, FourAt, meetByte, argumentsMeet, rowsMeet, roleRank, rowRank, rowsBy, rowsIn, rowsRank}
+use Rattle.literals.specs.Table.{rowOf, FourAt, meetByte, argumentsMeet, rowsMeet, conditionGroup, roleRank, rowRank, rowsBy, rowsIn, rowsRank}
 
 -- ---- a payload's row
 
@@ -298,39 +297,23 @@ all-first p t n = ap (λ (k : ℕ). all p (rowsIn k t)) (sub-zero n)
 pub row-full : (row : List ℕ) → length row ≡ 8 → rowOf row ≡ row
 row-full row g = let z : 8 - length row ≡ 0 = omega arith in rw z (append-nil row)
 
--- rows with the same atom meet
-same-meets : (x y : List ℕ) → sameList eqb (drop 1 x) (drop 1 y) ≡ true → rowsMeet x y ≡ true
-same-meets x y h =
-    let e : drop 1 x ≡ drop 1 y = sameList-eq eqb eqb-true (drop 1 x) (drop 1 y) h in
-    let f : drop 2 x ≡ drop 2 y = sym (drop-drop 1 1 x) ∙ ap (drop 1) e ∙ drop-drop 1 1 y in
-    and-i (eq-eqb (byte x 1) (byte y 1) (sym (getD-drop 1 x 0 0) ∙ ap (λ (l : List ℕ). getD l 0 0) e ∙ getD-drop 1 y 0 0))
-    (ap (λ (l : List ℕ). sameList meetByte l (drop 2 y)) f
-    ∙ sameList-self meetByte (λ a. or-l (eqb a 255 || eqb a 255) (eqb-same a)) (drop 2 y))
-
--- so rows that do not meet have not the same atom
-not-same : (x y : List ℕ) → rowsMeet x y ≡ false → sameList eqb (drop 1 x) (drop 1 y) ≡ false
-not-same x y n = go (bool-cases (sameList eqb (drop 1 x) (drop 1 y)))
-  where
-    go : (sameList eqb (drop 1 x) (drop 1 y) ≡ true) ⊎ (sameList eqb (drop 1 x) (drop 1 y) ≡ false)
-        → sameList eqb (drop 1 x) (drop 1 y) ≡ false
-    go (inl t) = absurd (clash (same-meets x y t) n)
-    go (inr f) = f
-
 module _ (row t : List ℕ) (at : ℕ) (g : length row ≡ 8) where
-  -- rows that do not meet
-  pub rank-apart : false ≡ rowsMeet (take 8 (drop 0 row)) (take 8 (drop at t)) → 0 ≡ rowRank row (take 8 (drop at t))
-  unfolding rowRank
-  rank-apart n =
-      let m : rowsMeet row (take 8 (drop at t)) ≡ false =
-      sym (ap (λ (l : List ℕ). rowsMeet l (take 8 (drop at t))) (take-all 8 row (omega arith))) ∙ sym n in
-      let s = not-same row (take 8 (drop at t)) m in
-      rw (row-full row g, s, m)
-      (none (eqb (roleRank (byte row 0) (byte (take 8 (drop at t)) 0)) 2) (eqb (roleRank (byte row 0) (byte (take 8 (drop at t)) 0)) 1))
+  -- another atom, and roles of one parity
+  pub rank-apart : false ≡ sameList eqb (drop 1 row) (drop 1 (take 8 (drop at t))) → getD row 0 0 % 2 ≡ getD t at 0 % 2
+      → 0 ≡ rowRank row (take 8 (drop at t))
+  unfolding rowRank roleRank
+  rank-apart n m =
+      rw (row-full row g, part-first t at, sym n, m, eq-eqb (getD t at 0 % 2) (getD t at 0 % 2) refl)
+      (none (eqb (getD row 0 0) (getD t at 0)) (eqb (conditionGroup (getD row 0 0)) 0)
+      (eqb (conditionGroup (getD t at 0)) (conditionGroup (getD row 0 0))))
     where
-      none : (a b : Bool) → _≡_ {A = ℕ} 0 (cond a 0 (cond b 0 0))
-      none true b = refl
-      none false true = refl
-      none false false = refl
+      none : (a b c : Bool)
+          → let rank : ℕ = cond a 2 (cond b 0 (cond c 0 0)) in
+            _≡_ {A = ℕ} 0 (cond (eqb rank 2) 0 (cond (eqb rank 1) (cond (rowsMeet row (take 8 (drop at t))) 1 0) 0))
+      none true b c = refl
+      none false true c = refl
+      none false false true = refl
+      none false false false = refl
 
   -- by the rank of the roles
   module _ {k : ℕ} (f : k ≡ roleRank (getD row 0 0) (getD t at 0)) where

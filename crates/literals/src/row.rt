@@ -128,15 +128,18 @@ fn rank_by_roles(table: &[u8], at: usize, row: &[u8]) -> u64
     0
 }
 
-// The same. Most rows do not meet, which is told much quicker than what their roles say.
+// The same. Most rows have another atom, and roles of one parity say nothing then: both is told much quicker than what their roles say.
 pub fn row_rank(table: &[u8], at: usize, row: &[u8]) -> u64
     requires { ⌜ (at + 8 ≤ length (now table)) × (length (now row) ≡ 8) ⌝ }
     ensures { λ r. ⌜ r ≡ rowRank (now (row .entry)) (take 8 (drop at (now (table .entry)))) ⌝ }
 {
-    if rows_meet(row, 0, table, at) {
+    if same_atom(table, at, row) {
         return rank_by_roles(table, at, row);
     }
-    0
+    if row[0] % 2 == table[at] % 2 {
+        return 0;
+    }
+    rank_by_roles(table, at, row)
 }
 
 fn larger(a: u64, b: u64) -> u64
