@@ -309,7 +309,7 @@ module _ (row t : List ℕ) (at : ℕ) (g : length row ≡ 8) where
     where
       none : (a b c : Bool)
           → let rank : ℕ = cond a 2 (cond b 0 (cond c 0 0)) in
-            _≡_ {A = ℕ} 0 (cond (eqb rank 2) 0 (cond (eqb rank 1) (cond (rowsMeet row (take 8 (drop at t))) 1 0) 0))
+          _≡_ {A = ℕ} 0 (cond (eqb rank 2) 0 (cond (eqb rank 1) (cond (rowsMeet row (take 8 (drop at t))) 1 0) 0))
       none true b c = refl
       none false true c = refl
       none false false true = refl
