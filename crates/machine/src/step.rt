@@ -206,8 +206,8 @@ fn advance(
 }
 
 // A step without events, which changes nothing: the over-all conditions of everything open are asked, unless the index's last
-// number says that they hold. 55 where they do not.
-fn rest(
+// number says that they hold. 55 where they do not. The agenda is asked where it stands: for so short a step a copy would cost the most.
+pub fn rest(
     head: &Head,
     table: &[u8],
     agenda: &[u8],
@@ -271,22 +271,6 @@ impl State {
     {
         let counts = self.counts;
         let mut agenda = self.agenda;
-        if counts.waits == 0 {
-            let number = rest(
-                head,
-                table,
-                &agenda,
-                counts,
-                &mut scratch[0..GROUNDED],
-                index,
-                work,
-            );
-            return Closed {
-                number,
-                state: self,
-                weight,
-            };
-        }
         index[NOTE] = 0;
         let asked = forbidden(
             head,

@@ -27,10 +27,11 @@ use Rattle.run_semantics.specs.Play.{playRecord, playFound, playStep, Playing, 
 use Rattle.store.specs.Rows.{factRow, hasRow, Few}
 use Rattle.events.specs.Held.{entriesIn, openIn, waitingIn, waitingOf}
 use Rattle.machine.specs.declared.Counts.{Counts}
-use Rattle.machine.specs.Held.{StateRows, stateOf, stateIn, closeStop, closeState, closeWaiting, closeWeight, Leaves}
+use Rattle.machine.specs.Held.{StateRows, stateOf, stateIn, Noted, closeStop, closeState, closeWaiting, closeWeight, Leaves}
 use Rattle.player.specs.Player.{Whole as Player, WholeTurn as Turn, wholeIn, tallyOf, playerOf, Stands, LeadsTo, NotedAfter}
 use Rattle.events.proofs.FactRows.{has-fact}
 use Rattle.machine.proofs.HeldBytes.{fits-few, state-rows}
+use Rattle.machine.proofs.Resting.{no-events, rest-leaves}
 use Rattle.machine.proofs.RunRows.{held-more}
 use Rattle.player.proofs.Sound.{FactTaken, fact-taken}
 
@@ -63,13 +64,24 @@ pub event-waits : (facts opened waits : ℕ) (agenda more : List ℕ) → entrie
 event-waits facts opened waits agenda more e i =
     record { facts = facts; running = record { count = opened; rows = e i }; waiting = waitingIn waits more }
 
--- a state that is saved
-pub saved : (at : ℕ) (closed : Bool) (objects : ℕ) (tally : Held) (counts : Counts) (own agenda : List ℕ) → agenda ≡ own
-    → _≡_ {A = Player}
-    (record { at = at; closed = closed; objects = objects; state = stateIn counts agenda; tally = tally })
-    (record { at = at; closed = closed; objects = objects; state = stateIn counts own; tally = tally })
-saved at closed objects tally counts own agenda e =
-    ap {B = Player} (λ (t : List ℕ). record { at = at; closed = closed; objects = objects; state = stateIn counts t; tally = tally }) e
+-- behind a step that was made, whose state is saved
+pub saved : (self new : Small) (behind : ℕ) (counts : Counts) (weight : ℕ) (own agenda : List ℕ)
+    → new ≡ record {
+      at = behind;
+      closed = false;
+      objects = self .objects;
+      counts = counts;
+      tally = record { begun = self .tally .begun; steps = self .tally .steps + 1; weight = weight };
+    }
+    → agenda ≡ own
+    → wholeIn new agenda ≡ record {
+      at = behind;
+      closed = false;
+      objects = self .objects;
+      state = stateIn counts own;
+      tally = record { begun = self .tally .begun; steps = self .tally .steps + 1; weight = weight };
+    }
+saved self new behind counts weight own agenda e f = ap₂ wholeIn e f
 
 -- ---- a record that is refused, and one that passes
 
@@ -285,6 +297,24 @@ module _ (D : Domain) (q : Playing) (behind : ℕ) where
                 });
             memory = work-now;
           })
+
+-- ---- a step without events
+
+module _ (D : Domain) (q : Playing) {player : Player} {work old : List ℕ} (st : Stands D q player work old)
+    (none : player .state .waiting .count ≡ 0) where
+  none-wait : q .waiting ≡ []
+  none-wait = no-events (q .state) (q .waiting) (player .state) (state-is D q st) none
+
+  pub rest-closes : q .tally .begun ≡ true → (n : ℕ) → n ≡ closeStop D (q .state) []
+      → Leaves D (q .state) (q .waiting) old (player .tally .weight) n (player .state) (player .tally .weight) work
+  rest-closes b n e =
+      rw none-wait
+      (rest-leaves D (q .state) old (player .tally .weight) (weight-under D q st b) n e (player .state)
+      (state-is D q st ∙ ap (stateOf (q .state)) none-wait) work (st .memory))
+
+  pub rest-notes : (head index : List ℕ) → Noted D head index (closeState D (q .state) [])
+      → Noted D head index (closeState D (q .state) (q .waiting))
+  rest-notes head index h = rw none-wait h
 
 -- ---- records by their kind
 

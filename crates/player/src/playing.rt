@@ -5,11 +5,13 @@ use super::Turn;
 use events::AGENDA;
 use events::EVENTS_AT;
 use events::MOMENTS_AT;
+use events::grounding::GROUNDED;
 use events::waits::wait;
 use literals::head::Head;
 use literals::limits::MAX_FACTS;
 use machine::Counts;
 use machine::State;
+use machine::step::rest;
 use records::Record;
 use records::record_at;
 use run_fields::end_stop;
@@ -242,6 +244,80 @@ impl Player {
         }
     }
 
+    // The player behind a step that was made, with the counts of the state after it and the highest weight.
+    fn stepped(self, behind: usize, counts: Counts, weight: usize) -> Player
+        requires steps { ⌜ self .tally .steps ≤ self .at ⌝ }
+        requires further { ⌜ self .at < behind ⌝ }
+        ensures { λ r. ⌜ r ≡ record {
+          at = behind;
+          closed = false;
+          objects = self .objects;
+          counts = counts;
+          tally = record { begun = self .tally .begun; steps = self .tally .steps + 1; weight = weight };
+        } ⌝ }
+    {
+        let tally = self.tally;
+        Player {
+            at: behind,
+            closed: false,
+            objects: self.objects,
+            counts,
+            tally: Tally {
+                begun: tally.begun,
+                steps: tally.steps + 1,
+                weight,
+            },
+        }
+    }
+
+    // Kind 19, whose record passed, where no event waits: nothing changes.
+    fn take_rest(
+        self,
+        head: &Head,
+        table: &[u8],
+        work: &[u8],
+        index: &mut FactIndex,
+        agenda: &[u8],
+        scratch: &mut [u8],
+        behind: usize,
+    ) -> Turn
+        requires closable { ⌜ Closable (self .counts .facts) (now work) ⌝ }
+        requires steps { ⌜ self .tally .steps ≤ self .at ⌝ }
+        requires further { ⌜ self .at < behind ⌝ }
+        requires memory { ⌜ RunMemory (now agenda) (now scratch) ⌝ }
+        requires none { ⌜ self .counts .waits ≡ 0 ⌝ }
+        ensures leads { λ r. ⌜ ((D : Domain) (q : Playing) (old : List ℕ) → Held D (now (head .entry)) (now (table .entry))
+            → Stands D q (wholeIn self (now (agenda .entry))) (now (work .entry)) old
+            → q .tally .begun ≡ true → Noted D (now (head .entry)) (now (index .entry)) (q .state)
+            → LeadsTo (closeStep D q behind) (turnIn r (now (agenda .entry))) (now (work .entry)) old) ⌝ }
+        ensures noted { λ _. ⌜ ((D : Domain) (q : Playing) (old : List ℕ) → Held D (now (head .entry)) (now (table .entry))
+            → Stands D q (wholeIn self (now (agenda .entry))) (now (work .entry)) old
+            → q .tally .begun ≡ true → Noted D (now (head .entry)) (now (index .entry)) (q .state)
+            → NotedAfter D (now (head .entry)) (now (index .exit)) (closeStep D q behind)) ⌝ }
+    {
+        let counts = self.counts;
+        let tally = self.tally;
+        let number = rest(
+            head,
+            table,
+            agenda,
+            counts,
+            &mut scratch[0..GROUNDED],
+            index,
+            work,
+        );
+        if number != 0 {
+            return Turn {
+                number,
+                player: self,
+            };
+        }
+        Turn {
+            number: 0,
+            player: self.stepped(behind, counts, tally.weight),
+        }
+    }
+
     // Kind 19, whose record passed: the step's close.
     fn take_step(
         self,
@@ -266,12 +342,15 @@ impl Player {
             → q .tally .begun ≡ true → Noted D (now (head .entry)) (now (index .entry)) (q .state)
             → NotedAfter D (now (head .entry)) (now (index .exit)) (closeStep D q behind)) ⌝ }
     {
+        let counts = self.counts;
+        if counts.waits == 0 {
+            return self.take_rest(head, table, work, index, agenda, scratch, behind);
+        }
+        let state = State::load(counts, agenda);
         let tally = self.tally;
-        let state = State::load(self.counts, agenda);
         let closed = state.step(head, table, work, tally.weight, index, scratch);
         let stop = closed.number;
         let next = closed.state;
-        let weight = closed.weight;
         if stop != 0 {
             return Turn {
                 number: stop,
@@ -279,21 +358,9 @@ impl Player {
             };
         }
         next.save(agenda);
-        let counts = next.counts;
-        let counted = Tally {
-            begun: tally.begun,
-            steps: tally.steps + 1,
-            weight,
-        };
         Turn {
             number: 0,
-            player: Player {
-                at: behind,
-                closed: false,
-                objects: self.objects,
-                counts,
-                tally: counted,
-            },
+            player: self.stepped(behind, next.counts, closed.weight),
         }
     }
 

@@ -1,8 +1,6 @@
--- `Player::take_step` meets its contract. Assumes nothing.
+-- `Player::take_step` meets its contract: a step without events, one that is refused, or one that is made. Assumes nothing.
 use borrow.Author.Needs.{needs}
 use mathlib.Core.Path.{ap, _∙_}
-use mathlib.Core.Bool.{false}
-use native.Mathlib.Omega.{arith}
 use Rattle.machine.specs.declared.State.{State}
 use Rattle.machine.specs.Held.{stateIn}
 use Rattle.player.specs.Player.{wholeIn}
@@ -11,11 +9,9 @@ use Rattle.player.proofs.NotedTurns.{noted-closed}
 use Rattle.player.proofs.Player.take_step.Statement.{statement}
 use Rattle.player.proofs.Player.take_step.Tie as tie
 
-load-requires : tie.Need-load-requires
-load-requires c κs = search needs
-
-step-requires : tie.Need-step-requires
-step-requires c κs = let p = c .before .before .before .before .before .before .before .before .before .before .pre in (rw (c .before .before .before .load .ensures) (p .0), p .1 .1 .1 .scratch-length)
+take-rest-requires : tie.Need-take-rest-requires
+take-rest-requires c κs = let p = c .before .before .before .before .before .before .before .before .before .before
+    .before .pre in (p .0, (p .1 .0, (p .1 .1 .0, (p .1 .1 .1, c .before .before .before .before .if1 .taken))))
 
 same-length : tie.Need-same-length
 same-length c = search needs
@@ -27,28 +23,14 @@ same-length-3 : tie.Need-same-length-3
 same-length-3 c = search needs
 
 returns : tie.Need-returns
-returns c =
-    let a = c .before .before .before .before .before .before .before .before .before .before .before .before .before .before .before .before .before .args in
-    let player = wholeIn (a .self) (a .agenda .now) in
-    let l = c .before .before .before .before .before .before .step in
-    let loaded = ap (λ (s : State). stateIn (s .counts) (s .agenda)) (c .before .before .before .before .before .before .before .before .before .before .load .ensures) in (
-      λ D q old H st b noted.
-          let leaves = l .ensures .0 D (q .state) (q .waiting) old
-          (record { domain = H; kept = st .sound .kept; state-is = loaded ∙ state-is D q st; facts-are = st .memory })
-          (weight-under D q st b) noted in
-          close-stops D q (a .behind) player (a .work .now) old st (l .result .number) _ (l .result .weight) _ leaves (c .if1 .taken),
-      λ D q old H st b noted.
-          let leaves = l .ensures .0 D (q .state) (q .waiting) old
-          (record { domain = H; kept = st .sound .kept; state-is = loaded ∙ state-is D q st; facts-are = st .memory })
-          (weight-under D q st b) noted in
-          noted-closed D _ _ q (a .behind) (l .result .number) (leaves .number-is) (λ z. absurd (c .if1 .taken z)),
-    )
+returns c = c .before .before .take-rest .ensures
 
-save-requires : tie.Need-save-requires
-save-requires c κs = c .before .before .before .before .before .before .before .before .before .before .before .before .before .before .before .before .before .before .pre .1 .1 .1 .agenda-length
+load-requires : tie.Need-load-requires
+load-requires c κs = search needs
 
-add-t28 : tie.Need-add-t28
-add-t28 c = let f = c .before .before .before .before .before .before .before .before .before .before .before .before .before .before .before .before .before .before .before .before .before .before .before .fits .behind in let p = c .before .before .before .before .before .before .before .before .before .before .before .before .before .before .before .before .before .before .before .before .before .before .before .pre in let s = p .1 .0 in let t = p .1 .1 .0 in omega arith
+step-requires : tie.Need-step-requires
+step-requires c κs = let p = c .before .before .before .before .before .before .before .before .before .before .before .before
+    .before .pre in (rw (c .before .before .before .before .load .ensures) (p .0), p .1 .1 .1 .scratch-length)
 
 same-length-4 : tie.Need-same-length-4
 same-length-4 c = search needs
@@ -61,16 +43,57 @@ same-length-6 c = search needs
 
 returns-2 : tie.Need-returns-2
 returns-2 c =
-    let a = c .before .before .before .before .before .before .before .before .before .before .before .before .before .before .before .before .before .before .before .before .before .before .before .args in
+    let a = c .before .before .before .before .before .before .before .before .before .before .before .before .before .before .before
+    .before .before .before .before .before .args in
     let player = wholeIn (a .self) (a .agenda .now) in
-    let l = c .before .before .before .before .before .before .before .before .before .before .before .before .step in
-    let loaded = ap (λ (s : State). stateIn (s .counts) (s .agenda)) (c .before .before .before .before .before .before .before .before .before .before .before .before .before .before .before .before .load .ensures) in (
+    let l = c .before .before .before .before .before .before .step in
+    let loaded = ap (λ (s : State). stateIn (s .counts) (s .agenda)) (c .before .before .before .before .before .before .before .before
+    .before .before .before .load .ensures) in (
       λ D q old H st b noted.
           let leaves = l .ensures .0 D (q .state) (q .waiting) old
           (record { domain = H; kept = st .sound .kept; state-is = loaded ∙ state-is D q st; facts-are = st .memory })
           (weight-under D q st b) noted in
-          close-on D q (a .behind) player (a .work .now) old st (l .result .number) _ (l .result .weight) _ leaves (c .before .before .before .before .before .before .if1 .left) _
-          (saved (a .behind) false (a .self .objects) _ (l .result .state .counts) (l .result .state .agenda) _ (c .before .before .before .before .save .ensures)),
+          close-stops D q (a .behind) player (a .work .now) old st (l .result .number) _ (l .result .weight) _ leaves (c .if2 .taken),
+      λ D q old H st b noted.
+          let leaves = l .ensures .0 D (q .state) (q .waiting) old
+          (record { domain = H; kept = st .sound .kept; state-is = loaded ∙ state-is D q st; facts-are = st .memory })
+          (weight-under D q st b) noted in
+          noted-closed D _ _ q (a .behind) (l .result .number) (leaves .number-is) (λ z. absurd (c .if2 .taken z)),
+    )
+
+save-requires : tie.Need-save-requires
+save-requires c κs = c .before .before .before .before .before .before .before .before .before .before .before .before .before .before
+    .before .before .before .before .before .before .before .pre .1 .1 .1 .agenda-length
+
+stepped-requires : tie.Need-stepped-requires
+stepped-requires c κs = let p = c .before .before .before .before .before .before .before .before .before .before .before .before .before
+    .before .before .before .before .before .before .before .before .before .before .before .pre in (p .1 .0, p .1 .1 .0)
+
+same-length-7 : tie.Need-same-length-7
+same-length-7 c = search needs
+
+same-length-8 : tie.Need-same-length-8
+same-length-8 c = search needs
+
+same-length-9 : tie.Need-same-length-9
+same-length-9 c = search needs
+
+returns-3 : tie.Need-returns-3
+returns-3 c =
+    let a = c .before .before .before .before .before .before .before .before .before .before .before .before .before .before .before
+    .before .before .before .before .before .before .before .before .before .before .args in
+    let player = wholeIn (a .self) (a .agenda .now) in
+    let l = c .before .before .before .before .before .before .before .before .before .before .before .step in
+    let loaded = ap (λ (s : State). stateIn (s .counts) (s .agenda)) (c .before .before .before .before .before .before .before .before
+    .before .before .before .before .before .before .before .before .load .ensures) in (
+      λ D q old H st b noted.
+          let leaves = l .ensures .0 D (q .state) (q .waiting) old
+          (record { domain = H; kept = st .sound .kept; state-is = loaded ∙ state-is D q st; facts-are = st .memory })
+          (weight-under D q st b) noted in
+          close-on D q (a .behind) player (a .work .now) old st (l .result .number) _ (l .result .weight) _ leaves (c .before .before
+          .before .before .before .if2 .left) _
+          (saved (a .self) _ (a .behind) (l .result .state .counts) (l .result .weight) (l .result .state .agenda) _
+          (c .stepped .ensures) (c .before .before .before .save .ensures)),
       λ D q old H st b noted.
           let leaves = l .ensures .0 D (q .state) (q .waiting) old
           (record { domain = H; kept = st .sound .kept; state-is = loaded ∙ state-is D q st; facts-are = st .memory })
@@ -84,15 +107,20 @@ pub take-step-spec : {M : Type 1} → statement M
 take-step-spec =
     tie.close
     (tie.spec
-    load-requires
-    step-requires
+    take-rest-requires
     same-length
     same-length-2
     same-length-3
     returns
-    save-requires
-    add-t28
+    load-requires
+    step-requires
     same-length-4
     same-length-5
     same-length-6
-    returns-2)
+    returns-2
+    save-requires
+    stepped-requires
+    same-length-7
+    same-length-8
+    same-length-9
+    returns-3)
