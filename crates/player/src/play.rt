@@ -2,9 +2,12 @@
 use super::run::Ended;
 use super::run::play_run;
 use literals::head::HEAD;
+use literals::limits::MAX_ACTIONS;
+use literals::limits::MAX_LITERALS;
 use reading::domain::read_domain;
 ghost use mathlib.Core.Path.{_≡_};
 ghost use lib.ListN.{getD};
+ghost use Rattle.reading.specs.Held.{EnoughTable};
 ghost use Rattle.run_semantics.specs.Play.{Outcome, call, played, workAfter, returned, returnedBytes};
 ghost use Rattle.run_semantics.specs.Claims.{PlaysAsMachine, StaysLow};
 ghost use Rattle.player.specs.Player.{endedOf};
@@ -104,14 +107,14 @@ fn unplayed(number: u64, place: usize, fault: Fault) -> PlayAnswer
     }
 }
 
-// A domain file, read or refused 9 to 25, then 58 where the work memory is too small, then the run file.
-pub fn play_files(domain: &[u8], run: &[u8], work: &mut [u8]) -> PlayAnswer
+// A domain file, read into this table or refused 9 to 25, then 58 where the work memory is too small, then the run file.
+fn play_in(domain: &[u8], run: &[u8], table: &mut [u8], work: &mut [u8]) -> PlayAnswer
+    requires { ⌜ EnoughTable (now «domain») (now table) ⌝ }
     ensures answer { λ r. ⌜ r ≡ answerOf (call (now («domain» .entry)) (now (run .entry)) (now (work .entry))) ⌝ }
     ensures work { λ _. ⌜ now (work .exit) ≡ workAfter (now («domain» .entry)) (now (run .entry)) (now (work .entry)) ⌝ }
 {
     let mut head = [0u8; HEAD];
-    let mut table = [0u8; 32768];
-    let read = read_domain(domain, &mut head, &mut table);
+    let read = read_domain(domain, &mut head, table);
     let number = read.number;
     let room = work.len();
     if number != 0 {
@@ -120,8 +123,21 @@ pub fn play_files(domain: &[u8], run: &[u8], work: &mut [u8]) -> PlayAnswer
     if room < 8192 {
         return unplayed(58, 0, Fault::Run(run.len()));
     }
-    let ended = play_run(&head, &table, run, work);
+    let ended = play_run(&head, table, run, work);
     answer_by(ended)
+}
+
+// The same with a table of its own: a small one for a small domain file, since clearing a large one would cost more than a short run.
+pub fn play_files(domain: &[u8], run: &[u8], work: &mut [u8]) -> PlayAnswer
+    ensures answer { λ r. ⌜ r ≡ answerOf (call (now («domain» .entry)) (now (run .entry)) (now (work .entry))) ⌝ }
+    ensures work { λ _. ⌜ now (work .exit) ≡ workAfter (now («domain» .entry)) (now (run .entry)) (now (work .entry)) ⌝ }
+{
+    if domain.len() <= 3072 {
+        let mut table = [0u8; 4096];
+        return play_in(domain, run, &mut table, work);
+    }
+    let mut table = [0u8; 8 * MAX_LITERALS * MAX_ACTIONS];
+    play_in(domain, run, &mut table, work)
 }
 
 // Plays a run file on a domain file: leaves six numbers (the number, its place, the steps made, the highest weight, and of which file, 0
