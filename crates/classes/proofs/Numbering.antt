@@ -16,7 +16,7 @@ use Rattle.records.proofs.Lists.{bool-cases, clash, getD-in, in-getD, in-any, d
 use Rattle.records.proofs.Memory.{over-more}
 use Rattle.literals.specs.declared.Variable.{Variable}
 use Rattle.literals.specs.Domain.{sameVariable, Literal, Action, Component, keysOf, Domain}
-use Rattle.literals.specs.Table.{literalRow, Bounded}
+use Rattle.literals.specs.Table.{literalRow, rowIn, Bounded}
 use Rattle.literals.proofs.Bytes.{keys-once}
 use Rattle.literals.proofs.Equality.{variables-eq, variables-self}
 use Rattle.literals.proofs.Tables.{kept, length-literals}
@@ -25,7 +25,7 @@ use Rattle.classes.specs.declared.number.Numbered.{Numbered}
 use Rattle.literals.specs.Matching.{tuplesOf, hasTuple}
 use Rattle.classes.specs.Classes.{belongs, classes}
 use Rattle.literals.specs.Keys.{position, keyRows, keyRowsIn, rowWord, keyWordsIn}
-use Rattle.classes.specs.Held.{ActionOf, rowAt, classNumberBy, classNumbers, tupleRow, onlyRow, numberedBy, wordsAfter}
+use Rattle.classes.specs.Held.{ActionOf, classNumberBy, classNumbers, tupleRow, onlyRow, numberedBy, wordsAfter}
 use Rattle.classes.proofs.Rows.{noLiteral, literalAt, row-at}
 use Rattle.classes.proofs.Members.{member}
 use Rattle.classes.proofs.Numbers.{One, Fits, tuples-one, tuples-rows, found, numbers, numbers-more, tupleWord, row-word, wordsOf, numbered-more, words-more}
@@ -76,7 +76,7 @@ module _ {D : Domain} {a : Action} {head rows : List ℕ} (A : ActionOf D a head
       go ts (inr (t, e, q, s)) = rw e (ap (λ (w : ℕ). w ∷ []) (row-word (keysOf (D .template)) t q))
 
   pub row-of : (j : ℕ) → j < length (a .lits) → take 8 (drop (8 * j) rows) ≡ literalRow (getD (a .lits) j noLiteral)
-  row-of j g = ap (λ (t : List ℕ). rowAt t j) (A .literals) ∙ row-at (a .lits) (λ l m. kept B (A .listed) m) j g
+  row-of j g = ap (λ (t : List ℕ). rowIn t j) (A .literals) ∙ row-at (a .lits) (λ l m. kept B (A .listed) m) j g
 
   pub rows-length : length rows ≡ 8 * length (a .lits)
   rows-length = ap length (A .literals) ∙ length-literals (a .lits) (B .arguments a (A .listed))

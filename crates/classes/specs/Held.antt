@@ -15,7 +15,7 @@ use Rattle.literals.specs.declared.Usage.the-variants.{Positive, Negative, Add,
 use Rattle.literals.specs.declared.Role.{Role}
 use Rattle.literals.specs.Domain.{sameVariable, sameLiteral, usageNumber, roleOf, sameTime, isCounted, Literal, Action, Domain}
 use Rattle.literals.specs.Decode.{maxLiterals, labelOf, repeats}
-use Rattle.literals.specs.Table.{rowOf, literalRow, pad}
+use Rattle.literals.specs.Table.{rowOf, literalRow, pad, rowIn}
 use Rattle.literals.specs.Held.{componentsIn, arityIn, componentRowIn, HeadOf}
 use Rattle.literals.specs.declared.Moment.{Moment}
 use Rattle.literals.specs.declared.Moment.the-variants.{Start, End}
@@ -121,12 +121,9 @@ unfoldable pub usageByte : Bool → Moment → ℕ → ℕ
 unfolding roleOf
 usageByte wide m r = usageAt wide m (roleOf r)
 
-abbrev pub rowAt : List ℕ → ℕ → List ℕ
-rowAt rows i = take 8 (drop (8 * i) rows)
-
 -- two rows have the same relation and arguments
 unfoldable pub sameAtomAt : List ℕ → ℕ → ℕ → Bool
-sameAtomAt rows i j = sameList eqb (drop 1 (rowAt rows i)) (drop 1 (rowAt rows j))
+sameAtomAt rows i j = sameList eqb (drop 1 (rowIn rows i)) (drop 1 (rowIn rows j))
 
 -- the row i has this usage at the moment, and the atom of the row j
 unfoldable pub saysAt : Bool → List ℕ → Moment → ℕ → ℕ → ℕ → Bool

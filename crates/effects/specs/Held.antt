@@ -11,7 +11,7 @@ use Rattle.literals.specs.declared.Usage.{Usage}
 use Rattle.literals.specs.declared.Usage.the-variants.{Delete}
 use Rattle.literals.specs.Domain.{Fact, sameFact, Domain, action}
 use Rattle.literals.specs.Decode.{byte}
-use Rattle.literals.specs.Table.{rowsIn}
+use Rattle.literals.specs.Table.{rowsIn, rowIn}
 use Rattle.literals.specs.Held.{arityIn}
 use Rattle.literals.specs.Matching.{own, withRole}
 use Rattle.verdict.specs.Binding.{bind}
@@ -89,8 +89,8 @@ keptOf struck work n = filterBy (stays struck) (rowsIn n work)
 pub record FirstStruck (struck : List (List ℕ)) (work : List ℕ) (n from r : ℕ) : Type 0 where
   pub behind : from ≤ r
   pub within : r ≤ n
-  pub others : (j : ℕ) → from ≤ j → j < r → hasRow (take 8 (drop (8 * j) work)) struck ≡ false
-  pub found : r < n → hasRow (take 8 (drop (8 * r) work)) struck ≡ true
+  pub others : (j : ℕ) → from ≤ j → j < r → hasRow (rowIn work j) struck ≡ false
+  pub found : r < n → hasRow (rowIn work r) struck ≡ true
 
 -- the third bytes of these rows are marked
 abbrev pub Marked : List ℕ → List (List ℕ) → Type 0

@@ -4,11 +4,12 @@ use mathlib.Core.Bool.{Bool, not}
 use mathlib.Core.List.{List, [], _∷_, _++_, map, flatMap}
 use Prim.Native.Nat.{ℕ, zero, suc, _+_, _*_, _<_}
 use lib.Dec.{eqb}
-use lib.ListN.{length, getD, take, drop}
+use lib.ListN.{length, getD}
 use Rattle.records.specs.Lists.{In, filterBy}
 use Rattle.literals.specs.declared.Time.{Time}
 use Rattle.literals.specs.Domain.{roleNumber, Literal, Domain, action}
 use Rattle.literals.specs.Decode.{byte, maxLiterals}
+use Rattle.literals.specs.Table.{rowIn}
 use Rattle.literals.specs.Held.{arityIn, HeadOf}
 use Rattle.literals.specs.Keys.{usageFor}
 use Rattle.verdict.specs.Binding.{bind}
@@ -60,7 +61,7 @@ groundedBytes = countsAt + maxEvents
 
 -- that at a place of the memory, and the first n
 abbrev pub groundAt : List ℕ → ℕ → GroundLiteral
-groundAt memory i = record { usage = getD memory (usagesAt + i) 0; row = take 8 (drop (8 * i) memory) }
+groundAt memory i = record { usage = getD memory (usagesAt + i) 0; row = rowIn memory i }
 
 abbrev pub groundIn : ℕ → List ℕ → List GroundLiteral
 groundIn zero memory = []

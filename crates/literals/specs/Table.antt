@@ -79,6 +79,10 @@ rowsBy w (suc n) t = take w t ∷ rowsBy w n (drop w t)
 abbrev pub rowsIn : ℕ → List ℕ → List (List ℕ)
 rowsIn = rowsBy 8
 
+-- the row i of them
+abbrev pub rowIn : List ℕ → ℕ → List ℕ
+rowIn t i = take 8 (drop (8 * i) t)
+
 -- the highest rank of a payload with these rows
 unfoldable pub rowsRank : List ℕ → List (List ℕ) → ℕ
 unfolding rowRank

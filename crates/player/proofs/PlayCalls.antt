@@ -19,7 +19,7 @@ use Rattle.run_semantics.specs.RunFile.{entriesBefore}
 use Rattle.run_semantics.specs.Play.{workBytes, Outcome, placeOf, heldBytes, playRun, Returned, ofDomain, ofRun, Call, outcomeCall, callBy, call, played, workAfter, returned, returnedBytes}
 use Rattle.run_semantics.specs.Claims.{finalOf, AsMachine, PlaysAsMachine, StaysLow}
 use Rattle.player.specs.Player.{endedOf}
-use Rattle.player.specs.Called.{faultOf, fileOf, offsetOf, faultFile, faultOffset, partAt, answerOf, answerBy, answerUnplayed}
+use Rattle.player.specs.Called.{asFault, fileOf, offsetOf, faultFile, faultOffset, partAt, answerOf, answerBy, answerUnplayed}
 use Rattle.run_semantics.proofs.Never.{played-as-machine, weight-stays-low}
 
 -- ---- the answer of a run
@@ -114,7 +114,7 @@ module _ (d r w : List ℕ) where
     unfolding returned
     file-is = ap (λ (x : PlayAnswer). faultFile (x .fault)) e ∙ by-return (call d r w .part)
       where
-        by-return : (x : Returned) → faultFile (faultOf x) ≡ fileOf x
+        by-return : (x : Returned) → faultFile (asFault x) ≡ fileOf x
         by-return (ofDomain at) = refl
         by-return (ofRun at) = refl
 
@@ -122,7 +122,7 @@ module _ (d r w : List ℕ) where
     unfolding returned
     offset-is = ap (λ (x : PlayAnswer). faultOffset (x .fault)) e ∙ by-return (call d r w .part)
       where
-        by-return : (x : Returned) → faultOffset (faultOf x) ≡ offsetOf x
+        by-return : (x : Returned) → faultOffset (asFault x) ≡ offsetOf x
         by-return (ofDomain at) = refl
         by-return (ofRun at) = refl
 
@@ -130,7 +130,7 @@ module _ (d r w : List ℕ) where
     unfolding returned returnedBytes
     part-is p f = f ∙ ap (λ (x : PlayAnswer). partAt d r (x .fault)) e ∙ by-return (call d r w .part)
       where
-        by-return : (x : Returned) → partAt d r (faultOf x) ≡ returnedBytes d r x
+        by-return : (x : Returned) → partAt d r (asFault x) ≡ returnedBytes d r x
         by-return (ofDomain at) = refl
         by-return (ofRun at) = refl
 

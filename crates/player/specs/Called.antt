@@ -8,9 +8,9 @@ use Rattle.player.specs.declared.play.PlayAnswer.{PlayAnswer}
 use Rattle.run_semantics.specs.Play.{Outcome, placeOf, Returned, ofDomain, ofRun, Call}
 
 -- "a part of the domain file or of the run file, from that record to the end"
-abbrev pub faultOf : Returned → Fault
-faultOf (ofDomain at) = InDomain at
-faultOf (ofRun at) = InRun at
+abbrev pub asFault : Returned → Fault
+asFault (ofDomain at) = InDomain at
+asFault (ofRun at) = InRun at
 
 -- of which file it is, 0 the domain file and 1 the run file, and its offset there
 abbrev pub fileOf : Returned → ℕ
@@ -42,7 +42,7 @@ answerOf c =
       place = c .answer .first;
       steps = c .answer .steps;
       weight = c .answer .weight;
-      fault = faultOf (c .part);
+      fault = asFault (c .part);
     }
 
 -- of a run that was played to its end or to its fault

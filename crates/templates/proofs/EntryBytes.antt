@@ -28,7 +28,7 @@ use Rattle.literals.specs.Keys.{numbersFrom, below}
 use Rattle.literals.proofs.Indices.{below-snoc}
 use Rattle.services.specs.Service.{DeliveredAs}
 use Rattle.templates.specs.Templates.{keysFrom, labelsFrom, labelsWith, Shape, shape, componentAt, shapesOf, shapesFrom, shapes, single, componentBytes, legalAlone, listed, placeByte, verdictOf, entry, listBytes}
-use Rattle.templates.specs.Listing.{labelAt, payloadOf, placeOf, shapeOf, entriesOf, BareHeld, Listing, PlaceFits, shapesUpTo}
+use Rattle.templates.specs.Listing.{labelAt, payloadOf, placeOfByte, shapeOf, entriesOf, BareHeld, Listing, PlaceFits, shapesUpTo}
 use Rattle.templates.proofs.Labels.{PlaceBelow, with-keys}
 use Rattle.templates.proofs.Legal.{component-back, legal-well-formed}
 
@@ -67,7 +67,7 @@ labels-counted k (suc n) (suc p) h =
     (labels-counted (suc k) n p (omega arith) ∙ ap (λ (b : ℕ). map (labelAt b) (numbersFrom (suc k) n)) z)
 
 -- the labels of n places, by the byte of the counted one
-labels-are : (n b : ℕ) → n ≤ 6 → (b ≡ 255) ⊎ (b < n) → map labelNumber (labelsWith n (placeOf b)) ≡ map (labelAt b) (below n)
+labels-are : (n b : ℕ) → n ≤ 6 → (b ≡ 255) ⊎ (b < n) → map labelNumber (labelsWith n (placeOfByte b)) ≡ map (labelAt b) (below n)
 labels-are n b h (inl e) =
     ap (λ (t : Bool). map labelNumber (labelsWith n (cond t none (some b)))) (eq-eqb b 255 e)
     ∙ keys-numbers 0 n ∙ sym (labels-low b 0 n (omega arith))
@@ -88,11 +88,11 @@ payload-is D r b n l h e =
     ∙ ap {B = List ℕ} (λ l. r ∷ l) (take-labels (labelAt b) 0 (arity D r) 6 l ∙ sym (labels-are (arity D r) b l h))
 
 -- a place of the relation, or none
-pub place-below : (n b : ℕ) → n ≤ 6 → (b ≡ 255) ⊎ (b < n) → PlaceBelow n (placeOf b)
+pub place-below : (n b : ℕ) → n ≤ 6 → (b ≡ 255) ⊎ (b < n) → PlaceBelow n (placeOfByte b)
 place-below n b h (inl e) = subst (λ (t : Bool). PlaceBelow n (cond t none (some b))) (sym (eq-eqb b 255 e)) tt
 place-below n b h (inr l) = subst (λ (t : Bool). PlaceBelow n (cond t none (some b))) (sym (ne-eqb b 255 (λ e. omega arith))) l
 
-pub place-byte : (b : ℕ) → placeByte (placeOf b) ≡ b
+pub place-byte : (b : ℕ) → placeByte (placeOfByte b) ≡ b
 place-byte b = go (eqb b 255) refl
   where
     go : (t : Bool) → eqb b 255 ≡ t → placeByte (cond t none (some b)) ≡ b
@@ -171,7 +171,7 @@ module _ {D : Domain} {head table : List ℕ} (B : BareHeld D head table) (r b :
   component = componentAt D (shapeOf r b)
 
   keys : all (keyBelow 255) (component .labels) ≡ true
-  keys = with-keys (arity D r) (placeOf b) few (place-below (arity D r) b few P)
+  keys = with-keys (arity D r) (placeOfByte b) few (place-below (arity D r) b few P)
 
   module _ {n k : ℕ} {p after : List ℕ} (e : n ≡ arityIn head r) (q : p ≡ take (n + 1 - 0) (payloadOf r b)) (T : Takes componentRecord p k head after) where
     payload : p ≡ componentBytes component

@@ -26,11 +26,11 @@ abbrev pub payloadOf : ℕ → ℕ → List ℕ
 payloadOf r counted = r ∷ map (labelAt counted) (below 6)
 
 -- the shape of a relation and a place byte
-abbrev pub placeOf : ℕ → Option ℕ
-placeOf b = cond (eqb b 255) none (some b)
+abbrev pub placeOfByte : ℕ → Option ℕ
+placeOfByte b = cond (eqb b 255) none (some b)
 
 abbrev pub shapeOf : ℕ → ℕ → Shape
-shapeOf r b = shape r (placeOf b)
+shapeOf r b = shape r (placeOfByte b)
 
 -- ---- one component
 
