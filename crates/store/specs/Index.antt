@@ -41,7 +41,8 @@ wordOf row =
 
 -- the slot of a fact's row, of 4,096: by its first argument, then by relation and the other arguments
 unfoldable pub slotOf : List ℕ → ℕ
-slotOf row = 64 * ((11 * byte row 0 + byte row 3 + 3 * byte row 4 + 5 * byte row 5 + 7 * byte row 6 + 9 * byte row 7) % 64) + byte row 2 % 64
+slotOf row =
+    64 * ((11 * byte row 0 + byte row 3 + 3 * byte row 4 + 5 * byte row 5 + 7 * byte row 6 + 9 * byte row 7) % 64) + byte row 2 % 64
 
 -- the slot of an instance, of 4,096: of one or two keys each has its own
 unfoldable pub keySlot : List ℕ → ℕ

@@ -121,4 +121,5 @@ CountsFiles b number after =
 abbrev pub AddsUp : List ℕ → ℕ → List ℕ → Type 0
 AddsUp b number after =
     (fs : List (List ℕ)) → opened b ≡ files fs → number ≡ 0
-    → (sum (map (λ n. totalIn after n) (numbersFrom 0 64)) ≡ length fs) × (sum (map (λ k. totalIn after (63 + k)) (numbersFrom 1 7)) ≡ length (allRows fs))
+    → (sum (map (λ n. totalIn after n) (numbersFrom 0 64)) ≡ length fs)
+    × (sum (map (λ k. totalIn after (63 + k)) (numbersFrom 1 7)) ≡ length (allRows fs))

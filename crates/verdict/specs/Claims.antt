@@ -78,7 +78,9 @@ OwnIsEnough =
 
 -- interference, where all that an end asks counts for it, over all too
 abbrev pub disturbsWithOverAll : Domain → Event → Event → Bool
-disturbsWithOverAll D e f = meet (requiredFacts D e Positive ++ requiredFacts D e Negative) (addedFacts D f ++ struckFacts D f) || meet (addedFacts D e) (struckFacts D f)
+disturbsWithOverAll D e f =
+    meet (requiredFacts D e Positive ++ requiredFacts D e Negative) (addedFacts D f ++ struckFacts D f)
+    || meet (addedFacts D e) (struckFacts D f)
 
 abbrev pub interfereWithOverAll : Domain → Event → Event → Bool
 interfereWithOverAll D e f = disturbsWithOverAll D e f || disturbsWithOverAll D f e

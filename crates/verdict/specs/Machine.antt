@@ -121,7 +121,8 @@ meet fs gs = any (λ f. elem sameFact f gs) fs
 unfoldable pub disturbs : Domain → Event → Event → Bool
 unfolding eventFacts
 disturbs D e f =
-    meet (guardedFacts D e Positive ++ guardedFacts D e Negative) (addedFacts D f ++ struckFacts D f) || meet (addedFacts D e) (struckFacts D f)
+    meet (guardedFacts D e Positive ++ guardedFacts D e Negative) (addedFacts D f ++ struckFacts D f)
+    || meet (addedFacts D e) (struckFacts D f)
 
 -- "Two events interfere if .."
 unfoldable pub interfere : Domain → Event → Event → Bool
