@@ -1,4 +1,4 @@
--- The domain: its componentRows, matching and moments, how a file is read, and how the code holds it.
+-- The domain: its parts, matching and moments, how a file is read, and how the code holds it.
 pub mod Domain
 pub mod Matching
 pub mod Decode
