@@ -27,12 +27,11 @@ use Rattle.classes.proofs.Usages.{any-role}
 use Rattle.literals.proofs.Indices.{all-filter}
 use Rattle.verdict.specs.Binding.{bind}
 use Rattle.verdict.specs.Machine.{GroundAction, Event, eventFacts, ownHold, overAllHold}
-use Rattle.store.specs.Rows.{factRow, hasRow}
+use Rattle.store.specs.Held.{factRow, hasRow, Indexed}
 use Rattle.literals.specs.Keys.{usageFor}
-use Rattle.store.specs.Index.{Indexed}
 use Rattle.events.specs.Held.{groundRow, Open, openOf, GroundFits, GroundsFit, timeOf}
 use Rattle.events.specs.Grounding.{GroundLiteral, groundLiterals, eventLiterals, groundIn, Grounded}
-use Rattle.applicability.specs.Conditions.{conditionMet}
+use Rattle.applicability.specs.Held.{conditionMet}
 use Rattle.events.proofs.FactRows.{has-fact, countsFor, usage-counts, any-literals, all-literals, head-kept, noGround, open-count}
 use Rattle.events.proofs.Listed.{entry-fits, entry-row}
 

@@ -12,10 +12,10 @@ use borrow.Author.Tests.{eq-eqb, ne-eqb, eqb-true, eqb-false}
 use Rattle.records.specs.Lists.{all, any}
 use Rattle.records.proofs.Lists.{any-append, flatMap-append, flatMap-snoc}
 use Rattle.literals.proofs.Indices.{any-agree, any-or}
-use Rattle.store.specs.Index.{wordOf}
+use Rattle.store.specs.Held.{wordOf}
 use Rattle.events.specs.Grounding.{GroundLiteral, countsAt, groundAt, groundIn, inOne, Laid}
 use Rattle.events.proofs.GroundLiterals.{length-ground, take-ground}
-use Rattle.applicability.specs.Interference.{clashing, clashesWith, clashes, literalsClash, WordsOf}
+use Rattle.applicability.specs.Held.{clashing, clashesWith, clashes, literalsClash, WordsOf}
 
 -- ---- words
 

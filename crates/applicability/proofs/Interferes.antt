@@ -20,12 +20,11 @@ use Rattle.literals.proofs.Tables.{Kept}
 use Rattle.literals.proofs.Indices.{any-agree, any-or, any-filter}
 use Rattle.verdict.specs.Binding.{valueOf, bind}
 use Rattle.verdict.specs.Machine.{Event, eventFacts, meet, disturbs, interfere, independent}
-use Rattle.store.specs.Index.{wordOf}
-use Rattle.store.specs.Rows.{factRow}
+use Rattle.store.specs.Held.{wordOf, factRow}
 use Rattle.literals.specs.Keys.{usageFor}
 use Rattle.events.specs.Held.{GroundFits, EventsFit, timeOf}
 use Rattle.events.specs.Grounding.{GroundLiteral, groundLiterals, eventLiterals}
-use Rattle.applicability.specs.Interference.{clashing, clashesWith, clashes, literalsClash}
+use Rattle.applicability.specs.Held.{clashing, clashesWith, clashes, literalsClash}
 use Rattle.events.proofs.Members.{map-in}
 use Rattle.events.proofs.FactRows.{agree, agree-same, countsFor, usage-counts, listed-in, head-kept}
 use Rattle.applicability.proofs.Asked.{all-agree, any-event}

@@ -14,8 +14,7 @@ use Rattle.literals.specs.declared.Object.{Object}
 use Rattle.literals.specs.Domain.{Fact, sameFact}
 use Rattle.literals.proofs.Equality.{fact-eq}
 use Rattle.verdict.specs.Judged.{objectNumbers}
-use Rattle.store.specs.Index.{wordOf}
-use Rattle.store.specs.Rows.{factRow}
+use Rattle.store.specs.Held.{wordOf, factRow}
 use Rattle.store.proofs.Totals.{word-same}
 use Rattle.literals.specs.Decode.{byte}
 use Rattle.events.proofs.FactRows.{same-row, length-fact-row}

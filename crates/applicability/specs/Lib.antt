@@ -1,3 +1,2 @@
 -- What a step asks, as the code tells it.
-pub mod Conditions
-pub mod Interference
+pub mod Held

@@ -19,11 +19,10 @@ ghost use Rattle.literals.specs.Table.{rowsIn};
 ghost use Rattle.literals.specs.Held.{arityIn, Held};
 ghost use Rattle.run_semantics.specs.RunFile.{maxFacts, maxRunning};
 ghost use Rattle.verdict.specs.Machine.{GroundAction, Event, ownHold, overAllHold};
-ghost use Rattle.store.specs.Index.{Indexed};
-ghost use Rattle.store.specs.Rows.{factRow};
+ghost use Rattle.store.specs.Held.{Indexed, factRow};
 ghost use Rattle.events.specs.Held.{groundBytes, openBytes, groundRow, openOf, GroundFits, GroundsFit};
 ghost use Rattle.events.specs.Grounding.{maxGround, groundedBytes, groundAt, groundIn, EachSized, Grounded};
-ghost use Rattle.applicability.specs.Conditions.{conditionMet};
+ghost use Rattle.applicability.specs.Held.{conditionMet};
 
 // Whether the first n rows of the work memory meet the ground literal i: a true condition asks for its fact, a false one for its absence,
 // an effect for nothing.

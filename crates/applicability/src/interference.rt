@@ -15,9 +15,9 @@ ghost use Rattle.records.specs.Lists.{any, pairwise};
 ghost use Rattle.literals.specs.Domain.{Domain};
 ghost use Rattle.run_semantics.specs.RunFile.{maxEvents};
 ghost use Rattle.verdict.specs.Machine.{Event, independent};
-ghost use Rattle.store.specs.Index.{wordOf};
+ghost use Rattle.store.specs.Held.{wordOf};
 ghost use Rattle.events.specs.Grounding.{GroundLiteral, maxGround, groundedBytes, groundAt, groundIn, Laid, Grounded};
-ghost use Rattle.applicability.specs.Interference.{clashing, clashesWith, literalsClash, WordsOf};
+ghost use Rattle.applicability.specs.Held.{clashing, clashesWith, literalsClash, WordsOf};
 
 // Whether two usages of one fact may not stand in two events: a condition with an add or delete, an add with a delete.
 fn clashing(c: u8, d: u8) -> bool

@@ -31,8 +31,7 @@ use Rattle.literals.specs.Matching.{own, withRole, literalsAt}
 use Rattle.literals.proofs.Tables.{Kept}
 use Rattle.verdict.specs.Binding.{Binding, valueOf, bind}
 use Rattle.verdict.specs.Machine.{GroundAction, Event, eventFacts, stepFacts}
-use Rattle.store.specs.Index.{Sized}
-use Rattle.store.specs.Rows.{factRow}
+use Rattle.store.specs.Held.{Sized, factRow}
 use Rattle.literals.specs.Keys.{usageFor}
 use Rattle.events.specs.Held.{GroundFits, EventsFit, timeOf}
 use Rattle.events.specs.Grounding.{GroundLiteral, groundLiterals, eventLiterals, maxGround, usagesAt, groundedBytes, groundAt, groundIn}

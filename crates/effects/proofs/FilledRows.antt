@@ -19,7 +19,7 @@ use Rattle.literals.proofs.Tables.{length-flat, rows-flat}
 use Rattle.literals.proofs.KeyRows.{length-rows}
 use Rattle.run_semantics.specs.RunFile.{maxFacts}
 use Rattle.run_semantics.specs.Play.{workBytes}
-use Rattle.store.specs.Rows.{hasRow}
+use Rattle.store.specs.Held.{hasRow}
 use Rattle.events.specs.Grounding.{groundedBytes}
 use Rattle.effects.specs.Held.{scratchBytes, effectsIn, literalsIn, flat, joinRow, joinRows, atMost, stays, keptOf}
 use Rattle.effects.proofs.Joins.{joined-rows, join-snoc, join-append}

@@ -16,8 +16,7 @@ use Rattle.records.proofs.Memory.{over-paste}
 use Rattle.literals.specs.Table.{rowsIn}
 use Rattle.literals.proofs.Rows.{rows-last, rows-whole}
 use Rattle.literals.proofs.KeyRows.{length-rows, rows-at}
-use Rattle.store.specs.Rows.{hasRow}
-use Rattle.store.specs.Index.{noteAt, Indexed}
+use Rattle.store.specs.Held.{hasRow, noteAt, Indexed}
 use Rattle.effects.specs.Held.{Once, struckOf, FirstStruck, flat, stays, keptOf}
 use Rattle.effects.proofs.Joins.{none-left, row-sound, row-self}
 use Rattle.effects.proofs.FilledRows.{rows-rest, flat-rows, length-whole, rows-own, Filled, filled-length, filled-more, kept-in, left-count, left-rows, kept-next}

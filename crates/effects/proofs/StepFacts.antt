@@ -15,8 +15,7 @@ use Rattle.literals.specs.Domain.{Fact, sameFact, Domain}
 use Rattle.literals.specs.Table.{rowsIn}
 use Rattle.verdict.specs.Judged.{objectNumbers, factBytes}
 use Rattle.verdict.specs.Machine.{Event, stepFacts, factsAfter}
-use Rattle.store.specs.Index.{Sized, Indexed}
-use Rattle.store.specs.Rows.{factRow}
+use Rattle.store.specs.Held.{Sized, Indexed, factRow}
 use Rattle.effects.specs.Held.{joinRows, Once, atMost, flat, stepEffects, HoldsJoined, HoldsAfter, stays, keptOf}
 use Rattle.events.proofs.FactRows.{same-row}
 use Rattle.effects.proofs.Joins.{outside-map, dedup-map, distinct-map, joined-rows}

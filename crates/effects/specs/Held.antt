@@ -19,8 +19,7 @@ use Rattle.verdict.specs.Judged.{factBytes}
 use Rattle.verdict.specs.Machine.{Event, stepFacts, factsAfter}
 use Rattle.run_semantics.specs.RunFile.{maxFacts}
 use Rattle.run_semantics.specs.Play.{workBytes}
-use Rattle.store.specs.Index.{Indexed}
-use Rattle.store.specs.Rows.{factRow, hasRow}
+use Rattle.store.specs.Held.{Indexed, factRow, hasRow}
 use Rattle.events.specs.Grounding.{GroundLiteral, groundedBytes}
 use Rattle.effects.specs.declared.After.{After}
 

@@ -36,7 +36,7 @@ use Rattle.events.specs.Held.{Waiting}
 use Rattle.run_semantics.specs.RunFile.{momentOf}
 use Rattle.literals.specs.declared.span.Span.{Span}
 use Rattle.literals.specs.Held.{actionsIn, arityIn, HeadOf, Held, SpanOf}
-use Rattle.store.specs.Rows.{factRow, hasRow}
+use Rattle.store.specs.Held.{factRow, hasRow}
 use Rattle.store.proofs.InstanceRows.{same-numbers}
 use Rattle.literals.specs.Keys.{usageFor}
 use Rattle.events.specs.Held.{groundRow, GroundFits, objectOf, boundRow, timeOf, openOf, waitingOf}

@@ -26,7 +26,7 @@ use Rattle.literals.proofs.KeyRows.{length-rows}
 use Rattle.literals.proofs.Rows.{part-first, rows-snoc}
 use Rattle.verdict.specs.Binding.{valueOf, bind}
 use Rattle.verdict.specs.Machine.{GroundAction, Event}
-use Rattle.store.specs.Rows.{factRow}
+use Rattle.store.specs.Held.{factRow}
 use Rattle.events.specs.Held.{groundRow, Waiting, waitingOf, GroundFits, EventsFit, boundRow}
 use Rattle.events.specs.Grounding.{GroundLiteral, groundLiterals, eventLiterals, rowLiterals, maxGround, usagesAt, countsAt}
 use Rattle.events.specs.Grounding.{groundedBytes, groundAt, groundIn, inOne, Laid, Grounded, EachSized}

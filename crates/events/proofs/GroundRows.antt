@@ -18,7 +18,7 @@ use Rattle.literals.specs.Keys.{position}
 use Rattle.literals.proofs.KeyRows.{place-le, length-rows}
 use Rattle.events.specs.Held.{Open}
 use Rattle.events.specs.Held.{groundsIn, EventRow, eventAt, eventsIn, endOpen, withoutEntry, closeEntry, closeEvent, closeEvents, joinEntry, opensBy, joinEvent, joinEvents, Opened}
-use Rattle.store.specs.Rows.{hasRow}
+use Rattle.store.specs.Held.{hasRow}
 
 -- a part of 17 bytes
 pub part-ground : (t : List ℕ) (at : ℕ) → take (at + 17 - at) (drop at t) ≡ take 17 (drop at t)

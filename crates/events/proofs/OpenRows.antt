@@ -25,7 +25,7 @@ use Rattle.verdict.specs.Machine.{GroundAction, Event, sameGround, isOpenAt, is
 use Rattle.events.specs.Held.{Open}
 use Rattle.events.specs.Held.{Waiting}
 use Rattle.events.specs.Held.{groundRow, groundsIn, openOf, waitingOf, GroundFits, GroundsFit, EventsFit, EventRow, eventsIn, endOpen, withoutEntry, closeEntry, closeEvent, closeEvents, joinEntry, opensBy, joinEvent, joinEvents, Opened}
-use Rattle.store.specs.Rows.{hasRow}
+use Rattle.store.specs.Held.{hasRow}
 use Rattle.events.proofs.FactRows.{few-objects, length-ground-row}
 use Rattle.events.proofs.Members.{close-in, closed-in}
 

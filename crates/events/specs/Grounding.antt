@@ -15,7 +15,7 @@ use Rattle.literals.specs.Keys.{usageFor}
 use Rattle.verdict.specs.Binding.{bind}
 use Rattle.verdict.specs.Machine.{GroundAction, Event}
 use Rattle.run_semantics.specs.RunFile.{maxEvents}
-use Rattle.store.specs.Rows.{factRow}
+use Rattle.store.specs.Held.{factRow}
 use Rattle.events.specs.Held.{EventsFit, boundRow, timeOf}
 
 -- ---- ground literals

@@ -21,7 +21,7 @@ use Rattle.literals.specs.Keys.{position}
 use Rattle.verdict.specs.Judged.{objectNumbers}
 use Rattle.verdict.specs.Machine.{GroundAction, Event}
 use Rattle.run_semantics.specs.RunFile.{maxRunning, maxEvents}
-use Rattle.store.specs.Rows.{hasRow}
+use Rattle.store.specs.Held.{hasRow}
 
 -- ---- rows
 

@@ -30,7 +30,7 @@ ghost use Rattle.events.specs.Held.{groundBytes, openBytes, waitingBytes
 ghost use Rattle.events.specs.Held.{eventAt, eventsIn, endOpen, closeEntry, closeEvent, closeEvents};
 ghost use Rattle.events.specs.Held.{joinEntry, opensBy, joinEvent, joinEvents};
 ghost use Rattle.events.specs.Held.{agendaBytes, openIn, waitingIn};
-ghost use Rattle.store.specs.Rows.{hasRow};
+ghost use Rattle.store.specs.Held.{hasRow};
 ghost use Rattle.run_semantics.specs.RunFile.{maxRunning, maxEvents};
 
 // How many entries there are once the starts are added, where they fit.

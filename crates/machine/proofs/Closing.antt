@@ -15,13 +15,12 @@ use Rattle.literals.specs.Domain.{Fact, sameFact, Domain}
 use Rattle.literals.specs.Table.{rowsIn, Bounded}
 use Rattle.verdict.specs.Judged.{factBytes}
 use Rattle.verdict.specs.Machine.{GroundAction, Event, State, isOpen, ownHold, overAllHold, independent, stepFacts, factsAfter, closeAll, openedBy, next, topWeight}
-use Rattle.store.specs.Index.{Indexed}
+use Rattle.store.specs.Held.{Indexed, factRow, topFrom, FactFits}
 use Rattle.events.specs.Held.{Open}
 use Rattle.events.specs.Held.{Waiting}
 use Rattle.run_semantics.specs.RunFile.{maxFacts, maxRunning}
 use Rattle.run_semantics.specs.Play.{forbidden, tooLarge, heldBytes}
 use Rattle.run_semantics.proofs.Allowed.{forbidden-by-own}
-use Rattle.store.specs.Rows.{factRow, topFrom, FactFits}
 use Rattle.events.specs.Held.{openOf, waitingOf}
 use Rattle.effects.specs.Held.{atMost}
 use Rattle.machine.specs.Held.{StateRows, stateOf, Kept, closeStop, closeState, closeWaiting, closeWeight, stateThen, Leaves}

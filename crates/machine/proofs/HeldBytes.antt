@@ -16,7 +16,7 @@ use Rattle.records.specs.Lists.{In}
 use Rattle.verdict.specs.Machine.{Event, State}
 use Rattle.run_semantics.specs.RunFile.{maxFacts}
 use Rattle.run_semantics.specs.Play.{workBytes, heldBytes}
-use Rattle.store.specs.Rows.{factRow, Few, FactFits}
+use Rattle.store.specs.Held.{factRow, Few, FactFits}
 use Rattle.machine.specs.Held.{StateRows, stateOf, Kept}
 use Rattle.events.proofs.FactRows.{length-fact-row}
 use Rattle.effects.specs.Held.{Once}

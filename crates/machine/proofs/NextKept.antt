@@ -21,7 +21,7 @@ use Rattle.verdict.proofs.Events.{after-in}
 use Rattle.verdict.proofs.Weight.{distinct-after}
 use Rattle.run_semantics.specs.RunFile.{maxFacts, maxRunning}
 use Rattle.run_semantics.specs.Play.{tooLarge}
-use Rattle.store.specs.Rows.{FactFits}
+use Rattle.store.specs.Held.{FactFits}
 use Rattle.events.specs.Held.{GroundFits, GroundsFit, EventsFit}
 use Rattle.machine.specs.Held.{Kept}
 use Rattle.events.proofs.Members.{map-in, closed-in}

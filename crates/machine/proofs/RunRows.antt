@@ -13,7 +13,7 @@ use Rattle.literals.proofs.Tables.{length-flat}
 use Rattle.verdict.specs.Judged.{factBytes}
 use Rattle.run_semantics.specs.RunFile.{maxFacts}
 use Rattle.run_semantics.specs.Play.{workBytes, heldBytes}
-use Rattle.store.specs.Rows.{factRow, Few}
+use Rattle.store.specs.Held.{factRow, Few}
 use Rattle.events.proofs.FactRows.{length-fact-row}
 use Rattle.machine.proofs.HeldBytes.{bytes-flat}
 

@@ -11,11 +11,10 @@ use Rattle.literals.specs.Domain.{Fact, sameFact, Domain}
 use Rattle.literals.specs.Table.{rowsIn}
 use Rattle.literals.specs.Held.{Held}
 use Rattle.verdict.specs.Machine.{Event, State, next, topWeight, overAllHold}
-use Rattle.store.specs.Index.{noteAt, Indexed}
+use Rattle.store.specs.Held.{noteAt, Indexed, factRow, FactFits}
 use Rattle.machine.specs.declared.Counts.{Counts}
 use Rattle.run_semantics.specs.RunFile.{maxFacts, maxRunning, maxEvents}
 use Rattle.run_semantics.specs.Play.{workBytes, forbidden, tooLarge, heldBytes}
-use Rattle.store.specs.Rows.{factRow, FactFits}
 use Rattle.events.specs.Held.{Open, Waiting, openOf, waitingOf, openIn, waitingIn, GroundsFit, EventsFit}
 use Rattle.effects.specs.Held.{Once}
 

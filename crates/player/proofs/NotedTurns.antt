@@ -12,13 +12,12 @@ use Rattle.literals.specs.Domain.{Fact, sameFact, Domain}
 use Rattle.literals.specs.Decode.{byte}
 use Rattle.literals.specs.Held.{arityIn, HeadOf}
 use Rattle.verdict.specs.Machine.{Event, State, next, topWeight}
-use Rattle.store.specs.Index.{noteAt, factIndex, totalAt, Indexed}
+use Rattle.store.specs.Held.{noteAt, factIndex, totalAt, Indexed, factRow}
 use Rattle.run_semantics.specs.RunFile.{RunKind, objectsRecord, factRecord, eventRecord, stepRecord, endRecord, otherRecord, runKindOf, factOf, eventOf, maxFacts, objectsStop, factStop, eventStop, stepStop, endStop}
 use Rattle.run_semantics.specs.Play.{Playing, PlayTurn, goOn, finish, stopAt, unless, begin, withObjects, withFact, withEvent, withClose, beforeRun, tooLarge, forbidden, afterStep, closeStep, playRecord}
-use Rattle.store.specs.Rows.{factRow}
 use Rattle.machine.specs.Held.{Noted, closeStop, closeState}
 use Rattle.machine.proofs.Resting.{indexed-set, noted-anew, unset}
-use Rattle.player.specs.Player.{WholeTurn as Turn, LeadsTo, NotedAfter}
+use Rattle.player.specs.Held.{WholeTurn as Turn, LeadsTo, NotedAfter}
 use Rattle.player.proofs.Sound.{fact-taken}
 
 module _ (D : Domain) (head index : List ℕ) where

@@ -18,7 +18,7 @@ use Rattle.player.specs.declared.play.PlayAnswer.{PlayAnswer}
 use Rattle.run_semantics.specs.RunFile.{entriesBefore}
 use Rattle.run_semantics.specs.Play.{workBytes, Outcome, placeOf, heldBytes, playRun, Returned, ofDomain, ofRun, Call, outcomeCall, callBy, call, played, workAfter, returned, returnedBytes}
 use Rattle.run_semantics.specs.Claims.{finalOf, AsMachine, PlaysAsMachine, StaysLow}
-use Rattle.player.specs.Player.{endedOf}
+use Rattle.player.specs.Held.{endedOf}
 use Rattle.player.specs.Called.{asFault, fileOf, offsetOf, faultFile, faultOffset, partAt, answerOf, answerBy, answerUnplayed}
 use Rattle.run_semantics.proofs.Never.{played-as-machine, weight-stays-low}
 

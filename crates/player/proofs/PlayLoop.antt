@@ -12,10 +12,10 @@ use Rattle.literals.specs.Table.{Bounded}
 use Rattle.literals.specs.Held.{Read}
 use Rattle.verdict.specs.Judged.{factBytes}
 use Rattle.player.specs.declared.run.Ended.{Ended}
-use Rattle.store.specs.Index.{factIndex}
+use Rattle.store.specs.Held.{factIndex}
 use Rattle.run_semantics.specs.Play.{workBytes, Playing, beforeRun, Outcome, PlayTurn, goOn, finish, heldBytes, playStep, playFrom, playRun}
 use Rattle.machine.specs.Held.{Noted}
-use Rattle.player.specs.Player.{Whole as Player, WholeTurn as Turn, playerOf, Stands, LeadsTo, NotedAfter, Playable, endedOf}
+use Rattle.player.specs.Held.{Whole as Player, WholeTurn as Turn, playerOf, Stands, LeadsTo, NotedAfter, Playable, endedOf}
 use Rattle.run_semantics.proofs.Loop.{play-more, play-done, play-at}
 use Rattle.player.proofs.Sound.{sound-on, sound-new}
 use Rattle.player.proofs.PlayTurns.{at-is}

@@ -13,7 +13,7 @@ use Rattle.run_semantics.specs.RunFile.{maxFacts}
 use Rattle.run_semantics.specs.Play.{workBytes, Playing, begin, heldBytes}
 use Rattle.events.specs.Held.{openOf, waitingOf}
 use Rattle.machine.specs.Held.{StateRows, Closable, Noted}
-use Rattle.player.specs.Player.{Whole as Player, playerOf, Stands, Playable}
+use Rattle.player.specs.Held.{Whole as Player, playerOf, Stands, Playable}
 use Rattle.machine.proofs.HeldBytes.{fits-few, length-held, state-once}
 use Rattle.player.proofs.Sound.{sound-begin}
 use Rattle.player.proofs.PlayTurns.{state-is, waiting-are}

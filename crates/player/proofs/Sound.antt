@@ -24,10 +24,10 @@ use Rattle.verdict.proofs.Weight.{distinct-append}
 use Rattle.run_semantics.proofs.Stops.{eventTests}
 use Rattle.run_semantics.specs.RunFile.{RunKind, objectsRecord, factRecord, eventRecord, stepRecord, endRecord, otherRecord, runKindOf, factOf, momentOf, eventOf, maxObjects, maxFacts, maxEvents, outside, objectsStop, factStop, eventStop, stepStop, endStop}
 use Rattle.run_semantics.specs.Play.{Tally, Playing, beforeRun, onward, PlayTurn, goOn, finish, stopAt, begin, withObjects, joined, withFact, withEvent, forbidden, tooLarge, afterStep, closeStep, withClose, unless, playRecord, playFound, playStep}
-use Rattle.store.specs.Rows.{FactFits}
+use Rattle.store.specs.Held.{FactFits}
 use Rattle.events.specs.Held.{GroundFits}
 use Rattle.machine.specs.Held.{Kept}
-use Rattle.player.specs.Player.{Sound}
+use Rattle.player.specs.Held.{Sound}
 use Rattle.events.proofs.Members.{map-in}
 use Rattle.run_fields.proofs.RunFields.{byte-moment}
 use Rattle.machine.proofs.NextKept.{kept-next}

@@ -1,3 +1,3 @@
 -- Where the player stands, and how it answers.
-pub mod Player
+pub mod Held
 pub mod Called

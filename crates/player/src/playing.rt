@@ -39,7 +39,7 @@ ghost use Rattle.run_semantics.specs.RunFile.{maxEvents, maxFacts, runKindOf, f
 ghost use Rattle.run_semantics.specs.Play.{workBytes, Playing, beforeRun, goOn, unless, begin, withObjects, withFact};
 ghost use Rattle.run_semantics.specs.Play.{withEvent, closeStep, withClose, playRecord, playStep};
 ghost use Rattle.machine.specs.Held.{Noted, Closable};
-ghost use Rattle.player.specs.Player.{Whole, wholeIn, turnIn, tallyOf, playerOf, Stands, Playable, RunMemory, LeadsTo, NotedAfter};
+ghost use Rattle.player.specs.Held.{Whole, wholeIn, turnIn, tallyOf, playerOf, Stands, Playable, RunMemory, LeadsTo, NotedAfter};
 ghost use Rattle.events.specs.Held.{agendaBytes};
 
 impl Tally {

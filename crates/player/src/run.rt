@@ -16,10 +16,10 @@ ghost use lib.ListN.{length, replicate};
 ghost use Rattle.records.specs.Memory.{over};
 ghost use Rattle.literals.specs.Domain.{Domain};
 ghost use Rattle.literals.specs.Held.{Held, Read};
-ghost use Rattle.store.specs.Index.{factIndex};
+ghost use Rattle.store.specs.Held.{factIndex};
 ghost use Rattle.effects.specs.Held.{scratchBytes};
 ghost use Rattle.run_semantics.specs.Play.{workBytes, heldBytes, playRun};
-ghost use Rattle.player.specs.Player.{endedOf};
+ghost use Rattle.player.specs.Held.{endedOf};
 ghost use Rattle.events.specs.Held.{agendaBytes};
 
 // The bytes of the facts in the work memory.

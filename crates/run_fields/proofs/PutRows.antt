@@ -12,7 +12,7 @@ use Rattle.literals.specs.Domain.{object}
 use Rattle.literals.specs.Decode.{byte}
 use Rattle.verdict.specs.Judged.{objectNumbers}
 use Rattle.run_semantics.specs.RunFile.{factOf, eventOf}
-use Rattle.store.specs.Rows.{factRow}
+use Rattle.store.specs.Held.{factRow}
 use Rattle.events.specs.Held.{groundRow}
 
 -- ---- the rows of a record

@@ -23,7 +23,7 @@ use Rattle.literals.specs.Keys.{below}
 use Rattle.verdict.specs.Machine.{Event, sameEvent, injective}
 use Rattle.events.specs.Held.{Waiting}
 use Rattle.run_semantics.specs.RunFile.{factOf, momentOf, eventOf, maxFacts, maxEvents, outside, factStop, eventStop, stepStop, endStop}
-use Rattle.store.specs.Rows.{factRow, hasRow}
+use Rattle.store.specs.Held.{factRow, hasRow}
 use Rattle.events.specs.Held.{groundRow, waitingOf, GroundFits, EventsFit}
 use Rattle.run_fields.specs.Held.{factFields, eventFields, waitsAt}
 use Rattle.events.proofs.FactRows.{has-fact}

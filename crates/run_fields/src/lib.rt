@@ -29,7 +29,7 @@ ghost use Rattle.literals.specs.Held.{lastingIn, HeadOf};
 ghost use Rattle.literals.specs.Keys.{below};
 ghost use Rattle.run_semantics.specs.RunFile.{factOf, eventOf, objectsStop, factStop, eventStop, stepStop, endStop, maxEvents};
 ghost use Rattle.verdict.specs.Machine.{Event};
-ghost use Rattle.store.specs.Rows.{factRow, Few};
+ghost use Rattle.store.specs.Held.{factRow, Few};
 ghost use Rattle.events.specs.Held.{groundBytes, waitingBytes, groundRow, waitingOf, EventsFit};
 ghost use Rattle.run_fields.specs.Held.{factFields, eventFields, waitsAt};
 

@@ -32,7 +32,7 @@ use Rattle.verdict.specs.Judged.{objectNumbers}
 use Rattle.verdict.specs.Machine.{weight, instancesIn, largest}
 use Rattle.verdict.proofs.Tuples.{keyTuple-map, component-of}
 use Rattle.store.specs.declared.keys.Keyed.{Keyed}
-use Rattle.store.specs.Rows.{factRow, FactFits, instanceRows, topFrom, keyedBy, rowWeight, topRows}
+use Rattle.store.specs.Held.{factRow, FactFits, instanceRows, topFrom, keyedBy, rowWeight, topRows}
 use Rattle.verdict.proofs.TopWeight.{tuple-size}
 use borrow.Author.Tests.{eqb-true}
 

@@ -14,8 +14,8 @@ use Rattle.records.proofs.Lists.{off, bool-cases, eqb-same, in-any, any-in, sam
 use Rattle.literals.specs.Decode.{byte}
 use Rattle.literals.specs.Table.{rowsIn}
 use Rattle.literals.specs.Held.{keysIn, arityIn, componentRowsIn}
-use Rattle.store.specs.Rows.{instanceRows, rowWeight, hasRow}
-use Rattle.store.specs.Index.{noteAt, factIndex, wrap, plus, wordOf, slotOf, keySlot, amountAt, totalAt, Sized, Indexed}
+use Rattle.store.specs.Held.{instanceRows, rowWeight, hasRow}
+use Rattle.store.specs.Held.{noteAt, factIndex, wrap, plus, wordOf, slotOf, keySlot, amountAt, totalAt, Sized, Indexed}
 use Rattle.store.proofs.InstanceRows.{Single, single}
 
 -- ---- slots

@@ -1,3 +1,2 @@
 -- Facts as they are held: rows, and the index by which they are found.
-pub mod Rows
-pub mod Index
+pub mod Held

@@ -12,8 +12,7 @@ ghost use lib.ListN.{length, getD, set, take, drop};
 ghost use Rattle.literals.specs.Decode.{byte};
 ghost use Rattle.literals.specs.Table.{rowsIn};
 ghost use Rattle.literals.specs.Held.{arityIn};
-ghost use Rattle.store.specs.Rows.{hasRow};
-ghost use Rattle.store.specs.Index.{slots, noteAt, factIndex, wrap, plus, wordOf, slotOf, keySlot, Indexed};
+ghost use Rattle.store.specs.Held.{hasRow, slots, noteAt, factIndex, wrap, plus, wordOf, slotOf, keySlot, Indexed};
 
 const SLOTS: usize = 4096;
 

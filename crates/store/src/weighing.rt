@@ -15,8 +15,7 @@ ghost use Rattle.literals.specs.Domain.{Fact, Domain};
 ghost use Rattle.literals.specs.Table.{rowsIn};
 ghost use Rattle.verdict.specs.Machine.{largest};
 ghost use Rattle.literals.specs.Held.{keysIn, componentRowsIn, HeadOf};
-ghost use Rattle.store.specs.Rows.{factRow, FactFits, instanceRows, topFrom, rowWeight, topRows};
-ghost use Rattle.store.specs.Index.{wrap, Indexed};
+ghost use Rattle.store.specs.Held.{factRow, FactFits, instanceRows, topFrom, rowWeight, topRows, wrap, Indexed};
 
 // 1 where the fact at an offset has this key tuple, else 0: the component by the fact's relation first, then its keys.
 fn weight_at(head: &Head, memory: &[u8], at: usize, row: [u8; 8]) -> usize

@@ -33,7 +33,7 @@ use Rattle.verdict.specs.declared.Judgement.{Judgement}
 use Rattle.verdict.specs.Held.{judgementOf}
 use Rattle.verdict.specs.Claims.{wellFormed}
 use Rattle.verdict.proofs.Summed.{summaries-decide}
-use Rattle.templates.specs.Listing.{OnlyRelation, mentionedAt}
+use Rattle.templates.specs.Held.{OnlyRelation, mentionedAt}
 
 -- ---- an action that does not mention the relation
 

@@ -28,7 +28,7 @@ use Rattle.literals.specs.Keys.{numbersFrom, below}
 use Rattle.literals.proofs.Indices.{below-snoc}
 use Rattle.services.specs.Service.{DeliveredAs}
 use Rattle.templates.specs.Templates.{keysFrom, labelsFrom, labelsWith, Shape, shape, componentAt, shapesOf, shapesFrom, shapes, single, componentBytes, legalAlone, listed, placeByte, verdictOf, entry, listBytes}
-use Rattle.templates.specs.Listing.{labelAt, payloadOf, placeOfByte, shapeOf, entriesOf, BareHeld, Listing, PlaceFits, shapesUpTo}
+use Rattle.templates.specs.Held.{labelAt, payloadOf, placeOfByte, shapeOf, entriesOf, BareHeld, Listing, PlaceFits, shapesUpTo}
 use Rattle.templates.proofs.Labels.{PlaceBelow, with-keys}
 use Rattle.templates.proofs.Legal.{component-back, legal-well-formed}
 

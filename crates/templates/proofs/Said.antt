@@ -21,7 +21,7 @@ use Rattle.verdict.proofs.Decodes.{decoded-well-formed}
 use Rattle.services.proofs.Answers.{served-short, served-done}
 use Rattle.templates.specs.Templates.{Shape, shape, componentAt, single, listed, placeByte, verdictOf, entry, listBytes, listFile, listAfter}
 use Rattle.templates.specs.Claims.{Limited, shapeIn, componentIn, verdictIn, EntriesSafe, NothingMissing, sameShape}
-use Rattle.templates.specs.Listing.{placeOfByte}
+use Rattle.templates.specs.Held.{placeOfByte}
 use Rattle.templates.proofs.Labels.{PlaceBelow}
 use Rattle.templates.proofs.Legal.{legal-is-read}
 use Rattle.templates.proofs.Listed.{listed-place}

@@ -1,4 +1,4 @@
 -- The one-relation templates of a domain, the list's bytes, what is claimed of them, and how the code lists them.
 pub mod Templates
 pub mod Claims
-pub mod Listing
+pub mod Held

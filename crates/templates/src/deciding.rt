@@ -24,7 +24,7 @@ ghost use Rattle.classes.specs.Held.{ActionOf};
 ghost use Rattle.verdict.specs.Judged.{decided};
 ghost use Rattle.verdict.specs.Claims.{wellFormed};
 ghost use Rattle.verdict.specs.Summaries.{summaryOf};
-ghost use Rattle.templates.specs.Listing.{OnlyRelation, mentionedAt};
+ghost use Rattle.templates.specs.Held.{OnlyRelation, mentionedAt};
 
 // Whether a literal of these rows has the relation.
 fn mentions(rows: &[u8], n: usize, relation: u8) -> bool

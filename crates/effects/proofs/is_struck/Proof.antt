@@ -7,7 +7,7 @@ use lib.ListN.{getD, take, drop}
 use borrow.Author.Needs.{needs}
 use Rattle.literals.specs.Table.{rowsIn}
 use Rattle.literals.proofs.Rows.{part-at}
-use Rattle.store.specs.Rows.{hasRow}
+use Rattle.store.specs.Held.{hasRow}
 use Rattle.effects.proofs.IndexedRows.{unmarked}
 use Rattle.effects.proofs.is_struck.Statement.{statement}
 use Rattle.effects.proofs.is_struck.Tie as tie

@@ -7,7 +7,7 @@ use lib.ListN.{take, drop}
 use borrow.Author.Needs.{needs}
 use Rattle.literals.specs.Table.{rowsIn}
 use Rattle.literals.proofs.KeyRows.{length-rows}
-use Rattle.store.specs.Rows.{hasRow}
+use Rattle.store.specs.Held.{hasRow}
 use Rattle.effects.proofs.KeptRuns.{others-more, all-gone}
 use Rattle.effects.proofs.struck_from.Statement.{statement}
 use Rattle.effects.proofs.struck_from.Tie as tie

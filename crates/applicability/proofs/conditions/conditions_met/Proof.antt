@@ -8,10 +8,10 @@ use lib.ListN.{drop}
 use Rattle.records.specs.Lists.{all}
 use Rattle.records.proofs.Lists.{all-hit, all-miss, all-end}
 use Rattle.literals.specs.Table.{rowsIn}
-use Rattle.store.specs.Index.{Indexed}
+use Rattle.store.specs.Held.{Indexed}
 use Rattle.events.specs.Grounding.{groundIn, EachSized}
 use Rattle.events.proofs.GroundLiterals.{noLiteral, length-ground, ground-in, ground-test}
-use Rattle.applicability.specs.Conditions.{conditionMet}
+use Rattle.applicability.specs.Held.{conditionMet}
 use Rattle.applicability.proofs.conditions.conditions_met.Statement.{statement}
 use Rattle.applicability.proofs.conditions.conditions_met.Tie as tie
 

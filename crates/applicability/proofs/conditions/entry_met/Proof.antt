@@ -6,11 +6,11 @@ use native.Mathlib.Omega.{arith}
 use borrow.Author.Needs.{needs}
 use Rattle.records.specs.Lists.{all}
 use Rattle.literals.specs.declared.Time.the-variants.{OverAll}
-use Rattle.store.specs.Index.{Indexed}
+use Rattle.store.specs.Held.{Indexed}
 use Rattle.events.specs.Grounding.{GroundLiteral, EachSized}
 use Rattle.events.proofs.GroundRows.{part-ground}
 use Rattle.events.proofs.GroundLiterals.{ground-sized}
-use Rattle.applicability.specs.Conditions.{conditionMet}
+use Rattle.applicability.specs.Held.{conditionMet}
 use Rattle.applicability.proofs.Asked.{entry-asks}
 use Rattle.applicability.proofs.conditions.entry_met.Statement.{statement}
 use Rattle.applicability.proofs.conditions.entry_met.Tie as tie

@@ -2,7 +2,7 @@
 use mathlib.Core.Path.{sym, subst, _∙_}
 use borrow.Author.Needs.{needs}
 use Rattle.literals.specs.Table.{rowsIn}
-use Rattle.store.specs.Index.{Indexed}
+use Rattle.store.specs.Held.{Indexed}
 use Rattle.events.proofs.GroundLiterals.{step-sized}
 use Rattle.applicability.proofs.Asked.{step-asks}
 use Rattle.applicability.proofs.conditions.events_met.Statement.{statement}

@@ -7,7 +7,7 @@ use Rattle.records.specs.Lists.{any}
 use Rattle.records.proofs.Lists.{any-hit, any-miss, any-end}
 use Rattle.events.specs.Grounding.{groundIn}
 use Rattle.events.proofs.GroundLiterals.{noLiteral, length-ground, ground-test}
-use Rattle.applicability.specs.Interference.{clashesWith}
+use Rattle.applicability.specs.Held.{clashesWith}
 use Rattle.applicability.proofs.interference.clashes_from.Statement.{statement}
 use Rattle.applicability.proofs.interference.clashes_from.Tie as tie
 

@@ -9,7 +9,7 @@ use Rattle.records.specs.Lists.{any}
 use Rattle.records.proofs.Lists.{any-hit, any-miss, any-end}
 use Rattle.events.specs.Grounding.{GroundLiteral, usagesAt, groundIn}
 use Rattle.events.proofs.GroundLiterals.{noLiteral, length-ground, ground-test}
-use Rattle.applicability.specs.Interference.{clashesWith, clashes, literalsClash}
+use Rattle.applicability.specs.Held.{clashesWith, clashes, literalsClash}
 use Rattle.applicability.proofs.interference.literals_clash.Statement.{statement}
 use Rattle.applicability.proofs.interference.literals_clash.Tie as tie
 

@@ -5,7 +5,7 @@ use mathlib.Core.List.{List, map}
 use Prim.Native.Nat.{ℕ}
 use native.Mathlib.Omega.{arith}
 use lib.ListN.{length}
-use Rattle.store.specs.Rows.{factRow}
+use Rattle.store.specs.Held.{factRow}
 use borrow.Rule.Slice.PartMut.{putMid, same-len-mid}
 use Rattle.events.specs.Held.{agendaBytes}
 use Rattle.events.specs.Grounding.{groundedBytes, Grounded}

@@ -1,7 +1,7 @@
 -- `Player::begin` meets its contract: all but the tally stays. Assumes nothing.
 use borrow.Author.Needs.{needs}
 use mathlib.Core.Path.{refl}
-use Rattle.player.specs.Player.{wholeIn}
+use Rattle.player.specs.Held.{wholeIn}
 use Rattle.player.proofs.PlayTurns.{begun-player}
 use Rattle.player.proofs.Player.begin.Statement.{statement}
 use Rattle.player.proofs.Player.begin.Tie as tie

@@ -5,7 +5,7 @@ use native.Mathlib.Omega.{arith}
 use Rattle.effects.proofs.FilledRows.{literals-length}
 use Rattle.machine.specs.Held.{StateRows}
 use Rattle.machine.proofs.Resting.{kept-none}
-use Rattle.player.specs.Player.{wholeIn}
+use Rattle.player.specs.Held.{wholeIn}
 use Rattle.player.proofs.PlayTurns.{saved, close-stops, close-on, state-is, facts-rows, rest-closes, rest-notes}
 use Rattle.player.proofs.NotedTurns.{noted-closed}
 use Rattle.player.proofs.Player.take_rest.Statement.{statement}

@@ -3,7 +3,7 @@ use borrow.Author.Needs.{needs}
 use mathlib.Core.Path.{ap, _∙_}
 use Rattle.machine.specs.declared.State.{State}
 use Rattle.machine.specs.Held.{stateIn}
-use Rattle.player.specs.Player.{wholeIn}
+use Rattle.player.specs.Held.{wholeIn}
 use Rattle.player.proofs.PlayTurns.{saved, close-stops, close-on, state-is, weight-under}
 use Rattle.player.proofs.NotedTurns.{noted-closed}
 use Rattle.player.proofs.Player.take_step.Statement.{statement}

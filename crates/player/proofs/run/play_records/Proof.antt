@@ -8,10 +8,10 @@ use lib.ListN.{length, replicate, length-replicate}
 use Rattle.records.specs.Memory.{over}
 use Rattle.literals.specs.Domain.{Domain}
 use Rattle.literals.specs.Held.{Held}
-use Rattle.store.specs.Index.{factIndex}
+use Rattle.store.specs.Held.{factIndex}
 use Rattle.events.specs.Held.{agendaBytes}
 use Rattle.run_semantics.specs.Play.{heldBytes}
-use Rattle.player.specs.Player.{wholeIn, turnIn}
+use Rattle.player.specs.Held.{wholeIn, turnIn}
 use Rattle.player.proofs.PlayLoop.{Loop, begins, playable, loop-on, loop-falls, loop-ends}
 use Rattle.player.proofs.run.play_records.Statement.{statement}
 use Rattle.player.proofs.run.play_records.Tie as tie

@@ -1,13 +1,21 @@
--- Interference, by ground literals: two of one fact, told by its word, whose usages may not stand in two events. Assumes nothing.
-use mathlib.Core.Path.{_≡_}
-use mathlib.Core.Bool.{Bool, _&&_, not, cond}
+-- What a step asks, as the code tells it: conditions and interference, by ground literals and the rows of facts. Assumes nothing.
+use mathlib.Core.Bool.{Bool, true, not, cond, _&&_}
 use mathlib.Core.List.{List}
 use Prim.Native.Nat.{ℕ, _<_}
 use lib.Dec.{eqb, ltb, leb}
+use mathlib.Core.Path.{_≡_}
 use lib.ListN.{getD}
 use Rattle.records.specs.Lists.{any}
-use Rattle.store.specs.Index.{wordOf}
+use Rattle.store.specs.Held.{hasRow, wordOf}
 use Rattle.events.specs.Grounding.{GroundLiteral, groundAt}
+
+-- ---- conditions
+
+-- a ground literal holds where it is a condition: a true one asks for its fact, a false one for its absence, an effect for nothing
+unfoldable pub conditionMet : List (List ℕ) → GroundLiteral → Bool
+conditionMet facts l = cond (eqb (l .usage) 1) (hasRow (l .row) facts) (cond (eqb (l .usage) 2) (not (hasRow (l .row) facts)) true)
+
+-- ---- interference: two ground literals of one fact, told by its word, whose usages may not stand in two events
 
 -- two usages of one fact that two events may not have: a condition with an add or delete, an add with a delete
 unfoldable pub clashing : ℕ → ℕ → Bool
