@@ -51,7 +51,7 @@ use Rattle.events.proofs.Meeting.{Formed, chosen-meets}
 use Rattle.events.proofs.Members.{map-in}
 use Rattle.effects.specs.Held.{scratchBytes, effectsIn, literalsIn, rowsWith, flat, SizedRow, anyMeets, isStruck}
 use Rattle.effects.proofs.Joins.{dedup-map-dedup, same-append}
-use Rattle.effects.proofs.FilledRows.{Whole, section-part, rows-own, rows-split, Filled, filled-rows, filled-more, filled-own, struck-by}
+use Rattle.effects.proofs.FilledRows.{Whole, section-part, rows-own, rows-split, Filled, filled-more, filled-own, struck-by}
 
 -- ---- a ground literal in the scratch memory
 

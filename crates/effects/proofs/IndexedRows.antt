@@ -6,8 +6,8 @@ use mathlib.Core.List.{List, [], _∷_, _++_, append-nil}
 use Prim.Native.Nat.{ℕ, _+_, _-_, _*_, _≤_, _<_}
 use native.Mathlib.Omega.{arith}
 use lib.Dec.{eqb}
-use lib.ListN.{length, getD, set, take, drop, length-drop}
-use lib.Seq.{getD-set-same, getD-set-other, length-take-le, take-take, take-add, drop-at, drop-drop}
+use lib.ListN.{length, getD, set, take, drop}
+use lib.Seq.{getD-set-same, getD-set-other, drop-drop}
 use borrow.Author.Tests.{eqb-true, eqb-false}
 use Rattle.records.specs.Lists.{In, filterBy, sameList}
 use Rattle.records.specs.Memory.{over}

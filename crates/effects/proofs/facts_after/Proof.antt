@@ -1,12 +1,12 @@
 -- `facts_after` meets its contract: what is kept and then joined are the facts after the step. Assumes nothing.
-use mathlib.Core.Path.{_≡_, sym, ap, _∙_}
+use mathlib.Core.Path.{ap, _∙_}
 use mathlib.Core.List.{List}
 use Prim.Native.Nat.{ℕ, _-_, _*_}
 use native.Mathlib.Omega.{arith}
 use lib.ListN.{length, drop, length-drop}
 use borrow.Author.Needs.{needs}
 use Rattle.literals.specs.Table.{rowsIn}
-use Rattle.events.specs.Grounding.{GroundLiteral, groundIn}
+use Rattle.events.specs.Grounding.{groundIn}
 use Rattle.events.proofs.GroundLiterals.{length-ground}
 use Rattle.effects.specs.Held.{effectsIn, literalsIn, rowsWith}
 use Rattle.effects.proofs.FilledRows.{effects-length, kept-few, kept-effects}
