@@ -1,0 +1,4 @@
+-- The claims proved.
+pub mod Further
+pub mod Engine
+pub mod Written

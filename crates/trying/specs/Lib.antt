@@ -1,0 +1,3 @@
+-- The plain engine, what it writes, and what is claimed of it.
+pub mod Trying
+pub mod Claims

@@ -1,0 +1,1 @@
+// "Trying the facts themselves": definitions and proofs. There is no code here.
