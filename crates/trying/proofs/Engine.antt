@@ -76,21 +76,21 @@ module _ (D : Domain) (wf : wellFormed D ≡ true) (i : ℕ) (idx : i < length (
 
   module _ (y : List Object) where
     -- the facts that the engine adds one of
-    abbrev added : List Fact
+    abbrev pub added : List Fact
     added = instanceFacts D (plainObjects D i) y
 
-    conditions-set : In (heldFacts D i) (sets D i y)
+    pub conditions-set : In (heldFacts D i) (sets D i y)
     unfolding sets
     conditions-set = List·Memᴰ·head refl
 
-    further-set : (f : Fact) → In f added → In (heldFacts D i ++ (f ∷ [])) (sets D i y)
+    pub further-set : (f : Fact) → In f added → In (heldFacts D i ++ (f ∷ [])) (sets D i y)
     unfolding sets
     further-set f m = List·Memᴰ·tail (Memᴰ·map (λ f. heldFacts D i ++ (f ∷ [])) m)
 
-    abbrev SetCases : List Fact → Type 0
+    abbrev pub SetCases : List Fact → Type 0
     SetCases fs = (fs ≡ heldFacts D i) ⊎ ((f : Fact) × In f added × (fs ≡ heldFacts D i ++ (f ∷ [])))
 
-    sets-cases : (fs : List Fact) → In fs (sets D i y) → SetCases fs
+    pub sets-cases : (fs : List Fact) → In fs (sets D i y) → SetCases fs
     unfolding sets
     sets-cases fs (List·Memᴰ·head e) = inl e
     sets-cases fs (List·Memᴰ·tail m) =
@@ -128,7 +128,7 @@ module _ (D : Domain) (wf : wellFormed D ≡ true) (i : ℕ) (idx : i < length (
     abbrev y : List Object
     y = bindTuple (sameNumbers (action D i)) x
 
-    instance : isInstance D (plainObjects D i) y ≡ true
+    pub instance : isInstance D (plainObjects D i) y ≡ true
     instance =
         and-i (eq-eqb (length y) (keysOf (D .template)) (size D wf i idx x hx)) (among-of (plainObjects D i) y (over D wf i idx x hx))
 

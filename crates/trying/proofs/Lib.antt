@@ -2,3 +2,4 @@
 pub mod Further
 pub mod Engine
 pub mod Written
+pub mod Sets

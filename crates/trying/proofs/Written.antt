@@ -8,6 +8,7 @@ use native.Mathlib.Nat.{zero-add}
 use native.Mathlib.Omega.{arith}
 use lib.Dec.{ltb}
 use lib.ListN.{getD, length, take, drop, length-append, length-map}
+use lib.Seq.{take-at}
 use borrow.Author.Tests.{ltb-true, ltb-false}
 use Rattle.records.specs.Lists.{In, filterBy, keepIf}
 use Rattle.records.specs.Memory.{over}
@@ -135,6 +136,11 @@ tried-of-file f out D e h =
 pub tried-short : TriedShort
 unfolding triedFile triedAfter
 tried-short f out D e h = let n = count-of D (decoded-well-formed f D e) in served-short tried f out D e (omega arith)
+
+-- what is new stands in front
+take-over : (new old : List ℕ) (n : ℕ) → length new ≡ n → take n (over new old) ≡ new
+unfolding over
+take-over new old n e = take-at new (drop (length new) old) n e
 
 -- ---- of an answer: its bytes agree with the report's names
 
