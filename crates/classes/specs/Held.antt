@@ -197,7 +197,8 @@ clearsAt head rows c j = all (clearedAt head rows c j) (below (arityIn head (get
 -- the row j is one by which the class covers it
 unfoldable pub coversAt : List ℕ → List ℕ → List ℕ → List ℕ → ℕ → ℕ → ℕ → Bool
 unfolding componentRowIn excludesAt clearsAt
-coversAt head rows numbers usages class c j = excludesAt rows numbers usages class (getD (componentRowIn head c) 0 0) j && clearsAt head rows c j
+coversAt head rows numbers usages class c j =
+    excludesAt rows numbers usages class (getD (componentRowIn head c) 0 0) j && clearsAt head rows c j
 
 -- the class covers the component c of the head
 unfoldable pub coveredAt : List ℕ → List ℕ → List ℕ → List ℕ → ℕ → ℕ → Bool

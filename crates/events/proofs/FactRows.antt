@@ -1,6 +1,6 @@
 -- Rows of facts, of actions with their objects, and of an action's literals: what their bytes say of the facts. Assumes nothing.
 use mathlib.Core.Path.{_≡_, refl, sym, ap, ap₂, _∙_}
-use mathlib.Core.Bool.{Bool, true, false, _&&_, not, cond}
+use mathlib.Core.Bool.{Bool, true, false, _&&_, _||_, not, cond}
 use mathlib.Core.Logic.{_⊎_, inl, inr}
 use mathlib.Core.List.{List, [], _∷_, _++_, map, flatMap, append-nil, List·Memᴰ·head, List·Memᴰ·tail, List·Memᴰ·not-nil}
 use Prim.Native.Nat.{ℕ, zero, suc, _+_, _-_, _*_, _≤_, _<_}
@@ -11,7 +11,7 @@ use lib.ListN.{length, getD, take, drop, replicate, length-append, length-map, l
 use lib.Seq.{take-at, length-take-le}
 use borrow.Author.Tests.{eqb-true, eqb-false, lt-ltb}
 use Rattle.records.specs.Lists.{In, all, any, sameList, elem, dedup}
-use Rattle.records.proofs.Lists.{bool-cases, off, clash, any-map, any-in, in-any, all-in, all-of, getD-in, allBelow, below-in, in-dedup, dedup-in}
+use Rattle.records.proofs.Lists.{and-r, bool-cases, off, clash, any-map, any-in, in-any, all-in, all-of, getD-in, allBelow, below-in, in-dedup, dedup-in}
 use Rattle.literals.specs.declared.Variable.{Variable}
 use Rattle.literals.specs.declared.Object.{Object}
 use Rattle.literals.specs.declared.Argument.{Argument}
@@ -22,7 +22,7 @@ use Rattle.literals.specs.declared.Usage.{Usage}
 use Rattle.literals.specs.declared.Usage.the-variants.{Positive, Negative, Add, Delete}
 use Rattle.literals.specs.declared.Role.{Role}
 use Rattle.literals.specs.Domain.{object, sameObject, variablesOf, Atom, Fact, sameLiteral, sameFact, usageNumber, roleNumber, roleOf}
-use Rattle.literals.specs.Domain.{Literal, Action, Domain, arity, noAction, action}
+use Rattle.literals.specs.Domain.{sameTime, sameUsage, mayClear, Literal, Action, Domain, arity, noAction, action}
 use Rattle.literals.specs.Table.{argumentNumber, literalRow, rowsIn, Bounded}
 use Rattle.literals.proofs.Equality.{literal-eq}
 use Rattle.literals.proofs.Tables.{Kept, kept, length-literal-row, rows-flat, pad-at}
@@ -183,6 +183,15 @@ pub usage-counts : {D : Domain} (t : Time) (c : Usage) (l : Literal) → Kept D 
 usage-counts t c l k =
     let h = k .small in
     agree-same _ _ (below-in 10 (agrees t c) (all-agree t c) (roleNumber (l .role)) (omega arith)) ∙ ap (countsFor t c) (k .back)
+
+-- where a usage may not have FF, no literal that counts with it may
+pub counts-plain : (t : Time) (c : Usage) (r : Role) → countsFor t c r ≡ true → mayClear c ≡ false → mayClear (r .usage) ≡ false
+counts-plain t c r h k = ap (λ (n : ℕ). eqb n 1 || eqb n 3) (sym (eqb-true (usageNumber c) (usageNumber (r .usage)) (go t h))) ∙ k
+  where
+    go : (t : Time) → countsFor t c r ≡ true → sameUsage c (r .usage) ≡ true
+    go AtStart h = and-r (sameTime AtStart (r .time)) _ h
+    go OverAll h = and-r (sameTime OverAll (r .time)) _ h
+    go AtEnd h = and-r (sameTime AtEnd (r .time)) _ h
 
 -- ---- what counts once
 

@@ -31,6 +31,7 @@ use Rattle.events.specs.Grounding.{GroundLiteral, groundLiterals, eventL
 use Rattle.events.specs.Grounding.{groundedBytes, groundAt, groundIn, inOne, Laid, Grounded, EachSized}
 use Rattle.events.proofs.FactRows.{listed-in, held-bound, held-rows, noEvent}
 use Rattle.events.proofs.Members.{map-in}
+use Rattle.events.proofs.Meeting.{Formed, formed-pattern}
 
 -- ---- a part of a memory, when a byte or a row is written beside it
 
@@ -335,6 +336,43 @@ module _ {D : Domain} {head table : List ℕ} (H : Held D head table) where
       (ap (λ (x : List ℕ). rowLiterals t head x (rowsIn (r .to - r .from) part)) f
       ∙ ap (rowLiterals t head (groundRow g)) (held-rows H (g .action) (F .listed) r S)
       ∙ row-ground t head g (action D (g .action) .lits) (held-bound H g F))
+
+-- ---- each is a literal of its action, so bound
+
+pub record GroundOf (D : Domain) (g : GroundAction) (x : GroundLiteral) : Type 0 where
+  pub literal : Literal
+  pub listed : In literal (action D (g .action) .lits)
+  pub row-is : x .row ≡ patternRow (g .binding) (literal .atom)
+
+pub ground-of : (D : Domain) (t : Time) (g : GroundAction) (x : GroundLiteral) → In x (groundLiterals D t g) → GroundOf D g x
+unfolding groundLiterals
+ground-of D t g x m =
+    let r = map-in _ _ m in
+    record {
+      literal = r .0;
+      listed = filter-in _ (action D (g .action) .lits) (r .1) .0;
+      row-is = ap (λ (x : GroundLiteral). x .row) (r .2);
+    }
+
+pub formed-of : {D : Domain} {head : List ℕ} → HeadOf D head → (g : GroundAction) → GroundFits D g → {x : GroundLiteral} → GroundOf D g x
+    → Formed head (x .row)
+formed-of {D} {head} H g F r =
+    subst (Formed head) (sym (r .row-is))
+    (formed-pattern head (g .binding) (r .literal .atom)
+    (H .bounded .literalArity (action D (g .action)) (listed-in D (g .action) (F .listed)) (r .literal) (r .listed)
+    ∙ sym (H .arities (r .literal .atom .rel))))
+
+-- of an event of the step
+pub step-of : {D : Domain} {head : List ℕ} {es : List Event} {memory : List ℕ} {total : ℕ} → Grounded D head es memory total
+    → (x : GroundLiteral) → In x (groundIn total memory) → (e : Event) × In e es × GroundOf D (e .ground) x
+step-of {D} G x m =
+    let p = flatMap-in (λ (part : List GroundLiteral). part) _ (subst (In x) (G .laid .filled) m) in
+    let e = map-in _ _ (p .1) in
+    (e .0, e .1, ground-of D _ (e .0 .ground) x (subst (In x) (e .2) (p .2)))
+
+pub step-formed : {D : Domain} {head : List ℕ} {es : List Event} {memory : List ℕ} {total : ℕ} → Grounded D head es memory total
+    → (x : GroundLiteral) → In x (groundIn total memory) → Formed head (x .row)
+step-formed G x m = let r = step-of G x m in formed-of (G .says) (r .0 .ground) (G .fit (r .0) (r .1)) (r .2)
 
 -- ---- each row has the arity of its relation
 

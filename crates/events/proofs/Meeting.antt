@@ -2,28 +2,29 @@
 -- is a pattern, byte by byte. Assumes nothing.
 use mathlib.Core.Path.{_≡_, refl, sym, ap, ap₂, _∙_}
 use mathlib.Core.Bool.{Bool, true, false, _&&_, _||_}
-use mathlib.Core.List.{List, [], _∷_, _++_, map}
-use Prim.Native.Nat.{ℕ, suc, _+_, _-_, _≤_, _<_}
+use mathlib.Core.List.{List, [], _∷_, _++_, map, List·Memᴰ·head, List·Memᴰ·tail}
+use Prim.Native.Nat.{ℕ, zero, suc, _+_, _-_, _≤_, _<_}
 use native.Mathlib.Numerals.{add-one}
 use native.Mathlib.Omega.{arith}
 use lib.Dec.{eqb}
 use lib.ListN.{length, getD, take, drop, replicate, length-map, drop-of-length-le}
 use lib.Seq.{take-at, drop-cons}
 use borrow.Author.Tests.{eqb-true, eq-eqb, ne-eqb}
-use Rattle.records.specs.Lists.{any, sameList}
+use Rattle.records.specs.Lists.{In, any, sameList}
 use Rattle.records.proofs.Lists.{and-i, clash, or-l, or-out, sameList-self}
 use Rattle.literals.specs.declared.Object.{Object}
 use Rattle.literals.specs.declared.Argument.{Argument}
-use Rattle.literals.specs.Domain.{Atom, Fact}
+use Rattle.literals.specs.Domain.{Atom, Fact, Domain}
 use Rattle.literals.specs.Decode.{byte}
 use Rattle.literals.specs.Table.{meetByte}
-use Rattle.literals.specs.Held.{arityIn}
+use Rattle.literals.specs.Held.{arityIn, HeadOf}
 use Rattle.literals.proofs.Rows.{length-part, part-at}
 use Rattle.verdict.specs.Binding.{Binding}
 use Rattle.verdict.specs.Judged.{objectNumbers}
+use Rattle.verdict.specs.Machine.{GroundAction}
 use Rattle.verdict.specs.Patterns.{argumentByte, patternRow, patternsMeet}
 use Rattle.store.specs.Rows.{factRow}
-use Rattle.events.specs.Held.{isPattern}
+use Rattle.events.specs.Held.{Chosen, isPattern}
 
 -- ---- rows without FF among their arguments
 
@@ -124,6 +125,28 @@ meet-same head p q P Q f g =
         ∙ ap (sameList eqb xs) (sym fill)
         ∙ sym (ap (λ (b : Bool). b && sameList eqb xs ys) (eq-eqb (length (P .bytes)) (length (Q .bytes)) n))
 
+-- the row of a fact whose objects are below FF is none
+pub fact-plain : (f : Fact) → ((o : Object) → In o (f .args) → o .0 < 255) → isPattern (factRow f) ≡ false
+unfolding isPattern
+fact-plain f low =
+    ap (any (eqb 255))
+    (take-at (objectNumbers (f .args)) (replicate (6 - length (f .args)) 255) (length (f .args)) (length-map (f .args) (λ (o : Object). o .0)))
+    ∙ none (f .args) low
+  where
+    none : (os : List Object) → ((o : Object) → In o os → o .0 < 255) → any (eqb 255) (objectNumbers os) ≡ false
+    none [] h = refl
+    none (o ∷ os) h =
+        let l = h o (List·Memᴰ·head refl) in
+        ap₂ _||_ (ne-eqb 255 (o .0) (λ e. omega arith)) (none os (λ q m. h q (List·Memᴰ·tail m)))
+
+-- so a row that is no pattern meets a fact over the chosen objects only where it is the fact's
+pub chosen-meets : {D : Domain} {head : List ℕ} → HeadOf D head → {objs : List Object} {fs : List Fact} {gs : List GroundAction}
+    → Chosen D objs fs gs → {p : List ℕ} → Formed head p → isPattern p ≡ false → (f : Fact) → In f fs
+    → patternsMeet p (factRow f) ≡ sameList eqb p (factRow f)
+chosen-meets {D} {head} H C {p} P k f m =
+    meet-same head p (factRow f) P (formed-fact head f (C .facts f m .sized ∙ sym (H .arities (f .rel)))) k
+    (fact-plain f (λ o i. C .low o (C .facts f m .over o i)))
+
 -- ---- whether a row is a pattern, from the byte k on
 
 module _ (t : List ℕ) (at : ℕ) (h : at + 8 ≤ length t) (end : ℕ) (e : end ≡ 2 + getD t (at + 1) 0) where
@@ -150,7 +173,7 @@ module _ (t : List ℕ) (at : ℕ) (h : at + 8 ≤ length t) (end : ℕ) (e : en
         ∙ none (end - k)
       where
         none : (n : ℕ) → any (eqb 255) (take n []) ≡ false
-        none 0 = refl
+        none zero = refl
         none (suc n) = refl
 
     module _ (l : k < 8) (m : k < end) where

@@ -1,20 +1,20 @@
 -- Ground literals: those of an action with its objects that count at a time, and how a memory holds those of a step. Assumes nothing.
 use mathlib.Core.Path.{_≡_}
-use mathlib.Core.Bool.{Bool, false, not}
+use mathlib.Core.Bool.{Bool, not}
 use mathlib.Core.List.{List, [], _∷_, _++_, map, flatMap}
 use Prim.Native.Nat.{ℕ, zero, suc, _+_, _*_, _<_}
 use lib.Dec.{eqb}
 use lib.ListN.{length, getD, take, drop}
-use Rattle.records.specs.Lists.{In, filterBy, sameList}
+use Rattle.records.specs.Lists.{In, filterBy}
 use Rattle.literals.specs.declared.Time.{Time}
 use Rattle.literals.specs.Domain.{roleNumber, Literal, Domain, action}
 use Rattle.literals.specs.Decode.{byte, maxLiterals}
 use Rattle.literals.specs.Held.{arityIn, HeadOf}
 use Rattle.literals.specs.Keys.{usageFor}
-use Rattle.verdict.specs.Patterns.{patternRow, patternsMeet}
+use Rattle.verdict.specs.Patterns.{patternRow}
 use Rattle.verdict.specs.Machine.{GroundAction, Event}
 use Rattle.run_semantics.specs.RunFile.{maxEvents}
-use Rattle.events.specs.Held.{EventsFit, boundRow, isPattern, timeOf}
+use Rattle.events.specs.Held.{EventsFit, boundRow, timeOf}
 
 -- ---- ground literals
 
@@ -83,8 +83,3 @@ pub record Grounded (D : Domain) (head : List ℕ) (es : List Event) (memory : L
 -- each row has the arity of its relation
 abbrev pub EachSized : List ℕ → List GroundLiteral → Type 0
 EachSized head ls = (l : GroundLiteral) → In l ls → byte (l .row) 1 ≡ arityIn head (byte (l .row) 0)
-
--- rows of these and of those, none of them a pattern, meet only where they are the same
-abbrev pub MeetSame : List (List ℕ) → List (List ℕ) → Type 0
-MeetSame rows others =
-    (p q : List ℕ) → In p rows → In q others → isPattern p ≡ false → isPattern q ≡ false → patternsMeet p q ≡ sameList eqb p q

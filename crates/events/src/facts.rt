@@ -16,7 +16,8 @@ fn bound_argument(ground: &[u8], argument: u8) -> u8
     ensures { λ r. ⌜ r ≡ boundArgument (now (ground .entry)) argument ⌝ }
 {
     if argument < 16 {
-        return ground[argument as usize + 1];
+        let o = ground[argument as usize + 1];
+        return o;
     }
     255
 }

@@ -105,7 +105,7 @@ fn judge_with(
     decided
 }
 
-// Judges a file, or refuses it by 9 to 25; `table` is room for its literals, `numbers` for a number and `names` for two names a literal.
+// Judges a file, or refuses it by 9 to 27; `table` is room for its literals, `numbers` for a number and `names` for two names a literal.
 fn judge_in(
     file: &[u8],
     table: &mut [u8],

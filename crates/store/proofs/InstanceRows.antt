@@ -1,6 +1,6 @@
 -- Key tuples of facts by the bytes of their rows: the loops that find, weigh and compare them, and what they find in a domain. Assumes nothing.
 use mathlib.Core.Path.{_≡_, refl, sym, ap, ap₂, _∙_}
-use mathlib.Core.Bool.{Bool, true, false, _&&_, _||_, cond, true≢false, false≢true}
+use mathlib.Core.Bool.{Bool, true, false, _&&_, _||_, not, cond, true≢false, false≢true}
 use mathlib.Core.Logic.{_⊎_, inl, inr}
 use mathlib.Core.List.{List, [], _∷_, _++_, map, flatMap, map-append, List·Memᴰ·head, List·Memᴰ·tail}
 use Prim.Native.Nat.{ℕ, zero, suc, _+_, _-_, _*_, _≤_, _<_, max}
@@ -9,18 +9,20 @@ use lib.Dec.{eqb}
 use lib.ListN.{length, getD, take, drop, replicate, length-map}
 use lib.Seq.{take-all, drop-drop}
 use Rattle.records.specs.Lists.{In, addIf, keepIf, any, sameList}
-use Rattle.records.proofs.Lists.{and-r, eqb-same, eqb-comm, sameList-self, sameList-comm, flatMap-in}
+use Rattle.records.proofs.Lists.{and-i, or-r, and-r, eqb-same, eqb-comm, sameList-self, sameList-comm, flatMap-in}
 use Rattle.literals.specs.declared.Variable.{Variable}
 use Rattle.literals.specs.declared.Object.{Object}
 use Rattle.literals.specs.declared.Time.the-variants.{AtStart}
 use Rattle.literals.specs.declared.Usage.the-variants.{Positive}
-use Rattle.literals.specs.Domain.{variable, sameObject, Fact, Literal, Component, keysOf, Domain}
+use Rattle.literals.specs.declared.Argument.{Argument}
+use Rattle.literals.specs.declared.Argument.the-variants.{Variable as bound}
+use Rattle.literals.specs.declared.Label.{Label}
+use Rattle.literals.specs.Domain.{variable, sameObject, variablesOf, Fact, Literal, Component, isCounted, keysBound, keepsKeys, keysOf, Domain}
 use Rattle.literals.specs.Decode.{byte}
-use Rattle.literals.specs.Table.{rowOf, literalRow, componentRow, rowsIn}
+use Rattle.literals.specs.Table.{argumentNumber, rowOf, literalRow, componentRow, rowsIn}
 use Rattle.literals.specs.Held.{componentsIn, keysIn, componentRowIn, componentRowsIn, HeadOf}
 use Rattle.literals.proofs.Bytes.{keys-once}
 use Rattle.literals.proofs.Rows.{part-first, rows-more, rows-end}
-use Rattle.literals.proofs.Tables.{value}
 use Rattle.literals.proofs.Held.{keys-few}
 use Rattle.literals.proofs.Heads.{parts-length, part-row}
 use Rattle.literals.specs.Matching.{keyTuple, isOf, tuplesBy, tuplesOf, hasTuple}
@@ -215,15 +217,28 @@ top-rows keys ps memory n from = ap (topOf keys ps (rowsIn n memory)) (sym (rows
 -- ---- the key tuples of a fact of a domain, by its row
 
 -- a literal with the fact's numbers for variables: its row has the same arguments
-abbrev asVariable : Object → Variable
-asVariable o = variable (o .0)
+abbrev asArgument : Object → Argument
+asArgument o = bound (variable (o .0))
 
 abbrev asLiteral : Fact → Literal
-asLiteral f = record { role = record { time = AtStart; usage = Positive }; atom = record { rel = f .rel; args = map asVariable (f .args) } }
+asLiteral f = record { role = record { time = AtStart; usage = Positive }; atom = record { rel = f .rel; args = map asArgument (f .args) } }
 
-numbers-same : (os : List Object) → map value (map asVariable os) ≡ objectNumbers os
+numbers-same : (os : List Object) → map argumentNumber (map asArgument os) ≡ objectNumbers os
 numbers-same [] = refl
 numbers-same (o ∷ os) = ap {B = List ℕ} (λ l. o .0 ∷ l) (numbers-same os)
+
+variables-same : (os : List Object) → map (λ (v : Variable). v .0) (variablesOf (map asArgument os)) ≡ objectNumbers os
+variables-same [] = refl
+variables-same (o ∷ os) = ap {B = List ℕ} (λ l. o .0 ∷ l) (variables-same os)
+
+-- it has no FF, so that no key stands there
+no-every : (c : Component) (f : Fact) → keepsKeys c (asLiteral f .atom) ≡ true
+no-every c f = or-r (not (eqb (c .rel) (f .rel))) (go (c .labels) (f .args))
+  where
+    go : (ls : List Label) (os : List Object) → keysBound ls (map asArgument os) ≡ true
+    go [] os = refl
+    go (l ∷ ls) [] = refl
+    go (l ∷ ls) (o ∷ os) = and-i {a = isCounted l || true} (or-r (isCounted l) refl) (go ls os)
 
 -- the key tuple of objects, as a row
 abbrev pub objectsRow : List Object → List ℕ
@@ -232,8 +247,8 @@ objectsRow y = rowOf (objectNumbers y)
 module _ (n : ℕ) (f : Fact) where
   arguments-same : drop 2 (literalRow (asLiteral f)) ≡ drop 2 (factRow f)
   arguments-same =
-      let e : 8 - suc (suc (length (map value (map asVariable (f .args))))) ≡ 6 - length (f .args) =
-      let g = length-map (map asVariable (f .args)) value in let h = length-map (f .args) asVariable in omega arith in
+      let e : 8 - suc (suc (length (map argumentNumber (map asArgument (f .args))))) ≡ 6 - length (f .args) =
+      let g = length-map (map asArgument (f .args)) argumentNumber in let h = length-map (f .args) asArgument in omega arith in
       ap₂ (λ (l : List ℕ) (m : ℕ). l ++ replicate m 255) (numbers-same (f .args)) e
 
   rows-same : (ps : List (List ℕ)) → instanceRows n ps (factRow f) ≡ keyRows n ps (literalRow (asLiteral f))
@@ -242,18 +257,18 @@ module _ (n : ℕ) (f : Fact) where
   rows-same (p ∷ ps) =
       ap₂ (λ (row : List ℕ) (rest : List (List ℕ)). cond (eqb (f .rel) (byte p 0)) (rowOf (underKeys n (drop 1 p) row) ∷ []) rest) (sym arguments-same) (rows-same ps)
 
-  tuples-same : (cs : List Component) → tuplesBy n cs (asLiteral f .atom) ≡ map (map asVariable) (tuplesBy n cs f)
+  tuples-same : (cs : List Component) → tuplesBy n cs (asLiteral f .atom) ≡ map (map asArgument) (tuplesBy n cs f)
   tuples-same [] = refl
-  tuples-same (c ∷ cs) = rw (length-map (f .args) asVariable) (go (isOf c f) (tuples-same cs))
+  tuples-same (c ∷ cs) = rw (length-map (f .args) asArgument) (go (isOf c f) (tuples-same cs))
     where
-      go : (t : Bool) → tuplesBy n cs (asLiteral f .atom) ≡ map (map asVariable) (tuplesBy n cs f)
-          → keepIf t (keyTuple n (c .labels) (map asVariable (f .args))) (tuplesBy n cs (asLiteral f .atom)) ≡ map (map asVariable) (keepIf t (keyTuple n (c .labels) (f .args)) (tuplesBy n cs f))
-      go true h = ap₂ _∷_ (keyTuple-map asVariable n (c .labels) (f .args)) h
+      go : (t : Bool) → tuplesBy n cs (asLiteral f .atom) ≡ map (map asArgument) (tuplesBy n cs f)
+          → keepIf t (keyTuple n (c .labels) (map asArgument (f .args))) (tuplesBy n cs (asLiteral f .atom)) ≡ map (map asArgument) (keepIf t (keyTuple n (c .labels) (f .args)) (tuplesBy n cs f))
+      go true h = ap₂ _∷_ (keyTuple-map asArgument n (c .labels) (f .args)) h
       go false h = h
 
-rows-back : (ts : List (List Object)) → map tupleRow (map (map asVariable) ts) ≡ map objectsRow ts
+rows-back : (ts : List (List Object)) → map tupleRow (map variablesOf (map (map asArgument) ts)) ≡ map objectsRow ts
 rows-back [] = refl
-rows-back (t ∷ ts) = ap₂ _∷_ (ap rowOf (numbers-same t)) (rows-back ts)
+rows-back (t ∷ ts) = ap₂ _∷_ (ap rowOf (variables-same t)) (rows-back ts)
 
 -- ---- two key tuples have the same row where they are the same
 
@@ -299,9 +314,9 @@ module _ {D : Domain} {head : List ℕ} (h : HeadOf D head) where
   instances-are f k =
       ap₂ (λ (n : ℕ) (ps : List (List ℕ)). instanceRows n ps (factRow f)) (h .keys) (h .componentRows)
       ∙ rows-same (keysOf (D .template)) f (map componentRow (D .template))
-      ∙ tuples-rows D (keysOf (D .template)) few-keys (asLiteral f) (length-map (f .args) asVariable ∙ k .sized) (D .template)
-      (λ c m. record { arguments = h .bounded .componentArity c m; keys = keys-once _ _ (h .bounded .keysFit c m) }) (h .bounded .componentsOnce)
-      ∙ ap (map tupleRow) (tuples-same (keysOf (D .template)) f (D .template))
+      ∙ tuples-rows D (keysOf (D .template)) few-keys (asLiteral f) (length-map (f .args) asArgument ∙ k .sized) (D .template)
+      (λ c m. record { arguments = h .bounded .componentArity c m; keys = keys-once _ _ (h .bounded .keysFit c m) }) (λ c m. no-every c f) (h .bounded .componentsOnce)
+      ∙ ap (λ (ts : List (List Argument)). map tupleRow (map variablesOf ts)) (tuples-same (keysOf (D .template)) f (D .template))
       ∙ rows-back (tuplesBy (keysOf (D .template)) (D .template) f)
 
   -- one object a key

@@ -12,6 +12,7 @@ use borrow.Author.Tests.{ltb-true, ltb-false}
 use Rattle.records.specs.Lists.{keepIf, In}
 use Rattle.records.proofs.Lists.{bool-cases, getD-in, count-le, dedup-few}
 use Rattle.literals.specs.declared.Variable.{Variable}
+use Rattle.literals.specs.declared.Argument.{Argument}
 use Rattle.literals.specs.declared.Usage.{Usage}
 use Rattle.literals.specs.declared.Usage.the-variants.{Positive}
 use Rattle.literals.specs.declared.Role.{Role}
@@ -148,7 +149,7 @@ required-few a m c =
     let d = dedup-few sameLiteral (withRole (asked m c) (a .lits)) in
     let r = role-few (asked m c) (a .lits) in omega arith
 
-uncovered-few : (ps : List (Atom Variable)) (cs : List Component) → length (firstUncovered ps cs) ≤ 1
+uncovered-few : (ps : List (Atom Argument)) (cs : List Component) → length (firstUncovered ps cs) ≤ 1
 uncovered-few ps [] = omega arith
 uncovered-few ps (c ∷ cs) = go (covered ps c) (uncovered-few ps cs)
   where

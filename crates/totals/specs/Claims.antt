@@ -40,9 +40,9 @@ NumbersAddUp = (fs : List (List ℕ)) → sum (take 64 (totals fs)) ≡ length f
 abbrev pub NamesAddUp : Type 0
 NamesAddUp = (fs : List (List ℕ)) → sum (drop 64 (totals fs)) ≡ length (allRows fs)
 
--- a file's number is 0, 1, 9 to 25 or 40 to 43: "so 30 and 31 are never counted"
+-- a file's number is 0, 1, 9 to 27 or 40 to 43: "so 30 and 31 are never counted"
 abbrev pub RoomNeverCounted : Type 0
-RoomNeverCounted = (fs : List (List ℕ)) (n : ℕ) → 26 ≤ n → n < 40 → filesWith n fs ≡ 0
+RoomNeverCounted = (fs : List (List ℕ)) (n : ℕ) → 28 ≤ n → n < 40 → filesWith n fs ≡ 0
 
 -- ---- boxes joined
 
@@ -121,4 +121,5 @@ CountsFiles b number after =
 abbrev pub AddsUp : List ℕ → ℕ → List ℕ → Type 0
 AddsUp b number after =
     (fs : List (List ℕ)) → opened b ≡ files fs → number ≡ 0
-    → (sum (map (λ n. totalIn after n) (numbersFrom 0 64)) ≡ length fs) × (sum (map (λ k. totalIn after (63 + k)) (numbersFrom 1 7)) ≡ length (allRows fs))
+    → (sum (map (λ n. totalIn after n) (numbersFrom 0 64)) ≡ length fs)
+    × (sum (map (λ k. totalIn after (63 + k)) (numbersFrom 1 7)) ≡ length (allRows fs))

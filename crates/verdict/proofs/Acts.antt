@@ -82,16 +82,19 @@ asked-usage End c r h = go (or-cases (own End c r) _ h)
 pub plain-of : (l : Literal) → clearsOnce l ≡ true → mayClear (l .role .usage) ≡ false → countBy isEvery (l .atom .args) ≡ 0
 plain-of l h k = let z = leb-true (countBy isEvery (l .atom .args)) 0 (rw k at h) in omega arith
 
+pub asked-plain : (a : Action) → ((l : Literal) → In l (a .lits) → clearsOnce l ≡ true) → (m : Moment) (c : Usage) → mayClear c ≡ false
+    → (p : Atom Argument) → In p (required a m c) → countBy isEvery (p .args) ≡ 0
+asked-plain a clears m c k p h =
+    let r = required-in a m c h in
+    rw (r .3) (plain-of (r .0) (clears (r .0) (r .1)) (clear-same c (r .0 .role .usage) (asked-usage m c (r .0 .role) (r .2)) ∙ k))
+
 -- the literals of a usage that are asked, of a well-formed action
 module _ (D : Domain) (a : Action) (ok : wellFormedAction D a ≡ true) (m : Moment) (c : Usage) (p : Atom Argument) where
   pub required-below : In p (required a m c) → Below (a .vars) (variablesOf (p .args))
   required-below h = let r = required-in a m c h in rw (r .3) (literal-below D a ok (r .0) (r .1))
 
   pub required-plain : In p (required a m c) → mayClear c ≡ false → countBy isEvery (p .args) ≡ 0
-  required-plain h k =
-      let r = required-in a m c h in
-      rw (r .3) (plain-of (r .0) (literal-clears D a ok (r .0) (r .1))
-      (clear-same c (r .0 .role .usage) (asked-usage m c (r .0 .role) (r .2)) ∙ k))
+  required-plain h k = asked-plain a (literal-clears D a ok) m c k p h
 
   pub required-keys : In p (required a m c) → all (λ k. keepsKeys k p) (D .template) ≡ true
   required-keys h = let r = required-in a m c h in rw (r .3) (literal-keys D a ok (r .0) (r .1))

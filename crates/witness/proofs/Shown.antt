@@ -10,18 +10,20 @@ use lib.Seq.{take-at, take-all, length-take-le, paste}
 use borrow.Author.Tests.{ltb-true, le-leb, lt-leb, eq-eqb, ne-eqb}
 use Rattle.records.specs.Lists.{In, keepIf, filterBy, countBy, all}
 use Rattle.records.specs.Memory.{over}
-use Rattle.records.proofs.Lists.{and-l, and-r, getD-in}
+use Rattle.records.proofs.Lists.{and-l, and-r, getD-in, all-of}
 use Rattle.records.proofs.Memory.{over-paste}
 use Rattle.literals.specs.declared.Variable.{Variable}
+use Rattle.literals.specs.declared.Argument.{Argument}
 use Rattle.literals.specs.declared.Object.{Object}
 use Rattle.literals.specs.declared.Label.{Label}
 use Rattle.literals.specs.declared.Label.the-variants.{Key as keyed, Counted}
 use Rattle.literals.specs.declared.Usage.the-variants.{Positive, Add, Delete}
-use Rattle.literals.specs.Domain.{object, Atom, Fact, Literal, Action, Component, keyBelow, keysOf, Domain, action}
+use Rattle.literals.specs.Domain.{object, isEvery, variablesOf, Atom, Fact, Literal, Action, Component, keyBelow, keepsKeys, keysOf, Domain, action}
 use Rattle.literals.specs.Decode.{labelOf}
-use Rattle.literals.specs.Table.{literalRow, labelNumber, componentRow, rowsIn, pad, Bounded}
+use Rattle.literals.specs.Table.{argumentNumber, literalRow, labelNumber, componentRow, rowsIn, pad, Bounded}
 use Rattle.literals.specs.declared.span.Span.{Span}
 use Rattle.literals.specs.Held.{arityIn, componentRowIn, HeadOf, Held, SpanFits}
+use Rattle.literals.proofs.Arguments.{plain-numbers}
 use Rattle.literals.proofs.Bytes.{keys-below, keys-once}
 use Rattle.literals.proofs.Rows.{length-row, row-inside}
 use Rattle.literals.proofs.Tables.{rows-flat, length-literals, length-literal-row}
@@ -45,7 +47,7 @@ use Rattle.verdict.specs.Judged.{objectNumbers, factBytes}
 use Rattle.verdict.specs.Held.{momentBy}
 use Rattle.witness.specs.Held.{fitsIn, shownIn, conditionFacts, RefusedAt, ShownAt, firstUsages, selectBy, isCondition, conditionOf, conditionsOf, objectAt, objectByte, instanceBytes, instanceOf}
 use Rattle.verdict.proofs.Tuples.{Below, tuple-below}
-use Rattle.verdict.proofs.Acts.{class-in}
+use Rattle.verdict.proofs.Acts.{class-in, asked-plain}
 use Rattle.verdict.proofs.Instances.{class-keys}
 use Rattle.witness.proofs.Facts.{length-select, length-conditions, length-instance-at}
 
@@ -79,35 +81,47 @@ value-numbers a (v ∷ vs) h = ap₂ _∷_ (value-number a v (h v (List·Memᴰ�
 -- ---- a true condition's fact
 
 module _ (a : Action) (head : List ℕ) where
-  condition-fact : (l : Literal) (fs : List Fact) → arityIn head (l .atom .rel) ≡ length (l .atom .args) → Below (a .vars) (l .atom .args)
+  -- it has no FF
+  condition-fact : (l : Literal) (fs : List Fact) → arityIn head (l .atom .rel) ≡ length (l .atom .args) → countBy isEvery (l .atom .args) ≡ 0
+      → Below (a .vars) (variablesOf (l .atom .args))
       → conditionOf head (literalRow l) ++ factBytes fs ≡ factBytes (bind (sameNumbers a) (l .atom) ∷ fs)
   unfolding factBytes
-  condition-fact l fs e h =
-      let vs : List ℕ = map (λ (v : Variable). v .0) (l .atom .args) in
-      let m = length-map (l .atom .args) (λ (v : Variable). v .0) in
-      let n = length-map (l .atom .args) (valueOf (sameNumbers a)) in
-      let z : 8 - suc (suc (length vs)) ≡ 6 - length (map (valueOf (sameNumbers a)) (l .atom .args)) = omega arith in
-      ap₂ (λ (k : ℕ) (r : List ℕ). l .atom .rel ∷ k ∷ r) (e ∙ sym n)
-      (append-assoc vs (replicate (8 - suc (suc (length vs))) 255) (factBytes fs)
-      ∙ ap₂ (λ (x : List ℕ) (k : ℕ). x ++ (replicate k 255 ++ factBytes fs)) (sym (value-numbers a (l .atom .args) h)) z)
+  condition-fact l fs e p h =
+      let us : List Variable = variablesOf (l .atom .args) in
+      let ns : List ℕ = map argumentNumber (l .atom .args) in
+      let q : ns ≡ map (λ (v : Variable). v .0) us = plain-numbers (l .atom .args) p in
+      let m = length-map (l .atom .args) argumentNumber in
+      let k = ap length q ∙ length-map us (λ (v : Variable). v .0) in
+      let n = length-map us (valueOf (sameNumbers a)) in
+      let i : arityIn head (l .atom .rel) ≡ length (map (valueOf (sameNumbers a)) us) = omega arith in
+      let z : 8 - suc (suc (length ns)) ≡ 6 - length (map (valueOf (sameNumbers a)) us) = omega arith in
+      ap₂ (λ (k : ℕ) (r : List ℕ). l .atom .rel ∷ k ∷ r) i
+      (append-assoc ns (replicate (8 - suc (suc (length ns))) 255) (factBytes fs)
+      ∙ ap₂ (λ (x : List ℕ) (k : ℕ). x ++ (replicate k 255 ++ factBytes fs)) (q ∙ sym (value-numbers a us h)) z)
 
   conditions-facts : (ks : List ℕ) (ls : List Literal)
-      → ((l : Literal) → In l ls → (arityIn head (l .atom .rel) ≡ length (l .atom .args)) × Below (a .vars) (l .atom .args))
+      → ((l : Literal) → In l ls → (arityIn head (l .atom .rel) ≡ length (l .atom .args)) × Below (a .vars) (variablesOf (l .atom .args)))
+      → ((p : Atom Argument) → In p (selectBy isCondition ks (map (λ (l : Literal). l .atom) ls)) → countBy isEvery (p .args) ≡ 0)
       → conditionsOf head ks (map literalRow ls) ≡ factBytes (map (bind (sameNumbers a)) (selectBy isCondition ks (map (λ (l : Literal). l .atom) ls)))
   unfolding conditionsOf flatMap factBytes
-  conditions-facts [] ls h = refl
-  conditions-facts (k ∷ ks) [] h = refl
-  conditions-facts (k ∷ ks) (l ∷ ls) h = go (isCondition k) (conditions-facts ks ls (λ j m. h j (List·Memᴰ·tail m)))
+  conditions-facts [] ls h g = refl
+  conditions-facts (k ∷ ks) [] h g = refl
+  conditions-facts (k ∷ ks) (l ∷ ls) h g = go (isCondition k) g (conditions-facts ks ls (λ j m. h j (List·Memᴰ·tail m)))
     where
-      rest : List (Atom Variable)
+      rest : List (Atom Argument)
       rest = selectBy isCondition ks (map (λ (l : Literal). l .atom) ls)
 
-      go : (b : Bool) → flatMap (conditionOf head) (selectBy isCondition ks (map literalRow ls)) ≡ factBytes (map (bind (sameNumbers a)) rest)
+      Plain : List (Atom Argument) → Type 0
+      Plain ps = (p : Atom Argument) → In p ps → countBy isEvery (p .args) ≡ 0
+
+      go : (b : Bool) → Plain (keepIf b (l .atom) rest)
+          → (Plain rest → flatMap (conditionOf head) (selectBy isCondition ks (map literalRow ls)) ≡ factBytes (map (bind (sameNumbers a)) rest))
           → flatMap (conditionOf head) (keepIf b (literalRow l) (selectBy isCondition ks (map literalRow ls))) ≡ factBytes (map (bind (sameNumbers a)) (keepIf b (l .atom) rest))
-      go true e =
+      go true f e =
           let q = h l (List·Memᴰ·head refl) in
-          ap (λ (r : List ℕ). conditionOf head (literalRow l) ++ r) e ∙ condition-fact l (map (bind (sameNumbers a)) rest) (q .0) (q .1)
-      go false e = e
+          ap (λ (r : List ℕ). conditionOf head (literalRow l) ++ r) (e (λ p m. f p (List·Memᴰ·tail m)))
+          ∙ condition-fact l (map (bind (sameNumbers a)) rest) (q .0) (f (l .atom) (List·Memᴰ·head refl)) (q .1)
+      go false f e = e f
 
 -- ---- an instance fact
 
@@ -151,7 +165,7 @@ module _ (a : Action) where
 abbrev pub noComponent : Component
 noComponent = record { rel = 0; labels = [] }
 
-first-at : (ps : List (Atom Variable)) (cs : List Component) → all (covered ps) cs ≡ false
+first-at : (ps : List (Atom Argument)) (cs : List Component) → all (covered ps) cs ≡ false
     → (firstUncovered ps cs ≡ getD cs (position (λ c. not (covered ps c)) cs) noComponent ∷ []) × (position (λ c. not (covered ps c)) cs < length cs)
 first-at ps [] h = absurd (true≢false h)
 first-at ps (c ∷ cs) h = go (covered ps c) h (λ k. first-at ps cs k)
@@ -287,7 +301,8 @@ module _ {D : Domain} {a : Action} {head : List ℕ} {m : Moment} {rows usages :
   conditions-are =
       ap₂ (conditionsOf head) usages-taken rows-taken
       ∙ conditions-facts a head (askedAt a m) (a .lits) (λ l k. (H .arities (l .atom .rel) ∙ sym (B .literalArity a (G .action .listed) l k), B .below a (G .action .listed) l k))
-      ∙ ap (λ (ps : List (Atom Variable)). factBytes (map (bind (sameNumbers a)) ps)) (G .selected)
+      (λ p k. asked-plain a (B .clears a (G .action .listed)) m Positive refl p (rw (G .selected) at k))
+      ∙ ap (λ (ps : List (Atom Argument)). factBytes (map (bind (sameNumbers a)) ps)) (G .selected)
 
   -- how many they are
   pub conditions-count : countBy isCondition (firstUsages n usages) ≡ length (conditionFacts a m)
@@ -309,7 +324,9 @@ module _ {D : Domain} {a : Action} {head : List ℕ} {m : Moment} {rows usages :
   keys-few = keys-most (D .template) (B .labels)
 
   tuple-length : (x : List Variable) → In x (classes D a) → length x ≡ keysOf (D .template)
-  tuple-length = class-keys D a (λ c k. keys-once _ _ (B .keysFit c k))
+  tuple-length =
+      class-keys D a (λ c k. keys-once _ _ (B .keysFit c k))
+      (λ l k. all-of (λ c. keepsKeys c (l .atom)) (D .template) (λ c j. B .keysKept a (G .action .listed) l k c j))
 
   module _ (j : ℕ) (h : j < length (classes D a)) where
     class-listed : In (getD (classes D a) j []) (classes D a)
