@@ -36,7 +36,7 @@ fn weight_at(head: &Head, memory: &[u8], at: usize, row: [u8; 8]) -> usize
 }
 
 // The weight of the instance with this key tuple among the first n facts.
-fn weigh(head: &Head, memory: &[u8], n: usize, row: [u8; 8]) -> usize
+pub fn weigh(head: &Head, memory: &[u8], n: usize, row: [u8; 8]) -> usize
     requires { ⌜ (8 * n ≤ length (now memory)) ⌝ }
     ensures { λ r. ⌜ r ≡ rowWeight (keysIn (now (head .entry))) (componentRowsIn (now (head .entry)))
         (rowsIn n (now (memory .entry))) row ⌝ }

@@ -10,7 +10,7 @@ use native.Mathlib.Omega.{arith}
 use lib.Dec.{eqb, leb}
 use lib.ListN.{length}
 use borrow.Author.Tests.{leb-true, leb-false, le-leb, eq-eqb, eqb-true}
-use Rattle.records.specs.Lists.{In, all, any, elem, distinct, dedup}
+use Rattle.records.specs.Lists.{In, any, elem, distinct, dedup}
 use Rattle.records.proofs.Lists.{and-l, and-r, and-i, or-l, or-r, or-cases, bool-cases, off, not-true, clash, all-of, any-in, in-any}
 use Rattle.records.proofs.Lists.{in-dedup, dedup-in, distinct-dedup, count-some, count-none, count-pos, count-single, single-count}
 use Rattle.literals.specs.declared.Variable.{Variable}
