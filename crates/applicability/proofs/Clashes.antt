@@ -1,4 +1,4 @@
--- Ground literals that clash: one against another by its word, and those of an event against those behind them. Assumes nothing.
+-- Ground literals that clash: one against another by their words, and those of an event against those behind them. Assumes nothing.
 use mathlib.Core.Path.{_≡_, refl, sym, ap, ap₂, _∙_}
 use mathlib.Core.Bool.{Bool, true, false, not, _&&_, _||_}
 use mathlib.Core.List.{List, [], _∷_, _++_, flatMap}
@@ -8,14 +8,15 @@ use native.Mathlib.Omega.{arith}
 use lib.Dec.{eqb}
 use lib.ListN.{length, getD, set, take, drop, length-append, take-append-drop}
 use lib.Seq.{take-suc, take-at, drop-at, getD-set-same, getD-set-other}
-use borrow.Author.Tests.{eq-eqb, ne-eqb, eqb-true, eqb-false}
+use borrow.Author.Tests.{eqb-true, eqb-false}
 use Rattle.records.specs.Lists.{all, any}
 use Rattle.records.proofs.Lists.{any-append, flatMap-append, flatMap-snoc}
 use Rattle.literals.proofs.Indices.{any-agree, any-or}
+use Rattle.verdict.specs.Patterns.{patternsMeet}
 use Rattle.store.specs.Index.{wordOf}
 use Rattle.events.specs.Grounding.{GroundLiteral, countsAt, groundAt, groundIn, inOne, Laid}
 use Rattle.events.proofs.GroundLiterals.{length-ground, take-ground}
-use Rattle.applicability.specs.Interference.{clashing, clashesWith, clashes, literalsClash, WordsOf}
+use Rattle.applicability.specs.Interference.{clashing, clashes, literalsClash, WordsOf, ToldByWords}
 
 -- ---- words
 
@@ -36,14 +37,23 @@ words-more memory words i w row f h e g j l = go (eqb j i) refl
 
 -- ---- one against another
 
-module _ (usage word : ℕ) (l : GroundLiteral) (w : ℕ) (e : w ≡ wordOf (l .row)) where
-  pub clash-same : w ≡ word → (r : Bool) → r ≡ clashing usage (l .usage) → r ≡ clashesWith usage word l
-  unfolding clashesWith
-  clash-same f r g = g ∙ sym (ap (λ (b : Bool). b && clashing usage (l .usage)) (eq-eqb (wordOf (l .row)) word (sym e ∙ f)))
+-- by their words, or where there are patterns by their rows
+module _ {patterns : Bool} {p q : List ℕ} (T : ToldByWords patterns p q) {v w : ℕ} (e : v ≡ wordOf p) (f : w ≡ wordOf q) where
+  pub words-meet : v ≡ w → true ≡ patternsMeet p q
+  words-meet g = sym (T .same (sym e ∙ g ∙ f))
 
-  pub clash-other : (w ≡ word → ⊥) → false ≡ clashesWith usage word l
-  unfolding clashesWith
-  clash-other n = sym (ap (λ (b : Bool). b && clashing usage (l .usage)) (ne-eqb (wordOf (l .row)) word (λ f. n (e ∙ f))))
+  pub words-apart : (v ≡ w → ⊥) → patterns ≡ false → false ≡ patternsMeet p q
+  words-apart n k = sym (T .other k (λ g. n (e ∙ g ∙ sym f)))
+
+-- where their rows meet, by their usages
+module _ (a b : GroundLiteral) {m : Bool} (e : m ≡ patternsMeet (a .row) (b .row)) where
+  pub clash-meet : m ≡ true → {r : Bool} → r ≡ clashing (a .usage) (b .usage) → r ≡ clashes a b
+  unfolding clashes
+  clash-meet t f = f ∙ sym (ap (λ (x : Bool). x && clashing (a .usage) (b .usage)) (sym e ∙ t))
+
+  pub clash-apart : m ≡ false → false ≡ clashes a b
+  unfolding clashes
+  clash-apart t = sym (ap (λ (x : Bool). x && clashing (a .usage) (b .usage)) (sym e ∙ t))
 
 -- ---- a part against those behind it
 

@@ -1,9 +1,10 @@
 -- Conditions, by ground literals and the rows of facts. Assumes nothing.
-use mathlib.Core.Bool.{Bool, true, _&&_, not, cond}
+use mathlib.Core.Path.{_≡_}
+use mathlib.Core.Bool.{Bool, true, false, _&&_, not, cond}
 use mathlib.Core.List.{List}
 use Prim.Native.Nat.{ℕ}
 use lib.Dec.{eqb}
-use Rattle.records.specs.Lists.{any}
+use Rattle.records.specs.Lists.{In, any, sameList}
 use Rattle.verdict.specs.Patterns.{patternsMeet}
 use Rattle.store.specs.Rows.{hasRow}
 use Rattle.events.specs.Held.{isPattern}
@@ -27,3 +28,9 @@ asksPattern l = eqb (l .usage) 2 && isPattern (l .row)
 -- a false condition that this fact's row meets
 unfoldable pub forbids : List ℕ → GroundLiteral → Bool
 forbids fact l = eqb (l .usage) 2 && patternsMeet (l .row) fact
+
+-- each row of these that is no pattern meets a fact's only where it is the same
+abbrev pub MeetSame : List GroundLiteral → List (List ℕ) → Type 0
+MeetSame ls facts =
+    (l : GroundLiteral) → In l ls → isPattern (l .row) ≡ false → (fact : List ℕ) → In fact facts
+    → patternsMeet (l .row) fact ≡ sameList eqb (l .row) fact

@@ -1,11 +1,11 @@
 -- Interference, by ground literals: two about a fact in common, whose usages may not stand in two events. Assumes nothing.
 use mathlib.Core.Path.{_≡_}
-use mathlib.Core.Bool.{Bool, false, _&&_, not, cond}
+use mathlib.Core.Bool.{Bool, true, false, _&&_, not, cond}
 use mathlib.Core.List.{List}
 use Prim.Native.Nat.{ℕ, _<_}
 use lib.Dec.{eqb, ltb, leb}
 use lib.ListN.{getD}
-use Rattle.records.specs.Lists.{any, sameList}
+use Rattle.records.specs.Lists.{any}
 use Rattle.verdict.specs.Patterns.{patternsMeet}
 use Rattle.store.specs.Index.{wordOf}
 use Rattle.events.specs.Grounding.{GroundLiteral, groundAt}
@@ -27,9 +27,11 @@ literalsClash first later = any (λ a. any (clashes a) later) first
 abbrev pub WordsOf : ℕ → List ℕ → List ℕ → Type 0
 WordsOf n memory words = (i : ℕ) → i < n → getD words i 0 ≡ wordOf (groundAt memory i .row)
 
--- two rows meet only where they are the same, unless there are patterns; any two of the first n ground literals of a memory
-abbrev pub ToldApart : Bool → List ℕ → List ℕ → Type 0
-ToldApart patterns p q = patterns ≡ false → patternsMeet p q ≡ sameList eqb p q
+-- what the words of two rows tell: where they are the same, the rows meet; where not, the rows don't, unless there are patterns
+pub record ToldByWords (patterns : Bool) (p q : List ℕ) : Type 0 where
+  pub same : wordOf p ≡ wordOf q → patternsMeet p q ≡ true
+  pub other : patterns ≡ false → (wordOf p ≡ wordOf q → ⊥) → patternsMeet p q ≡ false
 
-abbrev pub AllToldApart : Bool → ℕ → List ℕ → Type 0
-AllToldApart patterns n memory = (i j : ℕ) → i < n → j < n → ToldApart patterns (groundAt memory i .row) (groundAt memory j .row)
+-- of any two of the first n ground literals of a memory
+abbrev pub AllTold : Bool → ℕ → List ℕ → Type 0
+AllTold patterns n memory = (i j : ℕ) → i < n → j < n → ToldByWords patterns (groundAt memory i .row) (groundAt memory j .row)

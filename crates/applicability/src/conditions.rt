@@ -1,17 +1,16 @@
 // Conditions: whether the facts meet what a step asks, by its ground literals.
 use events::GROUND;
 use events::facts::is_pattern;
+use events::facts::patterns_meet;
 use events::grounding::CLAUSES;
 use events::grounding::ground_action;
 use literals::Time;
 use literals::head::Head;
 use literals::limits::MAX_RUNNING;
-use literals::row::arguments_meet;
 use store::index::FactIndex;
 use store::index::is_held;
 use store::rows::row_at;
 ghost use mathlib.Core.Path.{_≡_};
-ghost use mathlib.Core.Bool.{true, not};
 ghost use mathlib.Core.List.{List, [], _∷_, map};
 ghost use Prim.Native.Nat.{ℕ, _+_, _*_, _<_, _≤_};
 ghost use lib.ListN.{length, take, drop};
@@ -25,9 +24,9 @@ ghost use Rattle.run_semantics.specs.RunFile.{maxFacts, maxRunning};
 ghost use Rattle.verdict.specs.Machine.{GroundAction, Event, ownHold, overAllHold};
 ghost use Rattle.store.specs.Index.{Indexed};
 ghost use Rattle.store.specs.Rows.{factRow};
-ghost use Rattle.events.specs.Held.{groundBytes, openBytes, groundRow, openOf, GroundFits, GroundsFit, Chosen, isPattern};
-ghost use Rattle.events.specs.Grounding.{GroundLiteral, maxGround, groundedBytes, groundAt, groundIn, EachSized, MeetSame, Grounded};
-ghost use Rattle.applicability.specs.Conditions.{conditionMet, plainlyMet, asksPattern, forbids};
+ghost use Rattle.events.specs.Held.{groundBytes, openBytes, groundRow, openOf, GroundFits, GroundsFit, Chosen};
+ghost use Rattle.events.specs.Grounding.{maxGround, groundedBytes, groundAt, groundIn, EachSized, Grounded};
+ghost use Rattle.applicability.specs.Conditions.{conditionMet, plainlyMet, asksPattern, forbids, MeetSame};
 
 // Whether the first n rows of the work memory meet the ground literal i, by equal rows: a true condition asks for its fact, a false one for
 // its absence, an effect for nothing.
@@ -68,17 +67,27 @@ fn all_plainly_met(memory: &[u8], total: usize, index: &FactIndex, work: &[u8], 
     true
 }
 
-// Whether there is a pattern among the false conditions.
-fn asks_pattern(memory: &[u8], total: usize) -> bool
+// Whether the ground literal i is a false condition and a pattern.
+fn asks_pattern(memory: &[u8], i: usize) -> bool
+    requires memory { ⌜ length (now memory) ≡ groundedBytes ⌝ }
+    requires literal { ⌜ i < maxGround ⌝ }
+    ensures { λ r. ⌜ r ≡ asksPattern (groundAt (now (memory .entry)) i) ⌝ }
+{
+    if memory[CLAUSES + i] != 2 {
+        return false;
+    }
+    is_pattern(memory, 8 * i)
+}
+
+// Whether one of the first `total` ground literals is.
+fn any_asks_pattern(memory: &[u8], total: usize) -> bool
     requires memory { ⌜ length (now memory) ≡ groundedBytes ⌝ }
     requires total { ⌜ total ≤ maxGround ⌝ }
     ensures { λ r. ⌜ r ≡ any asksPattern (groundIn total (now (memory .entry))) ⌝ }
 {
     for i in 0..total {
-        if memory[CLAUSES + i] == 2 {
-            if is_pattern(memory, 8 * i) {
-                return true;
-            }
+        if asks_pattern(memory, i) {
+            return true;
         }
     }
     false
@@ -94,10 +103,7 @@ fn forbids(memory: &[u8], i: usize, work: &[u8], at: usize) -> bool
     if memory[CLAUSES + i] != 2 {
         return false;
     }
-    if memory[8 * i] != work[at] {
-        return false;
-    }
-    arguments_meet(memory, 8 * i, work, at)
+    patterns_meet(memory, 8 * i, work, at)
 }
 
 // Whether one of the first `total` ground literals is.
@@ -140,14 +146,13 @@ fn conditions_met(memory: &[u8], total: usize, index: &FactIndex, work: &[u8], n
     requires facts { ⌜ 8 * n ≤ length (now work) ⌝ }
     ensures { λ r. ⌜ ((head : List ℕ) → Indexed head (now (index .entry)) (rowsIn n (now (work .entry)))
         → EachSized head (groundIn total (now (memory .entry)))
-        → MeetSame (map (λ (l : GroundLiteral). l .row) (groundIn total (now (memory .entry)))) (rowsIn n (now (work .entry)))
-        → all (λ fact. not (isPattern fact)) (rowsIn n (now (work .entry))) ≡ true
+        → MeetSame (groundIn total (now (memory .entry))) (rowsIn n (now (work .entry)))
         → r ≡ all (conditionMet (rowsIn n (now (work .entry)))) (groundIn total (now (memory .entry)))) ⌝ }
 {
     if !all_plainly_met(memory, total, index, work, n) {
         return false;
     }
-    if !asks_pattern(memory, total) {
+    if !any_asks_pattern(memory, total) {
         return true;
     }
     !any_forbidden(memory, total, work, n)

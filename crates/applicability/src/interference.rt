@@ -1,10 +1,10 @@
 // Interference: whether two events of a step have literals about a fact in common that may not stand together.
-use events::facts::is_pattern;
+use events::facts::has_pattern;
+use events::facts::patterns_meet;
 use events::grounding::CLAUSES;
 use events::grounding::COUNTS;
 use events::grounding::MAX_GROUND;
 use literals::limits::MAX_EVENTS;
-use literals::row::arguments_meet;
 use records::bytes::wide;
 use store::index::word_of;
 use store::rows::row_at;
@@ -20,9 +20,9 @@ ghost use Rattle.run_semantics.specs.RunFile.{maxEvents};
 ghost use Rattle.verdict.specs.Machine.{Event, independent};
 ghost use Rattle.verdict.specs.Patterns.{patternsMeet};
 ghost use Rattle.store.specs.Index.{wordOf};
-ghost use Rattle.events.specs.Held.{Chosen, isPattern};
+ghost use Rattle.events.specs.Held.{Chosen};
 ghost use Rattle.events.specs.Grounding.{GroundLiteral, maxGround, groundedBytes, groundAt, groundIn, Laid, Grounded};
-ghost use Rattle.applicability.specs.Interference.{clashing, clashes, literalsClash, WordsOf, ToldApart, AllToldApart};
+ghost use Rattle.applicability.specs.Interference.{clashing, clashes, literalsClash, WordsOf, ToldByWords, AllTold};
 
 // Whether two usages of one fact may not stand in two events: a condition with an add or delete, an add with a delete.
 fn clashing(c: u8, d: u8) -> bool
@@ -52,20 +52,6 @@ fn put_words(words: &mut [u64], memory: &[u8], n: usize)
     }
 }
 
-// Whether there is a pattern among the first n ground literals.
-fn has_pattern(memory: &[u8], n: usize) -> bool
-    requires memory { ⌜ length (now memory) ≡ groundedBytes ⌝ }
-    requires few { ⌜ n ≤ maxGround ⌝ }
-    ensures { λ r. ⌜ r ≡ any (λ (l : GroundLiteral). isPattern (l .row)) (groundIn n (now (memory .entry))) ⌝ }
-{
-    for i in 0..n {
-        if is_pattern(memory, 8 * i) {
-            return true;
-        }
-    }
-    false
-}
-
 // Whether the rows of the ground literals i and j meet. Most are told by their words; bytes are looked at where there are patterns.
 fn literals_meet(memory: &[u8], words: &[u64], patterns: bool, i: usize, j: usize) -> bool
     requires memory { ⌜ length (now memory) ≡ groundedBytes ⌝ }
@@ -73,7 +59,7 @@ fn literals_meet(memory: &[u8], words: &[u64], patterns: bool, i: usize, j: usiz
     requires literals { ⌜ (i < maxGround) × (j < maxGround) ⌝ }
     requires worded { ⌜ (getD (now words) i 0 ≡ wordOf (groundAt (now memory) i .row))
         × (getD (now words) j 0 ≡ wordOf (groundAt (now memory) j .row)) ⌝ }
-    ensures { λ r. ⌜ (ToldApart patterns (groundAt (now (memory .entry)) i .row) (groundAt (now (memory .entry)) j .row)
+    ensures { λ r. ⌜ (ToldByWords patterns (groundAt (now (memory .entry)) i .row) (groundAt (now (memory .entry)) j .row)
         → r ≡ patternsMeet (groundAt (now (memory .entry)) i .row) (groundAt (now (memory .entry)) j .row)) ⌝ }
 {
     if words[i] == words[j] {
@@ -82,10 +68,7 @@ fn literals_meet(memory: &[u8], words: &[u64], patterns: bool, i: usize, j: usiz
     if !patterns {
         return false;
     }
-    if memory[8 * i] != memory[8 * j] {
-        return false;
-    }
-    arguments_meet(memory, 8 * i, memory, 8 * j)
+    patterns_meet(memory, 8 * i, memory, 8 * j)
 }
 
 // Whether the ground literals i and j clash.
@@ -95,7 +78,7 @@ fn clashes_at(memory: &[u8], words: &[u64], patterns: bool, i: usize, j: usize) 
     requires literals { ⌜ (i < maxGround) × (j < maxGround) ⌝ }
     requires worded { ⌜ (getD (now words) i 0 ≡ wordOf (groundAt (now memory) i .row))
         × (getD (now words) j 0 ≡ wordOf (groundAt (now memory) j .row)) ⌝ }
-    ensures { λ r. ⌜ (ToldApart patterns (groundAt (now (memory .entry)) i .row) (groundAt (now (memory .entry)) j .row)
+    ensures { λ r. ⌜ (ToldByWords patterns (groundAt (now (memory .entry)) i .row) (groundAt (now (memory .entry)) j .row)
         → r ≡ clashes (groundAt (now (memory .entry)) i) (groundAt (now (memory .entry)) j)) ⌝ }
 {
     if !literals_meet(memory, words, patterns, i, j) {
@@ -118,7 +101,7 @@ fn clashes_from(
     requires few { ⌜ to ≤ maxGround ⌝ }
     requires literal { ⌜ i < to ⌝ }
     requires worded { ⌜ WordsOf to (now memory) (now words) ⌝ }
-    ensures { λ r. ⌜ (AllToldApart patterns to (now (memory .entry))
+    ensures { λ r. ⌜ (AllTold patterns to (now (memory .entry))
         → r ≡ any (clashes (groundAt (now (memory .entry)) i)) (drop from (groundIn to (now (memory .entry))))) ⌝ }
 {
     let mut j = from;
@@ -145,7 +128,7 @@ fn literals_clash(
     requires few { ⌜ total ≤ maxGround ⌝ }
     requires order { ⌜ to ≤ total ⌝ }
     requires worded { ⌜ WordsOf total (now memory) (now words) ⌝ }
-    ensures { λ r. ⌜ (AllToldApart patterns total (now (memory .entry))
+    ensures { λ r. ⌜ (AllTold patterns total (now (memory .entry))
         → r ≡ literalsClash (drop from (groundIn to (now (memory .entry)))) (drop to (groundIn total (now (memory .entry))))) ⌝ }
 {
     let mut i = from;
@@ -166,7 +149,7 @@ fn all_apart(memory: &[u8], words: &[u64], patterns: bool, count: usize, total: 
     requires few { ⌜ total ≤ maxGround ⌝ }
     requires worded { ⌜ WordsOf total (now memory) (now words) ⌝ }
     ensures { λ r. ⌜ ((parts : List (List GroundLiteral)) → length parts ≡ count → Laid parts (now (memory .entry)) total
-        → AllToldApart patterns total (now (memory .entry)) → r ≡ pairwise (λ first later. not (literalsClash first later)) parts) ⌝ }
+        → AllTold patterns total (now (memory .entry)) → r ≡ pairwise (λ first later. not (literalsClash first later)) parts) ⌝ }
 {
     let mut from = 0;
     for i in 0..count {
@@ -199,5 +182,6 @@ pub fn independent(memory: &[u8], count: usize, total: usize) -> bool
     }
     let mut words = [0u64; MAX_GROUND];
     put_words(&mut words, memory, total);
-    all_apart(memory, &words, has_pattern(memory, total), count, total)
+    let patterns = has_pattern(memory, total);
+    all_apart(memory, &words, patterns, count, total)
 }

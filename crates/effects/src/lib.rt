@@ -1,11 +1,11 @@
 // The facts after a step: what it strikes goes out, then what it adds joins, each fact once.
-use events::facts::is_pattern;
+use events::facts::has_pattern;
+use events::facts::patterns_meet;
 use events::grounding::CLAUSES;
 use events::grounding::GROUNDED;
 use events::grounding::MAX_GROUND;
 use literals::head::Head;
 use literals::limits::MAX_FACTS;
-use literals::row::arguments_meet;
 use records::bytes::put_bytes;
 use records::bytes::wide;
 use store::index::FactIndex;
@@ -61,21 +61,6 @@ fn put_marks(marks: &mut [u8], rows: &[u8], m: usize)
     }
 }
 
-// Whether there is a pattern among the first m rows.
-fn has_pattern(rows: &[u8], m: usize) -> bool
-    requires { ⌜ 8 * m ≤ length (now rows) ⌝ }
-    ensures { λ r. ⌜ r ≡ any isPattern (rowsIn m (now (rows .entry))) ⌝ }
-{
-    let mut j = 0;
-    while j < m {
-        if is_pattern(rows, 8 * j) {
-            return true;
-        }
-        j += 1;
-    }
-    false
-}
-
 // Whether one of the first m rows meets the row at an offset of the work memory.
 fn any_meets(rows: &[u8], m: usize, work: &[u8], at: usize) -> bool
     requires rows { ⌜ 8 * m ≤ length (now rows) ⌝ }
@@ -84,10 +69,8 @@ fn any_meets(rows: &[u8], m: usize, work: &[u8], at: usize) -> bool
 {
     let mut j = 0;
     while j < m {
-        if rows[8 * j] == work[at] {
-            if arguments_meet(rows, 8 * j, work, at) {
-                return true;
-            }
+        if patterns_meet(rows, 8 * j, work, at) {
+            return true;
         }
         j += 1;
     }

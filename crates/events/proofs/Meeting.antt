@@ -16,7 +16,7 @@ use Rattle.literals.specs.declared.Object.{Object}
 use Rattle.literals.specs.declared.Argument.{Argument}
 use Rattle.literals.specs.Domain.{Atom, Fact, Domain}
 use Rattle.literals.specs.Decode.{byte}
-use Rattle.literals.specs.Table.{meetByte}
+use Rattle.literals.specs.Table.{meetByte, argumentsMeet}
 use Rattle.literals.specs.Held.{arityIn, HeadOf}
 use Rattle.literals.proofs.Rows.{length-part, part-at}
 use Rattle.verdict.specs.Binding.{Binding}
@@ -146,6 +146,23 @@ pub chosen-meets : {D : Domain} {head : List ℕ} → HeadOf D head → {objs : 
 chosen-meets {D} {head} H C {p} P k f m =
     meet-same head p (factRow f) P (formed-fact head f (C .facts f m .sized ∙ sym (H .arities (f .rel)))) k
     (fact-plain f (λ o i. C .low o (C .facts f m .over o i)))
+
+-- ---- two rows of memories, by their relations
+
+module _ (x y : List ℕ) (i j : ℕ) (h : i + 8 ≤ length x) (g : j + 8 ≤ length y) where
+  relations-at : eqb (byte (take 8 (drop i x)) 0) (byte (take 8 (drop j y)) 0) ≡ eqb (getD x i 0) (getD y j 0)
+  relations-at =
+      let a : i + 0 ≡ i = omega arith in
+      let b : j + 0 ≡ j = omega arith in
+      ap₂ eqb (part-at 8 x i h 0 (omega arith) ∙ ap (λ (k : ℕ). getD x k 0) a) (part-at 8 y j g 0 (omega arith) ∙ ap (λ (k : ℕ). getD y k 0) b)
+
+  pub patterns-meeting : {r : Bool} → getD x i 0 ≡ getD y j 0 → r ≡ argumentsMeet (take 8 (drop i x)) (take 8 (drop j y))
+      → r ≡ patternsMeet (take 8 (drop i x)) (take 8 (drop j y))
+  patterns-meeting e f =
+      f ∙ sym (ap (λ (t : Bool). t && argumentsMeet (take 8 (drop i x)) (take 8 (drop j y))) (relations-at ∙ eq-eqb _ _ e))
+
+  pub patterns-apart : (getD x i 0 ≡ getD y j 0 → ⊥) → false ≡ patternsMeet (take 8 (drop i x)) (take 8 (drop j y))
+  patterns-apart n = sym (ap (λ (t : Bool). t && argumentsMeet (take 8 (drop i x)) (take 8 (drop j y))) (relations-at ∙ ne-eqb _ _ n))
 
 -- ---- whether a row is a pattern, from the byte k on
 

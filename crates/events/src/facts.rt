@@ -3,10 +3,14 @@
 use literals::Time;
 use literals::head::Head;
 use literals::head::arity_of;
+use literals::row::arguments_meet;
 use records::bytes::wide;
 ghost use mathlib.Core.Path.{_≡_};
-ghost use Prim.Native.Nat.{_+_, _<_, _≤_};
+ghost use Prim.Native.Nat.{_+_, _*_, _<_, _≤_};
 ghost use lib.ListN.{length, getD, take, drop};
+ghost use Rattle.records.specs.Lists.{any};
+ghost use Rattle.literals.specs.Table.{rowsIn};
+ghost use Rattle.verdict.specs.Patterns.{patternsMeet};
 ghost use Rattle.run_semantics.specs.RunFile.{momentOf};
 ghost use Rattle.events.specs.Held.{boundArgument, boundBytes, boundRow, isPattern, timeOf};
 
@@ -70,6 +74,32 @@ pub fn is_pattern(rows: &[u8], at: usize) -> bool
         if rows[at + k] == 255 {
             return true;
         }
+    }
+    false
+}
+
+// Whether there is one among the first n rows.
+pub fn has_pattern(rows: &[u8], n: usize) -> bool
+    requires { ⌜ 8 * n ≤ length (now rows) ⌝ }
+    ensures { λ r. ⌜ r ≡ any isPattern (rowsIn n (now (rows .entry))) ⌝ }
+{
+    let mut i = 0;
+    while i < n {
+        if is_pattern(rows, 8 * i) {
+            return true;
+        }
+        i += 1;
+    }
+    false
+}
+
+// Whether the row at an offset, of a literal or a fact, meets the row at an offset of another memory: they are about a fact in common.
+pub fn patterns_meet(x: &[u8], i: usize, y: &[u8], j: usize) -> bool
+    requires { ⌜ (i + 8 ≤ length (now x)) × (j + 8 ≤ length (now y)) ⌝ }
+    ensures { λ r. ⌜ r ≡ patternsMeet (take 8 (drop i (now (x .entry)))) (take 8 (drop j (now (y .entry)))) ⌝ }
+{
+    if x[i] == y[j] {
+        return arguments_meet(x, i, y, j);
     }
     false
 }

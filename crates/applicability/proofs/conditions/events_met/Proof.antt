@@ -3,7 +3,9 @@ use mathlib.Core.Path.{sym, subst, _∙_}
 use borrow.Author.Needs.{needs}
 use Rattle.literals.specs.Table.{rowsIn}
 use Rattle.store.specs.Index.{Indexed}
-use Rattle.events.proofs.GroundLiterals.{step-sized}
+use Rattle.events.specs.Grounding.{groundIn}
+use Rattle.events.proofs.GroundLiterals.{step-sized, step-formed}
+use Rattle.applicability.proofs.Forbidden.{rows-same}
 use Rattle.applicability.proofs.Asked.{step-asks}
 use Rattle.applicability.proofs.conditions.events_met.Statement.{statement}
 use Rattle.applicability.proofs.conditions.events_met.Tie as tie
@@ -12,10 +14,11 @@ conditions-met-requires : tie.Need-conditions-met-requires
 conditions-met-requires c κs = search needs
 
 returns : tie.Need-returns
-returns c D head es fs G f I =
+returns c D head es fs G f I objs C =
     let a = c .before .before .before .args in
     c .conditions-met .ensures head (subst (Indexed head (a .index .now)) (sym f) I) (step-sized G)
-    ∙ step-asks G fs (rowsIn (a .n) (a .work .now)) f
+    (rows-same (G .says) C (rowsIn (a .n) (a .work .now)) f (groundIn (a .total) (a .memory .now)) (step-formed G))
+    ∙ step-asks G C (rowsIn (a .n) (a .work .now)) f
 
 pub events-met-spec : {M : Type 1} → statement M
 events-met-spec =

@@ -18,13 +18,13 @@ abbrev μ-loop : tie.MeasureT-loop
 μ-loop head table rows count memory₀ index work n i₀ memory i = count - i
 
 returns : tie.Need-returns Inv-loop μ-loop
-returns c D gs fs L o F h f I =
+returns c D gs fs L o F h f I objs C =
     let k = open-count gs _ o in
     let t = c .if1 .taken in
     absurd (omega arith)
 
 loop-holds : tie.Need-loop-holds Inv-loop μ-loop
-loop-holds c = record { reach = omega arith; sized = refl; rest = λ D gs fs L o F f I. refl }
+loop-holds c = record { reach = omega arith; sized = refl; rest = λ D gs fs L o F f I objs C. refl }
 
 entry-met-requires : tie.Need-entry-met-requires Inv-loop μ-loop
 entry-met-requires c κs =
@@ -37,11 +37,11 @@ same-length c = c .before .before .before .entry-met .kept .1 .1 .1 .1 .0 ∙ c 
     .sized
 
 returns-2 : tie.Need-returns-2 Inv-loop μ-loop
-returns-2 c D gs fs L o F h f I =
+returns-2 c D gs fs L o F h f I objs C =
     let a = c .before .before .before .before .before .before .before .before .before .before .before .before .args in
     let l = c .before .before .before .before .before .before .loop in
-    let e = entry-turn _ (a .work .now) (a .n) (l .i) (c .before .before .before .entry-met .ensures) (omega arith) D gs fs L o F f I in
-    sym (all-miss gs (l .i) noGround (e .0) (overAllHold D fs) (sym (e .1) ∙ not-true _ (c .if2 .taken))) ∙ l .inv .rest D gs fs L o F f I
+    let e = entry-turn _ (a .work .now) (a .n) (l .i) (c .before .before .before .entry-met .ensures) (omega arith) D gs fs L o F f I objs C in
+    sym (all-miss gs (l .i) noGround (e .0) (overAllHold D objs fs) (sym (e .1) ∙ not-true _ (c .if2 .taken))) ∙ l .inv .rest D gs fs L o F f I objs C
 
 add-i : tie.Need-add-i Inv-loop μ-loop
 add-i c = omega arith
@@ -57,22 +57,22 @@ loop-again c =
       reach = omega arith;
       sized = c .before .before .before .entry-met .kept .1 .1 .1 .1 .0 ∙ l .inv .sized;
       rest =
-          λ D gs fs L o F f I.
+          λ D gs fs L o F f I objs C.
           let e = entry-turn _ (a .work .now) (a .n) (l .i) (c .before .before .before .entry-met .ensures)
-          (omega arith) D gs fs L o F f I in
-          sym (all-hit gs (l .i) noGround (e .0) (overAllHold D fs) (sym (e .1) ∙ not-false _ (c .if2 .left)))
-          ∙ l .inv .rest D gs fs L o F f I;
+          (omega arith) D gs fs L o F f I objs C in
+          sym (all-hit gs (l .i) noGround (e .0) (overAllHold D objs fs) (sym (e .1) ∙ not-false _ (c .if2 .left)))
+          ∙ l .inv .rest D gs fs L o F f I objs C;
     }
 
 same-length-2 : tie.Need-same-length-2 Inv-loop μ-loop
 same-length-2 c = c .before .loop .inv .sized
 
 returns-3 : tie.Need-returns-3 Inv-loop μ-loop
-returns-3 c D gs fs L o F h f I =
+returns-3 c D gs fs L o F h f I objs C =
     let l = c .before .loop in
     let k = open-count gs _ o in
     let g = l .inv .reach in
-    sym (all-end gs (l .i) noGround (overAllHold D fs) (omega arith)) ∙ l .inv .rest D gs fs L o F f I
+    sym (all-end gs (l .i) noGround (overAllHold D objs fs) (omega arith)) ∙ l .inv .rest D gs fs L o F f I objs C
 
 pub open-met-spec : {M : Type 1} → statement M
 open-met-spec =

@@ -1,20 +1,19 @@
 -- `clashes_at` meets its contract. Assumes nothing.
 use borrow.Author.Needs.{needs}
+use borrow.Author.Tests.{not-true, not-false}
 use Rattle.events.specs.Grounding.{groundAt}
-use Rattle.applicability.proofs.Clashes.{clash-same, clash-other}
+use Rattle.applicability.proofs.Clashes.{clash-meet, clash-apart}
 use Rattle.applicability.proofs.interference.clashes_at.Statement.{statement}
 use Rattle.applicability.proofs.interference.clashes_at.Tie as tie
 
-mul-if1 : tie.Need-mul-if1
-mul-if1 c = search needs
-
-shared-slice-read-if1 : tie.Need-shared-slice-read-if1
-shared-slice-read-if1 c = search needs
+literals-meet-requires : tie.Need-literals-meet-requires
+literals-meet-requires c κs = c .before .before .pre
 
 returns : tie.Need-returns
-returns c =
+returns c T =
     let a = c .before .before .before .before .args in
-    clash-other (a .usage) (a .word) (groundAt (a .memory .now) (a .j)) _ (c .before .before .before .before .pre .1 .1 .1) (c .if1 .taken)
+    clash-apart (groundAt (a .memory .now) (a .i)) (groundAt (a .memory .now) (a .j)) (c .before .literals-meet .ensures T)
+    (not-true _ (c .if1 .taken))
 
 add-clashing : tie.Need-add-clashing
 add-clashing c = search needs
@@ -22,23 +21,30 @@ add-clashing c = search needs
 shared-slice-read-clashing : tie.Need-shared-slice-read-clashing
 shared-slice-read-clashing c = search needs
 
+add-clashing-2 : tie.Need-add-clashing-2
+add-clashing-2 c = search needs
+
+shared-slice-read-clashing-2 : tie.Need-shared-slice-read-clashing-2
+shared-slice-read-clashing-2 c = search needs
+
 clashing-requires : tie.Need-clashing-requires
 clashing-requires c κs = search needs
 
 returns-2 : tie.Need-returns-2
-returns-2 c =
-    let a = c .before .before .before .before .before .before .args in
-    clash-same (a .usage) (a .word) (groundAt (a .memory .now) (a .j)) _ (c .before .before .before .before .before .before .pre .1 .1
-    .1) (c .before .before .if1 .left) _ (c .clashing .ensures)
+returns-2 c T =
+    let a = c .before .before .before .before .before .before .before .args in
+    clash-meet (groundAt (a .memory .now) (a .i)) (groundAt (a .memory .now) (a .j)) (c .before .before .before .before .literals-meet .ensures T)
+    (not-false _ (c .before .before .before .if1 .left)) (c .clashing .ensures)
 
 pub clashes-at-spec : {M : Type 1} → statement M
 clashes-at-spec =
     tie.close
     (tie.spec
-    mul-if1
-    shared-slice-read-if1
+    literals-meet-requires
     returns
     add-clashing
     shared-slice-read-clashing
+    add-clashing-2
+    shared-slice-read-clashing-2
     clashing-requires
     returns-2)

@@ -5,15 +5,16 @@ use native.Mathlib.Omega.{arith}
 use lib.ListN.{length-map}
 use borrow.Author.Needs.{needs}
 use Rattle.events.specs.Grounding.{eventLiterals}
+use Rattle.applicability.proofs.Words.{all-told}
 use Rattle.applicability.proofs.Interferes.{few-independent, apart-independent}
 use Rattle.applicability.proofs.interference.independent.Statement.{statement}
 use Rattle.applicability.proofs.interference.independent.Tie as tie
 
 returns : tie.Need-returns
-returns c D head es G k h = let t = c .if1 .taken in absurd (omega arith)
+returns c D head es G k h objs C = let t = c .if1 .taken in absurd (omega arith)
 
 returns-2 : tie.Need-returns-2
-returns-2 c D head es G k h = let t = c .if2 .taken in few-independent D es (omega arith)
+returns-2 c D head es G k h objs C = let t = c .if2 .taken in few-independent D objs es (omega arith)
 
 slice-aggregate-put-words : tie.Need-slice-aggregate-put-words
 slice-aggregate-put-words c = search needs
@@ -21,19 +22,23 @@ slice-aggregate-put-words c = search needs
 put-words-requires : tie.Need-put-words-requires
 put-words-requires c κs = search needs
 
+has-pattern-requires : tie.Need-has-pattern-requires
+has-pattern-requires c κs = let p = c .before .before .before .before .before .before .pre in omega arith
+
 slice-aggregate-all-apart : tie.Need-slice-aggregate-all-apart
 slice-aggregate-all-apart c = search needs
 
 all-apart-requires : tie.Need-all-apart-requires
 all-apart-requires c κs =
-    let p = c .before .before .before .before .before .before .before .pre in
-    let t = c .before .before .before .before .before .if1 .left in
-    (p .0, (search needs, (omega arith, (p .1, c .before .before .put-words .ensures))))
+    let p = c .before .before .before .before .before .before .before .before .pre in
+    let t = c .before .before .before .before .before .before .if1 .left in
+    (p .0, (search needs, (omega arith, (p .1, c .before .before .before .put-words .ensures))))
 
 returns-3 : tie.Need-returns-3
-returns-3 c D head es G k h =
+returns-3 c D head es G k h objs C =
     c .all-apart .ensures (map (eventLiterals D) es) (length-map es (eventLiterals D) ∙ k) (G .laid)
-    ∙ apart-independent (G .says) es (G .fit)
+    (all-told G (c .before .before .has-pattern .result) (c .before .before .has-pattern .ensures))
+    ∙ apart-independent (G .says) objs (C .some) (C .low) es (G .fit) (C .bindings)
 
 pub independent-spec : {M : Type 1} → statement M
 independent-spec =
@@ -43,6 +48,7 @@ independent-spec =
     returns-2
     slice-aggregate-put-words
     put-words-requires
+    has-pattern-requires
     slice-aggregate-all-apart
     all-apart-requires
     returns-3)

@@ -31,8 +31,7 @@ mul-words : tie.Need-mul-words Inv-loop μ-loop
 mul-words c = omega arith
 
 slice-write-words : tie.Need-slice-write-words Inv-loop μ-loop
-slice-write-words c = let k = c .before .before .before .loop .inv .1 in let p = c .before .before .before .before .before .before
-    .pre in omega arith
+slice-write-words c = let k = c .before .before .before .loop .inv .1 in let p = c .before .before .before .before .before .before .pre in omega arith
 
 add-i : tie.Need-add-i Inv-loop μ-loop
 add-i c = omega arith
