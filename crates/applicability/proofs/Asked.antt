@@ -286,7 +286,6 @@ pub chosen-entry : {D : Domain} {objs : List Object} {fs : List Fact} {gs : List
     → (g : GroundAction) → In g gs → Chosen D objs fs (g ∷ [])
 chosen-entry {gs = gs} C g i =
     record {
-      some = C .some;
       low = C .low;
       facts = C .facts;
       bindings = λ h m. C .bindings h (subst (λ (x : GroundAction). In x gs) (sym (List·Memᴰ·eq-of-singleton m)) i);

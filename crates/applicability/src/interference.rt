@@ -13,7 +13,7 @@ ghost use mathlib.Core.Bool.{not};
 ghost use mathlib.Core.List.{List, [], map};
 ghost use Prim.Native.Nat.{ℕ, _<_, _≤_};
 ghost use lib.ListN.{length, getD, drop};
-ghost use Rattle.records.specs.Lists.{any, pairwise};
+ghost use Rattle.records.specs.Lists.{In, any, pairwise};
 ghost use Rattle.literals.specs.declared.Object.{Object};
 ghost use Rattle.literals.specs.Domain.{Domain};
 ghost use Rattle.run_semantics.specs.RunFile.{maxEvents};
@@ -171,7 +171,8 @@ pub fn independent(memory: &[u8], count: usize, total: usize) -> bool
     requires memory { ⌜ length (now memory) ≡ groundedBytes ⌝ }
     requires few { ⌜ total ≤ maxGround ⌝ }
     ensures { λ r. ⌜ ((D : Domain) (head : List ℕ) (es : List Event) → Grounded D head es (now (memory .entry)) total
-        → length es ≡ count → length es ≤ maxEvents → (objs : List Object) → Chosen D objs [] (map (λ (e : Event). e .ground) es)
+        → length es ≡ count → length es ≤ maxEvents → (objs : List Object) → (o : Object) × In o objs
+        → Chosen D objs [] (map (λ (e : Event). e .ground) es)
         → r ≡ independent D objs es) ⌝ }
 {
     if MAX_EVENTS < count {

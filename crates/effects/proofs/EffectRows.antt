@@ -3,44 +3,55 @@ use mathlib.Core.Path.{_≡_, refl, sym, ap, ap₂, _∙_, subst}
 use mathlib.Core.Bool.{Bool, true, false, not}
 use mathlib.Core.Logic.{_⊎_, inl, inr}
 use mathlib.Core.List.{List, [], _∷_, _++_, map, flatMap, map-append, append-nil, append-assoc}
-use mathlib.Core.List.{List·Memᴰ·head, List·Memᴰ·tail, List·Memᴰ·not-nil, List·Memᴰ·append-cases}
+use mathlib.Core.List.{List·Memᴰ·head, List·Memᴰ·tail, List·Memᴰ·not-nil, Memᴰ·map}
 use Prim.Native.Nat.{ℕ, zero, suc, _+_, _-_, _*_, _≤_, _<_}
 use native.Mathlib.Numerals.{add-one}
 use native.Mathlib.Omega.{arith}
 use lib.Dec.{eqb, ltb}
-use lib.ListN.{length, getD, take, drop, length-append, length-map}
+use lib.ListN.{length, getD, take, drop, length-append}
 use lib.Seq.{getD-take}
 use borrow.Author.Tests.{eqb-true, eq-eqb, ne-eqb, ltb-true, ltb-false}
-use Rattle.records.specs.Lists.{In, keepIf, filterBy, elem, dedup}
+use Rattle.records.specs.Lists.{In, any, countBy, keepIf, filterBy, sameList, elem, dedup}
 use Rattle.records.specs.Memory.{over}
-use Rattle.records.proofs.Lists.{filter-append}
+use Rattle.records.proofs.Lists.{bool-cases, filter-append, filter-in, any-map, any-out, in-dedup, eqb-comm, sameList-comm}
+use Rattle.literals.specs.declared.Object.{Object}
+use Rattle.literals.specs.declared.Argument.{Argument}
 use Rattle.literals.specs.declared.Time.{Time}
+use Rattle.literals.specs.declared.Time.the-variants.{AtStart, AtEnd}
 use Rattle.literals.specs.declared.Usage.{Usage}
+use Rattle.literals.specs.declared.Usage.the-variants.{Add, Delete}
 use Rattle.literals.specs.declared.Role.{Role}
-use Rattle.literals.specs.declared.Variable.{Variable}
-use Rattle.literals.specs.Domain.{Atom, Fact, sameLiteral, sameFact, usageNumber, roleNumber, Literal, Domain, action}
-use Rattle.literals.specs.Decode.{byte}
-use Rattle.literals.specs.Table.{rowsIn}
-use Rattle.literals.specs.Held.{arityIn, HeadOf}
-use Rattle.literals.proofs.Equality.{literal-eq, fact-eq, fact-self}
-use Rattle.literals.proofs.Rows.{length-part}
-use Rattle.literals.proofs.KeyRows.{length-rows}
 use Rattle.literals.specs.declared.Moment.{Moment}
 use Rattle.literals.specs.declared.Moment.the-variants.{Start, End}
+use Rattle.literals.specs.Domain.{isEvery, Atom, Fact, sameLiteral, sameFact, usageNumber, roleNumber, mayClear, Literal, Action, Domain}
+use Rattle.literals.specs.Domain.{action}
+use Rattle.literals.specs.Table.{rowsIn}
+use Rattle.literals.specs.Held.{HeadOf}
+use Rattle.literals.specs.Keys.{usageFor}
 use Rattle.literals.specs.Matching.{own, withRole, literalsAt}
+use Rattle.literals.proofs.Equality.{literal-eq, fact-eq, fact-self}
+use Rattle.literals.proofs.Indices.{any-agree}
+use Rattle.literals.proofs.Rows.{length-part}
+use Rattle.literals.proofs.KeyRows.{length-rows}
 use Rattle.literals.proofs.Tables.{Kept}
-use Rattle.verdict.specs.Binding.{Binding, valueOf, bind}
+use Rattle.classes.proofs.Roles.{literalsAt-in}
+use Rattle.verdict.specs.Binding.{Binding, bind}
 use Rattle.verdict.specs.Machine.{GroundAction, Event, eventFacts, stepFacts}
+use Rattle.verdict.specs.Patterns.{patternRow, patternsMeet, FactOver}
+use Rattle.verdict.proofs.Facts.{plain-flat}
+use Rattle.verdict.proofs.Patterns.{plain-row, any-flat, LiteralBound, LiteralsBound, literal-bound, literal-plain, struck-row}
 use Rattle.store.specs.Index.{Sized}
 use Rattle.store.specs.Rows.{factRow}
-use Rattle.literals.specs.Keys.{usageFor}
-use Rattle.events.specs.Held.{GroundFits, EventsFit, timeOf}
+use Rattle.events.specs.Held.{GroundFits, EventsFit, Chosen, isPattern, timeOf}
 use Rattle.events.specs.Grounding.{GroundLiteral, groundLiterals, eventLiterals, maxGround, usagesAt, groundedBytes, groundAt, groundIn}
 use Rattle.events.specs.Grounding.{inOne, Grounded}
-use Rattle.effects.specs.Held.{scratchBytes, effectsIn, literalsIn, rowsWith, flat, eventEffects, stepEffects}
-use Rattle.events.proofs.FactRows.{countsFor, usage-counts, listed-in, head-kept}
-use Rattle.effects.proofs.Joins.{dedup-map-dedup, same-append, same-elem}
-use Rattle.effects.proofs.FilledRows.{Whole, section-part, rows-own, rows-split, Filled, filled-rows, filled-more, filled-own}
+use Rattle.events.proofs.FactRows.{countsFor, usage-counts, counts-plain, any-once, listed-in, head-kept}
+use Rattle.events.proofs.GroundLiterals.{step-formed, step-sized}
+use Rattle.events.proofs.Meeting.{Formed, chosen-meets}
+use Rattle.events.proofs.Members.{map-in}
+use Rattle.effects.specs.Held.{scratchBytes, effectsIn, literalsIn, rowsWith, flat, SizedRow, anyMeets, isStruck}
+use Rattle.effects.proofs.Joins.{dedup-map-dedup, same-append}
+use Rattle.effects.proofs.FilledRows.{Whole, section-part, rows-own, rows-split, Filled, filled-rows, filled-more, filled-own, struck-by}
 
 -- ---- a ground literal in the scratch memory
 
@@ -208,54 +219,64 @@ pub record Selecting (usage at total : ℕ) (old scratch : List ℕ) (n i : ℕ)
   pub filled : Filled (rowsIn at (effectsIn old) ++ rowsWith usage (groundIn i (literalsIn old))) n (effectsIn scratch) (effectsIn old)
   pub literals : literalsIn scratch ≡ literalsIn old
 
--- ---- they are the machine's
+-- each is the row of a ground literal
+rows-of : (P : List ℕ → Type 0) (usage : ℕ) (ls : List GroundLiteral) → ((l : GroundLiteral) → In l ls → P (l .row))
+    → (row : List ℕ) → In row (rowsWith usage ls) → P row
+unfolding rowsWith
+rows-of P usage ls h row m =
+    let r = map-in (λ (l : GroundLiteral). l .row) (filterBy (λ (l : GroundLiteral). eqb (l .usage) usage) ls) m in
+    subst P (sym (r .2)) (h (r .0) (filter-in (λ (l : GroundLiteral). eqb (l .usage) usage) ls (r .1) .0))
 
--- what an event adds or strikes, by its time
-event-at : (D : Domain) (e : Event) (c : Usage) → eventEffects D e c ≡ map (bind (e .ground .binding)) (withRole (countsFor (timeOf (e .moment)) c) (action D (e .ground .action) .lits))
-unfolding eventEffects
-event-at D e c = go (e .moment)
-  where
-    go : (m : Moment) → map (bind (e .ground .binding)) (withRole (own m c) (action D (e .ground .action) .lits))
-        ≡ map (bind (e .ground .binding)) (withRole (countsFor (timeOf m) c) (action D (e .ground .action) .lits))
-    go Start = refl
-    go End = refl
+-- ---- they are those of the events' literals
+
+-- the rows of an event's literals of one usage, so bound, and those of the events of a step
+abbrev eventRows : Domain → Event → Usage → List (List ℕ)
+eventRows D e c = map (patternRow (e .ground .binding)) (withRole (own (e .moment) c) (action D (e .ground .action) .lits))
+
+abbrev effectRows : Domain → List Event → Usage → List (List ℕ)
+effectRows D es c = flatMap (λ (e : Event). eventRows D e c) es
+
+-- those that count at the time of a moment are its own
+own-at : (m : Moment) (c : Usage) (ls : List Literal) → withRole (countsFor (timeOf m) c) ls ≡ withRole (own m c) ls
+own-at Start c ls = refl
+own-at End c ls = refl
 
 -- the rows of a usage are those of the literals that count with it
-effect-facts : (t : Time) (c : Usage) (b : Binding) (ls : List Literal) → ((l : Literal) → In l ls → Kept l)
+literal-rows : {D : Domain} (t : Time) (c : Usage) (b : Binding) (ls : List Literal) → ((l : Literal) → In l ls → Kept D l)
     → rowsWith (suc (usageNumber c))
-    (map (λ (l : Literal). record { usage = usageFor t (roleNumber (l .role)); row = factRow (bind b (l .atom)) })
+    (map (λ (l : Literal). record { usage = usageFor t (roleNumber (l .role)); row = patternRow b (l .atom) })
     (filterBy (λ (l : Literal). not (eqb (usageFor t (roleNumber (l .role))) 0)) ls))
-    ≡ map factRow (map (bind b) (withRole (countsFor t c) ls))
+    ≡ map (patternRow b) (withRole (countsFor t c) ls)
 unfolding rowsWith
-effect-facts t c b [] k = refl
-effect-facts t c b (l ∷ ls) k =
+literal-rows t c b [] k = refl
+literal-rows t c b (l ∷ ls) k =
     go (eqb usage 0) refl (countsFor t c (l .role)) (usage-counts t c l (k l (List·Memᴰ·head refl)))
-    (effect-facts t c b ls (λ l m. k l (List·Memᴰ·tail m)))
+    (literal-rows t c b ls (λ l m. k l (List·Memᴰ·tail m)))
   where
     usage : ℕ
     usage = usageFor t (roleNumber (l .role))
 
     ground : Literal → GroundLiteral
-    ground l = record { usage = usageFor t (roleNumber (l .role)); row = factRow (bind b (l .atom)) }
+    ground l = record { usage = usageFor t (roleNumber (l .role)); row = patternRow b (l .atom) }
 
     rest : List GroundLiteral
     rest = map ground (filterBy (λ (l : Literal). not (eqb (usageFor t (roleNumber (l .role))) 0)) ls)
 
-    atoms : List (Atom Variable)
+    atoms : List (Atom Argument)
     atoms = withRole (countsFor t c) ls
 
-    one : (d : Bool) → rowsWith (suc (usageNumber c)) rest ≡ map factRow (map (bind b) atoms)
+    one : (d : Bool) → rowsWith (suc (usageNumber c)) rest ≡ map (patternRow b) atoms
         → map (λ (g : GroundLiteral). g .row) (keepIf d (ground l) (filterBy (λ (g : GroundLiteral). eqb (g .usage) (suc
         (usageNumber c))) rest))
-        ≡ map factRow (map (bind b) (keepIf d (l .atom) atoms))
-    one true e = ap (λ (r : List (List ℕ)). factRow (bind b (l .atom)) ∷ r) e
+        ≡ map (patternRow b) (keepIf d (l .atom) atoms)
+    one true e = ap (λ (r : List (List ℕ)). patternRow b (l .atom) ∷ r) e
     one false e = e
 
     go : (z : Bool) → eqb usage 0 ≡ z → (d : Bool) → eqb usage (suc (usageNumber c)) ≡ d
-        → rowsWith (suc (usageNumber c)) rest ≡ map factRow (map (bind b) atoms)
+        → rowsWith (suc (usageNumber c)) rest ≡ map (patternRow b) atoms
         → rowsWith (suc (usageNumber c))
         (map ground (keepIf (not z) l (filterBy (λ (l : Literal). not (eqb (usageFor t (roleNumber (l .role))) 0)) ls)))
-        ≡ map factRow (map (bind b) (keepIf d (l .atom) atoms))
+        ≡ map (patternRow b) (keepIf d (l .atom) atoms)
     go true x true y e = let p = eqb-true usage 0 x in let q = eqb-true usage (suc (usageNumber c)) y in absurd (omega arith)
     go true x false y e = e
     go false x d y e =
@@ -264,72 +285,155 @@ effect-facts t c b (l ∷ ls) k =
         ∙ one d e
 
 module _ {D : Domain} {head : List ℕ} (H : HeadOf D head) (c : Usage) where
-  event-rows : (e : Event) → GroundFits D (e .ground) → rowsWith (suc (usageNumber c)) (eventLiterals D e) ≡ map factRow
-      (eventEffects D e c)
+  event-rows : (e : Event) → GroundFits D (e .ground) → rowsWith (suc (usageNumber c)) (eventLiterals D e) ≡ eventRows D e c
   unfolding groundLiterals
   event-rows e F =
-      effect-facts (timeOf (e .moment)) c (e .ground .binding) (action D (e .ground .action) .lits) (head-kept H (e .ground .action)
+      literal-rows (timeOf (e .moment)) c (e .ground .binding) (action D (e .ground .action) .lits) (head-kept H (e .ground .action)
       (F .listed))
-      ∙ ap (map factRow) (sym (event-at D e c))
+      ∙ ap (map (patternRow (e .ground .binding))) (own-at (e .moment) c (action D (e .ground .action) .lits))
 
   step-rows : (es : List Event) → EventsFit D es
-      → rowsWith (suc (usageNumber c)) (inOne (map (eventLiterals D) es)) ≡ map factRow (stepEffects D es c)
-  unfolding stepEffects flatMap rowsWith
+      → rowsWith (suc (usageNumber c)) (inOne (map (eventLiterals D) es)) ≡ effectRows D es c
+  unfolding flatMap rowsWith
   step-rows [] F = refl
   step-rows (e ∷ es) F =
       rows-append (suc (usageNumber c)) (eventLiterals D e) (inOne (map (eventLiterals D) es))
       ∙ ap₂ _++_ (event-rows e (F e (List·Memᴰ·head refl))) (step-rows es (λ f m. F f (List·Memᴰ·tail m)))
-      ∙ sym (map-append factRow (eventEffects D e c) (stepEffects D es c))
 
 -- of a step, in memory
-pub grounded-rows : {D : Domain} {head : List ℕ} {es : List Event} {memory : List ℕ} {total : ℕ} → Grounded D head es memory total
-    → (c : Usage)
-    → rowsWith (suc (usageNumber c)) (groundIn total memory) ≡ map factRow (stepEffects D es c)
-grounded-rows {D} {head} {es} G c = ap (rowsWith (suc (usageNumber c))) (G .laid .filled) ∙ step-rows (G .says) c es (G .fit)
+grounded-rows : {D : Domain} {head : List ℕ} {es : List Event} {memory : List ℕ} {total : ℕ} → Grounded D head es memory total
+    → (c : Usage) → rowsWith (suc (usageNumber c)) (groundIn total memory) ≡ effectRows D es c
+grounded-rows {es = es} G c = ap (rowsWith (suc (usageNumber c))) (G .laid .filled) ∙ step-rows (G .says) c es (G .fit)
 
--- each has the arity of its relation
-sized-facts : (head : List ℕ) (b : Binding) (p : Role → Bool) (ls : List Literal) → ((l : Literal) → In l ls → length (l .atom .args) ≡ arityIn head (l .atom .rel))
-    → Sized head (map factRow (map (bind b) (withRole p ls)))
-sized-facts head b p [] h row m = absurd (List·Memᴰ·not-nil m)
-sized-facts head b p (l ∷ ls) h row m = go (p (l .role)) (λ r k. sized-facts head b p ls (λ k m. h k (List·Memᴰ·tail m)) r k) row m
-  where
-    go : (t : Bool) → Sized head (map factRow (map (bind b) (withRole p ls))) → Sized head (map factRow (map (bind b) (keepIf t (l .atom) (withRole p ls))))
-    go true w row (List·Memᴰ·head e) =
-        ap (λ (r : List ℕ). byte r 1) e ∙ length-map (l .atom .args) (valueOf b) ∙ h l (List·Memᴰ·head refl) ∙ sym (ap (λ (r : List ℕ). arityIn head (byte r 0)) e)
-    go true w row (List·Memᴰ·tail m) = w row m
-    go false w row m = w row m
+-- ---- they are the machine's
 
-module _ {D : Domain} {head : List ℕ} (H : HeadOf D head) (c : Usage) where
-  event-sized : (e : Event) → GroundFits D (e .ground) → Sized head (map factRow (eventEffects D e c))
-  event-sized e F =
-      let i = e .ground .action in
-      subst (λ (l : List Fact). Sized head (map factRow l)) (sym (event-at D e c))
-      (sized-facts head (e .ground .binding) (countsFor (timeOf (e .moment)) c) (action D i .lits)
-      (λ l m. H .bounded .literalArity (action D i) (listed-in D i (F .listed)) l m ∙ sym (H .arities (l .atom .rel))))
+-- what an event adds, literal by literal, a literal that stands twice counted twice; and what the events of a step add
+abbrev eventAdds : Domain → Event → List Fact
+eventAdds D e = map (bind (e .ground .binding)) (withRole (own (e .moment) Add) (action D (e .ground .action) .lits))
 
-  pub step-sized : (es : List Event) → EventsFit D es → Sized head (map factRow (stepEffects D es c))
-  unfolding stepEffects flatMap
-  step-sized [] F row m = absurd (List·Memᴰ·not-nil m)
-  step-sized (e ∷ es) F row m =
-      by (event-sized e (F e (List·Memᴰ·head refl)) row) (λ k. step-sized es (λ e i. F e (List·Memᴰ·tail i)) row k)
-      (List·Memᴰ·append-cases (map factRow (eventEffects D e c)) (subst (In row) (map-append factRow (eventEffects D e c) (stepEffects D es c)) m))
+abbrev stepAdds : Domain → List Event → List Fact
+stepAdds D es = flatMap (eventAdds D) es
+
+-- adds have no FF
+own-plain : (m : Moment) (r : Role) → own m Add r ≡ true → mayClear (r .usage) ≡ false
+own-plain Start r h = counts-plain AtStart Add r h refl
+own-plain End r h = counts-plain AtEnd Add r h refl
+
+-- so their rows are those of facts
+plain-rows : (b : Binding) (ps : List (Atom Argument)) → ((p : Atom Argument) → In p ps → countBy isEvery (p .args) ≡ 0)
+    → map (patternRow b) ps ≡ map factRow (map (bind b) ps)
+plain-rows b [] h = refl
+plain-rows b (p ∷ ps) h =
+    ap₂ {C = List (List ℕ)} (λ row rows. row ∷ rows) (plain-row b p (h p (List·Memᴰ·head refl)))
+    (plain-rows b ps (λ q m. h q (List·Memᴰ·tail m)))
+
+module _ {D : Domain} {head : List ℕ} (H : HeadOf D head) (objs : List Object) where
+  module _ (e : Event) (F : GroundFits D (e .ground)) where
+    abbrev objects : Binding
+    objects = e .ground .binding
+
+    abbrev act : Action
+    act = action D (e .ground .action)
+
+    listed : In act (D .actions)
+    listed = listed-in D (e .ground .action) (F .listed)
+
+    adds-plain : (p : Atom Argument) → In p (literalsAt act (e .moment) Add) → countBy isEvery (p .args) ≡ 0
+    adds-plain p m =
+        let l = literalsAt-in act (e .moment) Add m in
+        ap (λ (p : Atom Argument). countBy isEvery (p .args)) (l .3)
+        ∙ literal-plain (H .bounded) listed (l .0) (l .1) (own-plain (e .moment) (l .0 .role) (l .2))
+
+    event-added : eventRows D e Add ≡ map factRow (eventAdds D e)
+    unfolding literalsAt
+    event-added =
+        plain-rows objects (withRole (own (e .moment) Add) (act .lits)) (λ p m. adds-plain p (in-dedup sameLiteral literal-eq m))
+
+    -- a literal that stands twice adds one fact
+    event-once : dedup sameFact (eventFacts D objs e Add) ≡ dedup sameFact (eventAdds D e)
+    unfolding eventFacts literalsAt
+    event-once =
+        ap (dedup sameFact) (plain-flat objs objects (literalsAt act (e .moment) Add) adds-plain)
+        ∙ dedup-map-dedup (bind objects) sameLiteral literal-eq sameFact fact-eq fact-self
+        (withRole (own (e .moment) Add) (act .lits))
+
+    deletes-bound : LiteralsBound D objects (literalsAt act (e .moment) Delete)
+    deletes-bound p m =
+        let l = literalsAt-in act (e .moment) Delete m in
+        subst (LiteralBound D objects) (sym (l .3)) (literal-bound (H .bounded) listed objects (F .bound) (l .0) (l .1))
+
+    -- a delete's row meets that of a fact exactly where the delete stands for it
+    event-struck : ((o : Object) → In o objs → o .0 < 255) → ((o : Object) → In o objects → In o objs) → (f : Fact) → FactOver D objs f
+        → anyMeets (eventRows D e Delete) (factRow f) ≡ elem sameFact f (eventFacts D objs e Delete)
+    unfolding eventFacts literalsAt
+    event-struck low over f k =
+        let meets : List ℕ → Bool = λ row. patternsMeet row (factRow f) in
+        let own-literals : List (Atom Argument) = withRole (own (e .moment) Delete) (act .lits) in
+        any-map (patternRow objects) meets own-literals
+        ∙ sym (any-once (λ p. meets (patternRow objects p)) own-literals)
+        ∙ sym (any-map (patternRow objects) meets (literalsAt act (e .moment) Delete))
+        ∙ sym (struck-row D objs low objects over (literalsAt act (e .moment) Delete) f deletes-bound k)
+
+  step-added : (es : List Event) → EventsFit D es → effectRows D es Add ≡ map factRow (stepAdds D es)
+  unfolding flatMap
+  step-added [] F = refl
+  step-added (e ∷ es) F =
+      ap₂ _++_ (event-added e (F e (List·Memᴰ·head refl))) (step-added es (λ f m. F f (List·Memᴰ·tail m)))
+      ∙ sym (map-append factRow (eventAdds D e) (stepAdds D es))
+
+  step-once : (es : List Event) → EventsFit D es → dedup sameFact (stepFacts D objs es Add) ≡ dedup sameFact (stepAdds D es)
+  unfolding stepFacts flatMap
+  step-once [] F = refl
+  step-once (e ∷ es) F =
+      same-append sameFact fact-eq fact-self (eventFacts D objs e Add) (eventAdds D e) (stepFacts D objs es Add) (stepAdds D es)
+      (event-once e (F e (List·Memᴰ·head refl))) (step-once es (λ f m. F f (List·Memᴰ·tail m)))
+
+  -- where none of the rows is a pattern, equality tells which meet
+  struck-meets : {fs : List Fact} {gs : List GroundAction} → Chosen D objs fs gs → (f : Fact) → In f fs → (rows : List (List ℕ))
+      → ((row : List ℕ) → In row rows → Formed head row) → isStruck rows (factRow f) ≡ anyMeets rows (factRow f)
+  struck-meets C f i rows formed = go (bool-cases (any isPattern rows))
     where
-      by : {A B C : Type 0} → (A → C) → (B → C) → A ⊎ B → C
-      by f g (inl a) = f a
-      by f g (inr b) = g b
+      go : (any isPattern rows ≡ true) ⊎ (any isPattern rows ≡ false) → isStruck rows (factRow f) ≡ anyMeets rows (factRow f)
+      go (inl t) = struck-by rows (factRow f) t
+      go (inr n) =
+          struck-by rows (factRow f) n
+          ∙ any-agree (sameList eqb (factRow f)) (λ row. patternsMeet row (factRow f)) rows
+          (λ row m. sameList-comm eqb eqb-comm (factRow f) row ∙ sym (chosen-meets H C (formed row m) (any-out isPattern n m) f i))
 
--- ---- as the machine counts them: a literal that stands twice adds or strikes one fact
+  step-struck : {fs : List Fact} (es : List Event) → Chosen D objs fs (map (λ (e : Event). e .ground) es) → EventsFit D es
+      → (f : Fact) → In f fs → anyMeets (effectRows D es Delete) (factRow f) ≡ elem sameFact f (stepFacts D objs es Delete)
+  unfolding stepFacts
+  step-struck es C F f i =
+      any-flat (λ (e : Event). eventRows D e Delete) (λ row. patternsMeet row (factRow f)) es
+      ∙ any-agree (λ (e : Event). anyMeets (eventRows D e Delete) (factRow f)) (λ (e : Event). elem sameFact f (eventFacts D objs e Delete)) es
+      (λ e m. event-struck e (F e m) (C .low) (C .bindings (e .ground) (Memᴰ·map (λ (e : Event). e .ground) m)) f (C .facts f i))
+      ∙ sym (any-flat (λ (e : Event). eventFacts D objs e Delete) (sameFact f) es)
 
-event-once : (D : Domain) (e : Event) (c : Usage) → dedup sameFact (eventFacts D e c) ≡ dedup sameFact (eventEffects D e c)
-unfolding eventFacts eventEffects literalsAt
-event-once D e c =
-    dedup-map-dedup (bind (e .ground .binding)) sameLiteral literal-eq sameFact fact-eq fact-self
-    (withRole (own (e .moment) c) (action D (e .ground .action) .lits))
+-- what a step strikes and adds, as rows, and as the machine says it
+pub record EffectsOf (D : Domain) (objs : List Object) (fs : List Fact) (es : List Event) (head : List ℕ)
+    (struck added : List (List ℕ)) : Type 0 where
+  pub gone : (f : Fact) → In f fs → isStruck struck (factRow f) ≡ elem sameFact f (stepFacts D objs es Delete)
+  pub new : List Fact
+  pub rows : added ≡ map factRow new
+  pub once : dedup sameFact (stepFacts D objs es Add) ≡ dedup sameFact new
+  pub sized : Sized head added
 
-pub step-once : (D : Domain) (es : List Event) (c : Usage) → dedup sameFact (stepFacts D es c) ≡ dedup sameFact (stepEffects D es c)
-unfolding stepFacts stepEffects flatMap
-step-once D [] c = refl
-step-once D (e ∷ es) c = same-append sameFact fact-eq fact-self (eventFacts D e c) (eventEffects D e c) (stepFacts D es c) (stepEffects D es c) (event-once D e c) (step-once D es c)
-
-pub step-elem : (D : Domain) (es : List Event) (c : Usage) (f : Fact) → elem sameFact f (stepFacts D es c) ≡ elem sameFact f (stepEffects D es c)
-step-elem D es c f = same-elem sameFact fact-eq fact-self (stepFacts D es c) (stepEffects D es c) (step-once D es c) f
+pub effects-of : {D : Domain} {objs : List Object} {fs : List Fact} {es : List Event} {head memory : List ℕ} {total : ℕ}
+    → Grounded D head es memory total → Chosen D objs fs (map (λ (e : Event). e .ground) es) → {struck added : List (List ℕ)}
+    → struck ≡ rowsWith 4 (groundIn total memory) → added ≡ rowsWith 3 (groundIn total memory)
+    → EffectsOf D objs fs es head struck added
+effects-of {D} {objs} {fs} {es} {head} {memory} {total} G C {struck} {added} s a =
+    record {
+      gone =
+          λ f i.
+          struck-meets (G .says) objs C f i struck
+          (λ row m. rows-of (Formed head) 4 (groundIn total memory) (step-formed G) row (subst (In row) s m))
+          ∙ ap (λ (rows : List (List ℕ)). anyMeets rows (factRow f)) (s ∙ grounded-rows G Delete)
+          ∙ step-struck (G .says) objs es C (G .fit) f i;
+      new = stepAdds D es;
+      rows = a ∙ grounded-rows G Add ∙ step-added (G .says) objs es (G .fit);
+      once = step-once (G .says) objs es (G .fit);
+      sized =
+          λ row m.
+          rows-of (SizedRow head) 3 (groundIn total memory) (step-sized G) row (subst (In row) a m);
+    }

@@ -9,7 +9,7 @@ use lib.ListN.{length, take, drop, length-append, length-drop, take-append-drop}
 use lib.Seq.{take-all, take-add, take-take, take-append-le, take-append-add, take-at, drop-at, drop-drop, drop-append-add, length-take-le}
 use lib.Seq.{paste}
 use borrow.Author.Tests.{lt-ltb, le-ltb, ltb-true, ltb-false}
-use Rattle.records.specs.Lists.{In, keepIf, filterBy, sameList, dedup}
+use Rattle.records.specs.Lists.{In, any, keepIf, filterBy, sameList, dedup}
 use Rattle.records.specs.Memory.{over}
 use Rattle.records.proofs.Lists.{in-snoc, filter-append, filter-in, filter-few, dedup-in, flatMap-append, flatMap-snoc}
 use Rattle.records.proofs.Memory.{length-over, over-paste}
@@ -20,8 +20,10 @@ use Rattle.literals.proofs.KeyRows.{length-rows}
 use Rattle.run_semantics.specs.RunFile.{maxFacts}
 use Rattle.run_semantics.specs.Play.{workBytes}
 use Rattle.store.specs.Rows.{hasRow}
+use Rattle.events.specs.Held.{isPattern}
 use Rattle.events.specs.Grounding.{groundedBytes}
-use Rattle.effects.specs.Held.{scratchBytes, effectsIn, literalsIn, flat, joinRow, joinRows, atMost, stays, keptOf}
+use Rattle.effects.specs.Held.{scratchBytes, effectsIn, literalsIn, flat, joinRow, joinRows, atMost}
+use Rattle.effects.specs.Held.{anyMeets, isStruck, stays, keptOf}
 use Rattle.effects.proofs.Joins.{joined-rows, join-snoc, join-append}
 
 -- ---- the first rows of a memory
@@ -196,18 +198,24 @@ filled-own n out h = record { count = sym (length-rows 8 n out); room = h; whole
 
 -- ---- rows that are kept
 
+-- which are struck, by whether there is a pattern
+pub struck-by : (struck : List (List ℕ)) (row : List ℕ) {b : Bool} → any isPattern struck ≡ b
+    → isStruck struck row ≡ cond b (anyMeets struck row) (hasRow row struck)
+unfolding isStruck
+struck-by struck row e = ap (λ (b : Bool). cond b (anyMeets struck row) (hasRow row struck)) e
+
 module _ (struck : List (List ℕ)) (row : List ℕ) where
-  pub left-out : hasRow row struck ≡ true → filterBy (stays struck) (row ∷ []) ≡ []
+  pub left-out : isStruck struck row ≡ true → filterBy (stays struck) (row ∷ []) ≡ []
   left-out t = ap (λ (b : Bool). keepIf (not b) row []) t
 
-  pub kept-in : hasRow row struck ≡ false → filterBy (stays struck) (row ∷ []) ≡ row ∷ []
+  pub kept-in : isStruck struck row ≡ false → filterBy (stays struck) (row ∷ []) ≡ row ∷ []
   kept-in t = ap (λ (b : Bool). keepIf (not b) row []) t
 
   module _ (k : ℕ) (out : List ℕ) where
-    pub left-count : hasRow row struck ≡ true → k ≡ k + length (filterBy (stays struck) (row ∷ []))
+    pub left-count : isStruck struck row ≡ true → k ≡ k + length (filterBy (stays struck) (row ∷ []))
     left-count t = let l = ap length (left-out t) in omega arith
 
-    pub left-rows : hasRow row struck ≡ true → 8 * k ≤ length out → out ≡ over (flat (rowsIn k out ++ filterBy (stays struck) (row ∷ []))) out
+    pub left-rows : isStruck struck row ≡ true → 8 * k ≤ length out → out ≡ over (flat (rowsIn k out ++ filterBy (stays struck) (row ∷ []))) out
     left-rows t h =
         rows-own k out h
         ∙ ap (λ (l : List (List ℕ)). over (flat l) out) (sym (ap (λ (l : List (List ℕ)). rowsIn k out ++ l) (left-out t) ∙ append-nil (rowsIn k out)))

@@ -96,7 +96,7 @@ module _ {A : Type 0} (eq : A → A → Bool) (sound : (a b : A) → eq a b ≡ 
       ∙ ap (λ (l : List A). filterBy (λ y. not (eq x y)) (dedup eq xs) ++ l) (one-more x xs (dedup eq ys)))
 
   -- lists with the same elements in the same order, repeats aside
-  pub same-elem : (xs ys : List A) → dedup eq xs ≡ dedup eq ys → (a : A) → elem eq a xs ≡ elem eq a ys
+  same-elem : (xs ys : List A) → dedup eq xs ≡ dedup eq ys → (a : A) → elem eq a xs ≡ elem eq a ys
   same-elem xs ys e a = sym (elem-dedup a xs) ∙ ap (elem eq a) e ∙ elem-dedup a ys
 
   pub same-append : (xs xs′ ys ys′ : List A) → dedup eq xs ≡ dedup eq xs′ → dedup eq ys ≡ dedup eq ys′ → dedup eq (xs ++ ys) ≡ dedup eq (xs′ ++ ys′)

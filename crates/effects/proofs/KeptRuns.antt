@@ -9,30 +9,32 @@ use lib.Dec.{eqb, ltb}
 use lib.ListN.{length, getD, take, drop, length-drop}
 use lib.Seq.{drop-drop, paste}
 use borrow.Author.Tests.{ltb-true, ltb-false}
-use Rattle.records.specs.Lists.{In, sameList}
+use Rattle.records.specs.Lists.{In, any, sameList}
 use Rattle.records.specs.Memory.{over}
-use Rattle.records.proofs.Lists.{bool-cases, getD-in, count-filter, count-not, flatMap-append}
+use Rattle.records.proofs.Lists.{bool-cases, getD-in, count-filter, count-not, filter-agree, flatMap-append}
 use Rattle.records.proofs.Memory.{over-paste}
 use Rattle.literals.specs.Table.{rowsIn}
 use Rattle.literals.proofs.Rows.{rows-last, rows-whole}
 use Rattle.literals.proofs.KeyRows.{length-rows, rows-at}
 use Rattle.store.specs.Rows.{hasRow}
 use Rattle.store.specs.Index.{noteAt, Indexed}
-use Rattle.effects.specs.Held.{Once, struckOf, FirstStruck, flat, stays, keptOf}
+use Rattle.events.specs.Held.{isPattern}
+use Rattle.effects.specs.Held.{Once, isStruck, struckOf, FirstStruck, flat, stays, keptOf}
 use Rattle.effects.proofs.Joins.{none-left, row-sound, row-self}
-use Rattle.effects.proofs.FilledRows.{rows-rest, flat-rows, length-whole, rows-own, Filled, filled-length, filled-more, kept-in, left-count, left-rows, kept-next}
+use Rattle.effects.proofs.FilledRows.{rows-rest, flat-rows, length-whole, rows-own, Filled, filled-length, filled-more}
+use Rattle.effects.proofs.FilledRows.{struck-by, kept-in, left-count, left-rows, kept-next}
 use Rattle.effects.proofs.IndexedRows.{left-indexed, Keeping, keeping-more}
 
 -- ---- the first struck row
 
 -- one row more that is not struck
-pub others-more : (struck : List (List ℕ)) (work : List ℕ) (from i : ℕ) → ((j : ℕ) → from ≤ j → j < i → hasRow (take 8 (drop (8 * j) work)) struck ≡ false)
-    → hasRow (take 8 (drop (8 * i) work)) struck ≡ false → (j : ℕ) → from ≤ j → j < i + 1 → hasRow (take 8 (drop (8 * j) work)) struck ≡ false
+pub others-more : (struck : List (List ℕ)) (work : List ℕ) (from i : ℕ) → ((j : ℕ) → from ≤ j → j < i → isStruck struck (take 8 (drop (8 * j) work)) ≡ false)
+    → isStruck struck (take 8 (drop (8 * i) work)) ≡ false → (j : ℕ) → from ≤ j → j < i + 1 → isStruck struck (take 8 (drop (8 * j) work)) ≡ false
 others-more struck work from i h e j a b = go (bool-cases (ltb j i))
   where
-    go : (ltb j i ≡ true) ⊎ (ltb j i ≡ false) → hasRow (take 8 (drop (8 * j) work)) struck ≡ false
+    go : (ltb j i ≡ true) ⊎ (ltb j i ≡ false) → isStruck struck (take 8 (drop (8 * j) work)) ≡ false
     go (inl l) = h j a (ltb-true j i l)
-    go (inr l) = let g = ltb-false j i l in let q : j ≡ i = omega arith in ap (λ (k : ℕ). hasRow (take 8 (drop (8 * k) work)) struck) q ∙ e
+    go (inr l) = let g = ltb-false j i l in let q : j ≡ i = omega arith in ap (λ (k : ℕ). isStruck struck (take 8 (drop (8 * k) work))) q ∙ e
 
 -- ---- all that are struck are gone
 
@@ -46,16 +48,22 @@ later-row work n from j a b =
     ∙ ap (take 8) (drop-drop (8 * (j - from)) (8 * from) work ∙ ap (λ (k : ℕ). drop k work) e))
     (getD-in (rowsIn (n - from) (drop (8 * from) work)) (j - from) [] (omega arith))
 
--- no row stands twice, and as many are gone as are struck: none of the rest is struck
-pub all-gone : (struck : List (List ℕ)) (work : List ℕ) (n from : ℕ) → from ≤ n → Once (rowsIn n work) → length struck ≤ struckOf struck work from → FirstStruck struck work n from n
-all-gone struck work n from h o g =
+-- no row stands twice, as many are gone as are struck, and none of these is a pattern: none of the rest is struck
+pub all-gone : (struck : List (List ℕ)) (work : List ℕ) (n from : ℕ) → from ≤ n → Once (rowsIn n work) → any isPattern struck ≡ false
+    → length struck ≤ struckOf struck work from → FirstStruck struck work n from n
+all-gone struck work n from h o plain g =
+    let c = count-filter (isStruck struck) (rowsIn from work) in
+    let d = count-filter (λ (row : List ℕ). hasRow row struck) (rowsIn from work) in
+    let e = ap length
+    (filter-agree (isStruck struck) (λ (row : List ℕ). hasRow row struck) (rowsIn from work) (λ row m. struck-by struck row plain)) in
     record {
       behind = h;
       within = omega arith;
       others =
           λ j a b.
-          none-left (sameList eqb) row-sound row-self (rowsIn from work) (rowsIn (n - from) (drop (8 * from) work)) struck
-          (subst Once (rows-rest n from work h) o) g (take 8 (drop (8 * j) work)) (later-row work n from j a b);
+          struck-by struck (take 8 (drop (8 * j) work)) plain
+          ∙ none-left (sameList eqb) row-sound row-self (rowsIn from work) (rowsIn (n - from) (drop (8 * from) work)) struck
+          (subst Once (rows-rest n from work h) o) (omega arith) (take 8 (drop (8 * j) work)) (later-row work n from j a b);
       found = λ l. absurd (omega arith);
     }
 
@@ -65,14 +73,14 @@ pub gone-count : {struck : List (List ℕ)} {work : List ℕ} {n : ℕ} {head ou
 gone-count {struck} {work} {i = i} K =
     let c = K .filled .count in
     let f = count-filter (stays struck) (rowsIn i work) in
-    let s = count-not (λ (row : List ℕ). hasRow row struck) (rowsIn i work) in
+    let s = count-not (isStruck struck) (rowsIn i work) in
     let l = length-rows 8 i work in
     omega arith
 
 -- ---- a run of rows
 
 -- none of them is struck, so all are kept
-run-kept : (struck : List (List ℕ)) (work : List ℕ) (i q : ℕ) → ((j : ℕ) → i ≤ j → j < i + q → hasRow (take 8 (drop (8 * j) work)) struck ≡ false)
+run-kept : (struck : List (List ℕ)) (work : List ℕ) (i q : ℕ) → ((j : ℕ) → i ≤ j → j < i + q → isStruck struck (take 8 (drop (8 * j) work)) ≡ false)
     → keptOf struck work (i + q) ≡ keptOf struck work i ++ rowsIn q (drop (8 * i) work)
 run-kept struck work i zero h =
     let e : i + 0 ≡ i = omega arith in

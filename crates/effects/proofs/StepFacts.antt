@@ -1,5 +1,5 @@
 -- The facts after a step: the rows that are kept and then joined are those of the machine's `factsAfter`. Assumes nothing.
-use mathlib.Core.Path.{_≡_, refl, sym, ap, ap₂, _∙_, subst}
+use mathlib.Core.Path.{_≡_, refl, sym, ap, _∙_, subst}
 use mathlib.Core.Bool.{true, not}
 use mathlib.Core.List.{List, [], _∷_, _++_, map, flatMap, map-append, append-assoc}
 use Prim.Native.Nat.{ℕ, zero, suc, _+_, _-_, _*_, _≤_}
@@ -10,24 +10,27 @@ use lib.Seq.{take-all, take-at}
 use Rattle.records.specs.Lists.{filterBy, sameList, elem, distinct, dedup}
 use Rattle.records.specs.Memory.{over}
 use Rattle.records.proofs.Lists.{filter-in, filter-agree, dedup-in}
-use Rattle.literals.specs.declared.Usage.the-variants.{Add, Delete}
+use Rattle.literals.specs.declared.Object.{Object}
+use Rattle.literals.specs.declared.Usage.the-variants.{Delete}
 use Rattle.literals.specs.Domain.{Fact, sameFact, Domain}
 use Rattle.literals.specs.Table.{rowsIn}
 use Rattle.verdict.specs.Judged.{objectNumbers, factBytes}
 use Rattle.verdict.specs.Machine.{Event, stepFacts, factsAfter}
 use Rattle.store.specs.Index.{Sized, Indexed}
-use Rattle.store.specs.Rows.{factRow}
-use Rattle.effects.specs.Held.{joinRows, Once, atMost, flat, stepEffects, HoldsJoined, HoldsAfter, stays, keptOf}
+use Rattle.store.specs.Rows.{factRow, hasRow}
+use Rattle.effects.specs.Held.{joinRows, Once, atMost, flat, HoldsJoined, HoldsAfter, stays, keptOf}
 use Rattle.events.proofs.FactRows.{same-row}
 use Rattle.effects.proofs.Joins.{outside-map, dedup-map, distinct-map, joined-rows}
+use Rattle.literals.proofs.Indices.{filter-map}
 use Rattle.literals.proofs.Rows.{rows-whole}
 use Rattle.effects.proofs.FilledRows.{Whole, whole-append, length-whole, Filled, filled-rows, kept-few, behind, most-inside}
-use Rattle.effects.proofs.EffectRows.{step-once, step-elem}
+use Rattle.effects.proofs.EffectRows.{EffectsOf}
 
 -- ---- the rows of facts
 
 -- those not among some others
-outside : (fs gs : List Fact) → filterBy (stays (map factRow gs)) (map factRow fs) ≡ map factRow (filterBy (λ (f : Fact). not (elem sameFact f gs)) fs)
+outside : (fs gs : List Fact) → filterBy (λ (row : List ℕ). not (hasRow row (map factRow gs))) (map factRow fs)
+    ≡ map factRow (filterBy (λ (f : Fact). not (elem sameFact f gs)) fs)
 outside fs gs = outside-map factRow sameFact (sameList eqb) fs gs (λ f g m k. same-row f g)
 
 -- facts that stand once have rows that stand once
@@ -39,7 +42,8 @@ joined-facts : (fs gs : List Fact) → joinRows (map factRow fs) (map factRow gs
 joined-facts fs gs =
     joined-rows (map factRow fs) (map factRow gs)
     ∙ ap (λ (l : List (List ℕ)). map factRow fs ++ l)
-    (ap (filterBy (stays (map factRow fs))) (dedup-map factRow sameFact (sameList eqb) gs (λ f g m k. same-row f g)) ∙ outside (dedup sameFact gs) fs)
+    (ap (filterBy (λ (row : List ℕ). not (hasRow row (map factRow fs)))) (dedup-map factRow sameFact (sameList eqb) gs (λ f g m k. same-row f g))
+    ∙ outside (dedup sameFact gs) fs)
     ∙ sym (map-append factRow fs (filterBy (λ (f : Fact). not (elem sameFact f fs)) (dedup sameFact gs)))
 
 fact-bytes : (fs : List Fact) → flat (map factRow fs) ≡ factBytes fs
@@ -62,22 +66,24 @@ take-over new old n e = take-at new (drop (length new) old) n e
 
 -- ---- what the step keeps, and what it leaves
 
-module _ (D : Domain) (fs : List Fact) (es : List Event) where
+module _ {D : Domain} {objs : List Object} {fs : List Fact} {es : List Event} {head : List ℕ} {struck added : List (List ℕ)}
+    (E : EffectsOf D objs fs es head struck added) where
   abbrev keptFacts : List Fact
-  keptFacts = filterBy (λ (f : Fact). not (elem sameFact f (stepFacts D es Delete))) fs
+  keptFacts = filterBy (λ (f : Fact). not (elem sameFact f (stepFacts D objs es Delete))) fs
 
-  kept-facts : filterBy (stays (map factRow (stepEffects D es Delete))) (map factRow fs) ≡ map factRow keptFacts
+  kept-facts : filterBy (stays struck) (map factRow fs) ≡ map factRow keptFacts
   kept-facts =
-      outside fs (stepEffects D es Delete)
+      filter-map factRow (stays struck) fs
       ∙ ap (map factRow)
-      (filter-agree (λ (f : Fact). not (elem sameFact f (stepEffects D es Delete))) (λ (f : Fact). not (elem sameFact f (stepFacts D es Delete))) fs
-      (λ f m. ap not (sym (step-elem D es Delete f))))
+      (filter-agree (λ (f : Fact). stays struck (factRow f)) (λ (f : Fact). not (elem sameFact f (stepFacts D objs es Delete))) fs
+      (λ f m. ap not (E .gone f m)))
 
-  after-facts : joinRows (map factRow keptFacts) (map factRow (stepEffects D es Add)) ≡ map factRow (factsAfter D fs es)
+  after-facts : joinRows (map factRow keptFacts) added ≡ map factRow (factsAfter D objs fs es)
   unfolding factsAfter
   after-facts =
-      joined-facts keptFacts (stepEffects D es Add)
-      ∙ ap (λ (l : List Fact). map factRow (keptFacts ++ filterBy (λ (f : Fact). not (elem sameFact f keptFacts)) l)) (sym (step-once D es Add))
+      ap (joinRows (map factRow keptFacts)) (E .rows)
+      ∙ joined-facts keptFacts (E .new)
+      ∙ ap (λ (l : List Fact). map factRow (keptFacts ++ filterBy (λ (f : Fact). not (elem sameFact f keptFacts)) l)) (sym (E .once))
 
 -- ---- as the code leaves it
 
@@ -118,7 +124,8 @@ module _ {head struck work adds : List ℕ} {m n k : ℕ} {out₀ out₁ out₂ 
   all-joined = ap (λ (l : List (List ℕ)). joinRows l (rowsIn k adds)) kept-still ∙ joined-rows keptRows (rowsIn k adds)
 
   new-whole : Whole newRows
-  new-whole row i = rows-whole k adds (X .addsWithin) row (dedup-in (sameList eqb) (rowsIn k adds) (filter-in (stays keptRows) (dedup (sameList eqb) (rowsIn k adds)) i .0))
+  new-whole row i = rows-whole k adds (X .addsWithin) row (dedup-in (sameList eqb) (rowsIn k adds)
+      (filter-in (λ (row : List ℕ). not (hasRow row keptRows)) (dedup (sameList eqb) (rowsIn k adds)) i .0))
 
   pub after-few : (kept ≤ n) × (kept ≤ facts) × (facts ≤ 1025)
   after-few =
@@ -126,49 +133,49 @@ module _ {head struck work adds : List ℕ} {m n k : ℕ} {out₀ out₁ out₂ 
       let c = X .keptCount in
       (omega arith, X .joinedFew .0, X .joinedFew .1)
 
-  module _ (D : Domain) (es : List Event) (fs : List Fact) (s : rowsIn m struck ≡ map factRow (stepEffects D es Delete)) (t : rowsIn k adds ≡ map factRow (stepEffects D es Add))
+  module _ {D : Domain} {objs : List Object} {fs : List Fact} {es : List Event} (E : EffectsOf D objs fs es head (rowsIn m struck) (rowsIn k adds))
       (u : rowsIn n work ≡ map factRow fs) where
-    kept-rows : keptRows ≡ map factRow (keptFacts D fs es)
-    kept-rows = ap₂ (λ (x y : List (List ℕ)). filterBy (stays x) y) s u ∙ kept-facts D fs es
+    abbrev after : List Fact
+    after = factsAfter D objs fs es
 
-    after-rows : joinRows (rowsIn kept out₁) (rowsIn k adds) ≡ map factRow (factsAfter D fs es)
-    after-rows = ap₂ joinRows (kept-still ∙ kept-rows) t ∙ after-facts D fs es
+    kept-rows : keptRows ≡ map factRow (keptFacts E)
+    kept-rows = ap (filterBy (stays (rowsIn m struck))) u ∙ kept-facts E
 
-    after-kept : kept ≡ length (filterBy (λ (f : Fact). not (elem sameFact f (stepFacts D es Delete))) fs)
-    after-kept = X .keptCount ∙ ap length kept-rows ∙ length-map (keptFacts D fs es) factRow
+    after-rows : joinRows (rowsIn kept out₁) (rowsIn k adds) ≡ map factRow after
+    after-rows = ap (λ (l : List (List ℕ)). joinRows l (rowsIn k adds)) (kept-still ∙ kept-rows) ∙ after-facts E
 
-    after-length : length (factBytes (factsAfter D fs es)) ≡ 8 * length (factsAfter D fs es)
+    after-kept : kept ≡ length (filterBy (λ (f : Fact). not (elem sameFact f (stepFacts D objs es Delete))) fs)
+    after-kept = X .keptCount ∙ ap length kept-rows ∙ length-map (keptFacts E) factRow
+
+    after-length : length (factBytes after) ≡ 8 * length after
     after-length =
-        sym (ap length (fact-bytes (factsAfter D fs es)))
-        ∙ length-whole (map factRow (factsAfter D fs es)) (subst Whole (sym all-joined ∙ after-rows) (whole-append keptRows newRows (filled .whole) new-whole))
-        ∙ ap (λ (i : ℕ). 8 * i) (length-map (factsAfter D fs es) factRow)
+        sym (ap length (fact-bytes after))
+        ∙ length-whole (map factRow after) (subst Whole (sym all-joined ∙ after-rows) (whole-append keptRows newRows (filled .whole) new-whole))
+        ∙ ap (λ (i : ℕ). 8 * i) (length-map after factRow)
 
-    module _ (I : Indexed head index₀ (map factRow fs)) (S : Sized head (map factRow (stepEffects D es Add))) where
+    module _ (I : Indexed head index₀ (map factRow fs)) where
       kept-held : Indexed head index₁ (rowsIn kept out₁)
       kept-held = subst (Indexed head index₁) (sym kept-still) (X .keptIndexed (subst (Indexed head index₀) (sym u) I))
 
-      added-sized : Sized head (rowsIn k adds)
-      added-sized = subst (Sized head) (sym t) S
-
       H : HoldsJoined head (joinRows (rowsIn kept out₁) (rowsIn k adds)) out₁ facts out₂ index₂
-      H = X .joined kept-held added-sized
+      H = X .joined kept-held (E .sized)
 
-      after-count : facts ≡ atMost 1024 (length (factsAfter D fs es))
-      after-count = H .count ∙ ap (atMost 1024) (ap length after-rows ∙ length-map (factsAfter D fs es) factRow)
+      after-count : facts ≡ atMost 1024 (length after)
+      after-count = H .count ∙ ap (atMost 1024) (ap length after-rows ∙ length-map after factRow)
 
-      after-held : length (factsAfter D fs es) ≤ 1024 → take (8 * length (factsAfter D fs es)) out₂ ≡ factBytes (factsAfter D fs es)
+      after-held : length after ≤ 1024 → take (8 * length after) out₂ ≡ factBytes after
       after-held y =
-          ap (take (8 * length (factsAfter D fs es)))
+          ap (take (8 * length after))
           (H .bytes
-          ∙ ap (λ (l : List (List ℕ)). over (flat l) out₁) (ap (take 1024) after-rows ∙ take-map factRow 1024 (factsAfter D fs es))
-          ∙ ap (λ (l : List Fact). over (flat (map factRow l)) out₁) (take-all 1024 (factsAfter D fs es) y)
-          ∙ ap (λ (l : List ℕ). over l out₁) (fact-bytes (factsAfter D fs es)))
-          ∙ take-over (factBytes (factsAfter D fs es)) out₁ (8 * length (factsAfter D fs es)) after-length
+          ∙ ap (λ (l : List (List ℕ)). over (flat l) out₁) (ap (take 1024) after-rows ∙ take-map factRow 1024 after)
+          ∙ ap (λ (l : List Fact). over (flat (map factRow l)) out₁) (take-all 1024 after y)
+          ∙ ap (λ (l : List ℕ). over l out₁) (fact-bytes after))
+          ∙ take-over (factBytes after) out₁ (8 * length after) after-length
 
-      after-indexed : length (factsAfter D fs es) ≤ 1024 → Indexed head index₂ (map factRow (factsAfter D fs es))
+      after-indexed : length after ≤ 1024 → Indexed head index₂ (map factRow after)
       after-indexed y =
-          let c : facts ≡ length (factsAfter D fs es) = after-count ∙ sym (most-inside (length (factsAfter D fs es)) y) in
+          let c : facts ≡ length after = after-count ∙ sym (most-inside (length after) y) in
           subst (Indexed head index₂) after-rows (H .indexed (omega arith))
 
-      pub holds-after : HoldsAfter D fs es head (record { kept = kept; facts = facts }) out₂ index₂
+      pub holds-after : HoldsAfter D objs fs es head (record { kept = kept; facts = facts }) out₂ index₂
       holds-after = record { kept = after-kept; facts = after-count; held = after-held; indexed = after-indexed }

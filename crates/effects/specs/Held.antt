@@ -8,14 +8,11 @@ use lib.ListN.{length, getD, take, drop}
 use Rattle.records.specs.Lists.{In, any, filterBy, countBy, sameList, elem, distinct}
 use Rattle.records.specs.Memory.{over}
 use Rattle.literals.specs.declared.Object.{Object}
-use Rattle.literals.specs.declared.Usage.{Usage}
 use Rattle.literals.specs.declared.Usage.the-variants.{Delete}
-use Rattle.literals.specs.Domain.{Fact, sameFact, Domain, action}
+use Rattle.literals.specs.Domain.{Fact, sameFact, Domain}
 use Rattle.literals.specs.Decode.{byte}
 use Rattle.literals.specs.Table.{rowsIn}
 use Rattle.literals.specs.Held.{arityIn}
-use Rattle.literals.specs.Matching.{own, withRole}
-use Rattle.verdict.specs.Binding.{factsOf}
 use Rattle.verdict.specs.Judged.{factBytes}
 use Rattle.verdict.specs.Machine.{Event, stepFacts, factsAfter}
 use Rattle.verdict.specs.Patterns.{patternsMeet}
@@ -109,17 +106,6 @@ abbrev pub Marked : List ℕ → List (List ℕ) → Type 0
 Marked marks rows = (row : List ℕ) → In row rows → getD marks (byte row 2) 0 ≡ 1
 
 -- ---- effects
-
--- the facts that an event's literals of one usage stand for, literal by literal: those of `eventFacts`, a literal that occurs twice counted
--- twice
-unfoldable pub eventEffects : Domain → List Object → Event → Usage → List Fact
-unfolding action factsOf flatMap
-eventEffects D objs e c = flatMap (factsOf objs (e .ground .binding)) (withRole (own (e .moment) c) (action D (e .ground .action) .lits))
-
--- those of the events of a step
-unfoldable pub stepEffects : Domain → List Object → List Event → Usage → List Fact
-unfolding eventEffects flatMap
-stepEffects D objs es c = flatMap (λ e. eventEffects D objs e c) es
 
 -- what a step leaves of facts: how many are kept and how many there are then, their bytes, and their index
 pub record HoldsAfter (D : Domain) (objs : List Object) (fs : List Fact) (es : List Event) (head : List ℕ) (r : After) (out index : List ℕ)

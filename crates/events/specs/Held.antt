@@ -115,9 +115,8 @@ GroundsFit D gs = (g : GroundAction) → In g gs → GroundFits D g
 abbrev pub EventsFit : Domain → List Event → Type 0
 EventsFit D es = (e : Event) → In e es → GroundFits D (e .ground)
 
--- "whose facts and bindings use no objects but those chosen": there is one, and none is FF
+-- "whose facts and bindings use no objects but those chosen": none of these is FF
 pub record Chosen (D : Domain) (objs : List Object) (fs : List Fact) (gs : List GroundAction) : Type 0 where
-  pub some : (o : Object) × In o objs
   pub low : (o : Object) → In o objs → o .0 < 255
   pub facts : (f : Fact) → In f fs → FactOver D objs f
   pub bindings : (g : GroundAction) → In g gs → (o : Object) → In o (g .binding) → In o objs

@@ -7,6 +7,7 @@ use lib.ListN.{length, drop, replicate, length-append, length-replicate, replica
 use lib.Seq.{paste, drop-append-le, drop-append-add}
 use Rattle.records.specs.Memory.{over}
 use Rattle.records.proofs.Memory.{paste-front, drop-replicate}
+use Rattle.literals.specs.declared.Object.{Object}
 use Rattle.literals.specs.Domain.{Fact, Domain}
 use Rattle.literals.specs.Table.{rowsIn, Bounded}
 use Rattle.literals.proofs.Bounds.{arity-six}
@@ -86,13 +87,13 @@ held-settled fs gs hf hg kf kg old =
     ∙ ap (λ (j : ℕ). heldBytes gs ++ drop j old) z
 
 -- the rows of the facts that a state of the machine holds in work memory
-pub state-rows : (D : Domain) → Bounded D → (s : State) (es : List Event) → Kept D s es → (holding : StateRows) → holding ≡ stateOf s es → (work old : List ℕ) → work ≡ over (heldBytes (s .facts)) old
+pub state-rows : (D : Domain) → Bounded D → {objs : List Object} (s : State) (es : List Event) → Kept D objs s es → (holding : StateRows) → holding ≡ stateOf s es → (work old : List ℕ) → work ≡ over (heldBytes (s .facts)) old
     → rowsIn (holding .facts) work ≡ map factRow (s .facts)
 state-rows D B s es k holding is work old e =
     ap (λ (h : StateRows). rowsIn (h .facts) work) is ∙ ap (rowsIn (length (s .facts))) e ∙ work-rows (s .facts) (fits-few B (s .facts) (k .facts)) (k .facts-few) old
 
 -- none of which stands twice
-pub state-once : (D : Domain) → Bounded D → (s : State) (es : List Event) → Kept D s es → (holding : StateRows) → holding ≡ stateOf s es → (work old : List ℕ) → work ≡ over (heldBytes (s .facts)) old
+pub state-once : (D : Domain) → Bounded D → {objs : List Object} (s : State) (es : List Event) → Kept D objs s es → (holding : StateRows) → holding ≡ stateOf s es → (work old : List ℕ) → work ≡ over (heldBytes (s .facts)) old
     → Once (rowsIn (holding .facts) work)
 state-once D B s es k holding is work old e = subst Once (sym (state-rows D B s es k holding is work old e)) (once-facts (s .facts) (k .facts-once))
 

@@ -11,6 +11,7 @@ use borrow.Author.Tests.{le-ltb}
 use Rattle.records.specs.Lists.{all, elem}
 use Rattle.records.specs.Memory.{over}
 use Rattle.records.proofs.Lists.{filter-all}
+use Rattle.literals.specs.declared.Object.{Object}
 use Rattle.literals.specs.Domain.{Fact, sameFact, Domain}
 use Rattle.verdict.specs.Machine.{Event, State, overAllHold, stepFacts, factsAfter, next, topWeight}
 use Rattle.store.specs.Index.{noteAt, factIndex, Indexed}
@@ -33,7 +34,7 @@ no-events s es holding is z = go es (sym (ap (λ (x : StateRows). x .waiting .co
     go [] e = refl
     go (x ∷ l) e = absurd (omega arith)
 
-pub kept-none : {D : Domain} {s : State} {es : List Event} → Kept D s es → Kept D s []
+pub kept-none : {D : Domain} {objs : List Object} {s : State} {es : List Event} → Kept D objs s es → Kept D objs s []
 kept-none kept =
     record {
       facts = kept .facts;
@@ -43,10 +44,12 @@ kept-none kept =
       running-few = kept .running-few;
       waiting = λ e m. absurd (List·Memᴰ·not-nil m);
       waiting-few = omega arith;
+      chosen = kept .chosen;
+      waiting-over = λ e m. absurd (List·Memᴰ·not-nil m);
     }
 
-module _ (D : Domain) (s : State) where
-  pub next-none : next D s [] ≡ s
+module _ (D : Domain) (objs : List Object) (s : State) where
+  pub next-none : next D objs s [] ≡ s
   unfolding next factsAfter stepFacts flatMap
   next-none i =
       record {
@@ -54,35 +57,35 @@ module _ (D : Domain) (s : State) where
         running = append-nil (s .running) i;
       }
 
-  pub rest-state : closeState D s [] ≡ s
+  pub rest-state : closeState D objs s [] ≡ s
   unfolding closeState
-  rest-state = go (eqb (closeStop D s []) 0)
+  rest-state = go (eqb (closeStop D objs s []) 0)
     where
-      go : (b : Bool) → cond b (next D s []) s ≡ s
+      go : (b : Bool) → cond b (next D objs s []) s ≡ s
       go true = next-none
       go false = refl
 
   -- an over-all condition fails
-  pub unrest : all (overAllHold D (s .facts)) (s .running) ≡ false → 55 ≡ closeStop D s []
+  pub unrest : all (overAllHold D objs (s .facts)) (s .running) ≡ false → 55 ≡ closeStop D objs s []
   unfolding closeStop
-  unrest h = rw (sym (not-kept D s [] refl h))
+  unrest h = rw (sym (not-kept D objs s [] refl h))
 
   -- all of them hold
-  pub rests : Kept D s [] → all (overAllHold D (s .facts)) (s .running) ≡ true → 0 ≡ closeStop D s []
+  pub rests : Kept D objs s [] → all (overAllHold D objs (s .facts)) (s .running) ≡ true → 0 ≡ closeStop D objs s []
   unfolding closeStop
   rests kept h =
       let small : tooLarge s ≡ false = rw (le-ltb maxFacts (length (s .facts)) (kept .facts-few), le-ltb maxRunning (length (s .running)) (kept .running-few)) in
-      rw (sym (nothing-forbids D s [] refl refl h refl), ap tooLarge next-none ∙ small)
+      rw (sym (nothing-forbids D objs s [] refl refl h refl), ap tooLarge next-none ∙ small)
 
   -- either way all is left as it was
-  pub rest-leaves : (old : List ℕ) (w : ℕ) → topWeight D (s .facts) ≤ w → (n : ℕ) → n ≡ closeStop D s [] → (state : StateRows) → state ≡ stateOf s []
-      → (work : List ℕ) → work ≡ over (heldBytes (s .facts)) old → Leaves D s [] old w n state w work
+  pub rest-leaves : (old : List ℕ) (w : ℕ) → topWeight D (s .facts) ≤ w → (n : ℕ) → n ≡ closeStop D objs s [] → (state : StateRows) → state ≡ stateOf s []
+      → (work : List ℕ) → work ≡ over (heldBytes (s .facts)) old → Leaves D objs s [] old w n state w work
   unfolding closeWaiting closeWeight
   rest-leaves old w under n e state is work m =
       record {
         number-is = e;
-        state-is = is ∙ sym (ap₂ stateOf rest-state (none-wait (eqb (closeStop D s []) 0)));
-        weight-is = as-before (eqb (closeStop D s []) 0);
+        state-is = is ∙ sym (ap₂ stateOf rest-state (none-wait (eqb (closeStop D objs s []) 0)));
+        weight-is = as-before (eqb (closeStop D objs s []) 0);
         work-is = m ∙ sym (ap (λ (t : State). over (heldBytes (t .facts)) old) rest-state);
       }
     where
@@ -90,7 +93,7 @@ module _ (D : Domain) (s : State) where
       none-wait true = refl
       none-wait false = refl
 
-      as-before : (b : Bool) → w ≡ cond b (max w (topWeight D (next D s [] .facts))) w
+      as-before : (b : Bool) → w ≡ cond b (max w (topWeight D (next D objs s [] .facts))) w
       as-before true = let top : w ≡ max w (topWeight D (s .facts)) = omega arith in top ∙ sym (ap (λ (t : State). max w (topWeight D (t .facts))) next-none)
       as-before false = refl
 
@@ -106,16 +109,16 @@ module _ (head : List ℕ) where
         sized = h .sized;
       }
 
-  module _ (D : Domain) where
-    pub noted-rest : (index : List ℕ) (s : State) → Noted D head index s → Noted D head index (closeState D s [])
-    noted-rest index s h = rw (rest-state D s) h
+  module _ (D : Domain) {objs : List Object} where
+    pub noted-rest : (index : List ℕ) (s : State) → Noted D objs head index s → Noted D objs head index (closeState D objs s [])
+    noted-rest index s h = rw (rest-state D objs s) h
 
     -- noted that the over-all conditions hold
-    pub noted-set : (index : List ℕ) (s : State) → Noted D head index s → all (overAllHold D (s .facts)) (s .running) ≡ true → Noted D head (set index noteAt 1) (closeState D s [])
+    pub noted-set : (index : List ℕ) (s : State) → Noted D objs head index s → all (overAllHold D objs (s .facts)) (s .running) ≡ true → Noted D objs head (set index noteAt 1) (closeState D objs s [])
     noted-set index s n h = noted-rest (set index noteAt 1) s (record { indexed = indexed-set index 1 (map factRow (s .facts)) (n .indexed); settled = λ e. h })
 
     -- nothing is noted yet
-    pub noted-anew : (index : List ℕ) (s : State) → Indexed head index (map factRow (s .facts)) → getD index noteAt 0 ≡ 0 → Noted D head index s
+    pub noted-anew : (index : List ℕ) (s : State) → Indexed head index (map factRow (s .facts)) → getD index noteAt 0 ≡ 0 → Noted D objs head index s
     noted-anew index s h z = record { indexed = h; settled = λ e. absurd (omega arith) }
 
 pub unset : (index : List ℕ) → length index ≡ factIndex → getD (set index noteAt 0) noteAt 0 ≡ 0

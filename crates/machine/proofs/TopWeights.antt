@@ -81,11 +81,11 @@ module _ (D : Domain) (fs new : List Fact) (p : Fact → Bool) where
         omega arith
 
 -- "of all other instances the weight is no higher than before": after a step, only those of its new facts are weighed
-pub top-after : (D : Domain) (fs : List Fact) (es : List Event) (t : ℕ) → topWeight D fs ≤ t
-    → max t (topWeight D (factsAfter D fs es))
-    ≡ max t (topFrom D (factsAfter D fs es) (length (filterBy (λ f. not (elem sameFact f (stepFacts D es Delete))) fs)))
+pub top-after : (D : Domain) (objs : List Object) (fs : List Fact) (es : List Event) (t : ℕ) → topWeight D fs ≤ t
+    → max t (topWeight D (factsAfter D objs fs es))
+    ≡ max t (topFrom D (factsAfter D objs fs es) (length (filterBy (λ f. not (elem sameFact f (stepFacts D objs es Delete))) fs)))
 unfolding factsAfter
-top-after D fs es t h = top-kept D fs (filterBy (λ f. not (elem sameFact f kept-facts)) (dedup sameFact (stepFacts D es Add))) (λ f. not (elem sameFact f (stepFacts D es Delete))) t h
+top-after D objs fs es t h = top-kept D fs (filterBy (λ f. not (elem sameFact f kept-facts)) (dedup sameFact (stepFacts D objs es Add))) (λ f. not (elem sameFact f (stepFacts D objs es Delete))) t h
   where
     kept-facts : List Fact
-    kept-facts = filterBy (λ f. not (elem sameFact f (stepFacts D es Delete))) fs
+    kept-facts = filterBy (λ f. not (elem sameFact f (stepFacts D objs es Delete))) fs

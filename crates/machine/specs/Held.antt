@@ -7,6 +7,7 @@ use lib.Dec.{eqb}
 use lib.ListN.{length, getD}
 use Rattle.records.specs.Lists.{In, all, distinct}
 use Rattle.records.specs.Memory.{over}
+use Rattle.literals.specs.declared.Object.{Object}
 use Rattle.literals.specs.Domain.{Fact, sameFact, Domain}
 use Rattle.literals.specs.Table.{rowsIn}
 use Rattle.literals.specs.Held.{Held}
@@ -16,7 +17,7 @@ use Rattle.machine.specs.declared.Counts.{Counts}
 use Rattle.run_semantics.specs.RunFile.{maxFacts, maxRunning, maxEvents}
 use Rattle.run_semantics.specs.Play.{workBytes, forbidden, tooLarge, heldBytes}
 use Rattle.store.specs.Rows.{factRow, FactFits}
-use Rattle.events.specs.Held.{Open, Waiting, openOf, waitingOf, openIn, waitingIn, GroundsFit, EventsFit}
+use Rattle.events.specs.Held.{Open, Waiting, openOf, waitingOf, openIn, waitingIn, GroundsFit, EventsFit, Chosen}
 use Rattle.effects.specs.Held.{Once}
 
 -- ---- what the code holds
@@ -35,8 +36,8 @@ abbrev pub stateIn : Counts → List ℕ → StateRows
 stateIn counts agenda =
     record { facts = counts .facts; running = openIn (counts .opened) agenda; waiting = waitingIn (counts .waits) agenda }
 
--- facts, entries and events of the domain, within the player's limits, and no fact twice
-pub record Kept (D : Domain) (s : State) (es : List Event) : Type 0 where
+-- facts, entries and events of the domain over the chosen objects, within the player's limits, and no fact twice
+pub record Kept (D : Domain) (objs : List Object) (s : State) (es : List Event) : Type 0 where
   pub facts : (f : Fact) → In f (s .facts) → FactFits D f
   pub facts-few : length (s .facts) ≤ maxFacts
   pub facts-once : distinct sameFact (s .facts) ≡ true
@@ -44,20 +45,23 @@ pub record Kept (D : Domain) (s : State) (es : List Event) : Type 0 where
   pub running-few : length (s .running) ≤ maxRunning
   pub waiting : EventsFit D es
   pub waiting-few : length es ≤ maxEvents
+  pub chosen : Chosen D objs (s .facts) (s .running)
+  pub waiting-over : (e : Event) → In e es → (o : Object) → In o (e .ground .binding) → In o objs
 
--- what the memories hold when a step is closed: a domain, a state, and the events that wait, in work memory that was `old` before
--- the run
-pub record StepHeld (D : Domain) (s : State) (es : List Event) (head table : List ℕ) (state : StateRows) (work old : List ℕ)
-    : Type 0 where
+-- what the memories hold when a step is closed: a domain, a state over chosen objects, of which there is one, and the events that wait,
+-- in work memory that was `old` before the run
+pub record StepHeld (D : Domain) (objs : List Object) (s : State) (es : List Event) (head table : List ℕ) (state : StateRows)
+    (work old : List ℕ) : Type 0 where
   pub domain : Held D head table
-  pub kept : Kept D s es
+  pub some : (o : Object) × In o objs
+  pub kept : Kept D objs s es
   pub state-is : state ≡ stateOf s es
   pub facts-are : work ≡ over (heldBytes (s .facts)) old
 
 -- the index of the facts, whose last number is 1 only where the over-all conditions of every open entry are known to hold
-pub record Noted (D : Domain) (head index : List ℕ) (s : State) : Type 0 where
+pub record Noted (D : Domain) (objs : List Object) (head index : List ℕ) (s : State) : Type 0 where
   pub indexed : Indexed head index (map factRow (s .facts))
-  pub settled : getD index noteAt 0 ≡ 1 → all (overAllHold D (s .facts)) (s .running) ≡ true
+  pub settled : getD index noteAt 0 ≡ 1 → all (overAllHold D objs (s .facts)) (s .running) ≡ true
 
 -- ---- what the code relies on
 
@@ -70,32 +74,32 @@ pub record Closable (facts : ℕ) (work : List ℕ) : Type 0 where
 -- ---- the step's close
 
 -- the number that forbids a step, or that it is too large, or 0
-unfoldable pub closeStop : Domain → State → List Event → ℕ
+unfoldable pub closeStop : Domain → List Object → State → List Event → ℕ
 unfolding forbidden next
-closeStop D s es = cond (eqb (forbidden D s es) 0) (cond (tooLarge (next D s es)) 52 0) (forbidden D s es)
+closeStop D objs s es = cond (eqb (forbidden D objs s es) 0) (cond (tooLarge (next D objs s es)) 52 0) (forbidden D objs s es)
 
 -- the state afterwards, and the events that then wait
-unfoldable pub closeState : Domain → State → List Event → State
+unfoldable pub closeState : Domain → List Object → State → List Event → State
 unfolding closeStop next
-closeState D s es = cond (eqb (closeStop D s es) 0) (next D s es) s
+closeState D objs s es = cond (eqb (closeStop D objs s es) 0) (next D objs s es) s
 
-unfoldable pub closeWaiting : Domain → State → List Event → List Event
+unfoldable pub closeWaiting : Domain → List Object → State → List Event → List Event
 unfolding closeStop
-closeWaiting D s es = cond (eqb (closeStop D s es) 0) [] es
+closeWaiting D objs s es = cond (eqb (closeStop D objs s es) 0) [] es
 
 -- the highest weight then
-unfoldable pub closeWeight : Domain → State → List Event → ℕ → ℕ
+unfoldable pub closeWeight : Domain → List Object → State → List Event → ℕ → ℕ
 unfolding closeStop next topWeight
-closeWeight D s es w = cond (eqb (closeStop D s es) 0) (max w (topWeight D (next D s es .facts))) w
+closeWeight D objs s es w = cond (eqb (closeStop D objs s es) 0) (max w (topWeight D (next D objs s es .facts))) w
 
 -- what is held after a step that nothing forbids: with 0 what it leads to, else what was
 abbrev pub stateThen : ℕ → StateRows → StateRows → StateRows
 stateThen number then before = cond (eqb number 0) then before
 
 -- all that a close leaves, of the highest weight w before it and of work memory that was `old` before the run
-pub record Leaves (D : Domain) (s : State) (es : List Event) (old : List ℕ) (w : ℕ) (number : ℕ) (state : StateRows) (weight : ℕ)
-    (work : List ℕ) : Type 0 where
-  pub number-is : number ≡ closeStop D s es
-  pub state-is : state ≡ stateOf (closeState D s es) (closeWaiting D s es)
-  pub weight-is : weight ≡ closeWeight D s es w
-  pub work-is : work ≡ over (heldBytes (closeState D s es .facts)) old
+pub record Leaves (D : Domain) (objs : List Object) (s : State) (es : List Event) (old : List ℕ) (w : ℕ) (number : ℕ)
+    (state : StateRows) (weight : ℕ) (work : List ℕ) : Type 0 where
+  pub number-is : number ≡ closeStop D objs s es
+  pub state-is : state ≡ stateOf (closeState D objs s es) (closeWaiting D objs s es)
+  pub weight-is : weight ≡ closeWeight D objs s es w
+  pub work-is : work ≡ over (heldBytes (closeState D objs s es .facts)) old

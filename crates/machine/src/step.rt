@@ -23,7 +23,9 @@ ghost use mathlib.Core.Path.{_≡_};
 ghost use mathlib.Core.List.{List, [], _++_, map};
 ghost use Prim.Native.Nat.{ℕ, _-_, _*_, _<_, _≤_};
 ghost use lib.ListN.{length, getD, take, replicate};
+ghost use Rattle.records.specs.Lists.{In};
 ghost use Rattle.records.specs.Memory.{over};
+ghost use Rattle.literals.specs.declared.Object.{Object};
 ghost use Rattle.literals.specs.Domain.{Domain};
 ghost use Rattle.literals.specs.Table.{rowsIn};
 ghost use Rattle.literals.specs.Held.{Held};
@@ -92,11 +94,12 @@ fn forbidden(
     requires few { ⌜ counts .facts ≤ maxFacts ⌝ }
     requires facts { ⌜ 8 * counts .facts ≤ length (now work) ⌝ }
     ensures few { λ r. ⌜ r .literals ≤ maxGround ⌝ }
-    ensures asked { λ r. ⌜ ((D : Domain) (s : MachineState) (es : List Event)
-        → Held D (now (head .entry)) (now (table .entry)) → Kept D s es → stateIn counts (now (agenda .entry)) ≡ stateOf s es
+    ensures asked { λ r. ⌜ ((D : Domain) (objs : List Object) (s : MachineState) (es : List Event)
+        → Held D (now (head .entry)) (now (table .entry)) → (o : Object) × In o objs → Kept D objs s es
+        → stateIn counts (now (agenda .entry)) ≡ stateOf s es
         → rowsIn (counts .facts) (now (work .entry)) ≡ map factRow (s .facts)
         → Indexed (now (head .entry)) (now (index .entry)) (map factRow (s .facts))
-        → (r .number ≡ forbidden D s es)
+        → (r .number ≡ forbidden D objs s es)
         × (r .number ≡ 0 → Grounded D (now (head .entry)) es (now (memory .exit)) (r .literals))) ⌝ }
 {
     let entries = &agenda[0..MOMENTS_AT];
@@ -159,20 +162,20 @@ fn advance(
     requires agenda { ⌜ length (now agenda) ≡ agendaBytes ⌝ }
     requires scratch { ⌜ length (now scratch) ≡ scratchBytes ⌝ }
     requires literals { ⌜ literals ≤ maxGround ⌝ }
-    ensures leaves { λ r. ⌜ ((D : Domain) (s : MachineState) (es : List Event) (table old : List ℕ)
-        → StepHeld D s es (now (head .entry)) table (stateIn counts (now (agenda .entry))) (now (work .entry)) old
+    ensures leaves { λ r. ⌜ ((D : Domain) (objs : List Object) (s : MachineState) (es : List Event) (table old : List ℕ)
+        → StepHeld D objs s es (now (head .entry)) table (stateIn counts (now (agenda .entry))) (now (work .entry)) old
         → Grounded D (now (head .entry)) es (literalsIn (now (scratch .entry))) literals
-        → topWeight D (s .facts) ≤ weight → forbidden D s es ≡ 0
+        → topWeight D (s .facts) ≤ weight → forbidden D objs s es ≡ 0
         → Indexed (now (head .entry)) (now (index .entry)) (map factRow (s .facts))
-        → Leaves D s es old weight (r .number)
+        → Leaves D objs s es old weight (r .number)
         (stateThen (r .number) (stateIn (r .counts) (now (agenda .exit))) (stateIn counts (now (agenda .entry))))
         (r .weight) (now (work .exit))) ⌝ }
-    ensures indexed { λ r. ⌜ ((D : Domain) (s : MachineState) (es : List Event) (table old : List ℕ)
-        → StepHeld D s es (now (head .entry)) table (stateIn counts (now (agenda .entry))) (now (work .entry)) old
+    ensures indexed { λ r. ⌜ ((D : Domain) (objs : List Object) (s : MachineState) (es : List Event) (table old : List ℕ)
+        → StepHeld D objs s es (now (head .entry)) table (stateIn counts (now (agenda .entry))) (now (work .entry)) old
         → Grounded D (now (head .entry)) es (literalsIn (now (scratch .entry))) literals
-        → forbidden D s es ≡ 0
+        → forbidden D objs s es ≡ 0
         → Indexed (now (head .entry)) (now (index .entry)) (map factRow (s .facts))
-        → r .number ≡ 0 → Indexed (now (head .entry)) (now (index .exit)) (map factRow (closeState D s es .facts))) ⌝ }
+        → r .number ≡ 0 → Indexed (now (head .entry)) (now (index .exit)) (map factRow (closeState D objs s es .facts))) ⌝ }
     ensures beside { λ _. ⌜ getD (now (index .exit)) noteAt 0 ≡ getD (now (index .entry)) noteAt 0 ⌝ }
 {
     let after = facts_after(head, work, counts.facts, scratch, literals, index);
@@ -220,12 +223,12 @@ fn rest(
     requires memory { ⌜ length (now memory) ≡ groundedBytes ⌝ }
     requires few { ⌜ counts .facts ≤ maxFacts ⌝ }
     requires facts { ⌜ 8 * counts .facts ≤ length (now work) ⌝ }
-    ensures { λ r. ⌜ ((D : Domain) (s : MachineState)
-        → Held D (now (head .entry)) (now (table .entry)) → Kept D s []
+    ensures { λ r. ⌜ ((D : Domain) (objs : List Object) (s : MachineState)
+        → Held D (now (head .entry)) (now (table .entry)) → Kept D objs s []
         → openIn (counts .opened) (now (agenda .entry)) ≡ openOf (s .running)
         → rowsIn (counts .facts) (now (work .entry)) ≡ map factRow (s .facts)
-        → Noted D (now (head .entry)) (now (index .entry)) s
-        → (r ≡ closeStop D s []) × (r ≡ 0 → Noted D (now (head .entry)) (now (index .exit)) (closeState D s []))) ⌝ }
+        → Noted D objs (now (head .entry)) (now (index .entry)) s
+        → (r ≡ closeStop D objs s []) × (r ≡ 0 → Noted D objs (now (head .entry)) (now (index .exit)) (closeState D objs s []))) ⌝ }
 {
     if index[NOTE] != 1 {
         if !open_met(
@@ -260,14 +263,14 @@ impl State {
     ) -> Closed
         requires closable { ⌜ Closable (self .counts .facts) (now work) ⌝ }
         requires scratch { ⌜ length (now scratch) ≡ scratchBytes ⌝ }
-        ensures leaves { λ r. ⌜ ((D : Domain) (s : MachineState) (es : List Event) (old : List ℕ)
-            → StepHeld D s es (now (head .entry)) (now (table .entry)) (stateIn (self .counts) (self .agenda)) (now (work .entry)) old
-            → topWeight D (s .facts) ≤ weight → Noted D (now (head .entry)) (now (index .entry)) s
-            → Leaves D s es old weight (r .number) (stateIn (r .state .counts) (r .state .agenda)) (r .weight) (now (work .exit))) ⌝ }
-        ensures noted { λ r. ⌜ ((D : Domain) (s : MachineState) (es : List Event) (old : List ℕ)
-            → StepHeld D s es (now (head .entry)) (now (table .entry)) (stateIn (self .counts) (self .agenda)) (now (work .entry)) old
-            → Noted D (now (head .entry)) (now (index .entry)) s
-            → r .number ≡ 0 → Noted D (now (head .entry)) (now (index .exit)) (closeState D s es)) ⌝ }
+        ensures leaves { λ r. ⌜ ((D : Domain) (objs : List Object) (s : MachineState) (es : List Event) (old : List ℕ)
+            → StepHeld D objs s es (now (head .entry)) (now (table .entry)) (stateIn (self .counts) (self .agenda)) (now (work .entry)) old
+            → topWeight D (s .facts) ≤ weight → Noted D objs (now (head .entry)) (now (index .entry)) s
+            → Leaves D objs s es old weight (r .number) (stateIn (r .state .counts) (r .state .agenda)) (r .weight) (now (work .exit))) ⌝ }
+        ensures noted { λ r. ⌜ ((D : Domain) (objs : List Object) (s : MachineState) (es : List Event) (old : List ℕ)
+            → StepHeld D objs s es (now (head .entry)) (now (table .entry)) (stateIn (self .counts) (self .agenda)) (now (work .entry)) old
+            → Noted D objs (now (head .entry)) (now (index .entry)) s
+            → r .number ≡ 0 → Noted D objs (now (head .entry)) (now (index .exit)) (closeState D objs s es)) ⌝ }
     {
         let counts = self.counts;
         let mut agenda = self.agenda;

@@ -5,13 +5,12 @@ use Prim.Native.Nat.{ℕ, _-_, _*_}
 use native.Mathlib.Omega.{arith}
 use lib.ListN.{length, drop, length-drop}
 use borrow.Author.Needs.{needs}
-use Rattle.literals.specs.declared.Usage.the-variants.{Add, Delete}
 use Rattle.literals.specs.Table.{rowsIn}
 use Rattle.events.specs.Grounding.{GroundLiteral, groundIn}
 use Rattle.events.proofs.GroundLiterals.{length-ground}
 use Rattle.effects.specs.Held.{effectsIn, literalsIn, rowsWith}
 use Rattle.effects.proofs.FilledRows.{effects-length, kept-few, kept-effects}
-use Rattle.effects.proofs.EffectRows.{two-few, told, grounded-rows, step-sized}
+use Rattle.effects.proofs.EffectRows.{two-few, told, effects-of}
 use Rattle.effects.proofs.StepFacts.{Done, after-few, holds-after}
 use Rattle.effects.proofs.facts_after.Statement.{statement}
 use Rattle.effects.proofs.facts_after.Tie as tie
@@ -141,11 +140,9 @@ returns c =
     let still = kept-effects (rowsIn m struck) (a .work .now) (a .n) (p .0) (p .1 .0) (then .last .0) (keeps .ensures .1 .0) in (
       after-few X,
       (
-        λ D es fs G u I.
-            holds-after X D es fs
-            (T .struck ∙ grounded-rows G Delete)
-            (ap (λ (t : List ℕ). rowsIn (then .result - m) (drop (8 * m) t)) still ∙ T .added ∙ grounded-rows G Add)
-            u I (step-sized (G .says) Add es (G .fit)),
+        λ D objs es fs C G u I.
+            holds-after X
+            (effects-of G C (T .struck) (ap (λ (t : List ℕ). rowsIn (then .result - m) (drop (8 * m) t)) still ∙ T .added)) u I,
         joins .ensures .1 .1 ∙ keeps .ensures .1 .1 .1,
       ),
     )

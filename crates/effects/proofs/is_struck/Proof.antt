@@ -1,4 +1,4 @@
--- `is_struck` meets its contract: an unmarked row is none of those struck. Assumes nothing.
+-- `is_struck` meets its contract: where there are patterns, by rows that meet; else an unmarked row is none of those struck. Assumes nothing.
 use mathlib.Core.Path.{sym, ap, _∙_}
 use mathlib.Core.List.{List}
 use Prim.Native.Nat.{ℕ}
@@ -8,9 +8,20 @@ use borrow.Author.Needs.{needs}
 use Rattle.literals.specs.Table.{rowsIn}
 use Rattle.literals.proofs.Rows.{part-at}
 use Rattle.store.specs.Rows.{hasRow}
+use Rattle.effects.proofs.FilledRows.{struck-by}
 use Rattle.effects.proofs.IndexedRows.{unmarked}
 use Rattle.effects.proofs.is_struck.Statement.{statement}
 use Rattle.effects.proofs.is_struck.Tie as tie
+
+any-meets-requires : tie.Need-any-meets-requires
+any-meets-requires c κs = search needs
+
+returns : tie.Need-returns
+returns c =
+    let a = c .before .before .before .before .before .args in
+    let p = c .before .before .before .before .before .pre in
+    c .any-meets .ensures
+    ∙ sym (struck-by (rowsIn (a .m) (a .struck .now)) (take 8 (drop (a .at) (a .work .now))) (sym (p .1 .1 .1 .1) ∙ c .before .if1 .taken))
 
 add-wide : tie.Need-add-wide
 add-wide c = search needs
@@ -21,16 +32,18 @@ shared-slice-read-wide c = search needs
 wide-requires : tie.Need-wide-requires
 wide-requires c κs = search needs
 
-shared-slice-read-if1 : tie.Need-shared-slice-read-if1
-shared-slice-read-if1 c = let w = c .before .wide .ensures .1 in let p = c .before .before .before .before .before .before .pre .1 .0 in omega arith
+shared-slice-read-if2 : tie.Need-shared-slice-read-if2
+shared-slice-read-if2 c = let w = c .before .wide .ensures .1 in let p = c .before .before .before .before .before .before .before .pre .1 .0 in omega arith
 
-returns : tie.Need-returns
-returns c =
-    let a = c .before .before .before .before .before .before .before .args in
-    let p = c .before .before .before .before .before .before .before .pre in
+returns-2 : tie.Need-returns-2
+returns-2 c =
+    let a = c .before .before .before .before .before .before .before .before .args in
+    let p = c .before .before .before .before .before .before .before .before .pre in
     let w = c .before .before .wide .ensures .0 in
-    unmarked (a .marks .now) (rowsIn (a .m) (a .struck .now)) (take 8 (drop (a .at) (a .work .now))) (p .1 .1 .1)
-    (ap (λ (i : ℕ). getD (a .marks .now) i 0) (part-at 8 (a .work .now) (a .at) (p .0) 2 (omega arith) ∙ sym w) ∙ c .if1 .taken)
+    unmarked (a .marks .now) (rowsIn (a .m) (a .struck .now)) (take 8 (drop (a .at) (a .work .now))) (p .1 .1 .1 .0)
+    (ap (λ (i : ℕ). getD (a .marks .now) i 0) (part-at 8 (a .work .now) (a .at) (p .0) 2 (omega arith) ∙ sym w) ∙ c .if2 .taken)
+    ∙ sym (struck-by (rowsIn (a .m) (a .struck .now)) (take 8 (drop (a .at) (a .work .now)))
+    (sym (p .1 .1 .1 .1) ∙ c .before .before .before .before .if1 .left))
 
 row-at-requires : tie.Need-row-at-requires
 row-at-requires c κs = search needs
@@ -38,18 +51,26 @@ row-at-requires c κs = search needs
 has-row-requires : tie.Need-has-row-requires
 has-row-requires c κs = search needs
 
-returns-2 : tie.Need-returns-2
-returns-2 c = let a = c .before .before .before .before .before .before .before .before .before .args in c .has-row .ensures ∙ ap (λ (r : List ℕ). hasRow r (rowsIn (a .m) (a .struck .now))) (c .before .row-at .ensures)
+returns-3 : tie.Need-returns-3
+returns-3 c =
+    let a = c .before .before .before .before .before .before .before .before .before .before .args in
+    let p = c .before .before .before .before .before .before .before .before .before .before .pre in
+    c .has-row .ensures
+    ∙ ap (λ (r : List ℕ). hasRow r (rowsIn (a .m) (a .struck .now))) (c .before .row-at .ensures)
+    ∙ sym (struck-by (rowsIn (a .m) (a .struck .now)) (take 8 (drop (a .at) (a .work .now)))
+    (sym (p .1 .1 .1 .1) ∙ c .before .before .before .before .before .before .if1 .left))
 
 pub is-struck-spec : {M : Type 1} → statement M
 is-struck-spec =
     tie.close
     (tie.spec
+    any-meets-requires
+    returns
     add-wide
     shared-slice-read-wide
     wide-requires
-    shared-slice-read-if1
-    returns
+    shared-slice-read-if2
+    returns-2
     row-at-requires
     has-row-requires
-    returns-2)
+    returns-3)

@@ -6,7 +6,9 @@ use native.Mathlib.Omega.{arith}
 use lib.ListN.{length, drop, length-drop}
 use lib.Seq.{length-take-le}
 use borrow.Author.Needs.{needs}
+use Rattle.records.specs.Lists.{any}
 use Rattle.literals.specs.Table.{rowsIn}
+use Rattle.events.specs.Held.{isPattern}
 use Rattle.effects.specs.Held.{effectsIn, Marked, struckOf, FirstStruck}
 use Rattle.effects.proofs.FilledRows.{effects-length, filled-length}
 use Rattle.effects.proofs.IndexedRows.{Keeping, keeping-effects, keeping-begin, keeping-count, keeping-rows, keeping-indexed}
@@ -15,10 +17,10 @@ use Rattle.effects.proofs.keep_rows.Statement.{statement}
 use Rattle.effects.proofs.keep_rows.Tie as tie
 
 abbrev Inv-loop : tie.InvT-loop
-Inv-loop head work n out₀ m index₀ marks k₀ i₀ out index k i = Keeping (rowsIn m (effectsIn out₀)) work n head out₀ index₀ out index k i
+Inv-loop head work n out₀ m index₀ marks patterns k₀ i₀ out index k i = Keeping (rowsIn m (effectsIn out₀)) work n head out₀ index₀ out index k i
 
 abbrev μ-loop : tie.MeasureT-loop
-μ-loop head work n out₀ m index₀ marks k₀ i₀ out index k i = n - i
+μ-loop head work n out₀ m index₀ marks patterns k₀ i₀ out index k i = n - i
 
 slice-aggregate-put-marks : tie.Need-slice-aggregate-put-marks Inv-loop μ-loop
 slice-aggregate-put-marks c = search needs
@@ -39,9 +41,25 @@ put-marks-requires c κs =
     let l = effects-length (c .before .before .before .before .before .args .scratch .now) (p .1 .1 .1 .0) in
     (search needs, omega arith)
 
+sub-has-pattern : tie.Need-sub-has-pattern Inv-loop μ-loop
+sub-has-pattern c = search needs
+
+part-has-pattern-start : tie.Need-part-has-pattern-start Inv-loop μ-loop
+part-has-pattern-start c = search needs
+
+part-has-pattern-end : tie.Need-part-has-pattern-end Inv-loop μ-loop
+part-has-pattern-end c = search needs
+
+has-pattern-requires : tie.Need-has-pattern-requires Inv-loop μ-loop
+has-pattern-requires c κs =
+    let p = c .before .before .before .before .before .before .before .before .before .pre in
+    let m = p .1 .1 .0 in
+    let l = effects-length (c .before .before .before .before .before .before .before .before .before .args .scratch .now) (p .1 .1 .1 .0) in
+    omega arith
+
 loop-holds : tie.Need-loop-holds Inv-loop μ-loop
 loop-holds c =
-    let a = c .before .before .before .before .before .before .before .args in
+    let a = c .before .before .before .before .before .before .before .before .before .before .args in
     keeping-begin (rowsIn (a .m) (effectsIn (a .scratch .now))) (a .work .now) (a .n) (a .head .now) (a .scratch .now) (a .index .now)
 
 sub-struck-from : tie.Need-sub-struck-from Inv-loop μ-loop
@@ -57,37 +75,37 @@ part-struck-from-start : tie.Need-part-struck-from-start Inv-loop μ-loop
 part-struck-from-start c = search needs
 
 part-struck-from-end : tie.Need-part-struck-from-end Inv-loop μ-loop
-part-struck-from-end c = let l = filled-length (c .before .before .loop .inv .filled) in let p = c .before .before .before .before .before .before .before .before .before .before .pre .1 .1 .1 .0 in omega arith
+part-struck-from-end c = let l = filled-length (c .before .before .loop .inv .filled) in let p = c .before .before .before .before .before .before .before .before .before .before .before .before .before .pre .1 .1 .1 .0 in omega arith
 
 struck-from-requires : tie.Need-struck-from-requires Inv-loop μ-loop
 struck-from-requires c κs =
-    let p = c .before .before .before .before .before .before .before .before .before .before .before .pre in
-    let a = c .before .before .before .before .before .before .before .before .before .before .before .args in
+    let p = c .before .before .before .before .before .before .before .before .before .before .before .before .before .before .pre in
+    let a = c .before .before .before .before .before .before .before .before .before .before .before .before .before .before .args in
     let K = c .before .before .before .loop .inv in
     let t = keeping-effects K (p .0) in
     let m = p .1 .1 .0 in
     let l = effects-length (c .before .before .before .loop .scratch) (filled-length (K .filled) ∙ p .1 .1 .1 .0) in
-    let g : 256 ≡ length (c .before .before .before .before .before .put-marks .last .0) = search needs in
-    (p .0, (p .1 .0, (K .reach, (sym g, (omega arith, (subst (λ (t : List ℕ). Marked (c .before .before .before .before .before .put-marks .last .0) (rowsIn (a .m) t)) (sym t) (c .before .before .before .before .before .put-marks .ensures), (p .1 .1 .1 .1, gone-count K ∙ ap (λ (t : List ℕ). struckOf (rowsIn (a .m) t) (a .work .now) (c .before .before .before .loop .i)) (sym t))))))))
+    let g : 256 ≡ length (c .before .before .before .before .before .before .before .before .put-marks .last .0) = search needs in
+    (p .0, (p .1 .0, (K .reach, (sym g, (omega arith, (subst (λ (t : List ℕ). Marked (c .before .before .before .before .before .before .before .before .put-marks .last .0) (rowsIn (a .m) t)) (sym t) (c .before .before .before .before .before .before .before .before .put-marks .ensures), (p .1 .1 .1 .1, (gone-count K ∙ ap (λ (t : List ℕ). struckOf (rowsIn (a .m) t) (a .work .now) (c .before .before .before .loop .i)) (sym t), c .before .before .before .before .has-pattern .ensures ∙ ap (λ (t : List ℕ). any isPattern (rowsIn (a .m) t)) (sym t)))))))))
 
 -- the next row that is struck, by what was struck when the loop began
 struck-now : (b : tie.After-struck-from Inv-loop μ-loop)
-    → FirstStruck (rowsIn (b .before .before .before .before .before .before .before .before .before .before .before .before .args .m) (effectsIn (b .before .before .before .before .before .before .before .before .before .before .before .before .args .scratch .now))) (b .before .before .before .before .before .before .before .before .before .before .before .before .args .work .now) (b .before .before .before .before .before .before .before .before .before .before .before .before .args .n) (b .before .before .before .before .loop .i) (b .struck-from .result)
+    → FirstStruck (rowsIn (b .before .before .before .before .before .before .before .before .before .before .before .before .before .before .before .args .m) (effectsIn (b .before .before .before .before .before .before .before .before .before .before .before .before .before .before .before .args .scratch .now))) (b .before .before .before .before .before .before .before .before .before .before .before .before .before .before .before .args .work .now) (b .before .before .before .before .before .before .before .before .before .before .before .before .before .before .before .args .n) (b .before .before .before .before .loop .i) (b .struck-from .result)
 struck-now b =
-    subst (λ (t : List ℕ). FirstStruck (rowsIn (b .before .before .before .before .before .before .before .before .before .before .before .before .args .m) t) (b .before .before .before .before .before .before .before .before .before .before .before .before .args .work .now) (b .before .before .before .before .before .before .before .before .before .before .before .before .args .n) (b .before .before .before .before .loop .i) (b .struck-from .result))
-    (keeping-effects (b .before .before .before .before .loop .inv) (b .before .before .before .before .before .before .before .before .before .before .before .before .pre .0)) (b .struck-from .ensures)
+    subst (λ (t : List ℕ). FirstStruck (rowsIn (b .before .before .before .before .before .before .before .before .before .before .before .before .before .before .before .args .m) t) (b .before .before .before .before .before .before .before .before .before .before .before .before .before .before .before .args .work .now) (b .before .before .before .before .before .before .before .before .before .before .before .before .before .before .before .args .n) (b .before .before .before .before .loop .i) (b .struck-from .result))
+    (keeping-effects (b .before .before .before .before .loop .inv) (b .before .before .before .before .before .before .before .before .before .before .before .before .before .before .before .pre .0)) (b .struck-from .ensures)
 
 room-of : (b : tie.Start Inv-loop μ-loop) → 8 * b .args .n ≤ length (b .args .scratch .now)
 room-of b = let n = b .pre .0 in let l = b .pre .1 .1 .1 .0 in omega arith
 
 mul-from : tie.Need-mul-from Inv-loop μ-loop
-mul-from c = let r = c .before .before .before .before .loop .inv .reach in let p = c .before .before .before .before .before .before .before .before .before .before .before .before .pre .0 in omega arith
+mul-from c = let r = c .before .before .before .before .loop .inv .reach in let p = c .before .before .before .before .before .before .before .before .before .before .before .before .before .before .before .pre .0 in omega arith
 
 mul-to : tie.Need-mul-to Inv-loop μ-loop
-mul-to c = let e = c .struck-from .ensures .within in let p = c .before .before .before .before .before .before .before .before .before .before .before .before .pre .0 in omega arith
+mul-to c = let e = c .struck-from .ensures .within in let p = c .before .before .before .before .before .before .before .before .before .before .before .before .before .before .before .pre .0 in omega arith
 
 mul-put-bytes : tie.Need-mul-put-bytes Inv-loop μ-loop
-mul-put-bytes c = let r = c .before .before .before .before .before .loop .inv .reach in let f = c .before .before .before .before .before .loop .inv .few in let p = c .before .before .before .before .before .before .before .before .before .before .before .before .before .pre .0 in omega arith
+mul-put-bytes c = let r = c .before .before .before .before .before .loop .inv .reach in let f = c .before .before .before .before .before .loop .inv .few in let p = c .before .before .before .before .before .before .before .before .before .before .before .before .before .before .before .before .pre .0 in omega arith
 
 sub-put-bytes : tie.Need-sub-put-bytes Inv-loop μ-loop
 sub-put-bytes c = let b = c .before .struck-from .ensures .behind in omega arith
@@ -96,11 +114,11 @@ part-put-bytes-start : tie.Need-part-put-bytes-start Inv-loop μ-loop
 part-put-bytes-start c = let b = c .before .struck-from .ensures .behind in omega arith
 
 part-put-bytes-end : tie.Need-part-put-bytes-end Inv-loop μ-loop
-part-put-bytes-end c = let e = c .before .struck-from .ensures .within in let p = c .before .before .before .before .before .before .before .before .before .before .before .before .before .pre .1 .0 in omega arith
+part-put-bytes-end c = let e = c .before .struck-from .ensures .within in let p = c .before .before .before .before .before .before .before .before .before .before .before .before .before .before .before .before .pre .1 .0 in omega arith
 
 put-bytes-requires : tie.Need-put-bytes-requires Inv-loop μ-loop
 put-bytes-requires c κs =
-    let p = c .before .before .before .before .before .before .before .before .before .before .before .before .before .before .pre in
+    let p = c .before .before .before .before .before .before .before .before .before .before .before .before .before .before .before .before .before .pre in
     let w = p .1 .0 in
     let o = p .1 .1 .1 .0 in
     let K = c .before .before .before .before .before .before .loop .inv in
@@ -109,42 +127,42 @@ put-bytes-requires c κs =
     let e = S .within in
     let f = K .few in
     let l = filled-length (K .filled) in
-    let d = length-drop (8 * c .before .before .before .before .before .before .loop .i) (c .before .before .before .before .before .before .before .before .before .before .before .before .before .before .args .work .now) in
-    let t = length-take-le (8 * c .before .before .struck-from .result - 8 * c .before .before .before .before .before .before .loop .i) (drop (8 * c .before .before .before .before .before .before .loop .i) (c .before .before .before .before .before .before .before .before .before .before .before .before .before .before .args .work .now)) (omega arith) in
+    let d = length-drop (8 * c .before .before .before .before .before .before .loop .i) (c .before .before .before .before .before .before .before .before .before .before .before .before .before .before .before .before .before .args .work .now) in
+    let t = length-take-le (8 * c .before .before .struck-from .result - 8 * c .before .before .before .before .before .before .loop .i) (drop (8 * c .before .before .before .before .before .before .loop .i) (c .before .before .before .before .before .before .before .before .before .before .before .before .before .before .before .before .before .args .work .now)) (omega arith) in
     omega arith
 
 sub-k : tie.Need-sub-k Inv-loop μ-loop
 sub-k c = c .before .before .before .before .before .struck-from .ensures .behind
 
 add-k : tie.Need-add-k Inv-loop μ-loop
-add-k c = let f = c .before .before .before .before .before .before .before .before .before .loop .inv .few in let e = c .before .before .before .before .before .struck-from .ensures .within in let b = c .before .before .before .before .before .struck-from .ensures .behind in let p = c .before .before .before .before .before .before .before .before .before .before .before .before .before .before .before .before .before .pre .0 in omega arith
+add-k c = let f = c .before .before .before .before .before .before .before .before .before .loop .inv .few in let e = c .before .before .before .before .before .struck-from .ensures .within in let b = c .before .before .before .before .before .struck-from .ensures .behind in let p = c .before .before .before .before .before .before .before .before .before .before .before .before .before .before .before .before .before .before .before .before .pre .0 in omega arith
 
 same-length : tie.Need-same-length Inv-loop μ-loop
-same-length c = filled-length (keeping-run (c .before .before .before .before .before .before .before .before .before .before .loop .inv) (c .before .before .before .before .before .before .struck-from .result) (struck-now (c .before .before .before .before .before .before)) (c .before .before .before .before .before .before .before .before .before .before .before .before .before .before .before .before .before .before .pre .1 .0) (room-of (c .before .before .before .before .before .before .before .before .before .before .before .before .before .before .before .before .before .before)) refl (c .before .before .before .put-bytes .ensures) .filled)
+same-length c = filled-length (keeping-run (c .before .before .before .before .before .before .before .before .before .before .loop .inv) (c .before .before .before .before .before .before .struck-from .result) (struck-now (c .before .before .before .before .before .before)) (c .before .before .before .before .before .before .before .before .before .before .before .before .before .before .before .before .before .before .before .before .before .pre .1 .0) (room-of (c .before .before .before .before .before .before .before .before .before .before .before .before .before .before .before .before .before .before .before .before .before)) refl (c .before .before .before .put-bytes .ensures) .filled)
 
 returns : tie.Need-returns Inv-loop μ-loop
 returns c =
-    let K = keeping-run (c .before .before .before .before .before .before .before .before .before .before .loop .inv) (c .before .before .before .before .before .before .struck-from .result) (struck-now (c .before .before .before .before .before .before)) (c .before .before .before .before .before .before .before .before .before .before .before .before .before .before .before .before .before .before .pre .1 .0) (room-of (c .before .before .before .before .before .before .before .before .before .before .before .before .before .before .before .before .before .before)) refl (c .before .before .before .put-bytes .ensures) in
+    let K = keeping-run (c .before .before .before .before .before .before .before .before .before .before .loop .inv) (c .before .before .before .before .before .before .struck-from .result) (struck-now (c .before .before .before .before .before .before)) (c .before .before .before .before .before .before .before .before .before .before .before .before .before .before .before .before .before .before .before .before .before .pre .1 .0) (room-of (c .before .before .before .before .before .before .before .before .before .before .before .before .before .before .before .before .before .before .before .before .before)) refl (c .before .before .before .put-bytes .ensures) in
     let r = K .reach in
-    let e : c .before .before .before .before .before .before .struck-from .result ≡ c .before .before .before .before .before .before .before .before .before .before .before .before .before .before .before .before .before .before .args .n = omega arith in
+    let e : c .before .before .before .before .before .before .struck-from .result ≡ c .before .before .before .before .before .before .before .before .before .before .before .before .before .before .before .before .before .before .before .before .before .args .n = omega arith in
     (keeping-count K e, (keeping-rows K e, (keeping-indexed K e, K .beside)))
 
 leave-requires : tie.Need-leave-requires Inv-loop μ-loop
 leave-requires c κs =
-    let p = c .before .before .before .before .before .before .before .before .before .before .before .before .before .before .before .before .before .before .before .pre in
+    let p = c .before .before .before .before .before .before .before .before .before .before .before .before .before .before .before .before .before .before .before .before .before .before .pre in
     let w = p .1 .0 in
     let t = c .before .if1 .left in
     omega arith
 
 add-i : tie.Need-add-i Inv-loop μ-loop
-add-i c = let e = c .before .before .before .before .before .before .before .before .struck-from .ensures .within in let p = c .before .before .before .before .before .before .before .before .before .before .before .before .before .before .before .before .before .before .before .before .pre .0 in omega arith
+add-i c = let e = c .before .before .before .before .before .before .before .before .struck-from .ensures .within in let p = c .before .before .before .before .before .before .before .before .before .before .before .before .before .before .before .before .before .before .before .before .before .before .before .pre .0 in omega arith
 
 loop-less : tie.Need-loop-less Inv-loop μ-loop
 loop-less c = let b = c .before .before .before .before .before .before .before .before .struck-from .ensures .behind in let t = c .before .before .if1 .left in omega arith
 
 loop-again : tie.Need-loop-again Inv-loop μ-loop
 loop-again c =
-    keeping-struck (c .before .before .before .before .before .before .before .before .before .before .before .before .loop .inv) (c .before .before .before .before .before .before .before .before .struck-from .result) (struck-now (c .before .before .before .before .before .before .before .before)) (c .before .before .before .before .before .before .before .before .before .before .before .before .before .before .before .before .before .before .before .before .pre .1 .0) (room-of (c .before .before .before .before .before .before .before .before .before .before .before .before .before .before .before .before .before .before .before .before)) refl (c .before .before .before .before .before .put-bytes .ensures)
+    keeping-struck (c .before .before .before .before .before .before .before .before .before .before .before .before .loop .inv) (c .before .before .before .before .before .before .before .before .struck-from .result) (struck-now (c .before .before .before .before .before .before .before .before)) (c .before .before .before .before .before .before .before .before .before .before .before .before .before .before .before .before .before .before .before .before .before .before .before .pre .1 .0) (room-of (c .before .before .before .before .before .before .before .before .before .before .before .before .before .before .before .before .before .before .before .before .before .before .before)) refl (c .before .before .before .before .before .put-bytes .ensures)
     (c .before .before .if1 .left) (c .leave .ensures .0) (c .leave .ensures .1)
 
 pub keep-rows-spec : {M : Type 1} → statement M
@@ -158,6 +176,10 @@ keep-rows-spec =
     part-put-marks-start
     part-put-marks-end
     put-marks-requires
+    sub-has-pattern
+    part-has-pattern-start
+    part-has-pattern-end
+    has-pattern-requires
     loop-holds
     sub-struck-from
     slice-aggregate-struck-from

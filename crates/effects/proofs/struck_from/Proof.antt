@@ -5,28 +5,30 @@ use Prim.Native.Nat.{ℕ, _-_, _*_, _≤_, _<_}
 use native.Mathlib.Omega.{arith}
 use lib.ListN.{take, drop}
 use borrow.Author.Needs.{needs}
+use Rattle.records.proofs.Lists.{not-true}
 use Rattle.literals.specs.Table.{rowsIn}
 use Rattle.literals.proofs.KeyRows.{length-rows}
-use Rattle.store.specs.Rows.{hasRow}
+use Rattle.effects.specs.Held.{isStruck}
 use Rattle.effects.proofs.KeptRuns.{others-more, all-gone}
 use Rattle.effects.proofs.struck_from.Statement.{statement}
 use Rattle.effects.proofs.struck_from.Tie as tie
 
 abbrev Inv-loop : tie.InvT-loop
-Inv-loop work n from gone marks struck m i₀ i =
-    (from ≤ i) × (i ≤ n) × ((j : ℕ) → from ≤ j → j < i → hasRow (take 8 (drop (8 * j) work)) (rowsIn m struck) ≡ false)
+Inv-loop work n from gone marks struck m patterns i₀ i =
+    (from ≤ i) × (i ≤ n) × ((j : ℕ) → from ≤ j → j < i → isStruck (rowsIn m struck) (take 8 (drop (8 * j) work)) ≡ false)
 
 abbrev μ-loop : tie.MeasureT-loop
-μ-loop work n from gone marks struck m i₀ i = n - i
+μ-loop work n from gone marks struck m patterns i₀ i = n - i
 
 returns : tie.Need-returns Inv-loop μ-loop
 returns c =
-    let a = c .before .before .before .before .args in
-    let p = c .before .before .before .before .pre in
-    let g = p .1 .1 .1 .1 .1 .1 .1 in
-    let t = c .if1 .taken in
+    let a = c .before .before .before .before .before .args in
+    let p = c .before .before .before .before .before .pre in
+    let g = p .1 .1 .1 .1 .1 .1 .1 .0 in
+    let t = c .if2 .taken in
     let l = length-rows 8 (a .m) (a .struck .now) in
-    all-gone (rowsIn (a .m) (a .struck .now)) (a .work .now) (a .n) (a .from) (p .1 .1 .0) (p .1 .1 .1 .1 .1 .1 .0) (omega arith)
+    all-gone (rowsIn (a .m) (a .struck .now)) (a .work .now) (a .n) (a .from) (p .1 .1 .0) (p .1 .1 .1 .1 .1 .1 .0)
+    (sym (p .1 .1 .1 .1 .1 .1 .1 .1) ∙ not-true (a .patterns) (c .before .if1 .taken)) (omega arith)
 
 loop-holds : tie.Need-loop-holds Inv-loop μ-loop
 loop-holds c = (omega arith, omega arith, λ j a b. absurd (omega arith))
@@ -40,7 +42,7 @@ is-struck-requires c κs = search needs
 returns-2 : tie.Need-returns-2 Inv-loop μ-loop
 returns-2 c =
     let l = c .before .before .before .loop in
-    let s = sym (c .before .is-struck .ensures) ∙ c .if2 .taken in
+    let s = sym (c .before .is-struck .ensures) ∙ c .if3 .taken in
     record { behind = l .inv .0; within = l .inv .1; others = l .inv .2; found = λ h. s }
 
 add-i : tie.Need-add-i Inv-loop μ-loop
@@ -52,8 +54,12 @@ loop-less c = omega arith
 loop-again : tie.Need-loop-again Inv-loop μ-loop
 loop-again c =
     let a = c .before .before .before .before .before .before .before .before .args in
-    let l = c .before .before .before .loop in
-    (omega arith, omega arith, others-more (rowsIn (a .m) (a .struck .now)) (a .work .now) (a .from) (l .i) (l .inv .2) (sym (c .before .is-struck .ensures) ∙ c .if2 .left))
+    let l = c .before .before .before .loop in (
+      omega arith,
+      omega arith,
+      others-more (rowsIn (a .m) (a .struck .now)) (a .work .now) (a .from) (l .i) (l .inv .2)
+          (sym (c .before .is-struck .ensures) ∙ c .if3 .left),
+    )
 
 returns-3 : tie.Need-returns-3 Inv-loop μ-loop
 returns-3 c =

@@ -11,10 +11,10 @@ use Rattle.applicability.proofs.interference.independent.Statement.{sta
 use Rattle.applicability.proofs.interference.independent.Tie as tie
 
 returns : tie.Need-returns
-returns c D head es G k h objs C = let t = c .if1 .taken in absurd (omega arith)
+returns c D head es G k h objs some C = let t = c .if1 .taken in absurd (omega arith)
 
 returns-2 : tie.Need-returns-2
-returns-2 c D head es G k h objs C = let t = c .if2 .taken in few-independent D objs es (omega arith)
+returns-2 c D head es G k h objs some C = let t = c .if2 .taken in few-independent D objs es (omega arith)
 
 slice-aggregate-put-words : tie.Need-slice-aggregate-put-words
 slice-aggregate-put-words c = search needs
@@ -35,10 +35,10 @@ all-apart-requires c κs =
     (p .0, (search needs, (omega arith, (p .1, c .before .before .before .put-words .ensures))))
 
 returns-3 : tie.Need-returns-3
-returns-3 c D head es G k h objs C =
+returns-3 c D head es G k h objs some C =
     c .all-apart .ensures (map (eventLiterals D) es) (length-map es (eventLiterals D) ∙ k) (G .laid)
     (all-told G (c .before .before .has-pattern .result) (c .before .before .has-pattern .ensures))
-    ∙ apart-independent (G .says) objs (C .some) (C .low) es (G .fit) (C .bindings)
+    ∙ apart-independent (G .says) objs some (C .low) es (G .fit) (C .bindings)
 
 pub independent-spec : {M : Type 1} → statement M
 independent-spec =

@@ -50,18 +50,18 @@ returns c =
     let state = stateIn (a .self .counts) (a .self .agenda) in
     let none = c .before .before .before .before .before .before .before .if1 .taken in
     let rests = c .before .before .rest in (
-      λ D s es old S under noted.
+      λ D objs s es old S under noted.
           let is = S .state-is in
           let rows = state-rows D (S .domain .says .bounded) s es (S .kept) state is (a .work .now) old (S .facts-are) in
           let e = no-events s es state is none in
-          let z = rests .ensures D s (S .domain) (kept-none (S .kept)) (ap (λ (h : StateRows). h .running) is) rows noted in
+          let z = rests .ensures D objs s (S .domain) (kept-none (S .kept)) (ap (λ (h : StateRows). h .running) is) rows noted in
           rw e
-          (rest-leaves D s old (a .weight) under (rests .result) (z .0) state (is ∙ ap (stateOf s) e) (a .work .now) (S .facts-are)),
-      λ D s es old S noted zero.
+          (rest-leaves D objs s old (a .weight) under (rests .result) (z .0) state (is ∙ ap (stateOf s) e) (a .work .now) (S .facts-are)),
+      λ D objs s es old S noted zero.
           let is = S .state-is in
           let rows = state-rows D (S .domain .says .bounded) s es (S .kept) state is (a .work .now) old (S .facts-are) in
           let e = no-events s es state is none in
-          let z = rests .ensures D s (S .domain) (kept-none (S .kept)) (ap (λ (h : StateRows). h .running) is) rows noted in
+          let z = rests .ensures D objs s (S .domain) (kept-none (S .kept)) (ap (λ (h : StateRows). h .running) is) rows noted in
           rw e (z .1 zero),
     )
 
@@ -101,13 +101,13 @@ returns-2 c =
     let state = stateIn (a .self .counts) (a .self .agenda) in
     let asks = c .before .before .before .before .forbidden in
     let some = c .if2 .taken in (
-      λ D s es old S under noted.
+      λ D objs s es old S under noted.
           let is = S .state-is in
           let rows = state-rows D (S .domain .says .bounded) s es (S .kept) state is (a .work .now) old (S .facts-are) in
           let held = indexed-set (a .head .now) (a .index .now) _ (map factRow (s .facts)) (noted .indexed) in
-          let f = asks .ensures .1 D s es (S .domain) (S .kept) is rows held in
-          leaves-forbidden D s es old (a .weight) (asks .result .number) (f .0) some state is (a .work .now) (S .facts-are),
-      λ D s es old S noted z. absurd (some z),
+          let f = asks .ensures .1 D objs s es (S .domain) (S .some) (S .kept) is rows held in
+          leaves-forbidden D objs s es old (a .weight) (asks .result .number) (f .0) some state is (a .work .now) (S .facts-are),
+      λ D objs s es old S noted z. absurd (some z),
     )
 
 slice-aggregate-advance : tie.Need-slice-aggregate-advance
@@ -164,16 +164,16 @@ returns-3 c =
     let large = c .if3 .taken in
     let put = literals-put (asks .last .1 .1 .1 .1 .0) _ (ground-length (c .before .before .before .before .before .before .before .before
     .before .before .before .before .before .before .before .before)) in (
-      λ D s es old S under noted.
+      λ D objs s es old S under noted.
           let is = S .state-is in
           let rows = state-rows D (S .domain .says .bounded) s es (S .kept) state is (a .work .now) old (S .facts-are) in
           let held = indexed-set (a .head .now) (a .index .now) _ (map factRow (s .facts)) (noted .indexed) in
-          let f = asks .ensures .1 D s es (S .domain) (S .kept) is rows held in
+          let f = asks .ensures .1 D objs s es (S .domain) (S .some) (S .kept) is rows held in
           let free = sym (f .0) ∙ nothing in
           let G = subst (λ (t : List ℕ). Grounded D (a .head .now) es t (asks .result .literals)) (sym put) (f .1 nothing) in
           state-refused (stateIn (x .result .counts) (x .last .1 .0)) state
-          (x .ensures .0 D s es (a .table .now) old S G under free held) large,
-      λ D s es old S noted z. absurd (large z),
+          (x .ensures .0 D objs s es (a .table .now) old S G under free held) large,
+      λ D objs s es old S noted z. absurd (large z),
     )
 
 same-length-7 : tie.Need-same-length-7
@@ -199,23 +199,23 @@ returns-4 c =
     let fits = c .before .if3 .left in
     let put = literals-put (asks .last .1 .1 .1 .1 .0) _ (ground-length (c .before .before .before .before .before .before .before .before
     .before .before .before .before .before .before .before .before .before)) in (
-      λ D s es old S under noted.
+      λ D objs s es old S under noted.
           let is = S .state-is in
           let rows = state-rows D (S .domain .says .bounded) s es (S .kept) state is (a .work .now) old (S .facts-are) in
           let held = indexed-set (a .head .now) (a .index .now) _ (map factRow (s .facts)) (noted .indexed) in
-          let f = asks .ensures .1 D s es (S .domain) (S .kept) is rows held in
+          let f = asks .ensures .1 D objs s es (S .domain) (S .some) (S .kept) is rows held in
           let free = sym (f .0) ∙ nothing in
           let G = subst (λ (t : List ℕ). Grounded D (a .head .now) es t (asks .result .literals)) (sym put) (f .1 nothing) in
-          state-taken (stateIn (x .result .counts) (x .last .1 .0)) state (x .ensures .0 D s es
+          state-taken (stateIn (x .result .counts) (x .last .1 .0)) state (x .ensures .0 D objs s es
           (a .table .now) old S G under free held) fits,
-      λ D s es old S noted z.
+      λ D objs s es old S noted z.
           let is = S .state-is in
           let rows = state-rows D (S .domain .says .bounded) s es (S .kept) state is (a .work .now) old (S .facts-are) in
           let held = indexed-set (a .head .now) (a .index .now) _ (map factRow (s .facts)) (noted .indexed) in
-          let f = asks .ensures .1 D s es (S .domain) (S .kept) is rows held in
+          let f = asks .ensures .1 D objs s es (S .domain) (S .some) (S .kept) is rows held in
           let free = sym (f .0) ∙ nothing in
           let G = subst (λ (t : List ℕ). Grounded D (a .head .now) es t (asks .result .literals)) (sym put) (f .1 nothing) in
-          noted-anew (a .head .now) D _ (closeState D s es) (x .ensures .1 .0 D s es (a .table .now) old S G free held fits)
+          noted-anew (a .head .now) D _ (closeState D objs s es) (x .ensures .1 .0 D objs s es (a .table .now) old S G free held fits)
           (x .ensures .1 .1 ∙ unset (a .index .now) (noted .indexed .numbers)),
     )
 

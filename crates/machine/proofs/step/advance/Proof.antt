@@ -6,6 +6,7 @@ use Rattle.records.proofs.Lists.{not-true, not-false}
 use Rattle.events.specs.Held.{openIn, waitingIn}
 use Rattle.machine.specs.Held.{StateRows, stateIn}
 use Rattle.machine.proofs.HeldBytes.{state-rows}
+use Rattle.machine.proofs.NextKept.{events-chosen}
 use Rattle.machine.proofs.Closing.{leaves-large, many-facts, many-open, after-few, after-fits}
 use Rattle.machine.proofs.Closing.{taken-rows, rows-indexed, taken-indexed, leaves-taken}
 use Rattle.machine.proofs.step.advance.Statement.{statement}
@@ -30,17 +31,17 @@ returns c =
     let a = c .before .before .before .before .before .before .before .before .before .before .args in
     let before = stateIn (a .counts) (a .agenda .now) in
     let x = c .before .before .before .facts-after in (
-      λ D s es table old S G under free held.
+      λ D objs s es table old S G under free held.
           let lent = S .domain in
           let kept = S .kept in
           let is = S .state-is in
           let w = ap (λ (h : StateRows). h .waiting) is in
           let B = lent .says .bounded in
           let rows = state-rows D B s es kept before is (a .work .now) old (S .facts-are) in
-          let e = x .ensures .1 .0 D es (s .facts) G rows held in
-          leaves-large D s es old (a .weight) free (many-facts D s es (x .result .facts) (e .facts) (c .if1 .taken)) before is
+          let e = x .ensures .1 .0 D objs es (s .facts) (events-chosen kept) G rows held in
+          leaves-large D objs s es old (a .weight) free (many-facts D objs s es (x .result .facts) (e .facts) (c .if1 .taken)) before is
           (a .work .now) (S .facts-are),
-      (λ D s es table old S G free held z. absurd (omega arith), x .ensures .1 .1),
+      (λ D objs s es table old S G free held z. absurd (omega arith), x .ensures .1 .1),
     )
 
 agenda-after-requires : tie.Need-agenda-after-requires
@@ -61,7 +62,7 @@ returns-2 c =
     .before .args in
     let before = stateIn (a .counts) (a .agenda .now) in
     let o = c .before .before .before .before .agenda-after in (
-      λ D s es table old S G under free held.
+      λ D objs s es table old S G under free held.
           let lent = S .domain in
           let kept = S .kept in
           let is = S .state-is in
@@ -69,10 +70,10 @@ returns-2 c =
           let B = lent .says .bounded in
           let f = o .ensures D (s .running) es (lent .says) (kept .running) (kept .waiting) (kept .running-few) (kept .waiting-few)
           (ap (λ (h : StateRows). h .running) is) w in
-          leaves-large D s es old (a .weight) free (many-open D s es (sym (not-true _ (c .if2 .taken)) ∙ f .0)) before is
+          leaves-large D objs s es old (a .weight) free (many-open D objs s es (sym (not-true _ (c .if2 .taken)) ∙ f .0)) before is
           (a .work .now) (S .facts-are),
       (
-        λ D s es table old S G free held z. absurd (omega arith),
+        λ D objs s es table old S G free held z. absurd (omega arith),
         c .before .before .before .before .before .before .before .before .before
             .facts-after .ensures .1 .1,
       ),
@@ -108,14 +109,14 @@ returns-3 c =
     let yes = not-false _ (c .before .before .before .before .before .before .before .before .if2 .left) in
     let t = c .before .before .before .before .before .settle in
     let m = c .top-from in (
-      λ D s es table old S G under free held.
+      λ D objs s es table old S G under free held.
           let lent = S .domain in
           let kept = S .kept in
           let is = S .state-is in
           let w = ap (λ (h : StateRows). h .waiting) is in
           let B = lent .says .bounded in
           let rows = state-rows D B s es kept before is (a .work .now) old (S .facts-are) in
-          let e = x .ensures .1 .0 D es (s .facts) G rows held in
+          let e = x .ensures .1 .0 D objs es (s .facts) (events-chosen kept) G rows held in
           let f = o .ensures D (s .running) es (lent .says) (kept .running) (kept .waiting) (kept .running-few) (kept .waiting-few)
           (ap (λ (h : StateRows). h .running) is) w in
           let few = after-few D B s es old (a .weight) kept free (x .result .facts) (e .facts) small (sym yes ∙ f .0) in
@@ -131,14 +132,14 @@ returns-3 c =
           (a .work .now) _ _ (a .counts .facts) (ap (λ (h : StateRows). h .facts) is) (S .facts-are) (e .held few) (t .ensures))
           (after-fits D B s es old (a .weight) kept free (x .result .facts) (e .facts) small (sym yes ∙ f .0))),
       (
-        λ D s es table old S G free held z.
+        λ D objs s es table old S G free held z.
             let lent = S .domain in
             let kept = S .kept in
             let is = S .state-is in
             let w = ap (λ (h : StateRows). h .waiting) is in
             let B = lent .says .bounded in
             let rows = state-rows D B s es kept before is (a .work .now) old (S .facts-are) in
-            let e = x .ensures .1 .0 D es (s .facts) G rows held in
+            let e = x .ensures .1 .0 D objs es (s .facts) (events-chosen kept) G rows held in
             let f = o .ensures D (s .running) es (lent .says) (kept .running) (kept .waiting) (kept .running-few) (kept .waiting-few)
             (ap (λ (h : StateRows). h .running) is) w in
             let few = after-few D B s es old (a .weight) kept free (x .result .facts) (e .facts) small (sym yes ∙ f .0) in

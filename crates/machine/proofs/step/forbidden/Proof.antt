@@ -5,6 +5,7 @@ use native.Mathlib.Omega.{arith}
 use Rattle.records.proofs.Lists.{not-true, not-false}
 use Rattle.events.proofs.FactRows.{waiting-count}
 use Rattle.machine.specs.Held.{StateRows}
+use Rattle.machine.proofs.NextKept.{events-chosen, events-alone}
 use Rattle.machine.proofs.Closing.{not-open, not-met, not-kept, not-apart, nothing-forbids}
 use Rattle.machine.proofs.step.forbidden.Statement.{statement}
 use Rattle.machine.proofs.step.forbidden.Tie as tie
@@ -44,12 +45,12 @@ returns c =
     let opens = c .before .ends-open in
     let fails = c .if1 .taken in (
       omega arith,
-      λ D s es lent kept is rows held.
+      λ D objs s es lent some kept is rows held.
           let r = ap (λ (x : StateRows). x .running) is in
           let w = ap (λ (x : StateRows). x .waiting) is in
           let ends = opens .ensures D (s .running) es (lent .says .bounded) (kept .running) (kept .waiting) (kept .running-few)
           (kept .waiting-few) r w in
-          (not-open D s es (sym ends ∙ not-true _ fails), λ z. absurd (omega arith)),
+          (not-open D objs s es (sym ends ∙ not-true _ fails), λ z. absurd (omega arith)),
     )
 
 open-met-requires : tie.Need-open-met-requires
@@ -65,13 +66,13 @@ returns-2 c =
     let all-open = c .before .before .before .before .before .if1 .left in
     let fails = c .if2 .taken in (
       omega arith,
-      λ D s es lent kept is rows held.
+      λ D objs s es lent some kept is rows held.
           let r = ap (λ (x : StateRows). x .running) is in
           let w = ap (λ (x : StateRows). x .waiting) is in
           let ends = opens .ensures D (s .running) es (lent .says .bounded) (kept .running) (kept .waiting) (kept .running-few)
           (kept .waiting-few) r w in
-          let keep = keeps .ensures D (s .running) (s .facts) lent r (kept .running) (kept .running-few) rows held in
-          (not-kept D s es (sym ends ∙ not-false _ all-open) (sym keep ∙ not-true _ fails), λ z. absurd (omega arith)),
+          let keep = keeps .ensures D (s .running) (s .facts) lent r (kept .running) (kept .running-few) rows held objs (kept .chosen) in
+          (not-kept D objs s es (sym ends ∙ not-false _ all-open) (sym keep ∙ not-true _ fails), λ z. absurd (omega arith)),
     )
 
 ground-step-requires : tie.Need-ground-step-requires
@@ -91,14 +92,14 @@ returns-3 c =
     let all-open = c .before .before .before .before .before .before .before .before .before .before .before .before .if1 .left in
     let fails = c .if3 .taken in (
       omega arith,
-      λ D s es lent kept is rows held.
+      λ D objs s es lent some kept is rows held.
           let r = ap (λ (x : StateRows). x .running) is in
           let w = ap (λ (x : StateRows). x .waiting) is in
           let ends = opens .ensures D (s .running) es (lent .says .bounded) (kept .running) (kept .waiting) (kept .running-few)
           (kept .waiting-few) r w in
           let G = grounds .ensures .1 D es lent w (kept .waiting) (kept .waiting-few) in
-          let met = mets .ensures D _ es (s .facts) G rows held in
-          (not-met D s es (sym ends ∙ not-false _ all-open) (sym met ∙ not-true _ fails), λ z. absurd (omega arith)),
+          let met = mets .ensures D _ es (s .facts) G rows held objs (events-chosen kept) in
+          (not-met D objs s es (sym ends ∙ not-false _ all-open) (sym met ∙ not-true _ fails), λ z. absurd (omega arith)),
     )
 
 independent-requires : tie.Need-independent-requires
@@ -128,16 +129,16 @@ returns-4 c =
     let all-met = c .before .before .before .if3 .left in
     let fails = c .if4 .taken in (
       omega arith,
-      λ D s es lent kept is rows held.
+      λ D objs s es lent some kept is rows held.
           let r = ap (λ (x : StateRows). x .running) is in
           let w = ap (λ (x : StateRows). x .waiting) is in
           let ends = opens .ensures D (s .running) es (lent .says .bounded) (kept .running) (kept .waiting) (kept .running-few)
           (kept .waiting-few) r w in
-          let keep = keeps .ensures D (s .running) (s .facts) lent r (kept .running) (kept .running-few) rows held in
+          let keep = keeps .ensures D (s .running) (s .facts) lent r (kept .running) (kept .running-few) rows held objs (kept .chosen) in
           let G = grounds .ensures .1 D es lent w (kept .waiting) (kept .waiting-few) in
-          let met = mets .ensures D _ es (s .facts) G rows held in
-          let apart = aparts .ensures D _ es G (sym (waiting-count es _ w)) (kept .waiting-few) in (
-            not-apart D s es (sym ends ∙ not-false _ all-open) (sym met ∙ not-false _ all-met) (sym keep ∙ not-false _ all-kept)
+          let met = mets .ensures D _ es (s .facts) G rows held objs (events-chosen kept) in
+          let apart = aparts .ensures D _ es G (sym (waiting-count es _ w)) (kept .waiting-few) objs some (events-alone kept) in (
+            not-apart D objs s es (sym ends ∙ not-false _ all-open) (sym met ∙ not-false _ all-met) (sym keep ∙ not-false _ all-kept)
                 (sym apart ∙ not-true _ fails),
             λ z. absurd (omega arith),
           ),
@@ -160,16 +161,16 @@ returns-5 c =
     let all-met = c .before .before .before .if3 .left in
     let all-apart = c .if4 .left in (
       grounds .ensures .0,
-      λ D s es lent kept is rows held.
+      λ D objs s es lent some kept is rows held.
           let r = ap (λ (x : StateRows). x .running) is in
           let w = ap (λ (x : StateRows). x .waiting) is in
           let ends = opens .ensures D (s .running) es (lent .says .bounded) (kept .running) (kept .waiting) (kept .running-few)
           (kept .waiting-few) r w in
-          let keep = keeps .ensures D (s .running) (s .facts) lent r (kept .running) (kept .running-few) rows held in
+          let keep = keeps .ensures D (s .running) (s .facts) lent r (kept .running) (kept .running-few) rows held objs (kept .chosen) in
           let G = grounds .ensures .1 D es lent w (kept .waiting) (kept .waiting-few) in
-          let met = mets .ensures D _ es (s .facts) G rows held in
-          let apart = aparts .ensures D _ es G (sym (waiting-count es _ w)) (kept .waiting-few) in (
-            nothing-forbids D s es (sym ends ∙ not-false _ all-open) (sym met ∙ not-false _ all-met) (sym keep ∙ not-false _ all-kept)
+          let met = mets .ensures D _ es (s .facts) G rows held objs (events-chosen kept) in
+          let apart = aparts .ensures D _ es G (sym (waiting-count es _ w)) (kept .waiting-few) objs some (events-alone kept) in (
+            nothing-forbids D objs s es (sym ends ∙ not-false _ all-open) (sym met ∙ not-false _ all-met) (sym keep ∙ not-false _ all-kept)
                 (sym apart ∙ not-false _ all-apart),
             λ z. G,
           ),

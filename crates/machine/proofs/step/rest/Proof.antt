@@ -26,10 +26,10 @@ same-length : tie.Need-same-length
 same-length c = search needs
 
 returns : tie.Need-returns
-returns c D s lent kept entries rows noted =
+returns c D objs s lent kept entries rows noted =
     let met = c .before .before .before .open-met .ensures D (s .running) (s .facts) lent entries (kept .running) (kept .running-few) rows
-    (noted .indexed) in
-    (unrest D s (sym met ∙ not-true _ (c .if2 .taken)), λ z. absurd (omega arith))
+    (noted .indexed) objs (kept .chosen) in
+    (unrest D objs s (sym met ∙ not-true _ (c .if2 .taken)), λ z. absurd (omega arith))
 
 element-write-index : tie.Need-element-write-index
 element-write-index c = search needs
@@ -38,17 +38,17 @@ same-length-2 : tie.Need-same-length-2
 same-length-2 c = search needs
 
 returns-2 : tie.Need-returns-2
-returns-2 c D s lent kept entries rows noted =
+returns-2 c D objs s lent kept entries rows noted =
     let a = c .before .before .before .before .before .before .before .before .before .before .before .before .before .args in
     let met = c .before .before .before .open-met .ensures D (s .running) (s .facts) lent entries (kept .running) (kept .running-few) rows
-    (noted .indexed) in
+    (noted .indexed) objs (kept .chosen) in
     let all-hold = sym met ∙ not-false _ (c .if2 .left) in
-    (rests D s kept all-hold, λ z. noted-set (a .head .now) D (a .index .now) s noted all-hold)
+    (rests D objs s kept all-hold, λ z. noted-set (a .head .now) D (a .index .now) s noted all-hold)
 
 returns-3 : tie.Need-returns-3
-returns-3 c D s lent kept entries rows noted =
+returns-3 c D objs s lent kept entries rows noted =
     let a = c .before .before .before .before .before .before .args in
-    (rests D s kept (noted .settled (c .if1 .left)), λ z. noted-rest (a .head .now) D (a .index .now) s noted)
+    (rests D objs s kept (noted .settled (c .if1 .left)), λ z. noted-rest (a .head .now) D (a .index .now) s noted)
 
 pub rest-spec : {M : Type 1} → statement M
 rest-spec =
