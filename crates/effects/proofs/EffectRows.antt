@@ -301,7 +301,7 @@ module _ {D : Domain} {head : List ℕ} (H : HeadOf D head) (c : Usage) where
       ∙ ap₂ _++_ (event-rows e (F e (List·Memᴰ·head refl))) (step-rows es (λ f m. F f (List·Memᴰ·tail m)))
 
 -- of a step, in memory
-grounded-rows : {D : Domain} {head : List ℕ} {es : List Event} {memory : List ℕ} {total : ℕ} → Grounded D head es memory total
+pub grounded-rows : {D : Domain} {head : List ℕ} {es : List Event} {memory : List ℕ} {total : ℕ} → Grounded D head es memory total
     → (c : Usage) → rowsWith (suc (usageNumber c)) (groundIn total memory) ≡ effectRows D es c
 grounded-rows {es = es} G c = ap (rowsWith (suc (usageNumber c))) (G .laid .filled) ∙ step-rows (G .says) c es (G .fit)
 
@@ -320,7 +320,7 @@ own-plain Start r h = counts-plain AtStart Add r h refl
 own-plain End r h = counts-plain AtEnd Add r h refl
 
 -- so their rows are those of facts
-plain-rows : (b : Binding) (ps : List (Atom Argument)) → ((p : Atom Argument) → In p ps → countBy isEvery (p .args) ≡ 0)
+pub plain-rows : (b : Binding) (ps : List (Atom Argument)) → ((p : Atom Argument) → In p ps → countBy isEvery (p .args) ≡ 0)
     → map (patternRow b) ps ≡ map factRow (map (bind b) ps)
 plain-rows b [] h = refl
 plain-rows b (p ∷ ps) h =

@@ -1,5 +1,6 @@
--- The claims proved.
+-- The claims proved, and laws of the code.
 pub mod Further
 pub mod Engine
 pub mod Written
 pub mod Sets
+pub mod Loops

@@ -1,42 +1,45 @@
+-- `enter_rows` meets its contract: after i turns the first i rows are entered. Assumes nothing.
+use mathlib.Core.Path.{_≡_}
+use mathlib.Core.List.{[]}
+use Prim.Native.Nat.{_-_, _≤_}
+use native.Mathlib.Omega.{arith}
+use Rattle.trying.proofs.Loops.{Entering, enter-more}
+use borrow.Author.Needs.{needs}
 use Rattle.trying.proofs.alone.enter_rows.Statement.{statement}
 use Rattle.trying.proofs.alone.enter_rows.Tie as tie
-use Rattle.trying.proofs.alone.enter_rows.Reads as reads
-use Rattle.trying.proofs.alone.enter_rows.Lts as lts
-use Rattle.store.proofs.index.enter.Reads as enter-reads
 
 abbrev Inv-loop : tie.InvT-loop
-Inv-loop head rows n index₀ i₀ index i = ?
+Inv-loop head rows n index₀ i₀ index i = (i ≤ n) × Entering head rows index₀ index i
 
 abbrev μ-loop : tie.MeasureT-loop
-μ-loop head rows n index₀ i₀ index i = ?
+μ-loop head rows n index₀ i₀ index i = n - i
 
--- src/alone.rt:17:5
 loop-holds : tie.Need-loop-holds Inv-loop μ-loop
-loop-holds c = ?
+loop-holds c = (omega arith, λ z S. z)
 
--- src/alone.rt:18:34
 mul-enter : tie.Need-mul-enter Inv-loop μ-loop
-mul-enter c = ?
+mul-enter c = search needs
 
--- src/alone.rt:18:9
 enter-requires : tie.Need-enter-requires Inv-loop μ-loop
-enter-requires c κs = ?
+enter-requires c κs = omega arith
 
--- src/alone.rt:17:9
 add-i : tie.Need-add-i Inv-loop μ-loop
-add-i c = ?
+add-i c = omega arith
 
--- src/alone.rt:17:5
 loop-less : tie.Need-loop-less Inv-loop μ-loop
-loop-less c = ?
+loop-less c = omega arith
 
--- src/alone.rt:17:5
 loop-again : tie.Need-loop-again Inv-loop μ-loop
-loop-again c = ?
+loop-again c =
+    let a = c .args in
+    let l = c .loop in
+    (omega arith, enter-more (a .head .now) (a .rows .now) (a .index .now) (l .index) (c .enter .last .0) (l .i) (l .inv .1) (c .enter .ensures .0))
 
--- src/alone.rt:12:1
 returns : tie.Need-returns Inv-loop μ-loop
-returns c = ?
+returns c =
+    let l = c .loop in
+    let e : l .i ≡ c .args .n = omega arith in
+    rw e at (l .inv .1)
 
 pub enter-rows-spec : {M : Type 1} → statement M
 enter-rows-spec =

@@ -1,46 +1,74 @@
+-- `is_about` meets its contract: none before i is about the fact, so the test is that of those from i on. Assumes nothing.
+use mathlib.Core.Path.{_≡_, refl, sym, ap, _∙_}
+use mathlib.Core.Bool.{Bool}
+use mathlib.Core.List.{List}
+use Prim.Native.Nat.{ℕ, _-_, _<_}
+use native.Mathlib.Omega.{arith}
+use lib.ListN.{take, drop}
+use lib.Seq.{take-all}
+use Rattle.records.specs.Lists.{any}
+use Rattle.records.proofs.Lists.{any-hit, any-miss, any-end}
+use Rattle.verdict.specs.Patterns.{patternsMeet}
+use Rattle.events.specs.Grounding.{GroundLiteral, groundAt, groundIn}
+use Rattle.events.proofs.GroundLiterals.{noLiteral, length-ground, ground-test}
+use borrow.Author.Needs.{needs}
 use Rattle.trying.proofs.free.is_about.Statement.{statement}
 use Rattle.trying.proofs.free.is_about.Tie as tie
-use Rattle.trying.proofs.free.is_about.Reads as reads
-use Rattle.trying.proofs.free.is_about.Lts as lts
-use Rattle.events.proofs.facts.patterns_meet.Reads as patterns-meet-reads
+
+abbrev test : List ℕ → GroundLiteral → Bool
+test fact l = patternsMeet (l .row) fact
 
 abbrev Inv-loop : tie.InvT-loop
-Inv-loop memory total fact i₀ i = ?
+Inv-loop memory total fact i₀ i = any (test fact) (drop i (groundIn total memory)) ≡ any (test fact) (groundIn total memory)
 
 abbrev μ-loop : tie.MeasureT-loop
-μ-loop memory total fact i₀ i = ?
+μ-loop memory total fact i₀ i = total - i
 
--- src/free.rt:21:5
 loop-holds : tie.Need-loop-holds Inv-loop μ-loop
-loop-holds c = ?
+loop-holds c = refl
 
--- src/free.rt:22:34
 mul-patterns-meet : tie.Need-mul-patterns-meet Inv-loop μ-loop
-mul-patterns-meet c = ?
+mul-patterns-meet c = search needs
 
--- src/free.rt:22:12
 patterns-meet-requires : tie.Need-patterns-meet-requires Inv-loop μ-loop
-patterns-meet-requires c κs = ?
+patterns-meet-requires c κs = (omega arith, omega arith)
 
--- src/free.rt:23:13
 returns : tie.Need-returns Inv-loop μ-loop
-returns c = ?
+returns c =
+    let a = c .args in
+    let l = c .loop in
+    let k = length-ground (a .memory .now) (a .total) in
+    let h : l .i < a .total = omega arith in
+    sym (any-hit (groundIn (a .total) (a .memory .now)) (l .i) noLiteral (omega arith) (test (a .fact .now))
+    (ground-test (a .memory .now) (a .total) (l .i) h (test (a .fact .now)) (c .patterns-meet .result)
+    (c .patterns-meet .ensures ∙ ap (patternsMeet (groundAt (a .memory .now) (l .i) .row)) (take-all 8 (a .fact .now) (omega arith)))
+    ∙ c .if1 .taken))
+    ∙ l .inv
 
--- src/free.rt:21:9
 add-i : tie.Need-add-i Inv-loop μ-loop
-add-i c = ?
+add-i c = omega arith
 
--- src/free.rt:21:5
 loop-less : tie.Need-loop-less Inv-loop μ-loop
-loop-less c = ?
+loop-less c = omega arith
 
--- src/free.rt:21:5
 loop-again : tie.Need-loop-again Inv-loop μ-loop
-loop-again c = ?
+loop-again c =
+    let a = c .args in
+    let l = c .loop in
+    let k = length-ground (a .memory .now) (a .total) in
+    let h : l .i < a .total = omega arith in
+    sym (any-miss (groundIn (a .total) (a .memory .now)) (l .i) noLiteral (omega arith) (test (a .fact .now))
+    (ground-test (a .memory .now) (a .total) (l .i) h (test (a .fact .now)) (c .patterns-meet .result)
+    (c .patterns-meet .ensures ∙ ap (patternsMeet (groundAt (a .memory .now) (l .i) .row)) (take-all 8 (a .fact .now) (omega arith)))
+    ∙ c .if1 .left))
+    ∙ l .inv
 
--- src/free.rt:15:1
 returns-2 : tie.Need-returns-2 Inv-loop μ-loop
-returns-2 c = ?
+returns-2 c =
+    let a = c .args in
+    let l = c .loop in
+    let k = length-ground (a .memory .now) (a .total) in
+    sym (any-end (groundIn (a .total) (a .memory .now)) (l .i) noLiteral (test (a .fact .now)) (omega arith)) ∙ l .inv
 
 pub is-about-spec : {M : Type 1} → statement M
 is-about-spec =

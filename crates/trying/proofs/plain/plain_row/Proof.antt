@@ -1,49 +1,51 @@
+-- `plain_row` meets its contract: after k turns the first k objects stand in the row. Assumes nothing.
+use mathlib.Core.Path.{_≡_, refl, ap, _∙_}
+use Prim.Native.Nat.{_-_, _≤_}
+use native.Mathlib.Omega.{arith}
+use Rattle.trying.proofs.Loops.{rowUpTo, row-more, row-whole}
+use borrow.Author.Needs.{needs}
 use Rattle.trying.proofs.plain.plain_row.Statement.{statement}
 use Rattle.trying.proofs.plain.plain_row.Tie as tie
-use Rattle.trying.proofs.plain.plain_row.Reads as reads
-use Rattle.trying.proofs.plain.plain_row.Lts as lts
 
 abbrev Inv-loop : tie.InvT-loop
-Inv-loop i variables row₀ k₀ row k = ?
+Inv-loop i variables row₀ k₀ row k = (k ≤ variables) × (row ≡ rowUpTo i k)
 
 abbrev μ-loop : tie.MeasureT-loop
-μ-loop i variables row₀ k₀ row k = ?
+μ-loop i variables row₀ k₀ row k = variables - k
 
--- src/plain.rt:26:5
 array-write-row : tie.Need-array-write-row Inv-loop μ-loop
-array-write-row c = ?
+array-write-row c = search needs
 
--- src/plain.rt:27:5
 loop-holds : tie.Need-loop-holds Inv-loop μ-loop
-loop-holds c = ?
+loop-holds c = (omega arith, refl)
 
--- src/plain.rt:28:13
 cast-row : tie.Need-cast-row Inv-loop μ-loop
-cast-row c = ?
+cast-row c = search needs
 
--- src/plain.rt:28:13
 add-row : tie.Need-add-row Inv-loop μ-loop
-add-row c = ?
+add-row c = search needs
 
--- src/plain.rt:28:9
 array-write-row-2 : tie.Need-array-write-row-2 Inv-loop μ-loop
-array-write-row-2 c = ?
+array-write-row-2 c = omega arith
 
--- src/plain.rt:27:9
 add-k : tie.Need-add-k Inv-loop μ-loop
-add-k c = ?
+add-k c = omega arith
 
--- src/plain.rt:27:5
 loop-less : tie.Need-loop-less Inv-loop μ-loop
-loop-less c = ?
+loop-less c = omega arith
 
--- src/plain.rt:27:5
 loop-again : tie.Need-loop-again Inv-loop μ-loop
-loop-again c = ?
+loop-again c =
+    let a = c .args in
+    let l = c .loop in
+    (omega arith, row-more (a .i) (l .k) (omega arith) (l .inv .1))
 
--- src/plain.rt:21:1
 returns : tie.Need-returns Inv-loop μ-loop
-returns c = ?
+returns c =
+    let a = c .args in
+    let l = c .loop in
+    let e : l .k ≡ a .variables = omega arith in
+    l .inv .1 ∙ ap (rowUpTo (a .i)) e ∙ row-whole (a .i) (a .variables)
 
 pub plain-row-spec : {M : Type 1} → statement M
 plain-row-spec =

@@ -1,0 +1,96 @@
+// The answers for the classes of an action at once, a byte each.
+use super::alone::Alone;
+use super::free::any_free;
+use classes::number::class_tuple;
+use effects::SCRATCH;
+use events::grounding::GROUNDED;
+use literals::head::Head;
+use store::weighing::weigh;
+ghost use mathlib.Core.Path.{_≡_};
+ghost use mathlib.Core.Bool.{true, cond};
+ghost use mathlib.Core.List.{map};
+ghost use Prim.Native.Nat.{ℕ, _≤_, _<_};
+ghost use lib.ListN.{length};
+ghost use Rattle.literals.specs.Domain.{Domain, action};
+ghost use Rattle.literals.specs.Decode.{maxVariables, maxLiterals};
+ghost use Rattle.classes.specs.Classes.{classes};
+ghost use Rattle.classes.specs.Held.{ActionOf, Sides, classNumbers};
+ghost use Rattle.verdict.specs.Claims.{wellFormed};
+ghost use Rattle.effects.specs.Held.{scratchBytes};
+ghost use Rattle.trying.specs.Trying.{tries};
+ghost use Rattle.trying.specs.Held.{FewOf, AloneOf, answerOf};
+
+// The answer for the class whose key tuple is the instance, of an action with so many variables. Where the instance weighs one already, a
+// further fact makes it two, and where the step leaves it none, a further fact makes it one; so only between the two is one looked for.
+fn try_class(head: &Head, alone: Alone, base: &[u8], after: &[u8], instance: [u8; 8], variables: u8) -> bool
+    requires few { ⌜ FewOf alone ⌝ }
+    requires base { ⌜ length (now base) ≡ scratchBytes ⌝ }
+    requires after { ⌜ length (now after) ≡ scratchBytes ⌝ }
+    requires variables { ⌜ variables ≤ maxVariables ⌝ }
+    ensures { λ r. ⌜ r ≡ answerOf (now (head .entry)) alone (now (base .entry)) (now (after .entry)) instance (variables + 1) ⌝ }
+{
+    let before = weigh(head, &base[GROUNDED..SCRATCH], alone.held, instance);
+    if 1 < before {
+        return false;
+    }
+    if !alone.allowed {
+        return false;
+    }
+    let left = weigh(head, after, alone.left, instance);
+    if 2 <= left {
+        return true;
+    }
+    if before == 1 {
+        return false;
+    }
+    if left == 0 {
+        return false;
+    }
+    any_free(
+        head,
+        &instance,
+        variables + 1,
+        &base[0..GROUNDED],
+        alone.literals,
+    )
+}
+
+// "1 yes, 0 no".
+fn answer_byte(yes: bool) -> u8
+    ensures { λ r. ⌜ r ≡ cond yes 1 0 ⌝ }
+{
+    if yes {
+        return 1;
+    }
+    0
+}
+
+// The answers for all classes of an action, whose literals are these rows with these class numbers.
+pub fn put_answers(
+    head: &Head,
+    alone: Alone,
+    base: &[u8],
+    after: &[u8],
+    variables: u8,
+    rows: &[u8],
+    numbers: &[u8],
+    made: &mut [u8],
+)
+    requires few { ⌜ FewOf alone ⌝ }
+    requires base { ⌜ length (now base) ≡ scratchBytes ⌝ }
+    requires after { ⌜ length (now after) ≡ scratchBytes ⌝ }
+    requires variables { ⌜ variables ≤ maxVariables ⌝ }
+    requires sides { ⌜ Sides (now rows) (now numbers) ⌝ }
+    requires made { ⌜ length (now made) ≤ maxLiterals ⌝ }
+    ensures { λ _. ⌜ ((D : Domain) (i : ℕ) → ActionOf D (action D i) (now (head .entry)) (now (rows .entry))
+        → now (numbers .entry) ≡ classNumbers D (action D i) → wellFormed D ≡ true → i < length (D .actions)
+        → AloneOf D i (now (head .entry)) alone (now (base .entry)) (now (after .entry)) → variables ≡ action D i .vars
+        → length (now (made .entry)) ≡ length (classes D (action D i))
+        → now (made .exit) ≡ map (λ x. cond (tries D i x) 1 0) (classes D (action D i))) ⌝ }
+{
+    for j in 0..made.len() {
+        let instance = class_tuple(head, rows, numbers, j as u8);
+        let yes = try_class(head, alone, base, after, instance, variables);
+        made[j] = answer_byte(yes);
+    }
+}
