@@ -1,5 +1,5 @@
 -- Rows that are marked by a byte, and the index beside rows that are kept or joined. Assumes nothing.
-use mathlib.Core.Path.{_≡_, refl, sym, ap, ap₂, _∙_, subst}
+use mathlib.Core.Path.{_≡_, refl, sym, ap, _∙_, subst}
 use mathlib.Core.Bool.{Bool, true, false, _&&_, cond}
 use mathlib.Core.Logic.{_⊎_, inl, inr}
 use mathlib.Core.List.{List, [], _∷_, _++_, append-nil}
@@ -13,10 +13,9 @@ use Rattle.records.specs.Lists.{In, filterBy, sameList}
 use Rattle.records.specs.Memory.{over}
 use Rattle.records.proofs.Lists.{bool-cases, off, sameList-eq, elem-in, in-snoc, getD-in}
 use Rattle.literals.specs.Decode.{byte}
-use Rattle.literals.specs.Table.{argumentsMeet, rowsIn}
-use Rattle.literals.proofs.Rows.{part-first, part-at, rows-more, rows-end, rows-snoc}
+use Rattle.literals.specs.Table.{rowsIn}
+use Rattle.literals.proofs.Rows.{part-at, rows-more, rows-end, rows-snoc}
 use Rattle.literals.proofs.KeyRows.{length-rows, rows-at}
-use Rattle.verdict.specs.Patterns.{patternsMeet}
 use Rattle.store.specs.Index.{Sized, Indexed, noteAt}
 use Rattle.run_semantics.specs.RunFile.{maxFacts}
 use Rattle.run_semantics.specs.Play.{workBytes}
@@ -45,12 +44,6 @@ marks-more rows marks j first h b e M =
 -- a row whose third byte is not marked is none of them
 pub unmarked : (marks : List ℕ) (rows : List (List ℕ)) (row : List ℕ) → Marked marks rows → getD marks (byte row 2) 0 ≡ 0 → false ≡ hasRow row rows
 unmarked marks rows row M z = sym (off (hasRow row rows) (λ t. let e = M row (elem-in (sameList eqb) (sameList-eq eqb eqb-true) row rows t) in absurd (omega arith)))
-
--- whether two rows in memory meet, by whether their first bytes are the same
-pub meets-by : (x y : List ℕ) (i j : ℕ) {b : Bool} → eqb (getD x i 0) (getD y j 0) ≡ b
-    → patternsMeet (take 8 (drop i x)) (take 8 (drop j y)) ≡ b && argumentsMeet (take 8 (drop i x)) (take 8 (drop j y))
-meets-by x y i j e =
-    ap (λ (b : Bool). b && argumentsMeet (take 8 (drop i x)) (take 8 (drop j y))) (ap₂ eqb (part-first x i) (part-first y j) ∙ e)
 
 -- ---- the index beside rows that are kept
 

@@ -7,19 +7,21 @@ use Prim.Native.Nat.{ℕ, _≤_}
 use native.Mathlib.Omega.{arith}
 use lib.Dec.{eqb, ltb}
 use lib.ListN.{length, getD, set, replicate, length-replicate, getD-replicate}
+use borrow.Author.Tests.{eqb-true}
 use Rattle.records.specs.Lists.{elem}
+use Rattle.literals.specs.declared.Object.{Object}
 use Rattle.literals.specs.Domain.{Fact, sameFact, Domain}
 use Rattle.literals.specs.Decode.{byte}
 use Rattle.literals.specs.Held.{arityIn, HeadOf}
 use Rattle.verdict.specs.Machine.{Event, State, next, topWeight}
 use Rattle.store.specs.Index.{noteAt, factIndex, totalAt, Indexed}
 use Rattle.run_semantics.specs.RunFile.{RunKind, objectsRecord, factRecord, eventRecord, stepRecord, endRecord, otherRecord, runKindOf, factOf, eventOf, maxFacts, objectsStop, factStop, eventStop, stepStop, endStop}
-use Rattle.run_semantics.specs.Play.{Playing, PlayTurn, goOn, finish, stopAt, unless, begin, withObjects, withFact, withEvent, withClose, beforeRun, tooLarge, forbidden, afterStep, closeStep, playRecord}
+use Rattle.run_semantics.specs.Play.{Playing, PlayTurn, goOn, finish, stopAt, unless, begin, withObjects, withFact, withEvent, withClose, beforeRun, runObjects, tooLarge, forbidden, afterStep, closeStep, playRecord}
 use Rattle.store.specs.Rows.{factRow}
 use Rattle.machine.specs.Held.{Noted, closeStop, closeState}
 use Rattle.machine.proofs.Resting.{indexed-set, noted-anew, unset}
-use Rattle.player.specs.Player.{WholeTurn as Turn, LeadsTo, NotedAfter}
-use Rattle.player.proofs.Sound.{fact-taken}
+use Rattle.player.specs.Player.{WholeTurn as Turn, Sound, LeadsTo, NotedAfter}
+use Rattle.player.proofs.Sound.{objects-taken, fact-taken}
 
 module _ (D : Domain) (head index : List ℕ) where
   -- where a record ends the run, nothing is asked
@@ -36,18 +38,21 @@ module _ (D : Domain) (head index : List ℕ) where
 
   -- the step's close
   module _ (q : Playing) (behind : ℕ) where
+    abbrev objs : List Object
+    objs = runObjects q
+
     abbrev s : State
     s = q .state
 
     abbrev es : List Event
     es = q .waiting
 
-    pub noted-closed : (number : ℕ) → number ≡ closeStop D s es → (number ≡ 0 → Noted D head index (closeState D s es)) → NotedAfter D head index (closeStep D q behind)
+    pub noted-closed : (number : ℕ) → number ≡ closeStop D objs s es → (number ≡ 0 → Noted D objs head index (closeState D objs s es)) → NotedAfter D head index (closeStep D q behind)
     unfolding closeStep closeStop closeState
-    noted-closed number e h = go (eqb (forbidden D s es) 0) (tooLarge (next D s es)) e h
+    noted-closed number e h = go (eqb (forbidden D objs s es) 0) (tooLarge (next D objs s es)) e h
       where
-        go : (b c : Bool) → number ≡ cond b (cond c 52 0) (forbidden D s es) → (number ≡ 0 → Noted D head index (cond (eqb (cond b (cond c 52 0) (forbidden D s es)) 0) (next D s es) s))
-            → NotedAfter D head index (cond b (cond c (stopAt 52 q) (afterStep q (next D s es) (topWeight D (next D s es .facts)) behind)) (stopAt (forbidden D s es) q))
+        go : (b c : Bool) → number ≡ cond b (cond c 52 0) (forbidden D objs s es) → (number ≡ 0 → Noted D objs head index (cond (eqb (cond b (cond c 52 0) (forbidden D objs s es)) 0) (next D objs s es) s))
+            → NotedAfter D head index (cond b (cond c (stopAt 52 q) (afterStep q (next D objs s es) (topWeight D (next D objs s es .facts)) behind)) (stopAt (forbidden D objs s es) q))
         go true true k n = tt
         go true false k n = n k
         go false c k n = tt
@@ -55,7 +60,7 @@ module _ (D : Domain) (head index : List ℕ) where
 -- ---- records by their kind
 
 module _ (D : Domain) (head index : List ℕ) (q : Playing) where
-  pub noted-begun : Noted D head index (q .state) → Noted D head index (begin D q .state)
+  pub noted-begun : Noted D (runObjects q) head index (q .state) → Noted D (runObjects (begin D q)) head index (begin D q .state)
   unfolding begin
   noted-begun h = h
 
@@ -63,15 +68,23 @@ module _ (D : Domain) (head index : List ℕ) (q : Playing) where
     pub noted-of : (k : ℕ) (kind : RunKind) → runKindOf k ≡ kind → NotedAfter D head index (playRecord D q kind b behind) → NotedAfter D head index (playRecord D q (runKindOf k) b behind)
     noted-of k kind e h = rw e h
 
-    pub noted-objects : Noted D head index (q .state) → NotedAfter D head index (playRecord D q objectsRecord b behind)
+    -- nothing is open before there are objects, so that nothing is asked of it
+    pub noted-objects : Sound D q → Noted D (runObjects q) head index (q .state) → NotedAfter D head index (playRecord D q objectsRecord b behind)
     unfolding playRecord
-    noted-objects h = noted-unless D head index (objectsStop (q .objects) b) q (goOn (withObjects q (byte b 0) behind)) h
+    noted-objects S h = go (eqb (objectsStop (q .objects) b) 0) refl
+      where
+        go : (t : Bool) → eqb (objectsStop (q .objects) b) 0 ≡ t
+            → NotedAfter D head index (cond t (goOn (withObjects q (byte b 0) behind)) (stopAt (objectsStop (q .objects) b) q))
+        go true e =
+            let none = S .idle (objects-taken q b (eqb-true (objectsStop (q .objects) b) 0 e) .none) in
+            record { indexed = h .indexed; settled = λ z. rw none }
+        go false e = tt
 
     pub noted-fact-record : NotedAfter D head index (unless (factStop D (q .objects) (q .tally .begun) (q .state .facts) b) q (goOn (withFact q (factOf b) behind))) → NotedAfter D head index (playRecord D q factRecord b behind)
     unfolding playRecord
     noted-fact-record h = h
 
-    pub noted-event : Noted D head index (q .state) → NotedAfter D head index (playRecord D q eventRecord b behind)
+    pub noted-event : Noted D (runObjects q) head index (q .state) → NotedAfter D head index (playRecord D q eventRecord b behind)
     unfolding playRecord begin
     noted-event h = noted-unless D head index (eventStop D (q .objects) (q .waiting) b) (begin D q) (goOn (withEvent (begin D q) (eventOf b) behind)) h
 
@@ -79,7 +92,7 @@ module _ (D : Domain) (head index : List ℕ) (q : Playing) where
     unfolding playRecord begin
     noted-step-record h = noted-unless D head index (stepStop (q .objects) b) (begin D q) (closeStep D (begin D q) behind) h
 
-    pub noted-end : Noted D head index (q .state) → NotedAfter D head index (playRecord D q endRecord b behind)
+    pub noted-end : Noted D (runObjects q) head index (q .state) → NotedAfter D head index (playRecord D q endRecord b behind)
     unfolding playRecord begin
     noted-end h = noted-unless D head index (endStop (q .objects) (q .waiting) b) (begin D q) (goOn (withClose (begin D q) behind)) h
 
@@ -100,7 +113,7 @@ fact-sized D head H q b few z row e =
 
 module _ (D : Domain) (head : List ℕ) (q : Playing) (f : Fact) (behind : ℕ) where
   -- held already
-  pub noted-again : (index : List ℕ) → elem sameFact f (q .state .facts) ≡ true → Noted D head index (q .state) → NotedAfter D head index (goOn (withFact q f behind))
+  pub noted-again : (index : List ℕ) → elem sameFact f (q .state .facts) ≡ true → Noted D (runObjects q) head index (q .state) → NotedAfter D head index (goOn (withFact q f behind))
   noted-again index e h = rw e h
 
   -- new: nothing is noted of the open entries any more
@@ -114,7 +127,7 @@ module _ (D : Domain) (head : List ℕ) (q : Playing) (f : Fact) (behind : ℕ) 
 
 -- ---- before the run
 
-pub noted-none : (D : Domain) (head index : List ℕ) → index ≡ replicate factIndex 0 → Noted D head index (beforeRun .state)
+pub noted-none : (D : Domain) (head index : List ℕ) → index ≡ replicate factIndex 0 → Noted D (runObjects beforeRun) head index (beforeRun .state)
 unfolding totalAt
 noted-none D head index e =
     record {

@@ -13,7 +13,7 @@ use Rattle.literals.specs.Held.{Read}
 use Rattle.verdict.specs.Judged.{factBytes}
 use Rattle.player.specs.declared.run.Ended.{Ended}
 use Rattle.store.specs.Index.{factIndex}
-use Rattle.run_semantics.specs.Play.{workBytes, Playing, beforeRun, Outcome, PlayTurn, goOn, finish, heldBytes, playStep, playFrom, playRun}
+use Rattle.run_semantics.specs.Play.{workBytes, Playing, beforeRun, Outcome, PlayTurn, goOn, finish, runObjects, heldBytes, playStep, playFrom, playRun}
 use Rattle.machine.specs.Held.{Noted}
 use Rattle.player.specs.Player.{Whole as Player, WholeTurn as Turn, playerOf, Stands, LeadsTo, NotedAfter, Playable, endedOf}
 use Rattle.run_semantics.proofs.Loop.{play-more, play-done, play-at}
@@ -29,7 +29,7 @@ pub record Loop (D : Domain) (head r old : List ℕ) (player : Player) (work ind
   pub left : ℕ
   pub enough : length r < reached .at + left
   pub same : playFrom left D r reached ≡ playRun D r
-  pub noted : Noted D head index (reached .state)
+  pub noted : Noted D (runObjects reached) head index (reached .state)
 
 -- before the first record no fact is held
 pub begins : (D : Domain) (head r old work index : List ℕ) (player : Player) → player ≡ playerOf beforeRun → work ≡ over (heldBytes []) old → index ≡ replicate factIndex 0
@@ -71,8 +71,8 @@ fuel-left i = go (i .left) refl
 
 -- one turn, from what `step` ensures
 module _ (D : Domain) (B : Bounded D) {head : List ℕ} (r old : List ℕ) (player : Player) (work : List ℕ) {index : List ℕ} (i : Loop D head r old player work index) (t : Turn) (work′ index′ : List ℕ)
-    (step : (q : Playing) (old : List ℕ) → Stands D q player work old → Noted D head index (q .state) → LeadsTo (playStep D r q) t work′ old)
-    (notes : (q : Playing) (old : List ℕ) → Stands D q player work old → Noted D head index (q .state) → NotedAfter D head index′ (playStep D r q)) where
+    (step : (q : Playing) (old : List ℕ) → Stands D q player work old → Noted D (runObjects q) head index (q .state) → LeadsTo (playStep D r q) t work′ old)
+    (notes : (q : Playing) (old : List ℕ) → Stands D q player work old → Noted D (runObjects q) head index (q .state) → NotedAfter D head index′ (playStep D r q)) where
   record Turned : Type 0 where
     next : Loop D head r old (t .player) work′ index′
     further : player .at < t .player .at

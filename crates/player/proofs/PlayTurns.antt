@@ -9,21 +9,23 @@ use lib.Dec.{eqb, ltb, leb}
 use lib.ListN.{length, take, drop, length-append}
 use lib.Seq.{paste}
 use borrow.Author.Tests.{eqb-false, eq-eqb, ne-eqb, lt-ltb, le-ltb, ltb-true}
-use Rattle.records.specs.Lists.{elem}
+use Rattle.records.specs.Lists.{In, elem}
 use Rattle.records.specs.Memory.{over}
 use Rattle.records.specs.declared.Record.{Record}
 use Rattle.records.specs.declared.Record.the-variants.{Whole, Cut, End}
 use Rattle.records.specs.Record.{recordAt, payload}
-use Rattle.literals.specs.Domain.{Fact, sameFact, Domain}
+use Rattle.literals.specs.declared.Object.{Object}
+use Rattle.literals.specs.Domain.{object, Fact, sameFact, Domain}
 use Rattle.literals.specs.Decode.{byte}
 use Rattle.literals.specs.Table.{rowsIn, Bounded}
 use Rattle.literals.proofs.Bounds.{arity-six}
 use Rattle.verdict.specs.Machine.{Event, State, next, topWeight}
+use Rattle.verdict.proofs.Objects.{object-in}
 use Rattle.events.specs.Held.{Waiting}
 use Rattle.player.specs.declared.Player.{Player as Small}
 use Rattle.player.specs.declared.Tally.{Tally as Held}
 use Rattle.run_semantics.specs.RunFile.{objectsRecord, factRecord, eventRecord, stepRecord, endRecord, otherRecord, runKindOf, factOf, eventOf, objectsStop, factStop, eventStop, stepStop, endStop}
-use Rattle.run_semantics.specs.Play.{playRecord, playFound, playStep, Playing, onward, PlayTurn, goOn, stopAt, startTally, begin, withObjects, joined, withFact, withEvent, withClose, unless, forbidden, tooLarge, afterStep, closeStep, heldBytes}
+use Rattle.run_semantics.specs.Play.{playRecord, playFound, playStep, Playing, onward, PlayTurn, goOn, stopAt, startTally, begin, withObjects, joined, withFact, withEvent, withClose, unless, runObjects, forbidden, tooLarge, afterStep, closeStep, heldBytes}
 use Rattle.store.specs.Rows.{factRow, hasRow, Few}
 use Rattle.events.specs.Held.{entriesIn, openIn, waitingIn, waitingOf}
 use Rattle.machine.specs.declared.Counts.{Counts}
@@ -32,7 +34,7 @@ use Rattle.player.specs.Player.{Whole as Player, WholeTurn as Turn, whol
 use Rattle.events.proofs.FactRows.{has-fact}
 use Rattle.machine.proofs.HeldBytes.{fits-few, state-rows}
 use Rattle.machine.proofs.RunRows.{held-more}
-use Rattle.player.proofs.Sound.{FactTaken, fact-taken}
+use Rattle.player.proofs.Sound.{step-taken, FactTaken, fact-taken}
 
 -- ---- the player with its agenda
 
@@ -196,35 +198,42 @@ module _ (D : Domain) (q : Playing) (player : Player) (work old : List ℕ) (st 
 
 -- ---- the step's close
 
+-- a run with objects has one
+pub some-object : (q : Playing) → (q .objects ≡ 0 → ⊥) → (o : Object) × In o (runObjects q)
+some-object q n = (object 0, object-in 0 (q .objects) (object 0) (omega arith) (omega (arith, n)))
+
 module _ (D : Domain) (q : Playing) (behind : ℕ) where
+  abbrev objs : List Object
+  objs = runObjects q
+
   abbrev s : State
   s = q .state
 
   abbrev es : List Event
   es = q .waiting
 
-  close-refused : (n : ℕ) → n ≡ closeStop D s es → (n ≡ 0 → ⊥) → closeStep D q behind ≡ stopAt n q
+  close-refused : (n : ℕ) → n ≡ closeStop D objs s es → (n ≡ 0 → ⊥) → closeStep D q behind ≡ stopAt n q
   unfolding closeStep closeStop
-  close-refused n e z = go (eqb (forbidden D s es) 0) (tooLarge (next D s es)) e
+  close-refused n e z = go (eqb (forbidden D objs s es) 0) (tooLarge (next D objs s es)) e
     where
-      go : (b c : Bool) → n ≡ cond b (cond c 52 0) (forbidden D s es)
-          → cond b (cond c (stopAt 52 q) (afterStep q (next D s es) (topWeight D (next D s es .facts)) behind)) (stopAt (forbidden D s es) q) ≡ stopAt n q
+      go : (b c : Bool) → n ≡ cond b (cond c 52 0) (forbidden D objs s es)
+          → cond b (cond c (stopAt 52 q) (afterStep q (next D objs s es) (topWeight D (next D objs s es .facts)) behind)) (stopAt (forbidden D objs s es) q) ≡ stopAt n q
       go true true k = ap (λ (j : ℕ). stopAt j q) (sym k)
       go true false k = absurd (z k)
       go false c k = ap (λ (j : ℕ). stopAt j q) (sym k)
 
-  close-taken : 0 ≡ closeStop D s es → closeStep D q behind ≡ afterStep q (next D s es) (topWeight D (next D s es .facts)) behind
+  close-taken : 0 ≡ closeStop D objs s es → closeStep D q behind ≡ afterStep q (next D objs s es) (topWeight D (next D objs s es .facts)) behind
   unfolding closeStep closeStop
-  close-taken e = go (eqb (forbidden D s es) 0) refl (tooLarge (next D s es)) e
+  close-taken e = go (eqb (forbidden D objs s es) 0) refl (tooLarge (next D objs s es)) e
     where
-      go : (b : Bool) → eqb (forbidden D s es) 0 ≡ b → (c : Bool) → 0 ≡ cond b (cond c 52 0) (forbidden D s es)
-          → cond b (cond c (stopAt 52 q) (afterStep q (next D s es) (topWeight D (next D s es .facts)) behind)) (stopAt (forbidden D s es) q)
-          ≡ afterStep q (next D s es) (topWeight D (next D s es .facts)) behind
+      go : (b : Bool) → eqb (forbidden D objs s es) 0 ≡ b → (c : Bool) → 0 ≡ cond b (cond c 52 0) (forbidden D objs s es)
+          → cond b (cond c (stopAt 52 q) (afterStep q (next D objs s es) (topWeight D (next D objs s es .facts)) behind)) (stopAt (forbidden D objs s es) q)
+          ≡ afterStep q (next D objs s es) (topWeight D (next D objs s es .facts)) behind
       go true f true k = absurd (omega arith)
       go true f false k = refl
-      go false f c k = absurd (eqb-false (forbidden D s es) 0 f (sym k))
+      go false f c k = absurd (eqb-false (forbidden D objs s es) 0 f (sym k))
 
-  module _ (player : Player) (work old : List ℕ) (st : Stands D q player work old) (number : ℕ) (state : StateRows) (weight : ℕ) (work′ : List ℕ) (l : Leaves D s es old (player .tally .weight) number state weight work′) where
+  module _ (player : Player) (work old : List ℕ) (st : Stands D q player work old) (number : ℕ) (state : StateRows) (weight : ℕ) (work′ : List ℕ) (l : Leaves D objs s es old (player .tally .weight) number state weight work′) where
     weight-was : player .tally .weight ≡ q .tally .weight
     unfolding playerOf
     weight-was = ap (λ (x : Player). x .tally .weight) (st .is)
@@ -233,7 +242,7 @@ module _ (D : Domain) (q : Playing) (behind : ℕ) where
     pub close-stops : (number ≡ 0 → ⊥) → LeadsTo (closeStep D q behind) (record { number = number; player = player }) work′ old
     unfolding closeState playerOf
     close-stops z =
-        let f : eqb (closeStop D s es) 0 ≡ false = ne-eqb (closeStop D s es) 0 (λ k. z (l .number-is ∙ k)) in
+        let f : eqb (closeStop D objs s es) 0 ≡ false = ne-eqb (closeStop D objs s es) 0 (λ k. z (l .number-is ∙ k)) in
         let m : work′ ≡ over (heldBytes (s .facts)) old = rw f at (l .work-is) in
         rw (close-refused number (l .number-is) z)
         (record {
@@ -246,21 +255,21 @@ module _ (D : Domain) (q : Playing) (behind : ℕ) where
         })
 
     module _ (z : number ≡ 0) where
-      taken : eqb (closeStop D s es) 0 ≡ true
-      taken = eq-eqb (closeStop D s es) 0 (sym (l .number-is) ∙ z)
+      taken : eqb (closeStop D objs s es) 0 ≡ true
+      taken = eq-eqb (closeStop D objs s es) 0 (sym (l .number-is) ∙ z)
 
       abbrev top : ℕ
-      top = topWeight D (next D s es .facts)
+      top = topWeight D (next D objs s es .facts)
 
       weight-now : weight ≡ max (q .tally .weight) top
       unfolding closeWeight
       weight-now = (rw taken at (l .weight-is)) ∙ ap (λ (w : ℕ). max w top) weight-was
 
-      state-now : state ≡ stateOf (next D s es) []
+      state-now : state ≡ stateOf (next D objs s es) []
       unfolding closeState closeWaiting
       state-now = rw taken at (l .state-is)
 
-      work-now : work′ ≡ over (heldBytes (next D s es .facts)) old
+      work-now : work′ ≡ over (heldBytes (next D objs s es .facts)) old
       unfolding closeState
       work-now = rw taken at (l .work-is)
 
@@ -342,6 +351,9 @@ module _ (D : Domain) (q : Playing) (begun : Player) (work old : List ℕ) (st :
   step-refused z =
       of-step D q k b behind _ work old kind
       (stops D (begin D q) begun work old st (stepStop (begin D q .objects) b) n (closeStep D (begin D q) behind) stop-is z)
+
+  pub step-some : n ≡ 0 → begin D q .objects ≡ 0 → ⊥
+  step-some z = step-taken (begin D q .objects) b (sym stop-is ∙ z)
 
   pub step-passed : n ≡ 0 → (t : Turn) (work′ : List ℕ) → LeadsTo (closeStep D (begin D q) behind) t work′ old
       → LeadsTo (playRecord D q (runKindOf k) b behind) t work′ old

@@ -10,7 +10,7 @@ use Rattle.literals.specs.Domain.{Domain}
 use Rattle.literals.specs.Table.{Bounded}
 use Rattle.literals.specs.Held.{HeadOf}
 use Rattle.run_semantics.specs.RunFile.{maxFacts}
-use Rattle.run_semantics.specs.Play.{workBytes, Playing, begin, heldBytes}
+use Rattle.run_semantics.specs.Play.{workBytes, Playing, begin, runObjects, heldBytes}
 use Rattle.events.specs.Held.{openOf, waitingOf}
 use Rattle.machine.specs.Held.{StateRows, Closable, Noted}
 use Rattle.player.specs.Player.{Whole as Player, playerOf, Stands, Playable}
@@ -42,9 +42,9 @@ module _ {head : List ℕ} {player : Player} {work index : List ℕ} (P : Playab
 
   -- of the player once the start counts
   module _ (begun : Player)
-      (is : (D : Domain) (p : Playing) (old : List ℕ) → HeadOf D head → Stands D p player work old → Noted D head index (p .state) → begun ≡ playerOf (begin D p)) where
+      (is : (D : Domain) (p : Playing) (old : List ℕ) → HeadOf D head → Stands D p player work old → Noted D (runObjects p) head index (p .state) → begun ≡ playerOf (begin D p)) where
     -- it stands there, for every domain that is held
-    pub stands-begun : (D : Domain) → HeadOf D head → (q : Playing) (old : List ℕ) → Stands D q player work old → Noted D head index (q .state) → Stands D (begin D q) begun work old
+    pub stands-begun : (D : Domain) → HeadOf D head → (q : Playing) (old : List ℕ) → Stands D q player work old → Noted D (runObjects q) head index (q .state) → Stands D (begin D q) begun work old
     unfolding begin
     stands-begun D H q old st noted =
         record {

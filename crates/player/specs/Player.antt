@@ -2,7 +2,7 @@
 use Prim.{Unit}
 use mathlib.Core.Path.{_≡_}
 use mathlib.Core.Bool.{Bool, true, false}
-use mathlib.Core.List.{List}
+use mathlib.Core.List.{List, []}
 use Prim.Native.Nat.{ℕ, _≤_}
 use lib.ListN.{length}
 use Rattle.records.specs.Memory.{over}
@@ -14,7 +14,7 @@ use Rattle.player.specs.declared.Tally.{Tally}
 use Rattle.player.specs.declared.Turn.{Turn}
 use Rattle.player.specs.declared.run.Ended.{Ended}
 use Rattle.run_semantics.specs.RunFile.{maxObjects}
-use Rattle.run_semantics.specs.Play.{workBytes, Tally as Counted, Playing, PlayTurn, goOn, finish, Outcome, heldBytes}
+use Rattle.run_semantics.specs.Play.{workBytes, Tally as Counted, Playing, PlayTurn, goOn, finish, Outcome, runObjects, heldBytes}
 use Rattle.events.specs.Held.{agendaBytes, openOf, waitingOf}
 use Rattle.effects.specs.Held.{scratchBytes}
 use Rattle.machine.specs.Held.{StateRows, stateOf, stateIn, Kept, Noted}
@@ -66,8 +66,10 @@ playerOf p =
 -- ---- what holds wherever playing stands
 
 pub record Sound (D : Domain) (p : Playing) : Type 0 where
-  pub kept : Kept D (p .state) (p .waiting)
+  pub kept : Kept D (runObjects p) (p .state) (p .waiting)
   pub objects : p .objects ≤ maxObjects
+  -- nothing is open before there are objects
+  pub idle : p .objects ≡ 0 → p .state .running ≡ []
   -- each step has its record
   pub steps : p .tally .steps ≤ p .at
   pub early : p .tally .begun ≡ false → (p .tally .steps ≡ 0) × (p .tally .weight ≡ 0)
@@ -103,7 +105,7 @@ LeadsTo (finish o) t work old = Ends o t work old
 
 -- the index of the facts afterwards, where playing goes on
 abbrev pub NotedAfter : Domain → List ℕ → List ℕ → PlayTurn → Type 0
-NotedAfter D head index (goOn q) = Noted D head index (q .state)
+NotedAfter D head index (goOn q) = Noted D (runObjects q) head index (q .state)
 NotedAfter D head index (finish o) = Unit {0}
 
 -- ---- what the code relies on
@@ -121,7 +123,7 @@ pub record Playable (head : List ℕ) (player : Whole) (work index : List ℕ) :
   pub says : HeadOf said head
   pub stands : Stands said reached player work old
   pub room : workBytes ≤ length old
-  pub noted : Noted said head index (reached .state)
+  pub noted : Noted said (runObjects reached) head index (reached .state)
 
 -- ---- how a run ends
 

@@ -34,7 +34,7 @@ ghost use Rattle.literals.specs.Domain.{Domain};
 ghost use Rattle.literals.specs.Decode.{byte};
 ghost use Rattle.literals.specs.Held.{HeadOf, Held};
 ghost use Rattle.run_semantics.specs.RunFile.{maxEvents, maxFacts, runKindOf, factOf, eventOf, objectsStop, factStop, eventStop, endStop};
-ghost use Rattle.run_semantics.specs.Play.{workBytes, Playing, beforeRun, goOn, unless, begin, withObjects, withFact};
+ghost use Rattle.run_semantics.specs.Play.{workBytes, Playing, beforeRun, goOn, unless, begin, withObjects, withFact, runObjects};
 ghost use Rattle.run_semantics.specs.Play.{withEvent, closeStep, withClose, playRecord, playStep};
 ghost use Rattle.machine.specs.Held.{Noted, Closable};
 ghost use Rattle.player.specs.Player.{Whole, wholeIn, turnIn, tallyOf, playerOf, Stands, Playable, RunMemory, LeadsTo, NotedAfter};
@@ -47,7 +47,7 @@ impl Tally {
         requires facts { ⌜ 8 * facts ≤ length (now work) ⌝ }
         ensures { λ r. ⌜ ((D : Domain) (p : Playing) (player : Whole) (old : List ℕ) → HeadOf D (now (head .entry))
             → Stands D p player (now (work .entry)) old → self ≡ player .tally → facts ≡ player .state .facts
-            → Noted D (now (head .entry)) (now (index .entry)) (p .state) → r ≡ tallyOf (begin D p .tally)) ⌝ }
+            → Noted D (runObjects p) (now (head .entry)) (now (index .entry)) (p .state) → r ≡ tallyOf (begin D p .tally)) ⌝ }
     {
         if self.begun {
             return self;
@@ -88,7 +88,7 @@ impl Player {
         requires few { ⌜ self .counts .facts ≤ maxFacts ⌝ }
         requires facts { ⌜ 8 * self .counts .facts ≤ length (now work) ⌝ }
         ensures { λ r. ⌜ ((D : Domain) (p : Playing) (agenda old : List ℕ) → HeadOf D (now (head .entry))
-            → Stands D p (wholeIn self agenda) (now (work .entry)) old → Noted D (now (head .entry)) (now (index .entry)) (p .state)
+            → Stands D p (wholeIn self agenda) (now (work .entry)) old → Noted D (runObjects p) (now (head .entry)) (now (index .entry)) (p .state)
             → wholeIn r agenda ≡ playerOf (begin D p)) ⌝ }
     {
         let counts = self.counts;
@@ -168,12 +168,12 @@ impl Player {
         requires work { ⌜ workBytes ≤ length (now work) ⌝ }
         ensures leads { λ r. ⌜ ((D : Domain) (q : Playing) (agenda old : List ℕ) → HeadOf D (now (head .entry))
             → Stands D q (wholeIn self agenda) (now (work .entry)) old
-            → Noted D (now (head .entry)) (now (index .entry)) (q .state)
+            → Noted D (runObjects q) (now (head .entry)) (now (index .entry)) (q .state)
             → LeadsTo (unless (factStop D (q .objects) (q .tally .begun) (q .state .facts) (now (p .entry))) q
             (goOn (withFact q (factOf (now (p .entry))) behind))) (turnIn r agenda) (now (work .exit)) old) ⌝ }
         ensures noted { λ _. ⌜ ((D : Domain) (q : Playing) (agenda old : List ℕ) → HeadOf D (now (head .entry))
             → Stands D q (wholeIn self agenda) (now (work .entry)) old
-            → Noted D (now (head .entry)) (now (index .entry)) (q .state)
+            → Noted D (runObjects q) (now (head .entry)) (now (index .entry)) (q .state)
             → NotedAfter D (now (head .entry)) (now (index .exit))
             (unless (factStop D (q .objects) (q .tally .begun) (q .state .facts) (now (p .entry))) q
             (goOn (withFact q (factOf (now (p .entry))) behind)))) ⌝ }
@@ -259,11 +259,11 @@ impl Player {
         requires memory { ⌜ RunMemory (now agenda) (now scratch) ⌝ }
         ensures leads { λ r. ⌜ ((D : Domain) (q : Playing) (old : List ℕ) → Held D (now (head .entry)) (now (table .entry))
             → Stands D q (wholeIn self (now (agenda .entry))) (now (work .entry)) old
-            → q .tally .begun ≡ true → Noted D (now (head .entry)) (now (index .entry)) (q .state)
+            → (q .objects ≡ 0 → ⊥) → q .tally .begun ≡ true → Noted D (runObjects q) (now (head .entry)) (now (index .entry)) (q .state)
             → LeadsTo (closeStep D q behind) (turnIn r (now (agenda .exit))) (now (work .exit)) old) ⌝ }
         ensures noted { λ _. ⌜ ((D : Domain) (q : Playing) (old : List ℕ) → Held D (now (head .entry)) (now (table .entry))
             → Stands D q (wholeIn self (now (agenda .entry))) (now (work .entry)) old
-            → q .tally .begun ≡ true → Noted D (now (head .entry)) (now (index .entry)) (q .state)
+            → (q .objects ≡ 0 → ⊥) → q .tally .begun ≡ true → Noted D (runObjects q) (now (head .entry)) (now (index .entry)) (q .state)
             → NotedAfter D (now (head .entry)) (now (index .exit)) (closeStep D q behind)) ⌝ }
     {
         let tally = self.tally;
@@ -340,11 +340,11 @@ impl Player {
         requires other { ⌜ (kind ≡ 19 → ⊥) ⌝ }
         ensures leads { λ r. ⌜ ((D : Domain) (q : Playing) (old : List ℕ) → HeadOf D (now (head .entry))
             → Stands D q (wholeIn self (now (agenda .entry))) (now (work .entry)) old
-            → Noted D (now (head .entry)) (now (index .entry)) (q .state)
+            → Noted D (runObjects q) (now (head .entry)) (now (index .entry)) (q .state)
             → LeadsTo (playRecord D q (runKindOf kind) (now (p .entry)) behind) (turnIn r (now (agenda .exit))) (now (work .exit)) old) ⌝ }
         ensures noted { λ _. ⌜ ((D : Domain) (q : Playing) (old : List ℕ) → HeadOf D (now (head .entry))
             → Stands D q (wholeIn self (now (agenda .entry))) (now (work .entry)) old
-            → Noted D (now (head .entry)) (now (index .entry)) (q .state)
+            → Noted D (runObjects q) (now (head .entry)) (now (index .entry)) (q .state)
             → NotedAfter D (now (head .entry)) (now (index .exit)) (playRecord D q (runKindOf kind) (now (p .entry)) behind)) ⌝ }
     {
         match kind {
@@ -380,11 +380,11 @@ impl Player {
         requires memory { ⌜ RunMemory (now agenda) (now scratch) ⌝ }
         ensures leads { λ r. ⌜ ((D : Domain) (q : Playing) (old : List ℕ) → Held D (now (head .entry)) (now (table .entry))
             → Stands D q (wholeIn self (now (agenda .entry))) (now (work .entry)) old
-            → Noted D (now (head .entry)) (now (index .entry)) (q .state)
+            → Noted D (runObjects q) (now (head .entry)) (now (index .entry)) (q .state)
             → LeadsTo (playStep D (now (run .entry)) q) (turnIn r (now (agenda .exit))) (now (work .exit)) old) ⌝ }
         ensures noted { λ _. ⌜ ((D : Domain) (q : Playing) (old : List ℕ) → Held D (now (head .entry)) (now (table .entry))
             → Stands D q (wholeIn self (now (agenda .entry))) (now (work .entry)) old
-            → Noted D (now (head .entry)) (now (index .entry)) (q .state)
+            → Noted D (runObjects q) (now (head .entry)) (now (index .entry)) (q .state)
             → NotedAfter D (now (head .entry)) (now (index .exit)) (playStep D (now (run .entry)) q)) ⌝ }
     {
         let at = self.at;

@@ -1,17 +1,14 @@
 -- `any_meets` meets its contract: no row before j meets this one, so the test is that of the rows from j on. Assumes nothing.
 use mathlib.Core.Path.{_≡_, sym, _∙_}
-use mathlib.Core.Logic.{⊎-elim}
 use mathlib.Core.Bool.{Bool}
 use mathlib.Core.List.{List}
 use Prim.Native.Nat.{ℕ, _-_, _*_, _≤_}
 use native.Mathlib.Omega.{arith}
-use borrow.Author.Tests.{eq-eqb, ne-eqb}
 use lib.ListN.{take, drop}
 use Rattle.literals.specs.Table.{rowsIn}
 use Rattle.literals.proofs.Rows.{any-first, any-hit, any-miss, any-end}
 use Rattle.verdict.specs.Patterns.{patternsMeet}
 use Rattle.effects.specs.Held.{anyMeets}
-use Rattle.effects.proofs.IndexedRows.{meets-by}
 use Rattle.effects.proofs.any_meets.Statement.{statement}
 use Rattle.effects.proofs.any_meets.Tie as tie
 
@@ -31,28 +28,18 @@ loop-holds c =
     let a = c .before .before .args in
     (omega arith, any-first (meets (a .work .now) (a .at)) (a .rows .now) (a .m))
 
-mul-if1 : tie.Need-mul-if1 Inv-loop μ-loop
-mul-if1 c = omega arith
+mul-patterns-meet : tie.Need-mul-patterns-meet Inv-loop μ-loop
+mul-patterns-meet c = omega arith
 
-shared-slice-read-if1 : tie.Need-shared-slice-read-if1 Inv-loop μ-loop
-shared-slice-read-if1 c = omega arith
-
-shared-slice-read-if1-2 : tie.Need-shared-slice-read-if1-2 Inv-loop μ-loop
-shared-slice-read-if1-2 c = omega arith
-
-mul-arguments-meet : tie.Need-mul-arguments-meet Inv-loop μ-loop
-mul-arguments-meet c = omega arith
-
-arguments-meet-requires : tie.Need-arguments-meet-requires Inv-loop μ-loop
-arguments-meet-requires c κs = (omega arith, omega arith)
+patterns-meet-requires : tie.Need-patterns-meet-requires Inv-loop μ-loop
+patterns-meet-requires c κs = (omega arith, omega arith)
 
 returns : tie.Need-returns Inv-loop μ-loop
 returns c =
-    let a = c .before .before .before .before .before .before .before .before .before .args in
-    let l = c .before .before .before .before .before .before .loop in
-    let e = meets-by (a .rows .now) (a .work .now) (8 * l .j) (a .at) (eq-eqb _ _ (c .before .before .if1 .taken)) in
+    let a = c .before .before .before .before .before .before .args in
+    let l = c .before .before .before .loop in
     sym (any-hit (meets (a .work .now) (a .at)) (a .rows .now) (a .m) (l .j) (omega arith)
-    (e ∙ sym (c .before .arguments-meet .ensures) ∙ c .if2 .taken))
+    (sym (c .before .patterns-meet .ensures) ∙ c .if1 .taken))
     ∙ l .inv .1
 
 add-j : tie.Need-add-j Inv-loop μ-loop
@@ -63,20 +50,13 @@ loop-less c = omega arith
 
 loop-again : tie.Need-loop-again Inv-loop μ-loop
 loop-again c =
-    let a = c .before .before .before .before .before .before .before .args in
-    let l = c .before .before .before .before .loop in
-    let miss = any-miss (meets (a .work .now) (a .at)) (a .rows .now) (a .m) (l .j) (omega arith) in
-    ⊎-elim
-    (λ w. (
+    let a = c .before .before .before .before .before .before .args in
+    let l = c .before .before .before .loop in (
       omega arith,
-      sym (miss (meets-by (a .rows .now) (a .work .now) (8 * l .j) (a .at) (eq-eqb _ _ (w .0 .taken)) ∙ sym (w .1 .ensures) ∙ w .2 .left))
+      sym (any-miss (meets (a .work .now) (a .at)) (a .rows .now) (a .m) (l .j) (omega arith)
+          (sym (c .before .patterns-meet .ensures) ∙ c .if1 .left))
           ∙ l .inv .1,
-    ))
-    (λ w. (
-      omega arith,
-      sym (miss (meets-by (a .rows .now) (a .work .now) (8 * l .j) (a .at) (ne-eqb _ _ (w .left)))) ∙ l .inv .1,
-    ))
-    (c .if1 .came)
+    )
 
 returns-2 : tie.Need-returns-2 Inv-loop μ-loop
 returns-2 c =
@@ -91,11 +71,8 @@ any-meets-spec =
     Inv-loop
     μ-loop
     loop-holds
-    mul-if1
-    shared-slice-read-if1
-    shared-slice-read-if1-2
-    mul-arguments-meet
-    arguments-meet-requires
+    mul-patterns-meet
+    patterns-meet-requires
     returns
     add-j
     loop-less

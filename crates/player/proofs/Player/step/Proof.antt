@@ -8,7 +8,7 @@ use Rattle.run_semantics.specs.RunFile.{runKindOf, stepRecord}
 use Rattle.run_semantics.specs.Play.{begin, playRecord, playStep}
 use Rattle.player.specs.Player.{wholeIn}
 use Rattle.player.proofs.Sound.{begun-tally}
-use Rattle.player.proofs.PlayTurns.{kind-19, step-refused, step-passed}
+use Rattle.player.proofs.PlayTurns.{kind-19, step-refused, step-some, step-passed}
 use Rattle.player.proofs.PlayTurns.{turn-behind, turn-end, turn-cut, turn-none, turn-whole, turn-noted}
 use Rattle.player.proofs.NotedTurns.{noted-ended, noted-of, noted-begun, noted-step-record}
 use Rattle.player.proofs.Readied.{facts-held, facts-room, step-shape, stands-begun}
@@ -151,12 +151,12 @@ returns-5 c =
           let s = stands-begun (p .0) begun (λ D p old. b .ensures D p (a .agenda .now) old) D (H .says) q old st noted in
           turn-whole D (a .run .now) q player (a .work .now) old st going _ _ _ found _ _ _ refl
           (step-passed D q begun (a .work .now) old s _ (x .result) (x .ensures) (w .0) k (w .1 .0 + w .1 .1 .0) (c .before .before .before .before .before .before .before .before .before .before .before .if4 .left) _ _
-          (l .ensures .0 D (begin D q) old H s (begun-tally D q) (noted-begun D _ _ q noted))),
+          (l .ensures .0 D (begin D q) old H s (step-some D q begun (a .work .now) old s _ (x .result) (x .ensures) (w .0) k (w .1 .0 + w .1 .1 .0) (c .before .before .before .before .before .before .before .before .before .before .before .if4 .left)) (begun-tally D q) (noted-begun D _ _ q noted))),
       λ D q old H st noted.
           let s = stands-begun (p .0) begun (λ D p old. b .ensures D p (a .agenda .now) old) D (H .says) q old st noted in
           turn-noted D (a .run .now) q player (a .work .now) old st going _ _ _ found _ refl (a .head .now) _
           (noted-of D _ _ q _ (w .1 .0 + w .1 .1 .0) (w .0) stepRecord k
-          (noted-step-record D _ _ q _ _ (l .ensures .1 D (begin D q) old H s (begun-tally D q) (noted-begun D _ _ q noted)))),
+          (noted-step-record D _ _ q _ _ (l .ensures .1 D (begin D q) old H s (step-some D q begun (a .work .now) old s _ (x .result) (x .ensures) (w .0) k (w .1 .0 + w .1 .1 .0) (c .before .before .before .before .before .before .before .before .before .before .before .if4 .left)) (begun-tally D q) (noted-begun D _ _ q noted)))),
     )
 
 returns-6 : tie.Need-returns-6

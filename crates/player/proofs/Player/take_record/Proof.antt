@@ -41,7 +41,7 @@ returns c =
       λ D q old H st noted.
           of-objects D q (a .kind) (a .p .now) (a .behind) _ _ old k (c .take-objects .ensures D q (a .agenda .now) _ old st),
       λ D q old H st noted.
-          noted-of D _ _ q (a .p .now) (a .behind) (a .kind) objectsRecord k (noted-objects D _ _ q (a .p .now) (a .behind) noted),
+          noted-of D _ _ q (a .p .now) (a .behind) (a .kind) objectsRecord k (noted-objects D _ _ q (a .p .now) (a .behind) (st .sound) noted),
     )
 
 same-length : tie.Need-same-length

@@ -3,10 +3,11 @@ use borrow.Author.Needs.{needs}
 use mathlib.Core.Path.{ap, _∙_}
 use mathlib.Core.Bool.{false}
 use native.Mathlib.Omega.{arith}
+use Rattle.run_semantics.specs.Play.{runObjects}
 use Rattle.machine.specs.declared.State.{State}
 use Rattle.machine.specs.Held.{stateIn}
 use Rattle.player.specs.Player.{wholeIn}
-use Rattle.player.proofs.PlayTurns.{saved, close-stops, close-on, state-is, weight-under}
+use Rattle.player.proofs.PlayTurns.{saved, some-object, close-stops, close-on, state-is, weight-under}
 use Rattle.player.proofs.NotedTurns.{noted-closed}
 use Rattle.player.proofs.Player.take_step.Statement.{statement}
 use Rattle.player.proofs.Player.take_step.Tie as tie
@@ -32,14 +33,14 @@ returns c =
     let player = wholeIn (a .self) (a .agenda .now) in
     let l = c .before .before .before .before .before .before .step in
     let loaded = ap (λ (s : State). stateIn (s .counts) (s .agenda)) (c .before .before .before .before .before .before .before .before .before .before .load .ensures) in (
-      λ D q old H st b noted.
-          let leaves = l .ensures .0 D (q .state) (q .waiting) old
-          (record { domain = H; kept = st .sound .kept; state-is = loaded ∙ state-is D q st; facts-are = st .memory })
+      λ D q old H st n b noted.
+          let leaves = l .ensures .0 D (runObjects q) (q .state) (q .waiting) old
+          (record { domain = H; some = some-object q n; kept = st .sound .kept; state-is = loaded ∙ state-is D q st; facts-are = st .memory })
           (weight-under D q st b) noted in
           close-stops D q (a .behind) player (a .work .now) old st (l .result .number) _ (l .result .weight) _ leaves (c .if1 .taken),
-      λ D q old H st b noted.
-          let leaves = l .ensures .0 D (q .state) (q .waiting) old
-          (record { domain = H; kept = st .sound .kept; state-is = loaded ∙ state-is D q st; facts-are = st .memory })
+      λ D q old H st n b noted.
+          let leaves = l .ensures .0 D (runObjects q) (q .state) (q .waiting) old
+          (record { domain = H; some = some-object q n; kept = st .sound .kept; state-is = loaded ∙ state-is D q st; facts-are = st .memory })
           (weight-under D q st b) noted in
           noted-closed D _ _ q (a .behind) (l .result .number) (leaves .number-is) (λ z. absurd (c .if1 .taken z)),
     )
@@ -65,19 +66,19 @@ returns-2 c =
     let player = wholeIn (a .self) (a .agenda .now) in
     let l = c .before .before .before .before .before .before .before .before .before .before .before .before .step in
     let loaded = ap (λ (s : State). stateIn (s .counts) (s .agenda)) (c .before .before .before .before .before .before .before .before .before .before .before .before .before .before .before .before .load .ensures) in (
-      λ D q old H st b noted.
-          let leaves = l .ensures .0 D (q .state) (q .waiting) old
-          (record { domain = H; kept = st .sound .kept; state-is = loaded ∙ state-is D q st; facts-are = st .memory })
+      λ D q old H st n b noted.
+          let leaves = l .ensures .0 D (runObjects q) (q .state) (q .waiting) old
+          (record { domain = H; some = some-object q n; kept = st .sound .kept; state-is = loaded ∙ state-is D q st; facts-are = st .memory })
           (weight-under D q st b) noted in
           close-on D q (a .behind) player (a .work .now) old st (l .result .number) _ (l .result .weight) _ leaves (c .before .before .before .before .before .before .if1 .left) _
           (saved (a .behind) false (a .self .objects) _ (l .result .state .counts) (l .result .state .agenda) _ (c .before .before .before .before .save .ensures)),
-      λ D q old H st b noted.
-          let leaves = l .ensures .0 D (q .state) (q .waiting) old
-          (record { domain = H; kept = st .sound .kept; state-is = loaded ∙ state-is D q st; facts-are = st .memory })
+      λ D q old H st n b noted.
+          let leaves = l .ensures .0 D (runObjects q) (q .state) (q .waiting) old
+          (record { domain = H; some = some-object q n; kept = st .sound .kept; state-is = loaded ∙ state-is D q st; facts-are = st .memory })
           (weight-under D q st b) noted in
           noted-closed D _ _ q (a .behind) (l .result .number) (leaves .number-is)
-          (λ z. l .ensures .1 D (q .state) (q .waiting) old
-          (record { domain = H; kept = st .sound .kept; state-is = loaded ∙ state-is D q st; facts-are = st .memory }) noted z),
+          (λ z. l .ensures .1 D (runObjects q) (q .state) (q .waiting) old
+          (record { domain = H; some = some-object q n; kept = st .sound .kept; state-is = loaded ∙ state-is D q st; facts-are = st .memory }) noted z),
     )
 
 pub take-step-spec : {M : Type 1} → statement M
