@@ -230,10 +230,10 @@ rows-of P usage ls h row m =
 -- ---- they are those of the events' literals
 
 -- the rows of an event's literals of one usage, so bound, and those of the events of a step
-abbrev eventRows : Domain → Event → Usage → List (List ℕ)
+abbrev pub eventRows : Domain → Event → Usage → List (List ℕ)
 eventRows D e c = map (patternRow (e .ground .binding)) (withRole (own (e .moment) c) (action D (e .ground .action) .lits))
 
-abbrev effectRows : Domain → List Event → Usage → List (List ℕ)
+abbrev pub effectRows : Domain → List Event → Usage → List (List ℕ)
 effectRows D es c = flatMap (λ (e : Event). eventRows D e c) es
 
 -- those that count at the time of a moment are its own

@@ -3,4 +3,7 @@ pub mod Further
 pub mod Engine
 pub mod Written
 pub mod Sets
+pub mod Plainly
+pub mod Conditions
+pub mod Abouts
 pub mod Loops

@@ -1,21 +1,27 @@
 -- Laws of the loops: the row of the event, the index of its true conditions, the answers of its classes. Assumes nothing.
 use mathlib.Core.Path.{_≡_, refl, sym, ap, ap₂, _∙_, subst}
-use mathlib.Core.List.{List, [], _∷_, _++_, map, map-append, append-assoc, List·Memᴰ·not-nil, Memᴰ·append-left, Memᴰ·append-right, List·Memᴰ·head}
+use mathlib.Core.List.{List, [], _∷_, _++_, map-append, append-nil, append-assoc, List·Memᴰ·head, List·Memᴰ·not-nil, Memᴰ·append-left}
+use mathlib.Core.List.{Memᴰ·append-right}
 use Prim.Native.Nat.{ℕ, zero, suc, _+_, _-_, _*_, _≤_, _<_}
 use native.Mathlib.Numerals.{add-one}
 use native.Mathlib.Omega.{arith}
-use lib.ListN.{length, getD, set, take, drop, replicate, length-map, length-replicate, getD-replicate}
-use lib.Seq.{set-at}
+use lib.ListN.{length, getD, set, take, drop, replicate, length-map, length-replicate, getD-replicate, drop-of-length-le}
+use lib.Seq.{set-at, take-all, paste}
+use Rattle.records.specs.Memory.{over}
+use Rattle.records.proofs.Memory.{paste-front}
 use Rattle.literals.specs.declared.Object.{Object}
 use Rattle.literals.specs.Domain.{object}
 use Rattle.literals.specs.Decode.{byte}
 use Rattle.literals.specs.Table.{rowsIn}
-use Rattle.literals.specs.Held.{arityIn}
+use Rattle.literals.specs.Held.{arityIn, componentRowIn}
 use Rattle.literals.proofs.Rows.{rows-snoc}
+use Rattle.literals.proofs.Heads.{arity-limit}
 use Rattle.verdict.specs.Binding.{objectsFrom}
 use Rattle.verdict.specs.Judged.{objectNumbers}
 use Rattle.verdict.proofs.Objects.{objects-length}
 use Rattle.store.specs.Index.{factIndex, totalAt, Sized, Indexed}
+use Rattle.store.specs.InstanceFacts.{instanceOf}
+use Rattle.store.proofs.InstanceFacts.{length-instance-at}
 use Rattle.events.specs.Held.{groundRow}
 use Rattle.trying.specs.Held.{plainGround}
 
@@ -77,4 +83,24 @@ enter-more head rows index₀ index index′ i E f z S =
     let row : List ℕ = take 8 (drop (8 * i) rows) in
     let S′ : Sized head (rowsIn i rows ++ (row ∷ [])) = subst (Sized head) (rows-snoc i rows) S in
     subst (Indexed head index′) (sym (rows-snoc i rows))
-    (f (rowsIn i rows) (E z (λ r m. S′ r (Memᴰ·append-left (row ∷ []) m))) (S′ row (Memᴰ·append-right (rowsIn i rows) (List·Memᴰ·head refl))))
+    (f (rowsIn i rows) (E z (λ r m. S′ r (Memᴰ·append-left (row ∷ []) m)))
+    (S′ row (Memᴰ·append-right (rowsIn i rows) (List·Memᴰ·head refl))))
+
+-- ---- the row of a further fact
+
+instance-length : (head : List ℕ) (c o : ℕ) (instance : List ℕ) → length (instanceOf head c o instance) ≡ 8
+instance-length head c o instance =
+    length-instance-at (arityIn head (getD (componentRowIn head c) 0 0)) o instance head c (arity-limit head (getD (componentRowIn head c) 0 0))
+
+-- it takes the place of the one before it
+pub instance-put : (head : List ℕ) (c o : ℕ) (instance fact next : List ℕ) → length instance ≡ 8 → length fact ≡ 8
+    → next ≡ paste fact 0 (instanceOf head c o (take 8 instance)) 8 → next ≡ instanceOf head c o instance
+unfolding over
+instance-put head c o instance fact next s l e =
+    let new : List ℕ = instanceOf head c o instance in
+    let n = instance-length head c o instance in
+    e
+    ∙ ap (λ (t : List ℕ). paste fact 0 (instanceOf head c o t) 8) (take-all 8 instance (omega arith))
+    ∙ paste-front new fact 8 (sym n)
+    ∙ ap (λ (t : List ℕ). new ++ t) (drop-of-length-le fact {i = length new} (omega arith))
+    ∙ append-nil new

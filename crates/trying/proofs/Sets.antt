@@ -1,5 +1,5 @@
--- The step from the true conditions decides those from the sets with a further fact: where the instance weighs one already, such a fact makes
--- it two; else it leaves one fact more at most, and that one exactly where no literal of the event is about it. Assumes nothing.
+-- The step from the true conditions decides those from the sets with a further fact: where the instance weighs one already, such a fact
+-- makes it two; else it leaves one fact more at most, and that one exactly where no literal of the event is about it. Assumes nothing.
 use mathlib.Core.Path.{_≡_, refl, sym, ap, _∙_}
 use mathlib.Core.Bool.{Bool, true, false, not, _&&_, _||_}
 use mathlib.Core.Logic.{_⊎_, inl, inr}
@@ -102,9 +102,10 @@ module _ (D : Domain) (i : ℕ) where
           and-i (all-of (λ f. elem sameFact f (dedup sameFact s)) (factsIn Positive)
           (λ f m. fact-elem (in-dedup sameFact fact-eq (h .yes f m))))
           (all-of (λ f. not (elem sameFact f (dedup sameFact s))) (factsIn Negative)
-          (λ f m. ap not (off (elem sameFact f (dedup sameFact s)) (λ t. h .no f m (dedup-in sameFact s (elem-fact f (dedup sameFact s) t))))))
+          (λ f m. ap not (off (elem sameFact f (dedup sameFact s))
+          (λ t. h .no f m (dedup-in sameFact s (elem-fact f (dedup sameFact s) t))))))
 
-  left-is : (s : List Fact) (f : Fact) → In f (left s) → One (λ g. In g s) factsIn f
+  pub left-is : (s : List Fact) (f : Fact) → In f (left s) → One (λ g. In g s) factsIn f
   unfolding next
   left-is s f m = go (after-in D objs (dedup sameFact s) (ev ∷ []) f m)
     where
@@ -280,7 +281,8 @@ module _ (D : Domain) (wf : wellFormed D ≡ true) (i : ℕ) (idx : i < length (
 
   further-matches : (f : Fact) → In f further → matches D y f ≡ true
   further-matches f m =
-      and-r (isFact D (plainObjects D i) f) _ (further-fits D (template-well-formed D wf) (plainObjects D i) y (instance D wf i idx x hx) f m)
+      and-r (isFact D (plainObjects D i) f) _
+      (further-fits D (template-well-formed D wf) (plainObjects D i) y (instance D wf i idx x hx) f m)
 
   module _ (about : Fact → Bool) (yes : (f : Fact) → In f further → about f ≡ true → (c : Usage) × In f (factsIn D i c))
       (back : (f : Fact) → In f further → (c : Usage) → In f (factsIn D i c) → about f ≡ true) where
@@ -296,10 +298,12 @@ module _ (D : Domain) (wf : wellFormed D ≡ true) (i : ℕ) (idx : i < length (
         go : (fs : List Fact) → SetCases D wf i idx y fs → breaks D (plainObjects D i) (plainEvent D i) y fs ≡ true → answer ≡ true
         go fs (inl e) b =
             let b′ : breaks D (plainObjects D i) (plainEvent D i) y (heldFacts D i) ≡ true = rw e at b in
-            and-i {a = leb (before D i y (held D i y)) 1 && can} (and-l _ _ b′) (or-l _ (and-r (leb (before D i y (held D i y)) 1 && can) _ b′))
+            and-i {a = leb (before D i y (held D i y)) 1 && can} (and-l _ _ b′)
+            (or-l _ (and-r (leb (before D i y (held D i y)) 1 && can) _ b′))
         go fs (inr (f, m, e)) b =
             and-i {a = leb (before D i y (held D i y)) 1 && can}
-            (and-i {a = leb (before D i y (held D i y)) 1} (le-leb _ 1 (held-low D i y f fits low ok high)) (held-can D i y f fits low ok high))
+            (and-i {a = leb (before D i y (held D i y)) 1} (le-leb _ 1 (held-low D i y f fits low ok high))
+            (held-can D i y f fits low ok high))
             (by (bool-cases (leb 2 (after D i y (held D i y)))))
           where
             fits : matches D y f ≡ true

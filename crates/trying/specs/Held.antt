@@ -1,8 +1,8 @@
 -- How the code tries a class: one step from the true conditions, and what a further fact changes of it. Assumes nothing.
 use mathlib.Core.Path.{_≡_}
 use mathlib.Core.Bool.{Bool, true, _&&_, _||_, not}
-use mathlib.Core.List.{List, [], _∷_, _++_, map}
-use Prim.Native.Nat.{ℕ, _≤_, _<_}
+use mathlib.Core.List.{List, [], _∷_, map}
+use Prim.Native.Nat.{ℕ, _+_, _≤_, _<_}
 use lib.Dec.{eqb, leb}
 use lib.ListN.{length, take}
 use Rattle.records.specs.Lists.{any}
@@ -22,6 +22,7 @@ use Rattle.store.specs.InstanceFacts.{instanceOf}
 use Rattle.events.specs.Grounding.{GroundLiteral, groundIn, Grounded}
 use Rattle.effects.specs.Held.{literalsIn, effectsIn}
 use Rattle.trying.specs.Trying.{heldFacts, triedFrom}
+use Rattle.trying.specs.declared.alone.Base.{Base}
 use Rattle.trying.specs.declared.alone.Alone.{Alone}
 
 -- ---- the event
@@ -36,18 +37,22 @@ Listed head table i = (D : Domain) × Held D head table × (wellFormed D ≡ tru
 
 -- ---- one step from the true conditions alone
 
+-- the memory holds the ground literals, and behind them the true conditions
+pub record BaseOf (D : Domain) (i : ℕ) (head : List ℕ) (r : Base) (base : List ℕ) : Type 0 where
+  pub grounded : Grounded D head (plainEvent D i ∷ []) (literalsIn base) (r .literals)
+  pub held : rowsIn (r .held) (effectsIn base) ≡ map factRow (heldFacts D i)
+
+-- a second one, in front, the facts that the step leaves
+pub record AloneOf (D : Domain) (i : ℕ) (head : List ℕ) (r : Alone) (base after : List ℕ) : Type 0 where
+  pub conditions : BaseOf D i head (record { literals = r .literals; held = r .held }) base
+  pub allowed : r .allowed ≡ allowed D (plainObjects D i) (startState (heldFacts D i)) (plainEvent D i ∷ [])
+  pub left : rowsIn (r .left) after ≡ map factRow (next D (plainObjects D i) (startState (heldFacts D i)) (plainEvent D i ∷ []) .facts)
+
 -- no more than there is room for
 pub record FewOf (r : Alone) : Type 0 where
   pub literals : r .literals ≤ maxLiterals
   pub held : r .held ≤ maxLiterals
-  pub left : r .left ≤ maxFacts
-
--- the first memory holds the ground literals and behind them the true conditions; the second, in front, the facts that the step leaves
-pub record AloneOf (D : Domain) (i : ℕ) (head : List ℕ) (r : Alone) (base after : List ℕ) : Type 0 where
-  pub grounded : Grounded D head (plainEvent D i ∷ []) (literalsIn base) (r .literals)
-  pub held : rowsIn (r .held) (effectsIn base) ≡ map factRow (heldFacts D i)
-  pub allowed : r .allowed ≡ allowed D (plainObjects D i) (startState (heldFacts D i)) (plainEvent D i ∷ [])
-  pub left : rowsIn (r .left) after ≡ map factRow (next D (plainObjects D i) (startState (heldFacts D i)) (plainEvent D i ∷ []) .facts)
+  pub left : r .left ≤ maxFacts + 1
 
 -- ---- further facts, by rows
 

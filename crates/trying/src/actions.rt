@@ -13,7 +13,7 @@ use literals::keys::put_places;
 use literals::limits::MAX_COMPONENTS;
 use literals::limits::MAX_LITERALS;
 ghost use mathlib.Core.Path.{_≡_};
-ghost use mathlib.Core.Bool.{true};
+ghost use mathlib.Core.Bool.{true, false};
 ghost use mathlib.Core.List.{List};
 ghost use Prim.Native.Nat.{ℕ, _+_, _*_, _≤_, _<_};
 ghost use lib.ListN.{length};
@@ -22,7 +22,6 @@ ghost use Rattle.literals.specs.Decode.{maxActions, maxLiterals};
 ghost use Rattle.literals.specs.Held.{Held};
 ghost use Rattle.literals.specs.Keys.{PlacesOf};
 ghost use Rattle.verdict.specs.Claims.{wellFormed};
-ghost use Rattle.trying.specs.Trying.{triedOf};
 ghost use Rattle.trying.specs.Held.{Listed, Making};
 
 // Those of the action i, which is at once, behind those that are written; how far they go then.

@@ -26,14 +26,14 @@ ghost use Rattle.trying.specs.Claims.{AgreesWithNames};
 const TRIED_SIZE: usize = MAX_ACTIONS * MAX_LITERALS;
 
 // The bytes of a domain that was read.
-fn try_domain(head: &Head, table: &[u8], tried: &mut [u8], first: &mut u64) -> u64
+fn try_domain(head: &Head, table: &[u8], out: &mut [u8], first: &mut u64) -> u64
     requires { ⌜ ((D : Domain) × Held D (now head) (now table) × (wellFormed D ≡ true)) ⌝ }
     ensures { λ r. ⌜ ((D : Domain) → Held D (now (head .entry)) (now (table .entry)) → wellFormed D ≡ true
-        → DeliveredAs (tried D) (now (tried .entry)) r (now (first .exit)) (now (tried .exit))) ⌝ }
+        → DeliveredAs (tried D) (now (out .entry)) r (now (first .exit)) (now (out .exit))) ⌝ }
 {
     let mut made = [0u8; TRIED_SIZE];
     let size = try_actions(head, table, &mut made);
-    deliver(&made[0..size], tried, first)
+    deliver(&made[0..size], out, first)
 }
 
 // Those of a file: it is read whole, and refused as judging refuses it.

@@ -38,7 +38,7 @@ use Rattle.classes.specs.Held.{ActionOf, tupleRow, usagesBy, askedAt, uncovered
 use Rattle.classes.proofs.Rows.{noLiteral}
 use Rattle.classes.proofs.Usages.{length-usages, required-at}
 use Rattle.classes.proofs.Members.{classes-few}
-use Rattle.verdict.specs.Binding.{valueOf, bind, bindTuple, objectsFrom, sameNumbers, spare}
+use Rattle.verdict.specs.Binding.{valueOf, bind, bindTuple, sameNumbers, spare}
 use Rattle.verdict.specs.Decision.{faultBy, instanceFact, firstUncovered, witnessBy, witnessAt, shownAt}
 use Rattle.verdict.specs.Judged.{objectNumbers, factBytes}
 use Rattle.verdict.specs.Held.{momentBy}
@@ -48,6 +48,7 @@ use Rattle.store.specs.InstanceFacts.{instanceOf}
 use Rattle.store.proofs.InstanceRows.{objectsRow}
 use Rattle.store.proofs.InstanceFacts.{noComponent, length-instance-at, instance-is as row-of}
 use Rattle.verdict.proofs.Tuples.{Below, tuple-below}
+use Rattle.verdict.proofs.Objects.{value-numbers}
 use Rattle.verdict.proofs.Acts.{class-in, asked-plain}
 use Rattle.verdict.proofs.Instances.{class-keys}
 use Rattle.witness.proofs.Facts.{length-select, length-conditions}
@@ -64,20 +65,6 @@ facts-append (f ∷ fs) gs =
     (ap (λ (t : List ℕ). n ++ (r ++ t)) (facts-append fs gs)
     ∙ ap (λ (t : List ℕ). n ++ t) (sym (append-assoc r (factBytes fs) (factBytes gs)))
     ∙ sym (append-assoc n (r ++ factBytes fs) (factBytes gs)))
-
--- ---- "variable i is object i": binding keeps the numbers
-
-object-at : (k n i : ℕ) → i < n → getD (objectsFrom k n) i (object 0) ≡ object (k + i)
-object-at k zero i h = absurd (omega arith)
-object-at k (suc n) zero h = let e : k ≡ k + 0 = omega arith in ap object e
-object-at k (suc n) (suc i) h = let e : suc k + i ≡ k + suc i = omega arith in object-at (suc k) n i (omega arith) ∙ ap object e
-
-value-number : (a : Action) (v : Variable) → v .0 < a .vars → valueOf (sameNumbers a) v .0 ≡ v .0
-value-number a v h = let e : 0 + v .0 ≡ v .0 = omega arith in ap (λ (o : Object). o .0) (object-at 0 (a .vars) (v .0) h) ∙ e
-
-value-numbers : (a : Action) (vs : List Variable) → Below (a .vars) vs → objectNumbers (map (valueOf (sameNumbers a)) vs) ≡ map (λ (v : Variable). v .0) vs
-value-numbers a [] h = refl
-value-numbers a (v ∷ vs) h = ap₂ _∷_ (value-number a v (h v (List·Memᴰ·head refl))) (value-numbers a vs (λ w m. h w (List·Memᴰ·tail m)))
 
 -- ---- a true condition's fact
 

@@ -1,6 +1,5 @@
 -- `enter_rows` meets its contract: after i turns the first i rows are entered. Assumes nothing.
 use mathlib.Core.Path.{_≡_}
-use mathlib.Core.List.{[]}
 use Prim.Native.Nat.{_-_, _≤_}
 use native.Mathlib.Omega.{arith}
 use Rattle.trying.proofs.Loops.{Entering, enter-more}
@@ -31,14 +30,17 @@ loop-less c = omega arith
 
 loop-again : tie.Need-loop-again Inv-loop μ-loop
 loop-again c =
-    let a = c .args in
-    let l = c .loop in
-    (omega arith, enter-more (a .head .now) (a .rows .now) (a .index .now) (l .index) (c .enter .last .0) (l .i) (l .inv .1) (c .enter .ensures .0))
+    let a = c .before .before .before .before .before .args in
+    let l = c .before .before .before .loop in
+    (
+      omega arith,
+      enter-more (a .head .now) (a .rows .now) (a .index .now) (l .index) (c .enter .last .0) (l .i) (l .inv .1) (c .enter .ensures .0),
+    )
 
 returns : tie.Need-returns Inv-loop μ-loop
 returns c =
-    let l = c .loop in
-    let e : l .i ≡ c .args .n = omega arith in
+    let l = c .before .loop in
+    let e : l .i ≡ c .before .before .before .args .n = omega arith in
     rw e at (l .inv .1)
 
 pub enter-rows-spec : {M : Type 1} → statement M

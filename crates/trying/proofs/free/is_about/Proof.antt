@@ -4,7 +4,7 @@ use mathlib.Core.Bool.{Bool}
 use mathlib.Core.List.{List}
 use Prim.Native.Nat.{ℕ, _-_, _<_}
 use native.Mathlib.Omega.{arith}
-use lib.ListN.{take, drop}
+use lib.ListN.{drop}
 use lib.Seq.{take-all}
 use Rattle.records.specs.Lists.{any}
 use Rattle.records.proofs.Lists.{any-hit, any-miss, any-end}
@@ -35,13 +35,13 @@ patterns-meet-requires c κs = (omega arith, omega arith)
 
 returns : tie.Need-returns Inv-loop μ-loop
 returns c =
-    let a = c .args in
-    let l = c .loop in
+    let a = c .before .before .before .before .before .before .args in
+    let l = c .before .before .before .loop in
     let k = length-ground (a .memory .now) (a .total) in
     let h : l .i < a .total = omega arith in
     sym (any-hit (groundIn (a .total) (a .memory .now)) (l .i) noLiteral (omega arith) (test (a .fact .now))
-    (ground-test (a .memory .now) (a .total) (l .i) h (test (a .fact .now)) (c .patterns-meet .result)
-    (c .patterns-meet .ensures ∙ ap (patternsMeet (groundAt (a .memory .now) (l .i) .row)) (take-all 8 (a .fact .now) (omega arith)))
+    (ground-test (a .memory .now) (a .total) (l .i) h (test (a .fact .now)) (c .before .patterns-meet .result)
+    (c .before .patterns-meet .ensures ∙ ap (patternsMeet (groundAt (a .memory .now) (l .i) .row)) (take-all 8 (a .fact .now) (omega arith)))
     ∙ c .if1 .taken))
     ∙ l .inv
 
@@ -53,20 +53,20 @@ loop-less c = omega arith
 
 loop-again : tie.Need-loop-again Inv-loop μ-loop
 loop-again c =
-    let a = c .args in
-    let l = c .loop in
+    let a = c .before .before .before .before .before .before .args in
+    let l = c .before .before .before .loop in
     let k = length-ground (a .memory .now) (a .total) in
     let h : l .i < a .total = omega arith in
     sym (any-miss (groundIn (a .total) (a .memory .now)) (l .i) noLiteral (omega arith) (test (a .fact .now))
-    (ground-test (a .memory .now) (a .total) (l .i) h (test (a .fact .now)) (c .patterns-meet .result)
-    (c .patterns-meet .ensures ∙ ap (patternsMeet (groundAt (a .memory .now) (l .i) .row)) (take-all 8 (a .fact .now) (omega arith)))
+    (ground-test (a .memory .now) (a .total) (l .i) h (test (a .fact .now)) (c .before .patterns-meet .result)
+    (c .before .patterns-meet .ensures ∙ ap (patternsMeet (groundAt (a .memory .now) (l .i) .row)) (take-all 8 (a .fact .now) (omega arith)))
     ∙ c .if1 .left))
     ∙ l .inv
 
 returns-2 : tie.Need-returns-2 Inv-loop μ-loop
 returns-2 c =
-    let a = c .args in
-    let l = c .loop in
+    let a = c .before .before .before .before .args in
+    let l = c .before .loop in
     let k = length-ground (a .memory .now) (a .total) in
     sym (any-end (groundIn (a .total) (a .memory .now)) (l .i) noLiteral (test (a .fact .now)) (omega arith)) ∙ l .inv
 

@@ -36,14 +36,14 @@ loop-less c = omega arith
 
 loop-again : tie.Need-loop-again Inv-loop μ-loop
 loop-again c =
-    let a = c .args in
-    let l = c .loop in
+    let a = c .before .before .args in
+    let l = c .before .loop in
     (omega arith, row-more (a .i) (l .k) (omega arith) (l .inv .1))
 
 returns : tie.Need-returns Inv-loop μ-loop
 returns c =
-    let a = c .args in
-    let l = c .loop in
+    let a = c .before .before .args in
+    let l = c .before .loop in
     let e : l .k ≡ a .variables = omega arith in
     l .inv .1 ∙ ap (rowUpTo (a .i)) e ∙ row-whole (a .i) (a .variables)
 
