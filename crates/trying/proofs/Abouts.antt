@@ -202,16 +202,18 @@ module _ (D : Domain) (wf : wellFormed D ≡ true) (i : ℕ) (idx : i < length (
       weighed n memory fs e fits =
           ap (λ (rows : List (List ℕ)). rowWeight (keysIn head) (componentRowsIn head) rows (objectsRow y)) e ∙ weight-is H y keys fs fits
 
-      pub class-tried : (row : List ℕ) (n : ℕ) → row ≡ tupleRow x → n ≡ action D i .vars
-          → answerOf head r base after row (n + 1) ≡ tries D i x
+      pub class-tried : (row : List ℕ) → row ≡ tupleRow x → answerOf head r base after row ≡ tries D i x
       unfolding answerOf
-      class-tried row n e k =
-          ap₂ (answerOf head r base after) (e ∙ tuple-objects) (ap (λ (m : ℕ). m + 1) k ∙ add-one (action D i .vars))
+      class-tried row e =
+          ap (answerOf head r base after) (e ∙ tuple-objects)
           ∙ ap₂ (λ (w v : ℕ). answerBy w (r .allowed) v
-          (anyFree head (objectsRow y) (suc (action D i .vars)) (groundIn (r .literals) (literalsIn base))))
+          (anyFree head (objectsRow y) (r .variables + 1) (groundIn (r .literals) (literalsIn base))))
           (weighed (r .held) (effectsIn base) (heldFacts D i) (A .conditions .held) (held-fits D wf i idx))
           (weighed (r .left) after (next D objs (startState (heldFacts D i)) (plainEvent D i ∷ []) .facts) (A .left) (left-fits D wf i idx))
           ∙ ap₂ (λ (t : Bool) (gs : List GroundLiteral). answerBy (weight D y (heldFacts D i)) t
           (weight D y (next D objs (startState (heldFacts D i)) (plainEvent D i ∷ []) .facts))
-          (anyFree head (objectsRow y) (suc (action D i .vars)) gs)) (A .allowed) literals-are
+          (anyFree head (objectsRow y) (r .variables + 1) gs)) (A .allowed) literals-are
+          ∙ ap (λ (n : ℕ). answerBy (weight D y (heldFacts D i)) (allowed D objs (startState (heldFacts D i)) (plainEvent D i ∷ []))
+          (weight D y (next D objs (startState (heldFacts D i)) (plainEvent D i ∷ []) .facts)) (anyFree head (objectsRow y) n ls))
+          (ap (λ (m : ℕ). m + 1) (A .conditions .variables) ∙ add-one (action D i .vars))
           ∙ sym tried-answer

@@ -18,10 +18,11 @@ use Rattle.literals.specs.declared.Usage.{Usage}
 use Rattle.literals.specs.declared.Usage.the-variants.{Positive, Add, Delete}
 use Rattle.literals.specs.declared.Role.{Role}
 use Rattle.literals.specs.declared.Moment.the-variants.{Start}
-use Rattle.literals.specs.Domain.{object, isEvery, variablesOf, Atom, Fact, sameFact, sameLiteral, firstRole, usageNumber}
+use Rattle.literals.specs.Domain.{isEvery, variablesOf, Atom, Fact, sameFact, sameLiteral, firstRole, usageNumber}
 use Rattle.literals.specs.Domain.{sameTime, sameRole, Literal, Domain, action}
-use Rattle.literals.specs.Decode.{repeats, contradicts}
+use Rattle.literals.specs.Decode.{byte, repeats, contradicts, maxLiterals}
 use Rattle.literals.specs.Table.{rowsIn, Bounded}
+use Rattle.literals.specs.Held.{arityIn, HeadOf}
 use Rattle.literals.specs.Matching.{own, withRole, literalsAt, required}
 use Rattle.literals.proofs.Bounds.{arity-six}
 use Rattle.verdict.specs.Binding.{Binding, bind, sameNumbers, factsOf}
@@ -33,22 +34,24 @@ use Rattle.verdict.proofs.Equality.{literal-eq, literal-self, fact-eq, fact-sel
 use Rattle.verdict.proofs.Asking.{both-ways}
 use Rattle.verdict.proofs.Facts.{plain-in, facts-same, plain-flat}
 use Rattle.verdict.proofs.WellFormed.{action-in, action-well-formed, literals-apart}
-use Rattle.verdict.proofs.Objects.{among-in, objects-length, objects-range, object-in, objects-distinct}
+use Rattle.verdict.proofs.Objects.{among-in, objects-range, objects-distinct}
 use Rattle.verdict.proofs.Exact.{bound-in, below, plain, held-fact}
 use Rattle.verdict.proofs.Steps.{One}
 use Rattle.verdict.proofs.Tuples.{Below}
+use Rattle.store.specs.Index.{Sized}
 use Rattle.store.specs.Rows.{factRow, FactFits}
 use Rattle.events.specs.Held.{Chosen}
-use Rattle.events.specs.Grounding.{groundIn, Grounded}
+use Rattle.events.specs.Grounding.{maxGround, groundIn, Grounded}
 use Rattle.events.proofs.Members.{map-in}
 use Rattle.events.proofs.FactRows.{length-fact-row}
 use Rattle.events.proofs.GroundLiterals.{length-ground}
-use Rattle.effects.specs.Held.{literalsIn, effectsIn, flat, rowsWith}
+use Rattle.effects.specs.Held.{literalsIn, effectsIn, flat, rowsWith, atMost}
 use Rattle.effects.proofs.Joins.{distinct-map}
-use Rattle.effects.proofs.FilledRows.{Whole, length-whole, filled-rows}
+use Rattle.effects.proofs.FilledRows.{Whole, length-whole, filled-rows, most-inside}
 use Rattle.effects.proofs.EffectRows.{two-few, grounded-rows, plain-rows}
 use Rattle.effects.proofs.StepFacts.{fact-bytes}
 use Rattle.verdict.specs.Judged.{factBytes}
+use Rattle.run_semantics.specs.RunFile.{maxFacts}
 use Rattle.trying.specs.declared.alone.Base.{Base}
 use Rattle.trying.specs.Trying.{heldFacts}
 use Rattle.trying.specs.Held.{BaseOf}
@@ -109,10 +112,17 @@ own-same c r s h k =
 
 -- ---- the rows of a usage are no more than the ground literals
 
-pub rows-most : (usage total : ℕ) (memory : List ℕ) → length (rowsWith usage (groundIn total memory)) ≤ total
+rows-most : (usage total : ℕ) (memory : List ℕ) → length (rowsWith usage (groundIn total memory)) ≤ total
 rows-most usage total memory =
     let t = two-few usage (suc usage) (λ e. omega arith) (groundIn total memory) in
     let l = length-ground memory total in omega arith
+
+pub rows-room : (usage total : ℕ) (memory : List ℕ) → total ≤ maxLiterals → 0 + length (rowsWith usage (groundIn total memory)) ≤ maxGround
+rows-room usage total memory h = let r = rows-most usage total memory in omega arith
+
+pub rows-few : (usage total held : ℕ) (memory : List ℕ) → total ≤ maxLiterals → held ≡ 0 + length (rowsWith usage (groundIn total memory))
+    → held ≤ maxLiterals
+rows-few usage total held memory h e = let r = rows-most usage total memory in omega arith
 
 -- ---- the rows of facts in a memory
 
@@ -192,11 +202,13 @@ module _ (D : Domain) (wf : wellFormed D ≡ true) (i : ℕ) (idx : i < length (
       ∙ ap (map factRow) (sym held-are)
 
   -- as the code holds them
-  pub base-held : {head base : List ℕ} {r : Base} → Grounded D head (ev ∷ []) (literalsIn base) (r .literals) → (after : List ℕ)
+  pub base-held : {head : List ℕ} (r : Base) (base after : List ℕ) → r .variables ≡ action D i .vars
+      → Grounded D head (ev ∷ []) (literalsIn base) (r .literals)
       → rowsIn (r .held) (effectsIn after) ≡ rowsWith 1 (groundIn (r .literals) (literalsIn base)) → literalsIn after ≡ literalsIn base
       → BaseOf D i head r after
-  base-held {head} {base} {r} G after e l =
+  base-held {head} r base after v G e l =
       record {
+        variables = v;
         grounded = subst (λ (t : List ℕ). Grounded D head (ev ∷ []) t (r .literals)) (sym l) G;
         held = e ∙ held-rows G;
       }
@@ -234,6 +246,15 @@ module _ (D : Domain) (wf : wellFormed D ≡ true) (i : ℕ) (idx : i < length (
   pub fits-few : Bounded D → (f : Fact) → FactFits D f → length (f .args) ≤ 6
   fits-few B f F = let e = F .sized in let k = arity-six D (B .arities) (f .rel) in omega arith
 
+  -- their rows are of their relations' arities
+  pub held-sized : {head : List ℕ} → HeadOf D head → (rows : List (List ℕ)) → rows ≡ map factRow (heldFacts D i) → Sized head rows
+  held-sized {head} H rows e row m =
+      let r = map-in factRow (heldFacts D i) (subst (In row) e m) in
+      ap (λ (t : List ℕ). byte t 1) (r .2)
+      ∙ held-fits (r .0) (r .1) .sized
+      ∙ sym (H .arities (r .0 .rel))
+      ∙ sym (ap (λ (t : List ℕ). arityIn head (byte t 0)) (r .2))
+
   module _ (B : Bounded D) where
     vars-few : action D i .vars ≤ 16
     vars-few = B .counts (action D i) (action-in D i idx)
@@ -263,7 +284,7 @@ module _ (D : Domain) (wf : wellFormed D ≡ true) (i : ℕ) (idx : i < length (
         let l = B .sizes (action D i) (action-in D i idx) in
         omega arith
 
-    pub after-few : length (factsAfter D objs (heldFacts D i) (ev ∷ [])) ≤ 128
+    after-few : length (factsAfter D objs (heldFacts D i) (ev ∷ [])) ≤ 128
     unfolding factsAfter
     after-few =
         let gone : Fact → Bool = λ f. not (elem sameFact f (stepFacts D objs (ev ∷ []) Delete)) in
@@ -290,11 +311,13 @@ module _ (D : Domain) (wf : wellFormed D ≡ true) (i : ℕ) (idx : i < length (
 
     -- its facts in a memory
     pub left-rows : (out : List ℕ) → 1024 ≤ length out
-        → take (8 * length (factsAfter D objs (heldFacts D i) (ev ∷ []))) out ≡ factBytes (factsAfter D objs (heldFacts D i) (ev ∷ []))
-        → rowsIn (length (factsAfter D objs (heldFacts D i) (ev ∷ []))) out
-        ≡ map factRow (next D objs (startState (heldFacts D i)) (ev ∷ []) .facts)
-    left-rows out room e =
-        let n = after-few in
-        rows-held (factsAfter D objs (heldFacts D i) (ev ∷ [])) out
-        (λ f m. fits-few B f (left-fits f (subst (In f) (sym left-are) m))) e (omega arith)
+        → (length (factsAfter D objs (heldFacts D i) (ev ∷ [])) ≤ maxFacts
+        → take (8 * length (factsAfter D objs (heldFacts D i) (ev ∷ []))) out ≡ factBytes (factsAfter D objs (heldFacts D i) (ev ∷ [])))
+        → (n : ℕ) → n ≡ atMost maxFacts (length (factsAfter D objs (heldFacts D i) (ev ∷ [])))
+        → rowsIn n out ≡ map factRow (next D objs (startState (heldFacts D i)) (ev ∷ []) .facts)
+    left-rows out room e n k =
+        let f = after-few in
+        ap (λ (m : ℕ). rowsIn m out) (k ∙ sym (most-inside (length (factsAfter D objs (heldFacts D i) (ev ∷ []))) (omega arith)))
+        ∙ rows-held (factsAfter D objs (heldFacts D i) (ev ∷ [])) out
+        (λ f m. fits-few B f (left-fits f (subst (In f) (sym left-are) m))) (e (omega arith)) (omega arith)
         ∙ ap (map factRow) (sym left-are)

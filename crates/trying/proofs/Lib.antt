@@ -6,4 +6,5 @@ pub mod Sets
 pub mod Plainly
 pub mod Conditions
 pub mod Abouts
+pub mod Answering
 pub mod Loops

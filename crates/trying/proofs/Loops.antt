@@ -2,7 +2,7 @@
 use mathlib.Core.Path.{_≡_, refl, sym, ap, ap₂, _∙_, subst}
 use mathlib.Core.List.{List, [], _∷_, _++_, map-append, append-nil, append-assoc, List·Memᴰ·head, List·Memᴰ·not-nil, Memᴰ·append-left}
 use mathlib.Core.List.{Memᴰ·append-right}
-use Prim.Native.Nat.{ℕ, zero, suc, _+_, _-_, _*_, _≤_, _<_}
+use Prim.Native.Nat.{ℕ, zero, suc, _+_, _-_, _*_, _<_}
 use native.Mathlib.Numerals.{add-one}
 use native.Mathlib.Omega.{arith}
 use lib.ListN.{length, getD, set, take, drop, replicate, length-map, length-replicate, getD-replicate, drop-of-length-le}
@@ -104,3 +104,13 @@ instance-put head c o instance fact next s l e =
     ∙ paste-front new fact 8 (sym n)
     ∙ ap (λ (t : List ℕ). new ++ t) (drop-of-length-le fact {i = length new} (omega arith))
     ∙ append-nil new
+
+-- ---- a memory copied to another of its size
+
+pub copied : {n : ℕ} (from to next : List ℕ) → length from ≡ n → length to ≡ n → next ≡ paste to 0 from (length from) → next ≡ from
+unfolding over
+copied from to next e f g =
+    g
+    ∙ paste-front from to (length from) refl
+    ∙ ap (λ (t : List ℕ). from ++ t) (drop-of-length-le to {i = length from} (omega arith))
+    ∙ append-nil from

@@ -15,7 +15,7 @@ use Rattle.verdict.specs.Claims.{plainEvent}
 use Rattle.verdict.proofs.WellFormed.{action-in}
 use Rattle.verdict.proofs.Objects.{objects-length, objects-range}
 use Rattle.events.specs.Held.{GroundFits}
-use Rattle.events.specs.Grounding.{groundLiterals, eventLiterals, maxGround, countsAt, groundedBytes, groundIn, Laid, Grounded}
+use Rattle.events.specs.Grounding.{groundLiterals, eventLiterals, countsAt, groundedBytes, groundIn, Laid, Grounded}
 use Rattle.events.proofs.GroundLiterals.{laid-none, laid-more}
 use Rattle.trying.specs.Held.{plainGround}
 

@@ -1,17 +1,19 @@
 -- How the code tries a class: one step from the true conditions, and what a further fact changes of it. Assumes nothing.
 use mathlib.Core.Path.{_≡_}
-use mathlib.Core.Bool.{Bool, true, _&&_, _||_, not}
+use mathlib.Core.Bool.{Bool, true, _&&_, _||_, not, cond}
 use mathlib.Core.List.{List, [], _∷_, map}
 use Prim.Native.Nat.{ℕ, _+_, _≤_, _<_}
 use lib.Dec.{eqb, leb}
 use lib.ListN.{length, take}
 use Rattle.records.specs.Lists.{any}
 use Rattle.records.specs.Memory.{over}
-use Rattle.literals.specs.Domain.{Domain}
-use Rattle.literals.specs.Decode.{maxLiterals}
+use Rattle.literals.specs.Domain.{Domain, action}
+use Rattle.literals.specs.Decode.{maxVariables, maxLiterals}
 use Rattle.literals.specs.Table.{rowsIn}
 use Rattle.literals.specs.Held.{componentsIn, keysIn, componentRowsIn, Held}
 use Rattle.literals.specs.Keys.{below}
+use Rattle.classes.specs.Classes.{classes}
+use Rattle.classes.specs.Held.{ActionOf, classNumbers}
 use Rattle.verdict.specs.Binding.{objectsFrom}
 use Rattle.verdict.specs.Machine.{GroundAction, allowed, next, startState}
 use Rattle.verdict.specs.Patterns.{patternsMeet}
@@ -21,7 +23,7 @@ use Rattle.store.specs.Rows.{factRow, rowWeight}
 use Rattle.store.specs.InstanceFacts.{instanceOf}
 use Rattle.events.specs.Grounding.{GroundLiteral, groundIn, Grounded}
 use Rattle.effects.specs.Held.{literalsIn, effectsIn}
-use Rattle.trying.specs.Trying.{heldFacts, triedFrom}
+use Rattle.trying.specs.Trying.{heldFacts, tries, triedFrom}
 use Rattle.trying.specs.declared.alone.Base.{Base}
 use Rattle.trying.specs.declared.alone.Alone.{Alone}
 
@@ -39,17 +41,19 @@ Listed head table i = (D : Domain) × Held D head table × (wellFormed D ≡ tru
 
 -- the memory holds the ground literals, and behind them the true conditions
 pub record BaseOf (D : Domain) (i : ℕ) (head : List ℕ) (r : Base) (base : List ℕ) : Type 0 where
+  pub variables : r .variables ≡ action D i .vars
   pub grounded : Grounded D head (plainEvent D i ∷ []) (literalsIn base) (r .literals)
   pub held : rowsIn (r .held) (effectsIn base) ≡ map factRow (heldFacts D i)
 
 -- a second one, in front, the facts that the step leaves
 pub record AloneOf (D : Domain) (i : ℕ) (head : List ℕ) (r : Alone) (base after : List ℕ) : Type 0 where
-  pub conditions : BaseOf D i head (record { literals = r .literals; held = r .held }) base
+  pub conditions : BaseOf D i head (record { variables = r .variables; literals = r .literals; held = r .held }) base
   pub allowed : r .allowed ≡ allowed D (plainObjects D i) (startState (heldFacts D i)) (plainEvent D i ∷ [])
   pub left : rowsIn (r .left) after ≡ map factRow (next D (plainObjects D i) (startState (heldFacts D i)) (plainEvent D i ∷ []) .facts)
 
 -- no more than there is room for
 pub record FewOf (r : Alone) : Type 0 where
+  pub variables : r .variables ≤ maxVariables
   pub literals : r .literals ≤ maxLiterals
   pub held : r .held ≤ maxLiterals
   pub left : r .left ≤ maxFacts + 1
@@ -76,13 +80,26 @@ anyFree head instance n ls = any (componentFree head instance n ls) (below (comp
 abbrev pub answerBy : ℕ → Bool → ℕ → Bool → Bool
 answerBy before can after free = leb before 1 && can && (leb 2 after || (eqb before 0 && eqb after 1 && free))
 
--- the same by rows, of an action with n variables
-unfoldable pub answerOf : List ℕ → Alone → List ℕ → List ℕ → List ℕ → ℕ → Bool
+-- the same by rows
+unfoldable pub answerOf : List ℕ → Alone → List ℕ → List ℕ → List ℕ → Bool
 unfolding keysIn componentRowsIn rowWeight anyFree
-answerOf head r base after instance n =
+answerOf head r base after instance =
     answerBy (rowWeight (keysIn head) (componentRowsIn head) (rowsIn (r .held) (effectsIn base)) instance) (r .allowed)
     (rowWeight (keysIn head) (componentRowsIn head) (rowsIn (r .left) after) instance)
-    (anyFree head instance n (groundIn (r .literals) (literalsIn base)))
+    (anyFree head instance (r .variables + 1) (groundIn (r .literals) (literalsIn base)))
+
+-- what is held of an action at once and its classes: the rows of its literals, their class numbers, and what the step from its true
+-- conditions comes to
+pub record ClassesOf (D : Domain) (i : ℕ) (head : List ℕ) (r : Alone) (base after rows numbers : List ℕ) : Type 0 where
+  pub whole : ActionOf D (action D i) head rows
+  pub numbers-are : numbers ≡ classNumbers D (action D i)
+  pub formed : wellFormed D ≡ true
+  pub listed : i < length (D .actions)
+  pub alone : AloneOf D i head r base after
+
+-- a byte for each of them
+abbrev pub answersOf : Domain → ℕ → List ℕ
+answersOf D i = map (λ x. cond (tries D i x) 1 0) (classes D (action D i))
 
 -- ---- where writing stands
 

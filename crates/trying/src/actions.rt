@@ -1,13 +1,11 @@
 // The answers for the actions of a domain, one behind the other.
 use super::alone::step_alone;
-use super::answers::put_answers;
-use classes::number::number_classes;
+use super::answers::answer_rows;
 use effects::SCRATCH;
 use literals::head::Head;
 use literals::head::actions_in;
 use literals::head::is_lasting;
 use literals::head::rows_of;
-use literals::head::variables_of;
 use literals::keys::KeyPlaces;
 use literals::keys::put_places;
 use literals::limits::MAX_COMPONENTS;
@@ -40,31 +38,21 @@ fn try_at_once(head: &Head, table: &[u8], places: &KeyPlaces, i: usize, made: &m
     let last = span.to;
     let from = 8 * first;
     let to = 8 * last;
-    let n = last - first;
-    let mut numbers = [0u8; MAX_LITERALS];
-    let mut words = [0u64; MAX_LITERALS];
-    let count = number_classes(
-        head,
-        places,
-        &table[from..to],
-        &mut numbers[0..n],
-        &mut words,
-    );
     let mut base = [0u8; SCRATCH];
     let mut after = [0u8; SCRATCH];
     let alone = step_alone(head, table, i, &mut base, &mut after);
-    let end = at + count;
-    put_answers(
+    let end = at + MAX_LITERALS;
+    let count = answer_rows(
         head,
+        places,
         alone,
         &base,
         &after,
-        variables_of(head, i),
         &table[from..to],
-        &numbers[0..n],
+        last - first,
         &mut made[at..end],
     );
-    end
+    at + count
 }
 
 // Those of the action i: none where it lasts.

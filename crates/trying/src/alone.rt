@@ -6,6 +6,7 @@ use effects::facts_after;
 use effects::step_effects;
 use events::grounding::GROUNDED;
 use literals::head::Head;
+use literals::head::variables_of;
 use records::bytes::put_bytes;
 use store::index::FACT_INDEX;
 use store::index::FactIndex;
@@ -16,7 +17,7 @@ ghost use mathlib.Core.List.{[]};
 ghost use Prim.Native.Nat.{ℕ, _*_, _≤_, _<_};
 ghost use lib.ListN.{length};
 ghost use Rattle.literals.specs.Domain.{Domain};
-ghost use Rattle.literals.specs.Decode.{maxActions, maxLiterals};
+ghost use Rattle.literals.specs.Decode.{maxActions, maxVariables, maxLiterals};
 ghost use Rattle.literals.specs.Table.{rowsIn};
 ghost use Rattle.literals.specs.Held.{Held};
 ghost use Rattle.verdict.specs.Claims.{wellFormed};
@@ -24,14 +25,16 @@ ghost use Rattle.store.specs.Index.{Sized, Indexed};
 ghost use Rattle.effects.specs.Held.{scratchBytes, effectsIn, Once};
 ghost use Rattle.trying.specs.Held.{Listed, BaseOf, FewOf, AloneOf};
 
-// What an action brings with it: how many ground literals it has, and how many true conditions.
+// What an action brings with it: how many variables it has, how many ground literals, and how many true conditions.
 pub struct Base {
+    pub variables: u8,
     pub literals: usize,
     pub held: usize,
 }
 
 // Besides, what the step from the true conditions comes to: whether it is allowed, and how many facts it leaves.
 pub struct Alone {
+    pub variables: u8,
     pub literals: usize,
     pub held: usize,
     pub allowed: bool,
@@ -53,18 +56,22 @@ fn enter_rows(head: &Head, rows: &[u8], n: usize, index: &mut FactIndex)
 fn ground_base(head: &Head, table: &[u8], i: usize, base: &mut [u8]) -> Base
     requires action { ⌜ i < maxActions ⌝ }
     requires base { ⌜ length (now base) ≡ scratchBytes ⌝ }
-    ensures few { λ r. ⌜ (r .literals ≤ maxLiterals) × (r .held ≤ maxLiterals) ⌝ }
+    ensures few { λ r. ⌜ (r .variables ≤ maxVariables) × (r .literals ≤ maxLiterals) × (r .held ≤ maxLiterals) ⌝ }
     ensures base { λ r. ⌜ ((D : Domain) → Held D (now (head .entry)) (now (table .entry)) → wellFormed D ≡ true
         → i < length (D .actions) → BaseOf D i (now (head .entry)) r (now (base .exit))) ⌝ }
 {
     let literals = ground_plain(head, table, i, &mut base[0..GROUNDED]);
     let held = step_effects(base, 0, literals, 1);
-    Base { literals, held }
+    Base {
+        variables: variables_of(head, i),
+        literals,
+        held,
+    }
 }
 
 // One step from them: `after` gets the facts that it leaves. The index serves this step alone.
 fn step_base(head: &Head, base: &[u8], counts: Base, after: &mut [u8]) -> Alone
-    requires few { ⌜ (counts .literals ≤ maxLiterals) × (counts .held ≤ maxLiterals) ⌝ }
+    requires few { ⌜ (counts .variables ≤ maxVariables) × (counts .literals ≤ maxLiterals) × (counts .held ≤ maxLiterals) ⌝ }
     requires base { ⌜ length (now base) ≡ scratchBytes ⌝ }
     requires after { ⌜ length (now after) ≡ scratchBytes ⌝ }
     requires once { ⌜ Once (rowsIn (counts .held) (effectsIn (now base))) ⌝ }
@@ -88,6 +95,7 @@ fn step_base(head: &Head, base: &[u8], counts: Base, after: &mut [u8]) -> Alone
         &mut index,
     );
     Alone {
+        variables: counts.variables,
         literals: counts.literals,
         held: counts.held,
         allowed,

@@ -2,32 +2,34 @@
 use super::alone::Alone;
 use super::free::any_free;
 use classes::number::class_tuple;
+use classes::number::number_classes;
 use effects::SCRATCH;
 use events::grounding::GROUNDED;
 use literals::head::Head;
+use literals::keys::KeyPlaces;
+use literals::limits::MAX_LITERALS;
 use store::weighing::weigh;
 ghost use mathlib.Core.Path.{_≡_};
 ghost use mathlib.Core.Bool.{true, cond};
-ghost use mathlib.Core.List.{map};
-ghost use Prim.Native.Nat.{ℕ, _+_, _≤_, _<_};
+ghost use Prim.Native.Nat.{ℕ, _*_, _≤_, _<_};
 ghost use lib.ListN.{length};
+ghost use Rattle.records.specs.Memory.{over};
 ghost use Rattle.literals.specs.Domain.{Domain, action};
-ghost use Rattle.literals.specs.Decode.{maxVariables, maxLiterals};
+ghost use Rattle.literals.specs.Decode.{maxLiterals};
+ghost use Rattle.literals.specs.Keys.{PlacesOf};
 ghost use Rattle.classes.specs.Classes.{classes};
-ghost use Rattle.classes.specs.Held.{ActionOf, Sides, classNumbers};
+ghost use Rattle.classes.specs.Held.{ActionOf, Sides};
 ghost use Rattle.verdict.specs.Claims.{wellFormed};
 ghost use Rattle.effects.specs.Held.{scratchBytes};
-ghost use Rattle.trying.specs.Trying.{tries};
-ghost use Rattle.trying.specs.Held.{FewOf, AloneOf, answerOf};
+ghost use Rattle.trying.specs.Held.{FewOf, AloneOf, answerOf, ClassesOf, answersOf};
 
-// The answer for the class whose key tuple is the instance, of an action with so many variables. Where the instance weighs one already, a
-// further fact makes it two, and where the step leaves it none, a further fact makes it one; so only between the two is one looked for.
-fn try_class(head: &Head, alone: Alone, base: &[u8], after: &[u8], instance: [u8; 8], variables: u8) -> bool
+// The answer for the class whose key tuple is the instance. Where the instance weighs one already, a further fact makes it two, and where
+// the step leaves it none, a further fact makes it one; so only between the two is one looked for.
+fn try_class(head: &Head, alone: Alone, base: &[u8], after: &[u8], instance: [u8; 8]) -> bool
     requires few { ⌜ FewOf alone ⌝ }
     requires base { ⌜ length (now base) ≡ scratchBytes ⌝ }
     requires after { ⌜ length (now after) ≡ scratchBytes ⌝ }
-    requires variables { ⌜ variables ≤ maxVariables ⌝ }
-    ensures { λ r. ⌜ r ≡ answerOf (now (head .entry)) alone (now (base .entry)) (now (after .entry)) instance (variables + 1) ⌝ }
+    ensures { λ r. ⌜ r ≡ answerOf (now (head .entry)) alone (now (base .entry)) (now (after .entry)) instance ⌝ }
 {
     let before = weigh(head, &base[GROUNDED..SCRATCH], alone.held, instance);
     if 1 < before {
@@ -46,10 +48,11 @@ fn try_class(head: &Head, alone: Alone, base: &[u8], after: &[u8], instance: [u8
     if left == 0 {
         return false;
     }
+    let keys = instance;
     any_free(
         head,
-        &instance,
-        variables + 1,
+        &keys,
+        alone.variables + 1,
         &base[0..GROUNDED],
         alone.literals,
     )
@@ -66,12 +69,11 @@ fn answer_byte(yes: bool) -> u8
 }
 
 // The answers for all classes of an action, whose literals are these rows with these class numbers.
-pub fn put_answers(
+fn put_answers(
     head: &Head,
     alone: Alone,
     base: &[u8],
     after: &[u8],
-    variables: u8,
     rows: &[u8],
     numbers: &[u8],
     made: &mut [u8],
@@ -79,18 +81,53 @@ pub fn put_answers(
     requires few { ⌜ FewOf alone ⌝ }
     requires base { ⌜ length (now base) ≡ scratchBytes ⌝ }
     requires after { ⌜ length (now after) ≡ scratchBytes ⌝ }
-    requires variables { ⌜ variables ≤ maxVariables ⌝ }
     requires sides { ⌜ Sides (now rows) (now numbers) ⌝ }
     requires made { ⌜ length (now made) ≤ maxLiterals ⌝ }
-    ensures { λ _. ⌜ ((D : Domain) (i : ℕ) → ActionOf D (action D i) (now (head .entry)) (now (rows .entry))
-        → now (numbers .entry) ≡ classNumbers D (action D i) → wellFormed D ≡ true → i < length (D .actions)
-        → AloneOf D i (now (head .entry)) alone (now (base .entry)) (now (after .entry)) → variables ≡ action D i .vars
-        → length (now (made .entry)) ≡ length (classes D (action D i))
-        → now (made .exit) ≡ map (λ x. cond (tries D i x) 1 0) (classes D (action D i))) ⌝ }
+    ensures { λ _. ⌜ ((D : Domain) (i : ℕ) → ClassesOf D i (now (head .entry)) alone (now (base .entry)) (now (after .entry))
+        (now (rows .entry)) (now (numbers .entry)) → length (now (made .entry)) ≡ length (classes D (action D i))
+        → now (made .exit) ≡ answersOf D i) ⌝ }
 {
     for j in 0..made.len() {
         let instance = class_tuple(head, rows, numbers, j as u8);
-        let yes = try_class(head, alone, base, after, instance, variables);
+        let yes = try_class(head, alone, base, after, instance);
         made[j] = answer_byte(yes);
     }
+}
+
+// The same where the classes are not numbered yet, of n rows, at the front of a memory: how many they are.
+pub fn answer_rows(
+    head: &Head,
+    places: &KeyPlaces,
+    alone: Alone,
+    base: &[u8],
+    after: &[u8],
+    rows: &[u8],
+    n: usize,
+    made: &mut [u8],
+) -> usize
+    requires places { ⌜ PlacesOf (now head) (now places) ⌝ }
+    requires few { ⌜ FewOf alone ⌝ }
+    requires base { ⌜ length (now base) ≡ scratchBytes ⌝ }
+    requires after { ⌜ length (now after) ≡ scratchBytes ⌝ }
+    requires rows { ⌜ (length (now rows) ≡ 8 * n) × (n ≤ maxLiterals) ⌝ }
+    requires room { ⌜ length (now made) ≡ maxLiterals ⌝ }
+    ensures few { λ r. ⌜ r ≤ maxLiterals ⌝ }
+    ensures answers { λ r. ⌜ ((D : Domain) (i : ℕ) → ActionOf D (action D i) (now (head .entry)) (now (rows .entry))
+        → wellFormed D ≡ true → i < length (D .actions)
+        → AloneOf D i (now (head .entry)) alone (now (base .entry)) (now (after .entry))
+        → (r ≡ length (answersOf D i)) × (now (made .exit) ≡ over (answersOf D i) (now (made .entry)))) ⌝ }
+{
+    let mut numbers = [0u8; MAX_LITERALS];
+    let mut words = [0u64; MAX_LITERALS];
+    let count = number_classes(head, places, rows, &mut numbers[0..n], &mut words);
+    put_answers(
+        head,
+        alone,
+        base,
+        after,
+        rows,
+        &numbers[0..n],
+        &mut made[0..count],
+    );
+    count
 }

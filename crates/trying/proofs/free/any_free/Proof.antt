@@ -1,6 +1,6 @@
 -- `any_free` meets its contract: no component before c has such a fact, so the test is that of the components left. Assumes nothing.
-use mathlib.Core.Path.{_≡_, refl, sym, ap, _∙_}
-use Prim.Native.Nat.{ℕ, _-_, _≤_, _<_}
+use mathlib.Core.Path.{_≡_, sym, ap, _∙_}
+use Prim.Native.Nat.{ℕ, _-_, _≤_}
 use native.Mathlib.Omega.{arith}
 use Rattle.records.specs.Lists.{any}
 use Rattle.literals.specs.Held.{componentsIn}
@@ -45,7 +45,7 @@ returns : tie.Need-returns Inv-loop μ-loop
 returns c =
     let a = c .before .before .before .before .before .before .before .args in
     let l = c .before .before .before .loop in
-    sym (any-hit (componentFree (a .head .now) (a .instance .now) (a .n) (groundIn (a .total) (a .memory .now))) (l .c-end) (l .c) (omega arith)
+    sym (any-hit (componentFree (a .head .now) (a .instance .now) (a .n) (groundIn (a .total) (a .memory .now))) (c .before .before .before .before .components-in .result) (l .c) (omega arith)
     (sym (c .before .component-free .ensures) ∙ c .if1 .taken))
     ∙ l .inv .2
 
@@ -62,7 +62,7 @@ loop-again c =
     (
       l .inv .0,
       l .inv .1,
-      sym (any-miss (componentFree (a .head .now) (a .instance .now) (a .n) (groundIn (a .total) (a .memory .now))) (l .c-end) (l .c)
+      sym (any-miss (componentFree (a .head .now) (a .instance .now) (a .n) (groundIn (a .total) (a .memory .now))) (c .before .before .before .before .components-in .result) (l .c)
           (omega arith) (sym (c .before .component-free .ensures) ∙ c .if1 .left))
           ∙ l .inv .2,
     )
@@ -71,7 +71,7 @@ returns-2 : tie.Need-returns-2 Inv-loop μ-loop
 returns-2 c =
     let a = c .before .before .before .before .before .args in
     let l = c .before .loop in
-    sym (any-end (componentFree (a .head .now) (a .instance .now) (a .n) (groundIn (a .total) (a .memory .now))) (l .c-end) (l .c) (omega arith))
+    sym (any-end (componentFree (a .head .now) (a .instance .now) (a .n) (groundIn (a .total) (a .memory .now))) (c .before .before .components-in .result) (l .c) (omega arith))
     ∙ l .inv .2
 
 pub any-free-spec : {M : Type 1} → statement M

@@ -1,13 +1,12 @@
 -- `component_free` meets its contract: of the objects before o each fact has a literal about it, so the test is that of the objects left.
 -- Assumes nothing.
-use mathlib.Core.Path.{_≡_, refl, sym, ap, _∙_}
+use mathlib.Core.Path.{_≡_, sym, ap, _∙_}
 use mathlib.Core.Bool.{Bool, not}
 use mathlib.Core.List.{List}
-use Prim.Native.Nat.{ℕ, _-_, _<_}
+use Prim.Native.Nat.{ℕ, _-_}
 use native.Mathlib.Omega.{arith}
 use lib.ListN.{length, length-replicate}
 use Rattle.records.specs.Lists.{any}
-use Rattle.literals.specs.Keys.{below}
 use Rattle.literals.proofs.Indices.{left, left-all, any-hit, any-miss, any-end}
 use Rattle.store.specs.InstanceFacts.{instanceOf}
 use Rattle.events.specs.Grounding.{GroundLiteral, groundIn}

@@ -1,10 +1,8 @@
 -- `ground_plain` meets its contract: the action is the only event of the step. Assumes nothing.
-use mathlib.Core.Path.{_≡_, refl, ap, ap₂, _∙_}
-use mathlib.Core.List.{List}
-use Prim.Native.Nat.{ℕ, _<_}
+use mathlib.Core.Path.{ap, _∙_}
+use Prim.Native.Nat.{ℕ}
 use native.Mathlib.Omega.{arith}
-use lib.ListN.{length}
-use Rattle.literals.specs.Domain.{Domain, action}
+use Rattle.literals.specs.Domain.{action}
 use Rattle.events.specs.Held.{groundRow}
 use Rattle.trying.specs.Held.{plainGround}
 use Rattle.trying.proofs.Plainly.{plain-fits, plain-grounded}
