@@ -62,7 +62,14 @@ fn instance_byte(head: &Head, c: usize, arity: u8, instance: &[u8], counted: Obj
 }
 
 // Writes the fact of an instance that the component `c` has with this object in its counted place, at an offset.
-pub fn put_instance(out: &mut [u8], at: usize, head: &Head, c: usize, instance: &[u8], counted: Object)
+pub fn put_instance(
+    out: &mut [u8],
+    at: usize,
+    head: &Head,
+    c: usize,
+    instance: &[u8],
+    counted: Object,
+)
     requires component { ⌜ c < maxComponents ⌝ }
     requires room { ⌜ at + 8 ≤ length (now out) ⌝ }
     requires instance { ⌜ 8 ≤ length (now instance) ⌝ }

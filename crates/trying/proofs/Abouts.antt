@@ -109,8 +109,7 @@ module _ (D : Domain) (wf : wellFormed D ≡ true) (i : ℕ) (idx : i < length (
       let s = map-in _ _ (r .1) in
       let l = s .0 in
       let k = filter-in _ (action D i .lits) (s .1) in
-      let o = own-of (l .role) (head-kept H i idx l (k .0) .back) (k .1) in
-      (
+      let o = own-of (l .role) (head-kept H i idx l (k .0) .back) (k .1) in (
         l .role .usage,
         in-flatMap (factsOf objs b) (in-dedup sameLiteral literal-eq (in-withRole (own Start (l .role .usage)) (action D i .lits) (k .0) o))
             (elem-fact f (factsOf objs b (l .atom)) (about-literal l (k .0) f F ∙ sym (ap (meeting f) (s .2)) ∙ r .2)),

@@ -23,7 +23,14 @@ ghost use Rattle.verdict.specs.Claims.{wellFormed};
 ghost use Rattle.trying.specs.Held.{Listed, Making};
 
 // Those of the action i, which is at once, behind those that are written; how far they go then.
-fn try_at_once(head: &Head, table: &[u8], places: &KeyPlaces, i: usize, made: &mut [u8], at: usize) -> usize
+fn try_at_once(
+    head: &Head,
+    table: &[u8],
+    places: &KeyPlaces,
+    i: usize,
+    made: &mut [u8],
+    at: usize,
+) -> usize
     requires action { ⌜ i < maxActions ⌝ }
     requires listed { ⌜ Listed (now head) (now table) i ⌝ }
     requires places { ⌜ PlacesOf (now head) (now places) ⌝ }
@@ -56,7 +63,14 @@ fn try_at_once(head: &Head, table: &[u8], places: &KeyPlaces, i: usize, made: &m
 }
 
 // Those of the action i: none where it lasts.
-fn try_action(head: &Head, table: &[u8], places: &KeyPlaces, i: usize, made: &mut [u8], at: usize) -> usize
+fn try_action(
+    head: &Head,
+    table: &[u8],
+    places: &KeyPlaces,
+    i: usize,
+    made: &mut [u8],
+    at: usize,
+) -> usize
     requires action { ⌜ i < maxActions ⌝ }
     requires listed { ⌜ Listed (now head) (now table) i ⌝ }
     requires places { ⌜ PlacesOf (now head) (now places) ⌝ }

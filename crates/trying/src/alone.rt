@@ -86,14 +86,7 @@ fn step_base(head: &Head, base: &[u8], counts: Base, after: &mut [u8]) -> Alone
     let mut index = [0u64; FACT_INDEX];
     enter_rows(head, held, counts.held, &mut index);
     let allowed = events_met(literals, counts.literals, &index, held, counts.held);
-    let left = facts_after(
-        head,
-        held,
-        counts.held,
-        after,
-        counts.literals,
-        &mut index,
-    );
+    let left = facts_after(head, held, counts.held, after, counts.literals, &mut index);
     Alone {
         variables: counts.variables,
         literals: counts.literals,

@@ -27,7 +27,14 @@ fn is_about(memory: &[u8], total: usize, fact: &[u8]) -> bool
 }
 
 // Whether the component `c` has a fact of the instance, with one of n objects in its counted place, that none of them is about.
-fn component_free(head: &Head, c: usize, instance: &[u8], n: u8, memory: &[u8], total: usize) -> bool
+fn component_free(
+    head: &Head,
+    c: usize,
+    instance: &[u8],
+    n: u8,
+    memory: &[u8],
+    total: usize,
+) -> bool
     requires component { ⌜ c < maxComponents ⌝ }
     requires instance { ⌜ length (now instance) ≡ 8 ⌝ }
     requires memory { ⌜ length (now memory) ≡ groundedBytes ⌝ }

@@ -11,8 +11,7 @@ is-lasting-requires c κs = search needs
 
 returns : tie.Need-returns
 returns c =
-    let a = c .before .before .before .before .args in
-    (
+    let a = c .before .before .before .before .args in (
       omega arith,
       λ D old H wf h M. making-lasting D (a .i) h (sym (H .says .lasting (a .i) h) ∙ sym (c .before .is-lasting .ensures) ∙ c .if1 .taken) M,
     )
@@ -26,8 +25,7 @@ same-length c = search needs
 returns-2 : tie.Need-returns-2
 returns-2 c =
     let a = c .before .before .before .before .before .before .before .before .args in
-    let t = c .before .before .try-at-once .ensures in
-    (
+    let t = c .before .before .try-at-once .ensures in (
       t .0,
       λ D old H wf h M. t .1 D old H wf h M (sym (H .says .lasting (a .i) h) ∙ sym (c .before .before .before .before .before .is-lasting .ensures) ∙ c .before .before .before .before .if1 .left),
     )

@@ -76,8 +76,7 @@ returns c =
     let n = c .before .before .actions-in .ensures .0 in
     let m = c .before .before .actions-in .ensures .1 in
     let f = l .inv .few in
-    let q = l .inv .reach in
-    (
+    let q = l .inv .reach in (
       omega arith,
       λ D old H wf M.
           let a = n ∙ H .says .actions in

@@ -31,8 +31,7 @@ loop-less c = omega arith
 loop-again : tie.Need-loop-again Inv-loop μ-loop
 loop-again c =
     let a = c .before .before .before .before .before .args in
-    let l = c .before .before .before .loop in
-    (
+    let l = c .before .before .before .loop in (
       omega arith,
       enter-more (a .head .now) (a .rows .now) (a .index .now) (l .index) (c .enter .last .0) (l .i) (l .inv .1) (c .enter .ensures .0),
     )

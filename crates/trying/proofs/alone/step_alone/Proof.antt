@@ -17,8 +17,7 @@ step-base-requires c κs =
     let p = c .before .before .before .before .before .before .before .before .before .pre in
     let g = c .before .before .before .before .ground-base in
     let D = p .1 .0 .0 in
-    let B = g .ensures .1 D (p .1 .0 .1) (p .1 .0 .2) (p .1 .0 .3) in
-    (
+    let B = g .ensures .1 D (p .1 .0 .1) (p .1 .0 .2) (p .1 .0 .3) in (
       g .ensures .0,
       (
         g .kept .1 .1 .1 .0 ∙ p .1 .1 .0,

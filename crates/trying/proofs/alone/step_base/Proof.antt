@@ -67,8 +67,7 @@ returns c =
     let x = c .before .before .facts-after in
     let copy = c .before .before .before .before .before .before .before .before .before .before .before .put-bytes in
     let same = copied (a .base .now) (a .after .now) (copy .last .0) (p .1 .0) (p .1 .1 .0) (copy .ensures) in
-    let long = x .kept .1 .1 .1 .0 ∙ copy .kept .0 ∙ p .1 .1 .0 in
-    (
+    let long = x .kept .1 .1 .1 .0 ∙ copy .kept .0 ∙ p .1 .1 .0 in (
       record { variables = p .0 .0; literals = p .0 .1; held = p .0 .2; left = x .ensures .0 .2 },
       λ D i wf h B.
           let objs = plainObjects D i in

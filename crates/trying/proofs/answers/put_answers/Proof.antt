@@ -54,8 +54,7 @@ loop-less c = omega arith
 loop-again : tie.Need-loop-again Inv-loop μ-loop
 loop-again c =
     let a = c .before .before .before .before .before .before .before .before .before .before .args in
-    let l = c .before .before .before .before .loop in
-    (
+    let l = c .before .before .before .before .loop in (
       refl,
       omega arith,
       length-set (l .made) (l .j) (c .answer-byte .result) ∙ l .inv .2,

@@ -28,8 +28,7 @@ unfolding anyFree
 loop-holds c =
     let a = c .before .before .before .args in
     let e = c .components-in .ensures in
-    let test = componentFree (a .head .now) (a .instance .now) (a .n) (groundIn (a .total) (a .memory .now)) in
-    (
+    let test = componentFree (a .head .now) (a .instance .now) (a .n) (groundIn (a .total) (a .memory .now)) in (
       e .0,
       e .1,
       ap (any test) (left-all (c .components-in .result)) ∙ ap (λ (k : ℕ). any test (numbersFrom 0 k)) (e .0),
@@ -58,8 +57,7 @@ loop-less c = omega arith
 loop-again : tie.Need-loop-again Inv-loop μ-loop
 loop-again c =
     let a = c .before .before .before .before .before .before .before .args in
-    let l = c .before .before .before .loop in
-    (
+    let l = c .before .before .before .loop in (
       l .inv .0,
       l .inv .1,
       sym (any-miss (componentFree (a .head .now) (a .instance .now) (a .n) (groundIn (a .total) (a .memory .now))) (c .before .before .before .before .components-in .result) (l .c)

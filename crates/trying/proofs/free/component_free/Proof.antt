@@ -28,8 +28,7 @@ abbrev μ-loop : tie.MeasureT-loop
 
 loop-holds : tie.Need-loop-holds Inv-loop μ-loop
 loop-holds c =
-    let a = c .before .before .args in
-    (
+    let a = c .before .before .args in (
       length-replicate {A = ℕ} 8 255,
       ap (any (free (a .head .now) (a .c) (a .instance .now) (groundIn (a .total) (a .memory .now)))) (left-all (a .n)),
     )
@@ -69,8 +68,7 @@ loop-again c =
     let l = c .before .before .before .before .before .before .before .loop in
     let ls = groundIn (a .total) (a .memory .now) in
     let fact = c .before .before .before .before .put-instance .last .0 in
-    let same = instance-put (a .head .now) (a .c) (l .o) (a .instance .now) (l .fact) fact (omega arith) (l .inv .0) (c .before .before .before .before .put-instance .ensures) in
-    (
+    let same = instance-put (a .head .now) (a .c) (l .o) (a .instance .now) (l .fact) fact (omega arith) (l .inv .0) (c .before .before .before .before .put-instance .ensures) in (
       c .before .before .before .before .put-instance .kept .0 ∙ l .inv .0,
       sym (any-miss (free (a .head .now) (a .c) (a .instance .now) ls) (a .n) (l .o) (omega arith)
           (ap not (sym (c .before .is-about .ensures ∙ ap (isAbout ls) same)) ∙ c .if1 .left))

@@ -39,8 +39,7 @@ returns c =
     let a = c .before .before .before .before .before .before .before .before .before .args in
     let g = c .before .before .ground-action in
     let row = c .before .before .before .before .before .plain-row in
-    let few = g .ensures .0 .1 in
-    (
+    let few = g .ensures .0 .1 in (
       omega arith,
       λ D H h.
           let v = c .before .before .before .before .before .before .variables-of .ensures .0 ∙ H .says .variables (a .i) h in
