@@ -53,7 +53,8 @@ module _ (arity counted : ℕ) (instance row : List ℕ) (h : length row ≡ 8) 
       let r = length-replicate {A = ℕ} (6 - arity) 255 in
       omega arith
 
-  object-at : (k : ℕ) → k < arity → getD (map (objectByte counted instance) labels ++ replicate (6 - arity) 255) k 0 ≡ objectByte counted instance (getD row (1 + k) 0)
+  object-at : (k : ℕ) → k < arity
+      → getD (map (objectByte counted instance) labels ++ replicate (6 - arity) 255) k 0 ≡ objectByte counted instance (getD row (1 + k) 0)
   object-at k l =
       let n = length-objects in
       let m = length-labels in
@@ -71,10 +72,12 @@ module _ (arity counted : ℕ) (instance row : List ℕ) (h : length row ≡ 8) 
 
 -- of the component c of a head
 module _ (arity counted : ℕ) (instance head : List ℕ) (c : ℕ) (g : arity ≤ 6) where
-  pub instance-first : (i r : ℕ) → i ≡ 0 → r ≡ getD (componentRowIn head c) 0 0 → r ≡ getD (instanceBytes arity counted instance (componentRowIn head c)) i 0
+  pub instance-first : (i r : ℕ) → i ≡ 0 → r ≡ getD (componentRowIn head c) 0 0
+      → r ≡ getD (instanceBytes arity counted instance (componentRowIn head c)) i 0
   instance-first i r e f = f ∙ ap (λ (i : ℕ). getD (instanceBytes arity counted instance (componentRowIn head c)) i 0) (sym e)
 
-  pub instance-object : (i r : ℕ) → (i ≡ 0 → ⊥) → (i ≡ 1 → ⊥) → i < 2 + arity → r ≡ objectByte counted instance (getD (componentRowIn head c) (i - 1) 0)
+  pub instance-object : (i r : ℕ) → (i ≡ 0 → ⊥) → (i ≡ 1 → ⊥) → i < 2 + arity
+      → r ≡ objectByte counted instance (getD (componentRowIn head c) (i - 1) 0)
       → r ≡ getD (instanceBytes arity counted instance (componentRowIn head c)) i 0
   instance-object zero r n o l e = absurd (n refl)
   instance-object (suc zero) r n o l e = absurd (o refl)
@@ -84,10 +87,12 @@ module _ (arity counted : ℕ) (instance head : List ℕ) (c : ℕ) (g : arity �
       ∙ ap (λ (i : ℕ). objectByte counted instance (getD (componentRowIn head c) i 0)) z
       ∙ sym (object-at arity counted instance (componentRowIn head c) (part-length head c) g k (omega arith))
 
-  pub instance-fill : (i : ℕ) → i < 8 → (i ≡ 0 → ⊥) → (i ≡ 1 → ⊥) → 2 + arity ≤ i → 255 ≡ getD (instanceBytes arity counted instance (componentRowIn head c)) i 0
+  pub instance-fill : (i : ℕ) → i < 8 → (i ≡ 0 → ⊥) → (i ≡ 1 → ⊥) → 2 + arity ≤ i
+      → 255 ≡ getD (instanceBytes arity counted instance (componentRowIn head c)) i 0
   instance-fill zero l n o m = absurd (n refl)
   instance-fill (suc zero) l n o m = absurd (o refl)
-  instance-fill (suc (suc k)) l n o m = sym (fill-at arity counted instance (componentRowIn head c) (part-length head c) g k (omega arith) (omega arith))
+  instance-fill (suc (suc k)) l n o m =
+      sym (fill-at arity counted instance (componentRowIn head c) (part-length head c) g k (omega arith) (omega arith))
 
   pub length-instance-at : length (instanceBytes arity counted instance (componentRowIn head c)) ≡ 8
   length-instance-at = length-instance arity counted instance (componentRowIn head c) (part-length head c) g

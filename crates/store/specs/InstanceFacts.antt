@@ -25,4 +25,5 @@ instanceBytes arity counted instance row = getD row 0 0 ∷ arity ∷
 
 -- the same, by the head of a domain
 abbrev pub instanceOf : List ℕ → ℕ → ℕ → List ℕ → List ℕ
-instanceOf head c counted instance = instanceBytes (arityIn head (getD (componentRowIn head c) 0 0)) counted instance (componentRowIn head c)
+instanceOf head c counted instance =
+    instanceBytes (arityIn head (getD (componentRowIn head c) 0 0)) counted instance (componentRowIn head c)

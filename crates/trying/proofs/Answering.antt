@@ -103,7 +103,8 @@ module _ {D : Domain} {i : ℕ} {head : List ℕ} {r : Alone} {base after rows n
   answers-all made j h e =
       e
       ∙ paste-front (answersOf D i) made₀ j (h ∙ sym length-answers)
-      ∙ ap (λ (t : List ℕ). answersOf D i ++ t) (drop-of-length-le made₀ {i = length (answersOf D i)} (let k = length-answers in omega arith))
+      ∙ ap (λ (t : List ℕ). answersOf D i ++ t)
+      (drop-of-length-le made₀ {i = length (answersOf D i)} (let k = length-answers in omega arith))
       ∙ append-nil (answersOf D i)
 
 -- at the front of a memory, which a part of it is lent for
@@ -212,5 +213,6 @@ made-is {D} {n} {made} {old} M =
     ∙ take-at (triedFrom D 0 (take (length (D .actions)) (D .actions))) _ n (sym (M .written))
     ∙ all
 
-pub tried-delivered : {made bytes out after : List ℕ} {n k : ℕ} → made ≡ bytes → DeliveredAs made out n k after → DeliveredAs bytes out n k after
+pub tried-delivered : {made bytes out after : List ℕ} {n k : ℕ} → made ≡ bytes → DeliveredAs made out n k after
+    → DeliveredAs bytes out n k after
 tried-delivered {made} {bytes} {out} {after} {n} {k} e d = subst (λ (l : List ℕ). DeliveredAs l out n k after) e d

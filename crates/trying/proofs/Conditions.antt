@@ -79,7 +79,8 @@ module _ (rs : Role → Bool) (one : (r s : Role) → rs r ≡ true → rs s ≡
     where
       first : (ms : List Literal) → all (λ m. not (repeats l m) && not (contradicts l m)) ms ≡ true → all (λ m. not (repeats l m)) ms ≡ true
       first [] k = refl
-      first (m ∷ ms) k = and-i {a = not (repeats l m)} (and-l _ _ (and-l _ _ k)) (first ms (and-r (not (repeats l m) && not (contradicts l m)) _ k))
+      first (m ∷ ms) k =
+          and-i {a = not (repeats l m)} (and-l _ _ (and-l _ _ k)) (first ms (and-r (not (repeats l m) && not (contradicts l m)) _ k))
 
       go : (b : Bool) → rs (l .role) ≡ b → distinct sameLiteral (withRole rs ls) ≡ true
           → distinct sameLiteral (keepIf b (l .atom) (withRole rs ls)) ≡ true

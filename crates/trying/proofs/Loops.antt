@@ -90,7 +90,8 @@ enter-more head rows index₀ index index′ i E f z S =
 
 instance-length : (head : List ℕ) (c o : ℕ) (instance : List ℕ) → length (instanceOf head c o instance) ≡ 8
 instance-length head c o instance =
-    length-instance-at (arityIn head (getD (componentRowIn head c) 0 0)) o instance head c (arity-limit head (getD (componentRowIn head c) 0 0))
+    length-instance-at (arityIn head (getD (componentRowIn head c) 0 0)) o instance head c
+    (arity-limit head (getD (componentRowIn head c) 0 0))
 
 -- it takes the place of the one before it
 pub instance-put : (head : List ℕ) (c o : ℕ) (instance fact next : List ℕ) → length instance ≡ 8 → length fact ≡ 8

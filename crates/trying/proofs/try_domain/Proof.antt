@@ -26,7 +26,9 @@ same-length : tie.Need-same-length
 same-length c = search needs
 
 returns : tie.Need-returns
-returns c D H wf = tried-delivered (made-is (c .before .before .before .before .before .before .before .before .try-actions .ensures .1 D _ H wf (making-none D _))) (c .before .before .deliver .ensures)
+returns c D H wf =
+    tried-delivered (made-is (c .before .before .before .before .before .before .before .before .try-actions .ensures .1 D _ H wf
+    (making-none D _))) (c .before .before .deliver .ensures)
 
 pub try-domain-spec : {M : Type 1} → statement M
 try-domain-spec =

@@ -28,7 +28,8 @@ slice-aggregate-try-domain c = search needs
 try-domain-requires : tie.Need-try-domain-requires
 try-domain-requires c κs =
     let f = c .before .before .before .before .before .before .before .before .before .before .before .args .file .now in
-    let o = opened f _ _ _ (c .before .before .before .before .before .before .read-domain .ensures) (c .before .before .before .before .if1 .left) in
+    let o = opened f _ _ _ (c .before .before .before .before .before .before .read-domain .ensures) (c .before .before .before .before .if1
+    .left) in
     (o .said, o .held, decoded-well-formed f (o .said) (o .decoded))
 
 same-length : tie.Need-same-length
@@ -37,10 +38,13 @@ same-length c = search needs
 returns-2 : tie.Need-returns-2
 unfolding triedFile triedAfter
 returns-2 c =
-    let f = c .before .before .before .before .before .before .before .before .before .before .before .before .before .before .args .file .now in
-    let o = opened f _ _ _ (c .before .before .before .before .before .before .before .before .before .read-domain .ensures) (c .before .before .before .before .before .before .before .if1 .left) in
+    let f = c .before .before .before .before .before .before .before .before .before .before .before .before .before .before .args .file
+    .now in
+    let o = opened f _ _ _ (c .before .before .before .before .before .before .before .before .before .read-domain .ensures) (c .before
+    .before .before .before .before .before .before .if1 .left) in
     let made = c .before .before .try-domain .ensures (o .said) (o .held) (decoded-well-formed f (o .said) (o .decoded)) in
-    answers-read tried f (c .before .before .before .before .before .before .before .before .before .before .before .before .before .before .args .tried .now) (o .said) (o .decoded) made
+    answers-read tried f (c .before .before .before .before .before .before .before .before .before .before .before .before .before .before
+    .args .tried .now) (o .said) (o .decoded) made
 
 pub try-file-spec : {M : Type 1} → statement M
 try-file-spec =

@@ -29,7 +29,8 @@ step-effects-requires c κs =
     let a = c .before .before .before .before .before .before .before .args in
     let g = c .before .before .before .ground-plain in
     let few = g .ensures .0 in (
-      same-len-mid 0 groundedBytes (a .base .now) (g .last .1 .1 .1 .0) (g .kept .1 .1 .1 .0) ∙ c .before .before .before .before .before .before .before .pre .1,
+      same-len-mid 0 groundedBytes (a .base .now) (g .last .1 .1 .1 .0) (g .kept .1 .1 .1 .0) ∙ c .before .before .before .before .before
+      .before .before .pre .1,
       (omega arith, rows-room 1 (g .result) _ few),
     )
 
@@ -46,10 +47,12 @@ returns c =
     let e = c .before .before .before .step-effects in
     let v = c .variables-of in
     let part = g .last .1 .1 .1 .0 in
-    let put = literals-put part _ (g .kept .1 .1 .1 .0 ∙ literals-length (a .base .now) (c .before .before .before .before .before .before .before .before .before .before .before .pre .1)) in (
+    let put = literals-put part _ (g .kept .1 .1 .1 .0 ∙ literals-length (a .base .now) (c .before .before .before .before .before .before
+    .before .before .before .before .before .pre .1)) in (
       (v .ensures .1, g .ensures .0, rows-few 1 (g .result) (e .result) _ (g .ensures .0) (e .ensures .0)),
       λ D H wf h.
-          base-held D wf (a .i) h (record { variables = v .result; literals = g .result; held = e .result }) (putMid 0 groundedBytes (a .base .now) part)
+          base-held D wf (a .i) h (record { variables = v .result; literals = g .result; held = e .result }) (putMid 0 groundedBytes (a
+          .base .now) part)
           (e .last .0)
           (v .ensures .0 ∙ H .says .variables (a .i) h)
           (subst (λ (t : List ℕ). Grounded D (a .head .now) (plainEvent D (a .i) ∷ []) t (g .result)) (sym put) (g .ensures .1 D H h))

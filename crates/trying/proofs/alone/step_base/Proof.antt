@@ -55,15 +55,18 @@ facts-after-requires c κs =
     let few = p .0 .1 in
     let held = p .0 .2 in
     let l = effects-length (a .base .now) (p .1 .0) in
-    (omega arith, (omega arith, (c .before .before .before .before .before .before .before .before .put-bytes .kept .0 ∙ p .1 .1 .0, (p .1 .1 .1, omega arith))))
+    (omega arith, (omega arith, (c .before .before .before .before .before .before .before .before .put-bytes .kept .0 ∙ p .1 .1 .0, (p .1
+    .1 .1, omega arith))))
 
 same-length : tie.Need-same-length
 same-length c = search needs
 
 returns : tie.Need-returns
 returns c =
-    let a = c .before .before .before .before .before .before .before .before .before .before .before .before .before .before .before .before .before .args in
-    let p = c .before .before .before .before .before .before .before .before .before .before .before .before .before .before .before .before .before .pre in
+    let a = c .before .before .before .before .before .before .before .before .before .before .before .before .before .before .before
+    .before .before .args in
+    let p = c .before .before .before .before .before .before .before .before .before .before .before .before .before .before .before
+    .before .before .pre in
     let x = c .before .before .facts-after in
     let copy = c .before .before .before .before .before .before .before .before .before .before .before .put-bytes in
     let same = copied (a .base .now) (a .after .now) (copy .last .0) (p .1 .0) (p .1 .1 .0) (copy .ensures) in
@@ -74,14 +77,16 @@ returns c =
           let H = B .grounded .says in
           let C = chosen D wf i h (H .bounded) in
           let I = subst (Indexed (a .head .now) _) (B .held)
-          (c .before .before .before .before .before .before .before .enter-rows .ensures (index-none (a .head .now) _ refl) (held-sized D wf i h H _ (B .held))) in
+          (c .before .before .before .before .before .before .before .enter-rows .ensures (index-none (a .head .now) _ refl) (held-sized D
+          wf i h H _ (B .held))) in
           let G = subst (λ (t : List ℕ). Grounded D (a .head .now) (plainEvent D i ∷ []) t (a .counts .literals)) (ap literalsIn (sym same))
           (B .grounded) in
           let A = x .ensures .1 .0 D objs (plainEvent D i ∷ []) (heldFacts D i) C G (B .held) I in
           record {
             conditions = B;
             allowed =
-                c .before .before .before .before .before .events-met .ensures D (a .head .now) (plainEvent D i ∷ []) (heldFacts D i) (B .grounded) (B .held) I objs C
+                c .before .before .before .before .before .events-met .ensures D (a .head .now) (plainEvent D i ∷ []) (heldFacts D i) (B
+                .grounded) (B .held) I objs C
                 ∙ allowed-is D wf i h (H .bounded);
             left = left-rows D wf i h (H .bounded) (x .last .1 .1 .1 .0) (omega arith) (A .held) (x .result .facts) (A .facts);
           },

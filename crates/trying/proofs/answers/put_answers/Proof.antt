@@ -28,7 +28,9 @@ abbrev μ-loop : tie.MeasureT-loop
 μ-loop head alone base after rows numbers made₀ j₀ j-end made j = j-end - j
 
 loop-holds : tie.Need-loop-holds Inv-loop μ-loop
-loop-holds c = let a = c .before .before .before .before .before .args in (refl, omega arith, refl, λ D i C s. paste-zero (a .made .now) 0 (answersOf D i))
+loop-holds c =
+    let a = c .before .before .before .before .before .args in (refl, omega arith, refl, λ D i C s. paste-zero (a .made .now) 0 (answersOf D
+    i))
 
 cast-class-tuple : tie.Need-cast-class-tuple Inv-loop μ-loop
 cast-class-tuple c = let m = c .before .before .before .before .before .before .before .pre .1 .1 .1 .1 in omega arith
@@ -60,7 +62,8 @@ loop-again c =
       length-set (l .made) (l .j) (c .answer-byte .result) ∙ l .inv .2,
       λ D i C s.
           answers-more C (a .made .now) s (l .made) (l .j) (omega arith) (l .inv .3 D i C s) (c .before .before .class-tuple .result)
-          (λ h. c .before .before .class-tuple .ensures D (action D i) (C .whole) (C .numbers-are) h) (c .before .try-class .result) (c .before .try-class .ensures)
+          (λ h. c .before .before .class-tuple .ensures D (action D i) (C .whole) (C .numbers-are) h) (c .before .try-class .result) (c
+          .before .try-class .ensures)
           (c .answer-byte .result) (c .answer-byte .ensures),
     )
 

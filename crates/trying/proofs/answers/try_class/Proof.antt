@@ -32,19 +32,24 @@ weigh-requires-2 c κs = search needs
 returns-3 : tie.Need-returns-3
 returns-3 c =
     let a = c .before .before .before .before .before .before .before .before .before .args in
-    answer-two (a .head .now) (a .alone) (a .base .now) (a .after .now) (a .instance) (c .before .before .before .before .before .weigh .ensures) (c .before .before .before .before .if1 .left) (c .before .before .if2 .left) (c .before .weigh2 .ensures)
+    answer-two (a .head .now) (a .alone) (a .base .now) (a .after .now) (a .instance) (c .before .before .before .before .before .weigh
+    .ensures) (c .before .before .before .before .if1 .left) (c .before .before .if2 .left) (c .before .weigh2 .ensures)
     (c .if3 .taken)
 
 returns-4 : tie.Need-returns-4
 returns-4 c =
     let a = c .before .before .before .before .before .before .before .before .before .before .args in
-    answer-one (a .head .now) (a .alone) (a .base .now) (a .after .now) (a .instance) (c .before .before .before .before .before .before .weigh .ensures) (c .before .before .before .before .before .if1 .left) (c .before .before .before .if2 .left) (c .before .before .weigh2 .ensures)
+    answer-one (a .head .now) (a .alone) (a .base .now) (a .after .now) (a .instance) (c .before .before .before .before .before .before
+    .weigh .ensures) (c .before .before .before .before .before .if1 .left) (c .before .before .before .if2 .left) (c .before .before
+    .weigh2 .ensures)
     (c .before .if3 .left) (c .if4 .taken)
 
 returns-5 : tie.Need-returns-5
 returns-5 c =
     let a = c .before .before .before .before .before .before .before .before .before .before .before .args in
-    answer-none (a .head .now) (a .alone) (a .base .now) (a .after .now) (a .instance) (c .before .before .before .before .before .before .before .weigh .ensures) (c .before .before .before .before .before .before .if1 .left) (c .before .before .before .before .if2 .left) (c .before .before .before .weigh2 .ensures)
+    answer-none (a .head .now) (a .alone) (a .base .now) (a .after .now) (a .instance) (c .before .before .before .before .before .before
+    .before .weigh .ensures) (c .before .before .before .before .before .before .if1 .left) (c .before .before .before .before .if2 .left)
+    (c .before .before .before .weigh2 .ensures)
     (c .if5 .taken)
 
 slice-aggregate-any-free : tie.Need-slice-aggregate-any-free
@@ -67,9 +72,14 @@ any-free-requires c κs = search needs
 
 returns-6 : tie.Need-returns-6
 returns-6 c =
-    let a = c .before .before .before .before .before .before .before .before .before .before .before .before .before .before .before .args in
-    answer-free (a .head .now) (a .alone) (a .base .now) (a .after .now) (a .instance) (c .before .before .before .before .before .before .before .before .before .before .before .weigh .ensures) (c .before .before .before .before .before .before .before .before .before .before .if1 .left) (c .before .before .before .before .before .before .before .before .if2 .left) (c .before .before .before .before .before .before .before .weigh2 .ensures)
-    (c .before .before .before .before .before .before .if3 .left) (c .before .before .before .before .before .if4 .left) (c .before .before .before .before .if5 .left) (c .any-free .ensures)
+    let a = c .before .before .before .before .before .before .before .before .before .before .before .before .before .before .before .args
+    in
+    answer-free (a .head .now) (a .alone) (a .base .now) (a .after .now) (a .instance) (c .before .before .before .before .before .before
+    .before .before .before .before .before .weigh .ensures) (c .before .before .before .before .before .before .before .before .before
+    .before .if1 .left) (c .before .before .before .before .before .before .before .before .if2 .left) (c .before .before .before .before
+    .before .before .before .weigh2 .ensures)
+    (c .before .before .before .before .before .before .if3 .left) (c .before .before .before .before .before .if4 .left) (c .before .before
+    .before .before .if5 .left) (c .any-free .ensures)
 
 pub try-class-spec : {M : Type 1} → statement M
 try-class-spec =

@@ -44,7 +44,8 @@ returns : tie.Need-returns Inv-loop μ-loop
 returns c =
     let a = c .before .before .before .before .before .before .before .args in
     let l = c .before .before .before .loop in
-    sym (any-hit (componentFree (a .head .now) (a .instance .now) (a .n) (groundIn (a .total) (a .memory .now))) (c .before .before .before .before .components-in .result) (l .c) (omega arith)
+    sym (any-hit (componentFree (a .head .now) (a .instance .now) (a .n) (groundIn (a .total) (a .memory .now))) (c .before .before .before
+    .before .components-in .result) (l .c) (omega arith)
     (sym (c .before .component-free .ensures) ∙ c .if1 .taken))
     ∙ l .inv .2
 
@@ -60,7 +61,8 @@ loop-again c =
     let l = c .before .before .before .loop in (
       l .inv .0,
       l .inv .1,
-      sym (any-miss (componentFree (a .head .now) (a .instance .now) (a .n) (groundIn (a .total) (a .memory .now))) (c .before .before .before .before .components-in .result) (l .c)
+      sym (any-miss (componentFree (a .head .now) (a .instance .now) (a .n) (groundIn (a .total) (a .memory .now))) (c .before .before
+      .before .before .components-in .result) (l .c)
           (omega arith) (sym (c .before .component-free .ensures) ∙ c .if1 .left))
           ∙ l .inv .2,
     )
@@ -69,7 +71,8 @@ returns-2 : tie.Need-returns-2 Inv-loop μ-loop
 returns-2 c =
     let a = c .before .before .before .before .before .args in
     let l = c .before .loop in
-    sym (any-end (componentFree (a .head .now) (a .instance .now) (a .n) (groundIn (a .total) (a .memory .now))) (c .before .before .components-in .result) (l .c) (omega arith))
+    sym (any-end (componentFree (a .head .now) (a .instance .now) (a .n) (groundIn (a .total) (a .memory .now))) (c .before .before
+    .components-in .result) (l .c) (omega arith))
     ∙ l .inv .2
 
 pub any-free-spec : {M : Type 1} → statement M

@@ -21,7 +21,8 @@ free head c instance ls o = not (isAbout ls (instanceOf head c o instance))
 
 abbrev Inv-loop : tie.InvT-loop
 Inv-loop head c instance n memory total fact₀ o₀ fact o =
-    (length fact ≡ 8) × (any (free head c instance (groundIn total memory)) (left n o) ≡ componentFree head instance n (groundIn total memory) c)
+    (length fact ≡ 8) × (any (free head c instance (groundIn total memory)) (left n o) ≡ componentFree head instance n (groundIn total
+    memory) c)
 
 abbrev μ-loop : tie.MeasureT-loop
 μ-loop head c instance n memory total fact₀ o₀ fact o = n - o
@@ -51,7 +52,8 @@ returns c =
     let l = c .before .before .before .before .before .before .before .loop in
     let ls = groundIn (a .total) (a .memory .now) in
     let fact = c .before .before .before .before .put-instance .last .0 in
-    let same = instance-put (a .head .now) (a .c) (l .o) (a .instance .now) (l .fact) fact (omega arith) (l .inv .0) (c .before .before .before .before .put-instance .ensures) in
+    let same = instance-put (a .head .now) (a .c) (l .o) (a .instance .now) (l .fact) fact (omega arith) (l .inv .0) (c .before .before
+    .before .before .put-instance .ensures) in
     sym (any-hit (free (a .head .now) (a .c) (a .instance .now) ls) (a .n) (l .o) (omega arith)
     (ap not (sym (c .before .is-about .ensures ∙ ap (isAbout ls) same)) ∙ c .if1 .taken))
     ∙ l .inv .1
@@ -68,7 +70,8 @@ loop-again c =
     let l = c .before .before .before .before .before .before .before .loop in
     let ls = groundIn (a .total) (a .memory .now) in
     let fact = c .before .before .before .before .put-instance .last .0 in
-    let same = instance-put (a .head .now) (a .c) (l .o) (a .instance .now) (l .fact) fact (omega arith) (l .inv .0) (c .before .before .before .before .put-instance .ensures) in (
+    let same = instance-put (a .head .now) (a .c) (l .o) (a .instance .now) (l .fact) fact (omega arith) (l .inv .0) (c .before .before
+    .before .before .put-instance .ensures) in (
       c .before .before .before .before .put-instance .kept .0 ∙ l .inv .0,
       sym (any-miss (free (a .head .now) (a .c) (a .instance .now) ls) (a .n) (l .o) (omega arith)
           (ap not (sym (c .before .is-about .ensures ∙ ap (isAbout ls) same)) ∙ c .if1 .left))

@@ -41,7 +41,8 @@ returns c =
     let h : l .i < a .total = omega arith in
     sym (any-hit (groundIn (a .total) (a .memory .now)) (l .i) noLiteral (omega arith) (test (a .fact .now))
     (ground-test (a .memory .now) (a .total) (l .i) h (test (a .fact .now)) (c .before .patterns-meet .result)
-    (c .before .patterns-meet .ensures ∙ ap (patternsMeet (groundAt (a .memory .now) (l .i) .row)) (take-all 8 (a .fact .now) (omega arith)))
+    (c .before .patterns-meet .ensures ∙ ap (patternsMeet (groundAt (a .memory .now) (l .i) .row)) (take-all 8 (a .fact .now) (omega
+    arith)))
     ∙ c .if1 .taken))
     ∙ l .inv
 
@@ -59,7 +60,8 @@ loop-again c =
     let h : l .i < a .total = omega arith in
     sym (any-miss (groundIn (a .total) (a .memory .now)) (l .i) noLiteral (omega arith) (test (a .fact .now))
     (ground-test (a .memory .now) (a .total) (l .i) h (test (a .fact .now)) (c .before .patterns-meet .result)
-    (c .before .patterns-meet .ensures ∙ ap (patternsMeet (groundAt (a .memory .now) (l .i) .row)) (take-all 8 (a .fact .now) (omega arith)))
+    (c .before .patterns-meet .ensures ∙ ap (patternsMeet (groundAt (a .memory .now) (l .i) .row)) (take-all 8 (a .fact .now) (omega
+    arith)))
     ∙ c .if1 .left))
     ∙ l .inv
 

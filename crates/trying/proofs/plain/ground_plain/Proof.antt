@@ -43,7 +43,8 @@ returns c =
       omega arith,
       λ D H h.
           let v = c .before .before .before .before .before .before .variables-of .ensures .0 ∙ H .says .variables (a .i) h in
-          plain-grounded (H .says) (a .i) h (a .memory .now) (g .last .1 .1 .1 .1 .0) (g .result) (c .before .before .before .before .before .before .before .before .before .pre .1) (g .kept .1 .1 .1 .1 .0) few
+          plain-grounded (H .says) (a .i) h (a .memory .now) (g .last .1 .1 .1 .1 .0) (g .result) (c .before .before .before .before .before
+          .before .before .before .before .pre .1) (g .kept .1 .1 .1 .1 .0) few
           (g .ensures .1 .0 D (plainGround (a .i) (action D (a .i) .vars)) H (plain-fits (H .says .bounded) (a .i) h)
           (row .ensures ∙ ap (λ (n : ℕ). groundRow (plainGround (a .i) n)) v))
           (g .ensures .1 .1),
