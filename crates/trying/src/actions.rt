@@ -45,6 +45,8 @@ fn try_at_once(
     let last = span.to;
     let from = 8 * first;
     let to = 8 * last;
+    let n = last - first;
+    let mut numbers = [0u8; MAX_LITERALS];
     let mut base = [0u8; SCRATCH];
     let mut after = [0u8; SCRATCH];
     let alone = step_alone(head, table, i, &mut base, &mut after);
@@ -56,7 +58,7 @@ fn try_at_once(
         &base,
         &after,
         &table[from..to],
-        last - first,
+        &mut numbers[0..n],
         &mut made[at..end],
     );
     at + count

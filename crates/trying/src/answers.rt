@@ -18,7 +18,7 @@ ghost use Rattle.literals.specs.Domain.{Domain, action};
 ghost use Rattle.literals.specs.Decode.{maxLiterals};
 ghost use Rattle.literals.specs.Keys.{PlacesOf};
 ghost use Rattle.classes.specs.Classes.{classes};
-ghost use Rattle.classes.specs.Held.{ActionOf, Sides};
+ghost use Rattle.classes.specs.Held.{ActionOf, Sides, classNumbers};
 ghost use Rattle.verdict.specs.Claims.{wellFormed};
 ghost use Rattle.effects.specs.Held.{scratchBytes};
 ghost use Rattle.trying.specs.Held.{FewOf, AloneOf, answerOf, ClassesOf, answersOf};
@@ -94,7 +94,8 @@ fn put_answers(
     }
 }
 
-// The same where the classes are not numbered yet, of n rows, at the front of a memory: how many they are.
+// The same where the classes are not numbered yet, at the front of a memory: how many they are. `numbers` gets the class number of each
+// literal.
 pub fn answer_rows(
     head: &Head,
     places: &KeyPlaces,
@@ -102,31 +103,31 @@ pub fn answer_rows(
     base: &[u8],
     after: &[u8],
     rows: &[u8],
-    n: usize,
+    numbers: &mut [u8],
     made: &mut [u8],
 ) -> usize
     requires places { ⌜ PlacesOf (now head) (now places) ⌝ }
     requires few { ⌜ FewOf alone ⌝ }
     requires base { ⌜ length (now base) ≡ scratchBytes ⌝ }
     requires after { ⌜ length (now after) ≡ scratchBytes ⌝ }
-    requires rows { ⌜ (length (now rows) ≡ 8 * n) × (n ≤ maxLiterals) ⌝ }
+    requires rows { ⌜ (length (now rows) ≡ 8 * length (now numbers)) × (length (now numbers) ≤ maxLiterals) ⌝ }
     requires room { ⌜ length (now made) ≡ maxLiterals ⌝ }
     ensures few { λ r. ⌜ r ≤ maxLiterals ⌝ }
     ensures answers { λ r. ⌜ ((D : Domain) (i : ℕ) → ActionOf D (action D i) (now (head .entry)) (now (rows .entry))
         → wellFormed D ≡ true → i < length (D .actions)
         → AloneOf D i (now (head .entry)) alone (now (base .entry)) (now (after .entry))
-        → (r ≡ length (answersOf D i)) × (now (made .exit) ≡ over (answersOf D i) (now (made .entry)))) ⌝ }
+        → (r ≡ length (answersOf D i)) × (now (numbers .exit) ≡ classNumbers D (action D i))
+        × (now (made .exit) ≡ over (answersOf D i) (now (made .entry)))) ⌝ }
 {
-    let mut numbers = [0u8; MAX_LITERALS];
     let mut words = [0u64; MAX_LITERALS];
-    let count = number_classes(head, places, rows, &mut numbers[0..n], &mut words);
+    let count = number_classes(head, places, rows, numbers, &mut words);
     put_answers(
         head,
         alone,
         base,
         after,
         rows,
-        &numbers[0..n],
+        numbers,
         &mut made[0..count],
     );
     count
