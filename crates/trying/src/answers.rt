@@ -121,14 +121,6 @@ pub fn answer_rows(
 {
     let mut words = [0u64; MAX_LITERALS];
     let count = number_classes(head, places, rows, numbers, &mut words);
-    put_answers(
-        head,
-        alone,
-        base,
-        after,
-        rows,
-        numbers,
-        &mut made[0..count],
-    );
+    put_answers(head, alone, base, after, rows, numbers, &mut made[0..count]);
     count
 }

@@ -14,7 +14,7 @@ returns c =
     let a = c .before .before .before .before .args in (
       omega arith,
       λ D old H wf h M. making-lasting D (a .i) h (sym (H .says .lasting (a .i) h) ∙ sym (c .before .is-lasting .ensures) ∙ c .if1 .taken)
-      M,
+          M,
     )
 
 try-at-once-requires : tie.Need-try-at-once-requires
@@ -29,7 +29,7 @@ returns-2 c =
     let t = c .before .before .try-at-once .ensures in (
       t .0,
       λ D old H wf h M. t .1 D old H wf h M (sym (H .says .lasting (a .i) h) ∙ sym (c .before .before .before .before .before .is-lasting
-      .ensures) ∙ c .before .before .before .before .if1 .left),
+          .ensures) ∙ c .before .before .before .before .if1 .left),
     )
 
 pub try-action-spec : {M : Type 1} → statement M

@@ -30,7 +30,7 @@ step-effects-requires c κs =
     let g = c .before .before .before .ground-plain in
     let few = g .ensures .0 in (
       same-len-mid 0 groundedBytes (a .base .now) (g .last .1 .1 .1 .0) (g .kept .1 .1 .1 .0) ∙ c .before .before .before .before .before
-      .before .before .pre .1,
+          .before .before .pre .1,
       (omega arith, rows-room 1 (g .result) _ few),
     )
 

@@ -54,9 +54,20 @@ facts-after-requires c κs =
     let p = c .before .before .before .before .before .before .before .before .before .before .before .before .before .before .pre in
     let few = p .0 .1 in
     let held = p .0 .2 in
-    let l = effects-length (a .base .now) (p .1 .0) in
-    (omega arith, (omega arith, (c .before .before .before .before .before .before .before .before .put-bytes .kept .0 ∙ p .1 .1 .0, (p .1
-    .1 .1, omega arith))))
+    let l = effects-length (a .base .now) (p .1 .0) in (
+      omega arith,
+      (
+        omega arith,
+        (
+          c .before .before .before .before .before .before .before .before .put-bytes .kept .0 ∙ p .1 .1 .0,
+          (
+            p .1
+                .1 .1,
+            omega arith,
+          ),
+        ),
+      ),
+    )
 
 same-length : tie.Need-same-length
 same-length c = search needs

@@ -29,8 +29,13 @@ abbrev μ-loop : tie.MeasureT-loop
 
 loop-holds : tie.Need-loop-holds Inv-loop μ-loop
 loop-holds c =
-    let a = c .before .before .before .before .before .args in (refl, omega arith, refl, λ D i C s. paste-zero (a .made .now) 0 (answersOf D
-    i))
+    let a = c .before .before .before .before .before .args in (
+      refl,
+      omega arith,
+      refl,
+      λ D i C s. paste-zero (a .made .now) 0 (answersOf D
+          i),
+    )
 
 cast-class-tuple : tie.Need-cast-class-tuple Inv-loop μ-loop
 cast-class-tuple c = let m = c .before .before .before .before .before .before .before .pre .1 .1 .1 .1 in omega arith

@@ -62,7 +62,7 @@ loop-again c =
       l .inv .0,
       l .inv .1,
       sym (any-miss (componentFree (a .head .now) (a .instance .now) (a .n) (groundIn (a .total) (a .memory .now))) (c .before .before
-      .before .before .components-in .result) (l .c)
+          .before .before .components-in .result) (l .c)
           (omega arith) (sym (c .before .component-free .ensures) ∙ c .if1 .left))
           ∙ l .inv .2,
     )
