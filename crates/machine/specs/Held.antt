@@ -92,10 +92,6 @@ unfoldable pub closeWeight : Domain → List Object → State → List Event →
 unfolding closeStop next topWeight
 closeWeight D objs s es w = cond (eqb (closeStop D objs s es) 0) (max w (topWeight D (next D objs s es .facts))) w
 
--- what is held after a step that nothing forbids: with 0 what it leads to, else what was
-abbrev pub stateThen : ℕ → StateRows → StateRows → StateRows
-stateThen number then before = cond (eqb number 0) then before
-
 -- all that a close leaves, of the highest weight w before it and of work memory that was `old` before the run
 pub record Leaves (D : Domain) (objs : List Object) (s : State) (es : List Event) (old : List ℕ) (w : ℕ) (number : ℕ)
     (state : StateRows) (weight : ℕ) (work : List ℕ) : Type 0 where

@@ -1,6 +1,5 @@
 // The step's close: what forbids it, and the state after it.
 use super::Counts;
-use super::State;
 use applicability::conditions::events_met;
 use applicability::conditions::open_met;
 use applicability::interference::independent;
@@ -38,12 +37,13 @@ ghost use Rattle.events.specs.Held.{agendaBytes, openIn, openOf};
 ghost use Rattle.events.specs.Grounding.{maxGround, groundedBytes, Grounded};
 ghost use Rattle.effects.specs.Held.{scratchBytes, literalsIn};
 ghost use Rattle.machine.specs.Held.{stateIn, stateOf, Kept, StepHeld, Noted, Closable, closeStop};
-ghost use Rattle.machine.specs.Held.{closeState, stateThen, Leaves};
+ghost use Rattle.machine.specs.Held.{closeState, Leaves};
 
-// What closing a step led to: 0 and the state after it, or the number that refuses it and the state as it was; and the highest weight.
+// What closing a step led to: 0, and how many facts are held then and how many entries are open, or the number that refuses it and the
+// counts as they were; and the highest weight.
 pub struct Closed {
     pub number: u64,
-    pub state: State,
+    pub counts: Counts,
     pub weight: usize,
 }
 
@@ -51,14 +51,6 @@ pub struct Closed {
 struct Asked {
     number: u64,
     literals: usize,
-}
-
-// What a step that nothing forbids leads to: 0 and how many facts are held then and how many entries are open, or 52 and the
-// counts as they were; and the highest weight.
-struct Advanced {
-    number: u64,
-    counts: Counts,
-    weight: usize,
 }
 
 // The first n rows of a memory in place of the rows that the work memory holds; zeros where it held more.
@@ -146,7 +138,7 @@ fn forbidden(
 }
 
 // Takes a step that nothing forbids: its facts are then in the work memory, its entries in the agenda, and no event waits; 52 where facts
-// or entries are too many, and the work memory is as it was. The facts are put together in `scratch` first, which holds the step's ground
+// or entries are too many, and both memories are as they were. The facts are put together in `scratch` first, which holds the step's ground
 // literals, `literals` of them.
 fn advance(
     head: &Head,
@@ -157,7 +149,7 @@ fn advance(
     weight: usize,
     scratch: &mut [u8],
     literals: usize,
-) -> Advanced
+) -> Closed
     requires closable { ⌜ Closable (counts .facts) (now work) ⌝ }
     requires agenda { ⌜ length (now agenda) ≡ agendaBytes ⌝ }
     requires scratch { ⌜ length (now scratch) ≡ scratchBytes ⌝ }
@@ -167,9 +159,7 @@ fn advance(
         → Grounded D (now (head .entry)) es (literalsIn (now (scratch .entry))) literals
         → topWeight D (s .facts) ≤ weight → forbidden D objs s es ≡ 0
         → Indexed (now (head .entry)) (now (index .entry)) (map factRow (s .facts))
-        → Leaves D objs s es old weight (r .number)
-        (stateThen (r .number) (stateIn (r .counts) (now (agenda .exit))) (stateIn counts (now (agenda .entry))))
-        (r .weight) (now (work .exit))) ⌝ }
+        → Leaves D objs s es old weight (r .number) (stateIn (r .counts) (now (agenda .exit))) (r .weight) (now (work .exit))) ⌝ }
     ensures indexed { λ r. ⌜ ((D : Domain) (objs : List Object) (s : MachineState) (es : List Event) (table old : List ℕ)
         → StepHeld D objs s es (now (head .entry)) table (stateIn counts (now (agenda .entry))) (now (work .entry)) old
         → Grounded D (now (head .entry)) es (literalsIn (now (scratch .entry))) literals
@@ -181,7 +171,7 @@ fn advance(
     let after = facts_after(head, work, counts.facts, scratch, literals, index);
     let facts = after.facts;
     if MAX_FACTS < facts {
-        return Advanced {
+        return Closed {
             number: 52,
             counts,
             weight,
@@ -189,7 +179,7 @@ fn advance(
     }
     let joined = agenda_after(head, agenda, counts.opened, counts.waits);
     if !joined.fits {
-        return Advanced {
+        return Closed {
             number: 52,
             counts,
             weight,
@@ -197,7 +187,7 @@ fn advance(
     }
     settle(work, counts.facts, scratch, facts);
     let highest = top_from(head, work, facts, after.kept, weight, index);
-    Advanced {
+    Closed {
         number: 0,
         counts: Counts {
             facts,
@@ -248,74 +238,55 @@ pub fn rest(
     0
 }
 
-impl State {
-    // Closes the step that is read: takes it, or refuses it by 57, 55, 56 or 52 and changes nothing. `scratch` is memory
-    // to work in.
-    // The agenda is kept in one local variable, since each further one would cost a copy of it for each step.
-    pub fn step(
-        self,
-        head: &Head,
-        table: &[u8],
-        work: &mut [u8],
-        weight: usize,
-        index: &mut FactIndex,
-        scratch: &mut [u8],
-    ) -> Closed
-        requires closable { ⌜ Closable (self .counts .facts) (now work) ⌝ }
-        requires scratch { ⌜ length (now scratch) ≡ scratchBytes ⌝ }
-        ensures leaves { λ r. ⌜ ((D : Domain) (objs : List Object) (s : MachineState) (es : List Event) (old : List ℕ)
-            → StepHeld D objs s es (now (head .entry)) (now (table .entry)) (stateIn (self .counts) (self .agenda)) (now (work .entry)) old
-            → topWeight D (s .facts) ≤ weight → Noted D objs (now (head .entry)) (now (index .entry)) s
-            → Leaves D objs s es old weight (r .number) (stateIn (r .state .counts) (r .state .agenda)) (r .weight) (now (work .exit))) ⌝ }
-        ensures noted { λ r. ⌜ ((D : Domain) (objs : List Object) (s : MachineState) (es : List Event) (old : List ℕ)
-            → StepHeld D objs s es (now (head .entry)) (now (table .entry)) (stateIn (self .counts) (self .agenda)) (now (work .entry)) old
-            → Noted D objs (now (head .entry)) (now (index .entry)) s
-            → r .number ≡ 0 → Noted D objs (now (head .entry)) (now (index .exit)) (closeState D objs s es)) ⌝ }
-    {
-        let counts = self.counts;
-        let mut agenda = self.agenda;
-        index[NOTE] = 0;
-        let asked = forbidden(
-            head,
-            table,
-            &agenda,
+// Closes the step that is read: takes it, or refuses it by 57, 55, 56 or 52 and changes nothing but the index and `scratch`, which is
+// memory to work in. The agenda is changed where it stands, since a copy of it would cost much of a short step.
+pub fn step(
+    head: &Head,
+    table: &[u8],
+    agenda: &mut [u8],
+    counts: Counts,
+    work: &mut [u8],
+    weight: usize,
+    index: &mut FactIndex,
+    scratch: &mut [u8],
+) -> Closed
+    requires closable { ⌜ Closable (counts .facts) (now work) ⌝ }
+    requires agenda { ⌜ length (now agenda) ≡ agendaBytes ⌝ }
+    requires scratch { ⌜ length (now scratch) ≡ scratchBytes ⌝ }
+    ensures leaves { λ r. ⌜ ((D : Domain) (objs : List Object) (s : MachineState) (es : List Event) (old : List ℕ)
+        → StepHeld D objs s es (now (head .entry)) (now (table .entry)) (stateIn counts (now (agenda .entry))) (now (work .entry)) old
+        → topWeight D (s .facts) ≤ weight → Noted D objs (now (head .entry)) (now (index .entry)) s
+        → Leaves D objs s es old weight (r .number) (stateIn (r .counts) (now (agenda .exit))) (r .weight) (now (work .exit))) ⌝ }
+    ensures noted { λ r. ⌜ ((D : Domain) (objs : List Object) (s : MachineState) (es : List Event) (old : List ℕ)
+        → StepHeld D objs s es (now (head .entry)) (now (table .entry)) (stateIn counts (now (agenda .entry))) (now (work .entry)) old
+        → Noted D objs (now (head .entry)) (now (index .entry)) s
+        → r .number ≡ 0 → Noted D objs (now (head .entry)) (now (index .exit)) (closeState D objs s es)) ⌝ }
+{
+    index[NOTE] = 0;
+    let asked = forbidden(
+        head,
+        table,
+        agenda,
+        counts,
+        &mut scratch[0..GROUNDED],
+        index,
+        work,
+    );
+    if asked.number != 0 {
+        return Closed {
+            number: asked.number,
             counts,
-            &mut scratch[0..GROUNDED],
-            index,
-            work,
-        );
-        if asked.number != 0 {
-            return Closed {
-                number: asked.number,
-                state: self,
-                weight,
-            };
-        }
-        let advanced = advance(
-            head,
-            &mut agenda,
-            counts,
-            index,
-            work,
             weight,
-            scratch,
-            asked.literals,
-        );
-        if advanced.number != 0 {
-            return Closed {
-                number: advanced.number,
-                state: self,
-                weight: advanced.weight,
-            };
-        }
-        let after = advanced.counts;
-        Closed {
-            number: 0,
-            state: State {
-                counts: after,
-                agenda,
-            },
-            weight: advanced.weight,
-        }
+        };
     }
+    advance(
+        head,
+        agenda,
+        counts,
+        index,
+        work,
+        weight,
+        scratch,
+        asked.literals,
+    )
 }

@@ -9,7 +9,6 @@ use machine::Counts;
 
 // The tally of a run: whether the start is over (a record of kind 18 to 20 is met), the steps made, the highest weight.
 pub struct Tally {
-    pub begun: bool,
     pub steps: usize,
     pub weight: usize,
 }
@@ -19,6 +18,7 @@ pub struct Tally {
 pub struct Player {
     pub at: usize,
     pub closed: bool,
+    pub begun: bool,
     pub objects: u8,
     pub counts: Counts,
     pub tally: Tally,

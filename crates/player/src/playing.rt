@@ -10,8 +10,8 @@ use events::waits::wait;
 use literals::head::Head;
 use literals::limits::MAX_FACTS;
 use machine::Counts;
-use machine::State;
 use machine::step::rest;
+use machine::step::step;
 use records::Record;
 use records::record_at;
 use run_fields::end_stop;
@@ -42,27 +42,6 @@ ghost use Rattle.machine.specs.Held.{Noted, Closable};
 ghost use Rattle.player.specs.Player.{Whole, wholeIn, turnIn, tallyOf, playerOf, Stands, Playable, RunMemory, LeadsTo, NotedAfter};
 ghost use Rattle.events.specs.Held.{agendaBytes};
 
-impl Tally {
-    // The tally from the first record of kind 18 to 20 on: the start is over, and its facts are weighed.
-    fn begin(self, facts: usize, head: &Head, work: &[u8], index: &FactIndex) -> Tally
-        requires few { ⌜ facts ≤ maxFacts ⌝ }
-        requires facts { ⌜ 8 * facts ≤ length (now work) ⌝ }
-        ensures { λ r. ⌜ ((D : Domain) (p : Playing) (player : Whole) (old : List ℕ) → HeadOf D (now (head .entry))
-            → Stands D p player (now (work .entry)) old → self ≡ player .tally → facts ≡ player .state .facts
-            → Noted D (runObjects p) (now (head .entry)) (now (index .entry)) (p .state) → r ≡ tallyOf (begin D p .tally)) ⌝ }
-    {
-        if self.begun {
-            return self;
-        }
-        let top = top_from(head, work, facts, 0, 0, index);
-        Tally {
-            begun: true,
-            steps: 0,
-            weight: top,
-        }
-    }
-}
-
 impl Player {
     // Before the run.
     pub fn new() -> Player
@@ -71,6 +50,7 @@ impl Player {
         Player {
             at: 0,
             closed: false,
+            begun: false,
             objects: 0,
             counts: Counts {
                 facts: 0,
@@ -78,30 +58,28 @@ impl Player {
                 waits: 0,
             },
             tally: Tally {
-                begun: false,
                 steps: 0,
                 weight: 0,
             },
         }
     }
 
-    // The player with the tally from then on.
     fn begin(self, head: &Head, work: &[u8], index: &FactIndex) -> Player
-        requires few { ⌜ self .counts .facts ≤ maxFacts ⌝ }
-        requires facts { ⌜ 8 * self .counts .facts ≤ length (now work) ⌝ }
-        ensures { λ r. ⌜ ((D : Domain) (p : Playing) (agenda old : List ℕ) → HeadOf D (now (head .entry))
-            → Stands D p (wholeIn self agenda) (now (work .entry)) old
-            → Noted D (runObjects p) (now (head .entry)) (now (index .entry)) (p .state)
-            → wholeIn r agenda ≡ playerOf (begin D p)) ⌝ }
     {
+        if self.begun {
+            return self;
+        }
         let counts = self.counts;
-        let tally = self.tally.begin(counts.facts, head, work, index);
         Player {
             at: self.at,
             closed: self.closed,
+            begun: true,
             objects: self.objects,
             counts,
-            tally,
+            tally: Tally {
+                steps: 0,
+                weight: top_from(head, work, counts.facts, 0, 0, index),
+            },
         }
     }
 
@@ -120,6 +98,7 @@ impl Player {
         Player {
             at: behind,
             closed: false,
+            begun: self.begun,
             objects: self.objects,
             counts: Counts {
                 facts,
@@ -150,6 +129,7 @@ impl Player {
             player: Player {
                 at: behind,
                 closed: false,
+                begun: self.begun,
                 objects: p[0],
                 counts,
                 tally,
@@ -184,7 +164,7 @@ impl Player {
         let tally = self.tally;
         let counts = self.counts;
         let n = counts.facts;
-        let number = fact_stop(head, self.objects, tally.begun, work, n, p);
+        let number = fact_stop(head, self.objects, self.begun, work, n, p);
         if number != 0 {
             return Turn {
                 number,
@@ -261,10 +241,10 @@ impl Player {
         Player {
             at: behind,
             closed: false,
+            begun: self.begun,
             objects: self.objects,
             counts,
             tally: Tally {
-                begun: tally.begun,
                 steps: tally.steps + 1,
                 weight,
             },
@@ -347,21 +327,27 @@ impl Player {
         if counts.waits == 0 {
             return self.take_rest(head, table, work, index, agenda, scratch, behind);
         }
-        let state = State::load(counts, agenda);
         let tally = self.tally;
-        let closed = state.step(head, table, work, tally.weight, index, scratch);
+        let closed = step(
+            head,
+            table,
+            agenda,
+            counts,
+            work,
+            tally.weight,
+            index,
+            scratch,
+        );
         let stop = closed.number;
-        let next = closed.state;
         if stop != 0 {
             return Turn {
                 number: stop,
                 player: self,
             };
         }
-        next.save(agenda);
         Turn {
             number: 0,
-            player: self.stepped(behind, next.counts, closed.weight),
+            player: self.stepped(behind, closed.counts, closed.weight),
         }
     }
 
@@ -385,6 +371,7 @@ impl Player {
             player: Player {
                 at: behind,
                 closed: true,
+                begun: self.begun,
                 objects: self.objects,
                 counts,
                 tally,

@@ -29,6 +29,7 @@ pub const WORK: usize = 8 * MAX_FACTS;
 pub struct Ended {
     pub number: u64,
     pub place: usize,
+    pub begun: bool,
     pub tally: Tally,
     pub facts: usize,
     pub opened: usize,
@@ -50,6 +51,7 @@ fn ended_by(number: u64, last: Player) -> Ended
     Ended {
         number,
         place: at,
+        begun: last.begun,
         tally,
         facts: counts.facts,
         opened: counts.opened,
