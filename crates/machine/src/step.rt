@@ -167,6 +167,7 @@ fn advance(
         → Indexed (now (head .entry)) (now (index .entry)) (map factRow (s .facts))
         → r .number ≡ 0 → Indexed (now (head .entry)) (now (index .exit)) (map factRow (closeState D objs s es .facts))) ⌝ }
     ensures beside { λ _. ⌜ getD (now (index .exit)) noteAt 0 ≡ getD (now (index .entry)) noteAt 0 ⌝ }
+    ensures refused { λ r. ⌜ ((r .number ≡ 0 → ⊥) → now (agenda .exit) ≡ now (agenda .entry)) ⌝ }
 {
     let after = facts_after(head, work, counts.facts, scratch, literals, index);
     let facts = after.facts;
@@ -261,6 +262,7 @@ pub fn step(
         → StepHeld D objs s es (now (head .entry)) (now (table .entry)) (stateIn counts (now (agenda .entry))) (now (work .entry)) old
         → Noted D objs (now (head .entry)) (now (index .entry)) s
         → r .number ≡ 0 → Noted D objs (now (head .entry)) (now (index .exit)) (closeState D objs s es)) ⌝ }
+    ensures refused { λ r. ⌜ ((r .number ≡ 0 → ⊥) → now (agenda .exit) ≡ now (agenda .entry)) ⌝ }
 {
     index[NOTE] = 0;
     let asked = forbidden(

@@ -1,10 +1,7 @@
 // The call: a domain file, a run file, and lent work memory.
 use super::run::Ended;
 use super::run::play_run;
-use super::track::instance_stop;
-use super::track::total_at;
-use super::run::WORK;
-use records::bytes::put_zeros;
+use super::track::track_run;
 use events::AGENDA;
 use literals::head::HEAD;
 use literals::limits::MAX_ACTIONS;
@@ -153,23 +150,13 @@ fn play_in(
         };
     }
     if given {
-        if instance_stop(&head, run, instance) != 0 {
-            put_zeros(work, 0, WORK);
-            return Tracked {
-                played: unplayed(51, 0, Fault::Run(0)),
-                total: 0,
-            };
-        }
+        return track_run(&head, table, run, instance, work);
     }
     let mut agenda = [0u8; AGENDA];
     let ended = play_run(&head, table, run, work, &mut agenda);
-    let played = answer_by(ended);
-    if !given {
-        return Tracked { played, total: 0 };
-    }
     Tracked {
-        played,
-        total: total_at(&head, table, work, ended, &agenda, instance),
+        played: answer_by(ended),
+        total: 0,
     }
 }
 

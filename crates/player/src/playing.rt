@@ -39,7 +39,7 @@ ghost use Rattle.run_semantics.specs.RunFile.{maxEvents, maxFacts, runKindOf, f
 ghost use Rattle.run_semantics.specs.Play.{workBytes, Playing, beforeRun, goOn, unless, begin, withObjects, withFact, runObjects};
 ghost use Rattle.run_semantics.specs.Play.{withEvent, closeStep, withClose, playRecord, playStep};
 ghost use Rattle.machine.specs.Held.{Noted, Closable};
-ghost use Rattle.player.specs.Player.{Whole, wholeIn, turnIn, tallyOf, playerOf, Stands, Playable, RunMemory, LeadsTo, NotedAfter};
+ghost use Rattle.player.specs.Player.{wholeIn, turnIn, playerOf, Stands, Playable, RunMemory, LeadsTo, NotedAfter};
 ghost use Rattle.events.specs.Held.{agendaBytes};
 
 impl Player {
@@ -64,12 +64,20 @@ impl Player {
         }
     }
 
+    // The player from the first record of kind 18 to 20 on: the start is over, and its facts are weighed.
     fn begin(self, head: &Head, work: &[u8], index: &FactIndex) -> Player
+        requires few { ⌜ self .counts .facts ≤ maxFacts ⌝ }
+        requires facts { ⌜ 8 * self .counts .facts ≤ length (now work) ⌝ }
+        ensures { λ r. ⌜ ((D : Domain) (p : Playing) (agenda old : List ℕ) → HeadOf D (now (head .entry))
+            → Stands D p (wholeIn self agenda) (now (work .entry)) old
+            → Noted D (runObjects p) (now (head .entry)) (now (index .entry)) (p .state)
+            → wholeIn r agenda ≡ playerOf (begin D p)) ⌝ }
     {
         if self.begun {
             return self;
         }
         let counts = self.counts;
+        let top = top_from(head, work, counts.facts, 0, 0, index);
         Player {
             at: self.at,
             closed: self.closed,
@@ -78,7 +86,7 @@ impl Player {
             counts,
             tally: Tally {
                 steps: 0,
-                weight: top_from(head, work, counts.facts, 0, 0, index),
+                weight: top,
             },
         }
     }
@@ -88,6 +96,7 @@ impl Player {
         ensures { λ r. ⌜ r ≡ record {
           at = behind;
           closed = false;
+          begun = self .begun;
           objects = self .objects;
           counts = record { facts = facts; opened = self .counts .opened; waits = waits };
           tally = self .tally;
@@ -232,9 +241,10 @@ impl Player {
         ensures { λ r. ⌜ r ≡ record {
           at = behind;
           closed = false;
+          begun = self .begun;
           objects = self .objects;
           counts = counts;
-          tally = record { begun = self .tally .begun; steps = self .tally .steps + 1; weight = weight };
+          tally = record { steps = self .tally .steps + 1; weight = weight };
         } ⌝ }
     {
         let tally = self.tally;

@@ -8,7 +8,7 @@ use super::play::offset_of;
 use super::play::part;
 use super::play::play_with;
 use super::run::WORK;
-use super::run::Ended;
+use super::run::play_run;
 use events::AGENDA;
 use journeys::total_of;
 use literals::head::Head;
@@ -59,7 +59,7 @@ fn objects_given(run: &[u8]) -> u8
 }
 
 // 51 where the instance stops the run: it has another count than the keys, or an object that the run does not have. Else 0.
-pub fn instance_stop(head: &Head, run: &[u8], instance: &[u8]) -> u64
+fn instance_stop(head: &Head, run: &[u8], instance: &[u8]) -> u64
     ensures { λ r. ⌜ ((D : Domain) → HeadOf D (now (head .entry)) → r ≡ instanceStop D (now (instance .entry)) (now (run .entry))) ⌝ }
 {
     let objects = objects_given(run);
@@ -75,20 +75,52 @@ pub fn instance_stop(head: &Head, run: &[u8], instance: &[u8]) -> u64
     0
 }
 
-pub fn total_at(head: &Head, table: &[u8], work: &[u8], ended: Ended, agenda: &[u8], instance: &[u8]) -> usize
+// Plays a run file with an instance on a domain that was read.
+pub fn track_run(head: &Head, table: &[u8], run: &[u8], instance: &[u8], work: &mut [u8]) -> Tracked
+    requires domain { ⌜ Read (now head) (now table) ⌝ }
+    requires room { ⌜ workBytes ≤ length (now work) ⌝ }
+    ensures { λ r. ⌜ ((D : Domain) → Held D (now (head .entry)) (now (table .entry)) → wellFormed D ≡ true
+        → (r ≡ record {
+          played = answerBy (trackRun D (now (instance .entry)) (now (run .entry)));
+          total = reportedTotal D (now (instance .entry)) (trackRun D (now (instance .entry)) (now (run .entry)));
+        })
+        × (now (work .exit) ≡ over (heldBytes (trackRun D (now (instance .entry)) (now (run .entry)) .facts)) (now (work .entry)))) ⌝ }
 {
-    if !ended.begun {
-        return 0;
+    let stop = instance_stop(head, run, instance);
+    if stop != 0 {
+        put_zeros(work, 0, WORK);
+        return Tracked {
+            played: PlayAnswer {
+                number: stop,
+                place: 0,
+                steps: 0,
+                weight: 0,
+                fault: Fault::Run(0),
+            },
+            total: 0,
+        };
     }
-    total_of(
+    let mut agenda = [0u8; AGENDA];
+    let ended = play_run(head, table, run, work, &mut agenda);
+    if !ended.begun {
+        return Tracked {
+            played: answer_by(ended),
+            total: 0,
+        };
+    }
+    let total = total_of(
         head,
         table,
         work,
         ended.facts,
-        agenda,
+        &agenda,
         ended.opened,
         instance,
-    )
+    );
+    Tracked {
+        played: answer_by(ended),
+        total,
+    }
 }
 
 // A domain file, an instance and a run file.

@@ -1,6 +1,6 @@
 -- `advance` meets its contract: too many facts, too many open, or the step is taken. Assumes nothing.
 use borrow.Author.Needs.{needs}
-use mathlib.Core.Path.{sym, ap, _∙_}
+use mathlib.Core.Path.{refl, sym, ap, _∙_}
 use native.Mathlib.Omega.{arith}
 use Rattle.records.proofs.Lists.{not-true, not-false}
 use Rattle.events.specs.Held.{openIn, waitingIn}
@@ -41,7 +41,7 @@ returns c =
           let e = x .ensures .1 .0 D objs es (s .facts) (events-chosen kept) G rows held in
           leaves-large D objs s es old (a .weight) free (many-facts D objs s es (x .result .facts) (e .facts) (c .if1 .taken)) before is
           (a .work .now) (S .facts-are),
-      (λ D objs s es table old S G free held z. absurd (omega arith), x .ensures .1 .1),
+      (λ D objs s es table old S G free held z. absurd (omega arith), (x .ensures .1 .1, λ z. refl)),
     )
 
 agenda-after-requires : tie.Need-agenda-after-requires
@@ -74,7 +74,7 @@ returns-2 c =
           (stateIn (a .counts) (o .last .1 .0)) (ap (stateIn (a .counts)) (o .ensures .1 .1 no) ∙ is) (a .work .now) (S .facts-are),
       (
         λ D objs s es table old S G free held z. absurd (omega arith),
-        c .before .before .before .before .before .before .before .before .before .facts-after .ensures .1 .1,
+        (c .before .before .before .before .before .before .before .before .before .facts-after .ensures .1 .1, λ z. o .ensures .1 .1 no),
       ),
     )
 
@@ -142,7 +142,7 @@ returns-3 c =
             let few = after-few D B s es old (a .weight) kept free (x .result .facts) (e .facts) small (sym yes ∙ f .0) in
             taken-indexed D B s es old (a .weight) kept free (x .result .facts) (e .facts) small (sym yes ∙ f .0)
             (a .head .now) _ (e .indexed few),
-        x .ensures .1 .1,
+        (x .ensures .1 .1, λ z. absurd (z refl)),
       ),
     )
 

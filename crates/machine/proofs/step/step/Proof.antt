@@ -1,6 +1,6 @@
 -- `step` meets its contract: a step that is forbidden or too large, or the step. Assumes nothing.
 use borrow.Author.Needs.{needs}
-use mathlib.Core.Path.{_≡_, sym, subst, _∙_}
+use mathlib.Core.Path.{_≡_, refl, sym, subst, _∙_}
 use mathlib.Core.List.{List, map}
 use Prim.Native.Nat.{ℕ}
 use lib.ListN.{length}
@@ -52,7 +52,7 @@ returns c =
           let held = indexed-set (a .head .now) (a .index .now) _ (map factRow (s .facts)) (noted .indexed) in
           let f = asks .ensures .1 D objs s es (S .domain) (S .some) (S .kept) is rows held in
           leaves-forbidden D objs s es old (a .weight) (asks .result .number) (f .0) some state is (a .work .now) (S .facts-are),
-      λ D objs s es old S noted z. absurd (some z),
+      (λ D objs s es old S noted z. absurd (some z), λ z. refl),
     )
 
 -- the ground literals, and the scratch memory with them, are as long as before
@@ -96,15 +96,18 @@ returns-2 c =
           let free = sym (f .0) ∙ nothing in
           let G = subst (λ (t : List ℕ). Grounded D (a .head .now) es t (asks .result .literals)) (sym put) (f .1 nothing) in
           x .ensures .0 D objs s es (a .table .now) old S G under free held,
-      λ D objs s es old S noted z.
-          let is = S .state-is in
-          let rows = state-rows D (S .domain .says .bounded) s es (S .kept) state is (a .work .now) old (S .facts-are) in
-          let held = indexed-set (a .head .now) (a .index .now) _ (map factRow (s .facts)) (noted .indexed) in
-          let f = asks .ensures .1 D objs s es (S .domain) (S .some) (S .kept) is rows held in
-          let free = sym (f .0) ∙ nothing in
-          let G = subst (λ (t : List ℕ). Grounded D (a .head .now) es t (asks .result .literals)) (sym put) (f .1 nothing) in
-          noted-anew (a .head .now) D _ (closeState D objs s es) (x .ensures .1 .0 D objs s es (a .table .now) old S G free held z)
-          (x .ensures .1 .1 ∙ unset (a .index .now) (noted .indexed .numbers)),
+      (
+        λ D objs s es old S noted z.
+            let is = S .state-is in
+            let rows = state-rows D (S .domain .says .bounded) s es (S .kept) state is (a .work .now) old (S .facts-are) in
+            let held = indexed-set (a .head .now) (a .index .now) _ (map factRow (s .facts)) (noted .indexed) in
+            let f = asks .ensures .1 D objs s es (S .domain) (S .some) (S .kept) is rows held in
+            let free = sym (f .0) ∙ nothing in
+            let G = subst (λ (t : List ℕ). Grounded D (a .head .now) es t (asks .result .literals)) (sym put) (f .1 nothing) in
+            noted-anew (a .head .now) D _ (closeState D objs s es) (x .ensures .1 .0 D objs s es (a .table .now) old S G free held z)
+            (x .ensures .1 .1 .0 ∙ unset (a .index .now) (noted .indexed .numbers)),
+        x .ensures .1 .1 .1,
+      ),
     )
 
 pub step-spec : {M : Type 1} → statement M
