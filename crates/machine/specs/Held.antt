@@ -13,7 +13,7 @@ use Rattle.literals.specs.Table.{rowsIn}
 use Rattle.literals.specs.Held.{Held}
 use Rattle.verdict.specs.Machine.{Event, State, next, topWeight, overAllHold}
 use Rattle.store.specs.Index.{noteAt, Indexed}
-use Rattle.machine.specs.declared.Counts.{Counts}
+use Rattle.machine.specs.declared.State.{State as Counts}
 use Rattle.run_semantics.specs.RunFile.{maxFacts, maxRunning, maxEvents}
 use Rattle.run_semantics.specs.Play.{workBytes, forbidden, tooLarge, heldBytes}
 use Rattle.store.specs.Rows.{factRow, FactFits}
@@ -31,7 +31,7 @@ pub record StateRows : Type 0 where
 abbrev pub stateOf : State → List Event → StateRows
 stateOf s es = record { facts = length (s .facts); running = openOf (s .running); waiting = waitingOf es }
 
--- what counts and an agenda hold
+-- what the state's counts and an agenda hold
 abbrev pub stateIn : Counts → List ℕ → StateRows
 stateIn counts agenda =
     record { facts = counts .facts; running = openIn (counts .opened) agenda; waiting = waitingIn (counts .waits) agenda }

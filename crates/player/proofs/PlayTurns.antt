@@ -27,7 +27,7 @@ use Rattle.run_semantics.specs.RunFile.{objectsRecord, factRecord, eventRecord,
 use Rattle.run_semantics.specs.Play.{playRecord, playFound, playStep, Playing, onward, PlayTurn, Tally, goOn, stopAt, startTally, begin, withObjects, joined, withFact, withEvent, withClose, unless, runObjects, forbidden, tooLarge, afterStep, closeStep, heldBytes}
 use Rattle.store.specs.Rows.{factRow, hasRow, Few}
 use Rattle.events.specs.Held.{entriesIn, openIn, waitingIn, waitingOf}
-use Rattle.machine.specs.declared.Counts.{Counts}
+use Rattle.machine.specs.declared.State.{State as Counts}
 use Rattle.machine.specs.Held.{StateRows, stateOf, stateIn, Noted, closeStop, closeState, closeWaiting, closeWeight, Leaves}
 use Rattle.player.specs.Player.{Whole as Player, WholeTurn as Turn, wholeIn, playerOf, Stands, LeadsTo, NotedAfter}
 use Rattle.events.proofs.FactRows.{has-fact}
@@ -45,17 +45,17 @@ pub gone-on : (self new : Small) (behind facts waits : ℕ) (agenda : List ℕ)
       closed = false;
       begun = self .begun;
       objects = self .objects;
-      counts = record { facts = facts; opened = self .counts .opened; waits = waits };
+      state = record { facts = facts; opened = self .state .opened; waits = waits };
       tally = self .tally;
     }
     → (new .at ≡ behind) × (new .closed ≡ false) × (new .objects ≡ self .objects)
-    × (wholeIn new agenda .state ≡ stateIn (record { facts = facts; opened = self .counts .opened; waits = waits }) agenda)
+    × (wholeIn new agenda .state ≡ stateIn (record { facts = facts; opened = self .state .opened; waits = waits }) agenda)
     × (wholeIn new agenda .tally ≡ wholeIn self agenda .tally)
 gone-on self new behind facts waits agenda e = (
   ap (λ (x : Small). x .at) e,
   ap (λ (x : Small). x .closed) e,
   ap (λ (x : Small). x .objects) e,
-  ap (λ (x : Small). stateIn (x .counts) agenda) e,
+  ap (λ (x : Small). stateIn (x .state) agenda) e,
   ap (λ (x : Small). wholeIn x agenda .tally) e,
 )
 
@@ -73,7 +73,7 @@ pub stepped-on : (self new : Small) (behind : ℕ) (counts : Counts) (weight : �
       closed = false;
       begun = self .begun;
       objects = self .objects;
-      counts = counts;
+      state = counts;
       tally = record { steps = self .tally .steps + 1; weight = weight };
     }
     → wholeIn new agenda ≡ record {

@@ -34,7 +34,7 @@ wholeIn player agenda =
       at = player .at;
       closed = player .closed;
       objects = player .objects;
-      state = stateIn (player .counts) agenda;
+      state = stateIn (player .state) agenda;
       tally = record { begun = player .begun; steps = player .tally .steps; weight = player .tally .weight };
     }
 

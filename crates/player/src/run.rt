@@ -42,20 +42,20 @@ fn ended_by(number: u64, last: Player) -> Ended
       place = last .at;
       begun = last .begun;
       tally = last .tally;
-      facts = last .counts .facts;
-      opened = last .counts .opened;
+      facts = last .state .facts;
+      opened = last .state .opened;
     } ⌝ }
 {
     let at = last.at;
     let tally = last.tally;
-    let counts = last.counts;
+    let state = last.state;
     Ended {
         number,
         place: at,
         begun: last.begun,
         tally,
-        facts: counts.facts,
-        opened: counts.opened,
+        facts: state.facts,
+        opened: state.opened,
     }
 }
 

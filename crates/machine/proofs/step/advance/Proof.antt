@@ -29,7 +29,7 @@ same-length-2 c = search needs
 returns : tie.Need-returns
 returns c =
     let a = c .before .before .before .before .before .before .before .before .before .before .args in
-    let before = stateIn (a .counts) (a .agenda .now) in
+    let before = stateIn (a .state) (a .agenda .now) in
     let x = c .before .before .before .facts-after in (
       λ D objs s es table old S G under free held.
           let lent = S .domain in
@@ -59,7 +59,7 @@ same-length-5 c = search needs
 returns-2 : tie.Need-returns-2
 returns-2 c =
     let a = c .before .before .before .before .before .before .before .before .before .before .before .before .before .before .before .before .args in
-    let before = stateIn (a .counts) (a .agenda .now) in
+    let before = stateIn (a .state) (a .agenda .now) in
     let o = c .before .before .before .before .agenda-after in
     let no = not-true _ (c .if2 .taken) in (
       λ D objs s es table old S G under free held.
@@ -71,7 +71,7 @@ returns-2 c =
           let f = o .ensures .0 D (s .running) es (lent .says) (kept .running) (kept .waiting) (kept .running-few) (kept .waiting-few)
           (ap (λ (h : StateRows). h .running) is) w in
           leaves-large D objs s es old (a .weight) free (many-open D objs s es (sym no ∙ f .0))
-          (stateIn (a .counts) (o .last .1 .0)) (ap (stateIn (a .counts)) (o .ensures .1 .1 no) ∙ is) (a .work .now) (S .facts-are),
+          (stateIn (a .state) (o .last .1 .0)) (ap (stateIn (a .state)) (o .ensures .1 .1 no) ∙ is) (a .work .now) (S .facts-are),
       (
         λ D objs s es table old S G free held z. absurd (omega arith),
         (c .before .before .before .before .before .before .before .before .before .facts-after .ensures .1 .1, λ z. o .ensures .1 .1 no),
@@ -99,7 +99,7 @@ same-length-8 c = search needs
 returns-3 : tie.Need-returns-3
 returns-3 c =
     let a = c .before .before .before .before .before .before .before .before .before .before .before .before .before .before .before .before .before .before .before .before .before .before .before .before .args in
-    let before = stateIn (a .counts) (a .agenda .now) in
+    let before = stateIn (a .state) (a .agenda .now) in
     let x = c .before .before .before .before .before .before .before .before .before .before .before .before .before .before .before .before .before .facts-after in
     let small = c .before .before .before .before .before .before .before .before .before .before .before .before .before .before .if1 .left in
     let o = c .before .before .before .before .before .before .before .before .before .before .before .before .agenda-after in
@@ -118,15 +118,15 @@ returns-3 c =
           (ap (λ (h : StateRows). h .running) is) w in
           let few = after-few D B s es old (a .weight) kept free (x .result .facts) (e .facts) small (sym yes ∙ f .0) in
           leaves-taken D B s es old (a .weight) kept free (x .result .facts) (e .facts) small (sym yes ∙ f .0)
-          (a .work .now) _ _ (a .counts .facts) (ap (λ (h : StateRows). h .facts) is) (S .facts-are) (e .held few) (t .ensures)
+          (a .work .now) _ _ (a .state .facts) (ap (λ (h : StateRows). h .facts) is) (S .facts-are) (e .held few) (t .ensures)
           (openIn (o .result .count) (o .last .1 .0)) (f .1 yes) (waitingIn 0 (o .last .1 .0)) (o .ensures .1 .0 yes)
           (m .result) (x .result .kept) (e .kept) under
           (m .ensures .1 D _ (lent .says)
           (rows-indexed D B s es old (a .weight) kept free (x .result .facts) (e .facts) small (sym yes ∙ f .0)
-          (a .work .now) _ _ (a .counts .facts) (ap (λ (h : StateRows). h .facts) is) (S .facts-are) (e .held few) (t .ensures)
+          (a .work .now) _ _ (a .state .facts) (ap (λ (h : StateRows). h .facts) is) (S .facts-are) (e .held few) (t .ensures)
           (a .head .now) _ (e .indexed few))
           (taken-rows D B s es old (a .weight) kept free (x .result .facts) (e .facts) small (sym yes ∙ f .0)
-          (a .work .now) _ _ (a .counts .facts) (ap (λ (h : StateRows). h .facts) is) (S .facts-are) (e .held few) (t .ensures))
+          (a .work .now) _ _ (a .state .facts) (ap (λ (h : StateRows). h .facts) is) (S .facts-are) (e .held few) (t .ensures))
           (after-fits D B s es old (a .weight) kept free (x .result .facts) (e .facts) small (sym yes ∙ f .0))),
       (
         λ D objs s es table old S G free held z.

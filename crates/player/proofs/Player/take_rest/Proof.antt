@@ -66,7 +66,7 @@ returns-2 c =
           let z = r .ensures D (runObjects q) (q .state) H (kept-none (st .sound .kept)) (ap (λ (h : StateRows). h .running) (state-is D q st))
           (facts-rows D q player (a .work .now) old st (H .says .bounded)) noted in
           close-on D q (a .behind) player (a .work .now) old st (r .result) _ _ _ (rest-closes D q st none b (r .result) (z .0)) (c .before .if1 .left) _
-          (stepped-on (a .self) _ (a .behind) (a .self .counts) (a .self .tally .weight) (a .agenda .now) (c .stepped .ensures)),
+          (stepped-on (a .self) _ (a .behind) (a .self .state) (a .self .tally .weight) (a .agenda .now) (c .stepped .ensures)),
       λ D q old H st b noted.
           let z = r .ensures D (runObjects q) (q .state) H (kept-none (st .sound .kept)) (ap (λ (h : StateRows). h .running) (state-is D q st))
           (facts-rows D q player (a .work .now) old st (H .says .bounded)) noted in

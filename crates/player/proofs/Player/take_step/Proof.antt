@@ -80,7 +80,7 @@ returns-3 c =
           (record { domain = H; some = some-object q n; kept = st .sound .kept; state-is = state-is D q st; facts-are = st .memory })
           (weight-under D q st b) noted in
           close-on D q (a .behind) player (a .work .now) old st (l .result .number) _ (l .result .weight) _ leaves (c .before .if2 .left) _
-          (stepped-on (a .self) _ (a .behind) (l .result .counts) (l .result .weight) (l .last .1 .1 .0) (c .stepped .ensures)),
+          (stepped-on (a .self) _ (a .behind) (l .result .state) (l .result .weight) (l .last .1 .1 .1 .0) (c .stepped .ensures)),
       λ D q old H st n b noted.
           let leaves = l .ensures .0 D (runObjects q) (q .state) (q .waiting) old
           (record { domain = H; some = some-object q n; kept = st .sound .kept; state-is = state-is D q st; facts-are = st .memory })

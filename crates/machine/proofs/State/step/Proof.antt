@@ -1,4 +1,4 @@
--- `step` meets its contract: a step that is forbidden or too large, or the step. Assumes nothing.
+-- `State::step` meets its contract: a step that is forbidden or too large, or the step. Assumes nothing.
 use borrow.Author.Needs.{needs}
 use mathlib.Core.Path.{_≡_, refl, sym, subst, _∙_}
 use mathlib.Core.List.{List, map}
@@ -13,8 +13,8 @@ use Rattle.machine.specs.Held.{stateIn, closeState}
 use Rattle.machine.proofs.HeldBytes.{state-rows}
 use Rattle.machine.proofs.Closing.{leaves-forbidden}
 use Rattle.machine.proofs.Resting.{indexed-set, noted-anew, unset}
-use Rattle.machine.proofs.step.step.Statement.{statement}
-use Rattle.machine.proofs.step.step.Tie as tie
+use Rattle.machine.proofs.State.step.Statement.{statement}
+use Rattle.machine.proofs.State.step.Tie as tie
 
 element-write-index : tie.Need-element-write-index
 element-write-index c = search needs
@@ -43,7 +43,7 @@ same-length-3 c = search needs
 returns : tie.Need-returns
 returns c =
     let a = c .before .before .before .before .before .before .before .before .before .before .before .before .before .args in
-    let state = stateIn (a .counts) (a .agenda .now) in
+    let state = stateIn (a .self) (a .agenda .now) in
     let asks = c .before .before .before .before .forbidden in
     let some = c .if1 .taken in (
       λ D objs s es old S under noted.
@@ -83,7 +83,7 @@ same-length-6 c = search needs
 returns-2 : tie.Need-returns-2
 returns-2 c =
     let a = c .before .before .before .before .before .before .before .before .before .before .before .before .before .before .before .before .before .before .before .before .before .before .before .before .args in
-    let state = stateIn (a .counts) (a .agenda .now) in
+    let state = stateIn (a .self) (a .agenda .now) in
     let asks = c .before .before .before .before .before .before .before .before .before .before .before .before .before .before .before .forbidden in
     let nothing = c .before .before .before .before .before .before .before .before .before .before .before .if1 .left in
     let x = c .before .before .before .before .before .before .advance in
