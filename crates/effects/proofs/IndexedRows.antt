@@ -1,19 +1,20 @@
 -- Rows that are marked by a byte, and the index beside rows that are kept or joined. Assumes nothing.
 use mathlib.Core.Path.{_≡_, refl, sym, ap, _∙_, subst}
-use mathlib.Core.Bool.{Bool, true, false, _&&_, cond}
+use mathlib.Core.Bool.{Bool, true, false, _&&_, _||_, not, cond, false≢true}
 use mathlib.Core.Logic.{_⊎_, inl, inr}
 use mathlib.Core.List.{List, [], _∷_, _++_, append-nil}
 use Prim.Native.Nat.{ℕ, _+_, _-_, _*_, _≤_, _<_}
 use native.Mathlib.Omega.{arith}
 use lib.Dec.{eqb}
 use lib.ListN.{length, getD, set, take, drop, length-drop}
-use lib.Seq.{getD-set-same, getD-set-other, length-take-le, take-take, take-add, drop-at, drop-drop}
-use borrow.Author.Tests.{eqb-true, eqb-false}
+use lib.Seq.{getD-drop, getD-set-same, getD-set-other, length-take-le, take-take, take-add, drop-at, drop-drop}
+use borrow.Author.Tests.{eqb-true, eqb-false, eq-eqb}
 use Rattle.records.specs.Lists.{In, filterBy, sameList}
 use Rattle.records.specs.Memory.{over}
-use Rattle.records.proofs.Lists.{bool-cases, off, sameList-eq, elem-in, in-snoc, getD-in}
+use Rattle.records.proofs.Lists.{and-l, and-r, or-cases, any-in, bool-cases, off, sameList-eq, elem-in, in-snoc, getD-in}
 use Rattle.literals.specs.Decode.{byte}
-use Rattle.literals.specs.Table.{rowsIn}
+use Rattle.literals.specs.Table.{rowsIn, meetByte}
+use Rattle.verdict.specs.Patterns.{patternsMeet}
 use Rattle.literals.proofs.Rows.{part-at, rows-more, rows-end, rows-snoc}
 use Rattle.literals.proofs.KeyRows.{length-rows, rows-at}
 use Rattle.store.specs.Index.{Sized, Indexed, noteAt}
@@ -21,7 +22,7 @@ use Rattle.run_semantics.specs.RunFile.{maxFacts}
 use Rattle.run_semantics.specs.Play.{workBytes}
 use Rattle.store.specs.Rows.{hasRow}
 use Rattle.events.specs.Grounding.{groundedBytes}
-use Rattle.effects.specs.Held.{scratchBytes, effectsIn, Marked, flat, joinRow, atMost, SizedRow, HoldsJoined, isStruck, stays, keptOf}
+use Rattle.effects.specs.Held.{scratchBytes, effectsIn, Marked, isApart, anyMeets, flat, joinRow, atMost, SizedRow, HoldsJoined, isStruck, stays, keptOf}
 use Rattle.effects.proofs.FilledRows.{section-part, filled-effects, Filled, filled-rows, filled-own, left-out, kept-few, kept-next}
 use Rattle.effects.proofs.FilledRows.{kept-more, joinedOf, joined-next, joined-on, stopped-count, stopped-rows, joined-all}
 use Rattle.effects.proofs.FilledRows.{joined-out}
@@ -44,6 +45,42 @@ marks-more rows marks j first h b e M =
 -- a row whose third byte is not marked is none of them
 pub unmarked : (marks : List ℕ) (rows : List (List ℕ)) (row : List ℕ) → Marked marks rows → getD marks (byte row 2) 0 ≡ 0 → false ≡ hasRow row rows
 unmarked marks rows row M z = sym (off (hasRow row rows) (λ t. let e = M row (elem-in (sameList eqb) (sameList-eq eqb eqb-true) row rows t) in absurd (omega arith)))
+
+-- the third bytes of rows that meet do
+first-meets : (xs ys : List ℕ) → sameList meetByte xs ys ≡ true → meetByte (getD xs 0 0) (getD ys 0 0) ≡ true
+first-meets [] [] t = refl
+first-meets [] (y ∷ ys) t = absurd (false≢true t)
+first-meets (x ∷ xs) [] t = absurd (false≢true t)
+first-meets (x ∷ xs) (y ∷ ys) t = and-l (meetByte x y) (sameList meetByte xs ys) t
+
+-- a row apart from the marks meets none of the rows
+pub apart : (marks : List ℕ) (rows : List (List ℕ)) (row : List ℕ) → Marked marks rows → isApart marks (byte row 2) ≡ true
+    → false ≡ anyMeets rows row
+apart marks rows row M t = sym (off (anyMeets rows row) (λ k. met (any-in (λ p. patternsMeet p row) rows k)))
+  where
+    no-every : (byte row 2 ≡ 255) → ⊥
+    no-every e = false≢true (sym (ap not (eq-eqb (byte row 2) 255 e)) ∙ and-l _ _ t)
+
+    none : eqb (getD marks 255 0) 0 && eqb (getD marks (byte row 2) 0) 0 ≡ true
+    none = and-r (not (eqb (byte row 2) 255)) _ t
+
+    no-mark : (n : ℕ) → eqb (getD marks n 0) 0 ≡ true → getD marks n 0 ≡ 1 → ⊥
+    no-mark n z o = let e = eqb-true (getD marks n 0) 0 z in omega arith
+
+    met : (p : List ℕ) × In p rows × (patternsMeet p row ≡ true) → ⊥
+    met (p, i, m) =
+        let b : meetByte (byte p 2) (byte row 2) ≡ true
+        = rw (← getD-drop 2 p 0 0, ← getD-drop 2 row 0 0) (first-meets (drop 2 p) (drop 2 row) (and-r (eqb (byte p 0) (byte row 0)) _ m)) in
+        go (or-cases (eqb (byte p 2) (byte row 2)) _ b)
+      where
+        go : (eqb (byte p 2) (byte row 2) ≡ true) ⊎ (eqb (byte p 2) 255 || eqb (byte row 2) 255 ≡ true) → ⊥
+        go (inl e) = no-mark (byte row 2) (and-r (eqb (getD marks 255 0) 0) _ none)
+            (ap (λ (n : ℕ). getD marks n 0) (sym (eqb-true (byte p 2) (byte row 2) e)) ∙ M p i)
+        go (inr q) = every (or-cases (eqb (byte p 2) 255) _ q)
+          where
+            every : (eqb (byte p 2) 255 ≡ true) ⊎ (eqb (byte row 2) 255 ≡ true) → ⊥
+            every (inl e) = no-mark 255 (and-l _ _ none) (ap (λ (n : ℕ). getD marks n 0) (sym (eqb-true (byte p 2) 255 e)) ∙ M p i)
+            every (inr e) = no-every (eqb-true (byte row 2) 255 e)
 
 -- ---- the index beside rows that are kept
 

@@ -1,6 +1,6 @@
 -- What a step adds and strikes, by its ground literals. Assumes nothing.
 use mathlib.Core.Path.{_≡_}
-use mathlib.Core.Bool.{Bool, true, false, not, cond}
+use mathlib.Core.Bool.{Bool, true, false, _&&_, not, cond}
 use mathlib.Core.List.{List, [], _∷_, _++_, map, flatMap}
 use Prim.Native.Nat.{ℕ, suc, _+_, _*_, _≤_, _<_}
 use lib.Dec.{eqb, ltb}
@@ -104,6 +104,10 @@ pub record FirstStruck (struck : List (List ℕ)) (work : List ℕ) (n from r : 
 -- the third bytes of these rows are marked
 abbrev pub Marked : List ℕ → List (List ℕ) → Type 0
 Marked marks rows = (row : List ℕ) → In row rows → getD marks (byte row 2) 0 ≡ 1
+
+-- a row with this third byte meets none that is marked: neither the byte nor FF is
+abbrev pub isApart : List ℕ → ℕ → Bool
+isApart marks first = not (eqb first 255) && (eqb (getD marks 255 0) 0 && eqb (getD marks first 0) 0)
 
 -- ---- effects
 

@@ -30,7 +30,7 @@ ghost use Rattle.store.specs.Index.{noteAt, Sized, Indexed};
 ghost use Rattle.store.specs.Rows.{factRow};
 ghost use Rattle.events.specs.Grounding.{maxGround, groundAt, groundIn, Grounded};
 ghost use Rattle.effects.specs.Held.{scratchBytes, effectsIn, literalsIn, rowsWith, flat, HoldsAfter};
-ghost use Rattle.effects.specs.Held.{Once, anyMeets, isStruck, struckOf, FirstStruck, Marked, keptOf};
+ghost use Rattle.effects.specs.Held.{Once, anyMeets, isStruck, struckOf, FirstStruck, Marked, isApart, keptOf};
 ghost use Rattle.effects.specs.Held.{SizedRow, joinRow, joinRows, HoldsJoined};
 
 // What a step works in, in two sections: its ground literals, in whose place the facts after it are put together when what it strikes and
@@ -77,8 +77,37 @@ fn any_meets(rows: &[u8], m: usize, work: &[u8], at: usize) -> bool
     false
 }
 
-// Whether the row at an offset of the work memory is struck: where there are patterns, by rows that meet; else by equal ones, and most are
-// told by their third byte, the first argument.
+// Whether a row with this first argument meets none of the rows whose first arguments are marked: it is no mark, and neither is FF.
+fn is_apart(marks: &[u8], first: u8) -> bool
+    requires { ⌜ length (now marks) ≡ 256 ⌝ }
+    ensures { λ r. ⌜ r ≡ isApart (now (marks .entry)) first ⌝ }
+{
+    if first == 255 {
+        return false;
+    }
+    if marks[255] != 0 {
+        return false;
+    }
+    marks[wide(first)] == 0
+}
+
+// Whether one of the first m rows, patterns among them, meets the row at an offset of the work memory. Most are told by their third byte,
+// the first argument.
+fn is_met(work: &[u8], at: usize, marks: &[u8], struck: &[u8], m: usize) -> bool
+    requires row { ⌜ at + 8 ≤ length (now work) ⌝ }
+    requires marks { ⌜ length (now marks) ≡ 256 ⌝ }
+    requires struck { ⌜ 8 * m ≤ length (now struck) ⌝ }
+    requires marked { ⌜ Marked (now marks) (rowsIn m (now struck)) ⌝ }
+    ensures { λ r. ⌜ r ≡ anyMeets (rowsIn m (now (struck .entry))) (take 8 (drop at (now (work .entry)))) ⌝ }
+{
+    if is_apart(marks, work[at + 2]) {
+        return false;
+    }
+    any_meets(struck, m, work, at)
+}
+
+// Whether the row at an offset of the work memory is struck: where there are patterns, by rows that meet; else by equal ones. Most are
+// told by their third byte.
 fn is_struck(work: &[u8], at: usize, marks: &[u8], struck: &[u8], m: usize, patterns: bool) -> bool
     requires row { ⌜ at + 8 ≤ length (now work) ⌝ }
     requires marks { ⌜ length (now marks) ≡ 256 ⌝ }
@@ -88,7 +117,7 @@ fn is_struck(work: &[u8], at: usize, marks: &[u8], struck: &[u8], m: usize, patt
     ensures { λ r. ⌜ r ≡ isStruck (rowsIn m (now (struck .entry))) (take 8 (drop at (now (work .entry)))) ⌝ }
 {
     if patterns {
-        return any_meets(struck, m, work, at);
+        return is_met(work, at, marks, struck, m);
     }
     let first = wide(work[at + 2]);
     if marks[first] == 0 {

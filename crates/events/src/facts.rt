@@ -1,6 +1,10 @@
 // The literals of an action as rows, bound to its objects: the row of a fact, or a pattern with FF for every object; and the time that
 // an event's moment asks of them.
+use literals::Argument;
+use literals::Object;
 use literals::Time;
+use literals::Variable;
+use literals::argument_of;
 use literals::head::Head;
 use literals::head::arity_of;
 use literals::row::arguments_meet;
@@ -12,18 +16,33 @@ ghost use Rattle.records.specs.Lists.{any};
 ghost use Rattle.literals.specs.Table.{rowsIn};
 ghost use Rattle.verdict.specs.Patterns.{patternsMeet};
 ghost use Rattle.run_semantics.specs.RunFile.{momentOf};
+ghost use Rattle.literals.specs.Table.{argumentNumber};
 ghost use Rattle.events.specs.Held.{boundArgument, boundBytes, boundRow, isPattern, timeOf};
 
-// An argument's byte, bound: the object that an action's row has for a variable; FF, every object, stays.
-fn bound_argument(ground: &[u8], argument: u8) -> u8
+// The object that an action's row has for a variable. (What is answered for a number that is no variable's is never asked for.)
+fn object_of(ground: &[u8], v: Variable) -> Object
     requires { ⌜ length (now ground) ≡ 17 ⌝ }
-    ensures { λ r. ⌜ r ≡ boundArgument (now (ground .entry)) argument ⌝ }
+    ensures { λ r. ⌜ r .0 ≡ boundArgument (now (ground .entry)) (v .0) ⌝ }
 {
-    if argument < 16 {
-        let o = ground[argument as usize + 1];
-        return o;
+    if v.0 < 16 {
+        let o = ground[v.0 as usize + 1];
+        return Object(o);
     }
-    255
+    Object(255)
+}
+
+// The byte of an argument, bound: of a variable its object; FF, every object, stays.
+fn bound_argument(ground: &[u8], argument: Argument) -> u8
+    requires { ⌜ length (now ground) ≡ 17 ⌝ }
+    ensures { λ r. ⌜ r ≡ boundArgument (now (ground .entry)) (argumentNumber argument) ⌝ }
+{
+    match argument {
+        Argument::Variable(v) => {
+            let o = object_of(ground, v);
+            o.0
+        }
+        Argument::Every => 255,
+    }
 }
 
 // A byte of the literal's row at an offset, bound; `arity` is its relation's.
@@ -41,7 +60,7 @@ fn bound_byte(arity: u8, ground: &[u8], rows: &[u8], row: usize, i: usize) -> u8
         return arity;
     }
     if i < 2 + arity as usize {
-        let argument = rows[row + i];
+        let argument = argument_of(rows[row + i]);
         return bound_argument(ground, argument);
     }
     255

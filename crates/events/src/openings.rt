@@ -15,7 +15,7 @@ use records::bytes::put_bytes;
 use records::bytes::put_zeros;
 use records::bytes::wide;
 ghost use mathlib.Core.Path.{_≡_};
-ghost use mathlib.Core.Bool.{true};
+ghost use mathlib.Core.Bool.{true, false};
 ghost use mathlib.Core.List.{List, [], _++_};
 ghost use Prim.Native.Nat.{_+_, _*_, _≤_, _<_};
 ghost use lib.Dec.{eqb, leb};
@@ -335,29 +335,31 @@ fn open_after(
     join_all(head, rows, left, moments, events, count)
 }
 
-// The agenda after a step: ends are removed, starts of lasting actions are added, and no event waits. Where the entries do not fit,
-// nothing is said of those that are left there. (The events are copied first, since the entries in the same memory are changed.)
+// The agenda after a step: ends are removed, starts of lasting actions are added, and no event waits. Where the entries do not fit, it is
+// as it was: they are worked out beside it.
 pub fn agenda_after(head: &Head, agenda: &mut [u8], opened: usize, waits: usize) -> Joined
     requires { ⌜ length (now agenda) ≡ agendaBytes ⌝ }
-    ensures { λ r. ⌜ ((D : Domain) (gs : List GroundAction) (es : List Event)
+    ensures joined { λ r. ⌜ ((D : Domain) (gs : List GroundAction) (es : List Event)
         → HeadOf D (now (head .entry)) → GroundsFit D gs → EventsFit D es → length gs ≤ maxRunning → length es ≤ maxEvents
         → openIn opened (now (agenda .entry)) ≡ openOf gs → waitingIn waits (now (agenda .entry)) ≡ waitingOf es
         → (r .fits ≡ leb (length (closeAll es gs ++ openedBy D es)) maxRunning)
-        × (r .fits ≡ true → openIn (r .count) (now (agenda .exit)) ≡ openOf (closeAll es gs ++ openedBy D es))
-        × (waitingIn 0 (now (agenda .exit)) ≡ waitingOf [])) ⌝ }
+        × (r .fits ≡ true → openIn (r .count) (now (agenda .exit)) ≡ openOf (closeAll es gs ++ openedBy D es))) ⌝ }
+    ensures waits { λ r. ⌜ (r .fits ≡ true → waitingIn 0 (now (agenda .exit)) ≡ waitingOf []) ⌝ }
+    ensures refused { λ r. ⌜ (r .fits ≡ false → now (agenda .exit) ≡ now (agenda .entry)) ⌝ }
 {
-    let mut moments = [0u8; MAX_EVENTS];
-    put_bytes(&mut moments, 0, &agenda[MOMENTS_AT..EVENTS_AT]);
-    let mut events = [0u8; WAITING_ROWS];
-    put_bytes(&mut events, 0, &agenda[EVENTS_AT..AGENDA]);
+    let mut rows = [0u8; OPEN_ROWS];
+    put_bytes(&mut rows, 0, &agenda[0..OPEN_ROWS]);
     let joined = open_after(
         head,
-        &mut agenda[0..OPEN_ROWS],
+        &mut rows,
         opened,
-        &moments,
-        &events,
+        &agenda[MOMENTS_AT..EVENTS_AT],
+        &agenda[EVENTS_AT..AGENDA],
         waits,
     );
-    put_zeros(&mut agenda[MOMENTS_AT..AGENDA], 0, WAITING);
+    if joined.fits {
+        put_bytes(&mut agenda[0..OPEN_ROWS], 0, &rows);
+        put_zeros(&mut agenda[MOMENTS_AT..AGENDA], 0, WAITING);
+    }
     joined
 }

@@ -1,5 +1,5 @@
 -- The step's close: what forbids it, what is too large, and what it leaves. Assumes nothing.
-use mathlib.Core.Path.{_≡_, refl, sym, ap, ap₂, _∙_, subst}
+use mathlib.Core.Path.{_≡_, refl, sym, ap, ap₂, _∙_}
 use mathlib.Core.Bool.{Bool, true, false, _&&_, not, cond}
 use mathlib.Core.List.{List, [], _++_, map}
 use Prim.Native.Nat.{ℕ, _-_, _*_, _≤_, _<_, max}
@@ -25,7 +25,7 @@ use Rattle.run_semantics.proofs.Allowed.{forbidden-by-own}
 use Rattle.store.specs.Rows.{factRow, topFrom, FactFits}
 use Rattle.events.specs.Held.{openOf, waitingOf}
 use Rattle.effects.specs.Held.{atMost}
-use Rattle.machine.specs.Held.{StateRows, stateOf, Kept, closeStop, closeState, closeWaiting, closeWeight, stateThen, Leaves}
+use Rattle.machine.specs.Held.{StateRows, stateOf, Kept, closeStop, closeState, closeWaiting, closeWeight, Leaves}
 use Rattle.machine.proofs.HeldBytes.{fits-few, held-settled, work-rows}
 use Rattle.machine.proofs.TopWeights.{top-after}
 use Rattle.machine.proofs.NextKept.{kept-next}
@@ -190,13 +190,3 @@ module _ (D : Domain) (B : Bounded D) {objs : List Object} (s : State) (es : Lis
           (we ∙ ap (λ (j : ℕ). max w (topFrom D after j)) ke ∙ sym (top-after D objs (s .facts) es w under) ∙ sym (ap (λ (fs : List Fact). max w (topWeight D fs)) facts-next))
           work′
           (work-taken ∙ sym (ap (λ (fs : List Fact). over (heldBytes fs) old) facts-next))
-
--- ---- by what the step that nothing forbids is told
-
-module _ {D : Domain} {objs : List Object} {s : State} {es : List Event} {old : List ℕ} {w number : ℕ} (then before : StateRows) {weight : ℕ} {work : List ℕ}
-    (l : Leaves D objs s es old w number (stateThen number then before) weight work) where
-  pub state-refused : (number ≡ 0 → ⊥) → Leaves D objs s es old w number before weight work
-  state-refused z = subst (λ (b : Bool). Leaves D objs s es old w number (cond b then before) weight work) (ne-eqb number 0 z) l
-
-  pub state-taken : number ≡ 0 → Leaves D objs s es old w 0 then weight work
-  state-taken z = subst (λ (k : ℕ). Leaves D objs s es old w k (stateThen k then before) weight work) z l

@@ -1,12 +1,12 @@
 -- The bytes of facts in work memory: rows of 8, zeros to 8,192, the rest untouched. Assumes nothing.
 use mathlib.Core.Path.{_≡_, refl, sym, ap, _∙_, subst}
-use mathlib.Core.List.{List, [], _∷_, _++_, map, flatMap, append-assoc, append-nil}
+use mathlib.Core.List.{List, [], _∷_, _++_, map, flatMap, append-assoc}
 use Prim.Native.Nat.{ℕ, _+_, _-_, _*_, _≤_}
 use native.Mathlib.Omega.{arith}
-use lib.ListN.{length, drop, replicate, length-append, length-replicate, replicate-append-replicate, drop-of-length-le}
-use lib.Seq.{paste, drop-append-le, drop-append-add}
+use lib.ListN.{length, drop, replicate, length-append, length-replicate, replicate-append-replicate}
+use lib.Seq.{drop-append-le, drop-append-add}
 use Rattle.records.specs.Memory.{over}
-use Rattle.records.proofs.Memory.{paste-front, drop-replicate}
+use Rattle.records.proofs.Memory.{drop-replicate}
 use Rattle.literals.specs.declared.Object.{Object}
 use Rattle.literals.specs.Domain.{Fact, Domain}
 use Rattle.literals.specs.Table.{rowsIn, Bounded}
@@ -96,12 +96,3 @@ state-rows D B s es k holding is work old e =
 pub state-once : (D : Domain) → Bounded D → {objs : List Object} (s : State) (es : List Event) → Kept D objs s es → (holding : StateRows) → holding ≡ stateOf s es → (work old : List ℕ) → work ≡ over (heldBytes (s .facts)) old
     → Once (rowsIn (holding .facts) work)
 state-once D B s es k holding is work old e = subst Once (sym (state-rows D B s es k holding is work old e)) (once-facts (s .facts) (k .facts-once))
-
--- a memory filled whole
-pub put-whole : (old new out : List ℕ) → length new ≡ length old → out ≡ paste old 0 new (length new) → out ≡ new
-unfolding over
-put-whole old new out e f =
-    f
-    ∙ paste-front new old (length new) refl
-    ∙ ap (λ (b : List ℕ). new ++ b) (drop-of-length-le old {i = length new} (omega arith))
-    ∙ append-nil new

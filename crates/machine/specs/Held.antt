@@ -13,7 +13,7 @@ use Rattle.literals.specs.Table.{rowsIn}
 use Rattle.literals.specs.Held.{Held}
 use Rattle.verdict.specs.Machine.{Event, State, next, topWeight, overAllHold}
 use Rattle.store.specs.Index.{noteAt, Indexed}
-use Rattle.machine.specs.declared.Counts.{Counts}
+use Rattle.machine.specs.declared.State.{State as Counts}
 use Rattle.run_semantics.specs.RunFile.{maxFacts, maxRunning, maxEvents}
 use Rattle.run_semantics.specs.Play.{workBytes, forbidden, tooLarge, heldBytes}
 use Rattle.store.specs.Rows.{factRow, FactFits}
@@ -31,7 +31,7 @@ pub record StateRows : Type 0 where
 abbrev pub stateOf : State → List Event → StateRows
 stateOf s es = record { facts = length (s .facts); running = openOf (s .running); waiting = waitingOf es }
 
--- what counts and an agenda hold
+-- what the state's counts and an agenda hold
 abbrev pub stateIn : Counts → List ℕ → StateRows
 stateIn counts agenda =
     record { facts = counts .facts; running = openIn (counts .opened) agenda; waiting = waitingIn (counts .waits) agenda }
@@ -91,10 +91,6 @@ closeWaiting D objs s es = cond (eqb (closeStop D objs s es) 0) [] es
 unfoldable pub closeWeight : Domain → List Object → State → List Event → ℕ → ℕ
 unfolding closeStop next topWeight
 closeWeight D objs s es w = cond (eqb (closeStop D objs s es) 0) (max w (topWeight D (next D objs s es .facts))) w
-
--- what is held after a step that nothing forbids: with 0 what it leads to, else what was
-abbrev pub stateThen : ℕ → StateRows → StateRows → StateRows
-stateThen number then before = cond (eqb number 0) then before
 
 -- all that a close leaves, of the highest weight w before it and of work memory that was `old` before the run
 pub record Leaves (D : Domain) (objs : List Object) (s : State) (es : List Event) (old : List ℕ) (w : ℕ) (number : ℕ)

@@ -1,5 +1,4 @@
 // The step's close: what forbids it, and the state after it.
-use super::Counts;
 use super::State;
 use applicability::conditions::events_met;
 use applicability::conditions::open_met;
@@ -38,7 +37,7 @@ ghost use Rattle.events.specs.Held.{agendaBytes, openIn, openOf};
 ghost use Rattle.events.specs.Grounding.{maxGround, groundedBytes, Grounded};
 ghost use Rattle.effects.specs.Held.{scratchBytes, literalsIn};
 ghost use Rattle.machine.specs.Held.{stateIn, stateOf, Kept, StepHeld, Noted, Closable, closeStop};
-ghost use Rattle.machine.specs.Held.{closeState, stateThen, Leaves};
+ghost use Rattle.machine.specs.Held.{closeState, Leaves};
 
 // What closing a step led to: 0 and the state after it, or the number that refuses it and the state as it was; and the highest weight.
 pub struct Closed {
@@ -51,14 +50,6 @@ pub struct Closed {
 struct Asked {
     number: u64,
     literals: usize,
-}
-
-// What a step that nothing forbids leads to: 0 and how many facts are held then and how many entries are open, or 52 and the
-// counts as they were; and the highest weight.
-struct Advanced {
-    number: u64,
-    counts: Counts,
-    weight: usize,
 }
 
 // The first n rows of a memory in place of the rows that the work memory holds; zeros where it held more.
@@ -84,20 +75,20 @@ fn forbidden(
     head: &Head,
     table: &[u8],
     agenda: &[u8],
-    counts: Counts,
+    state: State,
     memory: &mut [u8],
     index: &FactIndex,
     work: &[u8],
 ) -> Asked
     requires agenda { ⌜ length (now agenda) ≡ agendaBytes ⌝ }
     requires memory { ⌜ length (now memory) ≡ groundedBytes ⌝ }
-    requires few { ⌜ counts .facts ≤ maxFacts ⌝ }
-    requires facts { ⌜ 8 * counts .facts ≤ length (now work) ⌝ }
+    requires few { ⌜ state .facts ≤ maxFacts ⌝ }
+    requires facts { ⌜ 8 * state .facts ≤ length (now work) ⌝ }
     ensures few { λ r. ⌜ r .literals ≤ maxGround ⌝ }
     ensures asked { λ r. ⌜ ((D : Domain) (objs : List Object) (s : MachineState) (es : List Event)
         → Held D (now (head .entry)) (now (table .entry)) → (o : Object) × In o objs → Kept D objs s es
-        → stateIn counts (now (agenda .entry)) ≡ stateOf s es
-        → rowsIn (counts .facts) (now (work .entry)) ≡ map factRow (s .facts)
+        → stateIn state (now (agenda .entry)) ≡ stateOf s es
+        → rowsIn (state .facts) (now (work .entry)) ≡ map factRow (s .facts)
         → Indexed (now (head .entry)) (now (index .entry)) (map factRow (s .facts))
         → (r .number ≡ forbidden D objs s es)
         × (r .number ≡ 0 → Grounded D (now (head .entry)) es (now (memory .exit)) (r .literals))) ⌝ }
@@ -105,7 +96,7 @@ fn forbidden(
     let entries = &agenda[0..MOMENTS_AT];
     let moments = &agenda[MOMENTS_AT..EVENTS_AT];
     let events = &agenda[EVENTS_AT..AGENDA];
-    if !ends_open(entries, counts.opened, moments, events, counts.waits) {
+    if !ends_open(entries, state.opened, moments, events, state.waits) {
         return Asked {
             number: 57,
             literals: 0,
@@ -115,25 +106,25 @@ fn forbidden(
         head,
         table,
         entries,
-        counts.opened,
+        state.opened,
         memory,
         index,
         work,
-        counts.facts,
+        state.facts,
     ) {
         return Asked {
             number: 55,
             literals: 0,
         };
     }
-    let literals = ground_step(head, table, moments, events, counts.waits, memory);
-    if !events_met(memory, literals, index, work, counts.facts) {
+    let literals = ground_step(head, table, moments, events, state.waits, memory);
+    if !events_met(memory, literals, index, work, state.facts) {
         return Asked {
             number: 55,
             literals: 0,
         };
     }
-    if !independent(memory, counts.waits, literals) {
+    if !independent(memory, state.waits, literals) {
         return Asked {
             number: 56,
             literals: 0,
@@ -146,60 +137,59 @@ fn forbidden(
 }
 
 // Takes a step that nothing forbids: its facts are then in the work memory, its entries in the agenda, and no event waits; 52 where facts
-// or entries are too many, and the work memory is as it was. The facts are put together in `scratch` first, which holds the step's ground
+// or entries are too many, and both memories are as they were. The facts are put together in `scratch` first, which holds the step's ground
 // literals, `literals` of them.
 fn advance(
     head: &Head,
     agenda: &mut [u8],
-    counts: Counts,
+    state: State,
     index: &mut FactIndex,
     work: &mut [u8],
     weight: usize,
     scratch: &mut [u8],
     literals: usize,
-) -> Advanced
-    requires closable { ⌜ Closable (counts .facts) (now work) ⌝ }
+) -> Closed
+    requires closable { ⌜ Closable (state .facts) (now work) ⌝ }
     requires agenda { ⌜ length (now agenda) ≡ agendaBytes ⌝ }
     requires scratch { ⌜ length (now scratch) ≡ scratchBytes ⌝ }
     requires literals { ⌜ literals ≤ maxGround ⌝ }
     ensures leaves { λ r. ⌜ ((D : Domain) (objs : List Object) (s : MachineState) (es : List Event) (table old : List ℕ)
-        → StepHeld D objs s es (now (head .entry)) table (stateIn counts (now (agenda .entry))) (now (work .entry)) old
+        → StepHeld D objs s es (now (head .entry)) table (stateIn state (now (agenda .entry))) (now (work .entry)) old
         → Grounded D (now (head .entry)) es (literalsIn (now (scratch .entry))) literals
         → topWeight D (s .facts) ≤ weight → forbidden D objs s es ≡ 0
         → Indexed (now (head .entry)) (now (index .entry)) (map factRow (s .facts))
-        → Leaves D objs s es old weight (r .number)
-        (stateThen (r .number) (stateIn (r .counts) (now (agenda .exit))) (stateIn counts (now (agenda .entry))))
-        (r .weight) (now (work .exit))) ⌝ }
+        → Leaves D objs s es old weight (r .number) (stateIn (r .state) (now (agenda .exit))) (r .weight) (now (work .exit))) ⌝ }
     ensures indexed { λ r. ⌜ ((D : Domain) (objs : List Object) (s : MachineState) (es : List Event) (table old : List ℕ)
-        → StepHeld D objs s es (now (head .entry)) table (stateIn counts (now (agenda .entry))) (now (work .entry)) old
+        → StepHeld D objs s es (now (head .entry)) table (stateIn state (now (agenda .entry))) (now (work .entry)) old
         → Grounded D (now (head .entry)) es (literalsIn (now (scratch .entry))) literals
         → forbidden D objs s es ≡ 0
         → Indexed (now (head .entry)) (now (index .entry)) (map factRow (s .facts))
         → r .number ≡ 0 → Indexed (now (head .entry)) (now (index .exit)) (map factRow (closeState D objs s es .facts))) ⌝ }
     ensures beside { λ _. ⌜ getD (now (index .exit)) noteAt 0 ≡ getD (now (index .entry)) noteAt 0 ⌝ }
+    ensures refused { λ r. ⌜ ((r .number ≡ 0 → ⊥) → now (agenda .exit) ≡ now (agenda .entry)) ⌝ }
 {
-    let after = facts_after(head, work, counts.facts, scratch, literals, index);
+    let after = facts_after(head, work, state.facts, scratch, literals, index);
     let facts = after.facts;
     if MAX_FACTS < facts {
-        return Advanced {
+        return Closed {
             number: 52,
-            counts,
+            state,
             weight,
         };
     }
-    let joined = agenda_after(head, agenda, counts.opened, counts.waits);
+    let joined = agenda_after(head, agenda, state.opened, state.waits);
     if !joined.fits {
-        return Advanced {
+        return Closed {
             number: 52,
-            counts,
+            state,
             weight,
         };
     }
-    settle(work, counts.facts, scratch, facts);
+    settle(work, state.facts, scratch, facts);
     let highest = top_from(head, work, facts, after.kept, weight, index);
-    Advanced {
+    Closed {
         number: 0,
-        counts: Counts {
+        state: State {
             facts,
             opened: joined.count,
             waits: 0,
@@ -214,19 +204,19 @@ pub fn rest(
     head: &Head,
     table: &[u8],
     agenda: &[u8],
-    counts: Counts,
+    state: State,
     memory: &mut [u8],
     index: &mut FactIndex,
     work: &[u8],
 ) -> u64
     requires agenda { ⌜ length (now agenda) ≡ agendaBytes ⌝ }
     requires memory { ⌜ length (now memory) ≡ groundedBytes ⌝ }
-    requires few { ⌜ counts .facts ≤ maxFacts ⌝ }
-    requires facts { ⌜ 8 * counts .facts ≤ length (now work) ⌝ }
+    requires few { ⌜ state .facts ≤ maxFacts ⌝ }
+    requires facts { ⌜ 8 * state .facts ≤ length (now work) ⌝ }
     ensures { λ r. ⌜ ((D : Domain) (objs : List Object) (s : MachineState)
         → Held D (now (head .entry)) (now (table .entry)) → Kept D objs s []
-        → openIn (counts .opened) (now (agenda .entry)) ≡ openOf (s .running)
-        → rowsIn (counts .facts) (now (work .entry)) ≡ map factRow (s .facts)
+        → openIn (state .opened) (now (agenda .entry)) ≡ openOf (s .running)
+        → rowsIn (state .facts) (now (work .entry)) ≡ map factRow (s .facts)
         → Noted D objs (now (head .entry)) (now (index .entry)) s
         → (r ≡ closeStop D objs s []) × (r ≡ 0 → Noted D objs (now (head .entry)) (now (index .exit)) (closeState D objs s []))) ⌝ }
 {
@@ -235,11 +225,11 @@ pub fn rest(
             head,
             table,
             &agenda[0..MOMENTS_AT],
-            counts.opened,
+            state.opened,
             memory,
             index,
             work,
-            counts.facts,
+            state.facts,
         ) {
             return 55;
         }
@@ -249,37 +239,37 @@ pub fn rest(
 }
 
 impl State {
-    // Closes the step that is read: takes it, or refuses it by 57, 55, 56 or 52 and changes nothing. `scratch` is memory
-    // to work in.
-    // The agenda is kept in one local variable, since each further one would cost a copy of it for each step.
+    // Closes the step that is read: takes it, or refuses it by 57, 55, 56 or 52 and changes nothing but the index and `scratch`, which is
+    // memory to work in. The agenda is changed where it stands, since a copy of it would cost much of a short step.
     pub fn step(
         self,
         head: &Head,
         table: &[u8],
+        agenda: &mut [u8],
         work: &mut [u8],
         weight: usize,
         index: &mut FactIndex,
         scratch: &mut [u8],
     ) -> Closed
-        requires closable { ⌜ Closable (self .counts .facts) (now work) ⌝ }
+        requires closable { ⌜ Closable (self .facts) (now work) ⌝ }
+        requires agenda { ⌜ length (now agenda) ≡ agendaBytes ⌝ }
         requires scratch { ⌜ length (now scratch) ≡ scratchBytes ⌝ }
         ensures leaves { λ r. ⌜ ((D : Domain) (objs : List Object) (s : MachineState) (es : List Event) (old : List ℕ)
-            → StepHeld D objs s es (now (head .entry)) (now (table .entry)) (stateIn (self .counts) (self .agenda)) (now (work .entry)) old
+            → StepHeld D objs s es (now (head .entry)) (now (table .entry)) (stateIn self (now (agenda .entry))) (now (work .entry)) old
             → topWeight D (s .facts) ≤ weight → Noted D objs (now (head .entry)) (now (index .entry)) s
-            → Leaves D objs s es old weight (r .number) (stateIn (r .state .counts) (r .state .agenda)) (r .weight) (now (work .exit))) ⌝ }
+            → Leaves D objs s es old weight (r .number) (stateIn (r .state) (now (agenda .exit))) (r .weight) (now (work .exit))) ⌝ }
         ensures noted { λ r. ⌜ ((D : Domain) (objs : List Object) (s : MachineState) (es : List Event) (old : List ℕ)
-            → StepHeld D objs s es (now (head .entry)) (now (table .entry)) (stateIn (self .counts) (self .agenda)) (now (work .entry)) old
+            → StepHeld D objs s es (now (head .entry)) (now (table .entry)) (stateIn self (now (agenda .entry))) (now (work .entry)) old
             → Noted D objs (now (head .entry)) (now (index .entry)) s
             → r .number ≡ 0 → Noted D objs (now (head .entry)) (now (index .exit)) (closeState D objs s es)) ⌝ }
+        ensures refused { λ r. ⌜ ((r .number ≡ 0 → ⊥) → now (agenda .exit) ≡ now (agenda .entry)) ⌝ }
     {
-        let counts = self.counts;
-        let mut agenda = self.agenda;
         index[NOTE] = 0;
         let asked = forbidden(
             head,
             table,
-            &agenda,
-            counts,
+            agenda,
+            self,
             &mut scratch[0..GROUNDED],
             index,
             work,
@@ -291,31 +281,15 @@ impl State {
                 weight,
             };
         }
-        let advanced = advance(
+        advance(
             head,
-            &mut agenda,
-            counts,
+            agenda,
+            self,
             index,
             work,
             weight,
             scratch,
             asked.literals,
-        );
-        if advanced.number != 0 {
-            return Closed {
-                number: advanced.number,
-                state: self,
-                weight: advanced.weight,
-            };
-        }
-        let after = advanced.counts;
-        Closed {
-            number: 0,
-            state: State {
-                counts: after,
-                agenda,
-            },
-            weight: advanced.weight,
-        }
+        )
     }
 }

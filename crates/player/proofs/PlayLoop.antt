@@ -121,7 +121,8 @@ module _ (D : Domain) (B : Bounded D) {head : List ℕ} (r old : List ℕ) (play
       → ended ≡ record {
         number = t .number;
         place = t .player .at;
-        tally = t .player .tally;
+        begun = t .player .tally .begun;
+        tally = record { steps = t .player .tally .steps; weight = t .player .tally .weight };
         facts = t .player .state .facts;
         opened = t .player .state .running .count;
       }
@@ -144,7 +145,8 @@ module _ (D : Domain) (B : Bounded D) {head : List ℕ} (r old : List ℕ) (play
           record {
             number = h .number j;
             place = h .place j;
-            tally = h .tally j;
+            begun = h .tally j .begun;
+            tally = record { steps = h .tally j .steps; weight = h .tally j .weight };
             facts = h .facts j;
             opened = h .running j .count;
           }) in

@@ -23,14 +23,13 @@ use Rattle.verdict.specs.Machine.{Event, State, next, topWeight}
 use Rattle.verdict.proofs.Objects.{object-in}
 use Rattle.events.specs.Held.{Waiting}
 use Rattle.player.specs.declared.Player.{Player as Small}
-use Rattle.player.specs.declared.Tally.{Tally as Held}
 use Rattle.run_semantics.specs.RunFile.{objectsRecord, factRecord, eventRecord, stepRecord, endRecord, otherRecord, runKindOf, factOf, eventOf, objectsStop, factStop, eventStop, stepStop, endStop}
-use Rattle.run_semantics.specs.Play.{playRecord, playFound, playStep, Playing, onward, PlayTurn, goOn, stopAt, startTally, begin, withObjects, joined, withFact, withEvent, withClose, unless, runObjects, forbidden, tooLarge, afterStep, closeStep, heldBytes}
+use Rattle.run_semantics.specs.Play.{playRecord, playFound, playStep, Playing, onward, PlayTurn, Tally, goOn, stopAt, startTally, begin, withObjects, joined, withFact, withEvent, withClose, unless, runObjects, forbidden, tooLarge, afterStep, closeStep, heldBytes}
 use Rattle.store.specs.Rows.{factRow, hasRow, Few}
 use Rattle.events.specs.Held.{entriesIn, openIn, waitingIn, waitingOf}
-use Rattle.machine.specs.declared.Counts.{Counts}
+use Rattle.machine.specs.declared.State.{State as Counts}
 use Rattle.machine.specs.Held.{StateRows, stateOf, stateIn, Noted, closeStop, closeState, closeWaiting, closeWeight, Leaves}
-use Rattle.player.specs.Player.{Whole as Player, WholeTurn as Turn, wholeIn, tallyOf, playerOf, Stands, LeadsTo, NotedAfter}
+use Rattle.player.specs.Player.{Whole as Player, WholeTurn as Turn, wholeIn, playerOf, Stands, LeadsTo, NotedAfter}
 use Rattle.events.proofs.FactRows.{has-fact}
 use Rattle.machine.proofs.HeldBytes.{fits-few, state-rows}
 use Rattle.machine.proofs.Resting.{no-events, rest-leaves}
@@ -44,19 +43,20 @@ pub gone-on : (self new : Small) (behind facts waits : ℕ) (agenda : List ℕ)
     → new ≡ record {
       at = behind;
       closed = false;
+      begun = self .begun;
       objects = self .objects;
-      counts = record { facts = facts; opened = self .counts .opened; waits = waits };
+      state = record { facts = facts; opened = self .state .opened; waits = waits };
       tally = self .tally;
     }
     → (new .at ≡ behind) × (new .closed ≡ false) × (new .objects ≡ self .objects)
-    × (wholeIn new agenda .state ≡ stateIn (record { facts = facts; opened = self .counts .opened; waits = waits }) agenda)
-    × (new .tally ≡ self .tally)
+    × (wholeIn new agenda .state ≡ stateIn (record { facts = facts; opened = self .state .opened; waits = waits }) agenda)
+    × (wholeIn new agenda .tally ≡ wholeIn self agenda .tally)
 gone-on self new behind facts waits agenda e = (
   ap (λ (x : Small). x .at) e,
   ap (λ (x : Small). x .closed) e,
   ap (λ (x : Small). x .objects) e,
-  ap (λ (x : Small). stateIn (x .counts) agenda) e,
-  ap (λ (x : Small). x .tally) e,
+  ap (λ (x : Small). stateIn (x .state) agenda) e,
+  ap (λ (x : Small). wholeIn x agenda .tally) e,
 )
 
 -- with one event more, where the entries stay
@@ -66,24 +66,24 @@ pub event-waits : (facts opened waits : ℕ) (agenda more : List ℕ) → entrie
 event-waits facts opened waits agenda more e i =
     record { facts = facts; running = record { count = opened; rows = e i }; waiting = waitingIn waits more }
 
--- behind a step that was made, whose state is saved
-pub saved : (self new : Small) (behind : ℕ) (counts : Counts) (weight : ℕ) (own agenda : List ℕ)
+-- behind a step that was made
+pub stepped-on : (self new : Small) (behind : ℕ) (counts : Counts) (weight : ℕ) (agenda : List ℕ)
     → new ≡ record {
       at = behind;
       closed = false;
+      begun = self .begun;
       objects = self .objects;
-      counts = counts;
-      tally = record { begun = self .tally .begun; steps = self .tally .steps + 1; weight = weight };
+      state = counts;
+      tally = record { steps = self .tally .steps + 1; weight = weight };
     }
-    → agenda ≡ own
     → wholeIn new agenda ≡ record {
       at = behind;
       closed = false;
       objects = self .objects;
-      state = stateIn counts own;
-      tally = record { begun = self .tally .begun; steps = self .tally .steps + 1; weight = weight };
+      state = stateIn counts agenda;
+      tally = record { begun = self .begun; steps = self .tally .steps + 1; weight = weight };
     }
-saved self new behind counts weight own agenda e f = ap₂ wholeIn e f
+stepped-on self new behind counts weight agenda e = ap (λ (x : Small). wholeIn x agenda) e
 
 -- ---- a record that is refused, and one that passes
 
@@ -138,20 +138,20 @@ module _ (D : Domain) (q : Playing) {player : Player} {work old : List ℕ} (st 
 -- ---- the start counts
 
 module _ (D : Domain) (p : Playing) (player : Player) (work old : List ℕ) (st : Stands D p player work old) where
-  pub begun-already : player .tally .begun ≡ true → player .tally ≡ tallyOf (begin D p .tally)
+  pub begun-already : player .tally .begun ≡ true → player .tally ≡ begin D p .tally
   unfolding playerOf begin
   begun-already b =
       let e : p .tally .begun ≡ true = begun-is D p st ∙ b in
-      ap (λ (x : Player). x .tally) (st .is) ∙ ap tallyOf (kept-tally e)
+      ap (λ (x : Player). x .tally) (st .is) ∙ kept-tally e
     where
       kept-tally : p .tally .begun ≡ true → p .tally ≡ startTally (p .tally) (topWeight D (p .state .facts))
       kept-tally e = rw e
 
-  pub begun-now : player .tally .begun ≡ false → (top : ℕ) → top ≡ topWeight D (p .state .facts) → record { begun = true; steps = 0; weight = top } ≡ tallyOf (begin D p .tally)
+  pub begun-now : player .tally .begun ≡ false → (top : ℕ) → top ≡ topWeight D (p .state .facts) → record { begun = true; steps = 0; weight = top } ≡ begin D p .tally
   unfolding begin
   begun-now b top e =
       let z : p .tally .begun ≡ false = begun-is D p st ∙ b in
-      (λ i. record { begun = true; steps = 0; weight = e i }) ∙ ap tallyOf (new-tally z)
+      (λ i. record { begun = true; steps = 0; weight = e i }) ∙ new-tally z
     where
       new-tally : p .tally .begun ≡ false → record { begun = true; steps = 0; weight = topWeight D (p .state .facts) } ≡ startTally (p .tally) (topWeight D (p .state .facts))
       new-tally z = rw z
@@ -161,7 +161,7 @@ module _ (D : Domain) (p : Playing) (player : Player) (work old : List ℕ) (st 
   facts-rows B = state-rows D B (p .state) (p .waiting) (st .sound .kept) (player .state) (state-is D p st) work old (st .memory)
 
   -- all but the tally stays
-  pub begun-player : (tally : Held) → tally ≡ tallyOf (begin D p .tally)
+  pub begun-player : (tally : Tally) → tally ≡ begin D p .tally
       → record { at = player .at; closed = player .closed; objects = player .objects; state = player .state; tally = tally } ≡ playerOf (begin D p)
   unfolding playerOf begin
   begun-player tally e i = record { at = st .is i .at; closed = st .is i .closed; objects = st .is i .objects; state = st .is i .state; tally = e i }

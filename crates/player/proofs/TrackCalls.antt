@@ -128,19 +128,19 @@ module _ (D : Domain) (y r : List ℕ) where
       same false = refl
 
   module _ (z : instanceStop D y r ≡ 0) (ended : Ended) (is : ended ≡ endedOf (playRun D r)) where
-    pub early-answer : ended .tally .begun ≡ false → (a : PlayAnswer) → a ≡ answerBy (playRun D r)
+    pub early-answer : ended .begun ≡ false → (a : PlayAnswer) → a ≡ answerBy (playRun D r)
         → (work old : List ℕ) → work ≡ over (heldBytes (playRun D r .facts)) old → Told (record { played = a; total = 0 }) work old
     unfolding reportedTotal
     early-answer b a ae work old w =
-        let f : playRun D r .begun ≡ false = sym (ap (λ (x : Ended). x .tally .begun) is) ∙ b in
+        let f : playRun D r .begun ≡ false = sym (ap (λ (x : Ended). x .begun) is) ∙ b in
         rw (track-on z, f) ((λ i. record { played = ae i; total = 0 }), w)
 
-    pub total-answer : ended .tally .begun ≡ true → (a : PlayAnswer) → a ≡ answerBy (playRun D r)
+    pub total-answer : ended .begun ≡ true → (a : PlayAnswer) → a ≡ answerBy (playRun D r)
         → (t : ℕ) → t ≡ total D (instanceOf y) (record { facts = playRun D r .facts; running = playRun D r .running })
         → (work old : List ℕ) → work ≡ over (heldBytes (playRun D r .facts)) old → Told (record { played = a; total = t }) work old
     unfolding reportedTotal
     total-answer b a ae t te work old w =
-        let f : playRun D r .begun ≡ true = sym (ap (λ (x : Ended). x .tally .begun) is) ∙ b in
+        let f : playRun D r .begun ≡ true = sym (ap (λ (x : Ended). x .begun) is) ∙ b in
         rw (track-on z, f) ((λ i. record { played = ae i; total = te i }), w)
 
 -- ---- the call

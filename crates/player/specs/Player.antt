@@ -10,20 +10,15 @@ use Rattle.literals.specs.Domain.{Domain}
 use Rattle.literals.specs.Held.{HeadOf}
 use Rattle.verdict.specs.Machine.{topWeight}
 use Rattle.player.specs.declared.Player.{Player}
-use Rattle.player.specs.declared.Tally.{Tally}
 use Rattle.player.specs.declared.Turn.{Turn}
 use Rattle.player.specs.declared.run.Ended.{Ended}
 use Rattle.run_semantics.specs.RunFile.{maxObjects}
-use Rattle.run_semantics.specs.Play.{workBytes, Tally as Counted, Playing, PlayTurn, goOn, finish, Outcome, runObjects, heldBytes}
+use Rattle.run_semantics.specs.Play.{workBytes, Tally, Playing, PlayTurn, goOn, finish, Outcome, runObjects, heldBytes}
 use Rattle.events.specs.Held.{agendaBytes, openOf, waitingOf}
 use Rattle.effects.specs.Held.{scratchBytes}
 use Rattle.machine.specs.Held.{StateRows, stateOf, stateIn, Kept, Noted}
 
 -- ---- what the code holds
-
--- what is counted
-abbrev pub tallyOf : Counted → Tally
-tallyOf t = record { begun = t .begun; steps = t .steps; weight = t .weight }
 
 -- the player with the machine's state, whose agenda is in a memory of its own
 pub record Whole : Type 0 where
@@ -39,8 +34,8 @@ wholeIn player agenda =
       at = player .at;
       closed = player .closed;
       objects = player .objects;
-      state = stateIn (player .counts) agenda;
-      tally = player .tally;
+      state = stateIn (player .state) agenda;
+      tally = record { begun = player .begun; steps = player .tally .steps; weight = player .tally .weight };
     }
 
 -- and with the number that ends playing, or 0
@@ -60,7 +55,7 @@ playerOf p =
       closed = p .closed;
       objects = p .objects;
       state = stateOf (p .state) (p .waiting);
-      tally = tallyOf (p .tally);
+      tally = p .tally;
     }
 
 -- ---- what holds wherever playing stands
@@ -133,7 +128,8 @@ endedOf o =
     record {
       number = o .number;
       place = o .place;
-      tally = record { begun = o .begun; steps = o .steps; weight = o .weight };
+      begun = o .begun;
+      tally = record { steps = o .steps; weight = o .weight };
       facts = length (o .facts);
       opened = length (o .running);
     }

@@ -9,7 +9,6 @@ use events::grounding::GROUNDED;
 use events::waits::wait;
 use literals::head::Head;
 use literals::limits::MAX_FACTS;
-use machine::Counts;
 use machine::State;
 use machine::step::rest;
 use records::Record;
@@ -39,29 +38,8 @@ ghost use Rattle.run_semantics.specs.RunFile.{maxEvents, maxFacts, runKindOf, f
 ghost use Rattle.run_semantics.specs.Play.{workBytes, Playing, beforeRun, goOn, unless, begin, withObjects, withFact, runObjects};
 ghost use Rattle.run_semantics.specs.Play.{withEvent, closeStep, withClose, playRecord, playStep};
 ghost use Rattle.machine.specs.Held.{Noted, Closable};
-ghost use Rattle.player.specs.Player.{Whole, wholeIn, turnIn, tallyOf, playerOf, Stands, Playable, RunMemory, LeadsTo, NotedAfter};
+ghost use Rattle.player.specs.Player.{wholeIn, turnIn, playerOf, Stands, Playable, RunMemory, LeadsTo, NotedAfter};
 ghost use Rattle.events.specs.Held.{agendaBytes};
-
-impl Tally {
-    // The tally from the first record of kind 18 to 20 on: the start is over, and its facts are weighed.
-    fn begin(self, facts: usize, head: &Head, work: &[u8], index: &FactIndex) -> Tally
-        requires few { ⌜ facts ≤ maxFacts ⌝ }
-        requires facts { ⌜ 8 * facts ≤ length (now work) ⌝ }
-        ensures { λ r. ⌜ ((D : Domain) (p : Playing) (player : Whole) (old : List ℕ) → HeadOf D (now (head .entry))
-            → Stands D p player (now (work .entry)) old → self ≡ player .tally → facts ≡ player .state .facts
-            → Noted D (runObjects p) (now (head .entry)) (now (index .entry)) (p .state) → r ≡ tallyOf (begin D p .tally)) ⌝ }
-    {
-        if self.begun {
-            return self;
-        }
-        let top = top_from(head, work, facts, 0, 0, index);
-        Tally {
-            begun: true,
-            steps: 0,
-            weight: top,
-        }
-    }
-}
 
 impl Player {
     // Before the run.
@@ -71,37 +49,44 @@ impl Player {
         Player {
             at: 0,
             closed: false,
+            begun: false,
             objects: 0,
-            counts: Counts {
+            state: State {
                 facts: 0,
                 opened: 0,
                 waits: 0,
             },
             tally: Tally {
-                begun: false,
                 steps: 0,
                 weight: 0,
             },
         }
     }
 
-    // The player with the tally from then on.
+    // The player from the first record of kind 18 to 20 on: the start is over, and its facts are weighed.
     fn begin(self, head: &Head, work: &[u8], index: &FactIndex) -> Player
-        requires few { ⌜ self .counts .facts ≤ maxFacts ⌝ }
-        requires facts { ⌜ 8 * self .counts .facts ≤ length (now work) ⌝ }
+        requires few { ⌜ self .state .facts ≤ maxFacts ⌝ }
+        requires facts { ⌜ 8 * self .state .facts ≤ length (now work) ⌝ }
         ensures { λ r. ⌜ ((D : Domain) (p : Playing) (agenda old : List ℕ) → HeadOf D (now (head .entry))
             → Stands D p (wholeIn self agenda) (now (work .entry)) old
             → Noted D (runObjects p) (now (head .entry)) (now (index .entry)) (p .state)
             → wholeIn r agenda ≡ playerOf (begin D p)) ⌝ }
     {
-        let counts = self.counts;
-        let tally = self.tally.begin(counts.facts, head, work, index);
+        if self.begun {
+            return self;
+        }
+        let state = self.state;
+        let top = top_from(head, work, state.facts, 0, 0, index);
         Player {
             at: self.at,
             closed: self.closed,
+            begun: true,
             objects: self.objects,
-            counts,
-            tally,
+            state,
+            tally: Tally {
+                steps: 0,
+                weight: top,
+            },
         }
     }
 
@@ -110,20 +95,22 @@ impl Player {
         ensures { λ r. ⌜ r ≡ record {
           at = behind;
           closed = false;
+          begun = self .begun;
           objects = self .objects;
-          counts = record { facts = facts; opened = self .counts .opened; waits = waits };
+          state = record { facts = facts; opened = self .state .opened; waits = waits };
           tally = self .tally;
         } ⌝ }
     {
         let tally = self.tally;
-        let counts = self.counts;
+        let state = self.state;
         Player {
             at: behind,
             closed: false,
+            begun: self.begun,
             objects: self.objects,
-            counts: Counts {
+            state: State {
                 facts,
-                opened: counts.opened,
+                opened: state.opened,
                 waits,
             },
             tally,
@@ -143,15 +130,16 @@ impl Player {
                 player: self,
             };
         }
-        let counts = self.counts;
+        let state = self.state;
         let tally = self.tally;
         Turn {
             number: 0,
             player: Player {
                 at: behind,
                 closed: false,
+                begun: self.begun,
                 objects: p[0],
-                counts,
+                state,
                 tally,
             },
         }
@@ -167,7 +155,7 @@ impl Player {
         p: &[u8],
         behind: usize,
     ) -> Turn
-        requires few { ⌜ self .counts .facts ≤ maxFacts ⌝ }
+        requires few { ⌜ self .state .facts ≤ maxFacts ⌝ }
         requires work { ⌜ workBytes ≤ length (now work) ⌝ }
         ensures leads { λ r. ⌜ ((D : Domain) (q : Playing) (agenda old : List ℕ) → HeadOf D (now (head .entry))
             → Stands D q (wholeIn self agenda) (now (work .entry)) old
@@ -182,9 +170,9 @@ impl Player {
             (goOn (withFact q (factOf (now (p .entry))) behind)))) ⌝ }
     {
         let tally = self.tally;
-        let counts = self.counts;
-        let n = counts.facts;
-        let number = fact_stop(head, self.objects, tally.begun, work, n, p);
+        let state = self.state;
+        let n = state.facts;
+        let number = fact_stop(head, self.objects, self.begun, work, n, p);
         if number != 0 {
             return Turn {
                 number,
@@ -195,7 +183,7 @@ impl Player {
         if is_held(index, work, n, row) {
             return Turn {
                 number: 0,
-                player: self.onward(behind, n, counts.waits),
+                player: self.onward(behind, n, state.waits),
             };
         }
         if MAX_FACTS <= n {
@@ -209,21 +197,21 @@ impl Player {
         index[NOTE] = 0;
         Turn {
             number: 0,
-            player: self.onward(behind, n + 1, counts.waits),
+            player: self.onward(behind, n + 1, state.waits),
         }
     }
 
     // Kind 18: an event.
     fn take_event(self, head: &Head, agenda: &mut [u8], p: &[u8], behind: usize) -> Turn
-        requires few { ⌜ self .counts .waits ≤ maxEvents ⌝ }
+        requires few { ⌜ self .state .waits ≤ maxEvents ⌝ }
         requires agenda { ⌜ length (now agenda) ≡ agendaBytes ⌝ }
         ensures { λ r. ⌜ ((D : Domain) (q : Playing) (work old : List ℕ) → HeadOf D (now (head .entry))
             → Stands D q (wholeIn self (now (agenda .entry))) work old
             → LeadsTo (unless (eventStop D (q .objects) (q .waiting) (now (p .entry))) q
             (goOn (withEvent q (eventOf (now (p .entry))) behind))) (turnIn r (now (agenda .exit))) work old) ⌝ }
     {
-        let counts = self.counts;
-        let n = counts.waits;
+        let state = self.state;
+        let n = state.waits;
         let number = event_stop(
             head,
             self.objects,
@@ -241,30 +229,31 @@ impl Player {
         wait(agenda, n, p[0], ground_row(p));
         Turn {
             number: 0,
-            player: self.onward(behind, counts.facts, n + 1),
+            player: self.onward(behind, state.facts, n + 1),
         }
     }
 
-    // The player behind a step that was made, with the counts of the state after it and the highest weight.
-    fn stepped(self, behind: usize, counts: Counts, weight: usize) -> Player
+    // The player behind a step that was made, with the state after it and the highest weight.
+    fn stepped(self, behind: usize, state: State, weight: usize) -> Player
         requires steps { ⌜ self .tally .steps ≤ self .at ⌝ }
         requires further { ⌜ self .at < behind ⌝ }
         ensures { λ r. ⌜ r ≡ record {
           at = behind;
           closed = false;
+          begun = self .begun;
           objects = self .objects;
-          counts = counts;
-          tally = record { begun = self .tally .begun; steps = self .tally .steps + 1; weight = weight };
+          state = state;
+          tally = record { steps = self .tally .steps + 1; weight = weight };
         } ⌝ }
     {
         let tally = self.tally;
         Player {
             at: behind,
             closed: false,
+            begun: self.begun,
             objects: self.objects,
-            counts,
+            state,
             tally: Tally {
-                begun: tally.begun,
                 steps: tally.steps + 1,
                 weight,
             },
@@ -282,11 +271,11 @@ impl Player {
         scratch: &mut [u8],
         behind: usize,
     ) -> Turn
-        requires closable { ⌜ Closable (self .counts .facts) (now work) ⌝ }
+        requires closable { ⌜ Closable (self .state .facts) (now work) ⌝ }
         requires steps { ⌜ self .tally .steps ≤ self .at ⌝ }
         requires further { ⌜ self .at < behind ⌝ }
         requires memory { ⌜ RunMemory (now agenda) (now scratch) ⌝ }
-        requires none { ⌜ self .counts .waits ≡ 0 ⌝ }
+        requires none { ⌜ self .state .waits ≡ 0 ⌝ }
         ensures leads { λ r. ⌜ ((D : Domain) (q : Playing) (old : List ℕ) → Held D (now (head .entry)) (now (table .entry))
             → Stands D q (wholeIn self (now (agenda .entry))) (now (work .entry)) old
             → q .tally .begun ≡ true → Noted D (runObjects q) (now (head .entry)) (now (index .entry)) (q .state)
@@ -296,13 +285,13 @@ impl Player {
             → q .tally .begun ≡ true → Noted D (runObjects q) (now (head .entry)) (now (index .entry)) (q .state)
             → NotedAfter D (now (head .entry)) (now (index .exit)) (closeStep D q behind)) ⌝ }
     {
-        let counts = self.counts;
+        let state = self.state;
         let tally = self.tally;
         let number = rest(
             head,
             table,
             agenda,
-            counts,
+            state,
             &mut scratch[0..GROUNDED],
             index,
             work,
@@ -315,7 +304,7 @@ impl Player {
         }
         Turn {
             number: 0,
-            player: self.stepped(behind, counts, tally.weight),
+            player: self.stepped(behind, state, tally.weight),
         }
     }
 
@@ -330,7 +319,7 @@ impl Player {
         scratch: &mut [u8],
         behind: usize,
     ) -> Turn
-        requires closable { ⌜ Closable (self .counts .facts) (now work) ⌝ }
+        requires closable { ⌜ Closable (self .state .facts) (now work) ⌝ }
         requires steps { ⌜ self .tally .steps ≤ self .at ⌝ }
         requires further { ⌜ self .at < behind ⌝ }
         requires memory { ⌜ RunMemory (now agenda) (now scratch) ⌝ }
@@ -343,25 +332,22 @@ impl Player {
             → (q .objects ≡ 0 → ⊥) → q .tally .begun ≡ true → Noted D (runObjects q) (now (head .entry)) (now (index .entry)) (q .state)
             → NotedAfter D (now (head .entry)) (now (index .exit)) (closeStep D q behind)) ⌝ }
     {
-        let counts = self.counts;
-        if counts.waits == 0 {
+        let state = self.state;
+        if state.waits == 0 {
             return self.take_rest(head, table, work, index, agenda, scratch, behind);
         }
-        let state = State::load(counts, agenda);
         let tally = self.tally;
-        let closed = state.step(head, table, work, tally.weight, index, scratch);
+        let closed = state.step(head, table, agenda, work, tally.weight, index, scratch);
         let stop = closed.number;
-        let next = closed.state;
         if stop != 0 {
             return Turn {
                 number: stop,
                 player: self,
             };
         }
-        next.save(agenda);
         Turn {
             number: 0,
-            player: self.stepped(behind, next.counts, closed.weight),
+            player: self.stepped(behind, closed.state, closed.weight),
         }
     }
 
@@ -372,8 +358,8 @@ impl Player {
             (turnIn r agenda) work old) ⌝ }
     {
         let tally = self.tally;
-        let counts = self.counts;
-        let number = end_stop(self.objects, counts.waits, p);
+        let state = self.state;
+        let number = end_stop(self.objects, state.waits, p);
         if number != 0 {
             return Turn {
                 number,
@@ -385,8 +371,9 @@ impl Player {
             player: Player {
                 at: behind,
                 closed: true,
+                begun: self.begun,
                 objects: self.objects,
-                counts,
+                state,
                 tally,
             },
         }

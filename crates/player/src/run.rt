@@ -24,11 +24,12 @@ ghost use Rattle.events.specs.Held.{agendaBytes, openIn, openOf};
 // The bytes of the facts in the work memory.
 pub const WORK: usize = 8 * MAX_FACTS;
 
-// How a run ended: the number (2 when it was played), the offset of the record at fault, what was counted, and how many facts are held
-// and how many entries are open.
+// How a run ended: the number (2 when it was played), the offset of the record at fault, whether the start was over, what was counted,
+// and how many facts are held and how many entries are open.
 pub struct Ended {
     pub number: u64,
     pub place: usize,
+    pub begun: bool,
     pub tally: Tally,
     pub facts: usize,
     pub opened: usize,
@@ -39,20 +40,22 @@ fn ended_by(number: u64, last: Player) -> Ended
     ensures { λ r. ⌜ r ≡ record {
       number = number;
       place = last .at;
+      begun = last .begun;
       tally = last .tally;
-      facts = last .counts .facts;
-      opened = last .counts .opened;
+      facts = last .state .facts;
+      opened = last .state .opened;
     } ⌝ }
 {
     let at = last.at;
     let tally = last.tally;
-    let counts = last.counts;
+    let state = last.state;
     Ended {
         number,
         place: at,
+        begun: last.begun,
         tally,
-        facts: counts.facts,
-        opened: counts.opened,
+        facts: state.facts,
+        opened: state.opened,
     }
 }
 

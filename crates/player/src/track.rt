@@ -102,8 +102,7 @@ pub fn track_run(head: &Head, table: &[u8], run: &[u8], instance: &[u8], work: &
     }
     let mut agenda = [0u8; AGENDA];
     let ended = play_run(head, table, run, work, &mut agenda);
-    let tally = ended.tally;
-    if !tally.begun {
+    if !ended.begun {
         return Tracked {
             played: answer_by(ended),
             total: 0,

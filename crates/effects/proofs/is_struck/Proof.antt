@@ -13,14 +13,14 @@ use Rattle.effects.proofs.IndexedRows.{unmarked}
 use Rattle.effects.proofs.is_struck.Statement.{statement}
 use Rattle.effects.proofs.is_struck.Tie as tie
 
-any-meets-requires : tie.Need-any-meets-requires
-any-meets-requires c κs = search needs
+is-met-requires : tie.Need-is-met-requires
+is-met-requires c κs = search needs
 
 returns : tie.Need-returns
 returns c =
     let a = c .before .before .before .before .before .args in
     let p = c .before .before .before .before .before .pre in
-    c .any-meets .ensures
+    c .is-met .ensures
     ∙ sym (struck-by (rowsIn (a .m) (a .struck .now)) (take 8 (drop (a .at) (a .work .now))) (sym (p .1 .1 .1 .1) ∙ c .before .if1 .taken))
 
 add-wide : tie.Need-add-wide
@@ -64,7 +64,7 @@ pub is-struck-spec : {M : Type 1} → statement M
 is-struck-spec =
     tie.close
     (tie.spec
-    any-meets-requires
+    is-met-requires
     returns
     add-wide
     shared-slice-read-wide

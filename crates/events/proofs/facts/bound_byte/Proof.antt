@@ -1,6 +1,13 @@
 -- `bound_byte` meets its contract. Assumes nothing.
 use borrow.Author.Needs.{needs}
+use mathlib.Core.Path.{ap, _∙_}
+use Prim.Native.Nat.{_+_}
+use lib.ListN.{getD}
 use native.Mathlib.Omega.{arith}
+use Rattle.literals.specs.declared.Argument.{Argument}
+use Rattle.literals.specs.Table.{argumentNumber}
+use Rattle.literals.proofs.Arguments.{argument-back}
+use Rattle.events.specs.Held.{boundArgument}
 use Rattle.events.proofs.RowLoops.{bound-first, bound-object, bound-fill}
 use Rattle.events.proofs.facts.bound_byte.Statement.{statement}
 use Rattle.events.proofs.facts.bound_byte.Tie as tie
@@ -20,19 +27,23 @@ returns-2 c = search needs
 add-if3 : tie.Need-add-if3
 add-if3 c = search needs
 
-add-argument : tie.Need-add-argument
-add-argument c = search needs
+add-argument-of : tie.Need-add-argument-of
+add-argument-of c = search needs
 
-shared-slice-read-argument : tie.Need-shared-slice-read-argument
-shared-slice-read-argument c = search needs
+shared-slice-read-argument-of : tie.Need-shared-slice-read-argument-of
+shared-slice-read-argument-of c = search needs
+
+argument-of-requires : tie.Need-argument-of-requires
+argument-of-requires c κs = search needs
 
 bound-argument-requires : tie.Need-bound-argument-requires
 bound-argument-requires c κs = search needs
 
 returns-3 : tie.Need-returns-3
-returns-3 c = let a = c .before .before .before .before .before .before .before .args in
+returns-3 c = let a = c .before .before .before .before .before .before .before .before .args in
     bound-object (a .arity) (a .ground .now) (a .rows .now) (a .row) (omega arith) (omega arith) (a .i) _
-    (λ e. omega arith) (λ e. omega arith) (omega arith) (c .bound-argument .ensures)
+    (λ e. omega arith) (λ e. omega arith) (omega arith) (c .bound-argument .ensures
+    ∙ ap (boundArgument (a .ground .now)) (ap argumentNumber (c .before .argument-of .ensures) ∙ argument-back (getD (a .rows .now) (a .row + a .i) 0)))
 
 returns-4 : tie.Need-returns-4
 returns-4 c = let a = c .before .before .before .before .before .args in bound-fill (a .arity) (a .ground .now) (a .rows .now) (a .row) (omega arith) (omega arith) (a .i) (omega arith) (λ e. omega arith) (λ e. omega arith) (omega arith)
@@ -46,8 +57,9 @@ bound-byte-spec =
     returns
     returns-2
     add-if3
-    add-argument
-    shared-slice-read-argument
+    add-argument-of
+    shared-slice-read-argument-of
+    argument-of-requires
     bound-argument-requires
     returns-3
     returns-4)

@@ -106,8 +106,7 @@ independent-requires : tie.Need-independent-requires
 independent-requires c κs =
     let keeps = c .before .before .before .before .before .before .before .before .before .before .before .open-met in
     let grounds = c .before .before .before .before .before .before .ground-step in (
-      grounds .kept .1 .1 .1 .1 .1 .0 ∙ keeps .kept .1 .1 .1 .1 .0 ∙ c .before .before .before .before .before .before .before .before
-          .before .before .before .before .before .before .before .before .before .before .before .before .before .before .pre .1
+      grounds .kept .1 .1 .1 .1 .1 .0 ∙ keeps .kept .1 .1 .1 .1 .0 ∙ c .before .before .before .before .before .before .before .before .before .before .before .before .before .before .before .before .before .before .before .before .before .before .pre .1
           .0,
       grounds .ensures .0,
     )
@@ -117,14 +116,12 @@ same-length-3 c = search needs
 
 returns-4 : tie.Need-returns-4
 returns-4 c =
-    let opens = c .before .before .before .before .before .before .before .before .before .before .before .before .before .before .before
-    .before .ends-open in
+    let opens = c .before .before .before .before .before .before .before .before .before .before .before .before .before .before .before .before .ends-open in
     let keeps = c .before .before .before .before .before .before .before .before .before .before .before .before .before .open-met in
     let grounds = c .before .before .before .before .before .before .before .before .ground-step in
     let mets = c .before .before .before .before .events-met in
     let aparts = c .before .independent in
-    let all-open = c .before .before .before .before .before .before .before .before .before .before .before .before .before .before
-    .before .if1 .left in
+    let all-open = c .before .before .before .before .before .before .before .before .before .before .before .before .before .before .before .if1 .left in
     let all-kept = c .before .before .before .before .before .before .before .before .before .before .if2 .left in
     let all-met = c .before .before .before .if3 .left in
     let fails = c .if4 .taken in (
@@ -149,14 +146,12 @@ same-length-4 c = search needs
 
 returns-5 : tie.Need-returns-5
 returns-5 c =
-    let opens = c .before .before .before .before .before .before .before .before .before .before .before .before .before .before .before
-    .before .ends-open in
+    let opens = c .before .before .before .before .before .before .before .before .before .before .before .before .before .before .before .before .ends-open in
     let keeps = c .before .before .before .before .before .before .before .before .before .before .before .before .before .open-met in
     let grounds = c .before .before .before .before .before .before .before .before .ground-step in
     let mets = c .before .before .before .before .events-met in
     let aparts = c .before .independent in
-    let all-open = c .before .before .before .before .before .before .before .before .before .before .before .before .before .before
-    .before .if1 .left in
+    let all-open = c .before .before .before .before .before .before .before .before .before .before .before .before .before .before .before .if1 .left in
     let all-kept = c .before .before .before .before .before .before .before .before .before .before .if2 .left in
     let all-met = c .before .before .before .if3 .left in
     let all-apart = c .if4 .left in (

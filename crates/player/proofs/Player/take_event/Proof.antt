@@ -71,9 +71,9 @@ returns-2 c D q work old H st =
     let e = x .ensures .0 D (q .waiting) H (objects-low D q st) (waiting-is D q st) (st .sound .kept .waiting)
     ∙ ap (λ (n : ℕ). eventStop D n (q .waiting) (a .p .now)) (sym (objects-are D q st)) in
     let t = event-taken D q (a .p .now) (st .sound .objects) (sym e ∙ left) in
-    let on = gone-on (a .self) (c .onward .result) (a .behind) (a .self .counts .facts) (a .self .counts .waits + 1) (w .last .0)
+    let on = gone-on (a .self) (c .onward .result) (a .behind) (a .self .state .facts) (a .self .state .waits + 1) (w .last .0)
     (c .onward .ensures) in
-    let more = event-waits (a .self .counts .facts) (a .self .counts .opened) (a .self .counts .waits + 1) (a .agenda .now) (w .last .0)
+    let more = event-waits (a .self .state .facts) (a .self .state .opened) (a .self .state .waits + 1) (a .agenda .now) (w .last .0)
     (w .ensures .0) in
     passes D q (eventStop D (q .objects) (q .waiting) (a .p .now)) (x .result) (goOn (withEvent q (eventOf (a .p .now)) (a .behind)))
     _ work old e left

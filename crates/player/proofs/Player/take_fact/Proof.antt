@@ -69,7 +69,7 @@ returns-2 c =
           let sized = fact-sized D (a .head .now) H q (a .p .now) (st .sound .kept .facts-few) zero (row .result) (row .ensures) in
           let is = found .ensures (a .head .now) (rw rows (noted .indexed)) sized in
           passes D q (factStop D (q .objects) (q .tally .begun) (q .state .facts) (a .p .now)) (f .result) (goOn (withFact q (factOf (a .p .now)) (a .behind))) _ (a .work .now) old stop passed
-          (fact-again D (H .bounded) q player (a .work .now) old st (a .p .now) (a .behind) zero (row .result) (row .ensures) (found .result) is (c .before .if2 .taken) (wholeIn (c .onward .result) agenda) (gone-on (a .self) (c .onward .result) (a .behind) (a .self .counts .facts) (a .self .counts .waits) agenda (c .onward .ensures))),
+          (fact-again D (H .bounded) q player (a .work .now) old st (a .p .now) (a .behind) zero (row .result) (row .ensures) (found .result) is (c .before .if2 .taken) (wholeIn (c .onward .result) agenda) (gone-on (a .self) (c .onward .result) (a .behind) (a .self .state .facts) (a .self .state .waits) agenda (c .onward .ensures))),
       λ D q agenda old H st noted.
           let player = wholeIn (a .self) agenda in
           let rows = facts-rows D q player (a .work .now) old st (H .bounded) in
@@ -152,7 +152,7 @@ returns-4 c =
           let sized = fact-sized D (a .head .now) H q (a .p .now) (st .sound .kept .facts-few) zero (row .result) (row .ensures) in
           let is = found .ensures (a .head .now) (rw rows (noted .indexed)) sized in
           passes D q (factStop D (q .objects) (q .tally .begun) (q .state .facts) (a .p .now)) (f .result) (goOn (withFact q (factOf (a .p .now)) (a .behind))) _ _ old stop passed
-          (fact-new D (H .bounded) q player (a .work .now) old st (a .p .now) (a .behind) zero (row .result) (row .ensures) (found .result) is (c .before .before .before .before .before .before .before .before .before .if2 .left) (wholeIn (c .onward2 .result) agenda) _ refl (gone-on (a .self) (c .onward2 .result) (a .behind) (a .self .counts .facts + 1) (a .self .counts .waits) agenda (c .onward2 .ensures)) _ (c .before .before .before .before .before .before .put-fact .ensures)),
+          (fact-new D (H .bounded) q player (a .work .now) old st (a .p .now) (a .behind) zero (row .result) (row .ensures) (found .result) is (c .before .before .before .before .before .before .before .before .before .if2 .left) (wholeIn (c .onward2 .result) agenda) _ refl (gone-on (a .self) (c .onward2 .result) (a .behind) (a .self .state .facts + 1) (a .self .state .waits) agenda (c .onward2 .ensures)) _ (c .before .before .before .before .before .before .put-fact .ensures)),
       λ D q agenda old H st noted.
           let player = wholeIn (a .self) agenda in
           let rows = facts-rows D q player (a .work .now) old st (H .bounded) in

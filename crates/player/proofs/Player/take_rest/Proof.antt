@@ -7,7 +7,7 @@ use Rattle.run_semantics.specs.Play.{runObjects}
 use Rattle.machine.specs.Held.{StateRows}
 use Rattle.machine.proofs.Resting.{kept-none}
 use Rattle.player.specs.Player.{wholeIn}
-use Rattle.player.proofs.PlayTurns.{saved, close-stops, close-on, state-is, facts-rows, rest-closes, rest-notes}
+use Rattle.player.proofs.PlayTurns.{stepped-on, close-stops, close-on, state-is, facts-rows, rest-closes, rest-notes}
 use Rattle.player.proofs.NotedTurns.{noted-closed}
 use Rattle.player.proofs.Player.take_rest.Statement.{statement}
 use Rattle.player.proofs.Player.take_rest.Tie as tie
@@ -51,8 +51,7 @@ returns c =
     )
 
 stepped-requires : tie.Need-stepped-requires
-stepped-requires c κs = let p = c .before .before .before .before .before .before .before .before .before .before .before
-    .before .pre in (p .1 .0, p .1 .1 .0)
+stepped-requires c κs = let p = c .before .before .before .before .before .before .before .before .before .before .before .before .pre in (p .1 .0, p .1 .1 .0)
 
 same-length-2 : tie.Need-same-length-2
 same-length-2 c = search needs
@@ -66,10 +65,8 @@ returns-2 c =
       λ D q old H st b noted.
           let z = r .ensures D (runObjects q) (q .state) H (kept-none (st .sound .kept)) (ap (λ (h : StateRows). h .running) (state-is D q st))
           (facts-rows D q player (a .work .now) old st (H .says .bounded)) noted in
-          close-on D q (a .behind) player (a .work .now) old st (r .result) _ _ _ (rest-closes D q st none b (r .result) (z .0)) (c
-          .before .if1 .left) _
-          (saved (a .self) _ (a .behind) (a .self .counts) (a .self .tally .weight) (a .agenda .now) (a .agenda .now)
-          (c .stepped .ensures) refl),
+          close-on D q (a .behind) player (a .work .now) old st (r .result) _ _ _ (rest-closes D q st none b (r .result) (z .0)) (c .before .if1 .left) _
+          (stepped-on (a .self) _ (a .behind) (a .self .state) (a .self .tally .weight) (a .agenda .now) (c .stepped .ensures)),
       λ D q old H st b noted.
           let z = r .ensures D (runObjects q) (q .state) H (kept-none (st .sound .kept)) (ap (λ (h : StateRows). h .running) (state-is D q st))
           (facts-rows D q player (a .work .now) old st (H .says .bounded)) noted in

@@ -1,18 +1,17 @@
 -- `Player::take_step` meets its contract: a step without events, one that is refused, or one that is made. Assumes nothing.
 use borrow.Author.Needs.{needs}
-use mathlib.Core.Path.{ap, _∙_}
-use Rattle.run_semantics.specs.Play.{runObjects}
-use Rattle.machine.specs.declared.State.{State}
-use Rattle.machine.specs.Held.{stateIn}
-use Rattle.player.specs.Player.{wholeIn}
-use Rattle.player.proofs.PlayTurns.{saved, some-object, close-stops, close-on, state-is, weight-under}
+use mathlib.Core.Path.{sym, subst}
+use mathlib.Core.List.{List}
+use Prim.Native.Nat.{ℕ}
+use Rattle.run_semantics.specs.Play.{runObjects, closeStep}
+use Rattle.player.specs.Player.{wholeIn, LeadsTo}
+use Rattle.player.proofs.PlayTurns.{stepped-on, some-object, close-stops, close-on, state-is, weight-under}
 use Rattle.player.proofs.NotedTurns.{noted-closed}
 use Rattle.player.proofs.Player.take_step.Statement.{statement}
 use Rattle.player.proofs.Player.take_step.Tie as tie
 
 take-rest-requires : tie.Need-take-rest-requires
-take-rest-requires c κs = let p = c .before .before .before .before .before .before .before .before .before .before
-    .before .pre in (p .0, (p .1 .0, (p .1 .1 .0, (p .1 .1 .1, c .before .before .before .before .if1 .taken))))
+take-rest-requires c κs = let p = c .before .before .before .before .before .before .before .before .before .before .before .pre in (p .0, (p .1 .0, (p .1 .1 .0, (p .1 .1 .1, c .before .before .before .before .if1 .taken))))
 
 same-length : tie.Need-same-length
 same-length c = search needs
@@ -28,12 +27,8 @@ returns c =
     let e = c .before .before .take-rest .ensures in
     (λ D q old H st n b noted. e .0 D q old H st b noted, λ D q old H st n b noted. e .1 D q old H st b noted)
 
-load-requires : tie.Need-load-requires
-load-requires c κs = search needs
-
 step-requires : tie.Need-step-requires
-step-requires c κs = let p = c .before .before .before .before .before .before .before .before .before .before .before .before
-    .before .pre in (rw (c .before .before .before .before .load .ensures) (p .0), p .1 .1 .1 .scratch-length)
+step-requires c κs = let p = c .before .before .before .before .before .before .before .before .before .before .before .before .pre in (p .0, (p .1 .1 .1 .agenda-length, p .1 .1 .1 .scratch-length))
 
 same-length-4 : tie.Need-same-length-4
 same-length-4 c = search needs
@@ -46,31 +41,25 @@ same-length-6 c = search needs
 
 returns-2 : tie.Need-returns-2
 returns-2 c =
-    let a = c .before .before .before .before .before .before .before .before .before .before .before .before .before .before .before
-    .before .before .before .before .before .args in
+    let a = c .before .before .before .before .before .before .before .before .before .before .before .before .before .before .before .before .before .before .before .before .args in
     let player = wholeIn (a .self) (a .agenda .now) in
-    let l = c .before .before .before .before .before .before .step in
-    let loaded = ap (λ (s : State). stateIn (s .counts) (s .agenda)) (c .before .before .before .before .before .before .before .before
-    .before .before .before .load .ensures) in (
+    let l = c .before .before .before .before .before .before .before .step in (
       λ D q old H st n b noted.
           let leaves = l .ensures .0 D (runObjects q) (q .state) (q .waiting) old
-          (record { domain = H; some = some-object q n; kept = st .sound .kept; state-is = loaded ∙ state-is D q st; facts-are = st .memory })
+          (record { domain = H; some = some-object q n; kept = st .sound .kept; state-is = state-is D q st; facts-are = st .memory })
           (weight-under D q st b) noted in
-          close-stops D q (a .behind) player (a .work .now) old st (l .result .number) _ (l .result .weight) _ leaves (c .if2 .taken),
+          subst (λ (t : List ℕ). LeadsTo (closeStep D q (a .behind)) (record { number = l .result .number; player = wholeIn (a .self) t })
+          (l .last .1 .1 .1 .1 .0) old) (sym (l .ensures .1 .1 (c .if2 .taken)))
+          (close-stops D q (a .behind) player (a .work .now) old st (l .result .number) _ (l .result .weight) _ leaves (c .if2 .taken)),
       λ D q old H st n b noted.
           let leaves = l .ensures .0 D (runObjects q) (q .state) (q .waiting) old
-          (record { domain = H; some = some-object q n; kept = st .sound .kept; state-is = loaded ∙ state-is D q st; facts-are = st .memory })
+          (record { domain = H; some = some-object q n; kept = st .sound .kept; state-is = state-is D q st; facts-are = st .memory })
           (weight-under D q st b) noted in
           noted-closed D _ _ q (a .behind) (l .result .number) (leaves .number-is) (λ z. absurd (c .if2 .taken z)),
     )
 
-save-requires : tie.Need-save-requires
-save-requires c κs = c .before .before .before .before .before .before .before .before .before .before .before .before .before .before
-    .before .before .before .before .before .before .before .pre .1 .1 .1 .agenda-length
-
 stepped-requires : tie.Need-stepped-requires
-stepped-requires c κs = let p = c .before .before .before .before .before .before .before .before .before .before .before .before .before
-    .before .before .before .before .before .before .before .before .before .before .before .pre in (p .1 .0, p .1 .1 .0)
+stepped-requires c κs = let p = c .before .before .before .before .before .before .before .before .before .before .before .before .before .before .before .before .before .before .before .before .pre in (p .1 .0, p .1 .1 .0)
 
 same-length-7 : tie.Need-same-length-7
 same-length-7 c = search needs
@@ -83,27 +72,22 @@ same-length-9 c = search needs
 
 returns-3 : tie.Need-returns-3
 returns-3 c =
-    let a = c .before .before .before .before .before .before .before .before .before .before .before .before .before .before .before
-    .before .before .before .before .before .before .before .before .before .before .args in
+    let a = c .before .before .before .before .before .before .before .before .before .before .before .before .before .before .before .before .before .before .before .before .before .args in
     let player = wholeIn (a .self) (a .agenda .now) in
-    let l = c .before .before .before .before .before .before .before .before .before .before .before .step in
-    let loaded = ap (λ (s : State). stateIn (s .counts) (s .agenda)) (c .before .before .before .before .before .before .before .before
-    .before .before .before .before .before .before .before .before .load .ensures) in (
+    let l = c .before .before .before .before .before .before .before .before .step in (
       λ D q old H st n b noted.
           let leaves = l .ensures .0 D (runObjects q) (q .state) (q .waiting) old
-          (record { domain = H; some = some-object q n; kept = st .sound .kept; state-is = loaded ∙ state-is D q st; facts-are = st .memory })
+          (record { domain = H; some = some-object q n; kept = st .sound .kept; state-is = state-is D q st; facts-are = st .memory })
           (weight-under D q st b) noted in
-          close-on D q (a .behind) player (a .work .now) old st (l .result .number) _ (l .result .weight) _ leaves (c .before .before
-          .before .before .before .if2 .left) _
-          (saved (a .self) _ (a .behind) (l .result .state .counts) (l .result .weight) (l .result .state .agenda) _
-          (c .stepped .ensures) (c .before .before .before .save .ensures)),
+          close-on D q (a .behind) player (a .work .now) old st (l .result .number) _ (l .result .weight) _ leaves (c .before .if2 .left) _
+          (stepped-on (a .self) _ (a .behind) (l .result .state) (l .result .weight) (l .last .1 .1 .1 .0) (c .stepped .ensures)),
       λ D q old H st n b noted.
           let leaves = l .ensures .0 D (runObjects q) (q .state) (q .waiting) old
-          (record { domain = H; some = some-object q n; kept = st .sound .kept; state-is = loaded ∙ state-is D q st; facts-are = st .memory })
+          (record { domain = H; some = some-object q n; kept = st .sound .kept; state-is = state-is D q st; facts-are = st .memory })
           (weight-under D q st b) noted in
           noted-closed D _ _ q (a .behind) (l .result .number) (leaves .number-is)
-          (λ z. l .ensures .1 D (runObjects q) (q .state) (q .waiting) old
-          (record { domain = H; some = some-object q n; kept = st .sound .kept; state-is = loaded ∙ state-is D q st; facts-are = st .memory }) noted z),
+          (λ z. l .ensures .1 .0 D (runObjects q) (q .state) (q .waiting) old
+          (record { domain = H; some = some-object q n; kept = st .sound .kept; state-is = state-is D q st; facts-are = st .memory }) noted z),
     )
 
 pub take-step-spec : {M : Type 1} → statement M
@@ -115,13 +99,11 @@ take-step-spec =
     same-length-2
     same-length-3
     returns
-    load-requires
     step-requires
     same-length-4
     same-length-5
     same-length-6
     returns-2
-    save-requires
     stepped-requires
     same-length-7
     same-length-8

@@ -42,8 +42,7 @@ returns-2 c =
 
 track-run-requires : tie.Need-track-run-requires
 track-run-requires c κs =
-    let a = c .before .before .before .before .before .before .before .before .before .before .before .before .before .before .before
-    .before .args in
+    let a = c .before .before .before .before .before .before .before .before .before .before .before .before .before .before .before .before .args in
     let read = c .before .before .before .before .before .before .before .before .read-domain in
     let o = opened (a .domain .now) (read .result) _ _ (read .ensures) (c .before .before .before .before .before .if1 .left) in
     ((o .said, o .held), c .before .before .before .before .if2 .left)
@@ -56,14 +55,11 @@ same-length-4 c = search needs
 
 returns-3 : tie.Need-returns-3
 returns-3 c =
-    let a = c .before .before .before .before .before .before .before .before .before .before .before .before .before .before .before
-    .before .before .before .before .args in
+    let a = c .before .before .before .before .before .before .before .before .before .before .before .before .before .before .before .before .before .before .before .args in
     let read = c .before .before .before .before .before .before .before .before .before .before .before .read-domain in
-    let o = opened (a .domain .now) (read .result) _ _ (read .ensures) (c .before .before .before .before .before .before .before .before
-    .if1 .left) in
+    let o = opened (a .domain .now) (read .result) _ _ (read .ensures) (c .before .before .before .before .before .before .before .before .if1 .left) in
     let e = c .before .before .track-run .ensures (o .said) (o .held) (decoded-well-formed (a .domain .now) (o .said) (o .decoded)) in
-    with-one (a .domain .now) (a .instance .now) (a .run .now) (a .work .now) (o .said) (o .decoded) (c .before .before .before .before
-    .before .before .before .if2 .left) (a .given) (c .before .before .before .before .before .before .if3 .taken)
+    with-one (a .domain .now) (a .instance .now) (a .run .now) (a .work .now) (o .said) (o .decoded) (c .before .before .before .before .before .before .before .if2 .left) (a .given) (c .before .before .before .before .before .before .if3 .taken)
     (c .before .before .track-run .result) (e .0) _ (e .1)
 
 slice-aggregate-play-run : tie.Need-slice-aggregate-play-run
@@ -71,8 +67,7 @@ slice-aggregate-play-run c = search needs
 
 play-run-requires : tie.Need-play-run-requires
 play-run-requires c κs =
-    let a = c .before .before .before .before .before .before .before .before .before .before .before .before .before .before .before
-    .before .before .args
+    let a = c .before .before .before .before .before .before .before .before .before .before .before .before .before .before .before .before .before .args
     in
     let read = c .before .before .before .before .before .before .before .before .before .read-domain in
     let o = opened (a .domain .now) (read .result) _ _ (read .ensures) (c .before .before .before .before .before .before .if1 .left) in
@@ -89,17 +84,12 @@ same-length-6 c = search needs
 
 returns-4 : tie.Need-returns-4
 returns-4 c =
-    let a = c .before .before .before .before .before .before .before .before .before .before .before .before .before .before .before
-    .before .before .before .before .before .before .before .args in
-    let read = c .before .before .before .before .before .before .before .before .before .before .before .before .before .before
-    .read-domain in
-    let o = opened (a .domain .now) (read .result) _ _ (read .ensures) (c .before .before .before .before .before .before .before .before
-    .before .before .before .if1 .left) in
+    let a = c .before .before .before .before .before .before .before .before .before .before .before .before .before .before .before .before .before .before .before .before .before .before .args in
+    let read = c .before .before .before .before .before .before .before .before .before .before .before .before .before .before .read-domain in
+    let o = opened (a .domain .now) (read .result) _ _ (read .ensures) (c .before .before .before .before .before .before .before .before .before .before .before .if1 .left) in
     let e = c .before .before .before .before .play-run .ensures (o .said) (o .held) in
     let b = c .answer-by in
-    with-none (a .domain .now) (a .instance .now) (a .run .now) (a .work .now) (o .said) (o .decoded) (c .before .before .before .before
-    .before .before .before .before .before .before .if2 .left) (a .given) (c .before .before .before .before .before .before .before
-    .before .before .if3 .left)
+    with-none (a .domain .now) (a .instance .now) (a .run .now) (a .work .now) (o .said) (o .decoded) (c .before .before .before .before .before .before .before .before .before .before .if2 .left) (a .given) (c .before .before .before .before .before .before .before .before .before .if3 .left)
     (b .result) (b .ensures (playRun (o .said) (a .run .now)) (e .0)) _ (e .1)
 
 pub play-in-spec : {M : Type 1} → statement M

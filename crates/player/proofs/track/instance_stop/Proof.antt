@@ -9,17 +9,14 @@ objects-given-requires : tie.Need-objects-given-requires
 objects-given-requires c κs = search needs
 
 returns : tie.Need-returns
-returns c D H = stop-none D (c .before .before .before .before .args .instance .now) (c .before .before .before .before .args .run .now) (c
-    .before .objects-given .result) (c .before .objects-given .ensures) (c .if1 .taken)
+returns c D H = stop-none D (c .before .before .before .before .args .instance .now) (c .before .before .before .before .args .run .now) (c .before .objects-given .result) (c .before .objects-given .ensures) (c .if1 .taken)
 
 keys-in-requires : tie.Need-keys-in-requires
 keys-in-requires c κs = search needs
 
 returns-2 : tie.Need-returns-2
 returns-2 c D H =
-    stop-count D (c .before .before .before .before .before .before .args .instance .now) (c .before .before .before .before .before .before
-    .args .run .now) (c .before .before .before .objects-given .result) (c .before .before .before .objects-given .ensures) (c .before
-    .before .if1 .left)
+    stop-count D (c .before .before .before .before .before .before .args .instance .now) (c .before .before .before .before .before .before .args .run .now) (c .before .before .before .objects-given .result) (c .before .before .before .objects-given .ensures) (c .before .before .if1 .left)
     (λ e. c .if2 .taken (e ∙ sym (H .keys) ∙ sym (c .before .keys-in .ensures .0)))
 
 any-from-requires : tie.Need-any-from-requires
@@ -27,17 +24,13 @@ any-from-requires c κs = search needs
 
 returns-3 : tie.Need-returns-3
 returns-3 c D H =
-    stop-object D (c .before .before .before .before .before .before .before .before .args .instance .now) (c .before .before .before
-    .before .before .before .before .before .args .run .now) (c .before .before .before .before .before .objects-given .result) (c .before
-    .before .before .before .before .objects-given .ensures) (c .before .before .before .before .if1 .left)
+    stop-object D (c .before .before .before .before .before .before .before .before .args .instance .now) (c .before .before .before .before .before .before .before .before .args .run .now) (c .before .before .before .before .before .objects-given .result) (c .before .before .before .before .before .objects-given .ensures) (c .before .before .before .before .if1 .left)
     (c .before .before .if2 .left ∙ c .before .before .before .keys-in .ensures .0 ∙ H .keys) (sym (c .before .any-from .ensures) ∙ c .if3
     .taken)
 
 returns-4 : tie.Need-returns-4
 returns-4 c D H =
-    stop-right D (c .before .before .before .before .before .before .before .before .args .instance .now) (c .before .before .before .before
-    .before .before .before .before .args .run .now) (c .before .before .before .before .before .objects-given .result) (c .before .before
-    .before .before .before .objects-given .ensures) (c .before .before .before .before .if1 .left)
+    stop-right D (c .before .before .before .before .before .before .before .before .args .instance .now) (c .before .before .before .before .before .before .before .before .args .run .now) (c .before .before .before .before .before .objects-given .result) (c .before .before .before .before .before .objects-given .ensures) (c .before .before .before .before .if1 .left)
     (c .before .before .if2 .left ∙ c .before .before .before .keys-in .ensures .0 ∙ H .keys) (sym (c .before .any-from .ensures) ∙ c .if3
     .left)
 

@@ -14,8 +14,7 @@ enum-known-kind : tie.Need-enum-known-kind
 enum-known-kind c = search needs
 
 add-end : tie.Need-add-end
-add-end c = let f = c .before .before .before .before .before .good .0 in let w = whole-within _ _ (sym (c .before .before .before
-    .record-at .ensures) ∙ c .before .kind .given .1) in omega arith
+add-end c = let f = c .before .before .before .before .before .good .0 in let w = whole-within _ _ (sym (c .before .before .before .record-at .ensures) ∙ c .before .kind .given .1) in omega arith
 
 sub-count-of : tie.Need-sub-count-of
 sub-count-of c = search needs
@@ -37,8 +36,7 @@ enum-told-2 : tie.Need-enum-told-2
 enum-told-2 c = search needs
 
 returns : tie.Need-returns
-returns c = given-whole (c .before .before .before .before .before .before .before .args .run .now) _ _ _ (sym (c .before .before .before
-    .before .before .record-at .ensures) ∙ c .before .before .before .kind .given .1) _ refl _ (c .count-of .ensures)
+returns c = given-whole (c .before .before .before .before .before .before .before .args .run .now) _ _ _ (sym (c .before .before .before .before .before .record-at .ensures) ∙ c .before .before .before .kind .given .1) _ refl _ (c .count-of .ensures)
 
 returns-2 : tie.Need-returns-2
 returns-2 c = given-cut (c .before .before .before .before .args .run .now) (sym (c .before .before .record-at .ensures) ∙ c .enum-told

@@ -13,8 +13,7 @@ same-length c = search needs
 returns : tie.Need-returns
 returns c =
     let a = c .before .before .before .before .before .before .before .before .args in
-    with-is (a .domain .now) (a .instance .now) (a .run .now) (a .work .now) (c .before .before .play-with .result) _ (c .before .before
-    .play-with .ensures)
+    with-is (a .domain .now) (a .instance .now) (a .run .now) (a .work .now) (c .before .before .play-with .result) _ (c .before .before .play-with .ensures)
 
 pub track-files-spec : {M : Type 1} → statement M
 track-files-spec = tie.close (tie.spec play-with-requires same-length returns)

@@ -26,8 +26,7 @@ same-length c = search needs
 returns : tie.Need-returns
 returns c D H wf =
     let a = c .before .before .before .before .before .before .before .before .before .before .args in
-    stopped-answer D (a .instance .now) (a .run .now) (c .before .before .before .before .before .instance-stop .result) (c .before .before
-    .before .before .before .instance-stop .ensures D (H .says)) (c .before .before .before .before .if1 .taken) _
+    stopped-answer D (a .instance .now) (a .run .now) (c .before .before .before .before .before .instance-stop .result) (c .before .before .before .before .before .instance-stop .ensures D (H .says)) (c .before .before .before .before .if1 .taken) _
     (a .work .now) (cleared (a .work .now) _ (c .before .before .put-zeros .ensures))
 
 slice-aggregate-play-run : tie.Need-slice-aggregate-play-run
@@ -44,12 +43,11 @@ same-length-2 c = search needs
 
 returns-2 : tie.Need-returns-2
 returns-2 c D H wf =
-    let a = c .before .before .before .before .before .before .before .before .before .before .before .before .before .before .before
-    .before .args in
-    let e = c .before .before .before .before .before .before .before .play-run .ensures D H in
-    let z = sym (c .before .before .before .before .before .before .before .before .before .before .before .instance-stop .ensures D (H
-    .says)) ∙ c .before .before .before .before .before .before .before .before .before .before .if1 .left in
-    early-answer D (a .instance .now) (a .run .now) z (c .before .before .before .before .before .before .before .play-run .result) (e .0)
+    let a = c .before .before .before .before .before .before .before .before .before .before .before .before .before .before .before .args in
+    let e = c .before .before .before .before .before .before .play-run .ensures D H in
+    let z = sym (c .before .before .before .before .before .before .before .before .before .before .instance-stop .ensures D (H
+    .says)) ∙ c .before .before .before .before .before .before .before .before .before .if1 .left in
+    early-answer D (a .instance .now) (a .run .now) z (c .before .before .before .before .before .before .play-run .result) (e .0)
     (not-true _ (c .before .if2 .taken)) (c .answer-by .result)
     (c .answer-by .ensures (playRun D (a .run .now)) (e .0)) _ (a .work .now) (e .1)
 
@@ -58,21 +56,19 @@ slice-aggregate-total-of c = search needs
 
 total-of-requires : tie.Need-total-of-requires
 total-of-requires c κs =
-    let a = c .before .before .before .before .before .before .before .before .before .before .before .before .before .before .before
-    .before .before .args in
-    let p = c .before .before .before .before .before .before .before .before .before .before .before .before .before .before .before
-    .before .before .pre in
+    let a = c .before .before .before .before .before .before .before .before .before .before .before .before .before .before .before .before .args in
+    let p = c .before .before .before .before .before .before .before .before .before .before .before .before .before .before .before .before .pre in
     let D = p .0 .0 in
     let H = p .0 .1 in
-    let e = c .before .before .before .before .before .before .before .before .play-run .ensures D H in
+    let e = c .before .before .before .before .before .before .before .play-run .ensures D H in
     let n = ap (λ (x : Ended). x .facts) (e .0) in
     let k = kept-run D (H .says .bounded) (a .run .now) .1 .facts-few in
     let room = p .1 in
-    let l = c .before .before .before .before .before .before .before .before .play-run .kept .1 .1 .1 .0 in (
+    let l = c .before .before .before .before .before .before .before .play-run .kept .1 .1 .1 .0 in (
       omega arith,
       (
         omega arith,
-        c .before .before .before .before .before .before .before .before .play-run .kept .1 .1 .1 .1 .0 ∙
+        c .before .before .before .before .before .before .before .play-run .kept .1 .1 .1 .1 .0 ∙
             length-replicate {A = ℕ} agendaBytes 0,
       ),
     )
@@ -85,17 +81,13 @@ same-length-3 c = search needs
 
 returns-3 : tie.Need-returns-3
 returns-3 c D H wf =
-    let a = c .before .before .before .before .before .before .before .before .before .before .before .before .before .before .before
-    .before .before .before .before .args in
-    let e = c .before .before .before .before .before .before .before .before .before .before .play-run .ensures D H in
+    let a = c .before .before .before .before .before .before .before .before .before .before .before .before .before .before .before .before .before .before .args in
+    let e = c .before .before .before .before .before .before .before .before .before .play-run .ensures D H in
     let o = playRun D (a .run .now) in
-    let z = sym (c .before .before .before .before .before .before .before .before .before .before .before .before .before .before
-    .instance-stop .ensures D (H .says)) ∙ c .before .before .before .before .before .before .before .before .before .before .before .before
-    .before .if1 .left in
+    let z = sym (c .before .before .before .before .before .before .before .before .before .before .before .before .before .instance-stop .ensures D (H .says)) ∙ c .before .before .before .before .before .before .before .before .before .before .before .before .if1 .left in
     let k = kept-run D (H .says .bounded) (a .run .now) .1 in
     let n = ap (λ (x : Ended). x .facts) (e .0) in
-    total-answer D (a .instance .now) (a .run .now) z (c .before .before .before .before .before .before .before .before .before .before
-    .play-run .result) (e .0) (not-false _ (c .before .before .before .before .if2 .left)) (c .answer-by2 .result)
+    total-answer D (a .instance .now) (a .run .now) z (c .before .before .before .before .before .before .before .before .before .play-run .result) (e .0) (not-false _ (c .before .before .before .before .if2 .left)) (c .answer-by2 .result)
     (c .answer-by2 .ensures o (e .0)) (c .before .total-of .result)
     (c .before .total-of .ensures D (record { facts = o .facts; running = o .running }) H wf
     (end-rows D (H .says .bounded) (o .facts) (k .facts) (k .facts-few) _ n _ (a .work .now) (e .1)) (k .facts) (e .2) (k .running) (k
