@@ -2,22 +2,21 @@
 use borrow.Author.Needs.{needs}
 use native.Mathlib.Omega.{arith}
 use mathlib.Core.Path.{_≡_, ap, _∙_}
-use mathlib.Core.List.{List}
 use Prim.Native.Nat.{ℕ, _-_, _≤_}
 use lib.ListN.{take, getD}
 use lib.Seq.{paste, paste-zero}
 use Rattle.records.proofs.Memory.{paste-more, paste-length}
 use Rattle.literals.specs.Held.{arityIn, componentRowIn}
-use Rattle.witness.specs.Held.{instanceBytes, instanceOf}
-use Rattle.witness.proofs.Facts.{length-instance-at}
-use Rattle.witness.proofs.put_instance.Statement.{statement}
-use Rattle.witness.proofs.put_instance.Tie as tie
+use Rattle.store.specs.InstanceFacts.{instanceBytes}
+use Rattle.store.proofs.InstanceFacts.{length-instance-at}
+use Rattle.store.proofs.instances.put_instance.Statement.{statement}
+use Rattle.store.proofs.instances.put_instance.Tie as tie
 
 abbrev Inv-loop : tie.InvT-loop
-Inv-loop out₀ at head c tuple spare arity i₀ out i = (i ≤ 8) × (arity ≤ 6) × (arity ≡ arityIn head (getD (componentRowIn head c) 0 0)) × (out ≡ paste out₀ at (instanceBytes arity (spare .0) (take 8 tuple) (componentRowIn head c)) i)
+Inv-loop out₀ at head c instance counted arity i₀ out i = (i ≤ 8) × (arity ≤ 6) × (arity ≡ arityIn head (getD (componentRowIn head c) 0 0)) × (out ≡ paste out₀ at (instanceBytes arity (counted .0) (take 8 instance) (componentRowIn head c)) i)
 
 abbrev μ-loop : tie.MeasureT-loop
-μ-loop out₀ at head c tuple spare arity i₀ out i = 8 - i
+μ-loop out₀ at head c instance counted arity i₀ out i = 8 - i
 
 component-byte-requires : tie.Need-component-byte-requires Inv-loop μ-loop
 component-byte-requires c κs = search needs
@@ -29,7 +28,7 @@ loop-holds : tie.Need-loop-holds Inv-loop μ-loop
 loop-holds c =
     let a = c .before .before .before .before .args in
     let r = c .arity-of in
-    (omega arith, r .ensures .1, r .ensures .0 ∙ ap (arityIn (a .head .now)) (c .before .component-byte .ensures), paste-zero (a .out .now) (a .at) (instanceBytes (r .result) (a .spare .0) (take 8 (a .tuple .now)) (componentRowIn (a .head .now) (a .c))))
+    (omega arith, r .ensures .1, r .ensures .0 ∙ ap (arityIn (a .head .now)) (c .before .component-byte .ensures), paste-zero (a .out .now) (a .at) (instanceBytes (r .result) (a .counted .0) (take 8 (a .instance .now)) (componentRowIn (a .head .now) (a .c))))
 
 instance-byte-requires : tie.Need-instance-byte-requires Inv-loop μ-loop
 instance-byte-requires c κs = search needs
@@ -42,7 +41,7 @@ slice-write-out c =
     let a = c .before .before .before .before .before .before .before .args in
     let l = c .before .before .loop in
     let r = c .before .before .before .arity-of .result in
-    let z = paste-length (instanceBytes r (a .spare .0) (take 8 (a .tuple .now)) (componentRowIn (a .head .now) (a .c))) (a .out .now) (l .out) (a .at) (l .i) 8 (omega arith) (length-instance-at r (a .spare .0) (take 8 (a .tuple .now)) (a .head .now) (a .c) (l .inv .1)) (l .inv .3) (omega arith) in
+    let z = paste-length (instanceBytes r (a .counted .0) (take 8 (a .instance .now)) (componentRowIn (a .head .now) (a .c))) (a .out .now) (l .out) (a .at) (l .i) 8 (omega arith) (length-instance-at r (a .counted .0) (take 8 (a .instance .now)) (a .head .now) (a .c) (l .inv .1)) (l .inv .3) (omega arith) in
     omega arith
 
 add-i : tie.Need-add-i Inv-loop μ-loop
@@ -59,7 +58,7 @@ loop-again c =
       omega arith,
       l .inv .1,
       l .inv .2,
-      paste-more (instanceBytes r (a .spare .0) (take 8 (a .tuple .now)) (componentRowIn (a .head .now) (a .c))) (a .out .now) (l .out) (a .at) (l .i) 8 (omega arith) (length-instance-at r (a .spare .0) (take 8 (a .tuple .now)) (a .head .now) (a .c) (l .inv .1)) (l .inv .3) (c .instance-byte .result) (omega arith) (c .instance-byte .ensures),
+      paste-more (instanceBytes r (a .counted .0) (take 8 (a .instance .now)) (componentRowIn (a .head .now) (a .c))) (a .out .now) (l .out) (a .at) (l .i) 8 (omega arith) (length-instance-at r (a .counted .0) (take 8 (a .instance .now)) (a .head .now) (a .c) (l .inv .1)) (l .inv .3) (c .instance-byte .result) (omega arith) (c .instance-byte .ensures),
     )
 
 same-length : tie.Need-same-length Inv-loop μ-loop
@@ -67,14 +66,14 @@ same-length c =
     let a = c .before .before .before .before .before .before .args in
     let l = c .before .loop in
     let r = c .before .before .arity-of .result in
-    paste-length (instanceBytes r (a .spare .0) (take 8 (a .tuple .now)) (componentRowIn (a .head .now) (a .c))) (a .out .now) (l .out) (a .at) (l .i) 8 (omega arith) (length-instance-at r (a .spare .0) (take 8 (a .tuple .now)) (a .head .now) (a .c) (l .inv .1)) (l .inv .3) (omega arith)
+    paste-length (instanceBytes r (a .counted .0) (take 8 (a .instance .now)) (componentRowIn (a .head .now) (a .c))) (a .out .now) (l .out) (a .at) (l .i) 8 (omega arith) (length-instance-at r (a .counted .0) (take 8 (a .instance .now)) (a .head .now) (a .c) (l .inv .1)) (l .inv .3) (omega arith)
 
 returns : tie.Need-returns Inv-loop μ-loop
 returns c =
     let a = c .before .before .before .before .before .before .args in
     let l = c .before .loop in
     let e : l .i ≡ 8 = omega arith in
-    (rw e at (l .inv .3)) ∙ ap (λ (k : ℕ). paste (a .out .now) (a .at) (instanceBytes k (a .spare .0) (take 8 (a .tuple .now)) (componentRowIn (a .head .now) (a .c))) 8) (l .inv .2)
+    (rw e at (l .inv .3)) ∙ ap (λ (k : ℕ). paste (a .out .now) (a .at) (instanceBytes k (a .counted .0) (take 8 (a .instance .now)) (componentRowIn (a .head .now) (a .c))) 8) (l .inv .2)
 
 pub put-instance-spec : {M : Type 1} → statement M
 put-instance-spec =
