@@ -24,6 +24,7 @@ pub fn m1() -> Vec<u8> {
 // Roles: at the start, over all, at the end.
 const START: u8 = 0;
 const START_FALSE: u8 = 1;
+const START_ADD: u8 = 2;
 const START_DELETE: u8 = 3;
 const OVER_ALL: u8 = 4;
 const OVER_ALL_FALSE: u8 = 5;
@@ -79,6 +80,29 @@ pub fn dense(actions: usize, shape: Shape) -> Vec<u8> {
             };
             plan.actions = (0..actions).map(action).collect();
         }
+    }
+    plan.file()
+}
+
+/// 64 actions at once of 64 literals each, to be tried: so many classes, up to 21 each with a true condition that is exchanged for
+/// another fact, more each with a delete; and false conditions of a relation without a component. No answer is yes, so every set
+/// is tried.
+pub fn to_try(classes: usize) -> Vec<u8> {
+    let mut plan = Plan { relations: vec![3, 3, 2], ..Plan::default() };
+    plan.components = vec![(0, vec![0, 1, FF]), (1, vec![FF, 1, 0])];
+    for number in 0..64u8 {
+        let mut action = PlanAction::new(16, false);
+        for class in 0..classes as u8 {
+            action.push(START_DELETE, 0, vec![class % 16, class / 16, number % 16]);
+            if classes <= 21 {
+                action.push(START, 0, vec![class % 16, class / 16, number % 16]);
+                action.push(START_ADD, 1, vec![number % 16, class / 16, class % 16]);
+            }
+        }
+        for other in 0..=255u8 {
+            action.push(START_FALSE, 2, vec![other % 16, other / 16]);
+        }
+        plan.actions.push(action);
     }
     plan.file()
 }
@@ -164,6 +188,12 @@ mod tests {
             assert_eq!(judged(&dense(actions, Shape::Classes)), (0, actions * 64 * 2));
             assert_eq!(judged(&dense(actions, Shape::OneClass)), (0, actions * 2));
             assert_eq!(judged(&dense(actions, Shape::Journeys)), (1, actions * 21 * 2));
+        }
+        for classes in [1, 21, 64] {
+            assert_eq!(judged(&to_try(classes)), (0, 64 * classes));
+            let domain = model::read(&to_try(classes)).expect("a domain");
+            assert!(domain.actions.iter().all(|action| action.literals.len() == 64));
+            assert_eq!(model::trying::answers(&domain), vec![0; 64 * classes]);
         }
         assert_eq!(dense(64, Shape::Classes).len(), 50_036);
         assert_eq!(dense(64, Shape::OneClass).len(), 50_036);
