@@ -16,7 +16,7 @@ use Rattle.literals.specs.declared.Label.the-variants.{Key as keyed, Counted}
 use Rattle.literals.specs.Domain.{object, Component, keyBelow, keysOf, Domain}
 use Rattle.literals.specs.Decode.{labelOf}
 use Rattle.literals.specs.Table.{labelNumber, componentRow}
-use Rattle.literals.specs.Held.{arityIn, componentRowIn, HeadOf}
+use Rattle.literals.specs.Held.{arityIn, componentRowIn, TemplateOf}
 use Rattle.literals.proofs.Bytes.{keys-below}
 use Rattle.literals.proofs.Rows.{row-inside}
 use Rattle.literals.proofs.Held.{keys-few}
@@ -130,7 +130,7 @@ abbrev pub noComponent : Component
 noComponent = record { rel = 0; labels = [] }
 
 -- of the component c of a head
-pub instance-is : {D : Domain} {head : List ℕ} → HeadOf D head → (c : ℕ) → c < length (D .template)
+pub instance-is : {D : Domain} {head : List ℕ} → TemplateOf D head → (c : ℕ) → c < length (D .template)
     → (y : List Object) → length y ≡ keysOf (D .template) → (o : ℕ)
     → instanceOf head c o (objectsRow y) ≡ factRow (instanceFact (object o) y (getD (D .template) c noComponent))
 instance-is {D} {head} H c h y e o =

@@ -6,9 +6,9 @@ use literals::head::Head;
 use literals::head::actions_in;
 use literals::head::is_lasting;
 use literals::head::rows_of;
+use literals::keys::KEY_PLACES;
 use literals::keys::KeyPlaces;
 use literals::keys::put_places;
-use literals::limits::MAX_COMPONENTS;
 use literals::limits::MAX_LITERALS;
 ghost use mathlib.Core.Path.{_≡_};
 ghost use mathlib.Core.Bool.{true, false};
@@ -95,7 +95,7 @@ pub fn try_actions(head: &Head, table: &[u8], made: &mut [u8]) -> usize
     ensures answers { λ r. ⌜ ((D : Domain) (old : List ℕ) → Held D (now (head .entry)) (now (table .entry)) → wellFormed D ≡ true
         → Making D 0 0 (now (made .entry)) old → Making D (length (D .actions)) r (now (made .exit)) old) ⌝ }
 {
-    let mut places = [0u8; 8 * MAX_COMPONENTS];
+    let mut places = [0u8; KEY_PLACES];
     put_places(head, &mut places);
     let mut end = 0;
     for i in 0..actions_in(head) {
