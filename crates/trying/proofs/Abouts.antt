@@ -22,7 +22,7 @@ use Rattle.literals.specs.declared.Moment.the-variants.{Start}
 use Rattle.literals.specs.Domain.{object, Atom, Fact, sameFact, sameLiteral, usageNumber, roleNumber, roleOf, sameTime}
 use Rattle.literals.specs.Domain.{Literal, keysOf, Domain, action}
 use Rattle.literals.specs.Table.{rowOf, rowsIn}
-use Rattle.literals.specs.Held.{keysIn, componentRowsIn, HeadOf}
+use Rattle.literals.specs.Held.{keysIn, componentRowsIn, TemplateOf}
 use Rattle.literals.specs.Keys.{usageAmong, usageFor, numbersFrom, below}
 use Rattle.literals.specs.Matching.{own, literalsAt}
 use Rattle.literals.proofs.Indices.{any-agree, at-all, below-less}
@@ -47,7 +47,8 @@ use Rattle.store.proofs.InstanceRows.{objectsRow, weight-is}
 use Rattle.store.proofs.InstanceFacts.{noComponent, instance-is}
 use Rattle.events.specs.Grounding.{GroundLiteral, groundLiterals, eventLiterals, groundIn}
 use Rattle.events.proofs.Members.{map-in}
-use Rattle.events.proofs.FactRows.{usage-counts, head-kept}
+use Rattle.literals.proofs.Tables.{kept}
+use Rattle.events.proofs.FactRows.{usage-counts}
 use Rattle.effects.specs.Held.{literalsIn, effectsIn}
 use Rattle.trying.specs.declared.alone.Alone.{Alone}
 use Rattle.trying.specs.Trying.{factsUnder, instanceFacts, heldFacts, tries}
@@ -74,7 +75,7 @@ any-objects : (p : Object → Bool) (k n : ℕ) → any (λ o. p (object o)) (nu
 any-objects p k zero = refl
 any-objects p k (suc n) = ap (λ (b : Bool). p (object k) || b) (any-objects p (suc k) n)
 
-module _ (D : Domain) (wf : wellFormed D ≡ true) (i : ℕ) (idx : i < length (D .actions)) {head : List ℕ} (H : HeadOf D head) where
+module _ (D : Domain) (wf : wellFormed D ≡ true) (i : ℕ) (idx : i < length (D .actions)) {head : List ℕ} (H : TemplateOf D head) where
   abbrev b : Binding
   b = sameNumbers (action D i)
 
@@ -109,7 +110,7 @@ module _ (D : Domain) (wf : wellFormed D ≡ true) (i : ℕ) (idx : i < length (
       let s = map-in _ _ (r .1) in
       let l = s .0 in
       let k = filter-in _ (action D i .lits) (s .1) in
-      let o = own-of (l .role) (head-kept H i idx l (k .0) .back) (k .1) in (
+      let o = own-of (l .role) (kept (H .bounded) (action-in D i idx) (k .0) .back) (k .1) in (
         l .role .usage,
         in-flatMap (factsOf objs b) (in-dedup sameLiteral literal-eq (in-withRole (own Start (l .role .usage)) (action D i .lits) (k .0) o))
             (elem-fact f (factsOf objs b (l .atom)) (about-literal l (k .0) f F ∙ sym (ap (meeting f) (s .2)) ∙ r .2)),
@@ -121,7 +122,7 @@ module _ (D : Domain) (wf : wellFormed D ≡ true) (i : ℕ) (idx : i < length (
       let r = flatMap-in (factsOf objs b) (literalsAt (action D i) Start c) m in
       let l = literalsAt-in (action D i) Start c (r .1) in
       let e = eqb-true (usageFor AtStart (roleNumber (l .0 .role))) (suc (usageNumber c))
-      (usage-counts AtStart c (l .0) (head-kept H i idx (l .0) (l .1)) ∙ l .2) in
+      (usage-counts AtStart c (l .0) (kept (H .bounded) (action-in D i idx) (l .1)) ∙ l .2) in
       let counted : not (eqb (usageFor AtStart (roleNumber (l .0 .role))) 0) ≡ true =
       ap not (ne-eqb (usageFor AtStart (roleNumber (l .0 .role))) 0 (λ z. omega arith)) in
       in-any (meeting f)

@@ -177,6 +177,7 @@ module _ (D : Domain) (i : ℕ) (h : i < length (D .actions)) where
         ∙ ap (drop (length new)) (take-append-drop (end - at) (drop at made))
         ∙ drop-drop (length new) at made
         ∙ ap (λ (m : ℕ). drop (at + m) made) (sym count)))
+        ∙ sym (append-assoc (take at made) (take r new) (drop (at + r) made))
 
     pub making-more : (part : List ℕ) → part ≡ over (answersOf D i) (take (end - at) (drop at made))
         → Making D (i + 1) (at + r) (take at made ++ (part ++ drop (end - at) (drop at made))) old

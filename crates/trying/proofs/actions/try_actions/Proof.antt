@@ -43,7 +43,7 @@ try-action-requires c κs =
     let m = c .before .before .before .before .actions-in .ensures .1 in
     let f = l .inv .few in
     let s = l .inv .same in
-    (omega arith, ((D, H, p .0 .2, omega arith), (c .before .before .before .before .before .before .put-places .ensures, omega arith)))
+    (omega arith, ((D, H, p .0 .2, omega arith), (c .before .before .before .before .before .before .put-places .ensures refl, omega arith)))
 
 add-i : tie.Need-add-i Inv-loop μ-loop
 add-i c = let m = c .before .before .before .before .before .before .before .actions-in .ensures .1 in omega arith
