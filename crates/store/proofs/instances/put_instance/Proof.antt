@@ -2,8 +2,9 @@
 use borrow.Author.Needs.{needs}
 use native.Mathlib.Omega.{arith}
 use mathlib.Core.Path.{_≡_, ap, _∙_}
+use mathlib.Core.List.{List}
 use Prim.Native.Nat.{ℕ, _-_, _≤_}
-use lib.ListN.{take, getD}
+use lib.ListN.{length, take, getD}
 use lib.Seq.{paste, paste-zero}
 use Rattle.records.proofs.Memory.{paste-more, paste-length}
 use Rattle.literals.specs.Held.{arityIn, componentRowIn}
@@ -12,8 +13,17 @@ use Rattle.store.proofs.InstanceFacts.{length-instance-at}
 use Rattle.store.proofs.instances.put_instance.Statement.{statement}
 use Rattle.store.proofs.instances.put_instance.Tie as tie
 
+-- of an instance held in memory
+abbrev factIn : ℕ → ℕ → List ℕ → List ℕ → ℕ → List ℕ
+factIn arity counted instance head c = instanceBytes arity counted (take 8 instance) (componentRowIn head c)
+
+length-fact : (arity counted : ℕ) (instance head : List ℕ) (c : ℕ) → arity ≤ 6 → length (factIn arity counted instance head c) ≡ 8
+length-fact arity counted instance head c h = length-instance-at arity counted (take 8 instance) head c h
+
 abbrev Inv-loop : tie.InvT-loop
-Inv-loop out₀ at head c instance counted arity i₀ out i = (i ≤ 8) × (arity ≤ 6) × (arity ≡ arityIn head (getD (componentRowIn head c) 0 0)) × (out ≡ paste out₀ at (instanceBytes arity (counted .0) (take 8 instance) (componentRowIn head c)) i)
+Inv-loop out₀ at head c instance counted arity i₀ out i =
+    (i ≤ 8) × (arity ≤ 6) × (arity ≡ arityIn head (getD (componentRowIn head c) 0 0))
+    × (out ≡ paste out₀ at (factIn arity (counted .0) instance head c) i)
 
 abbrev μ-loop : tie.MeasureT-loop
 μ-loop out₀ at head c instance counted arity i₀ out i = 8 - i
@@ -28,7 +38,12 @@ loop-holds : tie.Need-loop-holds Inv-loop μ-loop
 loop-holds c =
     let a = c .before .before .before .before .args in
     let r = c .arity-of in
-    (omega arith, r .ensures .1, r .ensures .0 ∙ ap (arityIn (a .head .now)) (c .before .component-byte .ensures), paste-zero (a .out .now) (a .at) (instanceBytes (r .result) (a .counted .0) (take 8 (a .instance .now)) (componentRowIn (a .head .now) (a .c))))
+    let f : List ℕ = factIn (r .result) (a .counted .0) (a .instance .now) (a .head .now) (a .c) in (
+      omega arith,
+      r .ensures .1,
+      r .ensures .0 ∙ ap (arityIn (a .head .now)) (c .before .component-byte .ensures),
+      paste-zero (a .out .now) (a .at) f,
+    )
 
 instance-byte-requires : tie.Need-instance-byte-requires Inv-loop μ-loop
 instance-byte-requires c κs = search needs
@@ -41,7 +56,9 @@ slice-write-out c =
     let a = c .before .before .before .before .before .before .before .args in
     let l = c .before .before .loop in
     let r = c .before .before .before .arity-of .result in
-    let z = paste-length (instanceBytes r (a .counted .0) (take 8 (a .instance .now)) (componentRowIn (a .head .now) (a .c))) (a .out .now) (l .out) (a .at) (l .i) 8 (omega arith) (length-instance-at r (a .counted .0) (take 8 (a .instance .now)) (a .head .now) (a .c) (l .inv .1)) (l .inv .3) (omega arith) in
+    let f : List ℕ = factIn r (a .counted .0) (a .instance .now) (a .head .now) (a .c) in
+    let n = length-fact r (a .counted .0) (a .instance .now) (a .head .now) (a .c) (l .inv .1) in
+    let z = paste-length f (a .out .now) (l .out) (a .at) (l .i) 8 (omega arith) n (l .inv .3) (omega arith) in
     omega arith
 
 add-i : tie.Need-add-i Inv-loop μ-loop
@@ -54,11 +71,14 @@ loop-again : tie.Need-loop-again Inv-loop μ-loop
 loop-again c =
     let a = c .before .before .before .before .before .before .before .args in
     let l = c .before .before .loop in
-    let r = c .before .before .before .arity-of .result in (
+    let r = c .before .before .before .arity-of .result in
+    let f : List ℕ = factIn r (a .counted .0) (a .instance .now) (a .head .now) (a .c) in
+    let n = length-fact r (a .counted .0) (a .instance .now) (a .head .now) (a .c) (l .inv .1) in
+    let b = c .instance-byte in (
       omega arith,
       l .inv .1,
       l .inv .2,
-      paste-more (instanceBytes r (a .counted .0) (take 8 (a .instance .now)) (componentRowIn (a .head .now) (a .c))) (a .out .now) (l .out) (a .at) (l .i) 8 (omega arith) (length-instance-at r (a .counted .0) (take 8 (a .instance .now)) (a .head .now) (a .c) (l .inv .1)) (l .inv .3) (c .instance-byte .result) (omega arith) (c .instance-byte .ensures),
+      paste-more f (a .out .now) (l .out) (a .at) (l .i) 8 (omega arith) n (l .inv .3) (b .result) (omega arith) (b .ensures),
     )
 
 same-length : tie.Need-same-length Inv-loop μ-loop
@@ -66,14 +86,17 @@ same-length c =
     let a = c .before .before .before .before .before .before .args in
     let l = c .before .loop in
     let r = c .before .before .arity-of .result in
-    paste-length (instanceBytes r (a .counted .0) (take 8 (a .instance .now)) (componentRowIn (a .head .now) (a .c))) (a .out .now) (l .out) (a .at) (l .i) 8 (omega arith) (length-instance-at r (a .counted .0) (take 8 (a .instance .now)) (a .head .now) (a .c) (l .inv .1)) (l .inv .3) (omega arith)
+    let f : List ℕ = factIn r (a .counted .0) (a .instance .now) (a .head .now) (a .c) in
+    let n = length-fact r (a .counted .0) (a .instance .now) (a .head .now) (a .c) (l .inv .1) in
+    paste-length f (a .out .now) (l .out) (a .at) (l .i) 8 (omega arith) n (l .inv .3) (omega arith)
 
 returns : tie.Need-returns Inv-loop μ-loop
 returns c =
     let a = c .before .before .before .before .before .before .args in
     let l = c .before .loop in
     let e : l .i ≡ 8 = omega arith in
-    (rw e at (l .inv .3)) ∙ ap (λ (k : ℕ). paste (a .out .now) (a .at) (instanceBytes k (a .counted .0) (take 8 (a .instance .now)) (componentRowIn (a .head .now) (a .c))) 8) (l .inv .2)
+    (rw e at (l .inv .3))
+    ∙ ap (λ (k : ℕ). paste (a .out .now) (a .at) (factIn k (a .counted .0) (a .instance .now) (a .head .now) (a .c)) 8) (l .inv .2)
 
 pub put-instance-spec : {M : Type 1} → statement M
 put-instance-spec =

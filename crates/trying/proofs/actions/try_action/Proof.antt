@@ -1,5 +1,5 @@
 -- `try_action` meets its contract. Assumes nothing.
-use mathlib.Core.Path.{_≡_, sym, _∙_}
+use mathlib.Core.Path.{sym, _∙_}
 use native.Mathlib.Omega.{arith}
 use Rattle.trying.proofs.Answering.{making-lasting}
 use borrow.Author.Needs.{needs}

@@ -1,5 +1,5 @@
 -- `try_actions` meets its contract. The loop's invariant is `InActions` of proofs/Answering. Assumes nothing.
-use mathlib.Core.Path.{_≡_, refl, sym, ap, subst, _∙_}
+use mathlib.Core.Path.{_≡_, refl, subst, _∙_}
 use Prim.Native.Nat.{ℕ, _-_, _<_}
 use native.Mathlib.Omega.{arith}
 use lib.ListN.{length}
@@ -43,7 +43,8 @@ try-action-requires c κs =
     let m = c .before .before .before .before .actions-in .ensures .1 in
     let f = l .inv .few in
     let s = l .inv .same in
-    (omega arith, ((D, H, p .0 .2, omega arith), (c .before .before .before .before .before .before .put-places .ensures refl, omega arith)))
+    let placed = c .before .before .before .before .before .before .put-places .ensures refl in
+    (omega arith, ((D, H, p .0 .2, omega arith), (placed, omega arith)))
 
 add-i : tie.Need-add-i Inv-loop μ-loop
 add-i c = let m = c .before .before .before .before .before .before .before .actions-in .ensures .1 in omega arith

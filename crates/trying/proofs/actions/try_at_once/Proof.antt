@@ -68,12 +68,15 @@ part-answer-rows-end-2 c = search needs
 answer-rows-requires : tie.Need-answer-rows-requires
 answer-rows-requires c κs =
     let p = c .before .before .before .before .before .before .before .before .before .before .before .before .before .pre in
-    (p .1 .1 .0, (c .before .before .before .before .before .before .before .step-alone .ensures .0, (search needs, (search needs, (search needs, search needs)))))
+    let few = c .before .before .before .before .before .before .before .step-alone .ensures .0 in
+    (p .1 .1 .0, (few, (search needs, (search needs, (search needs, search needs)))))
 
 add-result : tie.Need-add-result
 add-result c =
-    let f = c .before .before .before .before .before .before .before .before .before .before .before .before .before .before .before .before .before .good .1 .1 .1 .1 .0 in
-    let r = c .before .before .before .before .before .before .before .before .before .before .before .before .before .before .before .before .before .pre .1 .1 .1 in
+    let f = c .before .before .before .before .before .before .before .before .before .before .before .before .before .before .before
+    .before .before .good .1 .1 .1 .1 .0 in
+    let r = c .before .before .before .before .before .before .before .before .before .before .before .before .before .before .before
+    .before .before .pre .1 .1 .1 in
     let k = c .before .before .before .answer-rows .ensures .0 in omega arith
 
 same-length : tie.Need-same-length
@@ -81,14 +84,19 @@ same-length c = search needs
 
 returns : tie.Need-returns
 returns c =
-    let a = c .before .before .before .before .before .before .before .before .before .before .before .before .before .before .before .before .before .args in
-    let r = c .before .before .before .before .before .before .before .before .before .before .before .before .before .before .before .before .before .pre .1 .1 .1 in
+    let a = c .before .before .before .before .before .before .before .before .before .before .before .before .before .before .before
+    .before .before .args in
+    let r = c .before .before .before .before .before .before .before .before .before .before .before .before .before .before .before
+    .before .before .pre .1 .1 .1 in
     let w = c .before .before .before .answer-rows in
     let k = w .ensures .0 in (
       omega arith,
       λ D old H wf h M l.
-          let S = c .before .before .before .before .before .before .before .before .before .before .before .before .before .before .rows-of .ensures .1 D H h in
-          let t = w .ensures .1 D (a .i) (action-held H wf (a .i) h (S .literals)) wf h (c .before .before .before .before .before .before .before .before .before .before .before .step-alone .ensures .1 D H wf h) in
+          let S = c .before .before .before .before .before .before .before .before .before .before .before .before .before .before
+          .rows-of .ensures .1 D H h in
+          let L =
+          c .before .before .before .before .before .before .before .before .before .before .before .step-alone .ensures .1 D H wf h in
+          let t = w .ensures .1 D (a .i) (action-held H wf (a .i) h (S .literals)) wf h L in
           making-more D (a .i) h l M (a .at + 64) (w .result) refl r (t .0) k _ (t .2),
     )
 

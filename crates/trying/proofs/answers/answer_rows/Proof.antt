@@ -1,6 +1,5 @@
 -- `answer_rows` meets its contract: the classes are numbered, and the part of the memory that they need is lent. Assumes nothing.
-use mathlib.Core.List.{List}
-use Prim.Native.Nat.{ℕ, _≤_}
+use Prim.Native.Nat.{_≤_}
 use native.Mathlib.Omega.{arith}
 use lib.ListN.{length}
 use Rattle.literals.specs.Domain.{action}
@@ -36,8 +35,10 @@ same-length-2 c = search needs
 
 returns : tie.Need-returns
 returns c =
-    let a = c .before .before .before .before .before .before .before .before .before .before .before .before .before .before .before .before .args in
-    let p = c .before .before .before .before .before .before .before .before .before .before .before .before .before .before .before .before .pre .1 .1 .1 .1 in
+    let a = c .before .before .before .before .before .before .before .before .before .before .before .before .before .before .before
+    .before .args in
+    let p = c .before .before .before .before .before .before .before .before .before .before .before .before .before .before .before
+    .before .pre .1 .1 .1 .1 in
     let n = c .before .before .before .before .before .before .before .before .number-classes in
     let k = n .ensures .0 in
     let few : n .result ≤ length (a .made .now) = omega arith in (
