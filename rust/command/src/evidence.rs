@@ -2,10 +2,10 @@
 
 use crate::domain::{Action, Domain, List, Time};
 use crate::library::{Fact, Judged, Name, Row};
-use crate::prose::{listed, paragraph, wrap};
+use crate::prose::{paragraph, wrap};
 use crate::reasons::{classes, has_over_all, is_journey, Class};
 use crate::run::{Entry, Event};
-use crate::scenario::{event, line, object_names, unused, Scenario};
+use crate::scenario::{event, line, object_names, objects_taken, unused, Scenario};
 use crate::stops::bind;
 
 const LASTING: &str =
@@ -46,7 +46,7 @@ impl<'d> Named<'d> {
     /// The witness of 40 to 42, the event, and the facts after it.
     fn witness(&self, facts: &[Fact]) -> String {
         let scenario = self.scenario(facts.to_vec(), vec![self.event(self.row.moment)]);
-        let mut text = wrap("\nwitness: ", "    ", &self.objects());
+        let mut text = wrap("\nwitness: ", "    ", &objects_taken(self.action));
         text += &line("facts", &scenario.facts_words(facts));
         text += &line("event", &scenario.event_words(0));
         if self.row.moment == 1 {
@@ -69,16 +69,6 @@ impl<'d> Named<'d> {
     fn without_witness(&self) -> String {
         let said = "none is written for an end whose class has a condition over all.";
         wrap("\nwitness: ", "    ", said) + &shown_or_open("  ", self.start_and_end(&[]))
-    }
-
-    fn objects(&self) -> String {
-        let names = object_names(self.action);
-        match &names[..] {
-            [spare] => format!("take one object, {spare}."),
-            [one, spare] => format!("take an object {one}, and one more, {spare}."),
-            [all @ .., spare] => format!("take different objects {}, and one more, {spare}.", listed(all)),
-            [] => String::new(),
-        }
     }
 
     fn event(&self, moment: u8) -> Event {

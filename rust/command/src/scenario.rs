@@ -13,6 +13,16 @@ pub fn object_names(action: &Action) -> Vec<String> {
     names
 }
 
+/// These objects in a sentence.
+pub fn objects_taken(action: &Action) -> String {
+    match &object_names(action)[..] {
+        [spare] => format!("take one object, {spare}."),
+        [one, spare] => format!("take an object {one}, and one more, {spare}."),
+        [all @ .., spare] => format!("take different objects {}, and one more, {spare}.", listed(all)),
+        [] => String::new(),
+    }
+}
+
 /// An event of an action, each variable bound to the object of its name.
 pub fn event(action: usize, variables: usize, moment: u8) -> Event {
     Event { moment, entry: Entry { action, objects: (0..variables as u8).collect() } }

@@ -77,14 +77,15 @@ template at[0,_]
         said(&output),
         "\
 at once put(volume, shelf)
-  class 0, about volume: yes, some of 4 sets of facts shows it (unbounded)
+  class 0, about volume: yes, some set of 4 leads to two facts (unbounded)
+  take different objects volume and shelf, and one more, other.
   facts    at(volume, other)
   event    put(volume, shelf)
   after it at(volume, other), at(volume, shelf)
   weight: volume has 1 of the facts before and 2 after.
 
 at once strike(volume, shelf)
-  class 0, about volume: no, none of 4 sets of facts shows it (bounded)
+  class 0, about volume: no, none of 4 sets leads to two facts (bounded)
 
 at once see(volume)
   no class: none of its literals is of a relation in the template.
@@ -98,6 +99,14 @@ lasting lend(volume, shelf)
         tsv,
         "action\tclass\tabout\tharm\tname\nput\t0\tvolume\tyes\tunbounded\nstrike\t0\tvolume\tno\tbounded\n"
     );
+}
+
+#[test]
+fn a_file_without_actions_says_so() {
+    let folder = Folder::new("try-none");
+    let file = folder.put("d.txt", "relation at/2\ntemplate at[0,_]\n");
+    let output = run(&[file.to_str().expect("a name")]);
+    assert_eq!((output.status.code(), &said(&output)[..]), (Some(0), "no action: there is nothing to try.\n"));
 }
 
 #[test]

@@ -7,7 +7,7 @@ use crate::files::{load_domain, LoadedDomain};
 use crate::library::{try_facts, Row};
 use crate::output::{print, tell, Status};
 use crate::prose::{paragraph, wrap};
-use crate::scenario::line;
+use crate::scenario::{line, objects_taken};
 use crate::sentences::about;
 use crate::table::{Form, Table};
 use crate::tried::{tried, Tried};
@@ -59,8 +59,11 @@ fn name(loaded: &LoadedDomain, class: &Tried) -> &'static str {
     loaded.judged.rows.iter().find(is_this).map_or("", |row| row.name.word())
 }
 
-/// Every action with its classes; where the answer is yes, the first set of facts that shows it.
+/// Every action with its classes; where the answer is yes, the first set of facts that leads to two.
 fn sentences(loaded: &LoadedDomain, domain: &Domain, classes: &[Tried]) -> String {
+    if domain.actions.is_empty() {
+        return "no action: there is nothing to try.\n".to_string();
+    }
     let mut text = String::new();
     for (number, action) in domain.actions.iter().enumerate() {
         let sort = if action.lasting { "lasting" } else { "at once" };
@@ -80,22 +83,24 @@ fn sentences(loaded: &LoadedDomain, domain: &Domain, classes: &[Tried]) -> Strin
 }
 
 fn class_words(loaded: &LoadedDomain, domain: &Domain, class: &Tried) -> String {
-    let sets = match class.sets(domain).len() {
-        1 => "1 set of facts".to_string(),
-        count => format!("{count} sets of facts"),
+    let shown = match (class.harms, class.sets(domain).len()) {
+        (true, 1) => "the only set leads to two facts".to_string(),
+        (true, sets) => format!("some set of {sets} leads to two facts"),
+        (false, 1) => "the only set does not lead to two facts".to_string(),
+        (false, sets) => format!("none of {sets} sets leads to two facts"),
     };
     let head = format!("class {}, about {}", class.class_number, about(class.action, &class.class));
-    let shown = if class.harms { "some" } else { "none" };
-    let said = format!("{head}: {}, {shown} of {sets} shows it ({})", answer(class), name(loaded, class));
+    let said = format!("{head}: {}, {shown} ({})", answer(class), name(loaded, class));
     let text = wrap("  ", "      ", &said);
     if !class.harms {
         return text;
     }
     let Some(scenario) = class.first_harm(domain, &loaded.file) else {
-        return text + &paragraph("    ", "no set was found that shows it: please report this file");
+        return text + &paragraph("    ", "no such set was found: please report this file");
     };
     let after = scenario.state(1).facts;
-    text + &line("facts", &scenario.facts_words(&scenario.facts))
+    text + &paragraph("  ", &objects_taken(class.action))
+        + &line("facts", &scenario.facts_words(&scenario.facts))
         + &line("event", &scenario.event_words(0))
         + &line("after it", &scenario.facts_words(&after))
         + &paragraph("  ", &scenario.weights())
