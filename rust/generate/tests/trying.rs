@@ -40,9 +40,13 @@ fn by_names(domain: &Domain) -> Vec<u8> {
 
 #[test]
 fn yes_exactly_for_heavy_unbalanced_and_unbounded() {
-    let (mut tried, mut yes, mut clearing, mut told) = (0, 0, 0, MISTRIES.map(|_| 0));
-    for seed in 0..FILES {
+    let (mut files, mut tried, mut yes, mut clearing, mut told) = (0, 0, 0, 0, MISTRIES.map(|_| 0));
+    for seed in 0.. {
+        if files == FILES {
+            break;
+        }
         let Ok(domain) = read(&file(seed)) else { continue };
+        files += 1;
         let got = trying::answers(&domain);
         assert_eq!(got, by_names(&domain), "seed {seed}");
         tried += got.len();
@@ -57,7 +61,7 @@ fn yes_exactly_for_heavy_unbalanced_and_unbounded() {
             }
         }
     }
-    println!("{tried} classes tried, {yes} with harm; {clearing} files with clearing literals");
+    println!("{files} files, {tried} classes tried, {yes} with harm; {clearing} files with clearing literals");
     println!("{MISTRIES:?} told by {told:?}");
     assert!(tried >= 100_000 && yes >= 20_000 && clearing >= 10_000);
     assert!(told.iter().all(|&count| count >= 20));
