@@ -107,6 +107,38 @@ pub fn to_try(classes: usize) -> Vec<u8> {
     plan.file()
 }
 
+/// So many actions at once, each with so many true conditions, up to 64, that are each a class of their own: every fact is weighed
+/// for every class.
+pub fn asked(actions: u8, conditions: u8) -> Vec<u8> {
+    let mut plan = Plan { relations: vec![6], ..Plan::default() };
+    plan.components = vec![(0, vec![0, 1, 2, 3, 4, FF])];
+    for number in 0..actions {
+        let mut action = PlanAction::new(16, false);
+        for class in 0..conditions {
+            action.push(START, 0, vec![0, 0, 0, class / 16, class % 16, number % 16]);
+        }
+        plan.actions.push(action);
+    }
+    plan.file()
+}
+
+/// 64 actions at once of 64 literals each, with three classes that add a fact and strike those of 16 components: of every component
+/// every object is tried, against every literal.
+pub fn struck() -> Vec<u8> {
+    let mut plan = Plan { relations: vec![2; 17], ..Plan::default() };
+    plan.components = (0..16).map(|relation| (relation, vec![0, FF])).collect();
+    for _ in 0..64 {
+        let mut action = PlanAction::new(16, false);
+        for class in 0..3 {
+            action.push(START_ADD, 0, vec![class, 15]);
+            (0..16).for_each(|relation| action.push(START_DELETE, relation, vec![class, FF]));
+        }
+        (0..13).for_each(|other| action.push(START_FALSE, 16, vec![other, other]));
+        plan.actions.push(action);
+    }
+    plan.file()
+}
+
 /// An atom with the variables of a class under the keys, in the order of its component.
 fn atom(action: usize, component: usize, class: usize) -> (u8, Vec<u8>) {
     let (a, b) = (class as u8 % 16, class as u8 / 16);
@@ -194,6 +226,13 @@ mod tests {
             let domain = model::read(&to_try(classes)).expect("a domain");
             assert!(domain.actions.iter().all(|action| action.literals.len() == 64));
             assert_eq!(model::trying::answers(&domain), vec![0; 64 * classes]);
+        }
+        for (file, actions, literals, classes) in
+            [(asked(64, 64), 64, 64, 64), (asked(8, 64), 8, 64, 64), (asked(64, 8), 64, 8, 8), (struck(), 64, 64, 3)]
+        {
+            let domain = model::read(&file).expect("a domain");
+            assert!(domain.actions.len() == actions && domain.actions.iter().all(|a| a.literals.len() == literals));
+            assert_eq!(model::trying::answers(&domain), vec![0; actions * classes]);
         }
         assert_eq!(dense(64, Shape::Classes).len(), 50_036);
         assert_eq!(dense(64, Shape::OneClass).len(), 50_036);

@@ -152,6 +152,14 @@ fn services() {
         ("64 actions, 1 class", files::to_try(1)),
         ("64 actions, 21 classes", files::to_try(21)),
         ("64 actions, 64 classes", files::to_try(64)),
+        ("64 actions, all struck", files::struck()),
+        ("64 x 8 conditions", files::asked(64, 8)),
+        ("64 x 16 conditions", files::asked(64, 16)),
+        ("64 x 32 conditions", files::asked(64, 32)),
+        ("64 x 64 conditions", files::asked(64, 64)),
+        ("32 x 64 conditions", files::asked(32, 64)),
+        ("16 x 64 conditions", files::asked(16, 64)),
+        ("8 x 64 conditions", files::asked(8, 64)),
     ];
     service("trying the facts", tries, goadlotus::TRIED, &files);
 }
