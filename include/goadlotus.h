@@ -1,14 +1,14 @@
 /*
  * goadlotus: judging a domain file, playing a run, also with an instance that is followed, listing the
- * templates of a single component, and counting a box of files. The library is libgoadlotus.a, in lib/ of
- * a release, and in target/staticlib/ of a checkout, where `rt staticlib goadlotus` writes it; it links
- * into x86-64 programs.
+ * templates of a single component, trying the facts themselves, and counting a box of files. The library
+ * is libgoadlotus.a, in lib/ of a release, and in target/staticlib/ of a checkout, where
+ * `rt staticlib goadlotus` writes it; it links into x86-64 programs.
  *
  * goadlotus_judge_file and goadlotus_play_files, at the end, bring the memory and say how many rows and
  * facts were written; goadlotus_judge and goadlotus_play work in memory that the caller lends. In the
  * same two ways goadlotus_track_files and goadlotus_track play a run with an instance,
- * goadlotus_list_templates and goadlotus_templates list templates, goadlotus_count_box and
- * goadlotus_totals count a box.
+ * goadlotus_list_templates and goadlotus_templates list templates, goadlotus_try_file and goadlotus_try
+ * try the facts, goadlotus_count_box and goadlotus_totals count a box.
  */
 #ifndef GOADLOTUS_H
 #define GOADLOTUS_H
@@ -23,6 +23,7 @@
 #define GOADLOTUS_WITNESS_SIZE   512 /* memory for the witness that is enough for every file */
 #define GOADLOTUS_WORK_SIZE     8192 /* work memory that playing needs */
 #define GOADLOTUS_TEMPLATES_SIZE 1344 /* memory for the list of templates that is enough for every file */
+#define GOADLOTUS_TRIED_SIZE    4096 /* memory for the answers of trying that is enough for every file */
 #define GOADLOTUS_TOTALS_SIZE    568 /* the totals of a box: 71 numbers of 8 bytes */
 #define GOADLOTUS_ROW_SIZE         4 /* a row of the report */
 #define GOADLOTUS_TEMPLATE_SIZE    3 /* an entry of the list of templates */
@@ -228,6 +229,29 @@ uint64_t goadlotus_templates(const uint8_t *file, size_t file_len,
                              uint8_t *list, size_t list_len, uint64_t *first);
 
 /*
+ * Tries the facts of the domain in the file_len bytes at file: for each class of each action at once, in the
+ * order of the report, a byte that says whether some set of facts shows harm, 1 yes, 0 no. Lasting actions
+ * are passed over. The number is returned, and its place always comes back in *first.
+ *
+ *    0        tried: *first is the number of bytes written, one for each class.
+ *    9 to 27  not well-formed; the same number and first place as from goadlotus_judge.
+ *   30        tried_len is under the number of classes. *first is 0.
+ *
+ * No other number is returned. Variable i is bound to object i, and there is one object more. The sets are
+ * the action's true conditions, and these with one further fact that the class's instance matches, over
+ * these objects. From each of them in which the instance weighs at most one, and in which the action alone
+ * is an allowed step of the machine, this step is made; a set shows harm if the instance then weighs two
+ * or more. The answer is 1 exactly where the report's name is heavy, unbalanced or unbounded.
+ *
+ * 9 to 30 write nothing; all other bytes of tried stay as they were, and the file stays as it was. No length
+ * is ever exceeded, in reading or in writing, whatever the file says. GOADLOTUS_TRIED_SIZE bytes are enough
+ * for every file. All lengths may be any, 0 too. file, tried and first must not overlap; no pointer may be
+ * null, not even one to 0 bytes, and first must be aligned.
+ */
+uint64_t goadlotus_try(const uint8_t *file, size_t file_len,
+                       uint8_t *tried, size_t tried_len, uint64_t *first);
+
+/*
  * Counts the files_len bytes at files, a box: domain files in a row, each behind its length in 4 bytes,
  * little-endian. The number is returned, and its place always comes back in *first.
  *
@@ -340,6 +364,21 @@ static inline uint64_t goadlotus_list_templates(const uint8_t *file, size_t file
     listed->number = goadlotus_templates(file, file_len, listed->list, sizeof listed->list, &listed->first);
     listed->templates = listed->number == 0 ? (size_t)listed->first / GOADLOTUS_TEMPLATE_SIZE : 0;
     return listed->number;
+}
+
+/* The facts of a file tried. */
+struct goadlotus_tried {
+    uint64_t number, first;
+    size_t classes;                      /* how many answers there are */
+    uint8_t tried[GOADLOTUS_TRIED_SIZE]; /* 1 yes, 0 no */
+};
+
+/* Tries the facts of a domain file; the number is also returned, and is never 30. */
+static inline uint64_t goadlotus_try_file(const uint8_t *file, size_t file_len, struct goadlotus_tried *tried) {
+    memset(tried, 0, sizeof *tried);
+    tried->number = goadlotus_try(file, file_len, tried->tried, sizeof tried->tried, &tried->first);
+    tried->classes = tried->number == 0 ? (size_t)tried->first : 0;
+    return tried->number;
 }
 
 /* The totals of a box. */

@@ -7,3 +7,4 @@ pub mod Clearing
 pub mod Refuted
 pub mod Boxes
 pub mod OneRelation
+pub mod Tried

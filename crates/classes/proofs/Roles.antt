@@ -31,7 +31,7 @@ withRole-in rs (l ∷ ls) {p} m = go (λ k. withRole-in rs ls k) (in-keepIf (rs 
     go ih (inl h) = (l, List·Memᴰ·head refl, h .0, h .1)
     go ih (inr k) = let r = ih k in (r .0, List·Memᴰ·tail (r .1), r .2, r .3)
 
-in-withRole : (rs : Role → Bool) (ls : List Literal) {l : Literal} → In l ls → rs (l .role) ≡ true → In (l .atom) (withRole rs ls)
+pub in-withRole : (rs : Role → Bool) (ls : List Literal) {l : Literal} → In l ls → rs (l .role) ≡ true → In (l .atom) (withRole rs ls)
 in-withRole rs ls (List·Memᴰ·head {x = k} e) t =
     let u : rs (k .role) ≡ true = rw e at t in rw (e, u) (List·Memᴰ·head refl)
 in-withRole rs ls (List·Memᴰ·tail {x = k} {xs = ks} m) t = keepIf-tail (rs (k .role)) (k .atom) (in-withRole rs ks m t)

@@ -230,10 +230,10 @@ rows-of P usage ls h row m =
 -- ---- they are those of the events' literals
 
 -- the rows of an event's literals of one usage, so bound, and those of the events of a step
-abbrev eventRows : Domain → Event → Usage → List (List ℕ)
+abbrev pub eventRows : Domain → Event → Usage → List (List ℕ)
 eventRows D e c = map (patternRow (e .ground .binding)) (withRole (own (e .moment) c) (action D (e .ground .action) .lits))
 
-abbrev effectRows : Domain → List Event → Usage → List (List ℕ)
+abbrev pub effectRows : Domain → List Event → Usage → List (List ℕ)
 effectRows D es c = flatMap (λ (e : Event). eventRows D e c) es
 
 -- those that count at the time of a moment are its own
@@ -301,7 +301,7 @@ module _ {D : Domain} {head : List ℕ} (H : HeadOf D head) (c : Usage) where
       ∙ ap₂ _++_ (event-rows e (F e (List·Memᴰ·head refl))) (step-rows es (λ f m. F f (List·Memᴰ·tail m)))
 
 -- of a step, in memory
-grounded-rows : {D : Domain} {head : List ℕ} {es : List Event} {memory : List ℕ} {total : ℕ} → Grounded D head es memory total
+pub grounded-rows : {D : Domain} {head : List ℕ} {es : List Event} {memory : List ℕ} {total : ℕ} → Grounded D head es memory total
     → (c : Usage) → rowsWith (suc (usageNumber c)) (groundIn total memory) ≡ effectRows D es c
 grounded-rows {es = es} G c = ap (rowsWith (suc (usageNumber c))) (G .laid .filled) ∙ step-rows (G .says) c es (G .fit)
 
@@ -320,7 +320,7 @@ own-plain Start r h = counts-plain AtStart Add r h refl
 own-plain End r h = counts-plain AtEnd Add r h refl
 
 -- so their rows are those of facts
-plain-rows : (b : Binding) (ps : List (Atom Argument)) → ((p : Atom Argument) → In p ps → countBy isEvery (p .args) ≡ 0)
+pub plain-rows : (b : Binding) (ps : List (Atom Argument)) → ((p : Atom Argument) → In p ps → countBy isEvery (p .args) ≡ 0)
     → map (patternRow b) ps ≡ map factRow (map (bind b) ps)
 plain-rows b [] h = refl
 plain-rows b (p ∷ ps) h =

@@ -46,7 +46,7 @@ joined-facts fs gs =
     ∙ outside (dedup sameFact gs) fs)
     ∙ sym (map-append factRow fs (filterBy (λ (f : Fact). not (elem sameFact f fs)) (dedup sameFact gs)))
 
-fact-bytes : (fs : List Fact) → flat (map factRow fs) ≡ factBytes fs
+pub fact-bytes : (fs : List Fact) → flat (map factRow fs) ≡ factBytes fs
 unfolding flatMap factBytes
 fact-bytes [] = refl
 fact-bytes (f ∷ fs) =

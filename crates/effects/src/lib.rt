@@ -292,8 +292,8 @@ fn put_effect(scratch: &mut [u8], n: usize, i: usize, usage: u8) -> usize
 }
 
 // Those of the first `total` ground literals that are of this usage, in order, behind the first `at` rows of the effects: what the step
-// adds (usage 3) or strikes (usage 4). The count then.
-fn step_effects(scratch: &mut [u8], at: usize, total: usize, usage: u8) -> usize
+// adds (usage 3) or strikes (usage 4), or its true conditions (usage 1). The count then.
+pub fn step_effects(scratch: &mut [u8], at: usize, total: usize, usage: u8) -> usize
     requires scratch { ⌜ length (now scratch) ≡ scratchBytes ⌝ }
     requires total { ⌜ total ≤ maxGround ⌝ }
     requires room { ⌜ at + length (rowsWith usage (groundIn total (literalsIn (now scratch)))) ≤ maxGround ⌝ }

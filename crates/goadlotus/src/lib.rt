@@ -6,6 +6,7 @@ use player::play::play_files;
 use player::track::track_files;
 use templates::list_templates;
 use totals::count_box;
+use trying::try_facts;
 ghost use mathlib.Core.Path.{_≡_};
 ghost use Rattle.verdict.specs.Judged.{judged, reportAfter, witnessAfter};
 ghost use Rattle.verdict.specs.Claims.{AcceptedSafe, RefusedHarmful, WitnessHarms};
@@ -18,6 +19,8 @@ ghost use Rattle.templates.specs.Templates.{listFile, listAfter};
 ghost use Rattle.templates.specs.Claims.{EntriesSafe, NothingMissing};
 ghost use Rattle.totals.specs.Totals.{totalled, totalsAfter};
 ghost use Rattle.totals.specs.Claims.{CountsFiles, AddsUp};
+ghost use Rattle.trying.specs.Trying.{triedFile, triedAfter};
+ghost use Rattle.trying.specs.Claims.{AgreesWithNames};
 
 // Judges a domain file: answers the number, and leaves its three places, the report and the witness.
 #[no_mangle]
@@ -153,4 +156,16 @@ pub extern "C" fn goadlotus_templates(file: &[u8], list: &mut [u8], first: &mut 
     ensures whole { λ r. ⌜ NothingMissing (now (file .entry)) r (now (first .exit)) (now (list .exit)) ⌝ }
 {
     list_templates(file, list, first)
+}
+
+// Tries the facts themselves, for every class of every action at once of a domain file: answers the number, and leaves its place and a byte
+// a class in the report's order: 1 where two facts of the class's instance result from at most one, by one step of the machine, else 0.
+#[no_mangle]
+pub extern "C" fn goadlotus_try(file: &[u8], tried: &mut [u8], first: &mut u64) -> u64
+    ensures number { λ r. ⌜ r ≡ triedFile (now (file .entry)) (now (tried .entry)) .number ⌝ }
+    ensures first { λ _. ⌜ now (first .exit) ≡ triedFile (now (file .entry)) (now (tried .entry)) .first ⌝ }
+    ensures tried { λ _. ⌜ now (tried .exit) ≡ triedAfter (now (file .entry)) (now (tried .entry)) ⌝ }
+    ensures names { λ r. ⌜ AgreesWithNames (now (file .entry)) r (now (first .exit)) (now (tried .exit)) ⌝ }
+{
+    try_facts(file, tried, first)
 }

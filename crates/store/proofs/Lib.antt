@@ -1,4 +1,5 @@
 -- Facts as they are held.
 pub mod RowLoops
 pub mod InstanceRows
+pub mod InstanceFacts
 pub mod Totals

@@ -1,3 +1,4 @@
--- Facts as they are held: rows, and the index by which they are found.
+-- Facts as they are held: rows, the facts of an instance, and the index by which they are found.
 pub mod Rows
+pub mod InstanceFacts
 pub mod Index

@@ -107,7 +107,7 @@ module _ (D : Domain) (wf : wellFormed D ≡ true) (i : ℕ) (idx : i < length (
 
   -- ---- objects
 
-  bound-in : (o : Object) → In o b → In o (plainObjects D i)
+  pub bound-in : (o : Object) → In o b → In o (plainObjects D i)
   bound-in o m = let r = objects-range 0 (act .vars) o m in let h = r .1 in object-in 0 (suc (act .vars)) o (omega arith) (omega arith)
 
   value-in : (u : List Variable) → Below (length b) u → (o : Object) → In o (bindTuple b u) → In o b
@@ -120,13 +120,13 @@ module _ (D : Domain) (wf : wellFormed D ≡ true) (i : ℕ) (idx : i < length (
   abbrev facts : Effect
   facts = effect (plainObjects D i) act b Start
 
-  below : (c : Usage) (p : Atom Argument) → In p (literalsAt act Start c) → Below (length b) (variablesOf (p .args))
+  pub below : (c : Usage) (p : Atom Argument) → In p (literalsAt act Start c) → Below (length b) (variablesOf (p .args))
   below = at-below D act ok (plainObjects D i) b len dis bound-in [] Start
 
-  plain : (c : Usage) → mayClear c ≡ false → (p : Atom Argument) → In p (literalsAt act Start c) → countBy isEvery (p .args) ≡ 0
+  pub plain : (c : Usage) → mayClear c ≡ false → (p : Atom Argument) → In p (literalsAt act Start c) → countBy isEvery (p .args) ≡ 0
   plain = at-plain D act ok (plainObjects D i) b len dis bound-in [] Start
 
-  held-fact : (c : Usage) (f : Fact) → In f (facts c) → isFact D (plainObjects D i) f ≡ true
+  pub held-fact : (c : Usage) (f : Fact) → In f (facts c) → isFact D (plainObjects D i) f ≡ true
   held-fact c f m =
       let r = flatMap-in (factsOf (plainObjects D i) b) (literalsAt act Start c) m in
       let g = facts-in (plainObjects D i) b (r .0) f (r .2) in
@@ -139,7 +139,7 @@ module _ (D : Domain) (wf : wellFormed D ≡ true) (i : ℕ) (idx : i < length (
 
   -- ---- facts from which the event leaves two facts of the instance
 
-  ev-legal : legal D ev ≡ true
+  pub ev-legal : legal D ev ≡ true
   unfolding legal
   ev-legal = and-i (and-i (lt-ltb i (length (D .actions)) idx) refl) (eq-eqb (length b) (act .vars) len)
 
@@ -201,10 +201,10 @@ module _ (D : Domain) (wf : wellFormed D ≡ true) (i : ℕ) (idx : i < length (
     abbrev y : List Object
     y = bindTuple (sameNumbers (action D i)) x
 
-    size : length y ≡ keysOf (D .template)
+    pub size : length y ≡ keysOf (D .template)
     size = length-map x (valueOf b) ∙ class-length D act ok okT x hx
 
-    over : (o : Object) → In o y → In o (plainObjects D i)
+    pub over : (o : Object) → In o y → In o (plainObjects D i)
     over o m = bound-in o (value-in x (class-below D act ok (plainObjects D i) b len dis bound-in y x hx) o m)
 
     class-literal : (c : Usage) (p : Atom Argument) → In p (inClass D act x Start c) → In p (literalsAt act Start c)

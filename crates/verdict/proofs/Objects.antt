@@ -1,20 +1,23 @@
 -- Objects among others, and those of the witness: "variable i is object i". Assumes nothing.
-use mathlib.Core.Path.{_≡_, refl, ap}
+use mathlib.Core.Path.{_≡_, refl, ap, ap₂, _∙_}
 use mathlib.Core.Bool.{true, false, not}
 use mathlib.Core.Logic.{_⊎_, inl, inr}
-use mathlib.Core.List.{List, List·Memᴰ·head, List·Memᴰ·tail, List·Memᴰ·not-nil}
+use mathlib.Core.List.{List, [], _∷_, map, List·Memᴰ·head, List·Memᴰ·tail, List·Memᴰ·not-nil}
 use Prim.Native.Nat.{ℕ, zero, suc, _+_, _≤_, _<_}
 use native.Mathlib.Omega.{arith}
 use lib.Dec.{eqb}
-use lib.ListN.{length}
+use lib.ListN.{getD, length}
 use borrow.Author.Tests.{ne-eqb, eqb-true, eqb-false}
 use Rattle.records.specs.Lists.{In, elem, distinct}
 use Rattle.records.proofs.Lists.{and-i, all-in, all-of, elem-in, in-elem, bool-cases}
+use Rattle.literals.specs.declared.Variable.{Variable}
 use Rattle.literals.specs.declared.Object.{Object}
-use Rattle.literals.specs.Domain.{object, sameObject}
-use Rattle.verdict.specs.Binding.{objectsFrom}
+use Rattle.literals.specs.Domain.{object, sameObject, Action}
+use Rattle.verdict.specs.Binding.{valueOf, objectsFrom, sameNumbers}
 use Rattle.verdict.specs.Claims.{among}
+use Rattle.verdict.specs.Judged.{objectNumbers}
 use Rattle.verdict.proofs.Equality.{object-eq, object-self}
+use Rattle.verdict.proofs.Tuples.{Below}
 
 -- ---- objects among others
 
@@ -48,3 +51,18 @@ objects-distinct k zero = refl
 objects-distinct k (suc n) =
     and-i (all-of (λ o. not (sameObject (object k) o)) (objectsFrom (suc k) n) (λ o m. let r = objects-range (suc k) n o m .0 in ap not (ne-eqb k (o .0) (λ e. omega arith))))
     (objects-distinct (suc k) n)
+
+-- ---- "variable i is object i": binding keeps the numbers
+
+object-at : (k n i : ℕ) → i < n → getD (objectsFrom k n) i (object 0) ≡ object (k + i)
+object-at k zero i h = absurd (omega arith)
+object-at k (suc n) zero h = let e : k ≡ k + 0 = omega arith in ap object e
+object-at k (suc n) (suc i) h = let e : suc k + i ≡ k + suc i = omega arith in object-at (suc k) n i (omega arith) ∙ ap object e
+
+value-number : (a : Action) (v : Variable) → v .0 < a .vars → valueOf (sameNumbers a) v .0 ≡ v .0
+value-number a v h = let e : 0 + v .0 ≡ v .0 = omega arith in ap (λ (o : Object). o .0) (object-at 0 (a .vars) (v .0) h) ∙ e
+
+pub value-numbers : (a : Action) (vs : List Variable) → Below (a .vars) vs
+    → objectNumbers (map (valueOf (sameNumbers a)) vs) ≡ map (λ (v : Variable). v .0) vs
+value-numbers a [] h = refl
+value-numbers a (v ∷ vs) h = ap₂ _∷_ (value-number a v (h v (List·Memᴰ·head refl))) (value-numbers a vs (λ w m. h w (List·Memᴰ·tail m)))

@@ -2,26 +2,24 @@
 use mathlib.Core.Path.{_≡_, refl, sym, ap, ap₂, _∙_}
 use mathlib.Core.Bool.{Bool, true, false, cond}
 use mathlib.Core.Logic.{_⊎_, inl, inr}
-use mathlib.Core.List.{List, [], _∷_, _++_, map, flatMap, append-nil, List·Memᴰ·head, List·Memᴰ·tail, List·Memᴰ·not-nil}
+use mathlib.Core.List.{List, [], _∷_, _++_, flatMap, append-nil, List·Memᴰ·head, List·Memᴰ·tail, List·Memᴰ·not-nil}
 use Prim.Native.Nat.{ℕ, zero, suc, _+_, _-_, _*_, _≤_, _<_}
 use native.Mathlib.Numerals.{add-one}
 use native.Mathlib.Omega.{arith}
-use lib.ListN.{length, getD, take, drop, replicate, length-append, length-map, length-drop, length-replicate, getD-replicate, List·getD-append, List·getD-eq-default}
-use lib.Seq.{getD-take, getD-drop, getD-append-add, length-take-le, paste, paste-zero}
+use lib.ListN.{length, getD, take, drop, length-append, length-drop}
+use lib.Seq.{getD-drop, paste, paste-zero}
 use borrow.Author.Tests.{eq-eqb, ne-eqb}
 use Rattle.records.specs.Lists.{In, addIf, keepIf, countBy}
 use Rattle.records.specs.Memory.{over}
 use Rattle.records.proofs.Lists.{in-keepIf, count-append, flatMap-append}
 use Rattle.records.proofs.Memory.{length-over, over-paste}
-use Rattle.literals.specs.Domain.{object}
 use Rattle.literals.specs.Table.{rowsIn}
-use Rattle.literals.specs.Held.{bytesFrom, arityIn, componentRowIn}
+use Rattle.literals.specs.Held.{bytesFrom, arityIn}
 use Rattle.literals.proofs.Rows.{rows-last, rows-whole, length-part, part-at}
 use Rattle.literals.proofs.Tables.{length-flat}
-use Rattle.literals.proofs.Heads.{length-bytes, bytes-more, part-length}
-use Rattle.literals.proofs.Indices.{getD-map}
+use Rattle.literals.proofs.Heads.{length-bytes, bytes-more}
 use Rattle.literals.proofs.KeyRows.{length-rows}
-use Rattle.witness.specs.Held.{firstUsages, selectBy, isCondition, conditionBytes, conditionOf, conditionIf, conditionsOf, objectByte, instanceBytes}
+use Rattle.witness.specs.Held.{firstUsages, selectBy, isCondition, conditionBytes, conditionOf, conditionIf, conditionsOf}
 
 -- ---- the first usages, and how many of them pass
 
@@ -196,67 +194,3 @@ module _ (head ks t : List ℕ) where
           ∙ ap (λ (x : List ℕ). paste x at (conditionAt j) (length (conditionAt j))) o
           ∙ over-paste (conditionsTo j) old (conditionAt j) at (length (conditionAt j)) (sym a) refl
           ∙ sym (ap (λ (x : List ℕ). over x old) (conditions-more j))
-
--- ---- an instance fact
-
-pub object-key : (k : ℕ) (t : List ℕ) → k < 8 → object (getD t k 0) ≡ object (getD (take 8 t) k 0)
-object-key k t l = ap object (sym (getD-take 8 t k 0 l))
-
-pub object-none : (k : ℕ) (t : List ℕ) → 8 ≤ length t → 8 ≤ k → object 0 ≡ object (getD (take 8 t) k 0)
-object-none k t h l = ap object (sym (List·getD-eq-default (take 8 t) 0 (omega (arith, length-take-le 8 t h))))
-
-module _ (arity spare : ℕ) (tuple row : List ℕ) (h : length row ≡ 8) (g : arity ≤ 6) where
-  abbrev labels : List ℕ
-  labels = take arity (drop 1 row)
-
-  length-labels : length labels ≡ arity
-  length-labels = length-take-le arity (drop 1 row) (simp length-drop (omega arith))
-
-  length-objects : length (map (objectByte spare tuple) labels) ≡ arity
-  length-objects = length-map labels (objectByte spare tuple) ∙ length-labels
-
-  length-instance : length (instanceBytes arity spare tuple row) ≡ 8
-  length-instance =
-      let l = length-objects in
-      let a = length-append (map (objectByte spare tuple) labels) (replicate (6 - arity) 255) in
-      let r = length-replicate {A = ℕ} (6 - arity) 255 in
-      omega arith
-
-  object-at : (k : ℕ) → k < arity → getD (map (objectByte spare tuple) labels ++ replicate (6 - arity) 255) k 0 ≡ objectByte spare tuple (getD row (1 + k) 0)
-  object-at k l =
-      let n = length-objects in
-      let m = length-labels in
-      List·getD-append (map (objectByte spare tuple) labels) (replicate (6 - arity) 255) 0 k (omega arith)
-      ∙ getD-map (objectByte spare tuple) labels k 0 0 (omega arith)
-      ∙ ap (objectByte spare tuple) (getD-take arity (drop 1 row) k 0 l ∙ getD-drop 1 row k 0)
-
-  fill-at : (k : ℕ) → k < 6 → arity ≤ k → getD (map (objectByte spare tuple) labels ++ replicate (6 - arity) 255) k 0 ≡ 255
-  fill-at k l n =
-      let m = length-objects in
-      let e : k ≡ length (map (objectByte spare tuple) labels) + (k - arity) = omega arith in
-      ap (λ (i : ℕ). getD (map (objectByte spare tuple) labels ++ replicate (6 - arity) 255) i 0) e
-      ∙ getD-append-add (map (objectByte spare tuple) labels) (replicate (6 - arity) 255) (k - arity) 0
-      ∙ getD-replicate (6 - arity) (k - arity) 255 0 (omega arith)
-
--- of the component c of a head
-module _ (arity spare : ℕ) (tuple head : List ℕ) (c : ℕ) (g : arity ≤ 6) where
-  pub instance-first : (i r : ℕ) → i ≡ 0 → r ≡ getD (componentRowIn head c) 0 0 → r ≡ getD (instanceBytes arity spare tuple (componentRowIn head c)) i 0
-  instance-first i r e f = f ∙ ap (λ (i : ℕ). getD (instanceBytes arity spare tuple (componentRowIn head c)) i 0) (sym e)
-
-  pub instance-object : (i r : ℕ) → (i ≡ 0 → ⊥) → (i ≡ 1 → ⊥) → i < 2 + arity → r ≡ objectByte spare tuple (getD (componentRowIn head c) (i - 1) 0)
-      → r ≡ getD (instanceBytes arity spare tuple (componentRowIn head c)) i 0
-  instance-object zero r n o l e = absurd (n refl)
-  instance-object (suc zero) r n o l e = absurd (o refl)
-  instance-object (suc (suc k)) r n o l e =
-      let z : suc (suc k) - 1 ≡ 1 + k = omega arith in
-      e
-      ∙ ap (λ (i : ℕ). objectByte spare tuple (getD (componentRowIn head c) i 0)) z
-      ∙ sym (object-at arity spare tuple (componentRowIn head c) (part-length head c) g k (omega arith))
-
-  pub instance-fill : (i : ℕ) → i < 8 → (i ≡ 0 → ⊥) → (i ≡ 1 → ⊥) → 2 + arity ≤ i → 255 ≡ getD (instanceBytes arity spare tuple (componentRowIn head c)) i 0
-  instance-fill zero l n o m = absurd (n refl)
-  instance-fill (suc zero) l n o m = absurd (o refl)
-  instance-fill (suc (suc k)) l n o m = sym (fill-at arity spare tuple (componentRowIn head c) (part-length head c) g k (omega arith) (omega arith))
-
-  pub length-instance-at : length (instanceBytes arity spare tuple (componentRowIn head c)) ≡ 8
-  length-instance-at = length-instance arity spare tuple (componentRowIn head c) (part-length head c) g

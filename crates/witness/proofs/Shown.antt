@@ -6,30 +6,27 @@ use Prim.Native.Nat.{ℕ, zero, suc, _+_, _-_, _*_, _≤_, _<_}
 use native.Mathlib.Omega.{arith}
 use lib.Dec.{eqb, leb}
 use lib.ListN.{length, getD, take, drop, replicate, length-append, length-map, length-drop}
-use lib.Seq.{take-at, take-all, length-take-le, paste}
-use borrow.Author.Tests.{ltb-true, le-leb, lt-leb, eq-eqb, ne-eqb}
+use lib.Seq.{take-all, length-take-le, paste}
+use borrow.Author.Tests.{le-leb, lt-leb, eq-eqb, ne-eqb}
 use Rattle.records.specs.Lists.{In, keepIf, filterBy, countBy, all}
 use Rattle.records.specs.Memory.{over}
-use Rattle.records.proofs.Lists.{and-l, and-r, getD-in, all-of}
+use Rattle.records.proofs.Lists.{getD-in, all-of}
 use Rattle.records.proofs.Memory.{over-paste}
 use Rattle.literals.specs.declared.Variable.{Variable}
 use Rattle.literals.specs.declared.Argument.{Argument}
 use Rattle.literals.specs.declared.Object.{Object}
-use Rattle.literals.specs.declared.Label.{Label}
-use Rattle.literals.specs.declared.Label.the-variants.{Key as keyed, Counted}
 use Rattle.literals.specs.declared.Usage.the-variants.{Positive, Add, Delete}
-use Rattle.literals.specs.Domain.{object, isEvery, variablesOf, Atom, Fact, Literal, Action, Component, keyBelow, keepsKeys, keysOf, Domain, action}
-use Rattle.literals.specs.Decode.{labelOf}
-use Rattle.literals.specs.Table.{argumentNumber, literalRow, labelNumber, componentRow, rowsIn, pad, Bounded}
+use Rattle.literals.specs.Domain.{object, isEvery, variablesOf, Atom, Fact, Literal, Action, Component, keepsKeys, keysOf, Domain, action}
+use Rattle.literals.specs.Table.{argumentNumber, rowOf, literalRow, rowsIn, pad, Bounded}
 use Rattle.literals.specs.declared.span.Span.{Span}
 use Rattle.literals.specs.Held.{arityIn, componentRowIn, TemplateOf, Held, SpanFits}
 use Rattle.literals.proofs.Arguments.{plain-numbers}
-use Rattle.literals.proofs.Bytes.{keys-below, keys-once}
-use Rattle.literals.proofs.Rows.{length-row, row-inside}
+use Rattle.literals.proofs.Bytes.{keys-once}
+use Rattle.literals.proofs.Rows.{length-row}
 use Rattle.literals.proofs.Tables.{rows-flat, length-literals, length-literal-row}
 use Rattle.literals.proofs.Bounds.{arity-six as arity-most}
 use Rattle.literals.proofs.Held.{keys-few as keys-most}
-use Rattle.literals.proofs.Heads.{bytes-front, part-is, action-in}
+use Rattle.literals.proofs.Heads.{bytes-front, action-in}
 use Rattle.literals.specs.declared.Moment.{Moment}
 use Rattle.literals.specs.declared.Moment.the-variants.{Start, End}
 use Rattle.classes.specs.declared.Name.{Name}
@@ -41,15 +38,20 @@ use Rattle.classes.specs.Held.{ActionOf, tupleRow, usagesBy, askedAt, uncovered
 use Rattle.classes.proofs.Rows.{noLiteral}
 use Rattle.classes.proofs.Usages.{length-usages, required-at}
 use Rattle.classes.proofs.Members.{classes-few}
-use Rattle.verdict.specs.Binding.{valueOf, bind, bindTuple, objectsFrom, sameNumbers, spare}
-use Rattle.verdict.specs.Decision.{faultBy, objectUnder, instanceFact, firstUncovered, witnessBy, witnessAt, shownAt}
+use Rattle.verdict.specs.Binding.{valueOf, bind, bindTuple, sameNumbers, spare}
+use Rattle.verdict.specs.Decision.{faultBy, instanceFact, firstUncovered, witnessBy, witnessAt, shownAt}
 use Rattle.verdict.specs.Judged.{objectNumbers, factBytes}
 use Rattle.verdict.specs.Held.{momentBy}
-use Rattle.witness.specs.Held.{fitsIn, shownIn, conditionFacts, RefusedAt, ShownAt, firstUsages, selectBy, isCondition, conditionOf, conditionsOf, objectAt, objectByte, instanceBytes, instanceOf}
+use Rattle.witness.specs.Held.{fitsIn, shownIn, conditionFacts, RefusedAt, ShownAt, firstUsages, selectBy, isCondition, conditionOf, conditionsOf}
+use Rattle.store.specs.Rows.{factRow}
+use Rattle.store.specs.InstanceFacts.{instanceOf}
+use Rattle.store.proofs.InstanceRows.{objectsRow}
+use Rattle.store.proofs.InstanceFacts.{noComponent, length-instance-at, instance-is as row-of}
 use Rattle.verdict.proofs.Tuples.{Below, tuple-below}
+use Rattle.verdict.proofs.Objects.{value-numbers}
 use Rattle.verdict.proofs.Acts.{class-in, asked-plain}
 use Rattle.verdict.proofs.Instances.{class-keys}
-use Rattle.witness.proofs.Facts.{length-select, length-conditions, length-instance-at}
+use Rattle.witness.proofs.Facts.{length-select, length-conditions}
 
 -- ---- the bytes of facts
 
@@ -63,20 +65,6 @@ facts-append (f ∷ fs) gs =
     (ap (λ (t : List ℕ). n ++ (r ++ t)) (facts-append fs gs)
     ∙ ap (λ (t : List ℕ). n ++ t) (sym (append-assoc r (factBytes fs) (factBytes gs)))
     ∙ sym (append-assoc n (r ++ factBytes fs) (factBytes gs)))
-
--- ---- "variable i is object i": binding keeps the numbers
-
-object-at : (k n i : ℕ) → i < n → getD (objectsFrom k n) i (object 0) ≡ object (k + i)
-object-at k zero i h = absurd (omega arith)
-object-at k (suc n) zero h = let e : k ≡ k + 0 = omega arith in ap object e
-object-at k (suc n) (suc i) h = let e : suc k + i ≡ k + suc i = omega arith in object-at (suc k) n i (omega arith) ∙ ap object e
-
-value-number : (a : Action) (v : Variable) → v .0 < a .vars → valueOf (sameNumbers a) v .0 ≡ v .0
-value-number a v h = let e : 0 + v .0 ≡ v .0 = omega arith in ap (λ (o : Object). o .0) (object-at 0 (a .vars) (v .0) h) ∙ e
-
-value-numbers : (a : Action) (vs : List Variable) → Below (a .vars) vs → objectNumbers (map (valueOf (sameNumbers a)) vs) ≡ map (λ (v : Variable). v .0) vs
-value-numbers a [] h = refl
-value-numbers a (v ∷ vs) h = ap₂ _∷_ (value-number a v (h v (List·Memᴰ·head refl))) (value-numbers a vs (λ w m. h w (List·Memᴰ·tail m)))
 
 -- ---- a true condition's fact
 
@@ -125,45 +113,16 @@ module _ (a : Action) (head : List ℕ) where
 
 -- ---- an instance fact
 
-module _ (a : Action) where
-  key-object : (x : List Variable) (k : ℕ) → Below (a .vars) x → k < length x
-      → getD (map (λ (v : Variable). v .0) x) k 0 ≡ getD (bindTuple (sameNumbers a) x) k (object 0) .0
-  key-object [] k h l = absurd (omega arith)
-  key-object (v ∷ vs) zero h l = sym (value-number a v (h v (List·Memᴰ·head refl)))
-  key-object (v ∷ vs) (suc k) h l = key-object vs k (λ w m. h w (List·Memᴰ·tail m)) (omega arith)
+-- the class's key tuple as an instance, "variable i is object i"
+tuple-objects : (a : Action) (x : List Variable) → Below (a .vars) x → tupleRow x ≡ objectsRow (bindTuple (sameNumbers a) x)
+tuple-objects a x h = ap rowOf (sym (value-numbers a x h))
 
-  module _ (x : List Variable) (n : ℕ) (h : Below (a .vars) x) (e : length x ≡ n) (f : n ≤ 8) where
-    label-object : (l : Label) → keyBelow n l ≡ true → objectByte (a .vars) (tupleRow x) (labelNumber l) ≡ objectUnder (spare a) (bindTuple (sameNumbers a) x) l .0
-    label-object Counted t = refl
-    label-object (keyed k) t =
-        let b : k .0 < n = ltb-true _ _ t in
-        let m = length-map x (λ (v : Variable). v .0) in
-        let told : labelOf (k .0) ≡ keyed k = ap (λ (b : Bool). cond b Counted (keyed k)) (ne-eqb (k .0) 255 (λ z. omega arith)) in
-        ap (λ (l : Label). objectAt (object (a .vars)) (tupleRow x) l .0) told
-        ∙ sym (row-inside (map (λ (v : Variable). v .0) x) (k .0) (omega arith))
-        ∙ key-object x (k .0) h (omega arith)
-
-    label-objects : (ls : List Label) → all (keyBelow n) ls ≡ true
-        → map (objectByte (a .vars) (tupleRow x)) (map labelNumber ls) ≡ objectNumbers (map (objectUnder (spare a) (bindTuple (sameNumbers a) x)) ls)
-    label-objects [] t = refl
-    label-objects (l ∷ ls) t = ap₂ _∷_ (label-object l (and-l _ _ t)) (label-objects ls (and-r (keyBelow n l) _ t))
-
-    instance-fact : (c : Component) → all (keyBelow n) (c .labels) ≡ true
-        → instanceBytes (length (c .labels)) (a .vars) (tupleRow x) (componentRow c) ≡ factBytes (instanceFact (spare a) (bindTuple (sameNumbers a) x) c ∷ [])
-    unfolding factBytes
-    instance-fact c t =
-        let ns : List ℕ = map labelNumber (c .labels) in
-        let y : List Object = bindTuple (sameNumbers a) x in
-        let m = length-map (c .labels) labelNumber in
-        let k = length-map (c .labels) (objectUnder (spare a) y) in
-        ap₂ (λ (j : ℕ) (r : List ℕ). c .rel ∷ j ∷ r) (sym k)
-        (ap₂ (λ (r : List ℕ) (j : ℕ). map (objectByte (a .vars) (tupleRow x)) r ++ replicate (6 - j) 255) (take-at ns (replicate (8 - suc (length ns)) 255) (length (c .labels)) m) (sym k)
-        ∙ ap₂ _++_ (label-objects (c .labels) t) (sym (append-nil (replicate (6 - length (map (objectUnder (spare a) y) (c .labels))) 255))))
+row-bytes : (f : Fact) → factRow f ≡ factBytes (f ∷ [])
+unfolding factBytes
+row-bytes f =
+    ap (λ (l : List ℕ). f .rel ∷ length (f .args) ∷ (objectNumbers (f .args) ++ l)) (sym (append-nil (replicate (6 - length (f .args)) 255)))
 
 -- ---- the first uncovered component
-
-abbrev pub noComponent : Component
-noComponent = record { rel = 0; labels = [] }
 
 first-at : (ps : List (Atom Argument)) (cs : List Component) → all (covered ps) cs ≡ false
     → (firstUncovered ps cs ≡ getD cs (position (λ c. not (covered ps c)) cs) noComponent ∷ []) × (position (λ c. not (covered ps c)) cs < length cs)
@@ -351,20 +310,15 @@ module _ {D : Domain} {a : Action} {head : List ℕ} {m : Moment} {rows usages :
       part-listed : In part (D .template)
       part-listed = getD-in (D .template) u noComponent g
 
-      component-part : componentRowIn head u ≡ componentRow part
-      component-part = part-is H noComponent u g
-
-      part-arity : arityIn head (getD (componentRowIn head u) 0 0) ≡ length (part .labels)
-      part-arity = ap (λ (r : List ℕ). arityIn head (getD r 0 0)) component-part ∙ H .arities (part .rel) ∙ sym (B .componentArity part part-listed)
-
       pub instance-is : (tuple : List ℕ) (s : ℕ) → tuple ≡ tupleRow (getD (classes D a) j []) → s ≡ a .vars
           → instanceOf head u s (take 8 tuple) ≡ factBytes (instanceFact (spare a) (bindTuple (sameNumbers a) (getD (classes D a) j [])) part ∷ [])
       instance-is tuple s e q =
           let x : List Variable = getD (classes D a) j [] in
-          let n = keys-few in
-          ap₂ (λ (k s : ℕ). instanceBytes k s (take 8 tuple) (componentRowIn head u)) part-arity q
-          ∙ ap₂ (instanceBytes (length (part .labels)) (a .vars)) (tuple-part tuple e) component-part
-          ∙ instance-fact a x (keysOf (D .template)) class-below (tuple-length x class-listed) (omega arith) part (keys-below _ _ (B .keysFit part part-listed))
+          let y : List Object = bindTuple (sameNumbers a) x in
+          ap (instanceOf head u s) (tuple-part tuple e ∙ tuple-objects a x class-below)
+          ∙ row-of H u g y (length-map x (valueOf (sameNumbers a)) ∙ tuple-length x class-listed) s
+          ∙ ap (λ (k : ℕ). factRow (instanceFact (object k) y part)) q
+          ∙ row-bytes (instanceFact (spare a) y part)
 
   -- ---- together: what the code leaves, of the k true conditions
 

@@ -1,19 +1,15 @@
 -- The bytes of a witness: the witness of a place, where it fits, and the rows that it is taken from. Assumes nothing.
 use mathlib.Core.Path.{_≡_}
 use mathlib.Core.Bool.{Bool, cond}
-use mathlib.Core.List.{List, [], _∷_, _++_, map, flatMap}
-use Prim.Native.Nat.{ℕ, _-_, _*_, _<_}
+use mathlib.Core.List.{List, [], _∷_, map, flatMap}
+use Prim.Native.Nat.{ℕ, _*_, _<_}
 use lib.Dec.{eqb, leb}
-use lib.ListN.{length, getD, take, drop, replicate}
+use lib.ListN.{length, getD, drop}
 use Rattle.records.specs.Lists.{keepIf}
 use Rattle.records.specs.Memory.{over}
-use Rattle.literals.specs.declared.Object.{Object}
-use Rattle.literals.specs.declared.Label.{Label}
-use Rattle.literals.specs.declared.Label.the-variants.{Key as keyed, Counted}
 use Rattle.literals.specs.declared.Usage.the-variants.{Positive}
-use Rattle.literals.specs.Domain.{object, Fact, Action, Domain}
-use Rattle.literals.specs.Decode.{maxArguments, labelOf}
-use Rattle.literals.specs.Held.{bytesFrom, arityIn, componentRowIn}
+use Rattle.literals.specs.Domain.{Fact, Action, Domain}
+use Rattle.literals.specs.Held.{bytesFrom, arityIn}
 use Rattle.literals.specs.declared.Moment.{Moment}
 use Rattle.literals.specs.Matching.{required}
 use Rattle.classes.specs.Classes.{classes, nameOf}
@@ -77,21 +73,3 @@ conditionIf head k row = cond (isCondition k) (conditionOf head row) []
 unfoldable pub conditionsOf : List ℕ → List ℕ → List (List ℕ) → List ℕ
 unfolding flatMap
 conditionsOf head ks rows = flatMap (conditionOf head) (selectBy isCondition ks rows)
-
--- the object under a label, of the instance of a class by its row: the spare one where it is counted
-abbrev pub objectAt : Object → List ℕ → Label → Object
-objectAt spare tuple (keyed k) = object (getD tuple (k .0) 0)
-objectAt spare tuple Counted = spare
-
--- of a label's byte
-abbrev pub objectByte : ℕ → List ℕ → ℕ → ℕ
-objectByte spare tuple label = objectAt (object spare) tuple (labelOf label) .0
-
--- the instance fact of a component by its row
-abbrev pub instanceBytes : ℕ → ℕ → List ℕ → List ℕ → List ℕ
-instanceBytes arity spare tuple row = getD row 0 0 ∷ arity ∷
-    (map (objectByte spare tuple) (take arity (drop 1 row)) ++ replicate (maxArguments - arity) 255)
-
--- the same, by the head of a domain
-abbrev pub instanceOf : List ℕ → ℕ → ℕ → List ℕ → List ℕ
-instanceOf head c spare tuple = instanceBytes (arityIn head (getD (componentRowIn head c) 0 0)) spare tuple (componentRowIn head c)

@@ -4,20 +4,17 @@ use classes::names::first_uncovered;
 use classes::names::lasts_at;
 use classes::names::usages_at;
 use classes::number::class_tuple;
-use literals::Key;
-use literals::Label;
 use literals::Moment;
 use literals::Object;
 use literals::Variable;
 use literals::head::Head;
 use literals::head::actions_in;
 use literals::head::arity_of;
-use literals::head::component_byte;
 use literals::head::components_in;
 use literals::head::rows_of;
 use literals::head::variables_of;
-use literals::label_of;
 use literals::limits::MAX_LITERALS;
+use store::instances::put_instance;
 ghost use mathlib.Core.Path.{_≡_};
 ghost use mathlib.Core.Bool.{true};
 ghost use mathlib.Core.List.{List, []};
@@ -27,16 +24,15 @@ ghost use lib.Seq.{paste};
 ghost use Rattle.records.specs.Lists.{countBy};
 ghost use Rattle.records.specs.Memory.{over};
 ghost use Rattle.literals.specs.Domain.{object, Domain, Action, action};
-ghost use Rattle.literals.specs.Decode.{maxArguments, maxLiterals, maxComponents};
+ghost use Rattle.literals.specs.Decode.{maxLiterals};
 ghost use Rattle.literals.specs.Table.{rowsIn};
-ghost use Rattle.literals.specs.Held.{componentRowIn, Held};
+ghost use Rattle.literals.specs.Held.{Held};
 ghost use Rattle.classes.specs.Classes.{classes};
 ghost use Rattle.classes.specs.Held.{ActionOf, classNumbers, numbersOf, uncoveredAt};
 ghost use Rattle.verdict.specs.Claims.{wellFormed};
 ghost use Rattle.verdict.specs.Held.{momentBy};
 ghost use Rattle.verdict.specs.Decision.{shownAt};
 ghost use Rattle.witness.specs.Held.{RefusedAt, ShownAt, firstUsages, isCondition, conditionBytes, conditionIf, conditionsOf};
-ghost use Rattle.witness.specs.Held.{objectAt, instanceBytes, instanceOf};
 
 // How many literals are true conditions at the moment.
 fn count_conditions(usages: &Marks, n: usize) -> usize
@@ -113,65 +109,6 @@ fn put_conditions(out: &mut [u8], head: &Head, rows: &[u8], usages: &Marks, n: u
     let mut at: usize = 0;
     for j in 0..n {
         at = put_if(out, at, head, rows, 8 * j, usages[j]);
-    }
-}
-
-// The object under a key of the instance of a class, of its key tuple.
-fn object_at(tuple: &[u8], k: Key) -> Object
-    requires { ⌜ 8 ≤ length (now tuple) ⌝ }
-    ensures { λ r. ⌜ r ≡ object (getD (take 8 (now (tuple .entry))) (k .0) 0) ⌝ }
-{
-    if k.0 < 8 {
-        let v = tuple[k.0 as usize];
-        return witness_object(Variable(v));
-    }
-    Object(0)
-}
-
-// The object under a label: the spare one where it is counted.
-fn object_under(tuple: &[u8], label: Label, spare: Object) -> Object
-    requires { ⌜ 8 ≤ length (now tuple) ⌝ }
-    ensures { λ r. ⌜ r ≡ objectAt spare (take 8 (now (tuple .entry))) label ⌝ }
-{
-    match label {
-        Label::Key(k) => object_at(tuple, k),
-        Label::Counted => spare,
-    }
-}
-
-// A byte of the instance fact of the component `c`, which has this arity, at an offset.
-fn instance_byte(head: &Head, c: usize, arity: u8, tuple: &[u8], spare: Object, i: usize) -> u8
-    requires component { ⌜ (c < maxComponents) × (arity ≤ maxArguments) ⌝ }
-    requires inside { ⌜ i < 8 ⌝ }
-    requires tuple { ⌜ 8 ≤ length (now tuple) ⌝ }
-    ensures { λ r. ⌜ r
-        ≡ getD (instanceBytes arity (spare .0) (take 8 (now (tuple .entry))) (componentRowIn (now (head .entry)) c)) i 0 ⌝ }
-{
-    if i == 0 {
-        return component_byte(head, c, 0);
-    }
-    if i == 1 {
-        return arity;
-    }
-    if i < 2 + arity as usize {
-        let label = label_of(component_byte(head, c, i - 1));
-        let o = object_under(tuple, label, spare);
-        return o.0;
-    }
-    255
-}
-
-// Writes the instance fact at an offset.
-fn put_instance(out: &mut [u8], at: usize, head: &Head, c: usize, tuple: &[u8], spare: Object)
-    requires component { ⌜ c < maxComponents ⌝ }
-    requires room { ⌜ at + 8 ≤ length (now out) ⌝ }
-    requires tuple { ⌜ 8 ≤ length (now tuple) ⌝ }
-    ensures { λ _. ⌜ now (out .exit)
-        ≡ paste (now (out .entry)) at (instanceOf (now (head .entry)) c (spare .0) (take 8 (now (tuple .entry)))) 8 ⌝ }
-{
-    let arity = arity_of(head, component_byte(head, c, 0));
-    for i in 0..8 {
-        out[at + i] = instance_byte(head, c, arity, tuple, spare, i);
     }
 }
 

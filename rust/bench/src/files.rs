@@ -24,6 +24,7 @@ pub fn m1() -> Vec<u8> {
 // Roles: at the start, over all, at the end.
 const START: u8 = 0;
 const START_FALSE: u8 = 1;
+const START_ADD: u8 = 2;
 const START_DELETE: u8 = 3;
 const OVER_ALL: u8 = 4;
 const OVER_ALL_FALSE: u8 = 5;
@@ -79,6 +80,61 @@ pub fn dense(actions: usize, shape: Shape) -> Vec<u8> {
             };
             plan.actions = (0..actions).map(action).collect();
         }
+    }
+    plan.file()
+}
+
+/// 64 actions at once of 64 literals each, to be tried: so many classes, up to 21 each with a true condition that is exchanged for
+/// another fact, more each with a delete; and false conditions of a relation without a component. No answer is yes, so every set
+/// is tried.
+pub fn to_try(classes: usize) -> Vec<u8> {
+    let mut plan = Plan { relations: vec![3, 3, 2], ..Plan::default() };
+    plan.components = vec![(0, vec![0, 1, FF]), (1, vec![FF, 1, 0])];
+    for number in 0..64u8 {
+        let mut action = PlanAction::new(16, false);
+        for class in 0..classes as u8 {
+            action.push(START_DELETE, 0, vec![class % 16, class / 16, number % 16]);
+            if classes <= 21 {
+                action.push(START, 0, vec![class % 16, class / 16, number % 16]);
+                action.push(START_ADD, 1, vec![number % 16, class / 16, class % 16]);
+            }
+        }
+        for other in 0..=255u8 {
+            action.push(START_FALSE, 2, vec![other % 16, other / 16]);
+        }
+        plan.actions.push(action);
+    }
+    plan.file()
+}
+
+/// So many actions at once, each with so many true conditions, up to 64, that are each a class of their own: every fact is weighed
+/// for every class.
+pub fn asked(actions: u8, conditions: u8) -> Vec<u8> {
+    let mut plan = Plan { relations: vec![6], ..Plan::default() };
+    plan.components = vec![(0, vec![0, 1, 2, 3, 4, FF])];
+    for number in 0..actions {
+        let mut action = PlanAction::new(16, false);
+        for class in 0..conditions {
+            action.push(START, 0, vec![0, 0, 0, class / 16, class % 16, number % 16]);
+        }
+        plan.actions.push(action);
+    }
+    plan.file()
+}
+
+/// 64 actions at once of 64 literals each, with three classes that add a fact and strike those of 16 components: of every component
+/// every object is tried, against every literal.
+pub fn struck() -> Vec<u8> {
+    let mut plan = Plan { relations: vec![2; 17], ..Plan::default() };
+    plan.components = (0..16).map(|relation| (relation, vec![0, FF])).collect();
+    for _ in 0..64 {
+        let mut action = PlanAction::new(16, false);
+        for class in 0..3 {
+            action.push(START_ADD, 0, vec![class, 15]);
+            (0..16).for_each(|relation| action.push(START_DELETE, relation, vec![class, FF]));
+        }
+        (0..13).for_each(|other| action.push(START_FALSE, 16, vec![other, other]));
+        plan.actions.push(action);
     }
     plan.file()
 }
@@ -164,6 +220,19 @@ mod tests {
             assert_eq!(judged(&dense(actions, Shape::Classes)), (0, actions * 64 * 2));
             assert_eq!(judged(&dense(actions, Shape::OneClass)), (0, actions * 2));
             assert_eq!(judged(&dense(actions, Shape::Journeys)), (1, actions * 21 * 2));
+        }
+        for classes in [1, 21, 64] {
+            assert_eq!(judged(&to_try(classes)), (0, 64 * classes));
+            let domain = model::read(&to_try(classes)).expect("a domain");
+            assert!(domain.actions.iter().all(|action| action.literals.len() == 64));
+            assert_eq!(model::trying::answers(&domain), vec![0; 64 * classes]);
+        }
+        for (file, actions, literals, classes) in
+            [(asked(64, 64), 64, 64, 64), (asked(8, 64), 8, 64, 64), (asked(64, 8), 64, 8, 8), (struck(), 64, 64, 3)]
+        {
+            let domain = model::read(&file).expect("a domain");
+            assert!(domain.actions.len() == actions && domain.actions.iter().all(|a| a.literals.len() == literals));
+            assert_eq!(model::trying::answers(&domain), vec![0; actions * classes]);
         }
         assert_eq!(dense(64, Shape::Classes).len(), 50_036);
         assert_eq!(dense(64, Shape::OneClass).len(), 50_036);

@@ -111,33 +111,57 @@ fn growth() {
     }
 }
 
-/// The list of every one-relation template.
-fn lists() {
-    println!("\nlisting the one-relation templates, nanoseconds");
-    println!("{:24} {:>6} {:>7} {:>12} {:>12} {:>7}", "file", "bytes", "entries", "library", "model", "ratio");
-    for (name, file) in [
-        ("M1", files::m1()),
-        ("Rovers, 9 actions", files::rovers()),
-        ("64 x 64, 16 named", files::dense(64, Shape::Journeys)),
-        ("64 x 64, all named", files::dense(64, Shape::Relations)),
-    ] {
-        let (mut of_library, mut of_model) = ([0; goadlotus::TEMPLATES], [0; goadlotus::TEMPLATES]);
-        let served = goadlotus::templates(&file, &mut of_library);
-        let by_model = model::templates(&file, &mut of_model);
+/// A service of library and of model.
+type Library = fn(&[u8], &mut [u8]) -> goadlotus::Served;
+type Model = fn(&[u8], &mut [u8]) -> model::Served;
+
+fn service(head: &str, (library, model): (Library, Model), most: usize, files: &[(&str, Vec<u8>)]) {
+    println!("\n{head}, nanoseconds");
+    println!("{:24} {:>6} {:>7} {:>12} {:>12} {:>7}", "file", "bytes", "written", "library", "model", "ratio");
+    for (name, file) in files {
+        let (mut of_library, mut of_model) = (vec![0; most], vec![0; most]);
+        let (served, by_model) = (library(file, &mut of_library), model(file, &mut of_model));
         let same = (served.number, served.first) == (by_model.number.into(), by_model.first as u64);
         assert!(same && of_library == of_model && served.number == 0, "{name}: library and model differ");
         let timed = take_turns(
             || {
-                black_box(goadlotus::templates(black_box(&file), black_box(&mut of_library)));
+                black_box(library(black_box(file), black_box(&mut of_library)));
             },
             || {
-                black_box(model::templates(black_box(&file), black_box(&mut of_model)));
+                black_box(model(black_box(file), black_box(&mut of_model)));
             },
         );
-        let (library, model) = (timed.library, timed.model);
-        let (bytes, entries) = (file.len(), served.first / 3);
-        println!("{name:24} {bytes:>6} {entries:>7} {library:>12.0} {model:>12.0} {:>7.2}", library / model);
+        let ratio = timed.library / timed.model;
+        let (bytes, written) = (file.len(), served.first);
+        println!("{name:24} {bytes:>6} {written:>7} {:>12.0} {:>12.0} {ratio:>7.2}", timed.library, timed.model);
     }
+}
+
+fn services() {
+    let templates: (Library, Model) = (goadlotus::templates, model::templates);
+    let files = [
+        ("M1", files::m1()),
+        ("Rovers, 9 actions", files::rovers()),
+        ("64 x 64, 16 named", files::dense(64, Shape::Journeys)),
+        ("64 x 64, all named", files::dense(64, Shape::Relations)),
+    ];
+    service("listing the one-relation templates", templates, goadlotus::TEMPLATES, &files);
+    let tries: (Library, Model) = (goadlotus::try_facts, model::try_facts);
+    let files = [
+        ("M1", files::m1()),
+        ("64 actions, 1 class", files::to_try(1)),
+        ("64 actions, 21 classes", files::to_try(21)),
+        ("64 actions, 64 classes", files::to_try(64)),
+        ("64 actions, all struck", files::struck()),
+        ("64 x 8 conditions", files::asked(64, 8)),
+        ("64 x 16 conditions", files::asked(64, 16)),
+        ("64 x 32 conditions", files::asked(64, 32)),
+        ("64 x 64 conditions", files::asked(64, 64)),
+        ("32 x 64 conditions", files::asked(32, 64)),
+        ("16 x 64 conditions", files::asked(16, 64)),
+        ("8 x 64 conditions", files::asked(8, 64)),
+    ];
+    service("trying the facts", tries, goadlotus::TRIED, &files);
 }
 
 /// How many bytes of files are counted.
@@ -178,6 +202,6 @@ fn totals() {
 pub fn print() {
     single_files();
     growth();
-    lists();
+    services();
     totals();
 }

@@ -1,11 +1,11 @@
 //! What shows a refusal: the witness with what it leads to, and runs that break the template. Every state is the player's.
 
 use crate::domain::{Action, Domain, List, Time};
-use crate::library::{play, weight, Fact, Judged, Name, Played, Row};
-use crate::prose::{listed, paragraph, wrap};
+use crate::library::{Fact, Judged, Name, Row};
+use crate::prose::{paragraph, wrap};
 use crate::reasons::{classes, has_over_all, is_journey, Class};
-use crate::records::{put, CLOSE_RUN, CLOSE_STEP, EVENT, OBJECTS, START_FACT};
 use crate::run::{Entry, Event};
+use crate::scenario::{event, line, object_names, objects_taken, unused, Scenario};
 use crate::stops::bind;
 
 const LASTING: &str =
@@ -46,7 +46,7 @@ impl<'d> Named<'d> {
     /// The witness of 40 to 42, the event, and the facts after it.
     fn witness(&self, facts: &[Fact]) -> String {
         let scenario = self.scenario(facts.to_vec(), vec![self.event(self.row.moment)]);
-        let mut text = wrap("\nwitness: ", "    ", &self.objects());
+        let mut text = wrap("\nwitness: ", "    ", &objects_taken(self.action));
         text += &line("facts", &scenario.facts_words(facts));
         text += &line("event", &scenario.event_words(0));
         if self.row.moment == 1 {
@@ -71,31 +71,12 @@ impl<'d> Named<'d> {
         wrap("\nwitness: ", "    ", said) + &shown_or_open("  ", self.start_and_end(&[]))
     }
 
-    /// An object for each variable, with its name, and one more.
-    fn object_names(&self) -> Vec<String> {
-        let mut names = self.action.variables.clone();
-        names.push(unused("other", &names));
-        names
-    }
-
-    fn objects(&self) -> String {
-        let names = self.object_names();
-        match &names[..] {
-            [spare] => format!("take one object, {spare}."),
-            [one, spare] => format!("take an object {one}, and one more, {spare}."),
-            [all @ .., spare] => format!("take different objects {}, and one more, {spare}.", listed(all)),
-            [] => String::new(),
-        }
-    }
-
-    /// An event of the action, each variable bound to the object of its name.
     fn event(&self, moment: u8) -> Event {
-        let objects = (0..self.action.variables.len() as u8).collect();
-        Event { moment, entry: Entry { action: self.row.action, objects } }
+        event(self.row.action, self.action.variables.len(), moment)
     }
 
     fn scenario(&self, facts: Vec<Fact>, events: Vec<Event>) -> Scenario<'d> {
-        let (objects, instance) = (self.object_names(), self.class.key_tuple.clone());
+        let (objects, instance) = (object_names(self.action), self.class.key_tuple.clone());
         Scenario { domain: self.domain, file: self.file, objects, facts, events, instance }
     }
 
@@ -176,103 +157,4 @@ fn asked(domain: &Domain, events: &[&Event]) -> Vec<Fact> {
         }
     }
     facts
-}
-
-/// A name like this one that none of the others is.
-fn unused(name: &str, others: &[String]) -> String {
-    let numbered = (2..).map(|number| format!("{name}{number}"));
-    let mut names = [name.to_string()].into_iter().chain(numbered);
-    names.find(|name| !others.contains(name)).unwrap_or_default()
-}
-
-/// A run that the player is asked about: facts at the start, and events, each a step.
-struct Scenario<'d> {
-    domain: &'d Domain,
-    file: &'d [u8],
-    /// The names of the objects.
-    objects: Vec<String>,
-    facts: Vec<Fact>,
-    events: Vec<Event>,
-    /// The instance that it is about.
-    instance: Vec<u8>,
-}
-
-impl Scenario<'_> {
-    /// The player's answer for so many of the steps.
-    fn state(&self, steps: usize) -> Played {
-        let mut run = Vec::new();
-        put(&mut run, OBJECTS, &[self.objects.len() as u8]);
-        for fact in &self.facts {
-            put(&mut run, START_FACT, &[&[fact.relation as u8], &fact.objects[..]].concat());
-        }
-        for event in &self.events[..steps] {
-            put(&mut run, EVENT, &[&[event.moment, event.entry.action as u8], &event.entry.objects[..]].concat());
-            put(&mut run, CLOSE_STEP, &[]);
-        }
-        put(&mut run, CLOSE_RUN, &[]);
-        play(self.file, &run)
-    }
-
-    /// The weight of the instance where these facts hold: that of the facts that it matches.
-    fn weight(&self, facts: &[Fact]) -> u64 {
-        let instance = |fact: &Fact| self.domain.key_tuple(fact.relation, &fact.objects);
-        let matched = facts.iter().filter(|fact| instance(fact).is_some_and(|tuple| tuple == self.instance));
-        weight(self.file, self.objects.len() as u8, &matched.cloned().collect::<Vec<_>>())
-    }
-
-    /// Whether the player makes all steps, and the instance has at most one fact before and more than one after them.
-    fn breaks(&self) -> bool {
-        let last = self.state(self.events.len());
-        last.number == 2 && self.weight(&self.facts) <= 1 && self.weight(&last.facts) >= 2
-    }
-
-    fn words(&self, name: &str, objects: &[u8]) -> String {
-        let objects: Vec<&str> = objects.iter().map(|&object| self.objects[object as usize].as_str()).collect();
-        format!("{name}({})", objects.join(", "))
-    }
-
-    fn facts_words(&self, facts: &[Fact]) -> String {
-        let words = |fact: &Fact| self.words(self.domain.relation_name(fact.relation), &fact.objects);
-        match facts {
-            [] => "none".to_string(),
-            facts => facts.iter().map(words).collect::<Vec<_>>().join(", "),
-        }
-    }
-
-    fn event_words(&self, number: usize) -> String {
-        let event = &self.events[number];
-        let moment = match event.moment {
-            1 => "end ",
-            _ if event.is_start(self.domain) => "start ",
-            _ => "",
-        };
-        format!("{moment}{}", self.words(&event.entry.action(self.domain).name, &event.entry.objects))
-    }
-
-    fn weights(&self) -> String {
-        let names: Vec<String> = self.instance.iter().map(|&object| self.objects[object as usize].clone()).collect();
-        let whose = if names.is_empty() { "the template".to_string() } else { listed(&names) };
-        let has = if names.len() > 1 { "have" } else { "has" };
-        let after = self.state(self.events.len()).facts;
-        format!(
-            "weight: {whose} {has} {} of the facts before and {} after.",
-            self.weight(&self.facts),
-            self.weight(&after)
-        )
-    }
-
-    /// The run in sentences.
-    fn told(&self, indent: &str) -> String {
-        let mut text = format!("{indent}The player makes a run that breaks the template:\n");
-        text += &line("facts", &self.facts_words(&self.facts));
-        for number in 0..self.events.len() {
-            let after = self.facts_words(&self.state(number + 1).facts);
-            text += &line(&format!("step {}", number + 1), &format!("{}; then: {after}", self.event_words(number)));
-        }
-        text + &paragraph("  ", &self.weights())
-    }
-}
-
-fn line(head: &str, words: &str) -> String {
-    wrap(&format!("  {head:9}"), "           ", words)
 }

@@ -18,6 +18,8 @@ plays runs of the procedures that change them
                                hand-ins or a folder a table
   goadlotus templates FILE     every template of a single relation, and its
                                verdict
+  goadlotus try FILE           for each class of an action at once, facts from
+                               which one event leads to two facts of the class
   goadlotus totals FILE ..     how many files met each verdict or refusal, and
                                how many moments had each name
   goadlotus show FILE          a file in words
@@ -42,6 +44,7 @@ pub fn of(word: &str) -> String {
         "mark" => MARK,
         "play" => PLAY,
         "templates" => TEMPLATES,
+        "try" => TRY,
         "totals" => TOTALS,
         "show" => SHOW,
         "write" => WRITE,
@@ -128,6 +131,22 @@ as JSON lines. Below the columns: which templates are passed over, since they
 have a key where a literal has *.
 
 Status: 0 listed, 4 a broken file, 1 it can't be read.
+";
+
+const TRY: &str = "\
+goadlotus try [--tsv | --json] FILE
+
+Tries the facts themselves, and knows no name; the one that the report has
+stands beside the answer. For each class of each action at once: an object for
+each variable, and one more; the sets are what the action asks for, and this
+with one further fact of the class. From each set in which the class has at most
+one fact the action is played, where it is allowed. yes where two facts of the
+class or more are true then; the first such set is told, with the event and the
+facts after it. Actions that last are not tried. --tsv and --json: a table with
+a line for each class.
+
+Status: 0 no class has a yes, 3 some class has, 4 a broken file, 1 it can't be
+read.
 ";
 
 const TOTALS: &str = "\

@@ -75,6 +75,11 @@ pub fn templates(file: &[u8]) -> Vec<Template> {
     goadlotus::list_templates(file).unwrap_or_default()
 }
 
+/// Whether each class of each action at once of a well-formed domain file shows harm, in the order of the report.
+pub fn try_facts(file: &[u8]) -> Vec<bool> {
+    goadlotus::try_file(file).unwrap_or_default()
+}
+
 /// What playing answers.
 #[derive(Clone, PartialEq, Eq, Debug)]
 pub struct Played {

@@ -123,7 +123,7 @@ fn statuses() {
 
 #[test]
 fn helps() {
-    let words = ["judge", "explain", "play", "show", "write", "mark"];
+    let words = ["judge", "explain", "play", "templates", "try", "totals", "show", "write", "mark"];
     let all = run(["--help"]);
     assert_eq!(status(&all), 0);
     assert!(said(&all).lines().all(|line| line.len() <= 80), "{}", said(&all));

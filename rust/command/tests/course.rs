@@ -1,13 +1,13 @@
-//! docs/COURSE.md is run: its files are written into a folder, its commands are run there, and what they print is what
-//! the page shows. With GOADLOTUS_FILL set in the environment the page is written anew with what they print.
+//! docs/COURSE.md and docs/NAMES.md are run: their files are written into a folder, their commands are run there, and what they
+//! print is what the page shows. With GOADLOTUS_FILL set in the environment the pages are written anew with what they print.
 
 use std::env;
 use std::fs;
 use std::path::{Path, PathBuf};
 use std::process::Command;
 
-fn page_path() -> PathBuf {
-    PathBuf::from(concat!(env!("CARGO_MANIFEST_DIR"), "/../../docs/COURSE.md"))
+fn page_path(name: &str) -> PathBuf {
+    Path::new(concat!(env!("CARGO_MANIFEST_DIR"), "/../../docs")).join(name)
 }
 
 /// What a page says of a file: its name, and the file it is made of with the lines that are others.
@@ -86,17 +86,27 @@ fn filled(page: &str, folder: &Path) -> (String, usize) {
 }
 
 #[test]
-fn the_page_is_true() {
-    let folder = env::temp_dir().join(format!("goadlotus-course-{}", std::process::id()));
+fn the_course_is_true() {
+    page_is_true("COURSE.md", 13);
+}
+
+#[test]
+fn the_names_are_true() {
+    page_is_true("NAMES.md", 2);
+}
+
+/// A page with so many commands, or more.
+fn page_is_true(name: &str, least: usize) {
+    let folder = env::temp_dir().join(format!("goadlotus-{name}-{}", std::process::id()));
     fs::create_dir_all(&folder).expect("a folder");
-    let page = fs::read_to_string(page_path()).expect("docs/COURSE.md");
+    let page = fs::read_to_string(page_path(name)).expect("a page of docs/");
     let (text, commands) = filled(&page, &folder);
     fs::remove_dir_all(&folder).expect("the folder goes");
     if env::var_os("GOADLOTUS_FILL").is_some() {
-        fs::write(page_path(), &text).expect("docs/COURSE.md");
+        fs::write(page_path(name), &text).expect("a page of docs/");
         return;
     }
-    assert!(commands > 12, "{commands}");
+    assert!(commands >= least, "{commands}");
     for (shown, now) in page.lines().zip(text.lines()) {
         assert_eq!(shown, now);
     }
@@ -106,7 +116,7 @@ fn the_page_is_true() {
 /// All five procedures, a right template and two wrong ones, and a run of ten steps.
 #[test]
 fn the_page_has_what_the_course_needs() {
-    let page = fs::read_to_string(page_path()).expect("docs/COURSE.md");
+    let page = fs::read_to_string(page_path("COURSE.md")).expect("docs/COURSE.md");
     for action in ["at once move(", "at once reserve(", "lasting lend(", "at once return(", "lasting repair("] {
         assert!(page.contains(&format!("\n{action}")), "{action}");
     }
@@ -120,5 +130,22 @@ fn the_page_has_what_the_course_needs() {
             unit.contains("**Exercise.**") && unit.contains("**Solution.**") && unit.contains("```console"),
             "{unit}"
         );
+    }
+}
+
+/// The page of the names has all seven, and the file that it shows is the sample.
+#[test]
+fn the_names_are_all_there() {
+    let page = fs::read_to_string(page_path("NAMES.md")).expect("docs/NAMES.md");
+    let sample = page_path("../samples/seven-names.domain.txt");
+    let sample = fs::read_to_string(sample).expect("samples/seven-names.domain.txt");
+    assert!(page.contains(&format!("```\n{sample}```\n")));
+    for name in goadlotus::Name::ALL {
+        let answer = match name {
+            goadlotus::Name::Heavy | goadlotus::Name::Unbalanced | goadlotus::Name::Unbounded => "yes",
+            _ => "no",
+        };
+        assert_eq!(page.matches(&format!("\n| {name} | {answer} | ")).count(), 1, "{name}");
+        assert_eq!(page.matches(&format!(" ({name})\n")).count(), 1, "{name}");
     }
 }

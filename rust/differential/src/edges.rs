@@ -67,7 +67,7 @@ pub fn service_lines(kind: &str) -> Vec<Serving> {
 }
 
 /// What a line may begin with. Classes are looked at in the model alone.
-const KINDS: [&str; 6] = ["judge", "play", "track", "classes", "templates", "totals"];
+const KINDS: [&str; 7] = ["judge", "play", "track", "classes", "templates", "try", "totals"];
 
 fn lines<T>(kind: &str, read: impl Fn(usize, &[&str]) -> Option<T>) -> Vec<T> {
     let text = include_str!("../../cases/edges.txt");

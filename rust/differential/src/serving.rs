@@ -22,6 +22,9 @@ pub struct Service {
 pub const TEMPLATES: Service =
     Service { library: goadlotus::templates, model: model::templates, most: goadlotus::TEMPLATES };
 
+/// P10: trying the facts themselves.
+pub const TRY: Service = Service { library: goadlotus::try_facts, model: model::try_facts, most: goadlotus::TRIED };
+
 /// P11: figures for a box of files.
 pub const TOTALS: Service = Service { library: goadlotus::totals, model: model::totals, most: goadlotus::TOTALS };
 

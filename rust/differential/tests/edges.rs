@@ -5,7 +5,7 @@
 use differential::judging::{compare, expect, expect_at_all_lengths, Judgement};
 use differential::memory::{after, pattern};
 use differential::playing::{self, Played, WORK};
-use differential::serving::{self, Service, TEMPLATES, TOTALS};
+use differential::serving::{self, Service, TEMPLATES, TOTALS, TRY};
 use differential::tracking::{self, Tracked};
 use differential::{edges, exact};
 
@@ -178,6 +178,11 @@ fn every_line(kind: &str, service: Service) {
 #[test]
 fn every_templates_line() {
     every_line("templates", TEMPLATES);
+}
+
+#[test]
+fn every_try_line() {
+    every_line("try", TRY);
 }
 
 #[test]

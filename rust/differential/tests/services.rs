@@ -5,8 +5,10 @@
 
 use differential::judging;
 use differential::seeds::{run, setting, show, Counted as _};
-use differential::serving::{Counts, Serve, Served, Service, TEMPLATES, TOTALS};
+use differential::serving::{Counts, Serve, Served, Service, TEMPLATES, TOTALS, TRY};
 use generate::boxes::{any_box, any_file, packed, small};
+use generate::domains::tiny;
+use generate::plain_try::{answers, Counted, MISTRIES};
 use generate::records::{encode, rec, Rec};
 use generate::rng::Rng;
 
@@ -31,6 +33,8 @@ fn domain_file(seed: u64) -> Vec<u8> {
 const OF_ONE_FILE: &[u64] = &[0, 9, 10, 11, 12, 13, 14, 15, 16, 17, 18, 19, 20, 21, 22, 23, 24, 25, 26, 27, 30];
 
 const OF_TEMPLATES: Tried = Tried { service: TEMPLATES, file: domain_file, numbers: OF_ONE_FILE };
+
+const OF_TRY: Tried = Tried { service: TRY, file: domain_file, numbers: OF_ONE_FILE };
 
 fn box_of_files(seed: u64) -> Vec<u8> {
     any_box(&mut Rng::new(seed))
@@ -175,6 +179,40 @@ fn wrong_templates_are_caught() {
         }
         served
     });
+}
+
+#[test]
+fn trying_agrees() {
+    agree("try", OF_TRY, 30_000);
+}
+
+/// Small domains of actions at once, many of them with clearing literals.
+#[test]
+fn trying_agrees_on_tiny_files() {
+    let of_seed = |seed: u64| {
+        let file = tiny(&mut Rng::new(seed)).file();
+        TRY.compare_all(TRY.library, &file, seed as usize % 1_000).map_err(|text| format!("seed {seed}\n{text}"))
+    };
+    let counts = run(of_seed, setting("GOADLOTUS_SEED", 0), 100_000).unwrap_or_else(|text| panic!("{text}"));
+    show(&format!("\ntry on tiny files: {} cases", counts.cases()));
+}
+
+#[test]
+fn wrong_tries_are_caught() {
+    wrong_ones_are_caught(&OF_TRY);
+    for misread in MISTRIES {
+        caught(&OF_TRY, |file: &[u8], memory: &mut [u8]| {
+            let Ok(domain) = model::read(file) else { return TRY.model(file, memory) };
+            let answers = answers(&domain, Counted::Every, Some(misread));
+            match memory.get_mut(..answers.len()) {
+                None => Served { number: 30, first: 0 },
+                Some(front) => {
+                    front.copy_from_slice(&answers);
+                    Served { number: 0, first: answers.len() as u64 }
+                }
+            }
+        });
+    }
 }
 
 #[test]

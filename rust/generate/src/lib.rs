@@ -10,6 +10,7 @@ pub mod literature;
 pub mod met;
 pub mod plain;
 pub mod plain_judge;
+pub mod plain_try;
 pub mod proved;
 pub mod records;
 pub mod rng;

@@ -46,6 +46,7 @@ pub fn all() -> Samples {
     clearing(&mut samples);
     misreadings(&mut samples);
     on_the_way(&mut samples);
+    samples.domain("seven-names", &Named::read(SEVEN_NAMES), "at[0,FF], out[0,FF]");
     floortile(&mut samples);
     depots(&mut samples);
     rovers(&mut samples);
@@ -422,6 +423,42 @@ fn on_the_way(samples: &mut Samples) {
     let twice = ["start lend 0", "once take-back 0", "start lend 0", "end lend 0"];
     samples.run("begun-twice", ("bounded-beside-journey", &domain), 1, &["in 0"], &twice);
 }
+
+/// An action at once for each of the seven names, in their order.
+const SEVEN_NAMES: &str = "
+relation at/2
+relation out/2
+
+at once compare(volume, here, there, reader)
+    true at(volume, here)
+    true at(volume, there)
+    add out(volume, reader)
+
+at once discard(volume, shelf)
+    true at(volume, shelf)
+    delete at(volume, shelf)
+
+at once double(volume, here, there)
+    add at(volume, here)
+    add at(volume, there)
+
+at once move(volume, from, to)
+    true at(volume, from)
+    delete at(volume, from)
+    add at(volume, to)
+
+at once lend-copy(volume, shelf, reader)
+    true at(volume, shelf)
+    add out(volume, reader)
+
+at once put(volume, shelf)
+    delete at(volume, *)
+    delete out(volume, *)
+    add at(volume, shelf)
+
+at once shelve(volume, shelf)
+    add at(volume, shelf)
+";
 
 fn floortile(samples: &mut Samples) {
     let domain = Named::read(FLOORTILE);

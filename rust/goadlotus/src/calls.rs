@@ -53,6 +53,14 @@ mod raw {
             first: *mut u64,
         ) -> u64;
 
+        pub fn goadlotus_try(
+            file: *const u8,
+            file_len: usize,
+            tried: *mut u8,
+            tried_len: usize,
+            first: *mut u64,
+        ) -> u64;
+
         pub fn goadlotus_totals(
             files: *const u8,
             files_len: usize,
@@ -225,6 +233,17 @@ fn serve(service: Service, read: &[u8], memory: &mut [u8]) -> Served {
 /// Every length will do, 0 too; bytes behind the list stay as they were.
 pub fn templates(file: &[u8], list: &mut [u8]) -> Served {
     serve(raw::goadlotus_templates, file, list)
+}
+
+/// Tries the facts themselves: for each class of each action at once, in the order of the report, a byte that says whether
+/// some set of facts shows harm, 1 yes, 0 no. A set is the action's true conditions with at most one further fact of the
+/// class's instance; it shows harm where the instance weighs at most one in it, the action alone is an allowed step, and the
+/// instance weighs two or more afterwards. That is so exactly for heavy, unbalanced and unbounded.
+///
+/// 9 to 27 refuse the file as judging does, with the place; 30 a memory that is too short; both write nothing. Every length
+/// will do, 0 too; bytes behind the answers stay as they were.
+pub fn try_facts(file: &[u8], tried: &mut [u8]) -> Served {
+    serve(raw::goadlotus_try, file, tried)
 }
 
 /// Counts a box of domain files, each behind its length in 4 bytes, little-endian: how many met each number from 0 to

@@ -15,6 +15,9 @@ pub const WORK: usize = 8_192;
 /// Memory for the list of templates that is enough for every file: 64 relations of 7 templates.
 pub const TEMPLATES: usize = 1_344;
 
+/// Memory for the answers of trying the facts that is enough for every file: 64 actions of 64 classes.
+pub const TRIED: usize = 4_096;
+
 /// The totals of a box: 71 numbers of 8 bytes.
 pub const TOTALS: usize = 568;
 

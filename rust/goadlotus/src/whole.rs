@@ -3,9 +3,9 @@
 //! The calls leave every byte alone that they don't write, and no row and no fact consists of zeros. So in memory that held
 //! zeros what was written ends where the first bytes are that hold none.
 
-use crate::calls::{judge, play, track, Judgement, Played};
+use crate::calls::{judge, play, track, try_facts, Judgement, Played, Served};
 use crate::numbers::Number;
-use crate::sizes::{FACT, REPORT, ROW, WITNESS, WORK};
+use crate::sizes::{FACT, REPORT, ROW, TRIED, WITNESS, WORK};
 use crate::written::{Fact, Facts, Row, Rows};
 
 /// A domain file judged: the answer, the rows and the facts of the witness.
@@ -91,6 +91,17 @@ pub fn track_files<'a>(domain: &'a [u8], run: &'a [u8], instance: &[u8]) -> Trac
     let tracked = track(domain, run, instance, &mut work);
     work.truncate(written(&work, |bytes: &[u8; FACT]| Fact::of(bytes).is_some()));
     TrackedRun { run: PlayedRun { answer: tracked.played, work }, total: tracked.total }
+}
+
+/// Tries the facts of a domain file: whether each class of each action at once shows harm, in the order of the report. Where the
+/// file is refused, the number, 9 to 27, and its place.
+pub fn try_file(file: &[u8]) -> Result<Vec<bool>, Served> {
+    let mut tried = vec![0; TRIED];
+    let served = try_facts(file, &mut tried);
+    match served.number {
+        0 => Ok(tried[..served.first as usize].iter().map(|&answer| answer == 1).collect()),
+        _ => Err(served),
+    }
 }
 
 /// The bytes up to the first that hold nothing.

@@ -1,6 +1,7 @@
 /* Prints what the header's own functions tell of a domain file and a run file: verdict, rows, facts of the witness; number, facts held; the
- * same with the instance of no object and of object 0, and the total; number and templates of the list, and the last of them; of a box with
- * the domain file twice, how many met its verdict and how many moments had each name; of that box cut by a byte, number and place. */
+ * same with the instance of no object and of object 0, and the total; number and templates of the list, and the last of them; number and
+ * classes of trying, and how many are yes; of a box with the domain file twice, how many met its verdict and how many moments had each name;
+ * of that box cut by a byte, number and place. */
 #include "goadlotus.h"
 #include <inttypes.h>
 #include <stdio.h>
@@ -11,6 +12,7 @@ static struct goadlotus_judged judged;
 static struct goadlotus_played played;
 static struct goadlotus_tracked tracked;
 static struct goadlotus_listed listed;
+static struct goadlotus_tried tried;
 static struct goadlotus_counted counted;
 
 static size_t contents(const char *name, uint8_t *memory, size_t size) {
@@ -44,6 +46,11 @@ int main(int argc, char **argv) {
     goadlotus_list_templates(domain, domain_len, &listed);
     const uint8_t *last = listed.templates == 0 ? listed.list : listed.list + (listed.templates - 1) * GOADLOTUS_TEMPLATE_SIZE;
     printf("%" PRIu64 " %zu %u %u %u\n", listed.number, listed.templates, last[0], last[1], last[2]);
+    memset(&tried, 0xAA, sizeof tried);
+    goadlotus_try_file(domain, domain_len, &tried);
+    size_t yes = 0;
+    for (size_t i = 0; i < sizeof tried.tried; i++) yes += tried.tried[i];
+    printf("%" PRIu64 " %zu %zu\n", tried.number, tried.classes, yes);
     size_t box_len = put(put(0, domain_len), domain_len);
     memset(&counted, 0xAA, sizeof counted);
     goadlotus_count_box(box, box_len, &counted);

@@ -104,6 +104,11 @@ fn c_counts() {
         };
         counts.extend([number, templates.len() as u64]);
         counts.extend(templates.last().map_or([0; 3], entry));
+        let (number, answers) = match goadlotus::try_file(&domain) {
+            Ok(answers) => (0, answers),
+            Err(refused) => (refused.number, Vec::new()),
+        };
+        counts.extend([number, answers.len() as u64, answers.iter().filter(|&&yes| yes).count() as u64]);
         // the box with the domain file twice, and cut in the second
         let named = |name| judged.rows().filter(|row| row.name as u64 == name).count() as u64;
         counts.extend([0, 568, 2]);

@@ -1,6 +1,6 @@
 //! include/goadlotus.h and this crate have the same sizes, numbers and names, and docs/FORMAT.md has every number.
 
-use goadlotus::{Name, Number, FACT, FILE_LIMIT, REPORT, ROW, TEMPLATE, TEMPLATES, TOTALS, WITNESS, WORK};
+use goadlotus::{Name, Number, FACT, FILE_LIMIT, REPORT, ROW, TEMPLATE, TEMPLATES, TOTALS, TRIED, WITNESS, WORK};
 use std::fs;
 use std::path::Path;
 
@@ -67,6 +67,7 @@ fn sizes() {
         ("WITNESS_SIZE", WITNESS),
         ("WORK_SIZE", WORK),
         ("TEMPLATES_SIZE", TEMPLATES),
+        ("TRIED_SIZE", TRIED),
         ("TOTALS_SIZE", TOTALS),
         ("ROW_SIZE", ROW),
         ("TEMPLATE_SIZE", TEMPLATE),

@@ -168,7 +168,7 @@ fn without_a_build() {
     let (status, help, said) = place.tried(&["--help"]);
     assert_eq!((status, said.as_str()), (0, ""));
     assert!(
-        help.contains("goadlotus list FILE") && help.contains("judge, explain, play, mark, templates, totals,\n"),
+        help.contains("goadlotus list FILE") && help.contains("judge, explain, play, mark, templates, try,\n"),
         "{help}"
     );
     assert!(fits(&help), "{help}");

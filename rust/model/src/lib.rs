@@ -9,6 +9,7 @@
 //! - [`machine`]: state, events, steps
 //! - [`player`]: the run file, [`play`], [`track`]
 //! - [`templates`]: every one-relation template of a file
+//! - [`trying`]: what the facts themselves show of actions at once
 //! - [`totals`]: figures for a box of files
 //! - [`service`]: what the services have in common
 //! - [`listing`]: what the listing program prints
@@ -23,6 +24,7 @@
 //! - P5: every one-relation template, listed.
 //! - P6: the player's alarm is gone, and with it the judging that the player did only for it.
 //! - P8: of the refusals by class the worst is named, 40 before 41 before 42.
+//! - P10: trying the facts themselves.
 //! - P11: figures for a whole term.
 //! - P13: playing with an instance tells its weight and its open journeys together.
 //!
@@ -44,6 +46,7 @@ pub mod records;
 pub mod service;
 pub mod templates;
 pub mod totals;
+pub mod trying;
 pub mod verdict;
 
 pub use domain::{read, Domain, Fact, Key, Object, Stop, Var};
@@ -52,4 +55,5 @@ pub use player::{play, track, Part, Played, Source, Tracked, WORK};
 pub use service::Served;
 pub use templates::templates;
 pub use totals::totals;
+pub use trying::try_facts;
 pub use verdict::{judge, Answer};

@@ -178,6 +178,7 @@ fn every_edge() {
             "track" => track_line(&fields),
             "classes" => classes_line(&fields),
             "templates" => service_line(&fields, model::templates),
+            "try" => service_line(&fields, model::try_facts),
             "totals" => service_line(&fields, model::totals),
             _ => panic!("no such kind: {kind:?}"),
         });

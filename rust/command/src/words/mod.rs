@@ -8,6 +8,7 @@ pub mod play;
 pub mod show;
 pub mod templates;
 pub mod totals;
+pub mod try_facts;
 pub mod write;
 
 use crate::arguments::{Arguments, Options};
@@ -25,12 +26,13 @@ struct Word {
 
 const NONE: Options = Options { form: false, output: false, rows: false, all: false, boxes: false, track: false };
 
-const WORDS: [Word; 8] = [
+const WORDS: [Word; 9] = [
     Word { name: "judge", options: Options { form: true, rows: true, ..NONE }, run: judge::run },
     Word { name: "explain", options: NONE, run: explain::run },
     Word { name: "mark", options: Options { form: true, rows: true, ..NONE }, run: mark::run },
     Word { name: "play", options: Options { all: true, track: true, ..NONE }, run: play::run },
     Word { name: "templates", options: Options { form: true, ..NONE }, run: templates::run },
+    Word { name: "try", options: Options { form: true, ..NONE }, run: try_facts::run },
     Word { name: "totals", options: Options { form: true, all: true, boxes: true, ..NONE }, run: totals::run },
     Word { name: "show", options: Options { output: true, ..NONE }, run: show::run },
     Word { name: "write", options: Options { output: true, ..NONE }, run: write::run },

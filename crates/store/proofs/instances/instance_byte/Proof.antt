@@ -6,11 +6,11 @@ use mathlib.Core.Path.{ap, _∙_}
 use mathlib.Core.List.{List}
 use Rattle.literals.specs.declared.Object.{Object}
 use Rattle.literals.specs.Decode.{labelOf}
-use Rattle.witness.specs.Held.{objectAt}
-use Rattle.witness.proofs.Facts.{instance-first, instance-object, instance-fill}
+use Rattle.store.specs.InstanceFacts.{objectAt}
+use Rattle.store.proofs.InstanceFacts.{instance-first, instance-object, instance-fill}
 use borrow.Author.Needs.{needs}
-use Rattle.witness.proofs.instance_byte.Statement.{statement}
-use Rattle.witness.proofs.instance_byte.Tie as tie
+use Rattle.store.proofs.instances.instance_byte.Statement.{statement}
+use Rattle.store.proofs.instances.instance_byte.Tie as tie
 
 component-byte-requires : tie.Need-component-byte-requires
 component-byte-requires c κs = search needs
@@ -18,7 +18,8 @@ component-byte-requires c κs = search needs
 returns : tie.Need-returns
 returns c =
     let a = c .before .before .before .args in
-    instance-first (a .arity) (a .spare .0) (take 8 (a .tuple .now)) (a .head .now) (a .c) (c .before .before .before .pre .0 .1) (a .i) _ (omega arith) (c .component-byte .ensures)
+    instance-first (a .arity) (a .counted .0) (take 8 (a .instance .now)) (a .head .now) (a .c) (c .before .before .before .pre .0 .1)
+    (a .i) _ (omega arith) (c .component-byte .ensures)
 
 returns-2 : tie.Need-returns-2
 returns-2 c = search needs
@@ -42,14 +43,19 @@ returns-3 : tie.Need-returns-3
 returns-3 c =
     let a = c .before .before .before .before .before .before .before .args in
     let o = c .object-under in
-    let b : List ℕ = take 8 (a .tuple .now) in
-    instance-object (a .arity) (a .spare .0) b (a .head .now) (a .c) (c .before .before .before .before .before .before .before .pre .0 .1) (a .i) (o .result .0) (λ e. omega arith) (λ e. omega arith) (omega arith)
-    (ap (λ (o : Object). o .0) (o .ensures ∙ ap (objectAt (a .spare) b) (c .before .label-of .ensures ∙ ap labelOf (c .before .before .component-byte2 .ensures))))
+    let b : List ℕ = take 8 (a .instance .now) in
+    instance-object (a .arity) (a .counted .0) b (a .head .now) (a .c)
+    (c .before .before .before .before .before .before .before .pre .0 .1) (a .i) (o .result .0)
+    (λ e. omega arith) (λ e. omega arith) (omega arith)
+    (ap (λ (o : Object). o .0)
+    (o .ensures
+    ∙ ap (objectAt (a .counted) b) (c .before .label-of .ensures ∙ ap labelOf (c .before .before .component-byte2 .ensures))))
 
 returns-4 : tie.Need-returns-4
 returns-4 c =
     let a = c .before .before .before .before .args in
-    instance-fill (a .arity) (a .spare .0) (take 8 (a .tuple .now)) (a .head .now) (a .c) (c .before .before .before .before .pre .0 .1) (a .i) (omega arith) (λ e. omega arith) (λ e. omega arith) (omega arith)
+    instance-fill (a .arity) (a .counted .0) (take 8 (a .instance .now)) (a .head .now) (a .c)
+    (c .before .before .before .before .pre .0 .1) (a .i) (omega arith) (λ e. omega arith) (λ e. omega arith) (omega arith)
 
 pub instance-byte-spec : {M : Type 1} → statement M
 instance-byte-spec =

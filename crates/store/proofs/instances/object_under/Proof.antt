@@ -1,10 +1,10 @@
 -- `object_under` meets its contract, label by label. Assumes nothing.
 use mathlib.Core.Path.{sym, ap, _∙_}
 use lib.ListN.{take}
-use Rattle.witness.specs.Held.{objectAt}
+use Rattle.store.specs.InstanceFacts.{objectAt}
 use borrow.Author.Needs.{needs}
-use Rattle.witness.proofs.object_under.Statement.{statement}
-use Rattle.witness.proofs.object_under.Tie as tie
+use Rattle.store.proofs.instances.object_under.Statement.{statement}
+use Rattle.store.proofs.instances.object_under.Tie as tie
 
 enum-known-label : tie.Need-enum-known-label
 enum-known-label c = search needs
@@ -18,7 +18,7 @@ enum-told c = search needs
 returns : tie.Need-returns
 returns c =
     let a = c .before .before .before .before .before .args in
-    c .object-at .ensures ∙ sym (ap (objectAt (a .spare) (take 8 (a .tuple .now))) (c .before .before .label .given .1))
+    c .object-at .ensures ∙ sym (ap (objectAt (a .counted) (take 8 (a .instance .now))) (c .before .before .label .given .1))
 
 returns-2 : tie.Need-returns-2
 returns-2 c = search needs
