@@ -242,7 +242,7 @@ paste-both : (d a b : List ℕ) (at : ℕ) → length a ≡ 4 → at + 8 ≤ len
 paste-both d a b at l h =
     let z : at + 4 + 4 ≡ at + 8 = omega arith in
     let end : drop (at + 4 + 4) (paste d at a 4) ≡ drop (at + 8) d =
-        sym (drop-drop 4 (at + 4) (paste d at a 4)) ∙ ap (drop 4) (drop-paste d at a 4 (omega arith) (omega arith)) ∙ drop-drop 4 (at + 4) d ∙ ap (λ (k : ℕ). drop k d) z in
+    sym (drop-drop 4 (at + 4) (paste d at a 4)) ∙ ap (drop 4) (drop-paste d at a 4 (omega arith) (omega arith)) ∙ drop-drop 4 (at + 4) d ∙ ap (λ (k : ℕ). drop k d) z in
     ap₂ (λ (x y : List ℕ). x ++ take 4 b ++ y) (take-paste d at a 4 (omega arith) (omega arith)) end
     ∙ ap (λ (x : List ℕ). x ++ drop (at + 8) d) (append-assoc (take at d) (take 4 a) (take 4 b))
 

@@ -31,37 +31,37 @@ any-meets-requires-6 : tie.Need-any-meets-requires-6
 any-meets-requires-6 c κs = search needs
 
 returns : tie.Need-returns
-returns c = 
+returns c =
     let a = c .before .before .before .before .before .args in
     against-0 (a .p .now) (rowsIn (a .to - a .from) (drop (8 * a .from) (a .table .now))) (omega arith) (omega arith) (c .any-meets .ensures)
 
 returns-2 : tie.Need-returns-2
-returns-2 c = 
+returns-2 c =
     let a = c .before .before .before .before .before .args in
     against-1 (a .p .now) (rowsIn (a .to - a .from) (drop (8 * a .from) (a .table .now))) (omega arith) (omega arith) (c .any-meets2 .ensures)
 
 returns-3 : tie.Need-returns-3
-returns-3 c = 
+returns-3 c =
     let a = c .before .before .before .before .before .args in
     against-true (a .p .now) (rowsIn (a .to - a .from) (drop (8 * a .from) (a .table .now))) (omega arith) (inl (omega arith)) (c .any-meets3 .ensures)
 
 returns-4 : tie.Need-returns-4
-returns-4 c = 
+returns-4 c =
     let a = c .before .before .before .before .before .args in
     against-false (a .p .now) (rowsIn (a .to - a .from) (drop (8 * a .from) (a .table .now))) (omega arith) (inl (omega arith)) (c .any-meets4 .ensures)
 
 returns-5 : tie.Need-returns-5
-returns-5 c = 
+returns-5 c =
     let a = c .before .before .before .before .before .args in
     against-true (a .p .now) (rowsIn (a .to - a .from) (drop (8 * a .from) (a .table .now))) (omega arith) (inr (omega arith)) (c .any-meets5 .ensures)
 
 returns-6 : tie.Need-returns-6
-returns-6 c = 
+returns-6 c =
     let a = c .before .before .before .before .before .args in
     against-false (a .p .now) (rowsIn (a .to - a .from) (drop (8 * a .from) (a .table .now))) (omega arith) (inr (omega arith)) (c .any-meets6 .ensures)
 
 returns-7 : tie.Need-returns-7
-returns-7 c = 
+returns-7 c =
     let a = c .before .before .before .before .args in
     against-none (a .p .now) (rowsIn (a .to - a .from) (drop (8 * a .from) (a .table .now))) (omega arith) (λ e. omega arith) (λ e. omega arith) (λ e. omega arith) (λ e. omega arith) (λ e. omega arith) (λ e. omega arith)
 

@@ -10,7 +10,7 @@ use Rattle.literals.proofs.row.any_meets.Statement.{statement}
 use Rattle.literals.proofs.row.any_meets.Tie as tie
 
 abbrev Inv-loop : tie.InvT-loop
-Inv-loop p table from to first second i₀ i = 
+Inv-loop p table from to first second i₀ i =
     (i ≤ to) × (any (meetsAs first second (rowOf p)) (rowsIn (to - i) (drop (8 * i) table))
     ≡ any (meetsAs first second (rowOf p)) (rowsIn (to - from) (drop (8 * from) table)))
 
@@ -27,7 +27,7 @@ meets-as-requires : tie.Need-meets-as-requires Inv-loop μ-loop
 meets-as-requires c κs = let h = c .before .before .before .before .pre in (h .0, h .1, omega arith)
 
 returns : tie.Need-returns Inv-loop μ-loop
-returns c = 
+returns c =
     let a = c .before .before .before .before .before .before .args in
     let l = c .before .before .before .loop in
     sym (any-hit (meetsAs (a .first) (a .second) (rowOf (a .p .now))) (a .table .now) (a .to) (l .i) (omega arith)
@@ -41,7 +41,7 @@ loop-less : tie.Need-loop-less Inv-loop μ-loop
 loop-less c = omega arith
 
 loop-again : tie.Need-loop-again Inv-loop μ-loop
-loop-again c = 
+loop-again c =
     let a = c .before .before .before .before .before .before .args in
     let l = c .before .before .before .loop in (
       omega arith,
@@ -51,7 +51,7 @@ loop-again c =
     )
 
 returns-2 : tie.Need-returns-2 Inv-loop μ-loop
-returns-2 c = 
+returns-2 c =
     let a = c .before .before .before .before .args in
     let l = c .before .loop in
     sym (any-end (meetsAs (a .first) (a .second) (rowOf (a .p .now))) (a .table .now) (a .to) (l .i) (omega arith)) ∙ l .inv .1

@@ -12,7 +12,7 @@ use Rattle.literals.proofs.row.any_same.Statement.{statement}
 use Rattle.literals.proofs.row.any_same.Tie as tie
 
 abbrev Inv-loop : tie.InvT-loop
-Inv-loop table from to word i₀ i = 
+Inv-loop table from to word i₀ i =
     (i ≤ to) × ((row : List ℕ) → WordOf row word → any (sameList eqb row) (rowsIn (to - i) (drop (8 * i) table))
     ≡ any (sameList eqb row) (rowsIn (to - from) (drop (8 * from) table)))
 
@@ -29,7 +29,7 @@ eight-at-requires : tie.Need-eight-at-requires Inv-loop μ-loop
 eight-at-requires c κs = omega arith
 
 returns : tie.Need-returns Inv-loop μ-loop
-returns c = 
+returns c =
     let a = c .before .before .before .before .before .args in
     let l = c .before .before .before .loop in
     λ row W. sym (any-hit (sameList eqb row) (a .table .now) (a .to) (l .i) (omega arith)
@@ -43,7 +43,7 @@ loop-less : tie.Need-loop-less Inv-loop μ-loop
 loop-less c = omega arith
 
 loop-again : tie.Need-loop-again Inv-loop μ-loop
-loop-again c = 
+loop-again c =
     let a = c .before .before .before .before .before .args in
     let l = c .before .before .before .loop in (
       omega arith,
@@ -53,7 +53,7 @@ loop-again c =
     )
 
 returns-2 : tie.Need-returns-2 Inv-loop μ-loop
-returns-2 c = 
+returns-2 c =
     let a = c .before .before .before .args in
     let l = c .before .loop in
     λ row W. sym (any-end (sameList eqb row) (a .table .now) (a .to) (l .i) (omega arith)) ∙ l .inv .1 row W

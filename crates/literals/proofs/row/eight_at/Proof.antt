@@ -26,7 +26,7 @@ add-result : tie.Need-add-result
 add-result c = search needs
 
 returns : tie.Need-returns
-returns c = 
+returns c =
     record {
       low = c .before .before .before .four-at .result;
       high = c .before .four-at2 .result;

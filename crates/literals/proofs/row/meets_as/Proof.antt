@@ -13,7 +13,7 @@ meets-row-requires : tie.Need-meets-row-requires
 meets-row-requires c κs = search needs
 
 returns : tie.Need-returns
-returns c = 
+returns c =
     let a = c .before .before .before .before .before .args in
     as-first (rowOf (a .p .now)) (a .table .now) (a .at) (a .first) (a .second) (omega arith) (c .meets-row .ensures)
 
@@ -24,12 +24,12 @@ meets-row-requires-2 : tie.Need-meets-row-requires-2
 meets-row-requires-2 c κs = search needs
 
 returns-2 : tie.Need-returns-2
-returns-2 c = 
+returns-2 c =
     let a = c .before .before .before .before .before .before .before .args in
     as-second (rowOf (a .p .now)) (a .table .now) (a .at) (a .first) (a .second) (omega arith) (c .meets-row2 .ensures)
 
 returns-3 : tie.Need-returns-3
-returns-3 c = 
+returns-3 c =
     let a = c .before .before .before .before .before .before .args in
     as-neither (rowOf (a .p .now)) (a .table .now) (a .at) (a .first) (a .second) (λ e. omega arith) (λ e. omega arith)
 

@@ -18,12 +18,12 @@ payload-meets-requires : tie.Need-payload-meets-requires
 payload-meets-requires c κs = search needs
 
 returns : tie.Need-returns
-returns c = 
+returns c =
     let a = c .before .before .before .before .before .before .args in
     payload-meeting (a .p .now) (a .table .now) (a .at) (omega arith) (omega arith) (omega arith) (omega arith) (c .payload-meets .ensures)
 
 returns-2 : tie.Need-returns-2
-returns-2 c = 
+returns-2 c =
     let a = c .before .before .before .before .before .args in
     payload-apart (a .p .now) (a .table .now) (a .at) (omega arith) (omega arith) (omega arith) (λ e. omega arith)
 

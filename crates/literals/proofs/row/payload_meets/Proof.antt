@@ -12,7 +12,7 @@ use Rattle.literals.proofs.row.payload_meets.Statement.{statement}
 use Rattle.literals.proofs.row.payload_meets.Tie as tie
 
 abbrev Inv-loop : tie.InvT-loop
-Inv-loop p table at i₀ i = 
+Inv-loop p table at i₀ i =
     (i ≤ length p) × (sameList meetByte (drop i (rowOf p)) (drop i (take 8 (drop at table))) ≡ argumentsMeet (rowOf p) (take 8 (drop at table)))
 
 abbrev μ-loop : tie.MeasureT-loop
@@ -34,7 +34,7 @@ bytes-meet-requires : tie.Need-bytes-meet-requires Inv-loop μ-loop
 bytes-meet-requires c κs = search needs
 
 returns : tie.Need-returns Inv-loop μ-loop
-returns c = 
+returns c =
     let a = c .before .before .before .before .before .before .before .before .args in
     let l = c .before .before .before .before .before .loop in
     sym (payload-miss (a .p .now) (a .table .now) (a .at) (omega arith) (omega arith) (l .i) (omega arith)
@@ -48,7 +48,7 @@ loop-less : tie.Need-loop-less Inv-loop μ-loop
 loop-less c = omega arith
 
 loop-again : tie.Need-loop-again Inv-loop μ-loop
-loop-again c = 
+loop-again c =
     let a = c .before .before .before .before .before .before .before .before .args in
     let l = c .before .before .before .before .before .loop in (
       omega arith,
@@ -58,7 +58,7 @@ loop-again c =
     )
 
 returns-2 : tie.Need-returns-2 Inv-loop μ-loop
-returns-2 c = 
+returns-2 c =
     let a = c .before .before .before .before .args in
     let l = c .before .loop in
     sym (payload-end (a .p .now) (a .table .now) (a .at) (omega arith) (omega arith) (l .i) (omega arith)) ∙ l .inv .1

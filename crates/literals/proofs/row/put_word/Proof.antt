@@ -25,7 +25,7 @@ same-length : tie.Need-same-length
 same-length c = search needs
 
 returns : tie.Need-returns
-returns c = 
+returns c =
     let a = c .before .before .before .before .before .before .before .before .before .args in
     λ row W. put-both (a .out .now) _ _ row (a .at) (omega arith) (c .before .before .before .before .before .before .put-four .ensures) (c .before .before .put-four2 .ensures) refl refl W
 

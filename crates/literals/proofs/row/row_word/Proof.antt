@@ -24,7 +24,7 @@ add-result : tie.Need-add-result
 add-result c = search needs
 
 returns : tie.Need-returns
-returns c = 
+returns c =
     let a = c .before .before .before .before .before .args in
     record {
       long = length-row (a .p .now) (omega arith);
