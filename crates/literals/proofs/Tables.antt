@@ -12,24 +12,25 @@ use lib.Seq.{take-at, drop-at, paste}
 use borrow.Author.Tests.{eqb-true, ne-eqb}
 use Rattle.records.specs.Lists.{In, any, sameList, sideBySide}
 use Rattle.records.specs.Memory.{over}
-use Rattle.records.proofs.Lists.{and-r, bool-cases, eqb-same, sameList-self, any-map, any-append, map-back, allBelow, below-in}
+use Rattle.records.proofs.Lists.{and-r, or-out, bool-cases, eqb-same, sameList-self, any-map, any-append, map-back, allBelow, below-in}
 use Rattle.records.proofs.Memory.{over-more, over-paste, drop-replicate, getD-fill}
 use Rattle.literals.specs.declared.Variable.{Variable}
 use Rattle.literals.specs.declared.Argument.{Argument}
 use Rattle.literals.specs.declared.Argument.the-variants.{Variable as bound, Every}
+use Rattle.literals.specs.declared.Label.{Label}
 use Rattle.literals.specs.declared.Usage.{Usage}
 use Rattle.literals.specs.declared.Usage.the-variants.{Positive, Negative, Add, Delete}
 use Rattle.literals.specs.declared.Role.{Role}
-use Rattle.literals.specs.Domain.{sameArgument, meetArgument, sameAtom, sameLiteral, meets, roleOf, roleNumber, sameTime, sameUsage}
+use Rattle.literals.specs.Domain.{isEvery, sameArgument, meetArgument, sameAtom, sameLiteral, meets, roleOf, roleNumber, sameTime, sameUsage}
 use Rattle.literals.specs.Domain.{sameRole, Literal, Action, Component, isCounted, keysBound, keepsKeys, Domain, arity}
 use Rattle.literals.specs.Decode.{maxArguments, byte, argumentOf, literalOf, repeats, contrary, together, contradicts, labelOf}
 use Rattle.literals.specs.Decode.{componentOf, keysCleared}
 use Rattle.literals.specs.Fields.{keyBeside, keyClearedIn}
-use Rattle.literals.specs.Table.{rowOf, argumentNumber, literalRow, labelNumber, componentRow, allLiterals, pad, meetByte, rowsMeet}
+use Rattle.literals.specs.Table.{rowOf, argumentNumber, literalRow, labelNumber, componentRow, allLiterals, hasEvery, someEvery, pad, meetByte, rowsMeet}
 use Rattle.literals.specs.Table.{opposedRoles, contradictsRow, rowsStop, rowsBy, Bounded}
 use Rattle.literals.proofs.Rows.{length-row}
 use Rattle.literals.proofs.Bounds.{role-number}
-use Rattle.literals.proofs.Arguments.{counted-label, argument-back, Small, same-arguments, meet-arguments}
+use Rattle.literals.proofs.Arguments.{or-true, counted-label, argument-back, Small, same-arguments, meet-arguments}
 
 -- ---- a row at the seam of a table
 
@@ -275,6 +276,29 @@ keys-row (b ∷ bs) (bound v ∷ vs) m e h =
     ∙ ap (λ (t : Bool). t || not (eqb (v .0) 255)) (counted-label b))
     (keys-row bs vs m (omega arith) (λ w i. h w (List·Memᴰ·tail i)))
 keys-row (b ∷ bs) (Every ∷ vs) m e h = ap₂ _&&_ (ap (λ (t : Bool). t || false) (counted-label b)) (keys-row bs vs m (omega arith) h)
+
+-- none is cleared where no literal has FF
+every-keeps : (ls : List Label) (vs : List Argument) → any isEvery vs ≡ false → keysBound ls vs ≡ true
+every-keeps [] vs e = refl
+every-keeps (l ∷ ls) [] e = refl
+every-keeps (l ∷ ls) (v ∷ vs) e =
+    let o = or-out (isEvery v) _ e in
+    rw (o .0, or-true (isCounted l)) (every-keeps ls vs (o .1))
+
+pub none-cleared : (as′ : List Action) (c : Component) → someEvery as′ ≡ false → keysCleared as′ c ≡ false
+unfolding someEvery allLiterals flatMap
+none-cleared [] c e = refl
+none-cleared (a ∷ as′) c e =
+    let o = or-out (any hasEvery (a .lits)) _ (sym (any-append hasEvery (a .lits) (flatMap (λ (a : Action). a .lits) as′)) ∙ e) in
+    ap₂ _||_ (lits (a .lits) (o .0)) (none-cleared as′ c (o .1))
+  where
+    lits : (ls : List Literal) → any hasEvery ls ≡ false → any (λ (l : Literal). not (keepsKeys c (l .atom))) ls ≡ false
+    lits [] e = refl
+    lits (l ∷ ls) e =
+        let o = or-out (hasEvery l) _ e in
+        ap₂ _||_
+        (ap not (ap (λ (b : Bool). not (eqb (c .rel) (l .atom .rel)) || b) (every-keeps (c .labels) (l .atom .args) (o .0)) ∙ or-true (not (eqb (c .rel) (l .atom .rel)))))
+        (lits ls (o .1))
 
 pub cleared-rows : (D : Domain) → Bounded D → (p : List ℕ) → length p ≡ 1 + arity D (byte p 0)
     → keysCleared (D .actions) (componentOf p) ≡ any (keyClearedIn p) (map literalRow (allLiterals (D .actions)))

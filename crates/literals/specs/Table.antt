@@ -11,7 +11,7 @@ use Rattle.literals.specs.declared.Argument.{Argument}
 use Rattle.literals.specs.declared.Argument.the-variants.{Variable as bound, Every}
 use Rattle.literals.specs.declared.Label.{Label}
 use Rattle.literals.specs.declared.Label.the-variants.{Key as keyed, Counted}
-use Rattle.literals.specs.Domain.{variablesOf, roleNumber, roleOf, Literal, clearsOnce, Action, Component, keepsKeys, keysOf}
+use Rattle.literals.specs.Domain.{isEvery, variablesOf, roleNumber, roleOf, Literal, clearsOnce, Action, Component, keepsKeys, keysOf}
 use Rattle.literals.specs.Domain.{labelsFit, Domain, arity}
 use Rattle.literals.specs.Decode.{byte, maxRelations, maxArguments, maxActions, maxVariables, maxLiterals, maxComponents}
 
@@ -42,6 +42,15 @@ componentRow c = rowOf (c .rel ∷ map labelNumber (c .labels))
 unfoldable pub allLiterals : List Action → List Literal
 unfolding flatMap
 allLiterals as′ = flatMap (λ (a : Action). a .lits) as′
+
+-- a literal that has FF, every object, among its arguments
+abbrev pub hasEvery : Literal → Bool
+hasEvery l = any isEvery (l .atom .args)
+
+-- whether one of these actions' literals has
+unfoldable pub someEvery : List Action → Bool
+unfolding allLiterals
+someEvery as′ = any hasEvery (allLiterals as′)
 
 -- the table's rows
 unfoldable pub tableBytes : Domain → List ℕ

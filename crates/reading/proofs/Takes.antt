@@ -20,11 +20,12 @@ use Rattle.literals.specs.Decode.{headStop, relationStop, actionStop, literalOf
 use Rattle.literals.specs.Decode.{atRecord, componentOf, labelFault, keysCleared, clearedFault, componentFault, componentStop, closingStop}
 use Rattle.literals.specs.Decode.{fieldStop, fieldPlace, stopOf, stopPlace, extend}
 use Rattle.literals.specs.Table.{rowOf, literalRow, allLiterals, contradictsRow, rowsIn, rowsStop}
-use Rattle.literals.specs.Held.{relationsIn, actionsIn, componentsIn, arityIn, componentRowsIn, variablesIn, lastingIn, HeadOf, Held, SpanOf, Filled}
+use Rattle.literals.specs.Held.{relationsIn, actionsIn, componentsIn, arityIn, componentRowsIn, variablesIn, lastingIn, clearsIn}
+use Rattle.literals.specs.Held.{HeadOf, Held, SpanOf, Filled}
 use Rattle.literals.specs.Fields.{argumentsStop, literalShape, literalArguments, componentFields, keyClearedIn}
 use Rattle.literals.proofs.Stops.{outOfOrder, atLimit, lastFault, faults-split}
 use Rattle.literals.proofs.Bounds.{arity-six, variables-below}
-use Rattle.literals.proofs.Tables.{any-component, Comparable, kept, length-literal-row, rows-flat, literals-stop, cleared-rows}
+use Rattle.literals.proofs.Tables.{any-component, Comparable, kept, length-literal-row, rows-flat, literals-stop, none-cleared, cleared-rows}
 use Rattle.literals.proofs.Held.{stop-order, stop-limit, stop-field, place-limit, place-field}
 use Rattle.literals.proofs.Heads.{arity-limit, literals-after, all-rows}
 use Rattle.literals.proofs.Fills.{latest-at}
@@ -182,6 +183,11 @@ module _ {D : Domain} {head table : List ℕ} (K : Held D head table) (p : List 
 
       pub component-labels : (m .number ≡ 0 → ⊥) → m ≡ componentFault D p
       component-labels l = sym (by-labels ∙ rw (ne-eqb (m .number) 0 l))
+
+      -- no literal has FF
+      pub component-plain : m .number ≡ 0 → clearsIn head ≡ false → m ≡ componentFault D p
+      component-plain l f =
+          sym (by-labels ∙ rw (eq-eqb (m .number) 0 l, none-cleared (D .actions) (componentOf p) (sym (K .says .clears) ∙ f)))
 
       module _ (l : m .number ≡ 0) {w : ℕ} (c : w ≡ length (allLiterals (D .actions))) {b : Bool}
           (d : b ≡ any (keyClearedIn p) (rowsIn w table)) where

@@ -15,6 +15,7 @@ use literals::head::add_component;
 use literals::head::add_literal;
 use literals::head::add_relation;
 use literals::head::all_rows;
+use literals::head::clears_in;
 use literals::head::components_in;
 use literals::head::is_used;
 use literals::head::keys_with;
@@ -35,9 +36,9 @@ ghost use mathlib.Core.Path.{_≡_};
 ghost use Prim.Native.Nat.{_+_, _*_, _≤_, _<_};
 ghost use lib.ListN.{length};
 ghost use Rattle.literals.specs.Domain.{Domain};
-ghost use Rattle.literals.specs.Decode.{maxArguments, componentFault, stopOf, stopPlace};
+ghost use Rattle.literals.specs.Decode.{maxArguments, literalOf, componentFault, stopOf, stopPlace};
 ghost use Rattle.literals.specs.Decode.{kindOf, relationRecord, actionRecord, literalRecord, componentRecord, closingRecord};
-ghost use Rattle.literals.specs.Table.{rowOf, WordOf, rowsStop};
+ghost use Rattle.literals.specs.Table.{rowOf, hasEvery, WordOf, rowsStop};
 ghost use Rattle.literals.specs.Held.{actionsIn, HeadOf, Held, headBytes};
 ghost use Rattle.reading.specs.Held.{Takes, rowsOf, Placed, TakesRow, RecordReady};
 
@@ -94,11 +95,12 @@ fn rows_stop(table: &[u8], span: Span, word: u64, p: &[u8]) -> u64
     0
 }
 
-// A literal whose fields pass: compared with the rows of its action, and written behind them where none stops it.
-fn place_literal(head: &mut Head, table: &mut [u8], span: Span, p: &[u8]) -> u64
+// A literal whose fields pass, with FF or without: compared with the rows of its action, and written behind them where none stops it.
+fn place_literal(head: &mut Head, table: &mut [u8], span: Span, p: &[u8], clears: bool) -> u64
     requires actions { ⌜ 0 < actionsIn (now head) ⌝ }
     requires rows { ⌜ (span .from ≤ span .to) × (8 * span .to + 8 ≤ length (now table)) ⌝ }
     requires short { ⌜ (2 ≤ length (now p)) × (length (now p) ≤ 8) ⌝ }
+    requires every { ⌜ clears ≡ hasEvery (literalOf (now p)) ⌝ }
     ensures { λ r. ⌜ Placed span (now (p .entry)) r
         (now (head .entry)) (now (table .entry)) (now (head .exit)) (now (table .exit)) ⌝ }
 {
@@ -106,7 +108,7 @@ fn place_literal(head: &mut Head, table: &mut [u8], span: Span, p: &[u8]) -> u64
     let number = rows_stop(table, span, word, p);
     if number == 0 {
         put_word(table, 8 * span.to, word);
-        add_literal(head);
+        add_literal(head, clears);
         return 0;
     }
     number
@@ -140,12 +142,13 @@ pub fn take_literal(head: &mut Head, table: &mut [u8], p: &[u8]) -> u64
         if arguments != 0 {
             return arguments;
         }
-        return place_literal(head, table, span, p);
+        return place_literal(head, table, span, p, true);
     }
-    place_literal(head, table, span, p)
+    place_literal(head, table, span, p, false)
 }
 
-// What stops a component: its fields, then its labels, then a key where a literal of its relation has FF.
+// What stops a component: its fields, then its labels, then a key where a literal of its relation has FF. The rows are looked through
+// for that only where some literal has FF.
 fn component_fault(head: &Head, table: &[u8], p: &[u8]) -> RecordFault
     ensures fault { λ r. ⌜ ((D : Domain) → Held D (now (head .entry)) (now (table .entry)) → r ≡ componentFault D (now (p .entry))) ⌝ }
     ensures fits { λ r. ⌜ (r .number ≡ 0 → length (now (p .entry)) ≤ 1 + maxArguments) ⌝ }
@@ -166,6 +169,9 @@ fn component_fault(head: &Head, table: &[u8], p: &[u8]) -> RecordFault
     let labels = label_fields(p, keys_with(head, p));
     let number = labels.number;
     if number != 0 {
+        return labels;
+    }
+    if !clears_in(head) {
         return labels;
     }
     if any_clears_key(p, table, all_rows(head, table)) {

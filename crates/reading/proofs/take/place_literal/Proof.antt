@@ -29,7 +29,7 @@ returns c =
     record {
       number = sym z ∙ c .before .before .before .before .before .before .before .before .rows-stop .ensures;
       stopped = λ n. absurd (n refl);
-      added = λ e. c .add-literal .ensures _;
+      added = λ e. c .add-literal .ensures (c .before .before .before .before .before .before .before .before .before .before .before .before .before .args .p .now) (c .before .before .before .before .before .before .before .before .before .before .before .before .before .pre .1 .1 .1);
       written = λ e. c .before .before .before .before .put-word .ensures (rowOf (c .before .before .before .before .before .before .before .before .before .before .before .before .before .args .p .now)) (c .before .before .before .before .before .before .before .before .before .before .row-word .ensures);
     }
 

@@ -4,7 +4,7 @@ use Prim.Native.Nat.{_+_, _-_}
 use native.Mathlib.Omega.{arith}
 use lib.ListN.{length}
 use Rattle.literals.specs.Decode.{literalRecord}
-use Rattle.literals.proofs.Bytes.{plain-arguments}
+use Rattle.literals.proofs.Bytes.{plain-arguments, plain-every, some-every}
 use Rattle.reading.proofs.Takes.{row-stop, held-over, not-zero, span-size, span-all, literal-early, literal-late, literal-full}
 use Rattle.reading.proofs.Takes.{literal-short, shape-stop, arguments-stop}
 use Rattle.reading.proofs.Written.{literal-stopped, literal-placed}
@@ -103,7 +103,7 @@ place-literal-requires c κs =
     let t = span-all w S in
     let f = literal-short _ _ _ (sym (c .before .before .before .before .before .before .before .before .before .literal-shape .ensures) ∙ (let z : c .before .before .before .before .before .before .before .before .before .literal-shape .result ≡ 0 = omega arith in z)) in
     let m = R .room (f .0) (omega arith) in
-    (omega arith, ((c .before .before .before .before .before .before .before .before .before .before .before .before .before .rows-of .ensures .0 .order, omega arith), f))
+    (omega arith, ((c .before .before .before .before .before .before .before .before .before .before .before .before .before .rows-of .ensures .0 .order, omega arith), (f, some-every _ _ (sym (c .before .before .before .before .before .any-from .ensures) ∙ c .before .before .before .before .if5 .taken) (sym (c .before .before .before .literal-arguments .ensures) ∙ (let z : c .before .before .before .literal-arguments .result ≡ 0 = omega arith in z)))))
 
 same-length-4 : tie.Need-same-length-4
 same-length-4 c = search needs
@@ -131,7 +131,7 @@ place-literal-requires-2 c κs =
     let t = span-all w S in
     let f = literal-short _ _ _ (sym (c .before .before .before .before .before .before .before .literal-shape .ensures) ∙ (let z : c .before .before .before .before .before .before .before .literal-shape .result ≡ 0 = omega arith in z)) in
     let m = R .room (f .0) (omega arith) in
-    (omega arith, ((c .before .before .before .before .before .before .before .before .before .before .before .rows-of .ensures .0 .order, omega arith), f))
+    (omega arith, ((c .before .before .before .before .before .before .before .before .before .before .before .rows-of .ensures .0 .order, omega arith), (f, plain-every (c .before .before .before .before .variables-of .result) (c .before .before .before .before .before .before .before .before .before .before .before .before .before .before .before .before .before .before .before .before .before .before .args .p .now) (let v = c .before .before .before .before .variables-of .ensures .1 in omega arith) (sym (c .before .before .before .any-from .ensures) ∙ c .before .before .if5 .left))))
 
 same-length-5 : tie.Need-same-length-5
 same-length-5 c = search needs
