@@ -180,6 +180,40 @@ four-small A =
     let d = A .fourth in
     omega arith
 
+-- the number of a payload's row, by its bytes
+abbrev IsByte : List ℕ → ℕ → ℕ → Type 0
+IsByte s i b = (b ≡ getD s i 0) × (b < 256)
+
+four-of : (s : List ℕ) (i j k l : ℕ) {a b c d : ℕ} → j ≡ i + 1 → k ≡ i + 2 → l ≡ i + 3 → IsByte s i a → IsByte s j b → IsByte s k c → IsByte s l d
+    → FourAt s i (a + 256 * b + 65536 * c + 16777216 * d)
+four-of s i j k l {a} {b} {c} {d} e f g w x y z =
+    let a′ : a ≡ getD s i 0 = w .0 in
+    let b′ : b ≡ getD s (i + 1) 0 = x .0 ∙ ap (λ (n : ℕ). getD s n 0) e in
+    let c′ : c ≡ getD s (i + 2) 0 = y .0 ∙ ap (λ (n : ℕ). getD s n 0) f in
+    let d′ : d ≡ getD s (i + 3) 0 = z .0 ∙ ap (λ (n : ℕ). getD s n 0) g in
+    let p = w .1 in
+    let q = x .1 in
+    let r = y .1 in
+    let t = z .1 in
+    record { is = omega arith; first = omega arith; second = omega arith; third = omega arith; fourth = omega arith }
+
+pub word-of : (p : List ℕ) → length p ≤ 8 → {a b c d e f g h : ℕ} → IsByte (rowOf p) 0 a → IsByte (rowOf p) 1 b → IsByte (rowOf p) 2 c
+    → IsByte (rowOf p) 3 d → IsByte (rowOf p) 4 e → IsByte (rowOf p) 5 f → IsByte (rowOf p) 6 g → IsByte (rowOf p) 7 h
+    → WordOf (rowOf p)
+    (a + 256 * b + 65536 * c + 16777216 * d + 4294967296 * e + 1099511627776 * f + 281474976710656 * g + 72057594037927936 * h)
+word-of p l {a} {b} {c} {d} {e} {f} {g} {h} i j k m n o q r =
+    record {
+      long = length-row p l;
+      bytes =
+          record {
+            low = a + 256 * b + 65536 * c + 16777216 * d;
+            high = e + 256 * f + 65536 * g + 16777216 * h;
+            lows = four-of (rowOf p) 0 1 2 3 refl refl refl i j k m;
+            highs = four-of (rowOf p) 4 5 6 7 refl refl refl n o q r;
+            is = omega arith;
+          };
+    }
+
 -- two numbers of eight bytes are the same where the bytes are
 module _ (x y : List ℕ) (i j : ℕ) (h : i + 8 ≤ length x) (g : j + 8 ≤ length y) {a b : ℕ} (A : EightAt x i a) (B : EightAt y j b) where
   eight-same : a ≡ b → sameList eqb (take 8 (drop i x)) (take 8 (drop j y)) ≡ true

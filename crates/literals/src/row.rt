@@ -124,26 +124,29 @@ fn eight_at(s: &[u8], at: usize) -> u64
     low + 4294967296 * high
 }
 
-// The number of four bytes of a payload's row, the lowest first.
-fn row_four(p: &[u8], at: usize) -> u32
-    requires { ⌜ at + 4 ≤ 8 ⌝ }
-    ensures { λ r. ⌜ FourAt (rowOf (now (p .entry))) at r ⌝ }
+// A byte of the row of a payload, as a number.
+fn row_digit(p: &[u8], i: usize) -> u64
+    requires { ⌜ i < 8 ⌝ }
+    ensures { λ r. ⌜ (r ≡ getD (rowOf (now (p .entry))) i 0) × (r < 256) ⌝ }
 {
-    let first = widened(row_byte(p, at));
-    let second = widened(row_byte(p, at + 1));
-    let third = widened(row_byte(p, at + 2));
-    let fourth = widened(row_byte(p, at + 3));
-    first + 256 * second + 65536 * third + 16777216 * fourth
+    longer(widened(row_byte(p, i)))
 }
 
-// The number of a payload's row: compared with rows, and written, as one number, which is much quicker than byte by byte.
+// The number of a payload's row: it is compared with rows, and written, as one number, which is much quicker than byte by byte.
 pub fn row_word(p: &[u8]) -> u64
     requires { ⌜ length (now p) ≤ 8 ⌝ }
     ensures { λ r. ⌜ WordOf (rowOf (now (p .entry))) r ⌝ }
 {
-    let low = longer(row_four(p, 0));
-    let high = longer(row_four(p, 4));
-    low + 4294967296 * high
+    let a = row_digit(p, 0);
+    let b = row_digit(p, 1);
+    let c = row_digit(p, 2);
+    let d = row_digit(p, 3);
+    let e = row_digit(p, 4);
+    let f = row_digit(p, 5);
+    let g = row_digit(p, 6);
+    let h = row_digit(p, 7);
+    let low = a + 256 * b + 65536 * c + 16777216 * d;
+    low + 4294967296 * e + 1099511627776 * f + 281474976710656 * g + 72057594037927936 * h
 }
 
 // The four bytes of a number, the lowest first, written at an offset.
