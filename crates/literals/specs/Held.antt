@@ -1,6 +1,6 @@
 -- How the code holds a domain that was read: a head, in sections, and the table of its literals. Assumes nothing.
 use mathlib.Core.Path.{_≡_}
-use mathlib.Core.Bool.{Bool, cond}
+use mathlib.Core.Bool.{Bool, false, cond}
 use mathlib.Core.List.{List, [], _∷_, map, flatMap}
 use Prim.Native.Nat.{ℕ, zero, suc, _+_, _-_, _*_, _≤_, _<_}
 use lib.Dec.{eqb, ltb, leb}
@@ -112,13 +112,14 @@ pub record HeadOf (D : Domain) (head : List ℕ) : Type 0 where
   pub firsts : (i : ℕ) → i < length (D .actions) → firstIn head i ≡ length (allLiterals (take i (D .actions)))
   pub clears : clearsIn head ≡ someEvery (D .actions)
 
--- what it says of the relations and the template, which is all that the classes of an action ask for
+-- what it says of the relations and the template, and where no literal has FF, which is all that the classes of an action ask for
 pub record TemplateOf (D : Domain) (head : List ℕ) : Type 0 where
   pub bounded : Bounded D
   pub keys : keysIn head ≡ keysOf (D .template)
   pub arities : (r : ℕ) → arityIn head r ≡ arity D r
   pub components : componentsIn head ≡ length (D .template)
   pub componentRows : componentRowsIn head ≡ map componentRow (D .template)
+  pub plain : clearsIn head ≡ false → someEvery (D .actions) ≡ false
 
 pub record Held (D : Domain) (head table : List ℕ) : Type 0 where
   pub says : HeadOf D head
