@@ -13,8 +13,8 @@ use Rattle.reading.specs.declared.Refusal.{Refusal as FileRefusal}
 use Rattle.reading.specs.declared.read.Stepped.{Stepped}
 use Rattle.literals.specs.declared.span.Span.{Span}
 use Rattle.literals.specs.Domain.{Domain}
-use Rattle.literals.specs.Decode.{maxFile, maxActions, maxLiterals, latest, RecordKind, literalRecord, stopOf, extend, Decoded, refused, domain, Reading}
-use Rattle.literals.specs.Decode.{ReadTurn, goOn, finish, readStep, noDomain, fromStart}
+use Rattle.literals.specs.Decode.{maxFile, maxActions, maxLiterals, latest, RecordKind, literalRecord, stopOf, extend, Decoded}
+use Rattle.literals.specs.Decode.{refused, domain, Reading, ReadTurn, goOn, finish, readStep, noDomain, fromStart}
 use Rattle.literals.specs.Table.{rowOf, rowsIn, rowsStop, allLiterals, tableBytes}
 use Rattle.literals.specs.Held.{Filled, Held, Adds, headBytes}
 
