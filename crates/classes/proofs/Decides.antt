@@ -2,14 +2,14 @@
 use mathlib.Core.Path.{_≡_, refl, sym, ap, ap₂, _∙_}
 use mathlib.Core.Bool.{Bool, true, false, _&&_, _||_, not, cond}
 use mathlib.Core.Logic.{_⊎_, inl, inr}
-use mathlib.Core.List.{List, [], _++_, map, flatMap}
+use mathlib.Core.List.{List, [], _∷_, _++_, map, flatMap}
 use Prim.Native.Nat.{ℕ, suc, _+_, _-_, _*_, _≤_, _<_}
 use native.Mathlib.Omega.{arith}
 use lib.Dec.{eqb, leb}
 use lib.ListN.{length, getD, replicate, length-map, List·getD-append}
 use borrow.Author.Tests.{eq-eqb, ne-eqb, eqb-true, eqb-false, le-leb, lt-leb, leb-true, leb-false, ltb-true}
 use Rattle.records.specs.Lists.{In, filterBy, countBy, any, all, elem}
-use Rattle.records.proofs.Lists.{below-in, bool-cases, not-true, getD-in, all-in, any-map, all-map, any-append, count-filter}
+use Rattle.records.proofs.Lists.{and-l, and-r, or-out, off, clash, any-out, in-flatMap, below-in, bool-cases, not-true, getD-in, all-in, any-map, all-map, any-append, count-filter}
 use Rattle.literals.specs.declared.Variable.{Variable}
 use Rattle.literals.specs.declared.Argument.{Argument}
 use Rattle.literals.specs.declared.Argument.the-variants.{Every}
@@ -23,8 +23,8 @@ use Rattle.literals.specs.Domain.{isEvery, Atom, sameLiteral, meets, usageNumbe
 use Rattle.literals.specs.Domain.{Component, isCounted, keyBelow, countedCleared, keysOf, Domain, arity}
 use Rattle.literals.specs.Decode.{argumentOf, labelOf}
 use Rattle.literals.proofs.Arguments.{every-number}
-use Rattle.literals.specs.Table.{literalRow, labelNumber, pad, Bounded as BoundedDomain}
-use Rattle.literals.specs.Held.{arityIn, componentRowIn, TemplateOf}
+use Rattle.literals.specs.Table.{literalRow, labelNumber, allLiterals, hasEvery, someEvery, pad, Bounded as BoundedDomain}
+use Rattle.literals.specs.Held.{arityIn, componentRowIn, clearsIn, TemplateOf}
 use Rattle.literals.proofs.Bytes.{keys-below}
 use Rattle.literals.proofs.Tables.{Kept, kept, pad-at}
 use Rattle.literals.proofs.Heads.{part-is}
@@ -39,7 +39,7 @@ use Rattle.classes.specs.Classes.{excluding, nameBy, nameOf, journey}
 use Rattle.literals.specs.Keys.{position, below}
 use Rattle.classes.specs.Held.{ActionOf, MomentOf, classNumberBy, classNumbers, usagesAt, askedAt, uncoveredAt, isAt, isSameAt}
 use Rattle.classes.specs.Held.{sameIn, isDeleteAt, deletedIn, changedAt, excludesAt, clearedAt, clearsAt, coversAt, coveredAt}
-use Rattle.classes.specs.Held.{lackingAt, lastsAt, soleBy, soleAt, soleOf, reachAt}
+use Rattle.classes.specs.Held.{countedAt, hasCounted, lackingAt, lastsAt, soleBy, soleAt, soleOf, reachAt}
 use Rattle.literals.proofs.Indices.{at-all, any-below, all-below, side-all, filter-below, position-below, any-filter, all-filter}
 use Rattle.literals.proofs.Indices.{filter-filter, filter-map, any-or, position-map, position-none, getD-map}
 use Rattle.classes.proofs.Rows.{noLiteral, literalAt, kept-at, role-at, relation-at, atoms-at, meet-at, argument-at}
@@ -107,6 +107,22 @@ module _ {D : Domain} {head : List ℕ} (H : TemplateOf D head) (c : ℕ) (h : c
 
       fits : all (keyBelow count) ls ≡ true
       fits = keys-below _ _ (H .bounded .keysFit (componentAt D c) here)
+
+-- no index passes
+no-index : (l : List ℕ) → any (λ j. false) l ≡ false
+no-index [] = refl
+no-index (j ∷ l) = no-index l
+
+-- a counted place beside arguments none of which is FF
+open-beside : (ls : List Label) (vs : List Argument) → length ls ≡ length vs → any isCounted ls ≡ true → any isEvery vs ≡ false
+    → countedCleared ls vs ≡ false
+open-beside [] vs e t f = absurd (clash t refl)
+open-beside (l ∷ ls) [] e t f = absurd (omega arith)
+open-beside (l ∷ ls) (v ∷ vs) e t f = go (isCounted l) refl (λ u. open-beside ls vs (omega arith) u (or-out (isEvery v) _ f .1))
+  where
+    go : (b : Bool) → isCounted l ≡ b → (any isCounted ls ≡ true → countedCleared ls vs ≡ false) → countedCleared (l ∷ ls) (v ∷ vs) ≡ false
+    go true q ih = rw (q, or-out (isEvery v) _ f .0)
+    go false q ih = rw q (ih (sym (ap (λ (b : Bool). b || any isCounted ls) q) ∙ t))
 
 -- ---- a class by its number
 
@@ -352,6 +368,43 @@ module _ (D : Domain) (a : Action) (B : BoundedDomain D) (i : In a (D .actions))
             (eqb (getD usages j 0) 4)
             (q (atom j))
 
+    -- where no literal has FF, a component with a counted place is not covered
+    open-in : (c : ℕ) → c < length (D .template) → clearsIn head ≡ false → hasCounted head c ≡ true
+        → coveredAt head rows (classNumbers D a) usages k c ≡ false
+    unfolding coveredAt coversAt excludesAt hasCounted someEvery allLiterals
+    open-in c g f t =
+        ap (λ (l : ℕ). any (coversAt head rows (classNumbers D a) usages k c) (below l)) length-numbers
+        ∙ any-below (coversAt head rows (classNumbers D a) usages k c) (λ j. false) n
+        (λ j w. off (coversAt head rows (classNumbers D a) usages k c j) (λ y. clash (and-r (excluded j) (clearsAt head rows c j) y) (none j w (same j w (and-l (excluded j) (clearsAt head rows c j) y)))))
+        ∙ no-index (below n)
+      where
+        ls : List Label
+        ls = componentAt D c .labels
+
+        excluded : ℕ → Bool
+        excluded j = eqb (getD (classNumbers D a) j 0) k && (leb 2 (getD usages j 0) && eqb (getD (componentRowIn head c) 0 0) (getD rows (8 * j + 1) 0))
+
+        same : (j : ℕ) → j < n → excluded j ≡ true → eqb (componentAt D c .rel) (atom j .rel) ≡ true
+        same j w y =
+            sym (ap₂ eqb (part-relation H c g) (relation-at (a .lits) kept-in j w))
+            ∙ and-r (leb 2 (getD usages j 0)) _ (and-r (eqb (getD (classNumbers D a) j 0) k) _ y)
+
+        counted : any isCounted ls ≡ true
+        counted =
+            ap (any isCounted) (sym (at-all Counted ls)) ∙ any-map (λ i. getD ls i Counted) isCounted (below (length ls))
+            ∙ sym (ap (λ (w : ℕ). any (countedAt head c) (below w)) (part-arity H c g)
+            ∙ any-below (countedAt head c) (λ i. isCounted (getD ls i Counted)) (length ls) (λ i w. part-counted H c g i w))
+            ∙ t
+
+        none : (j : ℕ) → j < n → eqb (componentAt D c .rel) (atom j .rel) ≡ true → clearsAt head rows c j ≡ false
+        none j w y =
+            let there = getD-in (a .lits) j noLiteral w in
+            clears-in c g j w y
+            ∙ open-beside ls (atom j .args)
+            (H .bounded .componentArity (componentAt D c) (here H c g) ∙ ap (arity D) (eqb-true (componentAt D c .rel) (atom j .rel) y)
+            ∙ sym (kept-in (literalAt (a .lits) j) there .arguments))
+            counted (any-out hasEvery (H .plain f) (in-flatMap (λ (b : Action). b .lits) i there))
+
     uncovered-in : lackingAt head rows (classNumbers D a) usages k ≡ uncoveredAt D a x m
     unfolding uncoveredAt lackingAt
     uncovered-in =
@@ -375,6 +428,12 @@ module _ {D : Domain} {a : Action} {m : Moment} {head rows numbers usages : List
   uncovered-held {k} h =
       (λ t. lackingAt head (M .whole .literals t) (M .numbers-are t) (M .usages-are t) k)
       ∙ uncovered-in D a its-bounds (M .whole .listed) m k h (M .whole .says)
+
+  pub open-held : {k : ℕ} → k < length (classes D a) → (c : ℕ) → c < length (D .template) → clearsIn head ≡ false → hasCounted head c ≡ true
+      → coveredAt head rows numbers usages k c ≡ false
+  open-held {k} h c g f t =
+      (λ u. coveredAt head (M .whole .literals u) (M .numbers-are u) (M .usages-are u) k c)
+      ∙ open-in D a its-bounds (M .whole .listed) m k h (M .whole .says) c g f t
 
 -- ---- the first line that fits
 

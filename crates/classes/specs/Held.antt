@@ -205,6 +205,15 @@ unfoldable pub coveredAt : List ℕ → List ℕ → List ℕ → List ℕ → �
 unfolding coversAt
 coveredAt head rows numbers usages class c = any (coversAt head rows numbers usages class c) (below (length numbers))
 
+-- the label i of the component c of the head is FF
+abbrev pub countedAt : List ℕ → ℕ → ℕ → Bool
+countedAt head c i = isCounted (labelOf (getD (componentRowIn head c) (1 + i) 0))
+
+-- one of its labels is
+unfoldable pub hasCounted : List ℕ → ℕ → Bool
+unfolding componentRowIn arityIn
+hasCounted head c = any (countedAt head c) (below (arityIn head (getD (componentRowIn head c) 0 0)))
+
 -- the first component that it does not cover, or their number
 unfoldable pub lackingAt : List ℕ → List ℕ → List ℕ → List ℕ → ℕ → ℕ
 unfolding componentsIn coveredAt

@@ -12,6 +12,7 @@ use literals::Usage;
 use literals::argument_of;
 use literals::head::Head;
 use literals::head::arity_of;
+use literals::head::clears_in;
 use literals::head::component_byte;
 use literals::head::components_in;
 use literals::is_counted;
@@ -42,6 +43,7 @@ ghost use Rattle.literals.specs.Keys.{below};
 ghost use Rattle.classes.specs.Held.{ActionOf, MomentOf, Sides, usagesBy, usagesAt, classNumbers, uncoveredAt, timed, usageByte};
 ghost use Rattle.classes.specs.Held.{mayMeet, sameAtomAt, saysAt, usageIn, isAt, isSameAt, sameIn, isDeleteAt, deletedIn};
 ghost use Rattle.classes.specs.Held.{changedAt, excludesAt, clearedBeside, clearedAt, coversAt, coveredAt, lackingAt, lastsAt};
+ghost use Rattle.classes.specs.Held.{countedAt, hasCounted};
 ghost use Rattle.classes.specs.Held.{soleMore, soleOf, reachAt, sectionBy, sectionOf, countsIn, SolesOf, soleIn};
 
 // Whether the literals of a time count at an end: its own, or (wide) all that is asked there, the over-all conditions too.
@@ -425,8 +427,8 @@ fn covers_by(
     false
 }
 
-// Whether a class covers the component `c`.
-fn covers(head: &Head, rows: &[u8], numbers: &[u8], usages: &Marks, class: u8, c: usize) -> bool
+// Whether a row is one by which a class covers the component `c`.
+fn any_covers(head: &Head, rows: &[u8], numbers: &[u8], usages: &Marks, class: u8, c: usize) -> bool
     requires { ⌜ (c < maxComponents) × Sides (now rows) (now numbers) ⌝ }
     ensures { λ r. ⌜ r ≡ coveredAt (now (head .entry)) (now (rows .entry)) (now (numbers .entry)) (now (usages .entry)) class c ⌝ }
 {
@@ -438,11 +440,54 @@ fn covers(head: &Head, rows: &[u8], numbers: &[u8], usages: &Marks, class: u8, c
     false
 }
 
+// Whether one of the first n labels of the component `c` is FF.
+fn any_counted(head: &Head, c: usize, n: usize) -> bool
+    requires { ⌜ (c < maxComponents) × (n ≤ maxArguments) ⌝ }
+    ensures { λ r. ⌜ r ≡ any (countedAt (now (head .entry)) c) (below n) ⌝ }
+{
+    for i in 0..n {
+        let label = label_of(component_byte(head, c, 1 + i));
+        if is_counted(label) {
+            return true;
+        }
+    }
+    false
+}
+
+// Whether the component `c` has a counted place.
+fn has_counted(head: &Head, c: usize) -> bool
+    requires { ⌜ c < maxComponents ⌝ }
+    ensures { λ r. ⌜ r ≡ hasCounted (now (head .entry)) c ⌝ }
+{
+    any_counted(head, c, wide(arity_of(head, component_byte(head, c, 0))))
+}
+
+// Whether a class covers the component `c`. Literals with FF alone cover one with a counted place: where there is none, the rows need
+// not be looked through.
+fn covers(head: &Head, rows: &[u8], numbers: &[u8], usages: &Marks, class: u8, c: usize) -> bool
+    requires { ⌜ (c < maxComponents) × Sides (now rows) (now numbers) ⌝ }
+    ensures { λ r. ⌜ ((D : Domain) (a : Action) (m : Moment)
+        → MomentOf D a m (now (head .entry)) (now (rows .entry)) (now (numbers .entry)) (now (usages .entry))
+        → class < length (classes D a) → c < length (D .template)
+        → r ≡ coveredAt (now (head .entry)) (now (rows .entry)) (now (numbers .entry)) (now (usages .entry)) class c) ⌝ }
+{
+    if clears_in(head) {
+        return any_covers(head, rows, numbers, usages, class, c);
+    }
+    if has_counted(head, c) {
+        return false;
+    }
+    any_covers(head, rows, numbers, usages, class, c)
+}
+
 // The first component that a class does not cover at the moment of these usages, or the number of components; `numbers` holds the class
 // numbers of the action's literals, which are these rows.
 fn first_lacking(head: &Head, rows: &[u8], numbers: &[u8], usages: &Marks, class: u8) -> usize
     requires { ⌜ Sides (now rows) (now numbers) ⌝ }
-    ensures { λ r. ⌜ r ≡ lackingAt (now (head .entry)) (now (rows .entry)) (now (numbers .entry)) (now (usages .entry)) class ⌝ }
+    ensures { λ r. ⌜ ((D : Domain) (a : Action) (m : Moment)
+        → MomentOf D a m (now (head .entry)) (now (rows .entry)) (now (numbers .entry)) (now (usages .entry))
+        → class < length (classes D a)
+        → r ≡ lackingAt (now (head .entry)) (now (rows .entry)) (now (numbers .entry)) (now (usages .entry)) class) ⌝ }
 {
     let n = components_in(head);
     for c in 0..n {

@@ -9,17 +9,20 @@ use native.Mathlib.Omega.{arith}
 use lib.Dec.{eqb, ltb, leb}
 use lib.ListN.{length, take, drop, getD, length-drop}
 use lib.Seq.{take-suc}
-use borrow.Author.Tests.{eq-eqb, ne-eqb, eqb-true, eqb-false, le-leb, lt-leb, lt-ltb, le-ltb}
+use borrow.Author.Tests.{eq-eqb, ne-eqb, eqb-true, eqb-false, leb-true, leb-false, ltb-true, le-leb, lt-leb, lt-ltb, le-ltb}
 use Rattle.records.specs.Lists.{addIf, all, any, countBy, firstAt, found}
-use Rattle.records.proofs.Lists.{and-l, and-r, and-i, bool-cases, or-r, eqb-comm, any-map, any-same, any-append, count-not, count-map, first-hit, first-miss, first-end}
-use Rattle.records.proofs.Numbers.{rows-split, cond-or}
+use Rattle.records.proofs.Lists.{and-l, and-r, and-i, bool-cases, or-r, or-out, not-false, any-in, any-out, in-any, eqb-comm, any-map, any-same, any-append, count-not, count-map, first-hit, first-miss, first-end}
+use Rattle.records.proofs.Numbers.{cond-or}
+use Rattle.literals.specs.declared.Argument.the-variants.{Variable as bound, Every}
 use Rattle.literals.specs.declared.Label.{Label}
 use Rattle.literals.specs.declared.Label.the-variants.{Key as keyed, Counted}
-use Rattle.literals.specs.Domain.{key, isKey, isCounted, keyBelow, eachKeyOnce, labelsFit, clearsOnce}
-use Rattle.literals.specs.Decode.{byte, literalOf, noVariable, labelOf, countedAgain, sameLabelKey, keyAgain, keyTooHigh, atRecord}
+use Rattle.literals.specs.Domain.{variable, isEvery, variableBelow, key, isKey, isCounted, keyBelow, eachKeyOnce, labelsFit, clearsOnce}
+use Rattle.literals.specs.Decode.{byte, argumentOf, literalOf, noVariable, labelOf, countedAgain, sameLabelKey, keyAgain, keyTooHigh, atRecord}
 use Rattle.literals.specs.Decode.{atLabel, labelFault}
-use Rattle.literals.specs.Held.{relationsIn, arityIn, variablesIn, lastingIn}
-use Rattle.literals.specs.Fields.{argumentsStop, literalFields, again, highKey, keysBelow, eachOnce}
+use Rattle.literals.specs.Held.{relationsIn, arityIn, lastingIn}
+use Rattle.literals.specs.Fields.{argumentsStop, literalShape, literalArguments, again, highKey, keysBelow, eachOnce}
+use Rattle.literals.specs.Table.{hasEvery}
+use Rattle.literals.proofs.Arguments.{clears-none}
 use Rattle.literals.proofs.Labels.{first-map, found-map}
 
 -- ---- a relation that is known, and its arguments
@@ -38,31 +41,64 @@ module _ (head : List ℕ) (relation first given : ℕ) where
     unfolding argumentsStop
     fit e = simp (lt-leb (relationsIn head) relation k, eq-eqb given (first + arityIn head relation) e)
 
--- the checks of a literal in the order of the code
-pub literal-by : (head : List ℕ) (i : ℕ) (p : List ℕ)
-    → literalFields head i p
-    ≡ cond (ltb (length p) 2) 12
-    (cond (ltb 9 (byte p 0) || (ltb 3 (byte p 0) && not (lastingIn head i))) 16
-    (cond (eqb (argumentsStop head (byte p 1) 2 (length p)) 0)
-    (cond (not (clearsOnce (literalOf p))) 26 (cond (any (noVariable (variablesIn head i)) (drop 2 p)) 18 0))
-    (argumentsStop head (byte p 1) 2 (length p))))
-unfolding literalFields argumentsStop
-literal-by head i p =
-    ap (cond (ltb (length p) 2) 12)
-    (sym (cond-or (ltb 9 (byte p 0)) (ltb 3 (byte p 0) && not (lastingIn head i)) 16 _)
-    ∙ ap (cond (ltb 9 (byte p 0) || (ltb 3 (byte p 0) && not (lastingIn head i))) 16)
-    (rows-split ((leb (relationsIn head) (byte p 1), 17) ∷ (not (eqb (length p) (2 + arityIn head (byte p 1))), 12) ∷ [])
-    (cond (not (clearsOnce (literalOf p))) 26 (cond (any (noVariable (variablesIn head i)) (drop 2 p)) 18 0)) refl))
-
--- the same by what they answer
-abbrev literalTold : (short role none clears unknown : Bool) → ℕ → ℕ
-literalTold short role none clears unknown stop = cond short 12 (cond role 16 (cond none (cond (not clears) 26 (cond unknown 18 0)) stop))
-
-pub literal-told : (head : List ℕ) (i : ℕ) (p : List ℕ) {short role none clears unknown : Bool} {stop : ℕ} → ltb (length p) 2 ≡ short
+-- the shape of a literal by what the checks answer
+pub shape-told : (head : List ℕ) (i : ℕ) (p : List ℕ) {short role : Bool} {stop : ℕ} → ltb (length p) 2 ≡ short
     → role ≡ (ltb 9 (byte p 0) || (ltb 3 (byte p 0) && not (lastingIn head i))) → stop ≡ argumentsStop head (byte p 1) 2 (length p)
-    → eqb stop 0 ≡ none → clears ≡ clearsOnce (literalOf p) → unknown ≡ any (noVariable (variablesIn head i)) (drop 2 p)
-    → literalTold short role none clears unknown stop ≡ literalFields head i p
-literal-told head i p s r e z c u = rw (r, ← z, ← s, e, c, u) (sym (literal-by head i p))
+    → cond short 12 (cond role 16 stop) ≡ literalShape head i p
+unfolding literalShape
+shape-told head i p s r e =
+    rw (r, ← s, e)
+    (ap (cond (ltb (length p) 2) 12)
+    (cond-or (ltb 9 (byte p 0)) (ltb 3 (byte p 0) && not (lastingIn head i)) 16 (argumentsStop head (byte p 1) 2 (length p))))
+
+-- and its arguments
+pub arguments-told : (n : ℕ) (p : List ℕ) {clears unknown : Bool} → clears ≡ clearsOnce (literalOf p) → unknown ≡ any (noVariable n) (drop 2 p)
+    → cond (not clears) 26 (cond unknown 18 0) ≡ literalArguments n p
+unfolding literalArguments
+arguments-told n p c u = rw (c, u)
+
+-- arguments below the number of variables are neither FF nor unknown
+below-plain : (n : ℕ) (bs : List ℕ) → n ≤ 255 → any (leb n) bs ≡ false
+    → (any (noVariable n) bs ≡ false) × (countBy (eqb 255) bs ≡ 0) × (any isEvery (map argumentOf bs) ≡ false)
+below-plain n [] h e = (refl, refl, refl)
+below-plain n (b ∷ bs) h e =
+    let both = or-out (leb n b) _ e in
+    let l = leb-false n b (both .0) in
+    let rest = below-plain n bs h (both .1) in (
+      rw (ne-eqb b 255 (λ z. omega arith), lt-ltb b n l) (rest .0),
+      rw (ne-eqb 255 b (λ z. omega arith)) (rest .1),
+      rw (ne-eqb b 255 (λ z. omega arith)) (rest .2),
+    )
+
+pub plain-arguments : (n : ℕ) (p : List ℕ) → n ≤ 255 → any (leb n) (drop 2 p) ≡ false → literalArguments n p ≡ 0
+unfolding literalArguments
+plain-arguments n p h e =
+    let b = below-plain n (drop 2 p) h e in
+    rw (← clears-none p (sym (b .1)) refl, b .0)
+
+pub plain-every : (n : ℕ) (p : List ℕ) → n ≤ 255 → any (leb n) (drop 2 p) ≡ false → false ≡ hasEvery (literalOf p)
+plain-every n p h e = sym (below-plain n (drop 2 p) h e .2)
+
+-- where the arguments pass and one is not below, it is FF
+pub some-every : (n : ℕ) (p : List ℕ) → any (leb n) (drop 2 p) ≡ true → literalArguments n p ≡ 0 → true ≡ hasEvery (literalOf p)
+unfolding literalArguments
+some-every n p t e =
+    let x = any-in (leb n) (drop 2 p) t in
+    let b = x .0 in
+    let known = any-out (noVariable n) (passed (clearsOnce (literalOf p)) (any (noVariable n) (drop 2 p)) e) (x .1) in
+    sym (any-map argumentOf isEvery (drop 2 p) ∙ in-any (λ b. isEvery (argumentOf b)) (x .1) (go b (x .2) (eqb b 255) refl (not-false (variableBelow n (argumentOf b)) known)))
+  where
+    passed : (c u : Bool) → _≡_ {A = ℕ} (cond (not c) 26 (cond u 18 0)) 0 → u ≡ false
+    passed true true z = absurd (omega arith)
+    passed true false z = refl
+    passed false u z = absurd (omega arith)
+
+    go : (b : ℕ) → leb n b ≡ true → (q : Bool) → eqb b 255 ≡ q → variableBelow n (argumentOf b) ≡ true → isEvery (argumentOf b) ≡ true
+    go b l true q v = rw q
+    go b l false q v =
+        let below = ltb-true b n (sym (ap (λ (t : Bool). variableBelow n (cond t Every (bound (variable b)))) q) ∙ v) in
+        let above = leb-true n b l in
+        absurd (omega arith)
 
 -- ---- labels, as bytes
 

@@ -1,8 +1,8 @@
 -- The head with one record more holds the domain with it. Assumes nothing.
 use mathlib.Core.Path.{_≡_, refl, sym, ap, ap₂, subst, _∙_}
-use mathlib.Core.Bool.{Bool, true, false, not, cond}
+use mathlib.Core.Bool.{Bool, true, false, _||_, not, cond}
 use mathlib.Core.Logic.{_⊎_, inl, inr}
-use mathlib.Core.List.{List, [], _∷_, _++_, map, map-append, append-assoc, List·Memᴰ·not-nil}
+use mathlib.Core.List.{List, [], _∷_, _++_, map, map-append, flatMap, append-nil, append-assoc, List·Memᴰ·not-nil}
 use Prim.Native.Nat.{ℕ, zero, suc, _+_, _-_, _*_, _/_, _%_, _≤_, _<_}
 use native.Mathlib.Numerals.{add-one}
 use native.Mathlib.Omega.{arith}
@@ -10,18 +10,19 @@ use lib.Dec.{eqb, ltb}
 use lib.ListN.{length, take, drop, getD, set, replicate, length-append, length-replicate, length-map, length-drop, length-set, List·getD-append}
 use lib.Seq.{paste, getD-set-same, getD-set-other, getD-at, getD-take, getD-drop, getD-append-add, length-take-le, length-paste, length-paste-head, take-all, take-at, take-append-le}
 use borrow.Author.Tests.{ltb-true, ltb-false, lt-ltb, leb-false, eqb-true, eqb-false}
-use Rattle.records.specs.Lists.{countBy}
-use Rattle.records.proofs.Lists.{bool-cases, count-le, map-back}
+use Rattle.records.specs.Lists.{any, countBy}
+use Rattle.records.proofs.Lists.{bool-cases, count-le, map-back, any-append}
 use Rattle.records.proofs.Memory.{getD-fill}
 use Rattle.literals.specs.declared.Label.the-variants.{Key as keyed, Counted}
 use Rattle.literals.specs.Decode.{relationRecord, actionRecord, literalRecord, componentRecord, byte, labelOf, componentOf, literalOf, actionOf, withLiteral, latest, fieldStop, stopOf, extend, noDomain, maxRelations, maxArguments, maxActions, maxVariables, maxLiterals, maxComponents}
 use Rattle.literals.specs.Domain.{key, Literal, Action, Component, isCounted, keysOf, Domain, noAction, action, bare}
-use Rattle.literals.specs.Table.{rowOf, labelNumber, componentRow, allLiterals, Bounded}
-use Rattle.literals.specs.Held.{within, relationsIn, actionsIn, componentsIn, keysIn, arityIn, bytesFrom, componentRowIn, componentRowsFrom, componentRowsIn, variablesIn, lastingIn, sizeIn, firstIn, atArities, atComponents, atVariables, atSorts, atSizes, atLows, atHighs, headBytes, HeadOf, Filled}
+use Rattle.literals.specs.Table.{rowOf, labelNumber, componentRow, allLiterals, hasEvery, someEvery, Bounded}
+use Rattle.literals.specs.Held.{within, relationsIn, actionsIn, componentsIn, keysIn, arityIn, bytesFrom, componentRowIn, componentRowsFrom, componentRowsIn, variablesIn, lastingIn, sizeIn, firstIn, atArities, atComponents, atVariables, atSorts, atSizes, atLows, atHighs, atClears, clearsIn, headBytes, HeadOf, Filled}
 use Rattle.literals.proofs.Rows.{length-row}
 use Rattle.literals.proofs.Stops.{passes, relation-passes, action-passes, component-passes}
 use Rattle.literals.proofs.Bounds.{arity-six, bounded-extend, bounded-none, length-withLiteral}
-use Rattle.literals.proofs.Held.{rows-few, keys-few}
+use Rattle.literals.proofs.Arguments.{or-false, or-true}
+use Rattle.literals.proofs.Held.{rows-few, keys-few, literals-snoc, literals-more}
 use Rattle.literals.proofs.Heads.{within-is, literals-after}
 
 -- ---- bytes that are written, the last one first, and the others
@@ -141,7 +142,7 @@ module _ {D : Domain} {head : List ℕ} (F : Filled D head) (p : List ℕ) (n : 
           ∙ sym (snoc-other (D .arities) (byte p 0) r (λ z. q (omega arith)))
 
   pub fills-relation : Filled (extend D relationRecord p) with-relation
-  unfolding extend relationsIn actionsIn componentsIn keysIn variablesIn lastingIn sizeIn firstIn action
+  unfolding extend clearsIn relationsIn actionsIn componentsIn keysIn variablesIn lastingIn sizeIn firstIn action
   fills-relation =
       let H = F .says in
       let f = relation-few .1 in
@@ -163,6 +164,7 @@ module _ {D : Domain} {head : List ℕ} (F : Filled D head) (p : List ℕ) (n : 
               lasting = λ i h. ap (λ (b : ℕ). eqb b 1) (at (atSorts + i) (omega arith)) ∙ H .lasting i h;
               sizes = λ i h. ap (within maxLiterals) (at (atSizes + i) (omega arith)) ∙ H .sizes i h;
               firsts = λ i h. ap₂ (λ (l u : ℕ). l + 256 * u) (at (atLows + i) (omega arith)) (at (atHighs + i) (omega arith)) ∙ H .firsts i h;
+              clears = ap (λ (b : ℕ). eqb b 1) (at atClears (omega arith)) ∙ H .clears;
             };
         room = whole relation-bytes head (F .room);
       }
@@ -262,7 +264,7 @@ module _ {D : Domain} {head : List ℕ} (F : Filled D head) (p : List ℕ) (n fi
           ∙ ap (λ (as′ : List Action). length (allLiterals as′)) (sym (take-at (D .actions) (actionOf p ∷ []) i (omega arith)))
 
   pub fills-action : Filled (extend D actionRecord p) with-action
-  unfolding extend fieldStop relationsIn actionsIn componentsIn keysIn variablesIn lastingIn sizeIn action
+  unfolding extend fieldStop clearsIn someEvery relationsIn actionsIn componentsIn keysIn variablesIn lastingIn sizeIn action
   fills-action =
       let H = F .says in
       let b = action-few .1 in
@@ -292,6 +294,11 @@ module _ {D : Domain} {head : List ℕ} (F : Filled D head) (p : List ℕ) (n fi
                   each-action D a (λ i. within maxLiterals (getD with-action (atSizes + i) 0)) (λ (x : Action). length (x .lits)) n m
                   (λ i h. ap (within maxLiterals) (action-kept 2 i h) ∙ H .sizes i h) (ap (within maxLiterals) action-size);
               firsts = action-firsts;
+              clears =
+                  ap (λ (b : ℕ). eqb b 1)
+                  (other action-bytes head atClears (λ z. omega arith, (λ z. omega arith, (λ z. omega arith, (λ z. omega arith, (λ z. omega arith, (λ z. omega arith, tt)))))))
+                  ∙ H .clears
+                  ∙ ap (any hasEvery) (sym (literals-snoc (D .actions) a ∙ append-nil (allLiterals (D .actions))));
             };
         room = whole action-bytes head (F .room);
       }
@@ -349,15 +356,19 @@ below i n h l = go (bool-cases (ltb i n))
     go (inr t) = let g = ltb-false i n t in absurd (h (omega arith))
 
 module _ {D : Domain} {head : List ℕ} (F : Filled D head) (p : List ℕ) (last size : ℕ) (c : last + 1 ≡ actionsIn head) (s : size ≡ sizeIn head last)
+    {clears : Bool} (every : clears ≡ hasEvery (literalOf p)) (flag : ℕ) (g : flag ≡ cond clears 1 (getD head atClears 0))
     (e : stopOf D literalRecord p ≡ 0) where
+  abbrev literal-bytes : List (ℕ × ℕ)
+  literal-bytes = (atClears, flag) ∷ (atSizes + last, size + 1) ∷ []
+
   abbrev with-literal : List ℕ
-  with-literal = put ((atSizes + last, size + 1) ∷ []) head
+  with-literal = put literal-bytes head
 
   literal-few : (last + 1 ≡ length (D .actions)) × (last < maxActions)
   literal-few = let m = c ∙ F .says .actions in let b = F .says .bounded .actions in (m, omega arith)
 
-  literal-other : (j : ℕ) → (j ≡ atSizes + last → ⊥) → getD with-literal j 0 ≡ getD head j 0
-  literal-other j a = other ((atSizes + last, size + 1) ∷ []) head j (a, tt)
+  literal-other : (j : ℕ) → j < atClears → (j ≡ atSizes + last → ⊥) → getD with-literal j 0 ≡ getD head j 0
+  literal-other j h a = other literal-bytes head j (λ z. omega arith, (a, tt))
 
   -- the latest action is not full
   literal-size : (sizeIn head last ≡ length (action D last .lits)) × (sizeIn head last < maxLiterals)
@@ -379,7 +390,7 @@ module _ {D : Domain} {head : List ℕ} (F : Filled D head) (p : List ℕ) (last
           let m = literal-few .0 in
           let z = literal-size .0 in
           let y = literal-size .1 in
-          let b : getD with-literal (atSizes + i) 0 ≡ size + 1 = ap (λ (k : ℕ). getD with-literal (atSizes + k) 0) q ∙ hit ((atSizes + last, size + 1) ∷ []) head (F .room) (atSizes + last) (size + 1) (let l = literal-few .1 in omega arith) (inl (refl, refl)) in
+          let b : getD with-literal (atSizes + i) 0 ≡ size + 1 = ap (λ (k : ℕ). getD with-literal (atSizes + k) 0) q ∙ hit literal-bytes head (F .room) (atSizes + last) (size + 1) (let l = literal-few .1 in omega arith) (inr (let l = literal-few .1 in λ z. omega arith, inl (refl, refl))) in
           ap (within maxLiterals) b
           ∙ within-is maxLiterals (size + 1) (omega arith)
           ∙ ap (λ (k : ℕ). k + 1) (s ∙ z ∙ ap (λ (k : ℕ). length (action D k .lits)) (sym q))
@@ -387,9 +398,22 @@ module _ {D : Domain} {head : List ℕ} (F : Filled D head) (p : List ℕ) (last
       go (inr t) =
           let q = eqb-false i last t in
           let m = literal-few .0 in
-          ap (within maxLiterals) (literal-other (atSizes + i) (λ z. q (omega arith)))
+          ap (within maxLiterals) (literal-other (atSizes + i) (let l = literal-few .1 in omega arith) (λ z. q (omega arith)))
           ∙ F .says .sizes i h
           ∙ ap (λ (a : Action). length (a .lits)) (sym (with-earlier (literalOf p) (D .actions) i (let l = below i last q (omega arith) in omega arith)))
+
+  literal-clears : clearsIn with-literal ≡ someEvery (withLiteral (literalOf p) (D .actions))
+  unfolding clearsIn someEvery
+  literal-clears =
+      ap (λ (b : ℕ). eqb b 1) (hit literal-bytes head (F .room) atClears flag (omega arith) (inl (refl, refl)) ∙ g)
+      ∙ told clears
+      ∙ ap₂ _||_ (F .says .clears) (every ∙ sym (or-false (hasEvery (literalOf p))))
+      ∙ sym (ap (any hasEvery) (literals-more (literalOf p) (D .actions) (let m = literal-few .0 in omega arith))
+      ∙ any-append hasEvery (allLiterals (D .actions)) (literalOf p ∷ []))
+    where
+      told : (b : Bool) → eqb (cond b 1 (getD head atClears 0)) 1 ≡ eqb (getD head atClears 0) 1 || b
+      told true = sym (or-true (eqb (getD head atClears 0) 1))
+      told false = sym (or-false (eqb (getD head atClears 0) 1))
 
   pub fills-literal : Filled (extend D literalRecord p) with-literal
   unfolding extend relationsIn actionsIn componentsIn keysIn variablesIn lastingIn firstIn action
@@ -399,26 +423,27 @@ module _ {D : Domain} {head : List ℕ} (F : Filled D head) (p : List ℕ) (last
       let l = literalOf p in
       let n = length-withLiteral l (D .actions) in
       let w = H .bounded .actions in
-      let components = ap (within maxComponents) (literal-other 2 (λ z. omega arith)) ∙ H .components in
+      let components = ap (within maxComponents) (literal-other 2 (omega arith) (λ z. omega arith)) ∙ H .components in
       record {
         says =
             record {
               bounded = bounded-extend D literalRecord p (H .bounded) e;
-              relations = ap (within maxRelations) (literal-other 0 (λ z. omega arith)) ∙ H .relations;
-              actions = ap (within maxActions) (literal-other 1 (λ z. omega arith)) ∙ H .actions ∙ sym n;
-              keys = ap (within maxArguments) (literal-other 3 (λ z. omega arith)) ∙ H .keys;
-              arities = λ r. arity-kept head with-literal r (λ h. literal-other (atArities + r) (λ z. omega arith)) ∙ H .arities r;
+              relations = ap (within maxRelations) (literal-other 0 (omega arith) (λ z. omega arith)) ∙ H .relations;
+              actions = ap (within maxActions) (literal-other 1 (omega arith) (λ z. omega arith)) ∙ H .actions ∙ sym n;
+              keys = ap (within maxArguments) (literal-other 3 (omega arith) (λ z. omega arith)) ∙ H .keys;
+              arities = λ r. arity-kept head with-literal r (λ h. literal-other (atArities + r) (omega arith) (λ z. omega arith)) ∙ H .arities r;
               components = components;
-              componentRows = parts-say H with-literal components (λ j a b. literal-other j (λ z. omega arith));
-              variables = λ i h. ap (within maxVariables) (literal-other (atVariables + i) (λ z. omega arith)) ∙ H .variables i (omega arith) ∙ sym (with-vars l (D .actions) i);
-              lasting = λ i h. ap (λ (b : ℕ). eqb b 1) (literal-other (atSorts + i) (λ z. omega arith)) ∙ H .lasting i (omega arith) ∙ sym (with-lasting l (D .actions) i);
+              componentRows = parts-say H with-literal components (λ j a b. literal-other j (omega arith) (λ z. omega arith));
+              variables = λ i h. ap (within maxVariables) (literal-other (atVariables + i) (omega arith) (λ z. omega arith)) ∙ H .variables i (omega arith) ∙ sym (with-vars l (D .actions) i);
+              lasting = λ i h. ap (λ (b : ℕ). eqb b 1) (literal-other (atSorts + i) (omega arith) (λ z. omega arith)) ∙ H .lasting i (omega arith) ∙ sym (with-lasting l (D .actions) i);
               sizes = λ i h. literal-sizes i (omega arith);
               firsts =
                   λ i h.
-                  ap₂ (λ (a b : ℕ). a + 256 * b) (literal-other (atLows + i) (λ z. omega arith)) (literal-other (atHighs + i) (λ z. omega arith))
+                  ap₂ (λ (a b : ℕ). a + 256 * b) (literal-other (atLows + i) (omega arith) (λ z. omega arith)) (literal-other (atHighs + i) (omega arith) (λ z. omega arith))
                   ∙ H .firsts i (omega arith) ∙ ap (λ (as′ : List Action). length (allLiterals as′)) (sym (with-before l (D .actions) i (omega arith)));
+              clears = literal-clears;
             };
-        room = whole ((atSizes + last, size + 1) ∷ []) head (F .room);
+        room = whole literal-bytes head (F .room);
       }
 
 -- ---- a component
@@ -521,7 +546,7 @@ module _ {D : Domain} {head : List ℕ} (F : Filled D head) (p : List ℕ) (n ke
       ∙ sym (map-append componentRow (D .template) (componentOf p ∷ []))
 
   filled-component : Filled (extend D componentRecord p) with-component
-  unfolding extend relationsIn actionsIn componentsIn keysIn componentRowsIn variablesIn lastingIn sizeIn firstIn action
+  unfolding extend clearsIn relationsIn actionsIn componentsIn keysIn componentRowsIn variablesIn lastingIn sizeIn firstIn action
   filled-component =
       let H = F .says in
       let b = component-few .1 in
@@ -546,6 +571,7 @@ module _ {D : Domain} {head : List ℕ} (F : Filled D head) (p : List ℕ) (n ke
               lasting = λ i h. ap (λ (b : ℕ). eqb b 1) (high (atSorts + i) (omega arith)) ∙ H .lasting i h;
               sizes = λ i h. ap (within maxLiterals) (high (atSizes + i) (omega arith)) ∙ H .sizes i h;
               firsts = λ i h. ap₂ (λ (l u : ℕ). l + 256 * u) (high (atLows + i) (omega arith)) (high (atHighs + i) (omega arith)) ∙ H .firsts i h;
+              clears = ap (λ (b : ℕ). eqb b 1) (high atClears (omega arith)) ∙ H .clears;
             };
         room = whole component-bytes with-row row-room;
       }
@@ -585,7 +611,7 @@ module _ {D : Domain} {head : List ℕ} (F : Filled D head) where
   without-template = put bare-bytes head
 
   pub fills-bare : Filled (bare D) without-template
-  unfolding relationsIn actionsIn componentsIn keysIn componentRowsIn variablesIn lastingIn sizeIn firstIn action
+  unfolding clearsIn relationsIn actionsIn componentsIn keysIn componentRowsIn variablesIn lastingIn sizeIn firstIn action
   fills-bare =
       let H = F .says in
       let kept : (j : ℕ) → (j ≡ 2 → ⊥) → (j ≡ 3 → ⊥) → getD without-template j 0 ≡ getD head j 0 = λ j a b. other bare-bytes head j (b, (a, tt)) in
@@ -605,6 +631,7 @@ module _ {D : Domain} {head : List ℕ} (F : Filled D head) where
               lasting = λ i h. ap (λ (b : ℕ). eqb b 1) (high (atSorts + i) (omega arith)) ∙ H .lasting i h;
               sizes = λ i h. ap (within maxLiterals) (high (atSizes + i) (omega arith)) ∙ H .sizes i h;
               firsts = λ i h. ap₂ (λ (l u : ℕ). l + 256 * u) (high (atLows + i) (omega arith)) (high (atHighs + i) (omega arith)) ∙ H .firsts i h;
+              clears = ap (λ (b : ℕ). eqb b 1) (high atClears (omega arith)) ∙ H .clears;
             };
         room = whole bare-bytes head (F .room);
       }
@@ -612,7 +639,7 @@ module _ {D : Domain} {head : List ℕ} (F : Filled D head) where
 -- ---- no record at all
 
 pub filled-none : (head : List ℕ) → head ≡ replicate headBytes 0 → Filled noDomain head
-unfolding relationsIn actionsIn componentsIn keysIn arityIn componentRowsIn
+unfolding clearsIn someEvery allLiterals flatMap relationsIn actionsIn componentsIn keysIn arityIn componentRowsIn
 filled-none head e =
     record {
       says =
@@ -628,6 +655,7 @@ filled-none head e =
             lasting = λ i h. absurd (omega arith);
             sizes = λ i h. absurd (omega arith);
             firsts = λ i h. absurd (omega arith);
+            clears = ap (λ (b : ℕ). eqb b 1) (none atClears);
           };
       room = ap length e ∙ length-replicate {A = ℕ} headBytes 0;
     }

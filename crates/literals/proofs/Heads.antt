@@ -120,7 +120,7 @@ getD-rows (x ∷ cs) d zero h = refl
 getD-rows (x ∷ cs) d (suc c) h = getD-rows cs d c (omega arith)
 
 pub template-of : {D : Domain} {head : List ℕ} → HeadOf D head → TemplateOf D head
-template-of H = record { bounded = H .bounded; keys = H .keys; arities = H .arities; components = H .components; componentRows = H .componentRows }
+template-of H = record { bounded = H .bounded; keys = H .keys; arities = H .arities; components = H .components; componentRows = H .componentRows; plain = λ f. sym (H .clears) ∙ f }
 
 pub part-is : {D : Domain} {head : List ℕ} → TemplateOf D head → (d : Component) (c : ℕ) → c < length (D .template) → componentRowIn head c ≡ componentRow (getD (D .template) c d)
 part-is {D} {head} H d c h =

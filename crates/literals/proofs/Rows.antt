@@ -1,21 +1,23 @@
 -- Rows of 8 bytes: a payload's row by its bytes, and the loops that write rows, compare them and go through them. Assumes nothing.
 use mathlib.Core.Path.{_≡_, refl, sym, ap, ap₂, _∙_}
-use mathlib.Core.Bool.{Bool, true, false, _&&_, not, cond}
-use mathlib.Core.List.{List, [], _∷_, _++_, append-nil, List·Memᴰ·head, List·Memᴰ·tail, List·Memᴰ·not-nil}
-use Prim.Native.Nat.{ℕ, suc, _+_, _-_, _*_, _%_, _≤_, _<_, max, zero}
+use mathlib.Core.Bool.{Bool, true, false, _&&_, _||_, not, or-true}
+use mathlib.Core.Logic.{_⊎_, inl, inr}
+use mathlib.Core.List.{List, [], _∷_, _++_, append-assoc, List·Memᴰ·head, List·Memᴰ·tail, List·Memᴰ·not-nil}
+use Prim.Native.Nat.{ℕ, zero, suc, _+_, _-_, _*_, _/_, _%_, _≤_, _<_}
 use native.Mathlib.Numerals.{add-one}
 use native.Mathlib.Nat.{sub-zero, mul-suc}
 use native.Mathlib.Omega.{arith}
 use lib.Dec.{eqb}
 use lib.ListN.{length, getD, set, take, drop, replicate, length-append, length-replicate, length-drop, getD-replicate, List·getD-append, drop-of-length-le}
-use lib.Seq.{drop-cons, getD-drop, getD-take, getD-append-add, drop-drop, length-take-le, take-all, paste}
+use lib.Seq.{drop-cons, getD-drop, getD-take, getD-append-add, drop-drop, length-take-le, take-all, drop-at, paste, paste-zero, take-paste, drop-paste}
 use borrow.Author.Tests.{eq-eqb, ne-eqb, eqb-true}
 use Rattle.records.specs.Lists.{In, any, all, sameList, sideBySide}
-use Rattle.records.proofs.Lists.{off, sameList-eq}
+use Rattle.records.proofs.Lists.{and-l, and-r, off, sameList-eq, any-same}
 use Rattle.records.proofs.Memory.{paste-more, paste-length}
 use Rattle.literals.specs.Decode.{maxArguments, byte}
 use Rattle.literals.specs.Fields.{keyBeside, keyClearedIn}
-use Rattle.literals.specs.Table.{rowOf, FourAt, meetByte, argumentsMeet, rowsMeet, conditionGroup, roleRank, rowRank, rowsBy, rowsIn, rowsRank}
+use Rattle.literals.specs.Table.{rowOf, FourAt, EightAt, WordOf, fourBytes, meetByte, argumentsMeet, rowsMeet, meetsAs, opposedRoles}
+use Rattle.literals.specs.Table.{contradictsRow, rowsBy, rowsIn}
 
 -- ---- a payload's row
 
@@ -108,11 +110,8 @@ module _ (x y : List ℕ) (i j : ℕ) (h : i + 4 ≤ length x) (g : j + 4 ≤ le
       sym
       (rw (four-cons x i (i + 1) (i + 2) (i + 3) refl refl refl h, four-cons y j (j + 1) (j + 2) (j + 3) refl refl refl g, eq-eqb (getD x i 0) (getD y j 0) e0, eq-eqb (getD x (i + 1) 0) (getD y (j + 1) 0) e1, eq-eqb (getD x (i + 2) 0) (getD y (j + 2) 0) e2, eq-eqb (getD x (i + 3) 0) (getD y (j + 3) 0) e3))
 
-  pub four-other : (a ≡ b → ⊥) → false ≡ sameList eqb (take 4 (drop i x)) (take 4 (drop j y))
-  four-other n =
-      sym
-      (off (sameList eqb (take 4 (drop i x)) (take 4 (drop j y)))
-      (λ t.
+  pub four-number : sameList eqb (take 4 (drop i x)) (take 4 (drop j y)) ≡ true → a ≡ b
+  four-number t =
       let l = sym (four-cons x i (i + 1) (i + 2) (i + 3) refl refl refl h) ∙ sameList-eq eqb eqb-true (take 4 (drop i x)) (take 4 (drop j y)) t ∙ four-cons y j (j + 1) (j + 2) (j + 3) refl refl refl g in
       let e0 : getD x i 0 ≡ getD y j 0 = ap (λ (m : List ℕ). getD m 0 0) l in
       let e1 : getD x (i + 1) 0 ≡ getD y (j + 1) 0 = ap (λ (m : List ℕ). getD m 1 0) l in
@@ -120,7 +119,10 @@ module _ (x y : List ℕ) (i j : ℕ) (h : i + 4 ≤ length x) (g : j + 4 ≤ le
       let e3 : getD x (i + 3) 0 ≡ getD y (j + 3) 0 = ap (λ (m : List ℕ). getD m 3 0) l in
       let p = A .is in
       let q = B .is in
-      n (omega arith)))
+      omega arith
+
+  pub four-other : (a ≡ b → ⊥) → false ≡ sameList eqb (take 4 (drop i x)) (take 4 (drop j y))
+  four-other n = sym (off (sameList eqb (take 4 (drop i x)) (take 4 (drop j y))) (λ t. n (four-number t)))
 
 -- rows of eight bytes, by their bytes 0 to 3 and 4 to 7; and all but their first byte, by the bytes 1 to 4 and 4 to 7
 join-eight : (a b c d r : Bool) → a && (b && (c && (d && r))) ≡ (a && (b && (c && (d && true)))) && r
@@ -166,6 +168,146 @@ module _ (row t : List ℕ) (at : ℕ) (g : length row ≡ 8) (h : at + 8 ≤ le
 
   pub atom-other : sameList eqb (take 4 (drop 1 row)) (take 4 (drop (at + 1) t)) ≡ false → false ≡ sameList eqb (drop 1 row) (drop 1 (take 8 (drop at t)))
   atom-other e = sym (atom-by-four ∙ ap (λ (b : Bool). b && sameList eqb (take 4 (drop 4 row)) (take 4 (drop (at + 4) t))) e)
+
+-- ---- eight bytes at a time
+
+four-small : {s : List ℕ} {at r : ℕ} → FourAt s at r → r < 4294967296
+four-small A =
+    let p = A .is in
+    let a = A .first in
+    let b = A .second in
+    let c = A .third in
+    let d = A .fourth in
+    omega arith
+
+-- the number of a payload's row, by its bytes
+abbrev IsByte : List ℕ → ℕ → ℕ → Type 0
+IsByte s i b = (b ≡ getD s i 0) × (b < 256)
+
+four-of : (s : List ℕ) (i j k l : ℕ) {a b c d : ℕ} → j ≡ i + 1 → k ≡ i + 2 → l ≡ i + 3 → IsByte s i a → IsByte s j b → IsByte s k c → IsByte s l d
+    → FourAt s i (a + 256 * b + 65536 * c + 16777216 * d)
+four-of s i j k l {a} {b} {c} {d} e f g w x y z =
+    let a′ : a ≡ getD s i 0 = w .0 in
+    let b′ : b ≡ getD s (i + 1) 0 = x .0 ∙ ap (λ (n : ℕ). getD s n 0) e in
+    let c′ : c ≡ getD s (i + 2) 0 = y .0 ∙ ap (λ (n : ℕ). getD s n 0) f in
+    let d′ : d ≡ getD s (i + 3) 0 = z .0 ∙ ap (λ (n : ℕ). getD s n 0) g in
+    let p = w .1 in
+    let q = x .1 in
+    let r = y .1 in
+    let t = z .1 in
+    record { is = omega arith; first = omega arith; second = omega arith; third = omega arith; fourth = omega arith }
+
+pub word-of : (p : List ℕ) → length p ≤ 8 → {a b c d e f g h : ℕ} → IsByte (rowOf p) 0 a → IsByte (rowOf p) 1 b → IsByte (rowOf p) 2 c
+    → IsByte (rowOf p) 3 d → IsByte (rowOf p) 4 e → IsByte (rowOf p) 5 f → IsByte (rowOf p) 6 g → IsByte (rowOf p) 7 h
+    → WordOf (rowOf p)
+    (a + 256 * b + 65536 * c + 16777216 * d + 4294967296 * e + 1099511627776 * f + 281474976710656 * g + 72057594037927936 * h)
+word-of p l {a} {b} {c} {d} {e} {f} {g} {h} i j k m n o q r =
+    record {
+      long = length-row p l;
+      bytes =
+          record {
+            low = a + 256 * b + 65536 * c + 16777216 * d;
+            high = e + 256 * f + 65536 * g + 16777216 * h;
+            lows = four-of (rowOf p) 0 1 2 3 refl refl refl i j k m;
+            highs = four-of (rowOf p) 4 5 6 7 refl refl refl n o q r;
+            is = omega arith;
+          };
+    }
+
+-- two numbers of eight bytes are the same where the bytes are
+module _ (x y : List ℕ) (i j : ℕ) (h : i + 8 ≤ length x) (g : j + 8 ≤ length y) {a b : ℕ} (A : EightAt x i a) (B : EightAt y j b) where
+  eight-same : a ≡ b → sameList eqb (take 8 (drop i x)) (take 8 (drop j y)) ≡ true
+  eight-same e =
+      let p = A .is in
+      let q = B .is in
+      let la = four-small (A .lows) in
+      let lb = four-small (B .lows) in
+      let high : A .high ≡ B .high = omega arith in
+      let low : A .low ≡ B .low = omega arith in
+      eight-by-four x y i j h g
+      ∙ ap₂ _&&_ (sym (four-same x y i j (omega arith) (omega arith) (A .lows) (B .lows) low))
+      (sym (four-same x y (i + 4) (j + 4) (omega arith) (omega arith) (A .highs) (B .highs) high))
+
+  eight-other : (a ≡ b → ⊥) → sameList eqb (take 8 (drop i x)) (take 8 (drop j y)) ≡ false
+  eight-other n =
+      off (sameList eqb (take 8 (drop i x)) (take 8 (drop j y)))
+      (λ t.
+      let both = sym (eight-by-four x y i j h g) ∙ t in
+      let p = A .is in
+      let q = B .is in
+      let low : A .low ≡ B .low = four-number x y i j (omega arith) (omega arith) (A .lows) (B .lows) (and-l (sameList eqb (take 4 (drop i x)) (take 4 (drop j y))) _ both) in
+      let high : A .high ≡ B .high = four-number x y (i + 4) (j + 4) (omega arith) (omega arith) (A .highs) (B .highs) (and-r (sameList eqb (take 4 (drop i x)) (take 4 (drop j y))) _ both) in
+      n (omega arith))
+
+-- the row of a number, and the row at an offset
+module _ (row t : List ℕ) (at : ℕ) {word r : ℕ} (W : WordOf row word) (h : at + 8 ≤ length t) (A : EightAt t at r) where
+  whole : sameList eqb row (take 8 (drop at t)) ≡ sameList eqb (take 8 (drop 0 row)) (take 8 (drop at t))
+  whole = ap (λ (l : List ℕ). sameList eqb l (take 8 (drop at t))) (sym (take-all 8 row (let n = W .long in omega arith)))
+
+  pub word-same : r ≡ word → sameList eqb row (take 8 (drop at t)) ≡ true
+  word-same e = whole ∙ eight-same row t 0 at (let n = W .long in omega arith) h (W .bytes) A (sym e)
+
+  pub word-other : (r ≡ word → ⊥) → sameList eqb row (take 8 (drop at t)) ≡ false
+  word-other n = whole ∙ eight-other row t 0 at (let n = W .long in omega arith) h (W .bytes) A (λ e. n (sym e))
+
+-- ---- the bytes of a number, and a row written by its number
+
+digit : (b m : ℕ) → b < 256 → {n : ℕ} → n ≡ b + 256 * m → n % 256 ≡ b
+digit b m h e = omega arith
+
+four-bytes : (x : List ℕ) (i : ℕ) → i + 4 ≤ length x → {n : ℕ} → FourAt x i n → fourBytes n ≡ take 4 (drop i x)
+four-bytes x i h {n} A =
+    let p = A .is in
+    let a = A .first in
+    let b = A .second in
+    let c = A .third in
+    let d = A .fourth in
+    let q1 : n / 256 ≡ getD x (i + 1) 0 + 256 * (getD x (i + 2) 0 + 256 * getD x (i + 3) 0) = omega arith in
+    let q2 : n / 65536 ≡ getD x (i + 2) 0 + 256 * getD x (i + 3) 0 = omega arith in
+    let q3 : n / 16777216 ≡ getD x (i + 3) 0 = omega arith in
+    let e0 : n % 256 ≡ getD x i 0 = omega arith in
+    let e1 : n / 256 % 256 ≡ getD x (i + 1) 0 = digit (getD x (i + 1) 0) (getD x (i + 2) 0 + 256 * getD x (i + 3) 0) b q1 in
+    let e2 : n / 65536 % 256 ≡ getD x (i + 2) 0 = digit (getD x (i + 2) 0) (getD x (i + 3) 0) c q2 in
+    let e3 : n / 16777216 % 256 ≡ getD x (i + 3) 0 = digit (getD x (i + 3) 0) 0 d (let z : n / 16777216 ≡ getD x (i + 3) 0 + 256 * 0 = omega arith in z) in
+    (λ k. e0 k ∷ e1 k ∷ e2 k ∷ e3 k ∷ []) ∙ sym (four-cons x i (i + 1) (i + 2) (i + 3) refl refl refl h)
+
+-- four bytes, and four behind them
+paste-both : (d a b : List ℕ) (at : ℕ) → length a ≡ 4 → at + 8 ≤ length d → paste (paste d at a 4) (at + 4) b 4 ≡ take at d ++ (take 4 a ++ take 4 b) ++ drop (at + 8) d
+paste-both d a b at l h =
+    let z : at + 4 + 4 ≡ at + 8 = omega arith in
+    let end : drop (at + 4 + 4) (paste d at a 4) ≡ drop (at + 8) d =
+    sym (drop-drop 4 (at + 4) (paste d at a 4)) ∙ ap (drop 4) (drop-paste d at a 4 (omega arith) (omega arith)) ∙ drop-drop 4 (at + 4) d ∙ ap (λ (k : ℕ). drop k d) z in
+    ap₂ (λ (x y : List ℕ). x ++ take 4 b ++ y) (take-paste d at a 4 (omega arith) (omega arith)) end
+    ∙ ap (λ (x : List ℕ). x ++ drop (at + 8) d) (append-assoc (take at d) (take 4 a) (take 4 b))
+
+pub put-both : (d e f row : List ℕ) (at : ℕ) {low high word : ℕ} → at + 8 ≤ length d → e ≡ paste d at (fourBytes low) 4 → f ≡ paste e (at + 4) (fourBytes high) 4
+    → low ≡ word % 4294967296 → high ≡ word / 4294967296 → WordOf row word → f ≡ paste d at row 8
+put-both d e f row at {low} {high} {word} h p q l g W =
+    let A = W .bytes in
+    let n = W .long in
+    let s = four-small (A .lows) in
+    let w = A .is in
+    let u : low ≡ A .low = omega arith in
+    let v : high ≡ A .high = omega arith in
+    let x : fourBytes low ≡ take 4 row = ap fourBytes u ∙ four-bytes row 0 (omega arith) (A .lows) in
+    let y : fourBytes high ≡ take 4 (drop 4 row) = ap fourBytes v ∙ four-bytes row 4 (omega arith) (A .highs) in
+    q ∙ ap (λ (m : List ℕ). paste m (at + 4) (fourBytes high) 4) p ∙ paste-both d (fourBytes low) (fourBytes high) at refl h
+    ∙ ap (λ (m : List ℕ). take at d ++ m ++ drop (at + 8) d) (ap₂ _++_ x y ∙ joined)
+  where
+    joined : take 4 row ++ take 4 (drop 4 row) ≡ take 8 row
+    joined =
+        let n = W .long in
+        ap₂ _++_ (four-cons row 0 1 2 3 refl refl refl (omega arith)) (four-cons row 4 5 6 7 refl refl refl (omega arith)) ∙ sym (eight-cons row 0 (omega arith))
+
+-- the bytes of a number, one after the other
+pub put-digits : (d : List ℕ) (at n : ℕ) → at + 4 ≤ length d
+    → set (set (set (set d at (n % 256)) (at + 1) (n / 256 % 256)) (at + 2) (n / 65536 % 256)) (at + 3) (n / 16777216 % 256) ≡ paste d at (fourBytes n) 4
+put-digits d at n h =
+    let s = fourBytes n in
+    let a = ap (λ (k : ℕ). set d k (n % 256)) (let z : at ≡ at + 0 = omega arith in z) ∙ paste-more s d d at 0 4 h refl (paste-zero d at s) (n % 256) (omega arith) refl in
+    let b = paste-more s d _ at 1 4 h refl a (n / 256 % 256) (omega arith) refl in
+    let c = paste-more s d _ at 2 4 h refl b (n / 65536 % 256) (omega arith) refl in
+    paste-more s d _ at 3 4 h refl c (n / 16777216 % 256) (omega arith) refl
 
 -- ---- the row of w bytes at an offset of a memory
 
@@ -291,71 +433,111 @@ any-first p t n = ap (λ (k : ℕ). any p (rowsIn k t)) (sub-zero n)
 pub all-first : (p : List ℕ → Bool) (t : List ℕ) (n : ℕ) → all p (rowsIn (n - 0) (drop (8 * 0) t)) ≡ all p (rowsIn n t)
 all-first p t n = ap (λ (k : ℕ). all p (rowsIn k t)) (sub-zero n)
 
--- ---- ranks
+-- ---- a payload beside the row at an offset
 
--- a row of 8 bytes is its own row
-pub row-full : (row : List ℕ) → length row ≡ 8 → rowOf row ≡ row
-row-full row g = let z : 8 - length row ≡ 0 = omega arith in rw z (append-nil row)
+-- what fills a row meets everything
+fill-meets : (n : ℕ) (q : List ℕ) → length q ≡ n → sameList meetByte (replicate n 255) q ≡ true
+fill-meets zero [] e = refl
+fill-meets zero (b ∷ q) e = absurd (omega arith)
+fill-meets (suc n) [] e = absurd (omega arith)
+fill-meets (suc n) (b ∷ q) e = rw (or-true (eqb 255 b)) (fill-meets n q (omega arith))
 
-module _ (row t : List ℕ) (at : ℕ) (g : length row ≡ 8) where
-  -- another atom, and roles of one parity
-  pub rank-apart : false ≡ sameList eqb (drop 1 row) (drop 1 (take 8 (drop at t))) → getD row 0 0 % 2 ≡ getD t at 0 % 2
-      → 0 ≡ rowRank row (take 8 (drop at t))
-  unfolding rowRank roleRank
-  rank-apart n m =
-      rw (row-full row g, part-first t at, sym n, m, eq-eqb (getD t at 0 % 2) (getD t at 0 % 2) refl)
-      (none (eqb (getD row 0 0) (getD t at 0)) (eqb (conditionGroup (getD row 0 0)) 0)
-      (eqb (conditionGroup (getD t at 0)) (conditionGroup (getD row 0 0))))
-    where
-      none : (a b c : Bool)
-          → let rank : ℕ = cond a 2 (cond b 0 (cond c 0 0)) in
-          _≡_ {A = ℕ} 0 (cond (eqb rank 2) 0 (cond (eqb rank 1) (cond (rowsMeet row (take 8 (drop at t))) 1 0) 0))
-      none true b c = refl
-      none false true c = refl
-      none false false true = refl
-      none false false false = refl
+module _ (p t : List ℕ) (at : ℕ) (a : length p ≤ 8) (h : at + 8 ≤ length t) where
+  -- the arguments from the byte i on
+  abbrev meeting : ℕ → Bool
+  meeting i = sameList meetByte (drop i (rowOf p)) (drop i (take 8 (drop at t)))
 
-  -- by the rank of the roles
-  module _ {k : ℕ} (f : k ≡ roleRank (getD row 0 0) (getD t at 0)) where
-    pub rank-two : {b : Bool} → k ≡ 2 → b ≡ sameList eqb (drop 1 row) (drop 1 (take 8 (drop at t))) → cond b 2 0 ≡ rowRank row
-        (take 8 (drop at t))
-    unfolding rowRank
-    rank-two e s = rw s (let q : roleRank (getD row 0 0) (getD t at 0) ≡ 2 = sym f ∙ e in rw (row-full row g, part-first t at, q))
+  module _ (i : ℕ) (l : i < length p) where
+    beside-byte : meetByte (getD (rowOf p) i 0) (getD (take 8 (drop at t)) i 0) ≡ meetByte (getD p i 0) (getD t (at + i) 0)
+    beside-byte = ap₂ meetByte (sym (row-inside p i l)) (part-at 8 t at h i (omega arith))
 
-    pub rank-one : {b : Bool} → k ≡ 1 → b ≡ rowsMeet (take 8 (drop 0 row)) (take 8 (drop at t)) → cond b 1 0 ≡ rowRank row
-        (take 8 (drop at t))
-    unfolding rowRank
-    rank-one e s =
-        rw (s, take-all 8 row (omega arith))
-        (let q : roleRank (getD row 0 0) (getD t at 0) ≡ 1 = sym f ∙ e in rw (row-full row g, part-first t at, q))
+    pub payload-miss : meetByte (getD p i 0) (getD t (at + i) 0) ≡ false → meeting i ≡ false
+    payload-miss e =
+        test-miss meetByte (rowOf p) (take 8 (drop at t)) i (omega (arith, length-row p a)) (omega (arith, length-part 8 t at h))
+        (beside-byte ∙ e)
 
-    pub rank-none : (k ≡ 2 → ⊥) → (k ≡ 1 → ⊥) → 0 ≡ rowRank row (take 8 (drop at t))
-    unfolding rowRank
-    rank-none n m = rw (part-first t at, ← f, ne-eqb k 2 n, ne-eqb k 1 m)
+    pub payload-hit : meetByte (getD p i 0) (getD t (at + i) 0) ≡ true → meeting i ≡ meeting (i + 1)
+    payload-hit e =
+        test-hit meetByte (rowOf p) (take 8 (drop at t)) i (omega (arith, length-row p a)) (omega (arith, length-part 8 t at h))
+        (beside-byte ∙ e)
 
--- a payload ranks as its row does
-ranks-row : (p : List ℕ) (rows : List (List ℕ)) → 0 < length p → length p ≤ 8 → rowsRank (rowOf p) rows ≡ rowsRank p rows
-unfolding rowsRank rowRank
-ranks-row p [] h g = refl
-ranks-row p (row ∷ rows) h g = ap₂ max (rw (row-full (rowOf p) (length-row p g), ← row-inside p 0 h)) (ranks-row p rows h g)
+  pub payload-end : (i : ℕ) → i ≡ length p → meeting i ≡ true
+  payload-end i e =
+      ap (λ (l : List ℕ). sameList meetByte l (drop i (take 8 (drop at t)))) (drop-at p (replicate (8 - length p) 255) i (sym e))
+      ∙ fill-meets (8 - length p) (drop i (take 8 (drop at t)))
+      (length-drop i (take 8 (drop at t)) ∙ (let n = length-part 8 t at h in omega arith))
 
--- its row, written over 8 bytes, of which nothing is left
-pub ranks-filled : (p old row : List ℕ) (rows : List (List ℕ)) {r : ℕ} → 0 < length p → length p ≤ 8 → length old ≡ 8 → row ≡ paste old 0 (rowOf p) 8 → r ≡ rowsRank row rows → r ≡ rowsRank p rows
-ranks-filled p old row rows h g e f q = q ∙ ap (λ (l : List ℕ). rowsRank l rows) (f ∙ alone) ∙ ranks-row p rows h g
+  -- by the relations
+  module _ (l : 2 ≤ length p) where
+    relation-beside : eqb (byte (rowOf p) 1) (byte (take 8 (drop at t)) 1) ≡ eqb (getD p 1 0) (getD t (at + 1) 0)
+    relation-beside = ap₂ eqb (sym (row-inside p 1 (omega arith))) (part-at 8 t at h 1 (omega arith))
+
+    pub payload-meeting : {r : Bool} → getD p 1 0 ≡ getD t (at + 1) 0 → r ≡ argumentsMeet (rowOf p) (take 8 (drop at t)) → r ≡ rowsMeet (rowOf p) (take 8 (drop at t))
+    payload-meeting e f = f ∙ sym (ap (λ (b : Bool). b && argumentsMeet (rowOf p) (take 8 (drop at t))) (relation-beside ∙ eq-eqb _ _ e))
+
+    pub payload-apart : (getD p 1 0 ≡ getD t (at + 1) 0 → ⊥) → false ≡ rowsMeet (rowOf p) (take 8 (drop at t))
+    payload-apart n = sym (ap (λ (b : Bool). b && argumentsMeet (rowOf p) (take 8 (drop at t))) (relation-beside ∙ ne-eqb _ _ n))
+
+-- by the role of the row at an offset
+module _ (q t : List ℕ) (at r s : ℕ) where
+  abbrev ofRoles : Bool → Bool → Bool
+  ofRoles a b = (a || b) && rowsMeet q (take 8 (drop at t))
+
+  role-at : (x : ℕ) → eqb (byte (take 8 (drop at t)) 0) x ≡ eqb (getD t at 0) x
+  role-at x = ap (λ (b : ℕ). eqb b x) (part-first t at)
+
+  pub as-first : {b : Bool} → getD t at 0 ≡ r → b ≡ rowsMeet q (take 8 (drop at t)) → b ≡ meetsAs r s q (take 8 (drop at t))
+  as-first e f = f ∙ sym (ap (λ (a : Bool). ofRoles a (eqb (byte (take 8 (drop at t)) 0) s)) (role-at r ∙ eq-eqb _ _ e))
+
+  pub as-second : {b : Bool} → getD t at 0 ≡ s → b ≡ rowsMeet q (take 8 (drop at t)) → b ≡ meetsAs r s q (take 8 (drop at t))
+  as-second e f = f ∙ sym (ap (ofRoles (eqb (byte (take 8 (drop at t)) 0) r)) (role-at s ∙ eq-eqb _ _ e) ∙ ap (λ (a : Bool). a && rowsMeet q (take 8 (drop at t))) (or-true (eqb (byte (take 8 (drop at t)) 0) r)))
+
+  pub as-neither : (getD t at 0 ≡ r → ⊥) → (getD t at 0 ≡ s → ⊥) → false ≡ meetsAs r s q (take 8 (drop at t))
+  as-neither n m = sym (ap₂ ofRoles (role-at r ∙ ne-eqb _ _ n) (role-at s ∙ ne-eqb _ _ m))
+
+-- the roles that stand against a role
+or-self : (b : Bool) → b ≡ (b || b)
+or-self true = refl
+or-self false = refl
+
+module _ (p : List ℕ) (rows : List (List ℕ)) (h : 0 < length p) where
+  against : (a r s : ℕ) → getD p 0 0 ≡ a → ((b : ℕ) → opposedRoles a b ≡ (eqb b r || eqb b s)) → {x : Bool}
+      → x ≡ any (meetsAs r s (rowOf p)) rows → x ≡ any (contradictsRow (rowOf p)) rows
+  against a r s e o f =
+      f ∙ sym (any-same (contradictsRow (rowOf p)) (meetsAs r s (rowOf p)) rows
+      (λ row. ap (λ (b : Bool). b && rowsMeet (rowOf p) row) (ap (λ (x : ℕ). opposedRoles x (byte row 0)) (sym (row-inside p 0 h) ∙ e) ∙ o (byte row 0))))
+
+  pub against-0 : getD p 0 0 ≡ 0 → {x : Bool} → x ≡ any (meetsAs 1 1 (rowOf p)) rows → x ≡ any (contradictsRow (rowOf p)) rows
+  against-0 e f = against 0 1 1 e (λ b. or-self (eqb b 1)) f
+
+  pub against-1 : getD p 0 0 ≡ 1 → {x : Bool} → x ≡ any (meetsAs 0 0 (rowOf p)) rows → x ≡ any (contradictsRow (rowOf p)) rows
+  against-1 e f = against 1 0 0 e (λ b. or-self (eqb b 0)) f
+
+  pub against-true : (getD p 0 0 ≡ 4) ⊎ (getD p 0 0 ≡ 6) → {x : Bool} → x ≡ any (meetsAs 5 7 (rowOf p)) rows → x ≡ any (contradictsRow (rowOf p)) rows
+  against-true (inl e) f = against 4 5 7 e (λ b. refl) f
+  against-true (inr e) f = against 6 5 7 e (λ b. refl) f
+
+  pub against-false : (getD p 0 0 ≡ 5) ⊎ (getD p 0 0 ≡ 7) → {x : Bool} → x ≡ any (meetsAs 4 6 (rowOf p)) rows → x ≡ any (contradictsRow (rowOf p)) rows
+  against-false (inl e) f = against 5 4 6 e (λ b. refl) f
+  against-false (inr e) f = against 7 4 6 e (λ b. refl) f
+
+none-of : {A : Type 0} (l : List A) → false ≡ any (λ a. false) l
+none-of [] = refl
+none-of (x ∷ l) = none-of l
+
+-- none stands against an effect
+pub against-none : (p : List ℕ) (rows : List (List ℕ)) → 0 < length p → (getD p 0 0 ≡ 0 → ⊥) → (getD p 0 0 ≡ 1 → ⊥) → (getD p 0 0 ≡ 4 → ⊥)
+    → (getD p 0 0 ≡ 5 → ⊥) → (getD p 0 0 ≡ 6 → ⊥) → (getD p 0 0 ≡ 7 → ⊥) → false ≡ any (contradictsRow (rowOf p)) rows
+against-none p rows h n0 n1 n4 n5 n6 n7 =
+    none-of rows
+    ∙ sym (any-same (contradictsRow (rowOf p)) (λ row. false) rows
+    (λ row. ap (λ (b : Bool). b && rowsMeet (rowOf p) row)
+    (ap (λ (x : ℕ). opposedRoles x (byte row 0)) (sym (row-inside p 0 h)) ∙ none (byte row 0))))
   where
-    alone : paste old 0 (rowOf p) 8 ≡ rowOf p
-    alone = let l = length-row p g in rw (take-all 8 (rowOf p) (omega arith), drop-of-length-le old (let z : length old ≤ 0 + 8 = omega arith in z)) (append-nil (rowOf p))
-
--- the loop over the rows: of the rank so far, and the rows from row i on
-module _ (p t : List ℕ) (n i rank : ℕ) where
-  pub ranks-more : (r s : ℕ) → i < n → r ≡ rowRank p (take 8 (drop (8 * i) t)) → s ≡ max rank r
-      → max s (rowsRank p (rowsIn (n - (i + 1)) (drop (8 * (i + 1)) t))) ≡ max rank (rowsRank p (rowsIn (n - i) (drop (8 * i) t)))
-  unfolding rowsRank
-  ranks-more r s h e f = rw (rows-more 8 t n i h, ← e, f) (omega arith)
-
-  pub ranks-end : n ≤ i → max rank (rowsRank p (rowsIn (n - i) t)) ≡ rank
-  unfolding rowsRank
-  ranks-end h = rw (rows-end 8 t n i h) (omega arith)
+    none : (b : ℕ) → opposedRoles (getD p 0 0) b ≡ false
+    none b =
+        let r = getD p 0 0 in
+        rw (ne-eqb r 0 n0, ne-eqb r 1 n1, ne-eqb r 4 n4, ne-eqb r 5 n5, ne-eqb r 6 n6, ne-eqb r 7 n7)
 
 -- ---- the first rows of a memory
 

@@ -1,9 +1,9 @@
--- Laws of the tables that reading fills: rows of literals and of components, lists in arrays, and what the ranks of rows say of literals. Assumes nothing.
+-- Laws of the tables that reading fills: rows of literals and of components, lists in arrays, and what rows say of literals. Assumes nothing.
 use mathlib.Core.Path.{_≡_, refl, sym, ap, ap₂, _∙_}
-use mathlib.Core.Bool.{Bool, true, false, _&&_, _||_, not, cond, false≢true}
+use mathlib.Core.Bool.{Bool, true, false, _&&_, _||_, not, cond}
 use mathlib.Core.Logic.{_⊎_, inl, inr}
 use mathlib.Core.List.{List, [], _∷_, _++_, map, flatMap, append-assoc, List·Memᴰ·head, List·Memᴰ·tail}
-use Prim.Native.Nat.{ℕ, zero, suc, _+_, _-_, _*_, _≤_, _<_, max}
+use Prim.Native.Nat.{ℕ, zero, suc, _+_, _-_, _*_, _≤_, _<_}
 use native.Mathlib.Nat.{add-comm, mul-zero, mul-suc}
 use native.Mathlib.Omega.{arith}
 use lib.Dec.{eqb}
@@ -12,24 +12,25 @@ use lib.Seq.{take-at, drop-at, paste}
 use borrow.Author.Tests.{eqb-true, ne-eqb}
 use Rattle.records.specs.Lists.{In, any, sameList, sideBySide}
 use Rattle.records.specs.Memory.{over}
-use Rattle.records.proofs.Lists.{and-r, bool-cases, eqb-same, sameList-self, any-map, any-append, map-back, allBelow, below-in}
+use Rattle.records.proofs.Lists.{and-r, or-out, bool-cases, eqb-same, sameList-self, any-map, any-append, map-back, allBelow, below-in}
 use Rattle.records.proofs.Memory.{over-more, over-paste, drop-replicate, getD-fill}
 use Rattle.literals.specs.declared.Variable.{Variable}
 use Rattle.literals.specs.declared.Argument.{Argument}
 use Rattle.literals.specs.declared.Argument.the-variants.{Variable as bound, Every}
+use Rattle.literals.specs.declared.Label.{Label}
 use Rattle.literals.specs.declared.Usage.{Usage}
 use Rattle.literals.specs.declared.Usage.the-variants.{Positive, Negative, Add, Delete}
 use Rattle.literals.specs.declared.Role.{Role}
-use Rattle.literals.specs.Domain.{sameArgument, meetArgument, sameAtom, sameLiteral, meets, roleOf, roleNumber, sameTime, sameUsage}
+use Rattle.literals.specs.Domain.{isEvery, sameArgument, meetArgument, sameAtom, sameLiteral, meets, roleOf, roleNumber, sameTime, sameUsage}
 use Rattle.literals.specs.Domain.{sameRole, Literal, Action, Component, isCounted, keysBound, keepsKeys, Domain, arity}
 use Rattle.literals.specs.Decode.{maxArguments, byte, argumentOf, literalOf, repeats, contrary, together, contradicts, labelOf}
 use Rattle.literals.specs.Decode.{componentOf, keysCleared}
 use Rattle.literals.specs.Fields.{keyBeside, keyClearedIn}
-use Rattle.literals.specs.Table.{rowOf, argumentNumber, literalRow, labelNumber, componentRow, allLiterals, pad, meetByte, rowsMeet}
-use Rattle.literals.specs.Table.{roleRank, rowRank, rowsBy, rowsRank, Bounded}
+use Rattle.literals.specs.Table.{rowOf, argumentNumber, literalRow, labelNumber, componentRow, allLiterals, hasEvery, someEvery, pad, meetByte, rowsMeet}
+use Rattle.literals.specs.Table.{opposedRoles, contradictsRow, rowsStop, rowsBy, Bounded}
 use Rattle.literals.proofs.Rows.{length-row}
 use Rattle.literals.proofs.Bounds.{role-number}
-use Rattle.literals.proofs.Arguments.{counted-label, argument-back, Small, same-arguments, meet-arguments}
+use Rattle.literals.proofs.Arguments.{or-true, counted-label, argument-back, Small, same-arguments, meet-arguments}
 
 -- ---- a row at the seam of a table
 
@@ -95,7 +96,7 @@ pad-more n l v h =
 pub pad-paste : (n : ℕ) (l p : List ℕ) (at k : ℕ) → length l ≡ at → length p ≡ k → paste (pad n l) at p k ≡ pad n (l ++ p)
 pad-paste n l p at k e f = ap (λ (a : List ℕ). paste a at p k) (pad-over n l) ∙ over-paste l (replicate n 0) p at k e f ∙ sym (pad-over n (l ++ p))
 
--- ---- ranks: what the bytes of a literal's row say of the literal
+-- ---- what the bytes of a literal's row say of the literal
 
 -- what reading has checked of a payload, before it compares it with the rows
 pub record Comparable (D : Domain) (p : List ℕ) : Type 0 where
@@ -123,24 +124,44 @@ kept B {a} i {l} j =
       back = B .roles a i l j .1;
     }
 
--- the rank of two literals, by two tests
-abbrev rank : Bool → Bool → ℕ
-rank r c = cond r 2 (cond c 1 0)
-
 -- -- the roles: one test of all pairs below 10
 
 abbrev opposed : Role → Role → Bool
 opposed r s = contrary (r .usage) (s .usage) && together (r .time) (s .time)
 
+-- two tests, as one number
+abbrev told : Bool → Bool → ℕ
+told s o = cond s 2 0 + cond o 1 0
+
+told-same : (a b c d : Bool) → told a b ≡ told c d → (a ≡ c) × (b ≡ d)
+told-same true true true true e = (refl, refl)
+told-same true true true false e = absurd (omega arith)
+told-same true true false true e = absurd (omega arith)
+told-same true true false false e = absurd (omega arith)
+told-same true false true true e = absurd (omega arith)
+told-same true false true false e = (refl, refl)
+told-same true false false true e = absurd (omega arith)
+told-same true false false false e = absurd (omega arith)
+told-same false true true true e = absurd (omega arith)
+told-same false true true false e = absurd (omega arith)
+told-same false true false true e = (refl, refl)
+told-same false true false false e = absurd (omega arith)
+told-same false false true true e = absurd (omega arith)
+told-same false false true false e = absurd (omega arith)
+told-same false false false true e = absurd (omega arith)
+told-same false false false false e = (refl, refl)
+
 abbrev agrees : ℕ → ℕ → Bool
-agrees a b = eqb (roleRank a b) (rank (sameRole (roleOf a) (roleOf b)) (opposed (roleOf a) (roleOf b)))
+agrees a b = eqb (told (eqb a b) (opposedRoles a b)) (told (sameRole (roleOf a) (roleOf b)) (opposed (roleOf a) (roleOf b)))
 
 all-agree : allBelow 10 (λ a. allBelow 10 (agrees a)) ≡ true
-unfolding roleRank roleOf
+unfolding roleOf
 all-agree = refl
 
-role-rank : (a b : ℕ) → a ≤ 9 → b ≤ 9 → roleRank a b ≡ rank (sameRole (roleOf a) (roleOf b)) (opposed (roleOf a) (roleOf b))
-role-rank a b h g = eqb-true _ _ (below-in 10 (agrees a) (below-in 10 (λ a. allBelow 10 (agrees a)) all-agree a (omega arith)) b (omega arith))
+roles-told : (a b : ℕ) → a ≤ 9 → b ≤ 9 → (eqb a b ≡ sameRole (roleOf a) (roleOf b)) × (opposedRoles a b ≡ opposed (roleOf a) (roleOf b))
+roles-told a b h g =
+    told-same _ _ _ _
+    (eqb-true _ _ (below-in 10 (agrees a) (below-in 10 (λ a. allBelow 10 (agrees a)) all-agree a (omega arith)) b (omega arith)))
 
 -- -- the atoms: filled lists are the same where the lists are, as no element's number is FF
 
@@ -201,93 +222,46 @@ payload-row (a ∷ []) e h = absurd (omega arith)
 payload-row (a ∷ b ∷ q) e h =
     ap₂ (λ (r : ℕ) (x : List ℕ). rowOf (r ∷ b ∷ x)) (sym (role-number a h)) (sym (map-back argumentNumber argumentOf argument-back q))
 
--- literals of one role are not opposed
-same-opposed : (r s : Role) → sameRole r s ≡ true → opposed r s ≡ false
-same-opposed r s t = go (r .usage) (s .usage) (and-r (sameTime (r .time) (s .time)) _ t)
-  where
-    go : (c d : Usage) → sameUsage c d ≡ true → contrary c d && together (r .time) (s .time) ≡ false
-    go Positive Positive t = refl
-    go Positive Negative t = absurd (false≢true t)
-    go Positive Add t = absurd (false≢true t)
-    go Positive Delete t = absurd (false≢true t)
-    go Negative Positive t = absurd (false≢true t)
-    go Negative Negative t = refl
-    go Negative Add t = absurd (false≢true t)
-    go Negative Delete t = absurd (false≢true t)
-    go Add d t = refl
-    go Delete d t = refl
-
-by-tests : (r c s o : Bool) → (r ≡ true → c ≡ false)
-    → _≡_ {A = ℕ} (cond (eqb (rank r c) 2) (cond s 2 0) (cond (eqb (rank r c) 1) (cond o 1 0) 0)) (cond (r && s) 2 (cond (c && o) 1 0))
-by-tests true true s o f = absurd (false≢true (sym (f refl)))
-by-tests true false true o f = refl
-by-tests true false false o f = refl
-by-tests false true s o f = refl
-by-tests false false s o f = refl
-
 -- of a payload's row and a literal's
-abbrev rowsRanked : ℕ → Bool → Bool → ℕ
-rowsRanked n s o = cond (eqb n 2) (cond s 2 0) (cond (eqb n 1) (cond o 1 0) 0)
+module _ {D : Domain} (p : List ℕ) (l : Literal) (h : Comparable D p) (k : Kept D l) where
+  abbrev given : Literal
+  given = literalOf p
 
-pub literal-rank : {D : Domain} (p : List ℕ) (l : Literal) → Comparable D p → Kept D l
-    → rowRank p (literalRow l) ≡ cond (repeats (literalOf p) l) 2 (cond (contradicts (literalOf p) l) 1 0)
-unfolding rowRank
-literal-rank [] l h k = let g = h .enough in absurd (omega arith)
-literal-rank (a ∷ []) l h k = let g = h .enough in absurd (omega arith)
-literal-rank {D} (a ∷ b ∷ q) l h k =
-    ap₂ (λ (n : ℕ) (x : List ℕ). rowsRanked n (sameList eqb (drop 1 x) (drop 1 (literalRow l))) (rowsMeet x (literalRow l)))
-    roles (payload-row (a ∷ b ∷ q) (h .enough) (h .role))
-    ∙ ap₂ (rowsRanked n) (same-rows D m l args (k .arguments) (h .variables) (k .variables))
-    (meet-rows D m l args (k .arguments) (h .variables) (k .variables))
-    ∙ by-tests (sameRole (m .role) (l .role)) (opposed (m .role) (l .role)) (sameLiteral (m .atom) (l .atom)) (meets (m .atom) (l .atom))
-    (same-opposed (m .role) (l .role))
-  where
-    m : Literal
-    m = literalOf (a ∷ b ∷ q)
+  roles : (eqb (roleNumber (given .role)) (roleNumber (l .role)) ≡ sameRole (given .role) (l .role))
+      × (opposedRoles (roleNumber (given .role)) (roleNumber (l .role)) ≡ opposed (given .role) (l .role))
+  roles =
+      let e = role-number (byte p 0) (h .role) in
+      let t = roles-told (byte p 0) (roleNumber (l .role)) (h .role) (k .small) in (
+        ap (λ (a : ℕ). eqb a (roleNumber (l .role))) e ∙ t .0 ∙ ap (sameRole (given .role)) (k .back),
+        ap (λ (a : ℕ). opposedRoles a (roleNumber (l .role))) e ∙ t .1 ∙ ap (opposed (given .role)) (k .back),
+      )
 
-    n : ℕ
-    n = rank (sameRole (m .role) (l .role)) (opposed (m .role) (l .role))
+  args : length (given .atom .args) ≡ arity D (given .atom .rel)
+  args = let e = length-map (drop 2 p) argumentOf in let d = length-drop 2 p in let z = h .arguments in omega arith
 
-    roles : roleRank a (roleNumber (l .role)) ≡ n
-    roles =
-        role-rank a (roleNumber (l .role)) (h .role) (k .small)
-        ∙ ap (λ (r : Role). rank (sameRole (roleOf a) r) (opposed (roleOf a) r)) (k .back)
+  repeats-row : sameList eqb (rowOf p) (literalRow l) ≡ repeats given l
+  repeats-row =
+      ap (λ (r : List ℕ). sameList eqb r (literalRow l)) (payload-row p (h .enough) (h .role))
+      ∙ ap₂ _&&_ (roles .0) (same-rows D given l args (k .arguments) (h .variables) (k .variables))
 
-    args : length (m .atom .args) ≡ arity D b
-    args = let e = length-map q argumentOf in let z = h .arguments in omega arith
+  contradicts-row : contradictsRow (rowOf p) (literalRow l) ≡ contradicts given l
+  contradicts-row =
+      ap (λ (r : List ℕ). contradictsRow r (literalRow l)) (payload-row p (h .enough) (h .role))
+      ∙ ap₂ _&&_ (roles .1) (meet-rows D given l args (k .arguments) (h .variables) (k .variables))
 
-max-rank : (r c s d : Bool) → max (rank r c) (rank s d) ≡ rank (r || s) (c || d)
-max-rank true c true d = refl
-max-rank true c false true = refl
-max-rank true c false false = refl
-max-rank false true true d = refl
-max-rank false false true d = refl
-max-rank false true false true = refl
-max-rank false true false false = refl
-max-rank false false false true = refl
-max-rank false false false false = refl
-
--- the highest rank with the rows of literals
-pub literals-rank : {D : Domain} (p : List ℕ) (ls : List Literal) → Comparable D p → ((l : Literal) → In l ls → Kept D l)
-    → rowsRank p (map literalRow ls) ≡ cond (any (repeats (literalOf p)) ls) 2 (cond (any (contradicts (literalOf p)) ls) 1 0)
-unfolding rowsRank
-literals-rank p [] h k = refl
-literals-rank p (l ∷ ls) h k =
-    ap₂ max (literal-rank p l h (k l (List·Memᴰ·head refl))) (literals-rank p ls h (λ m i. k m (List·Memᴰ·tail i)))
-    ∙ max-rank (repeats (literalOf p) l) (contradicts (literalOf p) l) (any (repeats (literalOf p)) ls) (any (contradicts (literalOf p)) ls)
-
--- "19 repeated in its role; 20 both true and false", by the highest rank
+-- of a payload's row and those of literals
 pub literals-stop : {D : Domain} (p : List ℕ) (ls : List Literal) → Comparable D p → ((l : Literal) → In l ls → Kept D l)
-    → _≡_ {A = ℕ} (cond (eqb (rowsRank p (map literalRow ls)) 2) 19 (cond (eqb (rowsRank p (map literalRow ls)) 1) 20 0))
-    (cond (any (repeats (literalOf p)) ls) 19 (cond (any (contradicts (literalOf p)) ls) 20 0))
-literals-stop p ls h k =
-    ap (λ (n : ℕ). cond (eqb n 2) 19 (cond (eqb n 1) 20 0)) (literals-rank p ls h k)
-    ∙ told (any (repeats (literalOf p)) ls) (any (contradicts (literalOf p)) ls)
+    → rowsStop (rowOf p) (map literalRow ls) ≡ cond (any (repeats (literalOf p)) ls) 19 (cond (any (contradicts (literalOf p)) ls) 20 0)
+unfolding rowsStop
+literals-stop {D} p ls h k = ap₂ (λ (r c : Bool). cond r 19 (cond c 20 0)) (same ls k) (contrarily ls k)
   where
-    told : (r c : Bool) → _≡_ {A = ℕ} (cond (eqb (rank r c) 2) 19 (cond (eqb (rank r c) 1) 20 0)) (cond r 19 (cond c 20 0))
-    told true c = refl
-    told false true = refl
-    told false false = refl
+    same : (ls : List Literal) → ((l : Literal) → In l ls → Kept D l) → any (sameList eqb (rowOf p)) (map literalRow ls) ≡ any (repeats (literalOf p)) ls
+    same [] k = refl
+    same (l ∷ ls) k = ap₂ _||_ (repeats-row p l h (k l (List·Memᴰ·head refl))) (same ls (λ m i. k m (List·Memᴰ·tail i)))
+
+    contrarily : (ls : List Literal) → ((l : Literal) → In l ls → Kept D l) → any (contradictsRow (rowOf p)) (map literalRow ls) ≡ any (contradicts (literalOf p)) ls
+    contrarily [] k = refl
+    contrarily (l ∷ ls) k = ap₂ _||_ (contradicts-row p l h (k l (List·Memᴰ·head refl))) (contrarily ls (λ m i. k m (List·Memᴰ·tail i)))
 
 -- ---- "27": a component's labels beside the rows of all literals
 
@@ -302,6 +276,29 @@ keys-row (b ∷ bs) (bound v ∷ vs) m e h =
     ∙ ap (λ (t : Bool). t || not (eqb (v .0) 255)) (counted-label b))
     (keys-row bs vs m (omega arith) (λ w i. h w (List·Memᴰ·tail i)))
 keys-row (b ∷ bs) (Every ∷ vs) m e h = ap₂ _&&_ (ap (λ (t : Bool). t || false) (counted-label b)) (keys-row bs vs m (omega arith) h)
+
+-- none is cleared where no literal has FF
+every-keeps : (ls : List Label) (vs : List Argument) → any isEvery vs ≡ false → keysBound ls vs ≡ true
+every-keeps [] vs e = refl
+every-keeps (l ∷ ls) [] e = refl
+every-keeps (l ∷ ls) (v ∷ vs) e =
+    let o = or-out (isEvery v) _ e in
+    rw (o .0, or-true (isCounted l)) (every-keeps ls vs (o .1))
+
+pub none-cleared : (as′ : List Action) (c : Component) → someEvery as′ ≡ false → keysCleared as′ c ≡ false
+unfolding someEvery allLiterals flatMap
+none-cleared [] c e = refl
+none-cleared (a ∷ as′) c e =
+    let o = or-out (any hasEvery (a .lits)) _ (sym (any-append hasEvery (a .lits) (flatMap (λ (a : Action). a .lits) as′)) ∙ e) in
+    ap₂ _||_ (lits (a .lits) (o .0)) (none-cleared as′ c (o .1))
+  where
+    lits : (ls : List Literal) → any hasEvery ls ≡ false → any (λ (l : Literal). not (keepsKeys c (l .atom))) ls ≡ false
+    lits [] e = refl
+    lits (l ∷ ls) e =
+        let o = or-out (hasEvery l) _ e in
+        ap₂ _||_
+        (ap not (ap (λ (b : Bool). not (eqb (c .rel) (l .atom .rel)) || b) (every-keeps (c .labels) (l .atom .args) (o .0)) ∙ or-true (not (eqb (c .rel) (l .atom .rel)))))
+        (lits ls (o .1))
 
 pub cleared-rows : (D : Domain) → Bounded D → (p : List ℕ) → length p ≡ 1 + arity D (byte p 0)
     → keysCleared (D .actions) (componentOf p) ≡ any (keyClearedIn p) (map literalRow (allLiterals (D .actions)))

@@ -7,7 +7,7 @@ use lib.ListN.{length, drop}
 use Rattle.records.specs.Lists.{all, any, countBy, sideBySide}
 use Rattle.literals.specs.Domain.{roleOf, clearsOnce}
 use Rattle.literals.specs.Decode.{byte, literalOf, noVariable}
-use Rattle.literals.specs.Held.{relationsIn, arityIn, variablesIn, lastingIn}
+use Rattle.literals.specs.Held.{relationsIn, arityIn, lastingIn}
 
 -- ---- of a head
 
@@ -17,17 +17,19 @@ unfolding relationsIn arityIn
 argumentsStop head relation first given = cond (leb (relationsIn head) relation) 17
     (cond (not (eqb given (first + arityIn head relation))) 12 0)
 
--- the row "fields" of a literal record, of the action i
-unfoldable pub literalFields : List ℕ → ℕ → List ℕ → ℕ
-unfolding relationsIn arityIn variablesIn lastingIn roleOf
-literalFields head i p =
+-- of a literal record of the action i: its length and role, then its relation and how many arguments it has
+unfoldable pub literalShape : List ℕ → ℕ → List ℕ → ℕ
+unfolding lastingIn argumentsStop
+literalShape head i p =
     cond (ltb (length p) 2) 12
     (cond (ltb 9 (byte p 0)) 16
     (cond (ltb 3 (byte p 0) && not (lastingIn head i)) 16
-    (cond (leb (relationsIn head) (byte p 1)) 17
-    (cond (not (eqb (length p) (2 + arityIn head (byte p 1)))) 12
-    (cond (not (clearsOnce (literalOf p))) 26
-    (cond (any (noVariable (variablesIn head i)) (drop 2 p)) 18 0))))))
+    (argumentsStop head (byte p 1) 2 (length p))))
+
+-- and its arguments, where its action has so many variables
+unfoldable pub literalArguments : ℕ → List ℕ → ℕ
+unfolding roleOf
+literalArguments vars p = cond (not (clearsOnce (literalOf p))) 26 (cond (any (noVariable vars) (drop 2 p)) 18 0)
 
 -- the row "fields" of a component record
 unfoldable pub componentFields : List ℕ → List ℕ → ℕ

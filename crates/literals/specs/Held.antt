@@ -1,6 +1,6 @@
 -- How the code holds a domain that was read: a head, in sections, and the table of its literals. Assumes nothing.
 use mathlib.Core.Path.{_≡_}
-use mathlib.Core.Bool.{Bool, cond}
+use mathlib.Core.Bool.{Bool, false, cond}
 use mathlib.Core.List.{List, [], _∷_, map, flatMap}
 use Prim.Native.Nat.{ℕ, zero, suc, _+_, _-_, _*_, _≤_, _<_}
 use lib.Dec.{eqb, ltb, leb}
@@ -10,9 +10,10 @@ use Rattle.literals.specs.declared.span.Span.{Span}
 use Rattle.literals.specs.Domain.{keysOf, Domain, arity, action}
 use Rattle.literals.specs.Decode.{RecordKind, stopOf, extend, maxRelations, maxArguments, maxActions, maxVariables, maxLiterals}
 use Rattle.literals.specs.Decode.{maxComponents}
-use Rattle.literals.specs.Table.{literalRow, componentRow, allLiterals, tableBytes, Bounded}
+use Rattle.literals.specs.Table.{literalRow, componentRow, allLiterals, someEvery, tableBytes, Bounded}
 
--- ---- the sections of a head: a byte for each relation, 8 for each component, then columns with a byte for each action
+-- ---- the sections of a head: a byte for each relation, 8 for each component, columns with a byte for each action, and a byte that tells
+-- whether some literal has FF
 
 abbrev pub atArities : ℕ
 atArities = 4
@@ -34,6 +35,9 @@ atLows = atSizes + maxActions
 
 abbrev pub atHighs : ℕ
 atHighs = atLows + maxActions
+
+abbrev pub atClears : ℕ
+atClears = atHighs + maxActions
 
 -- ---- what a head says, whatever its bytes are: each number within its limit, 0 for one above it
 
@@ -88,6 +92,10 @@ sizeIn head i = within maxLiterals (getD head (atSizes + i) 0)
 unfoldable pub firstIn : List ℕ → ℕ → ℕ
 firstIn head i = getD head (atLows + i) 0 + 256 * getD head (atHighs + i) 0
 
+-- of all actions: whether some literal has FF
+unfoldable pub clearsIn : List ℕ → Bool
+clearsIn head = eqb (getD head atClears 0) 1
+
 -- ---- what head and table say of a domain that they hold
 
 pub record HeadOf (D : Domain) (head : List ℕ) : Type 0 where
@@ -102,14 +110,16 @@ pub record HeadOf (D : Domain) (head : List ℕ) : Type 0 where
   pub lasting : (i : ℕ) → i < length (D .actions) → lastingIn head i ≡ action D i .lasting
   pub sizes : (i : ℕ) → i < length (D .actions) → sizeIn head i ≡ length (action D i .lits)
   pub firsts : (i : ℕ) → i < length (D .actions) → firstIn head i ≡ length (allLiterals (take i (D .actions)))
+  pub clears : clearsIn head ≡ someEvery (D .actions)
 
--- what it says of the relations and the template, which is all that the classes of an action ask for
+-- what it says of the relations and the template, and where no literal has FF, which is all that the classes of an action ask for
 pub record TemplateOf (D : Domain) (head : List ℕ) : Type 0 where
   pub bounded : Bounded D
   pub keys : keysIn head ≡ keysOf (D .template)
   pub arities : (r : ℕ) → arityIn head r ≡ arity D r
   pub components : componentsIn head ≡ length (D .template)
   pub componentRows : componentRowsIn head ≡ map componentRow (D .template)
+  pub plain : clearsIn head ≡ false → someEvery (D .actions) ≡ false
 
 pub record Held (D : Domain) (head table : List ℕ) : Type 0 where
   pub says : HeadOf D head
@@ -123,7 +133,7 @@ Read head table = (D : Domain) × Held D head table
 -- ---- a head with a record more
 
 abbrev pub headBytes : ℕ
-headBytes = atHighs + maxActions
+headBytes = atClears + 1
 
 -- a whole head that holds a domain
 pub record Filled (D : Domain) (head : List ℕ) : Type 0 where

@@ -1,17 +1,17 @@
--- The table of a domain's literals, 8 bytes a literal, the ranks of its rows, and the bounds of a domain that was read. Assumes nothing.
+-- The table of a domain's literals, 8 bytes a literal, how rows compare, and the bounds of a domain that was read. Assumes nothing.
 use mathlib.Core.Path.{_≡_}
-use mathlib.Core.Bool.{Bool, true, _&&_, _||_, cond}
-use mathlib.Core.List.{List, [], _∷_, _++_, map, flatMap, foldr}
-use Prim.Native.Nat.{ℕ, zero, suc, _+_, _-_, _*_, _%_, _≤_, _<_, max}
-use lib.Dec.{eqb, ltb}
+use mathlib.Core.Bool.{Bool, true, false, _&&_, _||_, cond}
+use mathlib.Core.List.{List, [], _∷_, _++_, map, flatMap}
+use Prim.Native.Nat.{ℕ, zero, suc, _+_, _-_, _*_, _/_, _%_, _≤_, _<_}
+use lib.Dec.{eqb}
 use lib.ListN.{length, take, drop, getD, replicate}
-use Rattle.records.specs.Lists.{In, sameList, distinct}
+use Rattle.records.specs.Lists.{In, any, sameList, distinct}
 use Rattle.literals.specs.declared.Variable.{Variable}
 use Rattle.literals.specs.declared.Argument.{Argument}
 use Rattle.literals.specs.declared.Argument.the-variants.{Variable as bound, Every}
 use Rattle.literals.specs.declared.Label.{Label}
 use Rattle.literals.specs.declared.Label.the-variants.{Key as keyed, Counted}
-use Rattle.literals.specs.Domain.{variablesOf, roleNumber, roleOf, Literal, clearsOnce, Action, Component, keepsKeys, keysOf}
+use Rattle.literals.specs.Domain.{isEvery, variablesOf, roleNumber, roleOf, Literal, clearsOnce, Action, Component, keepsKeys, keysOf}
 use Rattle.literals.specs.Domain.{labelsFit, Domain, arity}
 use Rattle.literals.specs.Decode.{byte, maxRelations, maxArguments, maxActions, maxVariables, maxLiterals, maxComponents}
 
@@ -43,6 +43,15 @@ unfoldable pub allLiterals : List Action → List Literal
 unfolding flatMap
 allLiterals as′ = flatMap (λ (a : Action). a .lits) as′
 
+-- a literal that has FF, every object, among its arguments
+abbrev pub hasEvery : Literal → Bool
+hasEvery l = any isEvery (l .atom .args)
+
+-- whether one of these actions' literals has
+unfoldable pub someEvery : List Action → Bool
+unfolding allLiterals
+someEvery as′ = any hasEvery (allLiterals as′)
+
 -- the table's rows
 unfoldable pub tableBytes : Domain → List ℕ
 unfolding flatMap allLiterals
@@ -62,6 +71,23 @@ pub record FourAt (s : List ℕ) (at r : ℕ) : Type 0 where
   pub third : getD s (at + 2) 0 < 256
   pub fourth : getD s (at + 3) 0 < 256
 
+-- that of the eight bytes at an offset, by those of the first four and of the others
+pub record EightAt (s : List ℕ) (at r : ℕ) : Type 0 where
+  pub low : ℕ
+  pub high : ℕ
+  pub lows : FourAt s at low
+  pub highs : FourAt s (at + 4) high
+  pub is : r ≡ low + 4294967296 * high
+
+-- a row of 8 bytes, and its number
+pub record WordOf (row : List ℕ) (word : ℕ) : Type 0 where
+  pub long : length row ≡ 8
+  pub bytes : EightAt row 0 word
+
+-- the four bytes of a number, the lowest first
+abbrev pub fourBytes : ℕ → List ℕ
+fourBytes n = n % 256 ∷ n / 256 % 256 ∷ n / 65536 % 256 ∷ n / 16777216 % 256 ∷ []
+
 -- ---- whether two rows meet: FF, every object, meets every argument. What fills a row is FF too, and so beside what fills the other, as
 -- one relation has one arity
 
@@ -77,23 +103,25 @@ argumentsMeet p q = sameList meetByte (drop 2 p) (drop 2 q)
 abbrev pub rowsMeet : List ℕ → List ℕ → Bool
 rowsMeet p q = eqb (byte p 1) (byte q 1) && argumentsMeet p q
 
--- the roles whose conditions may contradict each other: 1 for 0 and 1, 2 for 4 to 7, 0 for the others
-abbrev pub conditionGroup : ℕ → ℕ
-conditionGroup r = cond (ltb r 2) 1 (cond (ltb r 4) 0 (cond (ltb r 8) 2 0))
+-- a row that has one of two roles, and that a row meets
+abbrev pub meetsAs : ℕ → ℕ → List ℕ → List ℕ → Bool
+meetsAs r s p row = (eqb (byte row 0) r || eqb (byte row 0) s) && rowsMeet p row
 
--- of two role bytes: 2 where they are the same, 1 where one is true and the other false in one group, else 0
-unfoldable pub roleRank : ℕ → ℕ → ℕ
-roleRank a b =
-    cond (eqb a b) 2
-    (cond (eqb (conditionGroup a) 0) 0
-    (cond (eqb (conditionGroup b) (conditionGroup a)) (cond (eqb (a % 2) (b % 2)) 0 1) 0))
+-- of two role bytes: one is of a true condition and the other of a false one, both at the start, or both not
+abbrev pub opposedRoles : ℕ → ℕ → Bool
+opposedRoles a b =
+    cond (eqb a 0) (eqb b 1)
+    (cond (eqb a 1) (eqb b 0)
+    (cond (eqb a 4 || eqb a 6) (eqb b 5 || eqb b 7)
+    (cond (eqb a 5 || eqb a 7) (eqb b 4 || eqb b 6) false)))
 
--- of a payload and a row: 2 where role and atom are the same; 1 where one is true and the other false in one group, and they meet; else 0
-unfoldable pub rowRank : List ℕ → List ℕ → ℕ
-unfolding roleRank
-rowRank p row =
-    let rank = roleRank (byte p 0) (byte row 0) in
-    cond (eqb rank 2) (cond (sameList eqb (drop 1 (rowOf p)) (drop 1 row)) 2 0) (cond (eqb rank 1) (cond (rowsMeet (rowOf p) row) 1 0) 0)
+-- two rows of literals that contradict each other
+abbrev pub contradictsRow : List ℕ → List ℕ → Bool
+contradictsRow p row = opposedRoles (byte p 0) (byte row 0) && rowsMeet p row
+
+-- "19 repeated in its role; 20 both true and false", of a row beside rows
+unfoldable pub rowsStop : List ℕ → List (List ℕ) → ℕ
+rowsStop p rows = cond (any (sameList eqb p) rows) 19 (cond (any (contradictsRow p) rows) 20 0)
 
 -- the first n rows of w bytes of a memory
 abbrev pub rowsBy : ℕ → ℕ → List ℕ → List (List ℕ)
@@ -103,11 +131,6 @@ rowsBy w (suc n) t = take w t ∷ rowsBy w n (drop w t)
 -- of 8 bytes
 abbrev pub rowsIn : ℕ → List ℕ → List (List ℕ)
 rowsIn = rowsBy 8
-
--- the highest rank of a payload with these rows
-unfoldable pub rowsRank : List ℕ → List (List ℕ) → ℕ
-unfolding rowRank
-rowsRank p rows = foldr (λ row n. max (rowRank p row) n) 0 rows
 
 -- ---- a domain that was read
 

@@ -7,7 +7,6 @@ use super::head::Head;
 use super::head::arity_of;
 use super::head::is_lasting;
 use super::head::relations_in;
-use super::head::variables_of;
 use super::is_counted;
 use super::label_of;
 use super::limits::MAX_ARGUMENTS;
@@ -26,7 +25,7 @@ ghost use Rattle.records.specs.Lists.{any, countBy, firstAt, sideBySide};
 ghost use Rattle.literals.specs.Domain.{variableBelow, clearsOnce, isCounted, isEvery};
 ghost use Rattle.literals.specs.Decode.{maxActions, maxArguments, relationStop, actionStop, literalOf, noVariable};
 ghost use Rattle.literals.specs.Decode.{labelOf, labelFault};
-ghost use Rattle.literals.specs.Fields.{argumentsStop, literalFields, componentFields, again, highKey, eachOnce};
+ghost use Rattle.literals.specs.Fields.{argumentsStop, literalShape, literalArguments, componentFields, again, highKey, eachOnce};
 ghost use Rattle.literals.specs.Fields.{keyBeside, keyClearedIn};
 ghost use Rattle.literals.specs.Table.{rowsIn};
 
@@ -128,10 +127,10 @@ fn any_unknown(p: &[u8], n: u8) -> bool
     false
 }
 
-// A literal of the action i: role, relation, one variable per argument, or FF.
-pub fn literal_fields(head: &Head, i: usize, p: &[u8]) -> u64
+// A literal of the action i: its role, its relation, and how many arguments it has.
+pub fn literal_shape(head: &Head, i: usize, p: &[u8]) -> u64
     requires { ⌜ i < maxActions ⌝ }
-    ensures { λ r. ⌜ r ≡ literalFields (now (head .entry)) i (now (p .entry)) ⌝ }
+    ensures { λ r. ⌜ r ≡ literalShape (now (head .entry)) i (now (p .entry)) ⌝ }
 {
     if p.len() < 2 {
         return 12;
@@ -139,14 +138,18 @@ pub fn literal_fields(head: &Head, i: usize, p: &[u8]) -> u64
     if no_role(is_lasting(head, i), p[0]) {
         return 16;
     }
-    let stop = arguments_stop(head, p[1], 2, p.len());
-    if stop != 0 {
-        return stop;
-    }
+    arguments_stop(head, p[1], 2, p.len())
+}
+
+// The arguments of a literal: FF only where it may be, then one of its action's n variables each.
+pub fn literal_arguments(p: &[u8], n: u8) -> u64
+    requires { ⌜ 2 ≤ length (now p) ⌝ }
+    ensures { λ r. ⌜ r ≡ literalArguments n (now (p .entry)) ⌝ }
+{
     if !clears_once(p) {
         return 26;
     }
-    if any_unknown(p, variables_of(head, i)) {
+    if any_unknown(p, n) {
         return 18;
     }
     0

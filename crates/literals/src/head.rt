@@ -12,6 +12,7 @@ use super::row::put_row;
 use super::span::Span;
 use records::bytes::wide;
 ghost use mathlib.Core.Path.{_≡_};
+ghost use mathlib.Core.Bool.{cond};
 ghost use mathlib.Core.List.{List, [], _∷_, _++_};
 ghost use Prim.Native.Nat.{ℕ, _+_, _*_, _<_, _≤_};
 ghost use lib.Dec.{eqb};
@@ -19,13 +20,13 @@ ghost use lib.ListN.{length, getD};
 ghost use Rattle.records.specs.Lists.{any};
 ghost use Rattle.literals.specs.Domain.{Domain, keysOf, bare};
 ghost use Rattle.literals.specs.Decode.{maxRelations, maxActions, maxVariables, maxArguments, maxLiterals, maxComponents};
-ghost use Rattle.literals.specs.Decode.{relationRecord, actionRecord, literalRecord, componentRecord, componentOf, byte};
-ghost use Rattle.literals.specs.Table.{allLiterals};
+ghost use Rattle.literals.specs.Decode.{relationRecord, actionRecord, literalRecord, componentRecord, componentOf, literalOf, byte};
+ghost use Rattle.literals.specs.Table.{allLiterals, hasEvery};
 ghost use Rattle.literals.specs.Held.{within, relationsIn, actionsIn, componentsIn, keysIn, arityIn, componentRowIn};
-ghost use Rattle.literals.specs.Held.{componentRowsIn, variablesIn};
+ghost use Rattle.literals.specs.Held.{componentRowsIn, variablesIn, atClears, clearsIn};
 ghost use Rattle.literals.specs.Held.{lastingIn, sizeIn, firstIn, Held, SpanFits, SpanOf, HeadOf, headBytes, Filled, Adds};
 
-pub const HEAD: usize = HIGHS + MAX_ACTIONS;
+pub const HEAD: usize = CLEARS + 1;
 
 pub type Head = [u8; HEAD];
 
@@ -51,6 +52,9 @@ const SIZES: usize = SORTS + MAX_ACTIONS;
 const LOWS: usize = SIZES + MAX_ACTIONS;
 
 const HIGHS: usize = LOWS + MAX_ACTIONS;
+// 1 where some literal has FF: most files have none, and need not be looked through for what FF leads to.
+const CLEARS: usize = HIGHS + MAX_ACTIONS;
+
 // The number in a byte, 0 above the limit.
 fn limited(n: u8, limit: u8) -> u8
     ensures { λ r. ⌜ (r ≡ within limit n) × (r ≤ limit) ⌝ }
@@ -234,13 +238,34 @@ pub fn add_action(head: &mut Head, p: &[u8])
     head[ACTIONS] = n as u8 + 1;
 }
 
-// The head with a literal more, of the latest action: it has one more.
-pub fn add_literal(head: &mut Head)
+// Whether some literal of the domain has FF.
+pub fn clears_in(head: &Head) -> bool
+    ensures { λ r. ⌜ r ≡ clearsIn (now (head .entry)) ⌝ }
+{
+    head[CLEARS] == 1
+}
+
+// The byte that tells it, with a literal more.
+fn clears_with(head: &Head, clears: bool) -> u8
+    ensures { λ r. ⌜ r ≡ cond clears 1 (getD (now (head .entry)) atClears 0) ⌝ }
+{
+    if clears {
+        return 1;
+    }
+    head[CLEARS]
+}
+
+// The head with a literal more, of the latest action, which may have FF: it has one more.
+pub fn add_literal(head: &mut Head, clears: bool)
     requires { ⌜ 0 < actionsIn (now head) ⌝ }
-    ensures { λ _. ⌜ ((p : List ℕ) → Adds literalRecord p (now (head .entry)) (now (head .exit))) ⌝ }
+    ensures { λ _. ⌜ ((p : List ℕ) → clears ≡ hasEvery (literalOf p)
+        → Adds literalRecord p (now (head .entry)) (now (head .exit))) ⌝ }
 {
     let last = actions_in(head) - 1;
-    head[SIZES + last] = size_of(head, last) + 1;
+    let size = size_of(head, last);
+    let flag = clears_with(head, clears);
+    head[SIZES + last] = size + 1;
+    head[CLEARS] = flag;
 }
 
 // The head with a component more: its row, and the number of keys, which the first component determines.

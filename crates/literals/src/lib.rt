@@ -13,7 +13,6 @@ ghost use Rattle.literals.specs.Domain.{isEvery, usageOf, roleOf, usageN
 ghost use Rattle.literals.specs.Decode.{argumentOf, labelOf};
 ghost use Rattle.literals.specs.Keys.{usageFor};
 ghost use Rattle.literals.specs.Matching.{momentNumber};
-ghost use Rattle.literals.specs.Table.{conditionGroup, roleRank};
 
 // Variables, objects and keys are three separate numberings, each from 0.
 pub struct Variable(pub u8);
@@ -206,38 +205,6 @@ pub fn usage_for(time: Time, role: u8) -> u8
     if same_time(time, when) {
         let usage = sorted.usage;
         return usage_number(usage) + 1;
-    }
-    0
-}
-
-// The conditions that may contradict each other: 1 for the roles 0 and 1, 2 for 4 to 7, 0 for the others.
-fn condition_group(role: u8) -> u8
-    ensures { λ r. ⌜ r ≡ conditionGroup role ⌝ }
-{
-    match role {
-        0..=1 => 1,
-        2..=3 => 0,
-        4..=7 => 2,
-        _ => 0,
-    }
-}
-
-// The role bytes of two literals: 2 where they are the same, 1 where one is true and the other false in one group, else 0.
-pub fn role_rank(a: u8, b: u8) -> u64
-    ensures { λ r. ⌜ r ≡ roleRank a b ⌝ }
-{
-    if a == b {
-        return 2;
-    }
-    let group = condition_group(a);
-    if group == 0 {
-        return 0;
-    }
-    if condition_group(b) == group {
-        if a % 2 == b % 2 {
-            return 0;
-        }
-        return 1;
     }
     0
 }

@@ -1,12 +1,13 @@
 // Rows of 8 bytes: a payload, and FF to fill.
-use super::role_rank;
 ghost use mathlib.Core.Path.{_≡_};
-ghost use Prim.Native.Nat.{_+_, _-_, _*_, _<_, _≤_, max};
+ghost use mathlib.Core.List.{List};
+ghost use Prim.Native.Nat.{ℕ, _+_, _-_, _*_, _<_, _≤_};
 ghost use lib.Dec.{eqb};
 ghost use lib.ListN.{length, take, drop, getD};
 ghost use lib.Seq.{paste};
-ghost use Rattle.records.specs.Lists.{sameList};
-ghost use Rattle.literals.specs.Table.{rowOf, FourAt, meetByte, argumentsMeet, rowsMeet, rowRank, rowsIn, rowsRank};
+ghost use Rattle.records.specs.Lists.{any, sameList};
+ghost use Rattle.literals.specs.Table.{rowOf, fourBytes, FourAt, EightAt, WordOf, meetByte, argumentsMeet, rowsMeet, meetsAs};
+ghost use Rattle.literals.specs.Table.{contradictsRow, rowsIn};
 
 // A byte of the row of a payload.
 pub fn row_byte(p: &[u8], i: usize) -> u8
@@ -107,71 +108,151 @@ pub fn rows_meet(x: &[u8], i: usize, y: &[u8], j: usize) -> bool
     false
 }
 
-// The rank of a row with the row at an offset: what their roles say, where the atoms are the same, or the rows meet.
-fn rank_by_roles(table: &[u8], at: usize, row: &[u8]) -> u64
-    requires { ⌜ (at + 8 ≤ length (now table)) × (length (now row) ≡ 8) ⌝ }
-    ensures { λ r. ⌜ r ≡ rowRank (now (row .entry)) (take 8 (drop at (now (table .entry)))) ⌝ }
+fn longer(n: u32) -> u64
+    ensures { λ r. ⌜ (r ≡ n) × (r < 4294967296) ⌝ }
 {
-    let rank = role_rank(row[0], table[at]);
-    if rank == 2 {
-        if same_atom(table, at, row) {
-            return 2;
-        }
-        return 0;
-    }
-    if rank == 1 {
-        if rows_meet(row, 0, table, at) {
-            return 1;
-        }
-        return 0;
-    }
-    0
+    n as u64
 }
 
-// The same. Most rows have another atom, and roles of one parity say nothing then: both is told much quicker than what their roles say.
-pub fn row_rank(table: &[u8], at: usize, row: &[u8]) -> u64
-    requires { ⌜ (at + 8 ≤ length (now table)) × (length (now row) ≡ 8) ⌝ }
-    ensures { λ r. ⌜ r ≡ rowRank (now (row .entry)) (take 8 (drop at (now (table .entry)))) ⌝ }
+// The number of the eight bytes at an offset, the lowest first.
+fn eight_at(s: &[u8], at: usize) -> u64
+    requires { ⌜ at + 8 ≤ length (now s) ⌝ }
+    ensures { λ r. ⌜ EightAt (now (s .entry)) at r ⌝ }
 {
-    if same_atom(table, at, row) {
-        return rank_by_roles(table, at, row);
-    }
-    if row[0] % 2 == table[at] % 2 {
-        return 0;
-    }
-    rank_by_roles(table, at, row)
+    let low = longer(four_at(s, at));
+    let high = longer(four_at(s, at + 4));
+    low + 4294967296 * high
 }
 
-fn larger(a: u64, b: u64) -> u64
-    ensures { λ r. ⌜ r ≡ max a b ⌝ }
+// A byte of the row of a payload, as a number.
+fn row_digit(p: &[u8], i: usize) -> u64
+    requires { ⌜ i < 8 ⌝ }
+    ensures { λ r. ⌜ (r ≡ getD (rowOf (now (p .entry))) i 0) × (r < 256) ⌝ }
 {
-    if a < b {
-        return b;
-    }
-    a
+    longer(widened(row_byte(p, i)))
 }
 
-// The highest rank of a row with the rows from `from` to `to`.
-fn highest_rank(table: &[u8], from: usize, to: usize, row: &[u8]) -> u64
-    requires { ⌜ (from ≤ to) × (8 * to ≤ length (now table)) × (length (now row) ≡ 8) ⌝ }
-    ensures { λ r. ⌜ r ≡ rowsRank (now (row .entry)) (rowsIn (to - from) (drop (8 * from) (now (table .entry)))) ⌝ }
+// The number of a payload's row: it is compared with rows, and written, as one number, which is much quicker than byte by byte.
+pub fn row_word(p: &[u8]) -> u64
+    requires { ⌜ length (now p) ≤ 8 ⌝ }
+    ensures { λ r. ⌜ WordOf (rowOf (now (p .entry))) r ⌝ }
 {
-    let mut rank: u64 = 0;
+    let a = row_digit(p, 0);
+    let b = row_digit(p, 1);
+    let c = row_digit(p, 2);
+    let d = row_digit(p, 3);
+    let e = row_digit(p, 4);
+    let f = row_digit(p, 5);
+    let g = row_digit(p, 6);
+    let h = row_digit(p, 7);
+    let low = a + 256 * b + 65536 * c + 16777216 * d;
+    low + 4294967296 * e + 1099511627776 * f + 281474976710656 * g + 72057594037927936 * h
+}
+
+// The four bytes of a number, the lowest first, written at an offset.
+fn put_four(out: &mut [u8], at: usize, n: u32)
+    requires { ⌜ at + 4 ≤ length (now out) ⌝ }
+    ensures { λ _. ⌜ now (out .exit) ≡ paste (now (out .entry)) at (fourBytes n) 4 ⌝ }
+{
+    out[at] = (n % 256) as u8;
+    out[at + 1] = (n / 256 % 256) as u8;
+    out[at + 2] = (n / 65536 % 256) as u8;
+    out[at + 3] = (n / 16777216 % 256) as u8;
+}
+
+// The row of a number, written at an offset.
+pub fn put_word(out: &mut [u8], at: usize, word: u64)
+    requires { ⌜ at + 8 ≤ length (now out) ⌝ }
+    ensures { λ _. ⌜ ((row : List ℕ) → WordOf row word → now (out .exit) ≡ paste (now (out .entry)) at row 8) ⌝ }
+{
+    put_four(out, at, (word % 4294967296) as u32);
+    put_four(out, at + 4, (word / 4294967296) as u32);
+}
+
+// Whether one of the rows from `from` to `to` is the row of a number.
+pub fn any_same(table: &[u8], from: usize, to: usize, word: u64) -> bool
+    requires { ⌜ (from ≤ to) × (8 * to ≤ length (now table)) ⌝ }
+    ensures { λ r. ⌜ ((row : List ℕ) → WordOf row word
+        → r ≡ any (sameList eqb row) (rowsIn (to - from) (drop (8 * from) (now (table .entry))))) ⌝ }
+{
     let mut i = from;
     while i < to {
-        rank = larger(rank, row_rank(table, 8 * i, row));
+        if eight_at(table, 8 * i) == word {
+            return true;
+        }
         i += 1;
     }
-    rank
+    false
 }
 
-// The highest rank of a payload with the rows from `from` to `to`. Its row is filled once, so that no comparison asks how long the
-// payload is.
-pub fn rows_rank(table: &[u8], from: usize, to: usize, p: &[u8]) -> u64
-    requires { ⌜ (from ≤ to) × (8 * to ≤ length (now table)) × (0 < length (now p)) × (length (now p) ≤ 8) ⌝ }
-    ensures { λ r. ⌜ r ≡ rowsRank (now (p .entry)) (rowsIn (to - from) (drop (8 * from) (now (table .entry)))) ⌝ }
+// Whether the arguments of a payload meet those of the row at an offset. What fills the payload's row meets everything.
+fn payload_meets(p: &[u8], table: &[u8], at: usize) -> bool
+    requires { ⌜ (2 ≤ length (now p)) × (length (now p) ≤ 8) × (at + 8 ≤ length (now table)) ⌝ }
+    ensures { λ r. ⌜ r ≡ argumentsMeet (rowOf (now (p .entry))) (take 8 (drop at (now (table .entry)))) ⌝ }
 {
-    let mut row = [0u8; 8];
-    put_row(&mut row, 0, p);
-    highest_rank(table, from, to, &row)
+    let mut i = 2;
+    while i < p.len() {
+        if !bytes_meet(p[i], table[at + i]) {
+            return false;
+        }
+        i += 1;
+    }
+    true
+}
+
+// Whether a payload meets the row at an offset.
+fn meets_row(p: &[u8], table: &[u8], at: usize) -> bool
+    requires { ⌜ (2 ≤ length (now p)) × (length (now p) ≤ 8) × (at + 8 ≤ length (now table)) ⌝ }
+    ensures { λ r. ⌜ r ≡ rowsMeet (rowOf (now (p .entry))) (take 8 (drop at (now (table .entry)))) ⌝ }
+{
+    if p[1] == table[at + 1] {
+        return payload_meets(p, table, at);
+    }
+    false
+}
+
+// Whether the row at an offset has one of two roles, and a payload meets it.
+fn meets_as(p: &[u8], table: &[u8], at: usize, first: u8, second: u8) -> bool
+    requires { ⌜ (2 ≤ length (now p)) × (length (now p) ≤ 8) × (at + 8 ≤ length (now table)) ⌝ }
+    ensures { λ r. ⌜ r ≡ meetsAs first second (rowOf (now (p .entry))) (take 8 (drop at (now (table .entry)))) ⌝ }
+{
+    if table[at] == first {
+        return meets_row(p, table, at);
+    }
+    if table[at] == second {
+        return meets_row(p, table, at);
+    }
+    false
+}
+
+// Whether one of the rows from `from` to `to` has one of two roles, and a payload meets it.
+fn any_meets(p: &[u8], table: &[u8], from: usize, to: usize, first: u8, second: u8) -> bool
+    requires { ⌜ (2 ≤ length (now p)) × (length (now p) ≤ 8) × (from ≤ to) × (8 * to ≤ length (now table)) ⌝ }
+    ensures { λ r. ⌜ r ≡ any (meetsAs first second (rowOf (now (p .entry)))) (rowsIn (to - from) (drop (8 * from) (now (table .entry)))) ⌝ }
+{
+    let mut i = from;
+    while i < to {
+        if meets_as(p, table, 8 * i, first, second) {
+            return true;
+        }
+        i += 1;
+    }
+    false
+}
+
+// Whether a payload contradicts one of the rows from `from` to `to`. Which roles stand against its own is asked once, not for each row;
+// an effect contradicts none.
+pub fn any_contradicts(p: &[u8], table: &[u8], from: usize, to: usize) -> bool
+    requires { ⌜ (2 ≤ length (now p)) × (length (now p) ≤ 8) × (from ≤ to) × (8 * to ≤ length (now table)) ⌝ }
+    ensures { λ r. ⌜ r ≡ any (contradictsRow (rowOf (now (p .entry)))) (rowsIn (to - from) (drop (8 * from) (now (table .entry)))) ⌝ }
+{
+    match p[0] {
+        0 => any_meets(p, table, from, to, 1, 1),
+        1 => any_meets(p, table, from, to, 0, 0),
+        4 => any_meets(p, table, from, to, 5, 7),
+        5 => any_meets(p, table, from, to, 4, 6),
+        6 => any_meets(p, table, from, to, 5, 7),
+        7 => any_meets(p, table, from, to, 4, 6),
+        _ => false,
+    }
 }

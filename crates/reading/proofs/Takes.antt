@@ -8,7 +8,7 @@ use lib.Dec.{eqb, ltb, leb}
 use lib.ListN.{length, drop, take-append-drop}
 use lib.Seq.{take-all}
 use borrow.Author.Tests.{le-leb, lt-leb, eq-eqb, ne-eqb, eqb-true, ltb-false}
-use Rattle.records.specs.Lists.{In, any, empty}
+use Rattle.records.specs.Lists.{In, any, empty, sameList}
 use Rattle.records.proofs.Lists.{not-false, empty-no, empty-yes, getD-in}
 use Rattle.records.proofs.Numbers.{numberOf, none-passes, rows-split, cond-or}
 use Rattle.literals.specs.declared.RecordFault.{RecordFault}
@@ -19,16 +19,17 @@ use Rattle.literals.specs.Decode.{actionRecord, literalRecord, componentRecord,
 use Rattle.literals.specs.Decode.{headStop, relationStop, actionStop, literalOf, repeats, contradicts, noVariable, literalStop}
 use Rattle.literals.specs.Decode.{atRecord, componentOf, labelFault, keysCleared, clearedFault, componentFault, componentStop, closingStop}
 use Rattle.literals.specs.Decode.{fieldStop, fieldPlace, stopOf, stopPlace, extend}
-use Rattle.literals.specs.Table.{literalRow, allLiterals, rowsIn, rowsRank}
-use Rattle.literals.specs.Held.{relationsIn, actionsIn, componentsIn, arityIn, componentRowsIn, variablesIn, lastingIn, HeadOf, Held, SpanOf, Filled}
-use Rattle.literals.specs.Fields.{literalFields, componentFields, keyClearedIn}
+use Rattle.literals.specs.Table.{rowOf, literalRow, allLiterals, contradictsRow, rowsIn, rowsStop}
+use Rattle.literals.specs.Held.{relationsIn, actionsIn, componentsIn, arityIn, componentRowsIn, variablesIn, lastingIn, clearsIn}
+use Rattle.literals.specs.Held.{HeadOf, Held, SpanOf, Filled}
+use Rattle.literals.specs.Fields.{argumentsStop, literalShape, literalArguments, componentFields, keyClearedIn}
 use Rattle.literals.proofs.Stops.{outOfOrder, atLimit, lastFault, faults-split}
 use Rattle.literals.proofs.Bounds.{arity-six, variables-below}
-use Rattle.literals.proofs.Tables.{any-component, Comparable, kept, length-literal-row, rows-flat, literals-stop, cleared-rows}
+use Rattle.literals.proofs.Tables.{any-component, Comparable, kept, length-literal-row, rows-flat, literals-stop, none-cleared, cleared-rows}
 use Rattle.literals.proofs.Held.{stop-order, stop-limit, stop-field, place-limit, place-field}
 use Rattle.literals.proofs.Heads.{arity-limit, literals-after, all-rows}
 use Rattle.literals.proofs.Fills.{latest-at}
-use Rattle.reading.specs.Held.{behind, HeldOver}
+use Rattle.reading.specs.Held.{behind, HeldOver, rowsOf}
 
 -- ---- the domain behind a record
 
@@ -183,6 +184,11 @@ module _ {D : Domain} {head table : List ℕ} (K : Held D head table) (p : List 
       pub component-labels : (m .number ≡ 0 → ⊥) → m ≡ componentFault D p
       component-labels l = sym (by-labels ∙ rw (ne-eqb (m .number) 0 l))
 
+      -- no literal has FF
+      pub component-plain : m .number ≡ 0 → clearsIn head ≡ false → m ≡ componentFault D p
+      component-plain l f =
+          sym (by-labels ∙ rw (eq-eqb (m .number) 0 l, none-cleared (D .actions) (componentOf p) (sym (K .says .clears) ∙ f)))
+
       module _ (l : m .number ≡ 0) {w : ℕ} (c : w ≡ length (allLiterals (D .actions))) {b : Bool}
           (d : b ≡ any (keyClearedIn p) (rowsIn w table)) where
         cleared-is : b ≡ keysCleared (D .actions) (componentOf p)
@@ -264,82 +270,126 @@ fields-pass relations arity vars lasting p e =
     let r = none-passes (literalFieldRows relations arity vars lasting p) 0 refl e .0 in
     record { long = ltb-false _ _ (r 0); role = ltb-false _ _ (r 1); arguments = eqb-true _ _ (not-false _ (r 4)); variables = r 6 }
 
-pub literal-short : (head : List ℕ) (i : ℕ) (p : List ℕ) → literalFields head i p ≡ 0 → (2 ≤ length p) × (length p ≤ 8)
-unfolding literalFields
-literal-short head i p e =
-    let q = fields-pass (relationsIn head) (arityIn head (byte p 1)) (variablesIn head i) (lastingIn head i) p e in
-    let s = arity-limit head (byte p 1) in
-    let a = q .arguments in
-    (q .long, omega arith)
+-- as a head says them: the shape of the literal, then its arguments
+abbrev fieldsIn : List ℕ → ℕ → List ℕ → ℕ
+fieldsIn head i p = numberOf (literalFieldRows (relationsIn head) (arityIn head (byte p 1)) (variablesIn head i) (lastingIn head i) p) 0
 
-module _ {D : Domain} {head table : List ℕ} (K : Held D head table) (p : List ℕ) (last : ℕ) (w : last + 1 ≡ length (D .actions)) {n : ℕ} (e : n ≡ literalFields head last p) where
+fields-split : (head : List ℕ) (i : ℕ) (p : List ℕ)
+    → fieldsIn head i p ≡ cond (eqb (literalShape head i p) 0) (literalArguments (variablesIn head i) p) (literalShape head i p)
+unfolding literalShape argumentsStop literalArguments
+fields-split head i p =
+    rows-split
+    ((ltb (length p) 2, 12)
+    ∷ (ltb 9 (byte p 0), 16)
+    ∷ (ltb 3 (byte p 0) && not (lastingIn head i), 16)
+    ∷ (leb (relationsIn head) (byte p 1), 17)
+    ∷ (not (eqb (length p) (2 + arityIn head (byte p 1))), 12)
+    ∷ [])
+    (literalArguments (variablesIn head i) p) refl
+
+-- a literal whose shape passes
+pub literal-short : (head : List ℕ) (i : ℕ) (p : List ℕ) → literalShape head i p ≡ 0 → (2 ≤ length p) × (length p ≤ 8)
+unfolding literalShape argumentsStop
+literal-short head i p e =
+    let r =
+    none-passes
+    ((ltb (length p) 2, 12)
+    ∷ (ltb 9 (byte p 0), 16)
+    ∷ (ltb 3 (byte p 0) && not (lastingIn head i), 16)
+    ∷ (leb (relationsIn head) (byte p 1), 17)
+    ∷ (not (eqb (length p) (2 + arityIn head (byte p 1))), 12)
+    ∷ []) 0 refl e .0 in
+    let a = eqb-true (length p) (2 + arityIn head (byte p 1)) (not-false _ (r 4)) in
+    let s = arity-limit head (byte p 1) in
+    (ltb-false (length p) 2 (r 0), omega arith)
+
+module _ {D : Domain} {head table : List ℕ} (K : Held D head table) (p : List ℕ) (last : ℕ) (w : last + 1 ≡ length (D .actions)) where
   at-last : action D last ≡ latest (D .actions)
   unfolding action
   at-last = latest-at (D .actions) last (omega arith)
 
-  literal-fields-are : n ≡ literalFieldsOf D p
-  unfolding literalFields
+  literal-fields-are : fieldsIn head last p ≡ literalFieldsOf D p
   literal-fields-are =
       let H = K .says in
       let l : last < length (D .actions) = omega arith in
       let v = H .variables last l ∙ ap (λ (a : Action). a .vars) at-last in
       let s = H .lasting last l ∙ ap (λ (a : Action). a .lasting) at-last in
-      e ∙ (λ i. numberOf (literalFieldRows (H .relations i) (H .arities (byte p 1) i) (v i) (s i) p) 0)
+      λ i. numberOf (literalFieldRows (H .relations i) (H .arities (byte p 1) i) (v i) (s i) p) 0
 
-  pub literal-fields-stop : (n ≡ 0 → ⊥) → n ≡ literalStop D p
-  literal-fields-stop z = literal-fields-are ∙ sym (literal-split D p ∙ rw (ne-eqb (literalFieldsOf D p) 0 (λ q. z (literal-fields-are ∙ q))))
+  fields-stop : {n : ℕ} → n ≡ fieldsIn head last p → (n ≡ 0 → ⊥) → n ≡ literalStop D p
+  fields-stop e z =
+      let f = e ∙ literal-fields-are in
+      f ∙ sym (literal-split D p ∙ rw (ne-eqb (literalFieldsOf D p) 0 (λ q. z (f ∙ q))))
 
-  module _ (z : n ≡ 0) {span : Span} (S : SpanOf D last table span) {r : ℕ}
-      (q : r ≡ rowsRank p (rowsIn (span .to - span .from) (drop (8 * span .from) table))) where
-    abbrev lits : List Literal
-    lits = latest (D .actions) .lits
+  pub shape-stop : {n : ℕ} → n ≡ literalShape head last p → (n ≡ 0 → ⊥) → n ≡ literalStop D p
+  shape-stop e z = fields-stop (e ∙ sym (fields-split head last p ∙ rw (ne-eqb (literalShape head last p) 0 (λ q. z (e ∙ q))))) z
 
-    latest-listed : In (latest (D .actions)) (D .actions)
-    latest-listed = subst (λ (a : Action). In a (D .actions)) (latest-at (D .actions) last (omega arith)) (getD-in (D .actions) last noAction (omega arith))
+  module _ {n v k : ℕ} (e : n ≡ literalShape head last p) (z : n ≡ 0) (u : v ≡ variablesIn head last) (f : k ≡ literalArguments v p) where
+    by-arguments : k ≡ fieldsIn head last p
+    by-arguments =
+        f ∙ ap (λ (m : ℕ). literalArguments m p) u
+        ∙ sym (fields-split head last p ∙ rw (eq-eqb (literalShape head last p) 0 (sym e ∙ z)))
 
-    comparable : Comparable D p
-    comparable =
-        let B = K .says .bounded in
-        let last = latest (D .actions) in
-        let f = fields-pass (length (D .arities)) (arity D (byte p 1)) (last .vars) (last .lasting) p (sym literal-fields-are ∙ z) in
-        let s = arity-six D (B .arities) (byte p 1) in
-        let a = f .arguments in
-        let n = B .counts last latest-listed in
-        record {
-          enough = f .long;
-          fits = omega arith;
-          role = f .role;
-          arguments = a;
-          variables = λ v m. let k = variables-below (last .vars) (drop 2 p) (f .variables) v m in omega arith;
-        }
+    pub arguments-stop : (k ≡ 0 → ⊥) → k ≡ literalStop D p
+    arguments-stop y = fields-stop by-arguments y
 
-    rank-is : r ≡ rowsRank p (map literalRow lits)
-    rank-is =
-        let B = K .says .bounded in
-        let m = S .size ∙ ap (λ (a : Action). span .from + length (a .lits)) at-last in
-        let j : span .to - span .from ≡ length lits = omega arith in
-        let part = drop (8 * span .from) table in
-        q
-        ∙ ap (rowsRank p)
-        (ap (λ (k : ℕ). rowsIn k part) j
-        ∙ ap (rowsIn (length lits)) (sym (take-append-drop (8 * span .to - 8 * span .from) part)
-        ∙ ap (λ (l : List ℕ). l ++ drop (8 * span .to - 8 * span .from) part) (S .literals ∙ ap (λ (a : Action). flatMap literalRow (a .lits)) at-last))
-        ∙ rows-flat literalRow lits (drop (8 * span .to - 8 * span .from) part) (λ l i. length-literal-row l (B .arguments (latest (D .actions)) latest-listed l i)))
+    -- its fields pass: it is stopped by the rows
+    module _ (y : k ≡ 0) {span : Span} (S : SpanOf D last table span) {r : ℕ} (q : r ≡ rowsStop (rowOf p) (rowsOf span table)) where
+      abbrev lits : List Literal
+      lits = latest (D .actions) .lits
 
-    by-rank : literalStop D p ≡ cond (eqb r 2) 19 (cond (eqb r 1) 20 0)
-    by-rank =
-        literal-split D p
-        ∙ rw (eq-eqb (literalFieldsOf D p) 0 (sym literal-fields-are ∙ z))
-        (sym (literals-stop p lits comparable (λ l m. kept (K .says .bounded) latest-listed m)) ∙ ap (λ (k : ℕ). cond (eqb k 2) 19 (cond (eqb k 1) 20 0)) (sym rank-is))
+      latest-listed : In (latest (D .actions)) (D .actions)
+      latest-listed = subst (λ (a : Action). In a (D .actions)) (latest-at (D .actions) last (omega arith)) (getD-in (D .actions) last noAction (omega arith))
 
-    pub literal-repeated : r ≡ 2 → 19 ≡ literalStop D p
-    literal-repeated k = sym (by-rank ∙ rw (eq-eqb r 2 k))
+      none : literalFieldsOf D p ≡ 0
+      none = sym literal-fields-are ∙ sym by-arguments ∙ y
 
-    pub literal-contradicted : r ≡ 1 → 20 ≡ literalStop D p
-    literal-contradicted k = sym (by-rank ∙ rw (ne-eqb r 2 (λ y. omega arith), eq-eqb r 1 k))
+      comparable : Comparable D p
+      comparable =
+          let B = K .says .bounded in
+          let last = latest (D .actions) in
+          let f = fields-pass (length (D .arities)) (arity D (byte p 1)) (last .vars) (last .lasting) p none in
+          let s = arity-six D (B .arities) (byte p 1) in
+          let a = f .arguments in
+          let n = B .counts last latest-listed in
+          record {
+            enough = f .long;
+            fits = omega arith;
+            role = f .role;
+            arguments = a;
+            variables = λ v m. let k = variables-below (last .vars) (drop 2 p) (f .variables) v m in omega arith;
+          }
 
-    pub literal-fresh : (r ≡ 2 → ⊥) → (r ≡ 1 → ⊥) → 0 ≡ literalStop D p
-    literal-fresh k l = sym (by-rank ∙ rw (ne-eqb r 2 k, ne-eqb r 1 l))
+      rows-are : rowsOf span table ≡ map literalRow lits
+      rows-are =
+          let B = K .says .bounded in
+          let m = S .size ∙ ap (λ (a : Action). span .from + length (a .lits)) at-last in
+          let j : span .to - span .from ≡ length lits = omega arith in
+          let part = drop (8 * span .from) table in
+          ap (λ (k : ℕ). rowsIn k part) j
+          ∙ ap (rowsIn (length lits)) (sym (take-append-drop (8 * span .to - 8 * span .from) part)
+          ∙ ap (λ (l : List ℕ). l ++ drop (8 * span .to - 8 * span .from) part) (S .literals ∙ ap (λ (a : Action). flatMap literalRow (a .lits)) at-last))
+          ∙ rows-flat literalRow lits (drop (8 * span .to - 8 * span .from) part) (λ l i. length-literal-row l (B .arguments (latest (D .actions)) latest-listed l i))
+
+      pub literal-compared : r ≡ literalStop D p
+      literal-compared =
+          q ∙ ap (rowsStop (rowOf p)) rows-are ∙ literals-stop p lits comparable (λ l m. kept (K .says .bounded) latest-listed m)
+          ∙ sym (literal-split D p ∙ rw (eq-eqb (literalFieldsOf D p) 0 none))
+
+-- the number that stops a row beside rows, by two questions
+module _ (q : List ℕ) (rows : List (List ℕ)) {s : Bool} (e : s ≡ any (sameList eqb q) rows) where
+  pub rows-same : s ≡ true → 19 ≡ rowsStop q rows
+  unfolding rowsStop
+  rows-same t = rw (← e, t)
+
+  module _ {o : Bool} (n : s ≡ false) (f : o ≡ any (contradictsRow q) rows) where
+    pub rows-opposed : o ≡ true → 20 ≡ rowsStop q rows
+    unfolding rowsStop
+    rows-opposed t = rw (← e, n, ← f, t)
+
+    pub rows-free : o ≡ false → 0 ≡ rowsStop q rows
+    unfolding rowsStop
+    rows-free t = rw (← e, n, ← f, t)
 
 -- ---- the head of a literal
 

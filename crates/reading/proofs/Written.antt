@@ -1,24 +1,29 @@
 -- The table with one record more. Assumes nothing.
 use mathlib.Core.Path.{_≡_, refl, sym, ap, subst, _∙_}
 use mathlib.Core.Bool.{Bool, true, false, cond}
+use mathlib.Core.Logic.{_⊎_, inl, inr}
 use mathlib.Core.List.{List, [], _∷_, _++_, flatMap, append-nil}
-use Prim.Native.Nat.{ℕ, zero, suc, _*_, _≤_, _<_}
+use Prim.Native.Nat.{ℕ, zero, suc, _+_, _-_, _*_, _≤_, _<_}
 use native.Mathlib.Omega.{arith}
 use lib.Dec.{eqb}
 use lib.ListN.{length}
 use lib.Seq.{paste}
+use borrow.Author.Tests.{eqb-true, eqb-false}
 use Rattle.records.specs.Lists.{empty}
 use Rattle.records.specs.Memory.{over}
-use Rattle.records.proofs.Lists.{clash, or-out, flatMap-snoc}
+use Rattle.records.proofs.Lists.{clash, bool-cases, or-out, flatMap-snoc}
+use Rattle.literals.specs.declared.span.Span.{Span}
 use Rattle.literals.specs.Domain.{Domain}
-use Rattle.literals.specs.Decode.{RecordKind, relationRecord, actionRecord, literalRecord, componentRecord, closingRecord, unknownRecord, kindOf, latest, byte, literalOf, actionOf, fieldStop, stopOf, stopPlace, extend}
+use Rattle.literals.specs.Decode.{RecordKind, relationRecord, actionRecord, literalRecord, componentRecord, closingRecord, unknownRecord, maxLiterals, kindOf, latest, byte, literalOf, literalStop, actionOf, fieldStop, stopOf, stopPlace, extend}
 use Rattle.literals.specs.Table.{rowOf, literalRow, allLiterals, tableBytes}
-use Rattle.literals.specs.Held.{Filled}
+use Rattle.literals.specs.Held.{actionsIn, componentsIn, variablesIn, SpanOf, Filled}
+use Rattle.literals.specs.Fields.{literalShape, literalArguments}
 use Rattle.literals.proofs.Stops.{passes, literal-passes, role-nine}
 use Rattle.literals.proofs.Tables.{over-row, payload-row}
 use Rattle.literals.proofs.Held.{literals-snoc, literals-more}
 use Rattle.literals.proofs.Heads.{length-table}
-use Rattle.reading.specs.Held.{behind, HeldOver}
+use Rattle.reading.specs.Held.{behind, HeldOver, Placed}
+use Rattle.reading.proofs.Takes.{row-stop, row-done, held-over, literal-short, literal-compared, span-size, span-all, literal-number}
 
 not-empty : {A : Type 0} (l : List A) → empty l ≡ false → 0 < length l
 not-empty [] e = absurd (clash refl e)
@@ -76,6 +81,37 @@ literal-held {old} {D} K p e F at a l v =
           ∙ sym (flatMap-snoc literalRow (allLiterals (D .actions)) (literalOf p))
           ∙ ap (flatMap literalRow) (sym (literals-more (literalOf p) (D .actions) listed)));
     }
+
+-- a literal of the latest action, which is not full: what its fields or the rows say is what stops it
+module _ {old : List ℕ} {D : Domain} {head table : List ℕ} (K : HeldOver old D head table) (p : List ℕ) (last : ℕ)
+    (w : last + 1 ≡ length (D .actions)) (a : 0 < actionsIn head) (b : componentsIn head ≤ 0) {span : Span} (S : SpanOf D last table span)
+    (room : span .to - span .from < maxLiterals) where
+  stop-is : {n : ℕ} → n ≡ literalStop D p → stopOf D literalRecord p ≡ n
+  stop-is e = let z = span-size w S in literal-number (K .filled .says) p a b (omega arith) e
+
+  pub literal-stopped : {n : ℕ} → n ≡ literalStop D p → (n ≡ 0 → ⊥)
+      → (n ≡ stopOf D literalRecord p) × HeldOver old (behind D literalRecord p) head table
+  literal-stopped e z = row-stop K literalRecord p (stop-is e) z
+
+  pub literal-placed : {s v k n : ℕ} {after rows : List ℕ} → s ≡ literalShape head last p → s ≡ 0 → v ≡ variablesIn head last
+      → k ≡ literalArguments v p → k ≡ 0 → Placed span p n head table after rows
+      → (n ≡ stopOf D literalRecord p) × HeldOver old (behind D literalRecord p) after rows
+  literal-placed {s} {v} {k} {n} {after} {rows} e z u f y P = by (bool-cases (eqb n 0))
+    where
+      told : n ≡ literalStop D p
+      told = literal-compared (held-over K) p last w e z u f y S (P .number)
+
+      by : (eqb n 0 ≡ true) ⊎ (eqb n 0 ≡ false) → (n ≡ stopOf D literalRecord p) × HeldOver old (behind D literalRecord p) after rows
+      by (inl t) =
+          let none = eqb-true n 0 t in
+          let passes = stop-is told ∙ none in
+          let short = literal-short head last p (sym e ∙ z) in
+          row-done D literalRecord p (stop-is told) none
+          (literal-held K p passes (P .added none D (K .filled) passes) (span .to) (span-all w S) (short .1) (P .written none))
+      by (inr f) =
+          let some = eqb-false n 0 f in
+          let same = P .stopped some in
+          rw (same .0, same .1) (literal-stopped told some)
 
 -- head and table with a record that writes no literal
 pub unwritten : {old : List ℕ} {D : Domain} {head table : List ℕ} → HeldOver old D head table → (k : RecordKind) (p : List ℕ) → tableBytes (behind D k p) ≡ tableBytes D

@@ -3,18 +3,20 @@ use mathlib.Core.Path.{_≡_}
 use mathlib.Core.Bool.{true, false, cond}
 use mathlib.Core.Logic.{_⊎_}
 use mathlib.Core.List.{List}
-use Prim.Native.Nat.{ℕ, zero, suc, _+_, _*_, _≤_, _<_}
+use Prim.Native.Nat.{ℕ, zero, suc, _+_, _-_, _*_, _≤_, _<_}
 use lib.Dec.{eqb, ltb}
-use lib.ListN.{length}
+use lib.ListN.{length, drop}
+use lib.Seq.{paste}
 use Rattle.records.specs.Memory.{over}
 use Rattle.reading.specs.declared.Progress.{Progress}
 use Rattle.reading.specs.declared.Refusal.{Refusal as FileRefusal}
 use Rattle.reading.specs.declared.read.Stepped.{Stepped}
+use Rattle.literals.specs.declared.span.Span.{Span}
 use Rattle.literals.specs.Domain.{Domain}
-use Rattle.literals.specs.Decode.{maxFile, maxActions, maxLiterals, latest, RecordKind, stopOf, extend, Decoded, refused, domain, Reading}
-use Rattle.literals.specs.Decode.{ReadTurn, goOn, finish, readStep, noDomain, fromStart}
-use Rattle.literals.specs.Table.{allLiterals, tableBytes}
-use Rattle.literals.specs.Held.{Filled, Held, headBytes}
+use Rattle.literals.specs.Decode.{maxFile, maxActions, maxLiterals, latest, RecordKind, literalRecord, stopOf, extend, Decoded}
+use Rattle.literals.specs.Decode.{refused, domain, Reading, ReadTurn, goOn, finish, readStep, noDomain, fromStart}
+use Rattle.literals.specs.Table.{rowOf, rowsIn, rowsStop, allLiterals, tableBytes}
+use Rattle.literals.specs.Held.{Filled, Held, Adds, headBytes}
 
 -- ---- what one record leads to
 
@@ -36,6 +38,18 @@ pub record HeldOver (old : List ℕ) (D : Domain) (head table : List ℕ) : Type
 abbrev pub TakesRow : RecordKind → List ℕ → ℕ → List ℕ → List ℕ → List ℕ → List ℕ → Type 0
 TakesRow k p n head table after rows = (D : Domain) (old : List ℕ) → HeldOver old D head table → (n ≡ stopOf D k p)
     × HeldOver old (behind D k p) after rows
+
+-- the rows of a span of the table
+abbrev pub rowsOf : Span → List ℕ → List (List ℕ)
+rowsOf span table = rowsIn (span .to - span .from) (drop (8 * span .from) table)
+
+-- a literal whose fields pass, beside these rows: the number that stops it, or 0; head and table are as before where one does, else they
+-- have it, behind the rows
+pub record Placed (span : Span) (p : List ℕ) (n : ℕ) (head table after rows : List ℕ) : Type 0 where
+  pub number : n ≡ rowsStop (rowOf p) (rowsOf span table)
+  pub stopped : (n ≡ 0 → ⊥) → (after ≡ head) × (rows ≡ table)
+  pub added : n ≡ 0 → Adds literalRecord p head after
+  pub written : n ≡ 0 → rows ≡ paste table (8 * span .to) (rowOf p) 8
 
 -- what taking a record asks of them: where it is long enough for a literal and the latest action is not full, there is room for its row
 pub record RecordReady (head table p : List ℕ) : Type 0 where

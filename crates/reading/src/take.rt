@@ -5,7 +5,8 @@ use literals::fields::action_fields;
 use literals::fields::any_clears_key;
 use literals::fields::component_fields;
 use literals::fields::label_fields;
-use literals::fields::literal_fields;
+use literals::fields::literal_arguments;
+use literals::fields::literal_shape;
 use literals::fields::relation_fields;
 use literals::head::Head;
 use literals::head::actions_in;
@@ -14,25 +15,32 @@ use literals::head::add_component;
 use literals::head::add_literal;
 use literals::head::add_relation;
 use literals::head::all_rows;
+use literals::head::clears_in;
 use literals::head::components_in;
 use literals::head::is_used;
 use literals::head::keys_with;
 use literals::head::relations_in;
 use literals::head::rows_of;
+use literals::head::variables_of;
 use literals::limits::MAX_ACTIONS;
 use literals::limits::MAX_COMPONENTS;
 use literals::limits::MAX_LITERALS;
 use literals::limits::MAX_RELATIONS;
-use literals::row::put_row;
-use literals::row::rows_rank;
+use literals::row::any_contradicts;
+use literals::row::any_same;
+use literals::row::put_word;
+use literals::row::row_word;
+use literals::span::Span;
+use records::bytes::any_from;
 ghost use mathlib.Core.Path.{_≡_};
-ghost use Prim.Native.Nat.{_+_, _≤_, _<_};
+ghost use Prim.Native.Nat.{_+_, _*_, _≤_, _<_};
 ghost use lib.ListN.{length};
 ghost use Rattle.literals.specs.Domain.{Domain};
-ghost use Rattle.literals.specs.Decode.{maxArguments, maxActions, literalStop, componentFault, stopOf, stopPlace};
+ghost use Rattle.literals.specs.Decode.{maxArguments, literalOf, componentFault, stopOf, stopPlace};
 ghost use Rattle.literals.specs.Decode.{kindOf, relationRecord, actionRecord, literalRecord, componentRecord, closingRecord};
-ghost use Rattle.literals.specs.Held.{HeadOf, Held, headBytes};
-ghost use Rattle.reading.specs.Held.{Takes, TakesRow, RecordReady};
+ghost use Rattle.literals.specs.Table.{rowOf, hasEvery, WordOf, rowsStop};
+ghost use Rattle.literals.specs.Held.{actionsIn, HeadOf, Held, headBytes};
+ghost use Rattle.reading.specs.Held.{Takes, rowsOf, Placed, TakesRow, RecordReady};
 
 pub fn take_relation(head: &mut Head, p: &[u8]) -> u64
     ensures { λ r. ⌜ Takes relationRecord (now (p .entry)) r (now (head .entry)) (now (head .exit)) ⌝ }
@@ -71,28 +79,42 @@ pub fn take_action(head: &mut Head, p: &[u8]) -> u64
     number
 }
 
-// The number that stops a literal of the action `last`, the latest.
-fn literal_number(head: &Head, table: &[u8], last: usize, p: &[u8]) -> u64
-    requires { ⌜ last < maxActions ⌝ }
-    ensures number { λ r. ⌜ ((D : Domain) → Held D (now (head .entry)) (now (table .entry)) → last + 1 ≡ length (D .actions)
-        → r ≡ literalStop D (now (p .entry))) ⌝ }
-    ensures fits { λ r. ⌜ (r ≡ 0 → (2 ≤ length (now (p .entry))) × (length (now (p .entry)) ≤ 8)) ⌝ }
+// The number that stops a literal beside the rows of its action: one is the same, or contradicts it.
+fn rows_stop(table: &[u8], span: Span, word: u64, p: &[u8]) -> u64
+    requires rows { ⌜ (span .from ≤ span .to) × (8 * span .to ≤ length (now table)) ⌝ }
+    requires short { ⌜ (2 ≤ length (now p)) × (length (now p) ≤ 8) ⌝ }
+    requires word { ⌜ WordOf (rowOf (now p)) word ⌝ }
+    ensures { λ r. ⌜ r ≡ rowsStop (rowOf (now (p .entry))) (rowsOf span (now (table .entry))) ⌝ }
 {
-    let fields = literal_fields(head, last, p);
-    if fields != 0 {
-        return fields;
-    }
-    let span = rows_of(head, table, last);
-    let rank = rows_rank(table, span.from, span.to, p);
-    if rank == 2 {
+    if any_same(table, span.from, span.to, word) {
         return 19;
     }
-    if rank == 1 {
+    if any_contradicts(p, table, span.from, span.to) {
         return 20;
     }
     0
 }
 
+// A literal whose fields pass, with FF or without: compared with the rows of its action, and written behind them where none stops it.
+fn place_literal(head: &mut Head, table: &mut [u8], span: Span, p: &[u8], clears: bool) -> u64
+    requires actions { ⌜ 0 < actionsIn (now head) ⌝ }
+    requires rows { ⌜ (span .from ≤ span .to) × (8 * span .to + 8 ≤ length (now table)) ⌝ }
+    requires short { ⌜ (2 ≤ length (now p)) × (length (now p) ≤ 8) ⌝ }
+    requires every { ⌜ clears ≡ hasEvery (literalOf (now p)) ⌝ }
+    ensures { λ r. ⌜ Placed span (now (p .entry)) r
+        (now (head .entry)) (now (table .entry)) (now (head .exit)) (now (table .exit)) ⌝ }
+{
+    let word = row_word(p);
+    let number = rows_stop(table, span, word, p);
+    if number == 0 {
+        put_word(table, 8 * span.to, word);
+        add_literal(head, clears);
+        return 0;
+    }
+    number
+}
+
+// Most literals have variables below their action's count alone: one look tells that FF and an unknown variable need not be asked for.
 pub fn take_literal(head: &mut Head, table: &mut [u8], p: &[u8]) -> u64
     requires { ⌜ RecordReady (now head) (now table) (now p) ⌝ }
     ensures { λ r. ⌜ TakesRow literalRecord (now (p .entry)) r
@@ -110,16 +132,23 @@ pub fn take_literal(head: &mut Head, table: &mut [u8], p: &[u8]) -> u64
     if MAX_LITERALS <= span.to - span.from {
         return 14;
     }
-    let number = literal_number(head, table, last, p);
-    if number == 0 {
-        put_row(table, 8 * span.to, p);
-        add_literal(head);
-        return 0;
+    let shape = literal_shape(head, last, p);
+    if shape != 0 {
+        return shape;
     }
-    number
+    let variables = variables_of(head, last);
+    if any_from(p, 2, variables) {
+        let arguments = literal_arguments(p, variables);
+        if arguments != 0 {
+            return arguments;
+        }
+        return place_literal(head, table, span, p, true);
+    }
+    place_literal(head, table, span, p, false)
 }
 
-// What stops a component: its fields, then its labels, then a key where a literal of its relation has FF.
+// What stops a component: its fields, then its labels, then a key where a literal of its relation has FF. The rows are looked through
+// for that only where some literal has FF.
 fn component_fault(head: &Head, table: &[u8], p: &[u8]) -> RecordFault
     ensures fault { λ r. ⌜ ((D : Domain) → Held D (now (head .entry)) (now (table .entry)) → r ≡ componentFault D (now (p .entry))) ⌝ }
     ensures fits { λ r. ⌜ (r .number ≡ 0 → length (now (p .entry)) ≤ 1 + maxArguments) ⌝ }
@@ -140,6 +169,9 @@ fn component_fault(head: &Head, table: &[u8], p: &[u8]) -> RecordFault
     let labels = label_fields(p, keys_with(head, p));
     let number = labels.number;
     if number != 0 {
+        return labels;
+    }
+    if !clears_in(head) {
         return labels;
     }
     if any_clears_key(p, table, all_rows(head, table)) {

@@ -11,7 +11,7 @@ use lib.Seq.{paste, take-at, take-suc, take-all, length-take-le}
 use borrow.Author.Tests.{eq-eqb, ne-eqb, eqb-true}
 use Rattle.records.specs.Lists.{In, all, any, filterBy, keepIf, sameList, dedup}
 use Rattle.records.specs.Memory.{over}
-use Rattle.records.proofs.Lists.{and-l, not-false, filter-in, filter-few, filter-agree, filter-append, flatMap-append, pairwise-filter}
+use Rattle.records.proofs.Lists.{and-l, off, clash, any-in, any-out, in-flatMap, not-false, filter-in, filter-few, filter-agree, filter-append, flatMap-append, pairwise-filter}
 use Rattle.records.proofs.Memory.{length-over, over-paste}
 use Rattle.literals.specs.declared.Variable.{Variable}
 use Rattle.literals.specs.declared.Argument.{Argument}
@@ -22,7 +22,7 @@ use Rattle.literals.specs.declared.Moment.{Moment}
 use Rattle.literals.specs.declared.Moment.the-variants.{Start, End}
 use Rattle.literals.specs.Domain.{sameVariable, variablesOf, Atom, sameLiteral, Literal, Action, keysOf, Domain}
 use Rattle.literals.specs.Decode.{repeats}
-use Rattle.literals.specs.Table.{literalRow}
+use Rattle.literals.specs.Table.{literalRow, allLiterals, hasEvery, someEvery}
 use Rattle.literals.specs.Matching.{own, asked, tuplesOf, withRole}
 use Rattle.literals.proofs.Bounds.{Fits, fits-of, bounded-actions}
 use Rattle.literals.proofs.Indices.{filter-filter}
@@ -293,6 +293,16 @@ module _ {D : Domain} {a : Action} {head rows : List ℕ} (A : ActionOf D a head
         keysKept = λ l m. f .keysKept l (filter-in (ofRelation r) (a .lits) m .0);
       }
 
+  -- no literal of it has FF where none of the domain has
+  narrowed-plain : someEvery (D .actions) ≡ false → someEvery (narrowed r a ∷ []) ≡ false
+  unfolding someEvery allLiterals flatMap
+  narrowed-plain e =
+      let ls = filterBy (ofRelation r) (a .lits) in
+      ap (any hasEvery) (append-nil ls)
+      ∙ off (any hasEvery ls) (λ t.
+      let x = any-in hasEvery ls t in
+      clash (x .2) (any-out hasEvery e (in-flatMap (λ (b : Action). b .lits) (A .listed) (filter-in (ofRelation r) (a .lits) (x .1) .0))))
+
   pub narrowed-held : (n : ℕ) → length rows ≡ 8 * n → {few : List ℕ} → few ≡ rowsWith rows r n
       → ActionOf (alone D r a) (narrowed r a) head few
   narrowed-held n w e =
@@ -305,6 +315,7 @@ module _ {D : Domain} {a : Action} {head rows : List ℕ} (A : ActionOf D a head
               arities = A .says .arities;
               components = A .says .components;
               componentRows = A .says .componentRows;
+              plain = λ f. narrowed-plain (A .says .plain f);
             };
         listed = List·Memᴰ·head refl;
         apart = pairwise-filter (λ l m. not (repeats l m)) (ofRelation r) (a .lits) (A .apart);

@@ -1,68 +1,40 @@
--- `covers` meets its contract: no row before j covers, so the test is that of the rows left. Assumes nothing.
-use native.Mathlib.Omega.{arith}
+-- `covers` meets its contract. Assumes nothing.
+use mathlib.Core.Path.{sym, _∙_}
+use Rattle.classes.proofs.Decides.{open-held}
 use borrow.Author.Needs.{needs}
-use mathlib.Core.Path.{_≡_, sym, ap, _∙_}
-use Prim.Native.Nat.{_-_}
-use lib.ListN.{length}
-use Rattle.records.specs.Lists.{any}
-use Rattle.classes.specs.Held.{coversAt, coveredAt}
-use Rattle.literals.proofs.Indices.{left, left-all, any-hit, any-miss, any-end}
 use Rattle.classes.proofs.names.covers.Statement.{statement}
 use Rattle.classes.proofs.names.covers.Tie as tie
 
-abbrev Inv-loop : tie.InvT-loop
-Inv-loop head rows numbers usages class c j₀ j-end j =
-    any (coversAt head rows numbers usages class c) (left (length numbers) j) ≡ coveredAt head rows numbers usages class c
+clears-in-requires : tie.Need-clears-in-requires
+clears-in-requires c κs = search needs
 
-abbrev μ-loop : tie.MeasureT-loop
-μ-loop head rows numbers usages class c j₀ j-end j = length numbers - j
+any-covers-requires : tie.Need-any-covers-requires
+any-covers-requires c κs = search needs
 
-loop-holds : tie.Need-loop-holds Inv-loop μ-loop
-unfolding coveredAt
-loop-holds c =
-    let a = c .before .before .args in
-    ap (any (coversAt (a .head .now) (a .rows .now) (a .numbers .now) (a .usages .now) (a .class) (a .c)))
-    (left-all (length (a .numbers .now)))
+returns : tie.Need-returns
+returns c = search needs
 
-covers-by-requires : tie.Need-covers-by-requires Inv-loop μ-loop
-covers-by-requires c κs = search needs
+has-counted-requires : tie.Need-has-counted-requires
+has-counted-requires c κs = search needs
 
-returns : tie.Need-returns Inv-loop μ-loop
-returns c =
-    let a = c .before .before .before .before .before .before .args in
-    sym (any-hit (coversAt (a .head .now) (a .rows .now) (a .numbers .now) (a .usages .now) (a .class) (a .c)) (length (a .numbers .now))
-    (c .before .before .before .loop .j) (omega arith) (sym (c .before .covers-by .ensures) ∙ c .if1 .taken))
-    ∙ c .before .before .before .loop .inv
-
-add-j : tie.Need-add-j Inv-loop μ-loop
-add-j c = omega arith
-
-loop-less : tie.Need-loop-less Inv-loop μ-loop
-loop-less c = omega arith
-
-loop-again : tie.Need-loop-again Inv-loop μ-loop
-loop-again c =
-    let a = c .before .before .before .before .before .before .args in
-    sym (any-miss (coversAt (a .head .now) (a .rows .now) (a .numbers .now) (a .usages .now) (a .class) (a .c)) (length (a .numbers .now))
-    (c .before .before .before .loop .j) (omega arith) (sym (c .before .covers-by .ensures) ∙ c .if1 .left))
-    ∙ c .before .before .before .loop .inv
-
-returns-2 : tie.Need-returns-2 Inv-loop μ-loop
+returns-2 : tie.Need-returns-2
 returns-2 c =
-    let a = c .before .before .before .before .args in
-    sym (any-end (coversAt (a .head .now) (a .rows .now) (a .numbers .now) (a .usages .now) (a .class) (a .c)) (length (a .numbers .now))
-    (c .before .loop .j) (omega arith)) ∙ c .before .loop .inv
+    λ D a m M h g. sym (open-held M h _ g (sym (c .before .before .before .clears-in .ensures) ∙ c .before .before .if1 .left) (sym (c .before .has-counted .ensures) ∙ c .if2 .taken))
+
+any-covers-requires-2 : tie.Need-any-covers-requires-2
+any-covers-requires-2 c κs = search needs
+
+returns-3 : tie.Need-returns-3
+returns-3 c = search needs
 
 pub covers-spec : {M : Type 1} → statement M
 covers-spec =
     tie.close
     (tie.spec
-    Inv-loop
-    μ-loop
-    loop-holds
-    covers-by-requires
+    clears-in-requires
+    any-covers-requires
     returns
-    add-j
-    loop-less
-    loop-again
-    returns-2)
+    has-counted-requires
+    returns-2
+    any-covers-requires-2
+    returns-3)

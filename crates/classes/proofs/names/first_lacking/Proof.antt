@@ -4,10 +4,14 @@ use borrow.Author.Needs.{needs}
 use mathlib.Core.Path.{_≡_, sym, ap, _∙_}
 use mathlib.Core.Bool.{Bool, not}
 use mathlib.Core.List.{List}
-use Prim.Native.Nat.{ℕ, _+_, _-_, _≤_}
+use Prim.Native.Nat.{ℕ, _+_, _-_, _≤_, _<_}
+use lib.ListN.{length}
+use Rattle.literals.specs.declared.Moment.{Moment}
+use Rattle.literals.specs.Domain.{Action, Domain}
 use Rattle.literals.specs.Held.{componentsIn}
 use Rattle.literals.specs.Keys.{position, below}
-use Rattle.classes.specs.Held.{coveredAt, lackingAt}
+use Rattle.classes.specs.Classes.{classes}
+use Rattle.classes.specs.Held.{MomentOf, coveredAt, lackingAt}
 use Rattle.literals.proofs.Indices.{left, left-all, position-hit, position-miss, position-end}
 use Rattle.classes.proofs.names.first_lacking.Statement.{statement}
 use Rattle.classes.proofs.names.first_lacking.Tie as tie
@@ -17,7 +21,9 @@ lacks head rows numbers usages class c = not (coveredAt head rows numbers usages
 
 abbrev Inv-loop : tie.InvT-loop
 Inv-loop head rows numbers usages class n c₀ c =
-    (c ≤ n) × (n ≤ 16) × (c + position (lacks head rows numbers usages class) (left n c) ≡ lackingAt head rows numbers usages class)
+    (c ≤ n) × (n ≤ 16) × (n ≡ componentsIn head) × ((D : Domain) (a : Action) (m : Moment) → MomentOf D a m head rows numbers usages
+    → class < length (classes D a)
+    → c + position (lacks head rows numbers usages class) (left n c) ≡ lackingAt head rows numbers usages class)
 
 abbrev μ-loop : tie.MeasureT-loop
 μ-loop head rows numbers usages class n c₀ c = n - c
@@ -32,7 +38,7 @@ loop-holds c =
     let n = c .components-in .ensures in
     let p = lacks (a .head .now) (a .rows .now) (a .numbers .now) (a .usages .now) (a .class) in
     let e = ap (position p) (left-all (c .components-in .result)) ∙ ap (λ (k : ℕ). position p (below k)) (n .0) in
-    (omega arith, n .1, omega arith)
+    (omega arith, n .1, n .0, λ D b m M h. omega arith)
 
 covers-requires : tie.Need-covers-requires Inv-loop μ-loop
 covers-requires c κs = search needs
@@ -41,8 +47,11 @@ returns : tie.Need-returns Inv-loop μ-loop
 returns c =
     let a = c .before .before .before .before .before .before .before .args in
     let turn = c .before .before .before in
-    let e = position-hit (lacks (a .head .now) (a .rows .now) (a .numbers .now) (a .usages .now) (a .class)) (turn .before .components-in .result) (turn .loop .c) (omega arith) (ap not (sym (c .before .covers .ensures)) ∙ c .if1 .taken) in
-    let i = turn .loop .inv .2 in
+    λ D b m M h.
+    let few = M .whole .says .components in
+    let n = turn .loop .inv .2 in
+    let e = position-hit (lacks (a .head .now) (a .rows .now) (a .numbers .now) (a .usages .now) (a .class)) (turn .before .components-in .result) (turn .loop .c) (omega arith) (ap not (sym (c .before .covers .ensures D b m M h (omega arith))) ∙ c .if1 .taken) in
+    let i = turn .loop .inv .3 D b m M h in
     omega arith
 
 add-c : tie.Need-add-c Inv-loop μ-loop
@@ -55,16 +64,24 @@ loop-again : tie.Need-loop-again Inv-loop μ-loop
 loop-again c =
     let a = c .before .before .before .before .before .before .before .args in
     let turn = c .before .before .before in
-    let e = position-miss (lacks (a .head .now) (a .rows .now) (a .numbers .now) (a .usages .now) (a .class)) (turn .before .components-in .result) (turn .loop .c) (omega arith) (ap not (sym (c .before .covers .ensures)) ∙ c .if1 .left) in
-    let i = turn .loop .inv .2 in
-    (omega arith, turn .loop .inv .1, omega arith)
+    let n = turn .loop .inv .2 in (
+      omega arith,
+      turn .loop .inv .1,
+      n,
+      λ D b m M h.
+          let few = M .whole .says .components in
+          let e = position-miss (lacks (a .head .now) (a .rows .now) (a .numbers .now) (a .usages .now) (a .class)) (turn .before .components-in .result) (turn .loop .c) (omega arith) (ap not (sym (c .before .covers .ensures D b m M h (omega arith))) ∙ c .if1 .left) in
+          let i = turn .loop .inv .3 D b m M h in
+          omega arith,
+    )
 
 returns-2 : tie.Need-returns-2 Inv-loop μ-loop
 returns-2 c =
     let a = c .before .before .before .before .before .args in
     let l = c .before .loop in
     let e = position-end (lacks (a .head .now) (a .rows .now) (a .numbers .now) (a .usages .now) (a .class)) (c .before .before .components-in .result) (l .c) (omega arith) in
-    let i = l .inv .2 in
+    λ D b m M h.
+    let i = l .inv .3 D b m M h in
     omega arith
 
 pub first-lacking-spec : {M : Type 1} → statement M

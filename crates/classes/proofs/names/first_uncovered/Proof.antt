@@ -9,7 +9,7 @@ first-lacking-requires : tie.Need-first-lacking-requires
 first-lacking-requires c κs = search needs
 
 returns : tie.Need-returns
-returns c D a m M h = c .first-lacking .ensures ∙ uncovered-held M h
+returns c D a m M h = c .first-lacking .ensures D a m M h ∙ uncovered-held M h
 
 pub first-uncovered-spec : {M : Type 1} → statement M
 first-uncovered-spec = tie.close (tie.spec first-lacking-requires returns)

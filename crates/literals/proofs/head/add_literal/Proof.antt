@@ -14,6 +14,9 @@ sub-last c = search needs
 size-of-requires : tie.Need-size-of-requires
 size-of-requires c κs = search needs
 
+clears-with-requires : tie.Need-clears-with-requires
+clears-with-requires c κs = search needs
+
 add-head : tie.Need-add-head
 add-head c = search needs
 
@@ -23,8 +26,11 @@ add-head-2 c = search needs
 element-write-head : tie.Need-element-write-head
 element-write-head c = search needs
 
+element-write-head-2 : tie.Need-element-write-head-2
+element-write-head-2 c = search needs
+
 returns : tie.Need-returns
-returns c p D F e = fills-literal F p _ _ (let n = c .before .before .actions-in .ensures .0 in omega arith) (c .size-of .ensures .0) e
+returns c p t D F e = fills-literal F p _ _ (let n = c .before .before .before .before .actions-in .ensures .0 in omega arith) (c .before .before .size-of .ensures .0) t _ (c .clears-with .ensures) e
 
 pub add-literal-spec : {M : Type 1} → statement M
 add-literal-spec =
@@ -33,7 +39,9 @@ add-literal-spec =
     actions-in-requires
     sub-last
     size-of-requires
+    clears-with-requires
     add-head
     add-head-2
     element-write-head
+    element-write-head-2
     returns)

@@ -1,8 +1,10 @@
 -- `component_fault` meets its contract. Assumes nothing.
+use mathlib.Core.Path.{sym, _∙_}
 use native.Mathlib.Omega.{arith}
 use Rattle.reading.proofs.Takes.{component-short, component-fields-stop, component-used, component-labels}
-use Rattle.reading.proofs.Takes.{component-cleared, component-kept}
+use Rattle.reading.proofs.Takes.{component-plain, component-cleared, component-kept}
 use borrow.Author.Needs.{needs}
+use borrow.Author.Tests.{not-true}
 use Rattle.reading.proofs.take.component_fault.Statement.{statement}
 use Rattle.reading.proofs.take.component_fault.Tie as tie
 
@@ -50,39 +52,53 @@ returns-3 c = (
   λ z. absurd (omega arith),
 )
 
+clears-in-requires : tie.Need-clears-in-requires
+clears-in-requires c κs = search needs
+
+returns-4 : tie.Need-returns-4
+returns-4 c = (
+  λ D K.
+      let f = c .before .before .before .before .before .before .before .before .before .component-fields .ensures in
+      let u = c .before .before .before .before .before .before .is-used .ensures in
+      let k = c .before .before .before .before .keys-with .ensures .0 D (K .says) in
+      component-plain K _ f (omega arith) u (c .before .before .before .before .before .if2 .left) k (c .before .before .before .label-fields .ensures) (omega arith)
+      (sym (c .before .clears-in .ensures) ∙ not-true _ (c .if4 .taken)),
+  λ z. component-short _ _ (c .before .before .before .before .before .before .before .before .before .component-fields .ensures) (omega arith) .1,
+)
+
 all-rows-requires : tie.Need-all-rows-requires
 all-rows-requires c κs = search needs
 
 any-clears-key-requires : tie.Need-any-clears-key-requires
 any-clears-key-requires c κs =
-    let f = component-short _ _ (c .before .before .before .before .before .before .before .before .component-fields .ensures)
+    let f = component-short _ _ (c .before .before .before .before .before .before .before .before .before .before .component-fields .ensures)
     (omega arith) in
     (c .all-rows .ensures .0, omega (arith, f .0), f .1)
-
-returns-4 : tie.Need-returns-4
-returns-4 c = (
-  λ D K.
-      let f = c .before .before .before .before .before .before .before .before .before .before .component-fields .ensures in
-      let u = c .before .before .before .before .before .before .before .is-used .ensures in
-      let k = c .before .before .before .before .before .keys-with .ensures .0 D (K .says) in
-      let r = c .before .before .all-rows .ensures .1 D K in
-      let a = c .before .any-clears-key .ensures in
-      component-cleared K _ f (omega arith) u (c .before .before .before .before .before .before .if2 .left) k
-      (c .before .before .before .before .label-fields .ensures) (omega arith) r a (c .if4 .taken),
-  λ z. absurd (omega arith),
-)
 
 returns-5 : tie.Need-returns-5
 returns-5 c = (
   λ D K.
-      let f = c .before .before .before .before .before .before .before .before .before .before .component-fields .ensures in
-      let u = c .before .before .before .before .before .before .before .is-used .ensures in
-      let k = c .before .before .before .before .before .keys-with .ensures .0 D (K .says) in
+      let f = c .before .before .before .before .before .before .before .before .before .before .before .before .component-fields .ensures in
+      let u = c .before .before .before .before .before .before .before .before .before .is-used .ensures in
+      let k = c .before .before .before .before .before .before .before .keys-with .ensures .0 D (K .says) in
       let r = c .before .before .all-rows .ensures .1 D K in
       let a = c .before .any-clears-key .ensures in
-      component-kept K _ f (omega arith) u (c .before .before .before .before .before .before .if2 .left) k
-      (c .before .before .before .before .label-fields .ensures) (omega arith) r a (c .if4 .left),
-  λ z. component-short _ _ (c .before .before .before .before .before .before .before .before .before .before .component-fields .ensures)
+      component-cleared K _ f (omega arith) u (c .before .before .before .before .before .before .before .before .if2 .left) k
+      (c .before .before .before .before .before .before .label-fields .ensures) (omega arith) r a (c .if5 .taken),
+  λ z. absurd (omega arith),
+)
+
+returns-6 : tie.Need-returns-6
+returns-6 c = (
+  λ D K.
+      let f = c .before .before .before .before .before .before .before .before .before .before .before .before .component-fields .ensures in
+      let u = c .before .before .before .before .before .before .before .before .before .is-used .ensures in
+      let k = c .before .before .before .before .before .before .before .keys-with .ensures .0 D (K .says) in
+      let r = c .before .before .all-rows .ensures .1 D K in
+      let a = c .before .any-clears-key .ensures in
+      component-kept K _ f (omega arith) u (c .before .before .before .before .before .before .before .before .if2 .left) k
+      (c .before .before .before .before .before .before .label-fields .ensures) (omega arith) r a (c .if5 .left),
+  λ z. component-short _ _ (c .before .before .before .before .before .before .before .before .before .before .before .before .component-fields .ensures)
       (omega arith) .1,
 )
 
@@ -98,7 +114,9 @@ component-fault-spec =
     keys-with-requires
     label-fields-requires
     returns-3
+    clears-in-requires
+    returns-4
     all-rows-requires
     any-clears-key-requires
-    returns-4
-    returns-5)
+    returns-5
+    returns-6)

@@ -4,8 +4,10 @@ use Prim.Native.Nat.{_+_, _-_}
 use native.Mathlib.Omega.{arith}
 use lib.ListN.{length}
 use Rattle.literals.specs.Decode.{literalRecord}
-use Rattle.reading.proofs.Takes.{row-stop, row-done, held-over, not-zero, span-size, span-all, literal-early, literal-late, literal-full, literal-number}
-use Rattle.reading.proofs.Written.{literal-held}
+use Rattle.literals.proofs.Bytes.{plain-arguments, plain-every, some-every}
+use Rattle.reading.proofs.Takes.{row-stop, held-over, not-zero, span-size, span-all, literal-early, literal-late, literal-full}
+use Rattle.reading.proofs.Takes.{literal-short, shape-stop, arguments-stop}
+use Rattle.reading.proofs.Written.{literal-stopped, literal-placed}
 use borrow.Author.Needs.{needs}
 use Rattle.reading.proofs.take.take_literal.Statement.{statement}
 use Rattle.reading.proofs.take.take_literal.Tie as tie
@@ -14,13 +16,16 @@ actions-in-requires : tie.Need-actions-in-requires
 actions-in-requires c κs = search needs
 
 returns : tie.Need-returns
-returns c D old K = row-stop K literalRecord _ (literal-early (K .filled .says) _ (sym (c .before .actions-in .ensures .0) ∙ c .if1 .taken)) (not-zero 12)
+returns c =
+    λ D old K. row-stop K literalRecord _ (literal-early (K .filled .says) _ (sym (c .before .actions-in .ensures .0) ∙ c .if1 .taken)) (not-zero 12)
 
 components-in-requires : tie.Need-components-in-requires
 components-in-requires c κs = search needs
 
 returns-2 : tie.Need-returns-2
-returns-2 c D old K = let b = c .before .components-in .ensures .0 in row-stop K literalRecord _ (literal-late (K .filled .says) _ (omega arith)) (not-zero 12)
+returns-2 c =
+    let b = c .before .components-in .ensures .0 in
+    λ D old K. row-stop K literalRecord _ (literal-late (K .filled .says) _ (omega arith)) (not-zero 12)
 
 sub-last : tie.Need-sub-last
 sub-last c = search needs
@@ -35,69 +40,114 @@ same-length : tie.Need-same-length
 same-length c = search needs
 
 returns-3 : tie.Need-returns-3
-returns-3 c D old K =
+returns-3 c =
     let a = c .before .before .before .before .before .before .before .before .before .actions-in .ensures .0 in
     let b = c .before .before .before .before .before .before .components-in .ensures .0 in
-    let H = K .filled .says in
-    let l = H .actions in
+    λ D old K.
+    let l = K .filled .says .actions in
     let w : c .before .before .before .before .before .before .before .before .before .actions-in .result - 1 + 1 ≡ length (D .actions) = omega arith in
     let S = c .before .before .rows-of .ensures .1 D (held-over K) (omega arith) in
     let z = span-size w S in
-    row-stop K literalRecord _ (literal-full H _ (omega arith) (omega arith) (omega arith)) (not-zero 13)
+    row-stop K literalRecord _ (literal-full (K .filled .says) _ (omega arith) (omega arith) (omega arith)) (not-zero 13)
 
-literal-number-requires : tie.Need-literal-number-requires
-literal-number-requires c κs = search needs
-
-mul-put-row : tie.Need-mul-put-row
-mul-put-row c = search needs
-
-put-row-requires : tie.Need-put-row-requires
-put-row-requires c κs =
-    let R = c .before .before .before .before .before .before .before .before .before .before .before .before .before .before .before .before .before .before .before .pre in
-    let D = R .sofar in
-    let K = R .holds in
-    let a = c .before .before .before .before .before .before .before .before .before .before .before .before .before .before .before .actions-in .ensures .0 in
-    let l = K .filled .says .actions in
-    let w : c .before .before .before .before .before .before .before .before .before .before .before .before .before .before .before .actions-in .result - 1 + 1 ≡ length (D .actions) = omega arith in
-    let S = c .before .before .before .before .before .before .before .before .rows-of .ensures .1 D (held-over K) (omega arith) in
-    let z = span-size w S in
-    let t = span-all w S in
-    let f = c .before .before .before .literal-number .ensures .1 (c .before .before .if4 .taken) in
-    let m = R .room (f .0) (omega arith) in
-    (omega arith, f .1)
-
-add-literal-requires : tie.Need-add-literal-requires
-add-literal-requires c κs = search needs
+literal-shape-requires : tie.Need-literal-shape-requires
+literal-shape-requires c κs = search needs
 
 same-length-2 : tie.Need-same-length-2
 same-length-2 c = search needs
 
 returns-4 : tie.Need-returns-4
-returns-4 c D old K =
-    let a = c .before .before .before .before .before .before .before .before .before .before .before .before .before .before .before .before .before .before .before .before .actions-in .ensures .0 in
-    let b = c .before .before .before .before .before .before .before .before .before .before .before .before .before .before .before .before .before .components-in .ensures .0 in
-    let H = K .filled .says in
-    let l = H .actions in
-    let w : c .before .before .before .before .before .before .before .before .before .before .before .before .before .before .before .before .before .before .before .before .actions-in .result - 1 + 1 ≡ length (D .actions) = omega arith in
-    let S = c .before .before .before .before .before .before .before .before .before .before .before .before .before .rows-of .ensures .1 D (held-over K) (omega arith) in
-    let z = span-size w S in
-    let n = literal-number H _ (omega arith) (omega arith) (omega arith) (c .before .before .before .before .before .before .before .before .literal-number .ensures .0 D (held-over K) w) ∙ c .before .before .before .before .before .before .before .if4 .taken in
-    let f = c .before .before .before .before .before .before .before .before .literal-number .ensures .1 (c .before .before .before .before .before .before .before .if4 .taken) in
-    row-done D literalRecord _ n refl (literal-held K _ n (c .add-literal .ensures _ D (K .filled) n) _ (span-all w S) (f .1) (c .before .before .before .before .put-row .ensures))
+returns-4 c =
+    let a = c .before .before .before .before .before .before .before .before .before .before .before .before .actions-in .ensures .0 in
+    let b = c .before .before .before .before .before .before .before .before .before .components-in .ensures .0 in
+    λ D old K.
+    let l = K .filled .says .actions in
+    let w : c .before .before .before .before .before .before .before .before .before .before .before .before .actions-in .result - 1 + 1 ≡ length (D .actions) = omega arith in
+    let S = c .before .before .before .before .before .rows-of .ensures .1 D (held-over K) (omega arith) in
+    literal-stopped K _ _ w (omega arith) (omega arith) S (omega arith)
+    (shape-stop (held-over K) _ _ w (c .before .literal-shape .ensures) (λ z. c .if4 .taken z)) (λ z. c .if4 .taken z)
+
+variables-of-requires : tie.Need-variables-of-requires
+variables-of-requires c κs = search needs
+
+any-from-requires : tie.Need-any-from-requires
+any-from-requires c κs = search needs
+
+literal-arguments-requires : tie.Need-literal-arguments-requires
+literal-arguments-requires c κs = literal-short _ _ _ (sym (c .before .before .before .before .before .literal-shape .ensures) ∙ (let z : c .before .before .before .before .before .literal-shape .result ≡ 0 = omega arith in z)) .0
 
 same-length-3 : tie.Need-same-length-3
 same-length-3 c = search needs
 
 returns-5 : tie.Need-returns-5
-returns-5 c D old K =
-    let a = c .before .before .before .before .before .before .before .before .before .before .before .before .before .actions-in .ensures .0 in
-    let b = c .before .before .before .before .before .before .before .before .before .before .components-in .ensures .0 in
-    let H = K .filled .says in
-    let l = H .actions in
-    let w : c .before .before .before .before .before .before .before .before .before .before .before .before .before .actions-in .result - 1 + 1 ≡ length (D .actions) = omega arith in
-    let S = c .before .before .before .before .before .before .rows-of .ensures .1 D (held-over K) (omega arith) in
+returns-5 c =
+    let a = c .before .before .before .before .before .before .before .before .before .before .before .before .before .before .before .before .before .before .actions-in .ensures .0 in
+    let b = c .before .before .before .before .before .before .before .before .before .before .before .before .before .before .before .components-in .ensures .0 in
+    λ D old K.
+    let l = K .filled .says .actions in
+    let w : c .before .before .before .before .before .before .before .before .before .before .before .before .before .before .before .before .before .before .actions-in .result - 1 + 1 ≡ length (D .actions) = omega arith in
+    let S = c .before .before .before .before .before .before .before .before .before .before .before .rows-of .ensures .1 D (held-over K) (omega arith) in
+    literal-stopped K _ _ w (omega arith) (omega arith) S (omega arith)
+    (arguments-stop (held-over K) _ _ w (c .before .before .before .before .before .before .before .literal-shape .ensures) (omega arith) (c .before .before .before .before .variables-of .ensures .0) (c .before .literal-arguments .ensures) (λ z. c .if6 .taken z))
+    (λ z. c .if6 .taken z)
+
+place-literal-requires : tie.Need-place-literal-requires
+place-literal-requires c κs =
+    let R = c .before .before .before .before .before .before .before .before .before .before .before .before .before .before .before .before .before .before .before .before .before .before .before .before .pre in
+    let K = R .holds in
+    let a = c .before .before .before .before .before .before .before .before .before .before .before .before .before .before .before .before .before .before .before .before .actions-in .ensures .0 in
+    let l = K .filled .says .actions in
+    let w : c .before .before .before .before .before .before .before .before .before .before .before .before .before .before .before .before .before .before .before .before .actions-in .result - 1 + 1 ≡ length (R .sofar .actions) = omega arith in
+    let S = c .before .before .before .before .before .before .before .before .before .before .before .before .before .rows-of .ensures .1 (R .sofar) (held-over K) (omega arith) in
     let z = span-size w S in
-    row-stop K literalRecord _ (literal-number H _ (omega arith) (omega arith) (omega arith) (c .before .literal-number .ensures .0 D (held-over K) w)) (c .if4 .left)
+    let t = span-all w S in
+    let f = literal-short _ _ _ (sym (c .before .before .before .before .before .before .before .before .before .literal-shape .ensures) ∙ (let z : c .before .before .before .before .before .before .before .before .before .literal-shape .result ≡ 0 = omega arith in z)) in
+    let m = R .room (f .0) (omega arith) in
+    (omega arith, ((c .before .before .before .before .before .before .before .before .before .before .before .before .before .rows-of .ensures .0 .order, omega arith), (f, some-every _ _ (sym (c .before .before .before .before .before .any-from .ensures) ∙ c .before .before .before .before .if5 .taken) (sym (c .before .before .before .literal-arguments .ensures) ∙ (let z : c .before .before .before .literal-arguments .result ≡ 0 = omega arith in z)))))
+
+same-length-4 : tie.Need-same-length-4
+same-length-4 c = search needs
+
+returns-6 : tie.Need-returns-6
+returns-6 c =
+    let a = c .before .before .before .before .before .before .before .before .before .before .before .before .before .before .before .before .before .before .before .before .before .before .before .actions-in .ensures .0 in
+    let b = c .before .before .before .before .before .before .before .before .before .before .before .before .before .before .before .before .before .before .before .before .components-in .ensures .0 in
+    λ D old K.
+    let l = K .filled .says .actions in
+    let w : c .before .before .before .before .before .before .before .before .before .before .before .before .before .before .before .before .before .before .before .before .before .before .before .actions-in .result - 1 + 1 ≡ length (D .actions) = omega arith in
+    let S = c .before .before .before .before .before .before .before .before .before .before .before .before .before .before .before .before .rows-of .ensures .1 D (held-over K) (omega arith) in
+    literal-placed K _ _ w (omega arith) (omega arith) S (omega arith) (c .before .before .before .before .before .before .before .before .before .before .before .before .literal-shape .ensures) (omega arith)
+    (c .before .before .before .before .before .before .before .before .before .variables-of .ensures .0) (c .before .before .before .before .before .before .literal-arguments .ensures) (omega arith) (c .before .before .place-literal .ensures)
+
+place-literal-requires-2 : tie.Need-place-literal-requires-2
+place-literal-requires-2 c κs =
+    let R = c .before .before .before .before .before .before .before .before .before .before .before .before .before .before .before .before .before .before .before .before .before .before .pre in
+    let K = R .holds in
+    let a = c .before .before .before .before .before .before .before .before .before .before .before .before .before .before .before .before .before .before .actions-in .ensures .0 in
+    let l = K .filled .says .actions in
+    let w : c .before .before .before .before .before .before .before .before .before .before .before .before .before .before .before .before .before .before .actions-in .result - 1 + 1 ≡ length (R .sofar .actions) = omega arith in
+    let S = c .before .before .before .before .before .before .before .before .before .before .before .rows-of .ensures .1 (R .sofar) (held-over K) (omega arith) in
+    let z = span-size w S in
+    let t = span-all w S in
+    let f = literal-short _ _ _ (sym (c .before .before .before .before .before .before .before .literal-shape .ensures) ∙ (let z : c .before .before .before .before .before .before .before .literal-shape .result ≡ 0 = omega arith in z)) in
+    let m = R .room (f .0) (omega arith) in
+    (omega arith, ((c .before .before .before .before .before .before .before .before .before .before .before .rows-of .ensures .0 .order, omega arith), (f, plain-every (c .before .before .before .before .variables-of .result) (c .before .before .before .before .before .before .before .before .before .before .before .before .before .before .before .before .before .before .before .before .before .before .args .p .now) (let v = c .before .before .before .before .variables-of .ensures .1 in omega arith) (sym (c .before .before .before .any-from .ensures) ∙ c .before .before .if5 .left))))
+
+same-length-5 : tie.Need-same-length-5
+same-length-5 c = search needs
+
+returns-7 : tie.Need-returns-7
+returns-7 c =
+    let a = c .before .before .before .before .before .before .before .before .before .before .before .before .before .before .before .before .before .before .before .before .before .actions-in .ensures .0 in
+    let b = c .before .before .before .before .before .before .before .before .before .before .before .before .before .before .before .before .before .before .components-in .ensures .0 in
+    λ D old K.
+    let l = K .filled .says .actions in
+    let w : c .before .before .before .before .before .before .before .before .before .before .before .before .before .before .before .before .before .before .before .before .before .actions-in .result - 1 + 1 ≡ length (D .actions) = omega arith in
+    let S = c .before .before .before .before .before .before .before .before .before .before .before .before .before .before .rows-of .ensures .1 D (held-over K) (omega arith) in
+    let v = c .before .before .before .before .before .before .before .variables-of .ensures .1 in
+    literal-placed K _ _ w (omega arith) (omega arith) S (omega arith) (c .before .before .before .before .before .before .before .before .before .before .literal-shape .ensures) (omega arith)
+    (c .before .before .before .before .before .before .before .variables-of .ensures .0) (sym (plain-arguments _ _ (omega arith) (sym (c .before .before .before .before .before .before .any-from .ensures) ∙ c .before .before .before .before .before .if5 .left))) refl
+    (c .before .before .place-literal2 .ensures)
 
 pub take-literal-spec : {M : Type 1} → statement M
 take-literal-spec =
@@ -112,11 +162,17 @@ take-literal-spec =
     sub-if3
     same-length
     returns-3
-    literal-number-requires
-    mul-put-row
-    put-row-requires
-    add-literal-requires
+    literal-shape-requires
     same-length-2
     returns-4
+    variables-of-requires
+    any-from-requires
+    literal-arguments-requires
     same-length-3
-    returns-5)
+    returns-5
+    place-literal-requires
+    same-length-4
+    returns-6
+    place-literal-requires-2
+    same-length-5
+    returns-7)

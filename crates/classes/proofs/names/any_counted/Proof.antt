@@ -1,0 +1,82 @@
+-- `any_counted` meets its contract: no label before i is FF, so the test is that of the labels left. Assumes nothing.
+use mathlib.Core.Path.{_≡_, sym, ap, _∙_}
+use Prim.Native.Nat.{ℕ, _-_, _≤_}
+use native.Mathlib.Omega.{arith}
+use borrow.Author.Needs.{needs}
+use Rattle.records.specs.Lists.{any}
+use Rattle.literals.specs.declared.Label.{Label}
+use Rattle.literals.specs.Domain.{isCounted}
+use Rattle.literals.specs.Decode.{labelOf}
+use Rattle.literals.specs.Keys.{below}
+use Rattle.literals.proofs.Indices.{left, left-all, any-hit, any-miss, any-end}
+use Rattle.classes.specs.Held.{countedAt}
+use Rattle.classes.proofs.names.any_counted.Statement.{statement}
+use Rattle.classes.proofs.names.any_counted.Tie as tie
+
+abbrev Inv-loop : tie.InvT-loop
+Inv-loop head c n i₀ i = (i ≤ n) × (any (countedAt head c) (left n i) ≡ any (countedAt head c) (below n))
+
+abbrev μ-loop : tie.MeasureT-loop
+μ-loop head c n i₀ i = n - i
+
+loop-holds : tie.Need-loop-holds Inv-loop μ-loop
+loop-holds c = let a = c .args in (omega arith, ap (any (countedAt (a .head .now) (a .c))) (left-all (a .n)))
+
+add-component-byte : tie.Need-add-component-byte Inv-loop μ-loop
+add-component-byte c = omega arith
+
+component-byte-requires : tie.Need-component-byte-requires Inv-loop μ-loop
+component-byte-requires c κs = (omega arith, omega arith)
+
+label-of-requires : tie.Need-label-of-requires Inv-loop μ-loop
+label-of-requires c κs = search needs
+
+is-counted-requires : tie.Need-is-counted-requires Inv-loop μ-loop
+is-counted-requires c κs = search needs
+
+returns : tie.Need-returns Inv-loop μ-loop
+returns c =
+    let a = c .before .before .before .before .before .before .args in
+    let l = c .before .before .before .before .before .loop in
+    let e = ap isCounted (c .before .before .label-of .ensures ∙ ap labelOf (c .before .before .before .component-byte .ensures)) in
+    sym (any-hit (countedAt (a .head .now) (a .c)) (a .n) (l .i) (omega arith) (sym e ∙ sym (c .before .is-counted .ensures) ∙ c .if1 .taken))
+    ∙ l .inv .1
+
+add-i : tie.Need-add-i Inv-loop μ-loop
+add-i c = omega arith
+
+loop-less : tie.Need-loop-less Inv-loop μ-loop
+loop-less c = omega arith
+
+loop-again : tie.Need-loop-again Inv-loop μ-loop
+loop-again c =
+    let a = c .before .before .before .before .before .before .args in
+    let l = c .before .before .before .before .before .loop in
+    let e = ap isCounted (c .before .before .label-of .ensures ∙ ap labelOf (c .before .before .before .component-byte .ensures)) in (
+      omega arith,
+      sym (any-miss (countedAt (a .head .now) (a .c)) (a .n) (l .i) (omega arith) (sym e ∙ sym (c .before .is-counted .ensures) ∙ c .if1 .left))
+          ∙ l .inv .1,
+    )
+
+returns-2 : tie.Need-returns-2 Inv-loop μ-loop
+returns-2 c =
+    let a = c .before .before .args in
+    let l = c .before .loop in
+    sym (any-end (countedAt (a .head .now) (a .c)) (a .n) (l .i) (omega arith)) ∙ l .inv .1
+
+pub any-counted-spec : {M : Type 1} → statement M
+any-counted-spec =
+    tie.close
+    (tie.spec
+    Inv-loop
+    μ-loop
+    loop-holds
+    add-component-byte
+    component-byte-requires
+    label-of-requires
+    is-counted-requires
+    returns
+    add-i
+    loop-less
+    loop-again
+    returns-2)
