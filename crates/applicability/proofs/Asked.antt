@@ -18,23 +18,20 @@ use Rattle.literals.specs.declared.Usage.the-variants.{Positive, Negative}
 use Rattle.literals.specs.declared.Role.{Role}
 use Rattle.literals.specs.Domain.{isEvery, Atom, Fact, sameFact, roleNumber, Literal, Domain, action}
 use Rattle.literals.specs.Decode.{byte}
-use Rattle.literals.specs.Table.{rowsIn}
-use Rattle.literals.specs.Held.{arityIn, HeadOf, Held}
+use Rattle.literals.specs.Held.{rowsIn, arityIn, HeadOf, Held, usageFor}
 use Rattle.literals.specs.declared.Moment.{Moment}
 use Rattle.literals.specs.declared.Moment.the-variants.{Start, End}
 use Rattle.literals.specs.Matching.{withRole, literalsAt, overAll}
 use Rattle.literals.proofs.Indices.{all-filter}
 use Rattle.verdict.specs.Binding.{Binding, factsOf, bind}
 use Rattle.verdict.specs.Machine.{GroundAction, Event, eventFacts, overAllFacts, ownHold, overAllHold}
-use Rattle.verdict.specs.Patterns.{patternRow, patternsMeet}
+use Rattle.verdict.specs.Held.{patternRow, patternsMeet, factRow}
 use Rattle.verdict.proofs.Facts.{plain-facts}
 use Rattle.verdict.proofs.Patterns.{plain-row, all-flat, literal-bound, literal-plain, none-about}
-use Rattle.store.specs.Rows.{factRow, hasRow}
-use Rattle.literals.specs.Keys.{usageFor}
-use Rattle.store.specs.Index.{Indexed}
-use Rattle.events.specs.Held.{groundRow, Open, openOf, GroundFits, GroundsFit, Chosen, timeOf}
-use Rattle.events.specs.Grounding.{GroundLiteral, groundLiterals, eventLiterals, groundIn, Grounded}
-use Rattle.applicability.specs.Conditions.{conditionMet, plainlyMet}
+use Rattle.store.specs.Held.{hasRow, Indexed}
+use Rattle.events.specs.Held.{groundRow, Open, openOf, GroundFits, GroundsFit, OverObjects, timeOf, GroundLiteral, groundLiterals}
+use Rattle.events.specs.Held.{eventLiterals, groundIn, Grounded}
+use Rattle.applicability.specs.Held.{conditionMet, plainlyMet}
 use Rattle.events.proofs.FactRows.{has-fact, countsFor, usage-counts, counts-plain, all-literals, listed-in, head-kept, noGround, open-count}
 use Rattle.events.proofs.Listed.{entry-fits, entry-row}
 
@@ -153,7 +150,7 @@ one-asked objs b p k fs =
     ∙ sym (ap (all (λ f. elem sameFact f fs)) (plain-facts objs b p k) ∙ and-all (elem sameFact (bind b p) fs))
 
 module _ {D : Domain} {head : List ℕ} (H : HeadOf D head) {objs : List Object} {fs : List Fact} {gs : List GroundAction}
-    (C : Chosen D objs fs gs) (g : GroundAction) (F : GroundFits D g) (i : In g gs) where
+    (C : OverObjects D objs fs gs) (g : GroundAction) (F : GroundFits D g) (i : In g gs) where
   literal-asks : (t : Time) (l : Literal) → In l (action D (g .action) .lits)
       → not (not (eqb (usageFor t (roleNumber (l .role))) 0)) || conditionMet (map factRow fs) (groundOf t g l) ≡ asks objs t g fs l
   unfolding conditionMet
@@ -232,7 +229,7 @@ asked-event D objs e fs = go (e .moment)
 -- ---- by ground literals
 
 module _ {D : Domain} {head : List ℕ} (H : HeadOf D head) {objs : List Object} {fs : List Fact} {gs : List GroundAction}
-    (C : Chosen D objs fs gs) where
+    (C : OverObjects D objs fs gs) where
   pub ground-asks : (g : GroundAction) → GroundFits D g → In g gs → (t : Time)
       → all (conditionMet (map factRow fs)) (groundLiterals D t g) ≡ asked D objs t g fs
   unfolding groundLiterals
@@ -268,7 +265,7 @@ all-parts {A} q (part ∷ parts) = joined part ∙ ap (λ (b : Bool). all q part
         both false b = refl
 
 pub step-asks : {D : Domain} {head : List ℕ} {es : List Event} {memory : List ℕ} {total : ℕ} → Grounded D head es memory total
-    → {objs : List Object} {fs : List Fact} → Chosen D objs fs (map (λ (e : Event). e .ground) es)
+    → {objs : List Object} {fs : List Fact} → OverObjects D objs fs (map (λ (e : Event). e .ground) es)
     → (facts : List (List ℕ)) → facts ≡ map factRow fs
     → all (conditionMet facts) (groundIn total memory) ≡ all (ownHold D objs fs) es
 step-asks {D} {head} {es} G {objs} {fs} C facts f =
@@ -282,8 +279,8 @@ step-asks {D} {head} {es} G {objs} {fs} C facts f =
 -- ---- the open entries, one after the other
 
 -- one of them
-pub chosen-entry : {D : Domain} {objs : List Object} {fs : List Fact} {gs : List GroundAction} → Chosen D objs fs gs
-    → (g : GroundAction) → In g gs → Chosen D objs fs (g ∷ [])
+pub chosen-entry : {D : Domain} {objs : List Object} {fs : List Fact} {gs : List GroundAction} → OverObjects D objs fs gs
+    → (g : GroundAction) → In g gs → OverObjects D objs fs (g ∷ [])
 chosen-entry {gs = gs} C g i =
     record {
       low = C .low;
@@ -296,17 +293,17 @@ pub record InEntries (head table : List ℕ) (o : Open) (memory₀ memory index 
   pub reach : i ≤ o .count
   pub sized : length memory ≡ length memory₀
   pub rest : (D : Domain) (gs : List GroundAction) (fs : List Fact) → Held D head table → o ≡ openOf gs → GroundsFit D gs
-      → rowsIn n work ≡ map factRow fs → Indexed head index (map factRow fs) → (objs : List Object) → Chosen D objs fs gs
+      → rowsIn n work ≡ map factRow fs → Indexed head index (map factRow fs) → (objs : List Object) → OverObjects D objs fs gs
       → all (overAllHold D objs fs) (drop i gs) ≡ all (overAllHold D objs fs) gs
 
 -- the entry of a turn
 pub entry-turn : {head table index : List ℕ} (o : Open) (work : List ℕ) (n i : ℕ) {r : Bool}
     → ((D : Domain) (g : GroundAction) (fs : List Fact) → Held D head table → GroundFits D g
     → take 17 (drop (17 * i) (o .rows)) ≡ groundRow g
-    → rowsIn n work ≡ map factRow fs → Indexed head index (map factRow fs) → (objs : List Object) → Chosen D objs fs (g ∷ [])
+    → rowsIn n work ≡ map factRow fs → Indexed head index (map factRow fs) → (objs : List Object) → OverObjects D objs fs (g ∷ [])
     → r ≡ overAllHold D objs fs g)
     → i < o .count → (D : Domain) (gs : List GroundAction) (fs : List Fact) → Held D head table → o ≡ openOf gs → GroundsFit D gs
-    → rowsIn n work ≡ map factRow fs → Indexed head index (map factRow fs) → (objs : List Object) → Chosen D objs fs gs
+    → rowsIn n work ≡ map factRow fs → Indexed head index (map factRow fs) → (objs : List Object) → OverObjects D objs fs gs
     → (i < length gs) × (r ≡ overAllHold D objs fs (getD gs i noGround))
 entry-turn o work n i met h D gs fs L e F f I objs C =
     let k = open-count gs o e in

@@ -12,11 +12,11 @@ use borrow.Author.Tests.{eqb-true, eqb-false}
 use Rattle.records.specs.Lists.{all, any}
 use Rattle.records.proofs.Lists.{any-append, flatMap-append, flatMap-snoc}
 use Rattle.literals.proofs.Indices.{any-agree, any-or}
-use Rattle.verdict.specs.Patterns.{patternsMeet}
-use Rattle.store.specs.Index.{wordOf}
-use Rattle.events.specs.Grounding.{GroundLiteral, countsAt, groundAt, groundIn, inOne, Laid}
+use Rattle.verdict.specs.Held.{patternsMeet}
+use Rattle.store.specs.Held.{wordOf}
+use Rattle.events.specs.Held.{GroundLiteral, countsAt, groundAt, groundIn, inOne, Laid}
 use Rattle.events.proofs.GroundLiterals.{length-ground, take-ground}
-use Rattle.applicability.specs.Interference.{clashing, clashes, literalsClash, WordsOf, ToldByWords}
+use Rattle.applicability.specs.Held.{clashing, clashes, literalsClash, WordsOf, ToldByWords}
 
 -- ---- words
 

@@ -14,13 +14,12 @@ use Rattle.literals.specs.Domain.{Fact, Domain}
 use Rattle.literals.specs.Held.{HeadOf}
 use Rattle.literals.proofs.Indices.{any-agree}
 use Rattle.verdict.specs.Machine.{GroundAction}
-use Rattle.verdict.specs.Patterns.{patternsMeet}
-use Rattle.store.specs.Rows.{factRow, hasRow}
-use Rattle.events.specs.Held.{Chosen, isPattern}
-use Rattle.events.specs.Grounding.{GroundLiteral}
+use Rattle.verdict.specs.Held.{patternsMeet, factRow}
+use Rattle.store.specs.Held.{hasRow}
+use Rattle.events.specs.Held.{OverObjects, isPattern, GroundLiteral}
 use Rattle.events.proofs.Members.{map-in}
 use Rattle.events.proofs.Meeting.{meets-self, Formed, chosen-meets}
-use Rattle.applicability.specs.Conditions.{conditionMet, plainlyMet, asksPattern, forbids, MeetSame}
+use Rattle.applicability.specs.Held.{conditionMet, plainlyMet, asksPattern, forbids, MeetSame}
 
 -- ---- one ground literal
 
@@ -46,7 +45,7 @@ module _ (l : GroundLiteral) where
 
 -- a row that is no pattern meets a fact over the chosen objects only where it is the fact's
 pub rows-same : {D : Domain} {head : List ℕ} → HeadOf D head → {objs : List Object} {fs : List Fact} {gs : List GroundAction}
-    → Chosen D objs fs gs → (facts : List (List ℕ)) → facts ≡ map factRow fs → (ls : List GroundLiteral)
+    → OverObjects D objs fs gs → (facts : List (List ℕ)) → facts ≡ map factRow fs → (ls : List GroundLiteral)
     → ((l : GroundLiteral) → In l ls → Formed head (l .row)) → MeetSame ls facts
 rows-same H {fs = fs} C facts e ls formed l m k fact i =
     let r = map-in factRow fs (subst (In fact) e i) in

@@ -17,20 +17,17 @@ use Rattle.literals.specs.declared.Usage.{Usage}
 use Rattle.literals.specs.declared.Usage.the-variants.{Positive, Negative, Add, Delete}
 use Rattle.literals.specs.Domain.{Atom, Fact, sameFact, usageNumber, roleNumber, Literal, Domain, action}
 use Rattle.literals.specs.Decode.{byte}
-use Rattle.literals.specs.Table.{meetByte}
+use Rattle.literals.specs.Held.{meetByte, HeadOf, usageFor}
 use Rattle.literals.specs.Matching.{literalsAt}
-use Rattle.literals.specs.Held.{HeadOf}
 use Rattle.literals.proofs.Tables.{Kept}
 use Rattle.literals.proofs.Indices.{any-agree, any-or, any-filter}
 use Rattle.classes.proofs.Roles.{literalsAt-in}
 use Rattle.classes.proofs.Usages.{any-role}
 use Rattle.verdict.specs.Machine.{GroundAction, Event, eventFacts, meet, disturbs, interfere, independent}
-use Rattle.verdict.specs.Patterns.{patternRow, patternsMeet}
+use Rattle.verdict.specs.Held.{patternRow, patternsMeet}
 use Rattle.verdict.proofs.Patterns.{LiteralBound, LiteralsBound, literal-bound, common-rows}
-use Rattle.literals.specs.Keys.{usageFor}
-use Rattle.events.specs.Held.{GroundFits, EventsFit, timeOf}
-use Rattle.events.specs.Grounding.{GroundLiteral, groundLiterals, eventLiterals}
-use Rattle.applicability.specs.Interference.{clashing, clashes, literalsClash}
+use Rattle.events.specs.Held.{GroundFits, EventsFit, timeOf, GroundLiteral, groundLiterals, eventLiterals}
+use Rattle.applicability.specs.Held.{clashing, clashes, literalsClash}
 use Rattle.events.proofs.FactRows.{agree, agree-same, countsFor, usage-counts, any-literals, listed-in, head-kept}
 use Rattle.applicability.proofs.Asked.{all-agree}
 use Rattle.applicability.proofs.Clashes.{any-never}

@@ -16,20 +16,18 @@ use Rattle.literals.specs.declared.Argument.{Argument}
 use Rattle.literals.specs.declared.Argument.the-variants.{Variable as bound, Every}
 use Rattle.literals.specs.Domain.{object, variablesOf, Atom, Domain, action}
 use Rattle.literals.specs.Decode.{byte}
-use Rattle.literals.specs.Table.{rowsIn}
-use Rattle.literals.specs.Held.{arityIn, HeadOf}
+use Rattle.literals.specs.Held.{rowsIn, arityIn, HeadOf}
 use Rattle.literals.proofs.KeyRows.{length-rows, rows-at}
 use Rattle.verdict.specs.Binding.{Binding, valueOf}
 use Rattle.verdict.specs.Machine.{GroundAction, Event}
-use Rattle.verdict.specs.Patterns.{argumentByte, patternRow, patternsMeet}
-use Rattle.store.specs.Index.{wordOf}
+use Rattle.verdict.specs.Held.{argumentByte, patternRow, patternsMeet}
+use Rattle.store.specs.Held.{wordOf}
 use Rattle.store.proofs.Totals.{word-same}
-use Rattle.events.specs.Held.{GroundFits, isPattern}
-use Rattle.events.specs.Grounding.{GroundLiteral, groundAt, Grounded}
+use Rattle.events.specs.Held.{GroundFits, isPattern, GroundLiteral, groundAt, Grounded}
 use Rattle.events.proofs.FactRows.{listed-in}
 use Rattle.events.proofs.GroundLiterals.{GroundOf, formed-of, ground-in, step-of}
 use Rattle.events.proofs.Meeting.{Formed, meets-self, meet-same}
-use Rattle.applicability.specs.Interference.{ToldByWords, AllTold}
+use Rattle.applicability.specs.Held.{ToldByWords, AllTold}
 
 abbrev bytes : List ℕ → Bool
 bytes l = all (λ (b : ℕ). ltb b 256) l

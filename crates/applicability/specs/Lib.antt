@@ -1,3 +1,2 @@
--- What a step asks, as the code tells it.
-pub mod Conditions
-pub mod Interference
+-- What a step asks, as the code tells it; what a reader must believe of it is verdict/Machine and run_semantics/Play.
+pub mod Held

@@ -2,7 +2,7 @@
 use events::GROUND;
 use events::facts::is_pattern;
 use events::facts::patterns_meet;
-use events::grounding::CLAUSES;
+use events::grounding::USAGES;
 use events::grounding::ground_action;
 use literals::Time;
 use literals::head::Head;
@@ -18,15 +18,14 @@ ghost use Rattle.records.specs.Lists.{all, any};
 ghost use Rattle.literals.specs.declared.Object.{Object};
 ghost use Rattle.literals.specs.Domain.{Fact, Domain};
 ghost use Rattle.literals.specs.Decode.{byte};
-ghost use Rattle.literals.specs.Table.{rowsIn};
-ghost use Rattle.literals.specs.Held.{arityIn, Held};
+ghost use Rattle.literals.specs.Held.{rowsIn, arityIn, Held};
 ghost use Rattle.run_semantics.specs.RunFile.{maxFacts, maxRunning};
 ghost use Rattle.verdict.specs.Machine.{GroundAction, Event, ownHold, overAllHold};
-ghost use Rattle.store.specs.Index.{Indexed};
-ghost use Rattle.store.specs.Rows.{factRow};
-ghost use Rattle.events.specs.Held.{groundBytes, openBytes, groundRow, openOf, GroundFits, GroundsFit, Chosen};
-ghost use Rattle.events.specs.Grounding.{maxGround, groundedBytes, groundAt, groundIn, EachSized, Grounded};
-ghost use Rattle.applicability.specs.Conditions.{conditionMet, plainlyMet, asksPattern, forbids, MeetSame};
+ghost use Rattle.verdict.specs.Held.{factRow};
+ghost use Rattle.store.specs.Held.{Indexed};
+ghost use Rattle.events.specs.Held.{groundBytes, openBytes, groundRow, openOf, GroundFits, GroundsFit, OverObjects, maxGround};
+ghost use Rattle.events.specs.Held.{groundedBytes, groundAt, groundIn, EachSized, Grounded};
+ghost use Rattle.applicability.specs.Held.{conditionMet, plainlyMet, asksPattern, forbids, MeetSame};
 
 // Whether the first n rows of the work memory meet the ground literal i, by equal rows: a true condition asks for its fact, a false one for
 // its absence, an effect for nothing.
@@ -39,7 +38,7 @@ fn plainly_met(memory: &[u8], i: usize, index: &FactIndex, work: &[u8], n: usize
         → byte (groundAt (now (memory .entry)) i .row) 1 ≡ arityIn head (byte (groundAt (now (memory .entry)) i .row) 0)
         → r ≡ plainlyMet (rowsIn n (now (work .entry))) (groundAt (now (memory .entry)) i)) ⌝ }
 {
-    let usage = memory[CLAUSES + i];
+    let usage = memory[USAGES + i];
     if usage == 1 {
         return is_held(index, work, n, row_at(memory, 8 * i));
     }
@@ -73,7 +72,7 @@ fn asks_pattern(memory: &[u8], i: usize) -> bool
     requires literal { ⌜ i < maxGround ⌝ }
     ensures { λ r. ⌜ r ≡ asksPattern (groundAt (now (memory .entry)) i) ⌝ }
 {
-    if memory[CLAUSES + i] != 2 {
+    if memory[USAGES + i] != 2 {
         return false;
     }
     is_pattern(memory, 8 * i)
@@ -100,7 +99,7 @@ fn forbids(memory: &[u8], i: usize, work: &[u8], at: usize) -> bool
     requires fact { ⌜ at + 8 ≤ length (now work) ⌝ }
     ensures { λ r. ⌜ r ≡ forbids (take 8 (drop at (now (work .entry)))) (groundAt (now (memory .entry)) i) ⌝ }
 {
-    if memory[CLAUSES + i] != 2 {
+    if memory[USAGES + i] != 2 {
         return false;
     }
     patterns_meet(memory, 8 * i, work, at)
@@ -168,7 +167,7 @@ pub fn events_met(memory: &[u8], total: usize, index: &FactIndex, work: &[u8], n
     ensures { λ r. ⌜ ((D : Domain) (head : List ℕ) (es : List Event) (fs : List Fact)
         → Grounded D head es (now (memory .entry)) total → rowsIn n (now (work .entry)) ≡ map factRow fs
         → Indexed head (now (index .entry)) (map factRow fs) → (objs : List Object)
-        → Chosen D objs fs (map (λ (e : Event). e .ground) es) → r ≡ all (ownHold D objs fs) es) ⌝ }
+        → OverObjects D objs fs (map (λ (e : Event). e .ground) es) → r ≡ all (ownHold D objs fs) es) ⌝ }
 {
     conditions_met(memory, total, index, work, n)
 }
@@ -194,7 +193,7 @@ fn entry_met(
         → take groundBytes (drop (groundBytes * i) (now (rows .entry))) ≡ groundRow g
         → rowsIn n (now (work .entry)) ≡ map factRow fs
         → Indexed (now (head .entry)) (now (index .entry)) (map factRow fs) → (objs : List Object)
-        → Chosen D objs fs (g ∷ []) → r ≡ overAllHold D objs fs g) ⌝ }
+        → OverObjects D objs fs (g ∷ []) → r ≡ overAllHold D objs fs g) ⌝ }
 {
     let at = GROUND * i;
     let end = at + GROUND;
@@ -222,7 +221,7 @@ pub fn open_met(
         → record { count = count; rows = now (rows .entry) } ≡ openOf gs → GroundsFit D gs
         → length gs ≤ maxRunning → rowsIn n (now (work .entry)) ≡ map factRow fs
         → Indexed (now (head .entry)) (now (index .entry)) (map factRow fs) → (objs : List Object)
-        → Chosen D objs fs gs → r ≡ all (overAllHold D objs fs) gs) ⌝ }
+        → OverObjects D objs fs gs → r ≡ all (overAllHold D objs fs) gs) ⌝ }
 {
     if MAX_RUNNING < count {
         return false;

@@ -1,9 +1,9 @@
 // Interference: whether two events of a step have literals about a fact in common that may not stand together.
 use events::facts::has_pattern;
 use events::facts::patterns_meet;
-use events::grounding::CLAUSES;
 use events::grounding::COUNTS;
 use events::grounding::MAX_GROUND;
+use events::grounding::USAGES;
 use literals::limits::MAX_EVENTS;
 use records::bytes::wide;
 use store::index::word_of;
@@ -18,11 +18,10 @@ ghost use Rattle.literals.specs.declared.Object.{Object};
 ghost use Rattle.literals.specs.Domain.{Domain};
 ghost use Rattle.run_semantics.specs.RunFile.{maxEvents};
 ghost use Rattle.verdict.specs.Machine.{Event, independent};
-ghost use Rattle.verdict.specs.Patterns.{patternsMeet};
-ghost use Rattle.store.specs.Index.{wordOf};
-ghost use Rattle.events.specs.Held.{Chosen};
-ghost use Rattle.events.specs.Grounding.{GroundLiteral, maxGround, groundedBytes, groundAt, groundIn, Laid, Grounded};
-ghost use Rattle.applicability.specs.Interference.{clashing, clashes, literalsClash, WordsOf, ToldByWords, AllTold};
+ghost use Rattle.verdict.specs.Held.{patternsMeet};
+ghost use Rattle.store.specs.Held.{wordOf};
+ghost use Rattle.events.specs.Held.{OverObjects, GroundLiteral, maxGround, groundedBytes, groundAt, groundIn, Laid, Grounded};
+ghost use Rattle.applicability.specs.Held.{clashing, clashes, literalsClash, WordsOf, ToldByWords, AllTold};
 
 // Whether two usages of one fact may not stand in two events: a condition with an add or delete, an add with a delete.
 fn clashing(c: u8, d: u8) -> bool
@@ -84,7 +83,7 @@ fn clashes_at(memory: &[u8], words: &[u64], patterns: bool, i: usize, j: usize) 
     if !literals_meet(memory, words, patterns, i, j) {
         return false;
     }
-    clashing(memory[CLAUSES + i], memory[CLAUSES + j])
+    clashing(memory[USAGES + i], memory[USAGES + j])
 }
 
 // Whether the ground literal i clashes with one of those from `from` up to `to`.
@@ -172,7 +171,7 @@ pub fn independent(memory: &[u8], count: usize, total: usize) -> bool
     requires few { ⌜ total ≤ maxGround ⌝ }
     ensures { λ r. ⌜ ((D : Domain) (head : List ℕ) (es : List Event) → Grounded D head es (now (memory .entry)) total
         → length es ≡ count → length es ≤ maxEvents → (objs : List Object) → (o : Object) × In o objs
-        → Chosen D objs [] (map (λ (e : Event). e .ground) es)
+        → OverObjects D objs [] (map (λ (e : Event). e .ground) es)
         → r ≡ independent D objs es) ⌝ }
 {
     if MAX_EVENTS < count {

@@ -8,7 +8,7 @@ use native.Mathlib.Omega.{arith}
 use lib.Dec.{eqb, leb}
 use lib.ListN.{length, getD, replicate, length-map, List·getD-append}
 use borrow.Author.Tests.{eq-eqb, ne-eqb, eqb-true, eqb-false, le-leb, lt-leb, leb-true, leb-false, ltb-true}
-use Rattle.records.specs.Lists.{In, filterBy, countBy, any, all, elem}
+use Rattle.records.specs.Lists.{In, filterBy, countBy, any, all, elem, position, below}
 use Rattle.records.proofs.Lists.{and-l, and-r, or-out, off, clash, any-out, in-flatMap, below-in, bool-cases, not-true, getD-in, all-in, any-map, all-map, any-append, count-filter}
 use Rattle.literals.specs.declared.Variable.{Variable}
 use Rattle.literals.specs.declared.Argument.{Argument}
@@ -20,11 +20,11 @@ use Rattle.literals.specs.declared.Usage.{Usage}
 use Rattle.literals.specs.declared.Usage.the-variants.{Positive, Negative, Add, Delete}
 use Rattle.literals.specs.declared.Role.{Role}
 use Rattle.literals.specs.Domain.{isEvery, Atom, sameLiteral, meets, usageNumber, roleNumber, roleOf, sameTime, Literal, Action}
-use Rattle.literals.specs.Domain.{Component, isCounted, keyBelow, countedCleared, keysOf, Domain, arity}
+use Rattle.literals.specs.Domain.{labelNumber, Component, isCounted, keyBelow, countedCleared, keysOf, Domain, arity}
 use Rattle.literals.specs.Decode.{argumentOf, labelOf}
 use Rattle.literals.proofs.Arguments.{every-number}
-use Rattle.literals.specs.Table.{literalRow, labelNumber, allLiterals, hasEvery, someEvery, pad, Bounded as BoundedDomain}
-use Rattle.literals.specs.Held.{arityIn, componentRowIn, clearsIn, TemplateOf}
+use Rattle.literals.specs.Held.{literalRow, allLiterals, hasEvery, someEvery, pad, Bounded as BoundedDomain, arityIn, componentRowIn}
+use Rattle.literals.specs.Held.{clearsIn, TemplateOf}
 use Rattle.literals.proofs.Bytes.{keys-below}
 use Rattle.literals.proofs.Tables.{Kept, kept, pad-at}
 use Rattle.literals.proofs.Heads.{part-is}
@@ -36,8 +36,7 @@ use Rattle.classes.specs.declared.Sole.{Sole}
 use Rattle.literals.specs.Matching.{required}
 use Rattle.classes.specs.Classes.{literalTuples, belongs, classes, inClass, reachIn, lastsIn, deletedBy, changedBy, covered}
 use Rattle.classes.specs.Classes.{excluding, nameBy, nameOf, journey}
-use Rattle.literals.specs.Keys.{position, below}
-use Rattle.classes.specs.Held.{ActionOf, MomentOf, classNumberBy, classNumbers, usagesAt, askedAt, uncoveredAt, isAt, isSameAt}
+use Rattle.classes.specs.Held.{ActionOf, MomentOf, classNumberBy, classNumbers, ownUsages, askedUsages, uncoveredAt, isAt, isSameAt}
 use Rattle.classes.specs.Held.{sameIn, isDeleteAt, deletedIn, changedAt, excludesAt, clearedAt, clearsAt, coversAt, coveredAt}
 use Rattle.classes.specs.Held.{countedAt, hasCounted, lackingAt, lastsAt, soleBy, soleAt, soleOf, reachAt}
 use Rattle.literals.proofs.Indices.{at-all, any-below, all-below, side-all, filter-below, position-below, any-filter, all-filter}
@@ -164,7 +163,7 @@ module _ (D : Domain) (a : Action) (B : BoundedDomain D) (i : In a (D .actions))
   rows = flatMap literalRow (a .lits)
 
   abbrev usages : List ℕ
-  usages = pad 64 (usagesAt a m)
+  usages = pad 64 (ownUsages a m)
 
   abbrev isMember : ℕ → ℕ → Bool
   isMember usage = isAt (classNumbers D a) usages k usage
@@ -189,15 +188,15 @@ module _ (D : Domain) (a : Action) (B : BoundedDomain D) (i : In a (D .actions))
 
   in-class : (c : Usage) → inClass D a x m c ≡ map atom (filterBy (isMember (suc (usageNumber c))) (below n))
   unfolding inClass
-  in-class c = class-members (suc (usageNumber c)) (usagesAt a m) _ (literals-at a m c)
+  in-class c = class-members (suc (usageNumber c)) (ownUsages a m) _ (literals-at a m c)
 
   -- those towards unreachable
   abbrev isAsked : ℕ → Bool
-  isAsked = isAt (classNumbers D a) (pad 64 (askedAt a m)) k 1
+  isAsked = isAt (classNumbers D a) (pad 64 (askedUsages a m)) k 1
 
   reach-in : reachIn D a x m ≡ map atom (filterBy isAsked (below n))
   unfolding reachIn
-  reach-in = class-members 1 (askedAt a m) (required a m Positive) (required-at a m Positive)
+  reach-in = class-members 1 (askedUsages a m) (required a m Positive) (required-at a m Positive)
 
   reach-count : countBy isAsked (below n) ≡ length (reachIn D a x m)
   reach-count = count-filter isAsked (below n) ∙ sym (length-map (filterBy isAsked (below n)) atom) ∙ ap length (sym reach-in)
@@ -261,14 +260,14 @@ module _ (D : Domain) (a : Action) (B : BoundedDomain D) (i : In a (D .actions))
   many-in c e = let h = sole-many (isMember (suc (usageNumber c))) n few (sym (sole-in c) ∙ e) in let g = count-in c in omega arith
 
   -- two or more towards unreachable, or fewer
-  reach-sole : soleAt (classNumbers D a) (pad 64 (askedAt a m)) k 1 ≡ soleBy isAsked n
+  reach-sole : soleAt (classNumbers D a) (pad 64 (askedUsages a m)) k 1 ≡ soleBy isAsked n
   unfolding soleAt
   reach-sole = ap (soleBy isAsked) length-numbers
 
-  pub reach-many : soleAt (classNumbers D a) (pad 64 (askedAt a m)) k 1 ≡ 255 → 2 ≤ length (reachIn D a x m)
+  pub reach-many : soleAt (classNumbers D a) (pad 64 (askedUsages a m)) k 1 ≡ 255 → 2 ≤ length (reachIn D a x m)
   reach-many e = let u = sole-many isAsked n few (sym reach-sole ∙ e) in let g = reach-count in omega arith
 
-  pub reach-few : (soleAt (classNumbers D a) (pad 64 (askedAt a m)) k 1 ≡ 255 → ⊥) → length (reachIn D a x m) ≤ 1
+  pub reach-few : (soleAt (classNumbers D a) (pad 64 (askedUsages a m)) k 1 ≡ 255 → ⊥) → length (reachIn D a x m) ≤ 1
   reach-few e = go (bool-cases (eqb (soleBy isAsked n) 0))
     where
       go : (eqb (soleBy isAsked n) 0 ≡ true) ⊎ (eqb (soleBy isAsked n) 0 ≡ false) → length (reachIn D a x m) ≤ 1
@@ -359,7 +358,7 @@ module _ (D : Domain) (a : Action) (B : BoundedDomain D) (i : In a (D .actions))
 
         agree : (j : ℕ) → j < n → coversAt head rows (classNumbers D a) usages k c j ≡ with 2 j || (with 3 j || with 4 j)
         agree j f =
-            let s : getD usages j 0 ≤ 4 = rw (pad-at 64 (usagesAt a m) j) (usages-few false a m j f) in
+            let s : getD usages j 0 ≤ 4 = rw (pad-at 64 (ownUsages a m) j) (usages-few false a m j f) in
             ap₂ (λ (e t : Bool). (eqb (getD (classNumbers D a) j 0) k && (e && t)) && clearsAt head rows c j)
             (usage-excludes (getD usages j 0) s) (ap₂ eqb (part-relation H c g) (relation-at (a .lits) kept-in j f))
             ∙ regroup (eqb (getD (classNumbers D a) j 0) k) (excludes (getD usages j 0)) (eqb (componentAt D c .rel) (atom j .rel))
@@ -421,7 +420,7 @@ module _ {D : Domain} {a : Action} {m : Moment} {head rows numbers usages : List
   its-bounds = M .whole .says .bounded
 
   -- the other moment of its action, by the bytes that it has there
-  pub moment-of : (m′ : Moment) → MomentOf D a m′ head rows (classNumbers D a) (pad 64 (usagesAt a m′))
+  pub moment-of : (m′ : Moment) → MomentOf D a m′ head rows (classNumbers D a) (pad 64 (ownUsages a m′))
   moment-of m′ = record { whole = M .whole; numbers-are = refl; usages-are = refl }
 
   pub uncovered-held : {k : ℕ} → k < length (classes D a) → lackingAt head rows numbers usages k ≡ uncoveredAt D a (getD (classes D a) k []) m
@@ -438,10 +437,10 @@ module _ {D : Domain} {a : Action} {m : Moment} {head rows numbers usages : List
 -- ---- the first line that fits
 
 module _ {D : Domain} {a : Action} {m : Moment} {head rows numbers usages : List ℕ} (M : MomentOf D a m head rows numbers usages) {k : ℕ} (h : k < length (classes D a)) {sole : Sole} (s : sole ≡ soleOf numbers usages k) where
-  conditions-are : sole .conditions ≡ soleAt (classNumbers D a) (pad 64 (usagesAt a m)) k 1
+  conditions-are : sole .conditions ≡ soleAt (classNumbers D a) (pad 64 (ownUsages a m)) k 1
   conditions-are = ap (λ (r : Sole). r .conditions) s ∙ ap₂ (λ (o c : List ℕ). soleAt o c k 1) (M .numbers-are) (M .usages-are)
 
-  adds-are : sole .adds ≡ soleAt (classNumbers D a) (pad 64 (usagesAt a m)) k 3
+  adds-are : sole .adds ≡ soleAt (classNumbers D a) (pad 64 (ownUsages a m)) k 3
   adds-are = ap (λ (r : Sole). r .adds) s ∙ ap₂ (λ (o c : List ℕ). soleAt o c k 3) (M .numbers-are) (M .usages-are)
 
   pub no-conditions : sole .conditions ≡ 0 → length (inClass D a (getD (classes D a) k []) m Positive) ≡ 0

@@ -7,16 +7,15 @@ use native.Mathlib.Omega.{arith}
 use lib.Dec.{eqb, eqb·zero-suc, eqb·suc-zero, eqb·suc-suc}
 use lib.ListN.{length, getD, length-map}
 use borrow.Author.Tests.{eqb-true, ne-eqb}
-use Rattle.records.specs.Lists.{In, keepIf, any, all, distinct, sameList}
+use Rattle.records.specs.Lists.{In, keepIf, any, all, distinct, sameList, position}
 use Rattle.records.proofs.Lists.{and-l, and-r, not-true, eqb-comm, all-in, getD-in, distinct-dedup, dedup-few, flat-few}
 use Rattle.literals.specs.declared.Variable.{Variable}
 use Rattle.literals.specs.declared.Argument.{Argument}
 use Rattle.literals.specs.Domain.{sameVariable, variablesOf, Atom, Literal, Action, Component, keysOf, Domain}
-use Rattle.literals.specs.Table.{Bounded}
+use Rattle.literals.specs.Held.{Bounded}
 use Rattle.literals.proofs.Equality.{variables-eq}
 use Rattle.literals.specs.Matching.{isOf, keyTuple, tuplesBy, tuplesOf}
 use Rattle.classes.specs.Classes.{literalTuples, belongs, classes}
-use Rattle.literals.specs.Keys.{position}
 use Rattle.classes.specs.Held.{classNumberBy, classNumbers}
 use Rattle.literals.proofs.Indices.{getD-map}
 use Rattle.classes.proofs.Rows.{noLiteral, literalAt}

@@ -9,11 +9,11 @@ use lib.Dec.{eqb}
 use lib.ListN.{length, getD, set, take, drop, replicate, drop-of-length-le}
 use lib.Seq.{drop-cons, getD-take, length-take-le}
 use borrow.Author.Tests.{eq-eqb, ne-eqb}
+use Rattle.records.specs.Lists.{position}
 use Rattle.literals.specs.Decode.{byte}
 use Rattle.literals.proofs.Rows.{part-at}
 use Rattle.literals.proofs.Heads.{parts-length, part-row}
-use Rattle.literals.specs.Held.{componentsIn, keysIn, componentRowIn, componentRowsIn}
-use Rattle.literals.specs.Keys.{position, keyRow, keyRowsIn, rowWord, keyWord, keyWordsIn}
+use Rattle.literals.specs.Held.{componentsIn, keysIn, componentRowIn, componentRowsIn, keyRow, keyRowsIn, rowWord, keyWord, keyWordsIn}
 use Rattle.classes.specs.Held.{numberedBy, wordsAfter, onlyRow}
 use Rattle.literals.proofs.KeyRows.{place-le, key-rows-none, key-rows-one}
 

@@ -10,22 +10,21 @@ use lib.Dec.{eqb}
 use borrow.Author.Tests.{eq-eqb, eqb-true, eqb-false}
 use lib.ListN.{length, getD, set, take, drop, length-map, length-set, drop-of-length-le, take-append-drop}
 use lib.Seq.{take-suc, take-all, length-take-le}
-use Rattle.records.specs.Lists.{In, any, sameList}
+use Rattle.records.specs.Lists.{In, any, sameList, position}
 use Rattle.records.specs.Memory.{over}
 use Rattle.records.proofs.Lists.{bool-cases, clash, getD-in, in-getD, in-any, dedup-in, flatMap-in}
 use Rattle.records.proofs.Memory.{over-more}
 use Rattle.literals.specs.declared.Variable.{Variable}
 use Rattle.literals.specs.Domain.{sameVariable, Literal, Action, Component, keysOf, Domain}
-use Rattle.literals.specs.Table.{literalRow, Bounded}
+use Rattle.literals.specs.Held.{literalRow, Bounded, rowIn, keyRows, keyRowsIn, rowWord, keyWordsIn}
 use Rattle.literals.proofs.Bytes.{keys-once}
 use Rattle.literals.proofs.Equality.{variables-eq, variables-self}
 use Rattle.literals.proofs.Tables.{kept, length-literals}
 use Rattle.literals.proofs.Held.{keys-few}
-use Rattle.classes.specs.declared.number.Numbered.{Numbered}
+use Rattle.classes.specs.declared.number.NumberedLiteral.{NumberedLiteral}
 use Rattle.literals.specs.Matching.{tuplesOf}
 use Rattle.classes.specs.Classes.{literalTuples, belongs, classes}
-use Rattle.literals.specs.Keys.{position, keyRows, keyRowsIn, rowWord, keyWordsIn}
-use Rattle.classes.specs.Held.{ActionOf, rowAt, classNumberBy, classNumbers, tupleRow, onlyRow, numberedBy, wordsAfter}
+use Rattle.classes.specs.Held.{ActionOf, classNumberBy, classNumbers, tupleRow, onlyRow, numberedBy, wordsAfter}
 use Rattle.classes.proofs.Rows.{noLiteral, literalAt, row-at}
 use Rattle.classes.proofs.Members.{member}
 use Rattle.classes.proofs.Numbers.{One, Fits, tuples-one, tuples-rows, found, numbers, numbers-more, tupleWord, row-word, wordsOf, numbered-more, words-more}
@@ -81,7 +80,7 @@ module _ {D : Domain} {a : Action} {head rows : List ℕ} (A : ActionOf D a head
       go ts (inr (t, e, q, s)) = rw e (ap (λ (w : ℕ). w ∷ []) (row-word (keysOf (D .template)) t q))
 
   pub row-of : (j : ℕ) → j < length (a .lits) → take 8 (drop (8 * j) rows) ≡ literalRow (getD (a .lits) j noLiteral)
-  row-of j g = ap (λ (t : List ℕ). rowAt t j) (A .literals) ∙ row-at (a .lits) (λ l m. kept B (A .listed) m) j g
+  row-of j g = ap (λ (t : List ℕ). rowIn t j) (A .literals) ∙ row-at (a .lits) (λ l m. kept B (A .listed) m) j g
 
   pub rows-length : length rows ≡ 8 * length (a .lits)
   rows-length = ap length (A .literals) ∙ length-literals (a .lits) (B .arguments a (A .listed))
@@ -109,7 +108,7 @@ numbered-few (w ∷ ws) count words = go (eqb (position (eqb w) (take count word
     go true = omega arith
     go false = omega arith
 
-module _ (head rows numbers₀ numbers′ words₀ words words′ : List ℕ) (count j : ℕ) (o : Numbered) (m : length words′ ≡ length words) (l : length rows ≡ 8 * length numbers₀)
+module _ (head rows numbers₀ numbers′ words₀ words words′ : List ℕ) (count j : ℕ) (o : NumberedLiteral) (m : length words′ ≡ length words) (l : length rows ≡ 8 * length numbers₀)
     (r : length numbers₀ ≤ length words₀)
     (w : SoFar head rows numbers₀ numbers′ words₀ words count j)
     (g : j < length numbers₀)
@@ -158,9 +157,9 @@ module _ (head rows numbers₀ numbers′ words₀ words words′ : List ℕ) (c
                 ∙ ap (λ (ws : List ℕ). wordsAfter ws count words) keyed-by
                 ∙ ap₂ (wordsAfter (map tupleWord (tuples D x))) (before .counted) (before .words-are)
                 ∙ words-more (tuples D) (keysOf (D .template)) words₀ (take j (a .lits)) those x its space;
-            counted = ap (λ (p : Numbered). p .count) result;
+            counted = ap (λ (p : NumberedLiteral). p .count) result;
             given =
-                ap₂ (λ (t : List ℕ) (v : ℕ). set t j v) (before .given) (ap (λ (p : Numbered). p .class) result)
+                ap₂ (λ (t : List ℕ) (v : ℕ). set t j v) (before .given) (ap (λ (p : NumberedLiteral). p .class) result)
                 ∙ over-more (numbers (tuples D) (take j (a .lits))) numbers₀ j (classNumberBy (found (tuples D) (take j (a .lits) ++ (x ∷ []))) (tuples D x))
                 (length-map (take j (a .lits)) (λ y. classNumberBy (found (tuples D) (take j (a .lits))) (tuples D y)) ∙ length-take-le j (a .lits) (omega (arith, inside)))
                 g
@@ -172,7 +171,7 @@ module _ (head rows numbers₀ numbers′ words₀ words words′ : List ℕ) (c
       record {
         few =
             let k = numbered-few (keyWordsIn head (take 8 (drop (8 * j) rows))) count words in
-            let q = ap (λ (p : Numbered). p .count) e in
+            let q = ap (λ (p : NumberedLiteral). p .count) e in
             let u = w .few in
             omega arith;
         reach = omega arith;

@@ -9,7 +9,7 @@ use lib.Dec.{eqb}
 use lib.ListN.{length, set, take, drop, replicate, length-append, length-map}
 use lib.Seq.{take-at}
 use borrow.Author.Tests.{eqb-true, eqb-false, eq-eqb, ne-eqb}
-use Rattle.records.specs.Lists.{addIf, keepIf, countBy, all, any, In, sameList, elem, distinct, dedup}
+use Rattle.records.specs.Lists.{addIf, keepIf, countBy, all, any, In, sameList, elem, distinct, dedup, position}
 use Rattle.records.specs.Memory.{over}
 use Rattle.records.proofs.Lists.{and-l, and-r, bool-cases, clash, not-true, all-in, eqb-comm, eqb-same, in-keepIf, in-elem, in-dedup, dedup-in, flatMap-in, in-flatMap, flatMap-append, dedup-snoc}
 use Rattle.records.proofs.Memory.{over-more}
@@ -20,14 +20,13 @@ use Rattle.literals.specs.declared.Key.{Key}
 use Rattle.literals.specs.declared.Label.{Label}
 use Rattle.literals.specs.declared.Label.the-variants.{Key as keyed, Counted}
 use Rattle.literals.specs.Domain.{key, sameVariable, variablesOf, Literal, Component, isKey, isCounted, keysBound, keepsKeys, eachKeyOnce}
-use Rattle.literals.specs.Domain.{Domain, arity}
-use Rattle.literals.specs.Table.{rowOf, argumentNumber, literalRow, labelNumber, componentRow}
+use Rattle.literals.specs.Domain.{labelNumber, Domain, arity}
+use Rattle.literals.specs.Held.{rowOf, argumentNumber, literalRow, componentRow, underKey, underKeys, keyRow, keyRows, wordFrom, rowWord}
 use Rattle.literals.proofs.Arguments.{variables-append, in-variables, keys-bound}
 use Rattle.literals.proofs.Bounds.{variables-in}
 use Rattle.literals.proofs.Equality.{variables-eq, variables-self}
 use Rattle.literals.proofs.Tables.{value}
 use Rattle.literals.specs.Matching.{under, keyTuple, tuplesBy}
-use Rattle.literals.specs.Keys.{position, underKey, underKeys, keyRow, keyRows, wordFrom, rowWord}
 use Rattle.classes.specs.Held.{classNumberBy, tupleRow, numberedBy, wordsAfter}
 use Rattle.literals.proofs.KeyRows.{length-keys}
 

@@ -12,10 +12,10 @@ use Rattle.literals.specs.declared.Argument.the-variants.{Every}
 use Rattle.literals.specs.declared.Time.the-variants.{AtStart}
 use Rattle.literals.specs.declared.Usage.the-variants.{Positive}
 use Rattle.literals.specs.Domain.{sameLiteral, meets, roleNumber, Literal, Domain}
-use Rattle.literals.specs.Table.{argumentNumber, literalRow, rowsMeet}
+use Rattle.literals.specs.Held.{argumentNumber, literalRow, rowsMeet, rowIn}
 use Rattle.literals.proofs.Rows.{seven-by-four, part-at}
 use Rattle.literals.proofs.Tables.{Kept, length-flat, rows-flat, length-literal-row, same-rows, meet-rows}
-use Rattle.classes.specs.Held.{rowAt, sameAtomAt, meetAt}
+use Rattle.classes.specs.Held.{sameAtomAt, meetAt}
 use Rattle.literals.proofs.Indices.{getD-map}
 use Rattle.literals.proofs.KeyRows.{rows-at}
 
@@ -60,8 +60,8 @@ module _ {D : Domain} (ls : List Literal) (k : (l : Literal) → In l ls → Kep
   literal-row : (l : Literal) → In l ls → length (literalRow l) ≡ 8
   literal-row l m = length-literal-row l (k l m .fits)
 
-  pub row-at : (j : ℕ) → j < length ls → rowAt (flatMap literalRow ls) j ≡ literalRow (literalAt ls j)
-  row-at j h = ap (λ (t : List ℕ). rowAt t j) (sym (append-nil (flatMap literalRow ls))) ∙ row-flat literalRow ls [] noLiteral literal-row j h
+  pub row-at : (j : ℕ) → j < length ls → rowIn (flatMap literalRow ls) j ≡ literalRow (literalAt ls j)
+  row-at j h = ap (λ (t : List ℕ). rowIn t j) (sym (append-nil (flatMap literalRow ls))) ∙ row-flat literalRow ls [] noLiteral literal-row j h
 
   byte-at : (j i : ℕ) → j < length ls → i < 8 → getD (flatMap literalRow ls) (8 * j + i) 0 ≡ getD (literalRow (literalAt ls j)) i 0
   byte-at j i h g = ap (λ (t : List ℕ). getD t (8 * j + i) 0) (sym (append-nil (flatMap literalRow ls))) ∙ byte-flat literalRow ls [] noLiteral literal-row j i h g

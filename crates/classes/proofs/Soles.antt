@@ -10,7 +10,7 @@ use lib.Dec.{eqb}
 use lib.ListN.{length, getD, set}
 use lib.Seq.{getD-set-same, getD-set-other}
 use borrow.Author.Tests.{eq-eqb, ne-eqb, eqb-true, eqb-false}
-use Rattle.records.specs.Lists.{In, addIf, countBy, all, any}
+use Rattle.records.specs.Lists.{In, addIf, countBy, all, any, numbersFrom, below}
 use Rattle.records.proofs.Lists.{bool-cases, clash, count-append}
 use Rattle.records.proofs.Memory.{getD-fill}
 use Rattle.literals.specs.declared.Moment.{Moment}
@@ -21,10 +21,9 @@ use Rattle.literals.specs.declared.Usage.{Usage}
 use Rattle.literals.specs.declared.Usage.the-variants.{Positive, Negative, Add, Delete}
 use Rattle.literals.specs.declared.Role.{Role}
 use Rattle.literals.specs.Domain.{roleOf}
-use Rattle.literals.specs.Table.{pad}
-use Rattle.literals.specs.Keys.{numbersFrom, below}
-use Rattle.classes.specs.Held.{usageAt, usageByte, mayMeet, saysAt, usageIn, isAt, soleMore, soleBy, soleAt, soleOf}
-use Rattle.classes.specs.Held.{sectionOf, countsIn, SolesOf, soleIn}
+use Rattle.literals.specs.Held.{pad}
+use Rattle.classes.specs.Held.{usageAt, usageByte, mayMeet, saysAt, usageIn, isAt, soleMore, soleBy, soleAt, soleOf, sectionOf}
+use Rattle.classes.specs.Held.{countsIn, SolesOf, soleIn}
 use Rattle.literals.proofs.Tables.{pad-at}
 use Rattle.literals.proofs.Indices.{below-snoc, below-in, length-from, getD-map}
 
@@ -303,17 +302,17 @@ module _ (rows : List ℕ) (j : ℕ) where
         (ap (λ (t : Bool). t && eqb class k) (f ∙ ap (λ (n : ℕ). counted said n s) e ∙ sym (counts-section s h))
         ∙ and-comm (countsIn rows s j) (eqb class k))
 
-    pub tally-none : 4 < section → old ≡ soleMore (eqb class k && countsIn rows s j) j old
-    tally-none f = told (go (bool-cases (eqb s 4))) refl
+    pub literal-none : 4 < section → old ≡ soleMore (eqb class k && countsIn rows s j) j old
+    literal-none f = told (go (bool-cases (eqb s 4))) refl
       where
         go : (eqb s 4 ≡ true) ⊎ (eqb s 4 ≡ false) → false ≡ counted said section s
         go (inl t) = rw (eqb-true s 4 t, ne-eqb section 4 (λ z. omega arith), ne-eqb section 2 (λ z. omega arith))
         go (inr q) = sym (ap (λ (b : Bool). cond b ((eqb section 4 || eqb section 2) && not said) (eqb section s)) q
             ∙ ne-eqb section s (λ z. omega arith))
 
-    pub tally-asked : section ≡ 4 → {r : ℕ} → r ≡ soleMore ((eqb 4 s && not said) && eqb class k) j old
+    pub literal-asked : section ≡ 4 → {r : ℕ} → r ≡ soleMore ((eqb 4 s && not said) && eqb class k) j old
         → r ≡ soleMore (eqb class k && countsIn rows s j) j old
-    tally-asked f = told (go s h ∙ ap (λ (n : ℕ). counted said n s) (sym f))
+    literal-asked f = told (go s h ∙ ap (λ (n : ℕ). counted said n s) (sym f))
       where
         go : (s : ℕ) → s < 5 → eqb 4 s && not said ≡ counted said 4 s
         go zero h = refl
@@ -323,17 +322,17 @@ module _ (rows : List ℕ) (j : ℕ) where
         go (suc (suc (suc (suc zero)))) h = refl
         go (suc (suc (suc (suc (suc s))))) h = absurd (omega arith)
 
-    pub tally-own : (section ≡ 4 → ⊥) → (section ≡ 2 → ⊥) → {r : ℕ} → r ≡ soleMore (eqb section s && eqb class k) j old
+    pub literal-own : (section ≡ 4 → ⊥) → (section ≡ 2 → ⊥) → {r : ℕ} → r ≡ soleMore (eqb section s && eqb class k) j old
         → r ≡ soleMore (eqb class k && countsIn rows s j) j old
-    tally-own n m = told (go (bool-cases (eqb s 4)))
+    literal-own n m = told (go (bool-cases (eqb s 4)))
       where
         go : (eqb s 4 ≡ true) ⊎ (eqb s 4 ≡ false) → eqb section s ≡ counted said section s
         go (inl t) = rw (eqb-true s 4 t, ne-eqb section 4 n, ne-eqb section 2 m)
         go (inr f) = sym (ap (λ (b : Bool). cond b ((eqb section 4 || eqb section 2) && not said) (eqb section s)) f)
 
-    pub tally-both : section ≡ 2 → {r own : ℕ} → own ≡ soleMore (eqb section s && eqb class k) j old
+    pub literal-both : section ≡ 2 → {r own : ℕ} → own ≡ soleMore (eqb section s && eqb class k) j old
         → r ≡ soleMore ((eqb 4 s && not said) && eqb class k) j own → r ≡ soleMore (eqb class k && countsIn rows s j) j old
-    tally-both f {r} {own} p q =
+    literal-both f {r} {own} p q =
         told (ap (λ (n : ℕ). counted said n s) (sym f))
         (q ∙ ap (λ (n : ℕ). soleMore ((eqb 4 s && not said) && eqb class k) j n)
         (p ∙ ap (λ (n : ℕ). soleMore (eqb n s && eqb class k) j old) f) ∙ go s h)
@@ -349,8 +348,8 @@ module _ (rows : List ℕ) (j : ℕ) where
         go (suc (suc (suc (suc (suc s))))) h = absurd (omega arith)
 
 -- a literal of no class is noted nowhere
-pub tally-outside : (rows : List ℕ) (j class s k old : ℕ) → 64 ≤ class → k < 64 → old ≡ soleMore (eqb class k && countsIn rows s j) j old
-tally-outside rows j class s k old h g = sym (ap (λ (b : Bool). soleMore (b && countsIn rows s j) j old)
+pub literal-outside : (rows : List ℕ) (j class s k old : ℕ) → 64 ≤ class → k < 64 → old ≡ soleMore (eqb class k && countsIn rows s j) j old
+literal-outside rows j class s k old h g = sym (ap (λ (b : Bool). soleMore (b && countsIn rows s j) j old)
     (ne-eqb class k (λ z. omega arith)))
 
 -- ---- the notes of the first j literals

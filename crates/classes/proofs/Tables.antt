@@ -9,9 +9,8 @@ use lib.Seq.{take-suc, take-at, drop-at, drop-cons, drop-drop, drop-append-add}
 use Rattle.records.specs.Memory.{over}
 use Rattle.records.proofs.Lists.{flatMap-append}
 use Rattle.literals.specs.Domain.{Literal, Action, Domain, noAction, action}
-use Rattle.literals.specs.Table.{allLiterals}
+use Rattle.literals.specs.Held.{allLiterals, SpanOf}
 use Rattle.literals.specs.declared.span.Span.{Span}
-use Rattle.literals.specs.Held.{SpanOf}
 use Rattle.classes.specs.Classes.{literalTuples, classes}
 use Rattle.classes.specs.Held.{classNumberBy, classNumbers, numbersOf}
 

@@ -10,7 +10,7 @@ use lib.Dec.{eqb, eqb·zero-suc, eqb·suc-suc}
 use lib.ListN.{length, getD, set, take, length-map}
 use lib.Seq.{take-suc, take-length}
 use borrow.Author.Tests.{eq-eqb, ne-eqb, eqb-true, eqb-false}
-use Rattle.records.specs.Lists.{In, keepIf, filterBy, any, pairwise, elem, dedup}
+use Rattle.records.specs.Lists.{In, keepIf, filterBy, any, pairwise, elem, dedup, below}
 use Rattle.records.proofs.Lists.{and-l, and-r, and-i, not-true, any-in, in-take, pairwise-before, allBelow, below-in, bool-cases, off, clash, eqb-same, eqb-comm, any-map, elem-in, in-elem, in-dedup, dedup-in, dedup-snoc}
 use Rattle.literals.specs.declared.Argument.{Argument}
 use Rattle.literals.specs.declared.Time.{Time}
@@ -18,16 +18,17 @@ use Rattle.literals.specs.declared.Time.the-variants.{AtStart, OverAll, AtEnd}
 use Rattle.literals.specs.declared.Usage.{Usage}
 use Rattle.literals.specs.declared.Usage.the-variants.{Positive, Negative, Add, Delete}
 use Rattle.literals.specs.declared.Role.{Role}
-use Rattle.literals.specs.Domain.{Atom, sameLiteral, usageNumber, firstRole, roleNumber, roleOf, sameTime, sameUsage, sameRole, Literal, Action, Domain}
+use Rattle.literals.specs.Domain.{Atom, sameLiteral, usageNumber, firstRole, roleNumber, roleOf, sameTime, sameUsage, sameRole, Literal}
+use Rattle.literals.specs.Domain.{Action, Domain}
 use Rattle.literals.specs.Decode.{repeats}
-use Rattle.literals.specs.Table.{literalRow, pad, Bounded}
+use Rattle.literals.specs.Held.{literalRow, pad, Bounded}
 use Rattle.literals.proofs.Equality.{literal-eq, literal-self, literal-comm}
 use Rattle.literals.proofs.Tables.{Kept, kept, length-literals, pad-more}
 use Rattle.literals.specs.declared.Moment.{Moment}
 use Rattle.literals.specs.declared.Moment.the-variants.{Start, End}
 use Rattle.literals.specs.Matching.{withRole, literalsAt, required}
-use Rattle.literals.specs.Keys.{below}
-use Rattle.classes.specs.Held.{counts, usageAt, usageOnce, usagesFrom, usagesBy, usagesAt, askedAt, noRepeats, timed, usageByte, mayMeet, saysAt, usageIn}
+use Rattle.classes.specs.Held.{counts, usageAt, usageOnce, usagesFrom, usagesBy, ownUsages, askedUsages, noRepeats, timed, usageByte}
+use Rattle.classes.specs.Held.{mayMeet, saysAt, usageIn}
 use Rattle.literals.proofs.Indices.{at-take, at-all, any-agree, any-below, map-agree, below-snoc, length-from, pick-snoc}
 use Rattle.classes.proofs.Rows.{noLiteral, literalAt, kept-at, role-at, atoms-at}
 
@@ -332,17 +333,17 @@ module _ (w : Bool) where
 -- ---- of its own, and of those that are asked
 
 pub literals-at : (a : Action) (m : Moment) (c : Usage)
-    → literalsAt a m c ≡ map (λ j. literalAt (a .lits) j .atom) (filterBy (λ j. eqb (getD (usagesAt a m) j 0) (suc (usageNumber c))) (below (length (a .lits))))
+    → literalsAt a m c ≡ map (λ j. literalAt (a .lits) j .atom) (filterBy (λ j. eqb (getD (ownUsages a m) j 0) (suc (usageNumber c))) (below (length (a .lits))))
 unfolding literalsAt
 literals-at a m c = literals-by false a m c
 
 pub required-at : (a : Action) (m : Moment) (c : Usage)
-    → required a m c ≡ map (λ j. literalAt (a .lits) j .atom) (filterBy (λ j. eqb (getD (askedAt a m) j 0) (suc (usageNumber c))) (below (length (a .lits))))
+    → required a m c ≡ map (λ j. literalAt (a .lits) j .atom) (filterBy (λ j. eqb (getD (askedUsages a m) j 0) (suc (usageNumber c))) (below (length (a .lits))))
 unfolding required
 required-at a m c = literals-by true a m c
 
 -- at a start they are the same
-pub asked-start : (a : Action) → askedAt a Start ≡ usagesAt a Start
+pub asked-start : (a : Action) → askedUsages a Start ≡ ownUsages a Start
 unfolding usagesBy
 asked-start a = from [] (a .lits)
   where

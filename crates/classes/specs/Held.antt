@@ -6,7 +6,7 @@ use mathlib.Core.List.{List, [], _∷_, _++_, map, flatMap}
 use Prim.Native.Nat.{ℕ, zero, suc, _+_, _-_, _*_, _≤_, _<_}
 use lib.Dec.{eqb, ltb, leb}
 use lib.ListN.{length, getD, set, take, drop, replicate}
-use Rattle.records.specs.Lists.{In, any, all, pairwise, sameList}
+use Rattle.records.specs.Lists.{In, any, all, pairwise, sameList, position, below}
 use Rattle.literals.specs.declared.Variable.{Variable}
 use Rattle.literals.specs.declared.Time.{Time}
 use Rattle.literals.specs.declared.Time.the-variants.{AtStart, OverAll, AtEnd}
@@ -15,14 +15,12 @@ use Rattle.literals.specs.declared.Usage.the-variants.{Positive, Negative, Add,
 use Rattle.literals.specs.declared.Role.{Role}
 use Rattle.literals.specs.Domain.{sameVariable, sameLiteral, isEvery, usageNumber, roleOf, sameTime, isCounted, Literal, Action, Domain}
 use Rattle.literals.specs.Decode.{maxLiterals, argumentOf, labelOf, repeats}
-use Rattle.literals.specs.Table.{rowOf, literalRow, pad, rowsMeet}
-use Rattle.literals.specs.Held.{componentsIn, arityIn, componentRowIn, TemplateOf}
+use Rattle.literals.specs.Held.{rowOf, literalRow, pad, rowsMeet, rowIn, componentsIn, arityIn, componentRowIn, TemplateOf}
 use Rattle.literals.specs.declared.Moment.{Moment}
 use Rattle.literals.specs.declared.Moment.the-variants.{Start, End}
 use Rattle.classes.specs.declared.Sole.{Sole}
-use Rattle.classes.specs.declared.number.Numbered.{Numbered}
+use Rattle.classes.specs.declared.number.NumberedLiteral.{NumberedLiteral}
 use Rattle.literals.specs.Matching.{own, asked}
-use Rattle.literals.specs.Keys.{position, below}
 use Rattle.classes.specs.Classes.{literalTuples, classes, covered, excluding}
 
 -- ---- class numbers
@@ -50,7 +48,7 @@ tupleRow x = rowOf (map (λ (v : Variable). v .0) x)
 
 -- the class number of a literal whose key tuple has this word, or none, and how many classes there then are: `words` has those of `count`
 -- classes
-unfoldable pub numberedBy : List ℕ → ℕ → List ℕ → Numbered
+unfoldable pub numberedBy : List ℕ → ℕ → List ℕ → NumberedLiteral
 numberedBy [] count words = record { class = 255; count = count }
 numberedBy (w ∷ ws) count words =
     let c = position (eqb w) (take count words) in
@@ -98,12 +96,12 @@ unfoldable pub usagesBy : Bool → Action → Moment → List ℕ
 usagesBy wide a m = usagesFrom wide m [] (a .lits)
 
 -- of its own: what names, journeys and components are told by
-abbrev pub usagesAt : Action → Moment → List ℕ
-usagesAt = usagesBy false
+abbrev pub ownUsages : Action → Moment → List ℕ
+ownUsages = usagesBy false
 
 -- of those that are asked: what unreachable is told by, and what a witness lists
-abbrev pub askedAt : Action → Moment → List ℕ
-askedAt = usagesBy true
+abbrev pub askedUsages : Action → Moment → List ℕ
+askedUsages = usagesBy true
 
 -- no literal is "repeated in its role", as reading has it
 abbrev pub noRepeats : Action → Bool
@@ -121,12 +119,9 @@ unfoldable pub usageByte : Bool → Moment → ℕ → ℕ
 unfolding roleOf
 usageByte wide m r = usageAt wide m (roleOf r)
 
-abbrev pub rowAt : List ℕ → ℕ → List ℕ
-rowAt rows i = take 8 (drop (8 * i) rows)
-
 -- two rows have the same relation and arguments
 unfoldable pub sameAtomAt : List ℕ → ℕ → ℕ → Bool
-sameAtomAt rows i j = sameList eqb (drop 1 (rowAt rows i)) (drop 1 (rowAt rows j))
+sameAtomAt rows i j = sameList eqb (drop 1 (rowIn rows i)) (drop 1 (rowIn rows j))
 
 -- the row i has this usage at the moment, and the atom of the row j
 unfoldable pub saysAt : Bool → List ℕ → Moment → ℕ → ℕ → ℕ → Bool
@@ -160,7 +155,7 @@ sameIn rows numbers usages class usage i = any (isSameAt rows numbers usages cla
 
 -- two rows meet
 unfoldable pub meetAt : List ℕ → ℕ → ℕ → Bool
-meetAt rows i j = rowsMeet (rowAt rows i) (rowAt rows j)
+meetAt rows i j = rowsMeet (rowIn rows i) (rowIn rows j)
 
 -- the row j is a delete of this class, and meets the row i
 unfoldable pub isDeleteAt : List ℕ → List ℕ → List ℕ → ℕ → ℕ → ℕ → Bool
@@ -289,7 +284,7 @@ sectionOf r = sectionBy (r .time) (r .usage)
 -- which literal of a class is asked as a true condition at a moment: 255 says that it is unreachable there
 unfoldable pub reachAt : Domain → Action → Moment → ℕ → ℕ
 unfolding classNumbers usagesBy soleAt
-reachAt D a m class = soleAt (classNumbers D a) (pad 64 (askedAt a m)) class 1
+reachAt D a m class = soleAt (classNumbers D a) (pad 64 (askedUsages a m)) class 1
 
 -- ---- what the code's memories hold of an action
 
@@ -309,4 +304,4 @@ pub record ActionOf (D : Domain) (a : Action) (head rows : List ℕ) : Type 0 wh
 pub record MomentOf (D : Domain) (a : Action) (m : Moment) (head rows numbers usages : List ℕ) : Type 0 where
   pub whole : ActionOf D a head rows
   pub numbers-are : numbers ≡ classNumbers D a
-  pub usages-are : usages ≡ pad maxLiterals (usagesAt a m)
+  pub usages-are : usages ≡ pad maxLiterals (ownUsages a m)

@@ -31,20 +31,18 @@ ghost use mathlib.Core.List.{List, [], map};
 ghost use Prim.Native.Nat.{ℕ, _+_, _*_, _≤_, _<_};
 ghost use lib.Dec.{eqb};
 ghost use lib.ListN.{length, getD};
-ghost use Rattle.records.specs.Lists.{any, all};
+ghost use Rattle.records.specs.Lists.{any, all, below};
 ghost use Rattle.literals.specs.Domain.{Domain, Action, roleOf};
 ghost use Rattle.literals.specs.Decode.{maxArguments, maxLiterals, maxComponents};
-ghost use Rattle.literals.specs.Table.{pad};
+ghost use Rattle.literals.specs.Held.{pad};
 ghost use Rattle.literals.specs.declared.Moment.{Moment};
 ghost use Rattle.literals.specs.declared.Moment.the-variants.{Start, End};
 ghost use Rattle.literals.specs.declared.Time.the-variants.{AtStart, OverAll, AtEnd};
 ghost use Rattle.classes.specs.Classes.{classes, lastsIn, nameOf, journey};
-ghost use Rattle.literals.specs.Keys.{below};
-ghost use Rattle.classes.specs.Held.{ActionOf, MomentOf, Sides, usagesBy, usagesAt, classNumbers, uncoveredAt, timed, usageByte};
-ghost use Rattle.classes.specs.Held.{mayMeet, sameAtomAt, saysAt, usageIn, isAt, isSameAt, sameIn, isDeleteAt, deletedIn};
-ghost use Rattle.classes.specs.Held.{changedAt, excludesAt, clearedBeside, clearedAt, coversAt, coveredAt, lackingAt, lastsAt};
-ghost use Rattle.classes.specs.Held.{countedAt, hasCounted};
-ghost use Rattle.classes.specs.Held.{soleMore, soleOf, reachAt, sectionBy, sectionOf, countsIn, SolesOf, soleIn};
+ghost use Rattle.classes.specs.Held.{ActionOf, MomentOf, Sides, usagesBy, ownUsages, classNumbers, uncoveredAt, timed, usageByte};
+ghost use Rattle.classes.specs.Held.{mayMeet, sameAtomAt, saysAt, usageIn, isAt, isSameAt, sameIn, isDeleteAt, deletedIn, changedAt};
+ghost use Rattle.classes.specs.Held.{excludesAt, clearedBeside, clearedAt, coversAt, coveredAt, lackingAt, lastsAt, countedAt};
+ghost use Rattle.classes.specs.Held.{hasCounted, soleMore, soleOf, reachAt, sectionBy, sectionOf, countsIn, SolesOf, soleIn};
 
 // Whether the literals of a time count at an end: its own, or (wide) all that is asked there, the over-all conditions too.
 fn counts_at_end(wide: bool, time: Time) -> bool
@@ -252,7 +250,7 @@ fn note_asked(rows: &[u8], class: usize, j: usize, soles: &mut [u8])
 }
 
 // Notes the literal `j` in each section of its class that counts it, and nowhere where it has none. Its role is sorted once.
-fn tally_literal(rows: &[u8], class: usize, j: usize, soles: &mut [u8])
+fn note_literal(rows: &[u8], class: usize, j: usize, soles: &mut [u8])
     requires { ⌜ (8 * j + 8 ≤ length (now rows)) × (j < maxLiterals) × (length (now soles) ≡ 5 * maxLiterals) ⌝ }
     ensures { λ _. ⌜ ((s k : ℕ) → s < 5 → k < maxLiterals → getD (now (soles .exit)) (maxLiterals * s + k) 0
         ≡ soleMore (eqb class k && countsIn (now (rows .entry)) s j) j (getD (now (soles .entry)) (maxLiterals * s + k) 0)) ⌝ }
@@ -276,14 +274,14 @@ fn tally_literal(rows: &[u8], class: usize, j: usize, soles: &mut [u8])
 }
 
 // What the classes of an action have at its moments, in one pass over its literals, which are these rows; `soles` is all 0 before.
-pub fn tally(rows: &[u8], numbers: &[u8], soles: &mut [u8])
+pub fn note_soles(rows: &[u8], numbers: &[u8], soles: &mut [u8])
     requires sides { ⌜ Sides (now rows) (now numbers) ⌝ }
     requires room { ⌜ length (now soles) ≡ 5 * maxLiterals ⌝ }
     ensures { λ _. ⌜ (now (soles .entry) ≡ pad (5 * maxLiterals) []
         → SolesOf (now (rows .entry)) (now (numbers .entry)) (now (soles .exit))) ⌝ }
 {
     for j in 0..numbers.len() {
-        tally_literal(rows, wide(numbers[j]), j, soles);
+        note_literal(rows, wide(numbers[j]), j, soles);
     }
 }
 
@@ -600,7 +598,7 @@ pub fn is_journey(
     requires counted { ⌜ start ≡ soleOf (now numbers) (now usages) class ⌝ }
     ensures { λ r. ⌜ ((D : Domain) (a : Action) (head : List ℕ)
         → MomentOf D a Start head (now (rows .entry)) (now (numbers .entry)) (now (usages .entry)) → a .lasting ≡ true
-        → end ≡ soleOf (classNumbers D a) (pad maxLiterals (usagesAt a End)) class → class < length (classes D a)
+        → end ≡ soleOf (classNumbers D a) (pad maxLiterals (ownUsages a End)) class → class < length (classes D a)
         → r ≡ journey D a (getD (classes D a) class [])) ⌝ }
 {
     let condition = start.conditions;

@@ -12,14 +12,15 @@ ghost use mathlib.Core.List.{[]};
 ghost use Prim.Native.Nat.{_+_, _*_, _<_, _≤_};
 ghost use lib.Dec.{eqb};
 ghost use lib.ListN.{length, getD, take, drop};
+ghost use Rattle.records.specs.Lists.{position};
 ghost use Rattle.literals.specs.Domain.{Domain, Action};
 ghost use Rattle.literals.specs.Decode.{maxLiterals};
 ghost use Rattle.classes.specs.Classes.{classes};
-ghost use Rattle.literals.specs.Keys.{position, keyRowsIn, keyWordsIn, PlacesOf};
+ghost use Rattle.literals.specs.Held.{keyRowsIn, keyWordsIn, PlacesOf};
 ghost use Rattle.classes.specs.Held.{ActionOf, Sides, numberedBy, wordsAfter, classNumbers, tupleRow, onlyRow};
 
 // The number of a literal's class, FF where it does not match, and the number of classes with it.
-struct Numbered {
+struct NumberedLiteral {
     class: u8,
     count: usize,
 }
@@ -47,7 +48,7 @@ fn number_literal(
     at: usize,
     words: &mut [u64],
     count: usize,
-) -> Numbered
+) -> NumberedLiteral
     requires places { ⌜ PlacesOf (now head) (now places) ⌝ }
     requires room { ⌜ (at + 8 ≤ length (now rows)) × (count < length (now words)) × (length (now words) ≡ maxLiterals) ⌝ }
     ensures number { λ r. ⌜ r
@@ -57,18 +58,18 @@ fn number_literal(
 {
     let c = component_by(head, places, rows[at + 1]);
     if c == components_in(head) {
-        return Numbered { class: 255, count };
+        return NumberedLiteral { class: 255, count };
     }
     let word = key_word(head, places, c, rows, at);
     let class = class_of(words, count, word);
     if class == count {
         words[count] = word;
-        return Numbered {
+        return NumberedLiteral {
             class: class as u8,
             count: count + 1,
         };
     }
-    Numbered {
+    NumberedLiteral {
         class: class as u8,
         count,
     }

@@ -25,9 +25,7 @@ use Rattle.literals.specs.declared.Moment.{Moment}
 use Rattle.literals.specs.declared.Moment.the-variants.{Start, End}
 use Rattle.literals.specs.Domain.{isEvery, Atom, Fact, sameLiteral, sameFact, usageNumber, roleNumber, mayClear, Literal, Action, Domain}
 use Rattle.literals.specs.Domain.{action}
-use Rattle.literals.specs.Table.{rowsIn}
-use Rattle.literals.specs.Held.{HeadOf}
-use Rattle.literals.specs.Keys.{usageFor}
+use Rattle.literals.specs.Held.{rowsIn, HeadOf, usageFor}
 use Rattle.literals.specs.Matching.{own, withRole, literalsAt}
 use Rattle.literals.proofs.Equality.{literal-eq, fact-eq, fact-self}
 use Rattle.literals.proofs.Indices.{any-agree}
@@ -37,19 +35,17 @@ use Rattle.literals.proofs.Tables.{Kept}
 use Rattle.classes.proofs.Roles.{literalsAt-in}
 use Rattle.verdict.specs.Binding.{Binding, bind}
 use Rattle.verdict.specs.Machine.{GroundAction, Event, eventFacts, stepFacts}
-use Rattle.verdict.specs.Patterns.{patternRow, patternsMeet, FactOver}
+use Rattle.verdict.specs.Held.{patternRow, patternsMeet, FactOver, factRow}
 use Rattle.verdict.proofs.Facts.{plain-flat}
 use Rattle.verdict.proofs.Patterns.{plain-row, any-flat, LiteralBound, LiteralsBound, literal-bound, literal-plain, struck-row}
-use Rattle.store.specs.Index.{Sized}
-use Rattle.store.specs.Rows.{factRow}
-use Rattle.events.specs.Held.{GroundFits, EventsFit, Chosen, isPattern, timeOf}
-use Rattle.events.specs.Grounding.{GroundLiteral, groundLiterals, eventLiterals, maxGround, usagesAt, groundedBytes, groundAt, groundIn}
-use Rattle.events.specs.Grounding.{inOne, Grounded}
+use Rattle.store.specs.Held.{Sized, SizedRow}
+use Rattle.events.specs.Held.{GroundFits, EventsFit, OverObjects, isPattern, timeOf, GroundLiteral, groundLiterals, eventLiterals}
+use Rattle.events.specs.Held.{maxGround, usagesAt, groundedBytes, groundAt, groundIn, inOne, Grounded}
 use Rattle.events.proofs.FactRows.{countsFor, usage-counts, counts-plain, any-once, listed-in, head-kept}
 use Rattle.events.proofs.GroundLiterals.{step-formed, step-sized}
 use Rattle.events.proofs.Meeting.{Formed, chosen-meets}
 use Rattle.events.proofs.Members.{map-in}
-use Rattle.effects.specs.Held.{scratchBytes, effectsIn, literalsIn, rowsWith, flat, SizedRow, anyMeets, isStruck}
+use Rattle.effects.specs.Held.{scratchBytes, effectsIn, literalsIn, rowsOfUsage, flat, anyMeets, isStruck}
 use Rattle.effects.proofs.Joins.{dedup-map-dedup, same-append}
 use Rattle.effects.proofs.FilledRows.{Whole, section-part, rows-own, rows-split, Filled, filled-rows, filled-more, filled-own, struck-by}
 
@@ -67,8 +63,8 @@ module _ (scratch : List ℕ) (size : length scratch ≡ scratchBytes) (i : ℕ)
 -- ---- those of a usage
 
 module _ (usage : ℕ) where
-  rows-append : (xs ys : List GroundLiteral) → rowsWith usage (xs ++ ys) ≡ rowsWith usage xs ++ rowsWith usage ys
-  unfolding rowsWith
+  rows-append : (xs ys : List GroundLiteral) → rowsOfUsage usage (xs ++ ys) ≡ rowsOfUsage usage xs ++ rowsOfUsage usage ys
+  unfolding rowsOfUsage
   rows-append xs ys =
       ap (map (λ (l : GroundLiteral). l .row)) (filter-append (λ (l : GroundLiteral). eqb (l .usage) usage) xs ys)
       ∙ map-append (λ (l : GroundLiteral). l .row) (filterBy (λ (l : GroundLiteral). eqb (l .usage) usage) xs)
@@ -76,24 +72,24 @@ module _ (usage : ℕ) where
 
   -- of one
   module _ (l : GroundLiteral) where
-    one-in : l .usage ≡ usage → rowsWith usage (l ∷ []) ≡ l .row ∷ []
-    unfolding rowsWith
+    one-in : l .usage ≡ usage → rowsOfUsage usage (l ∷ []) ≡ l .row ∷ []
+    unfolding rowsOfUsage
     one-in e = ap (λ (b : Bool). map (λ (l : GroundLiteral). l .row) (keepIf b l [])) (eq-eqb (l .usage) usage e)
 
-    one-out : (l .usage ≡ usage → ⊥) → rowsWith usage (l ∷ []) ≡ []
-    unfolding rowsWith
+    one-out : (l .usage ≡ usage → ⊥) → rowsOfUsage usage (l ∷ []) ≡ []
+    unfolding rowsOfUsage
     one-out n = ap (λ (b : Bool). map (λ (l : GroundLiteral). l .row) (keepIf b l [])) (ne-eqb (l .usage) usage n)
 
-    pub one-few : length (rowsWith usage (l ∷ [])) ≤ 1
-    unfolding rowsWith
+    pub one-few : length (rowsOfUsage usage (l ∷ [])) ≤ 1
+    unfolding rowsOfUsage
     one-few = go (eqb (l .usage) usage)
       where
         go : (b : Bool) → length (map (λ (l : GroundLiteral). l .row) (keepIf b l [])) ≤ 1
         go true = omega arith
         go false = omega arith
 
-    whole-one : length (l .row) ≡ 8 → Whole (rowsWith usage (l ∷ []))
-    unfolding rowsWith
+    whole-one : length (l .row) ≡ 8 → Whole (rowsOfUsage usage (l ∷ []))
+    unfolding rowsOfUsage
     whole-one w = go (eqb (l .usage) usage)
       where
         go : (b : Bool) → Whole (map (λ (l : GroundLiteral). l .row) (keepIf b l []))
@@ -103,74 +99,77 @@ module _ (usage : ℕ) where
 
     -- where it is of the usage its row is put behind others, else nothing is
     module _ (n : ℕ) (out : List ℕ) where
-      pub none-count : (l .usage ≡ usage → ⊥) → n ≡ n + length (rowsWith usage (l ∷ []))
+      pub none-count : (l .usage ≡ usage → ⊥) → n ≡ n + length (rowsOfUsage usage (l ∷ []))
       none-count h = let k = ap length (one-out h) in omega arith
 
-      pub none-rows : (l .usage ≡ usage → ⊥) → 8 * n ≤ length out → out ≡ over (flat (rowsIn n out ++ rowsWith usage (l ∷ []))) out
+      pub none-rows : (l .usage ≡ usage → ⊥) → 8 * n ≤ length out → out ≡ over (flat (rowsIn n out ++ rowsOfUsage usage (l ∷ []))) out
       none-rows h g =
           rows-own n out g
           ∙ ap (λ (x : List (List ℕ)). over (flat x) out)
           (sym (ap (λ (x : List (List ℕ)). rowsIn n out ++ x) (one-out h) ∙ append-nil (rowsIn n out)))
 
-      pub one-count : l .usage ≡ usage → n + 1 ≡ n + length (rowsWith usage (l ∷ []))
+      pub one-count : l .usage ≡ usage → n + 1 ≡ n + length (rowsOfUsage usage (l ∷ []))
       one-count h = let k = ap length (one-in h) in omega arith
 
       pub one-rows : l .usage ≡ usage → {row next : List ℕ} → row ≡ l .row → next ≡ over (flat (rowsIn n out ++ (row ∷ []))) out
-          → next ≡ over (flat (rowsIn n out ++ rowsWith usage (l ∷ []))) out
+          → next ≡ over (flat (rowsIn n out ++ rowsOfUsage usage (l ∷ []))) out
       one-rows h f g =
           g ∙ ap (λ (x : List (List ℕ)). over (flat (rowsIn n out ++ x)) out) (ap {B = List (List ℕ)} (λ r. r ∷ []) f ∙ sym (one-in h))
 
   -- no more than there are, of the first ones and of all
-  rows-few : (n i : ℕ) (memory : List ℕ) → i ≤ n → length (rowsWith usage (groundIn i memory)) ≤ length (rowsWith usage
+  rows-few : (n i : ℕ) (memory : List ℕ) → i ≤ n → length (rowsOfUsage usage (groundIn i memory)) ≤ length (rowsOfUsage usage
       (groundIn n memory))
   rows-few zero i memory h = let e : i ≡ 0 = omega arith in rw e (omega arith)
   rows-few (suc n) i memory h = go (ltb n i) refl (λ l. rows-few n i memory l)
     where
-      go : (b : Bool) → ltb n i ≡ b → (i ≤ n → length (rowsWith usage (groundIn i memory)) ≤ length (rowsWith usage (groundIn n memory)))
-          → length (rowsWith usage (groundIn i memory)) ≤ length (rowsWith usage (groundIn (suc n) memory))
+      go : (b : Bool) → ltb n i ≡ b
+          → (i ≤ n → length (rowsOfUsage usage (groundIn i memory)) ≤ length (rowsOfUsage usage (groundIn n memory)))
+          → length (rowsOfUsage usage (groundIn i memory)) ≤ length (rowsOfUsage usage (groundIn (suc n) memory))
       go true t f = let l = ltb-true n i t in let e : i ≡ suc n = omega arith in rw e (omega arith)
       go false t f =
           let l = f (ltb-false n i t) in
           let s = ap length (rows-append (groundIn n memory) (groundAt memory n ∷ [])) in
-          let a = length-append (rowsWith usage (groundIn n memory)) (rowsWith usage (groundAt memory n ∷ [])) in
+          let a = length-append (rowsOfUsage usage (groundIn n memory)) (rowsOfUsage usage (groundAt memory n ∷ [])) in
           omega arith
 
   -- of the first ones of a memory, behind others
   module _ (memory : List ℕ) (size : length memory ≡ groundedBytes) (first : List (List ℕ)) where
-    rows-snoc : (i : ℕ) → rowsWith usage (groundIn (i + 1) memory) ≡ rowsWith usage (groundIn i memory) ++ rowsWith usage
+    rows-snoc : (i : ℕ) → rowsOfUsage usage (groundIn (i + 1) memory) ≡ rowsOfUsage usage (groundIn i memory) ++ rowsOfUsage usage
         (groundAt memory i ∷ [])
-    rows-snoc i = ap (λ (k : ℕ). rowsWith usage (groundIn k memory)) (add-one i) ∙ rows-append (groundIn i memory) (groundAt memory i ∷ [])
+    rows-snoc i = ap (λ (k : ℕ). rowsOfUsage usage (groundIn k memory)) (add-one i)
+        ∙ rows-append (groundIn i memory) (groundAt memory i ∷ [])
 
     -- there is room for one more
-    pub effects-room : (at total i n : ℕ) → i < total → at + length (rowsWith usage (groundIn total memory)) ≤ maxGround
-        → n ≡ at + length (rowsWith usage (groundIn i memory)) → n + length (rowsWith usage (groundAt memory i ∷ [])) ≤ maxGround
+    pub effects-room : (at total i n : ℕ) → i < total → at + length (rowsOfUsage usage (groundIn total memory)) ≤ maxGround
+        → n ≡ at + length (rowsOfUsage usage (groundIn i memory)) → n + length (rowsOfUsage usage (groundAt memory i ∷ [])) ≤ maxGround
     effects-room at total i n h g e =
         let f = rows-few total (i + 1) memory (omega arith) in
-        let s = ap length (rows-snoc i) ∙ length-append (rowsWith usage (groundIn i memory)) (rowsWith usage (groundAt memory i ∷ [])) in
+        let s = ap length (rows-snoc i)
+        ∙ length-append (rowsOfUsage usage (groundIn i memory)) (rowsOfUsage usage (groundAt memory i ∷ [])) in
         omega arith
 
     pub effects-more : (i n : ℕ) {out old : List ℕ} → i < maxGround → {m : ℕ} → 8 * m ≤ length old
-        → Filled (first ++ rowsWith usage (groundIn i memory)) n out old
-        → {next : List ℕ} → m ≡ n + length (rowsWith usage (groundAt memory i ∷ []))
-        → next ≡ over (flat (rowsIn n out ++ rowsWith usage (groundAt memory i ∷ []))) out
-        → Filled (first ++ rowsWith usage (groundIn (i + 1) memory)) m next old
+        → Filled (first ++ rowsOfUsage usage (groundIn i memory)) n out old
+        → {next : List ℕ} → m ≡ n + length (rowsOfUsage usage (groundAt memory i ∷ []))
+        → next ≡ over (flat (rowsIn n out ++ rowsOfUsage usage (groundAt memory i ∷ []))) out
+        → Filled (first ++ rowsOfUsage usage (groundIn (i + 1) memory)) m next old
     effects-more i n {out} {old} h {m} g F {next} e f =
         subst (λ (l : List (List ℕ)). Filled l m next old)
-        (append-assoc first (rowsWith usage (groundIn i memory)) (rowsWith usage (groundAt memory i ∷ []))
+        (append-assoc first (rowsOfUsage usage (groundIn i memory)) (rowsOfUsage usage (groundAt memory i ∷ []))
         ∙ ap (λ (l : List (List ℕ)). first ++ l) (sym (rows-snoc i)))
-        (filled-more F (rowsWith usage (groundAt memory i ∷ []))
+        (filled-more F (rowsOfUsage usage (groundAt memory i ∷ []))
         (whole-one (groundAt memory i) (length-part 8 memory (8 * i) (omega arith))) e g f)
 
   -- before the first
   pub effects-begin : (memory : List ℕ) (at : ℕ) (out : List ℕ) → 8 * at ≤ length out
-      → Filled (rowsIn at out ++ rowsWith usage (groundIn 0 memory)) at out out
-  unfolding rowsWith
+      → Filled (rowsIn at out ++ rowsOfUsage usage (groundIn 0 memory)) at out out
+  unfolding rowsOfUsage
   effects-begin memory at out h = subst (λ (l : List (List ℕ)). Filled l at out out) (sym (append-nil (rowsIn at out)))
       (filled-own at out h)
 
 -- those of two usages are no more than there are
-pub two-few : (c d : ℕ) → (c ≡ d → ⊥) → (ls : List GroundLiteral) → length (rowsWith c ls) + length (rowsWith d ls) ≤ length ls
-unfolding rowsWith
+pub two-few : (c d : ℕ) → (c ≡ d → ⊥) → (ls : List GroundLiteral) → length (rowsOfUsage c ls) + length (rowsOfUsage d ls) ≤ length ls
+unfolding rowsOfUsage
 two-few c d n [] = omega arith
 two-few c d n (l ∷ ls) = go (eqb (l .usage) c) refl (eqb (l .usage) d) refl (two-few c d n ls)
   where
@@ -178,7 +177,7 @@ two-few c d n (l ∷ ls) = go (eqb (l .usage) c) refl (eqb (l .usage) d) refl (t
     some k b = map (λ (l : GroundLiteral). l .row) (keepIf b l (filterBy (λ (l : GroundLiteral). eqb (l .usage) k) ls))
 
     go : (x : Bool) → eqb (l .usage) c ≡ x → (y : Bool) → eqb (l .usage) d ≡ y
-        → length (rowsWith c ls) + length (rowsWith d ls) ≤ length ls → length (some c x) + length (some d y) ≤ suc (length ls)
+        → length (rowsOfUsage c ls) + length (rowsOfUsage d ls) ≤ length ls → length (some c x) + length (some d y) ≤ suc (length ls)
     go true e true f h = absurd (n (sym (eqb-true (l .usage) c e) ∙ eqb-true (l .usage) d f))
     go true e false f h = omega arith
     go false e true f h = omega arith
@@ -188,18 +187,18 @@ two-few c d n (l ∷ ls) = go (eqb (l .usage) c) refl (eqb (l .usage) d) refl (t
 pub record Told (ground : List GroundLiteral) (m end : ℕ) (out : List ℕ) : Type 0 where
   pub order : m ≤ end
   pub few : end ≤ maxGround
-  pub struck : rowsIn m out ≡ rowsWith 4 ground
-  pub added : rowsIn (end - m) (drop (8 * m) out) ≡ rowsWith 3 ground
+  pub struck : rowsIn m out ≡ rowsOfUsage 4 ground
+  pub added : rowsIn (end - m) (drop (8 * m) out) ≡ rowsOfUsage 3 ground
 
 pub told : (ground again : List GroundLiteral) (m end : ℕ) (out₁ out : List ℕ) → length ground ≤ maxGround → again ≡ ground
-    → m ≡ 0 + length (rowsWith 4 ground) → rowsIn m out₁ ≡ rowsWith 4 ground → end ≡ m + length (rowsWith 3 again)
-    → rowsIn end out ≡ rowsIn m out₁ ++ rowsWith 3 again → Told ground m end out
+    → m ≡ 0 + length (rowsOfUsage 4 ground) → rowsIn m out₁ ≡ rowsOfUsage 4 ground → end ≡ m + length (rowsOfUsage 3 again)
+    → rowsIn end out ≡ rowsIn m out₁ ++ rowsOfUsage 3 again → Told ground m end out
 told ground again m end out₁ out few same c f d g =
     let t = two-few 4 3 (λ e. omega arith) ground in
-    let k = ap (λ (ls : List GroundLiteral). length (rowsWith 3 ls)) same in
-    let z : length (rowsWith 4 ground) ≡ m = omega arith in
-    let both = g ∙ ap₂ (λ (xs : List (List ℕ)) (ls : List GroundLiteral). xs ++ rowsWith 3 ls) f same in
-    let r = rows-split out m end (rowsWith 4 ground) (rowsWith 3 ground) (omega arith) z both in
+    let k = ap (λ (ls : List GroundLiteral). length (rowsOfUsage 3 ls)) same in
+    let z : length (rowsOfUsage 4 ground) ≡ m = omega arith in
+    let both = g ∙ ap₂ (λ (xs : List (List ℕ)) (ls : List GroundLiteral). xs ++ rowsOfUsage 3 ls) f same in
+    let r = rows-split out m end (rowsOfUsage 4 ground) (rowsOfUsage 3 ground) (omega arith) z both in
     record { order = omega arith; few = omega arith; struck = r .0; added = r .1 }
 
 -- how many are filled
@@ -214,15 +213,15 @@ filled-count at old rows F =
 -- where the loop over the ground literals stands
 pub record Selecting (usage at total : ℕ) (old scratch : List ℕ) (n i : ℕ) : Type 0 where
   pub reach : i ≤ total
-  pub count : n ≡ at + length (rowsWith usage (groundIn i (literalsIn old)))
+  pub count : n ≡ at + length (rowsOfUsage usage (groundIn i (literalsIn old)))
   pub sized : length scratch ≡ length old
-  pub filled : Filled (rowsIn at (effectsIn old) ++ rowsWith usage (groundIn i (literalsIn old))) n (effectsIn scratch) (effectsIn old)
+  pub filled : Filled (rowsIn at (effectsIn old) ++ rowsOfUsage usage (groundIn i (literalsIn old))) n (effectsIn scratch) (effectsIn old)
   pub literals : literalsIn scratch ≡ literalsIn old
 
 -- each is the row of a ground literal
 rows-of : (P : List ℕ → Type 0) (usage : ℕ) (ls : List GroundLiteral) → ((l : GroundLiteral) → In l ls → P (l .row))
-    → (row : List ℕ) → In row (rowsWith usage ls) → P row
-unfolding rowsWith
+    → (row : List ℕ) → In row (rowsOfUsage usage ls) → P row
+unfolding rowsOfUsage
 rows-of P usage ls h row m =
     let r = map-in (λ (l : GroundLiteral). l .row) (filterBy (λ (l : GroundLiteral). eqb (l .usage) usage) ls) m in
     subst P (sym (r .2)) (h (r .0) (filter-in (λ (l : GroundLiteral). eqb (l .usage) usage) ls (r .1) .0))
@@ -243,11 +242,11 @@ own-at End c ls = refl
 
 -- the rows of a usage are those of the literals that count with it
 literal-rows : {D : Domain} (t : Time) (c : Usage) (b : Binding) (ls : List Literal) → ((l : Literal) → In l ls → Kept D l)
-    → rowsWith (suc (usageNumber c))
+    → rowsOfUsage (suc (usageNumber c))
     (map (λ (l : Literal). record { usage = usageFor t (roleNumber (l .role)); row = patternRow b (l .atom) })
     (filterBy (λ (l : Literal). not (eqb (usageFor t (roleNumber (l .role))) 0)) ls))
     ≡ map (patternRow b) (withRole (countsFor t c) ls)
-unfolding rowsWith
+unfolding rowsOfUsage
 literal-rows t c b [] k = refl
 literal-rows t c b (l ∷ ls) k =
     go (eqb usage 0) refl (countsFor t c (l .role)) (usage-counts t c l (k l (List·Memᴰ·head refl)))
@@ -265,7 +264,7 @@ literal-rows t c b (l ∷ ls) k =
     atoms : List (Atom Argument)
     atoms = withRole (countsFor t c) ls
 
-    one : (d : Bool) → rowsWith (suc (usageNumber c)) rest ≡ map (patternRow b) atoms
+    one : (d : Bool) → rowsOfUsage (suc (usageNumber c)) rest ≡ map (patternRow b) atoms
         → map (λ (g : GroundLiteral). g .row) (keepIf d (ground l) (filterBy (λ (g : GroundLiteral). eqb (g .usage) (suc
         (usageNumber c))) rest))
         ≡ map (patternRow b) (keepIf d (l .atom) atoms)
@@ -273,8 +272,8 @@ literal-rows t c b (l ∷ ls) k =
     one false e = e
 
     go : (z : Bool) → eqb usage 0 ≡ z → (d : Bool) → eqb usage (suc (usageNumber c)) ≡ d
-        → rowsWith (suc (usageNumber c)) rest ≡ map (patternRow b) atoms
-        → rowsWith (suc (usageNumber c))
+        → rowsOfUsage (suc (usageNumber c)) rest ≡ map (patternRow b) atoms
+        → rowsOfUsage (suc (usageNumber c))
         (map ground (keepIf (not z) l (filterBy (λ (l : Literal). not (eqb (usageFor t (roleNumber (l .role))) 0)) ls)))
         ≡ map (patternRow b) (keepIf d (l .atom) atoms)
     go true x true y e = let p = eqb-true usage 0 x in let q = eqb-true usage (suc (usageNumber c)) y in absurd (omega arith)
@@ -285,7 +284,7 @@ literal-rows t c b (l ∷ ls) k =
         ∙ one d e
 
 module _ {D : Domain} {head : List ℕ} (H : HeadOf D head) (c : Usage) where
-  event-rows : (e : Event) → GroundFits D (e .ground) → rowsWith (suc (usageNumber c)) (eventLiterals D e) ≡ eventRows D e c
+  event-rows : (e : Event) → GroundFits D (e .ground) → rowsOfUsage (suc (usageNumber c)) (eventLiterals D e) ≡ eventRows D e c
   unfolding groundLiterals
   event-rows e F =
       literal-rows (timeOf (e .moment)) c (e .ground .binding) (action D (e .ground .action) .lits) (head-kept H (e .ground .action)
@@ -293,8 +292,8 @@ module _ {D : Domain} {head : List ℕ} (H : HeadOf D head) (c : Usage) where
       ∙ ap (map (patternRow (e .ground .binding))) (own-at (e .moment) c (action D (e .ground .action) .lits))
 
   step-rows : (es : List Event) → EventsFit D es
-      → rowsWith (suc (usageNumber c)) (inOne (map (eventLiterals D) es)) ≡ effectRows D es c
-  unfolding flatMap rowsWith
+      → rowsOfUsage (suc (usageNumber c)) (inOne (map (eventLiterals D) es)) ≡ effectRows D es c
+  unfolding flatMap rowsOfUsage
   step-rows [] F = refl
   step-rows (e ∷ es) F =
       rows-append (suc (usageNumber c)) (eventLiterals D e) (inOne (map (eventLiterals D) es))
@@ -302,8 +301,8 @@ module _ {D : Domain} {head : List ℕ} (H : HeadOf D head) (c : Usage) where
 
 -- of a step, in memory
 pub grounded-rows : {D : Domain} {head : List ℕ} {es : List Event} {memory : List ℕ} {total : ℕ} → Grounded D head es memory total
-    → (c : Usage) → rowsWith (suc (usageNumber c)) (groundIn total memory) ≡ effectRows D es c
-grounded-rows {es = es} G c = ap (rowsWith (suc (usageNumber c))) (G .laid .filled) ∙ step-rows (G .says) c es (G .fit)
+    → (c : Usage) → rowsOfUsage (suc (usageNumber c)) (groundIn total memory) ≡ effectRows D es c
+grounded-rows {es = es} G c = ap (rowsOfUsage (suc (usageNumber c))) (G .laid .filled) ∙ step-rows (G .says) c es (G .fit)
 
 -- ---- they are the machine's
 
@@ -389,7 +388,7 @@ module _ {D : Domain} {head : List ℕ} (H : HeadOf D head) (objs : List Object)
       (event-once e (F e (List·Memᴰ·head refl))) (step-once es (λ f m. F f (List·Memᴰ·tail m)))
 
   -- where none of the rows is a pattern, equality tells which meet
-  struck-meets : {fs : List Fact} {gs : List GroundAction} → Chosen D objs fs gs → (f : Fact) → In f fs → (rows : List (List ℕ))
+  struck-meets : {fs : List Fact} {gs : List GroundAction} → OverObjects D objs fs gs → (f : Fact) → In f fs → (rows : List (List ℕ))
       → ((row : List ℕ) → In row rows → Formed head row) → isStruck rows (factRow f) ≡ anyMeets rows (factRow f)
   struck-meets C f i rows formed = go (bool-cases (any isPattern rows))
     where
@@ -400,7 +399,7 @@ module _ {D : Domain} {head : List ℕ} (H : HeadOf D head) (objs : List Object)
           ∙ any-agree (sameList eqb (factRow f)) (λ row. patternsMeet row (factRow f)) rows
           (λ row m. sameList-comm eqb eqb-comm (factRow f) row ∙ sym (chosen-meets H C (formed row m) (any-out isPattern n m) f i))
 
-  step-struck : {fs : List Fact} (es : List Event) → Chosen D objs fs (map (λ (e : Event). e .ground) es) → EventsFit D es
+  step-struck : {fs : List Fact} (es : List Event) → OverObjects D objs fs (map (λ (e : Event). e .ground) es) → EventsFit D es
       → (f : Fact) → In f fs → anyMeets (effectRows D es Delete) (factRow f) ≡ elem sameFact f (stepFacts D objs es Delete)
   unfolding stepFacts
   step-struck es C F f i =
@@ -419,8 +418,8 @@ pub record EffectsOf (D : Domain) (objs : List Object) (fs : List Fact) (es : Li
   pub sized : Sized head added
 
 pub effects-of : {D : Domain} {objs : List Object} {fs : List Fact} {es : List Event} {head memory : List ℕ} {total : ℕ}
-    → Grounded D head es memory total → Chosen D objs fs (map (λ (e : Event). e .ground) es) → {struck added : List (List ℕ)}
-    → struck ≡ rowsWith 4 (groundIn total memory) → added ≡ rowsWith 3 (groundIn total memory)
+    → Grounded D head es memory total → OverObjects D objs fs (map (λ (e : Event). e .ground) es) → {struck added : List (List ℕ)}
+    → struck ≡ rowsOfUsage 4 (groundIn total memory) → added ≡ rowsOfUsage 3 (groundIn total memory)
     → EffectsOf D objs fs es head struck added
 effects-of {D} {objs} {fs} {es} {head} {memory} {total} G C {struck} {added} s a =
     record {

@@ -13,17 +13,16 @@ use Rattle.records.specs.Lists.{In, any, keepIf, filterBy, sameList, dedup}
 use Rattle.records.specs.Memory.{over}
 use Rattle.records.proofs.Lists.{in-snoc, filter-append, filter-in, filter-few, dedup-in, flatMap-append, flatMap-snoc}
 use Rattle.records.proofs.Memory.{length-over, over-paste}
-use Rattle.literals.specs.Table.{rowsIn}
+use Rattle.literals.specs.Held.{rowsIn}
 use Rattle.literals.proofs.Rows.{length-part, rows-snoc, rows-whole}
 use Rattle.literals.proofs.Tables.{length-flat, rows-flat}
 use Rattle.literals.proofs.KeyRows.{length-rows}
 use Rattle.run_semantics.specs.RunFile.{maxFacts}
 use Rattle.run_semantics.specs.Play.{workBytes}
-use Rattle.store.specs.Rows.{hasRow}
-use Rattle.events.specs.Held.{isPattern}
-use Rattle.events.specs.Grounding.{groundedBytes}
-use Rattle.effects.specs.Held.{scratchBytes, effectsIn, literalsIn, flat, joinRow, joinRows, atMost}
-use Rattle.effects.specs.Held.{anyMeets, isStruck, stays, keptOf}
+use Rattle.store.specs.Held.{hasRow}
+use Rattle.events.specs.Held.{isPattern, groundedBytes}
+use Rattle.effects.specs.Held.{scratchBytes, effectsIn, literalsIn, flat, joinRow, joinRows, atMost, anyMeets, isStruck, stays}
+use Rattle.effects.specs.Held.{keptOf}
 use Rattle.effects.proofs.Joins.{joined-rows, join-snoc, join-append}
 
 -- ---- the first rows of a memory

@@ -13,16 +13,16 @@ use Rattle.records.specs.Lists.{In, filterBy, sameList}
 use Rattle.records.specs.Memory.{over}
 use Rattle.records.proofs.Lists.{and-l, and-r, or-cases, any-in, bool-cases, off, sameList-eq, elem-in, in-snoc, getD-in}
 use Rattle.literals.specs.Decode.{byte}
-use Rattle.literals.specs.Table.{rowsIn, meetByte}
-use Rattle.verdict.specs.Patterns.{patternsMeet}
+use Rattle.literals.specs.Held.{rowsIn, meetByte}
+use Rattle.verdict.specs.Held.{patternsMeet}
 use Rattle.literals.proofs.Rows.{part-at, rows-more, rows-end, rows-snoc}
 use Rattle.literals.proofs.KeyRows.{length-rows, rows-at}
-use Rattle.store.specs.Index.{Sized, Indexed, noteAt}
+use Rattle.store.specs.Held.{Sized, Indexed, noteAt, SizedRow, hasRow}
 use Rattle.run_semantics.specs.RunFile.{maxFacts}
 use Rattle.run_semantics.specs.Play.{workBytes}
-use Rattle.store.specs.Rows.{hasRow}
-use Rattle.events.specs.Grounding.{groundedBytes}
-use Rattle.effects.specs.Held.{scratchBytes, effectsIn, Marked, isApart, anyMeets, flat, joinRow, atMost, SizedRow, HoldsJoined, isStruck, stays, keptOf}
+use Rattle.events.specs.Held.{groundedBytes}
+use Rattle.effects.specs.Held.{scratchBytes, effectsIn, Marked, isApart, anyMeets, flat, joinRow, atMost, HoldsJoined, isStruck}
+use Rattle.effects.specs.Held.{stays, keptOf}
 use Rattle.effects.proofs.FilledRows.{section-part, filled-effects, Filled, filled-rows, filled-own, left-out, kept-few, kept-next}
 use Rattle.effects.proofs.FilledRows.{kept-more, joinedOf, joined-next, joined-on, stopped-count, stopped-rows, joined-all}
 use Rattle.effects.proofs.FilledRows.{joined-out}

@@ -11,7 +11,7 @@ use borrow.Author.Tests.{eqb-true}
 use Rattle.records.specs.Lists.{In, addIf, keepIf, filterBy, countBy, all, sameList, elem, distinct, dedup}
 use Rattle.records.proofs.Lists.{bool-cases, off, clash, eqb-same, sameList-eq, sameList-self, in-elem, elem-in, in-dedup, dedup-in, filter-append, filter-agree, any-append, count-append, count-pos, count-none, single-count}
 use Rattle.literals.proofs.Indices.{filter-filter, filter-map}
-use Rattle.store.specs.Rows.{hasRow}
+use Rattle.store.specs.Held.{hasRow}
 use Rattle.effects.specs.Held.{joinRow, joinRows}
 
 -- ---- two tests

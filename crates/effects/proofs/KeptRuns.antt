@@ -13,11 +13,10 @@ use Rattle.records.specs.Lists.{In, any, sameList}
 use Rattle.records.specs.Memory.{over}
 use Rattle.records.proofs.Lists.{bool-cases, getD-in, count-filter, count-not, filter-agree, flatMap-append}
 use Rattle.records.proofs.Memory.{over-paste}
-use Rattle.literals.specs.Table.{rowsIn}
+use Rattle.literals.specs.Held.{rowsIn}
 use Rattle.literals.proofs.Rows.{rows-last, rows-whole}
 use Rattle.literals.proofs.KeyRows.{length-rows, rows-at}
-use Rattle.store.specs.Rows.{hasRow}
-use Rattle.store.specs.Index.{noteAt, Indexed}
+use Rattle.store.specs.Held.{hasRow, noteAt, Indexed}
 use Rattle.events.specs.Held.{isPattern}
 use Rattle.effects.specs.Held.{Once, isStruck, struckOf, FirstStruck, flat, stays, keptOf}
 use Rattle.effects.proofs.Joins.{none-left, row-sound, row-self}

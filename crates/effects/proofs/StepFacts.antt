@@ -13,16 +13,16 @@ use Rattle.records.proofs.Lists.{filter-in, filter-agree, dedup-in}
 use Rattle.literals.specs.declared.Object.{Object}
 use Rattle.literals.specs.declared.Usage.the-variants.{Delete}
 use Rattle.literals.specs.Domain.{Fact, sameFact, Domain}
-use Rattle.literals.specs.Table.{rowsIn}
+use Rattle.literals.specs.Held.{rowsIn}
 use Rattle.verdict.specs.Judged.{objectNumbers, factBytes}
 use Rattle.verdict.specs.Machine.{Event, stepFacts, factsAfter}
-use Rattle.store.specs.Index.{Sized, Indexed}
-use Rattle.store.specs.Rows.{factRow, hasRow}
+use Rattle.store.specs.Held.{Sized, Indexed, hasRow}
 use Rattle.effects.specs.Held.{joinRows, Once, atMost, flat, HoldsJoined, HoldsAfter, stays, keptOf}
 use Rattle.events.proofs.FactRows.{same-row}
 use Rattle.effects.proofs.Joins.{outside-map, dedup-map, distinct-map, joined-rows}
 use Rattle.literals.proofs.Indices.{filter-map}
 use Rattle.literals.proofs.Rows.{rows-whole}
+use Rattle.verdict.specs.Held.{factRow}
 use Rattle.effects.proofs.FilledRows.{Whole, whole-append, length-whole, Filled, filled-rows, kept-few, behind, most-inside}
 use Rattle.effects.proofs.EffectRows.{EffectsOf}
 

@@ -11,17 +11,14 @@ use Rattle.literals.specs.declared.Object.{Object}
 use Rattle.literals.specs.declared.Usage.the-variants.{Delete}
 use Rattle.literals.specs.Domain.{Fact, sameFact, Domain}
 use Rattle.literals.specs.Decode.{byte}
-use Rattle.literals.specs.Table.{rowsIn}
-use Rattle.literals.specs.Held.{arityIn}
+use Rattle.literals.specs.Held.{rowIn, rowsIn}
 use Rattle.verdict.specs.Judged.{factBytes}
 use Rattle.verdict.specs.Machine.{Event, stepFacts, factsAfter}
-use Rattle.verdict.specs.Patterns.{patternsMeet}
+use Rattle.verdict.specs.Held.{patternsMeet, factRow}
 use Rattle.run_semantics.specs.RunFile.{maxFacts}
 use Rattle.run_semantics.specs.Play.{workBytes}
-use Rattle.store.specs.Index.{Indexed}
-use Rattle.store.specs.Rows.{factRow, hasRow}
-use Rattle.events.specs.Held.{isPattern}
-use Rattle.events.specs.Grounding.{GroundLiteral, groundedBytes}
+use Rattle.store.specs.Held.{Indexed, hasRow}
+use Rattle.events.specs.Held.{isPattern, GroundLiteral, groundedBytes}
 use Rattle.effects.specs.declared.After.{After}
 
 -- ---- what a step works in
@@ -40,8 +37,8 @@ effectsIn scratch = take workBytes (drop groundedBytes scratch)
 -- ---- effects, by rows
 
 -- the rows of those ground literals that are of a usage
-unfoldable pub rowsWith : ℕ → List GroundLiteral → List (List ℕ)
-rowsWith usage ls = map (λ (l : GroundLiteral). l .row) (filterBy (λ (l : GroundLiteral). eqb (l .usage) usage) ls)
+unfoldable pub rowsOfUsage : ℕ → List GroundLiteral → List (List ℕ)
+rowsOfUsage usage ls = map (λ (l : GroundLiteral). l .row) (filterBy (λ (l : GroundLiteral). eqb (l .usage) usage) ls)
 
 -- a row appended unless it is there already; several rows
 abbrev pub joinRow : List (List ℕ) → List ℕ → List (List ℕ)
@@ -58,10 +55,6 @@ atMost limit n = cond (ltb limit n) (suc limit) n
 -- the bytes of rows, one row behind the other
 abbrev pub flat : List (List ℕ) → List ℕ
 flat rows = flatMap (λ (row : List ℕ). row) rows
-
--- a row with the arity of its relation
-abbrev pub SizedRow : List ℕ → List ℕ → Type 0
-SizedRow head row = byte row 1 ≡ arityIn head (byte row 0)
 
 -- what appending leaves where these are the rows afterwards, in a memory that was `old` before: how many they are, their bytes, and their
 -- index where they fit
@@ -98,8 +91,8 @@ keptOf struck work n = filterBy (stays struck) (rowsIn n work)
 pub record FirstStruck (struck : List (List ℕ)) (work : List ℕ) (n from r : ℕ) : Type 0 where
   pub behind : from ≤ r
   pub within : r ≤ n
-  pub others : (j : ℕ) → from ≤ j → j < r → isStruck struck (take 8 (drop (8 * j) work)) ≡ false
-  pub found : r < n → isStruck struck (take 8 (drop (8 * r) work)) ≡ true
+  pub others : (j : ℕ) → from ≤ j → j < r → isStruck struck (rowIn work j) ≡ false
+  pub found : r < n → isStruck struck (rowIn work r) ≡ true
 
 -- the third bytes of these rows are marked
 abbrev pub Marked : List ℕ → List (List ℕ) → Type 0

@@ -1,9 +1,9 @@
 // The facts after a step: what it strikes goes out, then what it adds joins, each fact once.
 use events::facts::has_pattern;
 use events::facts::patterns_meet;
-use events::grounding::CLAUSES;
 use events::grounding::GROUNDED;
 use events::grounding::MAX_GROUND;
+use events::grounding::USAGES;
 use literals::head::Head;
 use literals::limits::MAX_FACTS;
 use records::bytes::put_bytes;
@@ -22,16 +22,14 @@ ghost use Rattle.records.specs.Memory.{over};
 ghost use Rattle.records.specs.Lists.{any};
 ghost use Rattle.literals.specs.declared.Object.{Object};
 ghost use Rattle.literals.specs.Domain.{Fact, Domain};
-ghost use Rattle.literals.specs.Table.{rowsIn};
+ghost use Rattle.literals.specs.Held.{rowsIn};
 ghost use Rattle.run_semantics.specs.RunFile.{maxFacts};
 ghost use Rattle.verdict.specs.Machine.{Event};
-ghost use Rattle.events.specs.Held.{Chosen, isPattern};
-ghost use Rattle.store.specs.Index.{noteAt, Sized, Indexed};
-ghost use Rattle.store.specs.Rows.{factRow};
-ghost use Rattle.events.specs.Grounding.{maxGround, groundAt, groundIn, Grounded};
-ghost use Rattle.effects.specs.Held.{scratchBytes, effectsIn, literalsIn, rowsWith, flat, HoldsAfter};
-ghost use Rattle.effects.specs.Held.{Once, anyMeets, isStruck, struckOf, FirstStruck, Marked, isApart, keptOf};
-ghost use Rattle.effects.specs.Held.{SizedRow, joinRow, joinRows, HoldsJoined};
+ghost use Rattle.verdict.specs.Held.{factRow};
+ghost use Rattle.events.specs.Held.{OverObjects, isPattern, maxGround, groundAt, groundIn, Grounded};
+ghost use Rattle.store.specs.Held.{noteAt, Sized, Indexed, SizedRow};
+ghost use Rattle.effects.specs.Held.{scratchBytes, effectsIn, literalsIn, rowsOfUsage, flat, HoldsAfter, Once, anyMeets, isStruck};
+ghost use Rattle.effects.specs.Held.{struckOf, FirstStruck, Marked, isApart, keptOf, joinRow, joinRows, HoldsJoined};
 
 // What a step works in, in two sections: its ground literals, in whose place the facts after it are put together when what it strikes and
 // adds is told; and behind that what it strikes and then what it adds, which together are no more than its literals.
@@ -277,13 +275,13 @@ fn join_rows(
 fn put_effect(scratch: &mut [u8], n: usize, i: usize, usage: u8) -> usize
     requires scratch { ⌜ length (now scratch) ≡ scratchBytes ⌝ }
     requires literal { ⌜ i < maxGround ⌝ }
-    requires room { ⌜ n + length (rowsWith usage (groundAt (literalsIn (now scratch)) i ∷ [])) ≤ maxGround ⌝ }
-    ensures count { λ r. ⌜ r ≡ n + length (rowsWith usage (groundAt (literalsIn (now (scratch .entry))) i ∷ [])) ⌝ }
+    requires room { ⌜ n + length (rowsOfUsage usage (groundAt (literalsIn (now scratch)) i ∷ [])) ≤ maxGround ⌝ }
+    ensures count { λ r. ⌜ r ≡ n + length (rowsOfUsage usage (groundAt (literalsIn (now (scratch .entry))) i ∷ [])) ⌝ }
     ensures rows { λ _. ⌜ effectsIn (now (scratch .exit)) ≡ over (flat (rowsIn n (effectsIn (now (scratch .entry)))
-        ++ rowsWith usage (groundAt (literalsIn (now (scratch .entry))) i ∷ []))) (effectsIn (now (scratch .entry))) ⌝ }
+        ++ rowsOfUsage usage (groundAt (literalsIn (now (scratch .entry))) i ∷ []))) (effectsIn (now (scratch .entry))) ⌝ }
     ensures literals { λ _. ⌜ literalsIn (now (scratch .exit)) ≡ literalsIn (now (scratch .entry)) ⌝ }
 {
-    if scratch[CLAUSES + i] == usage {
+    if scratch[USAGES + i] == usage {
         let row = row_at(scratch, 8 * i);
         append_row(&mut scratch[EFFECTS..SCRATCH], n, row);
         return n + 1;
@@ -296,10 +294,10 @@ fn put_effect(scratch: &mut [u8], n: usize, i: usize, usage: u8) -> usize
 pub fn step_effects(scratch: &mut [u8], at: usize, total: usize, usage: u8) -> usize
     requires scratch { ⌜ length (now scratch) ≡ scratchBytes ⌝ }
     requires total { ⌜ total ≤ maxGround ⌝ }
-    requires room { ⌜ at + length (rowsWith usage (groundIn total (literalsIn (now scratch)))) ≤ maxGround ⌝ }
-    ensures count { λ r. ⌜ r ≡ at + length (rowsWith usage (groundIn total (literalsIn (now (scratch .entry))))) ⌝ }
+    requires room { ⌜ at + length (rowsOfUsage usage (groundIn total (literalsIn (now scratch)))) ≤ maxGround ⌝ }
+    ensures count { λ r. ⌜ r ≡ at + length (rowsOfUsage usage (groundIn total (literalsIn (now (scratch .entry))))) ⌝ }
     ensures rows { λ r. ⌜ rowsIn r (effectsIn (now (scratch .exit)))
-        ≡ rowsIn at (effectsIn (now (scratch .entry))) ++ rowsWith usage (groundIn total (literalsIn (now (scratch .entry)))) ⌝ }
+        ≡ rowsIn at (effectsIn (now (scratch .entry))) ++ rowsOfUsage usage (groundIn total (literalsIn (now (scratch .entry)))) ⌝ }
     ensures literals { λ _. ⌜ literalsIn (now (scratch .exit)) ≡ literalsIn (now (scratch .entry)) ⌝ }
 {
     let mut n = at;
@@ -332,7 +330,7 @@ pub fn facts_after(
     requires total { ⌜ total ≤ maxGround ⌝ }
     ensures few { λ r. ⌜ (r .kept ≤ n) × (r .kept ≤ r .facts) × (r .facts ≤ maxFacts + 1) ⌝ }
     ensures after { λ r. ⌜ ((D : Domain) (objs : List Object) (es : List Event) (fs : List Fact)
-        → Chosen D objs fs (map (λ (e : Event). e .ground) es)
+        → OverObjects D objs fs (map (λ (e : Event). e .ground) es)
         → Grounded D (now (head .entry)) es (literalsIn (now (scratch .entry))) total
         → rowsIn n (now (work .entry)) ≡ map factRow fs → Indexed (now (head .entry)) (now (index .entry)) (map factRow fs)
         → HoldsAfter D objs fs es (now (head .entry)) r (now (scratch .exit)) (now (index .exit))) ⌝ }

@@ -8,12 +8,12 @@ use lib.Seq.{take-append-le, take-at, drop-at, drop-append-le, drop-append-add, 
 use lib.Seq.{take-set-le, take-set-lt, drop-set-lt, drop-set-add, paste}
 use borrow.Rule.Slice.PartMut.{putMid, postOf, same-len-mid}
 use Rattle.literals.specs.Domain.{Domain}
-use Rattle.literals.specs.Table.{Bounded}
+use Rattle.literals.specs.Held.{Bounded}
 use Rattle.literals.specs.Matching.{momentNumber}
 use Rattle.verdict.specs.Machine.{Event}
 use Rattle.run_semantics.specs.RunFile.{maxEvents}
-use Rattle.events.specs.Held.{Open, Waiting, agendaBytes, momentsAt, eventsAt, openBytes, waitingBytes, entriesIn, momentsIn, eventRowsIn}
-use Rattle.events.specs.Held.{openIn, waitingIn, groundRow, waitingOf, EventsFit}
+use Rattle.events.specs.Held.{Open, Waiting, agendaBytes, momentsAt, eventsAt, openBytes, waitingBytes, entriesIn, momentsIn}
+use Rattle.events.specs.Held.{eventRowsIn, agendaOpen, agendaWaiting, groundRow, waitingOf, EventsFit}
 use Rattle.events.proofs.GroundRows.{whole-copy}
 use Rattle.events.proofs.MoreWaiting.{waiting-more}
 
@@ -96,12 +96,12 @@ module _ (agenda : List ℕ) (n moment : ℕ) (l : length agenda ≡ agendaBytes
     marked-rows : eventRowsIn marked ≡ eventRowsIn agenda
     marked-rows = ap (take waitingBytes) (drop-set-lt eventsAt agenda (momentsAt + n) moment (omega arith))
 
-    pub more-waits : {D : Domain} → Bounded D → (es : List Event) → EventsFit D es → waitingIn n agenda ≡ waitingOf es
+    pub more-waits : {D : Domain} → Bounded D → (es : List Event) → EventsFit D es → agendaWaiting n agenda ≡ waitingOf es
         → (e : Event) (ground : List ℕ) → moment ≡ momentNumber (e .moment) → ground ≡ groundRow (e .ground)
-        → rows ≡ paste (eventRowsIn marked) (17 * n) ground (length ground) → waitingIn (n + 1) more ≡ waitingOf (es ++ (e ∷ []))
+        → rows ≡ paste (eventRowsIn marked) (17 * n) ground (length ground) → agendaWaiting (n + 1) more ≡ waitingOf (es ++ (e ∷ []))
     more-waits B es F w e ground m g p =
         (λ i. record { count = n + 1; moments = more-moments i; rows = section-is eventsAt waitingBytes marked rows room rows-sized i })
-        ∙ waiting-more B es F (waitingIn n agenda) w few e moment ground rows m g
+        ∙ waiting-more B es F (agendaWaiting n agenda) w few e moment ground rows m g
         (p ∙ ap (λ (t : List ℕ). paste t (17 * n) ground (length ground)) marked-rows)
 
 -- ---- the agenda after a step: other entries, and no event
@@ -138,7 +138,7 @@ module _ (agenda entries zeros : List ℕ) (l : length agenda ≡ agendaBytes) (
         before-stays momentsAt 288 joined zeros room-after zeros-sized 0 openBytes (omega arith)
         ∙ section-is 0 openBytes agenda entries (omega arith) entries-sized
 
-    pub after-waits : waitingIn 0 after ≡ waitingOf []
+    pub after-waits : agendaWaiting 0 after ≡ waitingOf []
     unfolding waitingOf flatMap
     after-waits i =
         record {

@@ -23,7 +23,7 @@ use Rattle.literals.specs.declared.Usage.the-variants.{Positive, Negative, Add,
 use Rattle.literals.specs.declared.Role.{Role}
 use Rattle.literals.specs.Domain.{object, sameObject, variablesOf, Atom, Fact, sameLiteral, sameFact, usageNumber, roleNumber, roleOf}
 use Rattle.literals.specs.Domain.{sameTime, sameUsage, mayClear, Literal, Action, Domain, arity, noAction, action}
-use Rattle.literals.specs.Table.{argumentNumber, literalRow, rowsIn, Bounded}
+use Rattle.literals.specs.Held.{argumentNumber, literalRow, rowsIn, Bounded, actionsIn, arityIn, HeadOf, Held, SpanOf, usageFor}
 use Rattle.literals.proofs.Equality.{literal-eq}
 use Rattle.literals.proofs.Tables.{Kept, kept, length-literal-row, rows-flat, pad-at}
 use Rattle.literals.specs.declared.Moment.{Moment}
@@ -32,18 +32,14 @@ use Rattle.literals.specs.Matching.{momentNumber, own, overAll, withRole, liter
 use Rattle.classes.proofs.Rows.{row-flat}
 use Rattle.literals.proofs.Indices.{any-agree}
 use Rattle.verdict.specs.Binding.{Binding, valueOf}
-use Rattle.verdict.specs.Patterns.{argumentByte, patternRow}
+use Rattle.verdict.specs.Held.{argumentByte, patternRow, factRow}
 use Rattle.verdict.specs.Judged.{objectNumbers}
 use Rattle.verdict.specs.Machine.{GroundAction, Event}
-use Rattle.events.specs.Held.{Open}
-use Rattle.events.specs.Held.{Waiting}
+use Rattle.events.specs.Held.{Open, Waiting, groundRow, GroundFits, boundArgument, boundRow, timeOf, openOf, waitingOf}
 use Rattle.run_semantics.specs.RunFile.{momentOf}
 use Rattle.literals.specs.declared.span.Span.{Span}
-use Rattle.literals.specs.Held.{actionsIn, arityIn, HeadOf, Held, SpanOf}
-use Rattle.store.specs.Rows.{factRow, hasRow}
+use Rattle.store.specs.Held.{hasRow}
 use Rattle.store.proofs.InstanceRows.{same-numbers}
-use Rattle.literals.specs.Keys.{usageFor}
-use Rattle.events.specs.Held.{groundRow, GroundFits, boundArgument, boundRow, timeOf, openOf, waitingOf}
 
 -- ---- equal rows are rows of equal facts
 

@@ -18,17 +18,15 @@ use Rattle.literals.specs.declared.span.Span.{Span}
 use Rattle.literals.specs.declared.Time.{Time}
 use Rattle.literals.specs.Domain.{roleNumber, Literal, Domain, action}
 use Rattle.literals.specs.Decode.{byte, maxLiterals}
-use Rattle.literals.specs.Table.{literalRow, rowsIn}
-use Rattle.literals.specs.Held.{arityIn, HeadOf, Held, SpanOf}
-use Rattle.literals.specs.Keys.{usageFor}
+use Rattle.literals.specs.Held.{literalRow, rowsIn, arityIn, HeadOf, Held, SpanOf, usageFor}
 use Rattle.literals.proofs.Indices.{getD-map}
 use Rattle.literals.proofs.KeyRows.{length-rows}
 use Rattle.literals.proofs.Rows.{part-first, rows-snoc}
-use Rattle.verdict.specs.Patterns.{patternRow}
+use Rattle.verdict.specs.Held.{patternRow}
 use Rattle.verdict.specs.Machine.{GroundAction, Event}
-use Rattle.events.specs.Held.{groundRow, Waiting, waitingOf, GroundFits, EventsFit, boundRow}
-use Rattle.events.specs.Grounding.{GroundLiteral, groundLiterals, eventLiterals, rowLiterals, maxGround, usagesAt, countsAt}
-use Rattle.events.specs.Grounding.{groundedBytes, groundAt, groundIn, inOne, Laid, Grounded, EachSized}
+use Rattle.events.specs.Held.{groundRow, Waiting, waitingOf, GroundFits, EventsFit, boundRow, GroundLiteral, groundLiterals}
+use Rattle.events.specs.Held.{eventLiterals, rowLiterals, maxGround, usagesAt, countsAt, groundedBytes, groundAt, groundIn, inOne}
+use Rattle.events.specs.Held.{Laid, Grounded, EachSized}
 use Rattle.events.proofs.FactRows.{listed-in, held-bound, held-rows, noEvent}
 use Rattle.events.proofs.Members.{map-in}
 use Rattle.events.proofs.Meeting.{Formed, formed-pattern}

@@ -10,15 +10,14 @@ use lib.Dec.{eqb, ltb}
 use lib.ListN.{length, getD, take, drop, replicate, length-drop, drop-of-length-le}
 use lib.Seq.{paste, length-paste, take-paste, take-all, getD-drop, drop-drop}
 use borrow.Author.Tests.{ltb-true, ltb-false, lt-ltb, le-ltb, eq-eqb, ne-eqb}
-use Rattle.records.specs.Lists.{any, all, sameList}
+use Rattle.records.specs.Lists.{any, all, sameList, position}
 use Rattle.records.proofs.Lists.{bool-cases}
 use Rattle.literals.specs.Held.{actionsIn, lastingIn}
 use Rattle.literals.proofs.Rows.{first-at}
-use Rattle.literals.specs.Keys.{position}
 use Rattle.literals.proofs.KeyRows.{place-le, length-rows}
-use Rattle.events.specs.Held.{Open}
-use Rattle.events.specs.Held.{groundsIn, EventRow, eventAt, eventsIn, endOpen, withoutEntry, closeEntry, closeEvent, closeEvents, joinEntry, opensBy, joinEvent, joinEvents, Opened}
-use Rattle.store.specs.Rows.{hasRow}
+use Rattle.events.specs.Held.{Open, groundsIn, EventRow, eventAt, eventsIn, endOpen, withoutEntry, closeEntry, closeEvent}
+use Rattle.events.specs.Held.{closeEvents, joinEntry, opensBy, joinEvent, joinEvents, OpenAfter}
+use Rattle.store.specs.Held.{hasRow}
 
 -- a part of 17 bytes
 pub part-ground : (t : List ℕ) (at : ℕ) → take (at + 17 - at) (drop at t) ≡ take 17 (drop at t)
@@ -95,7 +94,7 @@ module _ (moments rows : List ℕ) (n i : ℕ) where
     pub joins-end : n ≤ i → joinEvents head eventsFrom o ≡ record { fits = true; running = o }
     joins-end h = rw (events-end h)
 
-    module _ (r : Opened) (e : r ≡ joinEvent head (eventAt moments rows i) o) (h : i < n) where
+    module _ (r : OpenAfter) (e : r ≡ joinEvent head (eventAt moments rows i) o) (h : i < n) where
       by-first : joinEvents head eventsFrom o ≡ cond (r .fits) (joinEvents head eventsBehind (r .running)) r
       by-first = rw (events-more h, e)
 
@@ -222,7 +221,7 @@ module _ (head : List ℕ) where
     by-start : joinEvent head e o
         ≡ cond b (cond (ltb (o .count) 32) (record { fits = true; running = joinEntry (e .row) o }) (record { fits = false; running = o })) (record { fits = true; running = o })
     unfolding joinEvent
-    by-start = ap {B = Opened} (λ b. cond b (cond (ltb (o .count) 32) (record { fits = true; running = joinEntry (e .row) o }) (record { fits = false; running = o })) (record { fits = true; running = o }))
+    by-start = ap {B = OpenAfter} (λ b. cond b (cond (ltb (o .count) 32) (record { fits = true; running = joinEntry (e .row) o }) (record { fits = false; running = o })) (record { fits = true; running = o }))
         (ap (opensBy head (getD moments i 0)) (first-at 17 events (17 * i) (omega arith)) ∙ sym f)
 
     pub joins-not : b ≡ false → record { fits = true; running = o } ≡ joinEvent head e o
@@ -232,14 +231,14 @@ module _ (head : List ℕ) where
     joins-no-room h l = sym (by-start ∙ rw (h, le-ltb (o .count) 32 l))
 
     pub joins-one : b ≡ true → o .count < 32 → (r : Open) → r ≡ joinEntry (e .row) o → record { fits = true; running = r } ≡ joinEvent head e o
-    joins-one h l r g = ap {B = Opened} (λ t. record { fits = true; running = t }) g ∙ sym (by-start ∙ rw (h, lt-ltb (o .count) 32 l))
+    joins-one h l r g = ap {B = OpenAfter} (λ t. record { fits = true; running = t }) g ∙ sym (by-start ∙ rw (h, lt-ltb (o .count) 32 l))
 
-  pub joins-few : (e : EventRow) (o : Open) → o .count ≤ 32 → (r : Opened) → r ≡ joinEvent head e o → r .running .count ≤ 32
+  pub joins-few : (e : EventRow) (o : Open) → o .count ≤ 32 → (r : OpenAfter) → r ≡ joinEvent head e o → r .running .count ≤ 32
   unfolding joinEvent joinEntry
-  joins-few e o h r f = let k = go (opensBy head (e .moment) (getD (e .row) 0 0)) (ltb (o .count) 32) refl in let z = ap (λ (r : Opened). r .running .count) f in omega arith
+  joins-few e o h r f = let k = go (opensBy head (e .moment) (getD (e .row) 0 0)) (ltb (o .count) 32) refl in let z = ap (λ (r : OpenAfter). r .running .count) f in omega arith
     where
       go : (a b : Bool) → ltb (o .count) 32 ≡ b
-          → cond {A = Opened} a (cond b (record { fits = true; running = joinEntry (e .row) o }) (record { fits = false; running = o })) (record { fits = true; running = o }) .running .count ≤ 32
+          → cond {A = OpenAfter} a (cond b (record { fits = true; running = joinEntry (e .row) o }) (record { fits = false; running = o })) (record { fits = true; running = o }) .running .count ≤ 32
       go false b q = h
       go true false q = h
       go true true q = let l = ltb-true (o .count) 32 q in omega arith

@@ -16,15 +16,13 @@ use Rattle.literals.specs.declared.Object.{Object}
 use Rattle.literals.specs.declared.Argument.{Argument}
 use Rattle.literals.specs.Domain.{Atom, Fact, Domain}
 use Rattle.literals.specs.Decode.{byte}
-use Rattle.literals.specs.Table.{meetByte, argumentsMeet}
-use Rattle.literals.specs.Held.{arityIn, HeadOf}
+use Rattle.literals.specs.Held.{meetByte, argumentsMeet, arityIn, HeadOf}
 use Rattle.literals.proofs.Rows.{length-part, part-at}
 use Rattle.verdict.specs.Binding.{Binding}
 use Rattle.verdict.specs.Judged.{objectNumbers}
 use Rattle.verdict.specs.Machine.{GroundAction}
-use Rattle.verdict.specs.Patterns.{argumentByte, patternRow, patternsMeet}
-use Rattle.store.specs.Rows.{factRow}
-use Rattle.events.specs.Held.{Chosen, isPattern}
+use Rattle.verdict.specs.Held.{argumentByte, patternRow, patternsMeet, factRow}
+use Rattle.events.specs.Held.{OverObjects, isPattern}
 
 -- ---- rows without FF among their arguments
 
@@ -141,7 +139,7 @@ fact-plain f low =
 
 -- so a row that is no pattern meets a fact over the chosen objects only where it is the fact's
 pub chosen-meets : {D : Domain} {head : List ℕ} → HeadOf D head → {objs : List Object} {fs : List Fact} {gs : List GroundAction}
-    → Chosen D objs fs gs → {p : List ℕ} → Formed head p → isPattern p ≡ false → (f : Fact) → In f fs
+    → OverObjects D objs fs gs → {p : List ℕ} → Formed head p → isPattern p ≡ false → (f : Fact) → In f fs
     → patternsMeet p (factRow f) ≡ sameList eqb p (factRow f)
 chosen-meets {D} {head} H C {p} P k f m =
     meet-same head p (factRow f) P (formed-fact head f (C .facts f m .sized ∙ sym (H .arities (f .rel)))) k

@@ -7,12 +7,11 @@ use lib.ListN.{length, set, length-append, length-map}
 use lib.Seq.{paste}
 use Rattle.records.proofs.Lists.{flatMap-snoc}
 use Rattle.literals.specs.Domain.{Domain}
-use Rattle.literals.specs.Table.{pad, Bounded}
+use Rattle.literals.specs.Held.{pad, Bounded}
 use Rattle.literals.proofs.Tables.{length-flat, pad-more, pad-paste}
 use Rattle.literals.specs.Matching.{momentNumber}
 use Rattle.verdict.specs.Machine.{Event}
-use Rattle.events.specs.Held.{Waiting}
-use Rattle.events.specs.Held.{groundRow, waitingOf, EventsFit}
+use Rattle.events.specs.Held.{Waiting, groundRow, waitingOf, EventsFit}
 use Rattle.events.proofs.FactRows.{waiting-count}
 use Rattle.events.proofs.OpenRows.{length-ground}
 

@@ -9,23 +9,21 @@ use lib.Dec.{eqb, ltb, leb}
 use lib.ListN.{length, getD, take, drop, replicate, length-append, replicate-append-replicate, drop-of-length-le}
 use lib.Seq.{paste, take-at, drop-at, take-all, split-at, length-take-le}
 use borrow.Author.Tests.{ltb-true, ltb-false, lt-ltb, le-leb, lt-leb, eqb-true, eqb-false}
-use Rattle.records.specs.Lists.{In, keepIf, all, sameList, elem}
+use Rattle.records.specs.Lists.{In, keepIf, all, sameList, elem, position}
 use Rattle.records.proofs.Lists.{bool-cases, flatMap-append, flatMap-snoc, in-snoc}
 use Rattle.literals.specs.declared.Object.{Object}
 use Rattle.literals.specs.Domain.{Domain, action}
-use Rattle.literals.specs.Table.{pad, Bounded}
-use Rattle.literals.specs.Held.{actionsIn, lastingIn, HeadOf}
+use Rattle.literals.specs.Held.{pad, Bounded, actionsIn, lastingIn, HeadOf}
 use Rattle.literals.proofs.Tables.{length-flat, rows-flat, pad-paste, same-filled}
 use Rattle.literals.specs.declared.Moment.{Moment}
 use Rattle.literals.specs.declared.Moment.the-variants.{Start, End}
 use Rattle.literals.specs.Matching.{momentNumber}
-use Rattle.literals.specs.Keys.{position}
 use Rattle.literals.proofs.KeyRows.{place-le}
 use Rattle.verdict.specs.Machine.{GroundAction, Event, sameGround, isOpenAt, isOpen, closeOne, closeAt, closeAll, opens, openedBy}
-use Rattle.events.specs.Held.{Open}
-use Rattle.events.specs.Held.{Waiting}
-use Rattle.events.specs.Held.{groundRow, groundsIn, openOf, waitingOf, GroundFits, GroundsFit, EventsFit, EventRow, eventsIn, endOpen, withoutEntry, closeEntry, closeEvent, closeEvents, joinEntry, opensBy, joinEvent, joinEvents, Opened}
-use Rattle.store.specs.Rows.{hasRow}
+use Rattle.events.specs.Held.{Open, Waiting, groundRow, groundsIn, openOf, waitingOf, GroundFits, GroundsFit, EventsFit, EventRow}
+use Rattle.events.specs.Held.{eventsIn, endOpen, withoutEntry, closeEntry, closeEvent, closeEvents, joinEntry, opensBy, joinEvent}
+use Rattle.events.specs.Held.{joinEvents, OpenAfter}
+use Rattle.store.specs.Held.{hasRow}
 use Rattle.events.proofs.FactRows.{few-objects, length-ground-row}
 use Rattle.events.proofs.Members.{close-in, closed-in}
 
@@ -250,7 +248,7 @@ module _ {D : Domain} (B : Bounded D) where
           ∙ ap (pad 544) (sym (flatMap-snoc groundRow gs g))
 
 -- what the answer says of the entries afterwards
-abbrev pub Tells : Opened → List GroundAction → Type 0
+abbrev pub Tells : OpenAfter → List GroundAction → Type 0
 Tells r gs = (r .fits ≡ leb (length gs) 32) × (r .fits ≡ true → r .running ≡ openOf gs)
 
 -- ---- "starts join it": those of lasting actions
@@ -276,7 +274,7 @@ module _ {D : Domain} {head : List ℕ} (h : HeadOf D head) where
       (record { fits = true; running = openOf gs })
   unfolding joinEvent openOf
   join-event-is e f gs =
-      ap {B = Opened} (λ b. cond b
+      ap {B = OpenAfter} (λ b. cond b
       (cond (ltb (length gs) 32) (record { fits = true; running = joinEntry (groundRow (e .ground)) (openOf gs) }) (record { fits = false; running = openOf gs }))
       (record { fits = true; running = openOf gs })) (opens-is e f)
 
@@ -289,11 +287,11 @@ module _ {D : Domain} {head : List ℕ} (h : HeadOf D head) where
       f = k e (List·Memᴰ·head refl)
 
       -- of the first event, and then of the others
-      first : Bool → Bool → Opened
+      first : Bool → Bool → OpenAfter
       first a b =
           cond a (cond b (record { fits = true; running = joinEntry (groundRow (e .ground)) (openOf gs) }) (record { fits = false; running = openOf gs })) (record { fits = true; running = openOf gs })
 
-      others : Opened → Opened
+      others : OpenAfter → OpenAfter
       others r = cond (r .fits) (joinEvents head (map eventRow es) (r .running)) r
 
       more : List GroundAction
@@ -334,10 +332,10 @@ module _ {D : Domain} {head : List ℕ} (h : HeadOf D head) (gs : List GroundAct
   closed-held closed c = c ∙ ap₂ closeEvents events-held e ∙ closes-are (h .bounded) es l gs k few
 
   pub after-held : (closed : Open) → closed ≡ closeEvents (eventsIn (waiting .count) (waiting .moments) (waiting .rows)) running
-      → (r : Opened) → r ≡ joinEvents head (eventsIn (waiting .count) (waiting .moments) (waiting .rows)) closed
+      → (r : OpenAfter) → r ≡ joinEvents head (eventsIn (waiting .count) (waiting .moments) (waiting .rows)) closed
       → Tells r (closeAll es gs ++ openedBy D es)
   after-held closed c r j =
       let n = closed-few es gs in
-      subst (λ (r : Opened). Tells r (closeAll es gs ++ openedBy D es))
+      subst (λ (r : OpenAfter). Tells r (closeAll es gs ++ openedBy D es))
       (sym (j ∙ ap₂ (joinEvents head) events-held (closed-held closed c)))
       (joins-are h es l (closeAll es gs) (λ g m. k g (closed-in es gs m)) (omega arith))

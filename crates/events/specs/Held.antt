@@ -1,4 +1,5 @@
--- How the code holds a run: facts, open entries and waiting events as rows of bytes. Assumes nothing.
+-- How the code holds a run: open entries and waiting events as rows of bytes, and ground literals, those of an action with its objects
+-- that count at a time, with the memory that holds those of a step. Assumes nothing.
 use mathlib.Core.Path.{_≡_}
 use mathlib.Core.Bool.{Bool, true, false, _&&_, not, cond}
 use mathlib.Core.List.{List, [], _∷_, _++_, map, flatMap}
@@ -6,23 +7,21 @@ use Prim.Native.Nat.{ℕ, zero, suc, _+_, _-_, _*_, _<_}
 use lib.Dec.{eqb, ltb}
 use lib.ListN.{length, getD, take, drop, replicate}
 use lib.Seq.{paste}
-use Rattle.records.specs.Lists.{In, any, sameList}
+use Rattle.records.specs.Lists.{In, any, sameList, position, filterBy}
 use Rattle.literals.specs.declared.Object.{Object}
 use Rattle.literals.specs.declared.Time.{Time}
 use Rattle.literals.specs.declared.Time.the-variants.{AtStart, AtEnd}
-use Rattle.literals.specs.Domain.{Fact, Domain, action}
-use Rattle.literals.specs.Decode.{byte}
-use Rattle.literals.specs.Table.{pad, rowsBy}
-use Rattle.literals.specs.Held.{actionsIn, arityIn, lastingIn}
+use Rattle.literals.specs.Domain.{Fact, Domain, action, roleNumber, Literal}
+use Rattle.literals.specs.Decode.{byte, maxLiterals}
+use Rattle.literals.specs.Held.{rowIn, pad, rowsBy, actionsIn, arityIn, lastingIn, HeadOf, usageFor}
 use Rattle.literals.specs.declared.Moment.{Moment}
 use Rattle.literals.specs.declared.Moment.the-variants.{Start, End}
 use Rattle.literals.specs.Matching.{momentNumber}
-use Rattle.literals.specs.Keys.{position}
 use Rattle.verdict.specs.Judged.{objectNumbers}
 use Rattle.verdict.specs.Machine.{GroundAction, Event}
-use Rattle.verdict.specs.Patterns.{FactOver}
+use Rattle.verdict.specs.Held.{FactOver, patternRow}
 use Rattle.run_semantics.specs.RunFile.{maxRunning, maxEvents}
-use Rattle.store.specs.Rows.{hasRow}
+use Rattle.store.specs.Held.{SizedRow, hasRow}
 
 -- ---- rows
 
@@ -95,11 +94,11 @@ abbrev pub eventRowsIn : List ℕ → List ℕ
 eventRowsIn agenda = take waitingBytes (drop eventsAt agenda)
 
 -- so many entries, and so many events
-abbrev pub openIn : ℕ → List ℕ → Open
-openIn n agenda = record { count = n; rows = entriesIn agenda }
+abbrev pub agendaOpen : ℕ → List ℕ → Open
+agendaOpen n agenda = record { count = n; rows = entriesIn agenda }
 
-abbrev pub waitingIn : ℕ → List ℕ → Waiting
-waitingIn n agenda = record { count = n; moments = momentsIn agenda; rows = eventRowsIn agenda }
+abbrev pub agendaWaiting : ℕ → List ℕ → Waiting
+agendaWaiting n agenda = record { count = n; moments = momentsIn agenda; rows = eventRowsIn agenda }
 
 -- ---- actions that fit the domain
 
@@ -116,7 +115,7 @@ abbrev pub EventsFit : Domain → List Event → Type 0
 EventsFit D es = (e : Event) → In e es → GroundFits D (e .ground)
 
 -- "whose facts and bindings use no objects but those chosen": none of these is FF
-pub record Chosen (D : Domain) (objs : List Object) (fs : List Fact) (gs : List GroundAction) : Type 0 where
+pub record OverObjects (D : Domain) (objs : List Object) (fs : List Fact) (gs : List GroundAction) : Type 0 where
   pub low : (o : Object) → In o objs → o .0 < 255
   pub facts : (f : Fact) → In f fs → FactOver D objs f
   pub bindings : (g : GroundAction) → In g gs → (o : Object) → In o (g .binding) → In o objs
@@ -195,12 +194,12 @@ unfolding actionsIn lastingIn
 opensBy head moment action = not (eqb moment 1) && ltb action (actionsIn head) && lastingIn head action
 
 -- what a step leaves open, where it fits
-pub record Opened : Type 0 where
+pub record OpenAfter : Type 0 where
   pub fits : Bool
   pub running : Open
 
 -- the entry of such a start is added, where there is room for it
-unfoldable pub joinEvent : List ℕ → EventRow → Open → Opened
+unfoldable pub joinEvent : List ℕ → EventRow → Open → OpenAfter
 unfolding opensBy joinEntry
 joinEvent head e o =
     cond (opensBy head (e .moment) (byte (e .row) 0))
@@ -208,8 +207,76 @@ joinEvent head e o =
     (record { fits = true; running = o })
 
 -- those of several events, up to the first for which there is no room
-abbrev pub joinEvents : List ℕ → List EventRow → Open → Opened
+abbrev pub joinEvents : List ℕ → List EventRow → Open → OpenAfter
 joinEvents head [] o = record { fits = true; running = o }
 joinEvents head (e ∷ es) o =
     let joined = joinEvent head e o in
     cond (joined .fits) (joinEvents head es (joined .running)) joined
+
+-- ---- ground literals
+
+-- a literal bound to objects, as it counts at a time: its usage (1 true condition, 2 false condition, 3 add, 4 delete), and its row:
+-- that of its fact, or with FF for every object a pattern, which is about every fact whose row it meets
+pub record GroundLiteral : Type 0 where
+  pub usage : ℕ
+  pub row : List ℕ
+
+-- those of an action with its objects that count at the start, over all, or at the end, in the order of its literals
+unfoldable pub groundLiterals : Domain → Time → GroundAction → List GroundLiteral
+unfolding usageFor action patternRow
+groundLiterals D t g =
+    map (λ l. record { usage = usageFor t (roleNumber (l .role)); row = patternRow (g .binding) (l .atom) })
+    (filterBy (λ (l : Literal). not (eqb (usageFor t (roleNumber (l .role))) 0)) (action D (g .action) .lits))
+
+-- those of an event
+abbrev pub eventLiterals : Domain → Event → List GroundLiteral
+eventLiterals D e = groundLiterals D (timeOf (e .moment)) (e .ground)
+
+-- the same by the rows of an action's literals
+unfoldable pub rowLiterals : Time → List ℕ → List ℕ → List (List ℕ) → List GroundLiteral
+unfolding usageFor boundRow
+rowLiterals t head ground rows =
+    map (λ row. record { usage = usageFor t (byte row 0); row = boundRow head ground row })
+    (filterBy (λ row. not (eqb (usageFor t (byte row 0)) 0)) rows)
+
+-- ---- ground literals in memory
+
+-- as many as a step can have; behind their rows a byte for each one's usage, and one for each event
+abbrev pub maxGround : ℕ
+maxGround = maxEvents * maxLiterals
+
+abbrev pub usagesAt : ℕ
+usagesAt = 8 * maxGround
+
+abbrev pub countsAt : ℕ
+countsAt = usagesAt + maxGround
+
+abbrev pub groundedBytes : ℕ
+groundedBytes = countsAt + maxEvents
+
+-- that at a place of the memory, and the first n
+abbrev pub groundAt : List ℕ → ℕ → GroundLiteral
+groundAt memory i = record { usage = getD memory (usagesAt + i) 0; row = rowIn memory i }
+
+abbrev pub groundIn : ℕ → List ℕ → List GroundLiteral
+groundIn zero memory = []
+groundIn (suc n) memory = groundIn n memory ++ (groundAt memory n ∷ [])
+
+-- several lists of them, one behind the other
+abbrev pub inOne : List (List GroundLiteral) → List GroundLiteral
+inOne parts = flatMap (λ (part : List GroundLiteral). part) parts
+
+-- the memory holds these lists, and how many each has
+pub record Laid (parts : List (List GroundLiteral)) (memory : List ℕ) (total : ℕ) : Type 0 where
+  pub filled : groundIn total memory ≡ inOne parts
+  pub counted : (i : ℕ) → i < length parts → getD memory (countsAt + i) 0 ≡ length (getD parts i [])
+
+-- the memory holds the ground literals of the events of a step, in a domain that was read
+pub record Grounded (D : Domain) (head : List ℕ) (es : List Event) (memory : List ℕ) (total : ℕ) : Type 0 where
+  pub says : HeadOf D head
+  pub fit : EventsFit D es
+  pub laid : Laid (map (eventLiterals D) es) memory total
+
+-- each row has the arity of its relation
+abbrev pub EachSized : List ℕ → List GroundLiteral → Type 0
+EachSized head ls = (l : GroundLiteral) → In l ls → SizedRow head (l .row)

@@ -1,3 +1,2 @@
--- How the code holds events and open entries.
+-- How the code holds events, open entries and ground literals; what a reader must believe of them is verdict/Machine.
 pub mod Held
-pub mod Grounding

@@ -13,10 +13,9 @@ ghost use mathlib.Core.Path.{_≡_};
 ghost use Prim.Native.Nat.{_+_, _*_, _<_, _≤_};
 ghost use lib.ListN.{length, getD, take, drop};
 ghost use Rattle.records.specs.Lists.{any};
-ghost use Rattle.literals.specs.Table.{rowsIn};
-ghost use Rattle.verdict.specs.Patterns.{patternsMeet};
+ghost use Rattle.literals.specs.Held.{rowsIn, argumentNumber};
+ghost use Rattle.verdict.specs.Held.{patternsMeet};
 ghost use Rattle.run_semantics.specs.RunFile.{momentOf};
-ghost use Rattle.literals.specs.Table.{argumentNumber};
 ghost use Rattle.events.specs.Held.{boundArgument, boundBytes, boundRow, isPattern, timeOf};
 
 // The object that an action's row has for a variable. (What is answered for a number that is no variable's is never asked for.)

@@ -18,14 +18,12 @@ ghost use Prim.Native.Nat.{_+_, _*_, _<_, _≤_};
 ghost use lib.ListN.{length, getD, take, drop};
 ghost use Rattle.literals.specs.Domain.{Domain};
 ghost use Rattle.literals.specs.Decode.{maxLiterals};
-ghost use Rattle.literals.specs.Table.{rowsIn};
-ghost use Rattle.literals.specs.Held.{Held};
+ghost use Rattle.literals.specs.Held.{rowsIn, Held};
 ghost use Rattle.literals.specs.Matching.{momentNumber};
 ghost use Rattle.verdict.specs.Machine.{GroundAction, Event};
 ghost use Rattle.run_semantics.specs.RunFile.{maxEvents};
-ghost use Rattle.events.specs.Held.{groundBytes, waitingBytes, groundRow, waitingOf, GroundFits, EventsFit};
-ghost use Rattle.events.specs.Grounding.{groundLiterals, eventLiterals, rowLiterals, maxGround, countsAt, groundedBytes};
-ghost use Rattle.events.specs.Grounding.{groundIn, Grounded};
+ghost use Rattle.events.specs.Held.{groundBytes, waitingBytes, groundRow, waitingOf, GroundFits, EventsFit, groundLiterals};
+ghost use Rattle.events.specs.Held.{eventLiterals, rowLiterals, maxGround, countsAt, groundedBytes, groundIn, Grounded};
 
 // How many a step has at most.
 pub const MAX_GROUND: usize = MAX_EVENTS * MAX_LITERALS;
@@ -33,9 +31,9 @@ pub const MAX_GROUND: usize = MAX_EVENTS * MAX_LITERALS;
 // Their memory, in sections: a row for each one (relation, arity, arguments: objects, or FF for every object; FF to fill), behind the rows
 // a byte for each one's usage (1 true condition, 2 false condition, 3 add, 4 delete), and behind that a byte for each event of a step, how
 // many it has.
-pub const CLAUSES: usize = 8 * MAX_GROUND;
+pub const USAGES: usize = 8 * MAX_GROUND;
 
-pub const COUNTS: usize = CLAUSES + MAX_GROUND;
+pub const COUNTS: usize = USAGES + MAX_GROUND;
 
 pub const GROUNDED: usize = COUNTS + MAX_EVENTS;
 
@@ -48,11 +46,11 @@ fn put_literal(memory: &mut [u8], n: usize, usage: u8, row: [u8; 8])
     ensures counts { λ _. ⌜ drop countsAt (now (memory .exit)) ≡ drop countsAt (now (memory .entry)) ⌝ }
 {
     put_bytes(memory, 8 * n, &row);
-    memory[CLAUSES + n] = usage;
+    memory[USAGES + n] = usage;
 }
 
 // Appends that of the literal's row at an offset to the first n, if it counts at this time; answers the new count.
-fn ground_row(
+fn ground_literal(
     memory: &mut [u8],
     n: usize,
     time: Time,
@@ -78,7 +76,7 @@ fn ground_row(
 }
 
 // Appends those of the first k rows of an action's literals to the first `at`; answers the new count.
-fn ground_rows(
+fn ground_literals(
     memory: &mut [u8],
     at: usize,
     time: Time,
@@ -97,7 +95,7 @@ fn ground_rows(
 {
     let mut n = at;
     for i in 0..k {
-        n = ground_row(memory, n, time, head, ground, rows, 8 * i);
+        n = ground_literal(memory, n, time, head, ground, rows, 8 * i);
     }
     n
 }
@@ -127,7 +125,7 @@ pub fn ground_action(
     let span = rows_of(head, table, action);
     let from = 8 * span.from;
     let to = 8 * span.to;
-    ground_rows(
+    ground_literals(
         memory,
         n,
         time,

@@ -20,17 +20,14 @@ ghost use mathlib.Core.List.{List, [], _++_};
 ghost use Prim.Native.Nat.{_+_, _*_, _≤_, _<_};
 ghost use lib.Dec.{eqb, leb};
 ghost use lib.ListN.{length, take, drop, replicate};
-ghost use Rattle.records.specs.Lists.{all, sameList};
+ghost use Rattle.records.specs.Lists.{all, sameList, position};
 ghost use Rattle.literals.specs.Domain.{Domain};
-ghost use Rattle.literals.specs.Table.{Bounded};
-ghost use Rattle.literals.specs.Held.{HeadOf};
-ghost use Rattle.literals.specs.Keys.{position};
+ghost use Rattle.literals.specs.Held.{Bounded, HeadOf};
 ghost use Rattle.verdict.specs.Machine.{GroundAction, Event, isOpen, closeAll, openedBy};
 ghost use Rattle.events.specs.Held.{groundBytes, openBytes, waitingBytes, groundsIn, openOf, waitingOf, GroundsFit, EventsFit};
-ghost use Rattle.events.specs.Held.{eventAt, eventsIn, endOpen, closeEntry, closeEvent, closeEvents};
-ghost use Rattle.events.specs.Held.{joinEntry, opensBy, joinEvent, joinEvents};
-ghost use Rattle.events.specs.Held.{agendaBytes, openIn, waitingIn};
-ghost use Rattle.store.specs.Rows.{hasRow};
+ghost use Rattle.events.specs.Held.{eventAt, eventsIn, endOpen, closeEntry, closeEvent, closeEvents, joinEntry, opensBy, joinEvent};
+ghost use Rattle.events.specs.Held.{joinEvents, agendaBytes, agendaOpen, agendaWaiting};
+ghost use Rattle.store.specs.Held.{hasRow};
 ghost use Rattle.run_semantics.specs.RunFile.{maxRunning, maxEvents};
 
 // How many entries there are once the starts are added, where they fit.
@@ -341,10 +338,10 @@ pub fn agenda_after(head: &Head, agenda: &mut [u8], opened: usize, waits: usize)
     requires { ⌜ length (now agenda) ≡ agendaBytes ⌝ }
     ensures joined { λ r. ⌜ ((D : Domain) (gs : List GroundAction) (es : List Event)
         → HeadOf D (now (head .entry)) → GroundsFit D gs → EventsFit D es → length gs ≤ maxRunning → length es ≤ maxEvents
-        → openIn opened (now (agenda .entry)) ≡ openOf gs → waitingIn waits (now (agenda .entry)) ≡ waitingOf es
+        → agendaOpen opened (now (agenda .entry)) ≡ openOf gs → agendaWaiting waits (now (agenda .entry)) ≡ waitingOf es
         → (r .fits ≡ leb (length (closeAll es gs ++ openedBy D es)) maxRunning)
-        × (r .fits ≡ true → openIn (r .count) (now (agenda .exit)) ≡ openOf (closeAll es gs ++ openedBy D es))) ⌝ }
-    ensures waits { λ r. ⌜ (r .fits ≡ true → waitingIn 0 (now (agenda .exit)) ≡ waitingOf []) ⌝ }
+        × (r .fits ≡ true → agendaOpen (r .count) (now (agenda .exit)) ≡ openOf (closeAll es gs ++ openedBy D es))) ⌝ }
+    ensures waits { λ r. ⌜ (r .fits ≡ true → agendaWaiting 0 (now (agenda .exit)) ≡ waitingOf []) ⌝ }
     ensures refused { λ r. ⌜ (r .fits ≡ false → now (agenda .exit) ≡ now (agenda .entry)) ⌝ }
 {
     let mut rows = [0u8; OPEN_ROWS];

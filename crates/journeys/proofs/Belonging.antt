@@ -18,12 +18,11 @@ use Rattle.literals.specs.declared.Variable.{Variable}
 use Rattle.literals.specs.declared.Argument.{Argument}
 use Rattle.literals.specs.declared.Moment.the-variants.{Start}
 use Rattle.literals.specs.declared.Usage.the-variants.{Positive}
-use Rattle.literals.specs.Domain.{sameObject, isEvery, variablesOf, usageNumber, mayClear, keepsKeys, Atom, Literal, Fact}
-use Rattle.literals.specs.Domain.{keysOf, Domain, Action, noAction, action}
+use Rattle.literals.specs.Domain.{sameObject, isEvery, variablesOf, usageNumber, mayClear, keepsKeys, Atom, Literal, Fact, keysOf, Domain}
+use Rattle.literals.specs.Domain.{Action, noAction, action}
 use Rattle.literals.specs.Decode.{maxLiterals}
-use Rattle.literals.specs.Table.{argumentNumber, rowOf, rowsIn, literalRow, pad, Bounded}
+use Rattle.literals.specs.Held.{argumentNumber, rowOf, rowsIn, literalRow, pad, Bounded, rowIn, keysIn, componentRowsIn, TemplateOf}
 use Rattle.run_semantics.specs.Track.{instanceOf}
-use Rattle.literals.specs.Held.{keysIn, componentRowsIn, TemplateOf}
 use Rattle.literals.proofs.Bounds.{arity-six}
 use Rattle.literals.proofs.Bytes.{keys-once}
 use Rattle.literals.proofs.KeyRows.{length-rows}
@@ -31,7 +30,7 @@ use Rattle.literals.proofs.Tables.{kept, length-flat, length-literal-row, pad-a
 use Rattle.literals.proofs.Arguments.{plain-numbers}
 use Rattle.literals.specs.Matching.{tuplesOf, hasTuple, matches}
 use Rattle.classes.specs.Classes.{literalTuples, classes, belongs, journey}
-use Rattle.classes.specs.Held.{ActionOf, classNumbers, counts, usageAt, usagesFrom, usagesBy, usagesAt, isAt, soleAt, rowAt}
+use Rattle.classes.specs.Held.{ActionOf, classNumbers, counts, usageAt, usagesFrom, usagesBy, ownUsages, isAt, soleAt}
 use Rattle.classes.proofs.Rows.{noLiteral, literalAt, row-at}
 use Rattle.classes.proofs.Members.{tuple-once, member}
 use Rattle.classes.proofs.Soles.{sole-less, sole-passes}
@@ -46,11 +45,12 @@ use Rattle.verdict.proofs.Patterns.{plain-row, literal-plain}
 use Rattle.verdict.proofs.TopWeight.{instance-size}
 use Rattle.verdict.proofs.Equality.{objects-eq}
 use Rattle.verdict.proofs.Instances.{class-keys}
-use Rattle.store.specs.Rows.{factRow, FactFits, instanceRows, rowWeight}
+use Rattle.verdict.specs.Held.{factRow}
+use Rattle.store.specs.Held.{FactFits, instanceRows, rowWeight}
 use Rattle.store.proofs.InstanceRows.{weight-is}
 use Rattle.events.specs.Held.{groundRow, boundRow, GroundFits, GroundsFit}
 use Rattle.events.proofs.FactRows.{noGround, few-objects, bound-pattern, length-fact-row}
-use Rattle.journeys.specs.Marked.{journeyMark}
+use Rattle.journeys.specs.Held.{journeyMark}
 
 -- the rows of an action's literals
 pub rows-length : {D : Domain} {a : Action} {head rows : List ℕ} → ActionOf D a head rows → length rows ≡ 8 * length (a .lits)
@@ -88,7 +88,7 @@ module _ (D : Domain) (a : Action) {head rows : List ℕ} (A : ActionOf D a head
   x = getD (classes D a) class []
 
   abbrev sole : ℕ
-  sole = soleAt (classNumbers D a) (pad maxLiterals (usagesAt a Start)) class 1
+  sole = soleAt (classNumbers D a) (pad maxLiterals (ownUsages a Start)) class 1
 
   -- 0: no journey
   pub mark-none : journeyMark D a class ≡ 0 → journey D a x ≡ false
@@ -131,7 +131,7 @@ module _ (D : Domain) (a : Action) {head rows : List ℕ} (A : ActionOf D a head
     pub mark-inside : journeyMark D a class - 1 < length (a .lits)
     unfolding soleAt
     mark-inside =
-        let l = sole-less (isAt (classNumbers D a) (pad maxLiterals (usagesAt a Start)) class 1) (length (classNumbers D a)) few
+        let l = sole-less (isAt (classNumbers D a) (pad maxLiterals (ownUsages a Start)) class 1) (length (classNumbers D a)) few
         (λ e. some (mark-is ∙ e)) not-many in
         let n = numbers-length in
         let m = mark-is in
@@ -145,10 +145,10 @@ module _ (D : Domain) (a : Action) {head rows : List ℕ} (A : ActionOf D a head
     atom = literalAt (a .lits) place .atom
 
     -- it is in the class with usage 1
-    at-mark : isAt (classNumbers D a) (pad maxLiterals (usagesAt a Start)) class 1 (sole - 1) ≡ true
+    at-mark : isAt (classNumbers D a) (pad maxLiterals (ownUsages a Start)) class 1 (sole - 1) ≡ true
     unfolding soleAt
     at-mark =
-        sole-passes (isAt (classNumbers D a) (pad maxLiterals (usagesAt a Start)) class 1) (length (classNumbers D a)) few
+        sole-passes (isAt (classNumbers D a) (pad maxLiterals (ownUsages a Start)) class 1) (length (classNumbers D a)) few
         (λ e. some (mark-is ∙ e)) not-many
 
     pub mark-belongs : belongs D x atom ≡ true
@@ -165,8 +165,8 @@ module _ (D : Domain) (a : Action) {head rows : List ℕ} (A : ActionOf D a head
     mark-plain =
         let m = mark-is in
         let p = at-mark in
-        let u : getD (usagesAt a Start) (sole - 1) 0 ≡ 1 =
-        sym (pad-at maxLiterals (usagesAt a Start) (sole - 1)) ∙ eqb-true _ 1 (and-r (eqb (getD (classNumbers D a) (sole - 1) 0) class) _ p) in
+        let u : getD (ownUsages a Start) (sole - 1) 0 ≡ 1 =
+        sym (pad-at maxLiterals (ownUsages a Start) (sole - 1)) ∙ eqb-true _ 1 (and-r (eqb (getD (classNumbers D a) (sole - 1) 0) class) _ p) in
         let v = rw (← (ap (λ (k : ℕ). k - 1) m)) at u in
         literal-plain (A .says .bounded) (A .listed) (literalAt (a .lits) place) (getD-in (a .lits) place noLiteral mark-inside)
         (true-plain [] (a .lits) place v)
@@ -238,7 +238,7 @@ module _ {D : Domain} {head rows : List ℕ} (g : GroundAction) (A : ActionOf D 
   row-is =
       let B = A .says .bounded in
       let n = G .bound in
-      ap (λ (t : List ℕ). boundRow head (groundRow g) (rowAt t at)) (A .literals)
+      ap (λ (t : List ℕ). boundRow head (groundRow g) (rowIn t at)) (A .literals)
       ∙ ap (boundRow head (groundRow g)) (row-at (a .lits) (λ l m. kept B (A .listed) m) at at-inside)
       ∙ bound-pattern head g condition
       (B .literalArity a (A .listed) condition condition-in ∙ sym (A .says .arities (condition .atom .rel))) (few-objects B g G)
@@ -307,18 +307,18 @@ none-more p l i found h = ap (λ (t : List _). found + countBy p t) (drop-of-len
 -- ---- the marks of the first classes
 
 pub mark-yes : (D : Domain) (a : Action) (class : ℕ) (t : Bool) (of usages : List ℕ) (v : ℕ) → t ≡ true
-    → t ≡ journey D a (getD (classes D a) class []) → of ≡ classNumbers D a → usages ≡ pad maxLiterals (usagesAt a Start)
+    → t ≡ journey D a (getD (classes D a) class []) → of ≡ classNumbers D a → usages ≡ pad maxLiterals (ownUsages a Start)
     → v ≡ soleAt of usages class 1 → v ≡ journeyMark D a class
 unfolding journeyMark
 mark-yes D a class t of usages v y e o c w =
     w ∙ ap₂ (λ (p q : List ℕ). soleAt p q class 1) o c
-    ∙ sym (ap (λ (b : Bool). cond b (soleAt (classNumbers D a) (pad maxLiterals (usagesAt a Start)) class 1) 0) (sym e ∙ y))
+    ∙ sym (ap (λ (b : Bool). cond b (soleAt (classNumbers D a) (pad maxLiterals (ownUsages a Start)) class 1) 0) (sym e ∙ y))
 
 pub mark-no : (D : Domain) (a : Action) (class : ℕ) (t : Bool) → t ≡ false → t ≡ journey D a (getD (classes D a) class [])
     → 0 ≡ journeyMark D a class
 unfolding journeyMark
 mark-no D a class t n e =
-    sym (ap (λ (b : Bool). cond b (soleAt (classNumbers D a) (pad maxLiterals (usagesAt a Start)) class 1) 0) (sym e ∙ n))
+    sym (ap (λ (b : Bool). cond b (soleAt (classNumbers D a) (pad maxLiterals (ownUsages a Start)) class 1) 0) (sym e ∙ n))
 
 pub record FirstMarked (D : Domain) (a : Action) (marks : List ℕ) (i : ℕ) : Type 0 where
   pub sized : length marks ≡ maxLiterals

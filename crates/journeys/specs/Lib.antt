@@ -1,2 +1,2 @@
--- How the code marks the journeys of an action.
-pub mod Marked
+-- How the code marks the journeys of an action; what a reader must believe of them is classes/Classes.
+pub mod Held

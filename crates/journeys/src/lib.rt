@@ -5,8 +5,8 @@ use classes::AT_START;
 use classes::Marks;
 use classes::Soles;
 use classes::names::is_journey;
+use classes::names::note_soles;
 use classes::names::sole_in;
-use classes::names::tally;
 use classes::names::usages_at;
 use classes::number::number_classes;
 use events::GROUND;
@@ -36,19 +36,19 @@ ghost use Rattle.literals.specs.declared.Object.{Object};
 ghost use Rattle.literals.specs.declared.Moment.the-variants.{Start, End};
 ghost use Rattle.literals.specs.Domain.{sameObject, Fact, keysOf, Domain, Action, action};
 ghost use Rattle.literals.specs.Decode.{maxLiterals};
-ghost use Rattle.literals.specs.Table.{rowOf, rowsIn, pad};
-ghost use Rattle.literals.specs.Held.{Held};
+ghost use Rattle.literals.specs.Held.{rowOf, rowsIn, pad, Held};
 ghost use Rattle.classes.specs.Classes.{classes, journey};
-ghost use Rattle.classes.specs.Held.{ActionOf, MomentOf, Sides, classNumbers, usagesAt, soleOf, soleIn};
+ghost use Rattle.classes.specs.Held.{ActionOf, MomentOf, Sides, classNumbers, ownUsages, soleOf, soleIn};
 ghost use Rattle.verdict.specs.Binding.{bindTuple};
 ghost use Rattle.verdict.specs.Judged.{objectNumbers};
 ghost use Rattle.verdict.specs.Machine.{GroundAction, State};
 ghost use Rattle.verdict.specs.Claims.{wellFormed, journeysFor, total};
+ghost use Rattle.verdict.specs.Held.{factRow};
 ghost use Rattle.run_semantics.specs.RunFile.{maxRunning, maxFacts};
 ghost use Rattle.run_semantics.specs.Track.{instanceOf};
-ghost use Rattle.store.specs.Rows.{factRow, FactFits};
-ghost use Rattle.events.specs.Held.{groundBytes, openBytes, agendaBytes, groundRow, openIn, openOf, GroundFits, GroundsFit};
-ghost use Rattle.journeys.specs.Marked.{journeyMark};
+ghost use Rattle.store.specs.Held.{FactFits};
+ghost use Rattle.events.specs.Held.{groundBytes, openBytes, agendaBytes, groundRow, agendaOpen, openOf, GroundFits, GroundsFit};
+ghost use Rattle.journeys.specs.Held.{journeyMark};
 
 // The mark of a class of a lasting action, by the usages of its literals at the start and by what its classes have at both moments: 0
 // where it is no journey, k + 1 where its true condition at the start is the literal k.
@@ -58,7 +58,7 @@ fn mark_of(rows: &[u8], numbers: &[u8], usages: &Marks, soles: &Soles, class: us
     requires counted { ⌜ soleIn (now soles) 0 class ≡ soleOf (now numbers) (now usages) class ⌝ }
     ensures { λ r. ⌜ ((D : Domain) (a : Action) (head : List ℕ)
         → MomentOf D a Start head (now (rows .entry)) (now (numbers .entry)) (now (usages .entry)) → a .lasting ≡ true
-        → soleIn (now (soles .entry)) 2 class ≡ soleOf (classNumbers D a) (pad maxLiterals (usagesAt a End)) class
+        → soleIn (now (soles .entry)) 2 class ≡ soleOf (classNumbers D a) (pad maxLiterals (ownUsages a End)) class
         → class < length (classes D a) → r ≡ journeyMark D a class) ⌝ }
 {
     let start = sole_in(soles, AT_START, class);
@@ -80,7 +80,7 @@ fn mark_journeys(rows: &[u8], numbers: &[u8], count: usize, marks: &mut Marks)
 {
     let mut soles = [0u8; 5 * MAX_LITERALS];
     let mut usages = [0u8; MAX_LITERALS];
-    tally(rows, numbers, &mut soles);
+    note_soles(rows, numbers, &mut soles);
     usages_at(false, rows, numbers.len(), Moment::Start, &mut usages);
     for class in 0..count {
         marks[class] = mark_of(rows, numbers, &usages, &soles, class);
@@ -225,7 +225,7 @@ pub fn total_of(
     requires agenda { ⌜ length (now agenda) ≡ agendaBytes ⌝ }
     ensures { λ r. ⌜ ((D : Domain) (s : State) → Held D (now (head .entry)) (now (table .entry)) → wellFormed D ≡ true
         → rowsIn facts (now (work .entry)) ≡ map factRow (s .facts) → ((f : Fact) → In f (s .facts) → FactFits D f)
-        → openIn opened (now (agenda .entry)) ≡ openOf (s .running) → GroundsFit D (s .running) → length (s .running) ≤ maxRunning
+        → agendaOpen opened (now (agenda .entry)) ≡ openOf (s .running) → GroundsFit D (s .running) → length (s .running) ≤ maxRunning
         → r ≡ total D (instanceOf (now (instance .entry))) s) ⌝ }
 {
     if MAX_RUNNING < opened {

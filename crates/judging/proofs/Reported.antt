@@ -10,8 +10,7 @@ use Rattle.records.specs.Memory.{over}
 use Rattle.records.proofs.Memory.{length-over, over-more}
 use Rattle.literals.specs.declared.Variable.{Variable}
 use Rattle.literals.specs.Domain.{Action, Domain, noAction, action}
-use Rattle.literals.specs.Table.{pad}
-use Rattle.literals.specs.Held.{lastingIn, HeadOf}
+use Rattle.literals.specs.Held.{pad, lastingIn, HeadOf}
 use Rattle.literals.proofs.Tables.{pad-at}
 use Rattle.literals.specs.declared.Moment.the-variants.{Start, End}
 use Rattle.literals.specs.Matching.{momentNumber}

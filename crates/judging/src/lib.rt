@@ -23,9 +23,9 @@ ghost use Rattle.literals.specs.Held.{Held, Read};
 ghost use Rattle.classes.specs.Held.{numbersOf};
 ghost use Rattle.reading.specs.Held.{EnoughTable};
 ghost use Rattle.verdict.specs.Judged.{answerAt, decided, writesWitness, judged, reportAfter, witnessAfter};
-ghost use Rattle.verdict.specs.Claims.{wellFormed, AcceptedSafe, RefusedHarmful, WitnessHarms};
+ghost use Rattle.verdict.specs.Claims.{wellFormed, DecidesFile, AcceptedSafe, RefusedHarmful, WitnessHarms};
 ghost use Rattle.verdict.specs.Held.{judgementOf};
-ghost use Rattle.judging.specs.Held.{JudgedAs, DecidesFile};
+ghost use Rattle.judging.specs.Held.{JudgedAs};
 
 fn at_offset(number: u64, place: usize) -> Judgement
     ensures { λ r. ⌜ r ≡ judgementOf (answerAt number place) ⌝ }

@@ -11,8 +11,7 @@ ghost use Rattle.records.specs.Memory.{over};
 ghost use Rattle.literals.specs.declared.Variable.{Variable};
 ghost use Rattle.literals.specs.Domain.{Action, Domain};
 ghost use Rattle.literals.specs.Decode.{maxActions};
-ghost use Rattle.literals.specs.Table.{pad};
-ghost use Rattle.literals.specs.Held.{HeadOf};
+ghost use Rattle.literals.specs.Held.{pad, HeadOf};
 ghost use Rattle.literals.specs.Matching.{momentNumber};
 ghost use Rattle.classes.specs.Classes.{momentsOf};
 ghost use Rattle.verdict.specs.Decision.{Row, rowAt, rowsOfClasses, rows};
@@ -22,7 +21,7 @@ ghost use Rattle.judging.specs.Held.{Reporting};
 
 // One row at a place, with the name that is stored for it. (Both memories have room for the rows of every domain; the tests are there for
 // the proof alone.)
-fn put_row(report: &mut [u8], at: usize, action: u8, class: u8, moment: u8, names: &[u8])
+fn put_moment(report: &mut [u8], at: usize, action: u8, class: u8, moment: u8, names: &[u8])
     ensures { λ _. ⌜ ((rs rest : List Row) (r : Row) (old given : List ℕ)
         → Reporting rs (r ∷ rest) at (now (report .entry)) (now (names .entry)) old given
         → action ≡ r .action → class ≡ r .class → moment ≡ momentNumber (r .moment)
@@ -53,9 +52,9 @@ fn put_class(
         → Reporting rs (map (rowAt D a action class x) (momentsOf a) ++ rest) at (now (report .entry)) (now (names .entry)) old given
         → Reporting (rs ++ map (rowAt D a action class x) (momentsOf a)) rest r (now (report .exit)) (now (names .entry)) old given) ⌝ }
 {
-    put_row(report, at, action, class, 0, names);
+    put_moment(report, at, action, class, 0, names);
     if lasting {
-        put_row(report, at + 1, action, class, 1, names);
+        put_moment(report, at + 1, action, class, 1, names);
         return at + 2;
     }
     at + 1

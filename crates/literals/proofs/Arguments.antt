@@ -15,11 +15,10 @@ use Rattle.literals.specs.declared.Argument.{Argument}
 use Rattle.literals.specs.declared.Argument.the-variants.{Variable as bound, Every}
 use Rattle.literals.specs.declared.Label.{Label}
 use Rattle.literals.specs.declared.Label.the-variants.{Key as keyed, Counted}
-use Rattle.literals.specs.Domain.{variable, key, sameArgument, meetArgument, isEvery, variableBelow, variablesOf, Atom}
-use Rattle.literals.specs.Domain.{meets, roleOf, mayClear, clearsOnce, Component, isCounted, keysBound, keepsKeys}
+use Rattle.literals.specs.Domain.{variable, key, sameArgument, meetArgument, isEvery, variableBelow, variablesOf, Atom, meets, roleOf}
+use Rattle.literals.specs.Domain.{mayClear, clearsOnce, Component, isCounted, keysBound, keepsKeys}
 use Rattle.literals.specs.Decode.{byte, argumentOf, literalOf, noVariable, labelOf}
-use Rattle.literals.specs.Fields.{keyBeside}
-use Rattle.literals.specs.Table.{argumentNumber, meetByte}
+use Rattle.literals.specs.Held.{keyBeside, argumentNumber, meetByte}
 
 pub or-false : (a : Bool) → a || false ≡ a
 or-false true = refl

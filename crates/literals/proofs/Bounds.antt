@@ -20,7 +20,7 @@ use Rattle.literals.specs.Decode.{maxRelations, maxArguments, maxActions
 use Rattle.literals.specs.Decode.{relationRecord, actionRecord, literalRecord, componentRecord, closingRecord, unknownRecord, latest}
 use Rattle.literals.specs.Decode.{byte, argumentOf, literalOf, noVariable, labelOf, componentOf, actionOf, withLiteral, fieldStop}
 use Rattle.literals.specs.Decode.{stopOf, extend, noDomain, domain, decode}
-use Rattle.literals.specs.Table.{Bounded}
+use Rattle.literals.specs.Held.{Bounded}
 use Rattle.literals.proofs.Loop.{decoded-by}
 use Rattle.literals.proofs.Stops.{Passes, passes, relation-passes, action-passes, LiteralPasses, literal-passes, role-nine, ComponentPasses, component-passes}
 

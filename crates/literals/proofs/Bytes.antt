@@ -16,12 +16,12 @@ use Rattle.records.proofs.Numbers.{cond-or}
 use Rattle.literals.specs.declared.Argument.the-variants.{Variable as bound, Every}
 use Rattle.literals.specs.declared.Label.{Label}
 use Rattle.literals.specs.declared.Label.the-variants.{Key as keyed, Counted}
-use Rattle.literals.specs.Domain.{variable, isEvery, variableBelow, key, isKey, isCounted, keyBelow, eachKeyOnce, labelsFit, clearsOnce}
-use Rattle.literals.specs.Decode.{byte, argumentOf, literalOf, noVariable, labelOf, countedAgain, sameLabelKey, keyAgain, keyTooHigh, atRecord}
-use Rattle.literals.specs.Decode.{atLabel, labelFault}
-use Rattle.literals.specs.Held.{relationsIn, arityIn, lastingIn}
-use Rattle.literals.specs.Fields.{argumentsStop, literalShape, literalArguments, again, highKey, keysBelow, eachOnce}
-use Rattle.literals.specs.Table.{hasEvery}
+use Rattle.literals.specs.Domain.{variable, isEvery, variableBelow, key, isKey, isCounted, keyBelow, eachKeyOnce, labelsFit}
+use Rattle.literals.specs.Domain.{clearsOnce}
+use Rattle.literals.specs.Decode.{byte, argumentOf, literalOf, noVariable, labelOf, countedAgain, sameLabelKey, keyAgain, keyTooHigh}
+use Rattle.literals.specs.Decode.{atRecord, atLabel, labelFault}
+use Rattle.literals.specs.Held.{relationsIn, arityIn, lastingIn, argumentsStop, literalShape, literalArguments, again, highKey}
+use Rattle.literals.specs.Held.{keysBelow, eachOnce, hasEvery}
 use Rattle.literals.proofs.Arguments.{clears-none}
 use Rattle.literals.proofs.Labels.{first-map, found-map}
 

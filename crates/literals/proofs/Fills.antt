@@ -14,10 +14,14 @@ use Rattle.records.specs.Lists.{any, countBy}
 use Rattle.records.proofs.Lists.{bool-cases, count-le, map-back, any-append}
 use Rattle.records.proofs.Memory.{getD-fill}
 use Rattle.literals.specs.declared.Label.the-variants.{Key as keyed, Counted}
-use Rattle.literals.specs.Decode.{relationRecord, actionRecord, literalRecord, componentRecord, byte, labelOf, componentOf, literalOf, actionOf, withLiteral, latest, fieldStop, stopOf, extend, noDomain, maxRelations, maxArguments, maxActions, maxVariables, maxLiterals, maxComponents}
-use Rattle.literals.specs.Domain.{key, Literal, Action, Component, isCounted, keysOf, Domain, noAction, action, bare}
-use Rattle.literals.specs.Table.{rowOf, labelNumber, componentRow, allLiterals, hasEvery, someEvery, Bounded}
-use Rattle.literals.specs.Held.{within, relationsIn, actionsIn, componentsIn, keysIn, arityIn, bytesFrom, componentRowIn, componentRowsFrom, componentRowsIn, variablesIn, lastingIn, sizeIn, firstIn, atArities, atComponents, atVariables, atSorts, atSizes, atLows, atHighs, atClears, clearsIn, headBytes, HeadOf, Filled}
+use Rattle.literals.specs.Decode.{relationRecord, actionRecord, literalRecord, componentRecord, byte, labelOf, componentOf, literalOf}
+use Rattle.literals.specs.Decode.{actionOf, withLiteral, latest, fieldStop, stopOf, extend, noDomain, maxRelations, maxArguments}
+use Rattle.literals.specs.Decode.{maxActions, maxVariables, maxLiterals, maxComponents}
+use Rattle.literals.specs.Domain.{key, Literal, Action, Component, isCounted, keysOf, Domain, noAction, action, bare, labelNumber}
+use Rattle.literals.specs.Held.{rowOf, componentRow, allLiterals, hasEvery, someEvery, Bounded, within, relationsIn, actionsIn}
+use Rattle.literals.specs.Held.{componentsIn, keysIn, arityIn, bytesFrom, componentRowIn, componentRowsFrom, componentRowsIn}
+use Rattle.literals.specs.Held.{variablesIn, lastingIn, sizeIn, firstIn, atArities, atComponents, atVariables, atSorts, atSizes}
+use Rattle.literals.specs.Held.{atLows, atHighs, atClears, clearsIn, headBytes, HeadOf, Filled}
 use Rattle.literals.proofs.Rows.{length-row}
 use Rattle.literals.proofs.Stops.{passes, relation-passes, action-passes, component-passes}
 use Rattle.literals.proofs.Bounds.{arity-six, bounded-extend, bounded-none, length-withLiteral}

@@ -14,8 +14,9 @@ use Rattle.records.specs.Memory.{over}
 use Rattle.records.proofs.Lists.{bool-cases, getD-in, flatMap-in}
 use Rattle.literals.specs.Decode.{maxRelations, maxArguments, maxVariables}
 use Rattle.literals.specs.Domain.{Literal, Action, Component, Domain, noAction, action}
-use Rattle.literals.specs.Table.{literalRow, componentRow, allLiterals, tableBytes, rowsIn, Bounded}
-use Rattle.literals.specs.Held.{within, keysIn, componentsIn, arityIn, bytesFrom, componentRowIn, componentRowsFrom, componentRowsIn, variablesIn, sizeIn, firstIn, HeadOf, TemplateOf, Held, SpanOf, atArities, atComponents, atVariables}
+use Rattle.literals.specs.Held.{literalRow, componentRow, allLiterals, tableBytes, rowsIn, Bounded, within, keysIn, componentsIn}
+use Rattle.literals.specs.Held.{arityIn, bytesFrom, componentRowIn, componentRowsFrom, componentRowsIn, variablesIn, sizeIn, firstIn}
+use Rattle.literals.specs.Held.{HeadOf, TemplateOf, Held, SpanOf, atArities, atComponents, atVariables}
 use Rattle.literals.proofs.Tables.{length-literal-row, length-flat, length-literals, rows-flat}
 use Rattle.literals.proofs.Held.{literals-in}
 use Rattle.literals.proofs.Spans.{part-flat, literals-split, literals-next}

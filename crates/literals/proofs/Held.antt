@@ -11,7 +11,7 @@ use Rattle.literals.specs.Domain.{Literal, Action, Component, isCounted,
 use Rattle.literals.specs.declared.RecordFault.{RecordFault}
 use Rattle.literals.specs.Decode.{RecordKind, latest, headStop, withLiteral, fieldStop, fieldPlace, stopOf, stopPlace, maxArguments}
 use Rattle.literals.specs.Decode.{maxLiterals}
-use Rattle.literals.specs.Table.{allLiterals}
+use Rattle.literals.specs.Held.{allLiterals}
 use Rattle.literals.proofs.Stops.{isUnknown, outOfOrder, atLimit, head-number, stop-by-head}
 
 -- ---- the number that stops a record

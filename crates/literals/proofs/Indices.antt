@@ -10,9 +10,8 @@ use native.Mathlib.Omega.{arith}
 use lib.Dec.{eqb, eqb·suc-suc}
 use lib.ListN.{length, getD, take}
 use borrow.Author.Tests.{ne-eqb, eqb-true, eqb-false}
-use Rattle.records.specs.Lists.{In, keepIf, filterBy, all, any, sideBySide}
+use Rattle.records.specs.Lists.{In, keepIf, filterBy, all, any, sideBySide, position, numbersFrom, below}
 use Rattle.records.proofs.Lists.{bool-cases, filter-append, filter-agree}
-use Rattle.literals.specs.Keys.{position, numbersFrom, below}
 
 -- ---- the numbers that a loop has left
 

@@ -10,15 +10,14 @@ use lib.Dec.{eqb}
 use lib.ListN.{length, getD, set, take, drop, replicate, length-append, length-replicate, drop-of-length-le}
 use lib.Seq.{drop-cons, drop-drop, take-all, take-at}
 use borrow.Author.Tests.{eq-eqb, ne-eqb, eqb-true, eqb-false, lt-ltb, le-ltb}
-use Rattle.records.specs.Lists.{sameList}
+use Rattle.records.specs.Lists.{sameList, position, numbersFrom}
 use Rattle.records.specs.Memory.{over}
 use Rattle.records.proofs.Memory.{over-more, drop-replicate}
 use Rattle.literals.specs.Domain.{key, isKey}
 use Rattle.literals.specs.Decode.{byte, labelOf}
-use Rattle.literals.specs.Table.{rowOf, rowsBy}
+use Rattle.literals.specs.Held.{rowOf, rowsBy, placeUnder, argumentAt, underKey, underKeys, keyRow, keyRows, wordFrom, keyWord}
 use Rattle.literals.proofs.Rows.{length-row, eight-by-four, same-miss, same-hit, same-end, length-part, part-at, rows-more, rows-end}
 use Rattle.literals.proofs.Bytes.{label-key}
-use Rattle.literals.specs.Keys.{position, numbersFrom, placeUnder, argumentAt, underKey, underKeys, keyRow, keyRows, wordFrom, keyWord}
 
 -- ---- the place of the first row that passes, from row c on
 

@@ -14,7 +14,8 @@ use Rattle.records.specs.declared.Record.the-variants.{Whole, Cut, End}
 use Rattle.records.specs.Record.{recordAt, payload}
 use Rattle.records.proofs.Laws.{whole-within}
 use Rattle.literals.specs.Domain.{Domain}
-use Rattle.literals.specs.Decode.{RecordKind, kindOf, stopOf, extend, stopAt, Refusal, refuse, refuseAt, Decoded, refused, domain}
+use Rattle.literals.specs.Decode.{RecordKind, kindOf, stopOf, extend, faultOfRecord, Refusal, refuse, refuseAt, Decoded, refused}
+use Rattle.literals.specs.Decode.{domain}
 use Rattle.literals.specs.Decode.{Reading, ReadTurn, goOn, finish, readRecord, readFound, readStep, readFrom, noDomain}
 use Rattle.literals.specs.Decode.{fromStart, maxFile, decode}
 
@@ -63,7 +64,7 @@ goOn-at s r q e = start (r .closed) (ltb (r .at) (length s)) e
         after : Reading
         after = record { at = p + n; closed = eqb k 5; sofar = extend (r .sofar) (kindOf k) (payload s p n) }
 
-        go : (b : Bool) → eqb stop 0 ≡ b → cond b (goOn after) (finish (refused (refuseAt (stopAt (r .sofar) (kindOf k) (payload s p n)) (r .at)))) ≡ goOn q → GoesOn s r q
+        go : (b : Bool) → eqb stop 0 ≡ b → cond b (goOn after) (finish (refused (refuseAt (faultOfRecord (r .sofar) (kindOf k) (payload s p n)) (r .at)))) ≡ goOn q → GoesOn s r q
         go true t z =
             let w = whole-within s (r .at) g in
             let x : p + n ≡ q .at = ap (λ (y : Reading). y .at) (goOn-inj z) in
@@ -101,7 +102,7 @@ finish-sofar s r D e = start (r .closed) (ltb (r .at) (length s)) e
         after : Reading
         after = record { at = p + n; closed = eqb k 5; sofar = extend (r .sofar) (kindOf k) (payload s p n) }
 
-        go : (b : Bool) → cond b (goOn after) (finish (refused (refuseAt (stopAt (r .sofar) (kindOf k) (payload s p n)) (r .at)))) ≡ finish (domain D) → r .sofar ≡ D
+        go : (b : Bool) → cond b (goOn after) (finish (refused (refuseAt (faultOfRecord (r .sofar) (kindOf k) (payload s p n)) (r .at)))) ≡ finish (domain D) → r .sofar ≡ D
         go true z = goOn-domain z
         go false z = refused-domain z
     found Cut z = refused-domain z

@@ -12,12 +12,12 @@ use lib.Seq.{getD-set-same, getD-set-other}
 use borrow.Author.Tests.{eq-eqb, ne-eqb, eqb-true, eqb-false, leb-true}
 use Rattle.records.proofs.Lists.{bool-cases}
 use Rattle.records.proofs.Memory.{getD-fill}
+use Rattle.records.specs.Lists.{position, below}
 use Rattle.literals.specs.declared.Key.{Key}
 use Rattle.literals.specs.Domain.{key, isKey}
 use Rattle.literals.specs.Decode.{labelOf}
-use Rattle.literals.specs.Table.{pad}
-use Rattle.literals.specs.Held.{within, componentRowIn, componentRowsFrom, componentRowsIn, keysIn, componentsIn}
-use Rattle.literals.specs.Keys.{position, below, starts, marked, placeUnder, ComponentsIn, PlacesIn, PlacesOf}
+use Rattle.literals.specs.Held.{pad, within, componentRowIn, componentRowsFrom, componentRowsIn, keysIn, componentsIn, starts, marked}
+use Rattle.literals.specs.Held.{placeUnder, FirstComponents, PlacesIn, PlacesOf}
 use Rattle.literals.proofs.Heads.{parts-next, parts-end}
 use Rattle.literals.proofs.KeyRows.{place-le}
 
@@ -102,7 +102,7 @@ marked-more head n c d places₀ places places′ h next w l f =
         ap (λ (b : Bool). cond b (c + 1) (getD places r 0)) t ∙ q ∙ sym (ap (marked n) e)
 
 pub marked-all : (head : List ℕ) (n c : ℕ) (places₀ places : List ℕ) → n ≡ componentsIn head → c ≡ 0 → Marked head n c places₀ places
-    → places₀ ≡ pad 192 [] → ComponentsIn head places
+    → places₀ ≡ pad 192 [] → FirstComponents head places
 unfolding componentRowsIn
 marked-all head n c places₀ places e f w z r h =
     let s : n - 0 ≡ n = omega arith in

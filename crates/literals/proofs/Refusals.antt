@@ -19,7 +19,8 @@ use Rattle.literals.specs.declared.RecordFault.{RecordFault}
 use Rattle.literals.specs.Decode.{maxFile, RecordKind, relationRecord, actionRecord, literalRecord, componentRecord, closingRecord}
 use Rattle.literals.specs.Decode.{unknownRecord, kindOf, headStop, byte, relationStop, fieldFault}
 use Rattle.literals.specs.Decode.{actionStop, literalStop, atRecord, atLabel, componentOf, countedAgain, keyAgain, keyTooHigh}
-use Rattle.literals.specs.Decode.{labelFault, keysCleared, clearedFault, closingStop, fieldStop, stopOf, stopAt, refuseAt, extend}
+use Rattle.literals.specs.Decode.{labelFault, keysCleared, clearedFault, closingStop, fieldStop, stopOf, faultOfRecord, refuseAt}
+use Rattle.literals.specs.Decode.{extend}
 use Rattle.literals.specs.Decode.{Refusal, refuse, Decoded, refused, domain, Reading, ReadTurn, goOn, finish, readRecord, readFound}
 use Rattle.literals.specs.Decode.{readStep, readFrom, fromStart, decode}
 use Rattle.literals.proofs.Stops.{headRows, head-number, literalRows, componentRows, labelsFault, lastFault, component-number}
@@ -99,7 +100,7 @@ refuses-record r k p behind = go (eqb stop 0) refl (stop-of (r .sofar) (kindOf k
 
     go : (b : Bool) → eqb stop 0 ≡ b → Stop stop
         → RefusesAt (cond b (goOn (record { at = behind; closed = eqb k 5; sofar = extend (r .sofar) (kindOf k) p }))
-        (finish (refused (refuseAt (stopAt (r .sofar) (kindOf k) p) (r .at)))))
+        (finish (refused (refuseAt (faultOfRecord (r .sofar) (kindOf k) p) (r .at)))))
     go true e h = tt
     go false e (inl z) = absurd (eqb-false stop 0 e z)
     go false e (inr h) = h

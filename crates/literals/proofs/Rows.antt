@@ -15,9 +15,8 @@ use Rattle.records.specs.Lists.{In, any, all, sameList, sideBySide}
 use Rattle.records.proofs.Lists.{and-l, and-r, off, sameList-eq, any-same}
 use Rattle.records.proofs.Memory.{paste-more, paste-length}
 use Rattle.literals.specs.Decode.{maxArguments, byte}
-use Rattle.literals.specs.Fields.{keyBeside, keyClearedIn}
-use Rattle.literals.specs.Table.{rowOf, FourAt, EightAt, WordOf, fourBytes, meetByte, argumentsMeet, rowsMeet, meetsAs, opposedRoles}
-use Rattle.literals.specs.Table.{contradictsRow, rowsBy, rowsIn}
+use Rattle.literals.specs.Held.{keyBeside, keyClearedIn, rowOf, FourAt, EightAt, WordOf, fourBytes, meetByte, argumentsMeet, rowsMeet}
+use Rattle.literals.specs.Held.{meetsAs, opposedRoles, contradictsRow, rowsBy, rowsIn}
 
 -- ---- a payload's row
 

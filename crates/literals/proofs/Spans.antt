@@ -10,7 +10,7 @@ use Rattle.records.specs.Lists.{In}
 use Rattle.records.specs.Memory.{over}
 use Rattle.records.proofs.Lists.{flatMap-append}
 use Rattle.literals.specs.Domain.{Action, noAction}
-use Rattle.literals.specs.Table.{allLiterals}
+use Rattle.literals.specs.Held.{allLiterals}
 use Rattle.literals.proofs.Tables.{length-flat}
 
 -- ---- the rows of some elements, between those before them and those behind them

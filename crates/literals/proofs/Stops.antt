@@ -14,7 +14,7 @@ use Rattle.literals.specs.declared.RecordFault.{RecordFault}
 use Rattle.literals.specs.Domain.{clearsOnce, Action, Component, keysOf, labelsFit, Domain, arity}
 use Rattle.literals.specs.Decode.{maxRelations, maxActions, maxLiterals, maxComponents, RecordKind, relationRecord, actionRecord}
 use Rattle.literals.specs.Decode.{literalRecord, componentRecord, closingRecord, unknownRecord, latest, headStop, byte}
-use Rattle.literals.specs.Decode.{relationStop, actionStop, fieldFault, stopAt}
+use Rattle.literals.specs.Decode.{relationStop, actionStop, fieldFault, faultOfRecord}
 use Rattle.literals.specs.Decode.{literalOf, repeats, contradicts, noRole, noVariable, literalStop, atRecord, componentOf, labelFault}
 use Rattle.literals.specs.Decode.{keysCleared, clearedFault, componentFault, componentStop, fieldStop, fieldPlace, stopOf, stopPlace}
 use Rattle.literals.proofs.Labels.{passes-fit, passes-place}
@@ -59,8 +59,8 @@ head-number D unknownRecord = refl
 
 -- what stops a record, by the number of its head
 pub stop-by-head : (D : Domain) (k : RecordKind) (p : List ℕ) {n : ℕ} → headStop D k ≡ n
-    → stopAt D k p ≡ cond (eqb n 0) (fieldFault D k p) (atRecord n)
-unfolding stopAt
+    → faultOfRecord D k p ≡ cond (eqb n 0) (fieldFault D k p) (atRecord n)
+unfolding faultOfRecord
 stop-by-head D k p e = ap (λ (n : ℕ). cond (eqb n 0) (fieldFault D k p) (atRecord n)) e
 
 -- ---- head and fields

@@ -21,13 +21,13 @@ use Rattle.literals.specs.declared.Label.{Label}
 use Rattle.literals.specs.declared.Usage.{Usage}
 use Rattle.literals.specs.declared.Usage.the-variants.{Positive, Negative, Add, Delete}
 use Rattle.literals.specs.declared.Role.{Role}
-use Rattle.literals.specs.Domain.{isEvery, sameArgument, meetArgument, sameAtom, sameLiteral, meets, roleOf, roleNumber, sameTime, sameUsage}
-use Rattle.literals.specs.Domain.{sameRole, Literal, Action, Component, isCounted, keysBound, keepsKeys, Domain, arity}
+use Rattle.literals.specs.Domain.{isEvery, sameArgument, meetArgument, sameAtom, sameLiteral, meets, roleOf, roleNumber, sameTime}
+use Rattle.literals.specs.Domain.{sameUsage, labelNumber, sameRole, Literal, Action, Component, isCounted, keysBound, keepsKeys}
+use Rattle.literals.specs.Domain.{Domain, arity}
 use Rattle.literals.specs.Decode.{maxArguments, byte, argumentOf, literalOf, repeats, contrary, together, contradicts, labelOf}
 use Rattle.literals.specs.Decode.{componentOf, keysCleared}
-use Rattle.literals.specs.Fields.{keyBeside, keyClearedIn}
-use Rattle.literals.specs.Table.{rowOf, argumentNumber, literalRow, labelNumber, componentRow, allLiterals, hasEvery, someEvery, pad, meetByte, rowsMeet}
-use Rattle.literals.specs.Table.{opposedRoles, contradictsRow, rowsStop, rowsBy, Bounded}
+use Rattle.literals.specs.Held.{keyBeside, keyClearedIn, rowOf, argumentNumber, literalRow, componentRow, allLiterals, hasEvery}
+use Rattle.literals.specs.Held.{someEvery, pad, meetByte, rowsMeet, opposedRoles, contradictsRow, rowsStop, rowsBy, Bounded}
 use Rattle.literals.proofs.Rows.{length-row}
 use Rattle.literals.proofs.Bounds.{role-number}
 use Rattle.literals.proofs.Arguments.{or-true, counted-label, argument-back, Small, same-arguments, meet-arguments}

@@ -218,9 +218,9 @@ fieldFault D closingRecord p = atRecord (closingStop D p)
 fieldFault D unknownRecord p = atRecord 0
 
 -- "each down the rows": what stops a whole record, with its place; number 0 where nothing does
-unfoldable pub stopAt : Domain → RecordKind → List ℕ → RecordFault
+unfoldable pub faultOfRecord : Domain → RecordKind → List ℕ → RecordFault
 unfolding headStop fieldFault
-stopAt D k p = cond (eqb (headStop D k) 0) (fieldFault D k p) (atRecord (headStop D k))
+faultOfRecord D k p = cond (eqb (headStop D k) 0) (fieldFault D k p) (atRecord (headStop D k))
 
 -- ---- the domain with one record more
 
@@ -275,11 +275,11 @@ pub data ReadTurn : Type 0 where
 
 -- a whole record, of this kind and payload, and the offset behind it; "Kind 5, closing"
 unfoldable pub readRecord : Reading → ℕ → List ℕ → ℕ → ReadTurn
-unfolding stopAt extend
+unfolding faultOfRecord extend
 readRecord r k p behind =
-    cond (eqb (stopAt (r .sofar) (kindOf k) p .number) 0)
+    cond (eqb (faultOfRecord (r .sofar) (kindOf k) p .number) 0)
     (goOn (record { at = behind; closed = eqb k 5; sofar = extend (r .sofar) (kindOf k) p }))
-    (finish (refused (refuseAt (stopAt (r .sofar) (kindOf k) p) (r .at))))
+    (finish (refused (refuseAt (faultOfRecord (r .sofar) (kindOf k) p) (r .at))))
 
 -- "10 cut short or no closing record"
 unfoldable pub readFound : List ℕ → Reading → Record → ReadTurn
@@ -328,9 +328,9 @@ unfolding fieldFault
 fieldPlace D k p = fieldFault D k p .within
 
 unfoldable pub stopOf : Domain → RecordKind → List ℕ → ℕ
-unfolding stopAt
-stopOf D k p = stopAt D k p .number
+unfolding faultOfRecord
+stopOf D k p = faultOfRecord D k p .number
 
 unfoldable pub stopPlace : Domain → RecordKind → List ℕ → ℕ
-unfolding stopAt
-stopPlace D k p = stopAt D k p .within
+unfolding faultOfRecord
+stopPlace D k p = faultOfRecord D k p .within

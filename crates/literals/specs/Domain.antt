@@ -167,6 +167,11 @@ abbrev pub isCounted : Label → Bool
 isCounted (keyed k) = false
 isCounted Counted = true
 
+-- the byte of a label: its key, or FF
+abbrev pub labelNumber : Label → ℕ
+labelNumber (keyed k) = k .0
+labelNumber Counted = 255
+
 abbrev pub keyBelow : ℕ → Label → Bool
 keyBelow n (keyed k) = ltb (k .0) n
 keyBelow n Counted = true

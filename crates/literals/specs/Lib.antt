@@ -1,8 +1,6 @@
--- The domain: its componentRows, matching and moments, how a file is read, and how the code holds it.
+-- A reader must believe Domain (a domain without its bytes), Matching (matching, key tuples, moments) and Decode (how a file is read).
+-- Held is how the code holds a domain.
 pub mod Domain
 pub mod Matching
 pub mod Decode
-pub mod Table
 pub mod Held
-pub mod Keys
-pub mod Fields

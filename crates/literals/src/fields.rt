@@ -23,11 +23,10 @@ ghost use lib.Dec.{eqb, ltb};
 ghost use lib.ListN.{length, take, drop};
 ghost use Rattle.records.specs.Lists.{any, countBy, firstAt, sideBySide};
 ghost use Rattle.literals.specs.Domain.{variableBelow, clearsOnce, isCounted, isEvery};
-ghost use Rattle.literals.specs.Decode.{maxActions, maxArguments, relationStop, actionStop, literalOf, noVariable};
-ghost use Rattle.literals.specs.Decode.{labelOf, labelFault};
-ghost use Rattle.literals.specs.Fields.{argumentsStop, literalShape, literalArguments, componentFields, again, highKey, eachOnce};
-ghost use Rattle.literals.specs.Fields.{keyBeside, keyClearedIn};
-ghost use Rattle.literals.specs.Table.{rowsIn};
+ghost use Rattle.literals.specs.Decode.{maxActions, maxArguments, relationStop, actionStop, literalOf, noVariable, labelOf};
+ghost use Rattle.literals.specs.Decode.{labelFault};
+ghost use Rattle.literals.specs.Held.{argumentsStop, literalShape, literalArguments, componentFields, again, highKey, eachOnce};
+ghost use Rattle.literals.specs.Held.{keyBeside, keyClearedIn, rowsIn};
 
 // A relation: its arity.
 pub fn relation_fields(p: &[u8]) -> u64

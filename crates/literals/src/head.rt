@@ -21,10 +21,9 @@ ghost use Rattle.records.specs.Lists.{any};
 ghost use Rattle.literals.specs.Domain.{Domain, keysOf, bare};
 ghost use Rattle.literals.specs.Decode.{maxRelations, maxActions, maxVariables, maxArguments, maxLiterals, maxComponents};
 ghost use Rattle.literals.specs.Decode.{relationRecord, actionRecord, literalRecord, componentRecord, componentOf, literalOf, byte};
-ghost use Rattle.literals.specs.Table.{allLiterals, hasEvery};
-ghost use Rattle.literals.specs.Held.{within, relationsIn, actionsIn, componentsIn, keysIn, arityIn, componentRowIn};
-ghost use Rattle.literals.specs.Held.{componentRowsIn, variablesIn, atClears, clearsIn};
-ghost use Rattle.literals.specs.Held.{lastingIn, sizeIn, firstIn, Held, SpanFits, SpanOf, HeadOf, headBytes, Filled, Adds};
+ghost use Rattle.literals.specs.Held.{allLiterals, hasEvery, within, relationsIn, actionsIn, componentsIn, keysIn, arityIn};
+ghost use Rattle.literals.specs.Held.{componentRowIn, componentRowsIn, variablesIn, atClears, clearsIn, lastingIn, sizeIn, firstIn};
+ghost use Rattle.literals.specs.Held.{Held, SpanFits, SpanOf, HeadOf, headBytes, Filled, Adds};
 
 pub const HEAD: usize = CLEARS + 1;
 
@@ -41,9 +40,9 @@ const KEYS: usize = 3;
 // A byte for each relation.
 const ARITIES: usize = 4;
 // 8 bytes for each component: relation, labels, FF to fill.
-const PARTS: usize = ARITIES + MAX_RELATIONS;
+const COMPONENT_ROWS: usize = ARITIES + MAX_RELATIONS;
 // A byte for each action: variables, 1 for a lasting one, how many literals, and the row of the first, low byte and high byte.
-const VARIABLES: usize = PARTS + 8 * MAX_COMPONENTS;
+const VARIABLES: usize = COMPONENT_ROWS + 8 * MAX_COMPONENTS;
 
 const SORTS: usize = VARIABLES + MAX_ACTIONS;
 
@@ -105,7 +104,7 @@ pub fn component_byte(head: &Head, c: usize, i: usize) -> u8
     requires { ⌜ (c < maxComponents) × (i < 8) ⌝ }
     ensures { λ r. ⌜ r ≡ getD (componentRowIn (now (head .entry)) c) i 0 ⌝ }
 {
-    head[PARTS + 8 * c + i]
+    head[COMPONENT_ROWS + 8 * c + i]
 }
 
 // Whether a component has this relation.
@@ -277,7 +276,7 @@ pub fn add_component(head: &mut Head, p: &[u8])
 {
     let n = components_in(head);
     let keys = keys_with(head, p);
-    put_row(head, PARTS + 8 * n, p);
+    put_row(head, COMPONENT_ROWS + 8 * n, p);
     head[COMPONENTS] = n as u8 + 1;
     head[KEYS] = keys as u8;
 }

@@ -15,12 +15,11 @@ ghost use mathlib.Core.Bool.{cond};
 ghost use mathlib.Core.List.{[]};
 ghost use Prim.Native.Nat.{ℕ, _+_, _*_, _<_, _≤_};
 ghost use lib.ListN.{length, getD, take, drop};
+ghost use Rattle.records.specs.Lists.{position};
 ghost use Rattle.literals.specs.Decode.{maxRelations, maxComponents};
 ghost use Rattle.literals.specs.Domain.{key};
-ghost use Rattle.literals.specs.Held.{componentsIn, keysIn, componentRowIn, componentRowsIn};
-ghost use Rattle.literals.specs.Table.{pad};
-ghost use Rattle.literals.specs.Keys.{position, starts, placeUnder, argumentAt, keyRow, keyWord};
-ghost use Rattle.literals.specs.Keys.{ComponentsIn, PlacesIn, PlacesOf};
+ghost use Rattle.literals.specs.Held.{componentsIn, keysIn, componentRowIn, componentRowsIn, pad, starts, placeUnder, argumentAt};
+ghost use Rattle.literals.specs.Held.{keyRow, keyWord, FirstComponents, PlacesIn, PlacesOf};
 
 // A byte for each relation: its component's number and 1, or 0. Then 8 bytes for each component: the place of the argument under each of
 // its keys.
@@ -101,7 +100,7 @@ fn put_component(head: &Head, c: usize, places: &mut [u8])
 fn put_components(head: &Head, places: &mut [u8])
     requires { ⌜ length (now places) ≡ maxRelations + 8 * maxComponents ⌝ }
     ensures { λ _. ⌜ (now (places .entry) ≡ pad (maxRelations + 8 * maxComponents) []
-        → ComponentsIn (now (head .entry)) (now (places .exit))) ⌝ }
+        → FirstComponents (now (head .entry)) (now (places .exit))) ⌝ }
 {
     let mut c = components_in(head);
     while 0 < c {

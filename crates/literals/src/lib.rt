@@ -11,7 +11,7 @@ ghost use mathlib.Core.Path.{_≡_};
 ghost use Prim.Native.Nat.{_<_};
 ghost use Rattle.literals.specs.Domain.{isEvery, usageOf, roleOf, usageNumber, firstRole, sameTime, mayClear, isKey, isCounted};
 ghost use Rattle.literals.specs.Decode.{argumentOf, labelOf};
-ghost use Rattle.literals.specs.Keys.{usageFor};
+ghost use Rattle.literals.specs.Held.{usageFor};
 ghost use Rattle.literals.specs.Matching.{momentNumber};
 
 // Variables, objects and keys are three separate numberings, each from 0.

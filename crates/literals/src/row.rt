@@ -6,8 +6,8 @@ ghost use lib.Dec.{eqb};
 ghost use lib.ListN.{length, take, drop, getD};
 ghost use lib.Seq.{paste};
 ghost use Rattle.records.specs.Lists.{any, sameList};
-ghost use Rattle.literals.specs.Table.{rowOf, fourBytes, FourAt, EightAt, WordOf, meetByte, argumentsMeet, rowsMeet, meetsAs};
-ghost use Rattle.literals.specs.Table.{contradictsRow, rowsIn};
+ghost use Rattle.literals.specs.Held.{rowOf, fourBytes, FourAt, EightAt, WordOf, meetByte, argumentsMeet, rowsMeet, meetsAs};
+ghost use Rattle.literals.specs.Held.{contradictsRow, rowsIn};
 
 // A byte of the row of a payload.
 pub fn row_byte(p: &[u8], i: usize) -> u8
@@ -30,7 +30,7 @@ pub fn put_row(out: &mut [u8], at: usize, p: &[u8])
     }
 }
 
-fn widened(b: u8) -> u32
+fn wide32(b: u8) -> u32
     ensures { λ r. ⌜ (r ≡ b) × (r < 256) ⌝ }
 {
     b as u32
@@ -41,10 +41,10 @@ fn four_at(s: &[u8], at: usize) -> u32
     requires { ⌜ at + 4 ≤ length (now s) ⌝ }
     ensures { λ r. ⌜ FourAt (now (s .entry)) at r ⌝ }
 {
-    let first = widened(s[at]);
-    let second = widened(s[at + 1]);
-    let third = widened(s[at + 2]);
-    let fourth = widened(s[at + 3]);
+    let first = wide32(s[at]);
+    let second = wide32(s[at + 1]);
+    let third = wide32(s[at + 2]);
+    let fourth = wide32(s[at + 3]);
     first + 256 * second + 65536 * third + 16777216 * fourth
 }
 
@@ -129,7 +129,7 @@ fn row_digit(p: &[u8], i: usize) -> u64
     requires { ⌜ i < 8 ⌝ }
     ensures { λ r. ⌜ (r ≡ getD (rowOf (now (p .entry))) i 0) × (r < 256) ⌝ }
 {
-    longer(widened(row_byte(p, i)))
+    longer(wide32(row_byte(p, i)))
 }
 
 // The number of a payload's row: it is compared with rows, and written, as one number, which is much quicker than byte by byte.

@@ -13,17 +13,16 @@ use Rattle.records.proofs.Lists.{or-l, or-r}
 use Rattle.literals.specs.declared.Usage.the-variants.{Delete}
 use Rattle.literals.specs.declared.Object.{Object}
 use Rattle.literals.specs.Domain.{Fact, sameFact, Domain}
-use Rattle.literals.specs.Table.{rowsIn, Bounded}
+use Rattle.literals.specs.Held.{rowsIn, Bounded}
 use Rattle.verdict.specs.Judged.{factBytes}
-use Rattle.verdict.specs.Machine.{GroundAction, Event, State, isOpen, ownHold, overAllHold, independent, stepFacts, factsAfter, closeAll, openedBy, next, topWeight}
-use Rattle.store.specs.Index.{Indexed}
-use Rattle.events.specs.Held.{Open}
-use Rattle.events.specs.Held.{Waiting}
+use Rattle.verdict.specs.Machine.{GroundAction, Event, State, isOpen, ownHold, overAllHold, independent, stepFacts, factsAfter, closeAll}
+use Rattle.verdict.specs.Machine.{openedBy, next, topWeight}
+use Rattle.verdict.specs.Held.{factRow}
+use Rattle.store.specs.Held.{Indexed, topFrom, FactFits}
+use Rattle.events.specs.Held.{Open, Waiting, openOf, waitingOf}
 use Rattle.run_semantics.specs.RunFile.{maxFacts, maxRunning}
 use Rattle.run_semantics.specs.Play.{forbidden, tooLarge, heldBytes}
 use Rattle.run_semantics.proofs.Allowed.{forbidden-by-own}
-use Rattle.store.specs.Rows.{factRow, topFrom, FactFits}
-use Rattle.events.specs.Held.{openOf, waitingOf}
 use Rattle.effects.specs.Held.{atMost}
 use Rattle.machine.specs.Held.{StateRows, stateOf, Kept, closeStop, closeState, closeWaiting, closeWeight, Leaves}
 use Rattle.machine.proofs.HeldBytes.{fits-few, held-settled, work-rows}

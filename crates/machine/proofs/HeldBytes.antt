@@ -9,15 +9,16 @@ use Rattle.records.specs.Memory.{over}
 use Rattle.records.proofs.Memory.{drop-replicate}
 use Rattle.literals.specs.declared.Object.{Object}
 use Rattle.literals.specs.Domain.{Fact, Domain}
-use Rattle.literals.specs.Table.{rowsIn, Bounded}
+use Rattle.literals.specs.Held.{rowsIn, Bounded}
 use Rattle.literals.proofs.Bounds.{arity-six}
 use Rattle.literals.proofs.Tables.{length-flat, rows-flat}
 use Rattle.verdict.specs.Judged.{objectNumbers, factBytes}
 use Rattle.records.specs.Lists.{In}
 use Rattle.verdict.specs.Machine.{Event, State}
+use Rattle.verdict.specs.Held.{factRow}
 use Rattle.run_semantics.specs.RunFile.{maxFacts}
 use Rattle.run_semantics.specs.Play.{workBytes, heldBytes}
-use Rattle.store.specs.Rows.{factRow, Few, FactFits}
+use Rattle.store.specs.Held.{Few, FactFits}
 use Rattle.machine.specs.Held.{StateRows, stateOf, Kept}
 use Rattle.events.proofs.FactRows.{length-fact-row}
 use Rattle.effects.specs.Held.{Once}

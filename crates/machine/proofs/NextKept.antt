@@ -13,7 +13,7 @@ use Rattle.literals.specs.declared.Object.{Object}
 use Rattle.literals.specs.declared.Argument.{Argument}
 use Rattle.literals.specs.declared.Usage.the-variants.{Add}
 use Rattle.literals.specs.Domain.{Atom, Fact, Domain, arity, action}
-use Rattle.literals.specs.Table.{Bounded}
+use Rattle.literals.specs.Held.{Bounded}
 use Rattle.literals.specs.Matching.{literalsAt}
 use Rattle.verdict.specs.Binding.{factsOf}
 use Rattle.verdict.specs.Machine.{GroundAction, Event, State, eventFacts, factsAfter, closeAll, opens, openedBy, next}
@@ -25,8 +25,8 @@ use Rattle.verdict.proofs.Events.{after-in}
 use Rattle.verdict.proofs.Weight.{distinct-after}
 use Rattle.run_semantics.specs.RunFile.{maxFacts, maxRunning}
 use Rattle.run_semantics.specs.Play.{tooLarge}
-use Rattle.store.specs.Rows.{FactFits}
-use Rattle.events.specs.Held.{GroundFits, GroundsFit, EventsFit, Chosen}
+use Rattle.store.specs.Held.{FactFits}
+use Rattle.events.specs.Held.{GroundFits, GroundsFit, EventsFit, OverObjects}
 use Rattle.machine.specs.Held.{Kept}
 use Rattle.events.proofs.Members.{map-in, closed-in}
 use Rattle.events.proofs.FactRows.{listed-in}
@@ -78,7 +78,7 @@ running-fit D gs es h k g m = go (List·Memᴰ·append-cases (closeAll es gs) m)
 
 -- and its facts and entries are over the chosen objects
 chosen-next : (D : Domain) → Bounded D → (objs : List Object) (s : State) (es : List Event) → Kept D objs s es
-    → Chosen D objs (factsAfter D objs (s .facts) es) (closeAll es (s .running) ++ openedBy D es)
+    → OverObjects D objs (factsAfter D objs (s .facts) es) (closeAll es (s .running) ++ openedBy D es)
 chosen-next D B objs s es k =
     record {
       low = k .chosen .low;
@@ -122,8 +122,8 @@ module _ {D : Domain} {objs : List Object} {s : State} {es : List Event} (k : Ke
   waiting-in : (g : GroundAction) → In g (map (λ (e : Event). e .ground) es) → (o : Object) → In o (g .binding) → In o objs
   waiting-in g m = let r = map-in (λ (e : Event). e .ground) es m in rw (r .2) (k .waiting-over (r .0) (r .1))
 
-  pub events-chosen : Chosen D objs (s .facts) (map (λ (e : Event). e .ground) es)
+  pub events-chosen : OverObjects D objs (s .facts) (map (λ (e : Event). e .ground) es)
   events-chosen = record { low = k .chosen .low; facts = k .chosen .facts; bindings = waiting-in }
 
-  pub events-alone : Chosen D objs [] (map (λ (e : Event). e .ground) es)
+  pub events-alone : OverObjects D objs [] (map (λ (e : Event). e .ground) es)
   events-alone = record { low = k .chosen .low; facts = λ f m. absurd (List·Memᴰ·not-nil m); bindings = waiting-in }

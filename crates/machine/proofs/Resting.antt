@@ -14,10 +14,10 @@ use Rattle.records.proofs.Lists.{filter-all}
 use Rattle.literals.specs.declared.Object.{Object}
 use Rattle.literals.specs.Domain.{Fact, sameFact, Domain}
 use Rattle.verdict.specs.Machine.{Event, State, overAllHold, stepFacts, factsAfter, next, topWeight}
-use Rattle.store.specs.Index.{noteAt, factIndex, Indexed}
+use Rattle.verdict.specs.Held.{factRow}
+use Rattle.store.specs.Held.{noteAt, factIndex, Indexed}
 use Rattle.run_semantics.specs.RunFile.{maxFacts, maxRunning}
 use Rattle.run_semantics.specs.Play.{tooLarge, heldBytes}
-use Rattle.store.specs.Rows.{factRow}
 use Rattle.events.specs.Held.{waitingOf}
 use Rattle.machine.specs.Held.{StateRows, stateOf, Kept, Noted, closeStop, closeState, closeWaiting, closeWeight, Leaves}
 use Rattle.machine.proofs.Closing.{not-kept, nothing-forbids}

@@ -11,9 +11,10 @@ use Rattle.records.proofs.Memory.{over-paste, drop-replicate}
 use Rattle.literals.specs.Domain.{Fact}
 use Rattle.literals.proofs.Tables.{length-flat}
 use Rattle.verdict.specs.Judged.{factBytes}
+use Rattle.verdict.specs.Held.{factRow}
 use Rattle.run_semantics.specs.RunFile.{maxFacts}
 use Rattle.run_semantics.specs.Play.{workBytes, heldBytes}
-use Rattle.store.specs.Rows.{factRow, Few}
+use Rattle.store.specs.Held.{Few}
 use Rattle.events.proofs.FactRows.{length-fact-row}
 use Rattle.machine.proofs.HeldBytes.{bytes-flat}
 

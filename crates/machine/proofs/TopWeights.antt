@@ -14,7 +14,7 @@ use Rattle.literals.specs.Domain.{Fact, sameFact, Domain}
 use Rattle.literals.specs.Matching.{tuplesOf, matches}
 use Rattle.verdict.specs.Machine.{Event, stepFacts, factsAfter, weight, instancesIn, largest, topWeight}
 use Rattle.verdict.proofs.Tuples.{matches-tuple}
-use Rattle.store.specs.Rows.{topFrom}
+use Rattle.store.specs.Held.{topFrom}
 use Rattle.verdict.proofs.TopWeight.{largest-in, largest-below, below-top, top-below}
 
 pub top-all : (D : Domain) (fs : List Fact) → topFrom D fs 0 ≡ topWeight D fs

@@ -9,15 +9,14 @@ use Rattle.records.specs.Lists.{In, all, distinct}
 use Rattle.records.specs.Memory.{over}
 use Rattle.literals.specs.declared.Object.{Object}
 use Rattle.literals.specs.Domain.{Fact, sameFact, Domain}
-use Rattle.literals.specs.Table.{rowsIn}
-use Rattle.literals.specs.Held.{Held}
+use Rattle.literals.specs.Held.{rowsIn, Held}
 use Rattle.verdict.specs.Machine.{Event, State, next, topWeight, overAllHold}
-use Rattle.store.specs.Index.{noteAt, Indexed}
+use Rattle.verdict.specs.Held.{factRow}
+use Rattle.store.specs.Held.{noteAt, Indexed, FactFits}
 use Rattle.machine.specs.declared.State.{State as Counts}
 use Rattle.run_semantics.specs.RunFile.{maxFacts, maxRunning, maxEvents}
 use Rattle.run_semantics.specs.Play.{workBytes, forbidden, tooLarge, heldBytes}
-use Rattle.store.specs.Rows.{factRow, FactFits}
-use Rattle.events.specs.Held.{Open, Waiting, openOf, waitingOf, openIn, waitingIn, GroundsFit, EventsFit, Chosen}
+use Rattle.events.specs.Held.{Open, Waiting, openOf, waitingOf, agendaOpen, agendaWaiting, GroundsFit, EventsFit, OverObjects}
 use Rattle.effects.specs.Held.{Once}
 
 -- ---- what the code holds
@@ -34,7 +33,7 @@ stateOf s es = record { facts = length (s .facts); running = openOf (s .running)
 -- what the state's counts and an agenda hold
 abbrev pub stateIn : Counts → List ℕ → StateRows
 stateIn counts agenda =
-    record { facts = counts .facts; running = openIn (counts .opened) agenda; waiting = waitingIn (counts .waits) agenda }
+    record { facts = counts .facts; running = agendaOpen (counts .opened) agenda; waiting = agendaWaiting (counts .waits) agenda }
 
 -- facts, entries and events of the domain over the chosen objects, within the player's limits, and no fact twice
 pub record Kept (D : Domain) (objs : List Object) (s : State) (es : List Event) : Type 0 where
@@ -45,7 +44,7 @@ pub record Kept (D : Domain) (objs : List Object) (s : State) (es : List Event) 
   pub running-few : length (s .running) ≤ maxRunning
   pub waiting : EventsFit D es
   pub waiting-few : length es ≤ maxEvents
-  pub chosen : Chosen D objs (s .facts) (s .running)
+  pub chosen : OverObjects D objs (s .facts) (s .running)
   pub waiting-over : (e : Event) → In e es → (o : Object) → In o (e .ground .binding) → In o objs
 
 -- what the memories hold when a step is closed: a domain, a state over chosen objects, of which there is one, and the events that wait,

@@ -26,18 +26,15 @@ ghost use Rattle.records.specs.Lists.{In};
 ghost use Rattle.records.specs.Memory.{over};
 ghost use Rattle.literals.specs.declared.Object.{Object};
 ghost use Rattle.literals.specs.Domain.{Domain};
-ghost use Rattle.literals.specs.Table.{rowsIn};
-ghost use Rattle.literals.specs.Held.{Held};
+ghost use Rattle.literals.specs.Held.{rowsIn, Held};
 ghost use Rattle.verdict.specs.Machine.{Event, State as MachineState, topWeight};
-ghost use Rattle.store.specs.Index.{noteAt, Indexed};
+ghost use Rattle.verdict.specs.Held.{factRow};
+ghost use Rattle.store.specs.Held.{noteAt, Indexed};
 ghost use Rattle.run_semantics.specs.RunFile.{maxFacts};
 ghost use Rattle.run_semantics.specs.Play.{forbidden};
-ghost use Rattle.store.specs.Rows.{factRow};
-ghost use Rattle.events.specs.Held.{agendaBytes, openIn, openOf};
-ghost use Rattle.events.specs.Grounding.{maxGround, groundedBytes, Grounded};
+ghost use Rattle.events.specs.Held.{agendaBytes, agendaOpen, openOf, maxGround, groundedBytes, Grounded};
 ghost use Rattle.effects.specs.Held.{scratchBytes, literalsIn};
-ghost use Rattle.machine.specs.Held.{stateIn, stateOf, Kept, StepHeld, Noted, Closable, closeStop};
-ghost use Rattle.machine.specs.Held.{closeState, Leaves};
+ghost use Rattle.machine.specs.Held.{stateIn, stateOf, Kept, StepHeld, Noted, Closable, closeStop, closeState, Leaves};
 
 // What closing a step led to: 0 and the state after it, or the number that refuses it and the state as it was; and the highest weight.
 pub struct Closed {
@@ -215,7 +212,7 @@ pub fn rest(
     requires facts { ⌜ 8 * state .facts ≤ length (now work) ⌝ }
     ensures { λ r. ⌜ ((D : Domain) (objs : List Object) (s : MachineState)
         → Held D (now (head .entry)) (now (table .entry)) → Kept D objs s []
-        → openIn (state .opened) (now (agenda .entry)) ≡ openOf (s .running)
+        → agendaOpen (state .opened) (now (agenda .entry)) ≡ openOf (s .running)
         → rowsIn (state .facts) (now (work .entry)) ≡ map factRow (s .facts)
         → Noted D objs (now (head .entry)) (now (index .entry)) s
         → (r ≡ closeStop D objs s []) × (r ≡ 0 → Noted D objs (now (head .entry)) (now (index .exit)) (closeState D objs s []))) ⌝ }

@@ -12,15 +12,14 @@ use Rattle.records.proofs.Memory.{length-over, over-more}
 use Rattle.literals.specs.declared.Variable.{Variable}
 use Rattle.literals.specs.Domain.{Action, Domain, noAction, action}
 use Rattle.literals.specs.declared.span.Span.{Span}
-use Rattle.literals.specs.Table.{allLiterals, pad}
-use Rattle.literals.specs.Held.{actionsIn, Held, SpanFits, SpanOf}
+use Rattle.literals.specs.Held.{allLiterals, pad, actionsIn, Held, SpanFits, SpanOf}
 use Rattle.literals.proofs.Tables.{pad-more}
 use Rattle.literals.proofs.Held.{rows-few}
 use Rattle.literals.proofs.Heads.{literals-after}
 use Rattle.literals.specs.declared.Moment.the-variants.{Start, End}
 use Rattle.classes.specs.declared.Name.{Name}
 use Rattle.classes.specs.Classes.{momentsOf, nameNumber, classes, nameOf, journey}
-use Rattle.classes.specs.Held.{MomentOf, classNumbers, numbersOf, askedAt, soleAt, reachAt}
+use Rattle.classes.specs.Held.{MomentOf, classNumbers, numbersOf, askedUsages, soleAt, reachAt}
 use Rattle.naming.specs.declared.Naming.{Naming}
 use Rattle.verdict.specs.declared.Summary.{Summary}
 use Rattle.verdict.specs.declared.Notes.{Notes}
@@ -225,7 +224,7 @@ module _ (D : Domain) where
 -- ---- where the loops of naming stand
 
 -- which literal of a class is asked as a true condition at the end, by the usages of what is asked there
-pub reach-is : (D : Domain) (a : Action) {numbers asked : List ℕ} → numbers ≡ classNumbers D a → asked ≡ pad 64 (askedAt a End) → (k : ℕ) → soleAt numbers asked k 1 ≡ reachAt D a End k
+pub reach-is : (D : Domain) (a : Action) {numbers asked : List ℕ} → numbers ≡ classNumbers D a → asked ≡ pad 64 (askedUsages a End) → (k : ℕ) → soleAt numbers asked k 1 ≡ reachAt D a End k
 unfolding reachAt
 reach-is D a f g k = ap₂ (λ (o c : List ℕ). soleAt o c k 1) f g
 

@@ -1,2 +1,2 @@
--- How the code holds the names of all moments.
+-- How the code holds the names of all moments; what a reader must believe of them is classes/Classes.
 pub mod Held

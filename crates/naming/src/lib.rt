@@ -8,8 +8,8 @@ use classes::Soles;
 use classes::name_number;
 use classes::names::is_journey;
 use classes::names::name_at;
+use classes::names::note_soles;
 use classes::names::sole_in;
-use classes::names::tally;
 use classes::names::usages_at;
 use classes::number::number_classes;
 use literals::Moment;
@@ -32,9 +32,7 @@ ghost use lib.ListN.{length, getD};
 ghost use Rattle.records.specs.Memory.{over};
 ghost use Rattle.literals.specs.Domain.{Domain, Action};
 ghost use Rattle.literals.specs.Decode.{maxActions, maxLiterals};
-ghost use Rattle.literals.specs.Table.{pad};
-ghost use Rattle.literals.specs.Held.{Held, Read};
-ghost use Rattle.literals.specs.Keys.{PlacesOf};
+ghost use Rattle.literals.specs.Held.{pad, Held, Read, PlacesOf};
 ghost use Rattle.literals.specs.declared.Moment.the-variants.{Start, End};
 ghost use Rattle.classes.specs.Classes.{momentsOf, classes, nameOf, journey};
 ghost use Rattle.classes.specs.Held.{ActionOf, MomentOf, Sides, classNumbers, numbersOf};
@@ -55,7 +53,7 @@ pub struct ClassNames {
 }
 
 // An action whose classes are numbered: how many rows of the domain come before its own, how many classes it has, and whether it lasts.
-pub struct Numbered {
+pub struct NumberedAction {
     pub rows: usize,
     pub classes: usize,
     pub lasting: bool,
@@ -190,7 +188,7 @@ impl Naming {
     }
 }
 
-impl Numbered {
+impl NumberedAction {
     // Names the rows of its classes, by the usages of its literals at both moments and by what each class has there.
     fn name_each(
         self,
@@ -243,7 +241,7 @@ impl Numbered {
         let n = numbers.len();
         let mut soles = [0u8; 5 * MAX_LITERALS];
         let mut at_start = [0u8; MAX_LITERALS];
-        tally(rows, numbers, &mut soles);
+        note_soles(rows, numbers, &mut soles);
         usages_at(false, rows, n, Moment::Start, &mut at_start);
         if !self.lasting {
             return self.name_each(head, rows, numbers, &at_start, &at_start, &soles, names);
@@ -282,7 +280,7 @@ pub fn name_action(
         × Listed (before ++ rowsOfClasses D a i 0 (classes D a)) (r .rows) (now (names .exit)) old) ⌝ }
 {
     let classes = number_classes(head, places, rows, numbers, words);
-    let numbered = Numbered {
+    let numbered = NumberedAction {
         rows: named,
         classes,
         lasting,

@@ -14,18 +14,20 @@ use Rattle.literals.specs.Domain.{Fact, sameFact, Domain}
 use Rattle.literals.specs.Decode.{byte}
 use Rattle.literals.specs.Held.{arityIn, HeadOf}
 use Rattle.verdict.specs.Machine.{Event, State, next, topWeight}
-use Rattle.store.specs.Index.{noteAt, factIndex, totalAt, Indexed}
-use Rattle.run_semantics.specs.RunFile.{RunKind, objectsRecord, factRecord, eventRecord, stepRecord, endRecord, otherRecord, runKindOf, factOf, eventOf, maxFacts, objectsStop, factStop, eventStop, stepStop, endStop}
-use Rattle.run_semantics.specs.Play.{Playing, PlayTurn, goOn, finish, stopAt, unless, begin, withObjects, withFact, withEvent, withClose, beforeRun, runObjects, tooLarge, forbidden, afterStep, closeStep, playRecord}
-use Rattle.store.specs.Rows.{factRow}
+use Rattle.verdict.specs.Held.{factRow}
+use Rattle.store.specs.Held.{noteAt, factIndex, totalAt, Indexed}
+use Rattle.run_semantics.specs.RunFile.{RunKind, objectsRecord, factRecord, eventRecord, stepRecord, endRecord, otherRecord, runKindOf}
+use Rattle.run_semantics.specs.RunFile.{factOf, eventOf, maxFacts, objectsStop, factStop, eventStop, stepStop, endStop}
+use Rattle.run_semantics.specs.Play.{Playing, PlayTurn, goOn, finish, stopAt, unless, begin, withObjects, withFact, withEvent, withClose}
+use Rattle.run_semantics.specs.Play.{beforeRun, runObjects, tooLarge, forbidden, afterStep, closeStep, playRecord}
 use Rattle.machine.specs.Held.{Noted, closeStop, closeState}
 use Rattle.machine.proofs.Resting.{indexed-set, noted-anew, unset}
-use Rattle.player.specs.Player.{WholeTurn as Turn, Sound, LeadsTo, NotedAfter}
+use Rattle.player.specs.Held.{WholeTurn as Turn, Sound, PlayLeadsTo, NotedAfter}
 use Rattle.player.proofs.Sound.{objects-taken, fact-taken}
 
 module _ (D : Domain) (head index : List ℕ) where
   -- where a record ends the run, nothing is asked
-  pub noted-ended : (t : PlayTurn) (turn : Turn) (work old : List ℕ) → LeadsTo t turn work old → (turn .number ≡ 0 → ⊥) → NotedAfter D head index t
+  pub noted-ended : (t : PlayTurn) (turn : Turn) (work old : List ℕ) → PlayLeadsTo t turn work old → (turn .number ≡ 0 → ⊥) → NotedAfter D head index t
   noted-ended (goOn q) turn work old l z = absurd (z (l .number))
   noted-ended (finish o) turn work old l z = tt
 

@@ -16,10 +16,11 @@ use Rattle.player.specs.declared.play.Fault.{Fault}
 use Rattle.player.specs.declared.play.Fault.the-variants.{Domain as InDomain, Run as InRun}
 use Rattle.player.specs.declared.play.PlayAnswer.{PlayAnswer}
 use Rattle.run_semantics.specs.RunFile.{entriesBefore, entriesUpTo, begunIn}
-use Rattle.run_semantics.specs.Play.{workBytes, Outcome, placeOf, heldBytes, playRun, Returned, ofDomain, ofRun, Call, outcomeCall, callBy, call, played, workAfter, returned, returnedBytes}
+use Rattle.run_semantics.specs.Play.{workBytes, Outcome, placeOf, heldBytes, playRun, Returned, ofDomain, ofRun, Call, outcomeCall, callBy}
+use Rattle.run_semantics.specs.Play.{call, played, workAfter, returned, returnedBytes}
 use Rattle.run_semantics.specs.Claims.{finalOf, AsMachine, PlaysAsMachine, StaysLow}
-use Rattle.player.specs.Player.{endedOf}
-use Rattle.player.specs.Called.{faultOf, fileOf, offsetOf, faultFile, faultOffset, partAt, answerOf, answerBy}
+use Rattle.player.specs.Held.{endedOf}
+use Rattle.player.specs.Called.{asFault, fileOf, offsetOf, faultFile, faultOffset, partAt, answerOf, answerBy}
 use Rattle.run_semantics.proofs.Never.{played-as-machine, weight-stays-low}
 
 -- ---- the answer of a run
@@ -67,15 +68,15 @@ module _ (d r : List ℕ) (at : ℕ) (f : Fault) where
   run-past e h = rest-none r at h ∙ sym (ap (partAt d r) e)
 
 -- of the part that comes back
-pub fault-file : (x : Returned) → faultFile (faultOf x) ≡ fileOf x
+pub fault-file : (x : Returned) → faultFile (asFault x) ≡ fileOf x
 fault-file (ofDomain at) = refl
 fault-file (ofRun at) = refl
 
-pub fault-offset : (x : Returned) → faultOffset (faultOf x) ≡ offsetOf x
+pub fault-offset : (x : Returned) → faultOffset (asFault x) ≡ offsetOf x
 fault-offset (ofDomain at) = refl
 fault-offset (ofRun at) = refl
 
-pub fault-part : (d r : List ℕ) (x : Returned) → partAt d r (faultOf x) ≡ returnedBytes d r x
+pub fault-part : (d r : List ℕ) (x : Returned) → partAt d r (asFault x) ≡ returnedBytes d r x
 unfolding returnedBytes
 fault-part d r (ofDomain at) = refl
 fault-part d r (ofRun at) = refl

@@ -8,16 +8,15 @@ use lib.Seq.{paste, drop-at}
 use Rattle.records.specs.Memory.{over}
 use Rattle.records.proofs.Memory.{paste-front}
 use Rattle.literals.specs.Domain.{Domain}
-use Rattle.literals.specs.Table.{Bounded}
-use Rattle.literals.specs.Held.{Read}
+use Rattle.literals.specs.Held.{Bounded, Read}
 use Rattle.verdict.specs.Judged.{factBytes}
 use Rattle.player.specs.declared.run.Ended.{Ended}
-use Rattle.store.specs.Index.{factIndex}
+use Rattle.store.specs.Held.{factIndex}
 use Rattle.run_semantics.specs.Play.{workBytes, Playing, beforeRun, Outcome, PlayTurn, goOn, finish, runObjects, heldBytes, playStep}
 use Rattle.run_semantics.specs.Play.{playFrom, playRun}
 use Rattle.events.specs.Held.{openOf}
 use Rattle.machine.specs.Held.{Noted}
-use Rattle.player.specs.Player.{Whole as Player, WholeTurn as Turn, playerOf, Stands, LeadsTo, NotedAfter, Playable, endedOf}
+use Rattle.player.specs.Held.{Whole as Player, WholeTurn as Turn, playerOf, Stands, PlayLeadsTo, NotedAfter, Playable, endedOf}
 use Rattle.run_semantics.proofs.Loop.{play-more, play-done, play-at}
 use Rattle.player.proofs.Sound.{sound-on, sound-new}
 use Rattle.player.proofs.PlayTurns.{at-is}
@@ -73,7 +72,7 @@ fuel-left i = go (i .left) refl
 
 -- one turn, from what `step` ensures
 module _ (D : Domain) (B : Bounded D) {head : List ℕ} (r old : List ℕ) (player : Player) (work : List ℕ) {index : List ℕ} (i : Loop D head r old player work index) (t : Turn) (work′ index′ : List ℕ)
-    (step : (q : Playing) (old : List ℕ) → Stands D q player work old → Noted D (runObjects q) head index (q .state) → LeadsTo (playStep D r q) t work′ old)
+    (step : (q : Playing) (old : List ℕ) → Stands D q player work old → Noted D (runObjects q) head index (q .state) → PlayLeadsTo (playStep D r q) t work′ old)
     (notes : (q : Playing) (old : List ℕ) → Stands D q player work old → Noted D (runObjects q) head index (q .state) → NotedAfter D head index′ (playStep D r q)) where
   record Turned : Type 0 where
     next : Loop D head r old (t .player) work′ index′
@@ -86,7 +85,7 @@ module _ (D : Domain) (B : Bounded D) {head : List ℕ} (r old : List ℕ) (play
       q : Playing
       q = i .reached
 
-      go : (u : PlayTurn) → playStep D r q ≡ u → LeadsTo u t work′ old → NotedAfter D head index′ u → Turned
+      go : (u : PlayTurn) → playStep D r q ≡ u → PlayLeadsTo u t work′ old → NotedAfter D head index′ u → Turned
       go (goOn n) e h m =
           let g = play-at D r q n e in
           let f = fuel-left i in
@@ -134,7 +133,7 @@ module _ (D : Domain) (B : Bounded D) {head : List ℕ} (r old : List ℕ) (play
       q : Playing
       q = i .reached
 
-      go : (u : PlayTurn) → playStep D r q ≡ u → LeadsTo u t work′ old
+      go : (u : PlayTurn) → playStep D r q ≡ u → PlayLeadsTo u t work′ old
           → (ended ≡ endedOf (playRun D r)) × (work′ ≡ over (heldBytes (playRun D r .facts)) old)
           × (t .player .state .running ≡ openOf (playRun D r .running))
       go (goOn n) e h = absurd (z (h .number))

@@ -17,19 +17,22 @@ use Rattle.records.specs.Record.{recordAt, payload}
 use Rattle.literals.specs.declared.Object.{Object}
 use Rattle.literals.specs.Domain.{object, Fact, sameFact, Domain}
 use Rattle.literals.specs.Decode.{byte}
-use Rattle.literals.specs.Table.{rowsIn, Bounded}
+use Rattle.literals.specs.Held.{rowsIn, Bounded}
 use Rattle.literals.proofs.Bounds.{arity-six}
 use Rattle.verdict.specs.Machine.{Event, State, next, topWeight}
 use Rattle.verdict.proofs.Objects.{object-in}
-use Rattle.events.specs.Held.{Waiting}
+use Rattle.verdict.specs.Held.{factRow}
+use Rattle.events.specs.Held.{Waiting, entriesIn, agendaOpen, agendaWaiting, waitingOf}
 use Rattle.player.specs.declared.Player.{Player as Small}
-use Rattle.run_semantics.specs.RunFile.{objectsRecord, factRecord, eventRecord, stepRecord, endRecord, otherRecord, runKindOf, factOf, eventOf, objectsStop, factStop, eventStop, stepStop, endStop}
-use Rattle.run_semantics.specs.Play.{playRecord, playFound, playStep, Playing, onward, PlayTurn, Tally, goOn, stopAt, startTally, begin, withObjects, joined, withFact, withEvent, withClose, unless, runObjects, forbidden, tooLarge, afterStep, closeStep, heldBytes}
-use Rattle.store.specs.Rows.{factRow, hasRow, Few}
-use Rattle.events.specs.Held.{entriesIn, openIn, waitingIn, waitingOf}
+use Rattle.run_semantics.specs.RunFile.{objectsRecord, factRecord, eventRecord, stepRecord, endRecord, otherRecord, runKindOf, factOf}
+use Rattle.run_semantics.specs.RunFile.{eventOf, objectsStop, factStop, eventStop, stepStop, endStop}
+use Rattle.run_semantics.specs.Play.{playRecord, playFound, playStep, Playing, onward, PlayTurn, Tally, goOn, stopAt, startTally, begin}
+use Rattle.run_semantics.specs.Play.{withObjects, joined, withFact, withEvent, withClose, unless, runObjects, forbidden, tooLarge}
+use Rattle.run_semantics.specs.Play.{afterStep, closeStep, heldBytes}
+use Rattle.store.specs.Held.{hasRow, Few}
 use Rattle.machine.specs.declared.State.{State as Counts}
 use Rattle.machine.specs.Held.{StateRows, stateOf, stateIn, Noted, closeStop, closeState, closeWaiting, closeWeight, Leaves}
-use Rattle.player.specs.Player.{Whole as Player, WholeTurn as Turn, wholeIn, playerOf, Stands, LeadsTo, NotedAfter}
+use Rattle.player.specs.Held.{Whole as Player, WholeTurn as Turn, wholeIn, playerOf, Stands, PlayLeadsTo, NotedAfter}
 use Rattle.events.proofs.FactRows.{has-fact}
 use Rattle.machine.proofs.HeldBytes.{fits-few, state-rows}
 use Rattle.machine.proofs.Resting.{no-events, rest-leaves}
@@ -62,9 +65,9 @@ gone-on self new behind facts waits agenda e = (
 -- with one event more, where the entries stay
 pub event-waits : (facts opened waits : ℕ) (agenda more : List ℕ) → entriesIn more ≡ entriesIn agenda
     → stateIn (record { facts = facts; opened = opened; waits = waits }) more
-    ≡ record { facts = facts; running = openIn opened agenda; waiting = waitingIn waits more }
+    ≡ record { facts = facts; running = agendaOpen opened agenda; waiting = agendaWaiting waits more }
 event-waits facts opened waits agenda more e i =
-    record { facts = facts; running = record { count = opened; rows = e i }; waiting = waitingIn waits more }
+    record { facts = facts; running = record { count = opened; rows = e i }; waiting = agendaWaiting waits more }
 
 -- behind a step that was made
 pub stepped-on : (self new : Small) (behind : ℕ) (counts : Counts) (weight : ℕ) (agenda : List ℕ)
@@ -88,7 +91,7 @@ stepped-on self new behind counts weight agenda e = ap (λ (x : Small). wholeIn 
 -- ---- a record that is refused, and one that passes
 
 module _ (D : Domain) (q : Playing) (player : Player) (work old : List ℕ) (st : Stands D q player work old) where
-  pub stops-at : (n m : ℕ) → m ≡ n → (m ≡ 0 → ⊥) → LeadsTo (stopAt n q) (record { number = m; player = player }) work old
+  pub stops-at : (n m : ℕ) → m ≡ n → (m ≡ 0 → ⊥) → PlayLeadsTo (stopAt n q) (record { number = m; player = player }) work old
   unfolding playerOf
   stops-at n m e z =
       record {
@@ -101,10 +104,10 @@ module _ (D : Domain) (q : Playing) (player : Player) (work old : List ℕ) (st 
         memory = st .memory;
       }
 
-  pub stops : (n m : ℕ) (t : PlayTurn) → m ≡ n → (m ≡ 0 → ⊥) → LeadsTo (unless n q t) (record { number = m; player = player }) work old
+  pub stops : (n m : ℕ) (t : PlayTurn) → m ≡ n → (m ≡ 0 → ⊥) → PlayLeadsTo (unless n q t) (record { number = m; player = player }) work old
   stops n m t e z = let f : eqb n 0 ≡ false = ne-eqb n 0 (λ k. z (e ∙ k)) in rw f (stops-at n m e z)
 
-pub passes : (D : Domain) (q : Playing) (n m : ℕ) (t : PlayTurn) (turn : Turn) (work old : List ℕ) → m ≡ n → m ≡ 0 → LeadsTo t turn work old → LeadsTo (unless n q t) turn work old
+pub passes : (D : Domain) (q : Playing) (n m : ℕ) (t : PlayTurn) (turn : Turn) (work old : List ℕ) → m ≡ n → m ≡ 0 → PlayLeadsTo t turn work old → PlayLeadsTo (unless n q t) turn work old
 passes D q n m t turn work old e z h = let f : eqb n 0 ≡ true = eq-eqb n 0 (sym e ∙ z) in rw f h
 
 -- what the player holds
@@ -170,7 +173,7 @@ module _ (D : Domain) (p : Playing) (player : Player) (work old : List ℕ) (st 
 
 module _ (D : Domain) (q : Playing) (player : Player) (work old : List ℕ) (st : Stands D q player work old) (behind : ℕ) where
   pub objects-on : (b n : ℕ) → b ≡ n
-      → LeadsTo (goOn (withObjects q n behind)) (record { number = 0; player = record { at = behind; closed = false; objects = b; state = player .state; tally = player .tally } }) work old
+      → PlayLeadsTo (goOn (withObjects q n behind)) (record { number = 0; player = record { at = behind; closed = false; objects = b; state = player .state; tally = player .tally } }) work old
   unfolding playerOf
   objects-on b n e =
       record {
@@ -180,7 +183,7 @@ module _ (D : Domain) (q : Playing) (player : Player) (work old : List ℕ) (st 
         memory = st .memory;
       }
 
-  pub end-on : LeadsTo (goOn (withClose q behind)) (record { number = 0; player = record { at = behind; closed = true; objects = player .objects; state = player .state; tally = player .tally } }) work old
+  pub end-on : PlayLeadsTo (goOn (withClose q behind)) (record { number = 0; player = record { at = behind; closed = true; objects = player .objects; state = player .state; tally = player .tally } }) work old
   unfolding playerOf
   end-on =
       record {
@@ -192,7 +195,7 @@ module _ (D : Domain) (q : Playing) (player : Player) (work old : List ℕ) (st 
   -- ---- the same, with another state of the machine
   module _ (s : State) (es : List Event) (new : Player) (work′ : List ℕ)
       (is : (new .at ≡ behind) × (new .closed ≡ false) × (new .objects ≡ player .objects) × (new .state ≡ stateOf s es) × (new .tally ≡ player .tally)) (m : work′ ≡ over (heldBytes (s .facts)) old) where
-    pub onward-on : LeadsTo (goOn (onward q behind s es (q .tally))) (record { number = 0; player = new }) work′ old
+    pub onward-on : PlayLeadsTo (goOn (onward q behind s es (q .tally))) (record { number = 0; player = new }) work′ old
     unfolding playerOf
     onward-on =
         record {
@@ -252,7 +255,7 @@ module _ (D : Domain) (q : Playing) (behind : ℕ) where
     weight-was = ap (λ (x : Player). x .tally .weight) (st .is)
 
     -- a step that is refused
-    pub close-stops : (number ≡ 0 → ⊥) → LeadsTo (closeStep D q behind) (record { number = number; player = player }) work′ old
+    pub close-stops : (number ≡ 0 → ⊥) → PlayLeadsTo (closeStep D q behind) (record { number = number; player = player }) work′ old
     unfolding closeState playerOf
     close-stops z =
         let f : eqb (closeStop D objs s es) 0 ≡ false = ne-eqb (closeStop D objs s es) 0 (λ k. z (l .number-is ∙ k)) in
@@ -290,7 +293,7 @@ module _ (D : Domain) (q : Playing) (behind : ℕ) where
       -- the step is counted
       pub close-on : (counted : Player)
           → counted ≡ record { at = behind; closed = false; objects = player .objects; state = state; tally = record { begun = player .tally .begun; steps = player .tally .steps + 1; weight = weight } }
-          → LeadsTo (closeStep D q behind) (record { number = 0; player = counted }) work′ old
+          → PlayLeadsTo (closeStep D q behind) (record { number = 0; player = counted }) work′ old
       unfolding playerOf
       close-on counted is =
           rw (close-taken (sym z ∙ l .number-is))
@@ -349,27 +352,28 @@ module _ (k : ℕ) where
   kind-other a b c d e = rw (ne-eqb k 16 a, ne-eqb k 17 b, ne-eqb k 18 c, ne-eqb k 19 d, ne-eqb k 20 e)
 
 module _ (D : Domain) (q : Playing) (k : ℕ) (b : List ℕ) (behind : ℕ) (t : Turn) (work old : List ℕ) where
-  pub of-objects : runKindOf k ≡ objectsRecord → LeadsTo (unless (objectsStop (q .objects) b) q (goOn (withObjects q (byte b 0) behind))) t work old → LeadsTo (playRecord D q (runKindOf k) b behind) t work old
+  pub of-objects : runKindOf k ≡ objectsRecord → PlayLeadsTo (unless (objectsStop (q .objects) b) q (goOn (withObjects q (byte b 0) behind))) t work old → PlayLeadsTo (playRecord D q (runKindOf k) b behind) t work old
   unfolding playRecord
   of-objects e h = rw e h
 
-  pub of-fact : runKindOf k ≡ factRecord → LeadsTo (unless (factStop D (q .objects) (q .tally .begun) (q .state .facts) b) q (goOn (withFact q (factOf b) behind))) t work old → LeadsTo (playRecord D q (runKindOf k) b behind) t work old
+  pub of-fact : runKindOf k ≡ factRecord → PlayLeadsTo (unless (factStop D (q .objects) (q .tally .begun) (q .state .facts) b) q (goOn (withFact q (factOf b) behind))) t work old → PlayLeadsTo (playRecord D q (runKindOf k) b behind) t work old
   unfolding playRecord
   of-fact e h = rw e h
 
-  pub of-event : runKindOf k ≡ eventRecord → LeadsTo (unless (eventStop D (begin D q .objects) (begin D q .waiting) b) (begin D q) (goOn (withEvent (begin D q) (eventOf b) behind))) t work old → LeadsTo (playRecord D q (runKindOf k) b behind) t work old
+  pub of-event : runKindOf k ≡ eventRecord → PlayLeadsTo (unless (eventStop D (begin D q .objects) (begin D q .waiting) b) (begin D q) (goOn (withEvent (begin D q) (eventOf b) behind))) t work old → PlayLeadsTo (playRecord D q (runKindOf k) b behind) t work old
   unfolding playRecord begin
   of-event e h = rw e h
 
-  pub of-step : runKindOf k ≡ stepRecord → LeadsTo (unless (stepStop (begin D q .objects) b) (begin D q) (closeStep D (begin D q) behind)) t work old → LeadsTo (playRecord D q (runKindOf k) b behind) t work old
+  pub of-step : runKindOf k ≡ stepRecord → PlayLeadsTo (unless (stepStop (begin D q .objects) b) (begin D q) (closeStep D (begin D q) behind)) t work old → PlayLeadsTo (playRecord D q (runKindOf k) b behind) t work old
   unfolding playRecord begin
   of-step e h = rw e h
 
-  pub of-end : runKindOf k ≡ endRecord → LeadsTo (unless (endStop (begin D q .objects) (begin D q .waiting) b) (begin D q) (goOn (withClose (begin D q) behind))) t work old → LeadsTo (playRecord D q (runKindOf k) b behind) t work old
+  pub of-end : runKindOf k ≡ endRecord → PlayLeadsTo (unless (endStop (begin D q .objects) (begin D q .waiting) b) (begin D q) (goOn (withClose (begin D q) behind))) t work old → PlayLeadsTo (playRecord D q (runKindOf k) b behind) t work old
   unfolding playRecord begin
   of-end e h = rw e h
 
-  pub of-other : runKindOf k ≡ otherRecord → LeadsTo (stopAt 50 q) t work old → LeadsTo (playRecord D q (runKindOf k) b behind) t work old
+  pub of-other : runKindOf k ≡ otherRecord → PlayLeadsTo (stopAt 50 q) t work old
+      → PlayLeadsTo (playRecord D q (runKindOf k) b behind) t work old
   unfolding playRecord
   of-other e h = rw e h
 
@@ -379,7 +383,7 @@ module _ (D : Domain) (q : Playing) (begun : Player) (work old : List ℕ) (st :
   stop-is : n ≡ stepStop (begin D q .objects) b
   stop-is = e ∙ ap (λ (m : ℕ). stepStop m b) (sym (objects-are D (begin D q) st))
 
-  pub step-refused : (n ≡ 0 → ⊥) → LeadsTo (playRecord D q (runKindOf k) b behind) (record { number = n; player = begun }) work old
+  pub step-refused : (n ≡ 0 → ⊥) → PlayLeadsTo (playRecord D q (runKindOf k) b behind) (record { number = n; player = begun }) work old
   step-refused z =
       of-step D q k b behind _ work old kind
       (stops D (begin D q) begun work old st (stepStop (begin D q .objects) b) n (closeStep D (begin D q) behind) stop-is z)
@@ -387,8 +391,8 @@ module _ (D : Domain) (q : Playing) (begun : Player) (work old : List ℕ) (st :
   pub step-some : n ≡ 0 → begin D q .objects ≡ 0 → ⊥
   step-some z = step-taken (begin D q .objects) b (sym stop-is ∙ z)
 
-  pub step-passed : n ≡ 0 → (t : Turn) (work′ : List ℕ) → LeadsTo (closeStep D (begin D q) behind) t work′ old
-      → LeadsTo (playRecord D q (runKindOf k) b behind) t work′ old
+  pub step-passed : n ≡ 0 → (t : Turn) (work′ : List ℕ) → PlayLeadsTo (closeStep D (begin D q) behind) t work′ old
+      → PlayLeadsTo (playRecord D q (runKindOf k) b behind) t work′ old
   step-passed z t work′ h =
       of-step D q k b behind t work′ old kind
       (passes D (begin D q) (stepStop (begin D q .objects) b) n (closeStep D (begin D q) behind) t work′ old stop-is z h)
@@ -404,13 +408,14 @@ module _ (D : Domain) (r : List ℕ) (q : Playing) (player : Player) (work old :
   unfolding playerOf
   at-is = ap (λ (x : Player). x .at) (st .is)
 
-  pub turn-behind : player .closed ≡ true → player .at < length r → LeadsTo (playStep D r q) (record { number = 50; player = player }) work old
+  pub turn-behind : player .closed ≡ true → player .at < length r → PlayLeadsTo (playStep D r q) (record { number = 50; player = player }) work old
   unfolding playStep
   turn-behind c l =
       let e = at-is in
       rw (sym closed-is ∙ c, lt-ltb (q .at) (length r) (omega arith)) (stops-at D q player work old st 50 50 refl (λ z. omega arith))
 
-  pub turn-end : player .closed ≡ true → length r ≤ player .at → LeadsTo (playStep D r q) (record { number = 2; player = player }) work old
+  pub turn-end : player .closed ≡ true → length r ≤ player .at
+      → PlayLeadsTo (playStep D r q) (record { number = 2; player = player }) work old
   unfolding playStep
   turn-end c l =
       let e = at-is in
@@ -423,20 +428,21 @@ module _ (D : Domain) (r : List ℕ) (q : Playing) (player : Player) (work old :
         ap (λ (b : Bool). cond b (cond (ltb (q .at) (length r)) (stopAt 50 q) (stopAt 2 q)) (playFound D r q (recordAt r (q .at)))) (sym closed-is ∙ c)
         ∙ ap (playFound D r q) (ap (recordAt r) (sym at-is) ∙ e)
 
-    pub turn-cut : recordAt r (player .at) ≡ Cut → LeadsTo (playStep D r q) (record { number = 50; player = player }) work old
+    pub turn-cut : recordAt r (player .at) ≡ Cut → PlayLeadsTo (playStep D r q) (record { number = 50; player = player }) work old
     unfolding playFound
     turn-cut e = rw (found Cut e) (stops-at D q player work old st 50 50 refl (λ z. omega arith))
 
-    pub turn-none : recordAt r (player .at) ≡ End → LeadsTo (playStep D r q) (record { number = 50; player = player }) work old
+    pub turn-none : recordAt r (player .at) ≡ End → PlayLeadsTo (playStep D r q) (record { number = 50; player = player }) work old
     unfolding playFound
     turn-none e = rw (found End e) (stops-at D q player work old st 50 50 refl (λ z. omega arith))
 
     pub turn-whole : (k start len : ℕ) → recordAt r (player .at) ≡ Whole k start len → (t : Turn) (work′ : List ℕ) (end : ℕ) → end ≡ start + len
-        → LeadsTo (playRecord D q (runKindOf k) (take (end - start) (drop start r)) end) t work′ old → LeadsTo (playStep D r q) t work′ old
+        → PlayLeadsTo (playRecord D q (runKindOf k) (take (end - start) (drop start r)) end) t work′ old
+        → PlayLeadsTo (playStep D r q) t work′ old
     unfolding playFound payload
     turn-whole k start len e t work′ end z h =
         let n : end - start ≡ len = omega arith in
-        let g : LeadsTo (playRecord D q (runKindOf k) (take len (drop start r)) (start + len)) t work′ old = rw (n, z) at h in
+        let g : PlayLeadsTo (playRecord D q (runKindOf k) (take len (drop start r)) (start + len)) t work′ old = rw (n, z) at h in
         rw (found (Whole k start len) e) g
 
     pub turn-noted : (k start len : ℕ) → recordAt r (player .at) ≡ Whole k start len → (end : ℕ) → end ≡ start + len → (head index : List ℕ)
@@ -466,7 +472,7 @@ module _ (D : Domain) (B : Bounded D) (q : Playing) (player : Player) (work old 
     -- a fact that is held already
     pub fact-again : held ≡ true → (new : Player)
         → (new .at ≡ behind) × (new .closed ≡ false) × (new .objects ≡ player .objects) × (new .state ≡ player .state) × (new .tally ≡ player .tally)
-        → LeadsTo (goOn (withFact q (factOf b) behind)) (record { number = 0; player = new }) work old
+        → PlayLeadsTo (goOn (withFact q (factOf b) behind)) (record { number = 0; player = new }) work old
     fact-again h new is =
         let e : elem sameFact (factOf b) (q .state .facts) ≡ true = sym held-is ∙ h in
         let j : q .state .facts ≡ joined (factOf b) (q .state .facts) = rw e in
@@ -489,7 +495,7 @@ module _ (D : Domain) (B : Bounded D) (q : Playing) (player : Player) (work old 
     pub fact-new : held ≡ false → (new : Player) (next : StateRows) → next ≡ record { facts = player .state .facts + 1; running = player .state .running; waiting = player .state .waiting }
         → (new .at ≡ behind) × (new .closed ≡ false) × (new .objects ≡ player .objects) × (new .state ≡ next) × (new .tally ≡ player .tally)
         → (work′ : List ℕ) → work′ ≡ paste work (8 * player .state .facts) row 8
-        → LeadsTo (goOn (withFact q (factOf b) behind)) (record { number = 0; player = new }) work′ old
+        → PlayLeadsTo (goOn (withFact q (factOf b) behind)) (record { number = 0; player = new }) work′ old
     fact-new h new next ne is work′ we =
         let fs : List Fact = q .state .facts ++ (factOf b ∷ []) in
         let n : player .state .facts + 1 ≡ length fs = let c = facts-count in let a = length-append (q .state .facts) (factOf b ∷ []) in omega arith in
@@ -507,7 +513,7 @@ module _ (D : Domain) (B : Bounded D) (q : Playing) (player : Player) (work old 
   pub event-on : (more : Waiting) → more ≡ waitingOf (q .waiting ++ (eventOf b ∷ [])) → (new : Player)
       → (new .at ≡ behind) × (new .closed ≡ false) × (new .objects ≡ player .objects)
       × (new .state ≡ record { facts = player .state .facts; running = player .state .running; waiting = more }) × (new .tally ≡ player .tally)
-      → LeadsTo (goOn (withEvent q (eventOf b) behind)) (record { number = 0; player = new }) work old
+      → PlayLeadsTo (goOn (withEvent q (eventOf b) behind)) (record { number = 0; player = new }) work old
   event-on more e new is =
       let s : new .state ≡ stateOf (q .state) (q .waiting ++ (eventOf b ∷ [])) =
       is .3 ∙ (λ i. record { facts = state-is D q st i .facts; running = state-is D q st i .running; waiting = e i }) in

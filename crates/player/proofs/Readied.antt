@@ -7,13 +7,12 @@ use lib.ListN.{length}
 use Rattle.records.specs.Memory.{over}
 use Rattle.records.proofs.Memory.{length-over}
 use Rattle.literals.specs.Domain.{Domain}
-use Rattle.literals.specs.Table.{Bounded}
-use Rattle.literals.specs.Held.{HeadOf}
+use Rattle.literals.specs.Held.{Bounded, HeadOf}
 use Rattle.run_semantics.specs.RunFile.{maxFacts}
 use Rattle.run_semantics.specs.Play.{workBytes, Playing, begin, runObjects, heldBytes}
 use Rattle.events.specs.Held.{openOf, waitingOf}
 use Rattle.machine.specs.Held.{StateRows, Closable, Noted}
-use Rattle.player.specs.Player.{Whole as Player, playerOf, Stands, Playable}
+use Rattle.player.specs.Held.{Whole as Player, playerOf, Stands, Playable}
 use Rattle.machine.proofs.HeldBytes.{fits-few, length-held, state-once}
 use Rattle.player.proofs.Sound.{sound-begin}
 use Rattle.player.proofs.PlayTurns.{state-is, waiting-are}

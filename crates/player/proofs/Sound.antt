@@ -17,23 +17,25 @@ use Rattle.records.proofs.Numbers.{none-passes}
 use Rattle.literals.specs.declared.Object.{Object}
 use Rattle.literals.specs.Domain.{object, Fact, sameFact, Domain, arity, action}
 use Rattle.literals.specs.Decode.{byte}
-use Rattle.literals.specs.Table.{Bounded}
+use Rattle.literals.specs.Held.{Bounded}
 use Rattle.literals.specs.Matching.{momentNumber}
 use Rattle.verdict.specs.Binding.{objectsFrom}
 use Rattle.verdict.specs.Machine.{GroundAction, Event, State, next, topWeight}
-use Rattle.verdict.specs.Patterns.{FactOver}
+use Rattle.verdict.specs.Held.{FactOver}
 use Rattle.verdict.proofs.Events.{not-fact}
 use Rattle.verdict.proofs.Objects.{objects-range, object-in}
 use Rattle.verdict.proofs.Weight.{distinct-append}
 use Rattle.run_semantics.proofs.Stops.{eventTests}
-use Rattle.run_semantics.specs.RunFile.{RunKind, objectsRecord, factRecord, eventRecord, stepRecord, endRecord, otherRecord, runKindOf, factOf, momentOf, eventOf, maxObjects, maxFacts, maxEvents, outside, objectsStop, factStop, eventStop, stepStop, endStop}
-use Rattle.run_semantics.specs.Play.{Tally, Playing, beforeRun, onward, PlayTurn, goOn, finish, stopAt, begin, withObjects, joined, withFact}
-use Rattle.run_semantics.specs.Play.{withEvent, runObjects, forbidden, tooLarge, afterStep, closeStep, withClose, unless, playRecord, playFound}
-use Rattle.run_semantics.specs.Play.{playStep, playFrom, playRun}
-use Rattle.store.specs.Rows.{FactFits}
+use Rattle.run_semantics.specs.RunFile.{RunKind, objectsRecord, factRecord, eventRecord, stepRecord, endRecord, otherRecord, runKindOf}
+use Rattle.run_semantics.specs.RunFile.{factOf, momentOf, eventOf, maxObjects, maxFacts, maxEvents, outside, objectsStop, factStop}
+use Rattle.run_semantics.specs.RunFile.{eventStop, stepStop, endStop}
+use Rattle.run_semantics.specs.Play.{Tally, Playing, beforeRun, onward, PlayTurn, goOn, finish, stopAt, begin, withObjects, joined}
+use Rattle.run_semantics.specs.Play.{withFact, withEvent, runObjects, forbidden, tooLarge, afterStep, closeStep, withClose, unless}
+use Rattle.run_semantics.specs.Play.{playRecord, playFound, playStep, playFrom, playRun}
+use Rattle.store.specs.Held.{FactFits}
 use Rattle.events.specs.Held.{GroundFits}
 use Rattle.machine.specs.Held.{Kept}
-use Rattle.player.specs.Player.{Sound}
+use Rattle.player.specs.Held.{Sound}
 use Rattle.events.proofs.Members.{map-in}
 use Rattle.run_fields.proofs.RunFields.{byte-moment}
 use Rattle.machine.proofs.NextKept.{kept-next}

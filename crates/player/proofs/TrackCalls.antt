@@ -13,15 +13,16 @@ use Rattle.records.specs.declared.Record.the-variants.{Whole, Cut, End}
 use Rattle.records.specs.Record.{recordAt, payload}
 use Rattle.literals.specs.Domain.{Fact, keysOf, Domain}
 use Rattle.literals.specs.Decode.{Refusal, refused, domain, decode, byte}
-use Rattle.literals.specs.Table.{rowsIn, Bounded}
+use Rattle.literals.specs.Held.{rowsIn, Bounded}
 use Rattle.verdict.specs.Claims.{total}
-use Rattle.store.specs.Rows.{factRow, FactFits}
+use Rattle.verdict.specs.Held.{factRow}
+use Rattle.store.specs.Held.{FactFits}
 use Rattle.machine.proofs.HeldBytes.{fits-few, work-rows}
 use Rattle.player.specs.declared.play.Fault.the-variants.{Domain as InDomain, Run as InRun}
 use Rattle.player.specs.declared.play.PlayAnswer.{PlayAnswer}
 use Rattle.player.specs.declared.play.Tracked.{Tracked}
 use Rattle.player.specs.declared.run.Ended.{Ended}
-use Rattle.player.specs.Player.{endedOf}
+use Rattle.player.specs.Held.{endedOf}
 use Rattle.run_semantics.specs.RunFile.{maxFacts, outside, objectsStop}
 use Rattle.run_semantics.specs.Play.{workBytes, beforeRun, outcomeAt, heldBytes, playRun, outcomeCall, callBy, call, workAfter}
 use Rattle.run_semantics.specs.Play.{returnedBytes}

@@ -11,9 +11,9 @@ use Rattle.run_semantics.specs.Play.{Outcome, placeOf, Returned, ofDomain, ofRu
 use Rattle.run_semantics.specs.Track.{Tracked as TrackedCall, tracked}
 
 -- "a part of the domain file or of the run file, from that record to the end"
-abbrev pub faultOf : Returned → Fault
-faultOf (ofDomain at) = InDomain at
-faultOf (ofRun at) = InRun at
+abbrev pub asFault : Returned → Fault
+asFault (ofDomain at) = InDomain at
+asFault (ofRun at) = InRun at
 
 -- of which file it is, 0 the domain file and 1 the run file, and its offset there
 abbrev pub fileOf : Returned → ℕ
@@ -45,7 +45,7 @@ answerOf c =
       place = c .answer .first;
       steps = c .answer .steps;
       weight = c .answer .weight;
-      fault = faultOf (c .part);
+      fault = asFault (c .part);
     }
 
 -- of a run that was played to its end or to its fault

@@ -12,7 +12,7 @@ ghost use lib.ListN.{getD};
 ghost use Rattle.reading.specs.Held.{EnoughTable};
 ghost use Rattle.run_semantics.specs.Play.{Outcome, call, played, workAfter, returned, returnedBytes};
 ghost use Rattle.run_semantics.specs.Claims.{PlaysAsMachine, StaysLow};
-ghost use Rattle.player.specs.Player.{endedOf};
+ghost use Rattle.player.specs.Held.{endedOf};
 ghost use Rattle.player.specs.Called.{fileOf, offsetOf, faultFile, faultOffset, partAt, answerOf, answerBy, answerUnplayed};
 ghost use Rattle.player.specs.Called.{trackedIf, trackedOf};
 

@@ -38,7 +38,7 @@ ghost use Rattle.run_semantics.specs.RunFile.{maxEvents, maxFacts, runKindOf, f
 ghost use Rattle.run_semantics.specs.Play.{workBytes, Playing, beforeRun, goOn, unless, begin, withObjects, withFact, runObjects};
 ghost use Rattle.run_semantics.specs.Play.{withEvent, closeStep, withClose, playRecord, playStep};
 ghost use Rattle.machine.specs.Held.{Noted, Closable};
-ghost use Rattle.player.specs.Player.{wholeIn, turnIn, playerOf, Stands, Playable, RunMemory, LeadsTo, NotedAfter};
+ghost use Rattle.player.specs.Held.{wholeIn, turnIn, playerOf, Stands, Playable, RunMemory, PlayLeadsTo, NotedAfter};
 ghost use Rattle.events.specs.Held.{agendaBytes};
 
 impl Player {
@@ -120,7 +120,7 @@ impl Player {
     // Kind 16: the object count.
     fn take_objects(self, p: &[u8], behind: usize) -> Turn
         ensures { λ r. ⌜ ((D : Domain) (q : Playing) (agenda work old : List ℕ) → Stands D q (wholeIn self agenda) work old
-            → LeadsTo (unless (objectsStop (q .objects) (now (p .entry))) q (goOn (withObjects q (byte (now (p .entry)) 0) behind)))
+            → PlayLeadsTo (unless (objectsStop (q .objects) (now (p .entry))) q (goOn (withObjects q (byte (now (p .entry)) 0) behind)))
             (turnIn r agenda) work old) ⌝ }
     {
         let number = objects_stop(self.objects, p);
@@ -160,7 +160,7 @@ impl Player {
         ensures leads { λ r. ⌜ ((D : Domain) (q : Playing) (agenda old : List ℕ) → HeadOf D (now (head .entry))
             → Stands D q (wholeIn self agenda) (now (work .entry)) old
             → Noted D (runObjects q) (now (head .entry)) (now (index .entry)) (q .state)
-            → LeadsTo (unless (factStop D (q .objects) (q .tally .begun) (q .state .facts) (now (p .entry))) q
+            → PlayLeadsTo (unless (factStop D (q .objects) (q .tally .begun) (q .state .facts) (now (p .entry))) q
             (goOn (withFact q (factOf (now (p .entry))) behind))) (turnIn r agenda) (now (work .exit)) old) ⌝ }
         ensures noted { λ _. ⌜ ((D : Domain) (q : Playing) (agenda old : List ℕ) → HeadOf D (now (head .entry))
             → Stands D q (wholeIn self agenda) (now (work .entry)) old
@@ -207,7 +207,7 @@ impl Player {
         requires agenda { ⌜ length (now agenda) ≡ agendaBytes ⌝ }
         ensures { λ r. ⌜ ((D : Domain) (q : Playing) (work old : List ℕ) → HeadOf D (now (head .entry))
             → Stands D q (wholeIn self (now (agenda .entry))) work old
-            → LeadsTo (unless (eventStop D (q .objects) (q .waiting) (now (p .entry))) q
+            → PlayLeadsTo (unless (eventStop D (q .objects) (q .waiting) (now (p .entry))) q
             (goOn (withEvent q (eventOf (now (p .entry))) behind))) (turnIn r (now (agenda .exit))) work old) ⌝ }
     {
         let state = self.state;
@@ -279,7 +279,7 @@ impl Player {
         ensures leads { λ r. ⌜ ((D : Domain) (q : Playing) (old : List ℕ) → Held D (now (head .entry)) (now (table .entry))
             → Stands D q (wholeIn self (now (agenda .entry))) (now (work .entry)) old
             → q .tally .begun ≡ true → Noted D (runObjects q) (now (head .entry)) (now (index .entry)) (q .state)
-            → LeadsTo (closeStep D q behind) (turnIn r (now (agenda .entry))) (now (work .entry)) old) ⌝ }
+            → PlayLeadsTo (closeStep D q behind) (turnIn r (now (agenda .entry))) (now (work .entry)) old) ⌝ }
         ensures noted { λ _. ⌜ ((D : Domain) (q : Playing) (old : List ℕ) → Held D (now (head .entry)) (now (table .entry))
             → Stands D q (wholeIn self (now (agenda .entry))) (now (work .entry)) old
             → q .tally .begun ≡ true → Noted D (runObjects q) (now (head .entry)) (now (index .entry)) (q .state)
@@ -326,7 +326,7 @@ impl Player {
         ensures leads { λ r. ⌜ ((D : Domain) (q : Playing) (old : List ℕ) → Held D (now (head .entry)) (now (table .entry))
             → Stands D q (wholeIn self (now (agenda .entry))) (now (work .entry)) old
             → (q .objects ≡ 0 → ⊥) → q .tally .begun ≡ true → Noted D (runObjects q) (now (head .entry)) (now (index .entry)) (q .state)
-            → LeadsTo (closeStep D q behind) (turnIn r (now (agenda .exit))) (now (work .exit)) old) ⌝ }
+            → PlayLeadsTo (closeStep D q behind) (turnIn r (now (agenda .exit))) (now (work .exit)) old) ⌝ }
         ensures noted { λ _. ⌜ ((D : Domain) (q : Playing) (old : List ℕ) → Held D (now (head .entry)) (now (table .entry))
             → Stands D q (wholeIn self (now (agenda .entry))) (now (work .entry)) old
             → (q .objects ≡ 0 → ⊥) → q .tally .begun ≡ true → Noted D (runObjects q) (now (head .entry)) (now (index .entry)) (q .state)
@@ -354,7 +354,7 @@ impl Player {
     // Kind 20: the run's close.
     fn take_end(self, p: &[u8], behind: usize) -> Turn
         ensures { λ r. ⌜ ((D : Domain) (q : Playing) (agenda work old : List ℕ) → Stands D q (wholeIn self agenda) work old
-            → LeadsTo (unless (endStop (q .objects) (q .waiting) (now (p .entry))) q (goOn (withClose q behind)))
+            → PlayLeadsTo (unless (endStop (q .objects) (q .waiting) (now (p .entry))) q (goOn (withClose q behind)))
             (turnIn r agenda) work old) ⌝ }
     {
         let tally = self.tally;
@@ -396,7 +396,8 @@ impl Player {
         ensures leads { λ r. ⌜ ((D : Domain) (q : Playing) (old : List ℕ) → HeadOf D (now (head .entry))
             → Stands D q (wholeIn self (now (agenda .entry))) (now (work .entry)) old
             → Noted D (runObjects q) (now (head .entry)) (now (index .entry)) (q .state)
-            → LeadsTo (playRecord D q (runKindOf kind) (now (p .entry)) behind) (turnIn r (now (agenda .exit))) (now (work .exit)) old) ⌝ }
+            → PlayLeadsTo (playRecord D q (runKindOf kind) (now (p .entry)) behind) (turnIn r (now (agenda .exit)))
+            (now (work .exit)) old) ⌝ }
         ensures noted { λ _. ⌜ ((D : Domain) (q : Playing) (old : List ℕ) → HeadOf D (now (head .entry))
             → Stands D q (wholeIn self (now (agenda .entry))) (now (work .entry)) old
             → Noted D (runObjects q) (now (head .entry)) (now (index .entry)) (q .state)
@@ -436,7 +437,7 @@ impl Player {
         ensures leads { λ r. ⌜ ((D : Domain) (q : Playing) (old : List ℕ) → Held D (now (head .entry)) (now (table .entry))
             → Stands D q (wholeIn self (now (agenda .entry))) (now (work .entry)) old
             → Noted D (runObjects q) (now (head .entry)) (now (index .entry)) (q .state)
-            → LeadsTo (playStep D (now (run .entry)) q) (turnIn r (now (agenda .exit))) (now (work .exit)) old) ⌝ }
+            → PlayLeadsTo (playStep D (now (run .entry)) q) (turnIn r (now (agenda .exit))) (now (work .exit)) old) ⌝ }
         ensures noted { λ _. ⌜ ((D : Domain) (q : Playing) (old : List ℕ) → Held D (now (head .entry)) (now (table .entry))
             → Stands D q (wholeIn self (now (agenda .entry))) (now (work .entry)) old
             → Noted D (runObjects q) (now (head .entry)) (now (index .entry)) (q .state)

@@ -15,11 +15,11 @@ ghost use lib.ListN.{length, replicate};
 ghost use Rattle.records.specs.Memory.{over};
 ghost use Rattle.literals.specs.Domain.{Domain};
 ghost use Rattle.literals.specs.Held.{Held, Read};
-ghost use Rattle.store.specs.Index.{factIndex};
+ghost use Rattle.store.specs.Held.{factIndex};
 ghost use Rattle.effects.specs.Held.{scratchBytes};
 ghost use Rattle.run_semantics.specs.Play.{workBytes, heldBytes, playRun};
-ghost use Rattle.player.specs.Player.{endedOf};
-ghost use Rattle.events.specs.Held.{agendaBytes, openIn, openOf};
+ghost use Rattle.player.specs.Held.{endedOf};
+ghost use Rattle.events.specs.Held.{agendaBytes, agendaOpen, openOf};
 
 // The bytes of the facts in the work memory.
 pub const WORK: usize = 8 * MAX_FACTS;
@@ -80,7 +80,7 @@ fn play_records(
         → now (work .entry) ≡ over (heldBytes []) old
         → (r ≡ endedOf (playRun D (now (run .entry))))
         × (now (work .exit) ≡ over (heldBytes (playRun D (now (run .entry)) .facts)) old)
-        × (openIn (r .opened) (now (agenda .exit)) ≡ openOf (playRun D (now (run .entry)) .running))) ⌝ }
+        × (agendaOpen (r .opened) (now (agenda .exit)) ≡ openOf (playRun D (now (run .entry)) .running))) ⌝ }
 {
     let mut turn = Turn {
         number: 0,
@@ -106,7 +106,7 @@ pub fn play_run(head: &Head, table: &[u8], run: &[u8], work: &mut [u8], agenda: 
     ensures { λ r. ⌜ ((D : Domain) → Held D (now (head .entry)) (now (table .entry))
         → (r ≡ endedOf (playRun D (now (run .entry))))
         × (now (work .exit) ≡ over (heldBytes (playRun D (now (run .entry)) .facts)) (now (work .entry)))
-        × (openIn (r .opened) (now (agenda .exit)) ≡ openOf (playRun D (now (run .entry)) .running))) ⌝ }
+        × (agendaOpen (r .opened) (now (agenda .exit)) ≡ openOf (playRun D (now (run .entry)) .running))) ⌝ }
 {
     let zeros = [0u8; WORK];
     put_bytes(work, 0, &zeros);

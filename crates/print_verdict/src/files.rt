@@ -3,7 +3,7 @@ use libc::STDERR_FILENO;
 ghost use Rattle.io.specs.Counts.{Counts};
 
 // Whether a file was read, and how many bytes of it: all, or as many as there was room for.
-pub struct Reading {
+pub struct FileRead {
     pub is_read: bool,
     pub count: usize,
 }
@@ -33,13 +33,13 @@ fn is_readable(fd: i32) -> bool {
 }
 
 // Reads a file from its start for the program of a name, or says that it cannot be opened or read.
-pub fn read_named(program: &[u8], name: &[u8], file: &mut [u8]) -> Reading
+pub fn read_named(program: &[u8], name: &[u8], file: &mut [u8]) -> FileRead
     ensures { λ r. ⌜ Counts (r .count) (now (file .exit)) ⌝ }
 {
     let fd = os::open_read(name);
     if fd < 0 {
         refuse_name(program, name);
-        return Reading {
+        return FileRead {
             is_read: false,
             count: 0,
         };
@@ -50,5 +50,5 @@ pub fn read_named(program: &[u8], name: &[u8], file: &mut [u8]) -> Reading
     if !is_read {
         refuse(program, b": cannot read ", name);
     }
-    Reading { is_read, count }
+    FileRead { is_read, count }
 }

@@ -15,45 +15,44 @@ use Rattle.literals.specs.declared.RecordFault.{RecordFault}
 use Rattle.literals.specs.declared.span.Span.{Span}
 use Rattle.literals.specs.Domain.{Literal, clearsOnce, Action, Component, keysOf, Domain, arity, noAction, action}
 use Rattle.literals.specs.Decode.{maxRelations, maxArguments, maxActions, maxLiterals, maxComponents, RecordKind, relationRecord}
-use Rattle.literals.specs.Decode.{actionRecord, literalRecord, componentRecord, closingRecord, unknownRecord, latest, byte}
-use Rattle.literals.specs.Decode.{headStop, relationStop, actionStop, literalOf, repeats, contradicts, noVariable, literalStop}
-use Rattle.literals.specs.Decode.{atRecord, componentOf, labelFault, keysCleared, clearedFault, componentFault, componentStop, closingStop}
-use Rattle.literals.specs.Decode.{fieldStop, fieldPlace, stopOf, stopPlace, extend}
-use Rattle.literals.specs.Table.{rowOf, literalRow, allLiterals, contradictsRow, rowsIn, rowsStop}
-use Rattle.literals.specs.Held.{relationsIn, actionsIn, componentsIn, arityIn, componentRowsIn, variablesIn, lastingIn, clearsIn}
-use Rattle.literals.specs.Held.{HeadOf, Held, SpanOf, Filled}
-use Rattle.literals.specs.Fields.{argumentsStop, literalShape, literalArguments, componentFields, keyClearedIn}
+use Rattle.literals.specs.Decode.{actionRecord, literalRecord, componentRecord, closingRecord, unknownRecord, latest, byte, headStop}
+use Rattle.literals.specs.Decode.{relationStop, actionStop, literalOf, repeats, contradicts, noVariable, literalStop, atRecord, componentOf}
+use Rattle.literals.specs.Decode.{labelFault, keysCleared, clearedFault, componentFault, componentStop, closingStop, fieldStop, fieldPlace}
+use Rattle.literals.specs.Decode.{stopOf, stopPlace, extend}
+use Rattle.literals.specs.Held.{rowOf, literalRow, allLiterals, contradictsRow, rowsIn, rowsStop, relationsIn, actionsIn, componentsIn}
+use Rattle.literals.specs.Held.{arityIn, componentRowsIn, variablesIn, lastingIn, clearsIn, HeadOf, Held, SpanOf, Filled, argumentsStop}
+use Rattle.literals.specs.Held.{literalShape, literalArguments, componentFields, keyClearedIn}
 use Rattle.literals.proofs.Stops.{outOfOrder, atLimit, lastFault, faults-split}
 use Rattle.literals.proofs.Bounds.{arity-six, variables-below}
 use Rattle.literals.proofs.Tables.{any-component, Comparable, kept, length-literal-row, rows-flat, literals-stop, none-cleared, cleared-rows}
 use Rattle.literals.proofs.Held.{stop-order, stop-limit, stop-field, place-limit, place-field}
 use Rattle.literals.proofs.Heads.{arity-limit, literals-after, all-rows}
 use Rattle.literals.proofs.Fills.{latest-at}
-use Rattle.reading.specs.Held.{behind, HeldOver, rowsOf}
+use Rattle.reading.specs.Held.{domainAfter, HeldOver, rowsOf}
 
 -- ---- the domain behind a record
 
-pub behind-stop : (D : Domain) (k : RecordKind) (p : List ℕ) {n : ℕ} → stopOf D k p ≡ n → (n ≡ 0 → ⊥) → behind D k p ≡ D
-unfolding behind
+pub behind-stop : (D : Domain) (k : RecordKind) (p : List ℕ) {n : ℕ} → stopOf D k p ≡ n → (n ≡ 0 → ⊥) → domainAfter D k p ≡ D
+unfolding domainAfter
 behind-stop D k p {n} e h = rw (ne-eqb (stopOf D k p) 0 (λ z. h (sym e ∙ z)))
 
-pub behind-done : (D : Domain) (k : RecordKind) (p : List ℕ) → stopOf D k p ≡ 0 → behind D k p ≡ extend D k p
-unfolding behind
+pub behind-done : (D : Domain) (k : RecordKind) (p : List ℕ) → stopOf D k p ≡ 0 → domainAfter D k p ≡ extend D k p
+unfolding domainAfter
 behind-done D k p e = rw (eq-eqb (stopOf D k p) 0 e)
 
 -- the head behind a record that is stopped, and one that is not; and the table beside it
-pub take-stop : {D : Domain} {head : List ℕ} → Filled D head → (k : RecordKind) (p : List ℕ) {n : ℕ} → stopOf D k p ≡ n → (n ≡ 0 → ⊥) → (n ≡ stopOf D k p) × Filled (behind D k p) head
+pub take-stop : {D : Domain} {head : List ℕ} → Filled D head → (k : RecordKind) (p : List ℕ) {n : ℕ} → stopOf D k p ≡ n → (n ≡ 0 → ⊥) → (n ≡ stopOf D k p) × Filled (domainAfter D k p) head
 take-stop {D} {head} F k p e z = (sym e, subst (λ (X : Domain). Filled X head) (sym (behind-stop D k p e z)) F)
 
-pub take-done : (D : Domain) {head : List ℕ} (k : RecordKind) (p : List ℕ) {n : ℕ} → stopOf D k p ≡ n → n ≡ 0 → Filled (extend D k p) head → (n ≡ stopOf D k p) × Filled (behind D k p) head
+pub take-done : (D : Domain) {head : List ℕ} (k : RecordKind) (p : List ℕ) {n : ℕ} → stopOf D k p ≡ n → n ≡ 0 → Filled (extend D k p) head → (n ≡ stopOf D k p) × Filled (domainAfter D k p) head
 take-done D {head} k p e z F = (sym e, subst (λ (X : Domain). Filled X head) (sym (behind-done D k p (e ∙ z))) F)
 
 pub row-stop : {old : List ℕ} {D : Domain} {head table : List ℕ} → HeldOver old D head table → (k : RecordKind) (p : List ℕ) {n : ℕ}
-    → stopOf D k p ≡ n → (n ≡ 0 → ⊥) → (n ≡ stopOf D k p) × HeldOver old (behind D k p) head table
+    → stopOf D k p ≡ n → (n ≡ 0 → ⊥) → (n ≡ stopOf D k p) × HeldOver old (domainAfter D k p) head table
 row-stop {old} {D} {head} {table} K k p e z = (sym e, subst (λ (X : Domain). HeldOver old X head table) (sym (behind-stop D k p e z)) K)
 
 pub row-done : {old : List ℕ} (D : Domain) {head table : List ℕ} (k : RecordKind) (p : List ℕ) {n : ℕ}
-    → stopOf D k p ≡ n → n ≡ 0 → HeldOver old (extend D k p) head table → (n ≡ stopOf D k p) × HeldOver old (behind D k p) head table
+    → stopOf D k p ≡ n → n ≡ 0 → HeldOver old (extend D k p) head table → (n ≡ stopOf D k p) × HeldOver old (domainAfter D k p) head table
 row-done {old} D {head} {table} k p e z K = (sym e, subst (λ (X : Domain). HeldOver old X head table) (sym (behind-done D k p (e ∙ z))) K)
 
 pub held-over : {old : List ℕ} {D : Domain} {head table : List ℕ} → HeldOver old D head table → Held D head table

@@ -18,10 +18,9 @@ use Rattle.literals.specs.declared.RecordFault.{RecordFault}
 use Rattle.literals.specs.Domain.{Action, Domain}
 use Rattle.literals.specs.Decode.{maxFile, maxLiterals, latest, RecordKind, relationRecord, actionRecord, literalRecord, componentRecord}
 use Rattle.literals.specs.Decode.{closingRecord, unknownRecord, kindOf, literalOf, withLiteral, actionOf, fieldStop, stopOf, stopPlace}
-use Rattle.literals.specs.Decode.{stopAt, extend, Refusal, refuse, refuseAt, Decoded, refused, domain, Reading, ReadTurn, goOn, finish}
-use Rattle.literals.specs.Decode.{readRecord, readFound, readStep, readFrom, noDomain, fromStart, decode}
-use Rattle.literals.specs.Table.{allLiterals, tableBytes, Bounded}
-use Rattle.literals.specs.Held.{headBytes}
+use Rattle.literals.specs.Decode.{faultOfRecord, extend, Refusal, refuse, refuseAt, Decoded, refused, domain, Reading, ReadTurn, goOn}
+use Rattle.literals.specs.Decode.{finish, readRecord, readFound, readStep, readFrom, noDomain, fromStart, decode}
+use Rattle.literals.specs.Held.{allLiterals, tableBytes, Bounded, headBytes}
 use Rattle.literals.proofs.Stops.{passes, literal-passes}
 use Rattle.literals.proofs.Held.{literals-snoc, literals-more, rows-few, rows-fewer}
 use Rattle.literals.proofs.Heads.{length-table}
@@ -31,7 +30,7 @@ use Rattle.literals.proofs.Loop.{read-more, read-done, payload-length, goOn-at}
 use Rattle.reading.specs.declared.Progress.{Progress}
 use Rattle.reading.specs.declared.Refusal.{Refusal as FileRefusal}
 use Rattle.reading.specs.declared.read.Stepped.{Stepped}
-use Rattle.reading.specs.Held.{behind, HeldOver, RecordReady, Standing, atStart, LeadsTo, EnoughTable, StepReady, endedOf}
+use Rattle.reading.specs.Held.{domainAfter, HeldOver, RecordReady, Standing, atStart, ReadLeadsTo, EnoughTable, StepReady, refusalOf}
 use Rattle.reading.specs.Held.{readUntil, readOf, tableAfter, ReadAs}
 use Rattle.reading.proofs.Takes.{behind-stop, behind-done, held-over}
 
@@ -94,14 +93,15 @@ module _ (s : List ℕ) (p : Progress) {old : List ℕ} {q : Reading} {head t : 
   found r c e = let f : recordAt s (q .at) ≡ r = ap (recordAt s) (sym (S .at)) ∙ e in simp (closed-is c, f)
 
   -- what is at fault is the record itself
-  here : (n : ℕ) → readStep s q ≡ finish (refused (refuse n (q .at))) → LeadsTo old q (readStep s q) (record { number = n; place = p .at; progress = p }) head t
+  here : (n : ℕ) → readStep s q ≡ finish (refused (refuse n (q .at))) → ReadLeadsTo old q (readStep s q) (record { number = n; place = p .at; progress = p }) head t
   here n e = rw e (refl, S .at, S .at, S .holds .rows)
 
-  pub step-behind : p .closed ≡ true → p .at < length s → LeadsTo old q (readStep s q) (record { number = 13; place = p .at; progress = p }) head t
+  pub step-behind : p .closed ≡ true → p .at < length s → ReadLeadsTo old q (readStep s q) (record { number = 13; place = p .at; progress = p }) head t
   unfolding readStep
   step-behind c h = let a = S .at in let l : q .at < length s = omega arith in here 13 (simp (closed-is c, lt-ltb (q .at) (length s) l))
 
-  pub step-end : p .closed ≡ true → length s ≤ p .at → LeadsTo old q (readStep s q) (record { number = 1; place = 0; progress = p }) head t
+  pub step-end : p .closed ≡ true → length s ≤ p .at
+      → ReadLeadsTo old q (readStep s q) (record { number = 1; place = 0; progress = p }) head t
   unfolding readStep
   step-end c h =
       let a = S .at in
@@ -109,17 +109,17 @@ module _ (s : List ℕ) (p : Progress) {old : List ℕ} {q : Reading} {head t : 
       let e : readStep s q ≡ finish (domain (q .sofar)) = simp (closed-is c, le-ltb (q .at) (length s) l) in
       rw e (refl, held-over (S .holds), S .holds .rows, S .holds .filled .room)
 
-  pub step-cut : p .closed ≡ false → recordAt s (p .at) ≡ Cut → LeadsTo old q (readStep s q) (record { number = 10; place = p .at; progress = p }) head t
+  pub step-cut : p .closed ≡ false → recordAt s (p .at) ≡ Cut → ReadLeadsTo old q (readStep s q) (record { number = 10; place = p .at; progress = p }) head t
   unfolding readFound
   step-cut c e = here 10 (found Cut c e)
 
-  pub step-none : p .closed ≡ false → recordAt s (p .at) ≡ End → LeadsTo old q (readStep s q) (record { number = 10; place = p .at; progress = p }) head t
+  pub step-none : p .closed ≡ false → recordAt s (p .at) ≡ End → ReadLeadsTo old q (readStep s q) (record { number = 10; place = p .at; progress = p }) head t
   unfolding readFound
   step-none c e = here 10 (found End c e)
 
   -- of a whole record, what taking it leads to: the part of the file from `start` to its end is its payload
   module _ {k start len : ℕ} (c : p .closed ≡ false) (e : recordAt s (p .at) ≡ Whole k start len) (o : RecordFault) {after rows : List ℕ}
-      (taken : (o .number ≡ stopOf (q .sofar) (kindOf k) (take (start + len - start) (drop start s))) × HeldOver old (behind (q .sofar) (kindOf k) (take (start + len - start) (drop start s))) after rows)
+      (taken : (o .number ≡ stopOf (q .sofar) (kindOf k) (take (start + len - start) (drop start s))) × HeldOver old (domainAfter (q .sofar) (kindOf k) (take (start + len - start) (drop start s))) after rows)
       (placed : o .within ≡ stopPlace (q .sofar) (kindOf k) (take (start + len - start) (drop start s))) where
     part-is : take (start + len - start) (drop start s) ≡ payload s start len
     unfolding payload
@@ -135,7 +135,7 @@ module _ (s : List ℕ) (p : Progress) {old : List ℕ} {q : Reading} {head t : 
     within-is : stopPlace (q .sofar) (kindOf k) (payload s start len) ≡ o .within
     within-is = sym (placed ∙ ap (stopPlace (q .sofar) (kindOf k)) part-is)
 
-    pub step-on : o .number ≡ 0 → LeadsTo old q (readStep s q) (record { number = 0; place = 0; progress = record { at = start + len; closed = eqb k 5 } }) after rows
+    pub step-on : o .number ≡ 0 → ReadLeadsTo old q (readStep s q) (record { number = 0; place = 0; progress = record { at = start + len; closed = eqb k 5 } }) after rows
     unfolding readRecord stopOf
     step-on z = rw turn (refl, stands)
       where
@@ -148,7 +148,7 @@ module _ (s : List ℕ) (p : Progress) {old : List ℕ} {q : Reading} {head t : 
         holds : HeldOver old (extend (q .sofar) (kindOf k) (payload s start len)) after rows
         holds =
             subst (λ (D : Domain). HeldOver old D after rows)
-            (ap (behind (q .sofar) (kindOf k)) part-is ∙ behind-done (q .sofar) (kindOf k) (payload s start len) ok) (taken .1)
+            (ap (domainAfter (q .sofar) (kindOf k)) part-is ∙ behind-done (q .sofar) (kindOf k) (payload s start len) ok) (taken .1)
 
         stands : Standing old next (record { at = start + len; closed = eqb k 5 }) after rows
         stands = record { at = refl; closed = refl; holds = holds }
@@ -156,14 +156,14 @@ module _ (s : List ℕ) (p : Progress) {old : List ℕ} {q : Reading} {head t : 
         turn : readStep s q ≡ goOn next
         turn = record-is ∙ simp (eq-eqb (stopOf (q .sofar) (kindOf k) (payload s start len)) 0 ok)
 
-    pub step-stop : (o .number ≡ 0 → ⊥) → {w : ℕ} → w ≡ o .within → LeadsTo old q (readStep s q) (record { number = o .number; place = p .at + w; progress = p }) after rows
+    pub step-stop : (o .number ≡ 0 → ⊥) → {w : ℕ} → w ≡ o .within → ReadLeadsTo old q (readStep s q) (record { number = o .number; place = p .at + w; progress = p }) after rows
     unfolding readRecord stopOf stopPlace
     step-stop z d = rw turn (refl, ap₂ _+_ (S .at) d, S .at, rows-are)
       where
         rows-are : rows ≡ over (tableBytes (q .sofar)) old
         rows-are =
             taken .1 .rows
-            ∙ ap (λ (D : Domain). over (tableBytes D) old) (ap (behind (q .sofar) (kindOf k)) part-is ∙ behind-stop (q .sofar) (kindOf k) (payload s start len) number-is z)
+            ∙ ap (λ (D : Domain). over (tableBytes D) old) (ap (domainAfter (q .sofar) (kindOf k)) part-is ∙ behind-stop (q .sofar) (kindOf k) (payload s start len) number-is z)
 
         refusal : ℕ → ℕ → Refusal
         refusal n w = record { number = n; place = q .at + w; start = q .at }
@@ -171,7 +171,7 @@ module _ (s : List ℕ) (p : Progress) {old : List ℕ} {q : Reading} {head t : 
         turn : readStep s q ≡ finish (refused (refusal (o .number) (o .within)))
         turn =
             let b = ne-eqb (stopOf (q .sofar) (kindOf k) (payload s start len)) 0 (λ x. z (sym number-is ∙ x)) in
-            let f = stopAt (q .sofar) (kindOf k) (payload s start len) in
+            let f = faultOfRecord (q .sofar) (kindOf k) (payload s start len) in
             let r : readRecord q k (payload s start len) (start + len) ≡ finish (refused (refuseAt f (q .at))) = simp b in
             record-is ∙ r ∙ ap₂ (λ (n w : ℕ). finish (refused (refusal n w))) number-is within-is
 
@@ -251,7 +251,7 @@ module _ {s old : List ℕ} {p : Progress} {head t : List ℕ} (i : Loop s old p
 
 -- one turn, from what `step` ensures
 module _ (s old : List ℕ) (p : Progress) (head t : List ℕ) (i : Loop s old p head t) (o : Stepped) (head′ t′ : List ℕ)
-    (step : (q : Reading) (old : List ℕ) → Standing old q p head t → LeadsTo old q (readStep s q) o head′ t′) where
+    (step : (q : Reading) (old : List ℕ) → Standing old q p head t → ReadLeadsTo old q (readStep s q) o head′ t′) where
   record Turned : Type 0 where
     next : Loop s old (o .progress) head′ t′
     further : p .at < o .progress .at
@@ -282,7 +282,7 @@ module _ (s old : List ℕ) (p : Progress) (head t : List ℕ) (i : Loop s old p
       q : Reading
       q = i .reading
 
-      go : (r : ReadTurn) → readStep s q ≡ r → LeadsTo old q r o head′ t′ → Turned
+      go : (r : ReadTurn) → readStep s q ≡ r → ReadLeadsTo old q r o head′ t′ → Turned
       go (goOn n) e h =
           let g = goOn-at s q n e in
           let f = fuel-left in
@@ -323,15 +323,15 @@ module _ (s old : List ℕ) (p : Progress) (head t : List ℕ) (i : Loop s old p
       let w = n .within in
       omega arith
 
-  pub loop-answer : (o .number ≡ 0 → ⊥) → (r : FileRefusal) → r ≡ endedOf o → ReadAs (decode s) r head′ t′ × (t′ ≡ tableAfter s old)
-  unfolding endedOf tableAfter
+  pub loop-answer : (o .number ≡ 0 → ⊥) → (r : FileRefusal) → r ≡ refusalOf o → ReadAs (decode s) r head′ t′ × (t′ ≡ tableAfter s old)
+  unfolding refusalOf tableAfter
   loop-answer z r d = go (readStep s (i .reading)) refl (step (i .reading) old (i .stands))
     where
       after : (x : Decoded) → readStep s (i .reading) ≡ finish x → t′ ≡ over (tableBytes (i .reading .sofar)) old
           → t′ ≡ over (tableBytes (readOf s)) old
       after x e f = f ∙ ap (λ (D : Domain). over (tableBytes D) old) (ends x e)
 
-      go : (n : ReadTurn) → readStep s (i .reading) ≡ n → LeadsTo old (i .reading) n o head′ t′
+      go : (n : ReadTurn) → readStep s (i .reading) ≡ n → ReadLeadsTo old (i .reading) n o head′ t′
           → ReadAs (decode s) r head′ t′ × (t′ ≡ over (tableBytes (readOf s)) old)
       go (goOn n) e h = absurd (z (h .0))
       go (finish (refused x)) e h =

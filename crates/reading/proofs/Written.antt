@@ -14,15 +14,15 @@ use Rattle.records.specs.Memory.{over}
 use Rattle.records.proofs.Lists.{clash, bool-cases, or-out, flatMap-snoc}
 use Rattle.literals.specs.declared.span.Span.{Span}
 use Rattle.literals.specs.Domain.{Domain}
-use Rattle.literals.specs.Decode.{RecordKind, relationRecord, actionRecord, literalRecord, componentRecord, closingRecord, unknownRecord, maxLiterals, kindOf, latest, byte, literalOf, literalStop, actionOf, fieldStop, stopOf, stopPlace, extend}
-use Rattle.literals.specs.Table.{rowOf, literalRow, allLiterals, tableBytes}
-use Rattle.literals.specs.Held.{actionsIn, componentsIn, variablesIn, SpanOf, Filled}
-use Rattle.literals.specs.Fields.{literalShape, literalArguments}
+use Rattle.literals.specs.Decode.{RecordKind, relationRecord, actionRecord, literalRecord, componentRecord, closingRecord, unknownRecord}
+use Rattle.literals.specs.Decode.{maxLiterals, kindOf, latest, byte, literalOf, literalStop, actionOf, fieldStop, stopOf, stopPlace, extend}
+use Rattle.literals.specs.Held.{rowOf, literalRow, allLiterals, tableBytes, actionsIn, componentsIn, variablesIn, SpanOf, Filled}
+use Rattle.literals.specs.Held.{literalShape, literalArguments}
 use Rattle.literals.proofs.Stops.{passes, literal-passes, role-nine}
 use Rattle.literals.proofs.Tables.{over-row, payload-row}
 use Rattle.literals.proofs.Held.{literals-snoc, literals-more}
 use Rattle.literals.proofs.Heads.{length-table}
-use Rattle.reading.specs.Held.{behind, HeldOver, Placed}
+use Rattle.reading.specs.Held.{domainAfter, HeldOver, Placed}
 use Rattle.reading.proofs.Takes.{row-stop, row-done, held-over, literal-short, literal-compared, span-size, span-all, literal-number}
 
 not-empty : {A : Type 0} (l : List A) → empty l ≡ false → 0 < length l
@@ -30,31 +30,31 @@ not-empty [] e = absurd (clash refl e)
 not-empty (x ∷ l) e = omega arith
 
 -- no other kind writes a literal
-pub table-same : (D : Domain) (k : RecordKind) (p : List ℕ) → allLiterals (extend D k p .actions) ≡ allLiterals (D .actions) → tableBytes (behind D k p) ≡ tableBytes D
-unfolding behind tableBytes
+pub table-same : (D : Domain) (k : RecordKind) (p : List ℕ) → allLiterals (extend D k p .actions) ≡ allLiterals (D .actions) → tableBytes (domainAfter D k p) ≡ tableBytes D
+unfolding domainAfter tableBytes
 table-same D k p e = go (eqb (stopOf D k p) 0)
   where
     go : (b : Bool) → tableBytes (cond b (extend D k p) D) ≡ tableBytes D
     go true = ap (flatMap literalRow) e
     go false = refl
 
-pub same-relation : (D : Domain) (p : List ℕ) → tableBytes (behind D relationRecord p) ≡ tableBytes D
+pub same-relation : (D : Domain) (p : List ℕ) → tableBytes (domainAfter D relationRecord p) ≡ tableBytes D
 unfolding extend
 same-relation D p = table-same D relationRecord p refl
 
-pub same-action : (D : Domain) (p : List ℕ) → tableBytes (behind D actionRecord p) ≡ tableBytes D
+pub same-action : (D : Domain) (p : List ℕ) → tableBytes (domainAfter D actionRecord p) ≡ tableBytes D
 unfolding extend
 same-action D p = table-same D actionRecord p (literals-snoc (D .actions) (actionOf p) ∙ append-nil (allLiterals (D .actions)))
 
-pub same-component : (D : Domain) (p : List ℕ) → tableBytes (behind D componentRecord p) ≡ tableBytes D
+pub same-component : (D : Domain) (p : List ℕ) → tableBytes (domainAfter D componentRecord p) ≡ tableBytes D
 unfolding extend
 same-component D p = table-same D componentRecord p refl
 
-pub same-closing : (D : Domain) (p : List ℕ) → tableBytes (behind D closingRecord p) ≡ tableBytes D
+pub same-closing : (D : Domain) (p : List ℕ) → tableBytes (domainAfter D closingRecord p) ≡ tableBytes D
 unfolding extend
 same-closing D p = table-same D closingRecord p refl
 
-pub same-unknown : (D : Domain) (p : List ℕ) → tableBytes (behind D unknownRecord p) ≡ tableBytes D
+pub same-unknown : (D : Domain) (p : List ℕ) → tableBytes (domainAfter D unknownRecord p) ≡ tableBytes D
 unfolding extend
 same-unknown D p = table-same D unknownRecord p refl
 
@@ -90,18 +90,18 @@ module _ {old : List ℕ} {D : Domain} {head table : List ℕ} (K : HeldOver old
   stop-is e = let z = span-size w S in literal-number (K .filled .says) p a b (omega arith) e
 
   pub literal-stopped : {n : ℕ} → n ≡ literalStop D p → (n ≡ 0 → ⊥)
-      → (n ≡ stopOf D literalRecord p) × HeldOver old (behind D literalRecord p) head table
+      → (n ≡ stopOf D literalRecord p) × HeldOver old (domainAfter D literalRecord p) head table
   literal-stopped e z = row-stop K literalRecord p (stop-is e) z
 
   pub literal-placed : {s v k n : ℕ} {after rows : List ℕ} → s ≡ literalShape head last p → s ≡ 0 → v ≡ variablesIn head last
       → k ≡ literalArguments v p → k ≡ 0 → Placed span p n head table after rows
-      → (n ≡ stopOf D literalRecord p) × HeldOver old (behind D literalRecord p) after rows
+      → (n ≡ stopOf D literalRecord p) × HeldOver old (domainAfter D literalRecord p) after rows
   literal-placed {s} {v} {k} {n} {after} {rows} e z u f y P = by (bool-cases (eqb n 0))
     where
       told : n ≡ literalStop D p
       told = literal-compared (held-over K) p last w e z u f y S (P .number)
 
-      by : (eqb n 0 ≡ true) ⊎ (eqb n 0 ≡ false) → (n ≡ stopOf D literalRecord p) × HeldOver old (behind D literalRecord p) after rows
+      by : (eqb n 0 ≡ true) ⊎ (eqb n 0 ≡ false) → (n ≡ stopOf D literalRecord p) × HeldOver old (domainAfter D literalRecord p) after rows
       by (inl t) =
           let none = eqb-true n 0 t in
           let passes = stop-is told ∙ none in
@@ -114,13 +114,13 @@ module _ {old : List ℕ} {D : Domain} {head table : List ℕ} (K : HeldOver old
           rw (same .0, same .1) (literal-stopped told some)
 
 -- head and table with a record that writes no literal
-pub unwritten : {old : List ℕ} {D : Domain} {head table : List ℕ} → HeldOver old D head table → (k : RecordKind) (p : List ℕ) → tableBytes (behind D k p) ≡ tableBytes D
-    → {n : ℕ} {after : List ℕ} → (n ≡ stopOf D k p) × Filled (behind D k p) after → (n ≡ stopOf D k p) × HeldOver old (behind D k p) after table
+pub unwritten : {old : List ℕ} {D : Domain} {head table : List ℕ} → HeldOver old D head table → (k : RecordKind) (p : List ℕ) → tableBytes (domainAfter D k p) ≡ tableBytes D
+    → {n : ℕ} {after : List ℕ} → (n ≡ stopOf D k p) × Filled (domainAfter D k p) after → (n ≡ stopOf D k p) × HeldOver old (domainAfter D k p) after table
 unwritten {old} K k p s x = (x .0, record { filled = x .1; rows = K .rows ∙ ap (λ (m : List ℕ). over m old) (sym s) })
 
 -- the closing record adds nothing
-pub closing-kept : {D : Domain} {head : List ℕ} → Filled D head → (p : List ℕ) → Filled (behind D closingRecord p) head
-unfolding behind extend
+pub closing-kept : {D : Domain} {head : List ℕ} → Filled D head → (p : List ℕ) → Filled (domainAfter D closingRecord p) head
+unfolding domainAfter extend
 closing-kept {D} {head} F p = go (eqb (stopOf D closingRecord p) 0)
   where
     go : (b : Bool) → Filled (cond b D D) head
@@ -130,8 +130,9 @@ closing-kept {D} {head} F p = go (eqb (stopOf D closingRecord p) 0)
 -- ---- a record by its kind's number
 
 module _ (D : Domain) (p : List ℕ) (k : ℕ) (j : RecordKind) (e : kindOf k ≡ j) where
-  pub by-kind : {n : ℕ} {old after rows : List ℕ} → (n ≡ stopOf D j p) × HeldOver old (behind D j p) after rows → (n ≡ stopOf D (kindOf k) p) × HeldOver old (behind D (kindOf k) p) after rows
-  by-kind {n} {old} {after} {rows} x = subst (λ (i : RecordKind). (n ≡ stopOf D i p) × HeldOver old (behind D i p) after rows) (sym e) x
+  pub by-kind : {n : ℕ} {old after rows : List ℕ} → (n ≡ stopOf D j p) × HeldOver old (domainAfter D j p) after rows → (n ≡ stopOf D (kindOf k) p) × HeldOver old (domainAfter D (kindOf k) p) after rows
+  by-kind {n} {old} {after} {rows} x = subst (λ (i : RecordKind). (n ≡ stopOf D i p)
+      × HeldOver old (domainAfter D i p) after rows) (sym e) x
 
   pub place-by : {w : ℕ} → w ≡ stopPlace D j p → w ≡ stopPlace D (kindOf k) p
   place-by x = x ∙ ap (λ (i : RecordKind). stopPlace D i p) (sym e)

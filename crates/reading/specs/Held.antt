@@ -13,21 +13,20 @@ use Rattle.reading.specs.declared.Refusal.{Refusal as FileRefusal}
 use Rattle.reading.specs.declared.read.Stepped.{Stepped}
 use Rattle.literals.specs.declared.span.Span.{Span}
 use Rattle.literals.specs.Domain.{Domain}
-use Rattle.literals.specs.Decode.{maxFile, maxActions, maxLiterals, latest, RecordKind, literalRecord, stopOf, extend, Decoded}
-use Rattle.literals.specs.Decode.{refused, domain, Reading, ReadTurn, goOn, finish, readStep, noDomain, fromStart}
-use Rattle.literals.specs.Table.{rowOf, rowsIn, rowsStop, allLiterals, tableBytes}
-use Rattle.literals.specs.Held.{Filled, Held, Adds, headBytes}
+use Rattle.literals.specs.Decode.{maxFile, maxActions, maxLiterals, latest, RecordKind, literalRecord, stopOf, extend, Decoded, refused}
+use Rattle.literals.specs.Decode.{domain, Reading, ReadTurn, goOn, finish, readStep, noDomain, fromStart}
+use Rattle.literals.specs.Held.{rowOf, rowsIn, rowsStop, allLiterals, tableBytes, Filled, Held, Adds, headBytes}
 
 -- ---- what one record leads to
 
 -- the domain behind a record, or the domain before it where a number stops it
-unfoldable pub behind : Domain → RecordKind → List ℕ → Domain
+unfoldable pub domainAfter : Domain → RecordKind → List ℕ → Domain
 unfolding stopOf extend
-behind D k p = cond (eqb (stopOf D k p) 0) (extend D k p) D
+domainAfter D k p = cond (eqb (stopOf D k p) 0) (extend D k p) D
 
 -- of a head that holds a domain: the number that stops the record, or 0, and the head then
 abbrev pub Takes : RecordKind → List ℕ → ℕ → List ℕ → List ℕ → Type 0
-Takes k p n head after = (D : Domain) → Filled D head → (n ≡ stopOf D k p) × Filled (behind D k p) after
+Takes k p n head after = (D : Domain) → Filled D head → (n ≡ stopOf D k p) × Filled (domainAfter D k p) after
 
 -- head and table hold the domain so far; behind its rows the table is as before
 pub record HeldOver (old : List ℕ) (D : Domain) (head table : List ℕ) : Type 0 where
@@ -37,7 +36,7 @@ pub record HeldOver (old : List ℕ) (D : Domain) (head table : List ℕ) : Type
 -- of both: the number that stops the record, or 0, and head and table then
 abbrev pub TakesRow : RecordKind → List ℕ → ℕ → List ℕ → List ℕ → List ℕ → List ℕ → Type 0
 TakesRow k p n head table after rows = (D : Domain) (old : List ℕ) → HeldOver old D head table → (n ≡ stopOf D k p)
-    × HeldOver old (behind D k p) after rows
+    × HeldOver old (domainAfter D k p) after rows
 
 -- the rows of a span of the table
 abbrev pub rowsOf : Span → List ℕ → List (List ℕ)
@@ -72,11 +71,11 @@ pub record Standing (old : List ℕ) (q : Reading) (p : Progress) (head table : 
 
 -- what a turn of reading leads to: 0 where it goes on, 1 where the file is read, else the number that refuses it, with its place; where
 -- it ends, the table has the literals so far
-abbrev pub LeadsTo : List ℕ → Reading → ReadTurn → Stepped → List ℕ → List ℕ → Type 0
-LeadsTo old p (goOn q) r head table = (r .number ≡ 0) × Standing old q (r .progress) head table
-LeadsTo old p (finish (refused x)) r head table = (r .number ≡ x .number) × (r .place ≡ x .place) × (r .progress .at ≡ x .start)
+abbrev pub ReadLeadsTo : List ℕ → Reading → ReadTurn → Stepped → List ℕ → List ℕ → Type 0
+ReadLeadsTo old p (goOn q) r head table = (r .number ≡ 0) × Standing old q (r .progress) head table
+ReadLeadsTo old p (finish (refused x)) r head table = (r .number ≡ x .number) × (r .place ≡ x .place) × (r .progress .at ≡ x .start)
     × (table ≡ over (tableBytes (p .sofar)) old)
-LeadsTo old p (finish (domain D)) r head table = (r .number ≡ 1) × Held D head table × (table ≡ over (tableBytes (p .sofar)) old)
+ReadLeadsTo old p (finish (domain D)) r head table = (r .number ≡ 1) × Held D head table × (table ≡ over (tableBytes (p .sofar)) old)
     × (length head ≡ headBytes)
 
 -- a table that is large enough for a file: for all literals that a domain can have, or for those of the file, in which a literal takes at
@@ -96,8 +95,8 @@ pub record StepReady (p : Progress) (file head table : List ℕ) : Type 0 where
 -- ---- the answer
 
 -- where a record ends reading: its number with its place and the offset of the record, or 0 where the file is read
-unfoldable pub endedOf : Stepped → FileRefusal
-endedOf o =
+unfoldable pub refusalOf : Stepped → FileRefusal
+refusalOf o =
     cond (eqb (o .number) 1) (record { number = 0; place = 0; start = 0 })
     (record { number = o .number; place = o .place; start = o .progress .at })
 

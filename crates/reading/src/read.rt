@@ -13,7 +13,7 @@ ghost use Prim.Native.Nat.{ℕ};
 ghost use lib.ListN.{replicate};
 ghost use Rattle.literals.specs.Decode.{Reading, readStep, decode};
 ghost use Rattle.literals.specs.Held.{headBytes};
-ghost use Rattle.reading.specs.Held.{EnoughTable, LeadsTo, ReadAs, Standing, StepReady, atStart, endedOf, tableAfter};
+ghost use Rattle.reading.specs.Held.{EnoughTable, ReadLeadsTo, ReadAs, Standing, StepReady, atStart, refusalOf, tableAfter};
 
 // What one record led to: 0 where reading goes on, 1 where the file is read, else the number that refuses it, with its place.
 pub struct Stepped {
@@ -36,7 +36,7 @@ impl Progress {
     pub fn step(self, s: &[u8], head: &mut Head, table: &mut [u8]) -> Stepped
         requires { ⌜ StepReady self (now s) (now head) (now table) ⌝ }
         ensures { λ r. ⌜ ((q : Reading) (old : List ℕ) → Standing old q self (now (head .entry)) (now (table .entry))
-            → LeadsTo old q (readStep (now (s .entry)) q) r (now (head .exit)) (now (table .exit))) ⌝ }
+            → ReadLeadsTo old q (readStep (now (s .entry)) q) r (now (head .exit)) (now (table .exit))) ⌝ }
     {
         let at = self.at;
         let closed = self.closed;
@@ -92,7 +92,7 @@ impl Progress {
 
 // The answer of a record that ends reading.
 fn end_of(stepped: Stepped) -> Refusal
-    ensures { λ r. ⌜ r ≡ endedOf stepped ⌝ }
+    ensures { λ r. ⌜ r ≡ refusalOf stepped ⌝ }
 {
     let number = stepped.number;
     let place = stepped.place;

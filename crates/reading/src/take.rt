@@ -36,10 +36,9 @@ ghost use mathlib.Core.Path.{_≡_};
 ghost use Prim.Native.Nat.{_+_, _*_, _≤_, _<_};
 ghost use lib.ListN.{length};
 ghost use Rattle.literals.specs.Domain.{Domain};
-ghost use Rattle.literals.specs.Decode.{maxArguments, literalOf, componentFault, stopOf, stopPlace};
-ghost use Rattle.literals.specs.Decode.{kindOf, relationRecord, actionRecord, literalRecord, componentRecord, closingRecord};
-ghost use Rattle.literals.specs.Table.{rowOf, hasEvery, WordOf, rowsStop};
-ghost use Rattle.literals.specs.Held.{actionsIn, HeadOf, Held, headBytes};
+ghost use Rattle.literals.specs.Decode.{maxArguments, literalOf, componentFault, stopOf, stopPlace, kindOf, relationRecord, actionRecord};
+ghost use Rattle.literals.specs.Decode.{literalRecord, componentRecord, closingRecord};
+ghost use Rattle.literals.specs.Held.{rowOf, hasEvery, WordOf, rowsStop, actionsIn, HeadOf, Held, headBytes};
 ghost use Rattle.reading.specs.Held.{Takes, rowsOf, Placed, TakesRow, RecordReady};
 
 pub fn take_relation(head: &mut Head, p: &[u8]) -> u64

@@ -83,3 +83,19 @@ module _ {A : Type 0} where
     abbrev pub dedup : List A → List A
     dedup [] = []
     dedup (x ∷ xs) = x ∷ filterBy (λ y. not (eq x y)) (dedup xs)
+
+-- ---- places and numbers
+
+-- the place of the first element that passes, or the length
+abbrev pub position : {A : Type 0} → (A → Bool) → List A → ℕ
+position p [] = zero
+position p (x ∷ xs) = cond (p x) zero (suc (position p xs))
+
+-- the n numbers from i on
+abbrev pub numbersFrom : ℕ → ℕ → List ℕ
+numbersFrom i zero = []
+numbersFrom i (suc n) = i ∷ numbersFrom (suc i) n
+
+-- those below n
+abbrev pub below : ℕ → List ℕ
+below n = numbersFrom 0 n

@@ -16,7 +16,7 @@ pub enum Record {
     End,
 }
 
-fn wide(b: u8) -> u16
+fn wide16(b: u8) -> u16
     ensures { λ r. ⌜ (r ≡ b) × (r < 256) ⌝ }
 {
     b as u16
@@ -27,7 +27,7 @@ fn word_at(s: &[u8], at: usize) -> u16
     requires { ⌜ at + 1 < length (now s) ⌝ }
     ensures { λ r. ⌜ (r ≡ word (now (s .entry)) at) × (r < 65536) ⌝ }
 {
-    wide(s[at]) + wide(s[at + 1]) * 256
+    wide16(s[at]) + wide16(s[at + 1]) * 256
 }
 
 // The record at an offset, which a reader answers.

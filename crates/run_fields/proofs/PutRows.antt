@@ -11,8 +11,8 @@ use Rattle.records.proofs.Memory.{over-paste, drop-replicate}
 use Rattle.literals.specs.Domain.{object}
 use Rattle.literals.specs.Decode.{byte}
 use Rattle.verdict.specs.Judged.{objectNumbers}
+use Rattle.verdict.specs.Held.{factRow}
 use Rattle.run_semantics.specs.RunFile.{factOf, eventOf}
-use Rattle.store.specs.Rows.{factRow}
 use Rattle.events.specs.Held.{groundRow}
 
 -- ---- the rows of a record

@@ -10,7 +10,7 @@ use lib.Dec.{eqb, ltb, leb}
 use lib.ListN.{length, drop, getD, length-map, length-drop, drop-of-length-le}
 use lib.Seq.{drop-cons}
 use borrow.Author.Tests.{lt-ltb, le-ltb, ltb-false, le-leb, lt-leb, leb-false, eq-eqb, ne-eqb, eqb-true}
-use Rattle.records.specs.Lists.{all, any, empty, countBy, addIf, distinct, elem}
+use Rattle.records.specs.Lists.{all, any, empty, countBy, addIf, distinct, elem, below}
 use Rattle.records.proofs.Lists.{not-false, any-out, all-map, empty-no, empty-yes}
 use Rattle.records.proofs.Numbers.{numberOf, testOf, none-passes, rows-split}
 use Rattle.literals.specs.declared.Object.{Object}
@@ -19,12 +19,11 @@ use Rattle.literals.specs.Decode.{byte}
 use Rattle.literals.specs.Held.{relationsIn, actionsIn, arityIn, variablesIn, lastingIn, HeadOf}
 use Rattle.literals.proofs.Heads.{arity-limit, variables-limit}
 use Rattle.literals.specs.Matching.{momentNumber}
-use Rattle.literals.specs.Keys.{below}
 use Rattle.verdict.specs.Machine.{Event, sameEvent, injective}
-use Rattle.events.specs.Held.{Waiting}
+use Rattle.verdict.specs.Held.{factRow}
+use Rattle.events.specs.Held.{Waiting, groundRow, waitingOf, GroundFits, EventsFit}
 use Rattle.run_semantics.specs.RunFile.{factOf, momentOf, eventOf, maxFacts, maxEvents, outside, factStop, eventStop, stepStop, endStop}
-use Rattle.store.specs.Rows.{factRow, hasRow}
-use Rattle.events.specs.Held.{groundRow, waitingOf, GroundFits, EventsFit}
+use Rattle.store.specs.Held.{hasRow}
 use Rattle.run_fields.specs.Held.{factFields, eventFields, waitsAt}
 use Rattle.events.proofs.FactRows.{has-fact}
 use Rattle.run_fields.proofs.WaitingRows.{waiting-elem}

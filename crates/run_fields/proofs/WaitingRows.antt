@@ -5,16 +5,14 @@ use mathlib.Core.List.{List}
 use Prim.Native.Nat.{ℕ, _<_}
 use lib.Dec.{eqb}
 use lib.ListN.{length, getD}
-use Rattle.records.specs.Lists.{any, sameList, elem}
+use Rattle.records.specs.Lists.{any, sameList, elem, below}
 use Rattle.records.proofs.Lists.{getD-in, any-map}
 use Rattle.literals.specs.Domain.{Domain}
-use Rattle.literals.specs.Table.{Bounded}
+use Rattle.literals.specs.Held.{Bounded}
 use Rattle.literals.specs.Matching.{momentNumber}
-use Rattle.literals.specs.Keys.{below}
 use Rattle.literals.proofs.Indices.{any-below, at-all}
 use Rattle.verdict.specs.Machine.{Event, sameEvent}
-use Rattle.events.specs.Held.{Waiting}
-use Rattle.events.specs.Held.{groundRow, waitingOf, GroundFits, EventsFit}
+use Rattle.events.specs.Held.{Waiting, groundRow, waitingOf, GroundFits, EventsFit}
 use Rattle.run_fields.specs.Held.{waitsAt}
 use Rattle.events.proofs.FactRows.{few-objects, noEvent, waiting-row-at, waiting-moment-at, waiting-count}
 use Rattle.events.proofs.OpenRows.{same-rows}

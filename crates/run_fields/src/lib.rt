@@ -22,14 +22,13 @@ ghost use Prim.Native.Nat.{_+_, _*_, _<_, _≤_};
 ghost use lib.Dec.{eqb};
 ghost use lib.ListN.{length, getD, drop};
 ghost use lib.Seq.{paste};
-ghost use Rattle.records.specs.Lists.{any, distinct};
+ghost use Rattle.records.specs.Lists.{any, distinct, below};
 ghost use Rattle.literals.specs.Domain.{Fact, Domain};
-ghost use Rattle.literals.specs.Table.{rowsIn};
-ghost use Rattle.literals.specs.Held.{lastingIn, HeadOf};
-ghost use Rattle.literals.specs.Keys.{below};
+ghost use Rattle.literals.specs.Held.{rowsIn, lastingIn, HeadOf};
 ghost use Rattle.run_semantics.specs.RunFile.{factOf, eventOf, objectsStop, factStop, eventStop, stepStop, endStop, maxEvents};
 ghost use Rattle.verdict.specs.Machine.{Event};
-ghost use Rattle.store.specs.Rows.{factRow, Few};
+ghost use Rattle.verdict.specs.Held.{factRow};
+ghost use Rattle.store.specs.Held.{Few};
 ghost use Rattle.events.specs.Held.{groundBytes, waitingBytes, groundRow, waitingOf, EventsFit};
 ghost use Rattle.run_fields.specs.Held.{factFields, eventFields, waitsAt};
 

@@ -153,7 +153,8 @@ playedEntries D r = entriesBefore r (playRun D r .place)
 abbrev pub NeverAboveOne : Type 0
 NeverAboveOne =
     (d : List ℕ) (D : Domain) → decode d ≡ domain D → Accepted (decidedFile d) → (r : List ℕ)
-    → topWeight D (startOf (playedEntries D r) .facts) ≤ 1 → (s : State) → In s (statesOf D (playedEntries D r)) → topWeight D (s .facts) ≤ 1
+    → topWeight D (startOf (playedEntries D r) .facts) ≤ 1
+    → (s : State) → In s (statesOf D (playedEntries D r)) → topWeight D (s .facts) ≤ 1
 
 -- so the weight that a call answers is then at most 1
 abbrev pub StaysLow : List ℕ → List ℕ → ℕ → Type 0

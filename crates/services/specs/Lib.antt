@@ -1,2 +1,2 @@
--- What services on one file have in common.
+-- What a reader must believe of every service on one file.
 pub mod Service

@@ -13,10 +13,9 @@ use Rattle.records.proofs.Lists.{and-l, and-r, getD-in}
 use Rattle.literals.specs.declared.Object.{Object}
 use Rattle.literals.specs.declared.Label.{Label}
 use Rattle.literals.specs.declared.Label.the-variants.{Key as keyed, Counted}
-use Rattle.literals.specs.Domain.{object, Component, keyBelow, keysOf, Domain}
+use Rattle.literals.specs.Domain.{object, Component, keyBelow, keysOf, Domain, labelNumber}
 use Rattle.literals.specs.Decode.{labelOf}
-use Rattle.literals.specs.Table.{labelNumber, componentRow}
-use Rattle.literals.specs.Held.{arityIn, componentRowIn, TemplateOf}
+use Rattle.literals.specs.Held.{componentRow, arityIn, componentRowIn, TemplateOf}
 use Rattle.literals.proofs.Bytes.{keys-below}
 use Rattle.literals.proofs.Rows.{row-inside}
 use Rattle.literals.proofs.Held.{keys-few}
@@ -24,8 +23,8 @@ use Rattle.literals.proofs.Heads.{part-length, part-is}
 use Rattle.literals.proofs.Indices.{getD-map}
 use Rattle.verdict.specs.Decision.{objectUnder, instanceFact}
 use Rattle.verdict.specs.Judged.{objectNumbers}
-use Rattle.store.specs.Rows.{factRow}
-use Rattle.store.specs.InstanceFacts.{objectAt, objectByte, instanceBytes, instanceOf}
+use Rattle.verdict.specs.Held.{factRow}
+use Rattle.store.specs.Held.{objectAt, objectByte, instanceBytes, instanceBytesIn}
 use Rattle.store.proofs.InstanceRows.{objectsRow}
 
 -- ---- its bytes
@@ -132,7 +131,7 @@ noComponent = record { rel = 0; labels = [] }
 -- of the component c of a head
 pub instance-is : {D : Domain} {head : List ℕ} → TemplateOf D head → (c : ℕ) → c < length (D .template)
     → (y : List Object) → length y ≡ keysOf (D .template) → (o : ℕ)
-    → instanceOf head c o (objectsRow y) ≡ factRow (instanceFact (object o) y (getD (D .template) c noComponent))
+    → instanceBytesIn head c o (objectsRow y) ≡ factRow (instanceFact (object o) y (getD (D .template) c noComponent))
 instance-is {D} {head} H c h y e o =
     let u : Component = getD (D .template) c noComponent in
     let m : In u (D .template) = getD-in (D .template) c noComponent h in

@@ -8,7 +8,7 @@ use native.Mathlib.Omega.{arith}
 use lib.Dec.{eqb}
 use lib.ListN.{length, getD, take, drop, replicate, length-map}
 use lib.Seq.{take-all, drop-drop}
-use Rattle.records.specs.Lists.{In, addIf, keepIf, any, sameList}
+use Rattle.records.specs.Lists.{In, addIf, keepIf, any, sameList, position}
 use Rattle.records.proofs.Lists.{and-i, or-r, and-r, eqb-same, eqb-comm, sameList-self, sameList-comm, flatMap-in}
 use Rattle.literals.specs.declared.Variable.{Variable}
 use Rattle.literals.specs.declared.Object.{Object}
@@ -17,16 +17,16 @@ use Rattle.literals.specs.declared.Usage.the-variants.{Positive}
 use Rattle.literals.specs.declared.Argument.{Argument}
 use Rattle.literals.specs.declared.Argument.the-variants.{Variable as bound}
 use Rattle.literals.specs.declared.Label.{Label}
-use Rattle.literals.specs.Domain.{variable, sameObject, variablesOf, Fact, Literal, Component, isCounted, keysBound, keepsKeys, keysOf, Domain}
+use Rattle.literals.specs.Domain.{variable, sameObject, variablesOf, Fact, Literal, Component, isCounted, keysBound, keepsKeys, keysOf}
+use Rattle.literals.specs.Domain.{Domain}
 use Rattle.literals.specs.Decode.{byte}
-use Rattle.literals.specs.Table.{argumentNumber, rowOf, literalRow, componentRow, rowsIn}
-use Rattle.literals.specs.Held.{componentsIn, keysIn, componentRowIn, componentRowsIn, HeadOf, TemplateOf}
+use Rattle.literals.specs.Held.{argumentNumber, rowOf, literalRow, componentRow, rowsIn, componentsIn, keysIn, componentRowIn}
+use Rattle.literals.specs.Held.{componentRowsIn, HeadOf, TemplateOf, underKeys, keyRow, keyRows}
 use Rattle.literals.proofs.Bytes.{keys-once}
 use Rattle.literals.proofs.Rows.{part-first, rows-more, rows-end}
 use Rattle.literals.proofs.Held.{keys-few}
 use Rattle.literals.proofs.Heads.{parts-length, part-row, template-of}
 use Rattle.literals.specs.Matching.{keyTuple, isOf, tuplesBy, tuplesOf, hasTuple}
-use Rattle.literals.specs.Keys.{position, underKeys, keyRow, keyRows}
 use Rattle.classes.specs.Held.{tupleRow}
 use Rattle.literals.proofs.KeyRows.{place-le, length-rows, rows-at}
 use Rattle.classes.proofs.Numbers.{tuples-rows}
@@ -34,9 +34,10 @@ use Rattle.verdict.specs.Judged.{objectNumbers}
 use Rattle.verdict.specs.Machine.{weight, instancesIn, largest}
 use Rattle.verdict.proofs.Tuples.{keyTuple-map, component-of}
 use Rattle.store.specs.declared.keys.Keyed.{Keyed}
-use Rattle.store.specs.Rows.{factRow, FactFits, instanceRows, topFrom, keyedBy, rowWeight, topRows}
+use Rattle.store.specs.Held.{FactFits, instanceRows, topFrom, keyedBy, rowWeight, topRows}
 use Rattle.verdict.proofs.TopWeight.{tuple-size}
 use borrow.Author.Tests.{eqb-true}
+use Rattle.verdict.specs.Held.{factRow}
 
 -- ---- the key tuple of a row, by the place of its component
 

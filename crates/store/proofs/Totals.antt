@@ -12,10 +12,9 @@ use borrow.Author.Tests.{eqb-true, eqb-false, eq-eqb, ne-eqb}
 use Rattle.records.specs.Lists.{In, addIf, countBy, any, sameList}
 use Rattle.records.proofs.Lists.{off, bool-cases, eqb-same, in-any, any-in, sameList-eq, sameList-self, count-pos, count-none}
 use Rattle.literals.specs.Decode.{byte}
-use Rattle.literals.specs.Table.{rowsIn}
-use Rattle.literals.specs.Held.{keysIn, arityIn, componentRowsIn}
-use Rattle.store.specs.Rows.{instanceRows, rowWeight, hasRow}
-use Rattle.store.specs.Index.{noteAt, factIndex, wrap, plus, wordOf, slotOf, keySlot, amountAt, totalAt, Sized, Indexed}
+use Rattle.literals.specs.Held.{rowsIn, keysIn, arityIn, componentRowsIn}
+use Rattle.store.specs.Held.{instanceRows, rowWeight, hasRow, noteAt, factIndex, wrap, plus, wordOf, slotOf, keySlot, amountAt}
+use Rattle.store.specs.Held.{totalAt, Sized, Indexed}
 use Rattle.store.proofs.InstanceRows.{Single, single}
 
 -- ---- slots

@@ -1,4 +1,2 @@
--- Facts as they are held: rows, the facts of an instance, and the index by which they are found.
-pub mod Rows
-pub mod InstanceFacts
-pub mod Index
+-- How the code holds facts: rows, and the index by which they are found; what a reader must believe of facts is verdict/Machine.
+pub mod Held

@@ -10,10 +10,8 @@ ghost use mathlib.Core.List.{List, [], _∷_, _++_};
 ghost use Prim.Native.Nat.{ℕ, _+_, _-_, _*_, _≤_, _<_, _%_};
 ghost use lib.ListN.{length, getD, set, take, drop};
 ghost use Rattle.literals.specs.Decode.{byte};
-ghost use Rattle.literals.specs.Table.{rowsIn};
-ghost use Rattle.literals.specs.Held.{arityIn};
-ghost use Rattle.store.specs.Rows.{hasRow};
-ghost use Rattle.store.specs.Index.{slots, noteAt, factIndex, wrap, plus, wordOf, slotOf, keySlot, Indexed};
+ghost use Rattle.literals.specs.Held.{rowsIn, arityIn};
+ghost use Rattle.store.specs.Held.{hasRow, slots, noteAt, factIndex, wrap, plus, wordOf, slotOf, keySlot, Indexed};
 
 const SLOTS: usize = 4096;
 

@@ -14,7 +14,7 @@ ghost use lib.Seq.{paste};
 ghost use Rattle.literals.specs.Domain.{object};
 ghost use Rattle.literals.specs.Decode.{maxArguments, maxComponents};
 ghost use Rattle.literals.specs.Held.{componentRowIn};
-ghost use Rattle.store.specs.InstanceFacts.{objectAt, instanceBytes, instanceOf};
+ghost use Rattle.store.specs.Held.{objectAt, instanceBytes, instanceBytesIn};
 
 // The object under a key of an instance.
 fn object_at(instance: &[u8], k: Key) -> Object
@@ -74,7 +74,7 @@ pub fn put_instance(
     requires room { ⌜ at + 8 ≤ length (now out) ⌝ }
     requires instance { ⌜ 8 ≤ length (now instance) ⌝ }
     ensures { λ _. ⌜ now (out .exit)
-        ≡ paste (now (out .entry)) at (instanceOf (now (head .entry)) c (counted .0) (take 8 (now (instance .entry)))) 8 ⌝ }
+        ≡ paste (now (out .entry)) at (instanceBytesIn (now (head .entry)) c (counted .0) (take 8 (now (instance .entry)))) 8 ⌝ }
 {
     let arity = arity_of(head, component_byte(head, c, 0));
     for i in 0..8 {

@@ -7,7 +7,7 @@ ghost use mathlib.Core.Path.{_≡_};
 ghost use Prim.Native.Nat.{_+_, _≤_};
 ghost use lib.ListN.{length, take, drop};
 ghost use Rattle.literals.specs.Held.{keysIn, componentRowsIn};
-ghost use Rattle.store.specs.Rows.{instanceRows, keyedBy};
+ghost use Rattle.store.specs.Held.{instanceRows, keyedBy};
 
 // The key tuple of a fact, as a row, where its relation has a component.
 pub struct Keyed {

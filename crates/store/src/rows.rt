@@ -4,8 +4,8 @@ ghost use Prim.Native.Nat.{_+_, _*_, _≤_};
 ghost use lib.Dec.{eqb};
 ghost use lib.ListN.{length, take, drop};
 ghost use Rattle.records.specs.Lists.{sameList};
-ghost use Rattle.literals.specs.Table.{rowsIn};
-ghost use Rattle.store.specs.Rows.{hasRow};
+ghost use Rattle.literals.specs.Held.{rowsIn};
+ghost use Rattle.store.specs.Held.{hasRow};
 
 // The row at an offset.
 pub fn row_at(memory: &[u8], at: usize) -> [u8; 8]

@@ -12,11 +12,10 @@ ghost use lib.Dec.{eqb};
 ghost use lib.ListN.{length, take, drop};
 ghost use Rattle.records.specs.Lists.{In, addIf, any, sameList};
 ghost use Rattle.literals.specs.Domain.{Fact, Domain};
-ghost use Rattle.literals.specs.Table.{rowsIn};
+ghost use Rattle.literals.specs.Held.{rowsIn, keysIn, componentRowsIn, HeadOf};
 ghost use Rattle.verdict.specs.Machine.{largest};
-ghost use Rattle.literals.specs.Held.{keysIn, componentRowsIn, HeadOf};
-ghost use Rattle.store.specs.Rows.{factRow, FactFits, instanceRows, topFrom, rowWeight, topRows};
-ghost use Rattle.store.specs.Index.{wrap, Indexed};
+ghost use Rattle.verdict.specs.Held.{factRow};
+ghost use Rattle.store.specs.Held.{FactFits, instanceRows, topFrom, rowWeight, topRows, wrap, Indexed};
 
 // 1 where the fact at an offset has this key tuple, else 0: the component by the fact's relation first, then its keys.
 pub fn weight_at(head: &Head, memory: &[u8], at: usize, row: [u8; 8]) -> usize

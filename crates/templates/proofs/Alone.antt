@@ -9,14 +9,13 @@ use lib.Dec.{eqb}
 use lib.ListN.{length, getD, take}
 use lib.Seq.{take-all}
 use borrow.Author.Tests.{eq-eqb}
-use Rattle.records.specs.Lists.{In, any, keepIf, dedup, sameList}
+use Rattle.records.specs.Lists.{In, any, keepIf, dedup, sameList, below}
 use Rattle.records.proofs.Lists.{any-map, eqb-comm, or-out}
 use Rattle.literals.specs.declared.Variable.{Variable}
 use Rattle.literals.specs.declared.Argument.{Argument}
 use Rattle.literals.specs.Domain.{sameVariable, variablesOf, Atom, Literal, Action, Component, keysOf, Domain}
-use Rattle.literals.specs.Table.{literalRow}
+use Rattle.literals.specs.Held.{literalRow, actionsIn, Held}
 use Rattle.literals.specs.Matching.{keyTuple, isOf, tuplesBy, tuplesOf}
-use Rattle.literals.specs.Keys.{below}
 use Rattle.literals.proofs.Indices.{any-below, at-all}
 use Rattle.literals.proofs.Tables.{kept, length-flat, length-literal-row}
 use Rattle.classes.specs.Classes.{literalTuples, classes}
@@ -30,12 +29,11 @@ use Rattle.verdict.specs.declared.Notes.{Notes}
 use Rattle.verdict.specs.Summaries.{summaryRows, summaryOf, summaries, notesOf, answerPlace, faultless, decideNotes, decidedSummaries}
 use Rattle.records.specs.Memory.{over}
 use Rattle.naming.specs.Held.{Listed}
-use Rattle.literals.specs.Held.{actionsIn, Held}
 use Rattle.verdict.specs.declared.Judgement.{Judgement}
 use Rattle.verdict.specs.Held.{judgementOf}
 use Rattle.verdict.specs.Claims.{wellFormed}
 use Rattle.verdict.proofs.Summed.{summaries-decide}
-use Rattle.templates.specs.Listing.{OnlyRelation, mentionedAt}
+use Rattle.templates.specs.Held.{OnlyRelation, mentionedAt}
 
 -- ---- an action that does not mention the relation
 

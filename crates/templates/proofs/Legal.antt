@@ -13,10 +13,9 @@ use Rattle.literals.specs.declared.RecordFault.{RecordFault}
 use Rattle.literals.specs.declared.Label.{Label}
 use Rattle.literals.specs.declared.Label.the-variants.{Key as keyed, Counted}
 use Rattle.literals.specs.Domain.{Literal, Action, Component, variableBelow, clearsOnce, keepsKeys, keyBelow, keysOf, labelsFit, Domain}
-use Rattle.literals.specs.Domain.{arity, bare}
+use Rattle.literals.specs.Domain.{labelNumber, arity, bare}
 use Rattle.literals.specs.Decode.{labelOf, componentOf, componentRecord, repeats, contradicts, atRecord, labelFault, keysCleared}
 use Rattle.literals.specs.Decode.{clearedFault, fieldStop, stopOf}
-use Rattle.literals.specs.Table.{labelNumber}
 use Rattle.literals.proofs.Labels.{fit-passes}
 use Rattle.literals.proofs.Held.{stop-field}
 use Rattle.literals.proofs.Stops.{ComponentPasses, lastFault, passes, component-number, component-passes}

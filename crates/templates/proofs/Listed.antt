@@ -11,13 +11,12 @@ use native.Mathlib.Omega.{arith}
 use lib.Dec.{eqb, ltb}
 use lib.ListN.{getD, length, length-append, length-map}
 use borrow.Author.Tests.{eqb-true, eqb-false, eq-eqb, lt-ltb}
-use Rattle.records.specs.Lists.{In, all, pairwise, sameList}
+use Rattle.records.specs.Lists.{In, all, pairwise, sameList, numbersFrom}
 use Rattle.records.proofs.Lists.{and-l, and-r, and-i, or-l, or-r, off, bool-cases, eqb-same, all-of, all-map, filter-in, in-filter}
 use Rattle.records.proofs.Lists.{filter-agree, filter-few, getD-in, pairwise-filter, pairwise-append}
 use Rattle.literals.specs.Domain.{keysOf, Domain, arity}
 use Rattle.literals.specs.Decode.{keysCleared}
-use Rattle.literals.specs.Table.{Bounded}
-use Rattle.literals.specs.Keys.{numbersFrom}
+use Rattle.literals.specs.Held.{Bounded}
 use Rattle.services.proofs.KeyTuples.{one-counted}
 use Rattle.templates.specs.Templates.{labelsWith, keysFrom, labelsFrom, Shape, shape, componentAt, shapesOf, shapesFrom, shapes}
 use Rattle.templates.specs.Templates.{legalAlone, listed, placeByte}

@@ -22,18 +22,18 @@ use Rattle.literals.specs.declared.Moment.{Moment}
 use Rattle.literals.specs.declared.Moment.the-variants.{Start, End}
 use Rattle.literals.specs.Domain.{sameVariable, variablesOf, Atom, sameLiteral, Literal, Action, keysOf, Domain}
 use Rattle.literals.specs.Decode.{repeats}
-use Rattle.literals.specs.Table.{literalRow, allLiterals, hasEvery, someEvery}
+use Rattle.literals.specs.Held.{literalRow, allLiterals, hasEvery, someEvery, rowIn}
 use Rattle.literals.specs.Matching.{own, asked, tuplesOf, withRole}
 use Rattle.literals.proofs.Bounds.{Fits, fits-of, bounded-actions}
 use Rattle.literals.proofs.Indices.{filter-filter}
 use Rattle.literals.proofs.Tables.{Kept, kept}
 use Rattle.classes.specs.Classes.{literalTuples, belongs, momentsOf, classes, inClass, reachIn, covered, nameOf, journey}
-use Rattle.classes.specs.Held.{rowAt, ActionOf}
+use Rattle.classes.specs.Held.{ActionOf}
 use Rattle.classes.proofs.Rows.{literalAt, noLiteral, relation-at, row-at}
 use Rattle.classes.proofs.Soles.{and-comm}
 use Rattle.verdict.specs.Decision.{journeyEndAt, rowAt as rowFor, rowsOfClasses}
 use Rattle.verdict.specs.Summaries.{summaryRows, summaryOf}
-use Rattle.templates.specs.Listing.{OnlyRelation, mentionedAt, rowsWith}
+use Rattle.templates.specs.Held.{OnlyRelation, mentionedAt, rowsOfRelation}
 use Rattle.templates.proofs.Alone.{no-tuple, size}
 use Rattle.templates.proofs.Renamed.{map-agree, nameVia, name-via, journeyVia, journey-via}
 
@@ -42,68 +42,69 @@ use Rattle.templates.proofs.Renamed.{map-agree, nameVia, name-via, jour
 -- where that stands: of the first j rows k are kept
 pub record Keeping (rows : List ℕ) (r : ℕ) (kept₀ kept′ : List ℕ) (k j : ℕ) : Type 0 where
   pub few : k ≤ j
-  pub count : length (rowsWith rows r j) ≡ 8 * k
-  pub bytes : kept′ ≡ over (rowsWith rows r j) kept₀
+  pub count : length (rowsOfRelation rows r j) ≡ 8 * k
+  pub bytes : kept′ ≡ over (rowsOfRelation rows r j) kept₀
 
 pub keeping-none : (rows : List ℕ) (r : ℕ) (kept₀ : List ℕ) → Keeping rows r kept₀ kept₀ 0 0
-unfolding over rowsWith
+unfolding over rowsOfRelation
 keeping-none rows r kept₀ = record { few = omega arith; count = refl; bytes = refl }
 
-row-length : (rows : List ℕ) (j : ℕ) → 8 * j + 8 ≤ length rows → length (rowAt rows j) ≡ 8
+row-length : (rows : List ℕ) (j : ℕ) → 8 * j + 8 ≤ length rows → length (rowIn rows j) ≡ 8
 row-length rows j h = let l = length-drop (8 * j) rows in length-take-le 8 (drop (8 * j) rows) (omega arith)
 
 -- one row, which has the relation or another
 module _ (rows : List ℕ) (r j : ℕ) (inside : 8 * j + 8 ≤ length rows) (kept₀ : List ℕ) (k : ℕ) where
   pub row-put : getD rows (8 * j + 1) 0 ≡ r → {next : List ℕ}
       → next ≡ paste kept₀ (8 * k) (take (8 * j + 8 - 8 * j) (drop (8 * j) rows)) (length (take (8 * j + 8 - 8 * j) (drop (8 * j) rows)))
-      → (k + 1 ≡ cond (mentionedAt rows r j) (k + 1) k) × (next ≡ cond (mentionedAt rows r j) (paste kept₀ (8 * k) (rowAt rows j) 8) kept₀)
+      → (k + 1 ≡ cond (mentionedAt rows r j) (k + 1) k) × (next ≡ cond (mentionedAt rows r j) (paste kept₀ (8 * k) (rowIn rows j) 8) kept₀)
   row-put t e =
       let z : 8 * j + 8 - 8 * j ≡ 8 = omega arith in (
         sym (ap (λ (b : Bool). cond b (k + 1) k) (eq-eqb _ _ t)),
         e
             ∙ ap (λ (n : ℕ). paste kept₀ (8 * k) (take n (drop (8 * j) rows)) (length (take n (drop (8 * j) rows)))) z
-            ∙ ap (paste kept₀ (8 * k) (rowAt rows j)) (row-length rows j inside)
-            ∙ sym (ap (λ (b : Bool). cond b (paste kept₀ (8 * k) (rowAt rows j) 8) kept₀) (eq-eqb _ _ t)),
+            ∙ ap (paste kept₀ (8 * k) (rowIn rows j)) (row-length rows j inside)
+            ∙ sym (ap (λ (b : Bool). cond b (paste kept₀ (8 * k) (rowIn rows j) 8) kept₀) (eq-eqb _ _ t)),
       )
 
   pub row-passed : (getD rows (8 * j + 1) 0 ≡ r → ⊥)
-      → (k ≡ cond (mentionedAt rows r j) (k + 1) k) × (kept₀ ≡ cond (mentionedAt rows r j) (paste kept₀ (8 * k) (rowAt rows j) 8) kept₀)
+      → (k ≡ cond (mentionedAt rows r j) (k + 1) k) × (kept₀ ≡ cond (mentionedAt rows r j) (paste kept₀ (8 * k) (rowIn rows j) 8) kept₀)
   row-passed t = (
     sym (ap (λ (b : Bool). cond b (k + 1) k) (ne-eqb _ _ t)),
-    sym (ap (λ (b : Bool). cond b (paste kept₀ (8 * k) (rowAt rows j) 8) kept₀) (ne-eqb _ _ t)),
+    sym (ap (λ (b : Bool). cond b (paste kept₀ (8 * k) (rowIn rows j) 8) kept₀) (ne-eqb _ _ t)),
   )
 
 module _ {rows : List ℕ} {r : ℕ} {kept₀ kept′ : List ℕ} {k j : ℕ} (w : Keeping rows r kept₀ kept′ k j) where
   pub keeping-length : 8 * k ≤ length kept₀ → length kept′ ≡ length kept₀
-  keeping-length h = let c = w .count in ap length (w .bytes) ∙ length-over (rowsWith rows r j) kept₀ (omega arith)
+  keeping-length h = let c = w .count in ap length (w .bytes) ∙ length-over (rowsOfRelation rows r j) kept₀ (omega arith)
 
-  pub keeping-all : take (8 * k) kept′ ≡ rowsWith rows r j
+  pub keeping-all : take (8 * k) kept′ ≡ rowsOfRelation rows r j
   unfolding over
-  keeping-all = ap (take (8 * k)) (w .bytes) ∙ take-at (rowsWith rows r j) (drop (length (rowsWith rows r j)) kept₀) (8 * k) (w .count)
+  keeping-all = ap (take (8 * k)) (w .bytes)
+      ∙ take-at (rowsOfRelation rows r j) (drop (length (rowsOfRelation rows r j)) kept₀) (8 * k) (w .count)
 
   module _ (inside : 8 * j + 8 ≤ length rows) where
     abbrev so-far : List ℕ
-    so-far = rowsWith rows r j
+    so-far = rowsOfRelation rows r j
 
     few-more : {m : ℕ} (t : Bool) → m ≡ cond t (k + 1) k → m ≤ suc j
     few-more true e = let f = w .few in omega arith
     few-more false e = let f = w .few in omega arith
 
-    count-more : {m : ℕ} (t : Bool) → m ≡ cond t (k + 1) k → length (so-far ++ cond t (rowAt rows j) []) ≡ 8 * m
-    count-more true e = let l = length-append so-far (rowAt rows j) in let c = w .count in let n = row-length rows j inside in omega arith
+    count-more : {m : ℕ} (t : Bool) → m ≡ cond t (k + 1) k → length (so-far ++ cond t (rowIn rows j) []) ≡ 8 * m
+    count-more true e = let l = length-append so-far (rowIn rows j) in let c = w .count in let n = row-length rows j inside in omega arith
     count-more false e = let l = ap length (append-nil so-far) in let c = w .count in omega arith
 
-    bytes-more : {next : List ℕ} (t : Bool) → next ≡ cond t (paste kept′ (8 * k) (rowAt rows j) 8) kept′
-        → next ≡ over (so-far ++ cond t (rowAt rows j) []) kept₀
+    bytes-more : {next : List ℕ} (t : Bool) → next ≡ cond t (paste kept′ (8 * k) (rowIn rows j) 8) kept′
+        → next ≡ over (so-far ++ cond t (rowIn rows j) []) kept₀
     bytes-more true f =
-        f ∙ ap (λ (o : List ℕ). paste o (8 * k) (rowAt rows j) 8) (w .bytes)
-        ∙ over-paste so-far kept₀ (rowAt rows j) (8 * k) 8 (w .count) (row-length rows j inside)
+        f ∙ ap (λ (o : List ℕ). paste o (8 * k) (rowIn rows j) 8) (w .bytes)
+        ∙ over-paste so-far kept₀ (rowIn rows j) (8 * k) 8 (w .count) (row-length rows j inside)
     bytes-more false f = f ∙ w .bytes ∙ ap (λ (l : List ℕ). over l kept₀) (sym (append-nil so-far))
 
     pub keeping-more : {m : ℕ} {next : List ℕ} → m ≡ cond (mentionedAt rows r j) (k + 1) k
-        → next ≡ cond (mentionedAt rows r j) (paste kept′ (8 * k) (rowAt rows j) 8) kept′
+        → next ≡ cond (mentionedAt rows r j) (paste kept′ (8 * k) (rowIn rows j) 8) kept′
         → Keeping rows r kept₀ next m (j + 1)
-    unfolding rowsWith
+    unfolding rowsOfRelation
     keeping-more {m} {next} e f = rw (add-one j) after
       where
         after : Keeping rows r kept₀ next m (suc j)
@@ -132,8 +133,8 @@ alone D r a = record { arities = D .arities; actions = narrowed r a ∷ []; temp
 
 -- their rows
 rows-are : {D : Domain} (r : ℕ) (ls : List Literal) → ((l : Literal) → In l ls → Kept D l) → (j : ℕ) → j ≤ length ls
-    → rowsWith (flatMap literalRow ls) r j ≡ flatMap literalRow (filterBy (ofRelation r) (take j ls))
-unfolding rowsWith flatMap
+    → rowsOfRelation (flatMap literalRow ls) r j ≡ flatMap literalRow (filterBy (ofRelation r) (take j ls))
+unfolding rowsOfRelation flatMap
 rows-are r ls k zero h = refl
 rows-are r ls k (suc j) h =
     ap₂ _++_ (rows-are r ls k j (omega arith))
@@ -303,7 +304,7 @@ module _ {D : Domain} {a : Action} {head rows : List ℕ} (A : ActionOf D a head
       let x = any-in hasEvery ls t in
       clash (x .2) (any-out hasEvery e (in-flatMap (λ (b : Action). b .lits) (A .listed) (filter-in (ofRelation r) (a .lits) (x .1) .0))))
 
-  pub narrowed-held : (n : ℕ) → length rows ≡ 8 * n → {few : List ℕ} → few ≡ rowsWith rows r n
+  pub narrowed-held : (n : ℕ) → length rows ≡ 8 * n → {few : List ℕ} → few ≡ rowsOfRelation rows r n
       → ActionOf (alone D r a) (narrowed r a) head few
   narrowed-held n w e =
       record {
@@ -321,7 +322,7 @@ module _ {D : Domain} {a : Action} {head rows : List ℕ} (A : ActionOf D a head
         apart = pairwise-filter (λ l m. not (repeats l m)) (ofRelation r) (a .lits) (A .apart);
         literals =
             e
-            ∙ ap₂ (λ (t : List ℕ) (k : ℕ). rowsWith t r k) (A .literals) (size A r n w)
+            ∙ ap₂ (λ (t : List ℕ) (k : ℕ). rowsOfRelation t r k) (A .literals) (size A r n w)
             ∙ rows-are r (a .lits) (λ l m. kept (A .says .bounded) (A .listed) m) (length (a .lits)) (omega arith)
             ∙ ap (λ (l : List Literal). flatMap literalRow (filterBy (ofRelation r) l)) (take-all (length (a .lits)) (a .lits) (omega arith));
       }

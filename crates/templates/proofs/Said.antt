@@ -22,7 +22,7 @@ use Rattle.services.proofs.Answers.{served-short, served-done}
 use Rattle.templates.specs.Templates.{Shape, shape, componentAt, single, listed, placeByte, verdictOf, entry, listBytes, listFile}
 use Rattle.templates.specs.Templates.{listAfter}
 use Rattle.templates.specs.Claims.{Limited, shapeIn, componentIn, verdictIn, EntriesSafe, NothingMissing, sameShape}
-use Rattle.templates.specs.Listing.{placeOf}
+use Rattle.templates.specs.Held.{placeOfByte}
 use Rattle.templates.proofs.Labels.{PlaceBelow}
 use Rattle.templates.proofs.Legal.{legal-is-read}
 use Rattle.templates.proofs.Listed.{listed-place}
@@ -53,14 +53,14 @@ entry-at D (s ∷ ss) rest d (suc i) h =
     }
 
 -- the shape of an entry is read back
-place-back : (n : ℕ) (o : Option ℕ) → n ≤ 6 → PlaceBelow n o → placeOf (placeByte o) ≡ o
+place-back : (n : ℕ) (o : Option ℕ) → n ≤ 6 → PlaceBelow n o → placeOfByte (placeByte o) ≡ o
 place-back n none h b = refl
 place-back n (some p) h b = ap (λ (t : Bool). cond t none (some p)) (ne-eqb p 255 (λ e. omega arith))
 
 shape-back : {D : Domain} {s : Shape} {list : List ℕ} {i : ℕ} → EntryAt D s list i → arity D (s .rel) ≤ 6
     → PlaceBelow (arity D (s .rel)) (s .place) → shapeIn list i ≡ s
 shape-back {D} {s} E h b =
-    ap₂ (λ (r : ℕ) (o : Option ℕ). shape r o) (E .relation) (ap placeOf (E .place) ∙ place-back (arity D (s .rel)) (s .place) h b)
+    ap₂ (λ (r : ℕ) (o : Option ℕ). shape r o) (E .relation) (ap placeOfByte (E .place) ∙ place-back (arity D (s .rel)) (s .place) h b)
 
 -- ---- of an answer
 

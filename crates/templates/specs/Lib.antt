@@ -1,4 +1,5 @@
--- The one-relation templates of a domain, the list's bytes, what is claimed of them, and how the code lists them.
+-- A reader must believe Templates (the one-relation templates of a domain, and the list's bytes) and Claims (what is claimed of them). Held
+-- is how the code lists them.
 pub mod Templates
 pub mod Claims
-pub mod Listing
+pub mod Held

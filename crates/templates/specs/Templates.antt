@@ -4,13 +4,11 @@ use mathlib.Core.List.{List, [], _∷_, _++_, map, flatMap}
 use mathlib.Core.Option.{Option, none, some}
 use Prim.Native.Nat.{ℕ, zero, suc}
 use lib.Dec.{eqb}
-use Rattle.records.specs.Lists.{filterBy, all}
+use Rattle.records.specs.Lists.{filterBy, all, below}
 use Rattle.literals.specs.declared.Label.{Label}
 use Rattle.literals.specs.declared.Label.the-variants.{Key as keyed, Counted}
-use Rattle.literals.specs.Domain.{key, Component, keyBelow, Domain, arity, bare}
+use Rattle.literals.specs.Domain.{key, Component, keyBelow, Domain, arity, bare, labelNumber}
 use Rattle.literals.specs.Decode.{componentRecord, stopOf}
-use Rattle.literals.specs.Table.{labelNumber}
-use Rattle.literals.specs.Keys.{below}
 use Rattle.verdict.specs.Judged.{Answer, decided}
 use Rattle.services.specs.Service.{served, servedAfter}
 

@@ -17,16 +17,15 @@ ghost use mathlib.Core.Bool.{true, cond};
 ghost use Prim.Native.Nat.{_+_, _*_, _≤_, _<_};
 ghost use lib.ListN.{length, take};
 ghost use lib.Seq.{paste};
-ghost use Rattle.records.specs.Lists.{any};
+ghost use Rattle.records.specs.Lists.{any, below};
 ghost use Rattle.literals.specs.Domain.{Domain, Action, action};
 ghost use Rattle.literals.specs.Decode.{maxActions, maxLiterals};
-ghost use Rattle.literals.specs.Keys.{below, PlacesOf};
-ghost use Rattle.literals.specs.Held.{Held};
-ghost use Rattle.classes.specs.Held.{ActionOf, rowAt};
+ghost use Rattle.literals.specs.Held.{PlacesOf, Held, rowIn};
+ghost use Rattle.classes.specs.Held.{ActionOf};
 ghost use Rattle.verdict.specs.Judged.{decided};
 ghost use Rattle.verdict.specs.Claims.{wellFormed};
 ghost use Rattle.verdict.specs.Summaries.{summaryOf};
-ghost use Rattle.templates.specs.Listing.{OnlyRelation, mentionedAt, rowsWith};
+ghost use Rattle.templates.specs.Held.{OnlyRelation, mentionedAt, rowsOfRelation};
 
 // Whether a literal of these rows has the relation.
 fn mentions(rows: &[u8], n: usize, relation: u8) -> bool
@@ -46,7 +45,7 @@ fn keep_row(rows: &[u8], j: usize, relation: u8, kept: &mut [u8], k: usize) -> u
     requires { ⌜ (8 * j + 8 ≤ length (now rows)) × (8 * k + 8 ≤ length (now kept)) ⌝ }
     ensures count { λ r. ⌜ r ≡ cond (mentionedAt (now (rows .entry)) relation j) (k + 1) k ⌝ }
     ensures rows { λ _. ⌜ now (kept .exit) ≡ cond (mentionedAt (now (rows .entry)) relation j)
-        (paste (now (kept .entry)) (8 * k) (rowAt (now (rows .entry)) j) 8) (now (kept .entry)) ⌝ }
+        (paste (now (kept .entry)) (8 * k) (rowIn (now (rows .entry)) j) 8) (now (kept .entry)) ⌝ }
 {
     if rows[8 * j + 1] == relation {
         let from = 8 * j;
@@ -61,7 +60,7 @@ fn keep_row(rows: &[u8], j: usize, relation: u8, kept: &mut [u8], k: usize) -> u
 fn keep_rows(rows: &[u8], n: usize, relation: u8, kept: &mut [u8]) -> usize
     requires { ⌜ (length (now rows) ≡ 8 * n) × (8 * n ≤ length (now kept)) ⌝ }
     ensures few { λ r. ⌜ r ≤ n ⌝ }
-    ensures rows { λ r. ⌜ take (8 * r) (now (kept .exit)) ≡ rowsWith (now (rows .entry)) relation n ⌝ }
+    ensures rows { λ r. ⌜ take (8 * r) (now (kept .exit)) ≡ rowsOfRelation (now (rows .entry)) relation n ⌝ }
 {
     let mut k = 0;
     for j in 0..n {

@@ -12,7 +12,7 @@ ghost use lib.ListN.{length};
 ghost use Rattle.literals.specs.Domain.{Domain, arity};
 ghost use Rattle.literals.specs.Held.{headBytes};
 ghost use Rattle.templates.specs.Templates.{Shape, shapesOf, shapes};
-ghost use Rattle.templates.specs.Listing.{shapeOf, BareHeld, PlaceFits, Listing};
+ghost use Rattle.templates.specs.Held.{shapeOf, BareHeld, PlaceFits, Listing};
 
 // The entry of one template, behind those that are written; nothing where reading would refuse it. How far the list goes then. (Head and
 // table hold the domain without its template.)

@@ -1,6 +1,6 @@
 // The payload of a component, its keys numbered from left to right.
 ghost use mathlib.Core.Path.{_≡_};
-ghost use Rattle.templates.specs.Listing.{labelAt, payloadOf};
+ghost use Rattle.templates.specs.Held.{labelAt, payloadOf};
 
 // The label at a place, where `counted` is the counted place, or FF for none.
 fn label_at(counted: u8, i: u8) -> u8

@@ -8,8 +8,8 @@ use native.Mathlib.Omega.{arith}
 use lib.ListN.{length, length-append}
 use borrow.Author.Tests.{lt-ltb, le-ltb}
 use Rattle.records.specs.Memory.{over}
+use Rattle.records.specs.Lists.{numbersFrom}
 use Rattle.verdict.specs.Judged.{answerAt}
-use Rattle.literals.specs.Keys.{numbersFrom}
 use Rattle.totals.specs.Totals.{filesWith, momentsWith, totals, lowBytes, totalBytes, totalledBy, totalled, totalsMemoryBy, totalsAfter}
 use Rattle.totals.specs.Claims.{BytesSay, TotalledCut, TotalledShort, TotalledDone}
 use Rattle.totals.proofs.Sums.{numbers-length}

@@ -8,7 +8,7 @@ use lib.Seq.{drop-append-add}
 use Rattle.records.specs.Memory.{over}
 use Rattle.records.proofs.Lists.{getD-in}
 use Rattle.totals.specs.Totals.{opened, files, totals, lowBytes, totalBytes}
-use Rattle.totals.specs.Claims.{behind, added, fromBytes, TotalRead, CountedApart}
+use Rattle.totals.specs.Claims.{joinedBoxes, added, fromBytes, TotalRead, CountedApart}
 use Rattle.totals.proofs.Joining.{boxes-joined}
 use Rattle.totals.proofs.Counts.{totals-joined}
 use Rattle.totals.proofs.Bounds.{totals-bounded}
@@ -43,7 +43,7 @@ added-at (x ∷ xs) (y ∷ ys) (suc n) h l = added-at xs ys n (omega arith) (ome
 pub counted-apart : CountedApart
 counted-apart b c out fs gs e g small h n l =
     let s = length-append b c in
-    let j : opened (b ++ c) ≡ files (fs ++ gs) = boxes-joined b c fs e ∙ ap (behind (length b) fs) g in
+    let j : opened (b ++ c) ≡ files (fs ++ gs) = boxes-joined b c fs e ∙ ap (joinedBoxes (length b) fs) g in
     let p = totals-length fs in
     let q = totals-length gs in
     total-read (b ++ c) out (fs ++ gs) j small h n l

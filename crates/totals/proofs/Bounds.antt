@@ -9,7 +9,7 @@ use native.Mathlib.Omega.{arith}
 use lib.Dec.{eqb, ltb}
 use lib.ListN.{length, getD, length-append, length-map, List·getD-eq-default}
 use borrow.Author.Tests.{ltb-true, ltb-false}
-use Rattle.records.specs.Lists.{keepIf, In}
+use Rattle.records.specs.Lists.{keepIf, In, numbersFrom}
 use Rattle.records.proofs.Lists.{bool-cases, getD-in, count-le, dedup-few}
 use Rattle.literals.specs.declared.Variable.{Variable}
 use Rattle.literals.specs.declared.Argument.{Argument}
@@ -19,7 +19,7 @@ use Rattle.literals.specs.declared.Role.{Role}
 use Rattle.literals.specs.Domain.{Atom, Fact, Literal, Action, Component, Domain, sameLiteral, noAction, action}
 use Rattle.literals.specs.Decode.{RecordKind, relationRecord, actionRecord, literalRecord, componentRecord, closingRecord, unknownRecord}
 use Rattle.literals.specs.Decode.{literalOf, actionOf, withLiteral, extend, Decoded, refused, domain, decode}
-use Rattle.literals.specs.Table.{Bounded}
+use Rattle.literals.specs.Held.{Bounded}
 use Rattle.literals.proofs.Loop.{decoded-at}
 use Rattle.literals.proofs.Bounds.{decoded-bounded}
 use Rattle.literals.specs.declared.Moment.{Moment}
@@ -30,10 +30,10 @@ use Rattle.classes.specs.Classes.{momentsOf, classes, excluding, covered, nameO
 use Rattle.literals.specs.Matching.{asked, withRole, required}
 use Rattle.classes.proofs.Members.{classes-few}
 use Rattle.verdict.specs.Binding.{bind, bindTuple, sameNumbers, spare}
-use Rattle.verdict.specs.Decision.{Row, rowAt, rowsOfClasses, rowsFrom, rows, decision, instanceFact, firstUncovered, witnessBy, witnessAt, classAt, witnessOf, witness}
+use Rattle.verdict.specs.Decision.{Row, rowAt, rowsOfClasses, rowsFrom, rows, decision, instanceFact, firstUncovered, witnessBy, witnessAt}
+use Rattle.verdict.specs.Decision.{classAt, witnessOf, witness}
 use Rattle.verdict.specs.Judged.{decidedFile}
-use Rattle.literals.specs.Keys.{numbersFrom}
-use Rattle.totals.specs.Totals.{rowsBy, rowsOfFile, allRows, filesWith, momentsWith, totals}
+use Rattle.totals.specs.Totals.{rowsOfDecoded, rowsOfFile, allRows, filesWith, momentsWith, totals}
 use Rattle.totals.specs.Claims.{TotalsBounded}
 use Rattle.totals.proofs.Joining.{boxed, boxed-length}
 
@@ -98,7 +98,7 @@ pub rows-few : (f : List ℕ) → length (rowsOfFile f) ≤ length f
 unfolding rowsOfFile rows
 rows-few f = go (decode f) refl
   where
-    go : (d : Decoded) → decode f ≡ d → length (rowsBy d) ≤ length f
+    go : (d : Decoded) → decode f ≡ d → length (rowsOfDecoded d) ≤ length f
     go (refused r) e = omega arith
     go (domain D) e =
         let h = literals-few f D e in
@@ -117,7 +117,7 @@ pub rows-most : (f : List ℕ) → length (rowsOfFile f) ≤ 8192
 unfolding rowsOfFile rows
 rows-most f = go (decode f) refl
   where
-    go : (d : Decoded) → decode f ≡ d → length (rowsBy d) ≤ 8192
+    go : (d : Decoded) → decode f ≡ d → length (rowsOfDecoded d) ≤ 8192
     go (refused r) e = omega arith
     go (domain D) e =
         let B = decoded-bounded f D e in

@@ -10,8 +10,8 @@ use lib.ListN.{length, getD}
 use borrow.Author.Tests.{ltb-true, ltb-false}
 use Rattle.records.specs.Memory.{over}
 use Rattle.records.proofs.Lists.{bool-cases}
+use Rattle.records.specs.Lists.{numbersFrom}
 use Rattle.classes.specs.Classes.{nameNumber}
-use Rattle.literals.specs.Keys.{numbersFrom}
 use Rattle.verdict.specs.Decision.{Row}
 use Rattle.verdict.specs.Judged.{Answer, decidedFile}
 use Rattle.totals.specs.declared.Opening.{Opening}

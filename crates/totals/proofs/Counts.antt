@@ -8,12 +8,11 @@ use lib.Dec.{eqb}
 use lib.ListN.{length, getD, List·getD-append}
 use lib.Seq.{getD-append-add, take-at, drop-at}
 use borrow.Author.Tests.{eqb-true}
-use Rattle.records.specs.Lists.{countBy}
+use Rattle.records.specs.Lists.{countBy, numbersFrom}
 use Rattle.records.proofs.Lists.{count-append, count-none, flatMap-append}
 use Rattle.classes.specs.Classes.{nameNumber}
 use Rattle.verdict.specs.Decision.{Row}
 use Rattle.verdict.specs.Judged.{decidedFile}
-use Rattle.literals.specs.Keys.{numbersFrom}
 use Rattle.verdict.proofs.Known.{Known, known-file, file-range, name-range}
 use Rattle.totals.specs.Totals.{rowsOfFile, allRows, filesWith, momentsWith, totals}
 use Rattle.totals.specs.Claims.{sum, TotalOfNumber, TotalOfName, NumbersAddUp, NamesAddUp, RoomNeverCounted, TotalsJoined}

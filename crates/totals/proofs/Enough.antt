@@ -14,7 +14,7 @@ use Rattle.literals.specs.Decode.{Decoded, refused, domain, decode}
 use Rattle.verdict.specs.Decision.{rows, witness}
 use Rattle.verdict.specs.Judged.{rowBytes, Answer, answerAt, decided, decidedBy, decidedFile, writesWitness, judgedDomain, judgedBy, judged, fillsReport, reportBy, reportAfter}
 use Rattle.verdict.proofs.Known.{decided-range}
-use Rattle.totals.specs.Totals.{rowsBy, rowsOfFile}
+use Rattle.totals.specs.Totals.{rowsOfDecoded, rowsOfFile}
 use Rattle.totals.specs.Claims.{JudgedEnough}
 
 and-false : (a : Bool) → a && false ≡ false
@@ -37,8 +37,8 @@ pub judged-enough : JudgedEnough
 unfolding judged decidedFile rowsOfFile reportAfter rowBytes over
 judged-enough f report wit h g = go (decode f) h g
   where
-    go : (d : Decoded) → 4 * length (rowsBy d) ≤ length report → ((D : Domain) → d ≡ domain D → 8 * length (witness D) ≤ length wit)
-        → (judgedBy d report wit ≡ decidedBy d) × (reportBy d report wit ≡ over (rowBytes (rowsBy d)) report)
+    go : (d : Decoded) → 4 * length (rowsOfDecoded d) ≤ length report → ((D : Domain) → d ≡ domain D → 8 * length (witness D) ≤ length wit)
+        → (judgedBy d report wit ≡ decidedBy d) × (reportBy d report wit ≡ over (rowBytes (rowsOfDecoded d)) report)
     go (refused r) h g = (refl, refl)
     go (domain D) h g =
         let e = domain-enough D report wit h (g D refl) in (

@@ -18,7 +18,7 @@ use Rattle.verdict.specs.Decision.{Row, witness}
 use Rattle.verdict.specs.Judged.{rowBytes, Answer, decidedFile, judged, reportAfter}
 use Rattle.verdict.specs.Held.{judgementOf}
 use Rattle.totals.specs.Totals.{long, wholeFile, firstFile, Opened, cutAt, files, opened, rowsOfFile, totals}
-use Rattle.totals.specs.Held.{filesOf, filesIn, oneMore, tally, nameMark, marksOf, namesIn, Room}
+use Rattle.totals.specs.Held.{filesOf, filesIn, oneMore, oneMoreEach, nameMark, marksOf, namesIn, Room}
 use Rattle.verdict.proofs.Known.{file-range, name-range}
 use Rattle.totals.proofs.Enough.{judged-enough}
 use Rattle.totals.proofs.Bounds.{rows-few, rows-most, witness-most}
@@ -75,10 +75,10 @@ module _ (f report wit : List ℕ) (h : 32768 ≤ length report) (g : 520 ≤ le
         (room-more counts (q .number) (length (namesIn after)) (omega arith) (room-less counts (1 + length f) (1 + length (namesIn after)) (omega arith) R))
 
     pub marks-counted : {q : Judgement} → q ≡ judgementOf (judged f report wit) → (counts counts₁ counts₂ : List ℕ) → counts₁ ≡ oneMore counts (q .number)
-        → counts₂ ≡ tally counts₁ (map nameMark (namesIn after)) → counts₂ ≡ tally counts (marksOf f)
+        → counts₂ ≡ oneMoreEach counts₁ (map nameMark (namesIn after)) → counts₂ ≡ oneMoreEach counts (marksOf f)
     unfolding marksOf
     marks-counted {q} a counts counts₁ counts₂ i j =
-        j ∙ ap₂ tally (i ∙ ap (oneMore counts) (number-is {q = q} a)) (ap (map nameMark) names-are ∙ map-twice (rowsOfFile f))
+        j ∙ ap₂ oneMoreEach (i ∙ ap (oneMore counts) (number-is {q = q} a)) (ap (map nameMark) names-are ∙ map-twice (rowsOfFile f))
       where
         map-twice : (rs : List Row) → map nameMark (map (λ (r : Row). nameNumber (r .name)) rs) ≡ map (λ (r : Row). nameMark (nameNumber (r .name))) rs
         map-twice [] = refl
@@ -139,13 +139,13 @@ module _ {b report₀ wit₀ report wit counts : List ℕ} {at : ℕ} (whole : o
           subst (λ (c : List ℕ). Room c (1 + length (take (at + 4 + size - (at + 4)) (drop (at + 4) b)))) (sym (W .counted))
           (room-box (take at b) (W .place .passed) (1 + length (take (at + 4 + size - (at + 4)) (drop (at + 4) b))) (W .place .whole) (omega arith)) n
 
-      pub walked-more : {report₁ wit₁ counts₁ : List ℕ} → counts₁ ≡ tally counts (marksOf (take (at + 4 + size - (at + 4)) (drop (at + 4) b)))
+      pub walked-more : {report₁ wit₁ counts₁ : List ℕ} → counts₁ ≡ oneMoreEach counts (marksOf (take (at + 4 + size - (at + 4)) (drop (at + 4) b)))
           → report₁ ≡ replicate (length report) 0 → length report₁ ≡ length report → length wit₁ ≡ length wit
           → Walked b report₀ wit₀ report₁ wit₁ counts₁ (at + 4 + size)
       walked-more c q m n =
           record {
             place = pass-file (W .place) (at + 4 + size) stands (ap (λ (k : ℕ). at + 4 + k) s);
-            counted = c ∙ ap₂ (λ (t p : List ℕ). tally t (marksOf p)) (W .counted) part-is ∙ tally-file (W .place .passed) (firstFile (drop at b))
+            counted = c ∙ ap₂ (λ (t p : List ℕ). oneMoreEach t (marksOf p)) (W .counted) part-is ∙ tally-file (W .place .passed) (firstFile (drop at b))
                 ∙ sym (ap totals (pass-passed (W .place) (at + 4 + size) stands (ap (λ (k : ℕ). at + 4 + k) s)));
             clear = q ∙ ap (λ (k : ℕ). replicate k 0) (sym m);
             rows = m ∙ W .rows;

@@ -11,7 +11,7 @@ use lib.Seq.{length-take-le, take-append-le, drop-append-le}
 use borrow.Author.Tests.{leb-true, le-leb}
 use Rattle.records.proofs.Lists.{and-l, and-r, and-i, bool-cases}
 use Rattle.totals.specs.Totals.{long, wholeFile, firstFile, behindFile, Opened, cutAt, files, withFile, openFrom, opened}
-use Rattle.totals.specs.Claims.{behind, BoxesJoined}
+use Rattle.totals.specs.Claims.{joinedBoxes, BoxesJoined}
 
 -- ---- one file
 
@@ -97,11 +97,11 @@ more-fuel (suc n) (suc m) at (x ∷ xs) h g = go (bool-cases (wholeFile (x ∷ x
 
 -- ---- further on
 
-behind-file : (k : ℕ) (f : List ℕ) (o : Opened) → withFile f (behind k [] o) ≡ behind k [] (withFile f o)
+behind-file : (k : ℕ) (f : List ℕ) (o : Opened) → withFile f (joinedBoxes k [] o) ≡ joinedBoxes k [] (withFile f o)
 behind-file k f (cutAt at) = refl
 behind-file k f (files fs) = refl
 
-further : (n k at : ℕ) (b : List ℕ) → openFrom n (k + at) b ≡ behind k [] (openFrom n at b)
+further : (n k at : ℕ) (b : List ℕ) → openFrom n (k + at) b ≡ joinedBoxes k [] (openFrom n at b)
 unfolding openFrom
 further zero k at b = refl
 further (suc n) k at [] = refl
@@ -109,9 +109,9 @@ further (suc n) k at (x ∷ xs) = go (wholeFile (x ∷ xs))
     (ap (λ (z : ℕ). openFrom n z (behindFile (x ∷ xs))) (let z : k + at + 4 + long (x ∷ xs) ≡ k + (at + 4 + long (x ∷ xs)) = omega arith in z)
     ∙ further n k (at + 4 + long (x ∷ xs)) (behindFile (x ∷ xs)))
   where
-    go : (w : Bool) → openFrom n (k + at + 4 + long (x ∷ xs)) (behindFile (x ∷ xs)) ≡ behind k [] (openFrom n (at + 4 + long (x ∷ xs)) (behindFile (x ∷ xs)))
+    go : (w : Bool) → openFrom n (k + at + 4 + long (x ∷ xs)) (behindFile (x ∷ xs)) ≡ joinedBoxes k [] (openFrom n (at + 4 + long (x ∷ xs)) (behindFile (x ∷ xs)))
         → elim w as (λ _. Opened) [ true ↦ withFile (firstFile (x ∷ xs)) (openFrom n (k + at + 4 + long (x ∷ xs)) (behindFile (x ∷ xs))) | false ↦ cutAt (k + at) ]
-        ≡ behind k [] (elim w as (λ _. Opened) [ true ↦ withFile (firstFile (x ∷ xs)) (openFrom n (at + 4 + long (x ∷ xs)) (behindFile (x ∷ xs))) | false ↦ cutAt at ])
+        ≡ joinedBoxes k [] (elim w as (λ _. Opened) [ true ↦ withFile (firstFile (x ∷ xs)) (openFrom n (at + 4 + long (x ∷ xs)) (behindFile (x ∷ xs))) | false ↦ cutAt at ])
     go true ih = ap (withFile (firstFile (x ∷ xs))) ih ∙ behind-file k (firstFile (x ∷ xs)) (openFrom n (at + 4 + long (x ∷ xs)) (behindFile (x ∷ xs)))
     go false ih = refl
 
@@ -129,7 +129,7 @@ before-file : (f : List ℕ) (fs : List (List ℕ)) (o : Opened) → withFile f 
 before-file f fs (cutAt at) = refl
 before-file f fs (files gs) = refl
 
-before-behind : (k : ℕ) (fs : List (List ℕ)) (o : Opened) → before fs (behind k [] o) ≡ behind k fs o
+before-behind : (k : ℕ) (fs : List (List ℕ)) (o : Opened) → before fs (joinedBoxes k [] o) ≡ joinedBoxes k fs o
 before-behind k fs (cutAt at) = refl
 before-behind k fs (files gs) = refl
 

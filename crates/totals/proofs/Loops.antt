@@ -11,7 +11,7 @@ use lib.Dec.{leb}
 use Rattle.records.proofs.Lists.{and-i}
 use Rattle.totals.specs.Totals.{long, wholeFile, firstFile, behindFile, cutAt, files, withFile, openFrom, opened, totals}
 use Rattle.totals.specs.declared.Opening.the-variants.{Whole, Cut}
-use Rattle.totals.specs.Claims.{behind, added}
+use Rattle.totals.specs.Claims.{joinedBoxes, added}
 use Rattle.totals.specs.Held.{openingOf}
 use Rattle.totals.proofs.Joining.{open-nil, open-whole, open-cut, whole-within, boxes-joined}
 use Rattle.totals.proofs.Counts.{totals-joined}
@@ -84,24 +84,24 @@ module _ (b : List ℕ) (w : wholeFile b ≡ true) where
 
 -- the bytes before an offset are whole files
 module _ (b : List ℕ) (at : ℕ) (fs : List (List ℕ)) (h : at ≤ length b) (e : opened (take at b) ≡ files fs) where
-  rest : opened b ≡ behind at fs (opened (drop at b))
+  rest : opened b ≡ joinedBoxes at fs (opened (drop at b))
   rest =
       ap opened (sym (take-append-drop at b)) ∙ boxes-joined (take at b) (drop at b) fs e
-      ∙ ap (λ n. behind n fs (opened (drop at b))) (length-take-le at b h)
+      ∙ ap (λ n. joinedBoxes n fs (opened (drop at b))) (length-take-le at b h)
 
   -- a whole file there: one file more
   pub box-more : wholeFile (drop at b) ≡ true → opened (take (at + (4 + long (drop at b))) b) ≡ files (fs ++ (firstFile (drop at b) ∷ []))
   box-more w =
       ap opened (take-add at (4 + long (drop at b)) b)
       ∙ boxes-joined (take at b) (take (4 + long (drop at b)) (drop at b)) fs e
-      ∙ ap (behind (length (take at b)) fs) (front-opened (drop at b) w)
+      ∙ ap (joinedBoxes (length (take at b)) fs) (front-opened (drop at b) w)
 
   -- none: the box is cut
   pub box-cut : at < length b → wholeFile (drop at b) ≡ false → opened b ≡ cutAt at
   unfolding opened
   box-cut l w =
       rest
-      ∙ ap (behind at fs) (open-cut (length (drop at b)) 0 (drop at b) (let d = length-drop at b in omega arith) w)
+      ∙ ap (joinedBoxes at fs) (open-cut (length (drop at b)) 0 (drop at b) (let d = length-drop at b in omega arith) w)
       ∙ ap cutAt (let z : at + 0 ≡ at = omega arith in z)
 
   -- nothing is left: these are the files

@@ -8,9 +8,8 @@ use native.Mathlib.Omega.{arith}
 use lib.Dec.{eqb}
 use lib.ListN.{length, getD}
 use borrow.Author.Tests.{eqb-true, eqb-false, ne-eqb}
-use Rattle.records.specs.Lists.{addIf, countBy}
+use Rattle.records.specs.Lists.{addIf, countBy, numbersFrom}
 use Rattle.records.proofs.Lists.{bool-cases}
-use Rattle.literals.specs.Keys.{numbersFrom}
 use Rattle.totals.specs.Claims.{sum, added}
 
 pub numbers-at : (f : ℕ → ℕ) (k m i : ℕ) → i < m → getD (map f (numbersFrom k m)) i 0 ≡ f (k + i)

@@ -15,7 +15,7 @@ use Rattle.classes.specs.Classes.{nameNumber}
 use Rattle.verdict.specs.Decision.{Row}
 use Rattle.verdict.specs.Judged.{decidedFile}
 use Rattle.totals.specs.Totals.{opened, files, rowsOfFile, allRows, filesWith, momentsWith, totals}
-use Rattle.totals.specs.Held.{oneMore, tally, nameMark, marksOf, Room}
+use Rattle.totals.specs.Held.{oneMore, oneMoreEach, nameMark, marksOf, Room}
 use Rattle.verdict.proofs.Known.{file-range, name-range}
 use Rattle.totals.proofs.Counts.{total-of-number, total-of-name}
 use Rattle.totals.proofs.Answers.{totals-length}
@@ -38,7 +38,7 @@ more-at ts n i h = go (bool-cases (eqb i n))
         ∙ ap (λ (k : ℕ). suc (getD ts k 0)) (sym e) ∙ ap (λ (b : Bool). addIf b (getD ts i 0)) (sym t)
     go (inr f) = getD-set-other ts n i (getD ts n 0 + 1) 0 (eqb-false i n f) ∙ ap (λ (b : Bool). addIf b (getD ts i 0)) (sym f)
 
-pub tally-length : (ts ns : List ℕ) → length (tally ts ns) ≡ length ts
+pub tally-length : (ts ns : List ℕ) → length (oneMoreEach ts ns) ≡ length ts
 tally-length ts [] = refl
 tally-length ts (n ∷ ns) = tally-length (oneMore ts n) ns ∙ more-length ts n
 
@@ -46,7 +46,7 @@ add-plus : (b : Bool) (m k : ℕ) → addIf b m + k ≡ m + addIf b k
 add-plus true m k = omega arith
 add-plus false m k = refl
 
-tally-at : (ts ns : List ℕ) (i : ℕ) → ((n : ℕ) → In n ns → n < length ts) → getD (tally ts ns) i 0 ≡ getD ts i 0 + countBy (eqb i) ns
+tally-at : (ts ns : List ℕ) (i : ℕ) → ((n : ℕ) → In n ns → n < length ts) → getD (oneMoreEach ts ns) i 0 ≡ getD ts i 0 + countBy (eqb i) ns
 tally-at ts [] i h = omega arith
 tally-at ts (n ∷ ns) i h =
     tally-at (oneMore ts n) ns i (λ m k. let l = h m (List·Memᴰ·tail k) in let e = more-length ts n in omega arith)
@@ -133,13 +133,13 @@ module _ (f : List ℕ) where
           let e = r .2 in
           let b = name-range (r .0 .name) .1 in omega arith
 
-pub tally-file : (fs : List (List ℕ)) (f : List ℕ) → tally (totals fs) (marksOf f) ≡ totals (fs ++ (f ∷ []))
+pub tally-file : (fs : List (List ℕ)) (f : List ℕ) → oneMoreEach (totals fs) (marksOf f) ≡ totals (fs ++ (f ∷ []))
 tally-file fs f =
     let k = totals-length fs in
     let j = totals-length (f ∷ []) in
     let l = tally-length (totals fs) (marksOf f) in
     let m = totals-length (fs ++ (f ∷ [])) in
-    ext-getD 0 (tally (totals fs) (marksOf f)) (totals (fs ++ (f ∷ []))) (omega arith)
+    ext-getD 0 (oneMoreEach (totals fs) (marksOf f)) (totals (fs ++ (f ∷ []))) (omega arith)
     (λ i h. tally-at (totals fs) (marksOf f) i (λ n q. let b = marks-below f n q in omega arith)
     ∙ ap (λ (n : ℕ). getD (totals fs) i 0 + n) (sym (marks-at f i (omega arith)))
     ∙ sym (ap (λ (t : List ℕ). getD t i 0) (totals-more fs f) ∙ added-at (totals fs) (totals (f ∷ [])) i (omega arith) (omega arith)))

@@ -11,7 +11,7 @@ use Rattle.records.specs.Memory.{over}
 use Rattle.records.proofs.Lists.{flatMap-snoc}
 use Rattle.records.proofs.Memory.{over-more, length-over}
 use Rattle.totals.specs.Totals.{lowBytes, totalBytes}
-use Rattle.totals.specs.Held.{oneMore, tally, nameMark, namesIn, Room}
+use Rattle.totals.specs.Held.{oneMore, oneMoreEach, nameMark, namesIn, Room}
 use Rattle.totals.proofs.Answers.{low-length, bytes-length}
 use Rattle.totals.proofs.Reported.{names-none, names-some, names-short}
 use Rattle.totals.proofs.Tallied.{more-length, room-less, room-more}
@@ -25,7 +25,7 @@ pub record Counted (report counts₀ : List ℕ) (at : ℕ) (counts : List ℕ) 
   pub names : (k : ℕ) → In k (namesIn (drop at report)) → k ≤ 7
   pub room : Room counts (length (namesIn (drop at report)))
   pub rows : at + 4 * length (namesIn (drop at report)) ≡ 4 * length (namesIn report)
-  pub same : tally counts (map nameMark (namesIn (drop at report))) ≡ tally counts₀ (map nameMark (namesIn report))
+  pub same : oneMoreEach counts (map nameMark (namesIn (drop at report))) ≡ oneMoreEach counts₀ (map nameMark (namesIn report))
 
 pub none-counted : (report counts : List ℕ) → length counts ≡ 71 → ((k : ℕ) → In k (namesIn report) → k ≤ 7) → Room counts (length (namesIn report)) → Counted report counts 0 counts
 none-counted report counts l h r = record { within = omega arith; sized = l; names = h; room = r; rows = omega arith; same = refl }
@@ -33,12 +33,12 @@ none-counted report counts l h r = record { within = omega arith; sized = l; nam
 module _ {report counts₀ : List ℕ} {at : ℕ} {counts : List ℕ} (C : Counted report counts₀ at counts) where
   -- a clear row, or no room for one: these were all
   pub all-counted : namesIn (drop at report) ≡ []
-      → (at ≡ 4 * length (namesIn report)) × (counts ≡ tally counts₀ (map nameMark (namesIn report)))
+      → (at ≡ 4 * length (namesIn report)) × (counts ≡ oneMoreEach counts₀ (map nameMark (namesIn report)))
   all-counted e =
       let r = C .rows in
       let z : length (namesIn (drop at report)) ≡ 0 = ap length e in (
         omega arith,
-        ap (λ (ns : List ℕ). tally counts (map nameMark ns)) (sym e) ∙ C .same,
+        ap (λ (ns : List ℕ). oneMoreEach counts (map nameMark ns)) (sym e) ∙ C .same,
       )
 
   module _ (name : ℕ) (here : name ≡ getD report (at + 3) 0) (some : name ≡ 0 → ⊥) where
@@ -68,8 +68,8 @@ module _ {report counts₀ : List ℕ} {at : ℕ} {counts : List ℕ} (C : Count
           room = λ n. rw e (room-more counts (63 + name) (length (namesIn (drop (at + 4) report))) (omega arith)
               (room-less counts (length (namesIn (drop at report))) (1 + length (namesIn (drop (at + 4) report))) (omega arith) (C .room)) n);
           rows = omega arith;
-          same = ap (λ (ts : List ℕ). tally ts (map nameMark (namesIn (drop (at + 4) report)))) e
-              ∙ ap (λ (ns : List ℕ). tally counts (map nameMark ns)) (sym front) ∙ C .same;
+          same = ap (λ (ts : List ℕ). oneMoreEach ts (map nameMark (namesIn (drop (at + 4) report)))) e
+              ∙ ap (λ (ns : List ℕ). oneMoreEach counts (map nameMark ns)) (sym front) ∙ C .same;
         }
 
 -- ---- bytes cleared

@@ -3,11 +3,10 @@ use mathlib.Core.Path.{_≡_}
 use mathlib.Core.List.{List, [], _∷_, _++_, map, foldr}
 use Prim.Native.Nat.{ℕ, suc, _+_, _*_, _^_, _≤_, _<_}
 use lib.ListN.{length, getD, take, drop}
-use Rattle.records.specs.Lists.{In}
+use Rattle.records.specs.Lists.{In, numbersFrom}
 use Rattle.records.specs.Memory.{over}
 use Rattle.literals.specs.Domain.{Domain}
 use Rattle.literals.specs.Decode.{domain, decode}
-use Rattle.literals.specs.Keys.{numbersFrom}
 use Rattle.verdict.specs.Decision.{witness}
 use Rattle.verdict.specs.Judged.{rowBytes, answerAt, decidedFile, judged, reportAfter}
 use Rattle.totals.specs.Totals.{Opened, cutAt, files, opened, rowsOfFile, filesWith, allRows, momentsWith, totals, lowBytes}
@@ -56,13 +55,13 @@ abbrev pub TotalsJoined : Type 0
 TotalsJoined = (fs gs : List (List ℕ)) → totals (fs ++ gs) ≡ added (totals fs) (totals gs)
 
 -- the files of one box before those of another, which stands k bytes further on
-abbrev pub behind : ℕ → List (List ℕ) → Opened → Opened
-behind k fs (cutAt at) = cutAt (k + at)
-behind k fs (files gs) = files (fs ++ gs)
+abbrev pub joinedBoxes : ℕ → List (List ℕ) → Opened → Opened
+joinedBoxes k fs (cutAt at) = cutAt (k + at)
+joinedBoxes k fs (files gs) = files (fs ++ gs)
 
 -- a whole box and any other, joined: their files, or the other's cut, further on
 abbrev pub BoxesJoined : Type 0
-BoxesJoined = (b c : List ℕ) (fs : List (List ℕ)) → opened b ≡ files fs → opened (b ++ c) ≡ behind (length b) fs (opened c)
+BoxesJoined = (b c : List ℕ) (fs : List (List ℕ)) → opened b ≡ files fs → opened (b ++ c) ≡ joinedBoxes (length b) fs (opened c)
 
 -- ---- 8 bytes are enough: no total is above the number of the box's bytes
 

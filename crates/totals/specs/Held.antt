@@ -31,9 +31,9 @@ abbrev pub oneMore : List ℕ → ℕ → List ℕ
 oneMore ts n = set ts n (getD ts n 0 + 1)
 
 -- each of these places once
-abbrev pub tally : List ℕ → List ℕ → List ℕ
-tally ts [] = ts
-tally ts (n ∷ ns) = tally (oneMore ts n) ns
+abbrev pub oneMoreEach : List ℕ → List ℕ → List ℕ
+oneMoreEach ts [] = ts
+oneMoreEach ts (n ∷ ns) = oneMoreEach (oneMore ts n) ns
 
 -- the place of a name's total: the seven names stand behind the 64 numbers
 abbrev pub nameMark : ℕ → ℕ

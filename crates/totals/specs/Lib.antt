@@ -1,4 +1,4 @@
--- A box of files, its totals, and what is claimed of them.
+-- A reader must believe Totals (a box of files, and its totals) and Claims (what is claimed of them). Held is how the code counts them.
 pub mod Totals
 pub mod Claims
 pub mod Held

@@ -4,14 +4,13 @@ use mathlib.Core.List.{List, [], _∷_, _++_, map, flatMap}
 use Prim.Native.Nat.{ℕ, zero, suc, _+_, _-_, _*_, _/_, _%_}
 use lib.Dec.{eqb, ltb, leb}
 use lib.ListN.{length, take, drop}
-use Rattle.records.specs.Lists.{countBy}
+use Rattle.records.specs.Lists.{countBy, numbersFrom}
 use Rattle.records.specs.Memory.{over}
 use Rattle.records.specs.Record.{word}
 use Rattle.literals.specs.Decode.{Decoded, refused, domain, decode}
 use Rattle.classes.specs.Classes.{nameNumber}
 use Rattle.verdict.specs.Decision.{Row, rows}
 use Rattle.verdict.specs.Judged.{Answer, answerAt, decidedFile}
-use Rattle.literals.specs.Keys.{numbersFrom}
 
 -- ---- the box: "a row of files, each preceded by its length in 4 bytes, little-endian"
 
@@ -62,13 +61,13 @@ opened b = openFrom (suc (length b)) 0 b
 -- ---- the totals
 
 -- "A file refused before judging is counted under its number and its moments are not."
-abbrev pub rowsBy : Decoded → List Row
-rowsBy (refused r) = []
-rowsBy (domain D) = rows D
+abbrev pub rowsOfDecoded : Decoded → List Row
+rowsOfDecoded (refused r) = []
+rowsOfDecoded (domain D) = rows D
 
 unfoldable pub rowsOfFile : List ℕ → List Row
 unfolding decode rows
-rowsOfFile f = rowsBy (decode f)
+rowsOfFile f = rowsOfDecoded (decode f)
 
 -- how many files met this number: "Each file is judged as if with memory enough"
 abbrev pub filesWith : ℕ → List (List ℕ) → ℕ

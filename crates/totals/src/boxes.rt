@@ -1,16 +1,11 @@
 // A box from left to right: each file stands behind its length.
 use super::Opening;
+use records::bytes::wide;
 ghost use mathlib.Core.Path.{_≡_};
 ghost use Prim.Native.Nat.{_+_, _≤_, _<_};
 ghost use lib.ListN.{length, drop};
 ghost use Rattle.totals.specs.Totals.{long, wholeFile, opened};
 ghost use Rattle.totals.specs.Held.{openingOf};
-
-fn wide(b: u8) -> usize
-    ensures { λ r. ⌜ (r ≡ b) × (r < 256) ⌝ }
-{
-    b as usize
-}
 
 // The length that stands at an offset, in four bytes, the lowest first.
 pub fn length_at(packed: &[u8], at: usize) -> usize

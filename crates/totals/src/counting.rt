@@ -10,7 +10,7 @@ ghost use lib.ListN.{length, replicate};
 ghost use Rattle.records.specs.Lists.{In};
 ghost use Rattle.records.specs.Memory.{over};
 ghost use Rattle.totals.specs.Totals.{opened, files, totals};
-ghost use Rattle.totals.specs.Held.{filesIn, oneMore, tally, namesIn, nameMark, marksOf, Room};
+ghost use Rattle.totals.specs.Held.{filesIn, oneMore, oneMoreEach, namesIn, nameMark, marksOf, Room};
 
 // One total is one higher.
 fn add_one(counts: &mut [u64], at: usize)
@@ -27,7 +27,7 @@ fn count_names(report: &[u8], counts: &mut [u64]) -> usize
     requires names { ⌜ ((k : ℕ) → In k (namesIn (now report)) → k ≤ 7) ⌝ }
     requires room { ⌜ Room (now counts) (length (namesIn (now report))) ⌝ }
     ensures rows { λ r. ⌜ r ≡ 4 * length (namesIn (now (report .entry))) ⌝ }
-    ensures counted { λ _. ⌜ now (counts .exit) ≡ tally (now (counts .entry)) (map nameMark (namesIn (now (report .entry)))) ⌝ }
+    ensures counted { λ _. ⌜ now (counts .exit) ≡ oneMoreEach (now (counts .entry)) (map nameMark (namesIn (now (report .entry)))) ⌝ }
 {
     let mut at = 0;
     while 4 <= report.len() - at {
@@ -59,7 +59,7 @@ fn count_file(file: &[u8], report: &mut [u8], witness: &mut [u8], counts: &mut [
     requires rows { ⌜ 32768 ≤ length (now report) ⌝ }
     requires facts { ⌜ 520 ≤ length (now witness) ⌝ }
     requires cleared { ⌜ now report ≡ replicate (length (now report)) 0 ⌝ }
-    ensures counted { λ _. ⌜ now (counts .exit) ≡ tally (now (counts .entry)) (marksOf (now (file .entry))) ⌝ }
+    ensures counted { λ _. ⌜ now (counts .exit) ≡ oneMoreEach (now (counts .entry)) (marksOf (now (file .entry))) ⌝ }
     ensures cleared { λ _. ⌜ now (report .exit) ≡ replicate (length (now (report .entry))) 0 ⌝ }
 {
     let answer = judge(file, report, witness);

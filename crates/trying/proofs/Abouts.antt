@@ -9,7 +9,7 @@ use native.Mathlib.Omega.{arith}
 use lib.Dec.{eqb, ltb}
 use lib.ListN.{length, getD}
 use borrow.Author.Tests.{eqb-true, ne-eqb}
-use Rattle.records.specs.Lists.{In, any, elem}
+use Rattle.records.specs.Lists.{In, any, elem, numbersFrom, below}
 use Rattle.records.proofs.Lists.{and-l, and-r, and-i, eqb-same, not-true, in-any, any-in, any-map, filter-in, in-filter}
 use Rattle.records.proofs.Lists.{flatMap-in, in-flatMap, in-dedup}
 use Rattle.literals.specs.declared.Variable.{Variable}
@@ -19,11 +19,9 @@ use Rattle.literals.specs.declared.Argument.{Argument}
 use Rattle.literals.specs.declared.Usage.{Usage}
 use Rattle.literals.specs.declared.Role.{Role}
 use Rattle.literals.specs.declared.Moment.the-variants.{Start}
-use Rattle.literals.specs.Domain.{object, Atom, Fact, sameFact, sameLiteral, usageNumber, roleNumber, roleOf, sameTime}
-use Rattle.literals.specs.Domain.{Literal, keysOf, Domain, action}
-use Rattle.literals.specs.Table.{rowOf, rowsIn}
-use Rattle.literals.specs.Held.{keysIn, componentRowsIn, TemplateOf}
-use Rattle.literals.specs.Keys.{usageAmong, usageFor, numbersFrom, below}
+use Rattle.literals.specs.Domain.{object, Atom, Fact, sameFact, sameLiteral, usageNumber, roleNumber, roleOf, sameTime, Literal, keysOf}
+use Rattle.literals.specs.Domain.{Domain, action}
+use Rattle.literals.specs.Held.{rowOf, rowsIn, keysIn, componentRowsIn, TemplateOf, usageAmong, usageFor}
 use Rattle.literals.specs.Matching.{own, literalsAt}
 use Rattle.literals.proofs.Indices.{any-agree, at-all, below-less}
 use Rattle.classes.specs.Classes.{classes}
@@ -32,7 +30,7 @@ use Rattle.classes.proofs.Roles.{in-withRole, literalsAt-in}
 use Rattle.verdict.specs.Binding.{Binding, bindTuple, objectsFrom, sameNumbers, factsOf}
 use Rattle.verdict.specs.Decision.{instanceFact}
 use Rattle.verdict.specs.Machine.{eventFacts, allowed, next, startState, weight}
-use Rattle.verdict.specs.Patterns.{patternRow, patternsMeet, FactOver}
+use Rattle.verdict.specs.Held.{patternRow, patternsMeet, FactOver, factRow}
 use Rattle.verdict.specs.Claims.{hasArity, isFact, wellFormed, plainObjects, plainEvent}
 use Rattle.verdict.proofs.Equality.{literal-eq}
 use Rattle.verdict.proofs.WellFormed.{action-in, action-well-formed, template-well-formed}
@@ -41,18 +39,17 @@ use Rattle.verdict.proofs.Acts.{class-below}
 use Rattle.verdict.proofs.Exact.{bound-in, size}
 use Rattle.verdict.proofs.Events.{elem-fact, fact-elem}
 use Rattle.verdict.proofs.Patterns.{any-flat, literal-bound, about-row}
-use Rattle.store.specs.Rows.{factRow, FactFits, rowWeight}
-use Rattle.store.specs.InstanceFacts.{instanceOf}
+use Rattle.store.specs.Held.{FactFits, rowWeight, instanceBytesIn}
 use Rattle.store.proofs.InstanceRows.{objectsRow, weight-is}
 use Rattle.store.proofs.InstanceFacts.{noComponent, instance-is}
-use Rattle.events.specs.Grounding.{GroundLiteral, groundLiterals, eventLiterals, groundIn}
+use Rattle.events.specs.Held.{GroundLiteral, groundLiterals, eventLiterals, groundIn}
 use Rattle.events.proofs.Members.{map-in}
 use Rattle.literals.proofs.Tables.{kept}
 use Rattle.events.proofs.FactRows.{usage-counts}
 use Rattle.effects.specs.Held.{literalsIn, effectsIn}
 use Rattle.trying.specs.declared.alone.Alone.{Alone}
 use Rattle.trying.specs.Trying.{factsUnder, instanceFacts, heldFacts, tries}
-use Rattle.trying.specs.Held.{isAbout, componentFree, anyFree, answerBy, answerOf, AloneOf}
+use Rattle.trying.specs.Held.{isAbout, componentFree, anyFree, triesBy, triesByRows, AloneOf}
 use Rattle.trying.proofs.Further.{further-fits}
 use Rattle.trying.proofs.Engine.{instance}
 use Rattle.trying.proofs.Sets.{factsIn, tries-by}
@@ -151,7 +148,7 @@ module _ (D : Domain) (wf : wellFormed D ≡ true) (i : ℕ) (idx : i < length (
           → componentFree head (objectsRow y) (suc (action D i .vars)) ls c
           ≡ any free (factsUnder objs y (getD (D .template) c noComponent))
       of-component c h =
-          any-agree (λ o. not (isAbout ls (instanceOf head c o (objectsRow y))))
+          any-agree (λ o. not (isAbout ls (instanceBytesIn head c o (objectsRow y))))
           (λ o. free (instanceFact (object o) y (getD (D .template) c noComponent))) (below (suc (action D i .vars)))
           (λ o m. ap (λ (row : List ℕ). not (isAbout ls row)) (instance-is H c h y e o))
           ∙ any-objects (λ o. free (instanceFact o y (getD (D .template) c noComponent))) 0 (suc (action D i .vars))
@@ -183,12 +180,12 @@ module _ (D : Domain) (wf : wellFormed D ≡ true) (i : ℕ) (idx : i < length (
         let e = objects-length 0 (action D i .vars) in omega arith)))
 
     tried-answer : tries D i x
-        ≡ answerBy (weight D y (heldFacts D i)) (allowed D objs (startState (heldFacts D i)) (plainEvent D i ∷ []))
+        ≡ triesBy (weight D y (heldFacts D i)) (allowed D objs (startState (heldFacts D i)) (plainEvent D i ∷ []))
         (weight D y (next D objs (startState (heldFacts D i)) (plainEvent D i ∷ []) .facts))
         (anyFree head (objectsRow y) (suc (action D i .vars)) ls)
     tried-answer =
         tries-by D wf i idx x hx about (λ f m. about-facts f (further-over f m)) (λ f m. facts-about f (further-over f m))
-        ∙ ap₂ (λ (w : ℕ) (t : Bool). answerBy w (allowed D objs (startState (heldFacts D i)) (plainEvent D i ∷ []))
+        ∙ ap₂ (λ (w : ℕ) (t : Bool). triesBy w (allowed D objs (startState (heldFacts D i)) (plainEvent D i ∷ []))
         (weight D y (next D objs (startState (heldFacts D i)) (plainEvent D i ∷ []) .facts)) t)
         (ap (weight D y) (start-alone D wf i idx)) (sym (free-is y keys))
 
@@ -202,18 +199,18 @@ module _ (D : Domain) (wf : wellFormed D ≡ true) (i : ℕ) (idx : i < length (
       weighed n memory fs e fits =
           ap (λ (rows : List (List ℕ)). rowWeight (keysIn head) (componentRowsIn head) rows (objectsRow y)) e ∙ weight-is H y keys fs fits
 
-      pub class-tried : (row : List ℕ) → row ≡ tupleRow x → answerOf head r base after row ≡ tries D i x
-      unfolding answerOf
+      pub class-tried : (row : List ℕ) → row ≡ tupleRow x → triesByRows head r base after row ≡ tries D i x
+      unfolding triesByRows
       class-tried row e =
-          ap (answerOf head r base after) (e ∙ tuple-objects)
-          ∙ ap₂ (λ (w v : ℕ). answerBy w (r .allowed) v
+          ap (triesByRows head r base after) (e ∙ tuple-objects)
+          ∙ ap₂ (λ (w v : ℕ). triesBy w (r .allowed) v
           (anyFree head (objectsRow y) (r .variables + 1) (groundIn (r .literals) (literalsIn base))))
           (weighed (r .held) (effectsIn base) (heldFacts D i) (A .conditions .held) (held-fits D wf i idx))
           (weighed (r .left) after (next D objs (startState (heldFacts D i)) (plainEvent D i ∷ []) .facts) (A .left) (left-fits D wf i idx))
-          ∙ ap₂ (λ (t : Bool) (gs : List GroundLiteral). answerBy (weight D y (heldFacts D i)) t
+          ∙ ap₂ (λ (t : Bool) (gs : List GroundLiteral). triesBy (weight D y (heldFacts D i)) t
           (weight D y (next D objs (startState (heldFacts D i)) (plainEvent D i ∷ []) .facts))
           (anyFree head (objectsRow y) (r .variables + 1) gs)) (A .allowed) literals-are
-          ∙ ap (λ (n : ℕ). answerBy (weight D y (heldFacts D i)) (allowed D objs (startState (heldFacts D i)) (plainEvent D i ∷ []))
+          ∙ ap (λ (n : ℕ). triesBy (weight D y (heldFacts D i)) (allowed D objs (startState (heldFacts D i)) (plainEvent D i ∷ []))
           (weight D y (next D objs (startState (heldFacts D i)) (plainEvent D i ∷ []) .facts)) (anyFree head (objectsRow y) n ls))
           (ap (λ (m : ℕ). m + 1) (A .conditions .variables) ∙ add-one (action D i .vars))
           ∙ sym tried-answer

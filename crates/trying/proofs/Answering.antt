@@ -15,19 +15,18 @@ use Rattle.records.proofs.Lists.{not-true, not-false, getD-in}
 use Rattle.records.proofs.Memory.{over-paste, paste-more, paste-front}
 use Rattle.literals.specs.declared.Variable.{Variable}
 use Rattle.literals.specs.Domain.{Action, Domain, noAction, action}
-use Rattle.literals.specs.Table.{rowsIn}
-use Rattle.literals.specs.Held.{actionsIn, keysIn, componentRowsIn, Held}
+use Rattle.literals.specs.Held.{rowsIn, actionsIn, keysIn, componentRowsIn, Held}
 use Rattle.literals.proofs.Indices.{getD-map}
 use Rattle.classes.specs.Classes.{classes}
 use Rattle.classes.specs.Held.{tupleRow}
 use Rattle.verdict.specs.Claims.{wellFormed}
 use Rattle.services.specs.Service.{DeliveredAs}
-use Rattle.store.specs.Rows.{rowWeight}
-use Rattle.events.specs.Grounding.{groundIn}
+use Rattle.store.specs.Held.{rowWeight}
+use Rattle.events.specs.Held.{groundIn}
 use Rattle.effects.specs.Held.{literalsIn, effectsIn}
 use Rattle.trying.specs.declared.alone.Alone.{Alone}
 use Rattle.trying.specs.Trying.{tries, triedOf, triedFrom, tried}
-use Rattle.trying.specs.Held.{anyFree, answerOf, ClassesOf, answersOf, Making}
+use Rattle.trying.specs.Held.{anyFree, triesByRows, ClassesOf, answersOf, Making}
 use Rattle.trying.proofs.Abouts.{class-tried}
 
 -- ---- of a class, by the weights that were found
@@ -46,33 +45,33 @@ module _ (head : List ℕ) (r : Alone) (base after instance : List ℕ) where
   abbrev free : Bool
   free = anyFree head instance (r .variables + 1) (groundIn (r .literals) (literalsIn base))
 
-  pub answer-heavy : {w : ℕ} → w ≡ before → 1 < w → false ≡ answerOf head r base after instance
-  unfolding answerOf
+  pub answer-heavy : {w : ℕ} → w ≡ before → 1 < w → false ≡ triesByRows head r base after instance
+  unfolding triesByRows
   answer-heavy e h = rw (lt-leb before 1 (omega arith))
 
-  pub answer-barred : not (r .allowed) ≡ true → false ≡ answerOf head r base after instance
-  unfolding answerOf
+  pub answer-barred : not (r .allowed) ≡ true → false ≡ triesByRows head r base after instance
+  unfolding triesByRows
   answer-barred h = rw (not-true (r .allowed) h, and-none (leb before 1))
 
   module _ {w v : ℕ} (e : w ≡ before) (l : w ≤ 1) (ok : not (r .allowed) ≡ false) (f : v ≡ left) where
     can : r .allowed ≡ true
     can = not-false (r .allowed) ok
 
-    pub answer-two : 2 ≤ v → true ≡ answerOf head r base after instance
-    unfolding answerOf
+    pub answer-two : 2 ≤ v → true ≡ triesByRows head r base after instance
+    unfolding triesByRows
     answer-two h = rw (le-leb before 1 (omega arith), can, le-leb 2 left (omega arith))
 
-    pub answer-one : v < 2 → w ≡ 1 → false ≡ answerOf head r base after instance
-    unfolding answerOf
+    pub answer-one : v < 2 → w ≡ 1 → false ≡ triesByRows head r base after instance
+    unfolding triesByRows
     answer-one h k = rw (le-leb before 1 (omega arith), can, lt-leb 2 left (omega arith), ne-eqb before 0 (λ z. omega arith))
 
-    pub answer-none : v ≡ 0 → false ≡ answerOf head r base after instance
-    unfolding answerOf
+    pub answer-none : v ≡ 0 → false ≡ triesByRows head r base after instance
+    unfolding triesByRows
     answer-none k =
         rw (le-leb before 1 (omega arith), can, lt-leb 2 left (omega arith), ne-eqb left 1 (λ z. omega arith), and-none (eqb before 0))
 
-    pub answer-free : v < 2 → (w ≡ 1 → ⊥) → (v ≡ 0 → ⊥) → {t : Bool} → t ≡ free → t ≡ answerOf head r base after instance
-    unfolding answerOf
+    pub answer-free : v < 2 → (w ≡ 1 → ⊥) → (v ≡ 0 → ⊥) → {t : Bool} → t ≡ free → t ≡ triesByRows head r base after instance
+    unfolding triesByRows
     answer-free h m n t =
         t ∙ rw (le-leb before 1 (omega arith), can, lt-leb 2 left (omega arith), eq-eqb before 0 (omega arith), eq-eqb left 1 (omega arith))
 
@@ -85,7 +84,7 @@ module _ {D : Domain} {i : ℕ} {head : List ℕ} {r : Alone} {base after rows n
 
   pub answers-more : (made : List ℕ) (j : ℕ) → j < length made₀ → made ≡ paste made₀ 0 (answersOf D i) j → (instance : List ℕ)
       → (j < length (classes D (action D i)) → instance ≡ tupleRow (getD (classes D (action D i)) j []))
-      → (said : Bool) → said ≡ answerOf head r base after instance → (byte : ℕ) → byte ≡ cond said 1 0
+      → (said : Bool) → said ≡ triesByRows head r base after instance → (byte : ℕ) → byte ≡ cond said 1 0
       → set made j byte ≡ paste made₀ 0 (answersOf D i) (j + 1)
   answers-more made j h e instance t said s byte b =
       let z : 0 + j ≡ j = omega arith in

@@ -18,17 +18,16 @@ use Rattle.literals.specs.declared.Usage.{Usage}
 use Rattle.literals.specs.declared.Usage.the-variants.{Positive, Add, Delete}
 use Rattle.literals.specs.declared.Role.{Role}
 use Rattle.literals.specs.declared.Moment.the-variants.{Start}
-use Rattle.literals.specs.Domain.{isEvery, variablesOf, Atom, Fact, sameFact, sameLiteral, firstRole, usageNumber}
-use Rattle.literals.specs.Domain.{sameTime, sameRole, Literal, Domain, action}
+use Rattle.literals.specs.Domain.{isEvery, variablesOf, Atom, Fact, sameFact, sameLiteral, firstRole, usageNumber, sameTime, sameRole}
+use Rattle.literals.specs.Domain.{Literal, Domain, action}
 use Rattle.literals.specs.Decode.{byte, repeats, contradicts, maxLiterals}
-use Rattle.literals.specs.Table.{rowsIn, Bounded}
-use Rattle.literals.specs.Held.{arityIn, HeadOf}
+use Rattle.literals.specs.Held.{rowsIn, Bounded, arityIn, HeadOf}
 use Rattle.literals.specs.Matching.{own, withRole, literalsAt, required}
 use Rattle.literals.proofs.Bounds.{arity-six}
 use Rattle.verdict.specs.Binding.{Binding, bind, sameNumbers, factsOf}
-use Rattle.verdict.specs.Machine.{GroundAction, Event, eventFacts, requiredFacts, conditionsHold, ownHold, allowed}
-use Rattle.verdict.specs.Machine.{stepFacts, factsAfter, next, startState}
-use Rattle.verdict.specs.Patterns.{patternRow, FactOver}
+use Rattle.verdict.specs.Machine.{GroundAction, Event, eventFacts, requiredFacts, conditionsHold, ownHold, allowed, stepFacts, factsAfter}
+use Rattle.verdict.specs.Machine.{next, startState}
+use Rattle.verdict.specs.Held.{patternRow, FactOver, factRow}
 use Rattle.verdict.specs.Claims.{hasArity, wellFormed, plainObjects, plainEvent}
 use Rattle.verdict.proofs.Equality.{literal-eq, literal-self, fact-eq, fact-self}
 use Rattle.verdict.proofs.Asking.{both-ways}
@@ -38,14 +37,12 @@ use Rattle.verdict.proofs.Objects.{among-in, objects-range, objects-distinct}
 use Rattle.verdict.proofs.Exact.{bound-in, below, plain, held-fact}
 use Rattle.verdict.proofs.Steps.{One}
 use Rattle.verdict.proofs.Tuples.{Below}
-use Rattle.store.specs.Index.{Sized}
-use Rattle.store.specs.Rows.{factRow, FactFits}
-use Rattle.events.specs.Held.{Chosen}
-use Rattle.events.specs.Grounding.{maxGround, groundIn, Grounded}
+use Rattle.store.specs.Held.{Sized, FactFits}
+use Rattle.events.specs.Held.{OverObjects, maxGround, groundIn, Grounded}
 use Rattle.events.proofs.Members.{map-in}
 use Rattle.events.proofs.FactRows.{length-fact-row}
 use Rattle.events.proofs.GroundLiterals.{length-ground}
-use Rattle.effects.specs.Held.{literalsIn, effectsIn, flat, rowsWith, atMost}
+use Rattle.effects.specs.Held.{literalsIn, effectsIn, flat, rowsOfUsage, atMost}
 use Rattle.effects.proofs.Joins.{distinct-map}
 use Rattle.effects.proofs.FilledRows.{Whole, length-whole, filled-rows, most-inside}
 use Rattle.effects.proofs.EffectRows.{two-few, grounded-rows, plain-rows}
@@ -113,15 +110,17 @@ own-same c r s h k =
 
 -- ---- the rows of a usage are no more than the ground literals
 
-rows-most : (usage total : ℕ) (memory : List ℕ) → length (rowsWith usage (groundIn total memory)) ≤ total
+rows-most : (usage total : ℕ) (memory : List ℕ) → length (rowsOfUsage usage (groundIn total memory)) ≤ total
 rows-most usage total memory =
     let t = two-few usage (suc usage) (λ e. omega arith) (groundIn total memory) in
     let l = length-ground memory total in omega arith
 
-pub rows-room : (usage total : ℕ) (memory : List ℕ) → total ≤ maxLiterals → 0 + length (rowsWith usage (groundIn total memory)) ≤ maxGround
+pub rows-room : (usage total : ℕ) (memory : List ℕ) → total ≤ maxLiterals
+    → 0 + length (rowsOfUsage usage (groundIn total memory)) ≤ maxGround
 rows-room usage total memory h = let r = rows-most usage total memory in omega arith
 
-pub rows-few : (usage total held : ℕ) (memory : List ℕ) → total ≤ maxLiterals → held ≡ 0 + length (rowsWith usage (groundIn total memory))
+pub rows-few : (usage total held : ℕ) (memory : List ℕ) → total ≤ maxLiterals → held
+    ≡ 0 + length (rowsOfUsage usage (groundIn total memory))
     → held ≤ maxLiterals
 rows-few usage total held memory h e = let r = rows-most usage total memory in omega arith
 
@@ -194,7 +193,7 @@ module _ (D : Domain) (wf : wellFormed D ≡ true) (i : ℕ) (idx : i < length (
 
   -- the code takes their rows from the ground literals
   pub held-rows : {head memory : List ℕ} {total : ℕ} → Grounded D head (ev ∷ []) memory total
-      → rowsWith 1 (groundIn total memory) ≡ map factRow (heldFacts D i)
+      → rowsOfUsage 1 (groundIn total memory) ≡ map factRow (heldFacts D i)
   unfolding flatMap
   held-rows G =
       grounded-rows G Positive
@@ -205,7 +204,7 @@ module _ (D : Domain) (wf : wellFormed D ≡ true) (i : ℕ) (idx : i < length (
   -- as the code holds them
   pub base-held : {head : List ℕ} (r : Base) (base after : List ℕ) → r .variables ≡ action D i .vars
       → Grounded D head (ev ∷ []) (literalsIn base) (r .literals)
-      → rowsIn (r .held) (effectsIn after) ≡ rowsWith 1 (groundIn (r .literals) (literalsIn base)) → literalsIn after ≡ literalsIn base
+      → rowsIn (r .held) (effectsIn after) ≡ rowsOfUsage 1 (groundIn (r .literals) (literalsIn base)) → literalsIn after ≡ literalsIn base
       → BaseOf D i head r after
   base-held {head} r base after v G e l =
       record {
@@ -260,7 +259,7 @@ module _ (D : Domain) (wf : wellFormed D ≡ true) (i : ℕ) (idx : i < length (
     vars-few : action D i .vars ≤ 16
     vars-few = B .counts (action D i) (action-in D i idx)
 
-    pub chosen : Chosen D objs (heldFacts D i) (ev .ground ∷ [])
+    pub chosen : OverObjects D objs (heldFacts D i) (ev .ground ∷ [])
     chosen =
         record {
           low = λ o m. let r = objects-range 0 (suc (action D i .vars)) o m .1 in let k = vars-few in omega arith;

@@ -12,15 +12,13 @@ use Rattle.records.proofs.Memory.{paste-front}
 use Rattle.literals.specs.declared.Object.{Object}
 use Rattle.literals.specs.Domain.{object}
 use Rattle.literals.specs.Decode.{byte}
-use Rattle.literals.specs.Table.{rowsIn}
-use Rattle.literals.specs.Held.{arityIn, componentRowIn}
+use Rattle.literals.specs.Held.{rowsIn, arityIn, componentRowIn}
 use Rattle.literals.proofs.Rows.{rows-snoc}
 use Rattle.literals.proofs.Heads.{arity-limit}
 use Rattle.verdict.specs.Binding.{objectsFrom}
 use Rattle.verdict.specs.Judged.{objectNumbers}
 use Rattle.verdict.proofs.Objects.{objects-length}
-use Rattle.store.specs.Index.{factIndex, totalAt, Sized, Indexed}
-use Rattle.store.specs.InstanceFacts.{instanceOf}
+use Rattle.store.specs.Held.{factIndex, totalAt, Sized, Indexed, instanceBytesIn}
 use Rattle.store.proofs.InstanceFacts.{length-instance-at}
 use Rattle.events.specs.Held.{groundRow}
 use Rattle.trying.specs.Held.{plainGround}
@@ -88,20 +86,20 @@ enter-more head rows index₀ index index′ i E f z S =
 
 -- ---- the row of a further fact
 
-instance-length : (head : List ℕ) (c o : ℕ) (instance : List ℕ) → length (instanceOf head c o instance) ≡ 8
+instance-length : (head : List ℕ) (c o : ℕ) (instance : List ℕ) → length (instanceBytesIn head c o instance) ≡ 8
 instance-length head c o instance =
     length-instance-at (arityIn head (getD (componentRowIn head c) 0 0)) o instance head c
     (arity-limit head (getD (componentRowIn head c) 0 0))
 
 -- it takes the place of the one before it
 pub instance-put : (head : List ℕ) (c o : ℕ) (instance fact next : List ℕ) → length instance ≡ 8 → length fact ≡ 8
-    → next ≡ paste fact 0 (instanceOf head c o (take 8 instance)) 8 → next ≡ instanceOf head c o instance
+    → next ≡ paste fact 0 (instanceBytesIn head c o (take 8 instance)) 8 → next ≡ instanceBytesIn head c o instance
 unfolding over
 instance-put head c o instance fact next s l e =
-    let new : List ℕ = instanceOf head c o instance in
+    let new : List ℕ = instanceBytesIn head c o instance in
     let n = instance-length head c o instance in
     e
-    ∙ ap (λ (t : List ℕ). paste fact 0 (instanceOf head c o t) 8) (take-all 8 instance (omega arith))
+    ∙ ap (λ (t : List ℕ). paste fact 0 (instanceBytesIn head c o t) 8) (take-all 8 instance (omega arith))
     ∙ paste-front new fact 8 (sym n)
     ∙ ap (λ (t : List ℕ). new ++ t) (drop-of-length-le fact {i = length new} (omega arith))
     ∙ append-nil new

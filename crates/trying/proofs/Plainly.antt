@@ -8,14 +8,12 @@ use lib.ListN.{length, set, drop}
 use Rattle.literals.specs.declared.Time.the-variants.{AtStart}
 use Rattle.literals.specs.Domain.{Domain, action}
 use Rattle.literals.specs.Decode.{maxLiterals}
-use Rattle.literals.specs.Table.{Bounded}
-use Rattle.literals.specs.Held.{HeadOf}
+use Rattle.literals.specs.Held.{Bounded, HeadOf}
 use Rattle.verdict.specs.Machine.{Event}
 use Rattle.verdict.specs.Claims.{plainEvent}
 use Rattle.verdict.proofs.WellFormed.{action-in}
 use Rattle.verdict.proofs.Objects.{objects-length, objects-range}
-use Rattle.events.specs.Held.{GroundFits}
-use Rattle.events.specs.Grounding.{groundLiterals, eventLiterals, countsAt, groundedBytes, groundIn, Laid, Grounded}
+use Rattle.events.specs.Held.{GroundFits, groundLiterals, eventLiterals, countsAt, groundedBytes, groundIn, Laid, Grounded}
 use Rattle.events.proofs.GroundLiterals.{laid-none, laid-more}
 use Rattle.trying.specs.Held.{plainGround}
 

@@ -30,7 +30,7 @@ use Rattle.verdict.proofs.Weight.{distinct-after}
 use Rattle.verdict.proofs.Asking.{both-ways}
 use Rattle.verdict.proofs.WellFormed.{template-well-formed}
 use Rattle.trying.specs.Trying.{heldFacts, instanceFacts, sets, breaks, tries}
-use Rattle.trying.specs.Held.{answerBy}
+use Rattle.trying.specs.Held.{triesBy}
 use Rattle.trying.proofs.Further.{further-fits}
 use Rattle.trying.proofs.Engine.{conditions-set, further-set, SetCases, sets-cases, instance}
 
@@ -287,7 +287,7 @@ module _ (D : Domain) (wf : wellFormed D ≡ true) (i : ℕ) (idx : i < length (
   module _ (about : Fact → Bool) (yes : (f : Fact) → In f further → about f ≡ true → (c : Usage) × In f (factsIn D i c))
       (back : (f : Fact) → In f further → (c : Usage) → In f (factsIn D i c) → about f ≡ true) where
     abbrev answer : Bool
-    answer = answerBy (before D i y (held D i y)) can (after D i y (held D i y)) (any (λ f. not (about f)) further)
+    answer = triesBy (before D i y (held D i y)) can (after D i y (held D i y)) (any (λ f. not (about f)) further)
 
     tried-answers : tries D i x ≡ true → answer ≡ true
     unfolding tries breaks

@@ -17,7 +17,7 @@ use Rattle.literals.specs.declared.Variable.{Variable}
 use Rattle.literals.specs.declared.Moment.{Moment}
 use Rattle.literals.specs.declared.Moment.the-variants.{Start, End}
 use Rattle.literals.specs.Domain.{Action, Domain, noAction, action}
-use Rattle.literals.specs.Table.{Bounded}
+use Rattle.literals.specs.Held.{Bounded}
 use Rattle.literals.proofs.Bounds.{decoded-bounded}
 use Rattle.classes.specs.Classes.{classes, momentsOf, nameOf}
 use Rattle.classes.proofs.Members.{classes-few}

@@ -5,23 +5,20 @@ use mathlib.Core.List.{List, [], _∷_, map}
 use Prim.Native.Nat.{ℕ, _+_, _≤_, _<_}
 use lib.Dec.{eqb, leb}
 use lib.ListN.{length, take}
-use Rattle.records.specs.Lists.{any}
+use Rattle.records.specs.Lists.{any, below}
 use Rattle.records.specs.Memory.{over}
 use Rattle.literals.specs.Domain.{Domain, action}
 use Rattle.literals.specs.Decode.{maxVariables, maxLiterals}
-use Rattle.literals.specs.Table.{rowsIn}
-use Rattle.literals.specs.Held.{componentsIn, keysIn, componentRowsIn, Held}
-use Rattle.literals.specs.Keys.{below}
+use Rattle.literals.specs.Held.{rowsIn, componentsIn, keysIn, componentRowsIn, Held}
 use Rattle.classes.specs.Classes.{classes}
 use Rattle.classes.specs.Held.{ActionOf, classNumbers}
 use Rattle.verdict.specs.Binding.{objectsFrom}
 use Rattle.verdict.specs.Machine.{GroundAction, allowed, next, startState}
-use Rattle.verdict.specs.Patterns.{patternsMeet}
+use Rattle.verdict.specs.Held.{patternsMeet, factRow}
 use Rattle.verdict.specs.Claims.{wellFormed, plainObjects, plainEvent}
 use Rattle.run_semantics.specs.RunFile.{maxFacts}
-use Rattle.store.specs.Rows.{factRow, rowWeight}
-use Rattle.store.specs.InstanceFacts.{instanceOf}
-use Rattle.events.specs.Grounding.{GroundLiteral, groundIn, Grounded}
+use Rattle.store.specs.Held.{rowWeight, instanceBytesIn}
+use Rattle.events.specs.Held.{GroundLiteral, groundIn, Grounded}
 use Rattle.effects.specs.Held.{literalsIn, effectsIn}
 use Rattle.trying.specs.Trying.{heldFacts, tries, triedFrom}
 use Rattle.trying.specs.declared.alone.Base.{Base}
@@ -34,8 +31,8 @@ abbrev pub plainGround : ℕ → ℕ → GroundAction
 plainGround i n = record { action = i; binding = objectsFrom 0 n }
 
 -- head and table hold a well-formed domain with an action i
-abbrev pub Listed : List ℕ → List ℕ → ℕ → Type 0
-Listed head table i = (D : Domain) × Held D head table × (wellFormed D ≡ true) × (i < length (D .actions))
+abbrev pub ActionHeld : List ℕ → List ℕ → ℕ → Type 0
+ActionHeld head table i = (D : Domain) × Held D head table × (wellFormed D ≡ true) × (i < length (D .actions))
 
 -- ---- one step from the true conditions alone
 
@@ -66,7 +63,7 @@ isAbout ls fact = any (λ (l : GroundLiteral). patternsMeet (l .row) fact) ls
 
 -- the component c of a head has a fact of the instance, with one of n objects in its counted place, that none of them is about
 abbrev pub componentFree : List ℕ → List ℕ → ℕ → List GroundLiteral → ℕ → Bool
-componentFree head instance n ls c = any (λ o. not (isAbout ls (instanceOf head c o instance))) (below n)
+componentFree head instance n ls c = any (λ o. not (isAbout ls (instanceBytesIn head c o instance))) (below n)
 
 -- a component has one
 unfoldable pub anyFree : List ℕ → List ℕ → ℕ → List GroundLiteral → Bool
@@ -77,14 +74,14 @@ anyFree head instance n ls = any (componentFree head instance n ls) (below (comp
 
 -- by what its instance weighs in the true conditions (before) and in what the step from them leaves (after), by whether that step is
 -- allowed, and by whether there is a further fact that no literal of the event is about
-abbrev pub answerBy : ℕ → Bool → ℕ → Bool → Bool
-answerBy before can after free = leb before 1 && can && (leb 2 after || (eqb before 0 && eqb after 1 && free))
+abbrev pub triesBy : ℕ → Bool → ℕ → Bool → Bool
+triesBy before can after free = leb before 1 && can && (leb 2 after || (eqb before 0 && eqb after 1 && free))
 
 -- the same by rows
-unfoldable pub answerOf : List ℕ → Alone → List ℕ → List ℕ → List ℕ → Bool
+unfoldable pub triesByRows : List ℕ → Alone → List ℕ → List ℕ → List ℕ → Bool
 unfolding keysIn componentRowsIn rowWeight anyFree
-answerOf head r base after instance =
-    answerBy (rowWeight (keysIn head) (componentRowsIn head) (rowsIn (r .held) (effectsIn base)) instance) (r .allowed)
+triesByRows head r base after instance =
+    triesBy (rowWeight (keysIn head) (componentRowsIn head) (rowsIn (r .held) (effectsIn base)) instance) (r .allowed)
     (rowWeight (keysIn head) (componentRowsIn head) (rowsIn (r .left) after) instance)
     (anyFree head instance (r .variables + 1) (groundIn (r .literals) (literalsIn base)))
 

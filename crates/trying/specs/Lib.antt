@@ -1,4 +1,5 @@
--- The plain engine, what it writes, and what is claimed of it; how the code tries a class.
+-- A reader must believe Trying (the plain engine, and what it writes) and Claims (what is claimed of it). Held is how the code tries a
+-- class.
 pub mod Trying
 pub mod Claims
 pub mod Held

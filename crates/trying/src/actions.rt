@@ -17,10 +17,9 @@ ghost use Prim.Native.Nat.{ℕ, _+_, _*_, _≤_, _<_};
 ghost use lib.ListN.{length};
 ghost use Rattle.literals.specs.Domain.{Domain, action};
 ghost use Rattle.literals.specs.Decode.{maxActions, maxLiterals};
-ghost use Rattle.literals.specs.Held.{Held};
-ghost use Rattle.literals.specs.Keys.{PlacesOf};
+ghost use Rattle.literals.specs.Held.{Held, PlacesOf};
 ghost use Rattle.verdict.specs.Claims.{wellFormed};
-ghost use Rattle.trying.specs.Held.{Listed, Making};
+ghost use Rattle.trying.specs.Held.{ActionHeld, Making};
 
 // Those of the action i, which is at once, behind those that are written; how far they go then.
 fn try_at_once(
@@ -32,7 +31,7 @@ fn try_at_once(
     at: usize,
 ) -> usize
     requires action { ⌜ i < maxActions ⌝ }
-    requires listed { ⌜ Listed (now head) (now table) i ⌝ }
+    requires listed { ⌜ ActionHeld (now head) (now table) i ⌝ }
     requires places { ⌜ PlacesOf (now head) (now places) ⌝ }
     requires room { ⌜ at + maxLiterals ≤ length (now made) ⌝ }
     ensures few { λ r. ⌜ r ≤ at + maxLiterals ⌝ }
@@ -74,7 +73,7 @@ fn try_action(
     at: usize,
 ) -> usize
     requires action { ⌜ i < maxActions ⌝ }
-    requires listed { ⌜ Listed (now head) (now table) i ⌝ }
+    requires listed { ⌜ ActionHeld (now head) (now table) i ⌝ }
     requires places { ⌜ PlacesOf (now head) (now places) ⌝ }
     requires room { ⌜ at + maxLiterals ≤ length (now made) ⌝ }
     ensures few { λ r. ⌜ r ≤ at + maxLiterals ⌝ }

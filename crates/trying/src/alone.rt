@@ -18,12 +18,11 @@ ghost use Prim.Native.Nat.{ℕ, _*_, _≤_, _<_};
 ghost use lib.ListN.{length};
 ghost use Rattle.literals.specs.Domain.{Domain};
 ghost use Rattle.literals.specs.Decode.{maxActions, maxVariables, maxLiterals};
-ghost use Rattle.literals.specs.Table.{rowsIn};
-ghost use Rattle.literals.specs.Held.{Held};
+ghost use Rattle.literals.specs.Held.{rowsIn, Held};
 ghost use Rattle.verdict.specs.Claims.{wellFormed};
-ghost use Rattle.store.specs.Index.{Sized, Indexed};
+ghost use Rattle.store.specs.Held.{Sized, Indexed};
 ghost use Rattle.effects.specs.Held.{scratchBytes, effectsIn, Once};
-ghost use Rattle.trying.specs.Held.{Listed, BaseOf, FewOf, AloneOf};
+ghost use Rattle.trying.specs.Held.{ActionHeld, BaseOf, FewOf, AloneOf};
 
 // What an action brings with it: how many variables it has, how many ground literals, and how many true conditions.
 pub struct Base {
@@ -99,7 +98,7 @@ fn step_base(head: &Head, base: &[u8], counts: Base, after: &mut [u8]) -> Alone
 // Both, of the action i.
 pub fn step_alone(head: &Head, table: &[u8], i: usize, base: &mut [u8], after: &mut [u8]) -> Alone
     requires action { ⌜ i < maxActions ⌝ }
-    requires listed { ⌜ Listed (now head) (now table) i ⌝ }
+    requires listed { ⌜ ActionHeld (now head) (now table) i ⌝ }
     requires base { ⌜ length (now base) ≡ scratchBytes ⌝ }
     requires after { ⌜ length (now after) ≡ scratchBytes ⌝ }
     ensures few { λ r. ⌜ FewOf r ⌝ }

@@ -16,12 +16,12 @@ ghost use lib.ListN.{length};
 ghost use Rattle.records.specs.Memory.{over};
 ghost use Rattle.literals.specs.Domain.{Domain, action};
 ghost use Rattle.literals.specs.Decode.{maxLiterals};
-ghost use Rattle.literals.specs.Keys.{PlacesOf};
+ghost use Rattle.literals.specs.Held.{PlacesOf};
 ghost use Rattle.classes.specs.Classes.{classes};
 ghost use Rattle.classes.specs.Held.{ActionOf, Sides, classNumbers};
 ghost use Rattle.verdict.specs.Claims.{wellFormed};
 ghost use Rattle.effects.specs.Held.{scratchBytes};
-ghost use Rattle.trying.specs.Held.{FewOf, AloneOf, answerOf, ClassesOf, answersOf};
+ghost use Rattle.trying.specs.Held.{FewOf, AloneOf, triesByRows, ClassesOf, answersOf};
 
 // The answer for the class whose key tuple is the instance. Where the instance weighs one already, a further fact makes it two, and where
 // the step leaves it none, a further fact makes it one; so only between the two is one looked for.
@@ -29,7 +29,7 @@ fn try_class(head: &Head, alone: Alone, base: &[u8], after: &[u8], instance: [u8
     requires few { ⌜ FewOf alone ⌝ }
     requires base { ⌜ length (now base) ≡ scratchBytes ⌝ }
     requires after { ⌜ length (now after) ≡ scratchBytes ⌝ }
-    ensures { λ r. ⌜ r ≡ answerOf (now (head .entry)) alone (now (base .entry)) (now (after .entry)) instance ⌝ }
+    ensures { λ r. ⌜ r ≡ triesByRows (now (head .entry)) alone (now (base .entry)) (now (after .entry)) instance ⌝ }
 {
     let before = weigh(head, &base[GROUNDED..SCRATCH], alone.held, instance);
     if 1 < before {

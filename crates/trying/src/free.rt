@@ -8,7 +8,7 @@ ghost use mathlib.Core.Path.{_≡_};
 ghost use Prim.Native.Nat.{_≤_, _<_};
 ghost use lib.ListN.{length};
 ghost use Rattle.literals.specs.Decode.{maxComponents};
-ghost use Rattle.events.specs.Grounding.{maxGround, groundedBytes, groundIn};
+ghost use Rattle.events.specs.Held.{maxGround, groundedBytes, groundIn};
 ghost use Rattle.trying.specs.Held.{isAbout, componentFree, anyFree};
 
 // Whether one of the first `total` ground literals is about the fact.

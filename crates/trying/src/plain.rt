@@ -13,8 +13,7 @@ ghost use Rattle.literals.specs.Domain.{Domain};
 ghost use Rattle.literals.specs.Decode.{maxActions, maxVariables, maxLiterals};
 ghost use Rattle.literals.specs.Held.{Held};
 ghost use Rattle.verdict.specs.Claims.{plainEvent};
-ghost use Rattle.events.specs.Held.{groundRow};
-ghost use Rattle.events.specs.Grounding.{groundedBytes, Grounded};
+ghost use Rattle.events.specs.Held.{groundRow, groundedBytes, Grounded};
 ghost use Rattle.trying.specs.Held.{plainGround};
 
 // The row of the action i with its objects, of so many variables.

@@ -18,7 +18,7 @@ use Rattle.classes.specs.declared.Name.{Name}
 use Rattle.classes.specs.declared.Name.the-variants.{Unreachable, Irrelevant, Heavy, Balanced, Unbalanced, Bounded, Unbounded}
 use Rattle.literals.specs.Matching.{momentNumber}
 use Rattle.classes.specs.Classes.{momentsOf, nameOf}
-use Rattle.verdict.specs.Decision.{Row, journeyEndAt, rows, isUnbounded, faultBy, faultOf, isFaulty, isBoundedOutside, firstRow, Decision, accept, refuseAt, decideBounded, decideBy, decideRows, decision, classAt, witnessAt, witnessOf, witness, shownAt, shownOf, isShown, worstRow}
+use Rattle.verdict.specs.Decision.{Row, journeyEndAt, rows, isUnbounded, faultBy, faultOf, isFaulty, isBoundedOutside, firstRow, Decision, accept, refuseRow, decideBounded, decideBy, decideRows, decision, classAt, witnessAt, witnessOf, witness, shownAt, shownOf, isShown, worstRow}
 use Rattle.verdict.specs.Judged.{answerRow, decided}
 use Rattle.verdict.specs.Claims.{wellFormed, noneLasts, refusedForClass, Harmful, FaultyClass, ClassAtOnce, Exactness, Shown, WitnessShows, plainObjects, plainInstance, plainEvent}
 use Rattle.verdict.proofs.WellFormed.{action-in}
@@ -48,7 +48,7 @@ unbounded-fault Unbounded h z = omega arith
 -- ---- where no row is a journey's end, a faulty row decides
 
 abbrev Outcome : List Row → Decision → Type 0
-Outcome rs d = (d ≡ accept 0) ⊎ ((r : Row) × In r rs × (isFaulty r ≡ true) × (d ≡ refuseAt (faultOf r) r))
+Outcome rs d = (d ≡ accept 0) ⊎ ((r : Row) × In r rs × (isFaulty r ≡ true) × (d ≡ refuseRow (faultOf r) r))
 
 outcome : (rs : List Row) → ((r : Row) → In r rs → r .journeyEnd ≡ false) → Outcome rs (decideRows rs)
 unfolding decideRows
@@ -107,7 +107,7 @@ module _ (D : Domain) (nl : noneLasts D ≡ true) where
     unfolding decision
     outcome-of = outcome (rows D) no-end
 
-    shown : (r : Row) → In r (rows D) → isFaulty r ≡ true → decision D ≡ refuseAt (faultOf r) r → Shown D (decided D)
+    shown : (r : Row) → In r (rows D) → isFaulty r ≡ true → decision D ≡ refuseRow (faultOf r) r → Shown D (decided D)
     unfolding decided witness
     shown r m t de =
         let e : decided D ≡ answerRow (faultOf r) (some r) = ap (λ (d : Decision). answerRow (d .number) (d .place)) de in

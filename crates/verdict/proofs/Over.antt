@@ -12,7 +12,7 @@ use Rattle.literals.specs.declared.Object.{Object}
 use Rattle.literals.specs.declared.Usage.{Usage}
 use Rattle.literals.specs.declared.Usage.the-variants.{Add}
 use Rattle.literals.specs.Domain.{Fact, keysOf, Domain, action}
-use Rattle.literals.specs.Table.{Bounded}
+use Rattle.literals.specs.Held.{Bounded}
 use Rattle.literals.specs.Matching.{tuplesOf, literalsAt}
 use Rattle.classes.proofs.Roles.{literalsAt-in}
 use Rattle.verdict.specs.Binding.{factsOf}

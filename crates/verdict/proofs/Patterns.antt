@@ -18,12 +18,12 @@ use Rattle.literals.specs.declared.Usage.{Usage}
 use Rattle.literals.specs.declared.Argument.{Argument}
 use Rattle.literals.specs.declared.Argument.the-variants.{Variable as bound, Every}
 use Rattle.literals.specs.Domain.{object, isEvery, variablesOf, Atom, Fact, sameFact, Literal, mayClear, Action, Domain, arity, action}
-use Rattle.literals.specs.Table.{meetByte, Bounded}
+use Rattle.literals.specs.Held.{meetByte, Bounded}
 use Rattle.literals.specs.Matching.{literalsAt}
 use Rattle.verdict.specs.Binding.{Binding, valueOf, bindTuple, factsOf, bind}
 use Rattle.verdict.specs.Machine.{Event, eventFacts, meet}
 use Rattle.verdict.specs.Claims.{wellFormedAction}
-use Rattle.verdict.specs.Patterns.{rowOfFact, argumentByte, patternRow, patternsMeet, FactOver}
+use Rattle.verdict.specs.Held.{factRow, argumentByte, patternRow, patternsMeet, FactOver}
 use Rattle.verdict.proofs.Tuples.{Below}
 use Rattle.verdict.proofs.Events.{elem-fact, fact-elem}
 use Rattle.verdict.proofs.Asking.{both-ways}
@@ -33,7 +33,7 @@ use Rattle.verdict.proofs.Acts.{plain-of, literals-plain}
 -- ---- literals without FF
 
 -- the row of such a literal is that of its fact
-pub plain-row : (b : Binding) (p : Atom Argument) → countBy isEvery (p .args) ≡ 0 → patternRow b p ≡ rowOfFact (bind b p)
+pub plain-row : (b : Binding) (p : Atom Argument) → countBy isEvery (p .args) ≡ 0 → patternRow b p ≡ factRow (bind b p)
 unfolding patternRow
 plain-row b p h =
     ap {B = List ℕ} (λ l. p .rel ∷ l)
@@ -175,7 +175,7 @@ module _ (D : Domain) (objs : List Object) (low : (o : Object) → In o objs →
 
     -- a literal stands for a fact exactly where their rows meet
     pub about-row : (p : Atom Argument) (f : Fact) → LiteralBound D b p → FactOver D objs f
-        → elem sameFact f (factsOf objs b p) ≡ patternsMeet (patternRow b p) (rowOfFact f)
+        → elem sameFact f (factsOf objs b p) ≡ patternsMeet (patternRow b p) (factRow f)
     unfolding patternRow
     about-row p f hp hf =
         both-ways (elem sameFact f (factsOf objs b p)) (eqb (p .rel) (f .rel) && meeting (length (f .args)))
@@ -195,10 +195,10 @@ module _ (D : Domain) (objs : List Object) (low : (o : Object) → In o objs →
 
     -- of a false condition: none of its facts is among some exactly where its row meets none of theirs
     pub none-about : (p : Atom Argument) (s : List Fact) → LiteralBound D b p → ((f : Fact) → In f s → FactOver D objs f)
-        → all (λ f. not (elem sameFact f s)) (factsOf objs b p) ≡ not (any (patternsMeet (patternRow b p)) (map rowOfFact s))
+        → all (λ f. not (elem sameFact f s)) (factsOf objs b p) ≡ not (any (patternsMeet (patternRow b p)) (map factRow s))
     none-about p s hp hs =
-        both-ways (all (λ f. not (elem sameFact f s)) (factsOf objs b p)) (not (any (patternsMeet (patternRow b p)) (map rowOfFact s)))
-        (λ t. ap not (off (any (patternsMeet (patternRow b p)) (map rowOfFact s)) (λ k.
+        both-ways (all (λ f. not (elem sameFact f s)) (factsOf objs b p)) (not (any (patternsMeet (patternRow b p)) (map factRow s)))
+        (λ t. ap not (off (any (patternsMeet (patternRow b p)) (map factRow s)) (λ k.
         let r = any-in met s (sym rows ∙ k) in
         clash (fact-elem (r .1))
         (not-true _ (all-in (λ f. not (elem sameFact f s)) (factsOf objs b p) t
@@ -209,16 +209,16 @@ module _ (D : Domain) (objs : List Object) (low : (o : Object) → In o objs →
         clash (rows ∙ in-any met n (sym (about-row p f hp (hs f n)) ∙ fact-elem m)) (not-true _ t)))))
       where
         met : Fact → Bool
-        met f = patternsMeet (patternRow b p) (rowOfFact f)
+        met f = patternsMeet (patternRow b p) (factRow f)
 
-        rows : any (patternsMeet (patternRow b p)) (map rowOfFact s) ≡ any met s
-        rows = any-map rowOfFact (patternsMeet (patternRow b p)) s
+        rows : any (patternsMeet (patternRow b p)) (map factRow s) ≡ any met s
+        rows = any-map factRow (patternsMeet (patternRow b p)) s
 
     -- of deletes: a fact is one of theirs exactly where one of their rows meets its row
     pub struck-row : (ps : List (Atom Argument)) (f : Fact) → LiteralsBound D b ps → FactOver D objs f
-        → elem sameFact f (flatMap (factsOf objs b) ps) ≡ any (λ row. patternsMeet row (rowOfFact f)) (map (patternRow b) ps)
+        → elem sameFact f (flatMap (factsOf objs b) ps) ≡ any (λ row. patternsMeet row (factRow f)) (map (patternRow b) ps)
     struck-row ps f hp hf =
-        both-ways (elem sameFact f (flatMap (factsOf objs b) ps)) (any (λ row. patternsMeet row (rowOfFact f)) (map (patternRow b) ps))
+        both-ways (elem sameFact f (flatMap (factsOf objs b) ps)) (any (λ row. patternsMeet row (factRow f)) (map (patternRow b) ps))
         (λ t.
         let r = flatMap-in (factsOf objs b) ps (elem-fact f (flatMap (factsOf objs b) ps) t) in
         rows ∙ in-any met (r .1) (sym (about-row (r .0) f (hp (r .0) (r .1)) hf) ∙ fact-elem (r .2)))
@@ -228,10 +228,10 @@ module _ (D : Domain) (objs : List Object) (low : (o : Object) → In o objs →
         (elem-fact f (factsOf objs b (r .0)) (about-row (r .0) f (hp (r .0) (r .1)) hf ∙ r .2))))
       where
         met : Atom Argument → Bool
-        met p = patternsMeet (patternRow b p) (rowOfFact f)
+        met p = patternsMeet (patternRow b p) (factRow f)
 
-        rows : any (λ row. patternsMeet row (rowOfFact f)) (map (patternRow b) ps) ≡ any met ps
-        rows = any-map (patternRow b) (λ row. patternsMeet row (rowOfFact f)) ps
+        rows : any (λ row. patternsMeet row (factRow f)) (map (patternRow b) ps) ≡ any met ps
+        rows = any-map (patternRow b) (λ row. patternsMeet row (factRow f)) ps
 
   -- ---- two literals, each with its binding, over objects of which there is one
 

@@ -7,8 +7,7 @@ use lib.ListN.{length}
 use Rattle.records.proofs.Lists.{and-l, pairwise-weaken}
 use Rattle.literals.specs.Domain.{Domain, action}
 use Rattle.literals.specs.Decode.{repeats, contradicts}
-use Rattle.literals.specs.Table.{literalRow}
-use Rattle.literals.specs.Held.{Held}
+use Rattle.literals.specs.Held.{literalRow, Held}
 use Rattle.literals.proofs.Heads.{template-of, action-in}
 use Rattle.classes.specs.Held.{ActionOf}
 use Rattle.verdict.specs.Claims.{wellFormed}

@@ -243,11 +243,15 @@ NeverRisesOfFile = (f : List ℕ) (D : Domain) → decode f ≡ domain D → dec
 
 -- ---- judging
 
--- "judging answers this decision unless 30 or 31 comes in its place"
+-- "judging answers this decision unless 30 or 31 comes in its place": of an answer to the file f, whatever memory was lent
+abbrev pub DecidesFile : List ℕ → ℕ → ℕ → ℕ → ℕ → Type 0
+DecidesFile f number first second third =
+    let a : Answer = record { number = number; first = first; second = second; third = third } in
+    (a ≡ decidedFile f) ⊎ ((a ≡ answerAt 30 0) ⊎ (a ≡ answerAt 31 0))
+
 abbrev pub JudgingDecides : Type 0
 JudgingDecides =
-    (f report wit : List ℕ)
-    → (judged f report wit ≡ decidedFile f) ⊎ ((judged f report wit ≡ answerAt 30 0) ⊎ (judged f report wit ≡ answerAt 31 0))
+    (f report wit : List ℕ) → let a = judged f report wit in DecidesFile f (a .number) (a .first) (a .second) (a .third)
 
 -- the facts in a witness's bytes, k of them: "8 bytes a fact (relation, arity, arguments, FF to fill)"
 unfoldable pub readFacts : ℕ → List ℕ → List Fact

@@ -104,17 +104,17 @@ pub record Decision : Type 0 where
 abbrev pub accept : ℕ → Decision
 accept n = record { number = n; place = none }
 
-abbrev pub refuseAt : ℕ → Row → Decision
-refuseAt n r = record { number = n; place = some r }
+abbrev pub refuseRow : ℕ → Row → Decision
+refuseRow n r = record { number = n; place = some r }
 
 -- "if some moment is unbounded, the first bounded one that isn't a journey's end: 43. Else accepted: 1"
 abbrev pub decideBounded : Option Row → Decision
-decideBounded (some r) = refuseAt 43 r
+decideBounded (some r) = refuseRow 43 r
 decideBounded none = accept 1
 
 -- by the worst row: its number. "43 is still looked for only when none of these exists"; "Else accepted: .. 0 if none."
 abbrev pub decideBy : Option Row → List Row → Decision
-decideBy (some r) rs = refuseAt (faultOf r) r
+decideBy (some r) rs = refuseRow (faultOf r) r
 decideBy none rs = cond (any (λ (r : Row). isUnbounded (r .name)) rs) (decideBounded (firstRow isBoundedOutside rs)) (accept 0)
 
 unfoldable pub decideRows : List Row → Decision

@@ -13,8 +13,7 @@ use Rattle.records.specs.Lists.{In, addIf, keepIf, countBy}
 use Rattle.records.specs.Memory.{over}
 use Rattle.records.proofs.Lists.{in-keepIf, count-append, flatMap-append}
 use Rattle.records.proofs.Memory.{length-over, over-paste}
-use Rattle.literals.specs.Table.{rowsIn}
-use Rattle.literals.specs.Held.{bytesFrom, arityIn}
+use Rattle.literals.specs.Held.{rowsIn, bytesFrom, arityIn}
 use Rattle.literals.proofs.Rows.{rows-last, rows-whole, length-part, part-at}
 use Rattle.literals.proofs.Tables.{length-flat}
 use Rattle.literals.proofs.Heads.{length-bytes, bytes-more}

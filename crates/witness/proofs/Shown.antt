@@ -8,7 +8,7 @@ use lib.Dec.{eqb, leb}
 use lib.ListN.{length, getD, take, drop, replicate, length-append, length-map, length-drop}
 use lib.Seq.{take-all, length-take-le, paste}
 use borrow.Author.Tests.{le-leb, lt-leb, eq-eqb, ne-eqb}
-use Rattle.records.specs.Lists.{In, keepIf, filterBy, countBy, all}
+use Rattle.records.specs.Lists.{In, keepIf, filterBy, countBy, all, position, numbersFrom}
 use Rattle.records.specs.Memory.{over}
 use Rattle.records.proofs.Lists.{getD-in, all-of}
 use Rattle.records.proofs.Memory.{over-paste}
@@ -17,9 +17,9 @@ use Rattle.literals.specs.declared.Argument.{Argument}
 use Rattle.literals.specs.declared.Object.{Object}
 use Rattle.literals.specs.declared.Usage.the-variants.{Positive, Add, Delete}
 use Rattle.literals.specs.Domain.{object, isEvery, variablesOf, Atom, Fact, Literal, Action, Component, keepsKeys, keysOf, Domain, action}
-use Rattle.literals.specs.Table.{argumentNumber, rowOf, literalRow, rowsIn, pad, Bounded}
+use Rattle.literals.specs.Held.{argumentNumber, rowOf, literalRow, rowsIn, pad, Bounded, arityIn, componentRowIn, TemplateOf, Held}
+use Rattle.literals.specs.Held.{SpanFits}
 use Rattle.literals.specs.declared.span.Span.{Span}
-use Rattle.literals.specs.Held.{arityIn, componentRowIn, TemplateOf, Held, SpanFits}
 use Rattle.literals.proofs.Arguments.{plain-numbers}
 use Rattle.literals.proofs.Bytes.{keys-once}
 use Rattle.literals.proofs.Rows.{length-row}
@@ -33,18 +33,17 @@ use Rattle.classes.specs.declared.Name.{Name}
 use Rattle.classes.specs.declared.Name.the-variants.{Unreachable, Irrelevant, Heavy, Balanced, Unbalanced, Bounded as bounded, Unbounded}
 use Rattle.literals.specs.Matching.{required}
 use Rattle.classes.specs.Classes.{classes, inClass, reachIn, lastsIn, changedBy, covered, excluding, nameNumber, nameBy, nameOf}
-use Rattle.literals.specs.Keys.{position, numbersFrom}
-use Rattle.classes.specs.Held.{ActionOf, tupleRow, usagesBy, askedAt, uncoveredAt}
+use Rattle.classes.specs.Held.{ActionOf, tupleRow, usagesBy, askedUsages, uncoveredAt}
 use Rattle.classes.proofs.Rows.{noLiteral}
 use Rattle.classes.proofs.Usages.{length-usages, required-at}
 use Rattle.classes.proofs.Members.{classes-few}
 use Rattle.verdict.specs.Binding.{valueOf, bind, bindTuple, sameNumbers, spare}
 use Rattle.verdict.specs.Decision.{faultBy, instanceFact, firstUncovered, witnessBy, witnessAt, shownAt}
 use Rattle.verdict.specs.Judged.{objectNumbers, factBytes}
-use Rattle.verdict.specs.Held.{momentBy}
-use Rattle.witness.specs.Held.{fitsIn, shownIn, conditionFacts, RefusedAt, ShownAt, firstUsages, selectBy, isCondition, conditionOf, conditionsOf}
-use Rattle.store.specs.Rows.{factRow}
-use Rattle.store.specs.InstanceFacts.{instanceOf}
+use Rattle.verdict.specs.Held.{momentBy, factRow}
+use Rattle.witness.specs.Held.{fitsIn, shownIn, conditionFacts, RefusedAt, ShownAt, firstUsages, selectBy, isCondition, conditionOf}
+use Rattle.witness.specs.Held.{conditionsOf}
+use Rattle.store.specs.Held.{instanceBytesIn}
 use Rattle.store.proofs.InstanceRows.{objectsRow}
 use Rattle.store.proofs.InstanceFacts.{noComponent, length-instance-at, instance-is as row-of}
 use Rattle.verdict.proofs.Tuples.{Below, tuple-below}
@@ -225,10 +224,10 @@ module _ {D : Domain} {a : Action} {j : ℕ} {m : Moment} {fs : List Fact} (e : 
 
 pub record Given (D : Domain) (a : Action) (head : List ℕ) (m : Moment) (rows usages : List ℕ) (n : ℕ) : Type 0 where
   pub action : ActionOf D a head rows
-  pub usages-are : usages ≡ pad 64 (askedAt a m)
+  pub usages-are : usages ≡ pad 64 (askedUsages a m)
   pub count : n ≡ length (a .lits)
   -- the true conditions by what each literal is
-  pub selected : selectBy isCondition (askedAt a m) (map (λ (l : Literal). l .atom) (a .lits)) ≡ required a m Positive
+  pub selected : selectBy isCondition (askedUsages a m) (map (λ (l : Literal). l .atom) (a .lits)) ≡ required a m Positive
 
 module _ {D : Domain} {a : Action} {head : List ℕ} {m : Moment} {rows usages : List ℕ} {n : ℕ} (G : Given D a head m rows usages n) where
   H : TemplateOf D head
@@ -237,12 +236,13 @@ module _ {D : Domain} {a : Action} {head : List ℕ} {m : Moment} {rows usages :
   B : Bounded D
   B = H .bounded
 
-  usages-length : length (askedAt a m) ≡ n
+  usages-length : length (askedUsages a m) ≡ n
   unfolding usagesBy
   usages-length = length-usages true m [] (a .lits) ∙ sym (G .count)
 
-  usages-taken : firstUsages n usages ≡ askedAt a m
-  usages-taken = ap₂ firstUsages (sym usages-length) (G .usages-are) ∙ bytes-front (askedAt a m) (replicate (64 - length (askedAt a m)) 0)
+  usages-taken : firstUsages n usages ≡ askedUsages a m
+  usages-taken = ap₂ firstUsages (sym usages-length) (G .usages-are)
+      ∙ bytes-front (askedUsages a m) (replicate (64 - length (askedUsages a m)) 0)
 
   rows-taken : rowsIn n rows ≡ map literalRow (a .lits)
   rows-taken =
@@ -259,7 +259,7 @@ module _ {D : Domain} {a : Action} {head : List ℕ} {m : Moment} {rows usages :
   pub conditions-are : conditionsOf head (firstUsages n usages) (rowsIn n rows) ≡ factBytes (conditionFacts a m)
   conditions-are =
       ap₂ (conditionsOf head) usages-taken rows-taken
-      ∙ conditions-facts a head (askedAt a m) (a .lits) (λ l k. (H .arities (l .atom .rel) ∙ sym (B .literalArity a (G .action .listed) l k), B .below a (G .action .listed) l k))
+      ∙ conditions-facts a head (askedUsages a m) (a .lits) (λ l k. (H .arities (l .atom .rel) ∙ sym (B .literalArity a (G .action .listed) l k), B .below a (G .action .listed) l k))
       (λ p k. asked-plain a (B .clears a (G .action .listed)) m Positive refl p (rw (G .selected) at k))
       ∙ ap (λ (ps : List (Atom Argument)). factBytes (map (bind (sameNumbers a)) ps)) (G .selected)
 
@@ -270,7 +270,7 @@ module _ {D : Domain} {a : Action} {head : List ℕ} {m : Moment} {rows usages :
       let l = G .count in
       let k = length-map (a .lits) (λ (l : Literal). l .atom) in
       ap (countBy isCondition) usages-taken
-      ∙ sym (length-select isCondition (askedAt a m) (map (λ (l : Literal). l .atom) (a .lits)) (omega arith))
+      ∙ sym (length-select isCondition (askedUsages a m) (map (λ (l : Literal). l .atom) (a .lits)) (omega arith))
       ∙ ap length (G .selected)
       ∙ sym (length-map (required a m Positive) (bind (sameNumbers a)))
 
@@ -311,11 +311,11 @@ module _ {D : Domain} {a : Action} {head : List ℕ} {m : Moment} {rows usages :
       part-listed = getD-in (D .template) u noComponent g
 
       pub instance-is : (tuple : List ℕ) (s : ℕ) → tuple ≡ tupleRow (getD (classes D a) j []) → s ≡ a .vars
-          → instanceOf head u s (take 8 tuple) ≡ factBytes (instanceFact (spare a) (bindTuple (sameNumbers a) (getD (classes D a) j [])) part ∷ [])
+          → instanceBytesIn head u s (take 8 tuple) ≡ factBytes (instanceFact (spare a) (bindTuple (sameNumbers a) (getD (classes D a) j [])) part ∷ [])
       instance-is tuple s e q =
           let x : List Variable = getD (classes D a) j [] in
           let y : List Object = bindTuple (sameNumbers a) x in
-          ap (instanceOf head u s) (tuple-part tuple e ∙ tuple-objects a x class-below)
+          ap (instanceBytesIn head u s) (tuple-part tuple e ∙ tuple-objects a x class-below)
           ∙ row-of H u g y (length-map x (valueOf (sameNumbers a)) ∙ tuple-length x class-listed) s
           ∙ ap (λ (k : ℕ). factRow (instanceFact (object k) y part)) q
           ∙ row-bytes (instanceFact (spare a) y part)
@@ -366,11 +366,11 @@ module _ {D : Domain} {a : Action} {head : List ℕ} {m : Moment} {rows usages :
       pub open-shown : 8 * k + 8 ≤ length out → (tuple : List ℕ) (s u′ : ℕ)
           → tuple ≡ tupleRow (getD (classes D a) j []) → u′ ≡ uncoveredAt D a (getD (classes D a) j []) m → s ≡ a .vars
           → (out₁ out₂ : List ℕ) → out₁ ≡ over (conditionsOf head (firstUsages n usages) (rowsIn n rows)) out
-          → out₂ ≡ paste out₁ (8 * k) (instanceOf head u′ s (take 8 tuple)) 8
+          → out₂ ≡ paste out₁ (8 * k) (instanceBytesIn head u′ s (take 8 tuple)) 8
           → ShownAt D a j m out out₂ true
       open-shown room tuple s u′ c v w out₁ out₂ o₁ o₂ =
           let bytes : List ℕ = conditionsOf head (firstUsages n usages) (rowsIn n rows) in
-          let fact : List ℕ = instanceOf head u′ s (take 8 tuple) in
+          let fact : List ℕ = instanceBytesIn head u′ s (take 8 tuple) in
           let inside = open-inside in
           let is : fact ≡ factBytes (shown ∷ []) =
           instance-is j (R .listed) u′ (omega arith) tuple s c w
@@ -415,14 +415,14 @@ module _ (from : ℕ → ℕ → List ℕ) (none : (i : ℕ) → from i zero ≡
 
   -- the true conditions by index, as a `Given` wants them
   pub selected-by : (a : Action) (m : Moment) (d : Literal)
-      → required a m Positive ≡ map (λ k. getD (a .lits) k d .atom) (filterBy (λ k. isCondition (getD (askedAt a m) k 0)) (from 0 (length (a .lits))))
-      → selectBy isCondition (askedAt a m) (map (λ (l : Literal). l .atom) (a .lits)) ≡ required a m Positive
+      → required a m Positive ≡ map (λ k. getD (a .lits) k d .atom) (filterBy (λ k. isCondition (getD (askedUsages a m) k 0)) (from 0 (length (a .lits))))
+      → selectBy isCondition (askedUsages a m) (map (λ (l : Literal). l .atom) (a .lits)) ≡ required a m Positive
   unfolding usagesBy
-  selected-by a m d e = sym (e ∙ select-indexed isCondition (λ (l : Literal). l .atom) d (askedAt a m) (a .lits) (length-usages true m [] (a .lits)))
+  selected-by a m d e = sym (e ∙ select-indexed isCondition (λ (l : Literal). l .atom) d (askedUsages a m) (a .lits) (length-usages true m [] (a .lits)))
 
 -- what the code holds, by what `usages_at` ensures of what is asked
 pub given : {D : Domain} {a : Action} {head : List ℕ} (m : Moment) {rows usages : List ℕ} {n : ℕ} → ActionOf D a head rows → length rows ≡ 8 * n
-    → ((D : Domain) (a : Action) (head : List ℕ) → ActionOf D a head rows → pad 64 [] ≡ pad 64 [] → usages ≡ pad 64 (askedAt a m))
+    → ((D : Domain) (a : Action) (head : List ℕ) → ActionOf D a head rows → pad 64 [] ≡ pad 64 [] → usages ≡ pad 64 (askedUsages a m))
     → Given D a head m rows usages n
 given {D} {a} m {rows} {usages} {n} A l c =
     record {

@@ -5,9 +5,9 @@ use mathlib.Core.List.{List}
 use Prim.Native.Nat.{ℕ, _-_, _*_, _≤_}
 use native.Mathlib.Omega.{arith}
 use lib.ListN.{take, drop}
-use Rattle.literals.specs.Table.{rowsIn}
+use Rattle.literals.specs.Held.{rowsIn}
 use Rattle.literals.proofs.Rows.{any-first, any-hit, any-miss, any-end}
-use Rattle.verdict.specs.Patterns.{patternsMeet}
+use Rattle.verdict.specs.Held.{patternsMeet}
 use Rattle.effects.specs.Held.{anyMeets}
 use Rattle.effects.proofs.any_meets.Statement.{statement}
 use Rattle.effects.proofs.any_meets.Tie as tie

@@ -5,10 +5,10 @@ use Prim.Native.Nat.{ℕ, _-_, _*_}
 use native.Mathlib.Omega.{arith}
 use lib.ListN.{length, drop, length-drop}
 use borrow.Author.Needs.{needs}
-use Rattle.literals.specs.Table.{rowsIn}
-use Rattle.events.specs.Grounding.{GroundLiteral, groundIn}
+use Rattle.literals.specs.Held.{rowsIn}
+use Rattle.events.specs.Held.{GroundLiteral, groundIn}
 use Rattle.events.proofs.GroundLiterals.{length-ground}
-use Rattle.effects.specs.Held.{effectsIn, literalsIn, rowsWith}
+use Rattle.effects.specs.Held.{effectsIn, literalsIn, rowsOfUsage}
 use Rattle.effects.proofs.FilledRows.{effects-length, kept-few, kept-effects}
 use Rattle.effects.proofs.EffectRows.{two-few, told, effects-of}
 use Rattle.effects.proofs.StepFacts.{Done, after-few, holds-after}
@@ -35,7 +35,7 @@ step-effects-requires-2 c κs =
     let first = c .before .before .before .step-effects in
     let t = two-few 4 3 (λ e. omega arith) ground in
     let m = first .ensures .0 in
-    let k = ap (λ (t : List ℕ). length (rowsWith 3 (groundIn (a .total) t))) (first .ensures .1 .1) in
+    let k = ap (λ (t : List ℕ). length (rowsOfUsage 3 (groundIn (a .total) t))) (first .ensures .1 .1) in
     (first .kept .0 ∙ p .1 .1 .0, (total, omega arith))
 
 keep-rows-requires : tie.Need-keep-rows-requires

@@ -5,9 +5,9 @@ use Prim.Native.Nat.{ℕ}
 use native.Mathlib.Omega.{arith}
 use lib.ListN.{getD, take, drop}
 use borrow.Author.Needs.{needs}
-use Rattle.literals.specs.Table.{rowsIn}
+use Rattle.literals.specs.Held.{rowsIn}
 use Rattle.literals.proofs.Rows.{part-at}
-use Rattle.store.specs.Rows.{hasRow}
+use Rattle.store.specs.Held.{hasRow}
 use Rattle.effects.proofs.FilledRows.{struck-by}
 use Rattle.effects.proofs.IndexedRows.{unmarked}
 use Rattle.effects.proofs.is_struck.Statement.{statement}

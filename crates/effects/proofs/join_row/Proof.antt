@@ -5,11 +5,9 @@ use Prim.Native.Nat.{_≤_, _<_}
 use native.Mathlib.Omega.{arith}
 use lib.ListN.{length, take, drop}
 use borrow.Author.Needs.{needs}
-use Rattle.literals.specs.Table.{rowsIn}
+use Rattle.literals.specs.Held.{rowsIn}
 use Rattle.run_semantics.specs.Play.{workBytes}
-use Rattle.store.specs.Index.{Indexed}
-use Rattle.store.specs.Rows.{hasRow}
-use Rattle.effects.specs.Held.{SizedRow}
+use Rattle.store.specs.Held.{Indexed, SizedRow, hasRow}
 use Rattle.effects.proofs.FilledRows.{row-others, there-count, there-rows, full-count, full-rows, new-count, new-rows}
 use Rattle.effects.proofs.IndexedRows.{sized-as, there-indexed, new-indexed}
 use Rattle.effects.proofs.join_row.Statement.{statement}

@@ -7,7 +7,7 @@ use lib.ListN.{length, drop, length-drop}
 use lib.Seq.{length-take-le}
 use borrow.Author.Needs.{needs}
 use Rattle.records.specs.Lists.{any}
-use Rattle.literals.specs.Table.{rowsIn}
+use Rattle.literals.specs.Held.{rowsIn}
 use Rattle.events.specs.Held.{isPattern}
 use Rattle.effects.specs.Held.{effectsIn, Marked, struckOf, FirstStruck}
 use Rattle.effects.proofs.FilledRows.{effects-length, filled-length}

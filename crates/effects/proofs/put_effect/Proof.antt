@@ -2,7 +2,7 @@
 use mathlib.Core.Path.{refl, sym, _∙_}
 use native.Mathlib.Omega.{arith}
 use borrow.Author.Needs.{needs}
-use Rattle.events.specs.Grounding.{groundAt}
+use Rattle.events.specs.Held.{groundAt}
 use Rattle.effects.specs.Held.{effectsIn, literalsIn}
 use Rattle.effects.proofs.FilledRows.{effects-length, effects-put, literals-still}
 use Rattle.effects.proofs.EffectRows.{usage-in, row-in, none-count, none-rows, one-count, one-rows}

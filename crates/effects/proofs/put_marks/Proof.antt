@@ -5,7 +5,7 @@ use Prim.Native.Nat.{ℕ, _-_, _≤_}
 use native.Mathlib.Omega.{arith}
 use lib.ListN.{length, length-set}
 use borrow.Author.Needs.{needs}
-use Rattle.literals.specs.Table.{rowsIn}
+use Rattle.literals.specs.Held.{rowsIn}
 use Rattle.effects.specs.Held.{Marked}
 use Rattle.effects.proofs.IndexedRows.{marks-more}
 use Rattle.effects.proofs.put_marks.Statement.{statement}

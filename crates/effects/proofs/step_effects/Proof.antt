@@ -5,9 +5,9 @@ use Prim.Native.Nat.{ℕ, _+_, _-_, _≤_}
 use native.Mathlib.Omega.{arith}
 use lib.ListN.{length}
 use Rattle.records.specs.Memory.{over}
-use Rattle.literals.specs.Table.{rowsIn}
-use Rattle.events.specs.Grounding.{maxGround, groundAt, groundIn}
-use Rattle.effects.specs.Held.{effectsIn, literalsIn, rowsWith, flat}
+use Rattle.literals.specs.Held.{rowsIn}
+use Rattle.events.specs.Held.{maxGround, groundAt, groundIn}
+use Rattle.effects.specs.Held.{effectsIn, literalsIn, rowsOfUsage, flat}
 use Rattle.effects.proofs.FilledRows.{effects-length, literals-length, filled-rows}
 use Rattle.effects.proofs.EffectRows.{effects-begin, effects-room, effects-more, filled-count, Selecting}
 use Rattle.effects.proofs.step_effects.Statement.{statement}
@@ -42,7 +42,7 @@ put-effect-requires c κs =
       v .sized ∙ p .0,
       (
         omega arith,
-        subst (λ (t : List ℕ). l .n + length (rowsWith (a .usage) (groundAt t (l .i) ∷ [])) ≤ maxGround) (sym
+        subst (λ (t : List ℕ). l .n + length (rowsOfUsage (a .usage) (groundAt t (l .i) ∷ [])) ≤ maxGround) (sym
             (v .literals)) room,
       ),
     )
@@ -64,9 +64,9 @@ loop-again c =
     let out = effectsIn (l .scratch) in
     let whole = literals-length scratch (p .0) in
     let r = c .before .before .put-effect .ensures in
-    let count = r .0 ∙ ap (λ (t : List ℕ). l .n + length (rowsWith (a .usage) (groundAt t (l .i) ∷ []))) (v .literals) in
+    let count = r .0 ∙ ap (λ (t : List ℕ). l .n + length (rowsOfUsage (a .usage) (groundAt t (l .i) ∷ []))) (v .literals) in
     let rows = r .1 .0
-    ∙ ap (λ (t : List ℕ). over (flat (rowsIn (l .n) out ++ rowsWith (a .usage) (groundAt t (l .i) ∷ []))) out) (v .literals) in
+    ∙ ap (λ (t : List ℕ). over (flat (rowsIn (l .n) out ++ rowsOfUsage (a .usage) (groundAt t (l .i) ∷ []))) out) (v .literals) in
     let room = effects-room (a .usage) lits whole [] (a .at) (a .total) (l .i) (l .n) (omega arith) (p .1 .1) (v .count) in
     let size = effects-length scratch (p .0) in
     let F = effects-more (a .usage) lits whole (rowsIn (a .at) (effectsIn scratch)) (l .i) (l .n) (omega arith) (omega arith)
@@ -90,9 +90,10 @@ returns c =
     let reach = v .reach in
     let lits = literalsIn (a .scratch .now) in
     let e : l .i ≡ a .total = omega arith in (
-      v .count ∙ ap (λ (i : ℕ). a .at + length (rowsWith (a .usage) (groundIn i lits))) e,
+      v .count ∙ ap (λ (i : ℕ). a .at + length (rowsOfUsage (a .usage) (groundIn i lits))) e,
       (
-        filled-rows (v .filled) ∙ ap (λ (i : ℕ). rowsIn (a .at) (effectsIn (a .scratch .now)) ++ rowsWith (a .usage) (groundIn i lits)) e,
+        filled-rows (v .filled)
+            ∙ ap (λ (i : ℕ). rowsIn (a .at) (effectsIn (a .scratch .now)) ++ rowsOfUsage (a .usage) (groundIn i lits)) e,
         v .literals,
       ),
     )

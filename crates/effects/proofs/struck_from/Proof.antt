@@ -6,7 +6,7 @@ use native.Mathlib.Omega.{arith}
 use lib.ListN.{take, drop}
 use borrow.Author.Needs.{needs}
 use Rattle.records.proofs.Lists.{not-true}
-use Rattle.literals.specs.Table.{rowsIn}
+use Rattle.literals.specs.Held.{rowsIn}
 use Rattle.literals.proofs.KeyRows.{length-rows}
 use Rattle.effects.specs.Held.{isStruck}
 use Rattle.effects.proofs.KeptRuns.{others-more, all-gone}

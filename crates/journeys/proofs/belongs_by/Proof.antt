@@ -8,7 +8,7 @@ use lib.ListN.{take, drop}
 use native.Mathlib.Omega.{arith}
 use Rattle.records.specs.Lists.{addIf, any, sameList}
 use Rattle.literals.specs.Held.{keysIn, componentRowsIn}
-use Rattle.store.specs.Rows.{instanceRows}
+use Rattle.store.specs.Held.{instanceRows}
 use Rattle.events.specs.Held.{boundRow}
 use Rattle.journeys.proofs.Belonging.{mark-none, mark-inside, belongs-is, belongs-none, rows-length}
 use Rattle.journeys.proofs.belongs_by.Statement.{statement}

@@ -9,14 +9,14 @@ use lib.ListN.{length, getD, drop}
 use Rattle.records.specs.Lists.{countBy}
 use Rattle.literals.specs.declared.Object.{Object}
 use Rattle.literals.specs.Domain.{keysOf, Domain, action}
-use Rattle.literals.specs.Table.{rowOf}
+use Rattle.literals.specs.Held.{rowOf}
 use Rattle.classes.specs.Classes.{classes}
 use Rattle.classes.specs.Held.{ActionOf}
 use Rattle.verdict.specs.Judged.{objectNumbers}
 use Rattle.verdict.specs.Machine.{GroundAction}
 use Rattle.verdict.specs.Claims.{journeysFor}
 use Rattle.events.specs.Held.{groundRow, GroundFits}
-use Rattle.journeys.specs.Marked.{journeyMark}
+use Rattle.journeys.specs.Held.{journeyMark}
 use Rattle.journeys.proofs.Belonging.{journeyFor, journeys-are, one-more, none-more}
 use Rattle.journeys.proofs.count_marked.Statement.{statement}
 use Rattle.journeys.proofs.count_marked.Tie as tie

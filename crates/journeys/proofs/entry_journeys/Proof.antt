@@ -7,8 +7,7 @@ use native.Mathlib.Omega.{arith}
 use lib.ListN.{length, getD}
 use Rattle.records.proofs.Lists.{not-true, not-false}
 use Rattle.literals.specs.Domain.{action}
-use Rattle.literals.specs.Table.{literalRow}
-use Rattle.literals.specs.Held.{lastingIn}
+use Rattle.literals.specs.Held.{literalRow, lastingIn}
 use Rattle.literals.proofs.Spans.{part-length}
 use Rattle.verdict.proofs.ReadActions.{action-held}
 use Rattle.events.proofs.FactRows.{ground-listed}

@@ -5,7 +5,7 @@ use mathlib.Core.List.{List, _++_}
 use Prim.Native.Nat.{ℕ}
 use lib.ListN.{length, replicate}
 use Rattle.records.specs.Memory.{over}
-use Rattle.literals.specs.Table.{rowOf}
+use Rattle.literals.specs.Held.{rowOf}
 use Rattle.records.proofs.Memory.{paste-front, drop-replicate}
 use Rattle.journeys.proofs.instance_row.Statement.{statement}
 use Rattle.journeys.proofs.instance_row.Tie as tie

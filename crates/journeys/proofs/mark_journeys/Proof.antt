@@ -9,7 +9,7 @@ use lib.ListN.{length}
 use Rattle.literals.specs.declared.Moment.the-variants.{End}
 use Rattle.literals.specs.Domain.{Domain, Action}
 use Rattle.literals.specs.Decode.{maxLiterals}
-use Rattle.literals.specs.Table.{pad}
+use Rattle.literals.specs.Held.{pad}
 use Rattle.classes.specs.Classes.{classes}
 use Rattle.classes.specs.Held.{ActionOf, classNumbers, soleOf}
 use Rattle.classes.proofs.Soles.{start-soles, end-soles}
@@ -26,11 +26,11 @@ Inv-loop rows numbers count marks₀ soles usages class₀ marks class =
 abbrev μ-loop : tie.MeasureT-loop
 μ-loop rows numbers count marks₀ soles usages class₀ marks class = count - class
 
-slice-aggregate-tally : tie.Need-slice-aggregate-tally Inv-loop μ-loop
-slice-aggregate-tally c = search needs
+slice-aggregate-note-soles : tie.Need-slice-aggregate-note-soles Inv-loop μ-loop
+slice-aggregate-note-soles c = search needs
 
-tally-requires : tie.Need-tally-requires Inv-loop μ-loop
-tally-requires c κs = search needs
+note-soles-requires : tie.Need-note-soles-requires Inv-loop μ-loop
+note-soles-requires c κs = search needs
 
 usages-at-requires : tie.Need-usages-at-requires Inv-loop μ-loop
 usages-at-requires c κs = search needs
@@ -54,7 +54,8 @@ mark-of-requires c κs =
       record { rowed = omega arith; few = p .1 .0 },
       (
         h,
-        start-soles (x .rows .now) (x .numbers .now) _ _ (c .before .before .before .before .before .before .before .tally .ensures refl)
+        start-soles (x .rows .now) (x .numbers .now) _ _
+            (c .before .before .before .before .before .before .before .note-soles .ensures refl)
             (c .before .before .before .before .usages-at .ensures .0 refl) (l .class) h,
       ),
     )
@@ -90,7 +91,7 @@ loop-again c =
       λ D a head A lasting o m z.
           let used = usages-held false End (x .rows .now) _ (A .says .bounded) (A .listed) (A .apart) (A .literals) (p .0) in
           let ends = end-soles (x .rows .now) (x .numbers .now) _ _ (c .before .before .before .before .before .before .before .before
-          .tally .ensures refl) refl k h
+          .note-soles .ensures refl) refl k h
           ∙ ap₂ (λ (o d : List ℕ). soleOf o d k) o (ap (pad 64) used) in
           marked-more D a (l .marks) k _ (l .inv .2 D a head A lasting o m z) h
           (c .mark-of .ensures D a head
@@ -114,8 +115,8 @@ mark-journeys-spec =
     (tie.spec
     Inv-loop
     μ-loop
-    slice-aggregate-tally
-    tally-requires
+    slice-aggregate-note-soles
+    note-soles-requires
     usages-at-requires
     loop-holds
     mark-of-requires

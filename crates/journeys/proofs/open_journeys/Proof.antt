@@ -10,8 +10,7 @@ use lib.ListN.{length, getD, drop}
 use Rattle.literals.specs.declared.Object.{Object}
 use Rattle.literals.specs.Domain.{keysOf, Domain}
 use Rattle.literals.specs.Decode.{maxLiterals}
-use Rattle.literals.specs.Table.{rowOf}
-use Rattle.literals.specs.Held.{Held}
+use Rattle.literals.specs.Held.{rowOf, Held}
 use Rattle.verdict.specs.Judged.{objectNumbers}
 use Rattle.verdict.specs.Machine.{GroundAction}
 use Rattle.verdict.specs.Claims.{wellFormed, journeysFor}

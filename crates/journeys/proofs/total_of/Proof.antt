@@ -4,11 +4,10 @@ use mathlib.Core.Path.{sym, ap, ap₂, _∙_}
 use native.Mathlib.Omega.{arith}
 use lib.ListN.{length-map}
 use Rattle.literals.specs.Domain.{object}
-use Rattle.literals.specs.Table.{rowOf}
-use Rattle.literals.specs.Held.{keysIn, componentRowsIn}
+use Rattle.literals.specs.Held.{rowOf, keysIn, componentRowsIn}
 use Rattle.literals.proofs.Heads.{template-of}
 use Rattle.run_semantics.specs.Track.{instanceOf}
-use Rattle.store.specs.Rows.{rowWeight}
+use Rattle.store.specs.Held.{rowWeight}
 use Rattle.store.proofs.InstanceRows.{weight-is}
 use Rattle.events.proofs.FactRows.{open-count}
 use Rattle.journeys.proofs.Belonging.{no-total, weight-few, numbers-back, total-is}

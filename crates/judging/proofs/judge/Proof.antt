@@ -6,11 +6,11 @@ use borrow.Author.Needs.{needs}
 use Rattle.literals.specs.Decode.{decode}
 use Rattle.verdict.specs.declared.Judgement.{Judgement}
 use Rattle.verdict.specs.Judged.{judged, reportAfter, witnessAfter}
-use Rattle.verdict.specs.Claims.{AcceptedSafe, RefusedHarmful, WitnessHarms}
+use Rattle.verdict.specs.Claims.{DecidesFile, AcceptedSafe, RefusedHarmful, WitnessHarms}
 use Rattle.verdict.specs.Held.{judgementOf}
 use Rattle.verdict.proofs.Answers.{judging-decides}
 use Rattle.verdict.proofs.Judges.{judged-safe, judged-exact, judged-shown}
-use Rattle.judging.specs.Held.{JudgedAs, DecidesFile}
+use Rattle.judging.specs.Held.{JudgedAs}
 use Rattle.judging.proofs.FileCalls.{answer-is, report-is, witness-is}
 use Rattle.judging.proofs.judge.Statement.{statement}
 use Rattle.judging.proofs.judge.Tie as tie

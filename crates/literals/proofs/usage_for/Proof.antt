@@ -7,7 +7,7 @@ use borrow.Author.Needs.{needs}
 use Rattle.literals.specs.declared.Time.{Time}
 use Rattle.literals.specs.declared.Role.{Role}
 use Rattle.literals.specs.Domain.{roleOf, usageNumber, sameTime}
-use Rattle.literals.specs.Keys.{usageAmong, usageFor}
+use Rattle.literals.specs.Held.{usageAmong, usageFor}
 use Rattle.literals.proofs.usage_for.Statement.{statement}
 use Rattle.literals.proofs.usage_for.Tie as tie
 

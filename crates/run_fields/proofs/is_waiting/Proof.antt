@@ -4,8 +4,7 @@ use Prim.Native.Nat.{_-_, _≤_}
 use native.Mathlib.Omega.{arith}
 use borrow.Author.Needs.{needs}
 use lib.ListN.{length}
-use Rattle.records.specs.Lists.{any}
-use Rattle.literals.specs.Keys.{below}
+use Rattle.records.specs.Lists.{any, below}
 use Rattle.literals.proofs.Indices.{left, left-all, any-hit, any-miss, any-end}
 use Rattle.run_fields.specs.Held.{waitsAt}
 use Rattle.run_fields.proofs.is_waiting.Statement.{statement}

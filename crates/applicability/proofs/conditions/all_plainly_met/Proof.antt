@@ -7,11 +7,11 @@ use native.Mathlib.Omega.{arith}
 use lib.ListN.{drop}
 use Rattle.records.specs.Lists.{all}
 use Rattle.records.proofs.Lists.{all-hit, all-miss, all-end}
-use Rattle.literals.specs.Table.{rowsIn}
-use Rattle.store.specs.Index.{Indexed}
-use Rattle.events.specs.Grounding.{groundIn, EachSized}
+use Rattle.literals.specs.Held.{rowsIn}
+use Rattle.store.specs.Held.{Indexed}
+use Rattle.events.specs.Held.{groundIn, EachSized}
 use Rattle.events.proofs.GroundLiterals.{noLiteral, length-ground, ground-in, ground-test}
-use Rattle.applicability.specs.Conditions.{plainlyMet}
+use Rattle.applicability.specs.Held.{plainlyMet}
 use Rattle.applicability.proofs.conditions.all_plainly_met.Statement.{statement}
 use Rattle.applicability.proofs.conditions.all_plainly_met.Tie as tie
 

@@ -5,9 +5,9 @@ use native.Mathlib.Omega.{arith}
 use lib.ListN.{drop}
 use Rattle.records.specs.Lists.{any}
 use Rattle.records.proofs.Lists.{any-hit, any-miss, any-end}
-use Rattle.events.specs.Grounding.{groundIn}
+use Rattle.events.specs.Held.{groundIn}
 use Rattle.events.proofs.GroundLiterals.{noLiteral, length-ground, ground-test}
-use Rattle.applicability.specs.Conditions.{asksPattern}
+use Rattle.applicability.specs.Held.{asksPattern}
 use Rattle.applicability.proofs.conditions.any_asks_pattern.Statement.{statement}
 use Rattle.applicability.proofs.conditions.any_asks_pattern.Tie as tie
 

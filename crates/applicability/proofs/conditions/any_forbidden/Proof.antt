@@ -6,10 +6,10 @@ use Prim.Native.Nat.{ℕ, _-_, _*_, _≤_}
 use native.Mathlib.Omega.{arith}
 use lib.ListN.{drop}
 use Rattle.records.specs.Lists.{any}
-use Rattle.literals.specs.Table.{rowsIn}
+use Rattle.literals.specs.Held.{rowsIn}
 use Rattle.literals.proofs.Rows.{any-first, any-hit, any-miss, any-end}
-use Rattle.events.specs.Grounding.{groundIn}
-use Rattle.applicability.specs.Conditions.{forbids}
+use Rattle.events.specs.Held.{groundIn}
+use Rattle.applicability.specs.Held.{forbids}
 use Rattle.applicability.proofs.conditions.any_forbidden.Statement.{statement}
 use Rattle.applicability.proofs.conditions.any_forbidden.Tie as tie
 

@@ -1,6 +1,6 @@
 -- `asks_pattern` meets its contract. Assumes nothing.
 use borrow.Author.Needs.{needs}
-use Rattle.events.specs.Grounding.{groundAt}
+use Rattle.events.specs.Held.{groundAt}
 use Rattle.applicability.proofs.Forbidden.{asks-none, asks-row}
 use Rattle.applicability.proofs.conditions.asks_pattern.Statement.{statement}
 use Rattle.applicability.proofs.conditions.asks_pattern.Tie as tie

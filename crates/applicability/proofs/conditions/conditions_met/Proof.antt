@@ -3,8 +3,8 @@
 use mathlib.Core.Path.{sym, _∙_}
 use borrow.Author.Needs.{needs}
 use borrow.Author.Tests.{not-true, not-false}
-use Rattle.literals.specs.Table.{rowsIn}
-use Rattle.events.specs.Grounding.{groundIn}
+use Rattle.literals.specs.Held.{rowsIn}
+use Rattle.events.specs.Held.{groundIn}
 use Rattle.applicability.proofs.Forbidden.{fails-plainly, plainly-clear, walked}
 use Rattle.applicability.proofs.conditions.conditions_met.Statement.{statement}
 use Rattle.applicability.proofs.conditions.conditions_met.Tie as tie

@@ -6,12 +6,12 @@ use native.Mathlib.Omega.{arith}
 use borrow.Author.Needs.{needs}
 use Rattle.records.specs.Lists.{all}
 use Rattle.literals.specs.declared.Time.the-variants.{OverAll}
-use Rattle.literals.specs.Table.{rowsIn}
-use Rattle.store.specs.Index.{Indexed}
-use Rattle.events.specs.Grounding.{GroundLiteral, groundLiterals, EachSized}
+use Rattle.literals.specs.Held.{rowsIn}
+use Rattle.store.specs.Held.{Indexed}
+use Rattle.events.specs.Held.{GroundLiteral, groundLiterals, EachSized}
 use Rattle.events.proofs.GroundRows.{part-ground}
 use Rattle.events.proofs.GroundLiterals.{ground-sized, ground-of, formed-of}
-use Rattle.applicability.specs.Conditions.{conditionMet, MeetSame}
+use Rattle.applicability.specs.Held.{conditionMet, MeetSame}
 use Rattle.applicability.proofs.Forbidden.{rows-same}
 use Rattle.applicability.proofs.Asked.{entry-asks}
 use Rattle.applicability.proofs.conditions.entry_met.Statement.{statement}

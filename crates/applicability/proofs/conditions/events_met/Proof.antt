@@ -1,9 +1,9 @@
 -- `events_met` meets its contract: the conditions of a step are those of its events. Assumes nothing.
 use mathlib.Core.Path.{sym, subst, _∙_}
 use borrow.Author.Needs.{needs}
-use Rattle.literals.specs.Table.{rowsIn}
-use Rattle.store.specs.Index.{Indexed}
-use Rattle.events.specs.Grounding.{groundIn}
+use Rattle.literals.specs.Held.{rowsIn}
+use Rattle.store.specs.Held.{Indexed}
+use Rattle.events.specs.Held.{groundIn}
 use Rattle.events.proofs.GroundLiterals.{step-sized, step-formed}
 use Rattle.applicability.proofs.Forbidden.{rows-same}
 use Rattle.applicability.proofs.Asked.{step-asks}

@@ -1,7 +1,7 @@
 -- `forbids` meets its contract. Assumes nothing.
 use lib.ListN.{take, drop}
 use borrow.Author.Needs.{needs}
-use Rattle.events.specs.Grounding.{groundAt}
+use Rattle.events.specs.Held.{groundAt}
 use Rattle.applicability.proofs.Forbidden.{forbids-none, forbids-row}
 use Rattle.applicability.proofs.conditions.forbids.Statement.{statement}
 use Rattle.applicability.proofs.conditions.forbids.Tie as tie

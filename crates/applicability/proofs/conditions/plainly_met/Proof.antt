@@ -1,7 +1,7 @@
 -- `plainly_met` meets its contract, usage by usage. Assumes nothing.
 use borrow.Author.Needs.{needs}
-use Rattle.literals.specs.Table.{rowsIn}
-use Rattle.events.specs.Grounding.{groundAt}
+use Rattle.literals.specs.Held.{rowsIn}
+use Rattle.events.specs.Held.{groundAt}
 use Rattle.applicability.proofs.Asked.{met-true, met-false, met-none, read-sized}
 use Rattle.applicability.proofs.conditions.plainly_met.Statement.{statement}
 use Rattle.applicability.proofs.conditions.plainly_met.Tie as tie

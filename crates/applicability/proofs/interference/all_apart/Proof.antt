@@ -8,8 +8,8 @@ use lib.ListN.{length, take, drop}
 use borrow.Author.Needs.{needs}
 use Rattle.records.specs.Lists.{pairwise}
 use Rattle.records.proofs.Lists.{pairwise-hit, pairwise-miss, pairwise-end}
-use Rattle.events.specs.Grounding.{GroundLiteral, inOne, Laid}
-use Rattle.applicability.specs.Interference.{literalsClash, AllTold}
+use Rattle.events.specs.Held.{GroundLiteral, inOne, Laid}
+use Rattle.applicability.specs.Held.{literalsClash, AllTold}
 use Rattle.applicability.proofs.Clashes.{before-first, laid-end, laid-within, laid-clash}
 use Rattle.applicability.proofs.interference.all_apart.Statement.{statement}
 use Rattle.applicability.proofs.interference.all_apart.Tie as tie

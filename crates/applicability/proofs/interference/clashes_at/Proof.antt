@@ -1,7 +1,7 @@
 -- `clashes_at` meets its contract. Assumes nothing.
 use borrow.Author.Needs.{needs}
 use borrow.Author.Tests.{not-true, not-false}
-use Rattle.events.specs.Grounding.{groundAt}
+use Rattle.events.specs.Held.{groundAt}
 use Rattle.applicability.proofs.Clashes.{clash-meet, clash-apart}
 use Rattle.applicability.proofs.interference.clashes_at.Statement.{statement}
 use Rattle.applicability.proofs.interference.clashes_at.Tie as tie

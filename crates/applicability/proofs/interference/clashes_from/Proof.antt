@@ -5,9 +5,9 @@ use native.Mathlib.Omega.{arith}
 use lib.ListN.{drop}
 use Rattle.records.specs.Lists.{any}
 use Rattle.records.proofs.Lists.{any-hit, any-miss, any-end}
-use Rattle.events.specs.Grounding.{groundAt, groundIn}
+use Rattle.events.specs.Held.{groundAt, groundIn}
 use Rattle.events.proofs.GroundLiterals.{noLiteral, length-ground, ground-test}
-use Rattle.applicability.specs.Interference.{clashes, AllTold}
+use Rattle.applicability.specs.Held.{clashes, AllTold}
 use Rattle.applicability.proofs.interference.clashes_from.Statement.{statement}
 use Rattle.applicability.proofs.interference.clashes_from.Tie as tie
 

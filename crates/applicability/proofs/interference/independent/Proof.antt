@@ -4,7 +4,7 @@ use mathlib.Core.List.{map}
 use native.Mathlib.Omega.{arith}
 use lib.ListN.{length-map}
 use borrow.Author.Needs.{needs}
-use Rattle.events.specs.Grounding.{eventLiterals}
+use Rattle.events.specs.Held.{eventLiterals}
 use Rattle.applicability.proofs.Words.{all-told}
 use Rattle.applicability.proofs.Interferes.{few-independent, apart-independent}
 use Rattle.applicability.proofs.interference.independent.Statement.{statement}

@@ -6,9 +6,9 @@ use native.Mathlib.Omega.{arith}
 use lib.ListN.{drop}
 use Rattle.records.specs.Lists.{any}
 use Rattle.records.proofs.Lists.{any-hit, any-miss, any-end}
-use Rattle.events.specs.Grounding.{GroundLiteral, groundIn}
+use Rattle.events.specs.Held.{GroundLiteral, groundIn}
 use Rattle.events.proofs.GroundLiterals.{noLiteral, length-ground, ground-test}
-use Rattle.applicability.specs.Interference.{clashes, literalsClash, AllTold}
+use Rattle.applicability.specs.Held.{clashes, literalsClash, AllTold}
 use Rattle.applicability.proofs.interference.literals_clash.Statement.{statement}
 use Rattle.applicability.proofs.interference.literals_clash.Tie as tie
 

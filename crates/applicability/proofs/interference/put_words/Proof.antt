@@ -4,7 +4,7 @@ use Prim.Native.Nat.{_-_, _≤_}
 use native.Mathlib.Omega.{arith}
 use borrow.Author.Needs.{needs}
 use lib.ListN.{length, length-set}
-use Rattle.applicability.specs.Interference.{WordsOf}
+use Rattle.applicability.specs.Held.{WordsOf}
 use Rattle.applicability.proofs.Clashes.{words-more}
 use Rattle.applicability.proofs.interference.put_words.Statement.{statement}
 use Rattle.applicability.proofs.interference.put_words.Tie as tie

@@ -3,11 +3,10 @@ use mathlib.Core.Path.{_≡_, sym, ap, _∙_}
 use Prim.Native.Nat.{ℕ, _-_, _≤_}
 use native.Mathlib.Omega.{arith}
 use borrow.Author.Needs.{needs}
-use Rattle.records.specs.Lists.{any}
+use Rattle.records.specs.Lists.{any, below}
 use Rattle.literals.specs.declared.Label.{Label}
 use Rattle.literals.specs.Domain.{isCounted}
 use Rattle.literals.specs.Decode.{labelOf}
-use Rattle.literals.specs.Keys.{below}
 use Rattle.literals.proofs.Indices.{left, left-all, any-hit, any-miss, any-end}
 use Rattle.classes.specs.Held.{countedAt}
 use Rattle.classes.proofs.names.any_counted.Statement.{statement}

@@ -4,8 +4,7 @@ use borrow.Author.Needs.{needs}
 use mathlib.Core.Path.{_≡_, sym, ap, _∙_}
 use Prim.Native.Nat.{_-_}
 use lib.ListN.{length}
-use Rattle.records.specs.Lists.{any}
-use Rattle.literals.specs.Keys.{below}
+use Rattle.records.specs.Lists.{any, below}
 use Rattle.classes.specs.Held.{lastsAt}
 use Rattle.literals.proofs.Indices.{left, left-all, any-hit, any-miss, any-end}
 use Rattle.classes.proofs.names.any_lasting.Statement.{statement}

@@ -5,8 +5,7 @@ use native.Mathlib.Omega.{arith}
 use borrow.Author.Needs.{needs}
 use borrow.Author.Tests.{not-true, not-false}
 use lib.ListN.{getD}
-use Rattle.records.specs.Lists.{all}
-use Rattle.literals.specs.Keys.{below}
+use Rattle.records.specs.Lists.{all, below}
 use Rattle.literals.proofs.Indices.{left, left-all, all-hit, all-miss, all-end}
 use Rattle.classes.specs.Held.{clearedBeside, clearedAt}
 use Rattle.classes.proofs.names.clears.Statement.{statement}

@@ -5,9 +5,8 @@ use mathlib.Core.List.{List}
 use Prim.Native.Nat.{ℕ}
 use borrow.Author.Needs.{needs}
 use lib.ListN.{getD}
-use Rattle.records.specs.Lists.{all}
+use Rattle.records.specs.Lists.{all, below}
 use Rattle.literals.specs.Held.{arityIn, componentRowIn}
-use Rattle.literals.specs.Keys.{below}
 use Rattle.classes.specs.Held.{excludesAt, clearedAt, clearsAt, coversAt}
 use Rattle.classes.proofs.names.covers_by.Statement.{statement}
 use Rattle.classes.proofs.names.covers_by.Tie as tie

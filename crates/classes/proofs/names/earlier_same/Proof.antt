@@ -2,8 +2,7 @@
 use native.Mathlib.Omega.{arith}
 use mathlib.Core.Path.{_≡_, sym, ap, _∙_}
 use Prim.Native.Nat.{_-_}
-use Rattle.records.specs.Lists.{any}
-use Rattle.literals.specs.Keys.{below}
+use Rattle.records.specs.Lists.{any, below}
 use Rattle.classes.specs.Held.{saysAt}
 use Rattle.literals.proofs.Indices.{left, left-all, any-hit, any-miss, any-end}
 use Rattle.classes.proofs.names.earlier_same.Statement.{statement}

@@ -6,10 +6,10 @@ use mathlib.Core.Bool.{Bool, not}
 use mathlib.Core.List.{List}
 use Prim.Native.Nat.{ℕ, _+_, _-_, _≤_, _<_}
 use lib.ListN.{length}
+use Rattle.records.specs.Lists.{position, below}
 use Rattle.literals.specs.declared.Moment.{Moment}
 use Rattle.literals.specs.Domain.{Action, Domain}
 use Rattle.literals.specs.Held.{componentsIn}
-use Rattle.literals.specs.Keys.{position, below}
 use Rattle.classes.specs.Classes.{classes}
 use Rattle.classes.specs.Held.{MomentOf, coveredAt, lackingAt}
 use Rattle.literals.proofs.Indices.{left, left-all, position-hit, position-miss, position-end}

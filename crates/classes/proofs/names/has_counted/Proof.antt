@@ -1,8 +1,7 @@
 -- `has_counted` meets its contract. Assumes nothing.
 use mathlib.Core.Path.{ap, _∙_}
 use Prim.Native.Nat.{ℕ}
-use Rattle.records.specs.Lists.{any}
-use Rattle.literals.specs.Keys.{below}
+use Rattle.records.specs.Lists.{any, below}
 use Rattle.literals.specs.Held.{arityIn}
 use Rattle.classes.specs.Held.{countedAt, hasCounted}
 use borrow.Author.Needs.{needs}

@@ -5,9 +5,8 @@ use mathlib.Core.List.{List}
 use Prim.Native.Nat.{ℕ, _*_}
 use lib.ListN.{getD}
 use borrow.Author.Tests.{not-true, not-false}
-use Rattle.records.specs.Lists.{any}
+use Rattle.records.specs.Lists.{any, below}
 use Rattle.literals.specs.declared.Moment.{Moment}
-use Rattle.literals.specs.Keys.{below}
 use Rattle.classes.specs.Held.{usageByte, mayMeet, saysAt, usageIn}
 use borrow.Author.Needs.{needs}
 use Rattle.classes.proofs.names.usage_once.Statement.{statement}

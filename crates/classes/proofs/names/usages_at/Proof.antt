@@ -4,8 +4,8 @@ use mathlib.Core.Path.{_≡_, refl, ap, _∙_}
 use mathlib.Core.List.{[], map}
 use Prim.Native.Nat.{ℕ, _-_, _≤_}
 use lib.ListN.{length, length-set}
-use Rattle.literals.specs.Table.{pad}
-use Rattle.literals.specs.Keys.{below}
+use Rattle.records.specs.Lists.{below}
+use Rattle.literals.specs.Held.{pad}
 use Rattle.classes.specs.Held.{usageIn}
 use Rattle.classes.proofs.Usages.{usages-more, usages-held}
 use Rattle.classes.proofs.names.usages_at.Statement.{statement}

@@ -5,7 +5,7 @@ use native.Mathlib.Omega.{arith}
 use lib.Dec.{eqb}
 use lib.ListN.{take, drop}
 use borrow.Author.Tests.{eq-eqb, ne-eqb}
-use Rattle.literals.specs.Keys.{position}
+use Rattle.records.specs.Lists.{position}
 use Rattle.classes.proofs.NewClasses.{first-hit, first-miss, first-end}
 use Rattle.classes.proofs.number.class_of.Statement.{statement}
 use Rattle.classes.proofs.number.class_of.Tie as tie

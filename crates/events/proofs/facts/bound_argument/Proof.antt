@@ -3,7 +3,7 @@ use borrow.Author.Needs.{needs}
 use mathlib.Core.Path.{sym, ap, _∙_}
 use native.Mathlib.Omega.{arith}
 use Rattle.literals.specs.declared.Argument.{Argument}
-use Rattle.literals.specs.Table.{argumentNumber}
+use Rattle.literals.specs.Held.{argumentNumber}
 use Rattle.events.specs.Held.{boundArgument}
 use Rattle.events.proofs.RowLoops.{argument-stays}
 use Rattle.events.proofs.facts.bound_argument.Statement.{statement}

@@ -5,7 +5,7 @@ use Prim.Native.Nat.{_+_}
 use lib.ListN.{getD}
 use native.Mathlib.Omega.{arith}
 use Rattle.literals.specs.declared.Argument.{Argument}
-use Rattle.literals.specs.Table.{argumentNumber}
+use Rattle.literals.specs.Held.{argumentNumber}
 use Rattle.literals.proofs.Arguments.{argument-back}
 use Rattle.events.specs.Held.{boundArgument}
 use Rattle.events.proofs.RowLoops.{bound-first, bound-object, bound-fill}

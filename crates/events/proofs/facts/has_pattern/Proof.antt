@@ -4,7 +4,7 @@ use Prim.Native.Nat.{_-_, _*_, _≤_}
 use native.Mathlib.Omega.{arith}
 use lib.ListN.{drop}
 use Rattle.records.specs.Lists.{any}
-use Rattle.literals.specs.Table.{rowsIn}
+use Rattle.literals.specs.Held.{rowsIn}
 use Rattle.literals.proofs.Rows.{any-first, any-hit, any-miss, any-end}
 use Rattle.events.specs.Held.{isPattern}
 use Rattle.events.proofs.facts.has_pattern.Statement.{statement}

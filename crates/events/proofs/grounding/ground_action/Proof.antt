@@ -7,7 +7,7 @@ use lib.ListN.{length, getD, take, drop}
 use borrow.Author.Needs.{needs}
 use Rattle.literals.specs.Held.{SpanOf}
 use Rattle.literals.proofs.Spans.{part-length}
-use Rattle.events.specs.Grounding.{groundIn}
+use Rattle.events.specs.Held.{groundIn}
 use Rattle.events.proofs.FactRows.{ground-listed}
 use Rattle.events.proofs.GroundLiterals.{rows-few, held-ground}
 use Rattle.events.proofs.grounding.ground_action.Statement.{statement}
@@ -45,20 +45,20 @@ mul-from c = let g = c .before .rows-of .ensures .0 .room in let o = c .before .
 mul-to : tie.Need-mul-to
 mul-to c = let g = c .before .before .rows-of .ensures .0 .room in search needs
 
-sub-ground-rows : tie.Need-sub-ground-rows
-sub-ground-rows c = let g = c .before .before .before .rows-of .ensures .0 .order in omega arith
+sub-ground-literals : tie.Need-sub-ground-literals
+sub-ground-literals c = let g = c .before .before .before .rows-of .ensures .0 .order in omega arith
 
-part-ground-rows-start : tie.Need-part-ground-rows-start
-part-ground-rows-start c = let g = c .before .before .before .rows-of .ensures .0 .order in omega arith
+part-ground-literals-start : tie.Need-part-ground-literals-start
+part-ground-literals-start c = let g = c .before .before .before .rows-of .ensures .0 .order in omega arith
 
-part-ground-rows-end : tie.Need-part-ground-rows-end
-part-ground-rows-end c = let g = c .before .before .before .rows-of .ensures .0 .room in omega arith
+part-ground-literals-end : tie.Need-part-ground-literals-end
+part-ground-literals-end c = let g = c .before .before .before .rows-of .ensures .0 .room in omega arith
 
-sub-ground-rows-2 : tie.Need-sub-ground-rows-2
-sub-ground-rows-2 c = let g = c .before .before .before .before .before .rows-of .ensures .0 .order in omega arith
+sub-ground-literals-2 : tie.Need-sub-ground-literals-2
+sub-ground-literals-2 c = let g = c .before .before .before .before .before .rows-of .ensures .0 .order in omega arith
 
-ground-rows-requires : tie.Need-ground-rows-requires
-ground-rows-requires c κs =
+ground-literals-requires : tie.Need-ground-literals-requires
+ground-literals-requires c κs =
     let a = c .before .before .before .before .before .before .before .before .before .before .before .before .before .args in
     let p = c .before .before .before .before .before .before .before .before .before .before .before .before .before .pre in
     let r = c .before .before .before .before .before .rows-of in
@@ -76,12 +76,12 @@ returns-2 c =
     let s = c .before .before .before .before .before .before .before .before .rows-of in
     let m = s .ensures .0 .few in
     let o = s .ensures .0 .order in
-    let r = c .before .before .ground-rows .ensures in
+    let r = c .before .before .ground-literals .ensures in
     let from = s .result .from in
     let to = s .result .to in
     let part = take (8 * to - 8 * from) (drop (8 * from) (a .table .now)) in
     let k = rows-few (a .time) (a .head .now) (a .ground .now) part (to - from) (a .n) (a .memory .now) _
-    (c .before .before .ground-rows .result) (r .0) in
+    (c .before .before .ground-literals .result) (r .0) in
     let below = k .0 in
     let few = k .1 in (
       (omega arith, omega arith),
@@ -108,10 +108,10 @@ ground-action-spec =
     rows-of-requires
     mul-from
     mul-to
-    sub-ground-rows
-    part-ground-rows-start
-    part-ground-rows-end
-    sub-ground-rows-2
-    ground-rows-requires
+    sub-ground-literals
+    part-ground-literals-start
+    part-ground-literals-end
+    sub-ground-literals-2
+    ground-literals-requires
     same-length
     returns-2)

@@ -4,7 +4,7 @@ use mathlib.Core.List.{_++_}
 use Prim.Native.Nat.{_*_}
 use borrow.Author.Needs.{needs}
 use Rattle.literals.specs.declared.Time.{Time}
-use Rattle.events.specs.Grounding.{groundLiterals, groundIn}
+use Rattle.events.specs.Held.{groundLiterals, groundIn}
 use Rattle.events.proofs.FactRows.{time-back}
 use Rattle.events.proofs.GroundRows.{part-ground}
 use Rattle.events.proofs.grounding.ground_event.Statement.{statement}

@@ -3,7 +3,7 @@ use mathlib.Core.Path.{refl, _∙_}
 use Prim.Native.Nat.{_+_, _-_, _<_}
 use native.Mathlib.Omega.{arith}
 use lib.ListN.{length, getD, length-set}
-use Rattle.events.specs.Grounding.{countsAt}
+use Rattle.events.specs.Held.{countsAt}
 use Rattle.events.proofs.FactRows.{noEvent, waiting-count, waiting-moment-at}
 use Rattle.events.proofs.Listed.{event-fits, event-row}
 use Rattle.events.proofs.GroundLiterals.{laid-none, laid-event, laid-all, InStep}

@@ -3,7 +3,7 @@ use mathlib.Core.Path.{ap, _∙_}
 use mathlib.Core.List.{List}
 use Prim.Native.Nat.{ℕ, _*_}
 use Rattle.events.specs.Held.{groundsIn, eventAt}
-use Rattle.store.specs.Rows.{hasRow}
+use Rattle.store.specs.Held.{hasRow}
 use Rattle.events.proofs.GroundRows.{part-ground, open-start, open-end}
 use borrow.Author.Needs.{needs}
 use Rattle.events.proofs.openings.end_open.Statement.{statement}

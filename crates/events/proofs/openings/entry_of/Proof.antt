@@ -4,8 +4,7 @@ use Prim.Native.Nat.{_+_, _-_, _*_, _≤_}
 use native.Mathlib.Omega.{arith}
 use lib.Dec.{eqb}
 use lib.ListN.{drop}
-use Rattle.records.specs.Lists.{sameList}
-use Rattle.literals.specs.Keys.{position}
+use Rattle.records.specs.Lists.{sameList, position}
 use Rattle.literals.proofs.KeyRows.{place-first, place-hit, place-miss, place-end}
 use Rattle.events.specs.Held.{groundsIn}
 use Rattle.events.proofs.openings.entry_of.Statement.{statement}

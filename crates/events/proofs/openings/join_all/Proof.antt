@@ -6,7 +6,7 @@ use native.Mathlib.Omega.{arith}
 use lib.ListN.{length, drop}
 use Rattle.records.proofs.Lists.{not-true, not-false}
 use Rattle.events.specs.Held.{Open}
-use Rattle.events.specs.Held.{EventRow, eventAt, eventsIn, joinEvents, Opened}
+use Rattle.events.specs.Held.{EventRow, eventAt, eventsIn, joinEvents, OpenAfter}
 use Rattle.events.proofs.GroundRows.{events-first, joins-few, joins-more, joins-full, joins-end}
 use Rattle.events.proofs.openings.join_all.Statement.{statement}
 use Rattle.events.proofs.openings.join_all.Tie as tie
@@ -50,7 +50,7 @@ loop-again c =
     let l = c .before .before .before .before .before .before .before .loop in
     let o : Open = record { count = l .held; rows = l .rows } in
     let j = c .before .before .before .before .join-event in
-    let r : Opened = record { fits = j .result .fits; running = record { count = j .result .count; rows = j .last .1 .0 } } in (
+    let r : OpenAfter = record { fits = j .result .fits; running = record { count = j .result .count; rows = j .last .1 .0 } } in (
       omega arith,
       joins-few (a .head .now) (eventAt (a .moments .now) (a .events .now) (l .i)) o (omega arith) r (j .ensures),
       j .kept .1 .0 ∙ l .inv .2,

@@ -9,14 +9,14 @@ use Rattle.judging.proofs.Reported.{once-first, once-all, lasting-first
 use Rattle.judging.proofs.report.put_class.Statement.{statement}
 use Rattle.judging.proofs.report.put_class.Tie as tie
 
-put-row-requires : tie.Need-put-row-requires
-put-row-requires c κs = search needs
+put-moment-requires : tie.Need-put-moment-requires
+put-moment-requires c κs = search needs
 
-add-put-row : tie.Need-add-put-row
-add-put-row c = search needs
+add-put-moment : tie.Need-add-put-moment
+add-put-moment c = search needs
 
-put-row-requires-2 : tie.Need-put-row-requires-2
-put-row-requires-2 c κs = search needs
+put-moment-requires-2 : tie.Need-put-moment-requires-2
+put-moment-requires-2 c κs = search needs
 
 add-result : tie.Need-add-result
 add-result c = search needs
@@ -33,8 +33,8 @@ returns c =
           let first = rowAt D a (start .action) (start .class) x Start in
           let second = rowAt D a (start .action) (start .class) x End in
           lasting-all D a (start .action) (start .class) x rs t (omega arith)
-          (c .before .before .put-row2 .ensures (rs ++ (first ∷ [])) rest second old given
-          (c .before .before .before .before .before .before .before .put-row .ensures rs (second ∷ rest) first old given (lasting-first D a (start .action) (start .class) x rs t R) refl refl refl)
+          (c .before .before .put-moment2 .ensures (rs ++ (first ∷ [])) rest second old given
+          (c .before .before .before .before .before .before .before .put-moment .ensures rs (second ∷ rest) first old given (lasting-first D a (start .action) (start .class) x rs t R) refl refl refl)
           refl refl refl),
     )
 
@@ -52,16 +52,16 @@ returns-2 c =
           let t = l ∙ c .if1 .left in
           let first = rowAt D a (start .action) (start .class) x Start in
           once-all D a (start .action) (start .class) x rs t
-          (c .before .before .before .put-row .ensures rs rest first old given (once-first D a (start .action) (start .class) x rs t R) refl refl refl),
+          (c .before .before .before .put-moment .ensures rs rest first old given (once-first D a (start .action) (start .class) x rs t R) refl refl refl),
     )
 
 pub put-class-spec : {M : Type 1} → statement M
 put-class-spec =
     tie.close
     (tie.spec
-    put-row-requires
-    add-put-row
-    put-row-requires-2
+    put-moment-requires
+    add-put-moment
+    put-moment-requires-2
     add-result
     same-length
     returns

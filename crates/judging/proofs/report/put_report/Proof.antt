@@ -7,8 +7,7 @@ use borrow.Author.Needs.{needs}
 use lib.ListN.{length, getD, take, drop}
 use Rattle.records.specs.Memory.{over}
 use Rattle.literals.specs.Domain.{Domain, noAction}
-use Rattle.literals.specs.Table.{pad}
-use Rattle.literals.specs.Held.{actionsIn, HeadOf}
+use Rattle.literals.specs.Held.{pad, actionsIn, HeadOf}
 use Rattle.classes.specs.Classes.{classes}
 use Rattle.verdict.specs.Decision.{rowsFrom, rows}
 use Rattle.naming.specs.Held.{nameBytes, classCounts}

@@ -4,8 +4,7 @@ use Prim.Native.Nat.{_-_, _*_, _≤_}
 use native.Mathlib.Omega.{arith}
 use lib.ListN.{drop}
 use Rattle.records.specs.Lists.{any}
-use Rattle.literals.specs.Fields.{keyClearedIn}
-use Rattle.literals.specs.Table.{rowsIn}
+use Rattle.literals.specs.Held.{keyClearedIn, rowsIn}
 use Rattle.literals.proofs.Rows.{any-first, any-hit, any-miss, any-end}
 use Rattle.literals.proofs.fields.any_clears_key.Statement.{statement}
 use Rattle.literals.proofs.fields.any_clears_key.Tie as tie

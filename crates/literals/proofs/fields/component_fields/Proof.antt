@@ -2,7 +2,7 @@
 use native.Mathlib.Omega.{arith}
 use borrow.Author.Tests.{lt-ltb, le-ltb}
 use lib.ListN.{length}
-use Rattle.literals.specs.Fields.{argumentsStop, componentFields}
+use Rattle.literals.specs.Held.{argumentsStop, componentFields}
 use borrow.Author.Needs.{needs}
 use Rattle.literals.proofs.fields.component_fields.Statement.{statement}
 use Rattle.literals.proofs.fields.component_fields.Tie as tie

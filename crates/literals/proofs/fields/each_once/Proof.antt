@@ -6,7 +6,7 @@ use native.Mathlib.Omega.{arith}
 use borrow.Author.Needs.{needs}
 use lib.ListN.{drop}
 use Rattle.records.proofs.Lists.{off}
-use Rattle.literals.specs.Fields.{eachOnce}
+use Rattle.literals.specs.Held.{eachOnce}
 use Rattle.literals.proofs.Bytes.{once-more, once-at}
 use Rattle.literals.proofs.fields.each_once.Statement.{statement}
 use Rattle.literals.proofs.fields.each_once.Tie as tie

@@ -7,7 +7,7 @@ use borrow.Author.Needs.{needs}
 use lib.ListN.{length, take, drop}
 use lib.Seq.{length-take-le}
 use Rattle.records.specs.Lists.{firstAt}
-use Rattle.literals.specs.Fields.{again}
+use Rattle.literals.specs.Held.{again}
 use Rattle.literals.proofs.Bytes.{search-start, search-hit, search-miss, search-end}
 use Rattle.literals.proofs.fields.first_again.Statement.{statement}
 use Rattle.literals.proofs.fields.first_again.Tie as tie

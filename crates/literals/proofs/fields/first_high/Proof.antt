@@ -8,7 +8,7 @@ use borrow.Author.Needs.{needs}
 use borrow.Author.Tests.{not-true, not-false}
 use lib.ListN.{length, take, drop}
 use Rattle.records.specs.Lists.{firstAt}
-use Rattle.literals.specs.Fields.{highKey}
+use Rattle.literals.specs.Held.{highKey}
 use Rattle.literals.proofs.Bytes.{search-start, search-hit, search-miss, search-end}
 use Rattle.literals.proofs.fields.first_high.Statement.{statement}
 use Rattle.literals.proofs.fields.first_high.Tie as tie

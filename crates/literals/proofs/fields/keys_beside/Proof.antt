@@ -6,7 +6,7 @@ use borrow.Author.Needs.{needs}
 use borrow.Author.Tests.{not-true, not-false}
 use lib.ListN.{length, getD, take, drop}
 use Rattle.records.specs.Lists.{sideBySide}
-use Rattle.literals.specs.Fields.{keyBeside}
+use Rattle.literals.specs.Held.{keyBeside}
 use Rattle.literals.proofs.Arguments.{beside-bytes}
 use Rattle.literals.proofs.Rows.{beside-miss, beside-hit, beside-end}
 use Rattle.literals.proofs.fields.keys_beside.Statement.{statement}

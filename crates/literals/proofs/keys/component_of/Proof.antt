@@ -7,9 +7,9 @@ use mathlib.Core.List.{List}
 use Prim.Native.Nat.{ℕ, suc, _+_, _-_, _≤_, _<_}
 use borrow.Author.Tests.{eq-eqb, ne-eqb}
 use lib.Dec.{eqb}
+use Rattle.records.specs.Lists.{position}
 use Rattle.literals.specs.Decode.{byte}
-use Rattle.literals.specs.Held.{componentRowIn, componentRowsFrom, componentRowsIn}
-use Rattle.literals.specs.Keys.{position, starts}
+use Rattle.literals.specs.Held.{componentRowIn, componentRowsFrom, componentRowsIn, starts}
 use Rattle.literals.proofs.Places.{first-hit, first-miss, first-end}
 use Rattle.literals.proofs.keys.component_of.Statement.{statement}
 use Rattle.literals.proofs.keys.component_of.Tie as tie

@@ -4,8 +4,7 @@ use borrow.Author.Needs.{needs}
 use mathlib.Core.Path.{_≡_, ap, _∙_}
 use Prim.Native.Nat.{ℕ, _-_, _≤_}
 use lib.ListN.{take, drop}
-use Rattle.literals.specs.Held.{componentRowIn}
-use Rattle.literals.specs.Keys.{argumentAt, keyRow}
+use Rattle.literals.specs.Held.{componentRowIn, argumentAt, keyRow}
 use Rattle.literals.proofs.Heads.{part-length}
 use Rattle.literals.proofs.KeyRows.{tuple-none, tuple-more, under-place}
 use Rattle.literals.proofs.keys.key_tuple.Statement.{statement}

@@ -4,8 +4,7 @@ use borrow.Author.Needs.{needs}
 use mathlib.Core.Path.{_≡_, refl, ap, _∙_}
 use Prim.Native.Nat.{ℕ, _-_, _≤_, _<_}
 use lib.ListN.{take, drop}
-use Rattle.literals.specs.Held.{keysIn, componentRowIn}
-use Rattle.literals.specs.Keys.{argumentAt, underKeys, wordFrom, keyWord}
+use Rattle.literals.specs.Held.{keysIn, componentRowIn, argumentAt, underKeys, wordFrom, keyWord}
 use Rattle.literals.proofs.Heads.{part-length}
 use Rattle.literals.proofs.Places.{components-few}
 use Rattle.literals.proofs.KeyRows.{under-place, word-more, word-all, wordLimit, limit-more, limit-few}

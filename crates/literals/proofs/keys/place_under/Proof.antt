@@ -6,12 +6,12 @@ use mathlib.Core.Bool.{Bool}
 use mathlib.Core.List.{List}
 use Prim.Native.Nat.{ℕ, _+_, _-_, _≤_}
 use lib.ListN.{getD}
+use Rattle.records.specs.Lists.{position, below}
 use Rattle.literals.specs.declared.Key.{Key}
 use Rattle.literals.specs.declared.Label.{Label}
 use Rattle.literals.specs.Domain.{isKey}
 use Rattle.literals.specs.Decode.{labelOf}
-use Rattle.literals.specs.Held.{componentRowIn}
-use Rattle.literals.specs.Keys.{position, below, placeUnder}
+use Rattle.literals.specs.Held.{componentRowIn, placeUnder}
 use Rattle.literals.proofs.Indices.{left, left-all, position-hit, position-miss, position-end}
 use Rattle.literals.proofs.keys.place_under.Statement.{statement}
 use Rattle.literals.proofs.keys.place_under.Tie as tie

@@ -3,7 +3,7 @@ use mathlib.Core.Logic.{inl, inr}
 use Prim.Native.Nat.{_-_, _*_}
 use native.Mathlib.Omega.{arith}
 use lib.ListN.{drop}
-use Rattle.literals.specs.Table.{rowsIn}
+use Rattle.literals.specs.Held.{rowsIn}
 use Rattle.literals.proofs.Rows.{against-0, against-1, against-true, against-false, against-none}
 use borrow.Author.Needs.{needs}
 use Rattle.literals.proofs.row.any_contradicts.Statement.{statement}

@@ -4,7 +4,7 @@ use Prim.Native.Nat.{_-_, _*_, _≤_}
 use native.Mathlib.Omega.{arith}
 use lib.ListN.{drop}
 use Rattle.records.specs.Lists.{any}
-use Rattle.literals.specs.Table.{rowOf, meetsAs, rowsIn}
+use Rattle.literals.specs.Held.{rowOf, meetsAs, rowsIn}
 use Rattle.literals.proofs.Rows.{any-hit, any-miss, any-end}
 use Rattle.literals.proofs.row.any_meets.Statement.{statement}
 use Rattle.literals.proofs.row.any_meets.Tie as tie

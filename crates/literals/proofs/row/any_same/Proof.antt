@@ -6,7 +6,7 @@ use native.Mathlib.Omega.{arith}
 use lib.Dec.{eqb}
 use lib.ListN.{drop}
 use Rattle.records.specs.Lists.{any, sameList}
-use Rattle.literals.specs.Table.{WordOf, rowsIn}
+use Rattle.literals.specs.Held.{WordOf, rowsIn}
 use Rattle.literals.proofs.Rows.{word-same, word-other, any-hit, any-miss, any-end}
 use Rattle.literals.proofs.row.any_same.Statement.{statement}
 use Rattle.literals.proofs.row.any_same.Tie as tie

@@ -6,7 +6,7 @@ use borrow.Author.Needs.{needs}
 use borrow.Author.Tests.{not-true, not-false}
 use lib.ListN.{take, drop}
 use Rattle.records.specs.Lists.{sameList}
-use Rattle.literals.specs.Table.{meetByte, argumentsMeet}
+use Rattle.literals.specs.Held.{meetByte, argumentsMeet}
 use Rattle.literals.proofs.Rows.{meet-miss, meet-hit, meet-end}
 use Rattle.literals.proofs.row.arguments_meet.Statement.{statement}
 use Rattle.literals.proofs.row.arguments_meet.Tie as tie

@@ -1,6 +1,6 @@
 -- `meets_as` meets its contract: by the role of the row. Assumes nothing.
 use native.Mathlib.Omega.{arith}
-use Rattle.literals.specs.Table.{rowOf}
+use Rattle.literals.specs.Held.{rowOf}
 use Rattle.literals.proofs.Rows.{as-first, as-second, as-neither}
 use borrow.Author.Needs.{needs}
 use Rattle.literals.proofs.row.meets_as.Statement.{statement}

@@ -6,7 +6,7 @@ use borrow.Author.Needs.{needs}
 use borrow.Author.Tests.{not-true, not-false}
 use lib.ListN.{length, take, drop}
 use Rattle.records.specs.Lists.{sameList}
-use Rattle.literals.specs.Table.{rowOf, meetByte, argumentsMeet}
+use Rattle.literals.specs.Held.{rowOf, meetByte, argumentsMeet}
 use Rattle.literals.proofs.Rows.{payload-miss, payload-hit, payload-end}
 use Rattle.literals.proofs.row.payload_meets.Statement.{statement}
 use Rattle.literals.proofs.row.payload_meets.Tie as tie

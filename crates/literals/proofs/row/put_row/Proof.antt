@@ -4,7 +4,7 @@ use native.Mathlib.Omega.{arith}
 use mathlib.Core.Path.{_≡_}
 use Prim.Native.Nat.{_-_, _≤_}
 use lib.Seq.{paste, paste-zero}
-use Rattle.literals.specs.Table.{rowOf}
+use Rattle.literals.specs.Held.{rowOf}
 use Rattle.literals.proofs.Rows.{put-more, put-length}
 use Rattle.literals.proofs.row.put_row.Statement.{statement}
 use Rattle.literals.proofs.row.put_row.Tie as tie

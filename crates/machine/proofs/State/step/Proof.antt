@@ -4,9 +4,9 @@ use mathlib.Core.Path.{_≡_, refl, sym, subst, _∙_}
 use mathlib.Core.List.{List, map}
 use Prim.Native.Nat.{ℕ}
 use lib.ListN.{length}
-use Rattle.store.specs.Rows.{factRow}
 use borrow.Rule.Slice.PartMut.{putMid, same-len-mid}
-use Rattle.events.specs.Grounding.{groundedBytes, Grounded}
+use Rattle.verdict.specs.Held.{factRow}
+use Rattle.events.specs.Held.{groundedBytes, Grounded}
 use Rattle.effects.specs.Held.{scratchBytes}
 use Rattle.effects.proofs.FilledRows.{literals-length, literals-put}
 use Rattle.machine.specs.Held.{stateIn, closeState}

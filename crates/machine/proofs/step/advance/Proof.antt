@@ -3,7 +3,7 @@ use borrow.Author.Needs.{needs}
 use mathlib.Core.Path.{refl, sym, ap, _∙_}
 use native.Mathlib.Omega.{arith}
 use Rattle.records.proofs.Lists.{not-true, not-false}
-use Rattle.events.specs.Held.{openIn, waitingIn}
+use Rattle.events.specs.Held.{agendaOpen, agendaWaiting}
 use Rattle.machine.specs.Held.{StateRows, stateIn}
 use Rattle.machine.proofs.HeldBytes.{state-rows}
 use Rattle.machine.proofs.NextKept.{events-chosen}
@@ -119,7 +119,7 @@ returns-3 c =
           let few = after-few D B s es old (a .weight) kept free (x .result .facts) (e .facts) small (sym yes ∙ f .0) in
           leaves-taken D B s es old (a .weight) kept free (x .result .facts) (e .facts) small (sym yes ∙ f .0)
           (a .work .now) _ _ (a .state .facts) (ap (λ (h : StateRows). h .facts) is) (S .facts-are) (e .held few) (t .ensures)
-          (openIn (o .result .count) (o .last .1 .0)) (f .1 yes) (waitingIn 0 (o .last .1 .0)) (o .ensures .1 .0 yes)
+          (agendaOpen (o .result .count) (o .last .1 .0)) (f .1 yes) (agendaWaiting 0 (o .last .1 .0)) (o .ensures .1 .0 yes)
           (m .result) (x .result .kept) (e .kept) under
           (m .ensures .1 D _ (lent .says)
           (rows-indexed D B s es old (a .weight) kept free (x .result .facts) (e .facts) small (sym yes ∙ f .0)

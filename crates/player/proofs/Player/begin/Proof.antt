@@ -5,7 +5,7 @@ use Prim.Native.Nat.{max}
 use native.Mathlib.Omega.{arith}
 use Rattle.verdict.specs.Machine.{topWeight}
 use Rattle.machine.proofs.TopWeights.{top-all}
-use Rattle.player.specs.Player.{wholeIn}
+use Rattle.player.specs.Held.{wholeIn}
 use Rattle.player.proofs.PlayTurns.{begun-already, begun-now, begun-player, facts-rows}
 use Rattle.player.proofs.Player.begin.Statement.{statement}
 use Rattle.player.proofs.Player.begin.Tie as tie

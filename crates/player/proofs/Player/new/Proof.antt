@@ -1,7 +1,7 @@
 -- `Player::new` meets its contract. Assumes nothing.
 use mathlib.Core.Path.{refl}
 use Rattle.events.specs.Held.{openOf, waitingOf}
-use Rattle.player.specs.Player.{playerOf}
+use Rattle.player.specs.Held.{playerOf}
 use Rattle.player.proofs.Player.new.Statement.{statement}
 use Rattle.player.proofs.Player.new.Tie as tie
 

@@ -6,7 +6,7 @@ use native.Mathlib.Omega.{arith}
 use Rattle.records.proofs.Laws.{whole-within}
 use Rattle.run_semantics.specs.RunFile.{runKindOf, stepRecord}
 use Rattle.run_semantics.specs.Play.{begin, playRecord, playStep}
-use Rattle.player.specs.Player.{wholeIn}
+use Rattle.player.specs.Held.{wholeIn}
 use Rattle.player.proofs.Sound.{begun-tally}
 use Rattle.player.proofs.PlayTurns.{kind-19, step-refused, step-some, step-passed}
 use Rattle.player.proofs.PlayTurns.{turn-behind, turn-end, turn-cut, turn-none, turn-whole, turn-noted}

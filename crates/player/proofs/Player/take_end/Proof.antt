@@ -5,7 +5,7 @@ use Prim.Native.Nat.{ℕ}
 use Rattle.player.proofs.PlayTurns.{stops, passes, end-on, objects-are, waiting-are}
 use Rattle.run_semantics.specs.RunFile.{endStop}
 use Rattle.run_semantics.specs.Play.{goOn, withClose}
-use Rattle.player.specs.Player.{wholeIn}
+use Rattle.player.specs.Held.{wholeIn}
 use Rattle.player.proofs.Player.take_end.Statement.{statement}
 use Rattle.player.proofs.Player.take_end.Tie as tie
 

@@ -5,7 +5,7 @@ use Prim.Native.Nat.{ℕ, _+_}
 use native.Mathlib.Omega.{arith}
 use Rattle.run_semantics.specs.RunFile.{eventOf, eventStop}
 use Rattle.run_semantics.specs.Play.{goOn, withEvent}
-use Rattle.player.specs.Player.{wholeIn}
+use Rattle.player.specs.Held.{wholeIn}
 use Rattle.player.proofs.Sound.{event-taken}
 use Rattle.player.proofs.PlayTurns.{gone-on, event-waits, stops, passes, objects-are, objects-low, waiting-is, event-on}
 use Rattle.player.proofs.Player.take_event.Statement.{statement}

@@ -7,11 +7,11 @@ use Prim.Native.Nat.{ℕ, _+_}
 use native.Mathlib.Omega.{arith}
 use lib.ListN.{length, take, drop}
 use lib.Seq.{take-all}
+use Rattle.verdict.specs.Held.{factRow}
 use Rattle.run_semantics.specs.RunFile.{factOf, factStop}
 use Rattle.run_semantics.specs.Play.{goOn, unless, withFact}
-use Rattle.store.specs.Rows.{factRow}
 use Rattle.run_fields.proofs.RunFields.{fact-found}
-use Rattle.player.specs.Player.{wholeIn}
+use Rattle.player.specs.Held.{wholeIn}
 use Rattle.player.proofs.PlayTurns.{gone-on, stops, passes, objects-are, begun-is, facts-rows, facts-count, few-facts, fact-again, fact-room, fact-new}
 use Rattle.player.proofs.NotedTurns.{noted-ended, noted-unless, fact-sized, noted-again, noted-fact}
 use Rattle.player.proofs.Player.take_fact.Statement.{statement}

@@ -6,7 +6,7 @@ use Rattle.effects.proofs.FilledRows.{literals-length}
 use Rattle.run_semantics.specs.Play.{runObjects}
 use Rattle.machine.specs.Held.{StateRows}
 use Rattle.machine.proofs.Resting.{kept-none}
-use Rattle.player.specs.Player.{wholeIn}
+use Rattle.player.specs.Held.{wholeIn}
 use Rattle.player.proofs.PlayTurns.{stepped-on, close-stops, close-on, state-is, facts-rows, rest-closes, rest-notes}
 use Rattle.player.proofs.NotedTurns.{noted-closed}
 use Rattle.player.proofs.Player.take_rest.Statement.{statement}

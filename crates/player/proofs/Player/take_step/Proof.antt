@@ -4,7 +4,7 @@ use mathlib.Core.Path.{sym, subst}
 use mathlib.Core.List.{List}
 use Prim.Native.Nat.{ℕ}
 use Rattle.run_semantics.specs.Play.{runObjects, closeStep}
-use Rattle.player.specs.Player.{wholeIn, LeadsTo}
+use Rattle.player.specs.Held.{wholeIn, PlayLeadsTo}
 use Rattle.player.proofs.PlayTurns.{stepped-on, some-object, close-stops, close-on, state-is, weight-under}
 use Rattle.player.proofs.NotedTurns.{noted-closed}
 use Rattle.player.proofs.Player.take_step.Statement.{statement}
@@ -48,7 +48,8 @@ returns-2 c =
           let leaves = l .ensures .0 D (runObjects q) (q .state) (q .waiting) old
           (record { domain = H; some = some-object q n; kept = st .sound .kept; state-is = state-is D q st; facts-are = st .memory })
           (weight-under D q st b) noted in
-          subst (λ (t : List ℕ). LeadsTo (closeStep D q (a .behind)) (record { number = l .result .number; player = wholeIn (a .self) t })
+          subst (λ (t : List ℕ). PlayLeadsTo (closeStep D q (a .behind))
+          (record { number = l .result .number; player = wholeIn (a .self) t })
           (l .last .1 .1 .1 .1 .0) old) (sym (l .ensures .1 .1 (c .if2 .taken)))
           (close-stops D q (a .behind) player (a .work .now) old st (l .result .number) _ (l .result .weight) _ leaves (c .if2 .taken)),
       λ D q old H st n b noted.

@@ -8,11 +8,11 @@ use lib.ListN.{length, replicate, length-replicate}
 use Rattle.records.specs.Memory.{over}
 use Rattle.literals.specs.Domain.{Domain}
 use Rattle.literals.specs.Held.{Held}
-use Rattle.store.specs.Index.{factIndex}
-use Rattle.events.specs.Held.{agendaBytes, openIn}
+use Rattle.store.specs.Held.{factIndex}
+use Rattle.events.specs.Held.{agendaBytes, agendaOpen}
 use Rattle.player.specs.declared.run.Ended.{Ended}
 use Rattle.run_semantics.specs.Play.{heldBytes}
-use Rattle.player.specs.Player.{wholeIn, turnIn}
+use Rattle.player.specs.Held.{wholeIn, turnIn}
 use Rattle.player.proofs.PlayLoop.{Loop, begins, playable, loop-on, loop-falls, loop-ends}
 use Rattle.player.proofs.run.play_records.Statement.{statement}
 use Rattle.player.proofs.run.play_records.Tie as tie
@@ -101,7 +101,7 @@ returns c D old H clear =
     (l .inv .3 D old H clear (p .1 .1 .1 .0) (p .1 .1 .1 .1 .0)) (turnIn (s .result) (s .last .1 .1 .1 .1 .1 .1 .0)) _ _
     (λ q o st noted. s .ensures .0 D q o H st noted) (λ q o st noted. s .ensures .1 D q o H st noted) (c .before .before .if1 .left) (b .result)
     (b .ensures) in
-    (e .0, e .1, ap (λ (x : Ended). openIn (x .opened) (s .last .1 .1 .1 .1 .1 .1 .0)) (b .ensures) ∙ e .2)
+    (e .0, e .1, ap (λ (x : Ended). agendaOpen (x .opened) (s .last .1 .1 .1 .1 .1 .1 .0)) (b .ensures) ∙ e .2)
 
 pub play-records-spec : {M : Type 1} → statement M
 play-records-spec =

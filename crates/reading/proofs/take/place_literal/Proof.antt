@@ -1,6 +1,6 @@
 -- `place_literal` meets its contract. Assumes nothing.
 use mathlib.Core.Path.{refl, sym, _∙_}
-use Rattle.literals.specs.Table.{rowOf}
+use Rattle.literals.specs.Held.{rowOf}
 use borrow.Author.Needs.{needs}
 use Rattle.reading.proofs.take.place_literal.Statement.{statement}
 use Rattle.reading.proofs.take.place_literal.Tie as tie

@@ -1,6 +1,6 @@
 -- `rows_stop` meets its contract. Assumes nothing.
 use native.Mathlib.Omega.{arith}
-use Rattle.literals.specs.Table.{rowOf}
+use Rattle.literals.specs.Held.{rowOf}
 use Rattle.reading.specs.Held.{rowsOf}
 use Rattle.reading.proofs.Takes.{rows-same, rows-opposed, rows-free}
 use borrow.Author.Needs.{needs}

@@ -4,9 +4,8 @@ use Prim.Native.Nat.{_+_}
 use native.Mathlib.Omega.{arith}
 use borrow.Author.Needs.{needs}
 use lib.ListN.{take, drop}
-use Rattle.literals.specs.Held.{keysIn, componentRowsIn}
-use Rattle.literals.specs.Table.{rowsIn}
-use Rattle.store.specs.Index.{wordsAt, instancesAt, noteAt, wordOf, slotOf}
+use Rattle.literals.specs.Held.{keysIn, componentRowsIn, rowsIn}
+use Rattle.store.specs.Held.{wordsAt, instancesAt, noteAt, wordOf, slotOf}
 use Rattle.store.proofs.InstanceRows.{keyed-none, keyed-one}
 use Rattle.store.proofs.Totals.{enter-none, enter-one, beside-at}
 use Rattle.store.proofs.index.enter.Statement.{statement}

@@ -1,7 +1,7 @@
 -- `word_of` meets its contract: the number is the definition's. Assumes nothing.
 use native.Mathlib.Omega.{arith}
 use borrow.Author.Needs.{needs}
-use Rattle.store.specs.Index.{wordOf}
+use Rattle.store.specs.Held.{wordOf}
 use Rattle.store.proofs.index.word_of.Statement.{statement}
 use Rattle.store.proofs.index.word_of.Tie as tie
 

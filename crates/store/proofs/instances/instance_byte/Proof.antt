@@ -6,7 +6,7 @@ use mathlib.Core.Path.{ap, _∙_}
 use mathlib.Core.List.{List}
 use Rattle.literals.specs.declared.Object.{Object}
 use Rattle.literals.specs.Decode.{labelOf}
-use Rattle.store.specs.InstanceFacts.{objectAt}
+use Rattle.store.specs.Held.{objectAt}
 use Rattle.store.proofs.InstanceFacts.{instance-first, instance-object, instance-fill}
 use borrow.Author.Needs.{needs}
 use Rattle.store.proofs.instances.instance_byte.Statement.{statement}

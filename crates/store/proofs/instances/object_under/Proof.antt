@@ -1,7 +1,7 @@
 -- `object_under` meets its contract, label by label. Assumes nothing.
 use mathlib.Core.Path.{sym, ap, _∙_}
 use lib.ListN.{take}
-use Rattle.store.specs.InstanceFacts.{objectAt}
+use Rattle.store.specs.Held.{objectAt}
 use borrow.Author.Needs.{needs}
 use Rattle.store.proofs.instances.object_under.Statement.{statement}
 use Rattle.store.proofs.instances.object_under.Tie as tie

@@ -8,7 +8,7 @@ use lib.ListN.{length, take, getD}
 use lib.Seq.{paste, paste-zero}
 use Rattle.records.proofs.Memory.{paste-more, paste-length}
 use Rattle.literals.specs.Held.{arityIn, componentRowIn}
-use Rattle.store.specs.InstanceFacts.{instanceBytes}
+use Rattle.store.specs.Held.{instanceBytes}
 use Rattle.store.proofs.InstanceFacts.{length-instance-at}
 use Rattle.store.proofs.instances.put_instance.Statement.{statement}
 use Rattle.store.proofs.instances.put_instance.Tie as tie

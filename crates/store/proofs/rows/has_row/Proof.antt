@@ -5,9 +5,9 @@ use native.Mathlib.Omega.{arith}
 use lib.Dec.{eqb}
 use lib.ListN.{drop}
 use Rattle.records.specs.Lists.{sameList}
-use Rattle.literals.specs.Table.{rowsIn}
+use Rattle.literals.specs.Held.{rowsIn}
 use Rattle.literals.proofs.Rows.{any-first, any-hit, any-miss, any-end}
-use Rattle.store.specs.Rows.{hasRow}
+use Rattle.store.specs.Held.{hasRow}
 use Rattle.store.proofs.rows.has_row.Statement.{statement}
 use Rattle.store.proofs.rows.has_row.Tie as tie
 

@@ -3,11 +3,10 @@ use mathlib.Core.Path.{refl}
 use native.Mathlib.Omega.{arith}
 use borrow.Author.Needs.{needs}
 use lib.ListN.{take, drop}
-use Rattle.literals.specs.Held.{keysIn, componentRowsIn}
+use Rattle.literals.specs.Held.{keysIn, componentRowsIn, rowsIn}
 use Rattle.records.proofs.Lists.{not-true, not-false}
-use Rattle.literals.specs.Table.{rowsIn}
 use Rattle.literals.proofs.KeyRows.{length-rows}
-use Rattle.store.specs.Rows.{rowWeight}
+use Rattle.store.specs.Held.{rowWeight}
 use Rattle.store.proofs.InstanceRows.{keyed-none, keyed-one, higher-none, higher-new, higher-old}
 use Rattle.store.proofs.Totals.{weight-most}
 use Rattle.store.proofs.weighing.heavier.Statement.{statement}

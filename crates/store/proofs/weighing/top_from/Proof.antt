@@ -4,10 +4,8 @@ use mathlib.Core.List.{List}
 use Prim.Native.Nat.{ℕ, _-_, _*_, max}
 use native.Mathlib.Omega.{arith}
 use lib.ListN.{drop}
-use Rattle.literals.specs.Held.{keysIn, componentRowsIn}
-use Rattle.literals.specs.Table.{rowsIn}
-use Rattle.store.specs.Rows.{topRows}
-use Rattle.store.specs.Index.{Indexed}
+use Rattle.literals.specs.Held.{keysIn, componentRowsIn, rowsIn}
+use Rattle.store.specs.Held.{topRows, Indexed}
 use Rattle.store.proofs.InstanceRows.{topOf, top-more, top-end, top-rows, top-held}
 use Rattle.store.proofs.weighing.top_from.Statement.{statement}
 use Rattle.store.proofs.weighing.top_from.Tie as tie

@@ -4,10 +4,9 @@ use Prim.Native.Nat.{_+_, _-_, _*_, _≤_}
 use native.Mathlib.Omega.{arith}
 use lib.Dec.{eqb}
 use lib.ListN.{take, drop}
-use Rattle.literals.specs.Held.{keysIn, componentRowsIn}
+use Rattle.literals.specs.Held.{keysIn, componentRowsIn, rowsIn}
 use Rattle.records.specs.Lists.{any, sameList}
-use Rattle.literals.specs.Table.{rowsIn}
-use Rattle.store.specs.Rows.{instanceRows, rowWeight}
+use Rattle.store.specs.Held.{instanceRows, rowWeight}
 use Rattle.store.proofs.InstanceRows.{adds-few, weigh-none, weigh-more, weigh-end}
 use Rattle.store.proofs.weighing.weigh.Statement.{statement}
 use Rattle.store.proofs.weighing.weigh.Tie as tie

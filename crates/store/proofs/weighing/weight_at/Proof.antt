@@ -3,9 +3,8 @@ use mathlib.Core.Path.{_≡_}
 use native.Mathlib.Omega.{arith}
 use borrow.Author.Needs.{needs}
 use lib.ListN.{length, take, drop}
-use Rattle.literals.specs.Held.{keysIn, componentRowsIn}
+use Rattle.literals.specs.Held.{keysIn, componentRowsIn, rowsIn}
 use Rattle.records.proofs.Lists.{not-true, not-false}
-use Rattle.literals.specs.Table.{rowsIn}
 use Rattle.store.proofs.InstanceRows.{adds-none, adds-one, adds-other}
 use Rattle.store.proofs.weighing.weight_at.Statement.{statement}
 use Rattle.store.proofs.weighing.weight_at.Tie as tie

@@ -3,7 +3,7 @@ use mathlib.Core.Path.{_≡_, ap, _∙_}
 use Prim.Native.Nat.{_-_, _≤_}
 use native.Mathlib.Omega.{arith}
 use borrow.Author.Needs.{needs}
-use Rattle.templates.specs.Listing.{rowsWith}
+use Rattle.templates.specs.Held.{rowsOfRelation}
 use Rattle.templates.proofs.Narrowed.{Keeping, keeping-none, keeping-length, keeping-all, keeping-more}
 use Rattle.templates.proofs.deciding.keep_rows.Statement.{statement}
 use Rattle.templates.proofs.deciding.keep_rows.Tie as tie
@@ -52,7 +52,7 @@ returns c =
     let f = l .inv .1 .few in
     let h = l .inv .0 in
     let e : l .j ≡ a .n = omega arith in
-    (omega arith, keeping-all (l .inv .1) ∙ ap (rowsWith (a .rows .now) (a .relation)) e)
+    (omega arith, keeping-all (l .inv .1) ∙ ap (rowsOfRelation (a .rows .now) (a .relation)) e)
 
 pub keep-rows-spec : {M : Type 1} → statement M
 keep-rows-spec =

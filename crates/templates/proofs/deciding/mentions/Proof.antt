@@ -4,10 +4,9 @@ use borrow.Author.Needs.{needs}
 use borrow.Author.Tests.{eq-eqb, ne-eqb}
 use mathlib.Core.Path.{_≡_, sym, ap, _∙_}
 use Prim.Native.Nat.{_-_}
-use Rattle.records.specs.Lists.{any}
-use Rattle.literals.specs.Keys.{below}
+use Rattle.records.specs.Lists.{any, below}
 use Rattle.literals.proofs.Indices.{left, left-all, any-hit, any-miss, any-end}
-use Rattle.templates.specs.Listing.{mentionedAt}
+use Rattle.templates.specs.Held.{mentionedAt}
 use Rattle.templates.proofs.deciding.mentions.Statement.{statement}
 use Rattle.templates.proofs.deciding.mentions.Tie as tie
 

@@ -4,7 +4,7 @@ use Prim.Native.Nat.{_+_, _-_}
 use native.Mathlib.Omega.{arith}
 use lib.ListN.{length, set, take, length-set}
 use Rattle.templates.specs.Templates.{single, componentAt}
-use Rattle.templates.specs.Listing.{shapeOf}
+use Rattle.templates.specs.Held.{shapeOf}
 use Rattle.templates.proofs.EntryBytes.{listing-passed, listing-more, refused-entry, taken-entry, taken-held, taken-formed, entry-is}
 use borrow.Author.Needs.{needs}
 use Rattle.templates.proofs.entries.put_entry.Statement.{statement}

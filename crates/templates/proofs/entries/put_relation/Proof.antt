@@ -6,7 +6,7 @@ use Prim.Native.Nat.{_-_, _<_, _≤_}
 use native.Mathlib.Omega.{arith}
 use borrow.Author.Needs.{needs}
 use Rattle.literals.specs.Domain.{arity}
-use Rattle.templates.specs.Listing.{shapeOf}
+use Rattle.templates.specs.Held.{shapeOf}
 use Rattle.templates.proofs.EntryBytes.{InPlaces, places-none, places-next, places-all}
 use Rattle.templates.proofs.entries.put_relation.Statement.{statement}
 use Rattle.templates.proofs.entries.put_relation.Tie as tie

@@ -5,7 +5,7 @@ use Prim.Native.Nat.{ℕ}
 use native.Mathlib.Omega.{arith}
 use borrow.Rule.Slice.PartMut.{putMid, same-len-mid}
 use Rattle.verdict.specs.Claims.{plainEvent}
-use Rattle.events.specs.Grounding.{groundedBytes, Grounded}
+use Rattle.events.specs.Held.{groundedBytes, Grounded}
 use Rattle.effects.proofs.FilledRows.{literals-length, literals-put}
 use Rattle.trying.proofs.Conditions.{rows-room, rows-few, base-held}
 use borrow.Author.Needs.{needs}

@@ -3,9 +3,9 @@ use mathlib.Core.Path.{refl, sym, ap, subst, _∙_}
 use mathlib.Core.List.{List, [], _∷_}
 use Prim.Native.Nat.{ℕ}
 use native.Mathlib.Omega.{arith}
-use Rattle.store.specs.Index.{Indexed}
+use Rattle.store.specs.Held.{Indexed}
 use Rattle.verdict.specs.Claims.{plainObjects, plainEvent}
-use Rattle.events.specs.Grounding.{Grounded}
+use Rattle.events.specs.Held.{Grounded}
 use Rattle.effects.specs.Held.{literalsIn}
 use Rattle.effects.proofs.FilledRows.{literals-length, effects-length}
 use Rattle.trying.specs.Trying.{heldFacts}

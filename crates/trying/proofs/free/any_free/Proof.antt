@@ -2,11 +2,10 @@
 use mathlib.Core.Path.{_≡_, sym, ap, _∙_}
 use Prim.Native.Nat.{ℕ, _-_, _≤_}
 use native.Mathlib.Omega.{arith}
-use Rattle.records.specs.Lists.{any}
+use Rattle.records.specs.Lists.{any, numbersFrom}
 use Rattle.literals.specs.Held.{componentsIn}
-use Rattle.literals.specs.Keys.{numbersFrom}
 use Rattle.literals.proofs.Indices.{left, left-all, any-hit, any-miss, any-end}
-use Rattle.events.specs.Grounding.{groundIn}
+use Rattle.events.specs.Held.{groundIn}
 use Rattle.trying.specs.Held.{componentFree, anyFree}
 use borrow.Author.Needs.{needs}
 use Rattle.trying.proofs.free.any_free.Statement.{statement}

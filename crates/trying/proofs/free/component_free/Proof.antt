@@ -8,8 +8,8 @@ use native.Mathlib.Omega.{arith}
 use lib.ListN.{length, length-replicate}
 use Rattle.records.specs.Lists.{any}
 use Rattle.literals.proofs.Indices.{left, left-all, any-hit, any-miss, any-end}
-use Rattle.store.specs.InstanceFacts.{instanceOf}
-use Rattle.events.specs.Grounding.{GroundLiteral, groundIn}
+use Rattle.store.specs.Held.{instanceBytesIn}
+use Rattle.events.specs.Held.{GroundLiteral, groundIn}
 use Rattle.trying.specs.Held.{isAbout, componentFree}
 use Rattle.trying.proofs.Loops.{instance-put}
 use borrow.Author.Needs.{needs}
@@ -17,7 +17,7 @@ use Rattle.trying.proofs.free.component_free.Statement.{statement}
 use Rattle.trying.proofs.free.component_free.Tie as tie
 
 abbrev free : List ℕ → ℕ → List ℕ → List GroundLiteral → ℕ → Bool
-free head c instance ls o = not (isAbout ls (instanceOf head c o instance))
+free head c instance ls o = not (isAbout ls (instanceBytesIn head c o instance))
 
 abbrev Inv-loop : tie.InvT-loop
 Inv-loop head c instance n memory total fact₀ o₀ fact o =

@@ -8,8 +8,8 @@ use lib.ListN.{drop}
 use lib.Seq.{take-all}
 use Rattle.records.specs.Lists.{any}
 use Rattle.records.proofs.Lists.{any-hit, any-miss, any-end}
-use Rattle.verdict.specs.Patterns.{patternsMeet}
-use Rattle.events.specs.Grounding.{GroundLiteral, groundAt, groundIn}
+use Rattle.verdict.specs.Held.{patternsMeet}
+use Rattle.events.specs.Held.{GroundLiteral, groundAt, groundIn}
 use Rattle.events.proofs.GroundLiterals.{noLiteral, length-ground, ground-test}
 use borrow.Author.Needs.{needs}
 use Rattle.trying.proofs.free.is_about.Statement.{statement}

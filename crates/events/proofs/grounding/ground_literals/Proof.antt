@@ -1,13 +1,13 @@
--- `ground_rows` meets its contract: after i turns those of the first i rows are put. Assumes nothing.
+-- `ground_literals` meets its contract: after i turns those of the first i rows are put. Assumes nothing.
 use mathlib.Core.Path.{_≡_, refl, ap, _∙_}
 use mathlib.Core.List.{_++_}
 use Prim.Native.Nat.{ℕ, _-_}
 use native.Mathlib.Omega.{arith}
-use Rattle.literals.specs.Table.{rowsIn}
-use Rattle.events.specs.Grounding.{rowLiterals, groundIn}
+use Rattle.literals.specs.Held.{rowsIn}
+use Rattle.events.specs.Held.{rowLiterals, groundIn}
 use Rattle.events.proofs.GroundLiterals.{rows-begin, rows-more, rows-few, InRows}
-use Rattle.events.proofs.grounding.ground_rows.Statement.{statement}
-use Rattle.events.proofs.grounding.ground_rows.Tie as tie
+use Rattle.events.proofs.grounding.ground_literals.Statement.{statement}
+use Rattle.events.proofs.grounding.ground_literals.Tie as tie
 
 abbrev Inv-loop : tie.InvT-loop
 Inv-loop memory₀ at time head ground rows k n₀ i₀ memory n i = InRows time head ground rows at k memory₀ memory n i
@@ -26,11 +26,11 @@ loop-holds c =
       counts = refl;
     }
 
-mul-ground-row : tie.Need-mul-ground-row Inv-loop μ-loop
-mul-ground-row c = omega arith
+mul-ground-literal : tie.Need-mul-ground-literal Inv-loop μ-loop
+mul-ground-literal c = omega arith
 
-ground-row-requires : tie.Need-ground-row-requires Inv-loop μ-loop
-ground-row-requires c κs =
+ground-literal-requires : tie.Need-ground-literal-requires Inv-loop μ-loop
+ground-literal-requires c κs =
     let a = c .before .before .before .before .before .before .args in
     let p = c .before .before .before .before .before .before .pre in
     let l = c .before .before .loop in
@@ -50,10 +50,10 @@ loop-again c =
     let a = c .before .before .before .before .before .before .before .before .before .args in
     let l = c .before .before .before .before .before .loop in
     let first = groundIn (a .at) (a .memory .now) in
-    let r = c .before .before .ground-row .ensures in
+    let r = c .before .before .ground-literal .ensures in
     record {
       reach = omega arith;
-      sized = c .before .before .ground-row .kept .0 ∙ l .inv .sized;
+      sized = c .before .before .ground-literal .kept .0 ∙ l .inv .sized;
       literals = rows-more (a .time) (a .head .now) (a .ground .now) first (a .rows .now) (l .i) (l .inv .literals) (r .0);
       counts = r .1 ∙ l .inv .counts;
     }
@@ -72,15 +72,15 @@ returns c =
       l .inv .counts,
     )
 
-pub ground-rows-spec : {M : Type 1} → statement M
-ground-rows-spec =
+pub ground-literals-spec : {M : Type 1} → statement M
+ground-literals-spec =
     tie.close
     (tie.spec
     Inv-loop
     μ-loop
     loop-holds
-    mul-ground-row
-    ground-row-requires
+    mul-ground-literal
+    ground-literal-requires
     add-i
     loop-less
     loop-again

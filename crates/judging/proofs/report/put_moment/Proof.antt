@@ -1,10 +1,10 @@
--- `report::put_row` meets its contract: four stores at the seam, for which there is room. Assumes nothing.
+-- `report::put_moment` meets its contract: four stores at the seam, for which there is room. Assumes nothing.
 use native.Mathlib.Omega.{arith}
 use borrow.Author.Needs.{needs}
 use lib.ListN.{length-set}
 use Rattle.judging.proofs.Reported.{report-room, names-room, reporting-more}
-use Rattle.judging.proofs.report.put_row.Statement.{statement}
-use Rattle.judging.proofs.report.put_row.Tie as tie
+use Rattle.judging.proofs.report.put_moment.Statement.{statement}
+use Rattle.judging.proofs.report.put_moment.Tie as tie
 
 mul-report : tie.Need-mul-report
 mul-report c = search needs
@@ -54,8 +54,8 @@ returns-2 c rs rest r old given R a b m = absurd (omega (arith, report-room R))
 returns-3 : tie.Need-returns-3
 returns-3 c rs rest r old given R a b m = absurd (omega (arith, names-room R))
 
-pub put-row-spec : {M : Type 1} → statement M
-put-row-spec =
+pub put-moment-spec : {M : Type 1} → statement M
+put-moment-spec =
     tie.close
     (tie.spec
     mul-report

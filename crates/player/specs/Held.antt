@@ -9,14 +9,14 @@ use Rattle.records.specs.Memory.{over}
 use Rattle.literals.specs.Domain.{Domain}
 use Rattle.literals.specs.Held.{HeadOf}
 use Rattle.verdict.specs.Machine.{topWeight}
-use Rattle.player.specs.declared.Player.{Player}
-use Rattle.player.specs.declared.Turn.{Turn}
-use Rattle.player.specs.declared.run.Ended.{Ended}
 use Rattle.run_semantics.specs.RunFile.{maxObjects}
 use Rattle.run_semantics.specs.Play.{workBytes, Tally, Playing, PlayTurn, goOn, finish, Outcome, runObjects, heldBytes}
 use Rattle.events.specs.Held.{agendaBytes, openOf, waitingOf}
 use Rattle.effects.specs.Held.{scratchBytes}
 use Rattle.machine.specs.Held.{StateRows, stateOf, stateIn, Kept, Noted}
+use Rattle.player.specs.declared.Player.{Player}
+use Rattle.player.specs.declared.Turn.{Turn}
+use Rattle.player.specs.declared.run.Ended.{Ended}
 
 -- ---- what the code holds
 
@@ -95,9 +95,9 @@ pub record Ends (o : Outcome) (t : WholeTurn) (work old : List ℕ) : Type 0 whe
   pub running : t .player .state .running ≡ openOf (o .running)
   pub memory : work ≡ over (heldBytes (o .facts)) old
 
-abbrev pub LeadsTo : PlayTurn → WholeTurn → List ℕ → List ℕ → Type 0
-LeadsTo (goOn q) t work old = GoesOn q t work old
-LeadsTo (finish o) t work old = Ends o t work old
+abbrev pub PlayLeadsTo : PlayTurn → WholeTurn → List ℕ → List ℕ → Type 0
+PlayLeadsTo (goOn q) t work old = GoesOn q t work old
+PlayLeadsTo (finish o) t work old = Ends o t work old
 
 -- the index of the facts afterwards, where playing goes on
 abbrev pub NotedAfter : Domain → List ℕ → List ℕ → PlayTurn → Type 0

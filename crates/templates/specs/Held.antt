@@ -7,13 +7,12 @@ use mathlib.Core.Option.{Option, none, some}
 use Prim.Native.Nat.{ℕ, zero, suc, _+_, _-_, _*_, _≤_, _<_}
 use lib.Dec.{eqb, ltb}
 use lib.ListN.{length, getD, take}
-use Rattle.records.specs.Lists.{filterBy, any}
+use Rattle.records.specs.Lists.{filterBy, any, below}
 use Rattle.records.specs.Memory.{over}
 use Rattle.literals.specs.Domain.{Component, Domain, arity, bare}
-use Rattle.literals.specs.Keys.{below}
-use Rattle.classes.specs.Held.{rowAt}
-use Rattle.verdict.specs.Claims.{wellFormed}
+use Rattle.literals.specs.Held.{rowIn}
 use Rattle.reading.specs.Held.{HeldOver}
+use Rattle.verdict.specs.Claims.{wellFormed}
 use Rattle.templates.specs.Templates.{Shape, shape, shapesOf, shapesFrom, componentAt, legalAlone, entry}
 
 -- ---- payloads
@@ -27,11 +26,11 @@ abbrev pub payloadOf : ℕ → ℕ → List ℕ
 payloadOf r counted = r ∷ map (labelAt counted) (below 6)
 
 -- the shape of a relation and a place byte
-abbrev pub placeOf : ℕ → Option ℕ
-placeOf b = cond (eqb b 255) none (some b)
+abbrev pub placeOfByte : ℕ → Option ℕ
+placeOfByte b = cond (eqb b 255) none (some b)
 
 abbrev pub shapeOf : ℕ → ℕ → Shape
-shapeOf r b = shape r (placeOf b)
+shapeOf r b = shape r (placeOfByte b)
 
 -- ---- one component
 
@@ -44,9 +43,9 @@ abbrev pub mentionedAt : List ℕ → ℕ → ℕ → Bool
 mentionedAt rows r j = eqb (getD rows (8 * j + 1) 0) r
 
 -- those of the first n rows that have it, one behind the other
-unfoldable pub rowsWith : List ℕ → ℕ → ℕ → List ℕ
-rowsWith rows r zero = []
-rowsWith rows r (suc j) = rowsWith rows r j ++ cond (mentionedAt rows r j) (rowAt rows j) []
+unfoldable pub rowsOfRelation : List ℕ → ℕ → ℕ → List ℕ
+rowsOfRelation rows r zero = []
+rowsOfRelation rows r (suc j) = rowsOfRelation rows r j ++ cond (mentionedAt rows r j) (rowIn rows j) []
 
 -- ---- where listing stands
 

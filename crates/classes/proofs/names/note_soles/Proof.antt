@@ -1,4 +1,4 @@
--- `tally` meets its contract: after j turns the first j literals are noted. Assumes nothing.
+-- `note_soles` meets its contract: after j turns the first j literals are noted. Assumes nothing.
 use mathlib.Core.Path.{_≡_, refl, ap, _∙_}
 use mathlib.Core.Bool.{Bool, _&&_}
 use mathlib.Core.List.{[]}
@@ -7,11 +7,11 @@ use native.Mathlib.Omega.{arith}
 use borrow.Author.Needs.{needs}
 use lib.Dec.{eqb}
 use lib.ListN.{length, getD}
-use Rattle.literals.specs.Table.{pad}
+use Rattle.literals.specs.Held.{pad}
 use Rattle.classes.specs.Held.{soleMore, countsIn}
 use Rattle.classes.proofs.Soles.{Tallied, tallied-none, tallied-more, tallied-all}
-use Rattle.classes.proofs.names.tally.Statement.{statement}
-use Rattle.classes.proofs.names.tally.Tie as tie
+use Rattle.classes.proofs.names.note_soles.Statement.{statement}
+use Rattle.classes.proofs.names.note_soles.Tie as tie
 
 abbrev Inv-loop : tie.InvT-loop
 Inv-loop rows numbers soles₀ j₀ j-end soles j = (j ≤ length numbers) × (length soles ≡ length soles₀)
@@ -30,8 +30,8 @@ shared-slice-read-wide c = omega arith
 wide-requires : tie.Need-wide-requires Inv-loop μ-loop
 wide-requires c κs = search needs
 
-tally-literal-requires : tie.Need-tally-literal-requires Inv-loop μ-loop
-tally-literal-requires c κs =
+note-literal-requires : tie.Need-note-literal-requires Inv-loop μ-loop
+note-literal-requires c κs =
     let p = c .before .before .before .before .before .before .before .before .pre in
     let l = c .before .before .before .before .loop in
     let w = p .0 .rowed in
@@ -48,7 +48,7 @@ loop-again : tie.Need-loop-again Inv-loop μ-loop
 loop-again c =
     let a = c .before .before .before .before .before .before .before .before .before .before .before .args in
     let l = c .before .before .before .before .before .before .before .loop in
-    let t = c .before .before .tally-literal in (
+    let t = c .before .before .note-literal in (
       omega arith,
       t .kept .1 .1 .1 .0 ∙ l .inv .1,
       λ e.
@@ -66,8 +66,8 @@ returns : tie.Need-returns Inv-loop μ-loop
 returns c e = let a = c .before .before .before .before .before .args in let l = c .before .loop in
     tallied-all (a .rows .now) (a .numbers .now) (l .j) (l .soles) (omega arith) (l .inv .2 e)
 
-pub tally-spec : {M : Type 1} → statement M
-tally-spec =
+pub note-soles-spec : {M : Type 1} → statement M
+note-soles-spec =
     tie.close
     (tie.spec
     Inv-loop
@@ -75,7 +75,7 @@ tally-spec =
     loop-holds
     shared-slice-read-wide
     wide-requires
-    tally-literal-requires
+    note-literal-requires
     add-j
     loop-less
     loop-again

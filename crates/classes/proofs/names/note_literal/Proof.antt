@@ -1,12 +1,12 @@
--- `tally_literal` meets its contract: by the class, and by the section that counts the literal's role. Assumes nothing.
+-- `note_literal` meets its contract: by the class, and by the section that counts the literal's role. Assumes nothing.
 use native.Mathlib.Omega.{arith}
 use borrow.Author.Needs.{needs}
-use Rattle.classes.proofs.Soles.{tally-outside, tally-none, tally-asked, tally-own, tally-both}
-use Rattle.classes.proofs.names.tally_literal.Statement.{statement}
-use Rattle.classes.proofs.names.tally_literal.Tie as tie
+use Rattle.classes.proofs.Soles.{literal-outside, literal-none, literal-asked, literal-own, literal-both}
+use Rattle.classes.proofs.names.note_literal.Statement.{statement}
+use Rattle.classes.proofs.names.note_literal.Tie as tie
 
 returns : tie.Need-returns
-returns c s k h g = let a = c .before .before .before .args in tally-outside (a .rows .now) (a .j) (a .class) s k _ (c .if1 .taken) g
+returns c s k h g = let a = c .before .before .before .args in literal-outside (a .rows .now) (a .j) (a .class) s k _ (c .if1 .taken) g
 
 mul-section-of : tie.Need-mul-section-of
 mul-section-of c = search needs
@@ -21,7 +21,7 @@ returns-2 : tie.Need-returns-2
 returns-2 c s k h g =
     let a = c .before .before .before .before .before .before .args in
     let o = c .before .section-of in
-    tally-none (a .rows .now) (a .j) (o .result) (a .class) (o .ensures) s k _ h (c .if2 .taken)
+    literal-none (a .rows .now) (a .j) (o .result) (a .class) (o .ensures) s k _ h (c .if2 .taken)
 
 note-asked-requires : tie.Need-note-asked-requires
 note-asked-requires c κs = search needs
@@ -33,7 +33,7 @@ returns-3 : tie.Need-returns-3
 returns-3 c s k h g =
     let a = c .before .before .before .before .before .before .before .before .before .before .before .args in
     let o = c .before .before .before .before .before .before .section-of in
-    tally-asked (a .rows .now) (a .j) (o .result) (a .class) (o .ensures) s k _ h (c .before .before .before .before .if3 .taken)
+    literal-asked (a .rows .now) (a .j) (o .result) (a .class) (o .ensures) s k _ h (c .before .before .before .before .if3 .taken)
     (c .before .before .note-asked .ensures s k h g)
 
 note-requires : tie.Need-note-requires
@@ -46,7 +46,7 @@ returns-4 : tie.Need-returns-4
 returns-4 c s k h g =
     let a = c .before .before .before .before .before .before .before .before .before .before .before .before .args in
     let o = c .before .before .before .before .before .before .before .section-of in
-    tally-own (a .rows .now) (a .j) (o .result) (a .class) (o .ensures) s k _ h (c .before .before .before .before .before .if3 .left)
+    literal-own (a .rows .now) (a .j) (o .result) (a .class) (o .ensures) s k _ h (c .before .before .before .before .before .if3 .left)
     (c .if4 .taken) (c .before .before .before .note .ensures s k h g)
 
 note-asked-requires-2 : tie.Need-note-asked-requires-2
@@ -60,11 +60,11 @@ returns-5 c s k h g =
     let a = c .before .before .before .before .before .before .before .before .before .before .before .before .before .before .before
     .before .args in
     let o = c .before .before .before .before .before .before .before .before .before .before .before .section-of in
-    tally-both (a .rows .now) (a .j) (o .result) (a .class) (o .ensures) s k _ h (c .before .before .before .before .if4 .left)
+    literal-both (a .rows .now) (a .j) (o .result) (a .class) (o .ensures) s k _ h (c .before .before .before .before .if4 .left)
     (c .before .before .before .before .before .before .before .note .ensures s k h g) (c .before .before .note-asked2 .ensures s k h g)
 
-pub tally-literal-spec : {M : Type 1} → statement M
-tally-literal-spec =
+pub note-literal-spec : {M : Type 1} → statement M
+note-literal-spec =
     tie.close
     (tie.spec
     returns

@@ -1,10 +1,10 @@
--- `ground_row` meets its contract. Assumes nothing.
+-- `ground_literal` meets its contract. Assumes nothing.
 use mathlib.Core.Path.{refl}
 use borrow.Author.Needs.{needs}
-use Rattle.events.specs.Grounding.{groundIn}
+use Rattle.events.specs.Held.{groundIn}
 use Rattle.events.proofs.GroundLiterals.{row-none, row-one}
-use Rattle.events.proofs.grounding.ground_row.Statement.{statement}
-use Rattle.events.proofs.grounding.ground_row.Tie as tie
+use Rattle.events.proofs.grounding.ground_literal.Statement.{statement}
+use Rattle.events.proofs.grounding.ground_literal.Tie as tie
 
 shared-slice-read-usage-for : tie.Need-shared-slice-read-usage-for
 shared-slice-read-usage-for c = search needs
@@ -43,8 +43,8 @@ returns-2 c =
       put .1,
     )
 
-pub ground-row-spec : {M : Type 1} → statement M
-ground-row-spec =
+pub ground-literal-spec : {M : Type 1} → statement M
+ground-literal-spec =
     tie.close
     (tie.spec
     shared-slice-read-usage-for

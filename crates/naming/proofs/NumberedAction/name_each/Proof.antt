@@ -1,4 +1,5 @@
--- `Numbered::name_each` meets its contract. The loop's invariant is `InClasses` of proofs/NamedRows; the measure is how many classes are
+-- `NumberedAction::name_each` meets its contract. The loop's invariant is `InClasses` of proofs/NamedRows; the measure is how many classes
+-- are
 -- left. Assumes nothing.
 use mathlib.Core.Path.{refl, _∙_}
 use Prim.Native.Nat.{_-_, _<_}
@@ -7,8 +8,8 @@ use borrow.Author.Needs.{needs}
 use lib.ListN.{length}
 use Rattle.classes.specs.Classes.{classes}
 use Rattle.naming.proofs.NamedRows.{InClasses, named-begin, named-next, named-end}
-use Rattle.naming.proofs.Numbered.name_each.Statement.{statement}
-use Rattle.naming.proofs.Numbered.name_each.Tie as tie
+use Rattle.naming.proofs.NumberedAction.name_each.Statement.{statement}
+use Rattle.naming.proofs.NumberedAction.name_each.Tie as tie
 
 abbrev Inv-loop : tie.InvT-loop
 Inv-loop head rows numbers at-start at-end soles names₀ count lasting next₀ class₀ names next class =

@@ -1,22 +1,22 @@
--- `Numbered::name_classes` meets its contract: each class by the usages of both moments. Assumes nothing.
+-- `NumberedAction::name_classes` meets its contract: each class by the usages of both moments. Assumes nothing.
 use mathlib.Core.Path.{refl, ap, _∙_}
 use mathlib.Core.Bool.{true}
 use native.Mathlib.Omega.{arith}
 use Rattle.records.proofs.Lists.{not-true, clash}
-use Rattle.literals.specs.Table.{pad}
+use Rattle.literals.specs.Held.{pad}
 use Rattle.literals.specs.declared.Moment.the-variants.{End}
 use Rattle.classes.proofs.Usages.{usages-held}
 use Rattle.classes.proofs.Soles.{start-soles, end-soles, asked-soles}
 use Rattle.naming.proofs.NamedRows.{reach-is}
 use borrow.Author.Needs.{needs}
-use Rattle.naming.proofs.Numbered.name_classes.Statement.{statement}
-use Rattle.naming.proofs.Numbered.name_classes.Tie as tie
+use Rattle.naming.proofs.NumberedAction.name_classes.Statement.{statement}
+use Rattle.naming.proofs.NumberedAction.name_classes.Tie as tie
 
-slice-aggregate-tally : tie.Need-slice-aggregate-tally
-slice-aggregate-tally c = search needs
+slice-aggregate-note-soles : tie.Need-slice-aggregate-note-soles
+slice-aggregate-note-soles c = search needs
 
-tally-requires : tie.Need-tally-requires
-tally-requires c κs = search needs
+note-soles-requires : tie.Need-note-soles-requires
+note-soles-requires c κs = search needs
 
 usages-at-requires : tie.Need-usages-at-requires
 usages-at-requires c κs = search needs
@@ -25,7 +25,7 @@ name-each-requires : tie.Need-name-each-requires
 name-each-requires c κs =
     let a = c .before .before .before .before .before .before .before .before .before .before .before .before .before .before .args in
     let p = c .before .before .before .before .before .before .before .before .before .before .before .before .before .before .pre in
-    let soles = c .before .before .before .before .before .before .before .before .before .tally .ensures refl in
+    let soles = c .before .before .before .before .before .before .before .before .before .note-soles .ensures refl in
     let first = start-soles (a .rows .now) (a .numbers .now) _ _ soles
     (c .before .before .before .before .before .before .usages-at .ensures .0 refl) in (
       record { rowed = omega arith; few = p .1 .0 },
@@ -62,7 +62,7 @@ name-each-requires-2 c κs =
     let p = c .before .before .before .before .before .before .before .before .before .before .before .before .before .before .before
     .before .pre
     in
-    let soles = c .before .before .before .before .before .before .before .before .before .before .before .tally .ensures refl in
+    let soles = c .before .before .before .before .before .before .before .before .before .before .before .note-soles .ensures refl in
     let first = start-soles (a .rows .now) (a .numbers .now) _ _ soles
     (c .before .before .before .before .before .before .before .before .usages-at .ensures .0 refl) in (
       record { rowed = omega arith; few = p .1 .0 },
@@ -103,7 +103,8 @@ returns-2 c =
             reaches =
                 λ j h.
                 asked-soles (b .rows .now) (b .numbers .now) _ _
-                (c .before .before .before .before .before .before .before .before .before .before .before .before .before .before .tally
+                (c .before .before .before .before .before .before .before .before .before .before .before .before .before .before
+                .note-soles
                 .ensures refl) refl j h
                 ∙ reach-is D a f (ap (pad 64) (usages-held true End (b .rows .now) _ (A .says .bounded) (A .listed) (A .apart)
                 (A .literals) (p .0))) j;
@@ -114,8 +115,8 @@ pub name-classes-spec : {M : Type 1} → statement M
 name-classes-spec =
     tie.close
     (tie.spec
-    slice-aggregate-tally
-    tally-requires
+    slice-aggregate-note-soles
+    note-soles-requires
     usages-at-requires
     name-each-requires
     same-length
