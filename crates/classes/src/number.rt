@@ -7,12 +7,13 @@ use literals::keys::component_by;
 use literals::keys::component_of;
 use literals::keys::key_tuple;
 use literals::keys::key_word;
+use records::bytes::found_or_equal;
 ghost use mathlib.Core.Path.{_≡_};
 ghost use mathlib.Core.List.{[]};
 ghost use Prim.Native.Nat.{_+_, _*_, _<_, _≤_};
 ghost use lib.Dec.{eqb};
 ghost use lib.ListN.{length, getD, take, drop};
-ghost use Rattle.records.specs.Lists.{position};
+ghost use Rattle.records.specs.Lists.{any, position};
 ghost use Rattle.literals.specs.Domain.{Domain, Action};
 ghost use Rattle.literals.specs.Decode.{maxLiterals};
 ghost use Rattle.classes.specs.Classes.{classes};
@@ -25,11 +26,26 @@ struct NumberedLiteral {
     count: usize,
 }
 
+// Whether one of n classes has a key tuple with this word.
+fn any_word(words: &[u64], n: usize, word: u64) -> bool
+    requires { ⌜ (n ≤ length (now words)) × (n ≤ maxLiterals) ⌝ }
+    ensures { λ r. ⌜ r ≡ any (eqb word) (take n (now (words .entry))) ⌝ }
+{
+    let mut found = false;
+    for c in 0..n {
+        found = found_or_equal(found, word, words[c]);
+    }
+    found
+}
+
 // The number of the first of n classes whose key tuple has this word, or n.
 fn class_of(words: &[u64], n: usize, word: u64) -> usize
     requires { ⌜ (n ≤ length (now words)) × (n ≤ maxLiterals) ⌝ }
     ensures { λ r. ⌜ r ≡ position (eqb word) (take n (now (words .entry))) ⌝ }
 {
+    if !any_word(words, n, word) {
+        return n;
+    }
     let mut c = 0;
     while c < n {
         if words[c] == word {

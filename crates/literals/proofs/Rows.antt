@@ -12,7 +12,7 @@ use lib.ListN.{length, getD, set, take, drop, replicate, length-append, length-r
 use lib.Seq.{drop-cons, getD-drop, getD-take, getD-append-add, drop-drop, length-take-le, take-all, drop-at, paste, paste-zero, take-paste, drop-paste}
 use borrow.Author.Tests.{eq-eqb, ne-eqb, eqb-true}
 use Rattle.records.specs.Lists.{In, any, all, sameList, sideBySide}
-use Rattle.records.proofs.Lists.{and-l, and-r, off, sameList-eq, any-same}
+use Rattle.records.proofs.Lists.{and-l, and-r, bool-cases, clash, off, sameList-eq, any-same}
 use Rattle.records.proofs.Memory.{paste-more, paste-length}
 use Rattle.literals.specs.Decode.{maxArguments, byte}
 use Rattle.literals.specs.Held.{keyBeside, keyClearedIn, rowOf, FourAt, EightAt, WordOf, fourBytes, meetByte, argumentsMeet, rowsMeet}
@@ -243,11 +243,18 @@ module _ (row t : List ℕ) (at : ℕ) {word r : ℕ} (W : WordOf row word) (h :
   whole : sameList eqb row (take 8 (drop at t)) ≡ sameList eqb (take 8 (drop 0 row)) (take 8 (drop at t))
   whole = ap (λ (l : List ℕ). sameList eqb l (take 8 (drop at t))) (sym (take-all 8 row (let n = W .long in omega arith)))
 
-  pub word-same : r ≡ word → sameList eqb row (take 8 (drop at t)) ≡ true
+  word-same : r ≡ word → sameList eqb row (take 8 (drop at t)) ≡ true
   word-same e = whole ∙ eight-same row t 0 at (let n = W .long in omega arith) h (W .bytes) A (sym e)
 
-  pub word-other : (r ≡ word → ⊥) → sameList eqb row (take 8 (drop at t)) ≡ false
+  word-other : (r ≡ word → ⊥) → sameList eqb row (take 8 (drop at t)) ≡ false
   word-other n = whole ∙ eight-other row t 0 at (let n = W .long in omega arith) h (W .bytes) A (λ e. n (sym e))
+
+  pub word-is : sameList eqb row (take 8 (drop at t)) ≡ eqb r word
+  word-is = go (bool-cases (eqb r word))
+    where
+      go : (eqb r word ≡ true) ⊎ (eqb r word ≡ false) → sameList eqb row (take 8 (drop at t)) ≡ eqb r word
+      go (inl e) = word-same (eqb-true r word e) ∙ sym e
+      go (inr e) = word-other (λ s. clash (eq-eqb r word s) e) ∙ sym e
 
 -- ---- the bytes of a number, and a row written by its number
 
@@ -410,6 +417,10 @@ module _ (p : List ℕ → Bool) (t : List ℕ) (n i : ℕ) where
   pub any-end : n ≤ i → any p (rowsIn (n - i) (drop (8 * i) t)) ≡ false
   any-end h = rw (rows-end 8 (drop (8 * i) t) n i h)
 
+  pub found-end : n ≤ i → (found : Bool) → found ≡ (found || any p (rowsIn (n - i) (drop (8 * i) t)))
+  found-end h true = refl
+  found-end h false = sym (any-end h)
+
   pub all-end : n ≤ i → all p (rowsIn (n - i) (drop (8 * i) t)) ≡ true
   all-end h = rw (rows-end 8 (drop (8 * i) t) n i h)
 
@@ -419,6 +430,12 @@ module _ (p : List ℕ → Bool) (t : List ℕ) (n i : ℕ) where
 
     pub any-miss : p (take 8 (drop (8 * i) t)) ≡ false → any p (rowsIn (n - i) (drop (8 * i) t)) ≡ any p (rowsIn (n - (i + 1)) (drop (8 * (i + 1)) t))
     any-miss e = rw (rows-more 8 t n i h, e)
+
+    -- a loop without an exit: what is found so far, and the rows from i on
+    pub found-step : (found r : Bool) → r ≡ (found || p (take 8 (drop (8 * i) t)))
+        → (r || any p (rowsIn (n - (i + 1)) (drop (8 * (i + 1)) t))) ≡ (found || any p (rowsIn (n - i) (drop (8 * i) t)))
+    found-step true r e = rw e
+    found-step false r e = rw (e, rows-more 8 t n i h)
 
     pub all-miss : p (take 8 (drop (8 * i) t)) ≡ false → all p (rowsIn (n - i) (drop (8 * i) t)) ≡ false
     all-miss e = rw (rows-more 8 t n i h, e)

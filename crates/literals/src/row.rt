@@ -1,4 +1,5 @@
 // Rows of 8 bytes: a payload, and FF to fill.
+use records::bytes::found_or_equal;
 ghost use mathlib.Core.Path.{_≡_};
 ghost use mathlib.Core.List.{List};
 ghost use Prim.Native.Nat.{ℕ, _+_, _-_, _*_, _<_, _≤_};
@@ -169,20 +170,19 @@ pub fn put_word(out: &mut [u8], at: usize, word: u64)
     put_four(out, at + 4, (word / 4294967296) as u32);
 }
 
-// Whether one of the rows from `from` to `to` is the row of a number.
+// Whether one of the rows from `from` to `to` is the row of a number. (Most often none is, so that all are looked at.)
 pub fn any_same(table: &[u8], from: usize, to: usize, word: u64) -> bool
     requires { ⌜ (from ≤ to) × (8 * to ≤ length (now table)) ⌝ }
     ensures { λ r. ⌜ ((row : List ℕ) → WordOf row word
         → r ≡ any (sameList eqb row) (rowsIn (to - from) (drop (8 * from) (now (table .entry))))) ⌝ }
 {
+    let mut found = false;
     let mut i = from;
     while i < to {
-        if eight_at(table, 8 * i) == word {
-            return true;
-        }
+        found = found_or_equal(found, eight_at(table, 8 * i), word);
         i += 1;
     }
-    false
+    found
 }
 
 // Whether the arguments of a payload meet those of the row at an offset. What fills the payload's row meets everything.

@@ -1,5 +1,6 @@
 // Bytes of a memory: written at an offset, looked through from an offset on, and one as a number of the machine's width.
 ghost use mathlib.Core.Path.{_≡_};
+ghost use mathlib.Core.Bool.{_||_};
 ghost use Prim.Native.Nat.{_+_, _<_, _≤_};
 ghost use lib.Dec.{eqb, leb};
 ghost use lib.ListN.{length, drop, replicate};
@@ -60,4 +61,15 @@ pub fn count_from(s: &[u8], from: usize, b: u8) -> usize
         i += 1;
     }
     n
+}
+
+// Whether something is found already, or two numbers are equal. A loop that asks this of each number, and goes on where it is found, is
+// compiled to look at several at once.
+pub fn found_or_equal(found: bool, x: u64, y: u64) -> bool
+    ensures { λ r. ⌜ r ≡ (found || eqb x y) ⌝ }
+{
+    if found {
+        return true;
+    }
+    x == y
 }

@@ -1,23 +1,25 @@
--- `any_same` meets its contract. The loop's invariant: the rows left answer as all do. Assumes nothing.
-use mathlib.Core.Path.{_≡_, refl, sym, _∙_}
+-- `any_same` meets its contract. The loop's invariant: what is found, or the rows left, answer as all do. Assumes nothing.
+use mathlib.Core.Path.{_≡_, refl, sym, ap, _∙_}
+use mathlib.Core.Bool.{Bool, _||_}
 use mathlib.Core.List.{List}
 use Prim.Native.Nat.{ℕ, _-_, _*_, _≤_}
 use native.Mathlib.Omega.{arith}
 use lib.Dec.{eqb}
+use borrow.Author.Needs.{needs}
 use lib.ListN.{drop}
 use Rattle.records.specs.Lists.{any, sameList}
 use Rattle.literals.specs.Held.{WordOf, rowsIn}
-use Rattle.literals.proofs.Rows.{word-same, word-other, any-hit, any-miss, any-end}
+use Rattle.literals.proofs.Rows.{word-is, found-step, found-end}
 use Rattle.literals.proofs.row.any_same.Statement.{statement}
 use Rattle.literals.proofs.row.any_same.Tie as tie
 
 abbrev Inv-loop : tie.InvT-loop
-Inv-loop table from to word i₀ i =
-    (i ≤ to) × ((row : List ℕ) → WordOf row word → any (sameList eqb row) (rowsIn (to - i) (drop (8 * i) table))
+Inv-loop table from to word found₀ i₀ found i =
+    (i ≤ to) × ((row : List ℕ) → WordOf row word → (found || any (sameList eqb row) (rowsIn (to - i) (drop (8 * i) table)))
     ≡ any (sameList eqb row) (rowsIn (to - from) (drop (8 * from) table)))
 
 abbrev μ-loop : tie.MeasureT-loop
-μ-loop table from to word i₀ i = to - i
+μ-loop table from to word found₀ i₀ found i = to - i
 
 loop-holds : tie.Need-loop-holds Inv-loop μ-loop
 loop-holds c = (omega arith, λ row W. refl)
@@ -28,13 +30,8 @@ mul-eight-at c = omega arith
 eight-at-requires : tie.Need-eight-at-requires Inv-loop μ-loop
 eight-at-requires c κs = omega arith
 
-returns : tie.Need-returns Inv-loop μ-loop
-returns c =
-    let a = c .before .before .before .before .before .args in
-    let l = c .before .before .before .loop in
-    λ row W. sym (any-hit (sameList eqb row) (a .table .now) (a .to) (l .i) (omega arith)
-    (word-same row (a .table .now) (8 * l .i) W (omega arith) (c .before .eight-at .ensures) (c .if1 .taken)))
-    ∙ l .inv .1 row W
+found-or-equal-requires : tie.Need-found-or-equal-requires Inv-loop μ-loop
+found-or-equal-requires c κs = search needs
 
 add-i : tie.Need-add-i Inv-loop μ-loop
 add-i c = omega arith
@@ -47,16 +44,18 @@ loop-again c =
     let a = c .before .before .before .before .before .args in
     let l = c .before .before .before .loop in (
       omega arith,
-      λ row W. sym (any-miss (sameList eqb row) (a .table .now) (a .to) (l .i) (omega arith)
-          (word-other row (a .table .now) (8 * l .i) W (omega arith) (c .before .eight-at .ensures) (c .if1 .left)))
+      λ row W.
+          let is = word-is row (a .table .now) (8 * l .i) W (omega arith) (c .before .eight-at .ensures) in
+          found-step (sameList eqb row) (a .table .now) (a .to) (l .i) (omega arith) (l .found) _
+          (c .found-or-equal .ensures ∙ ap (λ (b : Bool). l .found || b) (sym is))
           ∙ l .inv .1 row W,
     )
 
-returns-2 : tie.Need-returns-2 Inv-loop μ-loop
-returns-2 c =
+returns : tie.Need-returns Inv-loop μ-loop
+returns c =
     let a = c .before .before .before .args in
     let l = c .before .loop in
-    λ row W. sym (any-end (sameList eqb row) (a .table .now) (a .to) (l .i) (omega arith)) ∙ l .inv .1 row W
+    λ row W. found-end (sameList eqb row) (a .table .now) (a .to) (l .i) (omega arith) (l .found) ∙ l .inv .1 row W
 
 pub any-same-spec : {M : Type 1} → statement M
 any-same-spec =
@@ -67,8 +66,8 @@ any-same-spec =
     loop-holds
     mul-eight-at
     eight-at-requires
-    returns
+    found-or-equal-requires
     add-i
     loop-less
     loop-again
-    returns-2)
+    returns)
