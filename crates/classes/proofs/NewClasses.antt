@@ -1,6 +1,7 @@
 -- The class of one literal, by its key tuple and those of the classes before it. Assumes nothing.
 use mathlib.Core.Path.{_≡_, refl, sym, ap, _∙_}
-use mathlib.Core.Bool.{Bool, true, false, cond}
+use mathlib.Core.Bool.{Bool, true, false, _||_, cond}
+use mathlib.Core.Logic.{_⊎_, inl, inr}
 use mathlib.Core.List.{List, [], _∷_, map}
 use Prim.Native.Nat.{ℕ, zero, suc, _+_, _-_, _*_, _≤_, _<_}
 use native.Mathlib.Numerals.{add-one}
@@ -9,7 +10,8 @@ use lib.Dec.{eqb}
 use lib.ListN.{length, getD, set, take, drop, replicate, drop-of-length-le}
 use lib.Seq.{drop-cons, getD-take, length-take-le}
 use borrow.Author.Tests.{eq-eqb, ne-eqb}
-use Rattle.records.specs.Lists.{position}
+use Rattle.records.specs.Lists.{any, position}
+use Rattle.records.proofs.Lists.{bool-cases, clash}
 use Rattle.literals.specs.Decode.{byte}
 use Rattle.literals.proofs.Rows.{part-at}
 use Rattle.literals.proofs.Heads.{parts-length, part-row}
@@ -50,6 +52,28 @@ module _ (p : ℕ → Bool) (words : List ℕ) (n : ℕ) (room : n ≤ length wo
         ∙ ap (λ (b : Bool). c + cond b zero (suc (position p (drop (suc c) first)))) t in
         let f : position p (drop (c + 1) first) ≡ position p (drop (suc c) first) = ap (λ (k : ℕ). position p (drop k first)) (add-one c) in
         omega arith
+
+-- ---- a loop without an exit: what is found so far, and the numbers from c on
+
+pub none-found : (p : ℕ → Bool) (xs : List ℕ) → any p xs ≡ false → position p xs ≡ length xs
+none-found p [] e = refl
+none-found p (x ∷ xs) e = go (bool-cases (p x)) (none-found p xs)
+  where
+  go : (p x ≡ true) ⊎ (p x ≡ false) → (any p xs ≡ false → position p xs ≡ length xs) → position p (x ∷ xs) ≡ length (x ∷ xs)
+  go (inl t) more = absurd (clash {b = any p (x ∷ xs)} (ap (λ (b : Bool). b || any p xs) t) e)
+  go (inr f) more = rw (f, more (sym (ap (λ (b : Bool). b || any p xs) f) ∙ e))
+
+module _ (p : ℕ → Bool) (words : List ℕ) (n : ℕ) (room : n ≤ length words) where
+  pub seen-end : (c : ℕ) → n ≤ c → (found : Bool) → found ≡ (found || any p (drop c (take n words)))
+  seen-end c h true = refl
+  seen-end c h false =
+      let l = length-first p words n room in
+      sym (ap (λ (xs : List ℕ). any p xs) (drop-of-length-le (take n words) {i = c} (omega arith)))
+
+  pub seen-step : (c : ℕ) → c < n → (found r : Bool) → r ≡ (found || p (getD words c 0))
+      → (r || any p (drop (c + 1) (take n words))) ≡ (found || any p (drop c (take n words)))
+  seen-step c h true r e = rw e
+  seen-step c h false r e = rw (e, next p words n room c h, add-one c)
 
 -- ---- one literal's class
 

@@ -1,12 +1,15 @@
--- `class_of` meets its contract: no number before c is the word, so the place is c and that from c on. Assumes nothing.
+-- `class_of` meets its contract: where some number is the word, no number before c is, so the place is c and that from c on. Assumes nothing.
 use mathlib.Core.Path.{_≡_, sym, _∙_}
 use Prim.Native.Nat.{_+_, _-_, _≤_}
 use native.Mathlib.Omega.{arith}
 use lib.Dec.{eqb}
 use lib.ListN.{take, drop}
+use lib.Seq.{length-take-le}
+use borrow.Author.Needs.{needs}
 use borrow.Author.Tests.{eq-eqb, ne-eqb}
 use Rattle.records.specs.Lists.{position}
-use Rattle.classes.proofs.NewClasses.{first-hit, first-miss, first-end}
+use Rattle.records.proofs.Lists.{not-true}
+use Rattle.classes.proofs.NewClasses.{first-hit, first-miss, first-end, none-found}
 use Rattle.classes.proofs.number.class_of.Statement.{statement}
 use Rattle.classes.proofs.number.class_of.Tie as tie
 
@@ -16,20 +19,29 @@ Inv-loop words n word c₀ c = (c ≤ n) × (c + position (eqb word) (drop c (ta
 abbrev μ-loop : tie.MeasureT-loop
 μ-loop words n word c₀ c = n - c
 
-loop-holds : tie.Need-loop-holds Inv-loop μ-loop
-loop-holds c = (omega arith, omega arith)
-
-mul-if1 : tie.Need-mul-if1 Inv-loop μ-loop
-mul-if1 c = omega arith
-
-shared-slice-read-if1 : tie.Need-shared-slice-read-if1 Inv-loop μ-loop
-shared-slice-read-if1 c = omega arith
+any-word-requires : tie.Need-any-word-requires Inv-loop μ-loop
+any-word-requires c κs = search needs
 
 returns : tie.Need-returns Inv-loop μ-loop
 returns c =
-    let a = c .before .before .before .before .args in
+    let a = c .before .before .before .args in
+    let none = none-found (eqb (a .word)) (take (a .n) (a .words .now)) (sym (c .before .any-word .ensures) ∙ not-true _ (c .if1 .taken)) in
+    sym (none ∙ length-take-le (a .n) (a .words .now) (c .before .before .before .pre .0))
+
+loop-holds : tie.Need-loop-holds Inv-loop μ-loop
+loop-holds c = (omega arith, omega arith)
+
+mul-if2 : tie.Need-mul-if2 Inv-loop μ-loop
+mul-if2 c = omega arith
+
+shared-slice-read-if2 : tie.Need-shared-slice-read-if2 Inv-loop μ-loop
+shared-slice-read-if2 c = omega arith
+
+returns-2 : tie.Need-returns-2 Inv-loop μ-loop
+returns-2 c =
+    let a = c .before .before .before .before .before .before .before .args in
     let l = c .before .before .before .loop in
-    sym (first-hit (eqb (a .word)) (a .words .now) (a .n) (c .before .before .before .before .pre .0) (l .c) (omega arith) (eq-eqb _ _ (sym (c .if1 .taken)))) ∙ l .inv .1
+    sym (first-hit (eqb (a .word)) (a .words .now) (a .n) (c .before .before .before .before .before .before .before .pre .0) (l .c) (omega arith) (eq-eqb _ _ (sym (c .if2 .taken)))) ∙ l .inv .1
 
 add-c : tie.Need-add-c Inv-loop μ-loop
 add-c c = omega arith
@@ -39,16 +51,17 @@ loop-less c = omega arith
 
 loop-again : tie.Need-loop-again Inv-loop μ-loop
 loop-again c =
-    let a = c .before .before .before .before .args in
+    let a = c .before .before .before .before .before .before .before .args in
     let l = c .before .before .before .loop in
-    (omega arith, first-miss (eqb (a .word)) (a .words .now) (a .n) (c .before .before .before .before .pre .0) (l .c) (omega arith) (ne-eqb _ _ (λ e. c .if1 .left (sym e))) ∙ l .inv .1)
+    let next = first-miss (eqb (a .word)) (a .words .now) (a .n) (c .before .before .before .before .before .before .before .pre .0) (l .c) (omega arith) (ne-eqb _ _ (λ e. c .if2 .left (sym e))) in
+    (omega arith, next ∙ l .inv .1)
 
-returns-2 : tie.Need-returns-2 Inv-loop μ-loop
-returns-2 c =
-    let a = c .before .before .args in
+returns-3 : tie.Need-returns-3 Inv-loop μ-loop
+returns-3 c =
+    let a = c .before .before .before .before .before .args in
     let l = c .before .loop in
     let e : l .c ≡ a .n = omega arith in
-    sym e ∙ sym (first-end (eqb (a .word)) (a .words .now) (a .n) (c .before .before .pre .0) (l .c) (omega arith)) ∙ l .inv .1
+    sym e ∙ sym (first-end (eqb (a .word)) (a .words .now) (a .n) (c .before .before .before .before .before .pre .0) (l .c) (omega arith)) ∙ l .inv .1
 
 pub class-of-spec : {M : Type 1} → statement M
 class-of-spec =
@@ -56,11 +69,13 @@ class-of-spec =
     (tie.spec
     Inv-loop
     μ-loop
-    loop-holds
-    mul-if1
-    shared-slice-read-if1
+    any-word-requires
     returns
+    loop-holds
+    mul-if2
+    shared-slice-read-if2
+    returns-2
     add-c
     loop-less
     loop-again
-    returns-2)
+    returns-3)

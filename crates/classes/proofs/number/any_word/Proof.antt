@@ -1,0 +1,64 @@
+-- `any_word` meets its contract. The loop's invariant: what is found, or the numbers left, answer as all do. Assumes nothing.
+use mathlib.Core.Path.{_≡_, refl, _∙_}
+use mathlib.Core.Bool.{_||_}
+use Prim.Native.Nat.{_-_, _≤_}
+use native.Mathlib.Omega.{arith}
+use lib.Dec.{eqb}
+use lib.ListN.{take, drop}
+use borrow.Author.Needs.{needs}
+use Rattle.records.specs.Lists.{any}
+use Rattle.classes.proofs.NewClasses.{seen-end, seen-step}
+use Rattle.classes.proofs.number.any_word.Statement.{statement}
+use Rattle.classes.proofs.number.any_word.Tie as tie
+
+abbrev Inv-loop : tie.InvT-loop
+Inv-loop words n word found₀ c₀ found c = (c ≤ n) × ((found || any (eqb word) (drop c (take n words))) ≡ any (eqb word) (take n words))
+
+abbrev μ-loop : tie.MeasureT-loop
+μ-loop words n word found₀ c₀ found c = n - c
+
+loop-holds : tie.Need-loop-holds Inv-loop μ-loop
+loop-holds c = (omega arith, refl)
+
+mul-found-or-equal : tie.Need-mul-found-or-equal Inv-loop μ-loop
+mul-found-or-equal c = omega arith
+
+shared-slice-read-found-or-equal : tie.Need-shared-slice-read-found-or-equal Inv-loop μ-loop
+shared-slice-read-found-or-equal c = omega arith
+
+found-or-equal-requires : tie.Need-found-or-equal-requires Inv-loop μ-loop
+found-or-equal-requires c κs = search needs
+
+add-c : tie.Need-add-c Inv-loop μ-loop
+add-c c = omega arith
+
+loop-less : tie.Need-loop-less Inv-loop μ-loop
+loop-less c = omega arith
+
+loop-again : tie.Need-loop-again Inv-loop μ-loop
+loop-again c =
+    let a = c .before .before .before .before .before .args in
+    let l = c .before .before .before .loop in
+    let room = c .before .before .before .before .before .pre .0 in
+    (omega arith, seen-step (eqb (a .word)) (a .words .now) (a .n) room (l .c) (omega arith) (l .found) _ (c .found-or-equal .ensures) ∙ l .inv .1)
+
+returns : tie.Need-returns Inv-loop μ-loop
+returns c =
+    let a = c .before .before .before .args in
+    let l = c .before .loop in
+    seen-end (eqb (a .word)) (a .words .now) (a .n) (c .before .before .before .pre .0) (l .c) (omega arith) (l .found) ∙ l .inv .1
+
+pub any-word-spec : {M : Type 1} → statement M
+any-word-spec =
+    tie.close
+    (tie.spec
+    Inv-loop
+    μ-loop
+    loop-holds
+    mul-found-or-equal
+    shared-slice-read-found-or-equal
+    found-or-equal-requires
+    add-c
+    loop-less
+    loop-again
+    returns)
