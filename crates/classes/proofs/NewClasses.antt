@@ -59,9 +59,9 @@ pub none-found : (p : ℕ → Bool) (xs : List ℕ) → any p xs ≡ false → p
 none-found p [] e = refl
 none-found p (x ∷ xs) e = go (bool-cases (p x)) (none-found p xs)
   where
-  go : (p x ≡ true) ⊎ (p x ≡ false) → (any p xs ≡ false → position p xs ≡ length xs) → position p (x ∷ xs) ≡ length (x ∷ xs)
-  go (inl t) more = absurd (clash {b = any p (x ∷ xs)} (ap (λ (b : Bool). b || any p xs) t) e)
-  go (inr f) more = rw (f, more (sym (ap (λ (b : Bool). b || any p xs) f) ∙ e))
+    go : (p x ≡ true) ⊎ (p x ≡ false) → (any p xs ≡ false → position p xs ≡ length xs) → position p (x ∷ xs) ≡ length (x ∷ xs)
+    go (inl t) more = absurd (clash {b = any p (x ∷ xs)} (ap (λ (b : Bool). b || any p xs) t) e)
+    go (inr f) more = rw (f, more (sym (ap (λ (b : Bool). b || any p xs) f) ∙ e))
 
 module _ (p : ℕ → Bool) (words : List ℕ) (n : ℕ) (room : n ≤ length words) where
   pub seen-end : (c : ℕ) → n ≤ c → (found : Bool) → found ≡ (found || any p (drop c (take n words)))

@@ -360,7 +360,7 @@ fn is_changed(rows: &[u8], numbers: &[u8], usages: &Marks, class: u8, i: usize) 
     if any_same(rows, numbers, usages, class, 3, i) {
         return true;
     }
-    is_deleted(rows, numbers, usages, class, i)
+    is_deleted(&rows[..], &numbers[..], usages, class, i)
 }
 
 // Whether the row `j` is a false condition, add or delete of a class, with this relation.
@@ -538,12 +538,18 @@ pub fn name_at(
         return Name::Heavy;
     }
     if conditions == 0 {
-        if first_uncovered(head, rows, numbers, usages, class) == components_in(head) {
+        if first_uncovered(head, &rows[..], &numbers[..], usages, class) == components_in(head) {
             return Name::Bounded;
         }
         return Name::Unbounded;
     }
-    if is_changed(rows, numbers, usages, class, conditions as usize - 1) {
+    if is_changed(
+        &rows[..],
+        &numbers[..],
+        usages,
+        class,
+        conditions as usize - 1,
+    ) {
         return Name::Balanced;
     }
     Name::Unbalanced
@@ -620,5 +626,11 @@ pub fn is_journey(
     if end.adds == 255 {
         return false;
     }
-    is_deleted(rows, numbers, usages, class, condition as usize - 1)
+    is_deleted(
+        &rows[..],
+        &numbers[..],
+        usages,
+        class,
+        condition as usize - 1,
+    )
 }

@@ -107,8 +107,8 @@ fn name_class(
     let first = sole_in(soles, AT_START, class);
     let start = name_at(
         head,
-        rows,
-        numbers,
+        &rows[..],
+        &numbers[..],
         at_start,
         first.conditions,
         first,
@@ -119,8 +119,8 @@ fn name_class(
         let asked = soles[MAX_LITERALS * ASKED + class];
         return ClassNames {
             start,
-            end: name_at(head, rows, numbers, at_end, asked, last, number),
-            journey: is_journey(rows, numbers, at_start, first, last, number),
+            end: name_at(head, &rows[..], &numbers[..], at_end, asked, last, number),
+            journey: is_journey(&rows[..], &numbers[..], at_start, first, last, number),
         };
     }
     ClassNames {
@@ -218,7 +218,16 @@ impl NumberedAction {
         let lasting = self.lasting;
         let mut next = Naming::new(self.rows);
         for class in 0..count {
-            let named = name_class(head, rows, numbers, at_start, at_end, soles, class, lasting);
+            let named = name_class(
+                head,
+                &rows[..],
+                &numbers[..],
+                at_start,
+                at_end,
+                soles,
+                class,
+                lasting,
+            );
             next = next.with_class(class as u8, lasting, named, names);
         }
         next
@@ -241,14 +250,30 @@ impl NumberedAction {
         let n = numbers.len();
         let mut soles = [0u8; 5 * MAX_LITERALS];
         let mut at_start = [0u8; MAX_LITERALS];
-        note_soles(rows, numbers, &mut soles);
-        usages_at(false, rows, n, Moment::Start, &mut at_start);
+        note_soles(&rows[..], &numbers[..], &mut soles);
+        usages_at(false, &rows[..], n, Moment::Start, &mut at_start);
         if !self.lasting {
-            return self.name_each(head, rows, numbers, &at_start, &at_start, &soles, names);
+            return self.name_each(
+                head,
+                &rows[..],
+                &numbers[..],
+                &at_start,
+                &at_start,
+                &soles,
+                names,
+            );
         }
         let mut at_end = [0u8; MAX_LITERALS];
-        usages_at(false, rows, n, Moment::End, &mut at_end);
-        self.name_each(head, rows, numbers, &at_start, &at_end, &soles, names)
+        usages_at(false, &rows[..], n, Moment::End, &mut at_end);
+        self.name_each(
+            head,
+            &rows[..],
+            &numbers[..],
+            &at_start,
+            &at_end,
+            &soles,
+            names,
+        )
     }
 }
 
@@ -279,13 +304,13 @@ pub fn name_action(
         → (r .classes ≡ length (classes D a)) × (r .summary ≡ summaryOf D a)
         × Listed (before ++ rowsOfClasses D a i 0 (classes D a)) (r .rows) (now (names .exit)) old) ⌝ }
 {
-    let classes = number_classes(head, places, rows, numbers, words);
+    let classes = number_classes(head, places, &rows[..], numbers, words);
     let numbered = NumberedAction {
         rows: named,
         classes,
         lasting,
     };
-    let naming = numbered.name_classes(head, rows, numbers, names);
+    let naming = numbered.name_classes(head, &rows[..], &numbers[..], names);
     let summary = naming.summary;
     NamedAction {
         rows: naming.rows,
