@@ -2,21 +2,19 @@
 use mathlib.Core.Path.{_≡_, refl, sym, ap, ap₂, _∙_}
 use mathlib.Core.Bool.{Bool, true, false, cond, _&&_}
 use mathlib.Core.List.{List, [], _∷_, _++_}
-use Prim.Native.Nat.{ℕ, zero, suc, _+_, _-_, _*_, _≤_, _<_}
+use Prim.Native.Nat.{ℕ, zero, suc, _+_, _-_, _*_, _%_, _≤_, _<_}
 use native.Mathlib.Numerals.{add-one}
 use native.Mathlib.Nat.{add-comm, mul-zero, mul-suc}
 use native.Mathlib.Omega.{arith}
 use lib.Dec.{eqb}
-use lib.ListN.{length, getD, set, take, drop, replicate, length-append, length-replicate, drop-of-length-le}
-use lib.Seq.{drop-cons, drop-drop, take-all, take-at}
+use lib.ListN.{length, getD, take, drop, replicate, length-append, List·getD-append, drop-of-length-le}
+use lib.Seq.{drop-cons, drop-drop, getD-append-add, take-all, take-at}
 use borrow.Author.Tests.{eq-eqb, ne-eqb, eqb-true, eqb-false, lt-ltb, le-ltb}
 use Rattle.records.specs.Lists.{sameList, position, numbersFrom}
-use Rattle.records.specs.Memory.{over}
-use Rattle.records.proofs.Memory.{over-more, drop-replicate}
 use Rattle.literals.specs.Domain.{key, isKey}
 use Rattle.literals.specs.Decode.{byte, labelOf}
-use Rattle.literals.specs.Held.{rowOf, rowsBy, placeUnder, argumentAt, underKey, underKeys, keyRow, keyRows, wordFrom, keyWord}
-use Rattle.literals.proofs.Rows.{length-row, eight-by-four, same-miss, same-hit, same-end, length-part, part-at, rows-more, rows-end}
+use Rattle.literals.specs.Held.{EightAt, WordOf, rowOf, rowsBy, placeUnder, argumentAt, underKey, underKeys, keyRow, keyRows, wordFrom, keyWord}
+use Rattle.literals.proofs.Rows.{length-row, row-inside, row-filled, eight-by-four, eight-before, eight-filled, word-front, same-miss, same-hit, same-end, length-part, part-at, rows-more, rows-end}
 use Rattle.literals.proofs.Bytes.{label-key}
 
 -- ---- the place of the first row that passes, from row c on
@@ -132,30 +130,58 @@ pub length-keys : (n : ℕ) (bs vs : List ℕ) → length (underKeys n bs vs) �
 length-keys zero bs vs = refl
 length-keys (suc n) bs vs = length-append (underKeys n bs vs) (underKey n bs vs ∷ []) ∙ omega (arith, length-keys n bs vs)
 
-row-over : (l : List ℕ) → rowOf l ≡ over l (replicate 8 255)
-unfolding over
-row-over l = rw drop-replicate
-
-row-more : (l : List ℕ) (k v : ℕ) → length l ≡ k → k < 8 → set (rowOf l) k v ≡ rowOf (l ++ (v ∷ []))
-row-more l k v e h =
-    ap (λ (a : List ℕ). set a k v) (row-over l)
-    ∙ over-more l (replicate 8 255) k v e (simp length-replicate h)
-    ∙ sym (row-over (l ++ (v ∷ [])))
-
-pub tuple-none : (part row : List ℕ) → replicate 8 255 ≡ keyRow 0 part row
-unfolding keyRow
-tuple-none part row = refl
-
-pub tuple-more : (part row t : List ℕ) (k r : ℕ) → k < 8 → t ≡ keyRow k part row → r ≡ underKey k (drop 1 part) (drop 2 row) → set t k r ≡ keyRow (k + 1) part row
-unfolding keyRow
-tuple-more part row t k r h e f =
-    ap₂ (λ (a : List ℕ) (v : ℕ). set a k v) e f
-    ∙ row-more (underKeys k (drop 1 part) (drop 2 row)) k (underKey k (drop 1 part) (drop 2 row)) (length-keys k (drop 1 part) (drop 2 row)) h
-    ∙ ap (λ (n : ℕ). rowOf (underKeys n (drop 1 part) (drop 2 row))) (sym (add-one k))
-
 pub length-tuple : (n : ℕ) (part row : List ℕ) → n ≤ 8 → length (keyRow n part row) ≡ 8
 unfolding keyRow
 length-tuple n part row h = length-row (underKeys n (drop 1 part) (drop 2 row)) (omega (arith, length-keys n (drop 1 part) (drop 2 row)))
+
+-- what stands under the key k
+under-at : (n k : ℕ) (bs vs : List ℕ) → k < n → getD (underKeys n bs vs) k 0 ≡ underKey k bs vs
+under-at zero k bs vs h = absurd (omega arith)
+under-at (suc n) k bs vs h = go (eqb k n) refl (under-at n k bs vs)
+  where
+    go : (b : Bool) → eqb k n ≡ b → (k < n → getD (underKeys n bs vs) k 0 ≡ underKey k bs vs)
+        → getD (underKeys n bs vs ++ (underKey n bs vs ∷ [])) k 0 ≡ underKey k bs vs
+    go true e ih =
+        let s = eqb-true k n e in
+        let l = length-keys n bs vs in
+        let z : k ≡ length (underKeys n bs vs) + 0 = omega arith in
+        ap (λ (i : ℕ). getD (underKeys n bs vs ++ (underKey n bs vs ∷ [])) i 0) z
+        ∙ getD-append-add (underKeys n bs vs) (underKey n bs vs ∷ []) 0 0
+        ∙ ap (λ (i : ℕ). underKey i bs vs) (sym s)
+    go false e ih =
+        let s = eqb-false k n e in
+        let l = length-keys n bs vs in
+        let g : k < n = omega arith in
+        List·getD-append (underKeys n bs vs) (underKey n bs vs ∷ []) 0 k (omega arith) ∙ ih g
+
+-- ---- its row as a number: that of the eight bytes from the key k on, from the last key to the first
+
+-- behind its row stands FF
+abbrev pub tupleFilled : ℕ → List ℕ → List ℕ → List ℕ
+tupleFilled n part row = keyRow n part row ++ replicate 8 255
+
+pub number-none : (n : ℕ) (part row : List ℕ) (k : ℕ) → n ≤ 8 → k ≡ n → EightAt (tupleFilled n part row) k 18446744073709551615
+unfolding keyRow
+number-none n part row k h e =
+    let u = underKeys n (drop 1 part) (drop 2 row) in
+    let l = length-keys n (drop 1 part) (drop 2 row) in
+    eight-filled (rowOf u ++ replicate 8 255) k
+    (λ i g. ap (λ (j : ℕ). getD (rowOf u ++ replicate 8 255) (j + i) 0) (e ∙ sym l) ∙ row-filled u i (omega arith) g)
+
+pub number-more : (n : ℕ) (part row : List ℕ) (k m : ℕ) {b w : ℕ} → n ≤ 8 → k < n → m ≡ k + 1 → (b ≡ underKey k (drop 1 part) (drop 2 row)) × (b < 256)
+    → EightAt (tupleFilled n part row) m w → EightAt (tupleFilled n part row) k (256 * (w % 72057594037927936) + b)
+unfolding keyRow
+number-more n part row k m h g e i A =
+    let u = underKeys n (drop 1 part) (drop 2 row) in
+    let l = length-keys n (drop 1 part) (drop 2 row) in
+    let r = length-row u (omega arith) in
+    eight-before (rowOf u ++ replicate 8 255) k m e
+    (i .0 ∙ sym (under-at n k (drop 1 part) (drop 2 row) g) ∙ row-inside u k (omega arith) ∙ sym (List·getD-append (rowOf u) (replicate 8 255) 0 k (omega arith)), i .1)
+    A
+
+pub number-all : (n : ℕ) (part row : List ℕ) (k : ℕ) {w : ℕ} → n ≤ 8 → k ≤ 0 → EightAt (tupleFilled n part row) k w → WordOf (keyRow n part row) w
+number-all n part row zero h e A = word-front (keyRow n part row) (replicate 8 255) (length-tuple n part row h) A
+number-all n part row (suc k) h e A = absurd (omega arith)
 
 -- ---- key tuples as numbers
 

@@ -8,7 +8,7 @@ use native.Mathlib.Numerals.{add-one}
 use native.Mathlib.Nat.{sub-zero, mul-suc}
 use native.Mathlib.Omega.{arith}
 use lib.Dec.{eqb}
-use lib.ListN.{length, getD, set, take, drop, replicate, length-append, length-replicate, length-drop, getD-replicate, List·getD-append, drop-of-length-le}
+use lib.ListN.{length, getD, set, take, drop, replicate, length-append, length-replicate, length-drop, getD-replicate, replicate-append-replicate, List·getD-append, drop-of-length-le}
 use lib.Seq.{drop-cons, getD-drop, getD-take, getD-append-add, drop-drop, length-take-le, take-all, drop-at, paste, paste-zero, take-paste, drop-paste}
 use borrow.Author.Tests.{eq-eqb, ne-eqb, eqb-true}
 use Rattle.records.specs.Lists.{In, any, all, sameList, sideBySide}
@@ -32,6 +32,14 @@ row-behind p i h g =
     sym (ap (λ (k : ℕ). getD (rowOf p) k 0) e
     ∙ getD-append-add p (replicate (8 - length p) 255) (i - length p) 0
     ∙ getD-replicate (8 - length p) (i - length p) 255 0 (omega arith))
+
+-- behind a payload there is nothing but FF, as far as eight bytes behind its row
+pub row-filled : (p : List ℕ) (i : ℕ) → length p ≤ 8 → i < 8 → getD (rowOf p ++ replicate 8 255) (length p + i) 0 ≡ 255
+row-filled p i h g =
+    ap (λ (s : List ℕ). getD s (length p + i) 0)
+    (append-assoc p (replicate (8 - length p) 255) (replicate 8 255) ∙ ap (λ (s : List ℕ). p ++ s) (replicate-append-replicate (8 - length p) 8 255))
+    ∙ getD-append-add p (replicate (8 - length p + 8) 255) i 0
+    ∙ getD-replicate (8 - length p + 8) i 255 0 (omega arith)
 
 -- ---- writing it
 
@@ -213,6 +221,78 @@ word-of p l {a} {b} {c} {d} {e} {f} {g} {h} i j k m n o q r =
           };
     }
 
+-- the number of eight bytes, where that of the eight from the next one on is known: a byte comes in below, and the highest falls out
+lowered : (low h y w : ℕ) → low < 4294967296 → h < 16777216 → w ≡ low + 4294967296 * (h + 16777216 * y) → w % 72057594037927936 ≡ low + 4294967296 * h
+lowered low h y w l g e = omega arith
+
+pub eight-before : (s : List ℕ) (k m : ℕ) {b w : ℕ} → m ≡ k + 1 → IsByte s k b → EightAt s m w → EightAt s k (256 * (w % 72057594037927936) + b)
+eight-before s k m {b} {w} e i A =
+    let L = A .lows in
+    let H = A .highs in
+    let three : m + 3 ≡ k + 4 = omega arith in
+    let l = L .is in
+    let h = H .is in
+    let a = A .is in
+    let h0 = H .first in
+    let h1 = H .second in
+    let h2 = H .third in
+    let kept =
+    lowered (A .low) (getD s (m + 4) 0 + 256 * getD s (m + 4 + 1) 0 + 65536 * getD s (m + 4 + 2) 0) (getD s (m + 4 + 3) 0) w (four-small L) (omega arith) (omega arith)
+    in
+    record {
+      low = b + 256 * getD s m 0 + 65536 * getD s (m + 1) 0 + 16777216 * getD s (m + 2) 0;
+      high = getD s (m + 3) 0 + 256 * getD s (m + 4) 0 + 65536 * getD s (m + 4 + 1) 0 + 16777216 * getD s (m + 4 + 2) 0;
+      lows = four-of s k m (m + 1) (m + 2) e (omega arith) (omega arith) i (refl, L .first) (refl, L .second) (refl, L .third);
+      highs =
+          four-of s (k + 4) (m + 4) (m + 4 + 1) (m + 4 + 2) (omega arith) (omega arith) (omega arith) (ap (λ (n : ℕ). getD s n 0) three, L .fourth) (refl, H .first)
+          (refl, H .second) (refl, H .third);
+      is = omega arith;
+    }
+
+-- that of eight bytes that are FF
+pub eight-filled : (s : List ℕ) (k : ℕ) → ((i : ℕ) → i < 8 → getD s (k + i) 0 ≡ 255) → EightAt s k 18446744073709551615
+eight-filled s k f =
+    let z : k ≡ k + 0 = omega arith in
+    record {
+      low = 4294967295;
+      high = 4294967295;
+      lows =
+          four-of s k (k + 1) (k + 2) (k + 3) refl refl refl (sym (ap (λ (n : ℕ). getD s n 0) z ∙ f 0 (omega arith)), omega arith) (sym (f 1 (omega arith)), omega arith)
+          (sym (f 2 (omega arith)), omega arith) (sym (f 3 (omega arith)), omega arith);
+      highs =
+          four-of s (k + 4) (k + 5) (k + 6) (k + 7) (omega arith) (omega arith) (omega arith) (sym (f 4 (omega arith)), omega arith) (sym (f 5 (omega arith)), omega arith)
+          (sym (f 6 (omega arith)), omega arith) (sym (f 7 (omega arith)), omega arith);
+      is = omega arith;
+    }
+
+-- that of a row, whatever stands behind it
+four-front : (row t : List ℕ) (i : ℕ) {r : ℕ} → i + 4 ≤ length row → FourAt (row ++ t) i r → FourAt row i r
+four-front row t i h A =
+    let a = List·getD-append row t 0 i (omega arith) in
+    let b = List·getD-append row t 0 (i + 1) (omega arith) in
+    let c = List·getD-append row t 0 (i + 2) (omega arith) in
+    let d = List·getD-append row t 0 (i + 3) (omega arith) in
+    let e = A .is in
+    let p = A .first in
+    let q = A .second in
+    let s = A .third in
+    let u = A .fourth in
+    record { is = omega arith; first = omega arith; second = omega arith; third = omega arith; fourth = omega arith }
+
+pub word-front : (row t : List ℕ) {w : ℕ} → length row ≡ 8 → EightAt (row ++ t) 0 w → WordOf row w
+word-front row t n A =
+    record {
+      long = n;
+      bytes =
+          record {
+            low = A .low;
+            high = A .high;
+            lows = four-front row t 0 (omega arith) (A .lows);
+            highs = four-front row t 4 (omega arith) (A .highs);
+            is = A .is;
+          };
+    }
+
 -- two numbers of eight bytes are the same where the bytes are
 module _ (x y : List ℕ) (i j : ℕ) (h : i + 8 ≤ length x) (g : j + 8 ≤ length y) {a b : ℕ} (A : EightAt x i a) (B : EightAt y j b) where
   eight-same : a ≡ b → sameList eqb (take 8 (drop i x)) (take 8 (drop j y)) ≡ true
@@ -286,24 +366,27 @@ paste-both d a b at l h =
     ap₂ (λ (x y : List ℕ). x ++ take 4 b ++ y) (take-paste d at a 4 (omega arith) (omega arith)) end
     ∙ ap (λ (x : List ℕ). x ++ drop (at + 8) d) (append-assoc (take at d) (take 4 a) (take 4 b))
 
-pub put-both : (d e f row : List ℕ) (at : ℕ) {low high word : ℕ} → at + 8 ≤ length d → e ≡ paste d at (fourBytes low) 4 → f ≡ paste e (at + 4) (fourBytes high) 4
-    → low ≡ word % 4294967296 → high ≡ word / 4294967296 → WordOf row word → f ≡ paste d at row 8
-put-both d e f row at {low} {high} {word} h p q l g W =
+-- the row of a number, by the bytes of its halves
+word-bytes : (row : List ℕ) {low high word : ℕ} → low ≡ word % 4294967296 → high ≡ word / 4294967296 → WordOf row word → fourBytes low ++ fourBytes high ≡ take 8 row
+word-bytes row {low} {high} {word} l g W =
     let A = W .bytes in
     let n = W .long in
     let s = four-small (A .lows) in
     let w = A .is in
     let u : low ≡ A .low = omega arith in
     let v : high ≡ A .high = omega arith in
-    let x : fourBytes low ≡ take 4 row = ap fourBytes u ∙ four-bytes row 0 (omega arith) (A .lows) in
-    let y : fourBytes high ≡ take 4 (drop 4 row) = ap fourBytes v ∙ four-bytes row 4 (omega arith) (A .highs) in
+    ap₂ _++_ (ap fourBytes u ∙ four-bytes row 0 (omega arith) (A .lows)) (ap fourBytes v ∙ four-bytes row 4 (omega arith) (A .highs))
+    ∙ ap₂ _++_ (four-cons row 0 1 2 3 refl refl refl (omega arith)) (four-cons row 4 5 6 7 refl refl refl (omega arith))
+    ∙ sym (eight-cons row 0 (omega arith))
+
+pub put-both : (d e f row : List ℕ) (at : ℕ) {low high word : ℕ} → at + 8 ≤ length d → e ≡ paste d at (fourBytes low) 4 → f ≡ paste e (at + 4) (fourBytes high) 4
+    → low ≡ word % 4294967296 → high ≡ word / 4294967296 → WordOf row word → f ≡ paste d at row 8
+put-both d e f row at {low} {high} h p q l g W =
     q ∙ ap (λ (m : List ℕ). paste m (at + 4) (fourBytes high) 4) p ∙ paste-both d (fourBytes low) (fourBytes high) at refl h
-    ∙ ap (λ (m : List ℕ). take at d ++ m ++ drop (at + 8) d) (ap₂ _++_ x y ∙ joined)
-  where
-    joined : take 4 row ++ take 4 (drop 4 row) ≡ take 8 row
-    joined =
-        let n = W .long in
-        ap₂ _++_ (four-cons row 0 1 2 3 refl refl refl (omega arith)) (four-cons row 4 5 6 7 refl refl refl (omega arith)) ∙ sym (eight-cons row 0 (omega arith))
+    ∙ ap (λ (m : List ℕ). take at d ++ m ++ drop (at + 8) d) (word-bytes row l g W)
+
+pub both-bytes : (row : List ℕ) (word : ℕ) → WordOf row word → fourBytes (word % 4294967296) ++ fourBytes (word / 4294967296) ≡ row
+both-bytes row word W = let n = W .long in word-bytes row refl refl W ∙ take-all 8 row (omega arith)
 
 -- the bytes of a number, one after the other
 pub put-digits : (d : List ℕ) (at n : ℕ) → at + 4 ≤ length d

@@ -9,6 +9,7 @@ use super::label_of;
 use super::limits::MAX_ARGUMENTS;
 use super::limits::MAX_COMPONENTS;
 use super::limits::MAX_RELATIONS;
+use super::row::word_row;
 use records::bytes::wide;
 ghost use mathlib.Core.Path.{_≡_};
 ghost use mathlib.Core.Bool.{cond};
@@ -19,7 +20,7 @@ ghost use Rattle.records.specs.Lists.{position};
 ghost use Rattle.literals.specs.Decode.{maxRelations, maxComponents};
 ghost use Rattle.literals.specs.Domain.{key};
 ghost use Rattle.literals.specs.Held.{componentsIn, keysIn, componentRowIn, componentRowsIn, pad, starts, placeUnder, argumentAt};
-ghost use Rattle.literals.specs.Held.{keyRow, keyWord, FirstComponents, PlacesIn, PlacesOf};
+ghost use Rattle.literals.specs.Held.{WordOf, underKey, keyRow, keyWord, FirstComponents, PlacesIn, PlacesOf};
 
 // A byte for each relation: its component's number and 1, or 0. Then 8 bytes for each component: the place of the argument under each of
 // its keys.
@@ -69,18 +70,40 @@ fn argument_byte(rows: &[u8], at: usize, place: usize) -> u8
     255
 }
 
+// The byte under a key of the component `c` in the row at `at`, as a number. (In the loop below itself, it would be compiled to several
+// times as much, and slower.)
+fn key_digit(head: &Head, c: usize, rows: &[u8], at: usize, k: u8) -> u64
+    requires { ⌜ (c < maxComponents) × (at + 8 ≤ length (now rows)) × (k < 255) ⌝ }
+    ensures { λ r. ⌜ (r ≡ underKey k (drop 1 (componentRowIn (now (head .entry)) c)) (drop 2 (take 8 (drop at (now (rows .entry))))))
+        × (r < 256) ⌝ }
+{
+    let place = place_under(head, c, Key(k));
+    wide(argument_byte(rows, at, place)) as u64
+}
+
+// The key tuple's row as a number, the first byte lowest. It starts as FF eight times; from the last key to the first, the byte under the
+// key is put in below the others, and the highest falls out.
+fn key_number(head: &Head, c: usize, rows: &[u8], at: usize) -> u64
+    requires { ⌜ (c < maxComponents) × (at + 8 ≤ length (now rows)) ⌝ }
+    ensures { λ r. ⌜ WordOf (keyRow (keysIn (now (head .entry))) (componentRowIn (now (head .entry)) c)
+        (take 8 (drop at (now (rows .entry))))) r ⌝ }
+{
+    let mut word: u64 = 18446744073709551615;
+    let mut k = keys_in(head);
+    while 0 < k {
+        k -= 1;
+        word = 256 * (word % 72057594037927936) + key_digit(head, c, rows, at, k as u8);
+    }
+    word
+}
+
 // The key tuple of the row at `at` under the component `c`.
 pub fn key_tuple(head: &Head, c: usize, rows: &[u8], at: usize) -> [u8; 8]
     requires { ⌜ (c < maxComponents) × (at + 8 ≤ length (now rows)) ⌝ }
     ensures { λ r. ⌜ r ≡ keyRow (keysIn (now (head .entry))) (componentRowIn (now (head .entry)) c)
         (take 8 (drop at (now (rows .entry)))) ⌝ }
 {
-    let mut t = [255u8; 8];
-    for k in 0..keys_in(head) {
-        let place = place_under(head, c, Key(k as u8));
-        t[k] = argument_byte(rows, at, place);
-    }
-    t
+    word_row(key_number(head, c, rows, at))
 }
 
 // Writes the component `c` at its relation.

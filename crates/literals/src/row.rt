@@ -170,6 +170,24 @@ pub fn put_word(out: &mut [u8], at: usize, word: u64)
     put_four(out, at + 4, (word / 4294967296) as u32);
 }
 
+// The row of a number, which is written at once: bytes that are written singly and then read back together would be waited for.
+pub fn word_row(word: u64) -> [u8; 8]
+    ensures { λ r. ⌜ ((row : List ℕ) → WordOf row word → r ≡ row) ⌝ }
+{
+    let low = word % 4294967296;
+    let high = word / 4294967296;
+    [
+        (low % 256) as u8,
+        (low / 256 % 256) as u8,
+        (low / 65536 % 256) as u8,
+        (low / 16777216 % 256) as u8,
+        (high % 256) as u8,
+        (high / 256 % 256) as u8,
+        (high / 65536 % 256) as u8,
+        (high / 16777216 % 256) as u8,
+    ]
+}
+
 // Whether one of the rows from `from` to `to` is the row of a number. (Most often none is, so that all are looked at.)
 pub fn any_same(table: &[u8], from: usize, to: usize, word: u64) -> bool
     requires { ⌜ (from ≤ to) × (8 * to ≤ length (now table)) ⌝ }
