@@ -6,7 +6,7 @@ use literals::head::Head;
 use literals::limits::MAX_ACTIONS;
 use literals::limits::MAX_LITERALS;
 use naming::name_all;
-use reading::domain::read_domain;
+use reading::read::read_domain;
 use report::put_report;
 use verdict::Judgement;
 use witness::is_shown;
@@ -26,6 +26,13 @@ ghost use Rattle.verdict.specs.Judged.{answerAt, decided, writesWitness, judged
 ghost use Rattle.verdict.specs.Claims.{wellFormed, DecidesFile, AcceptedSafe, RefusedHarmful, WitnessHarms};
 ghost use Rattle.verdict.specs.Held.{judgementOf};
 ghost use Rattle.judging.specs.Held.{JudgedAs};
+
+// How many literals a small file's memories have room for. A literal takes at least 6 bytes, so a file of 6 times as many bytes has no more.
+const FEW: usize = 32;
+
+const SOME: usize = 160;
+
+const MANY: usize = 768;
 
 fn at_offset(number: u64, place: usize) -> Judgement
     ensures { λ r. ⌜ r ≡ judgementOf (answerAt number place) ⌝ }
@@ -121,7 +128,7 @@ fn judge_in(
         r (now (report .exit)) (now (witness .exit)) ⌝ }
 {
     let mut head = [0u8; HEAD];
-    let read = read_domain(file, &mut head, table);
+    let read = read_domain(&file[..], &mut head, table);
     let number = read.number;
     if number != 0 {
         return at_offset(number, read.place);
@@ -134,22 +141,56 @@ fn judge_file(file: &[u8], report: &mut [u8], witness: &mut [u8]) -> Judgement
     ensures { λ r. ⌜ JudgedAs (decode (now (file .entry))) (now (report .entry)) (now (witness .entry))
         r (now (report .exit)) (now (witness .exit)) ⌝ }
 {
-    if file.len() <= 384 {
-        let mut table = [0u8; 512];
-        let mut numbers = [0u8; 64];
-        let mut names = [0u8; 128];
-        return judge_in(file, &mut table, &mut numbers, &mut names, report, witness);
+    if file.len() <= 6 * FEW {
+        let mut table = [0u8; 8 * FEW];
+        let mut numbers = [0u8; FEW];
+        let mut names = [0u8; 2 * FEW];
+        return judge_in(
+            &file[..],
+            &mut table,
+            &mut numbers,
+            &mut names,
+            report,
+            witness,
+        );
     }
-    if file.len() <= 3072 {
-        let mut table = [0u8; 4096];
-        let mut numbers = [0u8; 512];
-        let mut names = [0u8; 1024];
-        return judge_in(file, &mut table, &mut numbers, &mut names, report, witness);
+    if file.len() <= 6 * SOME {
+        let mut table = [0u8; 8 * SOME];
+        let mut numbers = [0u8; SOME];
+        let mut names = [0u8; 2 * SOME];
+        return judge_in(
+            &file[..],
+            &mut table,
+            &mut numbers,
+            &mut names,
+            report,
+            witness,
+        );
+    }
+    if file.len() <= 6 * MANY {
+        let mut table = [0u8; 8 * MANY];
+        let mut numbers = [0u8; MANY];
+        let mut names = [0u8; 2 * MANY];
+        return judge_in(
+            &file[..],
+            &mut table,
+            &mut numbers,
+            &mut names,
+            report,
+            witness,
+        );
     }
     let mut table = [0u8; 8 * MAX_LITERALS * MAX_ACTIONS];
     let mut numbers = [0u8; MAX_LITERALS * MAX_ACTIONS];
     let mut names = [0u8; 2 * MAX_LITERALS * MAX_ACTIONS];
-    judge_in(file, &mut table, &mut numbers, &mut names, report, witness)
+    judge_in(
+        &file[..],
+        &mut table,
+        &mut numbers,
+        &mut names,
+        report,
+        witness,
+    )
 }
 
 // Judges a domain file, with demand 3 of the answer: an accepted template is safe for every catalogue and every run; where no action
@@ -164,5 +205,5 @@ pub fn judge(file: &[u8], report: &mut [u8], witness: &mut [u8]) -> Judgement
     ensures exact { λ r. ⌜ RefusedHarmful (now (file .entry)) (r .number) ⌝ }
     ensures shown { λ r. ⌜ WitnessHarms (now (file .entry)) (r .number) (now (witness .exit)) (r .first) (r .second) (r .third) ⌝ }
 {
-    judge_file(file, report, witness)
+    judge_file(&file[..], report, witness)
 }

@@ -6,7 +6,7 @@ use events::AGENDA;
 use literals::head::HEAD;
 use literals::limits::MAX_ACTIONS;
 use literals::limits::MAX_LITERALS;
-use reading::domain::read_domain;
+use reading::read::read_domain;
 ghost use mathlib.Core.Path.{_≡_};
 ghost use lib.ListN.{getD};
 ghost use Rattle.reading.specs.Held.{EnoughTable};

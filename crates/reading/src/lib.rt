@@ -1,6 +1,4 @@
-// Reading a domain file: how far it has come (here), what one record adds to the domain (take), the file (read), the file into memories
-// with any contents (domain).
-pub mod domain;
+// Reading a domain file: how far it has come (here), what one record adds to the domain (take), the file (read).
 pub mod read;
 pub mod take;
 

@@ -112,9 +112,9 @@ fn end_of(stepped: Stepped) -> Refusal
     }
 }
 
-// A domain file, read into a head that is all 0 and a table that is large enough, or refused. Behind the literals that were read, the
-// table stays as it was.
-pub fn read_into(s: &[u8], head: &mut Head, table: &mut [u8]) -> Refusal
+// How every service begins: a domain file is read into a head that is all 0 and a table that is large enough, or refused. Behind the
+// literals that were read, the table stays as it was.
+pub fn read_domain(s: &[u8], head: &mut Head, table: &mut [u8]) -> Refusal
     requires cleared { ⌜ now head ≡ replicate headBytes 0 ⌝ }
     requires enough { ⌜ EnoughTable (now s) (now table) ⌝ }
     ensures answer { λ r. ⌜ ReadAs (decode (now (s .entry))) r (now (head .exit)) (now (table .exit)) ⌝ }

@@ -11,7 +11,7 @@ use literals::head::clear_template;
 use literals::limits::MAX_ACTIONS;
 use literals::limits::MAX_LITERALS;
 use literals::limits::MAX_RELATIONS;
-use reading::domain::read_domain;
+use reading::read::read_domain;
 use services::deliver;
 ghost use mathlib.Core.Path.{_≡_};
 ghost use mathlib.Core.Bool.{true};

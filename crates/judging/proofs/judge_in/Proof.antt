@@ -17,12 +17,12 @@ same-length : tie.Need-same-length
 same-length c = search needs
 
 returns : tie.Need-returns
-returns c = leaves-refused _ (refusal-is (c .before .before .before .before .before .before .before .before .before .before .before .before .before .args .file .now) _ _ _ (c .before .before .before .before .read-domain .ensures) (λ z. omega arith)) (c .at-offset .ensures)
+returns c = leaves-refused _ (refusal-is (c .before .before .before .before .before .before .before .before .before .before .before .before .before .args .file .now) _ _ _ (c .before .before .before .before .read-domain .ensures .0) (λ z. omega arith)) (c .at-offset .ensures)
 
 judge-with-requires : tie.Need-judge-with-requires
 judge-with-requires c κs =
     let read = c .before .before .before .before .before .before .before .before .before .read-domain in
-    let o = opened (c .before .before .before .before .before .before .before .before .before .before .before .before .before .before .before .before .before .before .args .file .now) _ _ _ (read .ensures) (omega arith) in
+    let o = opened (c .before .before .before .before .before .before .before .before .before .before .before .before .before .before .before .before .before .before .args .file .now) _ _ _ (read .ensures .0) (omega arith) in
     let same = read .kept .1 .1 .0 in
     let first = c .before .before .before .before .before .before .before .before .before .before .before .before .before .before .before .before .before .before .pre .1 .0 in
     let room = c .before .before .before .before .before .before .before .before .before .before .before .before .before .before .before .before .before .before .pre .1 .1 in
@@ -46,7 +46,7 @@ same-length-6 c = search needs
 returns-2 : tie.Need-returns-2
 returns-2 c =
     let file = c .before .before .before .before .before .before .before .before .before .before .before .before .before .before .before .before .before .before .before .before .before .before .before .before .before .before .before .args .file .now in
-    let o = opened file _ _ _ (c .before .before .before .before .before .before .before .before .before .before .before .before .before .before .before .before .before .before .read-domain .ensures) (omega arith) in
+    let o = opened file _ _ _ (c .before .before .before .before .before .before .before .before .before .before .before .before .before .before .before .before .before .before .read-domain .ensures .0) (omega arith) in
     leaves-read (o .said) (o .decoded) (c .before .before .before .before .before .before .before .before .judge-with .ensures (o .said) (o .held) (decoded-well-formed file (o .said) (o .decoded)))
 
 pub judge-in-spec : {M : Type 1} → statement M

@@ -20,7 +20,7 @@ unfolding listFile listAfter
 returns c =
     let f = c .before .before .before .before .before .before .before .args .file .now in
     let out = c .before .before .before .before .before .before .before .args .list .now in
-    answers-refused listBytes f out _ (refusal-is f _ _ _ (c .before .before .read-domain .ensures) (c .if1 .taken))
+    answers-refused listBytes f out _ (refusal-is f _ _ _ (c .before .before .read-domain .ensures .0) (c .if1 .taken))
 
 slice-aggregate-list-domain : tie.Need-slice-aggregate-list-domain
 slice-aggregate-list-domain c = search needs
@@ -28,7 +28,7 @@ slice-aggregate-list-domain c = search needs
 list-domain-requires : tie.Need-list-domain-requires
 list-domain-requires c κs =
     let o = opened (c .before .before .before .before .before .before .before .before .before .before .before .args .file .now) _ _ _
-    (c .before .before .before .before .before .before .read-domain .ensures) (c .before .before .before .before .if1 .left) in
+    (c .before .before .before .before .before .before .read-domain .ensures .0) (c .before .before .before .before .if1 .left) in
     ((o .said, o .held), o .whole)
 
 same-length : tie.Need-same-length
@@ -40,7 +40,7 @@ returns-2 c =
     let entry = c .before .before .before .before .before .before .before .before .before .before .before .before .before .before .args in
     let f = entry .file .now in
     let left = c .before .before .before .before .before .before .before .if1 .left in
-    let o = opened f _ _ _ (c .before .before .before .before .before .before .before .before .before .read-domain .ensures) left in
+    let o = opened f _ _ _ (c .before .before .before .before .before .before .before .before .before .read-domain .ensures .0) left in
     let made = c .before .before .list-domain .ensures (o .said) (o .held) (decoded-well-formed f (o .said) (o .decoded)) in
     answers-read listBytes f (entry .list .now) (o .said) (o .decoded) made
 

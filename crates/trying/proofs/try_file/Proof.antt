@@ -20,7 +20,7 @@ unfolding triedFile triedAfter
 returns c =
     let f = c .before .before .before .before .before .before .before .args .file .now in
     let out = c .before .before .before .before .before .before .before .args .tried .now in
-    answers-refused tried f out _ (refusal-is f _ _ _ (c .before .before .read-domain .ensures) (c .if1 .taken))
+    answers-refused tried f out _ (refusal-is f _ _ _ (c .before .before .read-domain .ensures .0) (c .if1 .taken))
 
 slice-aggregate-try-domain : tie.Need-slice-aggregate-try-domain
 slice-aggregate-try-domain c = search needs
@@ -28,7 +28,7 @@ slice-aggregate-try-domain c = search needs
 try-domain-requires : tie.Need-try-domain-requires
 try-domain-requires c κs =
     let f = c .before .before .before .before .before .before .before .before .before .before .before .args .file .now in
-    let o = opened f _ _ _ (c .before .before .before .before .before .before .read-domain .ensures) (c .before .before .before .before .if1
+    let o = opened f _ _ _ (c .before .before .before .before .before .before .read-domain .ensures .0) (c .before .before .before .before .if1
     .left) in
     (o .said, o .held, decoded-well-formed f (o .said) (o .decoded))
 
@@ -40,7 +40,7 @@ unfolding triedFile triedAfter
 returns-2 c =
     let f = c .before .before .before .before .before .before .before .before .before .before .before .before .before .before .args .file
     .now in
-    let o = opened f _ _ _ (c .before .before .before .before .before .before .before .before .before .read-domain .ensures) (c .before
+    let o = opened f _ _ _ (c .before .before .before .before .before .before .before .before .before .read-domain .ensures .0) (c .before
     .before .before .before .before .before .before .if1 .left) in
     let made = c .before .before .try-domain .ensures (o .said) (o .held) (decoded-well-formed f (o .said) (o .decoded)) in
     answers-read tried f (c .before .before .before .before .before .before .before .before .before .before .before .before .before .before

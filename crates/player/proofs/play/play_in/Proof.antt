@@ -22,7 +22,7 @@ returns c =
     let a = c .before .before .before .before .before .before .before .before .before .before .before .before .args in
     let read = c .before .before .before .before .read-domain in
     let e = with-refused (a .domain .now) (a .instance .now) (a .run .now) (a .work .now) (a .given) _
-    (refusal-is (a .domain .now) (read .result) _ _ (read .ensures) (c .before .if1 .taken)) in
+    (refusal-is (a .domain .now) (read .result) _ _ (read .ensures .0) (c .before .if1 .taken)) in
     ((λ i. record { played = c .unplayed .ensures i; total = 0 }) ∙ e .0, e .1)
 
 unplayed-requires-2 : tie.Need-unplayed-requires-2
@@ -35,7 +35,7 @@ returns-2 : tie.Need-returns-2
 returns-2 c =
     let a = c .before .before .before .before .before .before .before .before .before .before .before .before .before .args in
     let read = c .before .before .before .before .before .read-domain in
-    let o = opened (a .domain .now) (read .result) _ _ (read .ensures) (c .before .before .if1 .left) in
+    let o = opened (a .domain .now) (read .result) _ _ (read .ensures .0) (c .before .before .if1 .left) in
     let e = with-small (a .domain .now) (a .instance .now) (a .run .now) (a .work .now) (o .said) (o .decoded) (a .given) (c .before .if2
     .taken) in
     ((λ i. record { played = c .unplayed2 .ensures i; total = 0 }) ∙ e .0, e .1)
@@ -44,7 +44,7 @@ track-run-requires : tie.Need-track-run-requires
 track-run-requires c κs =
     let a = c .before .before .before .before .before .before .before .before .before .before .before .before .before .before .before .before .args in
     let read = c .before .before .before .before .before .before .before .before .read-domain in
-    let o = opened (a .domain .now) (read .result) _ _ (read .ensures) (c .before .before .before .before .before .if1 .left) in
+    let o = opened (a .domain .now) (read .result) _ _ (read .ensures .0) (c .before .before .before .before .before .if1 .left) in
     ((o .said, o .held), c .before .before .before .before .if2 .left)
 
 same-length-3 : tie.Need-same-length-3
@@ -57,7 +57,7 @@ returns-3 : tie.Need-returns-3
 returns-3 c =
     let a = c .before .before .before .before .before .before .before .before .before .before .before .before .before .before .before .before .before .before .before .args in
     let read = c .before .before .before .before .before .before .before .before .before .before .before .read-domain in
-    let o = opened (a .domain .now) (read .result) _ _ (read .ensures) (c .before .before .before .before .before .before .before .before .if1 .left) in
+    let o = opened (a .domain .now) (read .result) _ _ (read .ensures .0) (c .before .before .before .before .before .before .before .before .if1 .left) in
     let e = c .before .before .track-run .ensures (o .said) (o .held) (decoded-well-formed (a .domain .now) (o .said) (o .decoded)) in
     with-one (a .domain .now) (a .instance .now) (a .run .now) (a .work .now) (o .said) (o .decoded) (c .before .before .before .before .before .before .before .if2 .left) (a .given) (c .before .before .before .before .before .before .if3 .taken)
     (c .before .before .track-run .result) (e .0) _ (e .1)
@@ -70,7 +70,7 @@ play-run-requires c κs =
     let a = c .before .before .before .before .before .before .before .before .before .before .before .before .before .before .before .before .before .args
     in
     let read = c .before .before .before .before .before .before .before .before .before .read-domain in
-    let o = opened (a .domain .now) (read .result) _ _ (read .ensures) (c .before .before .before .before .before .before .if1 .left) in
+    let o = opened (a .domain .now) (read .result) _ _ (read .ensures .0) (c .before .before .before .before .before .before .if1 .left) in
     ((o .said, o .held), (c .before .before .before .before .before .if2 .left, refl))
 
 answer-by-requires : tie.Need-answer-by-requires
@@ -86,7 +86,7 @@ returns-4 : tie.Need-returns-4
 returns-4 c =
     let a = c .before .before .before .before .before .before .before .before .before .before .before .before .before .before .before .before .before .before .before .before .before .before .args in
     let read = c .before .before .before .before .before .before .before .before .before .before .before .before .before .before .read-domain in
-    let o = opened (a .domain .now) (read .result) _ _ (read .ensures) (c .before .before .before .before .before .before .before .before .before .before .before .if1 .left) in
+    let o = opened (a .domain .now) (read .result) _ _ (read .ensures .0) (c .before .before .before .before .before .before .before .before .before .before .before .if1 .left) in
     let e = c .before .before .before .before .play-run .ensures (o .said) (o .held) in
     let b = c .answer-by in
     with-none (a .domain .now) (a .instance .now) (a .run .now) (a .work .now) (o .said) (o .decoded) (c .before .before .before .before .before .before .before .before .before .before .if2 .left) (a .given) (c .before .before .before .before .before .before .before .before .before .if3 .left)

@@ -1,11 +1,11 @@
--- `read_into` meets its contract. The loop's invariant is `Loop` of proofs/Turns; the measure is what is left of the file. Assumes nothing.
+-- `read_domain` meets its contract. The loop's invariant is `Loop` of proofs/Turns; the measure is what is left of the file. Assumes nothing.
 use mathlib.Core.Path.{_∙_}
 use Prim.Native.Nat.{_-_}
 use lib.ListN.{length}
 use Rattle.reading.proofs.Turns.{Loop, begins, too-long, loop-table, loop-ready, loop-on, loop-falls, loop-answer}
 use borrow.Author.Needs.{needs}
-use Rattle.reading.proofs.read.read_into.Statement.{statement}
-use Rattle.reading.proofs.read.read_into.Tie as tie
+use Rattle.reading.proofs.read.read_domain.Statement.{statement}
+use Rattle.reading.proofs.read.read_domain.Tie as tie
 
 abbrev Inv-loop : tie.InvT-loop
 Inv-loop s head₀ table₀ progress₀ head table progress = Loop s table₀ progress head table
@@ -40,8 +40,8 @@ same-length c = c .before .before .before .before .step .kept .1 .1 .1 .0 ∙ lo
 returns-2 : tie.Need-returns-2 Inv-loop μ-loop
 returns-2 c = loop-answer _ _ _ _ _ (c .before .before .before .before .before .before .before .loop .inv) _ _ _ (c .before .before .before .before .step .ensures) (c .before .if2 .left) _ (c .end-of .ensures)
 
-pub read-into-spec : {M : Type 1} → statement M
-read-into-spec =
+pub read-domain-spec : {M : Type 1} → statement M
+read-domain-spec =
     tie.close
     (tie.spec
     Inv-loop
