@@ -1,4 +1,5 @@
 -- `list_file` meets its contract. Assumes nothing.
+use mathlib.Core.Path.{refl}
 use mathlib.Core.Logic.{inl, inr}
 use native.Mathlib.Omega.{arith}
 use Rattle.reading.proofs.Domains.{opened, refusal-is}
@@ -13,7 +14,7 @@ slice-aggregate-read-domain : tie.Need-slice-aggregate-read-domain
 slice-aggregate-read-domain c = search needs
 
 read-domain-requires : tie.Need-read-domain-requires
-read-domain-requires c κs = inl (omega arith)
+read-domain-requires c κs = (refl, inl (omega arith))
 
 returns : tie.Need-returns
 unfolding listFile listAfter

@@ -9,7 +9,7 @@ use Rattle.player.proofs.play.play_in.Statement.{statement}
 use Rattle.player.proofs.play.play_in.Tie as tie
 
 read-domain-requires : tie.Need-read-domain-requires
-read-domain-requires c κs = c .before .before .before .before .before .before .before .pre
+read-domain-requires c κs = (refl, c .before .before .before .before .before .before .before .pre)
 
 unplayed-requires : tie.Need-unplayed-requires
 unplayed-requires c κs = search needs
