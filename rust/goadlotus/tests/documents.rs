@@ -79,7 +79,7 @@ fn item<'a>(source: &'a str, kind: &str, name: &str) -> Option<&'a str> {
     found.into_iter().find(|rest| rest.starts_with(['(', '<', ' ']))
 }
 
-/// A module or `impl` of the crates has a function of this path: `reading::domain::read_domain`, `State::step`, `play_files`.
+/// A module or `impl` of the crates has a function of this path: `reading::read::read_domain`, `State::step`, `play_files`.
 fn has_function(root: &Path, path: &str) -> bool {
     let (owner, name) = path.rsplit_once("::").unwrap_or(("", path));
     let has = |source: &str| ["fn", "struct", "enum"].iter().any(|kind| item(source, kind, name).is_some());
