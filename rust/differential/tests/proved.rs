@@ -3,12 +3,13 @@
 
 use differential::judging::{self, Judge};
 use differential::playing::{self, Play};
+use differential::serving::{Serve, Served, TRY};
 use generate::proved::{Call, Case, Cases, Left, Part};
 use goadlotus::{judge, Judgement};
 use model::Source;
 
-/// What a call leaves, if it asks this judge or this player.
-fn left(judge: impl Judge, player: impl Play, call: &Call) -> Left {
+/// What a call leaves, if it asks this judge, this player or this one that tries.
+fn left(judge: impl Judge, player: impl Play, trier: impl Serve, call: &Call) -> Left {
     match call {
         Call::Judge { file, report, witness } => {
             let (mut report, mut witness) = (report.clone(), witness.clone());
@@ -30,26 +31,33 @@ fn left(judge: impl Judge, player: impl Play, call: &Call) -> Left {
                 part: Part { of_domain, at: played.at as u64, bytes },
             }
         }
+        Call::Try { file, memory } => {
+            let mut memory = memory.clone();
+            let Served { number, first } = trier(file, &mut memory);
+            Left::Tried { number, first, memory }
+        }
     }
 }
 
-/// The cases in which this judge or this player leaves something else.
-fn wrong<'a>(cases: &'a [Case], judge: impl Judge, player: impl Play) -> Vec<&'a str> {
-    let other = cases.iter().filter(|case| left(&judge, &player, &case.call) != case.left);
+/// The cases in which one of them leaves something else.
+fn wrong<'a>(cases: &'a [Case], judge: impl Judge, player: impl Play, trier: impl Serve) -> Vec<&'a str> {
+    let other = cases.iter().filter(|case| left(&judge, &player, &trier, &case.call) != case.left);
     other.map(|case| case.name.as_str()).collect()
 }
 
 #[test]
 fn the_library_leaves_what_is_proved() {
-    assert_eq!(wrong(&Cases::read().cases, judge, playing::library), [""; 0]);
+    assert_eq!(wrong(&Cases::read().cases, judge, playing::library, TRY.library), [""; 0]);
 }
 
 #[test]
 fn the_model_leaves_what_is_proved() {
-    assert_eq!(wrong(&Cases::read().cases, judging::model, playing::model), [""; 0]);
+    let trier = |file: &[u8], memory: &mut [u8]| TRY.model(file, memory);
+    assert_eq!(wrong(&Cases::read().cases, judging::model, playing::model, trier), [""; 0]);
 }
 
-/// What the test would notice: a judge that gives the report a byte more, a player that counts a step more.
+/// What the test would notice: a judge that gives the report a byte more, a player that counts a step more, an engine that
+/// never says yes.
 #[test]
 fn wrong_answers_are_noticed() {
     let cases = Cases::read().cases;
@@ -61,7 +69,7 @@ fn wrong_answers_are_noticed() {
         answer
     };
     assert_eq!(
-        wrong(&cases, wordy, playing::library),
+        wrong(&cases, wordy, playing::library, TRY.library),
         ["m10-judged", "bounded-later", "first-bounded", "no-witness", "beside-journey"]
     );
     let eager = |domain: &[u8], run: &[u8], work: &mut [u8]| {
@@ -69,5 +77,13 @@ fn wrong_answers_are_noticed() {
         playing::Played { steps: played.steps + (played.number == 57) as u64, ..played }
     };
     let not_open = ["open-before-condition", "open-twice", "not-yet-open", "other-entry", "first-end-asked"];
-    assert_eq!(wrong(&cases, judge, eager), [&not_open[..], &["open-33-not-open"]].concat());
+    assert_eq!(wrong(&cases, judge, eager, TRY.library), [&not_open[..], &["open-33-not-open"]].concat());
+    let mild = |file: &[u8], memory: &mut [u8]| {
+        let served = (TRY.library)(file, memory);
+        memory.iter_mut().for_each(|byte| *byte -= (*byte == 1) as u8);
+        served
+    };
+    let yes = ["m3-tried", "m4-tried", "m5-tried", "m7-tried", "spare-tried", "lacks-tried"];
+    let also = ["classes-tried", "other-tried"];
+    assert_eq!(wrong(&cases, judge, playing::library, mild), [&yes[..], &also].concat());
 }

@@ -13,12 +13,14 @@ const SAMPLES: &str = include_str!("../../../crates/cases/specs/Samples.antt");
 const FURTHER: &str = include_str!("../../../crates/cases/specs/Further.antt");
 const FURTHER_RUNS: &str = include_str!("../../../crates/cases/specs/FurtherRuns.antt");
 const CLEARING: &str = include_str!("../../../crates/cases/specs/Clearing.antt");
+const TRIED: &str = include_str!("../../../crates/cases/specs/Tried.antt");
 
 /// A call, with the memory lent to it.
 #[derive(Clone, PartialEq, Eq, Debug)]
 pub enum Call {
     Judge { file: Vec<u8>, report: Vec<u8>, witness: Vec<u8> },
     Play { domain: Vec<u8>, run: Vec<u8>, work: Vec<u8> },
+    Try { file: Vec<u8>, memory: Vec<u8> },
 }
 
 /// All that a call answers and leaves.
@@ -26,6 +28,7 @@ pub enum Call {
 pub enum Left {
     Judged { number: u64, places: [u64; 3], report: Vec<u8>, witness: Vec<u8> },
     Played { number: u64, places: [u64; 3], steps: u64, weight: u64, work: Vec<u8>, part: Part },
+    Tried { number: u64, first: u64, memory: Vec<u8> },
 }
 
 /// The part that comes back: of which file, from which offset, and its bytes.
@@ -61,7 +64,7 @@ impl Cases {
         let mut shared = Definitions::default();
         shared.add(WRITTEN);
         shared.add(SAMPLES);
-        for text in [SAMPLES, FURTHER, FURTHER_RUNS, CLEARING] {
+        for text in [SAMPLES, FURTHER, FURTHER_RUNS, CLEARING, TRIED] {
             let mut own = shared.clone();
             own.add(text);
             all.add(&Rc::new(own), text);
@@ -80,10 +83,8 @@ impl Cases {
         for (group, name, equation) in fields(text) {
             let Some((call, left)) = equation.split_once('≡') else { continue };
             let value = |text: &str| evaluate(&Parser::all(text), &Scope::of(definitions));
-            match (value(call), value(left)) {
-                (Some(Value::Call(call)), Some(left)) => {
-                    self.cases.push(Case { left: left.left(), group, name, call: *call })
-                }
+            match (value(call).and_then(Value::call), value(left)) {
+                (Some(call), Some(left)) => self.cases.push(Case { left: left.left(), group, name, call }),
                 _ => self.others.push(name),
             }
         }
@@ -358,8 +359,14 @@ impl Value {
                 Value::Call(Box::new(Call::Judge { file: bytes(0), report: bytes(1), witness: bytes(2) }))
             }
             ("playing", 3) => Value::Call(Box::new(Call::Play { domain: bytes(0), run: bytes(1), work: bytes(2) })),
+            ("triedFile" | "triedAfter", 2) => Value::Call(Box::new(Call::Try { file: bytes(0), memory: bytes(1) })),
+            ("answerAt", 2) => {
+                let fields = [("number", &arguments[0]), ("first", &arguments[1])];
+                Value::Record(fields.map(|(name, value)| (name.to_string(), value.clone())).into())
+            }
             ("length" | "held" | "ofRun" | "ofDomain", 0) | ("ofRun" | "ofDomain", 1) => self,
             ("replicate" | "over" | "zeroed" | "each", 0 | 1) | ("judging" | "playing", 0..=2) => self,
+            ("triedFile" | "triedAfter" | "answerAt", 0 | 1) => self,
             _ => {
                 let definition = scope.definitions.0.get(name)?;
                 if arguments.len() < definition.parameters.len() {
@@ -377,6 +384,18 @@ impl Value {
             }
         };
         Some(value)
+    }
+
+    /// The call that a value is about. `try` is a record: what a call answers, and the memory that the same call leaves.
+    fn call(self) -> Option<Call> {
+        match self {
+            Value::Call(call) if !matches!(*call, Call::Try { .. }) => Some(*call),
+            Value::Record(fields) => match (fields.get("answer")?, fields.get("memory")?) {
+                (Value::Call(call), Value::Call(same)) if call == same => Some(*call.clone()),
+                _ => None,
+            },
+            _ => None,
+        }
     }
 
     fn number(&self) -> u64 {
@@ -404,7 +423,7 @@ impl Value {
         }
     }
 
-    /// What the records of a result, `AfterJudging` and `AfterPlaying`, say.
+    /// What the records of a result, `AfterJudging`, `AfterPlaying` and `Tried`, say.
     fn left(&self) -> Left {
         let Value::Record(answer) = self.field("answer") else { panic!("no record") };
         // Playing answers the first place alone: the others are always 0.
@@ -414,6 +433,9 @@ impl Value {
         if fields.contains_key("report") {
             let (report, witness) = (self.field("report").bytes(), self.field("witness").bytes());
             return Left::Judged { number, places, report, witness };
+        }
+        if !fields.contains_key("part") {
+            return Left::Tried { number, first: places[0], memory: self.field("memory").bytes() };
         }
         let Value::Partial(file, at) = self.field("part") else { panic!("no part") };
         let part = Part { of_domain: file == "ofDomain", at: at[0].number(), bytes: self.field("bytes").bytes() };
@@ -437,8 +459,8 @@ mod tests {
     fn every_case_is_read() {
         let all = Cases::read();
         let count = |group| all.cases.iter().filter(|case| case.group == group).count();
-        let groups = ["Samples", "Names", "Room", "Refusals", "Refused", "Steps", "RunFiles", "Parts"];
-        assert_eq!(groups.map(count), [12, 62, 12, 74, 30, 76, 54, 7]);
+        let groups = ["Samples", "Names", "Room", "Refusals", "Refused", "Steps", "RunFiles", "Parts", "TriedCases"];
+        assert_eq!(groups.map(count), [12, 62, 12, 74, 30, 76, 54, 7, 16]);
         let limits = ["facts-1024", "facts-1025", "start-1024", "start-1025", "start-repeated", "start-outside"]
             .map(String::from);
         let others = [
@@ -452,7 +474,9 @@ mod tests {
         ]
         .map(String::from);
         let over_objects = ["one-each", "no-object", "apart", "together"].map(String::from);
-        assert_eq!(all.others, [&others[..], &limits, &over_objects].concat());
+        // half of what a call leaves, each
+        let of_trying = ["short-tried", "short-untouched"].map(String::from);
+        assert_eq!(all.others, [&others[..], &limits, &over_objects, &of_trying].concat());
     }
 
     /// M1 is the paper's, on its bytes.

@@ -1,4 +1,4 @@
-//! The layout that the sources keep: no line above 140 characters.
+//! What the sources keep to: no line above 140 characters, and the code that trying leaves aside.
 use std::fs;
 use std::path::{Path, PathBuf};
 
@@ -28,4 +28,32 @@ fn no_line_is_longer_than_it_may_be() {
         }
     }
     assert!(long.is_empty(), "lines above {LONGEST_LINE} characters: {long:#?}");
+}
+
+/// The crates whose code names classes, decides by names, or shows a refusal.
+const CLASS_CODE: [&str; 4] = ["naming", "verdict", "witness", "judging"];
+
+/// "It uses the machine and none of the class code": of classes alone what numbers key tuples. Definitions (`ghost use`) are no code.
+#[test]
+fn trying_uses_none_of_the_class_code() {
+    let is_trying = |path: &PathBuf| path.parent().and_then(Path::parent).is_some_and(|of| of.ends_with("trying"));
+    let (mut files, mut of_classes) = (0, Vec::new());
+    for path in sources().into_iter().filter(is_trying) {
+        files += 1;
+        let text = fs::read_to_string(&path).unwrap();
+        let code = text.lines().filter(|line| !line.starts_with("ghost use ") && !line.trim_start().starts_with("//"));
+        for line in code {
+            // a crate is named by a path, behind `use` or in the code
+            let words = line.split(|c: char| !c.is_alphanumeric() && c != '_' && c != ':');
+            for (krate, _) in words.filter_map(|word| word.split_once("::")) {
+                assert!(!CLASS_CODE.contains(&krate), "{}: {line}", path.display());
+                if krate == "classes" {
+                    of_classes.push(line.to_string());
+                }
+            }
+        }
+    }
+    assert!(3 < files, "only {files} files of trying");
+    of_classes.sort();
+    assert_eq!(of_classes, ["use classes::number::class_tuple;", "use classes::number::number_classes;"]);
 }
