@@ -186,15 +186,18 @@ fn trying_agrees() {
     agree("try", OF_TRY, 30_000);
 }
 
-/// Small domains of actions at once, many of them with clearing literals.
+/// Small domains of actions at once, many of them with clearing literals. Each is read, and most have a class.
 #[test]
 fn trying_agrees_on_tiny_files() {
+    const FILES: u64 = 100_000;
     let of_seed = |seed: u64| {
         let file = tiny(&mut Rng::new(seed)).file();
         TRY.compare_all(TRY.library, &file, seed as usize % 1_000).map_err(|text| format!("seed {seed}\n{text}"))
     };
-    let counts = run(of_seed, setting("GOADLOTUS_SEED", 0), 100_000).unwrap_or_else(|text| panic!("{text}"));
-    show(&format!("\ntry on tiny files: {} cases", counts.cases()));
+    let counts = run(of_seed, setting("GOADLOTUS_SEED", 0), FILES).unwrap_or_else(|text| panic!("{text}"));
+    show(&format!("\ntry on tiny files: {} cases, {:?}", counts.cases(), counts.numbers));
+    // three lengths of memory are enough for a file that is read, and where it has a class one is too short
+    assert!(counts.numbers.keys().eq(&[0, 30]) && counts.numbers[&0] >= 3 * FILES && counts.numbers[&30] >= FILES / 2);
 }
 
 #[test]
