@@ -201,10 +201,11 @@ fn broken_text(name: &str, text: &str, faults: &[Fault]) -> Trouble {
     Trouble::Broken(tell(name, text, faults))
 }
 
-/// Why the library refuses a file in bytes, by the record at fault, and what the file may be instead.
+/// Why the library refuses a file in bytes, by the record at fault, and what the file may be instead. With 9 it is the whole
+/// file that is at fault, and no record is looked at.
 pub fn refusal_of_bytes(name: &str, file: &[u8], number: u64, offset: usize) -> String {
     let mut told = format!("{name}: at offset {offset}: {} ({number})\n", says_at(number, file, offset));
-    if let Some(record) = record_around(file, offset) {
+    if let Some(record) = record_around(file, offset).filter(|_| number != 9) {
         let payload: String = record.payload.iter().take(16).map(|byte| format!(" {byte:02X}")).collect();
         let payload = if payload.is_empty() { " nothing".to_string() } else { payload };
         let there = if record.at == offset { "there".to_string() } else { format!("at offset {}", record.at) };

@@ -202,6 +202,16 @@ fn a_label_at_fault_in_bytes() {
     assert!(self::said(&shown).contains("# refused (25), at offset 13: "), "{}", self::said(&shown));
 }
 
+/// Of a file that is too long no record is told: it is not looked at.
+#[test]
+fn a_file_over_the_limit() {
+    for byte in [0, 1] {
+        let output = run_with(["judge", "-"], &[byte; 65_536]);
+        assert_eq!(complained(&output), "standard input: at offset 0: the file is longer than 65,535 bytes (9)\n");
+        assert_eq!(status(&output), 4);
+    }
+}
+
 /// What is no file of ours is named as what it is.
 #[test]
 fn strangers_are_recognised() {

@@ -322,6 +322,31 @@ d.txt:14:13: a key in a place where a literal of the relation has `*` (27)
     assert!(told.contains("(20)\n") && told.contains("the other is in line 6"), "{told}");
 }
 
+/// A template whose only component is refused is not missing besides: words get the numbers that bytes get.
+#[test]
+fn a_refused_component_is_no_missing_one() {
+    let text = "\
+at/2
+at once put(volume, shelf)
+    delete at(volume, *)
+template at[0,1]
+";
+    let cleared = "\
+d.txt:4:15: a key in a place where a literal of the relation has `*` (27)
+  4 | template at[0,1]
+    |               ^ the `*` is in line 3
+";
+    assert_eq!(told(text), cleared);
+    for (labels, number) in [("0,0", 24), ("_,_", 25), ("0,9", 21)] {
+        let text = text.replace("volume, *", "volume, shelf").replace("0,1", labels);
+        let told = told(&text);
+        assert!(told.contains(&format!("({number})")) && told.lines().count() == 3, "{told}");
+        assert_eq!(judge(&domain(&text)).number, number);
+    }
+    let none = told(&text.replace("template at[0,1]", ""));
+    assert!(none.contains("(23)") && none.lines().count() == 3, "{none}");
+}
+
 /// Of literals and components every refusal is told in one go.
 #[test]
 fn several_refusals_at_once() {

@@ -9,7 +9,8 @@ use crate::numbers::says;
 use crate::records::{split, Record, COMPONENT, FF, LITERAL};
 
 /// What the library refuses in a domain, each by its number. Behind a literal or a component that is refused the next
-/// refusal is that of the file without it; nothing else can be left out without changing what the rest means.
+/// refusal is that of the file without it; nothing else can be left out without changing what the rest means. That the file
+/// then has no component left (23) is not the text's fault.
 pub fn in_domain(text: &DomainText) -> Vec<Fault> {
     let mut faults = Vec::new();
     let mut left_out: Vec<usize> = Vec::new();
@@ -20,6 +21,11 @@ pub fn in_domain(text: &DomainText) -> Vec<Fault> {
             return faults;
         }
         let offset = judged.places[0] as usize;
+        let is_component =
+            |&at: &usize| Record::read(&text.written.file, at).is_some_and(|left| left.kind == COMPONENT);
+        if judged.number == 23 && left_out.iter().any(is_component) {
+            return faults;
+        }
         let (at, within) = origin(&offsets, offset);
         faults.push(fault(&text.written, judged.number, at, within));
         let is_alone = |record: Record| matches!(record.kind, LITERAL | COMPONENT) && (16..30).contains(&judged.number);
