@@ -235,13 +235,15 @@ uint64_t goadlotus_templates(const uint8_t *file, size_t file_len,
  *
  *    0        tried: *first is the number of bytes written, one for each class.
  *    9 to 27  not well-formed; the same number and first place as from goadlotus_judge.
- *   30        tried_len is under the number of classes. *first is 0.
+ *   30        tried_len is under the number of classes of actions at once. *first is 0.
  *
  * No other number is returned. Variable i is bound to object i, and there is one object more. The sets are
  * the action's true conditions, and these with one further fact that the class's instance matches, over
  * these objects. From each of them in which the instance weighs at most one, and in which the action alone
  * is an allowed step of the machine, this step is made; a set shows harm if the instance then weighs two
- * or more. The answer is 1 exactly where the report's name is heavy, unbalanced or unbounded.
+ * or more. So the answer is defined; the call makes one step for each action, from its true conditions, and
+ * decides the sets with a further fact by it, which is proved to be the same. The answer is 1 exactly where
+ * the report's name is heavy, unbalanced or unbounded.
  *
  * 9 to 30 write nothing; all other bytes of tried stay as they were, and the file stays as it was. No length
  * is ever exceeded, in reading or in writing, whatever the file says. GOADLOTUS_TRIED_SIZE bytes are enough

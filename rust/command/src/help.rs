@@ -141,9 +141,12 @@ stands beside the answer. For each class of each action at once: an object for
 each variable, and one more; the sets are what the action asks for, and this
 with one further fact of the class. From each set in which the class has at most
 one fact the action is played, where it is allowed. yes where two facts of the
-class or more are true then; the first such set is told, with the event and the
-facts after it. Actions that last are not tried. --tsv and --json: a table with
-a line for each class.
+class or more are true then. The library makes one step for each action, from
+what it asks for, and decides the other sets by it, which is proved to be the
+same. Of the sets with a yes one is told, with the event and the facts after it:
+what the action asks for, else the first with a further fact, that with the one
+object more before the others. Actions that last are not tried. --tsv and
+--json: a table with a line for each class.
 
 Status: 0 no class has a yes, 3 some class has, 4 a broken file, 1 it can't be
 read.
