@@ -1,5 +1,5 @@
 //! docs/PROOFS.md, docs/DECISIONS.md and docs/SENTENCES.md cite definitions as file and name (literals/Decode `decode`), paths, functions
-//! (`judging::judge`), theorems, clauses of contracts, must-fail edits, edge cases and Rust tests by their names: all of them must be there.
+//! (`judging::judge`), theorems, clauses of contracts, must-fail edits, edge cases and Rust tests by their names: all must be there.
 
 use std::fs;
 use std::path::{Path, PathBuf};
