@@ -1,5 +1,6 @@
 // The call: a domain file, a run file, and lent work memory.
 use super::run::Ended;
+use super::run::WORK;
 use super::run::play_run;
 use super::track::track_run;
 use events::AGENDA;
@@ -143,7 +144,7 @@ fn play_in(
             total: 0,
         };
     }
-    if room < 8192 {
+    if room < WORK {
         return Tracked {
             played: unplayed(58, 0, Fault::Run(run.len())),
             total: 0,

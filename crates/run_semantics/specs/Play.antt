@@ -22,7 +22,7 @@ use Rattle.run_semantics.specs.RunFile.{endStop}
 
 -- "the first 8,192 bytes"
 abbrev pub workBytes : ℕ
-workBytes = 8192
+workBytes = 8 * maxFacts
 
 -- ---- where playing stands
 
