@@ -14,8 +14,8 @@ ghost use Rattle.reading.specs.Held.{EnoughTable};
 ghost use Rattle.run_semantics.specs.Play.{Outcome, call, played, workAfter, returned, returnedBytes};
 ghost use Rattle.run_semantics.specs.Claims.{PlaysAsMachine, StaysLow};
 ghost use Rattle.player.specs.Held.{endedOf};
-ghost use Rattle.player.specs.Called.{fileOf, offsetOf, faultFile, faultOffset, partAt, answerOf, answerBy, answerUnplayed};
-ghost use Rattle.player.specs.Called.{trackedIf, trackedOf};
+ghost use Rattle.player.specs.Called.{fileOf, offsetOf};
+ghost use Rattle.player.specs.Held.{faultFile, faultOffset, partAt, answerOf, answerBy, answerUnplayed, trackedIf, trackedOf};
 
 // Where the record at fault starts: an offset of the domain file, or of the run file.
 pub enum Fault {
