@@ -158,7 +158,8 @@ eventAt moments rows i = record { moment = getD moments i 0; row = take groundBy
 -- the first n
 abbrev pub eventsIn : ℕ → List ℕ → List ℕ → List EventRow
 eventsIn zero moments rows = []
-eventsIn (suc n) moments rows = record { moment = getD moments 0 0; row = take groundBytes rows } ∷ eventsIn n (drop 1 moments) (drop groundBytes rows)
+eventsIn (suc n) moments rows =
+    record { moment = getD moments 0 0; row = take groundBytes rows } ∷ eventsIn n (drop 1 moments) (drop groundBytes rows)
 
 -- where it is an end, its entry is one of these
 unfoldable pub endOpen : List (List ℕ) → EventRow → Bool
@@ -166,7 +167,11 @@ endOpen rows e = cond (eqb (e .moment) 1) (hasRow (e .row) rows) true
 
 -- without the entry k: the later ones move forward, zeros fill the end
 unfoldable pub withoutEntry : ℕ → Open → Open
-withoutEntry k o = record { count = o .count - 1; rows = take (groundBytes * k) (o .rows) ++ (drop (groundBytes * k + groundBytes) (o .rows) ++ replicate groundBytes 0) }
+withoutEntry k o =
+    record {
+      count = o .count - 1;
+      rows = take (groundBytes * k) (o .rows) ++ (drop (groundBytes * k + groundBytes) (o .rows) ++ replicate groundBytes 0);
+    }
 
 -- without the first equal entry
 unfoldable pub closeEntry : List ℕ → Open → Open

@@ -124,9 +124,11 @@ ListShort =
     (f out : List ℕ) (D : Domain) → decode f ≡ domain D → length out < 3 * length (listed D)
     → (listFile f out ≡ answerAt 30 0) × (listAfter f out ≡ out)
 
--- 64 relations with at most 7 entries each, and every number is a byte
+-- each relation has at most one entry without a counted place and one for each place, and every number is a byte
 abbrev pub ListBounded : Type 0
-ListBounded = (f : List ℕ) (D : Domain) → decode f ≡ domain D → (3 * length (listed D) ≤ 3 * ((1 + maxArguments) * maxRelations)) × (areBytes (listBytes D) ≡ true)
+ListBounded =
+    (f : List ℕ) (D : Domain) → decode f ≡ domain D
+    → (3 * length (listed D) ≤ 3 * ((1 + maxArguments) * maxRelations)) × (areBytes (listBytes D) ≡ true)
 
 -- ---- of an answer to the file f: the number n, the first place k and the bytes of the list afterwards
 

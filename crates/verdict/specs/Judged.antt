@@ -26,7 +26,8 @@ objectNumbers os = map (λ (o : Object). o .0) os
 -- "8 bytes a fact (relation, arity, arguments, FF to fill)"
 unfoldable pub factBytes : List Fact → List ℕ
 factBytes [] = []
-factBytes (f ∷ fs) = f .rel ∷ length (f .args) ∷ (objectNumbers (f .args) ++ (replicate (maxArguments - length (f .args)) 255 ++ factBytes fs))
+factBytes (f ∷ fs) =
+    f .rel ∷ length (f .args) ∷ (objectNumbers (f .args) ++ (replicate (maxArguments - length (f .args)) 255 ++ factBytes fs))
 
 -- ---- the answer: a number and three places
 
