@@ -73,15 +73,15 @@ waitingOf es =
 
 -- ---- the agenda: what is open and what waits, in one memory
 
--- its length, and where the moments of the events that wait and their rows start, behind the entries
-abbrev pub agendaBytes : ℕ
-agendaBytes = eventsAt + waitingBytes
-
+-- where the moments of the events that wait and their rows start, behind the entries, and its length
 abbrev pub momentsAt : ℕ
 momentsAt = openBytes
 
 abbrev pub eventsAt : ℕ
 eventsAt = momentsAt + maxEvents
+
+abbrev pub agendaBytes : ℕ
+agendaBytes = eventsAt + waitingBytes
 
 -- its sections
 abbrev pub entriesIn : List ℕ → List ℕ
