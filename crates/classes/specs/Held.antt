@@ -284,7 +284,7 @@ sectionOf r = sectionBy (r .time) (r .usage)
 -- which literal of a class is asked as a true condition at a moment: 255 says that it is unreachable there
 unfoldable pub reachAt : Domain → Action → Moment → ℕ → ℕ
 unfolding classNumbers usagesBy soleAt
-reachAt D a m class = soleAt (classNumbers D a) (pad 64 (askedUsages a m)) class 1
+reachAt D a m class = soleAt (classNumbers D a) (pad maxLiterals (askedUsages a m)) class 1
 
 -- ---- what the code's memories hold of an action
 

@@ -80,7 +80,8 @@ fn usage_at(wide: bool, m: Moment, role: u8) -> u8
 
 // Whether two rows have the same relation and arguments: the bytes 1 to 4, and 4 to 7.
 fn rows_agree(rows: &[u8], i: usize, j: usize) -> bool
-    requires { ⌜ (8 * i + 8 ≤ length (now rows)) × (8 * j + 8 ≤ length (now rows)) ⌝ }
+    requires one { ⌜ 8 * i + 8 ≤ length (now rows) ⌝ }
+    requires other { ⌜ 8 * j + 8 ≤ length (now rows) ⌝ }
     ensures { λ r. ⌜ r ≡ sameAtomAt (now (rows .entry)) i j ⌝ }
 {
     if same_four(rows, 8 * i + 1, rows, 8 * j + 1) {
@@ -91,7 +92,8 @@ fn rows_agree(rows: &[u8], i: usize, j: usize) -> bool
 
 // Whether the row `i` has this usage at the moment, and the atom of the row `j`.
 fn says(wide: bool, rows: &[u8], m: Moment, usage: u8, j: usize, i: usize) -> bool
-    requires { ⌜ (8 * i + 8 ≤ length (now rows)) × (8 * j + 8 ≤ length (now rows)) ⌝ }
+    requires one { ⌜ 8 * i + 8 ≤ length (now rows) ⌝ }
+    requires other { ⌜ 8 * j + 8 ≤ length (now rows) ⌝ }
     ensures { λ r. ⌜ r ≡ saysAt wide (now (rows .entry)) m usage j i ⌝ }
 {
     if rows_agree(rows, i, j) {
@@ -163,7 +165,8 @@ pub fn usages_at(wide: bool, rows: &[u8], n: usize, m: Moment, usages: &mut Mark
 
 // Whether the row `j` is in a class with this usage.
 fn is_at(numbers: &[u8], usages: &Marks, class: u8, usage: u8, j: usize) -> bool
-    requires { ⌜ (j < length (now numbers)) × (length (now numbers) ≤ maxLiterals) ⌝ }
+    requires literal { ⌜ j < length (now numbers) ⌝ }
+    requires few { ⌜ length (now numbers) ≤ maxLiterals ⌝ }
     ensures { λ r. ⌜ r ≡ isAt (now (numbers .entry)) (now (usages .entry)) class usage j ⌝ }
 {
     if numbers[j] == class {
@@ -174,7 +177,10 @@ fn is_at(numbers: &[u8], usages: &Marks, class: u8, usage: u8, j: usize) -> bool
 
 // Notes the literal `j`, of a class, in a section.
 fn note(soles: &mut [u8], section: usize, class: usize, j: usize)
-    requires { ⌜ (section < 5) × (class < maxLiterals) × (j < maxLiterals) × (length (now soles) ≡ 5 * maxLiterals) ⌝ }
+    requires section { ⌜ section < 5 ⌝ }
+    requires class { ⌜ class < maxLiterals ⌝ }
+    requires few { ⌜ j < maxLiterals ⌝ }
+    requires soles { ⌜ length (now soles) ≡ 5 * maxLiterals ⌝ }
     ensures { λ _. ⌜ ((s k : ℕ) → s < 5 → k < maxLiterals → getD (now (soles .exit)) (maxLiterals * s + k) 0
         ≡ soleMore (eqb section s && eqb class k) j (getD (now (soles .entry)) (maxLiterals * s + k) 0)) ⌝ }
 {
@@ -238,7 +244,10 @@ fn section_of(role: u8) -> usize
 
 // Notes the literal `j`, of a class, among those that are asked as true conditions at the end, unless an earlier literal says the same.
 fn note_asked(rows: &[u8], class: usize, j: usize, soles: &mut [u8])
-    requires { ⌜ (8 * j + 8 ≤ length (now rows)) × (class < maxLiterals) × (j < maxLiterals) × (length (now soles) ≡ 5 * maxLiterals) ⌝ }
+    requires row { ⌜ 8 * j + 8 ≤ length (now rows) ⌝ }
+    requires class { ⌜ class < maxLiterals ⌝ }
+    requires few { ⌜ j < maxLiterals ⌝ }
+    requires soles { ⌜ length (now soles) ≡ 5 * maxLiterals ⌝ }
     ensures { λ _. ⌜ ((s k : ℕ) → s < 5 → k < maxLiterals → getD (now (soles .exit)) (maxLiterals * s + k) 0
         ≡ soleMore ((eqb 4 s && not (any (saysAt true (now (rows .entry)) End 1 j) (below j))) && eqb class k) j
         (getD (now (soles .entry)) (maxLiterals * s + k) 0)) ⌝ }
@@ -251,7 +260,9 @@ fn note_asked(rows: &[u8], class: usize, j: usize, soles: &mut [u8])
 
 // Notes the literal `j` in each section of its class that counts it, and nowhere where it has none. Its role is sorted once.
 fn note_literal(rows: &[u8], class: usize, j: usize, soles: &mut [u8])
-    requires { ⌜ (8 * j + 8 ≤ length (now rows)) × (j < maxLiterals) × (length (now soles) ≡ 5 * maxLiterals) ⌝ }
+    requires row { ⌜ 8 * j + 8 ≤ length (now rows) ⌝ }
+    requires few { ⌜ j < maxLiterals ⌝ }
+    requires soles { ⌜ length (now soles) ≡ 5 * maxLiterals ⌝ }
     ensures { λ _. ⌜ ((s k : ℕ) → s < 5 → k < maxLiterals → getD (now (soles .exit)) (maxLiterals * s + k) 0
         ≡ soleMore (eqb class k && countsIn (now (rows .entry)) s j) j (getD (now (soles .entry)) (maxLiterals * s + k) 0)) ⌝ }
 {
@@ -287,7 +298,8 @@ pub fn note_soles(rows: &[u8], numbers: &[u8], soles: &mut [u8])
 
 // The true conditions and the adds of a class at a moment, by the section of its true conditions.
 pub fn sole_in(soles: &Soles, section: usize, class: usize) -> Sole
-    requires { ⌜ (section < 4) × (class < maxLiterals) ⌝ }
+    requires section { ⌜ section < 4 ⌝ }
+    requires class { ⌜ class < maxLiterals ⌝ }
     ensures { λ r. ⌜ r ≡ soleIn (now (soles .entry)) section class ⌝ }
 {
     Sole {
@@ -306,7 +318,9 @@ fn is_same_at(
     i: usize,
     j: usize,
 ) -> bool
-    requires { ⌜ Sides (now rows) (now numbers) × (i < length (now numbers)) × (j < length (now numbers)) ⌝ }
+    requires sides { ⌜ Sides (now rows) (now numbers) ⌝ }
+    requires one { ⌜ i < length (now numbers) ⌝ }
+    requires other { ⌜ j < length (now numbers) ⌝ }
     ensures { λ r. ⌜ r ≡ isSameAt (now (rows .entry)) (now (numbers .entry)) (now (usages .entry)) class usage i j ⌝ }
 {
     if is_at(numbers, usages, class, usage, j) {
@@ -317,7 +331,8 @@ fn is_same_at(
 
 // Whether a literal of a class with this usage has the atom of the row `i`.
 fn any_same(rows: &[u8], numbers: &[u8], usages: &Marks, class: u8, usage: u8, i: usize) -> bool
-    requires { ⌜ Sides (now rows) (now numbers) × (i < length (now numbers)) ⌝ }
+    requires sides { ⌜ Sides (now rows) (now numbers) ⌝ }
+    requires one { ⌜ i < length (now numbers) ⌝ }
     ensures { λ r. ⌜ r ≡ sameIn (now (rows .entry)) (now (numbers .entry)) (now (usages .entry)) class usage i ⌝ }
 {
     for j in 0..numbers.len() {
@@ -330,7 +345,9 @@ fn any_same(rows: &[u8], numbers: &[u8], usages: &Marks, class: u8, usage: u8, i
 
 // Whether the row `j` is a delete of a class, and meets the row `i`.
 fn is_delete_at(rows: &[u8], numbers: &[u8], usages: &Marks, class: u8, i: usize, j: usize) -> bool
-    requires { ⌜ Sides (now rows) (now numbers) × (i < length (now numbers)) × (j < length (now numbers)) ⌝ }
+    requires sides { ⌜ Sides (now rows) (now numbers) ⌝ }
+    requires one { ⌜ i < length (now numbers) ⌝ }
+    requires other { ⌜ j < length (now numbers) ⌝ }
     ensures { λ r. ⌜ r ≡ isDeleteAt (now (rows .entry)) (now (numbers .entry)) (now (usages .entry)) class i j ⌝ }
 {
     if is_at(numbers, usages, class, 4, j) {
@@ -341,7 +358,8 @@ fn is_delete_at(rows: &[u8], numbers: &[u8], usages: &Marks, class: u8, i: usize
 
 // Whether a class deletes the literal of the row `i`, a true condition: by one with the same arguments, or with FF.
 fn is_deleted(rows: &[u8], numbers: &[u8], usages: &Marks, class: u8, i: usize) -> bool
-    requires { ⌜ Sides (now rows) (now numbers) × (i < length (now numbers)) ⌝ }
+    requires sides { ⌜ Sides (now rows) (now numbers) ⌝ }
+    requires one { ⌜ i < length (now numbers) ⌝ }
     ensures { λ r. ⌜ r ≡ deletedIn (now (rows .entry)) (now (numbers .entry)) (now (usages .entry)) class i ⌝ }
 {
     for j in 0..numbers.len() {
@@ -354,7 +372,8 @@ fn is_deleted(rows: &[u8], numbers: &[u8], usages: &Marks, class: u8, i: usize) 
 
 // Whether a literal with the atom of the row `i` is an add of a class, or the class deletes it.
 fn is_changed(rows: &[u8], numbers: &[u8], usages: &Marks, class: u8, i: usize) -> bool
-    requires { ⌜ Sides (now rows) (now numbers) × (i < length (now numbers)) ⌝ }
+    requires sides { ⌜ Sides (now rows) (now numbers) ⌝ }
+    requires one { ⌜ i < length (now numbers) ⌝ }
     ensures { λ r. ⌜ r ≡ changedAt (now (rows .entry)) (now (numbers .entry)) (now (usages .entry)) class i ⌝ }
 {
     if any_same(rows, numbers, usages, class, 3, i) {
@@ -365,7 +384,8 @@ fn is_changed(rows: &[u8], numbers: &[u8], usages: &Marks, class: u8, i: usize) 
 
 // Whether the row `j` is a false condition, add or delete of a class, with this relation.
 fn excludes(rows: &[u8], numbers: &[u8], usages: &Marks, class: u8, relation: u8, j: usize) -> bool
-    requires { ⌜ Sides (now rows) (now numbers) × (j < length (now numbers)) ⌝ }
+    requires sides { ⌜ Sides (now rows) (now numbers) ⌝ }
+    requires literal { ⌜ j < length (now numbers) ⌝ }
     ensures { λ r. ⌜ r ≡ excludesAt (now (rows .entry)) (now (numbers .entry)) (now (usages .entry)) class relation j ⌝ }
 {
     if numbers[j] != class {
@@ -415,7 +435,9 @@ fn covers_by(
     c: usize,
     j: usize,
 ) -> bool
-    requires { ⌜ (c < maxComponents) × Sides (now rows) (now numbers) × (j < length (now numbers)) ⌝ }
+    requires component { ⌜ c < maxComponents ⌝ }
+    requires sides { ⌜ Sides (now rows) (now numbers) ⌝ }
+    requires literal { ⌜ j < length (now numbers) ⌝ }
     ensures { λ r. ⌜ r ≡ coversAt (now (head .entry)) (now (rows .entry)) (now (numbers .entry)) (now (usages .entry)) class c j ⌝ }
 {
     let relation = component_byte(head, c, 0);
@@ -427,7 +449,8 @@ fn covers_by(
 
 // Whether a row is one by which a class covers the component `c`.
 fn any_covers(head: &Head, rows: &[u8], numbers: &[u8], usages: &Marks, class: u8, c: usize) -> bool
-    requires { ⌜ (c < maxComponents) × Sides (now rows) (now numbers) ⌝ }
+    requires component { ⌜ c < maxComponents ⌝ }
+    requires sides { ⌜ Sides (now rows) (now numbers) ⌝ }
     ensures { λ r. ⌜ r ≡ coveredAt (now (head .entry)) (now (rows .entry)) (now (numbers .entry)) (now (usages .entry)) class c ⌝ }
 {
     for j in 0..numbers.len() {
@@ -440,7 +463,8 @@ fn any_covers(head: &Head, rows: &[u8], numbers: &[u8], usages: &Marks, class: u
 
 // Whether one of the first n labels of the component `c` is FF.
 fn any_counted(head: &Head, c: usize, n: usize) -> bool
-    requires { ⌜ (c < maxComponents) × (n ≤ maxArguments) ⌝ }
+    requires component { ⌜ c < maxComponents ⌝ }
+    requires arguments { ⌜ n ≤ maxArguments ⌝ }
     ensures { λ r. ⌜ r ≡ any (countedAt (now (head .entry)) c) (below n) ⌝ }
 {
     for i in 0..n {
@@ -463,7 +487,8 @@ fn has_counted(head: &Head, c: usize) -> bool
 // Whether a class covers the component `c`. Literals with FF alone cover one with a counted place: where there is none, the rows need
 // not be looked through.
 fn covers(head: &Head, rows: &[u8], numbers: &[u8], usages: &Marks, class: u8, c: usize) -> bool
-    requires { ⌜ (c < maxComponents) × Sides (now rows) (now numbers) ⌝ }
+    requires component { ⌜ c < maxComponents ⌝ }
+    requires sides { ⌜ Sides (now rows) (now numbers) ⌝ }
     ensures { λ r. ⌜ ((D : Domain) (a : Action) (m : Moment)
         → MomentOf D a m (now (head .entry)) (now (rows .entry)) (now (numbers .entry)) (now (usages .entry))
         → class < length (classes D a) → c < length (D .template)
@@ -557,7 +582,8 @@ pub fn name_at(
 
 // Whether the row `j` is an over-all literal of a class.
 fn is_lasting_at(rows: &[u8], numbers: &[u8], class: u8, j: usize) -> bool
-    requires { ⌜ Sides (now rows) (now numbers) × (j < length (now numbers)) ⌝ }
+    requires sides { ⌜ Sides (now rows) (now numbers) ⌝ }
+    requires literal { ⌜ j < length (now numbers) ⌝ }
     ensures { λ r. ⌜ r ≡ lastsAt (now (rows .entry)) (now (numbers .entry)) class j ⌝ }
 {
     if numbers[j] != class {

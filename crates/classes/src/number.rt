@@ -28,7 +28,8 @@ struct NumberedLiteral {
 
 // Whether one of n classes has a key tuple with this word.
 fn any_word(words: &[u64], n: usize, word: u64) -> bool
-    requires { ⌜ (n ≤ length (now words)) × (n ≤ maxLiterals) ⌝ }
+    requires words { ⌜ n ≤ length (now words) ⌝ }
+    requires few { ⌜ n ≤ maxLiterals ⌝ }
     ensures { λ r. ⌜ r ≡ any (eqb word) (take n (now (words .entry))) ⌝ }
 {
     let mut found = false;
@@ -40,7 +41,8 @@ fn any_word(words: &[u64], n: usize, word: u64) -> bool
 
 // The number of the first of n classes whose key tuple has this word, or n.
 fn class_of(words: &[u64], n: usize, word: u64) -> usize
-    requires { ⌜ (n ≤ length (now words)) × (n ≤ maxLiterals) ⌝ }
+    requires words { ⌜ n ≤ length (now words) ⌝ }
+    requires few { ⌜ n ≤ maxLiterals ⌝ }
     ensures { λ r. ⌜ r ≡ position (eqb word) (take n (now (words .entry))) ⌝ }
 {
     if !any_word(words, n, word) {

@@ -12,7 +12,7 @@ use Rattle.literals.specs.declared.Object.{Object}
 use Rattle.literals.specs.declared.Time.{Time}
 use Rattle.literals.specs.declared.Time.the-variants.{AtStart, AtEnd}
 use Rattle.literals.specs.Domain.{Fact, Domain, action, roleNumber, Literal}
-use Rattle.literals.specs.Decode.{byte, maxLiterals}
+use Rattle.literals.specs.Decode.{byte, maxArguments, maxVariables, maxLiterals}
 use Rattle.literals.specs.Held.{rowIn, pad, rowsBy, actionsIn, arityIn, lastingIn, HeadOf, usageFor}
 use Rattle.literals.specs.declared.Moment.{Moment}
 use Rattle.literals.specs.declared.Moment.the-variants.{Start, End}
@@ -27,17 +27,17 @@ use Rattle.store.specs.Held.{SizedRow, hasRow}
 
 -- the bytes of an action with its objects, and room for those of what is open and of the events of a step
 abbrev pub groundBytes : ℕ
-groundBytes = 17
+groundBytes = 1 + maxVariables
 
 abbrev pub openBytes : ℕ
-openBytes = 544
+openBytes = groundBytes * maxRunning
 
 abbrev pub waitingBytes : ℕ
-waitingBytes = 272
+waitingBytes = groundBytes * maxEvents
 
 -- an action with its objects, FF to fill
 abbrev pub groundRow : GroundAction → List ℕ
-groundRow g = g .action ∷ (objectNumbers (g .binding) ++ replicate (16 - length (g .binding)) 255)
+groundRow g = g .action ∷ (objectNumbers (g .binding) ++ replicate (maxVariables - length (g .binding)) 255)
 
 -- the first n such rows of a memory
 abbrev pub groundsIn : ℕ → List ℕ → List (List ℕ)
@@ -73,15 +73,15 @@ waitingOf es =
 
 -- ---- the agenda: what is open and what waits, in one memory
 
--- its length, and where the moments of the events that wait and their rows start, behind the entries
-abbrev pub agendaBytes : ℕ
-agendaBytes = 832
-
+-- where the moments of the events that wait and their rows start, behind the entries, and its length
 abbrev pub momentsAt : ℕ
-momentsAt = 544
+momentsAt = openBytes
 
 abbrev pub eventsAt : ℕ
-eventsAt = 560
+eventsAt = momentsAt + maxEvents
+
+abbrev pub agendaBytes : ℕ
+agendaBytes = eventsAt + waitingBytes
 
 -- its sections
 abbrev pub entriesIn : List ℕ → List ℕ
@@ -124,11 +124,11 @@ pub record OverObjects (D : Domain) (objs : List Object) (fs : List Fact) (gs : 
 
 -- an argument: the object of a variable, which an action's row has behind the action; FF, every object, stays
 abbrev pub boundArgument : List ℕ → ℕ → ℕ
-boundArgument ground v = cond (ltb v 16) (getD ground (v + 1) 0) 255
+boundArgument ground v = cond (ltb v maxVariables) (getD ground (v + 1) 0) 255
 
 -- the row of a literal, so bound, by the arity of its relation
 abbrev pub boundBytes : ℕ → List ℕ → List ℕ → List ℕ
-boundBytes n ground row = byte row 1 ∷ n ∷ (map (boundArgument ground) (take n (drop 2 row)) ++ replicate (6 - n) 255)
+boundBytes n ground row = byte row 1 ∷ n ∷ (map (boundArgument ground) (take n (drop 2 row)) ++ replicate (maxArguments - n) 255)
 
 -- the same, with the arity that the head has
 unfoldable pub boundRow : List ℕ → List ℕ → List ℕ → List ℕ
@@ -153,12 +153,13 @@ pub record EventRow : Type 0 where
 
 -- the event at a place of these memories
 abbrev pub eventAt : List ℕ → List ℕ → ℕ → EventRow
-eventAt moments rows i = record { moment = getD moments i 0; row = take 17 (drop (17 * i) rows) }
+eventAt moments rows i = record { moment = getD moments i 0; row = take groundBytes (drop (groundBytes * i) rows) }
 
 -- the first n
 abbrev pub eventsIn : ℕ → List ℕ → List ℕ → List EventRow
 eventsIn zero moments rows = []
-eventsIn (suc n) moments rows = record { moment = getD moments 0 0; row = take 17 rows } ∷ eventsIn n (drop 1 moments) (drop 17 rows)
+eventsIn (suc n) moments rows =
+    record { moment = getD moments 0 0; row = take groundBytes rows } ∷ eventsIn n (drop 1 moments) (drop groundBytes rows)
 
 -- where it is an end, its entry is one of these
 unfoldable pub endOpen : List (List ℕ) → EventRow → Bool
@@ -166,7 +167,11 @@ endOpen rows e = cond (eqb (e .moment) 1) (hasRow (e .row) rows) true
 
 -- without the entry k: the later ones move forward, zeros fill the end
 unfoldable pub withoutEntry : ℕ → Open → Open
-withoutEntry k o = record { count = o .count - 1; rows = take (17 * k) (o .rows) ++ (drop (17 * k + 17) (o .rows) ++ replicate 17 0) }
+withoutEntry k o =
+    record {
+      count = o .count - 1;
+      rows = take (groundBytes * k) (o .rows) ++ (drop (groundBytes * k + groundBytes) (o .rows) ++ replicate groundBytes 0);
+    }
 
 -- without the first equal entry
 unfoldable pub closeEntry : List ℕ → Open → Open
@@ -186,7 +191,7 @@ closeEvents (e ∷ es) o = closeEvents es (closeEvent e o)
 
 -- one entry more
 unfoldable pub joinEntry : List ℕ → Open → Open
-joinEntry row o = record { count = o .count + 1; rows = paste (o .rows) (17 * o .count) row 17 }
+joinEntry row o = record { count = o .count + 1; rows = paste (o .rows) (groundBytes * o .count) row groundBytes }
 
 -- an event of this moment and action is the start of a lasting action
 unfoldable pub opensBy : List ℕ → ℕ → ℕ → Bool

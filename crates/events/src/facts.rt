@@ -7,23 +7,25 @@ use literals::Variable;
 use literals::argument_of;
 use literals::head::Head;
 use literals::head::arity_of;
+use literals::limits::MAX_VARIABLES;
 use literals::row::arguments_meet;
 use records::bytes::wide;
 ghost use mathlib.Core.Path.{_≡_};
 ghost use Prim.Native.Nat.{_+_, _*_, _<_, _≤_};
 ghost use lib.ListN.{length, getD, take, drop};
 ghost use Rattle.records.specs.Lists.{any};
+ghost use Rattle.literals.specs.Decode.{maxArguments};
 ghost use Rattle.literals.specs.Held.{rowsIn, argumentNumber};
 ghost use Rattle.verdict.specs.Held.{patternsMeet};
 ghost use Rattle.run_semantics.specs.RunFile.{momentOf};
-ghost use Rattle.events.specs.Held.{boundArgument, boundBytes, boundRow, isPattern, timeOf};
+ghost use Rattle.events.specs.Held.{groundBytes, boundArgument, boundBytes, boundRow, isPattern, timeOf};
 
 // The object that an action's row has for a variable. (What is answered for a number that is no variable's is never asked for.)
 fn object_of(ground: &[u8], v: Variable) -> Object
-    requires { ⌜ length (now ground) ≡ 17 ⌝ }
+    requires { ⌜ length (now ground) ≡ groundBytes ⌝ }
     ensures { λ r. ⌜ r .0 ≡ boundArgument (now (ground .entry)) (v .0) ⌝ }
 {
-    if v.0 < 16 {
+    if v.0 < MAX_VARIABLES as u8 {
         let o = ground[v.0 as usize + 1];
         return Object(o);
     }
@@ -32,7 +34,7 @@ fn object_of(ground: &[u8], v: Variable) -> Object
 
 // The byte of an argument, bound: of a variable its object; FF, every object, stays.
 fn bound_argument(ground: &[u8], argument: Argument) -> u8
-    requires { ⌜ length (now ground) ≡ 17 ⌝ }
+    requires { ⌜ length (now ground) ≡ groundBytes ⌝ }
     ensures { λ r. ⌜ r ≡ boundArgument (now (ground .entry)) (argumentNumber argument) ⌝ }
 {
     match argument {
@@ -46,10 +48,10 @@ fn bound_argument(ground: &[u8], argument: Argument) -> u8
 
 // A byte of the literal's row at an offset, bound; `arity` is its relation's.
 fn bound_byte(arity: u8, ground: &[u8], rows: &[u8], row: usize, i: usize) -> u8
-    requires bound { ⌜ length (now ground) ≡ 17 ⌝ }
+    requires bound { ⌜ length (now ground) ≡ groundBytes ⌝ }
     requires literal { ⌜ row + 8 ≤ length (now rows) ⌝ }
     requires place { ⌜ i < 8 ⌝ }
-    requires arity { ⌜ arity ≤ 6 ⌝ }
+    requires arity { ⌜ arity ≤ maxArguments ⌝ }
     ensures { λ r. ⌜ r ≡ getD (boundBytes arity (now (ground .entry)) (take 8 (drop row (now (rows .entry))))) i 0 ⌝ }
 {
     if i == 0 {
@@ -67,7 +69,7 @@ fn bound_byte(arity: u8, ground: &[u8], rows: &[u8], row: usize, i: usize) -> u8
 
 // The literal's row at an offset, bound.
 pub fn bound_row(head: &Head, ground: &[u8], rows: &[u8], row: usize) -> [u8; 8]
-    requires bound { ⌜ length (now ground) ≡ 17 ⌝ }
+    requires bound { ⌜ length (now ground) ≡ groundBytes ⌝ }
     requires literal { ⌜ row + 8 ≤ length (now rows) ⌝ }
     ensures { λ r. ⌜ r ≡ boundRow (now (head .entry)) (now (ground .entry)) (take 8 (drop row (now (rows .entry)))) ⌝ }
 {
@@ -113,7 +115,8 @@ pub fn has_pattern(rows: &[u8], n: usize) -> bool
 
 // Whether the row at an offset, of a literal or a fact, meets the row at an offset of another memory: they are about a fact in common.
 pub fn patterns_meet(x: &[u8], i: usize, y: &[u8], j: usize) -> bool
-    requires { ⌜ (i + 8 ≤ length (now x)) × (j + 8 ≤ length (now y)) ⌝ }
+    requires one { ⌜ i + 8 ≤ length (now x) ⌝ }
+    requires other { ⌜ j + 8 ≤ length (now y) ⌝ }
     ensures { λ r. ⌜ r ≡ patternsMeet (take 8 (drop i (now (x .entry)))) (take 8 (drop j (now (y .entry)))) ⌝ }
 {
     if x[i] == y[j] {

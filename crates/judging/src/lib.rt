@@ -27,7 +27,7 @@ ghost use Rattle.verdict.specs.Claims.{wellFormed, DecidesFile, AcceptedSafe, R
 ghost use Rattle.verdict.specs.Held.{judgementOf};
 ghost use Rattle.judging.specs.Held.{JudgedAs};
 
-// How many literals a small file's memories have room for. A literal takes at least 6 bytes, so a file of 6 times as many bytes has no more.
+// How many literals the memories of a small file have room for. A literal takes at least 6 bytes of the file.
 const FEW: usize = 32;
 
 const SOME: usize = 160;

@@ -250,7 +250,8 @@ pub fn each_once(p: &[u8], n: usize) -> bool
 // its label, then a key that is missing. A label stands 4 bytes, those of the head, further behind the record's start than in the
 // payload.
 pub fn label_fields(p: &[u8], n: usize) -> RecordFault
-    requires { ⌜ (n ≤ maxArguments) × (length (now p) ≤ 1 + maxArguments) ⌝ }
+    requires arguments { ⌜ n ≤ maxArguments ⌝ }
+    requires short { ⌜ length (now p) ≤ 1 + maxArguments ⌝ }
     ensures { λ r. ⌜ r ≡ labelFault n (map labelOf (drop 1 (now (p .entry)))) ⌝ }
 {
     let second = first_again(p, true);
@@ -298,7 +299,8 @@ fn may_stand(label: Label, argument: Argument) -> bool
 
 // Whether no key of a component stands where the literal's row at an offset has FF.
 fn keys_beside(p: &[u8], table: &[u8], at: usize) -> bool
-    requires { ⌜ (at + 8 ≤ length (now table)) × (length (now p) ≤ 1 + maxArguments) ⌝ }
+    requires table { ⌜ at + 8 ≤ length (now table) ⌝ }
+    requires short { ⌜ length (now p) ≤ 1 + maxArguments ⌝ }
     ensures { λ r. ⌜ r ≡ sideBySide keyBeside (drop 1 (now (p .entry))) (drop 2 (take 8 (drop at (now (table .entry))))) ⌝ }
 {
     let mut i = 1;
@@ -315,7 +317,9 @@ fn keys_beside(p: &[u8], table: &[u8], at: usize) -> bool
 
 // Whether the literal's row at an offset has the relation of a component, and FF where that has a key.
 fn clears_key(p: &[u8], table: &[u8], at: usize) -> bool
-    requires { ⌜ (at + 8 ≤ length (now table)) × (0 < length (now p)) × (length (now p) ≤ 1 + maxArguments) ⌝ }
+    requires table { ⌜ at + 8 ≤ length (now table) ⌝ }
+    requires long { ⌜ 0 < length (now p) ⌝ }
+    requires short { ⌜ length (now p) ≤ 1 + maxArguments ⌝ }
     ensures { λ r. ⌜ r ≡ keyClearedIn (now (p .entry)) (take 8 (drop at (now (table .entry)))) ⌝ }
 {
     if p[0] == table[at + 1] {
@@ -326,7 +330,9 @@ fn clears_key(p: &[u8], table: &[u8], at: usize) -> bool
 
 // Whether one of the first n rows has.
 pub fn any_clears_key(p: &[u8], table: &[u8], n: usize) -> bool
-    requires { ⌜ (8 * n ≤ length (now table)) × (0 < length (now p)) × (length (now p) ≤ 1 + maxArguments) ⌝ }
+    requires table { ⌜ 8 * n ≤ length (now table) ⌝ }
+    requires long { ⌜ 0 < length (now p) ⌝ }
+    requires short { ⌜ length (now p) ≤ 1 + maxArguments ⌝ }
     ensures { λ r. ⌜ r ≡ any (keyClearedIn (now (p .entry))) (rowsIn n (now (table .entry))) ⌝ }
 {
     let mut i = 0;

@@ -101,7 +101,8 @@ pub fn arity_of(head: &Head, relation: u8) -> u8
 
 // A byte of a component: its relation, then its labels.
 pub fn component_byte(head: &Head, c: usize, i: usize) -> u8
-    requires { ⌜ (c < maxComponents) × (i < 8) ⌝ }
+    requires component { ⌜ c < maxComponents ⌝ }
+    requires place { ⌜ i < 8 ⌝ }
     ensures { λ r. ⌜ r ≡ getD (componentRowIn (now (head .entry)) c) i 0 ⌝ }
 {
     head[COMPONENT_ROWS + 8 * c + i]

@@ -73,7 +73,9 @@ fn argument_byte(rows: &[u8], at: usize, place: usize) -> u8
 // The byte under a key of the component `c` in the row at `at`, as a number. (In the loop below itself, it would be compiled to several
 // times as much, and slower.)
 fn key_digit(head: &Head, c: usize, rows: &[u8], at: usize, k: u8) -> u64
-    requires { ⌜ (c < maxComponents) × (at + 8 ≤ length (now rows)) × (k < 255) ⌝ }
+    requires component { ⌜ c < maxComponents ⌝ }
+    requires row { ⌜ at + 8 ≤ length (now rows) ⌝ }
+    requires key { ⌜ k < 255 ⌝ }
     ensures { λ r. ⌜ (r ≡ underKey k (drop 1 (componentRowIn (now (head .entry)) c)) (drop 2 (take 8 (drop at (now (rows .entry))))))
         × (r < 256) ⌝ }
 {
@@ -84,7 +86,8 @@ fn key_digit(head: &Head, c: usize, rows: &[u8], at: usize, k: u8) -> u64
 // The key tuple's row as a number, the first byte lowest. It starts as FF eight times; from the last key to the first, the byte under the
 // key is put in below the others, and the highest falls out.
 fn key_number(head: &Head, c: usize, rows: &[u8], at: usize) -> u64
-    requires { ⌜ (c < maxComponents) × (at + 8 ≤ length (now rows)) ⌝ }
+    requires component { ⌜ c < maxComponents ⌝ }
+    requires row { ⌜ at + 8 ≤ length (now rows) ⌝ }
     ensures { λ r. ⌜ WordOf (keyRow (keysIn (now (head .entry))) (componentRowIn (now (head .entry)) c)
         (take 8 (drop at (now (rows .entry))))) r ⌝ }
 {
@@ -99,7 +102,8 @@ fn key_number(head: &Head, c: usize, rows: &[u8], at: usize) -> u64
 
 // The key tuple of the row at `at` under the component `c`.
 pub fn key_tuple(head: &Head, c: usize, rows: &[u8], at: usize) -> [u8; 8]
-    requires { ⌜ (c < maxComponents) × (at + 8 ≤ length (now rows)) ⌝ }
+    requires component { ⌜ c < maxComponents ⌝ }
+    requires row { ⌜ at + 8 ≤ length (now rows) ⌝ }
     ensures { λ r. ⌜ r ≡ keyRow (keysIn (now (head .entry))) (componentRowIn (now (head .entry)) c)
         (take 8 (drop at (now (rows .entry)))) ⌝ }
 {
@@ -108,7 +112,8 @@ pub fn key_tuple(head: &Head, c: usize, rows: &[u8], at: usize) -> [u8; 8]
 
 // Writes the component `c` at its relation.
 fn put_component(head: &Head, c: usize, places: &mut [u8])
-    requires { ⌜ (c < maxComponents) × (length (now places) ≡ maxRelations + 8 * maxComponents) ⌝ }
+    requires component { ⌜ c < maxComponents ⌝ }
+    requires places { ⌜ length (now places) ≡ maxRelations + 8 * maxComponents ⌝ }
     ensures { λ _. ⌜ ((r : ℕ) → r < maxRelations → getD (now (places .exit)) r 0
         ≡ cond (starts r (componentRowIn (now (head .entry)) c)) (c + 1) (getD (now (places .entry)) r 0)) ⌝ }
 {
@@ -134,7 +139,8 @@ fn put_components(head: &Head, places: &mut [u8])
 
 // Writes the places of the keys of the component `c`.
 fn put_component_places(head: &Head, c: usize, places: &mut [u8])
-    requires { ⌜ (c < maxComponents) × (length (now places) ≡ maxRelations + 8 * maxComponents) ⌝ }
+    requires component { ⌜ c < maxComponents ⌝ }
+    requires places { ⌜ length (now places) ≡ maxRelations + 8 * maxComponents ⌝ }
     ensures own { λ _. ⌜ ((k : ℕ) → k < keysIn (now (head .entry))
         → getD (now (places .exit)) (maxRelations + 8 * c + k) 0 ≡ placeUnder (key k) (componentRowIn (now (head .entry)) c)) ⌝ }
     ensures before { λ _. ⌜ ((i : ℕ) → i < maxRelations + 8 * c

@@ -23,7 +23,8 @@ pub fn row_byte(p: &[u8], i: usize) -> u8
 
 // The row of a payload, written at an offset.
 pub fn put_row(out: &mut [u8], at: usize, p: &[u8])
-    requires { ⌜ (at + 8 ≤ length (now out)) × (length (now p) ≤ 8) ⌝ }
+    requires room { ⌜ at + 8 ≤ length (now out) ⌝ }
+    requires short { ⌜ length (now p) ≤ 8 ⌝ }
     ensures { λ _. ⌜ now (out .exit) ≡ paste (now (out .entry)) at (rowOf (now (p .entry))) 8 ⌝ }
 {
     for i in 0..8 {
@@ -52,7 +53,8 @@ fn four_at(s: &[u8], at: usize) -> u32
 // Whether the four bytes at an offset are the same as those at an offset of another memory. They are compared as one number, which is
 // much quicker than byte by byte.
 pub fn same_four(x: &[u8], i: usize, y: &[u8], j: usize) -> bool
-    requires { ⌜ (i + 4 ≤ length (now x)) × (j + 4 ≤ length (now y)) ⌝ }
+    requires one { ⌜ i + 4 ≤ length (now x) ⌝ }
+    requires other { ⌜ j + 4 ≤ length (now y) ⌝ }
     ensures { λ r. ⌜ r ≡ sameList eqb (take 4 (drop i (now (x .entry)))) (take 4 (drop j (now (y .entry)))) ⌝ }
 {
     if four_at(x, i) == four_at(y, j) {
@@ -63,7 +65,8 @@ pub fn same_four(x: &[u8], i: usize, y: &[u8], j: usize) -> bool
 
 // Whether the row at an offset has the relation and the arguments of a row: the bytes 1 to 4, and 4 to 7.
 pub fn same_atom(table: &[u8], at: usize, row: &[u8]) -> bool
-    requires { ⌜ (at + 8 ≤ length (now table)) × (length (now row) ≡ 8) ⌝ }
+    requires table { ⌜ at + 8 ≤ length (now table) ⌝ }
+    requires row { ⌜ length (now row) ≡ 8 ⌝ }
     ensures { λ r. ⌜ r ≡ sameList eqb (drop 1 (now (row .entry))) (drop 1 (take 8 (drop at (now (table .entry))))) ⌝ }
 {
     if same_four(row, 1, table, at + 1) {
@@ -87,7 +90,8 @@ fn bytes_meet(a: u8, b: u8) -> bool
 
 // Whether the arguments of the row at an offset meet those of the row at an offset of another memory: the bytes 2 to 7.
 pub fn arguments_meet(x: &[u8], i: usize, y: &[u8], j: usize) -> bool
-    requires { ⌜ (i + 8 ≤ length (now x)) × (j + 8 ≤ length (now y)) ⌝ }
+    requires one { ⌜ i + 8 ≤ length (now x) ⌝ }
+    requires other { ⌜ j + 8 ≤ length (now y) ⌝ }
     ensures { λ r. ⌜ r ≡ argumentsMeet (take 8 (drop i (now (x .entry)))) (take 8 (drop j (now (y .entry)))) ⌝ }
 {
     for k in 2..8 {
@@ -100,7 +104,8 @@ pub fn arguments_meet(x: &[u8], i: usize, y: &[u8], j: usize) -> bool
 
 // Whether the literal's row at an offset meets the literal's row at an offset of another memory.
 pub fn rows_meet(x: &[u8], i: usize, y: &[u8], j: usize) -> bool
-    requires { ⌜ (i + 8 ≤ length (now x)) × (j + 8 ≤ length (now y)) ⌝ }
+    requires one { ⌜ i + 8 ≤ length (now x) ⌝ }
+    requires other { ⌜ j + 8 ≤ length (now y) ⌝ }
     ensures { λ r. ⌜ r ≡ rowsMeet (take 8 (drop i (now (x .entry)))) (take 8 (drop j (now (y .entry)))) ⌝ }
 {
     if x[i + 1] == y[j + 1] {
@@ -190,7 +195,8 @@ pub fn word_row(word: u64) -> [u8; 8]
 
 // Whether one of the rows from `from` to `to` is the row of a number. (Most often none is, so that all are looked at.)
 pub fn any_same(table: &[u8], from: usize, to: usize, word: u64) -> bool
-    requires { ⌜ (from ≤ to) × (8 * to ≤ length (now table)) ⌝ }
+    requires span { ⌜ from ≤ to ⌝ }
+    requires table { ⌜ 8 * to ≤ length (now table) ⌝ }
     ensures { λ r. ⌜ ((row : List ℕ) → WordOf row word
         → r ≡ any (sameList eqb row) (rowsIn (to - from) (drop (8 * from) (now (table .entry))))) ⌝ }
 {
@@ -205,7 +211,9 @@ pub fn any_same(table: &[u8], from: usize, to: usize, word: u64) -> bool
 
 // Whether the arguments of a payload meet those of the row at an offset. What fills the payload's row meets everything.
 fn payload_meets(p: &[u8], table: &[u8], at: usize) -> bool
-    requires { ⌜ (2 ≤ length (now p)) × (length (now p) ≤ 8) × (at + 8 ≤ length (now table)) ⌝ }
+    requires long { ⌜ 2 ≤ length (now p) ⌝ }
+    requires short { ⌜ length (now p) ≤ 8 ⌝ }
+    requires table { ⌜ at + 8 ≤ length (now table) ⌝ }
     ensures { λ r. ⌜ r ≡ argumentsMeet (rowOf (now (p .entry))) (take 8 (drop at (now (table .entry)))) ⌝ }
 {
     let mut i = 2;
@@ -220,7 +228,9 @@ fn payload_meets(p: &[u8], table: &[u8], at: usize) -> bool
 
 // Whether a payload meets the row at an offset.
 fn meets_row(p: &[u8], table: &[u8], at: usize) -> bool
-    requires { ⌜ (2 ≤ length (now p)) × (length (now p) ≤ 8) × (at + 8 ≤ length (now table)) ⌝ }
+    requires long { ⌜ 2 ≤ length (now p) ⌝ }
+    requires short { ⌜ length (now p) ≤ 8 ⌝ }
+    requires table { ⌜ at + 8 ≤ length (now table) ⌝ }
     ensures { λ r. ⌜ r ≡ rowsMeet (rowOf (now (p .entry))) (take 8 (drop at (now (table .entry)))) ⌝ }
 {
     if p[1] == table[at + 1] {
@@ -231,7 +241,9 @@ fn meets_row(p: &[u8], table: &[u8], at: usize) -> bool
 
 // Whether the row at an offset has one of two roles, and a payload meets it.
 fn meets_as(p: &[u8], table: &[u8], at: usize, first: u8, second: u8) -> bool
-    requires { ⌜ (2 ≤ length (now p)) × (length (now p) ≤ 8) × (at + 8 ≤ length (now table)) ⌝ }
+    requires long { ⌜ 2 ≤ length (now p) ⌝ }
+    requires short { ⌜ length (now p) ≤ 8 ⌝ }
+    requires table { ⌜ at + 8 ≤ length (now table) ⌝ }
     ensures { λ r. ⌜ r ≡ meetsAs first second (rowOf (now (p .entry))) (take 8 (drop at (now (table .entry)))) ⌝ }
 {
     if table[at] == first {
@@ -245,7 +257,10 @@ fn meets_as(p: &[u8], table: &[u8], at: usize, first: u8, second: u8) -> bool
 
 // Whether one of the rows from `from` to `to` has one of two roles, and a payload meets it.
 fn any_meets(p: &[u8], table: &[u8], from: usize, to: usize, first: u8, second: u8) -> bool
-    requires { ⌜ (2 ≤ length (now p)) × (length (now p) ≤ 8) × (from ≤ to) × (8 * to ≤ length (now table)) ⌝ }
+    requires long { ⌜ 2 ≤ length (now p) ⌝ }
+    requires short { ⌜ length (now p) ≤ 8 ⌝ }
+    requires span { ⌜ from ≤ to ⌝ }
+    requires table { ⌜ 8 * to ≤ length (now table) ⌝ }
     ensures { λ r. ⌜ r ≡ any (meetsAs first second (rowOf (now (p .entry)))) (rowsIn (to - from) (drop (8 * from) (now (table .entry)))) ⌝ }
 {
     let mut i = from;
@@ -261,7 +276,10 @@ fn any_meets(p: &[u8], table: &[u8], from: usize, to: usize, first: u8, second: 
 // Whether a payload contradicts one of the rows from `from` to `to`. Which roles stand against its own is asked once, not for each row;
 // an effect contradicts none.
 pub fn any_contradicts(p: &[u8], table: &[u8], from: usize, to: usize) -> bool
-    requires { ⌜ (2 ≤ length (now p)) × (length (now p) ≤ 8) × (from ≤ to) × (8 * to ≤ length (now table)) ⌝ }
+    requires long { ⌜ 2 ≤ length (now p) ⌝ }
+    requires short { ⌜ length (now p) ≤ 8 ⌝ }
+    requires span { ⌜ from ≤ to ⌝ }
+    requires table { ⌜ 8 * to ≤ length (now table) ⌝ }
     ensures { λ r. ⌜ r ≡ any (contradictsRow (rowOf (now (p .entry)))) (rowsIn (to - from) (drop (8 * from) (now (table .entry)))) ⌝ }
 {
     match p[0] {

@@ -20,7 +20,8 @@ use Rattle.run_semantics.specs.Play.{workBytes, Outcome, placeOf, heldBytes, pl
 use Rattle.run_semantics.specs.Play.{call, played, workAfter, returned, returnedBytes}
 use Rattle.run_semantics.specs.Claims.{finalOf, AsMachine, PlaysAsMachine, StaysLow}
 use Rattle.player.specs.Held.{endedOf}
-use Rattle.player.specs.Called.{asFault, fileOf, offsetOf, faultFile, faultOffset, partAt, answerOf, answerBy}
+use Rattle.player.specs.Called.{fileOf, offsetOf}
+use Rattle.player.specs.Held.{asFault, faultFile, faultOffset, partAt, answerOf, answerBy}
 use Rattle.run_semantics.proofs.Never.{played-as-machine, weight-stays-low}
 
 -- ---- the answer of a run

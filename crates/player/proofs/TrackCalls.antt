@@ -28,8 +28,8 @@ use Rattle.run_semantics.specs.Play.{workBytes, beforeRun, outcomeAt, heldBytes
 use Rattle.run_semantics.specs.Play.{returnedBytes}
 use Rattle.run_semantics.specs.Track.{instanceOf, countOf, countGiven, objectsGiven, instanceStop, trackRun, reportedTotal, trackBy}
 use Rattle.run_semantics.specs.Track.{tracked}
-use Rattle.player.specs.Called.{fileOf, offsetOf, faultFile, faultOffset, partAt, answerOf, answerBy, answerUnplayed, trackedIf}
-use Rattle.player.specs.Called.{trackedOf}
+use Rattle.player.specs.Called.{fileOf, offsetOf}
+use Rattle.player.specs.Held.{faultFile, faultOffset, partAt, answerOf, answerBy, answerUnplayed, trackedIf, trackedOf}
 use Rattle.player.proofs.PlayCalls.{fault-file, fault-offset, fault-part}
 
 -- ---- what the instance stops

@@ -1,22 +1,28 @@
 -- Where the player stands, as the code holds it, and what a record leads to. Assumes nothing.
 use Prim.{Unit}
 use mathlib.Core.Path.{_≡_}
-use mathlib.Core.Bool.{Bool, true, false}
+use mathlib.Core.Bool.{Bool, true, false, cond}
 use mathlib.Core.List.{List, []}
 use Prim.Native.Nat.{ℕ, _≤_}
-use lib.ListN.{length}
+use lib.ListN.{length, drop}
 use Rattle.records.specs.Memory.{over}
 use Rattle.literals.specs.Domain.{Domain}
 use Rattle.literals.specs.Held.{HeadOf}
 use Rattle.verdict.specs.Machine.{topWeight}
 use Rattle.run_semantics.specs.RunFile.{maxObjects}
-use Rattle.run_semantics.specs.Play.{workBytes, Tally, Playing, PlayTurn, goOn, finish, Outcome, runObjects, heldBytes}
+use Rattle.run_semantics.specs.Play.{workBytes, Tally, Playing, PlayTurn, goOn, finish, Outcome, runObjects, heldBytes, placeOf}
+use Rattle.run_semantics.specs.Play.{Returned, ofDomain, ofRun, Call, call}
+use Rattle.run_semantics.specs.Track.{Tracked as TrackedCall, tracked}
 use Rattle.events.specs.Held.{agendaBytes, openOf, waitingOf}
 use Rattle.effects.specs.Held.{scratchBytes}
 use Rattle.machine.specs.Held.{StateRows, stateOf, stateIn, Kept, Noted}
 use Rattle.player.specs.declared.Player.{Player}
 use Rattle.player.specs.declared.Turn.{Turn}
 use Rattle.player.specs.declared.run.Ended.{Ended}
+use Rattle.player.specs.declared.play.Fault.{Fault}
+use Rattle.player.specs.declared.play.Fault.the-variants.{Domain as InDomain, Run as InRun}
+use Rattle.player.specs.declared.play.PlayAnswer.{PlayAnswer}
+use Rattle.player.specs.declared.play.Tracked.{Tracked}
 
 -- ---- what the code holds
 
@@ -133,3 +139,50 @@ endedOf o =
       facts = length (o .facts);
       opened = length (o .running);
     }
+
+-- ---- the answer of a call
+
+-- the part of a file that comes back
+abbrev pub asFault : Returned → Fault
+asFault (ofDomain at) = InDomain at
+asFault (ofRun at) = InRun at
+
+-- of which file it is, 0 the domain file and 1 the run file, and its offset there
+abbrev pub faultFile : Fault → ℕ
+faultFile (InDomain at) = 0
+faultFile (InRun at) = 1
+
+abbrev pub faultOffset : Fault → ℕ
+faultOffset (InDomain at) = at
+faultOffset (InRun at) = at
+
+-- its bytes
+abbrev pub partAt : List ℕ → List ℕ → Fault → List ℕ
+partAt d r (InDomain at) = drop at d
+partAt d r (InRun at) = drop at r
+
+abbrev pub answerOf : Call → PlayAnswer
+answerOf c =
+    record {
+      number = c .answer .number;
+      place = c .answer .first;
+      steps = c .answer .steps;
+      weight = c .answer .weight;
+      fault = asFault (c .part);
+    }
+
+-- of a run that was played to its end or to its fault
+abbrev pub answerBy : Outcome → PlayAnswer
+answerBy o = record { number = o .number; place = placeOf o; steps = o .steps; weight = o .weight; fault = InRun (o .place) }
+
+-- of a call that plays nothing, 9 to 27 and 58
+abbrev pub answerUnplayed : ℕ → ℕ → Fault → PlayAnswer
+answerUnplayed number place fault = record { number = number; place = place; steps = 0; weight = 0; fault = fault }
+
+-- with an instance, or without one and its total
+unfoldable pub trackedIf : Bool → List ℕ → List ℕ → List ℕ → List ℕ → TrackedCall
+unfolding tracked call
+trackedIf given d y r w = cond given (tracked d y r w) (record { call = call d r w; total = 0 })
+
+abbrev pub trackedOf : TrackedCall → Tracked
+trackedOf t = record { played = answerOf (t .call); total = t .total }

@@ -1,5 +1,6 @@
 // The call: a domain file, a run file, and lent work memory.
 use super::run::Ended;
+use super::run::WORK;
 use super::run::play_run;
 use super::track::track_run;
 use events::AGENDA;
@@ -13,8 +14,8 @@ ghost use Rattle.reading.specs.Held.{EnoughTable};
 ghost use Rattle.run_semantics.specs.Play.{Outcome, call, played, workAfter, returned, returnedBytes};
 ghost use Rattle.run_semantics.specs.Claims.{PlaysAsMachine, StaysLow};
 ghost use Rattle.player.specs.Held.{endedOf};
-ghost use Rattle.player.specs.Called.{fileOf, offsetOf, faultFile, faultOffset, partAt, answerOf, answerBy, answerUnplayed};
-ghost use Rattle.player.specs.Called.{trackedIf, trackedOf};
+ghost use Rattle.player.specs.Called.{fileOf, offsetOf};
+ghost use Rattle.player.specs.Held.{faultFile, faultOffset, partAt, answerOf, answerBy, answerUnplayed, trackedIf, trackedOf};
 
 // Where the record at fault starts: an offset of the domain file, or of the run file.
 pub enum Fault {
@@ -143,7 +144,7 @@ fn play_in(
             total: 0,
         };
     }
-    if room < 8192 {
+    if room < WORK {
         return Tracked {
             played: unplayed(58, 0, Fault::Run(run.len())),
             total: 0,

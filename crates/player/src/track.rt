@@ -29,7 +29,8 @@ ghost use Rattle.verdict.specs.Claims.{wellFormed};
 ghost use Rattle.run_semantics.specs.Play.{workBytes, heldBytes, returnedBytes};
 ghost use Rattle.run_semantics.specs.Track.{countOf, objectsGiven, instanceStop, trackRun, reportedTotal, tracked};
 ghost use Rattle.run_semantics.specs.Claims.{AsPlayed, TotalOfRun, NothingGained};
-ghost use Rattle.player.specs.Called.{fileOf, offsetOf, answerBy, trackedOf};
+ghost use Rattle.player.specs.Called.{fileOf, offsetOf};
+ghost use Rattle.player.specs.Held.{answerBy, trackedOf};
 
 // The object count of a record of this kind and payload, 0 where it is none of kind 16 or is stopped.
 fn count_of(kind: u16, p: &[u8]) -> u8

@@ -6,6 +6,7 @@ use lib.Dec.{eqb, ltb, leb}
 use lib.ListN.{length, getD, take, drop}
 use Rattle.records.specs.Lists.{any, sameList}
 use Rattle.literals.specs.Decode.{byte}
+use Rattle.events.specs.Held.{groundBytes}
 use Rattle.literals.specs.Held.{relationsIn, actionsIn, arityIn, variablesIn, lastingIn}
 
 -- a start fact, up to 51: of the number of objects, and whether the start is over
@@ -32,4 +33,4 @@ eventFields head objects b =
 
 -- the event at a place of those that wait is this one, by the byte of its moment and the row of its action
 unfoldable pub waitsAt : List ℕ → List ℕ → ℕ → List ℕ → ℕ → Bool
-waitsAt moments rows moment ground i = eqb moment (getD moments i 0) && sameList eqb ground (take 17 (drop (17 * i) rows))
+waitsAt moments rows moment ground i = eqb moment (getD moments i 0) && sameList eqb ground (take groundBytes (drop (groundBytes * i) rows))

@@ -10,6 +10,7 @@ use literals::head::relations_in;
 use literals::head::variables_of;
 use literals::limits::MAX_EVENTS;
 use literals::limits::MAX_FACTS;
+use literals::limits::MAX_OBJECTS;
 use records::bytes::any_from;
 use records::bytes::count_from;
 use records::bytes::put_bytes;
@@ -25,7 +26,8 @@ ghost use lib.Seq.{paste};
 ghost use Rattle.records.specs.Lists.{any, distinct, below};
 ghost use Rattle.literals.specs.Domain.{Fact, Domain};
 ghost use Rattle.literals.specs.Held.{rowsIn, lastingIn, HeadOf};
-ghost use Rattle.run_semantics.specs.RunFile.{factOf, eventOf, objectsStop, factStop, eventStop, stepStop, endStop, maxEvents};
+ghost use Rattle.literals.specs.Decode.{maxActions, maxVariables, maxArguments};
+ghost use Rattle.run_semantics.specs.RunFile.{maxObjects, maxEvents, factOf, eventOf, objectsStop, factStop, eventStop, stepStop, endStop};
 ghost use Rattle.verdict.specs.Machine.{Event};
 ghost use Rattle.verdict.specs.Held.{factRow};
 ghost use Rattle.store.specs.Held.{Few};
@@ -37,7 +39,7 @@ ghost use Rattle.run_fields.specs.Held.{factFields, eventFields, waitsAt
 // Kind 16: the object count. `objects` is the count so far, 0 before its record.
 pub fn objects_stop(objects: u8, p: &[u8]) -> u64
     ensures is { λ r. ⌜ r ≡ objectsStop objects (now (p .entry)) ⌝ }
-    ensures fits { λ r. ⌜ (r ≡ 0 → (length (now (p .entry)) ≡ 1) × (getD (now (p .entry)) 0 0 ≤ 64)) ⌝ }
+    ensures fits { λ r. ⌜ (r ≡ 0 → (length (now (p .entry)) ≡ 1) × (getD (now (p .entry)) 0 0 ≤ maxObjects)) ⌝ }
 {
     if objects != 0 {
         return 50;
@@ -48,7 +50,7 @@ pub fn objects_stop(objects: u8, p: &[u8]) -> u64
     if p[0] == 0 {
         return 51;
     }
-    if 64 < p[0] {
+    if (MAX_OBJECTS as u8) < p[0] {
         return 51;
     }
     0
@@ -86,7 +88,7 @@ pub fn end_stop(objects: u8, waiting: usize, p: &[u8]) -> u64
 // The row of a start fact: relation, how many objects, objects, FF to fill.
 pub fn fact_row(p: &[u8]) -> [u8; 8]
     requires relation { ⌜ 1 ≤ length (now p) ⌝ }
-    requires objects { ⌜ length (now p) ≤ 7 ⌝ }
+    requires objects { ⌜ length (now p) ≤ 1 + maxArguments ⌝ }
     ensures { λ r. ⌜ r ≡ factRow (factOf (now (p .entry))) ⌝ }
 {
     let mut row = [255u8; 8];
@@ -99,7 +101,7 @@ pub fn fact_row(p: &[u8]) -> [u8; 8]
 // The row of an event's action: action, objects, FF to fill.
 pub fn ground_row(p: &[u8]) -> [u8; GROUND]
     requires action { ⌜ 2 ≤ length (now p) ⌝ }
-    requires objects { ⌜ length (now p) ≤ 18 ⌝ }
+    requires objects { ⌜ length (now p) ≤ 2 + maxVariables ⌝ }
     ensures { λ r. ⌜ r ≡ groundRow (eventOf (now (p .entry)) .ground) ⌝ }
 {
     let mut row = [255u8; GROUND];
@@ -149,7 +151,7 @@ pub fn fact_stop(head: &Head, objects: u8, begun: bool, work: &[u8], n: usize, p
     ensures is { λ r. ⌜ ((D : Domain) (fs : List Fact) → HeadOf D (now (head .entry))
         → rowsIn n (now (work .entry)) ≡ map factRow fs → n ≡ length fs → Few fs
         → r ≡ factStop D objects begun fs (now (p .entry))) ⌝ }
-    ensures fits { λ r. ⌜ (r ≡ 0 → (1 ≤ length (now (p .entry))) × (length (now (p .entry)) ≤ 7)) ⌝ }
+    ensures fits { λ r. ⌜ (r ≡ 0 → (1 ≤ length (now (p .entry))) × (length (now (p .entry)) ≤ 1 + maxArguments)) ⌝ }
 {
     let stop = fact_fields(head, objects, begun, p);
     if stop != 0 {
@@ -168,7 +170,7 @@ pub fn fact_stop(head: &Head, objects: u8, begun: bool, work: &[u8], n: usize, p
 
 // Whether a moment is the end of an action that does not last.
 fn ends_at_once(head: &Head, moment: u8, action: usize) -> bool
-    requires { ⌜ action < 64 ⌝ }
+    requires { ⌜ action < maxActions ⌝ }
     ensures { λ r. ⌜ r ≡ eqb moment 1 && not (lastingIn (now (head .entry)) action) ⌝ }
 {
     if moment != 1 {
@@ -260,10 +262,10 @@ pub fn event_stop(
     requires few { ⌜ count ≤ maxEvents ⌝ }
     requires moments { ⌜ length (now moments) ≡ maxEvents ⌝ }
     requires events { ⌜ length (now rows) ≡ waitingBytes ⌝ }
-    ensures is { λ r. ⌜ ((D : Domain) (es : List Event) → HeadOf D (now (head .entry)) → objects ≤ 64
+    ensures is { λ r. ⌜ ((D : Domain) (es : List Event) → HeadOf D (now (head .entry)) → objects ≤ maxObjects
         → record { count = count; moments = now (moments .entry); rows = now (rows .entry) } ≡ waitingOf es
         → EventsFit D es → r ≡ eventStop D objects es (now (p .entry))) ⌝ }
-    ensures fits { λ r. ⌜ (r ≡ 0 → (2 ≤ length (now (p .entry))) × (length (now (p .entry)) ≤ 18) × (count < maxEvents)) ⌝ }
+    ensures fits { λ r. ⌜ (r ≡ 0 → (2 ≤ length (now (p .entry))) × (length (now (p .entry)) ≤ 2 + maxVariables) × (count < maxEvents)) ⌝ }
 {
     let stop = event_fields(head, objects, p);
     if stop != 0 {

@@ -1,7 +1,7 @@
 -- Playing a run: the run file record by record, the answer, the work memory afterwards, and the part that comes back. Assumes nothing.
 use mathlib.Core.Bool.{Bool, true, false, _&&_, _||_, not, cond}
 use mathlib.Core.List.{List, [], _∷_, _++_}
-use Prim.Native.Nat.{ℕ, zero, suc, _+_, _-_, max}
+use Prim.Native.Nat.{ℕ, zero, suc, _+_, _*_, _-_, max}
 use lib.Dec.{eqb, ltb}
 use lib.ListN.{length, drop, replicate}
 use Rattle.records.specs.Lists.{all, elem}
@@ -22,7 +22,7 @@ use Rattle.run_semantics.specs.RunFile.{endStop}
 
 -- "the first 8,192 bytes"
 abbrev pub workBytes : ℕ
-workBytes = 8192
+workBytes = 8 * maxFacts
 
 -- ---- where playing stands
 

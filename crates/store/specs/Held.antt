@@ -26,7 +26,7 @@ hasRow row rows = elem (sameList eqb) row rows
 
 -- facts whose arguments have room in a row
 abbrev pub Few : List Fact → Type 0
-Few fs = (f : Fact) → In f fs → length (f .args) ≤ 6
+Few fs = (f : Fact) → In f fs → length (f .args) ≤ maxArguments
 
 -- a fact with the arity of its relation
 pub record FactFits (D : Domain) (f : Fact) : Type 0 where

@@ -12,7 +12,7 @@ use Rattle.records.specs.Memory.{over}
 use Rattle.literals.specs.declared.Label.{Label}
 use Rattle.literals.specs.declared.Label.the-variants.{Key as keyed, Counted}
 use Rattle.literals.specs.Domain.{key, Component, Domain, arity, bare}
-use Rattle.literals.specs.Decode.{maxArguments, byte, componentOf, keysCleared, componentRecord, stopOf, domain, decode}
+use Rattle.literals.specs.Decode.{maxRelations, maxArguments, byte, componentOf, keysCleared, componentRecord, stopOf, domain, decode}
 use Rattle.verdict.specs.Decision.{rows}
 use Rattle.verdict.specs.Judged.{answerAt}
 use Rattle.verdict.specs.Claims.{wellFormed, Safe}
@@ -124,9 +124,11 @@ ListShort =
     (f out : List ℕ) (D : Domain) → decode f ≡ domain D → length out < 3 * length (listed D)
     → (listFile f out ≡ answerAt 30 0) × (listAfter f out ≡ out)
 
--- 64 relations with at most 7 entries each, and every number is a byte
+-- each relation has at most one entry without a counted place and one for each place, and every number is a byte
 abbrev pub ListBounded : Type 0
-ListBounded = (f : List ℕ) (D : Domain) → decode f ≡ domain D → (3 * length (listed D) ≤ 1344) × (areBytes (listBytes D) ≡ true)
+ListBounded =
+    (f : List ℕ) (D : Domain) → decode f ≡ domain D
+    → (3 * length (listed D) ≤ 3 * ((1 + maxArguments) * maxRelations)) × (areBytes (listBytes D) ≡ true)
 
 -- ---- of an answer to the file f: the number n, the first place k and the bytes of the list afterwards
 

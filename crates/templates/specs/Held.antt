@@ -10,6 +10,7 @@ use lib.ListN.{length, getD, take}
 use Rattle.records.specs.Lists.{filterBy, any, below}
 use Rattle.records.specs.Memory.{over}
 use Rattle.literals.specs.Domain.{Component, Domain, arity, bare}
+use Rattle.literals.specs.Decode.{maxArguments}
 use Rattle.literals.specs.Held.{rowIn}
 use Rattle.reading.specs.Held.{HeldOver}
 use Rattle.verdict.specs.Claims.{wellFormed}
@@ -23,7 +24,7 @@ labelAt counted i = cond (ltb i counted) i (cond (eqb i counted) 255 (i - 1))
 
 -- relation, and the labels of as many places as a relation may have
 abbrev pub payloadOf : ℕ → ℕ → List ℕ
-payloadOf r counted = r ∷ map (labelAt counted) (below 6)
+payloadOf r counted = r ∷ map (labelAt counted) (below maxArguments)
 
 -- the shape of a relation and a place byte
 abbrev pub placeOfByte : ℕ → Option ℕ

@@ -42,7 +42,8 @@ fn mentions(rows: &[u8], n: usize, relation: u8) -> bool
 
 // Puts the row `j` behind the `k` rows that are kept, if it has the relation: how many are kept then.
 fn keep_row(rows: &[u8], j: usize, relation: u8, kept: &mut [u8], k: usize) -> usize
-    requires { ⌜ (8 * j + 8 ≤ length (now rows)) × (8 * k + 8 ≤ length (now kept)) ⌝ }
+    requires row { ⌜ 8 * j + 8 ≤ length (now rows) ⌝ }
+    requires room { ⌜ 8 * k + 8 ≤ length (now kept) ⌝ }
     ensures count { λ r. ⌜ r ≡ cond (mentionedAt (now (rows .entry)) relation j) (k + 1) k ⌝ }
     ensures rows { λ _. ⌜ now (kept .exit) ≡ cond (mentionedAt (now (rows .entry)) relation j)
         (paste (now (kept .entry)) (8 * k) (rowIn (now (rows .entry)) j) 8) (now (kept .entry)) ⌝ }
@@ -58,7 +59,8 @@ fn keep_row(rows: &[u8], j: usize, relation: u8, kept: &mut [u8], k: usize) -> u
 
 // The rows that have the relation, one behind the other: how many they are.
 fn keep_rows(rows: &[u8], n: usize, relation: u8, kept: &mut [u8]) -> usize
-    requires { ⌜ (length (now rows) ≡ 8 * n) × (8 * n ≤ length (now kept)) ⌝ }
+    requires rowed { ⌜ length (now rows) ≡ 8 * n ⌝ }
+    requires room { ⌜ 8 * n ≤ length (now kept) ⌝ }
     ensures few { λ r. ⌜ r ≤ n ⌝ }
     ensures rows { λ r. ⌜ take (8 * r) (now (kept .exit)) ≡ rowsOfRelation (now (rows .entry)) relation n ⌝ }
 {

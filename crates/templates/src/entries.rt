@@ -7,9 +7,10 @@ use literals::head::relations_in;
 use reading::take::take_component;
 ghost use mathlib.Core.Path.{_≡_};
 ghost use mathlib.Core.List.{List, [], _∷_, _++_};
-ghost use Prim.Native.Nat.{ℕ, _+_, _≤_, _<_};
+ghost use Prim.Native.Nat.{ℕ, _+_, _*_, _≤_, _<_};
 ghost use lib.ListN.{length};
 ghost use Rattle.literals.specs.Domain.{Domain, arity};
+ghost use Rattle.literals.specs.Decode.{maxRelations, maxArguments};
 ghost use Rattle.literals.specs.Held.{headBytes};
 ghost use Rattle.templates.specs.Templates.{Shape, shapesOf, shapes};
 ghost use Rattle.templates.specs.Held.{shapeOf, BareHeld, PlaceFits, Listing};
@@ -63,8 +64,8 @@ fn put_relation(head: &Head, table: &[u8], relation: u8, list: &mut [u8], at: us
 // Those of all relations: how many bytes the list has.
 pub fn put_list(head: &Head, table: &[u8], list: &mut [u8]) -> usize
     requires whole { ⌜ length (now head) ≡ headBytes ⌝ }
-    requires room { ⌜ 1344 ≤ length (now list) ⌝ }
-    ensures few { λ r. ⌜ r ≤ 1344 ⌝ }
+    requires room { ⌜ 3 * ((1 + maxArguments) * maxRelations) ≤ length (now list) ⌝ }
+    ensures few { λ r. ⌜ r ≤ 3 * ((1 + maxArguments) * maxRelations) ⌝ }
     ensures entries { λ r. ⌜ ((D : Domain) (old : List ℕ) → BareHeld D (now (head .entry)) (now (table .entry))
         → Listing D [] 0 (now (list .entry)) old → Listing D (shapes D) r (now (list .exit)) old) ⌝ }
 {

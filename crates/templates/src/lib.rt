@@ -9,6 +9,7 @@ use literals::head::HEAD;
 use literals::head::Head;
 use literals::head::clear_template;
 use literals::limits::MAX_ACTIONS;
+use literals::limits::MAX_ARGUMENTS;
 use literals::limits::MAX_LITERALS;
 use literals::limits::MAX_RELATIONS;
 use reading::read::read_domain;
@@ -24,11 +25,12 @@ ghost use Rattle.templates.specs.Templates.{listBytes, listFile, listAft
 ghost use Rattle.templates.specs.Claims.{EntriesSafe, NothingMissing};
 
 // Of each relation a template without a counted place, and one for each of six places: 3 bytes each.
-const LIST_SIZE: usize = MAX_RELATIONS * 21;
+const LIST_SIZE: usize = 3 * ((1 + MAX_ARGUMENTS) * MAX_RELATIONS);
 
 // The list of a domain that was read, whose own template is left aside.
 fn list_domain(head: &mut Head, table: &[u8], list: &mut [u8], first: &mut u64) -> u64
-    requires { ⌜ Read (now head) (now table) × (length (now head) ≡ headBytes) ⌝ }
+    requires read { ⌜ Read (now head) (now table) ⌝ }
+    requires whole { ⌜ length (now head) ≡ headBytes ⌝ }
     ensures { λ r. ⌜ ((D : Domain) → Held D (now (head .entry)) (now (table .entry)) → wellFormed D ≡ true
         → DeliveredAs (listBytes D) (now (list .entry)) r (now (first .exit)) (now (list .exit))) ⌝ }
 {

@@ -3,14 +3,14 @@ use mathlib.Core.Path.{_≡_}
 use mathlib.Core.Bool.{Bool, true, false, not, _&&_, cond}
 use mathlib.Core.Logic.{_↔_}
 use mathlib.Core.List.{List, map}
-use Prim.Native.Nat.{ℕ, _≤_, _<_}
+use Prim.Native.Nat.{ℕ, _*_, _≤_, _<_}
 use lib.ListN.{length, take}
 use Rattle.records.specs.Lists.{In, filterBy}
 use Rattle.records.specs.Memory.{over}
 use Rattle.literals.specs.declared.Object.{Object}
 use Rattle.literals.specs.declared.Moment.the-variants.{Start}
 use Rattle.literals.specs.Domain.{Fact, Domain, action}
-use Rattle.literals.specs.Decode.{domain, decode}
+use Rattle.literals.specs.Decode.{maxActions, maxLiterals, domain, decode}
 use Rattle.literals.specs.Matching.{matches}
 use Rattle.classes.specs.declared.Name.{Name}
 use Rattle.classes.specs.declared.Name.the-variants.{Unreachable, Irrelevant, Heavy, Balanced, Unbalanced, Bounded, Unbounded}
@@ -69,7 +69,7 @@ TriedShort =
 
 -- at most 64 actions with 64 classes each
 abbrev pub TriedBounded : Type 0
-TriedBounded = (f : List ℕ) (D : Domain) → decode f ≡ domain D → length (tried D) ≤ 4096
+TriedBounded = (f : List ℕ) (D : Domain) → decode f ≡ domain D → length (tried D) ≤ maxLiterals * maxActions
 
 -- of an answer to the file f: the number n, the first place k and the memory afterwards. Its bytes agree with the report's names
 abbrev pub AgreesWithNames : List ℕ → ℕ → ℕ → List ℕ → Type 0

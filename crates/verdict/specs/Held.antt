@@ -14,7 +14,7 @@ use Rattle.literals.specs.declared.Object.{Object}
 use Rattle.literals.specs.declared.Argument.{Argument}
 use Rattle.literals.specs.declared.Argument.the-variants.{Variable as bound, Every}
 use Rattle.literals.specs.Domain.{Atom, Fact, Domain, arity}
-use Rattle.literals.specs.Decode.{byte}
+use Rattle.literals.specs.Decode.{byte, maxArguments}
 use Rattle.literals.specs.Held.{argumentsMeet}
 use Rattle.classes.specs.declared.Name.{Name}
 use Rattle.verdict.specs.declared.Judgement.{Judgement}
@@ -45,7 +45,7 @@ spotElse (At c m) q = At c m
 
 -- "relation, arity, arguments, FF to fill", each argument as a byte
 abbrev pub atomRow : {A : Type 0} → (A → ℕ) → Atom A → List ℕ
-atomRow number f = f .rel ∷ length (f .args) ∷ (map number (f .args) ++ replicate (6 - length (f .args)) 255)
+atomRow number f = f .rel ∷ length (f .args) ∷ (map number (f .args) ++ replicate (maxArguments - length (f .args)) 255)
 
 -- that of a fact
 abbrev pub factRow : Fact → List ℕ

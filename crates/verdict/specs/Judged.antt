@@ -8,7 +8,7 @@ use lib.ListN.{length, replicate}
 use Rattle.records.specs.Memory.{over}
 use Rattle.literals.specs.declared.Object.{Object}
 use Rattle.literals.specs.Domain.{Fact, Domain}
-use Rattle.literals.specs.Decode.{Refusal, Decoded, refused, domain, decode}
+use Rattle.literals.specs.Decode.{maxArguments, Refusal, Decoded, refused, domain, decode}
 use Rattle.literals.specs.Matching.{momentNumber}
 use Rattle.classes.specs.Classes.{nameNumber}
 use Rattle.verdict.specs.Decision.{Row, rows, decision, witness, isShown}
@@ -26,7 +26,8 @@ objectNumbers os = map (λ (o : Object). o .0) os
 -- "8 bytes a fact (relation, arity, arguments, FF to fill)"
 unfoldable pub factBytes : List Fact → List ℕ
 factBytes [] = []
-factBytes (f ∷ fs) = f .rel ∷ length (f .args) ∷ (objectNumbers (f .args) ++ (replicate (6 - length (f .args)) 255 ++ factBytes fs))
+factBytes (f ∷ fs) =
+    f .rel ∷ length (f .args) ∷ (objectNumbers (f .args) ++ (replicate (maxArguments - length (f .args)) 255 ++ factBytes fs))
 
 -- ---- the answer: a number and three places
 

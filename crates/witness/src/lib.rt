@@ -56,7 +56,8 @@ fn witness_object(v: Variable) -> Object
 
 // A byte of the fact of the literal's row at an offset. (The FF that fill a row stay FF.)
 fn condition_byte(rows: &[u8], row: usize, arity: u8, i: usize) -> u8
-    requires { ⌜ (row + 8 ≤ length (now rows)) × (i < 8) ⌝ }
+    requires row { ⌜ row + 8 ≤ length (now rows) ⌝ }
+    requires place { ⌜ i < 8 ⌝ }
     ensures { λ r. ⌜ r ≡ getD (conditionBytes arity (take 8 (drop row (now (rows .entry))))) i 0 ⌝ }
 {
     if i == 0 {
@@ -72,7 +73,8 @@ fn condition_byte(rows: &[u8], row: usize, arity: u8, i: usize) -> u8
 
 // Writes the fact of the literal's row at an offset.
 fn put_condition(out: &mut [u8], at: usize, rows: &[u8], row: usize, arity: u8)
-    requires { ⌜ (at + 8 ≤ length (now out)) × (row + 8 ≤ length (now rows)) ⌝ }
+    requires room { ⌜ at + 8 ≤ length (now out) ⌝ }
+    requires row { ⌜ row + 8 ≤ length (now rows) ⌝ }
     ensures { λ _. ⌜ now (out .exit) ≡ paste (now (out .entry)) at (conditionBytes arity (take 8 (drop row (now (rows .entry))))) 8 ⌝ }
 {
     for i in 0..8 {

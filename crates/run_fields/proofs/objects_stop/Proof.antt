@@ -3,7 +3,7 @@ use native.Mathlib.Omega.{arith}
 use borrow.Author.Needs.{needs}
 use borrow.Author.Tests.{lt-ltb, le-ltb, eq-eqb, ne-eqb}
 use lib.ListN.{length, getD}
-use Rattle.run_semantics.specs.RunFile.{objectsStop}
+use Rattle.run_semantics.specs.RunFile.{maxObjects, objectsStop}
 use Rattle.run_fields.proofs.objects_stop.Statement.{statement}
 use Rattle.run_fields.proofs.objects_stop.Tie as tie
 
@@ -26,6 +26,9 @@ returns-3 c =
     let a = c .before .before .before .before .args in
     (simp (eq-eqb (a .objects) 0 (c .before .before .before .if1 .left), eq-eqb (length (a .p .now)) 1 (c .before .before .if2 .left), eq-eqb (getD (a .p .now) 0 0) 0 (c .if3 .taken)), λ z. absurd (omega arith))
 
+cast-if4 : tie.Need-cast-if4
+cast-if4 c = search needs
+
 shared-slice-read-if4 : tie.Need-shared-slice-read-if4
 shared-slice-read-if4 c = search needs
 
@@ -38,7 +41,7 @@ returns-4 c =
         eq-eqb (a .objects) 0 (low .before .before .before .if1 .left),
         eq-eqb (length (a .p .now)) 1 (low .before .before .if2 .left),
         ne-eqb (getD (a .p .now) 0 0) 0 (low .if3 .left),
-        lt-ltb 64 (getD (a .p .now) 0 0) (c .if4 .taken),
+        lt-ltb maxObjects (getD (a .p .now) 0 0) (c .if4 .taken),
       ),
       λ z. absurd (omega arith),
     )
@@ -52,7 +55,7 @@ returns-5 c =
         eq-eqb (a .objects) 0 (low .before .before .before .if1 .left),
         eq-eqb (length (a .p .now)) 1 (low .before .before .if2 .left),
         ne-eqb (getD (a .p .now) 0 0) 0 (low .if3 .left),
-        le-ltb 64 (getD (a .p .now) 0 0) (c .if4 .left),
+        le-ltb maxObjects (getD (a .p .now) 0 0) (c .if4 .left),
       ),
       λ z. (omega arith, omega arith),
     )
@@ -65,6 +68,7 @@ objects-stop-spec =
     returns-2
     shared-slice-read-if3
     returns-3
+    cast-if4
     shared-slice-read-if4
     returns-4
     returns-5)

@@ -28,7 +28,7 @@ same-length c = search needs
 returns : tie.Need-returns
 returns c =
     let s = c .before .before in
-    noted-first (s .args .soles .now) (s .args .section) (s .args .class) (s .args .j) (s .pre .3) (s .pre .0) (s .pre .1) (c .if1 .taken)
+    noted-first (s .args .soles .now) (s .args .section) (s .args .class) (s .args .j) (s .pre .1 .1 .1) (s .pre .0) (s .pre .1 .0) (c .if1 .taken)
 
 slice-write-soles-2 : tie.Need-slice-write-soles-2
 slice-write-soles-2 c = search needs
@@ -39,7 +39,7 @@ same-length-2 c = search needs
 returns-2 : tie.Need-returns-2
 returns-2 c =
     let s = c .before .before in
-    noted-again (s .args .soles .now) (s .args .section) (s .args .class) (s .args .j) (s .pre .3) (s .pre .0) (s .pre .1) (c .if1 .left)
+    noted-again (s .args .soles .now) (s .args .section) (s .args .class) (s .args .j) (s .pre .1 .1 .1) (s .pre .0) (s .pre .1 .0) (c .if1 .left)
 
 pub note-spec : {M : Type 1} → statement M
 note-spec =

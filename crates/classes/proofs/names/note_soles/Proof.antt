@@ -36,7 +36,7 @@ note-literal-requires c κs =
     let l = c .before .before .before .before .loop in
     let w = p .0 .rowed in
     let f = p .0 .few in
-    (omega arith, omega arith, l .inv .1 ∙ p .1)
+    (omega arith, (omega arith, l .inv .1 ∙ p .1))
 
 add-j : tie.Need-add-j Inv-loop μ-loop
 add-j c = omega arith

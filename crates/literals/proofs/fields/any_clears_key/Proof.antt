@@ -23,7 +23,7 @@ mul-clears-key : tie.Need-mul-clears-key Inv-loop μ-loop
 mul-clears-key c = omega arith
 
 clears-key-requires : tie.Need-clears-key-requires Inv-loop μ-loop
-clears-key-requires c κs = let h = c .before .before .before .before .pre in (omega arith, h .1, h .2)
+clears-key-requires c κs = let h = c .before .before .before .before .pre in (omega arith, h .1)
 
 returns : tie.Need-returns Inv-loop μ-loop
 returns c =

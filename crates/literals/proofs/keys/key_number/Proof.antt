@@ -34,7 +34,7 @@ cast-key-digit : tie.Need-cast-key-digit Inv-loop μ-loop
 cast-key-digit c = let i = c .before .loop .inv in omega arith
 
 key-digit-requires : tie.Need-key-digit-requires Inv-loop μ-loop
-key-digit-requires c κs = let i = c .before .loop .inv in (omega arith, omega arith, omega arith)
+key-digit-requires c κs = let i = c .before .loop .inv in (omega arith, (omega arith, omega arith))
 
 add-word : tie.Need-add-word Inv-loop μ-loop
 add-word c = let d = c .key-digit .ensures .1 in omega arith

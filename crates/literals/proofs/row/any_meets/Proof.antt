@@ -24,7 +24,7 @@ mul-meets-as : tie.Need-mul-meets-as Inv-loop μ-loop
 mul-meets-as c = omega arith
 
 meets-as-requires : tie.Need-meets-as-requires Inv-loop μ-loop
-meets-as-requires c κs = let h = c .before .before .before .before .pre in (h .0, h .1, omega arith)
+meets-as-requires c κs = let h = c .before .before .before .before .pre in (h .0, (h .1 .0, omega arith))
 
 returns : tie.Need-returns Inv-loop μ-loop
 returns c =

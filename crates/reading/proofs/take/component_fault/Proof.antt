@@ -73,7 +73,7 @@ any-clears-key-requires : tie.Need-any-clears-key-requires
 any-clears-key-requires c κs =
     let f = component-short _ _ (c .before .before .before .before .before .before .before .before .before .before .component-fields .ensures)
     (omega arith) in
-    (c .all-rows .ensures .0, omega (arith, f .0), f .1)
+    (c .all-rows .ensures .0, (omega (arith, f .0), f .1))
 
 returns-5 : tie.Need-returns-5
 returns-5 c = (
