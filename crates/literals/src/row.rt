@@ -193,7 +193,7 @@ pub fn word_row(word: u64) -> [u8; 8]
     ]
 }
 
-// Whether one of the rows from `from` to `to` is the row of a number. (Most often none is, so that all are looked at.)
+// Whether one of the rows from `from` to `to` is the row of a number. All are looked at, also behind one that is: most often none is.
 pub fn any_same(table: &[u8], from: usize, to: usize, word: u64) -> bool
     requires span { ⌜ from ≤ to ⌝ }
     requires table { ⌜ 8 * to ≤ length (now table) ⌝ }
