@@ -8,7 +8,7 @@ use native.Mathlib.Numerals.{add-one}
 use native.Mathlib.Omega.{arith}
 use lib.Dec.{eqb, ltb}
 use lib.ListN.{length, take, drop, getD, set, replicate, length-append, length-replicate, length-map, length-drop, length-set, List·getD-append}
-use lib.Seq.{paste, getD-set-same, getD-set-other, getD-at, getD-take, getD-drop, getD-append-add, length-take-le, length-paste, length-paste-head, take-all, take-at, take-append-le}
+use lib.Seq.{paste, set-getD, getD-set-same, getD-set-other, getD-at, getD-take, getD-drop, getD-append-add, length-take-le, length-paste, length-paste-head, take-all, take-at, take-append-le}
 use borrow.Author.Tests.{ltb-true, ltb-false, lt-ltb, leb-false, eqb-true, eqb-false}
 use Rattle.records.specs.Lists.{any, countBy}
 use Rattle.records.proofs.Lists.{bool-cases, count-le, map-back, any-append}
@@ -449,6 +449,15 @@ module _ {D : Domain} {head : List ℕ} (F : Filled D head) (p : List ℕ) (last
             };
         room = whole literal-bytes head (F .room);
       }
+
+-- a literal without FF leaves the byte that tells of FF as it was
+pub fills-plain : {D : Domain} {head : List ℕ} (F : Filled D head) (p : List ℕ) (last size : ℕ) → last + 1 ≡ actionsIn head → size ≡ sizeIn head last
+    → last < maxActions → false ≡ hasEvery (literalOf p) → stopOf D literalRecord p ≡ 0 → Filled (extend D literalRecord p) (set head (atSizes + last) (size + 1))
+fills-plain {D} {head} F p last size c s l every e =
+    subst (λ (h : List ℕ). Filled (extend D literalRecord p) h)
+    (ap (set (set head (atSizes + last) (size + 1)) atClears) (sym (getD-set-other head (atSizes + last) atClears (size + 1) 0 (λ z. omega arith)))
+    ∙ set-getD (set head (atSizes + last) (size + 1)) atClears 0)
+    (fills-literal F p last size c s every (getD head atClears 0) refl e)
 
 -- ---- a component
 

@@ -41,15 +41,6 @@ row-filled p i h g =
     ∙ getD-append-add p (replicate (8 - length p + 8) 255) i 0
     ∙ getD-replicate (8 - length p + 8) i 255 0 (omega arith)
 
--- ---- writing it
-
-pub put-more : (p out₀ out : List ℕ) (at i r : ℕ) → at + 8 ≤ length out₀ → length p ≤ 8 → i < 8 → out ≡ paste out₀ at (rowOf p) i → r ≡ getD (rowOf p) i 0
-    → set out (at + i) r ≡ paste out₀ at (rowOf p) (i + 1)
-put-more p out₀ out at i r h g l e f = paste-more (rowOf p) out₀ out at i 8 h (length-row p g) e r l f
-
-pub put-length : (p out₀ out : List ℕ) (at i : ℕ) → at + 8 ≤ length out₀ → length p ≤ 8 → i ≤ 8 → out ≡ paste out₀ at (rowOf p) i → length out ≡ length out₀
-put-length p out₀ out at i h g l e = paste-length (rowOf p) out₀ out at i 8 h (length-row p g) e l
-
 -- ---- comparing two lists from an index on
 
 module _ (test : ℕ → ℕ → Bool) (x y : List ℕ) (i : ℕ) where
@@ -219,6 +210,57 @@ word-of p l {a} {b} {c} {d} {e} {f} {g} {h} i j k m n o q r =
             highs = four-of (rowOf p) 4 5 6 7 refl refl refl n o q r;
             is = omega arith;
           };
+    }
+
+-- of payloads of three, four and eight bytes: what fills them is a number
+filled-byte : (p : List ℕ) (i : ℕ) → length p ≤ i → i < 8 → IsByte (rowOf p) i 255
+filled-byte p i g h = (row-behind p i h g, omega arith)
+
+filled-four : (p : List ℕ) → length p ≤ 4 → FourAt (rowOf p) 4 4294967295
+filled-four p h =
+    four-of (rowOf p) 4 5 6 7 refl refl refl (filled-byte p 4 h (omega arith)) (filled-byte p 5 (omega arith) (omega arith))
+    (filled-byte p 6 (omega arith) (omega arith)) (filled-byte p 7 (omega arith) (omega arith))
+
+four-inside : (p : List ℕ) (at : ℕ) {v : ℕ} → at + 4 ≤ length p → FourAt p at v → FourAt (rowOf p) at v
+four-inside p at h A =
+    let a = row-inside p at (omega arith) in
+    let b = row-inside p (at + 1) (omega arith) in
+    let c = row-inside p (at + 2) (omega arith) in
+    let d = row-inside p (at + 3) (omega arith) in
+    let e = A .is in
+    let f = A .first in
+    let g = A .second in
+    let i = A .third in
+    let j = A .fourth in
+    record { is = omega arith; first = omega arith; second = omega arith; third = omega arith; fourth = omega arith }
+
+pub word-three : (p : List ℕ) → length p ≡ 3 → {a b c : ℕ} → IsByte (rowOf p) 0 a → IsByte (rowOf p) 1 b → IsByte (rowOf p) 2 c
+    → WordOf (rowOf p) (a + 256 * b + 65536 * c + 18446744073692774400)
+word-three p l {a} {b} {c} i j k =
+    record {
+      long = length-row p (omega arith);
+      bytes =
+          record {
+            low = a + 256 * b + 65536 * c + 16777216 * 255;
+            high = 4294967295;
+            lows = four-of (rowOf p) 0 1 2 3 refl refl refl i j k (filled-byte p 3 (omega arith) (omega arith));
+            highs = filled-four p (omega arith);
+            is = omega arith;
+          };
+    }
+
+pub word-four : (p : List ℕ) → length p ≡ 4 → {v w : ℕ} → w ≡ v → FourAt p 0 v → WordOf (rowOf p) (w + 18446744069414584320)
+word-four p l {v} e A =
+    record {
+      long = length-row p (omega arith);
+      bytes = record { low = v; high = 4294967295; lows = four-inside p 0 (omega arith) A; highs = filled-four p (omega arith); is = omega arith };
+    }
+
+pub word-eight : (p : List ℕ) → length p ≡ 8 → {w : ℕ} → EightAt p 0 w → WordOf (rowOf p) w
+word-eight p l A =
+    record {
+      long = length-row p (omega arith);
+      bytes = record { low = A .low; high = A .high; lows = four-inside p 0 (omega arith) (A .lows); highs = four-inside p 4 (omega arith) (A .highs); is = A .is };
     }
 
 -- the number of eight bytes, where that of the eight from the next one on is known: a byte comes in below, and the highest falls out

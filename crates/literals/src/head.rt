@@ -8,7 +8,8 @@ use super::limits::MAX_COMPONENTS;
 use super::limits::MAX_LITERALS;
 use super::limits::MAX_RELATIONS;
 use super::limits::MAX_VARIABLES;
-use super::row::put_row;
+use super::row::put_word;
+use super::row::row_word;
 use super::span::Span;
 use records::bytes::wide;
 ghost use mathlib.Core.Path.{_≡_};
@@ -155,19 +156,31 @@ fn size_of(head: &Head, i: usize) -> u8
     limited(head[SIZES + i], MAX_LITERALS as u8)
 }
 
-// The rows of an action's literals in the table.
+// The rows of an action's literals, as the head tells them.
+pub fn span_of(head: &Head, i: usize) -> Span
+    requires { ⌜ i < maxActions ⌝ }
+    ensures few { λ r. ⌜ (r .from ≤ r .to) × (r .to ≤ r .from + maxLiterals) × (r .from < 65536) ⌝ }
+    ensures rows { λ r. ⌜ ((D : Domain) (table : List ℕ) → Held D (now (head .entry)) table → i < length (D .actions)
+        → (8 * r .to ≤ length table) × SpanOf D i table r) ⌝ }
+    ensures size { λ r. ⌜ r .to ≡ r .from + sizeIn (now (head .entry)) i ⌝ }
+{
+    let from = first_of(head, i);
+    let to = from + wide(size_of(head, i));
+    Span { from, to }
+}
+
+// The same, none where the table has not so many.
 pub fn rows_of(head: &Head, table: &[u8], i: usize) -> Span
     requires { ⌜ i < maxActions ⌝ }
     ensures fits { λ r. ⌜ SpanFits (length (now (table .entry))) r ⌝ }
     ensures rows { λ r. ⌜ ((D : Domain) → Held D (now (head .entry)) (now (table .entry)) → i < length (D .actions)
         → SpanOf D i (now (table .entry)) r) ⌝ }
 {
-    let from = first_of(head, i);
-    let to = from + wide(size_of(head, i));
-    if table.len() < 8 * to {
+    let span = span_of(head, i);
+    if table.len() < 8 * span.to {
         return Span { from: 0, to: 0 };
     }
-    Span { from, to }
+    span
 }
 
 // How many literals all actions have: up to the last one of the latest action.
@@ -245,27 +258,20 @@ pub fn clears_in(head: &Head) -> bool
     head[CLEARS] == 1
 }
 
-// The byte that tells it, with a literal more.
-fn clears_with(head: &Head, clears: bool) -> u8
-    ensures { λ r. ⌜ r ≡ cond clears 1 (getD (now (head .entry)) atClears 0) ⌝ }
-{
-    if clears {
-        return 1;
-    }
-    head[CLEARS]
-}
-
-// The head with a literal more, of the latest action, which may have FF: it has one more.
-pub fn add_literal(head: &mut Head, clears: bool)
-    requires { ⌜ 0 < actionsIn (now head) ⌝ }
+// The head with a literal more, which may have FF, of the latest action, which has so many so far.
+pub fn add_literal(head: &mut Head, last: usize, size: usize, clears: bool)
+    requires latest { ⌜ last + 1 ≡ actionsIn (now head) ⌝ }
+    requires size { ⌜ size ≡ sizeIn (now head) last ⌝ }
+    requires room { ⌜ size < maxLiterals ⌝ }
+    requires actions { ⌜ last < maxActions ⌝ }
     ensures { λ _. ⌜ ((p : List ℕ) → clears ≡ hasEvery (literalOf p)
         → Adds literalRecord p (now (head .entry)) (now (head .exit))) ⌝ }
 {
-    let last = actions_in(head) - 1;
-    let size = size_of(head, last);
-    let flag = clears_with(head, clears);
-    head[SIZES + last] = size + 1;
-    head[CLEARS] = flag;
+    head[SIZES + last] = size as u8 + 1;
+    if !clears {
+        return;
+    }
+    head[CLEARS] = 1;
 }
 
 // The head with a component more: its row, and the number of keys, which the first component determines.
@@ -277,7 +283,7 @@ pub fn add_component(head: &mut Head, p: &[u8])
 {
     let n = components_in(head);
     let keys = keys_with(head, p);
-    put_row(head, COMPONENT_ROWS + 8 * n, p);
+    put_word(head, COMPONENT_ROWS + 8 * n, row_word(p));
     head[COMPONENTS] = n as u8 + 1;
     head[KEYS] = keys as u8;
 }

@@ -21,17 +21,6 @@ pub fn row_byte(p: &[u8], i: usize) -> u8
     255
 }
 
-// The row of a payload, written at an offset.
-pub fn put_row(out: &mut [u8], at: usize, p: &[u8])
-    requires room { ⌜ at + 8 ≤ length (now out) ⌝ }
-    requires short { ⌜ length (now p) ≤ 8 ⌝ }
-    ensures { λ _. ⌜ now (out .exit) ≡ paste (now (out .entry)) at (rowOf (now (p .entry))) 8 ⌝ }
-{
-    for i in 0..8 {
-        out[at + i] = row_byte(p, i);
-    }
-}
-
 fn wide32(b: u8) -> u32
     ensures { λ r. ⌜ (r ≡ b) × (r < 256) ⌝ }
 {
@@ -138,8 +127,8 @@ fn row_digit(p: &[u8], i: usize) -> u64
     longer(wide32(row_byte(p, i)))
 }
 
-// The number of a payload's row: it is compared with rows, and written, as one number, which is much quicker than byte by byte.
-pub fn row_word(p: &[u8]) -> u64
+// The number of a payload's row, byte by byte.
+fn number_row(p: &[u8]) -> u64
     requires { ⌜ length (now p) ≤ 8 ⌝ }
     ensures { λ r. ⌜ WordOf (rowOf (now (p .entry))) r ⌝ }
 {
@@ -153,6 +142,27 @@ pub fn row_word(p: &[u8]) -> u64
     let h = row_digit(p, 7);
     let low = a + 256 * b + 65536 * c + 16777216 * d;
     low + 4294967296 * e + 1099511627776 * f + 281474976710656 * g + 72057594037927936 * h
+}
+
+// The number of a payload's row: it is compared with rows, and written, as one number, which is much quicker than byte by byte. Payloads
+// of one, two and six arguments, which are most, are read at once; what fills them is a number.
+pub fn row_word(p: &[u8]) -> u64
+    requires { ⌜ length (now p) ≤ 8 ⌝ }
+    ensures { λ r. ⌜ WordOf (rowOf (now (p .entry))) r ⌝ }
+{
+    if p.len() == 4 {
+        return longer(four_at(p, 0)) + 18446744069414584320;
+    }
+    if p.len() == 3 {
+        let first = row_digit(p, 0);
+        let second = row_digit(p, 1);
+        let third = row_digit(p, 2);
+        return first + 256 * second + 65536 * third + 18446744073692774400;
+    }
+    if p.len() == 8 {
+        return eight_at(p, 0);
+    }
+    number_row(p)
 }
 
 // The four bytes of a number, the lowest first, written at an offset.

@@ -363,7 +363,7 @@ pub fn name_all(
         rows = named.rows;
         counts[i] = named.classes as u8;
         let summary = named.summary;
-        notes = notes.with(i, summary);
+        notes = notes.with(i as u8, summary);
     }
     NamedDomain { rows, notes }
 }

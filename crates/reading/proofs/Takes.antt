@@ -21,9 +21,10 @@ use Rattle.literals.specs.Decode.{labelFault, keysCleared, clearedFault, compon
 use Rattle.literals.specs.Decode.{stopOf, stopPlace, extend}
 use Rattle.literals.specs.Held.{rowOf, literalRow, allLiterals, contradictsRow, rowsIn, rowsStop, relationsIn, actionsIn, componentsIn}
 use Rattle.literals.specs.Held.{arityIn, componentRowsIn, variablesIn, lastingIn, clearsIn, HeadOf, Held, SpanOf, Filled, argumentsStop}
-use Rattle.literals.specs.Held.{literalShape, literalArguments, componentFields, keyClearedIn}
+use Rattle.literals.specs.Held.{literalShape, literalArguments, hasEvery, componentFields, keyClearedIn}
 use Rattle.literals.proofs.Stops.{outOfOrder, atLimit, lastFault, faults-split}
 use Rattle.literals.proofs.Bounds.{arity-six, variables-below}
+use Rattle.literals.proofs.Bytes.{plain-every, some-every}
 use Rattle.literals.proofs.Tables.{any-component, Comparable, kept, length-literal-row, rows-flat, literals-stop, none-cleared, cleared-rows}
 use Rattle.literals.proofs.Held.{stop-order, stop-limit, stop-field, place-limit, place-field}
 use Rattle.literals.proofs.Heads.{arity-limit, literals-after, all-rows}
@@ -285,6 +286,11 @@ fields-split head i p =
     ∷ (not (eqb (length p) (2 + arityIn head (byte p 1))), 12)
     ∷ [])
     (literalArguments (variablesIn head i) p) refl
+
+-- where the arguments pass, one is not below where the literal has FF
+pub told-every : (n : ℕ) (p : List ℕ) → n ≤ 255 → (b : Bool) → b ≡ any (leb n) (drop 2 p) → literalArguments n p ≡ 0 → b ≡ hasEvery (literalOf p)
+told-every n p h true t e = some-every n p (sym t) e
+told-every n p h false t e = plain-every n p h (sym t)
 
 -- a literal whose shape passes
 pub literal-short : (head : List ℕ) (i : ℕ) (p : List ℕ) → literalShape head i p ≡ 0 → (2 ≤ length p) × (length p ≤ 8)

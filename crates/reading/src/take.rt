@@ -20,7 +20,7 @@ use literals::head::components_in;
 use literals::head::is_used;
 use literals::head::keys_with;
 use literals::head::relations_in;
-use literals::head::rows_of;
+use literals::head::span_of;
 use literals::head::variables_of;
 use literals::limits::MAX_ACTIONS;
 use literals::limits::MAX_COMPONENTS;
@@ -34,11 +34,13 @@ use literals::span::Span;
 use records::bytes::any_from;
 ghost use mathlib.Core.Path.{_≡_};
 ghost use Prim.Native.Nat.{_+_, _*_, _≤_, _<_};
-ghost use lib.ListN.{length};
+ghost use lib.Dec.{leb};
+ghost use lib.ListN.{length, drop};
+ghost use Rattle.records.specs.Lists.{any};
 ghost use Rattle.literals.specs.Domain.{Domain};
-ghost use Rattle.literals.specs.Decode.{maxArguments, literalOf, componentFault, stopOf, stopPlace, kindOf, relationRecord, actionRecord};
-ghost use Rattle.literals.specs.Decode.{literalRecord, componentRecord, closingRecord};
-ghost use Rattle.literals.specs.Held.{rowOf, hasEvery, WordOf, rowsStop, actionsIn, HeadOf, Held, headBytes};
+ghost use Rattle.literals.specs.Decode.{maxActions, maxArguments, maxLiterals, maxVariables, literalOf, componentFault, stopOf, stopPlace};
+ghost use Rattle.literals.specs.Decode.{kindOf, relationRecord, actionRecord, literalRecord, componentRecord, closingRecord};
+ghost use Rattle.literals.specs.Held.{rowOf, hasEvery, WordOf, rowsStop, actionsIn, sizeIn, literalArguments, HeadOf, Held, headBytes};
 ghost use Rattle.reading.specs.Held.{Takes, rowsOf, Placed, TakesRow, RecordReady};
 
 pub fn take_relation(head: &mut Head, p: &[u8]) -> u64
@@ -95,10 +97,21 @@ fn rows_stop(table: &[u8], span: Span, word: u64, p: &[u8]) -> u64
 }
 
 // A literal whose fields pass, with FF or without: compared with the rows of its action, and written behind them where none stops it.
-fn place_literal(head: &mut Head, table: &mut [u8], span: Span, p: &[u8], clears: bool) -> u64
-    requires actions { ⌜ 0 < actionsIn (now head) ⌝ }
-    requires rows { ⌜ (span .from ≤ span .to) × (8 * span .to + 8 ≤ length (now table)) ⌝ }
-    requires short { ⌜ (2 ≤ length (now p)) × (length (now p) ≤ 8) ⌝ }
+fn place_literal(
+    head: &mut Head,
+    table: &mut [u8],
+    last: usize,
+    span: Span,
+    p: &[u8],
+    clears: bool,
+) -> u64
+    requires latest { ⌜ last + 1 ≡ actionsIn (now head) ⌝ }
+    requires actions { ⌜ last < maxActions ⌝ }
+    requires size { ⌜ span .to ≡ span .from + sizeIn (now head) last ⌝ }
+    requires few { ⌜ span .to < span .from + maxLiterals ⌝ }
+    requires room { ⌜ 8 * span .to + 8 ≤ length (now table) ⌝ }
+    requires long { ⌜ 2 ≤ length (now p) ⌝ }
+    requires short { ⌜ length (now p) ≤ 8 ⌝ }
     requires every { ⌜ clears ≡ hasEvery (literalOf (now p)) ⌝ }
     ensures { λ r. ⌜ Placed span (now (p .entry)) r
         (now (head .entry)) (now (table .entry)) (now (head .exit)) (now (table .exit)) ⌝ }
@@ -107,13 +120,26 @@ fn place_literal(head: &mut Head, table: &mut [u8], span: Span, p: &[u8], clears
     let number = rows_stop(table, span, word, p);
     if number == 0 {
         put_word(table, 8 * span.to, word);
-        add_literal(head, clears);
+        add_literal(head, last, span.to - span.from, clears);
         return 0;
     }
     number
 }
 
-// Most literals have variables below their action's count alone: one look tells that FF and an unknown variable need not be asked for.
+// The arguments of a literal, of which one look has told whether some are not below the action's n variables: in most there are none, and
+// FF and an unknown variable need not be asked for.
+fn arguments_fault(p: &[u8], n: u8, beyond: bool) -> u64
+    requires long { ⌜ 2 ≤ length (now p) ⌝ }
+    requires variables { ⌜ n ≤ maxVariables ⌝ }
+    requires told { ⌜ beyond ≡ any (leb n) (drop 2 (now p)) ⌝ }
+    ensures { λ r. ⌜ r ≡ literalArguments n (now (p .entry)) ⌝ }
+{
+    if beyond {
+        return literal_arguments(p, n);
+    }
+    0
+}
+
 pub fn take_literal(head: &mut Head, table: &mut [u8], p: &[u8]) -> u64
     requires { ⌜ RecordReady (now head) (now table) (now p) ⌝ }
     ensures { λ r. ⌜ TakesRow literalRecord (now (p .entry)) r
@@ -127,7 +153,7 @@ pub fn take_literal(head: &mut Head, table: &mut [u8], p: &[u8]) -> u64
         return 13;
     }
     let last = n - 1;
-    let span = rows_of(head, table, last);
+    let span = span_of(head, last);
     if MAX_LITERALS <= span.to - span.from {
         return 14;
     }
@@ -136,14 +162,12 @@ pub fn take_literal(head: &mut Head, table: &mut [u8], p: &[u8]) -> u64
         return shape;
     }
     let variables = variables_of(head, last);
-    if any_from(p, 2, variables) {
-        let arguments = literal_arguments(p, variables);
-        if arguments != 0 {
-            return arguments;
-        }
-        return place_literal(head, table, span, p, true);
+    let beyond = any_from(p, 2, variables);
+    let arguments = arguments_fault(p, variables, beyond);
+    if arguments != 0 {
+        return arguments;
     }
-    place_literal(head, table, span, p, false)
+    place_literal(head, table, last, span, p, beyond)
 }
 
 // What stops a component: its fields, then its labels, then a key where a literal of its relation has FF. The rows are looked through
@@ -237,7 +261,7 @@ pub fn take_record(head: &mut Head, table: &mut [u8], kind: u16, p: &[u8]) -> Re
             number: take_literal(head, table, p),
             within: 0,
         },
-        4 => take_component(head, table, p),
+        4 => take_component(head, &table[..], &p[..]),
         5 => RecordFault {
             number: take_closing(head, p),
             within: 0,

@@ -40,7 +40,7 @@ pub struct Summary {
 pub enum Place {
     Missing,
     Found {
-        action: usize,
+        action: u8,
         class: u8,
         moment: Moment,
     },
@@ -141,7 +141,7 @@ impl Summary {
 
 impl Place {
     // This place, or where it is none the spot in the action i.
-    fn or_in(self, i: usize, spot: Spot) -> Place
+    fn or_in(self, i: u8, spot: Spot) -> Place
         ensures { λ r. ⌜ r ≡ placeElse self (placeIn i spot) ⌝ }
     {
         match self {
@@ -203,7 +203,7 @@ impl Notes {
     }
 
     // The notes with the summary of one action more, the action i.
-    pub fn with(self, i: usize, summary: Summary) -> Notes
+    pub fn with(self, i: u8, summary: Summary) -> Notes
         ensures { λ r. ⌜ ((ss : List Summary) → i ≡ length ss → self ≡ notesOf ss → r ≡ notesOf (ss ++ (summary ∷ []))) ⌝ }
     {
         let heavy = self.heavy;

@@ -1,6 +1,6 @@
 -- `add_component` meets its contract. Assumes nothing.
-use native.Mathlib.Omega.{arith}
 use Rattle.literals.proofs.Fills.{fills-component}
+use Rattle.literals.specs.Held.{rowOf}
 use borrow.Author.Needs.{needs}
 use Rattle.literals.proofs.head.add_component.Statement.{statement}
 use Rattle.literals.proofs.head.add_component.Tie as tie
@@ -11,14 +11,17 @@ components-in-requires c κs = search needs
 keys-with-requires : tie.Need-keys-with-requires
 keys-with-requires c κs = search needs
 
-mul-put-row : tie.Need-mul-put-row
-mul-put-row c = search needs
+mul-put-word : tie.Need-mul-put-word
+mul-put-word c = search needs
 
-add-put-row : tie.Need-add-put-row
-add-put-row c = search needs
+add-put-word : tie.Need-add-put-word
+add-put-word c = search needs
 
-put-row-requires : tie.Need-put-row-requires
-put-row-requires c κs = search needs
+row-word-requires : tie.Need-row-word-requires
+row-word-requires c κs = search needs
+
+put-word-requires : tie.Need-put-word-requires
+put-word-requires c κs = search needs
 
 cast-head : tie.Need-cast-head
 cast-head c = search needs
@@ -36,7 +39,7 @@ element-write-head-2 : tie.Need-element-write-head-2
 element-write-head-2 c = search needs
 
 returns : tie.Need-returns
-returns c D F e = fills-component F _ _ _ (c .before .before .before .before .components-in .ensures .0) (c .before .before .keys-with .ensures .0 D (F .says)) e (c .put-row .ensures)
+returns c D F e = fills-component F _ _ _ (c .before .before .before .before .before .components-in .ensures .0) (c .before .before .before .keys-with .ensures .0 D (F .says)) e (c .put-word .ensures (rowOf (c .before .before .before .before .before .before .before .before .args .p .now)) (c .before .row-word .ensures))
 
 pub add-component-spec : {M : Type 1} → statement M
 add-component-spec =
@@ -44,9 +47,10 @@ add-component-spec =
     (tie.spec
     components-in-requires
     keys-with-requires
-    mul-put-row
-    add-put-row
-    put-row-requires
+    mul-put-word
+    add-put-word
+    row-word-requires
+    put-word-requires
     cast-head
     add-head
     element-write-head

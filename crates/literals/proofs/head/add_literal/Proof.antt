@@ -1,21 +1,17 @@
 -- `add_literal` meets its contract. Assumes nothing.
-use native.Mathlib.Omega.{arith}
-use Rattle.literals.proofs.Fills.{fills-literal}
+use mathlib.Core.Path.{sym, ap, _∙_}
+use mathlib.Core.Bool.{Bool, cond}
+use Prim.Native.Nat.{ℕ}
+use lib.ListN.{getD}
+use Rattle.literals.specs.Held.{atClears}
+use Rattle.literals.proofs.Fills.{fills-literal, fills-plain}
+use Rattle.records.proofs.Lists.{not-true, not-false}
 use borrow.Author.Needs.{needs}
 use Rattle.literals.proofs.head.add_literal.Statement.{statement}
 use Rattle.literals.proofs.head.add_literal.Tie as tie
 
-actions-in-requires : tie.Need-actions-in-requires
-actions-in-requires c κs = search needs
-
-sub-last : tie.Need-sub-last
-sub-last c = search needs
-
-size-of-requires : tie.Need-size-of-requires
-size-of-requires c κs = search needs
-
-clears-with-requires : tie.Need-clears-with-requires
-clears-with-requires c κs = search needs
+cast-head : tie.Need-cast-head
+cast-head c = search needs
 
 add-head : tie.Need-add-head
 add-head c = search needs
@@ -26,22 +22,23 @@ add-head-2 c = search needs
 element-write-head : tie.Need-element-write-head
 element-write-head c = search needs
 
+returns : tie.Need-returns
+returns c p t D F e = let r = c .before .pre in fills-plain F p _ _ (r .0) (r .1 .0) (r .1 .1 .1) (sym (not-true _ (c .if1 .taken)) ∙ t) e
+
 element-write-head-2 : tie.Need-element-write-head-2
 element-write-head-2 c = search needs
 
-returns : tie.Need-returns
-returns c p t D F e = fills-literal F p _ _ (let n = c .before .before .before .before .actions-in .ensures .0 in omega arith) (c .before .before .size-of .ensures .0) t _ (c .clears-with .ensures) e
+returns-2 : tie.Need-returns-2
+returns-2 c p t D F e = let r = c .before .pre in fills-literal F p _ _ (r .0) (r .1 .0) t 1 (sym (ap (λ (b : Bool). cond {A = ℕ} b 1 (getD (c .before .args .head .now) atClears 0)) (not-false (c .before .args .clears) (c .if1 .left)))) e
 
 pub add-literal-spec : {M : Type 1} → statement M
 add-literal-spec =
     tie.close
     (tie.spec
-    actions-in-requires
-    sub-last
-    size-of-requires
-    clears-with-requires
+    cast-head
     add-head
     add-head-2
     element-write-head
+    returns
     element-write-head-2
-    returns)
+    returns-2)

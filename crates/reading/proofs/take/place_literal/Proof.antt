@@ -1,5 +1,6 @@
 -- `place_literal` meets its contract. Assumes nothing.
 use mathlib.Core.Path.{refl, sym, _∙_}
+use native.Mathlib.Omega.{arith}
 use Rattle.literals.specs.Held.{rowOf}
 use borrow.Author.Needs.{needs}
 use Rattle.reading.proofs.take.place_literal.Statement.{statement}
@@ -17,6 +18,9 @@ mul-put-word c = search needs
 put-word-requires : tie.Need-put-word-requires
 put-word-requires c κs = search needs
 
+sub-add-literal : tie.Need-sub-add-literal
+sub-add-literal c = search needs
+
 add-literal-requires : tie.Need-add-literal-requires
 add-literal-requires c κs = search needs
 
@@ -25,12 +29,12 @@ same-length c = search needs
 
 returns : tie.Need-returns
 returns c =
-    let z = c .before .before .before .before .before .before .before .if1 .taken in
+    let p = c .before .before .before .before .before .before .before .before .before .before .before .before .before .before .args .p .now in
     record {
-      number = sym z ∙ c .before .before .before .before .before .before .before .before .rows-stop .ensures;
+      number = sym (c .before .before .before .before .before .before .before .before .if1 .taken) ∙ c .before .before .before .before .before .before .before .before .before .rows-stop .ensures;
       stopped = λ n. absurd (n refl);
-      added = λ e. c .add-literal .ensures (c .before .before .before .before .before .before .before .before .before .before .before .before .before .args .p .now) (c .before .before .before .before .before .before .before .before .before .before .before .before .before .pre .1 .1 .1);
-      written = λ e. c .before .before .before .before .put-word .ensures (rowOf (c .before .before .before .before .before .before .before .before .before .before .before .before .before .args .p .now)) (c .before .before .before .before .before .before .before .before .before .before .row-word .ensures);
+      added = λ e. c .add-literal .ensures p (c .before .before .before .before .before .before .before .before .before .before .before .before .before .before .pre .1 .1 .1 .1 .1 .1 .1);
+      written = λ e. c .before .before .before .before .before .put-word .ensures (rowOf p) (c .before .before .before .before .before .before .before .before .before .before .before .row-word .ensures);
     }
 
 same-length-2 : tie.Need-same-length-2
@@ -53,6 +57,7 @@ place-literal-spec =
     rows-stop-requires
     mul-put-word
     put-word-requires
+    sub-add-literal
     add-literal-requires
     same-length
     returns

@@ -1,12 +1,11 @@
 -- `take_literal` meets its contract. Assumes nothing.
-use mathlib.Core.Path.{_≡_, refl, sym, _∙_}
+use mathlib.Core.Path.{_≡_, sym, _∙_}
 use Prim.Native.Nat.{_+_, _-_}
 use native.Mathlib.Omega.{arith}
 use lib.ListN.{length}
 use Rattle.literals.specs.Decode.{literalRecord}
-use Rattle.literals.proofs.Bytes.{plain-arguments, plain-every, some-every}
 use Rattle.reading.proofs.Takes.{row-stop, held-over, not-zero, span-size, span-all, literal-early, literal-late, literal-full}
-use Rattle.reading.proofs.Takes.{literal-short, shape-stop, arguments-stop}
+use Rattle.reading.proofs.Takes.{literal-short, told-every, shape-stop, arguments-stop}
 use Rattle.reading.proofs.Written.{literal-stopped, literal-placed}
 use borrow.Author.Needs.{needs}
 use Rattle.reading.proofs.take.take_literal.Statement.{statement}
@@ -30,40 +29,36 @@ returns-2 c =
 sub-last : tie.Need-sub-last
 sub-last c = search needs
 
-rows-of-requires : tie.Need-rows-of-requires
-rows-of-requires c κs = search needs
+span-of-requires : tie.Need-span-of-requires
+span-of-requires c κs = search needs
 
 sub-if3 : tie.Need-sub-if3
 sub-if3 c = search needs
 
-same-length : tie.Need-same-length
-same-length c = search needs
-
 returns-3 : tie.Need-returns-3
 returns-3 c =
-    let a = c .before .before .before .before .before .before .before .before .before .actions-in .ensures .0 in
-    let b = c .before .before .before .before .before .before .components-in .ensures .0 in
+    let a = c .before .before .before .before .before .before .before .before .actions-in .ensures .0 in
+    let b = c .before .before .before .before .before .components-in .ensures .0 in
+    let s = c .before .before .span-of .ensures in
     λ D old K.
     let l = K .filled .says .actions in
-    let w : c .before .before .before .before .before .before .before .before .before .actions-in .result - 1 + 1 ≡ length (D .actions) = omega arith in
-    let S = c .before .before .rows-of .ensures .1 D (held-over K) (omega arith) in
+    let w : c .before .before .before .before .before .before .before .before .actions-in .result - 1 + 1 ≡ length (D .actions) = omega arith in
+    let S = s .1 .0 D _ (held-over K) (omega arith) .1 in
     let z = span-size w S in
     row-stop K literalRecord _ (literal-full (K .filled .says) _ (omega arith) (omega arith) (omega arith)) (not-zero 13)
 
 literal-shape-requires : tie.Need-literal-shape-requires
 literal-shape-requires c κs = search needs
 
-same-length-2 : tie.Need-same-length-2
-same-length-2 c = search needs
-
 returns-4 : tie.Need-returns-4
 returns-4 c =
-    let a = c .before .before .before .before .before .before .before .before .before .before .before .before .actions-in .ensures .0 in
-    let b = c .before .before .before .before .before .before .before .before .before .components-in .ensures .0 in
+    let a = c .before .before .before .before .before .before .before .before .before .before .before .actions-in .ensures .0 in
+    let b = c .before .before .before .before .before .before .before .before .components-in .ensures .0 in
+    let s = c .before .before .before .before .before .span-of .ensures in
     λ D old K.
     let l = K .filled .says .actions in
-    let w : c .before .before .before .before .before .before .before .before .before .before .before .before .actions-in .result - 1 + 1 ≡ length (D .actions) = omega arith in
-    let S = c .before .before .before .before .before .rows-of .ensures .1 D (held-over K) (omega arith) in
+    let w : c .before .before .before .before .before .before .before .before .before .before .before .actions-in .result - 1 + 1 ≡ length (D .actions) = omega arith in
+    let S = s .1 .0 D _ (held-over K) (omega arith) .1 in
     literal-stopped K _ _ w (omega arith) (omega arith) S (omega arith)
     (shape-stop (held-over K) _ _ w (c .before .literal-shape .ensures) (λ z. c .if4 .taken z)) (λ z. c .if4 .taken z)
 
@@ -73,81 +68,57 @@ variables-of-requires c κs = search needs
 any-from-requires : tie.Need-any-from-requires
 any-from-requires c κs = search needs
 
-literal-arguments-requires : tie.Need-literal-arguments-requires
-literal-arguments-requires c κs = literal-short _ _ _ (sym (c .before .before .before .before .before .literal-shape .ensures) ∙ (let z : c .before .before .before .before .before .literal-shape .result ≡ 0 = omega arith in z)) .0
-
-same-length-3 : tie.Need-same-length-3
-same-length-3 c = search needs
+arguments-fault-requires : tie.Need-arguments-fault-requires
+arguments-fault-requires c κs =
+    let z : c .before .before .before .before .literal-shape .result ≡ 0 = omega arith in
+    (literal-short _ _ _ (sym (c .before .before .before .before .literal-shape .ensures) ∙ z) .0, (c .before .variables-of .ensures .1, c .any-from .ensures))
 
 returns-5 : tie.Need-returns-5
 returns-5 c =
-    let a = c .before .before .before .before .before .before .before .before .before .before .before .before .before .before .before .before .before .before .actions-in .ensures .0 in
-    let b = c .before .before .before .before .before .before .before .before .before .before .before .before .before .before .before .components-in .ensures .0 in
+    let a = c .before .before .before .before .before .before .before .before .before .before .before .before .before .before .before .before .actions-in .ensures .0 in
+    let b = c .before .before .before .before .before .before .before .before .before .before .before .before .before .components-in .ensures .0 in
+    let s = c .before .before .before .before .before .before .before .before .before .before .span-of .ensures in
     λ D old K.
     let l = K .filled .says .actions in
-    let w : c .before .before .before .before .before .before .before .before .before .before .before .before .before .before .before .before .before .before .actions-in .result - 1 + 1 ≡ length (D .actions) = omega arith in
-    let S = c .before .before .before .before .before .before .before .before .before .before .before .rows-of .ensures .1 D (held-over K) (omega arith) in
+    let w : c .before .before .before .before .before .before .before .before .before .before .before .before .before .before .before .before .actions-in .result - 1 + 1 ≡ length (D .actions) = omega arith in
+    let S = s .1 .0 D _ (held-over K) (omega arith) .1 in
     literal-stopped K _ _ w (omega arith) (omega arith) S (omega arith)
-    (arguments-stop (held-over K) _ _ w (c .before .before .before .before .before .before .before .literal-shape .ensures) (omega arith) (c .before .before .before .before .variables-of .ensures .0) (c .before .literal-arguments .ensures) (λ z. c .if6 .taken z))
-    (λ z. c .if6 .taken z)
+    (arguments-stop (held-over K) _ _ w (c .before .before .before .before .before .before .literal-shape .ensures) (omega arith) (c .before .before .before .variables-of .ensures .0) (c .before .arguments-fault .ensures) (λ z. c .if5 .taken z))
+    (λ z. c .if5 .taken z)
 
 place-literal-requires : tie.Need-place-literal-requires
 place-literal-requires c κs =
-    let R = c .before .before .before .before .before .before .before .before .before .before .before .before .before .before .before .before .before .before .before .before .before .before .before .before .pre in
+    let a = c .before .before .before .before .before .before .before .before .before .before .before .before .before .before .before .before .before .before .actions-in .ensures .0 in
+    let s = c .before .before .before .before .before .before .before .before .before .before .before .before .span-of .ensures in
+    let R = c .before .before .before .before .before .before .before .before .before .before .before .before .before .before .before .before .before .before .before .before .before .before .pre in
     let K = R .holds in
-    let a = c .before .before .before .before .before .before .before .before .before .before .before .before .before .before .before .before .before .before .before .before .actions-in .ensures .0 in
     let l = K .filled .says .actions in
-    let w : c .before .before .before .before .before .before .before .before .before .before .before .before .before .before .before .before .before .before .before .before .actions-in .result - 1 + 1 ≡ length (R .sofar .actions) = omega arith in
-    let S = c .before .before .before .before .before .before .before .before .before .before .before .before .before .rows-of .ensures .1 (R .sofar) (held-over K) (omega arith) in
-    let z = span-size w S in
+    let w : c .before .before .before .before .before .before .before .before .before .before .before .before .before .before .before .before .before .before .actions-in .result - 1 + 1 ≡ length (R .sofar .actions) = omega arith in
+    let S = s .1 .0 (R .sofar) _ (held-over K) (omega arith) .1 in
+    let n = span-size w S in
     let t = span-all w S in
-    let f = literal-short _ _ _ (sym (c .before .before .before .before .before .before .before .before .before .literal-shape .ensures) ∙ (let z : c .before .before .before .before .before .before .before .before .before .literal-shape .result ≡ 0 = omega arith in z)) in
+    let z : c .before .before .before .before .before .before .before .before .literal-shape .result ≡ 0 = omega arith in
+    let y : c .before .before .before .arguments-fault .result ≡ 0 = omega arith in
+    let f = literal-short _ _ _ (sym (c .before .before .before .before .before .before .before .before .literal-shape .ensures) ∙ z) in
     let m = R .room (f .0) (omega arith) in
-    (omega arith, ((c .before .before .before .before .before .before .before .before .before .before .before .before .before .rows-of .ensures .0 .order, omega arith), (f, some-every _ _ (sym (c .before .before .before .before .before .any-from .ensures) ∙ c .before .before .before .before .if5 .taken) (sym (c .before .before .before .literal-arguments .ensures) ∙ (let z : c .before .before .before .literal-arguments .result ≡ 0 = omega arith in z)))))
+    let v = c .before .before .before .before .before .variables-of .ensures .1 in
+    let e = told-every _ _ (omega arith) (c .before .before .before .before .any-from .result) (c .before .before .before .before .any-from .ensures) (sym (c .before .before .before .arguments-fault .ensures) ∙ y) in
+    (omega arith, (omega arith, (s .1 .1, (omega arith, (omega arith, (f .0, (f .1, e)))))))
 
-same-length-4 : tie.Need-same-length-4
-same-length-4 c = search needs
+same-length : tie.Need-same-length
+same-length c = search needs
 
 returns-6 : tie.Need-returns-6
 returns-6 c =
-    let a = c .before .before .before .before .before .before .before .before .before .before .before .before .before .before .before .before .before .before .before .before .before .before .before .actions-in .ensures .0 in
-    let b = c .before .before .before .before .before .before .before .before .before .before .before .before .before .before .before .before .before .before .before .before .components-in .ensures .0 in
-    λ D old K.
-    let l = K .filled .says .actions in
-    let w : c .before .before .before .before .before .before .before .before .before .before .before .before .before .before .before .before .before .before .before .before .before .before .before .actions-in .result - 1 + 1 ≡ length (D .actions) = omega arith in
-    let S = c .before .before .before .before .before .before .before .before .before .before .before .before .before .before .before .before .rows-of .ensures .1 D (held-over K) (omega arith) in
-    literal-placed K _ _ w (omega arith) (omega arith) S (omega arith) (c .before .before .before .before .before .before .before .before .before .before .before .before .literal-shape .ensures) (omega arith)
-    (c .before .before .before .before .before .before .before .before .before .variables-of .ensures .0) (c .before .before .before .before .before .before .literal-arguments .ensures) (omega arith) (c .before .before .place-literal .ensures)
-
-place-literal-requires-2 : tie.Need-place-literal-requires-2
-place-literal-requires-2 c κs =
-    let R = c .before .before .before .before .before .before .before .before .before .before .before .before .before .before .before .before .before .before .before .before .before .before .pre in
-    let K = R .holds in
-    let a = c .before .before .before .before .before .before .before .before .before .before .before .before .before .before .before .before .before .before .actions-in .ensures .0 in
-    let l = K .filled .says .actions in
-    let w : c .before .before .before .before .before .before .before .before .before .before .before .before .before .before .before .before .before .before .actions-in .result - 1 + 1 ≡ length (R .sofar .actions) = omega arith in
-    let S = c .before .before .before .before .before .before .before .before .before .before .before .rows-of .ensures .1 (R .sofar) (held-over K) (omega arith) in
-    let z = span-size w S in
-    let t = span-all w S in
-    let f = literal-short _ _ _ (sym (c .before .before .before .before .before .before .before .literal-shape .ensures) ∙ (let z : c .before .before .before .before .before .before .before .literal-shape .result ≡ 0 = omega arith in z)) in
-    let m = R .room (f .0) (omega arith) in
-    (omega arith, ((c .before .before .before .before .before .before .before .before .before .before .before .rows-of .ensures .0 .order, omega arith), (f, plain-every (c .before .before .before .before .variables-of .result) (c .before .before .before .before .before .before .before .before .before .before .before .before .before .before .before .before .before .before .before .before .before .before .args .p .now) (let v = c .before .before .before .before .variables-of .ensures .1 in omega arith) (sym (c .before .before .before .any-from .ensures) ∙ c .before .before .if5 .left))))
-
-same-length-5 : tie.Need-same-length-5
-same-length-5 c = search needs
-
-returns-7 : tie.Need-returns-7
-returns-7 c =
     let a = c .before .before .before .before .before .before .before .before .before .before .before .before .before .before .before .before .before .before .before .before .before .actions-in .ensures .0 in
     let b = c .before .before .before .before .before .before .before .before .before .before .before .before .before .before .before .before .before .before .components-in .ensures .0 in
+    let s = c .before .before .before .before .before .before .before .before .before .before .before .before .before .before .before .span-of .ensures in
     λ D old K.
     let l = K .filled .says .actions in
     let w : c .before .before .before .before .before .before .before .before .before .before .before .before .before .before .before .before .before .before .before .before .before .actions-in .result - 1 + 1 ≡ length (D .actions) = omega arith in
-    let S = c .before .before .before .before .before .before .before .before .before .before .before .before .before .before .rows-of .ensures .1 D (held-over K) (omega arith) in
-    let v = c .before .before .before .before .before .before .before .variables-of .ensures .1 in
-    literal-placed K _ _ w (omega arith) (omega arith) S (omega arith) (c .before .before .before .before .before .before .before .before .before .before .literal-shape .ensures) (omega arith)
-    (c .before .before .before .before .before .before .before .variables-of .ensures .0) (sym (plain-arguments _ _ (omega arith) (sym (c .before .before .before .before .before .before .any-from .ensures) ∙ c .before .before .before .before .before .if5 .left))) refl
-    (c .before .before .place-literal2 .ensures)
+    let S = s .1 .0 D _ (held-over K) (omega arith) .1 in
+    literal-placed K _ _ w (omega arith) (omega arith) S (omega arith) (c .before .before .before .before .before .before .before .before .before .before .before .literal-shape .ensures) (omega arith)
+    (c .before .before .before .before .before .before .before .before .variables-of .ensures .0) (c .before .before .before .before .before .before .arguments-fault .ensures) (omega arith) (c .before .before .place-literal .ensures)
 
 pub take-literal-spec : {M : Type 1} → statement M
 take-literal-spec =
@@ -158,21 +129,15 @@ take-literal-spec =
     components-in-requires
     returns-2
     sub-last
-    rows-of-requires
+    span-of-requires
     sub-if3
-    same-length
     returns-3
     literal-shape-requires
-    same-length-2
     returns-4
     variables-of-requires
     any-from-requires
-    literal-arguments-requires
-    same-length-3
+    arguments-fault-requires
     returns-5
     place-literal-requires
-    same-length-4
-    returns-6
-    place-literal-requires-2
-    same-length-5
-    returns-7)
+    same-length
+    returns-6)
