@@ -1,6 +1,6 @@
 -- Laws for the checks of a record's fields: arguments, and labels as bytes. Assumes nothing.
 use mathlib.Core.Path.{_≡_, refl, sym, ap, ap₂, _∙_}
-use mathlib.Core.Bool.{Bool, true, false, _&&_, _||_, not, cond, and-true}
+use mathlib.Core.Bool.{Bool, true, false, _&&_, _||_, not, cond}
 use mathlib.Core.Logic.{_⊎_, inl, inr}
 use mathlib.Core.List.{List, [], _∷_, _++_, map}
 use Prim.Native.Nat.{ℕ, zero, suc, _+_, _≤_, _<_}
@@ -9,9 +9,9 @@ use native.Mathlib.Omega.{arith}
 use lib.Dec.{eqb, ltb, leb}
 use lib.ListN.{length, take, drop, getD, length-drop}
 use lib.Seq.{take-suc}
-use borrow.Author.Tests.{eq-eqb, ne-eqb, eqb-true, eqb-false, leb-true, leb-false, ltb-true, le-leb, lt-leb, lt-ltb, le-ltb}
+use borrow.Author.Tests.{eq-eqb, ne-eqb, eqb-true, eqb-false, leb-true, leb-false, ltb-true, ltb-false, le-leb, lt-leb, lt-ltb, le-ltb}
 use Rattle.records.specs.Lists.{addIf, all, any, countBy, firstAt, found}
-use Rattle.records.proofs.Lists.{and-l, and-r, and-i, bool-cases, or-r, or-out, not-false, any-in, any-out, in-any, eqb-comm, any-map, any-same, any-append, count-not, count-map, first-hit, first-miss, first-end}
+use Rattle.records.proofs.Lists.{and-l, and-r, and-i, bool-cases, or-out, not-false, off, clash, any-in, any-out, in-any, all-of, eqb-comm, any-map, any-same, filter-all, count-filter, count-pos, count-none, count-not, count-map, first-hit, first-miss, first-end}
 use Rattle.records.proofs.Numbers.{cond-or}
 use Rattle.literals.specs.declared.Argument.the-variants.{Variable as bound, Every}
 use Rattle.literals.specs.declared.Label.{Label}
@@ -160,15 +160,15 @@ key-again before b = any-map labelOf (sameLabelKey (labelOf b)) before ∙ go (e
 high-key : (n : ℕ) (before : List ℕ) (b : ℕ) → keyTooHigh n (map labelOf before) (labelOf b) ≡ highKey n before b
 high-key n before b = ap not (label-below n b)
 
--- the fault of labels by their bytes: a key below n is never FF
-label-fault : (n : ℕ) (bs : List ℕ) → n ≤ 6
+-- the fault of labels by their bytes
+label-fault : (n : ℕ) (bs : List ℕ)
     → labelFault n (map labelOf bs)
     ≡ cond (found (again true) bs) (atLabel 25 (firstAt (again true) [] bs))
     (cond (found (again false) bs) (atLabel 24 (firstAt (again false) [] bs))
     (cond (found (highKey n) bs) (atLabel 21 (firstAt (highKey n) [] bs))
-    (cond (keysBelow n bs && eachOnce n bs && leb (countBy (eqb 255) bs) 1) (atRecord 0) (atRecord 21))))
-unfolding labelFault labelsFit
-label-fault n bs h =
+    (cond (labelsFit n (map labelOf bs)) (atRecord 0) (atRecord 21))))
+unfolding labelFault
+label-fault n bs =
     rw (
       found-map labelOf countedAgain (again true) counted-again bs,
       first-map labelOf countedAgain (again true) counted-again [] bs,
@@ -176,58 +176,10 @@ label-fault n bs h =
       first-map labelOf keyAgain (again false) key-again [] bs,
       found-map labelOf (keyTooHigh n) (highKey n) (high-key n) bs,
       first-map labelOf (keyTooHigh n) (highKey n) (high-key n) [] bs,
-      below-labels n bs,
-      once-labels n bs (omega arith),
-      count-map labelOf isCounted (eqb 255) label-counted bs,
     )
 
--- no key too high: all are below
-none-high : (n : ℕ) (before bs : List ℕ) → length bs ≤ firstAt (highKey n) before bs → keysBelow n bs ≡ true
-none-high n before [] h = refl
-none-high n before (b ∷ bs) h = go (eqb b 255 || ltb b n) h (λ g. none-high n (before ++ (b ∷ [])) bs g)
-  where
-    go : (t : Bool) → suc (length bs) ≤ cond (not t) zero (suc (firstAt (highKey n) (before ++ (b ∷ [])) bs))
-        → (length bs ≤ firstAt (highKey n) (before ++ (b ∷ [])) bs → keysBelow n bs ≡ true) → t && keysBelow n bs ≡ true
-    go true g ih = ih (omega arith)
-    go false g ih = absurd (omega arith)
-
--- no second FF: at most one
-none-behind : (before bs : List ℕ) → any (eqb 255) before ≡ true → length bs ≤ firstAt (again true) before bs → countBy (eqb 255) bs ≡ 0
-none-behind before [] t h = refl
-none-behind before (b ∷ bs) t h =
-    go (eqb b 255) refl h (λ g. none-behind (before ++ (b ∷ [])) bs (any-append (eqb 255) before (b ∷ []) ∙ rw t) g)
-  where
-    go : (u : Bool) → eqb b 255 ≡ u → suc (length bs) ≤ cond (cond u true false && any (eqb b) before) zero (suc (firstAt (again true) (before ++ (b ∷ [])) bs))
-        → (length bs ≤ firstAt (again true) (before ++ (b ∷ [])) bs → countBy (eqb 255) bs ≡ 0) → addIf (eqb 255 b) (countBy (eqb 255) bs) ≡ 0
-    go true e g ih =
-        let same : any (eqb b) before ≡ true = ap (λ (m : ℕ). any (eqb m) before) (eqb-true b 255 e) ∙ t in
-        let never : suc (length bs) ≤ 0 = rw same at g in absurd (omega arith)
-    go false e g ih = rw (eqb-comm 255 b ∙ e) (ih (omega arith))
-
-one-counted : (before bs : List ℕ) → length bs ≤ firstAt (again true) before bs → countBy (eqb 255) bs ≤ 1
-one-counted before [] h = omega arith
-one-counted before (b ∷ bs) h =
-    go (eqb b 255) refl h (λ g. one-counted (before ++ (b ∷ [])) bs g) (λ t g. none-behind (before ++ (b ∷ [])) bs t g)
-  where
-    behind : List ℕ
-    behind = before ++ (b ∷ [])
-
-    clear : (a : Bool) → suc (length bs) ≤ cond a zero (suc (firstAt (again true) behind bs)) → length bs ≤ firstAt (again true) behind bs
-    clear true g = absurd (omega arith)
-    clear false g = omega arith
-
-    go : (u : Bool) → eqb b 255 ≡ u → suc (length bs) ≤ cond (cond u true false && any (eqb b) before) zero (suc (firstAt (again true) behind bs))
-        → (length bs ≤ firstAt (again true) behind bs → countBy (eqb 255) bs ≤ 1)
-        → (any (eqb 255) behind ≡ true → length bs ≤ firstAt (again true) behind bs → countBy (eqb 255) bs ≡ 0) → addIf (eqb 255 b) (countBy (eqb 255) bs) ≤ 1
-    go true e g ih last =
-        let here = eqb-comm 255 b ∙ e in
-        let t : any (eqb 255) behind ≡ true = any-append (eqb 255) before (b ∷ []) ∙ rw here (or-r (any (eqb 255) before) refl) in
-        let z = last t (clear (any (eqb b) before) g) in
-        rw here (let y : suc (countBy (eqb 255) bs) ≤ 1 = omega arith in y)
-    go false e g ih last = rw (eqb-comm 255 b ∙ e) (ih (clear false g))
-
 -- what the code's tests of the labels of a payload lead to, one after the other
-module _ (n : ℕ) (p : List ℕ) (few : n ≤ 6) where
+module _ (n : ℕ) (p : List ℕ) where
   abbrev labels : List ℕ
   labels = drop 1 p
 
@@ -244,37 +196,25 @@ module _ (n : ℕ) (p : List ℕ) (few : n ≤ 6) where
   at-place m q {i} e = let w : 4 + i ≡ 5 + firstAt q [] labels = omega arith in λ j. record { number = m; within = w j }
 
   pub second-counted : {i : ℕ} → i ≡ 1 + firstAt (again true) [] labels → i < length p → record { number = 25; within = 4 + i } ≡ labelFault n (map labelOf labels)
-  second-counted e h = at-place 25 (again true) e ∙ sym (label-fault n labels few ∙ rw (found-is (again true) e h))
+  second-counted e h = at-place 25 (again true) e ∙ sym (label-fault n labels ∙ rw (found-is (again true) e h))
 
   module _ {i : ℕ} (counted : i ≡ 1 + firstAt (again true) [] labels) (once : length p ≤ i) where
     pub repeated-key : {j : ℕ} → j ≡ 1 + firstAt (again false) [] labels → j < length p → record { number = 24; within = 4 + j } ≡ labelFault n (map labelOf labels)
-    repeated-key e h = at-place 24 (again false) e ∙ sym (label-fault n labels few ∙ rw (none-found (again true) counted once, found-is (again false) e h))
+    repeated-key e h = at-place 24 (again false) e ∙ sym (label-fault n labels ∙ rw (none-found (again true) counted once, found-is (again false) e h))
 
     module _ {j : ℕ} (keys : j ≡ 1 + firstAt (again false) [] labels) (apart : length p ≤ j) where
       pub first-high : {k : ℕ} → k ≡ 1 + firstAt (highKey n) [] labels → k < length p → record { number = 21; within = 4 + k } ≡ labelFault n (map labelOf labels)
       first-high e h =
           at-place 21 (highKey n) e
-          ∙ sym (label-fault n labels few ∙ rw (none-found (again true) counted once, none-found (again false) keys apart, found-is (highKey n) e h))
+          ∙ sym (label-fault n labels ∙ rw (none-found (again true) counted once, none-found (again false) keys apart, found-is (highKey n) e h))
 
-      -- no label is at fault: a key is missing, or they fit
-      module _ {k : ℕ} (high : k ≡ 1 + firstAt (highKey n) [] labels) (below : length p ≤ k) where
-        by-keys : labelFault n (map labelOf labels) ≡ cond (eachOnce n labels) (atRecord 0) (atRecord 21)
-        by-keys =
-            label-fault n labels few
-            ∙ rw (
-              none-found (again true) counted once,
-              none-found (again false) keys apart,
-              none-found (highKey n) high below,
-              none-high n [] labels (none-is (highKey n) high below),
-              le-leb (countBy (eqb 255) labels) 1 (one-counted [] labels (none-is (again true) counted once)),
-            )
-            (ap (λ (b : Bool). cond b (atRecord 0) (atRecord 21)) (and-true (eachOnce n labels)))
-
-        pub labels-fit : eachOnce n labels ≡ true → atRecord 0 ≡ labelFault n (map labelOf labels)
-        labels-fit t = sym (by-keys ∙ rw t)
-
-        pub missing-key : eachOnce n labels ≡ false → atRecord 21 ≡ labelFault n (map labelOf labels)
-        missing-key t = sym (by-keys ∙ rw t)
+      -- no label is at fault: a key is missing
+      pub missing-key : {k : ℕ} → k ≡ 1 + firstAt (highKey n) [] labels → length p ≤ k → labelsFit n (map labelOf labels) ≡ false
+          → atRecord 21 ≡ labelFault n (map labelOf labels)
+      missing-key e h t =
+          sym
+          (label-fault n labels
+          ∙ rw (none-found (again true) counted once, none-found (again false) keys apart, none-found (highKey n) e h, t))
 
 -- a label is a key or FF
 pub keys-and-counted : (bs : List ℕ) → countBy (λ l. not (isCounted l)) (map labelOf bs) + countBy (eqb 255) bs ≡ length bs
@@ -343,3 +283,90 @@ once-at k (suc n) bs h t = go (bool-cases (eqb k n)) (λ g. once-at k n bs g (an
     go : (eqb k n ≡ true) ⊎ (eqb k n ≡ false) → (k < n → countBy (eqb k) bs ≡ 1) → countBy (eqb k) bs ≡ 1
     go (inl e) ih = ap (λ (m : ℕ). countBy (eqb m) bs) (eqb-true k n e) ∙ eqb-true _ 1 (and-r (eachOnce n bs) _ t)
     go (inr e) ih = let d = eqb-false k n e in ih (omega arith)
+
+-- ---- labels that fit, by how many there are
+
+-- two tests of which no byte passes both
+count-both : (p q r : ℕ → Bool) → ((b : ℕ) → r b ≡ (p b || q b)) → ((b : ℕ) → p b ≡ true → q b ≡ true → ⊥) → (bs : List ℕ)
+    → countBy r bs ≡ countBy p bs + countBy q bs
+count-both p q r same apart [] = refl
+count-both p q r same apart (b ∷ bs) =
+    ap (λ (t : Bool). addIf t (countBy r bs)) (same b) ∙ go (p b) (q b) (apart b) (count-both p q r same apart bs)
+  where
+    go : (x y : Bool) → (x ≡ true → y ≡ true → ⊥) → countBy r bs ≡ countBy p bs + countBy q bs
+        → addIf (x || y) (countBy r bs) ≡ addIf x (countBy p bs) + addIf y (countBy q bs)
+    go true true h e = absurd (h refl refl)
+    go true false h e = omega arith
+    go false true h e = omega arith
+    go false false h e = e
+
+below-next : (n b : ℕ) → ltb b (suc n) ≡ (ltb b n || eqb n b)
+below-next n b = go (ltb b n) refl (eqb n b) refl
+  where
+    go : (x : Bool) → ltb b n ≡ x → (y : Bool) → eqb n b ≡ y → ltb b (suc n) ≡ (x || y)
+    go true e y f = let l = ltb-true b n e in lt-ltb b (suc n) (omega arith)
+    go false e true f = let l = eqb-true n b f in lt-ltb b (suc n) (omega arith)
+    go false e false f = let l = ltb-false b n e in let k = eqb-false n b f in le-ltb b (suc n) (omega arith)
+
+-- where each number below n stands once, n bytes are below n
+below-once : (n : ℕ) (bs : List ℕ) → eachOnce n bs ≡ true → countBy (λ b. ltb b n) bs ≡ n
+below-once zero bs t = count-none (λ b. ltb b 0) bs (λ b m l. let k = ltb-true b 0 l in omega arith)
+below-once (suc n) bs t =
+    count-both (λ b. ltb b n) (eqb n) (λ b. ltb b (suc n)) (below-next n)
+    (λ b l e. let k = ltb-true b n l in let same = eqb-true n b e in omega arith) bs
+    ∙ ap₂ (λ (x y : ℕ). x + y) (below-once n bs (and-l _ _ t)) (eqb-true (countBy (eqb n) bs) 1 (and-r (eachOnce n bs) _ t))
+    ∙ add-one n
+
+-- all pass exactly where as many pass as there are
+all-counted : (p : ℕ → Bool) (bs : List ℕ) → all p bs ≡ true → countBy p bs ≡ length bs
+all-counted p bs t = count-filter p bs ∙ ap (λ (l : List ℕ). length l) (filter-all p bs t)
+
+counted-all : (p : ℕ → Bool) (bs : List ℕ) → length bs ≤ countBy p bs → all p bs ≡ true
+counted-all p bs h =
+    all-of p bs
+    (λ b m. not-false (p b)
+    (off (not (p b)) (λ e. let c = count-not p bs in let k = count-pos (λ a. not (p a)) m e in omega arith)))
+
+-- what the code's tests lead to, one after the other
+module _ (n : ℕ) (p : List ℕ) (few : n ≤ 6) where
+  abbrev given : List ℕ
+  given = drop 1 p
+
+  fit-bytes : labelsFit n (map labelOf given) ≡ keysBelow n given && eachOnce n given && leb (countBy (eqb 255) given) 1
+  unfolding labelsFit
+  fit-bytes =
+      rw (below-labels n given, once-labels n given (omega arith), count-map labelOf isCounted (eqb 255) label-counted given)
+
+  -- the keys below n and FF, where each key stands once
+  good-count : eachOnce n given ≡ true → countBy (λ b. eqb b 255 || ltb b n) given ≡ countBy (eqb 255) given + n
+  good-count t =
+      count-both (eqb 255) (λ b. ltb b n) (λ b. eqb b 255 || ltb b n) (λ b. ap (λ (x : Bool). x || ltb b n) (eqb-comm b 255))
+      (λ b e l. let same = eqb-true 255 b e in let k = ltb-true b n l in omega arith) given
+      ∙ ap (λ (m : ℕ). countBy (eqb 255) given + m) (below-once n given t)
+
+  module _ {c : ℕ} (counted : c ≡ countBy (eqb 255) given) where
+    pub two-counted : 1 < c → false ≡ labelsFit n (map labelOf given)
+    two-counted h =
+        sym (off (labelsFit n (map labelOf given)) (λ t.
+        let k = leb-true (countBy (eqb 255) given) 1 (and-r (keysBelow n given && eachOnce n given) _ (sym fit-bytes ∙ t)) in omega arith))
+
+    pub too-many : n + c + 1 < length p → false ≡ labelsFit n (map labelOf given)
+    too-many h =
+        sym (off (labelsFit n (map labelOf given)) (λ t.
+        let both = and-l (keysBelow n given && eachOnce n given) _ (sym fit-bytes ∙ t) in
+        let e : length given ≡ countBy (eqb 255) given + n = sym (all-counted (λ b. eqb b 255 || ltb b n) given (and-l (keysBelow n given) _ both)) ∙ good-count (and-r (keysBelow n given) _ both) in
+        let d = length-drop 1 p in omega arith))
+
+    pub few-enough : c ≤ 1 → length p ≤ n + c + 1 → {r : Bool} → r ≡ eachOnce n given → r ≡ labelsFit n (map labelOf given)
+    few-enough one h f =
+        f ∙ go (eachOnce n given) refl
+        (let z : countBy (eqb 255) given ≤ 1 = omega arith in z)
+        (let d = length-drop 1 p in let z : length given ≤ countBy (eqb 255) given + n = omega arith in z)
+      where
+        go : (b : Bool) → eachOnce n given ≡ b → countBy (eqb 255) given ≤ 1 → length given ≤ countBy (eqb 255) given + n → b ≡ labelsFit n (map labelOf given)
+        go true t k l =
+            let g = good-count t in
+            sym (fit-bytes ∙ and-i (and-i (counted-all (λ b. eqb b 255 || ltb b n) given (omega arith)) t) (le-leb (countBy (eqb 255) given) 1 k))
+        go false t k l =
+            sym (off (labelsFit n (map labelOf given)) (λ u.
+            clash (and-r (keysBelow n given) _ (and-l (keysBelow n given && eachOnce n given) _ (sym fit-bytes ∙ u))) t))

@@ -12,7 +12,7 @@ use lib.ListN.{length, getD, set, take, drop, replicate, length-append, length-r
 use lib.Seq.{drop-cons, getD-drop, getD-take, getD-append-add, drop-drop, length-take-le, take-all, drop-at, paste, paste-zero, take-paste, drop-paste}
 use borrow.Author.Tests.{eq-eqb, ne-eqb, eqb-true}
 use Rattle.records.specs.Lists.{In, any, all, sameList, sideBySide}
-use Rattle.records.proofs.Lists.{and-l, and-r, bool-cases, clash, off, sameList-eq, any-same}
+use Rattle.records.proofs.Lists.{and-l, and-r, and-i, or-l, bool-cases, clash, off, eqb-same, sameList-eq, sameList-self, any-same}
 use Rattle.records.proofs.Memory.{paste-more, paste-length}
 use Rattle.literals.specs.Decode.{maxArguments, byte}
 use Rattle.literals.specs.Held.{keyBeside, keyClearedIn, rowOf, FourAt, EightAt, WordOf, fourBytes, meetByte, argumentsMeet, rowsMeet}
@@ -479,6 +479,14 @@ module _ (x y : List ℕ) (i j k : ℕ) (h : i + 8 ≤ length x) (g : j + 8 ≤ 
   meet-end l =
       test-end meetByte (take 8 (drop i x)) (take 8 (drop j y)) k (omega (arith, length-part 8 x i h)) (omega (arith, length-part 8 y j g))
 
+-- rows that are the same but for their first byte
+tail-same : (p q : List ℕ) → drop 1 p ≡ drop 1 q → rowsMeet p q ≡ true
+tail-same [] [] e = refl
+tail-same [] (b ∷ q) e = rw (← e)
+tail-same (a ∷ p) [] e = rw e
+tail-same (a ∷ p) (b ∷ q) e =
+    rw e (and-i (eqb-same (getD q 0 0)) (sameList-self meetByte (λ c. or-l (eqb c 255 || eqb c 255) (eqb-same c)) (drop 1 q)))
+
 -- two rows of literals, by their relations
 module _ (x y : List ℕ) (i j : ℕ) (h : i + 8 ≤ length x) (g : j + 8 ≤ length y) where
   relations-at : eqb (byte (take 8 (drop i x)) 1) (byte (take 8 (drop j y)) 1) ≡ eqb (getD x (i + 1) 0) (getD y (j + 1) 0)
@@ -491,6 +499,14 @@ module _ (x y : List ℕ) (i j : ℕ) (h : i + 8 ≤ length x) (g : j + 8 ≤ le
 
   pub rows-apart : (getD x (i + 1) 0 ≡ getD y (j + 1) 0 → ⊥) → false ≡ rowsMeet (take 8 (drop i x)) (take 8 (drop j y))
   rows-apart n = sym (ap (λ (t : Bool). t && argumentsMeet (take 8 (drop i x)) (take 8 (drop j y))) (relations-at ∙ ne-eqb _ _ n))
+
+  -- all but the first byte the same: by the bytes 1 to 4 and 4 to 7
+  pub rows-same : sameList eqb (take 4 (drop (i + 1) x)) (take 4 (drop (j + 1) y)) ≡ true → sameList eqb (take 4 (drop (i + 4) x)) (take 4 (drop (j + 4) y)) ≡ true
+      → true ≡ rowsMeet (take 8 (drop i x)) (take 8 (drop j y))
+  rows-same e f =
+      sym
+      (tail-same (take 8 (drop i x)) (take 8 (drop j y))
+      (sameList-eq eqb eqb-true _ _ (seven-by-four x y i j h g ∙ ap₂ _&&_ e f)))
 
 -- ---- the labels of a component's payload, from label i on, beside the arguments of the literal's row at an offset
 

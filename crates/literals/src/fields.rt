@@ -16,13 +16,13 @@ use super::role_of;
 use records::bytes::count_from;
 use records::bytes::wide;
 ghost use mathlib.Core.Path.{_≡_};
-ghost use mathlib.Core.Bool.{_&&_, _||_, not};
+ghost use mathlib.Core.Bool.{false, _&&_, _||_, not};
 ghost use mathlib.Core.List.{[], map};
 ghost use Prim.Native.Nat.{_+_, _*_, _<_, _≤_};
 ghost use lib.Dec.{eqb, ltb};
 ghost use lib.ListN.{length, take, drop};
 ghost use Rattle.records.specs.Lists.{any, countBy, firstAt, sideBySide};
-ghost use Rattle.literals.specs.Domain.{variableBelow, clearsOnce, isCounted, isEvery};
+ghost use Rattle.literals.specs.Domain.{variableBelow, clearsOnce, isCounted, isEvery, labelsFit};
 ghost use Rattle.literals.specs.Decode.{maxActions, maxArguments, relationStop, actionStop, literalOf, noVariable, labelOf};
 ghost use Rattle.literals.specs.Decode.{labelFault};
 ghost use Rattle.literals.specs.Held.{argumentsStop, literalShape, literalArguments, componentFields, again, highKey, eachOnce};
@@ -246,11 +246,27 @@ pub fn each_once(p: &[u8], n: usize) -> bool
     true
 }
 
-// The labels of a component of a template that has n keys: the second FF, then a key that stands twice, then a key not below n, each at
-// its label, then a key that is missing. A label stands 4 bytes, those of the head, further behind the record's start than in the
-// payload.
-pub fn label_fields(p: &[u8], n: usize) -> RecordFault
-    requires arguments { ⌜ n ≤ maxArguments ⌝ }
+// Whether the labels of a component fit a template that has n keys: each key below n once, at most one FF, and nothing else. That there is
+// nothing else shows in how many they are.
+fn labels_fit(p: &[u8], n: usize) -> bool
+    requires { ⌜ n ≤ maxArguments ⌝ }
+    ensures { λ r. ⌜ r ≡ labelsFit n (map labelOf (drop 1 (now (p .entry)))) ⌝ }
+{
+    let counted = count_from(p, 1, 255);
+    if 1 < counted {
+        return false;
+    }
+    if n + counted + 1 < p.len() {
+        return false;
+    }
+    each_once(p, n)
+}
+
+// What is wrong with labels that do not fit a template that has n keys: the second FF, then a key that stands twice, then a key not below
+// n, each at its label, else a key that is missing. A label stands 4 bytes, those of the head, further behind the record's start than in
+// the payload.
+fn label_fault(p: &[u8], n: usize) -> RecordFault
+    requires wrong { ⌜ labelsFit n (map labelOf (drop 1 (now p))) ≡ false ⌝ }
     requires short { ⌜ length (now p) ≤ 1 + maxArguments ⌝ }
     ensures { λ r. ⌜ r ≡ labelFault n (map labelOf (drop 1 (now (p .entry)))) ⌝ }
 {
@@ -275,16 +291,26 @@ pub fn label_fields(p: &[u8], n: usize) -> RecordFault
             within: 4 + high as u8,
         };
     }
-    if each_once(p, n) {
+    RecordFault {
+        number: 21,
+        within: 0,
+    }
+}
+
+// The labels of a component of a template that has n keys. Most often they fit, which is told at once; which one is wrong is looked for
+// only where they do not.
+pub fn label_fields(p: &[u8], n: usize) -> RecordFault
+    requires arguments { ⌜ n ≤ maxArguments ⌝ }
+    requires short { ⌜ length (now p) ≤ 1 + maxArguments ⌝ }
+    ensures { λ r. ⌜ r ≡ labelFault n (map labelOf (drop 1 (now (p .entry)))) ⌝ }
+{
+    if labels_fit(p, n) {
         return RecordFault {
             number: 0,
             within: 0,
         };
     }
-    RecordFault {
-        number: 21,
-        within: 0,
-    }
+    label_fault(p, n)
 }
 
 // Whether a label may stand beside an argument of a literal: a key may not beside FF.

@@ -91,12 +91,18 @@ pub fn arguments_meet(x: &[u8], i: usize, y: &[u8], j: usize) -> bool
     true
 }
 
-// Whether the literal's row at an offset meets the literal's row at an offset of another memory.
+// Whether the literal's row at an offset meets the literal's row at an offset of another memory. Most often they have the same relation and
+// arguments, or another relation: those are told without going through the arguments.
 pub fn rows_meet(x: &[u8], i: usize, y: &[u8], j: usize) -> bool
     requires one { ⌜ i + 8 ≤ length (now x) ⌝ }
     requires other { ⌜ j + 8 ≤ length (now y) ⌝ }
     ensures { λ r. ⌜ r ≡ rowsMeet (take 8 (drop i (now (x .entry)))) (take 8 (drop j (now (y .entry)))) ⌝ }
 {
+    if same_four(x, i + 1, y, j + 1) {
+        if same_four(x, i + 4, y, j + 4) {
+            return true;
+        }
+    }
     if x[i + 1] == y[j + 1] {
         return arguments_meet(x, i, y, j);
     }

@@ -1,93 +1,28 @@
--- `literals::fields::label_fields` meets its contract: a law of proofs/Bytes for each return. Assumes nothing.
+-- `label_fields` meets its contract: nothing is wrong with labels that fit. Assumes nothing.
 use mathlib.Core.Path.{sym, _∙_}
+use mathlib.Core.List.{map}
 use native.Mathlib.Omega.{arith}
 use borrow.Author.Needs.{needs}
-use Rattle.literals.proofs.Bytes.{second-counted, repeated-key, first-high, labels-fit, missing-key}
+use lib.ListN.{drop}
+use Rattle.literals.specs.Decode.{labelOf}
+use Rattle.literals.proofs.Labels.{fit-passes}
 use Rattle.literals.proofs.fields.label_fields.Statement.{statement}
 use Rattle.literals.proofs.fields.label_fields.Tie as tie
 
-first-again-requires : tie.Need-first-again-requires
-first-again-requires c κs = search needs
-
-cast-t8 : tie.Need-cast-t8
-cast-t8 c = search needs
-
-add-t9 : tie.Need-add-t9
-add-t9 c = search needs
+labels-fit-requires : tie.Need-labels-fit-requires
+labels-fit-requires c κs = search needs
 
 returns : tie.Need-returns
 returns c =
     let start = c .before .before .before .args in
-    second-counted (start .n) (start .p .now) (omega arith) (c .before .first-again .ensures) (c .if1 .taken)
+    sym (fit-passes (start .n) (map labelOf (drop 1 (start .p .now))) (sym (c .before .labels-fit .ensures) ∙ c .if1 .taken))
 
-first-again-requires-2 : tie.Need-first-again-requires-2
-first-again-requires-2 c κs = search needs
-
-cast-t10 : tie.Need-cast-t10
-cast-t10 c = search needs
-
-add-t11 : tie.Need-add-t11
-add-t11 c = search needs
+label-fault-requires : tie.Need-label-fault-requires
+label-fault-requires c κs = (sym (c .before .labels-fit .ensures) ∙ c .if1 .left, omega arith)
 
 returns-2 : tie.Need-returns-2
-returns-2 c =
-    let first = c .before .before .before in
-    let start = first .before .before .args in
-    repeated-key (start .n) (start .p .now) (omega arith) (first .first-again .ensures) (c .before .before .if1 .left) (c .before .first-again2 .ensures) (c .if2 .taken)
-
-first-high-requires : tie.Need-first-high-requires
-first-high-requires c κs = search needs
-
-cast-t12 : tie.Need-cast-t12
-cast-t12 c = search needs
-
-add-t13 : tie.Need-add-t13
-add-t13 c = search needs
-
-returns-3 : tie.Need-returns-3
-returns-3 c =
-    let second = c .before .before .before in
-    let first = second .before .before in
-    let start = first .before .before .args in
-    first-high (start .n) (start .p .now) (omega arith) (first .first-again .ensures) (second .before .if1 .left) (second .first-again2 .ensures) (c .before .before .if2 .left) (c .before .first-high .ensures) (c .if3 .taken)
-
-each-once-requires : tie.Need-each-once-requires
-each-once-requires c κs = search needs
-
-returns-4 : tie.Need-returns-4
-returns-4 c =
-    let high = c .before .before .before in
-    let second = high .before .before in
-    let first = second .before .before in
-    let start = first .before .before .args in
-    labels-fit (start .n) (start .p .now) (omega arith) (first .first-again .ensures) (second .before .if1 .left) (second .first-again2 .ensures) (high .before .if2 .left) (high .first-high .ensures) (c .before .before .if3 .left)
-    (sym (c .before .each-once .ensures) ∙ c .if4 .taken)
-
-returns-5 : tie.Need-returns-5
-returns-5 c =
-    let high = c .before .before .before in
-    let second = high .before .before in
-    let first = second .before .before in
-    let start = first .before .before .args in
-    missing-key (start .n) (start .p .now) (omega arith) (first .first-again .ensures) (second .before .if1 .left) (second .first-again2 .ensures) (high .before .if2 .left) (high .first-high .ensures) (c .before .before .if3 .left)
-    (sym (c .before .each-once .ensures) ∙ c .if4 .left)
+returns-2 c = c .label-fault .ensures
 
 pub label-fields-spec : {M : Type 1} → statement M
 label-fields-spec =
-    tie.close
-    (tie.spec
-    first-again-requires
-    cast-t8
-    add-t9
-    returns
-    first-again-requires-2
-    cast-t10
-    add-t11
-    returns-2
-    first-high-requires
-    cast-t12
-    add-t13
-    returns-3
-    each-once-requires
-    returns-4
-    returns-5)
+    tie.close (tie.spec labels-fit-requires returns label-fault-requires returns-2)
