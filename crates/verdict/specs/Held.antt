@@ -1,7 +1,7 @@
 -- How the code holds rows, moments and answers; and a literal, so bound, as a row of bytes, with a test of which facts it is about that
 -- lists no facts. That it says what the facts of the literal over the chosen objects say is proved in proofs/Patterns. Assumes nothing.
 use mathlib.Core.Path.{_≡_}
-use mathlib.Core.Bool.{Bool, cond, _&&_}
+use mathlib.Core.Bool.{Bool, true, false, cond, not, _&&_}
 use mathlib.Core.List.{List, _∷_, _++_, map}
 use Prim.Native.Nat.{ℕ, _-_}
 use lib.Dec.{eqb}
@@ -20,6 +20,7 @@ use Rattle.classes.specs.declared.Name.{Name}
 use Rattle.verdict.specs.declared.Judgement.{Judgement}
 use Rattle.verdict.specs.declared.Spot.{Spot}
 use Rattle.verdict.specs.declared.Spot.the-variants.{Nowhere, At}
+use Rattle.verdict.specs.declared.Summary.{Summary}
 use Rattle.verdict.specs.Decision.{Row}
 use Rattle.verdict.specs.Judged.{Answer}
 use Rattle.verdict.specs.Binding.{Binding, valueOf}
@@ -40,6 +41,14 @@ rowFor i j m n e = record { action = i; class = j; moment = m; name = n; journey
 abbrev pub spotElse : Spot → Spot → Spot
 spotElse Nowhere q = q
 spotElse (At c m) q = At c m
+
+abbrev pub isNowhere : Spot → Bool
+isNowhere Nowhere = true
+isNowhere (At c m) = false
+
+-- a summary that has nothing for the decision
+abbrev pub isSilent : Summary → Bool
+isSilent s = not (s .endless) && (isNowhere (s .heavy) && (isNowhere (s .unbalanced) && (isNowhere (s .unbounded) && isNowhere (s .bounded))))
 
 -- ---- rows "in the witness's form"
 

@@ -10,7 +10,7 @@ ghost use Rattle.verdict.specs.declared.Summary.{Summary};
 ghost use Rattle.verdict.specs.Decision.{Row};
 ghost use Rattle.verdict.specs.Judged.{Answer, answerAt};
 ghost use Rattle.verdict.specs.Summaries.{summaryRows, placeIn, placeElse, notesOf, answerPlace, faultless, decideNotes};
-ghost use Rattle.verdict.specs.Held.{judgementOf, rowFor, spotElse};
+ghost use Rattle.verdict.specs.Held.{judgementOf, rowFor, spotElse, isNowhere, isSilent};
 
 // An answer: the number and three places.
 pub struct Judgement {
@@ -63,6 +63,15 @@ impl Spot {
         match self {
             Spot::At { .. } => self,
             Spot::Nowhere => other,
+        }
+    }
+
+    fn is_nowhere(self) -> bool
+        ensures { λ r. ⌜ r ≡ isNowhere self ⌝ }
+    {
+        match self {
+            Spot::At { .. } => false,
+            Spot::Nowhere => true,
         }
     }
 }
@@ -139,6 +148,31 @@ impl Summary {
     }
 }
 
+impl Summary {
+    // Whether it has nothing for the decision, as of most actions.
+    fn is_silent(self) -> bool
+        ensures { λ r. ⌜ r ≡ isSilent self ⌝ }
+    {
+        let heavy = self.heavy;
+        let unbalanced = self.unbalanced;
+        let unbounded = self.unbounded;
+        let bounded = self.bounded;
+        if self.endless {
+            return false;
+        }
+        if !heavy.is_nowhere() {
+            return false;
+        }
+        if !unbalanced.is_nowhere() {
+            return false;
+        }
+        if !unbounded.is_nowhere() {
+            return false;
+        }
+        bounded.is_nowhere()
+    }
+}
+
 impl Place {
     // This place, or where it is none the spot in the action i.
     fn or_in(self, i: u8, spot: Spot) -> Place
@@ -202,8 +236,8 @@ impl Notes {
         }
     }
 
-    // The notes with the summary of one action more, the action i.
-    pub fn with(self, i: u8, summary: Summary) -> Notes
+    // The notes joined with the summary of one action more, the action i.
+    fn join(self, i: u8, summary: Summary) -> Notes
         ensures { λ r. ⌜ ((ss : List Summary) → i ≡ length ss → self ≡ notesOf ss → r ≡ notesOf (ss ++ (summary ∷ []))) ⌝ }
     {
         let heavy = self.heavy;
@@ -217,6 +251,16 @@ impl Notes {
             bounded: bounded.or_in(i, summary.bounded),
             endless: self.endless || summary.endless,
         }
+    }
+
+    // The notes with the summary of one action more, the action i.
+    pub fn with(self, i: u8, summary: Summary) -> Notes
+        ensures { λ r. ⌜ ((ss : List Summary) → i ≡ length ss → self ≡ notesOf ss → r ≡ notesOf (ss ++ (summary ∷ []))) ⌝ }
+    {
+        if summary.is_silent() {
+            return self;
+        }
+        self.join(i, summary)
     }
 
     // The decision where no moment is refused by 40 to 42.

@@ -86,8 +86,7 @@ is-lasting-requires c κs = search needs
 
 name-action-requires : tie.Need-name-action-requires Inv-loop μ-loop
 name-action-requires c κs =
-    let H = c .before .before .before .before .before .before .before .before .before .before .before .before .before .before .before
-    .before .before .pre .0 .1 in
+    let H = c .before .before .before .before .before .before .before .before .before .before .before .before .before .before .before .before .before .pre .0 .1 in
     let b = c .before .before .before .before .before .before .rows-of in
     let F = b .ensures .0 in
     let l = c .before .before .before .before .before .before .before .before .loop in
@@ -95,15 +94,11 @@ name-action-requires c κs =
     let m = H .says .actions in
     let o = F .order in
     let f = F .few in
-    let h : l .i < length (c .before .before .before .before .before .before .before .before .before .before .before .before .before .before
-    .before .before .before .pre .0 .0 .actions) = omega arith in
-    let r : length (c .before .before .before .before .before .before .before .before .before .before .before .before .before .before
-    .before .before .before .args .table .now) ≤ 4 * length (l .names) =
-    (let q = l .inv .room in let u = c .before .before .before .before .before .before .before .before .before .before .before .before
-    .before .before .before .before .before .pre .1 .1 in omega arith) in
+    let h : l .i < length (c .before .before .before .before .before .before .before .before .before .before .before .before .before .before .before .before .before .pre .0 .0 .actions) = omega arith in
+    let r : length (c .before .before .before .before .before .before .before .before .before .before .before .before .before .before .before .before .before .args .table .now) ≤ 4 * length (l .names) =
+    (let q = l .inv .room in let u = c .before .before .before .before .before .before .before .before .before .before .before .before .before .before .before .before .before .pre .1 .1 in omega arith) in
     let q = c .before .before .before .name-action-arg2 .given .1 in
-    let e = part-length (c .before .before .before .before .before .before .before .before .before .before .before .before .before .before
-    .before .before .before .args .table .now) (b .result .from) (b .result .to) o (F .room) in
+    let e = part-length (c .before .before .before .before .before .before .before .before .before .before .before .before .before .before .before .before .before .args .table .now) (b .result .from) (b .result .to) o (F .room) in
     let s = names-room H (l .i) h (b .ensures .1 _ H h) F _ (l .inv .few _ H) _ r in (
       c .before .before .before .before .before .before .before .before .before .before .before .before .put-places .ensures refl,
       (e ∙ ap (λ (n : ℕ). 8 * n) q, (omega arith, (l .inv .words-room, omega arith))),
@@ -119,29 +114,27 @@ cast-counts c =
 
 element-write-counts : tie.Need-element-write-counts Inv-loop μ-loop
 element-write-counts c =
-    let H = c .before .before .before .before .before .before .before .before .before .before .before .before .before .before .before
-    .before .before .before .before .before .before .before .before .before .pre .0 .1 in
-    let n = c .before .before .before .before .before .before .before .before .before .before .before .before .before .before .before
-    .before .actions-in .ensures in
+    let H = c .before .before .before .before .before .before .before .before .before .before .before .before .before .before .before .before .before .before .before .before .before .before .before .before .pre .0 .1 in
+    let n = c .before .before .before .before .before .before .before .before .before .before .before .before .before .before .before .before .actions-in .ensures in
     let m = H .says .actions in
     let f = H .says .bounded .actions in
     let t = c .before .before .before .before .before .before .before .before .before .before .before .before .before .before .loop-test
     .taken in
     omega arith
 
+cast-with : tie.Need-cast-with Inv-loop μ-loop
+cast-with c = let n = c .before .before .before .before .before .before .before .before .before .before .before .before .before .before .before .before .before .actions-in .ensures .1 in let t = c .before .before .before .before .before .before .before .before .before .before .before .before .before .before .before .loop-test .taken in omega arith
+
 with-requires : tie.Need-with-requires Inv-loop μ-loop
 with-requires c κs = search needs
 
 add-i : tie.Need-add-i Inv-loop μ-loop
 add-i c =
-    let H = c .before .before .before .before .before .before .before .before .before .before .before .before .before .before .before
-    .before .before .before .before .before .before .before .before .before .before .before .pre .0 .1 in
-    let n = c .before .before .before .before .before .before .before .before .before .before .before .before .before .before .before
-    .before .before .before .actions-in .ensures in
+    let H = c .before .before .before .before .before .before .before .before .before .before .before .before .before .before .before .before .before .before .before .before .before .before .before .before .before .before .pre .0 .1 in
+    let n = c .before .before .before .before .before .before .before .before .before .before .before .before .before .before .before .before .before .before .actions-in .ensures in
     let m = H .says .actions in
     let f = H .says .bounded .actions in
-    let t = c .before .before .before .before .before .before .before .before .before .before .before .before .before .before .before
-    .before .loop-test .taken in
+    let t = c .before .before .before .before .before .before .before .before .before .before .before .before .before .before .before .before .loop-test .taken in
     omega arith
 
 loop-less : tie.Need-loop-less Inv-loop μ-loop
@@ -149,15 +142,11 @@ loop-less c = search needs
 
 loop-again : tie.Need-loop-again Inv-loop μ-loop
 loop-again c =
-    let b = c .before .before .before .before .before .before .before .before .before .before .before .before .before .before .before
-    .rows-of in
+    let b = c .before .before .before .before .before .before .before .before .before .before .before .before .before .before .before .rows-of in
     let F = b .ensures .0 in
-    let l = c .before .before .before .before .before .before .before .before .before .before .before .before .before .before .before
-    .before .before .loop in
-    let n = c .before .before .before .before .before .before .before .before .before .before .before .before .before .before .before
-    .before .before .before .actions-in .ensures in
-    let t = c .before .before .before .before .before .before .before .before .before .before .before .before .before .before .before
-    .before .loop-test .taken in
+    let l = c .before .before .before .before .before .before .before .before .before .before .before .before .before .before .before .before .before .loop in
+    let n = c .before .before .before .before .before .before .before .before .before .before .before .before .before .before .before .before .before .before .actions-in .ensures in
+    let t = c .before .before .before .before .before .before .before .before .before .before .before .before .before .before .before .before .loop-test .taken in
     let w = c .before .before .before .before .before .before .before .before .name-action in
     record {
       reach = omega arith;
@@ -244,6 +233,7 @@ name-all-spec =
     name-action-requires
     cast-counts
     element-write-counts
+    cast-with
     with-requires
     add-i
     loop-less

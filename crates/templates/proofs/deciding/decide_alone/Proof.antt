@@ -35,6 +35,9 @@ summary-of-requires c κs =
     let few = c .before .before .before .actions-in .ensures .0 in
     (omega arith, c .before .before .before .before .before .before .put-places .ensures refl)
 
+cast-with : tie.Need-cast-with Inv-loop μ-loop
+cast-with c = let n = c .actions-in .ensures .1 in let t = c .loop-test .taken in omega arith
+
 with-requires : tie.Need-with-requires Inv-loop μ-loop
 with-requires c κs = search needs
 
@@ -81,6 +84,7 @@ decide-alone-spec =
     actions-in-requires
     loop-holds
     summary-of-requires
+    cast-with
     with-requires
     add-i
     loop-less

@@ -7,6 +7,9 @@ use Rattle.verdict.proofs.Place.refuse.Tie as tie
 enum-known-self : tie.Need-enum-known-self
 enum-known-self c = search needs
 
+cast-t8 : tie.Need-cast-t8
+cast-t8 c = search needs
+
 cast-t9 : tie.Need-cast-t9
 cast-t9 c = search needs
 
@@ -28,4 +31,4 @@ returns-2 c a e = refused-not _ _ a (c .enum-told .given .1) e
 pub refuse-spec : {M : Type 1} → statement M
 refuse-spec =
     tie.close
-    (tie.spec enum-known-self cast-t9 moment-number-requires cast-t11 enum-told returns returns-2)
+    (tie.spec enum-known-self cast-t8 cast-t9 moment-number-requires cast-t11 enum-told returns returns-2)
