@@ -127,13 +127,22 @@ fn missing(root: &Path, text: &str) -> (Vec<String>, usize) {
     (lacking, tried)
 }
 
-/// The labels of all must-fail edits.
-fn labels(root: &Path) -> Vec<String> {
-    let edits = fs::read_dir(root.join("crates"))
-        .expect("crates")
-        .flat_map(|c| fs::read_dir(c.expect("a crate").path().join("must-fail")).into_iter().flatten());
-    let name = |e: fs::DirEntry| Some(e.file_name().to_str()?.strip_suffix(".edit")?.to_string());
-    edits.filter_map(|e| name(e.expect("an edit"))).collect()
+/// The must-fail edits: of each its crate and the names of its wrongs, the lines "# wrong NAME: ..".
+fn edits(root: &Path) -> Vec<(String, Vec<String>)> {
+    let mut edits = Vec::new();
+    for entry in fs::read_dir(root.join("crates")).expect("crates") {
+        let krate = entry.expect("a crate");
+        for entry in fs::read_dir(krate.path().join("must-fail")).into_iter().flatten() {
+            let path = entry.expect("an edit").path();
+            if path.extension().is_some_and(|ending| ending == "edit") {
+                let text = fs::read_to_string(path).expect("an edit");
+                let names = text.lines().filter_map(|line| line.strip_prefix("# wrong ")?.split_once(':'));
+                let names = names.map(|(name, _)| name.to_string()).collect();
+                edits.push((krate.file_name().into_string().expect("a name"), names));
+            }
+        }
+    }
+    edits
 }
 
 #[test]
@@ -149,22 +158,26 @@ fn what_is_cited_is_there() {
 #[test]
 fn edits_are_there() {
     let root = root();
-    let (labels, text) = (labels(&root), read(&root, SENTENCES));
-    let edits = cited(&text, &["edit", "edits"]);
-    for name in &edits {
-        assert!(labels.iter().any(|l| l == name), "{SENTENCES} cites the edit {name}, and there is none");
+    let (edits, text) = (edits(&root), read(&root, SENTENCES));
+    let names = cited(&text, &["edit", "edits"]);
+    for name in &names {
+        let there = edits.iter().any(|(_, wrongs)| wrongs.iter().any(|wrong| wrong == name));
+        assert!(there, "{SENTENCES} cites the edit {name}, and there is none");
     }
-    assert!(edits.len() >= 30, "{SENTENCES}: only {} edits are cited", edits.len());
+    assert!(names.len() >= 30, "{SENTENCES}: only {} edits are cited", names.len());
     // docs/PROOFS.md has them by crate: "verdict `passes_all`, `refuses_all`; naming `all_irrelevant`"
     let text = read(&root, PROOFS);
     let part = text.split("## Must-fail edits").nth(1).expect("the edits").split("\n## ").next().unwrap_or("");
-    assert!(part.contains(&format!("There are {}.", labels.len())), "{PROOFS}: there are {} edits", labels.len());
+    let wrongs: usize = edits.iter().map(|(_, wrongs)| wrongs.len()).sum();
+    let counted = format!("There are {}, with {wrongs} wrongs", edits.len());
+    assert!(part.contains(&counted), "{PROOFS}: {counted}");
     let mut tried = 0;
     for entry in fs::read_dir(root.join("crates")).expect("crates") {
-        let krate = entry.expect("a crate").path();
-        for name in cited(part, &[krate.file_name().and_then(|name| name.to_str()).expect("a name")]) {
+        let krate = entry.expect("a crate").file_name().into_string().expect("a name");
+        let here: Vec<&String> = edits.iter().filter(|(of, _)| *of == krate).flat_map(|(_, wrongs)| wrongs).collect();
+        for name in cited(part, &[&krate]) {
             tried += 1;
-            assert!(krate.join(format!("must-fail/{name}.edit")).exists(), "{PROOFS}: no edit {name} in {krate:?}");
+            assert!(here.iter().any(|wrong| *wrong == name), "{PROOFS}: no edit {name} in {krate}");
         }
     }
     assert!(tried >= 30, "{PROOFS}: only {tried} edits are cited");
