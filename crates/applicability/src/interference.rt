@@ -55,9 +55,10 @@ fn put_words(words: &mut [u64], memory: &[u8], n: usize)
 fn literals_meet(memory: &[u8], words: &[u64], patterns: bool, i: usize, j: usize) -> bool
     requires memory { ⌜ length (now memory) ≡ groundedBytes ⌝ }
     requires words { ⌜ length (now words) ≡ maxGround ⌝ }
-    requires literals { ⌜ (i < maxGround) × (j < maxGround) ⌝ }
-    requires worded { ⌜ (getD (now words) i 0 ≡ wordOf (groundAt (now memory) i .row))
-        × (getD (now words) j 0 ≡ wordOf (groundAt (now memory) j .row)) ⌝ }
+    requires first { ⌜ i < maxGround ⌝ }
+    requires second { ⌜ j < maxGround ⌝ }
+    requires firstword { ⌜ getD (now words) i 0 ≡ wordOf (groundAt (now memory) i .row) ⌝ }
+    requires secondword { ⌜ getD (now words) j 0 ≡ wordOf (groundAt (now memory) j .row) ⌝ }
     ensures { λ r. ⌜ (ToldByWords patterns (groundAt (now (memory .entry)) i .row) (groundAt (now (memory .entry)) j .row)
         → r ≡ patternsMeet (groundAt (now (memory .entry)) i .row) (groundAt (now (memory .entry)) j .row)) ⌝ }
 {
@@ -74,9 +75,10 @@ fn literals_meet(memory: &[u8], words: &[u64], patterns: bool, i: usize, j: usiz
 fn clashes_at(memory: &[u8], words: &[u64], patterns: bool, i: usize, j: usize) -> bool
     requires memory { ⌜ length (now memory) ≡ groundedBytes ⌝ }
     requires words { ⌜ length (now words) ≡ maxGround ⌝ }
-    requires literals { ⌜ (i < maxGround) × (j < maxGround) ⌝ }
-    requires worded { ⌜ (getD (now words) i 0 ≡ wordOf (groundAt (now memory) i .row))
-        × (getD (now words) j 0 ≡ wordOf (groundAt (now memory) j .row)) ⌝ }
+    requires first { ⌜ i < maxGround ⌝ }
+    requires second { ⌜ j < maxGround ⌝ }
+    requires firstword { ⌜ getD (now words) i 0 ≡ wordOf (groundAt (now memory) i .row) ⌝ }
+    requires secondword { ⌜ getD (now words) j 0 ≡ wordOf (groundAt (now memory) j .row) ⌝ }
     ensures { λ r. ⌜ (ToldByWords patterns (groundAt (now (memory .entry)) i .row) (groundAt (now (memory .entry)) j .row)
         → r ≡ clashes (groundAt (now (memory .entry)) i) (groundAt (now (memory .entry)) j)) ⌝ }
 {

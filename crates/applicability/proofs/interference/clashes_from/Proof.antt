@@ -26,7 +26,7 @@ clashes-at-requires : tie.Need-clashes-at-requires Inv-loop μ-loop
 clashes-at-requires c κs =
     let p = c .before .before .before .before .pre in
     let w = p .1 .1 .1 .1 in
-    (p .0, (p .1 .0, ((omega arith, omega arith), (w (c .before .before .before .before .args .i) (p .1 .1 .1 .0), w (c .before .loop .j) (omega arith)))))
+    (p .0, (p .1 .0, (omega arith, (omega arith, (w (c .before .before .before .before .args .i) (p .1 .1 .1 .0), w (c .before .loop .j) (omega arith))))))
 
 returns : tie.Need-returns Inv-loop μ-loop
 returns c T =

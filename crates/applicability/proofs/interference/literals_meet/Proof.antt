@@ -18,10 +18,10 @@ shared-slice-read-if1-2 : tie.Need-shared-slice-read-if1-2
 shared-slice-read-if1-2 c = search needs
 
 returns : tie.Need-returns
-returns c T = let p = c .before .before .before .before .before .pre .1 .1 .1 in words-meet T (p .0) (p .1) (c .if1 .taken)
+returns c T = let p = c .before .before .before .before .before .pre .1 .1 .1 .1 in words-meet T (p .0) (p .1) (c .if1 .taken)
 
 returns-2 : tie.Need-returns-2
-returns-2 c T = let p = c .before .before .before .before .before .before .pre .1 .1 .1 in words-apart T (p .0) (p .1) (c .before .if1 .left) (not-true _ (c .if2 .taken))
+returns-2 c T = let p = c .before .before .before .before .before .before .pre .1 .1 .1 .1 in words-apart T (p .0) (p .1) (c .before .if1 .left) (not-true _ (c .if2 .taken))
 
 mul-patterns-meet : tie.Need-mul-patterns-meet
 mul-patterns-meet c = search needs
