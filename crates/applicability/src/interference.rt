@@ -57,8 +57,8 @@ fn literals_meet(memory: &[u8], words: &[u64], patterns: bool, i: usize, j: usiz
     requires words { ⌜ length (now words) ≡ maxGround ⌝ }
     requires first { ⌜ i < maxGround ⌝ }
     requires second { ⌜ j < maxGround ⌝ }
-    requires firstword { ⌜ getD (now words) i 0 ≡ wordOf (groundAt (now memory) i .row) ⌝ }
-    requires secondword { ⌜ getD (now words) j 0 ≡ wordOf (groundAt (now memory) j .row) ⌝ }
+    requires first_word { ⌜ getD (now words) i 0 ≡ wordOf (groundAt (now memory) i .row) ⌝ }
+    requires second_word { ⌜ getD (now words) j 0 ≡ wordOf (groundAt (now memory) j .row) ⌝ }
     ensures { λ r. ⌜ (ToldByWords patterns (groundAt (now (memory .entry)) i .row) (groundAt (now (memory .entry)) j .row)
         → r ≡ patternsMeet (groundAt (now (memory .entry)) i .row) (groundAt (now (memory .entry)) j .row)) ⌝ }
 {
@@ -77,8 +77,8 @@ fn clashes_at(memory: &[u8], words: &[u64], patterns: bool, i: usize, j: usize) 
     requires words { ⌜ length (now words) ≡ maxGround ⌝ }
     requires first { ⌜ i < maxGround ⌝ }
     requires second { ⌜ j < maxGround ⌝ }
-    requires firstword { ⌜ getD (now words) i 0 ≡ wordOf (groundAt (now memory) i .row) ⌝ }
-    requires secondword { ⌜ getD (now words) j 0 ≡ wordOf (groundAt (now memory) j .row) ⌝ }
+    requires first_word { ⌜ getD (now words) i 0 ≡ wordOf (groundAt (now memory) i .row) ⌝ }
+    requires second_word { ⌜ getD (now words) j 0 ≡ wordOf (groundAt (now memory) j .row) ⌝ }
     ensures { λ r. ⌜ (ToldByWords patterns (groundAt (now (memory .entry)) i .row) (groundAt (now (memory .entry)) j .row)
         → r ≡ clashes (groundAt (now (memory .entry)) i) (groundAt (now (memory .entry)) j)) ⌝ }
 {
