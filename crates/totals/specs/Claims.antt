@@ -116,8 +116,8 @@ CountedApart =
 abbrev pub CountsFiles : List ℕ → ℕ → List ℕ → Type 0
 CountsFiles b number after =
     (fs : List (List ℕ)) → opened b ≡ files fs → number ≡ 0
-    → ((n : ℕ) → n < countedNumbers → totalIn after n ≡ filesWith n fs)
-    × ((k : ℕ) → k < countedNames → totalIn after (countedNumbers + k) ≡ momentsWith (suc k) fs)
+    → ((n : ℕ) → n < countedNumbers → totalIn after n ≡ filesWith n fs) × ((k : ℕ) → k < countedNames
+    → totalIn after (countedNumbers + k) ≡ momentsWith (suc k) fs)
 
 -- and they add up: those of numbers to the files, those of names to the moments of the files that were read
 abbrev pub AddsUp : List ℕ → ℕ → List ℕ → Type 0
