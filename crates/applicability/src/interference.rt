@@ -23,6 +23,9 @@ ghost use Rattle.store.specs.Held.{wordOf};
 ghost use Rattle.events.specs.Held.{OverObjects, GroundLiteral, maxGround, groundedBytes, groundAt, groundIn, Laid, Grounded};
 ghost use Rattle.applicability.specs.Held.{clashing, clashes, literalsClash, WordsOf, ToldByWords, AllTold};
 
+// The word of each ground literal's fact.
+type Words = [u64; MAX_GROUND];
+
 // Whether two usages of one fact may not stand in two events: a condition with an add or delete, an add with a delete.
 fn clashing(c: u8, d: u8) -> bool
     ensures { λ r. ⌜ r ≡ clashing c d ⌝ }
@@ -52,12 +55,12 @@ fn put_words(words: &mut [u64], memory: &[u8], n: usize)
 }
 
 // Whether the rows of the ground literals i and j meet. Most are told by their words; bytes are looked at where there are patterns.
-fn literals_meet(memory: &[u8], words: &[u64], patterns: bool, i: usize, j: usize) -> bool
+fn literals_meet(memory: &[u8], words: &Words, patterns: bool, i: usize, j: usize) -> bool
     requires memory { ⌜ length (now memory) ≡ groundedBytes ⌝ }
-    requires words { ⌜ length (now words) ≡ maxGround ⌝ }
-    requires literals { ⌜ (i < maxGround) × (j < maxGround) ⌝ }
-    requires worded { ⌜ (getD (now words) i 0 ≡ wordOf (groundAt (now memory) i .row))
-        × (getD (now words) j 0 ≡ wordOf (groundAt (now memory) j .row)) ⌝ }
+    requires first { ⌜ i < maxGround ⌝ }
+    requires second { ⌜ j < maxGround ⌝ }
+    requires first_word { ⌜ getD (now words) i 0 ≡ wordOf (groundAt (now memory) i .row) ⌝ }
+    requires second_word { ⌜ getD (now words) j 0 ≡ wordOf (groundAt (now memory) j .row) ⌝ }
     ensures { λ r. ⌜ (ToldByWords patterns (groundAt (now (memory .entry)) i .row) (groundAt (now (memory .entry)) j .row)
         → r ≡ patternsMeet (groundAt (now (memory .entry)) i .row) (groundAt (now (memory .entry)) j .row)) ⌝ }
 {
@@ -71,12 +74,12 @@ fn literals_meet(memory: &[u8], words: &[u64], patterns: bool, i: usize, j: usiz
 }
 
 // Whether the ground literals i and j clash.
-fn clashes_at(memory: &[u8], words: &[u64], patterns: bool, i: usize, j: usize) -> bool
+fn clashes_at(memory: &[u8], words: &Words, patterns: bool, i: usize, j: usize) -> bool
     requires memory { ⌜ length (now memory) ≡ groundedBytes ⌝ }
-    requires words { ⌜ length (now words) ≡ maxGround ⌝ }
-    requires literals { ⌜ (i < maxGround) × (j < maxGround) ⌝ }
-    requires worded { ⌜ (getD (now words) i 0 ≡ wordOf (groundAt (now memory) i .row))
-        × (getD (now words) j 0 ≡ wordOf (groundAt (now memory) j .row)) ⌝ }
+    requires first { ⌜ i < maxGround ⌝ }
+    requires second { ⌜ j < maxGround ⌝ }
+    requires first_word { ⌜ getD (now words) i 0 ≡ wordOf (groundAt (now memory) i .row) ⌝ }
+    requires second_word { ⌜ getD (now words) j 0 ≡ wordOf (groundAt (now memory) j .row) ⌝ }
     ensures { λ r. ⌜ (ToldByWords patterns (groundAt (now (memory .entry)) i .row) (groundAt (now (memory .entry)) j .row)
         → r ≡ clashes (groundAt (now (memory .entry)) i) (groundAt (now (memory .entry)) j)) ⌝ }
 {
@@ -89,14 +92,13 @@ fn clashes_at(memory: &[u8], words: &[u64], patterns: bool, i: usize, j: usize) 
 // Whether the ground literal i clashes with one of those from `from` up to `to`.
 fn clashes_from(
     memory: &[u8],
-    words: &[u64],
+    words: &Words,
     patterns: bool,
     i: usize,
     from: usize,
     to: usize,
 ) -> bool
     requires memory { ⌜ length (now memory) ≡ groundedBytes ⌝ }
-    requires words { ⌜ length (now words) ≡ maxGround ⌝ }
     requires few { ⌜ to ≤ maxGround ⌝ }
     requires literal { ⌜ i < to ⌝ }
     requires worded { ⌜ WordsOf to (now memory) (now words) ⌝ }
@@ -116,14 +118,13 @@ fn clashes_from(
 // Whether one of the ground literals from `from` up to `to` clashes with one of those behind, up to `total`.
 fn literals_clash(
     memory: &[u8],
-    words: &[u64],
+    words: &Words,
     patterns: bool,
     from: usize,
     to: usize,
     total: usize,
 ) -> bool
     requires memory { ⌜ length (now memory) ≡ groundedBytes ⌝ }
-    requires words { ⌜ length (now words) ≡ maxGround ⌝ }
     requires few { ⌜ total ≤ maxGround ⌝ }
     requires order { ⌜ to ≤ total ⌝ }
     requires worded { ⌜ WordsOf total (now memory) (now words) ⌝ }
@@ -141,9 +142,8 @@ fn literals_clash(
 }
 
 // Whether no ground literal clashes with one of a later event. (The memory also has how many ground literals each event has.)
-fn all_apart(memory: &[u8], words: &[u64], patterns: bool, count: usize, total: usize) -> bool
+fn all_apart(memory: &[u8], words: &Words, patterns: bool, count: usize, total: usize) -> bool
     requires memory { ⌜ length (now memory) ≡ groundedBytes ⌝ }
-    requires words { ⌜ length (now words) ≡ maxGround ⌝ }
     requires count { ⌜ count ≤ maxEvents ⌝ }
     requires few { ⌜ total ≤ maxGround ⌝ }
     requires worded { ⌜ WordsOf total (now memory) (now words) ⌝ }

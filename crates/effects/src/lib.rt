@@ -37,6 +37,9 @@ const EFFECTS: usize = GROUNDED;
 
 pub const SCRATCH: usize = EFFECTS + 8 * MAX_GROUND;
 
+// A mark for each byte: whether a row has it as its first argument.
+type FirstMarks = [u8; 256];
+
 // Writes a row behind the first n.
 fn append_row(out: &mut [u8], n: usize, row: [u8; 8])
     requires { ⌜ 8 * n + 8 ≤ length (now out) ⌝ }
@@ -60,7 +63,7 @@ fn put_marks(marks: &mut [u8], rows: &[u8], m: usize)
 }
 
 // Whether one of the first m rows meets the row at an offset of the work memory.
-fn any_meets(rows: &[u8], m: usize, work: &[u8], at: usize) -> bool
+fn any_row_meets(rows: &[u8], m: usize, work: &[u8], at: usize) -> bool
     requires rows { ⌜ 8 * m ≤ length (now rows) ⌝ }
     requires row { ⌜ at + 8 ≤ length (now work) ⌝ }
     ensures { λ r. ⌜ r ≡ anyMeets (rowsIn m (now (rows .entry))) (take 8 (drop at (now (work .entry)))) ⌝ }
@@ -76,8 +79,7 @@ fn any_meets(rows: &[u8], m: usize, work: &[u8], at: usize) -> bool
 }
 
 // Whether a row with this first argument meets none of the rows whose first arguments are marked: it is no mark, and neither is FF.
-fn is_apart(marks: &[u8], first: u8) -> bool
-    requires { ⌜ length (now marks) ≡ 256 ⌝ }
+fn is_apart(marks: &FirstMarks, first: u8) -> bool
     ensures { λ r. ⌜ r ≡ isApart (now (marks .entry)) first ⌝ }
 {
     if first == 255 {
@@ -91,9 +93,8 @@ fn is_apart(marks: &[u8], first: u8) -> bool
 
 // Whether one of the first m rows, patterns among them, meets the row at an offset of the work memory. Most are told by their third byte,
 // the first argument.
-fn is_met(work: &[u8], at: usize, marks: &[u8], struck: &[u8], m: usize) -> bool
+fn is_met(work: &[u8], at: usize, marks: &FirstMarks, struck: &[u8], m: usize) -> bool
     requires row { ⌜ at + 8 ≤ length (now work) ⌝ }
-    requires marks { ⌜ length (now marks) ≡ 256 ⌝ }
     requires struck { ⌜ 8 * m ≤ length (now struck) ⌝ }
     requires marked { ⌜ Marked (now marks) (rowsIn m (now struck)) ⌝ }
     ensures { λ r. ⌜ r ≡ anyMeets (rowsIn m (now (struck .entry))) (take 8 (drop at (now (work .entry)))) ⌝ }
@@ -101,14 +102,20 @@ fn is_met(work: &[u8], at: usize, marks: &[u8], struck: &[u8], m: usize) -> bool
     if is_apart(marks, work[at + 2]) {
         return false;
     }
-    any_meets(struck, m, work, at)
+    any_row_meets(struck, m, work, at)
 }
 
 // Whether the row at an offset of the work memory is struck: where there are patterns, by rows that meet; else by equal ones. Most are
 // told by their third byte.
-fn is_struck(work: &[u8], at: usize, marks: &[u8], struck: &[u8], m: usize, patterns: bool) -> bool
+fn is_struck(
+    work: &[u8],
+    at: usize,
+    marks: &FirstMarks,
+    struck: &[u8],
+    m: usize,
+    patterns: bool,
+) -> bool
     requires row { ⌜ at + 8 ≤ length (now work) ⌝ }
-    requires marks { ⌜ length (now marks) ≡ 256 ⌝ }
     requires struck { ⌜ 8 * m ≤ length (now struck) ⌝ }
     requires marked { ⌜ Marked (now marks) (rowsIn m (now struck)) ⌝ }
     requires told { ⌜ patterns ≡ any isPattern (rowsIn m (now struck)) ⌝ }
@@ -131,7 +138,7 @@ fn struck_from(
     n: usize,
     from: usize,
     gone: usize,
-    marks: &[u8],
+    marks: &FirstMarks,
     struck: &[u8],
     m: usize,
     patterns: bool,
@@ -139,7 +146,6 @@ fn struck_from(
     requires few { ⌜ n ≤ maxFacts ⌝ }
     requires rows { ⌜ 8 * n ≤ length (now work) ⌝ }
     requires from { ⌜ from ≤ n ⌝ }
-    requires marks { ⌜ length (now marks) ≡ 256 ⌝ }
     requires struck { ⌜ 8 * m ≤ length (now struck) ⌝ }
     requires marked { ⌜ Marked (now marks) (rowsIn m (now struck)) ⌝ }
     requires once { ⌜ Once (rowsIn n (now work)) ⌝ }
@@ -185,7 +191,7 @@ fn keep_rows(
         (keptOf (rowsIn m (effectsIn (now (scratch .entry)))) (now (work .entry)) n)) ⌝ }
     ensures beside { λ _. ⌜ getD (now (index .exit)) noteAt 0 ≡ getD (now (index .entry)) noteAt 0 ⌝ }
 {
-    let mut marks = [0u8; 256];
+    let mut marks: FirstMarks = [0u8; 256];
     put_marks(&mut marks, &scratch[EFFECTS..SCRATCH], m);
     let patterns = has_pattern(&scratch[EFFECTS..SCRATCH], m);
     let mut k = 0;

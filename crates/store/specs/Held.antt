@@ -92,16 +92,16 @@ abbrev pub slots : ℕ
 slots = 4096
 
 abbrev pub wordsAt : ℕ
-wordsAt = 4096
+wordsAt = slots
 
 abbrev pub instancesAt : ℕ
-instancesAt = 8192
+instancesAt = wordsAt + slots
 
 abbrev pub noteAt : ℕ
-noteAt = 12288
+noteAt = instancesAt + slots
 
 abbrev pub factIndex : ℕ
-factIndex = 12289
+factIndex = noteAt + 1
 
 -- sums wrap at 2 ^ 56
 abbrev pub wrap : ℕ

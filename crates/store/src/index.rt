@@ -4,6 +4,7 @@ use super::keys::key_of;
 use super::rows::has_row;
 use super::rows::row_at;
 use literals::head::Head;
+use literals::limits::MAX_OBJECTS;
 use records::bytes::wide;
 ghost use mathlib.Core.Path.{_≡_};
 ghost use mathlib.Core.List.{List, [], _∷_, _++_};
@@ -13,7 +14,8 @@ ghost use Rattle.literals.specs.Decode.{byte};
 ghost use Rattle.literals.specs.Held.{rowsIn, arityIn};
 ghost use Rattle.store.specs.Held.{hasRow, slots, noteAt, factIndex, wrap, plus, wordOf, slotOf, keySlot, Indexed};
 
-const SLOTS: usize = 4096;
+// One for each two objects, so that every instance of one or two keys has its own.
+const SLOTS: usize = MAX_OBJECTS * MAX_OBJECTS;
 
 // Where the sums of the slots' words start, and the counts of instances.
 const WORDS: usize = SLOTS;
@@ -55,7 +57,7 @@ fn slot_of(row: [u8; 8]) -> usize
         + 5 * wide(row[5])
         + 7 * wide(row[6])
         + 9 * wide(row[7]);
-    64 * (mixed % 64) + wide(row[2]) % 64
+    MAX_OBJECTS * (mixed % MAX_OBJECTS) + wide(row[2]) % MAX_OBJECTS
 }
 
 // The slot of an instance.
@@ -63,7 +65,7 @@ pub fn key_slot(t: [u8; 8]) -> usize
     ensures { λ r. ⌜ (r ≡ keySlot t) × (r < slots) ⌝ }
 {
     let mixed = wide(t[1]) + 3 * wide(t[2]) + 5 * wide(t[3]) + 7 * wide(t[4]) + 9 * wide(t[5]);
-    64 * (mixed % 64) + wide(t[0]) % 64
+    MAX_OBJECTS * (mixed % MAX_OBJECTS) + wide(t[0]) % MAX_OBJECTS
 }
 
 // Whether one of the first n rows is this one, of a fact with the arity of its relation: by the index, or, where a slot has several

@@ -41,7 +41,8 @@ fn object_under(instance: &[u8], label: Label, counted: Object) -> Object
 
 // A byte of the fact that the component `c`, which has this arity, has.
 fn instance_byte(head: &Head, c: usize, arity: u8, instance: &[u8], counted: Object, i: usize) -> u8
-    requires component { ⌜ (c < maxComponents) × (arity ≤ maxArguments) ⌝ }
+    requires component { ⌜ c < maxComponents ⌝ }
+    requires arity { ⌜ arity ≤ maxArguments ⌝ }
     requires inside { ⌜ i < 8 ⌝ }
     requires instance { ⌜ 8 ≤ length (now instance) ⌝ }
     ensures { λ r. ⌜ r

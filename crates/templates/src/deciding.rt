@@ -57,8 +57,8 @@ fn keep_row(rows: &[u8], j: usize, relation: u8, kept: &mut [u8], k: usize) -> u
     k
 }
 
-// The rows that have the relation, one behind the other: how many they are.
-fn keep_rows(rows: &[u8], n: usize, relation: u8, kept: &mut [u8]) -> usize
+// Puts the rows that have the relation one behind the other: how many they are.
+fn rows_of_relation(rows: &[u8], n: usize, relation: u8, kept: &mut [u8]) -> usize
     requires rowed { ⌜ length (now rows) ≡ 8 * n ⌝ }
     requires room { ⌜ 8 * n ≤ length (now kept) ⌝ }
     ensures few { λ r. ⌜ r ≤ n ⌝ }
@@ -80,14 +80,15 @@ fn summarize(
     lasting: bool,
     relation: u8,
 ) -> Summary
-    requires rowed { ⌜ (length (now rows) ≡ 8 * n) × (n ≤ maxLiterals) ⌝ }
+    requires rowed { ⌜ length (now rows) ≡ 8 * n ⌝ }
+    requires few { ⌜ n ≤ maxLiterals ⌝ }
     requires places { ⌜ PlacesOf (now head) (now places) ⌝ }
     ensures { λ r. ⌜ ((D : Domain) (a : Action) → ActionOf D a (now (head .entry)) (now (rows .entry)) → a .lasting ≡ lasting
         → OnlyRelation D relation → r ≡ summaryOf D a) ⌝ }
 {
     if mentions(rows, n, relation) {
         let mut kept = [0u8; 8 * MAX_LITERALS];
-        let count = keep_rows(rows, n, relation, &mut kept);
+        let count = rows_of_relation(rows, n, relation, &mut kept);
         let end = 8 * count;
         let mut numbers = [0u8; MAX_LITERALS];
         let mut words = [0u64; MAX_LITERALS];

@@ -1,4 +1,5 @@
 // The payload of a component, its keys numbered from left to right.
+use literals::limits::MAX_ARGUMENTS;
 ghost use mathlib.Core.Path.{_≡_};
 ghost use Rattle.templates.specs.Held.{labelAt, payloadOf};
 
@@ -16,7 +17,7 @@ fn label_at(counted: u8, i: u8) -> u8
 }
 
 // The relation, and the labels of as many places as a relation may have.
-pub fn payload_of(relation: u8, counted: u8) -> [u8; 7]
+pub fn payload_of(relation: u8, counted: u8) -> [u8; 1 + MAX_ARGUMENTS]
     ensures { λ r. ⌜ r ≡ payloadOf relation counted ⌝ }
 {
     [

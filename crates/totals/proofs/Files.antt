@@ -17,8 +17,8 @@ use Rattle.verdict.specs.declared.Judgement.{Judgement}
 use Rattle.verdict.specs.Decision.{Row, witness}
 use Rattle.verdict.specs.Judged.{rowBytes, Answer, decidedFile, judged, reportAfter}
 use Rattle.verdict.specs.Held.{judgementOf}
-use Rattle.totals.specs.Totals.{long, wholeFile, firstFile, Opened, cutAt, files, opened, rowsOfFile, totals}
-use Rattle.totals.specs.Held.{filesOf, filesIn, oneMore, oneMoreEach, nameMark, marksOf, namesIn, Room}
+use Rattle.totals.specs.Totals.{long, wholeFile, firstFile, Opened, cutAt, files, opened, rowsOfFile, nameMark, totals}
+use Rattle.totals.specs.Held.{filesOf, filesIn, oneMore, oneMoreEach, marksOf, namesIn, Room}
 use Rattle.verdict.proofs.Known.{file-range, name-range}
 use Rattle.totals.proofs.Enough.{judged-enough}
 use Rattle.totals.proofs.Bounds.{rows-few, rows-most, witness-most}

@@ -14,8 +14,8 @@ use Rattle.records.proofs.Lists.{bool-cases, getD-in, count-map, count-none}
 use Rattle.classes.specs.Classes.{nameNumber}
 use Rattle.verdict.specs.Decision.{Row}
 use Rattle.verdict.specs.Judged.{decidedFile}
-use Rattle.totals.specs.Totals.{opened, files, rowsOfFile, allRows, filesWith, momentsWith, totals}
-use Rattle.totals.specs.Held.{oneMore, oneMoreEach, nameMark, marksOf, Room}
+use Rattle.totals.specs.Totals.{opened, files, rowsOfFile, allRows, filesWith, momentsWith, nameMark, totals}
+use Rattle.totals.specs.Held.{oneMore, oneMoreEach, marksOf, Room}
 use Rattle.verdict.proofs.Known.{file-range, name-range}
 use Rattle.totals.proofs.Counts.{total-of-number, total-of-name}
 use Rattle.totals.proofs.Answers.{totals-length}

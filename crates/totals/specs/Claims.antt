@@ -10,16 +10,16 @@ use Rattle.literals.specs.Decode.{domain, decode}
 use Rattle.verdict.specs.Decision.{witness}
 use Rattle.verdict.specs.Judged.{rowBytes, answerAt, decidedFile, judged, reportAfter}
 use Rattle.totals.specs.Totals.{Opened, cutAt, files, opened, rowsOfFile, filesWith, allRows, momentsWith, totals, lowBytes}
-use Rattle.totals.specs.Totals.{totalBytes, totalled, totalsAfter}
+use Rattle.totals.specs.Totals.{countedNumbers, countedNames, totalCount, nameMark, totalsSize, totalBytes, totalled, totalsAfter}
 
 -- ---- "Every total equals a count over the list of files by definition."
 
 abbrev pub TotalOfNumber : Type 0
-TotalOfNumber = (fs : List (List ℕ)) (n : ℕ) → n < 64 → getD (totals fs) n 0 ≡ filesWith n fs
+TotalOfNumber = (fs : List (List ℕ)) (n : ℕ) → n < countedNumbers → getD (totals fs) n 0 ≡ filesWith n fs
 
 -- the name numbers 1 to 7 stand behind the 64 numbers
 abbrev pub TotalOfName : Type 0
-TotalOfName = (fs : List (List ℕ)) (k : ℕ) → k < 7 → getD (totals fs) (64 + k) 0 ≡ momentsWith (suc k) fs
+TotalOfName = (fs : List (List ℕ)) (k : ℕ) → k < countedNames → getD (totals fs) (countedNumbers + k) 0 ≡ momentsWith (suc k) fs
 
 -- "Each file is judged as if with memory enough": what judging answers, and the rows that it writes, where the report and the witness fit
 abbrev pub JudgedEnough : Type 0
@@ -33,11 +33,11 @@ sum ns = foldr _+_ 0 ns
 
 -- "The totals of verdicts and refusals together add up to the number of files."
 abbrev pub NumbersAddUp : Type 0
-NumbersAddUp = (fs : List (List ℕ)) → sum (take 64 (totals fs)) ≡ length fs
+NumbersAddUp = (fs : List (List ℕ)) → sum (take countedNumbers (totals fs)) ≡ length fs
 
 -- and those of names to the number of moments
 abbrev pub NamesAddUp : Type 0
-NamesAddUp = (fs : List (List ℕ)) → sum (drop 64 (totals fs)) ≡ length (allRows fs)
+NamesAddUp = (fs : List (List ℕ)) → sum (drop countedNumbers (totals fs)) ≡ length (allRows fs)
 
 -- a file's number is 0, 1, 9 to 27 or 40 to 43: "so 30 and 31 are never counted"
 abbrev pub RoomNeverCounted : Type 0
@@ -82,13 +82,15 @@ abbrev pub TotalledCut : Type 0
 TotalledCut = (b out : List ℕ) (at : ℕ) → opened b ≡ cutAt at → (totalled b out ≡ answerAt 33 at) × (totalsAfter b out ≡ out)
 
 abbrev pub TotalledShort : Type 0
-TotalledShort = (b out : List ℕ) (fs : List (List ℕ)) → opened b ≡ files fs → length out < 568 → (totalled b out ≡ answerAt 30 0)
-    × (totalsAfter b out ≡ out)
+TotalledShort =
+    (b out : List ℕ) (fs : List (List ℕ)) → opened b ≡ files fs → length out < totalsSize
+    → (totalled b out ≡ answerAt 30 0) × (totalsAfter b out ≡ out)
 
 abbrev pub TotalledDone : Type 0
 TotalledDone =
-    (b out : List ℕ) (fs : List (List ℕ)) → opened b ≡ files fs → 568 ≤ length out
-    → (totalled b out ≡ answerAt 0 568) × (totalsAfter b out ≡ over (totalBytes (totals fs)) out) × (length (totalBytes (totals fs)) ≡ 568)
+    (b out : List ℕ) (fs : List (List ℕ)) → opened b ≡ files fs → totalsSize ≤ length out
+    → (totalled b out ≡ answerAt 0 totalsSize) × (totalsAfter b out ≡ over (totalBytes (totals fs)) out)
+    × (length (totalBytes (totals fs)) ≡ totalsSize)
 
 -- ---- read back from the memory
 
@@ -99,14 +101,14 @@ totalIn out n = fromBytes (take 8 (drop (8 * n) out))
 -- of a box of fewer than 2^64 bytes
 abbrev pub TotalRead : Type 0
 TotalRead =
-    (b out : List ℕ) (fs : List (List ℕ)) → opened b ≡ files fs → length b < 256 ^ 8 → 568 ≤ length out
-    → (n : ℕ) → n < 71 → totalIn (totalsAfter b out) n ≡ getD (totals fs) n 0
+    (b out : List ℕ) (fs : List (List ℕ)) → opened b ≡ files fs → length b < 256 ^ 8 → totalsSize ≤ length out
+    → (n : ℕ) → n < totalCount → totalIn (totalsAfter b out) n ≡ getD (totals fs) n 0
 
 -- boxes counted apart and added: what is written for two boxes joined is the sum of what is written for each
 abbrev pub CountedApart : Type 0
 CountedApart =
-    (b c out : List ℕ) (fs gs : List (List ℕ)) → opened b ≡ files fs → opened c ≡ files gs → length (b ++ c) < 256 ^ 8 → 568 ≤ length out
-    → (n : ℕ) → n < 71 → totalIn (totalsAfter (b ++ c) out) n ≡ totalIn (totalsAfter b out) n + totalIn (totalsAfter c out) n
+    (b c out : List ℕ) (fs gs : List (List ℕ)) → opened b ≡ files fs → opened c ≡ files gs → length (b ++ c) < 256 ^ 8
+    → totalsSize ≤ length out → (n : ℕ) → n < totalCount → totalIn (totalsAfter (b ++ c) out) n ≡ totalIn (totalsAfter b out) n + totalIn (totalsAfter c out) n
 
 -- ---- of a call: the box, the number answered, and the memory afterwards
 
@@ -114,11 +116,12 @@ CountedApart =
 abbrev pub CountsFiles : List ℕ → ℕ → List ℕ → Type 0
 CountsFiles b number after =
     (fs : List (List ℕ)) → opened b ≡ files fs → number ≡ 0
-    → ((n : ℕ) → n < 64 → totalIn after n ≡ filesWith n fs) × ((k : ℕ) → k < 7 → totalIn after (64 + k) ≡ momentsWith (suc k) fs)
+    → ((n : ℕ) → n < countedNumbers → totalIn after n ≡ filesWith n fs) × ((k : ℕ) → k < countedNames
+    → totalIn after (countedNumbers + k) ≡ momentsWith (suc k) fs)
 
 -- and they add up: those of numbers to the files, those of names to the moments of the files that were read
 abbrev pub AddsUp : List ℕ → ℕ → List ℕ → Type 0
 AddsUp b number after =
     (fs : List (List ℕ)) → opened b ≡ files fs → number ≡ 0
-    → (sum (map (λ n. totalIn after n) (numbersFrom 0 64)) ≡ length fs)
-    × (sum (map (λ k. totalIn after (63 + k)) (numbersFrom 1 7)) ≡ length (allRows fs))
+    → (sum (map (λ n. totalIn after n) (numbersFrom 0 countedNumbers)) ≡ length fs)
+    × (sum (map (λ k. totalIn after (nameMark k)) (numbersFrom 1 countedNames)) ≡ length (allRows fs))

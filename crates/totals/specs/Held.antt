@@ -1,13 +1,14 @@
 -- How the code holds a box and its totals: what opening a box answers, and totals that are counted one by one. Assumes nothing.
 use mathlib.Core.List.{List, [], _∷_, map}
-use Prim.Native.Nat.{ℕ, zero, suc, _+_, _<_}
+use Prim.Native.Nat.{ℕ, zero, suc, _+_, _*_, _<_}
 use lib.ListN.{length, getD, set}
+use Rattle.literals.specs.Decode.{maxActions, maxLiterals}
 use Rattle.classes.specs.Classes.{nameNumber}
 use Rattle.verdict.specs.Decision.{Row}
 use Rattle.verdict.specs.Judged.{decidedFile}
 use Rattle.totals.specs.declared.Opening.{Opening}
 use Rattle.totals.specs.declared.Opening.the-variants.{Whole, Cut}
-use Rattle.totals.specs.Totals.{Opened, cutAt, files, opened, rowsOfFile}
+use Rattle.totals.specs.Totals.{Opened, cutAt, files, opened, rowsOfFile, nameMark}
 
 -- ---- the box
 
@@ -35,10 +36,6 @@ abbrev pub oneMoreEach : List ℕ → List ℕ → List ℕ
 oneMoreEach ts [] = ts
 oneMoreEach ts (n ∷ ns) = oneMoreEach (oneMore ts n) ns
 
--- the place of a name's total: the seven names stand behind the 64 numbers
-abbrev pub nameMark : ℕ → ℕ
-nameMark k = 63 + k
-
 -- the places of a file: its number's, and one for each moment
 unfoldable pub marksOf : List ℕ → List ℕ
 unfolding decidedFile rowsOfFile
@@ -56,3 +53,11 @@ namesIn (a ∷ c ∷ []) = []
 namesIn (a ∷ c ∷ m ∷ []) = []
 namesIn (a ∷ c ∷ m ∷ zero ∷ l) = []
 namesIn (a ∷ c ∷ m ∷ suc k ∷ l) = suc k ∷ namesIn l
+
+-- memory that is enough for every file: a report of 4 bytes for each moment; a witness of 8 for each true condition of an action and for
+-- one fact more
+abbrev pub enoughReport : ℕ
+enoughReport = 4 * (2 * maxLiterals * maxActions)
+
+abbrev pub enoughWitness : ℕ
+enoughWitness = 8 * (maxLiterals + 1)

@@ -82,10 +82,23 @@ allRows fs = flatMap rowsOfFile fs
 abbrev pub momentsWith : ℕ → List (List ℕ) → ℕ
 momentsWith k fs = countBy (λ (r : Row). eqb k (nameNumber (r .name))) (allRows fs)
 
--- "numbers 0 to 63, then the seven names"
+-- "numbers 0 to 63, then the seven names": how many numbers, how many names, and of all
+abbrev pub countedNumbers : ℕ
+countedNumbers = 64
+
+abbrev pub countedNames : ℕ
+countedNames = 7
+
+abbrev pub totalCount : ℕ
+totalCount = countedNumbers + countedNames
+
+-- the place of a name's total: the names, of which the first is 1, stand behind the numbers
+abbrev pub nameMark : ℕ → ℕ
+nameMark k = (countedNumbers - 1) + k
+
 unfoldable pub totals : List (List ℕ) → List ℕ
 unfolding decidedFile allRows
-totals fs = map (λ n. filesWith n fs) (numbersFrom 0 64) ++ map (λ k. momentsWith k fs) (numbersFrom 1 7)
+totals fs = map (λ n. filesWith n fs) (numbersFrom 0 countedNumbers) ++ map (λ k. momentsWith k fs) (numbersFrom 1 countedNames)
 
 -- ---- the bytes: "Totals are 8 bytes, little-endian"
 
@@ -98,9 +111,9 @@ unfoldable pub totalBytes : List ℕ → List ℕ
 unfolding flatMap
 totalBytes ts = flatMap (lowBytes 8) ts
 
--- the bytes of 71 totals
+-- the bytes of all totals: 568
 abbrev pub totalsSize : ℕ
-totalsSize = 568
+totalsSize = 8 * totalCount
 
 -- "under 568 bytes gives 30, after 33"; "33 .. with the offset of that length"
 abbrev pub totalledBy : Opened → List ℕ → Answer

@@ -1,4 +1,5 @@
-// The totals while they are counted: 71 numbers, those of the numbers 0 to 63 before those of the seven names.
+// The totals while they are counted, those of the numbers before those of the names.
+use super::LAST_NUMBER;
 use super::boxes::length_at;
 use judging::judge;
 use literals::limits::MAX_ACTIONS;
@@ -9,8 +10,8 @@ ghost use Prim.Native.Nat.{ℕ, _+_, _*_, _≤_, _<_};
 ghost use lib.ListN.{length, replicate};
 ghost use Rattle.records.specs.Lists.{In};
 ghost use Rattle.records.specs.Memory.{over};
-ghost use Rattle.totals.specs.Totals.{opened, files, totals};
-ghost use Rattle.totals.specs.Held.{filesIn, oneMore, oneMoreEach, namesIn, nameMark, marksOf, Room};
+ghost use Rattle.totals.specs.Totals.{opened, files, countedNames, totalCount, nameMark, totals};
+ghost use Rattle.totals.specs.Held.{filesIn, oneMore, oneMoreEach, namesIn, marksOf, Room, enoughReport, enoughWitness};
 
 // One total is one higher.
 fn add_one(counts: &mut [u64], at: usize)
@@ -23,8 +24,8 @@ fn add_one(counts: &mut [u64], at: usize)
 
 // Counts the names in a report, up to the first row that is clear; the offset of that row.
 fn count_names(report: &[u8], counts: &mut [u64]) -> usize
-    requires totals { ⌜ length (now counts) ≡ 71 ⌝ }
-    requires names { ⌜ ((k : ℕ) → In k (namesIn (now report)) → k ≤ 7) ⌝ }
+    requires totals { ⌜ length (now counts) ≡ totalCount ⌝ }
+    requires names { ⌜ ((k : ℕ) → In k (namesIn (now report)) → k ≤ countedNames) ⌝ }
     requires room { ⌜ Room (now counts) (length (namesIn (now report))) ⌝ }
     ensures rows { λ r. ⌜ r ≡ 4 * length (namesIn (now (report .entry))) ⌝ }
     ensures counted { λ _. ⌜ now (counts .exit) ≡ oneMoreEach (now (counts .entry)) (map nameMark (namesIn (now (report .entry)))) ⌝ }
@@ -35,7 +36,7 @@ fn count_names(report: &[u8], counts: &mut [u64]) -> usize
         if name == 0 {
             return at;
         }
-        add_one(counts, 63 + name as usize);
+        add_one(counts, LAST_NUMBER + name as usize);
         at = at + 4;
     }
     at
@@ -54,10 +55,10 @@ fn clear(report: &mut [u8], end: usize)
 // Judges a file with memory enough, and counts its number and the names of its moments: none where it is refused, since judging then
 // leaves the report as it was. The report is clear before and after, so its rows end at the first that is clear; only these are cleared.
 fn count_file(file: &[u8], report: &mut [u8], witness: &mut [u8], counts: &mut [u64])
-    requires totals { ⌜ length (now counts) ≡ 71 ⌝ }
+    requires totals { ⌜ length (now counts) ≡ totalCount ⌝ }
     requires room { ⌜ Room (now counts) (1 + length (now file)) ⌝ }
-    requires rows { ⌜ 32768 ≤ length (now report) ⌝ }
-    requires facts { ⌜ 520 ≤ length (now witness) ⌝ }
+    requires rows { ⌜ enoughReport ≤ length (now report) ⌝ }
+    requires facts { ⌜ enoughWitness ≤ length (now witness) ⌝ }
     requires cleared { ⌜ now report ≡ replicate (length (now report)) 0 ⌝ }
     ensures counted { λ _. ⌜ now (counts .exit) ≡ oneMoreEach (now (counts .entry)) (marksOf (now (file .entry))) ⌝ }
     ensures cleared { λ _. ⌜ now (report .exit) ≡ replicate (length (now (report .entry))) 0 ⌝ }
@@ -71,10 +72,10 @@ fn count_file(file: &[u8], report: &mut [u8], witness: &mut [u8], counts: &mut [
 // Counts the files of a whole box, one after the other.
 fn count_all(packed: &[u8], report: &mut [u8], witness: &mut [u8], counts: &mut [u64])
     requires whole { ⌜ opened (now packed) ≡ files (filesIn (now packed)) ⌝ }
-    requires rows { ⌜ 32768 ≤ length (now report) ⌝ }
-    requires facts { ⌜ 520 ≤ length (now witness) ⌝ }
+    requires rows { ⌜ enoughReport ≤ length (now report) ⌝ }
+    requires facts { ⌜ enoughWitness ≤ length (now witness) ⌝ }
     requires cleared { ⌜ now report ≡ replicate (length (now report)) 0 ⌝ }
-    requires none { ⌜ now counts ≡ replicate 71 0 ⌝ }
+    requires none { ⌜ now counts ≡ replicate totalCount 0 ⌝ }
     ensures { λ _. ⌜ now (counts .exit) ≡ totals (filesIn (now (packed .entry))) ⌝ }
 {
     let mut at = 0;
@@ -90,7 +91,7 @@ fn count_all(packed: &[u8], report: &mut [u8], witness: &mut [u8], counts: &mut 
 // fact more.
 pub fn count_files(packed: &[u8], counts: &mut [u64])
     requires whole { ⌜ opened (now packed) ≡ files (filesIn (now packed)) ⌝ }
-    requires none { ⌜ now counts ≡ replicate 71 0 ⌝ }
+    requires none { ⌜ now counts ≡ replicate totalCount 0 ⌝ }
     ensures { λ _. ⌜ now (counts .exit) ≡ totals (filesIn (now (packed .entry))) ⌝ }
 {
     let mut report = [0u8; 4 * 2 * MAX_LITERALS * MAX_ACTIONS];

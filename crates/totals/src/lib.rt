@@ -17,8 +17,18 @@ pub enum Opening {
     Cut(usize),
 }
 
-// Of 71 totals, 8 bytes each.
-const TOTALS_SIZE: usize = 568;
+// How many numbers are counted, 0 to 63, and how many names.
+const NUMBERS: usize = 64;
+
+const NAMES: usize = 7;
+
+// The last of the numbers. The total of a name stands so many places behind it as the name's number says, which is 1 or more.
+pub const LAST_NUMBER: usize = NUMBERS - 1;
+
+// The totals of all of them, 8 bytes each.
+const TOTALS: usize = NUMBERS + NAMES;
+
+const TOTALS_SIZE: usize = 8 * TOTALS;
 
 // The totals of a box that is whole.
 fn count_whole(packed: &[u8], totals: &mut [u8], first: &mut u64) -> u64
@@ -31,10 +41,10 @@ fn count_whole(packed: &[u8], totals: &mut [u8], first: &mut u64) -> u64
         *first = 0;
         return 30;
     }
-    let mut counts = [0u64; 71];
+    let mut counts = [0u64; TOTALS];
     count_files(packed, &mut counts);
     put_totals(&counts, totals);
-    *first = 568;
+    *first = TOTALS_SIZE as u64;
     0
 }
 

@@ -70,7 +70,9 @@ fn ground_base(head: &Head, table: &[u8], i: usize, base: &mut [u8]) -> Base
 
 // One step from them: `after` gets the facts that it leaves. The index serves this step alone.
 fn step_base(head: &Head, base: &[u8], counts: Base, after: &mut [u8]) -> Alone
-    requires few { ⌜ (counts .variables ≤ maxVariables) × (counts .literals ≤ maxLiterals) × (counts .held ≤ maxLiterals) ⌝ }
+    requires variables { ⌜ counts .variables ≤ maxVariables ⌝ }
+    requires literals { ⌜ counts .literals ≤ maxLiterals ⌝ }
+    requires held { ⌜ counts .held ≤ maxLiterals ⌝ }
     requires base { ⌜ length (now base) ≡ scratchBytes ⌝ }
     requires after { ⌜ length (now after) ≡ scratchBytes ⌝ }
     requires once { ⌜ Once (rowsIn (counts .held) (effectsIn (now base))) ⌝ }

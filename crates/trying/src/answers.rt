@@ -110,7 +110,8 @@ pub fn answer_rows(
     requires few { ⌜ FewOf alone ⌝ }
     requires base { ⌜ length (now base) ≡ scratchBytes ⌝ }
     requires after { ⌜ length (now after) ≡ scratchBytes ⌝ }
-    requires rows { ⌜ (length (now rows) ≡ 8 * length (now numbers)) × (length (now numbers) ≤ maxLiterals) ⌝ }
+    requires rowed { ⌜ length (now rows) ≡ 8 * length (now numbers) ⌝ }
+    requires literals { ⌜ length (now numbers) ≤ maxLiterals ⌝ }
     requires room { ⌜ length (now made) ≡ maxLiterals ⌝ }
     ensures few { λ r. ⌜ r ≤ maxLiterals ⌝ }
     ensures answers { λ r. ⌜ ((D : Domain) (i : ℕ) → ActionOf D (action D i) (now (head .entry)) (now (rows .entry))

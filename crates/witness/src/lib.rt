@@ -156,7 +156,8 @@ fn put_open(
     m: Moment,
     out: &mut [u8],
 ) -> bool
-    requires few { ⌜ (length (now numbers) ≤ maxLiterals) × (j < maxLiterals) ⌝ }
+    requires few { ⌜ length (now numbers) ≤ maxLiterals ⌝ }
+    requires class { ⌜ j < maxLiterals ⌝ }
     requires rowed { ⌜ length (now rows) ≡ 8 * length (now numbers) ⌝ }
     ensures { λ r. ⌜ ((D : Domain) (a : Action) → ActionOf D a (now (head .entry)) (now (rows .entry))
         → now (numbers .entry) ≡ classNumbers D a
@@ -190,7 +191,8 @@ fn put_witness(
     number: u64,
     out: &mut [u8],
 ) -> bool
-    requires few { ⌜ (length (now numbers) ≤ maxLiterals) × (j < maxLiterals) ⌝ }
+    requires few { ⌜ length (now numbers) ≤ maxLiterals ⌝ }
+    requires class { ⌜ j < maxLiterals ⌝ }
     requires rowed { ⌜ length (now rows) ≡ 8 * length (now numbers) ⌝ }
     ensures { λ r. ⌜ ((D : Domain) (a : Action) → ActionOf D a (now (head .entry)) (now (rows .entry))
         → now (numbers .entry) ≡ classNumbers D a

@@ -5,30 +5,30 @@ use Rattle.effects.proofs.is_apart.Statement.{statement}
 use Rattle.effects.proofs.is_apart.Tie as tie
 
 returns : tie.Need-returns
-returns c = rw (eq-eqb (c .before .before .args .first) 255 (c .if1 .taken))
+returns c = rw (eq-eqb (c .before .args .first) 255 (c .if1 .taken))
 
-shared-slice-read-if2 : tie.Need-shared-slice-read-if2
-shared-slice-read-if2 c = search needs
+element-copy-out-if2 : tie.Need-element-copy-out-if2
+element-copy-out-if2 c = search needs
 
 returns-2 : tie.Need-returns-2
-returns-2 c = rw (ne-eqb (c .before .before .before .before .args .first) 255 (c .before .before .if1 .left), ne-eqb _ 0 (c .if2 .taken))
+returns-2 c = rw (ne-eqb (c .before .before .before .args .first) 255 (c .before .before .if1 .left), ne-eqb _ 0 (c .if2 .taken))
 
 wide-requires : tie.Need-wide-requires
 wide-requires c κs = search needs
 
-shared-slice-read-result : tie.Need-shared-slice-read-result
-shared-slice-read-result c = search needs
+element-copy-out-result : tie.Need-element-copy-out-result
+element-copy-out-result c = search needs
 
 returns-3 : tie.Need-returns-3
-returns-3 c = rw (ne-eqb (c .before .before .before .before .before .before .args .first) 255 (c .before .before .before .before .if1 .left), eq-eqb _ 0 (c .before .before .if2 .left), ← c .before .wide .ensures .0)
+returns-3 c = rw (ne-eqb (c .before .before .before .before .before .args .first) 255 (c .before .before .before .before .if1 .left), eq-eqb _ 0 (c .before .before .if2 .left), ← c .before .wide .ensures .0)
 
 pub is-apart-spec : {M : Type 1} → statement M
 is-apart-spec =
     tie.close
     (tie.spec
     returns
-    shared-slice-read-if2
+    element-copy-out-if2
     returns-2
     wide-requires
-    shared-slice-read-result
+    element-copy-out-result
     returns-3)

@@ -21,13 +21,13 @@ is-apart-requires c κs = search needs
 
 returns : tie.Need-returns
 returns c =
-    let a = c .before .before .before .before .before .before .args in
-    let p = c .before .before .before .before .before .before .pre in
-    apart (a .marks .now) (rowsIn (a .m) (a .struck .now)) (take 8 (drop (a .at) (a .work .now))) (p .1 .1 .1)
+    let a = c .before .before .before .before .before .args in
+    let p = c .before .before .before .before .before .pre in
+    apart (a .marks .now) (rowsIn (a .m) (a .struck .now)) (take 8 (drop (a .at) (a .work .now))) (p .1 .1)
     (ap (isApart (a .marks .now)) (part-at 8 (a .work .now) (a .at) (p .0) 2 (omega arith)) ∙ sym (c .before .is-apart .ensures) ∙ c .if1 .taken)
 
-any-meets-requires : tie.Need-any-meets-requires
-any-meets-requires c κs = search needs
+any-row-meets-requires : tie.Need-any-row-meets-requires
+any-row-meets-requires c κs = search needs
 
 returns-2 : tie.Need-returns-2
 returns-2 c = search needs
@@ -40,5 +40,5 @@ is-met-spec =
     shared-slice-read-is-apart
     is-apart-requires
     returns
-    any-meets-requires
+    any-row-meets-requires
     returns-2)

@@ -18,10 +18,10 @@ is-met-requires c κs = search needs
 
 returns : tie.Need-returns
 returns c =
-    let a = c .before .before .before .before .before .args in
-    let p = c .before .before .before .before .before .pre in
+    let a = c .before .before .before .before .args in
+    let p = c .before .before .before .before .pre in
     c .is-met .ensures
-    ∙ sym (struck-by (rowsIn (a .m) (a .struck .now)) (take 8 (drop (a .at) (a .work .now))) (sym (p .1 .1 .1 .1) ∙ c .before .if1 .taken))
+    ∙ sym (struck-by (rowsIn (a .m) (a .struck .now)) (take 8 (drop (a .at) (a .work .now))) (sym (p .1 .1 .1) ∙ c .before .if1 .taken))
 
 add-wide : tie.Need-add-wide
 add-wide c = search needs
@@ -32,18 +32,18 @@ shared-slice-read-wide c = search needs
 wide-requires : tie.Need-wide-requires
 wide-requires c κs = search needs
 
-shared-slice-read-if2 : tie.Need-shared-slice-read-if2
-shared-slice-read-if2 c = let w = c .before .wide .ensures .1 in let p = c .before .before .before .before .before .before .before .pre .1 .0 in omega arith
+element-copy-out-if2 : tie.Need-element-copy-out-if2
+element-copy-out-if2 c = let w = c .wide .ensures .1 in omega arith
 
 returns-2 : tie.Need-returns-2
 returns-2 c =
-    let a = c .before .before .before .before .before .before .before .before .args in
-    let p = c .before .before .before .before .before .before .before .before .pre in
+    let a = c .before .before .before .before .before .before .before .args in
+    let p = c .before .before .before .before .before .before .before .pre in
     let w = c .before .before .wide .ensures .0 in
-    unmarked (a .marks .now) (rowsIn (a .m) (a .struck .now)) (take 8 (drop (a .at) (a .work .now))) (p .1 .1 .1 .0)
+    unmarked (a .marks .now) (rowsIn (a .m) (a .struck .now)) (take 8 (drop (a .at) (a .work .now))) (p .1 .1 .0)
     (ap (λ (i : ℕ). getD (a .marks .now) i 0) (part-at 8 (a .work .now) (a .at) (p .0) 2 (omega arith) ∙ sym w) ∙ c .if2 .taken)
     ∙ sym (struck-by (rowsIn (a .m) (a .struck .now)) (take 8 (drop (a .at) (a .work .now)))
-    (sym (p .1 .1 .1 .1) ∙ c .before .before .before .before .if1 .left))
+    (sym (p .1 .1 .1) ∙ c .before .before .before .before .if1 .left))
 
 row-at-requires : tie.Need-row-at-requires
 row-at-requires c κs = search needs
@@ -53,12 +53,12 @@ has-row-requires c κs = search needs
 
 returns-3 : tie.Need-returns-3
 returns-3 c =
-    let a = c .before .before .before .before .before .before .before .before .before .before .args in
-    let p = c .before .before .before .before .before .before .before .before .before .before .pre in
+    let a = c .before .before .before .before .before .before .before .before .before .args in
+    let p = c .before .before .before .before .before .before .before .before .before .pre in
     c .has-row .ensures
     ∙ ap (λ (r : List ℕ). hasRow r (rowsIn (a .m) (a .struck .now))) (c .before .row-at .ensures)
     ∙ sym (struck-by (rowsIn (a .m) (a .struck .now)) (take 8 (drop (a .at) (a .work .now)))
-    (sym (p .1 .1 .1 .1) ∙ c .before .before .before .before .before .before .if1 .left))
+    (sym (p .1 .1 .1) ∙ c .before .before .before .before .before .before .if1 .left))
 
 pub is-struck-spec : {M : Type 1} → statement M
 is-struck-spec =
@@ -69,7 +69,7 @@ is-struck-spec =
     add-wide
     shared-slice-read-wide
     wide-requires
-    shared-slice-read-if2
+    element-copy-out-if2
     returns-2
     row-at-requires
     has-row-requires

@@ -65,9 +65,6 @@ loop-holds c =
 sub-struck-from : tie.Need-sub-struck-from Inv-loop μ-loop
 sub-struck-from c = c .loop .inv .few
 
-slice-aggregate-struck-from : tie.Need-slice-aggregate-struck-from Inv-loop μ-loop
-slice-aggregate-struck-from c = search needs
-
 sub-struck-from-2 : tie.Need-sub-struck-from-2 Inv-loop μ-loop
 sub-struck-from-2 c = search needs
 
@@ -85,8 +82,7 @@ struck-from-requires c κs =
     let t = keeping-effects K (p .0) in
     let m = p .1 .1 .0 in
     let l = effects-length (c .before .before .before .loop .scratch) (filled-length (K .filled) ∙ p .1 .1 .1 .0) in
-    let g : 256 ≡ length (c .before .before .before .before .before .before .before .before .put-marks .last .0) = search needs in
-    (p .0, (p .1 .0, (K .reach, (sym g, (omega arith, (subst (λ (t : List ℕ). Marked (c .before .before .before .before .before .before .before .before .put-marks .last .0) (rowsIn (a .m) t)) (sym t) (c .before .before .before .before .before .before .before .before .put-marks .ensures), (p .1 .1 .1 .1, (gone-count K ∙ ap (λ (t : List ℕ). struckOf (rowsIn (a .m) t) (a .work .now) (c .before .before .before .loop .i)) (sym t), c .before .before .before .before .has-pattern .ensures ∙ ap (λ (t : List ℕ). any isPattern (rowsIn (a .m) t)) (sym t)))))))))
+    (p .0, (p .1 .0, (K .reach, (omega arith, (subst (λ (t : List ℕ). Marked (c .before .before .before .before .before .before .before .before .put-marks .last .0) (rowsIn (a .m) t)) (sym t) (c .before .before .before .before .before .before .before .before .put-marks .ensures), (p .1 .1 .1 .1, (gone-count K ∙ ap (λ (t : List ℕ). struckOf (rowsIn (a .m) t) (a .work .now) (c .before .before .before .loop .i)) (sym t), c .before .before .before .before .has-pattern .ensures ∙ ap (λ (t : List ℕ). any isPattern (rowsIn (a .m) t)) (sym t))))))))
 
 -- the next row that is struck, by what was struck when the loop began
 struck-now : (b : tie.After-struck-from Inv-loop μ-loop)
@@ -182,7 +178,6 @@ keep-rows-spec =
     has-pattern-requires
     loop-holds
     sub-struck-from
-    slice-aggregate-struck-from
     sub-struck-from-2
     part-struck-from-start
     part-struck-from-end

@@ -22,13 +22,13 @@ abbrev μ-loop : tie.MeasureT-loop
 
 returns : tie.Need-returns Inv-loop μ-loop
 returns c =
-    let a = c .before .before .before .before .before .args in
-    let p = c .before .before .before .before .before .pre in
-    let g = p .1 .1 .1 .1 .1 .1 .1 .0 in
+    let a = c .before .before .before .before .args in
+    let p = c .before .before .before .before .pre in
+    let g = p .1 .1 .1 .1 .1 .1 .0 in
     let t = c .if2 .taken in
     let l = length-rows 8 (a .m) (a .struck .now) in
-    all-gone (rowsIn (a .m) (a .struck .now)) (a .work .now) (a .n) (a .from) (p .1 .1 .0) (p .1 .1 .1 .1 .1 .1 .0)
-    (sym (p .1 .1 .1 .1 .1 .1 .1 .1) ∙ not-true (a .patterns) (c .before .if1 .taken)) (omega arith)
+    all-gone (rowsIn (a .m) (a .struck .now)) (a .work .now) (a .n) (a .from) (p .1 .1 .0) (p .1 .1 .1 .1 .1 .0)
+    (sym (p .1 .1 .1 .1 .1 .1 .1) ∙ not-true (a .patterns) (c .before .if1 .taken)) (omega arith)
 
 loop-holds : tie.Need-loop-holds Inv-loop μ-loop
 loop-holds c = (omega arith, omega arith, λ j a b. absurd (omega arith))
@@ -53,7 +53,7 @@ loop-less c = omega arith
 
 loop-again : tie.Need-loop-again Inv-loop μ-loop
 loop-again c =
-    let a = c .before .before .before .before .before .before .before .before .args in
+    let a = c .before .before .before .before .before .before .before .args in
     let l = c .before .before .before .loop in (
       omega arith,
       omega arith,

@@ -22,7 +22,7 @@ returns : tie.Need-returns
 returns c D a A f v R =
     let k = c .before .count-conditions in
     open-short (given (c .before .before .before .before .before .before .before .before .args .m) A
-    (c .before .before .before .before .before .before .before .before .pre .1) (c .before .before .before .usages-at .ensures .1)) R
+    (c .before .before .before .before .before .before .before .before .pre .1 .1) (c .before .before .before .usages-at .ensures .1)) R
     (k .result) (k .ensures .0) (c .before .before .before .before .before .before .before .before .args .out .now) refl (omega arith)
 
 cast-open-component : tie.Need-cast-open-component
@@ -38,7 +38,7 @@ returns-2 : tie.Need-returns-2
 returns-2 c D a A f v R =
     let k = c .before .before .before .before .count-conditions in
     let G = given (c .before .before .before .before .before .before .before .before .before .before .before .args .m) A
-    (c .before .before .before .before .before .before .before .before .before .before .before .pre .1)
+    (c .before .before .before .before .before .before .before .before .before .before .before .pre .1 .1)
     (c .before .before .before .before .before .before .usages-at .ensures .1) in
     let o = c .before .before .open-component .ensures D a A f (R .listed) in
     let l = open-inside G R (k .result) (k .ensures .0) (c .before .before .before .before .before .before .before .before .before .before .before .args .out .now) refl in
@@ -50,7 +50,7 @@ cast-class-tuple : tie.Need-cast-class-tuple
 cast-class-tuple c = search needs
 
 class-tuple-requires : tie.Need-class-tuple-requires
-class-tuple-requires c κs = let p = c .before .before .before .before .before .before .before .before .before .before .before .pre in record { rowed = omega arith; few = p .0 .0 }
+class-tuple-requires c κs = let p = c .before .before .before .before .before .before .before .before .before .before .before .pre in record { rowed = omega arith; few = p .0 }
 
 put-conditions-requires : tie.Need-put-conditions-requires
 put-conditions-requires c κs = search needs
@@ -77,7 +77,7 @@ returns-3 c D a A f v R =
     let G = given (c .before .before .before .before .before .before .before .before .before .before .before .before .before .before .before
     .before .before .before .before .before .before .before .args .m) A
     (c .before .before .before .before .before .before .before .before .before .before .before .before .before .before .before .before
-    .before .before .before .before .before .before .pre .1)
+    .before .before .before .before .before .before .pre .1 .1)
     (c .before .before .before .before .before .before .before .before .before .before .before .before .before .before .before .before
     .before .usages-at .ensures .1) in
     let g = c .before .before .before .before .before .before .before .before .before .before .before .before .before .before .if1 .left in

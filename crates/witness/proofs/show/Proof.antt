@@ -60,7 +60,7 @@ put-witness-requires c κs =
     let s = c .before .before .before .before .before .rows-of .result in
     let F = c .before .before .before .before .before .rows-of .ensures .0 in
     let l = parts-alike (c .before .before .before .before .before .before .before .before .before .before .before .before .args .table .now) (c .before .before .before .before .before .before .before .before .before .before .before .before .args .numbers .now) s F (c .before .before .before .before .before .before .before .before .before .before .before .before .pre) in
-    ((l .0, omega arith), l .1)
+    (l .0, (omega arith, l .1))
 
 same-length : tie.Need-same-length
 same-length c = search needs
@@ -97,7 +97,7 @@ put-witness-requires-2 c κs =
     let s = c .before .before .before .before .before .rows-of .result in
     let F = c .before .before .before .before .before .rows-of .ensures .0 in
     let l = parts-alike (c .before .before .before .before .before .before .before .before .before .before .before .before .args .table .now) (c .before .before .before .before .before .before .before .before .before .before .before .before .args .numbers .now) s F (c .before .before .before .before .before .before .before .before .before .before .before .before .pre) in
-    ((l .0, omega arith), l .1)
+    (l .0, (omega arith, l .1))
 
 same-length-2 : tie.Need-same-length-2
 same-length-2 c = search needs

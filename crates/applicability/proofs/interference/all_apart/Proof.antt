@@ -44,7 +44,7 @@ returns : tie.Need-returns Inv-loop μ-loop
 returns c parts e L T =
     let l = c .before .before .before .before .loop in
     let n = c .before .wide in
-    let q : length parts ≡ c .before .before .before .before .before .before .before .args .count = e in
+    let q : length parts ≡ c .before .before .before .before .before .before .args .count = e in
     let h : l .i < length parts = omega arith in
     let w = laid-within L (l .i) h (l .from) (l .inv .2 parts e L T .0) (n .result) (n .ensures .0) in
     let t = c .if1 .taken in
@@ -52,8 +52,8 @@ returns c parts e L T =
 
 literals-clash-requires : tie.Need-literals-clash-requires Inv-loop μ-loop
 literals-clash-requires c κs =
-    let p = c .before .before .before .before .before .before .before .pre in
-    (p .0, (p .1 .0, (p .1 .1 .1 .0, (c .if1 .left, p .1 .1 .1 .1))))
+    let p = c .before .before .before .before .before .before .pre in
+    (p .0, (p .1 .1 .0, (c .if1 .left, p .1 .1 .1)))
 
 returns-2 : tie.Need-returns-2 Inv-loop μ-loop
 returns-2 c parts e L T =
@@ -61,7 +61,7 @@ returns-2 c parts e L T =
     let n = c .before .before .before .wide in
     let v = l .inv .2 parts e L T in
     let clash = c .before .literals-clash in
-    let q : length parts ≡ c .before .before .before .before .before .before .before .before .before .args .count = e in
+    let q : length parts ≡ c .before .before .before .before .before .before .before .before .args .count = e in
     let h : l .i < length parts = omega arith in
     let z = laid-clash L (l .i) h (l .from) (v .0) (n .result) (n .ensures .0) (clash .result) (clash .ensures T) in
     sym (pairwise-miss parts (l .i) [] h (λ first later. not (literalsClash first later)) (z ∙ ap not (c .if2 .taken))) ∙ v .1
@@ -81,7 +81,7 @@ loop-again c =
       c .before .before .if1 .left,
       λ parts e L T.
           let v = l .inv .2 parts e L T in
-          let q : length parts ≡ c .before .before .before .before .before .before .before .before .before .args .count = e in
+          let q : length parts ≡ c .before .before .before .before .before .before .before .before .args .count = e in
           let h : l .i < length parts = omega arith in
           let z = laid-clash L (l .i) h (l .from) (v .0) (n .result) (n .ensures .0) (clash .result) (clash .ensures T) in (
             laid-end L (l .i) h (l .from) (v .0) (n .result) (n .ensures .0),
@@ -92,7 +92,7 @@ loop-again c =
 returns-3 : tie.Need-returns-3 Inv-loop μ-loop
 returns-3 c parts e L T =
     let l = c .before .loop in
-    let q : length parts ≡ c .before .before .before .before .args .count = e in
+    let q : length parts ≡ c .before .before .before .args .count = e in
     sym (pairwise-end parts (l .i) [] (λ first later. not (literalsClash first later)) (omega arith)) ∙ l .inv .2 parts e L T .1
 
 pub all-apart-spec : {M : Type 1} → statement M

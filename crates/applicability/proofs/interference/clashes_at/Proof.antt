@@ -7,11 +7,11 @@ use Rattle.applicability.proofs.interference.clashes_at.Statement.{stat
 use Rattle.applicability.proofs.interference.clashes_at.Tie as tie
 
 literals-meet-requires : tie.Need-literals-meet-requires
-literals-meet-requires c κs = c .before .before .pre
+literals-meet-requires c κs = c .before .pre
 
 returns : tie.Need-returns
 returns c T =
-    let a = c .before .before .before .before .args in
+    let a = c .before .before .before .args in
     clash-apart (groundAt (a .memory .now) (a .i)) (groundAt (a .memory .now) (a .j)) (c .before .literals-meet .ensures T)
     (not-true _ (c .if1 .taken))
 
@@ -32,7 +32,7 @@ clashing-requires c κs = search needs
 
 returns-2 : tie.Need-returns-2
 returns-2 c T =
-    let a = c .before .before .before .before .before .before .before .args in
+    let a = c .before .before .before .before .before .before .args in
     clash-meet (groundAt (a .memory .now) (a .i)) (groundAt (a .memory .now) (a .j)) (c .before .before .before .before .literals-meet .ensures T)
     (not-false _ (c .before .before .before .if1 .left)) (c .clashing .ensures)
 

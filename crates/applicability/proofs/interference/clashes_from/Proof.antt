@@ -24,18 +24,18 @@ loop-holds c T = refl
 
 clashes-at-requires : tie.Need-clashes-at-requires Inv-loop μ-loop
 clashes-at-requires c κs =
-    let p = c .before .before .before .before .pre in
-    let w = p .1 .1 .1 .1 in
-    (p .0, (p .1 .0, ((omega arith, omega arith), (w (c .before .before .before .before .args .i) (p .1 .1 .1 .0), w (c .before .loop .j) (omega arith)))))
+    let p = c .before .before .before .pre in
+    let w = p .1 .1 .1 in
+    (p .0, (omega arith, (omega arith, (w (c .before .before .before .args .i) (p .1 .1 .0), w (c .before .loop .j) (omega arith)))))
 
 returns : tie.Need-returns Inv-loop μ-loop
 returns c T =
-    let a = c .before .before .before .before .before .before .args in
+    let a = c .before .before .before .before .before .args in
     let l = c .before .before .before .loop in
     let test = clashes (groundAt (a .memory .now) (a .i)) in
     let k = length-ground (a .memory .now) (a .to) in
     let h : l .j < a .to = omega arith in
-    let e = c .before .clashes-at .ensures (T (a .i) (l .j) (c .before .before .before .before .before .before .pre .1 .1 .1 .0) h) in
+    let e = c .before .clashes-at .ensures (T (a .i) (l .j) (c .before .before .before .before .before .pre .1 .1 .0) h) in
     sym (any-hit (groundIn (a .to) (a .memory .now)) (l .j) noLiteral (omega arith) test
     (ground-test (a .memory .now) (a .to) (l .j) h test (c .before .clashes-at .result) e ∙ c .if1 .taken))
     ∙ l .inv T
@@ -48,19 +48,19 @@ loop-less c = omega arith
 
 loop-again : tie.Need-loop-again Inv-loop μ-loop
 loop-again c T =
-    let a = c .before .before .before .before .before .before .args in
+    let a = c .before .before .before .before .before .args in
     let l = c .before .before .before .loop in
     let test = clashes (groundAt (a .memory .now) (a .i)) in
     let k = length-ground (a .memory .now) (a .to) in
     let h : l .j < a .to = omega arith in
-    let e = c .before .clashes-at .ensures (T (a .i) (l .j) (c .before .before .before .before .before .before .pre .1 .1 .1 .0) h) in
+    let e = c .before .clashes-at .ensures (T (a .i) (l .j) (c .before .before .before .before .before .pre .1 .1 .0) h) in
     sym (any-miss (groundIn (a .to) (a .memory .now)) (l .j) noLiteral (omega arith) test
     (ground-test (a .memory .now) (a .to) (l .j) h test (c .before .clashes-at .result) e ∙ c .if1 .left))
     ∙ l .inv T
 
 returns-2 : tie.Need-returns-2 Inv-loop μ-loop
 returns-2 c T =
-    let a = c .before .before .before .before .args in
+    let a = c .before .before .before .args in
     let l = c .before .loop in
     let k = length-ground (a .memory .now) (a .to) in
     sym (any-end (groundIn (a .to) (a .memory .now)) (l .j) noLiteral (clashes (groundAt (a .memory .now) (a .i))) (omega arith)) ∙ l .inv T

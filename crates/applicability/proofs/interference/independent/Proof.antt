@@ -25,14 +25,11 @@ put-words-requires c κs = search needs
 has-pattern-requires : tie.Need-has-pattern-requires
 has-pattern-requires c κs = let p = c .before .before .before .before .before .before .pre in omega arith
 
-slice-aggregate-all-apart : tie.Need-slice-aggregate-all-apart
-slice-aggregate-all-apart c = search needs
-
 all-apart-requires : tie.Need-all-apart-requires
 all-apart-requires c κs =
     let p = c .before .before .before .before .before .before .before .before .pre in
     let t = c .before .before .before .before .before .before .if1 .left in
-    (p .0, (search needs, (omega arith, (p .1, c .before .before .before .put-words .ensures))))
+    (p .0, (omega arith, (p .1, c .before .before .before .put-words .ensures)))
 
 returns-3 : tie.Need-returns-3
 returns-3 c D head es G k h objs some C =
@@ -49,6 +46,5 @@ independent-spec =
     slice-aggregate-put-words
     put-words-requires
     has-pattern-requires
-    slice-aggregate-all-apart
     all-apart-requires
     returns-3)

@@ -26,12 +26,12 @@ loop-holds c T = refl
 
 clashes-from-requires : tie.Need-clashes-from-requires Inv-loop μ-loop
 clashes-from-requires c κs =
-    let p = c .before .before .before .before .pre in
-    (p .0, (p .1 .0, (p .1 .1 .0, (omega arith, p .1 .1 .1 .1))))
+    let p = c .before .before .before .pre in
+    (p .0, (p .1 .0, (omega arith, p .1 .1 .1)))
 
 returns : tie.Need-returns Inv-loop μ-loop
 returns c T =
-    let a = c .before .before .before .before .before .before .args in
+    let a = c .before .before .before .before .before .args in
     let l = c .before .before .before .loop in
     let later = drop (a .to) (groundIn (a .total) (a .memory .now)) in
     let test : GroundLiteral → Bool = λ b. any (clashes b) later in
@@ -49,7 +49,7 @@ loop-less c = omega arith
 
 loop-again : tie.Need-loop-again Inv-loop μ-loop
 loop-again c T =
-    let a = c .before .before .before .before .before .before .args in
+    let a = c .before .before .before .before .before .args in
     let l = c .before .before .before .loop in
     let later = drop (a .to) (groundIn (a .total) (a .memory .now)) in
     let test : GroundLiteral → Bool = λ b. any (clashes b) later in
@@ -61,7 +61,7 @@ loop-again c T =
 
 returns-2 : tie.Need-returns-2 Inv-loop μ-loop
 returns-2 c T =
-    let a = c .before .before .before .before .args in
+    let a = c .before .before .before .args in
     let l = c .before .loop in
     let later = drop (a .to) (groundIn (a .total) (a .memory .now)) in
     let k = length-ground (a .memory .now) (a .to) in

@@ -8,20 +8,20 @@ use Rattle.applicability.proofs.interference.literals_meet.Tie as tie
 mul-if1 : tie.Need-mul-if1
 mul-if1 c = search needs
 
-shared-slice-read-if1 : tie.Need-shared-slice-read-if1
-shared-slice-read-if1 c = search needs
+element-copy-out-if1 : tie.Need-element-copy-out-if1
+element-copy-out-if1 c = search needs
 
 mul-if1-2 : tie.Need-mul-if1-2
 mul-if1-2 c = search needs
 
-shared-slice-read-if1-2 : tie.Need-shared-slice-read-if1-2
-shared-slice-read-if1-2 c = search needs
+element-copy-out-if1-2 : tie.Need-element-copy-out-if1-2
+element-copy-out-if1-2 c = search needs
 
 returns : tie.Need-returns
-returns c T = let p = c .before .before .before .before .before .pre .1 .1 .1 in words-meet T (p .0) (p .1) (c .if1 .taken)
+returns c T = let p = c .before .before .before .before .pre .1 .1 .1 in words-meet T (p .0) (p .1) (c .if1 .taken)
 
 returns-2 : tie.Need-returns-2
-returns-2 c T = let p = c .before .before .before .before .before .before .pre .1 .1 .1 in words-apart T (p .0) (p .1) (c .before .if1 .left) (not-true _ (c .if2 .taken))
+returns-2 c T = let p = c .before .before .before .before .before .pre .1 .1 .1 in words-apart T (p .0) (p .1) (c .before .if1 .left) (not-true _ (c .if2 .taken))
 
 mul-patterns-meet : tie.Need-mul-patterns-meet
 mul-patterns-meet c = search needs
@@ -40,9 +40,9 @@ literals-meet-spec =
     tie.close
     (tie.spec
     mul-if1
-    shared-slice-read-if1
+    element-copy-out-if1
     mul-if1-2
-    shared-slice-read-if1-2
+    element-copy-out-if1-2
     returns
     returns-2
     mul-patterns-meet

@@ -18,7 +18,7 @@ component-byte-requires c κs = search needs
 returns : tie.Need-returns
 returns c =
     let a = c .before .before .before .args in
-    instance-first (a .arity) (a .counted .0) (take 8 (a .instance .now)) (a .head .now) (a .c) (c .before .before .before .pre .0 .1)
+    instance-first (a .arity) (a .counted .0) (take 8 (a .instance .now)) (a .head .now) (a .c) (c .before .before .before .pre .1 .0)
     (a .i) _ (omega arith) (c .component-byte .ensures)
 
 returns-2 : tie.Need-returns-2
@@ -45,7 +45,7 @@ returns-3 c =
     let o = c .object-under in
     let b : List ℕ = take 8 (a .instance .now) in
     instance-object (a .arity) (a .counted .0) b (a .head .now) (a .c)
-    (c .before .before .before .before .before .before .before .pre .0 .1) (a .i) (o .result .0)
+    (c .before .before .before .before .before .before .before .pre .1 .0) (a .i) (o .result .0)
     (λ e. omega arith) (λ e. omega arith) (omega arith)
     (ap (λ (o : Object). o .0)
     (o .ensures
@@ -55,7 +55,7 @@ returns-4 : tie.Need-returns-4
 returns-4 c =
     let a = c .before .before .before .before .args in
     instance-fill (a .arity) (a .counted .0) (take 8 (a .instance .now)) (a .head .now) (a .c)
-    (c .before .before .before .before .pre .0 .1) (a .i) (omega arith) (λ e. omega arith) (λ e. omega arith) (omega arith)
+    (c .before .before .before .before .pre .1 .0) (a .i) (omega arith) (λ e. omega arith) (λ e. omega arith) (omega arith)
 
 pub instance-byte-spec : {M : Type 1} → statement M
 instance-byte-spec =

@@ -13,11 +13,11 @@ use Rattle.templates.proofs.deciding.summarize.Tie as tie
 mentions-requires : tie.Need-mentions-requires
 mentions-requires c κs = search needs
 
-slice-aggregate-keep-rows : tie.Need-slice-aggregate-keep-rows
-slice-aggregate-keep-rows c = search needs
+slice-aggregate-rows-of-relation : tie.Need-slice-aggregate-rows-of-relation
+slice-aggregate-rows-of-relation c = search needs
 
-keep-rows-requires : tie.Need-keep-rows-requires
-keep-rows-requires c κs = search needs
+rows-of-relation-requires : tie.Need-rows-of-relation-requires
+rows-of-relation-requires c κs = search needs
 
 mul-end : tie.Need-mul-end
 mul-end c = search needs
@@ -48,15 +48,15 @@ slice-aggregate-name-action-2 c = search needs
 
 name-action-requires : tie.Need-name-action-requires
 name-action-requires c κs =
-    let k = c .before .before .before .before .before .before .keep-rows .ensures .0 in
-    (c .before .before .before .before .before .before .before .before .before .before .before .pre .1, (search needs, (search needs, (search needs, search needs))))
+    let k = c .before .before .before .before .before .before .rows-of-relation .ensures .0 in
+    (c .before .before .before .before .before .before .before .before .before .before .before .pre .1 .1, (search needs, (search needs, (search needs, search needs))))
 
 returns : tie.Need-returns
 returns c D a A l only =
     let r = c .before .before .before .before .before .before .before .before .before .before .before .before .before .before .before .before .args .relation in
-    let k = c .before .before .before .before .before .before .before .before .before .before .before .keep-rows in
+    let k = c .before .before .before .before .before .before .before .before .before .before .before .rows-of-relation in
     let z : 8 * k .result - 0 ≡ 8 * k .result = omega arith in
-    let N = narrowed-held A r (c .before .before .before .before .before .before .before .before .before .before .before .before .before .before .before .before .args .n) (c .before .before .before .before .before .before .before .before .before .before .before .before .before .before .before .before .pre .0 .0) (ap (λ (m : ℕ). take m (k .last .1 .1 .1 .0)) z ∙ k .ensures .1) in
+    let N = narrowed-held A r (c .before .before .before .before .before .before .before .before .before .before .before .before .before .before .before .before .args .n) (c .before .before .before .before .before .before .before .before .before .before .before .before .before .before .before .before .pre .0) (ap (λ (m : ℕ). take m (k .last .1 .1 .1 .0)) z ∙ k .ensures .1) in
     c .before .before .before .before .name-action .ensures .1 .1 .1 (alone D r a) (narrowed r a) N l [] (replicate 128 0) 0 (listed-empty (replicate 128 0)) .1
     ∙ summary-kept D r only a
 
@@ -67,15 +67,15 @@ returns-2 : tie.Need-returns-2
 returns-2 c D a A l only =
     let none = sym (c .before .before .mentions .ensures) ∙ c .before .if1 .left in
     c .new .ensures
-    ∙ unmentioned A (c .before .before .before .before .args .relation) (c .before .before .before .before .args .n) (c .before .before .before .before .pre .0 .0) only none
+    ∙ unmentioned A (c .before .before .before .before .args .relation) (c .before .before .before .before .args .n) (c .before .before .before .before .pre .0) only none
 
 pub summarize-spec : {M : Type 1} → statement M
 summarize-spec =
     tie.close
     (tie.spec
     mentions-requires
-    slice-aggregate-keep-rows
-    keep-rows-requires
+    slice-aggregate-rows-of-relation
+    rows-of-relation-requires
     mul-end
     sub-name-action
     part-name-action-start

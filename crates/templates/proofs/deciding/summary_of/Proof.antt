@@ -31,7 +31,7 @@ is-lasting-requires : tie.Need-is-lasting-requires
 is-lasting-requires c κs = search needs
 
 summarize-requires : tie.Need-summarize-requires
-summarize-requires c κs = search needs
+summarize-requires c κs = (search needs, (search needs, c .before .before .before .before .pre .1))
 
 returns : tie.Need-returns
 returns c D H wf h only =

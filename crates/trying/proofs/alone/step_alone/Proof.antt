@@ -18,10 +18,16 @@ step-base-requires c κs =
     let g = c .before .before .before .before .ground-base in
     let D = p .1 .0 .0 in
     let B = g .ensures .1 D (p .1 .0 .1) (p .1 .0 .2) (p .1 .0 .3) in (
-      g .ensures .0,
+      g .ensures .0 .0,
       (
-        g .kept .1 .1 .1 .0 ∙ p .1 .1 .0,
-        (p .1 .1 .1, subst Once (sym (B .held)) (once-facts (heldFacts D (a .i)) (held-once D (p .1 .0 .2) (a .i) (p .1 .0 .3)))),
+        g .ensures .0 .1,
+        (
+          g .ensures .0 .2,
+          (
+            g .kept .1 .1 .1 .0 ∙ p .1 .1 .0,
+            (p .1 .1 .1, subst Once (sym (B .held)) (once-facts (heldFacts D (a .i)) (held-once D (p .1 .0 .2) (a .i) (p .1 .0 .3)))),
+          ),
+        ),
       ),
     )
 

@@ -43,26 +43,25 @@ events-met-requires : tie.Need-events-met-requires
 events-met-requires c κs =
     let a = c .before .before .before .before .before .before .before .before .before .before .before .args in
     let p = c .before .before .before .before .before .before .before .before .before .before .before .pre in
-    let few = p .0 .1 in
-    let held = p .0 .2 in
-    let l = effects-length (a .base .now) (p .1 .0) in
-    (literals-length (a .base .now) (p .1 .0), (omega arith, (omega arith, omega arith)))
+    let few = p .1 .0 in
+    let held = p .1 .1 .0 in
+    let l = effects-length (a .base .now) (p .1 .1 .1 .0) in
+    (literals-length (a .base .now) (p .1 .1 .1 .0), (omega arith, (omega arith, omega arith)))
 
 facts-after-requires : tie.Need-facts-after-requires
 facts-after-requires c κs =
     let a = c .before .before .before .before .before .before .before .before .before .before .before .before .before .before .args in
     let p = c .before .before .before .before .before .before .before .before .before .before .before .before .before .before .pre in
-    let few = p .0 .1 in
-    let held = p .0 .2 in
-    let l = effects-length (a .base .now) (p .1 .0) in (
+    let few = p .1 .0 in
+    let held = p .1 .1 .0 in
+    let l = effects-length (a .base .now) (p .1 .1 .1 .0) in (
       omega arith,
       (
         omega arith,
         (
-          c .before .before .before .before .before .before .before .before .put-bytes .kept .0 ∙ p .1 .1 .0,
+          c .before .before .before .before .before .before .before .before .put-bytes .kept .0 ∙ p .1 .1 .1 .1 .0,
           (
-            p .1
-                .1 .1,
+            p .1 .1 .1 .1 .1,
             omega arith,
           ),
         ),
@@ -80,9 +79,9 @@ returns c =
     .before .before .pre in
     let x = c .before .before .facts-after in
     let copy = c .before .before .before .before .before .before .before .before .before .before .before .put-bytes in
-    let same = copied (a .base .now) (a .after .now) (copy .last .0) (p .1 .0) (p .1 .1 .0) (copy .ensures) in
-    let long = x .kept .1 .1 .1 .0 ∙ copy .kept .0 ∙ p .1 .1 .0 in (
-      record { variables = p .0 .0; literals = p .0 .1; held = p .0 .2; left = x .ensures .0 .2 },
+    let same = copied (a .base .now) (a .after .now) (copy .last .0) (p .1 .1 .1 .0) (p .1 .1 .1 .1 .0) (copy .ensures) in
+    let long = x .kept .1 .1 .1 .0 ∙ copy .kept .0 ∙ p .1 .1 .1 .1 .0 in (
+      record { variables = p .0; literals = p .1 .0; held = p .1 .1 .0; left = x .ensures .0 .2 },
       λ D i wf h B.
           let objs = plainObjects D i in
           let H = B .grounded .says in

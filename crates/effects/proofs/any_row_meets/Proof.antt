@@ -1,4 +1,4 @@
--- `any_meets` meets its contract: no row before j meets this one, so the test is that of the rows from j on. Assumes nothing.
+-- `any_row_meets` meets its contract: no row before j meets this one, so the test is that of the rows from j on. Assumes nothing.
 use mathlib.Core.Path.{_≡_, sym, _∙_}
 use mathlib.Core.Bool.{Bool}
 use mathlib.Core.List.{List}
@@ -9,8 +9,8 @@ use Rattle.literals.specs.Held.{rowsIn}
 use Rattle.literals.proofs.Rows.{any-first, any-hit, any-miss, any-end}
 use Rattle.verdict.specs.Held.{patternsMeet}
 use Rattle.effects.specs.Held.{anyMeets}
-use Rattle.effects.proofs.any_meets.Statement.{statement}
-use Rattle.effects.proofs.any_meets.Tie as tie
+use Rattle.effects.proofs.any_row_meets.Statement.{statement}
+use Rattle.effects.proofs.any_row_meets.Tie as tie
 
 abbrev Inv-loop : tie.InvT-loop
 Inv-loop rows m work at j₀ j =
@@ -64,8 +64,8 @@ returns-2 c =
     let l = c .before .loop in
     sym (any-end (meets (a .work .now) (a .at)) (a .rows .now) (a .m) (l .j) (omega arith)) ∙ l .inv .1
 
-pub any-meets-spec : {M : Type 1} → statement M
-any-meets-spec =
+pub any-row-meets-spec : {M : Type 1} → statement M
+any-row-meets-spec =
     tie.close
     (tie.spec
     Inv-loop

@@ -1,12 +1,12 @@
--- `keep_rows` meets its contract: of the rows before j those with the relation are kept. Assumes nothing.
+-- `rows_of_relation` meets its contract: of the rows before j those with the relation are kept. Assumes nothing.
 use mathlib.Core.Path.{_≡_, ap, _∙_}
 use Prim.Native.Nat.{_-_, _≤_}
 use native.Mathlib.Omega.{arith}
 use borrow.Author.Needs.{needs}
 use Rattle.templates.specs.Held.{rowsOfRelation}
 use Rattle.templates.proofs.Narrowed.{Keeping, keeping-none, keeping-length, keeping-all, keeping-more}
-use Rattle.templates.proofs.deciding.keep_rows.Statement.{statement}
-use Rattle.templates.proofs.deciding.keep_rows.Tie as tie
+use Rattle.templates.proofs.deciding.rows_of_relation.Statement.{statement}
+use Rattle.templates.proofs.deciding.rows_of_relation.Tie as tie
 
 abbrev Inv-loop : tie.InvT-loop
 Inv-loop rows n relation kept₀ k₀ j₀ kept k j = (j ≤ n) × Keeping rows relation kept₀ kept k j
@@ -54,8 +54,8 @@ returns c =
     let e : l .j ≡ a .n = omega arith in
     (omega arith, keeping-all (l .inv .1) ∙ ap (rowsOfRelation (a .rows .now) (a .relation)) e)
 
-pub keep-rows-spec : {M : Type 1} → statement M
-keep-rows-spec =
+pub rows-of-relation-spec : {M : Type 1} → statement M
+rows-of-relation-spec =
     tie.close
     (tie.spec
     Inv-loop
