@@ -2,11 +2,12 @@
 // elsewhere is known by this number; its key tuple is that of the first literal with it.
 use literals::head::Head;
 use literals::head::components_in;
+use literals::head::keys_in;
 use literals::keys::KeyPlaces;
-use literals::keys::component_by;
 use literals::keys::component_of;
 use literals::keys::key_tuple;
 use literals::keys::key_word;
+use literals::keys::marked_by;
 use records::bytes::found_or_equal;
 ghost use mathlib.Core.Path.{_≡_};
 ghost use mathlib.Core.List.{[]};
@@ -17,7 +18,7 @@ ghost use Rattle.records.specs.Lists.{any, position};
 ghost use Rattle.literals.specs.Domain.{Domain, Action};
 ghost use Rattle.literals.specs.Decode.{maxLiterals};
 ghost use Rattle.classes.specs.Classes.{classes};
-ghost use Rattle.literals.specs.Held.{keyRowsIn, keyWordsIn, PlacesOf};
+ghost use Rattle.literals.specs.Held.{keysIn, keyRowsIn, keyWordsIn, PlacesOf};
 ghost use Rattle.classes.specs.Held.{ActionOf, Sides, numberedBy, wordsAfter, classNumbers, tupleRow, onlyRow};
 
 // The number of a literal's class, FF where it does not match, and the number of classes with it.
@@ -39,14 +40,17 @@ fn any_word(words: &[u64], n: usize, word: u64) -> bool
     found
 }
 
-// The number of the first of n classes whose key tuple has this word, or n.
+// The number of the first of n classes whose key tuple has this word, or n. Of more than four classes all are looked at first, several at
+// once: most literals of a new class are told by that, and of few classes it costs more than it saves.
 fn class_of(words: &[u64], n: usize, word: u64) -> usize
     requires words { ⌜ n ≤ length (now words) ⌝ }
     requires few { ⌜ n ≤ maxLiterals ⌝ }
     ensures { λ r. ⌜ r ≡ position (eqb word) (take n (now (words .entry))) ⌝ }
 {
-    if !any_word(words, n, word) {
-        return n;
+    if 4 < n {
+        if !any_word(words, n, word) {
+            return n;
+        }
     }
     let mut c = 0;
     while c < n {
@@ -61,12 +65,14 @@ fn class_of(words: &[u64], n: usize, word: u64) -> usize
 // The class of the literal whose row is at `at`; `words` has the key tuples of the `count` classes so far, and gets that of a new one.
 fn number_literal(
     head: &Head,
+    keys: usize,
     places: &KeyPlaces,
     rows: &[u8],
     at: usize,
     words: &mut [u64],
     count: usize,
 ) -> NumberedLiteral
+    requires keys { ⌜ keys ≡ keysIn (now head) ⌝ }
     requires places { ⌜ PlacesOf (now head) (now places) ⌝ }
     requires room { ⌜ (at + 8 ≤ length (now rows)) × (count < length (now words)) × (length (now words) ≡ maxLiterals) ⌝ }
     ensures number { λ r. ⌜ r
@@ -74,11 +80,11 @@ fn number_literal(
     ensures words { λ _. ⌜ now (words .exit)
         ≡ wordsAfter (keyWordsIn (now (head .entry)) (take 8 (drop at (now (rows .entry))))) count (now (words .entry)) ⌝ }
 {
-    let c = component_by(head, places, rows[at + 1]);
-    if c == components_in(head) {
+    let marked = marked_by(head, places, rows[at + 1]);
+    if marked == 0 {
         return NumberedLiteral { class: 255, count };
     }
-    let word = key_word(head, places, c, rows, at);
+    let word = key_word(head, keys, places, marked - 1, rows, at);
     let class = class_of(words, count, word);
     if class == count {
         words[count] = word;
@@ -110,9 +116,10 @@ pub fn number_classes(
     ensures classes { λ r. ⌜ ((D : Domain) (a : Action) → ActionOf D a (now (head .entry)) (now (rows .entry))
         → (r ≡ length (classes D a)) × (now (numbers .exit) ≡ classNumbers D a)) ⌝ }
 {
+    let keys = keys_in(head);
     let mut count: usize = 0;
     for j in 0..numbers.len() {
-        let o = number_literal(head, places, rows, 8 * j, words, count);
+        let o = number_literal(head, keys, places, rows, 8 * j, words, count);
         numbers[j] = o.class;
         count = o.count;
     }

@@ -36,7 +36,7 @@ pub components-few : (head : List ℕ) → componentsIn head ≤ 16
 unfolding componentsIn
 components-few head = within-few 16 (getD head 2 0)
 
-keys-few : (head : List ℕ) → keysIn head ≤ 6
+pub keys-few : (head : List ℕ) → keysIn head ≤ 6
 unfolding keysIn
 keys-few head = within-few 6 (getD head 3 0)
 
@@ -133,26 +133,35 @@ module _ (places part : List ℕ) (c : ℕ) where
           ∙ sym (ap (λ (b : Bool). cond b (c + 1) (getD places r 0)) t)
 
 -- what a mark says
-marked-cases : (n c : ℕ) → ((marked n c ≡ 0) × (c ≡ n)) ⊎ (marked n c ≡ suc c)
+marked-cases : (n c : ℕ) → ((marked n c ≡ 0) × (c ≡ n)) ⊎ ((marked n c ≡ suc c) × (c ≡ n → ⊥))
 marked-cases n c = go (bool-cases (eqb c n))
   where
-    go : (eqb c n ≡ true) ⊎ (eqb c n ≡ false) → ((marked n c ≡ 0) × (c ≡ n)) ⊎ (marked n c ≡ suc c)
+    go : (eqb c n ≡ true) ⊎ (eqb c n ≡ false) → ((marked n c ≡ 0) × (c ≡ n)) ⊎ ((marked n c ≡ suc c) × (c ≡ n → ⊥))
     go (inl t) = inl (ap (λ (b : Bool). cond b 0 (suc c)) t, eqb-true c n t)
-    go (inr f) = inr (ap (λ (b : Bool). cond b 0 (suc c)) f)
+    go (inr f) = inr (ap (λ (b : Bool). cond b 0 (suc c)) f, eqb-false c n f)
 
-pub mark-none : (n c m : ℕ) → m ≡ marked n c → m ≡ 0 → n ≡ c
+pub mark-none : (n c m : ℕ) → m ≡ marked n c → m ≡ 0 → c ≡ n
 mark-none n c m e z = go (marked-cases n c)
   where
-    go : ((marked n c ≡ 0) × (c ≡ n)) ⊎ (marked n c ≡ suc c) → n ≡ c
-    go (inl (q, s)) = sym s
-    go (inr q) = absurd (omega arith)
+    go : ((marked n c ≡ 0) × (c ≡ n)) ⊎ ((marked n c ≡ suc c) × (c ≡ n → ⊥)) → c ≡ n
+    go (inl (q, s)) = s
+    go (inr (q, s)) = absurd (omega arith)
 
-pub mark-some : (n c m : ℕ) → m ≡ marked n c → (m ≡ 0 → ⊥) → m - 1 ≡ c
+pub mark-some : (n c m : ℕ) → m ≡ marked n c → (m ≡ 0 → ⊥) → (m - 1 ≡ c) × (m - 1 ≡ n → ⊥)
 mark-some n c m e z = go (marked-cases n c)
   where
-    go : ((marked n c ≡ 0) × (c ≡ n)) ⊎ (marked n c ≡ suc c) → m - 1 ≡ c
+    go : ((marked n c ≡ 0) × (c ≡ n)) ⊎ ((marked n c ≡ suc c) × (c ≡ n → ⊥)) → (m - 1 ≡ c) × (m - 1 ≡ n → ⊥)
     go (inl (q, s)) = absurd (z (e ∙ q))
-    go (inr q) = omega arith
+    go (inr (q, s)) = (omega arith, λ h. s (omega arith))
+
+-- of the place of a component, and of how many there are, as they were read
+module _ (n p c m : ℕ) (e : c ≡ p) (f : m ≡ n) where
+  pub marks-none : c ≡ m → 0 ≡ marked n p
+  marks-none g = sym (ap (λ (b : Bool). cond b 0 (suc p)) (eq-eqb p n (sym e ∙ g ∙ f)))
+
+  pub marks-some : (c ≡ m → ⊥) → c + 1 ≡ marked n p
+  marks-some g =
+      add-one c ∙ ap (λ (k : ℕ). suc k) e ∙ sym (ap (λ (b : Bool). cond b 0 (suc p)) (ne-eqb p n (λ z. g (e ∙ z ∙ sym f))))
 
 -- ---- the places of keys
 

@@ -20,7 +20,7 @@ ghost use Rattle.records.specs.Lists.{position};
 ghost use Rattle.literals.specs.Decode.{maxRelations, maxComponents};
 ghost use Rattle.literals.specs.Domain.{key};
 ghost use Rattle.literals.specs.Held.{componentsIn, keysIn, componentRowIn, componentRowsIn, pad, starts, placeUnder, argumentAt};
-ghost use Rattle.literals.specs.Held.{WordOf, underKey, keyRow, keyWord, FirstComponents, PlacesIn, PlacesOf};
+ghost use Rattle.literals.specs.Held.{WordOf, underKey, keyRow, keyWord, marked, FirstComponents, PlacesIn, PlacesOf};
 
 // A byte for each relation: its component's number and 1, or 0. Then 8 bytes for each component: the place of the argument under each of
 // its keys.
@@ -173,31 +173,41 @@ pub fn put_places(head: &Head, places: &mut [u8])
     put_key_places(head, places);
 }
 
-// The number of the first component with a relation, or how many components there are, as it was worked out.
-pub fn component_by(head: &Head, places: &KeyPlaces, relation: u8) -> usize
+// The number of the first component with a relation and 1, or 0 where there is none, as it was worked out. (Of a relation that no domain
+// has it is looked for.)
+pub fn marked_by(head: &Head, places: &KeyPlaces, relation: u8) -> usize
     requires { ⌜ PlacesOf (now head) (now places) ⌝ }
-    ensures { λ r. ⌜ r ≡ position (starts relation) (componentRowsIn (now (head .entry))) ⌝ }
+    ensures { λ r. ⌜ r ≡ marked (componentsIn (now (head .entry))) (position (starts relation) (componentRowsIn (now (head .entry)))) ⌝ }
 {
     let at = wide(relation);
-    if MAX_RELATIONS <= at {
-        return component_of(head, relation);
+    if at < MAX_RELATIONS {
+        return wide(places[at]);
     }
-    let marked = wide(places[at]);
-    if marked == 0 {
-        return components_in(head);
+    let c = component_of(head, relation);
+    if c == components_in(head) {
+        return 0;
     }
-    marked - 1
+    c + 1
 }
 
-// The key tuple as one number, the byte under the last key lowest. There are at most six keys, so that it is below 2 ^ 48.
-pub fn key_word(head: &Head, places: &KeyPlaces, c: usize, rows: &[u8], at: usize) -> u64
+// The key tuple as one number, the byte under the last key lowest. There are at most six keys, so that it is below 2 ^ 48. Whoever asks
+// for many of them reads the number of keys once.
+pub fn key_word(
+    head: &Head,
+    keys: usize,
+    places: &KeyPlaces,
+    c: usize,
+    rows: &[u8],
+    at: usize,
+) -> u64
+    requires keys { ⌜ keys ≡ keysIn (now head) ⌝ }
     requires places { ⌜ PlacesOf (now head) (now places) ⌝ }
     requires row { ⌜ (c < componentsIn (now head)) × (at + 8 ≤ length (now rows)) ⌝ }
     ensures { λ r. ⌜ r ≡ keyWord (keysIn (now (head .entry))) (componentRowIn (now (head .entry)) c)
         (take 8 (drop at (now (rows .entry)))) ⌝ }
 {
     let mut word: u64 = 0;
-    for k in 0..keys_in(head) {
+    for k in 0..keys {
         let place = wide(places[MAX_RELATIONS + 8 * c + k]);
         let byte = wide(argument_byte(rows, at, place));
         word = 256 * word + byte as u64;

@@ -1,4 +1,4 @@
--- `class_of` meets its contract: where some number is the word, no number before c is, so the place is c and that from c on. Assumes nothing.
+-- `class_of` meets its contract: no number before c is the word, so the place is c and that from c on. Assumes nothing.
 use mathlib.Core.Path.{_≡_, sym, _∙_}
 use Prim.Native.Nat.{_+_, _-_, _≤_}
 use native.Mathlib.Omega.{arith}
@@ -25,23 +25,23 @@ any-word-requires c κs = search needs
 returns : tie.Need-returns Inv-loop μ-loop
 returns c =
     let a = c .before .before .before .args in
-    let none = none-found (eqb (a .word)) (take (a .n) (a .words .now)) (sym (c .before .any-word .ensures) ∙ not-true _ (c .if1 .taken)) in
+    let none = none-found (eqb (a .word)) (take (a .n) (a .words .now)) (sym (c .before .any-word .ensures) ∙ not-true _ (c .if2 .taken)) in
     sym (none ∙ length-take-le (a .n) (a .words .now) (c .before .before .before .pre .0))
 
 loop-holds : tie.Need-loop-holds Inv-loop μ-loop
 loop-holds c = (omega arith, omega arith)
 
-mul-if2 : tie.Need-mul-if2 Inv-loop μ-loop
-mul-if2 c = omega arith
+mul-if3 : tie.Need-mul-if3 Inv-loop μ-loop
+mul-if3 c = omega arith
 
-shared-slice-read-if2 : tie.Need-shared-slice-read-if2 Inv-loop μ-loop
-shared-slice-read-if2 c = omega arith
+shared-slice-read-if3 : tie.Need-shared-slice-read-if3 Inv-loop μ-loop
+shared-slice-read-if3 c = omega arith
 
 returns-2 : tie.Need-returns-2 Inv-loop μ-loop
 returns-2 c =
     let a = c .before .before .before .before .before .before .before .args in
     let l = c .before .before .before .loop in
-    sym (first-hit (eqb (a .word)) (a .words .now) (a .n) (c .before .before .before .before .before .before .before .pre .0) (l .c) (omega arith) (eq-eqb _ _ (sym (c .if2 .taken)))) ∙ l .inv .1
+    sym (first-hit (eqb (a .word)) (a .words .now) (a .n) (c .before .before .before .before .before .before .before .pre .0) (l .c) (omega arith) (eq-eqb _ _ (sym (c .if3 .taken)))) ∙ l .inv .1
 
 add-c : tie.Need-add-c Inv-loop μ-loop
 add-c c = omega arith
@@ -53,7 +53,7 @@ loop-again : tie.Need-loop-again Inv-loop μ-loop
 loop-again c =
     let a = c .before .before .before .before .before .before .before .args in
     let l = c .before .before .before .loop in
-    let next = first-miss (eqb (a .word)) (a .words .now) (a .n) (c .before .before .before .before .before .before .before .pre .0) (l .c) (omega arith) (ne-eqb _ _ (λ e. c .if2 .left (sym e))) in
+    let next = first-miss (eqb (a .word)) (a .words .now) (a .n) (c .before .before .before .before .before .before .before .pre .0) (l .c) (omega arith) (ne-eqb _ _ (λ e. c .if3 .left (sym e))) in
     (omega arith, next ∙ l .inv .1)
 
 returns-3 : tie.Need-returns-3 Inv-loop μ-loop
@@ -72,8 +72,8 @@ class-of-spec =
     any-word-requires
     returns
     loop-holds
-    mul-if2
-    shared-slice-read-if2
+    mul-if3
+    shared-slice-read-if3
     returns-2
     add-c
     loop-less

@@ -3,15 +3,19 @@ use Prim.Native.Nat.{_-_}
 use mathlib.Core.Path.{_∙_}
 use native.Mathlib.Omega.{arith}
 use lib.ListN.{length}
+use borrow.Author.Needs.{needs}
 use Rattle.classes.proofs.Numbering.{SoFar, so-far-none, so-far-more, so-far-all}
 use Rattle.classes.proofs.number.number_classes.Statement.{statement}
 use Rattle.classes.proofs.number.number_classes.Tie as tie
 
 abbrev Inv-loop : tie.InvT-loop
-Inv-loop head places rows numbers₀ words₀ count₀ j₀ j-end numbers words count j = SoFar head rows numbers₀ numbers words₀ words count j
+Inv-loop head places rows numbers₀ words₀ keys count₀ j₀ j-end numbers words count j = SoFar head rows numbers₀ numbers words₀ words count j
 
 abbrev μ-loop : tie.MeasureT-loop
-μ-loop head places rows numbers₀ words₀ count₀ j₀ j-end numbers words count j = length numbers₀ - j
+μ-loop head places rows numbers₀ words₀ keys count₀ j₀ j-end numbers words count j = length numbers₀ - j
+
+keys-in-requires : tie.Need-keys-in-requires Inv-loop μ-loop
+keys-in-requires c κs = search needs
 
 loop-holds : tie.Need-loop-holds Inv-loop μ-loop
 loop-holds c = let a = c .before .before .before .args in so-far-none (a .head .now) (a .rows .now) (a .numbers .now) (a .words .now)
@@ -23,7 +27,7 @@ number-literal-requires : tie.Need-number-literal-requires Inv-loop μ-loop
 number-literal-requires c κs =
     let w = c .before .before .loop .inv .few in
     let r = c .before .before .loop .inv .room in
-    (c .before .before .before .before .before .before .pre .0, (omega arith, omega arith, omega arith))
+    (c .keys-in .ensures .0, (c .pre .0, (omega arith, omega arith, omega arith)))
 
 slice-write-numbers : tie.Need-slice-write-numbers Inv-loop μ-loop
 slice-write-numbers c = let w = c .before .before .before .before .before .loop .inv .whole in omega arith
@@ -68,6 +72,7 @@ number-classes-spec =
     (tie.spec
     Inv-loop
     μ-loop
+    keys-in-requires
     loop-holds
     mul-number-literal
     number-literal-requires

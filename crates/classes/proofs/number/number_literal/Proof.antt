@@ -1,38 +1,37 @@
--- `number_literal` meets its contract: by the component of the literal's relation, and by the class of its key tuple. Assumes nothing.
+-- `number_literal` meets its contract: by the mark of the literal's relation, and by the class of its key tuple. Assumes nothing.
 use native.Mathlib.Omega.{arith}
 use borrow.Author.Needs.{needs}
 use mathlib.Core.Path.{refl, sym, _∙_}
+use Rattle.literals.proofs.Places.{mark-none, mark-some}
 use Rattle.classes.proofs.NewClasses.{component-le, unmatched, class-le, new-class, old-class}
 use Rattle.classes.proofs.number.number_literal.Statement.{statement}
 use Rattle.classes.proofs.number.number_literal.Tie as tie
 
-add-component-by : tie.Need-add-component-by
-add-component-by c = search needs
+add-marked-by : tie.Need-add-marked-by
+add-marked-by c = search needs
 
-shared-slice-read-component-by : tie.Need-shared-slice-read-component-by
-shared-slice-read-component-by c = search needs
+shared-slice-read-marked-by : tie.Need-shared-slice-read-marked-by
+shared-slice-read-marked-by c = search needs
 
-component-by-requires : tie.Need-component-by-requires
-component-by-requires c κs = search needs
-
-components-in-requires : tie.Need-components-in-requires
-components-in-requires c κs = search needs
+marked-by-requires : tie.Need-marked-by-requires
+marked-by-requires c κs = search needs
 
 returns : tie.Need-returns
 returns c =
-    let a = c .before .before .before .before .before .before .args in
-    unmatched (a .head .now) (a .rows .now) (a .at) (c .before .before .component-by .result)
-    (c .before .before .before .before .before .before .pre .1 .0) (c .before .before .component-by .ensures) (a .count) (a .words .now)
-    (c .if1 .taken ∙ c .before .components-in .ensures .0)
+    let a = c .args in
+    unmatched (a .head .now) (a .rows .now) (a .at) _ (c .pre .1 .1 .0) refl (a .count) (a .words .now)
+    (mark-none _ _ _ (c .marked-by .ensures) (c .if1 .taken))
+
+sub-key-word : tie.Need-sub-key-word
+sub-key-word c = search needs
 
 key-word-requires : tie.Need-key-word-requires
 key-word-requires c κs =
-    let a = c .before .before .before .before .before .before .args in
-    let h = component-le (a .head .now) (a .rows .now) (a .at) (c .before .before .component-by .result)
-    (c .before .before .before .before .before .before .pre .1 .0) (c .before .before .component-by .ensures) in
-    let n = c .before .components-in .ensures in
-    let g = c .if1 .left in
-    (c .before .before .before .before .before .before .pre .0, (omega arith, c .before .before .before .before .before .before .pre .1 .0))
+    let a = c .args in
+    let m = mark-some _ _ _ (c .marked-by .ensures) (c .if1 .left) in
+    let h = component-le (a .head .now) (a .rows .now) (a .at) _ (c .pre .1 .1 .0) (m .0) in
+    let g = m .1 in
+    (c .pre .0, (c .pre .1 .0, (omega arith, c .pre .1 .1 .0)))
 
 class-of-requires : tie.Need-class-of-requires
 class-of-requires c κs = (omega arith, omega arith)
@@ -54,21 +53,17 @@ same-length c = search needs
 
 returns-2 : tie.Need-returns-2
 returns-2 c =
-    let a = c .before .before .before .before .before .before .before .before .before .before .args in
-    new-class (a .head .now) (a .rows .now) (a .at) (c .before .before .before .before .before .before .component-by .result)
-    (c .before .before .before .before .before .before .before .before .before .before .pre .1 .0)
-    (c .before .before .before .before .before .before .component-by .ensures)
-    (λ e. c .before .before .before .before .if1 .left (e ∙ sym (c .before .before .before .before .before .components-in .ensures .0)))
-    (c .before .before .before .key-word .result) (c .before .before .before .key-word .ensures) (a .count) (a .words .now) (c .before .class-of .result) (c .before .class-of .ensures) (c .if2 .taken) _ refl
+    let a = c .args in
+    let m = mark-some _ _ _ (c .marked-by .ensures) (c .if1 .left) in
+    new-class (a .head .now) (a .rows .now) (a .at) _ (c .pre .1 .1 .0) (m .0) (m .1)
+    (c .key-word .result) (c .key-word .ensures) (a .count) (a .words .now) (c .class-of .result) (c .class-of .ensures) (c .if2 .taken) _ refl
 
 cast-t12 : tie.Need-cast-t12
 cast-t12 c =
-    let a = c .before .before .before .before .before .before .before .before .before .before .args in
-    let h = class-le (a .head .now) (a .rows .now) (a .at) (c .before .before .before .before .before .before .component-by .result)
-    (c .before .before .before .before .before .before .before .before .before .before .pre .1 .0)
-    (c .before .before .before .before .before .before .component-by .ensures)
-    (λ e. c .before .before .before .before .if1 .left (e ∙ sym (c .before .before .before .before .before .components-in .ensures .0)))
-    (c .before .before .before .key-word .result) (c .before .before .before .key-word .ensures) (a .count) (a .words .now) (c .before .class-of .result) (c .before .class-of .ensures) (omega arith) in
+    let a = c .args in
+    let m = mark-some _ _ _ (c .marked-by .ensures) (c .if1 .left) in
+    let h = class-le (a .head .now) (a .rows .now) (a .at) _ (c .pre .1 .1 .0) (m .0) (m .1)
+    (c .key-word .result) (c .key-word .ensures) (a .count) (a .words .now) (c .class-of .result) (c .class-of .ensures) (omega arith) in
     omega arith
 
 same-length-2 : tie.Need-same-length-2
@@ -76,22 +71,20 @@ same-length-2 c = search needs
 
 returns-3 : tie.Need-returns-3
 returns-3 c =
-    let a = c .before .before .before .before .before .before .before .before .before .before .args in
-    old-class (a .head .now) (a .rows .now) (a .at) (c .before .before .before .before .before .before .component-by .result)
-    (c .before .before .before .before .before .before .before .before .before .before .pre .1 .0)
-    (c .before .before .before .before .before .before .component-by .ensures)
-    (λ e. c .before .before .before .before .if1 .left (e ∙ sym (c .before .before .before .before .before .components-in .ensures .0)))
-    (c .before .before .before .key-word .result) (c .before .before .before .key-word .ensures) (a .count) (a .words .now) (c .before .class-of .result) (c .before .class-of .ensures) (c .if2 .left)
+    let a = c .args in
+    let m = mark-some _ _ _ (c .marked-by .ensures) (c .if1 .left) in
+    old-class (a .head .now) (a .rows .now) (a .at) _ (c .pre .1 .1 .0) (m .0) (m .1)
+    (c .key-word .result) (c .key-word .ensures) (a .count) (a .words .now) (c .class-of .result) (c .class-of .ensures) (c .if2 .left)
 
 pub number-literal-spec : {M : Type 1} → statement M
 number-literal-spec =
     tie.close
     (tie.spec
-    add-component-by
-    shared-slice-read-component-by
-    component-by-requires
-    components-in-requires
+    add-marked-by
+    shared-slice-read-marked-by
+    marked-by-requires
     returns
+    sub-key-word
     key-word-requires
     class-of-requires
     mul-words
