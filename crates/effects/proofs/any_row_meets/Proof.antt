@@ -28,12 +28,6 @@ loop-holds c =
     let a = c .before .before .args in
     (omega arith, any-first (meets (a .work .now) (a .at)) (a .rows .now) (a .m))
 
-mul-patterns-meet : tie.Need-mul-patterns-meet Inv-loop μ-loop
-mul-patterns-meet c = omega arith
-
-patterns-meet-requires : tie.Need-patterns-meet-requires Inv-loop μ-loop
-patterns-meet-requires c κs = (omega arith, omega arith)
-
 returns : tie.Need-returns Inv-loop μ-loop
 returns c =
     let a = c .before .before .before .before .before .before .args in
@@ -41,12 +35,6 @@ returns c =
     sym (any-hit (meets (a .work .now) (a .at)) (a .rows .now) (a .m) (l .j) (omega arith)
     (sym (c .before .patterns-meet .ensures) ∙ c .if1 .taken))
     ∙ l .inv .1
-
-add-j : tie.Need-add-j Inv-loop μ-loop
-add-j c = omega arith
-
-loop-less : tie.Need-loop-less Inv-loop μ-loop
-loop-less c = omega arith
 
 loop-again : tie.Need-loop-again Inv-loop μ-loop
 loop-again c =
@@ -71,10 +59,10 @@ any-row-meets-spec =
     Inv-loop
     μ-loop
     loop-holds
-    mul-patterns-meet
-    patterns-meet-requires
+    (λ c. omega arith)  -- mul-patterns-meet
+    (λ c κs. (omega arith, omega arith))  -- patterns-meet-requires
     returns
-    add-j
-    loop-less
+    (λ c. omega arith)  -- add-j
+    (λ c. omega arith)  -- loop-less
     loop-again
     returns-2)

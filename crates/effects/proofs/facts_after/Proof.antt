@@ -40,12 +40,13 @@ step-effects-requires-2 c κs =
 
 keep-rows-requires : tie.Need-keep-rows-requires
 keep-rows-requires c κs =
-    let a = c .before .before .before .before .before .before .before .before .before .before .before .before .args in
-    let p = c .before .before .before .before .before .before .before .before .before .before .before .before .pre in
+    let back8 = c .before .before .before .before .before .before .before .before in
+    let a = back8 .before .before .before .before .args in
+    let p = back8 .before .before .before .before .pre in
     let ground = groundIn (a .total) (literalsIn (a .scratch .now)) in
     let size = length-ground (literalsIn (a .scratch .now)) (a .total) in
     let total = p .1 .1 .1 .1 in
-    let first = c .before .before .before .before .before .before .before .before .step-effects in
+    let first = back8 .step-effects in
     let then = c .before .before .before .before .step-effects2 in
     let T = told ground (groundIn (a .total) (literalsIn (first .last .0))) (first .result) (then .result) (effectsIn (first .last .0))
     (effectsIn (then .last .0)) (omega arith) (ap (groundIn (a .total)) (first .ensures .1 .1)) (first .ensures .0) (first .ensures .1 .0)
@@ -56,15 +57,15 @@ keep-rows-requires c κs =
 
 sub-join-rows : tie.Need-sub-join-rows
 sub-join-rows c =
-    let a = c .before .before .before .before .before .before .before .before .before .before .before .before .before .before .before
-    .before .args in
-    let p = c .before .before .before .before .before .before .before .before .before .before .before .before .before .before .before
-    .before .pre in
+    let back8 = c .before .before .before .before .before .before .before .before in
+    let back16 = back8 .before .before .before .before .before .before .before .before in
+    let a = back16 .args in
+    let p = back16 .pre in
     let ground = groundIn (a .total) (literalsIn (a .scratch .now)) in
     let size = length-ground (literalsIn (a .scratch .now)) (a .total) in
     let total = p .1 .1 .1 .1 in
-    let first = c .before .before .before .before .before .before .before .before .before .before .before .before .step-effects in
-    let then = c .before .before .before .before .before .before .before .before .step-effects2 in
+    let first = back8 .before .before .before .before .step-effects in
+    let then = back8 .step-effects2 in
     let T = told ground (groundIn (a .total) (literalsIn (first .last .0))) (first .result) (then .result) (effectsIn (first .last .0))
     (effectsIn (then .last .0)) (omega arith) (ap (groundIn (a .total)) (first .ensures .1 .1)) (first .ensures .0) (first .ensures .1 .0)
     (then .ensures .0) (then .ensures .1 .0) in
@@ -74,15 +75,15 @@ sub-join-rows c =
 
 join-rows-requires : tie.Need-join-rows-requires
 join-rows-requires c κs =
-    let a = c .before .before .before .before .before .before .before .before .before .before .before .before .before .before .before
-    .before .before .args in
-    let p = c .before .before .before .before .before .before .before .before .before .before .before .before .before .before .before
-    .before .before .pre in
+    let back8 = c .before .before .before .before .before .before .before .before in
+    let back16 = back8 .before .before .before .before .before .before .before .before in
+    let a = back16 .before .args in
+    let p = back16 .before .pre in
     let ground = groundIn (a .total) (literalsIn (a .scratch .now)) in
     let size = length-ground (literalsIn (a .scratch .now)) (a .total) in
     let total = p .1 .1 .1 .1 in
-    let first = c .before .before .before .before .before .before .before .before .before .before .before .before .before .step-effects in
-    let then = c .before .before .before .before .before .before .before .before .before .step-effects2 in
+    let first = back8 .before .before .before .before .before .step-effects in
+    let then = back8 .before .step-effects2 in
     let T = told ground (groundIn (a .total) (literalsIn (first .last .0))) (first .result) (then .result) (effectsIn (first .last .0))
     (effectsIn (then .last .0)) (omega arith) (ap (groundIn (a .total)) (first .ensures .1 .1)) (first .ensures .0) (first .ensures .1 .0)
     (then .ensures .0) (then .ensures .1 .0) in
@@ -94,21 +95,17 @@ join-rows-requires c κs =
     let n = p .0 in
     (omega arith, (omega arith, keeps .kept .1 .1 .1 .0 ∙ then .kept .0 ∙ first .kept .0 ∙ p .1 .1 .0))
 
-same-length : tie.Need-same-length
-same-length c = search needs
-
 returns : tie.Need-returns
 returns c =
-    let a = c .before .before .before .before .before .before .before .before .before .before .before .before .before .before .before
-    .before .before .before .before .before .args in
-    let p = c .before .before .before .before .before .before .before .before .before .before .before .before .before .before .before
-    .before .before .before .before .before .pre in
+    let back8 = c .before .before .before .before .before .before .before .before in
+    let back16 = back8 .before .before .before .before .before .before .before .before in
+    let a = back16 .before .before .before .before .args in
+    let p = back16 .before .before .before .before .pre in
     let ground = groundIn (a .total) (literalsIn (a .scratch .now)) in
     let size = length-ground (literalsIn (a .scratch .now)) (a .total) in
     let total = p .1 .1 .1 .1 in
-    let first = c .before .before .before .before .before .before .before .before .before .before .before .before .before .before .before
-    .before .step-effects in
-    let then = c .before .before .before .before .before .before .before .before .before .before .before .before .step-effects2 in
+    let first = back16 .step-effects in
+    let then = back8 .before .before .before .before .step-effects2 in
     let T = told ground (groundIn (a .total) (literalsIn (first .last .0))) (first .result) (then .result) (effectsIn (first .last .0))
     (effectsIn (then .last .0)) (omega arith) (ap (groundIn (a .total)) (first .ensures .1 .1)) (first .ensures .0) (first .ensures .1 .0)
     (then .ensures .0) (then .ensures .1 .0) in
@@ -156,5 +153,5 @@ facts-after-spec =
     keep-rows-requires
     sub-join-rows
     join-rows-requires
-    same-length
+    (λ c. search needs)  -- same-length
     returns)

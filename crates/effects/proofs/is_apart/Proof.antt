@@ -7,17 +7,8 @@ use Rattle.effects.proofs.is_apart.Tie as tie
 returns : tie.Need-returns
 returns c = rw (eq-eqb (c .before .args .first) 255 (c .if1 .taken))
 
-element-copy-out-if2 : tie.Need-element-copy-out-if2
-element-copy-out-if2 c = search needs
-
 returns-2 : tie.Need-returns-2
 returns-2 c = rw (ne-eqb (c .before .before .before .args .first) 255 (c .before .before .if1 .left), ne-eqb _ 0 (c .if2 .taken))
-
-wide-requires : tie.Need-wide-requires
-wide-requires c κs = search needs
-
-element-copy-out-result : tie.Need-element-copy-out-result
-element-copy-out-result c = search needs
 
 returns-3 : tie.Need-returns-3
 returns-3 c = rw (ne-eqb (c .before .before .before .before .before .args .first) 255 (c .before .before .before .before .if1 .left), eq-eqb _ 0 (c .before .before .if2 .left), ← c .before .wide .ensures .0)
@@ -27,8 +18,8 @@ is-apart-spec =
     tie.close
     (tie.spec
     returns
-    element-copy-out-if2
+    (λ c. search needs)  -- element-copy-out-if2
     returns-2
-    wide-requires
-    element-copy-out-result
+    (λ c κs. search needs)  -- wide-requires
+    (λ c. search needs)  -- element-copy-out-result
     returns-3)

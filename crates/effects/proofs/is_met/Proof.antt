@@ -10,15 +10,6 @@ use Rattle.effects.proofs.IndexedRows.{apart}
 use Rattle.effects.proofs.is_met.Statement.{statement}
 use Rattle.effects.proofs.is_met.Tie as tie
 
-add-is-apart : tie.Need-add-is-apart
-add-is-apart c = search needs
-
-shared-slice-read-is-apart : tie.Need-shared-slice-read-is-apart
-shared-slice-read-is-apart c = search needs
-
-is-apart-requires : tie.Need-is-apart-requires
-is-apart-requires c κs = search needs
-
 returns : tie.Need-returns
 returns c =
     let a = c .before .before .before .before .before .args in
@@ -26,19 +17,13 @@ returns c =
     apart (a .marks .now) (rowsIn (a .m) (a .struck .now)) (take 8 (drop (a .at) (a .work .now))) (p .1 .1)
     (ap (isApart (a .marks .now)) (part-at 8 (a .work .now) (a .at) (p .0) 2 (omega arith)) ∙ sym (c .before .is-apart .ensures) ∙ c .if1 .taken)
 
-any-row-meets-requires : tie.Need-any-row-meets-requires
-any-row-meets-requires c κs = search needs
-
-returns-2 : tie.Need-returns-2
-returns-2 c = search needs
-
 pub is-met-spec : {M : Type 1} → statement M
 is-met-spec =
     tie.close
     (tie.spec
-    add-is-apart
-    shared-slice-read-is-apart
-    is-apart-requires
+    (λ c. search needs)  -- add-is-apart
+    (λ c. search needs)  -- shared-slice-read-is-apart
+    (λ c κs. search needs)  -- is-apart-requires
     returns
-    any-row-meets-requires
-    returns-2)
+    (λ c κs. search needs)  -- any-row-meets-requires
+    (λ c. search needs))  -- returns-2

@@ -13,24 +13,12 @@ use Rattle.effects.proofs.IndexedRows.{unmarked}
 use Rattle.effects.proofs.is_struck.Statement.{statement}
 use Rattle.effects.proofs.is_struck.Tie as tie
 
-is-met-requires : tie.Need-is-met-requires
-is-met-requires c κs = search needs
-
 returns : tie.Need-returns
 returns c =
     let a = c .before .before .before .before .args in
     let p = c .before .before .before .before .pre in
     c .is-met .ensures
     ∙ sym (struck-by (rowsIn (a .m) (a .struck .now)) (take 8 (drop (a .at) (a .work .now))) (sym (p .1 .1 .1) ∙ c .before .if1 .taken))
-
-add-wide : tie.Need-add-wide
-add-wide c = search needs
-
-shared-slice-read-wide : tie.Need-shared-slice-read-wide
-shared-slice-read-wide c = search needs
-
-wide-requires : tie.Need-wide-requires
-wide-requires c κs = search needs
 
 element-copy-out-if2 : tie.Need-element-copy-out-if2
 element-copy-out-if2 c = let w = c .wide .ensures .1 in omega arith
@@ -45,16 +33,11 @@ returns-2 c =
     ∙ sym (struck-by (rowsIn (a .m) (a .struck .now)) (take 8 (drop (a .at) (a .work .now)))
     (sym (p .1 .1 .1) ∙ c .before .before .before .before .if1 .left))
 
-row-at-requires : tie.Need-row-at-requires
-row-at-requires c κs = search needs
-
-has-row-requires : tie.Need-has-row-requires
-has-row-requires c κs = search needs
-
 returns-3 : tie.Need-returns-3
 returns-3 c =
-    let a = c .before .before .before .before .before .before .before .before .before .args in
-    let p = c .before .before .before .before .before .before .before .before .before .pre in
+    let back8 = c .before .before .before .before .before .before .before .before in
+    let a = back8 .before .args in
+    let p = back8 .before .pre in
     c .has-row .ensures
     ∙ ap (λ (r : List ℕ). hasRow r (rowsIn (a .m) (a .struck .now))) (c .before .row-at .ensures)
     ∙ sym (struck-by (rowsIn (a .m) (a .struck .now)) (take 8 (drop (a .at) (a .work .now)))
@@ -64,13 +47,13 @@ pub is-struck-spec : {M : Type 1} → statement M
 is-struck-spec =
     tie.close
     (tie.spec
-    is-met-requires
+    (λ c κs. search needs)  -- is-met-requires
     returns
-    add-wide
-    shared-slice-read-wide
-    wide-requires
+    (λ c. search needs)  -- add-wide
+    (λ c. search needs)  -- shared-slice-read-wide
+    (λ c κs. search needs)  -- wide-requires
     element-copy-out-if2
     returns-2
-    row-at-requires
-    has-row-requires
+    (λ c κs. search needs)  -- row-at-requires
+    (λ c κs. search needs)  -- has-row-requires
     returns-3)

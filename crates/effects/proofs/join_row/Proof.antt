@@ -13,15 +13,6 @@ use Rattle.effects.proofs.IndexedRows.{sized-as, there-indexed, new-ind
 use Rattle.effects.proofs.join_row.Statement.{statement}
 use Rattle.effects.proofs.join_row.Tie as tie
 
-row-at-requires : tie.Need-row-at-requires
-row-at-requires c κs = search needs
-
-is-held-requires : tie.Need-is-held-requires
-is-held-requires c κs = search needs
-
-same-length : tie.Need-same-length
-same-length c = search needs
-
 returns : tie.Need-returns
 returns c =
     let a = c .before .before .before .before .before .before .before .args in
@@ -44,23 +35,20 @@ returns c =
       ),
     )
 
-add-result : tie.Need-add-result
-add-result c = search needs
-
-same-length-2 : tie.Need-same-length-2
-same-length-2 c = search needs
-
 returns-2 : tie.Need-returns-2
 returns-2 c =
-    let a = c .before .before .before .before .before .before .before .before .args in
-    let p = c .before .before .before .before .before .before .before .before .pre in
+    let back8 = c .before .before .before .before .before .before .before .before in
+    let row-at = c .before .before .before .before .before .row-at in
+    let a = back8 .args in
+    let p = back8 .pre in
     let rows = rowsIn (a .n) (a .scratch .now) in
-    let e = c .before .before .before .before .before .row-at .ensures in
+    let e = row-at .ensures in
     let g = p .1 .0 in
     let l = p .1 .1 in
     let w : workBytes ≤ length (a .scratch .now) = omega arith in
     let f : 1024 ≤ a .n = c .if2 .taken in
-    let t : Indexed (a .head .now) (a .index .now) rows → SizedRow (a .head .now) (take 8 (drop (a .at) (a .scratch .now))) → hasRow (c .before .before .before .before .before .row-at .result) rows ≡ false
+    let t : Indexed (a .head .now) (a .index .now) rows → SizedRow (a .head .now) (take 8 (drop (a .at) (a .scratch .now))) → hasRow
+    (row-at .result) rows ≡ false
     = λ I b. sym (c .before .before .is-held .ensures (a .head .now) I (sized-as (a .head .now) e b)) ∙ c .before .if1 .left in (
       (omega arith, omega arith),
       (
@@ -73,39 +61,31 @@ returns-2 c =
       ),
     )
 
-enter-requires : tie.Need-enter-requires
-enter-requires c κs = search needs
-
-append-row-requires : tie.Need-append-row-requires
-append-row-requires c κs = search needs
-
-add-result-2 : tie.Need-add-result-2
-add-result-2 c = search needs
-
-same-length-3 : tie.Need-same-length-3
-same-length-3 c = search needs
-
 returns-3 : tie.Need-returns-3
 returns-3 c =
-    let a = c .before .before .before .before .before .before .before .before .before .before .before .before .before .before .before .args in
-    let p = c .before .before .before .before .before .before .before .before .before .before .before .before .before .before .before .pre in
+    let back8 = c .before .before .before .before .before .before .before .before in
+    let row-at = back8 .before .before .before .before .row-at in
+    let append-row = c .before .before .append-row in
+    let a = back8 .before .before .before .before .before .before .before .args in
+    let p = back8 .before .before .before .before .before .before .before .pre in
     let rows = rowsIn (a .n) (a .scratch .now) in
-    let e = c .before .before .before .before .before .before .before .before .before .before .before .before .row-at .ensures in
+    let e = row-at .ensures in
     let g = p .1 .0 in
     let l = p .1 .1 in
     let w : workBytes ≤ length (a .scratch .now) = omega arith in
     let f : a .n < 1024 = c .before .before .before .before .before .before .before .if2 .left in
     let v = c .before .before .before .before .enter .ensures in
-    let t : Indexed (a .head .now) (a .index .now) rows → SizedRow (a .head .now) (take 8 (drop (a .at) (a .scratch .now))) → hasRow (c .before .before .before .before .before .before .before .before .before .before .before .before .row-at .result) rows ≡ false
-    = λ I b. sym (c .before .before .before .before .before .before .before .before .before .is-held .ensures (a .head .now) I (sized-as (a .head .now) e b)) ∙ c .before .before .before .before .before .before .before .before .if1 .left in (
+    let t : Indexed (a .head .now) (a .index .now) rows → SizedRow (a .head .now) (take 8 (drop (a .at) (a .scratch .now))) → hasRow
+    (row-at .result) rows ≡ false
+    = λ I b. sym (back8 .before .is-held .ensures (a .head .now) I (sized-as (a .head .now) e b)) ∙ back8 .if1 .left in (
       (omega arith, omega arith),
       (
         λ I b. record {
           count = new-count (a .n) (a .scratch .now) g w e (t I b) f;
-          bytes = new-rows (a .n) (a .scratch .now) g w e (t I b) f (c .before .before .append-row .ensures);
+          bytes = new-rows (a .n) (a .scratch .now) g w e (t I b) f (append-row .ensures);
           indexed = λ q. new-indexed rows e (t I b) (v .0 rows I b);
         },
-        (v .1, row-others (a .n) (a .scratch .now) (c .before .before .before .before .before .before .before .before .before .before .before .before .row-at .result) (omega arith) (search needs) f (c .before .before .append-row .ensures)),
+        (v .1, row-others (a .n) (a .scratch .now) (row-at .result) (omega arith) (search needs) f (append-row .ensures)),
       ),
     )
 
@@ -113,15 +93,15 @@ pub join-row-spec : {M : Type 1} → statement M
 join-row-spec =
     tie.close
     (tie.spec
-    row-at-requires
-    is-held-requires
-    same-length
+    (λ c κs. search needs)  -- row-at-requires
+    (λ c κs. search needs)  -- is-held-requires
+    (λ c. search needs)  -- same-length
     returns
-    add-result
-    same-length-2
+    (λ c. search needs)  -- add-result
+    (λ c. search needs)  -- same-length-2
     returns-2
-    enter-requires
-    append-row-requires
-    add-result-2
-    same-length-3
+    (λ c κs. search needs)  -- enter-requires
+    (λ c κs. search needs)  -- append-row-requires
+    (λ c. search needs)  -- add-result-2
+    (λ c. search needs)  -- same-length-3
     returns-3)

@@ -57,11 +57,13 @@ same-length c = c .before .before .before .join-row .kept .1 .0 ∙ c .before .b
 
 returns : tie.Need-returns Inv-loop μ-loop
 returns c =
-    let a = c .before .before .before .before .before .before .before .before .before .args in
-    let p = c .before .before .before .before .before .before .before .before .before .pre in
+    let back8 = c .before .before .before .before .before .before .before .before in
+    let join-row = c .before .before .before .join-row in
+    let a = back8 .before .args in
+    let p = back8 .before .pre in
     let l = c .before .before .before .before .before .before .before .loop in
     let K = l .inv in
-    let r = c .before .before .before .join-row .ensures in
+    let r = join-row .ensures in
     let few = p .0 in
     let t = c .before .before .before .before .before .before .loop-test .taken in
     let J = joined-turn (l .scratch) (a .scratch .now) (a .from) (l .j) (K .room ∙ p .1 .1) (omega arith) (K .others)
@@ -69,29 +71,33 @@ returns c =
       few = r .0;
       joined = r .1 .0;
       beside = r .1 .1 .0;
-      room = c .before .before .before .join-row .kept .1 .0;
+      room = join-row .kept .1 .0;
       others = r .1 .1
           .1;
     }) in
-    let k : 1024 < c .before .before .before .join-row .result = c .if1 .taken in
+    let k : 1024 < join-row .result = c .if1 .taken in
     let least = K .least in
     let f = J .few .0 in
-    let start = c .before .before .before .before .before .before .before .before .before in
+    let start = back8 .before in
     ((omega arith, J .few .1), (λ I S. joining-stop K t (adds-of start) (room-of start) J I S k, J .beside ∙ K .beside))
 
 add-j : tie.Need-add-j Inv-loop μ-loop
-add-j c = let p = c .before .before .before .before .before .before .before .before .before .pre .0 in let t = c .before .before .before .before .before .before .loop-test .taken in omega arith
+add-j c =
+    let back8 = c .before .before .before .before .before .before .before .before in
+    let p = back8 .before .pre .0 in let t = c .before .before .before .before .before .before .loop-test .taken in omega arith
 
 loop-less : tie.Need-loop-less Inv-loop μ-loop
 loop-less c = let t = c .before .before .before .before .before .before .loop-test .taken in omega arith
 
 loop-again : tie.Need-loop-again Inv-loop μ-loop
 loop-again c =
-    let a = c .before .before .before .before .before .before .before .before .before .args in
-    let p = c .before .before .before .before .before .before .before .before .before .pre in
+    let back8 = c .before .before .before .before .before .before .before .before in
+    let join-row = c .before .before .before .join-row in
+    let a = back8 .before .args in
+    let p = back8 .before .pre in
     let l = c .before .before .before .before .before .before .before .loop in
     let K = l .inv in
-    let r = c .before .before .before .join-row .ensures in
+    let r = join-row .ensures in
     let few = p .0 in
     let t = c .before .before .before .before .before .before .loop-test .taken in
     let J = joined-turn (l .scratch) (a .scratch .now) (a .from) (l .j) (K .room ∙ p .1 .1) (omega arith) (K .others)
@@ -99,11 +105,11 @@ loop-again c =
       few = r .0;
       joined = r .1 .0;
       beside = r .1 .1 .0;
-      room = c .before .before .before .join-row .kept .1 .0;
+      room = join-row .kept .1 .0;
       others = r .1 .1
           .1;
     }) in
-    let start = c .before .before .before .before .before .before .before .before .before in
+    let start = back8 .before in
     joining-more K t (adds-of start) (room-of start) J (c .if1 .left)
 
 same-length-2 : tie.Need-same-length-2 Inv-loop μ-loop

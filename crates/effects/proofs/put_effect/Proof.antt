@@ -9,27 +9,6 @@ use Rattle.effects.proofs.EffectRows.{usage-in, row-in, none-count, non
 use Rattle.effects.proofs.put_effect.Statement.{statement}
 use Rattle.effects.proofs.put_effect.Tie as tie
 
-add-if1 : tie.Need-add-if1
-add-if1 c = search needs
-
-slice-read-if1 : tie.Need-slice-read-if1
-slice-read-if1 c = search needs
-
-mul-row-at : tie.Need-mul-row-at
-mul-row-at c = search needs
-
-row-at-requires : tie.Need-row-at-requires
-row-at-requires c κs = search needs
-
-sub-append-row : tie.Need-sub-append-row
-sub-append-row c = search needs
-
-part-append-row-start : tie.Need-part-append-row-start
-part-append-row-start c = search needs
-
-part-append-row-end : tie.Need-part-append-row-end
-part-append-row-end c = search needs
-
 append-row-requires : tie.Need-append-row-requires
 append-row-requires c κs =
     let a = c .before .before .before .before .before .before .args in
@@ -43,15 +22,15 @@ append-row-requires c κs =
     omega arith
 
 add-result : tie.Need-add-result
-add-result c = let room = c .before .before .before .before .before .before .before .before .before .pre .1 .1 in omega arith
-
-same-length : tie.Need-same-length
-same-length c = search needs
+add-result c =
+    let back8 = c .before .before .before .before .before .before .before .before in
+    let room = back8 .before .pre .1 .1 in omega arith
 
 returns : tie.Need-returns
 returns c =
-    let a = c .before .before .before .before .before .before .before .before .before .args in
-    let p = c .before .before .before .before .before .before .before .before .before .pre in
+    let back8 = c .before .before .before .before .before .before .before .before in
+    let a = back8 .before .args in
+    let p = back8 .before .pre in
     let scratch = a .scratch .now in
     let l = groundAt (literalsIn scratch) (a .i) in
     let e = sym (usage-in scratch (p .0) (a .i) (p .1 .0)) ∙ c .before .before .before .before .before .before .if1 .taken in
@@ -82,15 +61,15 @@ pub put-effect-spec : {M : Type 1} → statement M
 put-effect-spec =
     tie.close
     (tie.spec
-    add-if1
-    slice-read-if1
-    mul-row-at
-    row-at-requires
-    sub-append-row
-    part-append-row-start
-    part-append-row-end
+    (λ c. search needs)  -- add-if1
+    (λ c. search needs)  -- slice-read-if1
+    (λ c. search needs)  -- mul-row-at
+    (λ c κs. search needs)  -- row-at-requires
+    (λ c. search needs)  -- sub-append-row
+    (λ c. search needs)  -- part-append-row-start
+    (λ c. search needs)  -- part-append-row-end
     append-row-requires
     add-result
-    same-length
+    (λ c. search needs)  -- same-length
     returns
     returns-2)

@@ -33,23 +33,11 @@ returns c =
 loop-holds : tie.Need-loop-holds Inv-loop μ-loop
 loop-holds c = (omega arith, omega arith, λ j a b. absurd (omega arith))
 
-mul-is-struck : tie.Need-mul-is-struck Inv-loop μ-loop
-mul-is-struck c = omega arith
-
-is-struck-requires : tie.Need-is-struck-requires Inv-loop μ-loop
-is-struck-requires c κs = search needs
-
 returns-2 : tie.Need-returns-2 Inv-loop μ-loop
 returns-2 c =
     let l = c .before .before .before .loop in
     let s = sym (c .before .is-struck .ensures) ∙ c .if3 .taken in
     record { behind = l .inv .0; within = l .inv .1; others = l .inv .2; found = λ h. s }
-
-add-i : tie.Need-add-i Inv-loop μ-loop
-add-i c = omega arith
-
-loop-less : tie.Need-loop-less Inv-loop μ-loop
-loop-less c = omega arith
 
 loop-again : tie.Need-loop-again Inv-loop μ-loop
 loop-again c =
@@ -74,10 +62,10 @@ struck-from-spec =
     μ-loop
     returns
     loop-holds
-    mul-is-struck
-    is-struck-requires
+    (λ c. omega arith)  -- mul-is-struck
+    (λ c κs. search needs)  -- is-struck-requires
     returns-2
-    add-i
-    loop-less
+    (λ c. omega arith)  -- add-i
+    (λ c. omega arith)  -- loop-less
     loop-again
     returns-3)

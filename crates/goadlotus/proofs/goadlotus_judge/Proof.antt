@@ -8,15 +8,6 @@ use Rattle.goadlotus.proofs.goadlotus_judge.Reads as reads
 use Rattle.goadlotus.proofs.goadlotus_judge.Lts as lts
 use Rattle.judging.proofs.judge.Reads as judge-reads
 
-judge-requires : tie.Need-judge-requires
-judge-requires c κs = search needs
-
-same-length : tie.Need-same-length
-same-length c = search needs
-
-same-length-2 : tie.Need-same-length-2
-same-length-2 c = search needs
-
 returns : tie.Need-returns
 returns c =
     let (is, (told, (shown, (decided, (safe, (exact, harms)))))) = c .before .before .before .before .judge .ensures in (
@@ -31,4 +22,10 @@ returns c =
     )
 
 pub goadlotus-judge-spec : {M : Type 1} → statement M
-goadlotus-judge-spec = tie.close (tie.spec judge-requires same-length same-length-2 returns)
+goadlotus-judge-spec =
+    tie.close
+    (tie.spec
+    (λ c κs. search needs)  -- judge-requires
+    (λ c. search needs)  -- same-length
+    (λ c. search needs)  -- same-length-2
+    returns)

@@ -5,21 +5,10 @@ use Rattle.player.proofs.PlayCalls.{number-is, place-is, steps-is, weight-is, f
 use Rattle.goadlotus.proofs.goadlotus_play.Statement.{statement}
 use Rattle.goadlotus.proofs.goadlotus_play.Tie as tie
 
-play-files-requires : tie.Need-play-files-requires
-play-files-requires c κs = search needs
-
-file-of-requires : tie.Need-file-of-requires
-file-of-requires c κs = search needs
-
-offset-of-requires : tie.Need-offset-of-requires
-offset-of-requires c κs = search needs
-
-same-length : tie.Need-same-length
-same-length c = search needs
-
 returns : tie.Need-returns
 returns c =
-    let a = c .before .before .before .before .before .before .before .before .before .args in
+    let back8 = c .before .before .before .before .before .before .before .before in
+    let a = back8 .before .args in
     let d = a .domain .now in
     let r = a .run .now in
     let w = a .work .now in
@@ -50,4 +39,9 @@ returns c =
 pub goadlotus-play-spec : {M : Type 1} → statement M
 goadlotus-play-spec =
     tie.close
-    (tie.spec play-files-requires file-of-requires offset-of-requires same-length returns)
+    (tie.spec
+    (λ c κs. search needs)  -- play-files-requires
+    (λ c κs. search needs)  -- file-of-requires
+    (λ c κs. search needs)  -- offset-of-requires
+    (λ c. search needs)  -- same-length
+    returns)

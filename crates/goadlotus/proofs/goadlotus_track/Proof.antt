@@ -7,21 +7,10 @@ use Rattle.player.proofs.TrackCalls.{told-number, told-place, told-steps, told-
 use Rattle.goadlotus.proofs.goadlotus_track.Statement.{statement}
 use Rattle.goadlotus.proofs.goadlotus_track.Tie as tie
 
-track-files-requires : tie.Need-track-files-requires
-track-files-requires c κs = search needs
-
-file-of-requires : tie.Need-file-of-requires
-file-of-requires c κs = search needs
-
-offset-of-requires : tie.Need-offset-of-requires
-offset-of-requires c κs = search needs
-
-same-length : tie.Need-same-length
-same-length c = search needs
-
 returns : tie.Need-returns
 returns c =
-    let a = c .before .before .before .before .before .before .before .before .before .before .before .args in
+    let back8 = c .before .before .before .before .before .before .before .before in
+    let a = back8 .before .before .before .args in
     let d = a .domain .now in
     let y = a .instance .now in
     let r = a .run .now in
@@ -56,4 +45,11 @@ returns c =
     )
 
 pub goadlotus-track-spec : {M : Type 1} → statement M
-goadlotus-track-spec = tie.close (tie.spec track-files-requires file-of-requires offset-of-requires same-length returns)
+goadlotus-track-spec =
+    tie.close
+    (tie.spec
+    (λ c κs. search needs)  -- track-files-requires
+    (λ c κs. search needs)  -- file-of-requires
+    (λ c κs. search needs)  -- offset-of-requires
+    (λ c. search needs)  -- same-length
+    returns)

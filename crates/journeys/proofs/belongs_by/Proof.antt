@@ -14,17 +14,11 @@ use Rattle.journeys.proofs.Belonging.{mark-none, mark-inside, belongs-i
 use Rattle.journeys.proofs.belongs_by.Statement.{statement}
 use Rattle.journeys.proofs.belongs_by.Tie as tie
 
-wide-requires : tie.Need-wide-requires
-wide-requires c κs = search needs
-
 returns : tie.Need-returns
 returns c = (
   omega arith,
   λ D g y class A G ge sized re h m. belongs-none _ _ (mark-none D _ A class h (sym m ∙ sym (c .before .wide .ensures .0) ∙ c .if1 .taken)),
 )
-
-mul-if2 : tie.Need-mul-if2
-mul-if2 c = search needs
 
 returns-2 : tie.Need-returns-2
 returns-2 c = (
@@ -36,36 +30,24 @@ returns-2 c = (
       absurd (omega arith),
 )
 
-sub-bound-row : tie.Need-sub-bound-row
-sub-bound-row c = search needs
-
-mul-bound-row : tie.Need-mul-bound-row
-mul-bound-row c = search needs
-
-bound-row-requires : tie.Need-bound-row-requires
-bound-row-requires c κs = search needs
-
-slice-aggregate-weight-at : tie.Need-slice-aggregate-weight-at
-slice-aggregate-weight-at c = search needs
-
-weight-at-requires : tie.Need-weight-at-requires
-weight-at-requires c κs = search needs
-
 at-most : (b : Bool) (n : ℕ) → n ≡ addIf b 0 → n ≤ 1
 at-most true n e = omega arith
 at-most false n e = omega arith
 
 returns-3 : tie.Need-returns-3
 returns-3 c =
-    let x = c .before .before .before .before .before .before .before .before .args in
+    let back8 = c .before .before .before .before .before .before .before .before in
+    let bound-row = c .before .before .bound-row in
+    let x = back8 .args in
     let w = c .weight-at in (
-      at-most (any (sameList eqb (x .row)) (instanceRows (keysIn (x .head .now)) (componentRowsIn (x .head .now)) (take 8 (drop 0 (c .before
-          .before .bound-row .result))))) (w .result) (w .ensures),
+      at-most (any (sameList eqb (x .row))
+          (instanceRows (keysIn (x .head .now)) (componentRowsIn (x .head .now)) (take 8 (drop 0 (bound-row .result))))) (w .result)
+          (w .ensures),
       λ D g y class A G ge sized re h m.
           let k = c .before .before .before .before .before .wide .ensures .0 in
-          belongs-is g A G y sized class h (λ z. c .before .before .before .before .if1 .left (k ∙ m ∙ z)) (x .ground .now) _ (c .before
-          .before .bound-row .result) (w .result) ge re
-          (c .before .before .bound-row .ensures ∙ ap (λ (j : ℕ). boundRow (x .head .now) (x .ground .now) (take 8 (drop (8 * (j - 1)) (x
+          belongs-is g A G y sized class h (λ z. c .before .before .before .before .if1 .left (k ∙ m ∙ z)) (x .ground .now) _
+          (bound-row .result) (w .result) ge re
+          (bound-row .ensures ∙ ap (λ (j : ℕ). boundRow (x .head .now) (x .ground .now) (take 8 (drop (8 * (j - 1)) (x
           .rows .now)))) (k ∙ m)) (w .ensures),
     )
 
@@ -73,13 +55,13 @@ pub belongs-by-spec : {M : Type 1} → statement M
 belongs-by-spec =
     tie.close
     (tie.spec
-    wide-requires
+    (λ c κs. search needs)  -- wide-requires
     returns
-    mul-if2
+    (λ c. search needs)  -- mul-if2
     returns-2
-    sub-bound-row
-    mul-bound-row
-    bound-row-requires
-    slice-aggregate-weight-at
-    weight-at-requires
+    (λ c. search needs)  -- sub-bound-row
+    (λ c. search needs)  -- mul-bound-row
+    (λ c κs. search needs)  -- bound-row-requires
+    (λ c. search needs)  -- slice-aggregate-weight-at
+    (λ c κs. search needs)  -- weight-at-requires
     returns-3)

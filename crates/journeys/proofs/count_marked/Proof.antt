@@ -37,21 +37,6 @@ loop-holds : tie.Need-loop-holds Inv-loop μ-loop
 loop-holds c =
     (omega arith, omega arith, λ D g y A G ge sized re n m. zero-add _ ∙ sym (journeys-are D y g))
 
-element-copy-out-belongs-by : tie.Need-element-copy-out-belongs-by Inv-loop μ-loop
-element-copy-out-belongs-by c = search needs
-
-belongs-by-requires : tie.Need-belongs-by-requires Inv-loop μ-loop
-belongs-by-requires c κs = search needs
-
-add-found : tie.Need-add-found Inv-loop μ-loop
-add-found c = search needs
-
-add-class : tie.Need-add-class Inv-loop μ-loop
-add-class c = search needs
-
-loop-less : tie.Need-loop-less Inv-loop μ-loop
-loop-less c = search needs
-
 loop-again : tie.Need-loop-again Inv-loop μ-loop
 loop-again c =
     let l = c .before .before .before .loop in
@@ -81,10 +66,10 @@ count-marked-spec =
     Inv-loop
     μ-loop
     loop-holds
-    element-copy-out-belongs-by
-    belongs-by-requires
-    add-found
-    add-class
-    loop-less
+    (λ c. search needs)  -- element-copy-out-belongs-by
+    (λ c κs. search needs)  -- belongs-by-requires
+    (λ c. search needs)  -- add-found
+    (λ c. search needs)  -- add-class
+    (λ c. search needs)  -- loop-less
     loop-again
     returns)

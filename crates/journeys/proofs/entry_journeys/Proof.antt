@@ -15,15 +15,6 @@ use Rattle.journeys.proofs.Belonging.{none-at-once}
 use Rattle.journeys.proofs.entry_journeys.Statement.{statement}
 use Rattle.journeys.proofs.entry_journeys.Tie as tie
 
-shared-slice-read-wide : tie.Need-shared-slice-read-wide
-shared-slice-read-wide c = search needs
-
-wide-requires : tie.Need-wide-requires
-wide-requires c κs = search needs
-
-actions-in-requires : tie.Need-actions-in-requires
-actions-in-requires c κs = search needs
-
 returns : tie.Need-returns
 returns c = (
   omega arith,
@@ -34,69 +25,48 @@ returns c = (
       absurd (ground-listed H g G _ ge (omega arith)),
 )
 
-is-lasting-requires : tie.Need-is-lasting-requires
-is-lasting-requires c κs = search needs
-
 returns-2 : tie.Need-returns-2
-returns-2 c = (
-  omega arith,
-  λ D g y H wf G ge sized re.
-      let w : c .before .before .before .before .wide .result ≡ g .action = c .before .before .before .before .wide .ensures .0
-      ∙ ap (λ (t : List ℕ). getD t 0 0) ge in
-      let l : g .action < length (D .actions) = G .listed in
-      none-at-once D y g
-      (sym (H .says .lasting (g .action) l) ∙ sym (c .before .is-lasting .ensures ∙ ap (λ (i : ℕ). lastingIn (c .before .before .before
-      .before .before .before .before .before .args .head .now) i) w) ∙ not-true _ (c .if2 .taken)),
-)
-
-rows-of-requires : tie.Need-rows-of-requires
-rows-of-requires c κs = search needs
-
-mul-from : tie.Need-mul-from
-mul-from c = search needs
-
-mul-to : tie.Need-mul-to
-mul-to c = search needs
-
-sub-journeys-of : tie.Need-sub-journeys-of
-sub-journeys-of c = search needs
-
-part-journeys-of-start : tie.Need-part-journeys-of-start
-part-journeys-of-start c = search needs
-
-part-journeys-of-end : tie.Need-part-journeys-of-end
-part-journeys-of-end c = search needs
-
-sub-journeys-of-2 : tie.Need-sub-journeys-of-2
-sub-journeys-of-2 c = search needs
+returns-2 c =
+    let back8 = c .before .before .before .before .before .before .before .before in
+    let wide = c .before .before .before .before .wide in (
+      omega arith,
+      λ D g y H wf G ge sized re.
+          let w : wide .result ≡ g .action = wide .ensures .0
+          ∙ ap (λ (t : List ℕ). getD t 0 0) ge in
+          let l : g .action < length (D .actions) = G .listed in
+          none-at-once D y g
+          (sym (H .says .lasting (g .action) l)
+          ∙ sym (c .before .is-lasting .ensures ∙ ap (λ (i : ℕ). lastingIn (back8 .args .head .now) i) w) ∙ not-true _ (c .if2 .taken)),
+    )
 
 journeys-of-requires : tie.Need-journeys-of-requires
 journeys-of-requires c κs =
+    let back8 = c .before .before .before .before .before .before .before .before in
     let F = c .before .before .before .before .rows-of .ensures .0 in
     let o = F .order in
     let few = F .few in (
       part-length _ _ _ o (F .room),
       (
         omega arith,
-        c .before .before .before .before .before .before .before .before .before .before .before
-            .before .before .pre,
+        back8 .before .before .before .before .before .pre,
       ),
     )
 
 returns-3 : tie.Need-returns-3
 returns-3 c =
+    let back8 = c .before .before .before .before .before .before .before .before in
+    let wide = back8 .before .before .wide in
     let j = c .journeys-of in (
       j .ensures .0,
       λ D g y H wf G ge sized re.
-          let w : c .before .before .before .before .before .before .before .before .before .before .wide .result ≡ g .action = c .before
-          .before .before .before .before .before .before .before .before .before .wide .ensures .0 ∙ ap (λ (t : List ℕ). getD t 0 0) ge in
+          let w : wide .result ≡ g .action = wide .ensures .0 ∙ ap (λ (t : List ℕ). getD t 0 0) ge in
           let l : g .action < length (D .actions) = G .listed in
           let S = c .before .before .before .before .before .rows-of .ensures .1 D H (omega arith) in
           let A = action-held H wf (g .action) l (S .literals ∙ ap (λ (i : ℕ). flatMap literalRow (action D i .lits)) w) in
           j .ensures .1 D g y A
           (sym (H .says .lasting (g .action) l) ∙ sym (c .before .before .before .before .before .before .before .is-lasting .ensures ∙ ap
-          (λ (i : ℕ). lastingIn (c .before .before .before .before .before .before .before .before .before .before .before .before .before
-          .before .args .head .now) i) w) ∙ not-false _ (c .before .before .before .before .before .before .if2 .left))
+          (λ (i : ℕ). lastingIn (back8 .before .before .before .before .before .before .args .head .now) i) w)
+          ∙ not-false _ (c .before .before .before .before .before .before .if2 .left))
           G ge sized re,
     )
 
@@ -104,18 +74,18 @@ pub entry-journeys-spec : {M : Type 1} → statement M
 entry-journeys-spec =
     tie.close
     (tie.spec
-    shared-slice-read-wide
-    wide-requires
-    actions-in-requires
+    (λ c. search needs)  -- shared-slice-read-wide
+    (λ c κs. search needs)  -- wide-requires
+    (λ c κs. search needs)  -- actions-in-requires
     returns
-    is-lasting-requires
+    (λ c κs. search needs)  -- is-lasting-requires
     returns-2
-    rows-of-requires
-    mul-from
-    mul-to
-    sub-journeys-of
-    part-journeys-of-start
-    part-journeys-of-end
-    sub-journeys-of-2
+    (λ c κs. search needs)  -- rows-of-requires
+    (λ c. search needs)  -- mul-from
+    (λ c. search needs)  -- mul-to
+    (λ c. search needs)  -- sub-journeys-of
+    (λ c. search needs)  -- part-journeys-of-start
+    (λ c. search needs)  -- part-journeys-of-end
+    (λ c. search needs)  -- sub-journeys-of-2
     journeys-of-requires
     returns-3)

@@ -10,12 +10,6 @@ use Rattle.records.proofs.Memory.{paste-front, drop-replicate}
 use Rattle.journeys.proofs.instance_row.Statement.{statement}
 use Rattle.journeys.proofs.instance_row.Tie as tie
 
-slice-aggregate-put-bytes : tie.Need-slice-aggregate-put-bytes
-slice-aggregate-put-bytes c = search needs
-
-put-bytes-requires : tie.Need-put-bytes-requires
-put-bytes-requires c κs = search needs
-
 filled : (y : List ℕ) → over y (replicate 8 255) ≡ rowOf y
 unfolding over
 filled y = ap (λ (t : List ℕ). y ++ t) (drop-replicate (length y) 8 255)
@@ -26,4 +20,9 @@ returns c =
     c .before .put-bytes .ensures ∙ paste-front y (replicate 8 255) (length y) refl ∙ filled y
 
 pub instance-row-spec : {M : Type 1} → statement M
-instance-row-spec = tie.close (tie.spec slice-aggregate-put-bytes put-bytes-requires returns)
+instance-row-spec =
+    tie.close
+    (tie.spec
+    (λ c. search needs)  -- slice-aggregate-put-bytes
+    (λ c κs. search needs)  -- put-bytes-requires
+    returns)

@@ -7,32 +7,8 @@ use Rattle.journeys.proofs.Belonging.{part-within, part-again}
 use Rattle.journeys.proofs.journeys_of.Statement.{statement}
 use Rattle.journeys.proofs.journeys_of.Tie as tie
 
-slice-aggregate-put-places : tie.Need-slice-aggregate-put-places
-slice-aggregate-put-places c = search needs
-
-put-places-requires : tie.Need-put-places-requires
-put-places-requires c κs = search needs
-
-sub-number-classes : tie.Need-sub-number-classes
-sub-number-classes c = search needs
-
-part-numbers-start : tie.Need-part-numbers-start
-part-numbers-start c = search needs
-
-part-numbers-end : tie.Need-part-numbers-end
-part-numbers-end c = search needs
-
-slice-aggregate-number-classes : tie.Need-slice-aggregate-number-classes
-slice-aggregate-number-classes c = search needs
-
 number-classes-requires : tie.Need-number-classes-requires
 number-classes-requires c κs = (c .before .before .before .before .put-places .ensures refl, search needs)
-
-sub-mark-journeys : tie.Need-sub-mark-journeys
-sub-mark-journeys c = search needs
-
-part-mark-journeys-start : tie.Need-part-mark-journeys-start
-part-mark-journeys-start c = search needs
 
 part-mark-journeys-end : tie.Need-part-mark-journeys-end
 part-mark-journeys-end c =
@@ -40,20 +16,15 @@ part-mark-journeys-end c =
     ∙ sub-zero _ in
     part-within (c .before .before .before .number-classes .last .1 .1 .1 .0) _ _ f
 
-mark-journeys-requires : tie.Need-mark-journeys-requires
-mark-journeys-requires c κs = search needs
-
-count-marked-requires : tie.Need-count-marked-requires
-count-marked-requires c κs = search needs
-
 returns : tie.Need-returns
 returns c =
-    let p = c .before .before .before .before .before .before .before .before .before .before .before .before .before .before .before
-    .before .before .pre in
+    let back8 = c .before .before .before .before .before .before .before .before in
+    let back16 = back8 .before .before .before .before .before .before .before .before in
+    let number-classes = back8 .number-classes in
+    let p = back16 .before .pre in
     let few = p .1 .0 in
-    let f = c .before .before .before .before .before .before .before .before .number-classes .kept .1 .1 .1 .0 ∙ sym (c .before .before
-    .before .before .before .before .before .before .before .before .numbers .given .1) ∙ sub-zero _ in
-    let n = c .before .before .before .before .before .before .before .before .number-classes .ensures in
+    let f = number-classes .kept .1 .1 .1 .0 ∙ sym (back8 .before .before .numbers .given .1) ∙ sub-zero _ in
+    let n = number-classes .ensures in
     let k = n .0 in
     let m = c .count-marked in
     let small = m .ensures .0 in (
@@ -61,24 +32,24 @@ returns c =
       λ D g y A lasting G ge sized re.
           let t = n .1 D _ A in
           m .ensures .1 D g y A G ge sized re (t .0)
-          (c .before .before .mark-journeys .ensures D _ _ A lasting (part-again (c .before .before .before .before .before .before .before
-          .before .number-classes .last .1 .1 .1 .0) _ _ f ∙ t .1) (t .0) refl),
+          (c .before .before .mark-journeys .ensures D _ _ A lasting (part-again (number-classes .last .1 .1 .1 .0) _ _ f ∙ t .1)
+          (t .0) refl),
     )
 
 pub journeys-of-spec : {M : Type 1} → statement M
 journeys-of-spec =
     tie.close
     (tie.spec
-    slice-aggregate-put-places
-    put-places-requires
-    sub-number-classes
-    part-numbers-start
-    part-numbers-end
-    slice-aggregate-number-classes
+    (λ c. search needs)  -- slice-aggregate-put-places
+    (λ c κs. search needs)  -- put-places-requires
+    (λ c. search needs)  -- sub-number-classes
+    (λ c. search needs)  -- part-numbers-start
+    (λ c. search needs)  -- part-numbers-end
+    (λ c. search needs)  -- slice-aggregate-number-classes
     number-classes-requires
-    sub-mark-journeys
-    part-mark-journeys-start
+    (λ c. search needs)  -- sub-mark-journeys
+    (λ c. search needs)  -- part-mark-journeys-start
     part-mark-journeys-end
-    mark-journeys-requires
-    count-marked-requires
+    (λ c κs. search needs)  -- mark-journeys-requires
+    (λ c κs. search needs)  -- count-marked-requires
     returns)

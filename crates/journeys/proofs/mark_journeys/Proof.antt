@@ -26,15 +26,6 @@ Inv-loop rows numbers count marks₀ soles usages class₀ marks class =
 abbrev μ-loop : tie.MeasureT-loop
 μ-loop rows numbers count marks₀ soles usages class₀ marks class = count - class
 
-slice-aggregate-note-soles : tie.Need-slice-aggregate-note-soles Inv-loop μ-loop
-slice-aggregate-note-soles c = search needs
-
-note-soles-requires : tie.Need-note-soles-requires Inv-loop μ-loop
-note-soles-requires c κs = search needs
-
-usages-at-requires : tie.Need-usages-at-requires Inv-loop μ-loop
-usages-at-requires c κs = search needs
-
 loop-holds : tie.Need-loop-holds Inv-loop μ-loop
 loop-holds c =
     let p = c .before .before .before .before .before .before .before .pre in
@@ -44,8 +35,9 @@ loop-holds c =
 
 mark-of-requires : tie.Need-mark-of-requires Inv-loop μ-loop
 mark-of-requires c κs =
-    let x = c .before .before .before .before .before .before .before .before .before .before .before .args in
-    let p = c .before .before .before .before .before .before .before .before .before .before .before .pre in
+    let back8 = c .before .before .before .before .before .before .before .before in
+    let x = back8 .before .before .before .args in
+    let p = back8 .before .before .before .pre in
     let r = p .0 in
     let l = c .before .before .before .loop in
     let n = l .inv .1 in
@@ -74,13 +66,11 @@ add-class c =
     let t = c .before .before .before .loop-test .taken in
     omega arith
 
-loop-less : tie.Need-loop-less Inv-loop μ-loop
-loop-less c = search needs
-
 loop-again : tie.Need-loop-again Inv-loop μ-loop
 loop-again c =
-    let x = c .before .before .before .before .before .before .before .before .before .before .before .before .args in
-    let p = c .before .before .before .before .before .before .before .before .before .before .before .before .pre in
+    let back8 = c .before .before .before .before .before .before .before .before in
+    let x = back8 .before .before .before .before .args in
+    let p = back8 .before .before .before .before .pre in
     let l = c .before .before .before .before .loop in
     let n = l .inv .1 in
     let t = c .before .before .before .loop-test .taken in
@@ -90,8 +80,7 @@ loop-again c =
       n,
       λ D a head A lasting o m z.
           let used = usages-held false End (x .rows .now) _ (A .says .bounded) (A .listed) (A .apart) (A .literals) (p .0) in
-          let ends = end-soles (x .rows .now) (x .numbers .now) _ _ (c .before .before .before .before .before .before .before .before
-          .note-soles .ensures refl) refl k h
+          let ends = end-soles (x .rows .now) (x .numbers .now) _ _ (back8 .note-soles .ensures refl) refl k h
           ∙ ap₂ (λ (o d : List ℕ). soleOf o d k) o (ap (pad 64) used) in
           marked-more D a (l .marks) k _ (l .inv .2 D a head A lasting o m z) h
           (c .mark-of .ensures D a head
@@ -115,13 +104,13 @@ mark-journeys-spec =
     (tie.spec
     Inv-loop
     μ-loop
-    slice-aggregate-note-soles
-    note-soles-requires
-    usages-at-requires
+    (λ c. search needs)  -- slice-aggregate-note-soles
+    (λ c κs. search needs)  -- note-soles-requires
+    (λ c κs. search needs)  -- usages-at-requires
     loop-holds
     mark-of-requires
     element-write-marks
     add-class
-    loop-less
+    (λ c. search needs)  -- loop-less
     loop-again
     returns)

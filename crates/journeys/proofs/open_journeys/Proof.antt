@@ -44,12 +44,6 @@ mul-at c = let l = c .before .loop .inv in let n = l .1 in let t = c .loop-test 
 add-end : tie.Need-add-end Inv-loop μ-loop
 add-end c = let l = c .before .loop .inv in let n = l .1 in let t = c .loop-test .taken in omega arith
 
-sub-entry-journeys : tie.Need-sub-entry-journeys Inv-loop μ-loop
-sub-entry-journeys c = search needs
-
-part-entry-journeys-start : tie.Need-part-entry-journeys-start Inv-loop μ-loop
-part-entry-journeys-start c = search needs
-
 part-entry-journeys-end : tie.Need-part-entry-journeys-end Inv-loop μ-loop
 part-entry-journeys-end c =
     let l = c .before .loop .inv in
@@ -79,9 +73,6 @@ add-found c =
 
 add-i : tie.Need-add-i Inv-loop μ-loop
 add-i c = let l = c .before .before .before .loop .inv in let n = l .1 in let t = c .before .before .loop-test .taken in omega arith
-
-loop-less : tie.Need-loop-less Inv-loop μ-loop
-loop-less c = search needs
 
 loop-again : tie.Need-loop-again Inv-loop μ-loop
 loop-again c =
@@ -125,12 +116,12 @@ open-journeys-spec =
     loop-holds
     mul-at
     add-end
-    sub-entry-journeys
-    part-entry-journeys-start
+    (λ c. search needs)  -- sub-entry-journeys
+    (λ c. search needs)  -- part-entry-journeys-start
     part-entry-journeys-end
     entry-journeys-requires
     add-found
     add-i
-    loop-less
+    (λ c. search needs)  -- loop-less
     loop-again
     returns)

@@ -23,46 +23,32 @@ returns-2 c D s H wf r F o G few =
     (λ e. c .if2 .taken (sym (length-map (c .before .before .before .before .before .before .before .args .instance .now) object) ∙ e ∙ sym
     (H .says .keys) ∙ sym (c .before .keys-in .ensures .0))) s G
 
-keys-in-requires : tie.Need-keys-in-requires
-keys-in-requires c κs = search needs
-
 instance-row-requires : tie.Need-instance-row-requires
 instance-row-requires c κs = let k = c .before .keys-in .ensures .1 in let t = c .if2 .left in omega arith
 
-weigh-requires : tie.Need-weigh-requires
-weigh-requires c κs = search needs
-
-sub-open-journeys : tie.Need-sub-open-journeys
-sub-open-journeys c = search needs
-
-part-open-journeys-start : tie.Need-part-open-journeys-start
-part-open-journeys-start c = search needs
-
-part-open-journeys-end : tie.Need-part-open-journeys-end
-part-open-journeys-end c = search needs
-
-open-journeys-requires : tie.Need-open-journeys-requires
-open-journeys-requires c κs = search needs
-
 add-result : tie.Need-add-result
 add-result c =
-    let a = c .before .before .before .before .before .before .before .before .before .before .before .args in
-    let w = weight-few (keysIn (a .head .now)) (componentRowsIn (a .head .now)) (a .work .now) (a .facts) _ (c .before .before .weigh
-    .result) (c .before .before .weigh .ensures) in
+    let back8 = c .before .before .before .before .before .before .before .before in
+    let weigh = c .before .before .weigh in
+    let a = back8 .before .before .before .args in
+    let w = weight-few (keysIn (a .head .now)) (componentRowsIn (a .head .now)) (a .work .now) (a .facts) _ (weigh .result)
+    (weigh .ensures) in
     let j = c .open-journeys .ensures .0 in
-    let f = c .before .before .before .before .before .before .before .before .before .before .before .pre .0 in
+    let f = back8 .before .before .before .pre .0 in
     let n = c .before .before .before .before .before .before .if1 .left in
     omega arith
 
 returns-3 : tie.Need-returns-3
 returns-3 c D s H wf r F o G few =
-    let a = c .before .before .before .before .before .before .before .before .before .before .before .args in
+    let back8 = c .before .before .before .before .before .before .before .before in
+    let weigh = c .before .before .weigh in
+    let a = back8 .before .before .before .args in
     let y = instanceOf (a .instance .now) in
     let re = c .before .before .before .instance-row .ensures ∙ ap rowOf (sym (numbers-back (a .instance .now))) in
-    let l = length-map (a .instance .now) object ∙ c .before .before .before .before .if2 .left ∙ c .before .before .before .before .before
-    .keys-in .ensures .0 ∙ H .says .keys in
-    total-is D y s (c .before .before .weigh .result) (c .open-journeys .result)
-    (c .before .before .weigh .ensures ∙ ap₂ (rowWeight (keysIn (a .head .now)) (componentRowsIn (a .head .now))) r re
+    let l = length-map (a .instance .now) object ∙ c .before .before .before .before .if2 .left
+    ∙ c .before .before .before .before .before .keys-in .ensures .0 ∙ H .says .keys in
+    total-is D y s (weigh .result) (c .open-journeys .result)
+    (weigh .ensures ∙ ap₂ (rowWeight (keysIn (a .head .now)) (componentRowsIn (a .head .now))) r re
     ∙ weight-is (template-of (H .says)) y l (s .facts) F)
     (c .open-journeys .ensures .1 D (s .running) y H wf G o l re)
 
@@ -71,13 +57,13 @@ total-of-spec =
     tie.close
     (tie.spec
     returns
-    keys-in-requires
+    (λ c κs. search needs)  -- keys-in-requires
     returns-2
     instance-row-requires
-    weigh-requires
-    sub-open-journeys
-    part-open-journeys-start
-    part-open-journeys-end
-    open-journeys-requires
+    (λ c κs. search needs)  -- weigh-requires
+    (λ c. search needs)  -- sub-open-journeys
+    (λ c. search needs)  -- part-open-journeys-start
+    (λ c. search needs)  -- part-open-journeys-end
+    (λ c κs. search needs)  -- open-journeys-requires
     add-result
     returns-3)

@@ -15,15 +15,6 @@ use Rattle.judging.proofs.FileCalls.{answer-is, report-is, witness-is}
 use Rattle.judging.proofs.judge.Statement.{statement}
 use Rattle.judging.proofs.judge.Tie as tie
 
-judge-file-requires : tie.Need-judge-file-requires
-judge-file-requires c κs = search needs
-
-same-length : tie.Need-same-length
-same-length c = search needs
-
-same-length-2 : tie.Need-same-length-2
-same-length-2 c = search needs
-
 -- the seven promises of an answer j that leaves a report u and a witness x
 promises : (f report wit : List ℕ) {j : Judgement} {u x : List ℕ} → JudgedAs (decode f) report wit j u x
     → (j ≡ judgementOf (judged f report wit)) × ((u ≡ reportAfter f report wit) × ((x ≡ witnessAfter f report wit)
@@ -54,8 +45,15 @@ promises f report wit {j} {u} {x} J =
 
 returns : tie.Need-returns
 returns c =
-    let start = c .before .before .before .before .before .before .before .before .before .before .args in
+    let back8 = c .before .before .before .before .before .before .before .before in
+    let start = back8 .before .before .args in
     promises (start .file .now) (start .report .now) (start .witness .now) (c .before .before .before .before .judge-file .ensures)
 
 pub judge-spec : {M : Type 1} → statement M
-judge-spec = tie.close (tie.spec judge-file-requires same-length same-length-2 returns)
+judge-spec =
+    tie.close
+    (tie.spec
+    (λ c κs. search needs)  -- judge-file-requires
+    (λ c. search needs)  -- same-length
+    (λ c. search needs)  -- same-length-2
+    returns)

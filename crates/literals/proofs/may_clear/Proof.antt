@@ -5,18 +5,6 @@ use Rattle.literals.specs.Domain.{mayClear}
 use Rattle.literals.proofs.may_clear.Statement.{statement}
 use Rattle.literals.proofs.may_clear.Tie as tie
 
-enum-told : tie.Need-enum-told
-enum-told c = search needs
-
-enum-told-2 : tie.Need-enum-told-2
-enum-told-2 c = search needs
-
-enum-told-3 : tie.Need-enum-told-3
-enum-told-3 c = search needs
-
-enum-told-4 : tie.Need-enum-told-4
-enum-told-4 c = search needs
-
 returns : tie.Need-returns
 returns c = sym (ap mayClear (c .enum-told .given .1))
 
@@ -32,4 +20,12 @@ returns-4 c = sym (ap mayClear (c .enum-told4 .given .1))
 pub may-clear-spec : {M : Type 1} → statement M
 may-clear-spec =
     tie.close
-    (tie.spec enum-told enum-told-2 enum-told-3 enum-told-4 returns returns-2 returns-3 returns-4)
+    (tie.spec
+    (λ c. search needs)  -- enum-told
+    (λ c. search needs)  -- enum-told-2
+    (λ c. search needs)  -- enum-told-3
+    (λ c. search needs)  -- enum-told-4
+    returns
+    returns-2
+    returns-3
+    returns-4)

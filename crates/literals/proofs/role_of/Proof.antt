@@ -6,15 +6,6 @@ use Rattle.literals.specs.Domain.{roleOf}
 use Rattle.literals.proofs.role_of.Statement.{statement}
 use Rattle.literals.proofs.role_of.Tie as tie
 
-usage-of-requires : tie.Need-usage-of-requires
-usage-of-requires c κs = search needs
-
-usage-of-requires-2 : tie.Need-usage-of-requires-2
-usage-of-requires-2 c κs = search needs
-
-usage-of-requires-3 : tie.Need-usage-of-requires-3
-usage-of-requires-3 c κs = search needs
-
 returns : tie.Need-returns
 unfolding roleOf
 returns c = simp (c .usage-of .ensures, lt-ltb (c .before .before .args .role) 4 (omega arith))
@@ -31,9 +22,9 @@ pub role-of-spec : {M : Type 1} → statement M
 role-of-spec =
     tie.close
     (tie.spec
-    usage-of-requires
-    usage-of-requires-2
-    usage-of-requires-3
+    (λ c κs. search needs)  -- usage-of-requires
+    (λ c κs. search needs)  -- usage-of-requires-2
+    (λ c κs. search needs)  -- usage-of-requires-3
     returns
     returns-2
     returns-3)

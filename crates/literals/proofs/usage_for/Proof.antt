@@ -20,18 +20,6 @@ module _ (t : Time) (role : ℕ) (r : Role) (e : r ≡ roleOf role) where
   unfolding usageFor
   passed h = sym (ap (λ b. cond b (suc (usageNumber (r .usage))) 0) h) ∙ ap (usageAmong t) e
 
-role-of-requires : tie.Need-role-of-requires
-role-of-requires c κs = search needs
-
-same-time-requires : tie.Need-same-time-requires
-same-time-requires c κs = search needs
-
-usage-number-requires : tie.Need-usage-number-requires
-usage-number-requires c κs = search needs
-
-add-result : tie.Need-add-result
-add-result c = search needs
-
 returns : tie.Need-returns
 returns c = counted _ _ (c .before .before .before .role-of .result) (c .before .before .before .role-of .ensures) _ (sym (c .before .before .same-time .ensures) ∙ c .before .if1 .taken) (c .usage-number .ensures .0)
 
@@ -42,9 +30,9 @@ pub usage-for-spec : {M : Type 1} → statement M
 usage-for-spec =
     tie.close
     (tie.spec
-    role-of-requires
-    same-time-requires
-    usage-number-requires
-    add-result
+    (λ c κs. search needs)  -- role-of-requires
+    (λ c κs. search needs)  -- same-time-requires
+    (λ c κs. search needs)  -- usage-number-requires
+    (λ c. search needs)  -- add-result
     returns
     returns-2)

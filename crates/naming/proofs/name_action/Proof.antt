@@ -13,24 +13,19 @@ number-classes-requires c κs = let p = c .before .before .before .before .befor
 
 name-classes-requires : tie.Need-name-classes-requires
 name-classes-requires c κs =
-    let p = c .before .before .before .before .before .before .before .before .before .before .before .before .before .pre in
-    let f = c .before .before .before .before .before .before .number-classes .kept .1 .1 .1 .0 in
-    let k = c .before .before .before .before .before .before .number-classes .ensures .0 in
+    let back8 = c .before .before .before .before .before .before .before .before in
+    let number-classes = c .before .before .before .before .before .before .number-classes in
+    let p = back8 .before .before .before .before .before .pre in
+    let f = number-classes .kept .1 .1 .1 .0 in
+    let k = number-classes .ensures .0 in
     (p .1 .0 ∙ ap (λ (n : ℕ). 8 * n) (sym f), (omega arith, (omega arith, omega arith)))
-
-same-length : tie.Need-same-length
-same-length c = search needs
-
-same-length-2 : tie.Need-same-length-2
-same-length-2 c = search needs
-
-same-length-3 : tie.Need-same-length-3
-same-length-3 c = search needs
 
 returns : tie.Need-returns
 returns c =
-    let k = c .before .before .before .before .before .before .before .before .before .before .number-classes .ensures .0 in
-    let t = c .before .before .before .before .before .before .before .before .before .before .number-classes .ensures .1 in
+    let back8 = c .before .before .before .before .before .before .before .before in
+    let number-classes = back8 .before .before .number-classes in
+    let k = number-classes .ensures .0 in
+    let t = number-classes .ensures .1 in
     let w = c .before .before .before .name-classes .ensures in (
       omega arith,
       (
@@ -50,7 +45,7 @@ name-action-spec =
     (tie.spec
     number-classes-requires
     name-classes-requires
-    same-length
-    same-length-2
-    same-length-3
+    (λ c. search needs)  -- same-length
+    (λ c. search needs)  -- same-length-2
+    (λ c. search needs)  -- same-length-3
     returns)

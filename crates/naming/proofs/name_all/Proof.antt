@@ -21,18 +21,6 @@ Inv-loop head table numbers₀ names₀ counts₀ places₀ words₀ rows₀ not
 abbrev μ-loop : tie.MeasureT-loop
 μ-loop head table numbers₀ names₀ counts₀ places₀ words₀ rows₀ notes₀ i₀ i-end numbers names counts words rows notes i = i-end - i
 
-slice-aggregate-put-places : tie.Need-slice-aggregate-put-places Inv-loop μ-loop
-slice-aggregate-put-places c = search needs
-
-put-places-requires : tie.Need-put-places-requires Inv-loop μ-loop
-put-places-requires c κs = search needs
-
-new-requires : tie.Need-new-requires Inv-loop μ-loop
-new-requires c κs = search needs
-
-actions-in-requires : tie.Need-actions-in-requires Inv-loop μ-loop
-actions-in-requires c κs = search needs
-
 loop-holds : tie.Need-loop-holds Inv-loop μ-loop
 loop-holds c =
     record {
@@ -47,42 +35,19 @@ loop-holds c =
       counted = λ D H wf z. z;
     }
 
-rows-of-requires : tie.Need-rows-of-requires Inv-loop μ-loop
-rows-of-requires c κs = search needs
-
-mul-from : tie.Need-mul-from Inv-loop μ-loop
-mul-from c = search needs
-
-mul-to : tie.Need-mul-to Inv-loop μ-loop
-mul-to c = search needs
-
-sub-name-action : tie.Need-sub-name-action Inv-loop μ-loop
-sub-name-action c = search needs
-
-part-name-action-start : tie.Need-part-name-action-start Inv-loop μ-loop
-part-name-action-start c = search needs
-
-part-name-action-end : tie.Need-part-name-action-end Inv-loop μ-loop
-part-name-action-end c = search needs
-
-sub-name-action-2 : tie.Need-sub-name-action-2 Inv-loop μ-loop
-sub-name-action-2 c = search needs
-
 part-name-action-start-2 : tie.Need-part-name-action-start-2 Inv-loop μ-loop
 part-name-action-start-2 c = c .before .before .rows-of .ensures .0 .order
 
 part-name-action-end-2 : tie.Need-part-name-action-end-2 Inv-loop μ-loop
 part-name-action-end-2 c =
+    let back8 = c .before .before .before .before .before .before .before .before in
     let F = c .before .before .rows-of .ensures .0 .room in
     let q = c .before .before .before .before .loop .inv .numbers-room in
-    let u = c .before .before .before .before .before .before .before .before .before .before .before .before .before .pre .1 .0 in
+    let u = back8 .before .before .before .before .before .pre .1 .0 in
     omega arith
 
 slice-aggregate-name-action : tie.Need-slice-aggregate-name-action Inv-loop μ-loop
 slice-aggregate-name-action c = sym (c .before .before .before .before .before .before .loop .inv .words-room)
-
-is-lasting-requires : tie.Need-is-lasting-requires Inv-loop μ-loop
-is-lasting-requires c κs = search needs
 
 name-action-requires : tie.Need-name-action-requires Inv-loop μ-loop
 name-action-requires c κs =
@@ -106,48 +71,54 @@ name-action-requires c κs =
 
 cast-counts : tie.Need-cast-counts Inv-loop μ-loop
 cast-counts c =
-    let q = c .before .before .before .before .before .before .before .before .before .before .name-action-arg2 .given .1 in
+    let back8 = c .before .before .before .before .before .before .before .before in
+    let q = back8 .before .before .name-action-arg2 .given .1 in
     let k = c .before .before .before .before .before .before .name-action .ensures .1 .0 in
-    let f = c .before .before .before .before .before .before .before .before .before .before .before .before .before .rows-of .ensures .0
-    .few in
+    let f = back8 .before .before .before .before .before .rows-of .ensures .0 .few in
     omega arith
 
 element-write-counts : tie.Need-element-write-counts Inv-loop μ-loop
 element-write-counts c =
-    let H = c .before .before .before .before .before .before .before .before .before .before .before .before .before .before .before .before .before .before .before .before .before .before .before .before .pre .0 .1 in
-    let n = c .before .before .before .before .before .before .before .before .before .before .before .before .before .before .before .before .actions-in .ensures in
+    let back8 = c .before .before .before .before .before .before .before .before in
+    let back16 = back8 .before .before .before .before .before .before .before .before in
+    let back24 = back16 .before .before .before .before .before .before .before .before in
+    let H = back24 .pre .0 .1 in
+    let n = back16 .actions-in .ensures in
     let m = H .says .actions in
     let f = H .says .bounded .actions in
-    let t = c .before .before .before .before .before .before .before .before .before .before .before .before .before .before .loop-test
-    .taken in
+    let t = back8 .before .before .before .before .before .before .loop-test .taken in
     omega arith
 
 cast-with : tie.Need-cast-with Inv-loop μ-loop
-cast-with c = let n = c .before .before .before .before .before .before .before .before .before .before .before .before .before .before .before .before .before .actions-in .ensures .1 in let t = c .before .before .before .before .before .before .before .before .before .before .before .before .before .before .before .loop-test .taken in omega arith
-
-with-requires : tie.Need-with-requires Inv-loop μ-loop
-with-requires c κs = search needs
+cast-with c =
+    let back8 = c .before .before .before .before .before .before .before .before in
+    let back16 = back8 .before .before .before .before .before .before .before .before in
+    let n = back16 .before .actions-in .ensures .1 in
+    let t = back8 .before .before .before .before .before .before .before .loop-test .taken in omega arith
 
 add-i : tie.Need-add-i Inv-loop μ-loop
 add-i c =
-    let H = c .before .before .before .before .before .before .before .before .before .before .before .before .before .before .before .before .before .before .before .before .before .before .before .before .before .before .pre .0 .1 in
-    let n = c .before .before .before .before .before .before .before .before .before .before .before .before .before .before .before .before .before .before .actions-in .ensures in
+    let back8 = c .before .before .before .before .before .before .before .before in
+    let back16 = back8 .before .before .before .before .before .before .before .before in
+    let back24 = back16 .before .before .before .before .before .before .before .before in
+    let H = back24 .before .before .pre .0 .1 in
+    let n = back16 .before .before .actions-in .ensures in
     let m = H .says .actions in
     let f = H .says .bounded .actions in
-    let t = c .before .before .before .before .before .before .before .before .before .before .before .before .before .before .before .before .loop-test .taken in
+    let t = back16 .loop-test .taken in
     omega arith
-
-loop-less : tie.Need-loop-less Inv-loop μ-loop
-loop-less c = search needs
 
 loop-again : tie.Need-loop-again Inv-loop μ-loop
 loop-again c =
-    let b = c .before .before .before .before .before .before .before .before .before .before .before .before .before .before .before .rows-of in
+    let back8 = c .before .before .before .before .before .before .before .before in
+    let back16 = back8 .before .before .before .before .before .before .before .before in
+    let is-lasting = back8 .before .before .is-lasting in
+    let b = back8 .before .before .before .before .before .before .before .rows-of in
     let F = b .ensures .0 in
-    let l = c .before .before .before .before .before .before .before .before .before .before .before .before .before .before .before .before .before .loop in
-    let n = c .before .before .before .before .before .before .before .before .before .before .before .before .before .before .before .before .before .before .actions-in .ensures in
-    let t = c .before .before .before .before .before .before .before .before .before .before .before .before .before .before .before .before .loop-test .taken in
-    let w = c .before .before .before .before .before .before .before .before .name-action in
+    let l = back16 .before .loop in
+    let n = back16 .before .before .actions-in .ensures in
+    let t = back16 .loop-test .taken in
+    let w = back8 .name-action in
     record {
       reach = omega arith;
       numbers-room = c .before .before .before .before .before .before .before .numbers .given .1 ∙ l .inv .numbers-room;
@@ -166,27 +137,32 @@ loop-again c =
           λ D H.
           let m = H .says .actions in
           let h : l .i < length (D .actions) = omega arith in
-          names-next H (l .i) h (b .ensures .1 D H h) F _ (l .inv .few D H) _ (let q = c .before .before .before .before .before .before .before .before .before .before .before .before .name-action-arg2 .given .1 in let u = w .ensures .0 in omega arith);
+          names-next H (l .i) h (b .ensures .1 D H h) F _ (l .inv .few D H) _
+          (let q = back8 .before .before .before .before .name-action-arg2 .given .1 in let u = w .ensures .0 in omega arith);
       listed =
           λ D H wf.
           let m = H .says .actions in
           let h : l .i < length (D .actions) = omega arith in
           let A = action-held H wf (l .i) h (b .ensures .1 D H h .literals) in
-          listed-action D (l .i) h (w .ensures .1 .1 .1 D (action D (l .i)) A (sym (c .before .before .before .before .before .before .before .before .before .before .is-lasting .ensures ∙ H .says .lasting (l .i) h)) _ _ (l .i) (l .inv .listed D H wf) .2);
+          listed-action D (l .i) h (w .ensures .1 .1 .1 D (action D (l .i)) A (sym (is-lasting .ensures ∙ H .says .lasting (l .i) h)) _ _
+          (l .i) (l .inv .listed D H wf) .2);
       noted =
           λ D H wf.
           let m = H .says .actions in
           let h : l .i < length (D .actions) = omega arith in
           let A = action-held H wf (l .i) h (b .ensures .1 D H h .literals) in
-          let a = w .ensures .1 .1 .1 D (action D (l .i)) A (sym (c .before .before .before .before .before .before .before .before .before .before .is-lasting .ensures ∙ H .says .lasting (l .i) h)) _ _ (l .i) (l .inv .listed D H wf) in
+          let a = w .ensures .1 .1 .1 D (action D (l .i)) A (sym (is-lasting .ensures ∙ H .says .lasting (l .i) h)) _ _ (l .i)
+          (l .inv .listed D H wf) in
           noted-action D (l .i) h (l .inv .noted D H wf) (a .1) (c .with .ensures);
       counted =
           λ D H wf z.
           let m = H .says .actions in
           let h : l .i < length (D .actions) = omega arith in
           let A = action-held H wf (l .i) h (b .ensures .1 D H h .literals) in
-          let a = w .ensures .1 .1 .1 D (action D (l .i)) A (sym (c .before .before .before .before .before .before .before .before .before .before .is-lasting .ensures ∙ H .says .lasting (l .i) h)) _ _ (l .i) (l .inv .listed D H wf) in
-          ap (λ (v : ℕ). set (l .counts) (l .i) v) (a .0) ∙ counted-action D (l .i) _ h (H .says .bounded .actions) (l .inv .counted D H wf z);
+          let a = w .ensures .1 .1 .1 D (action D (l .i)) A (sym (is-lasting .ensures ∙ H .says .lasting (l .i) h)) _ _ (l .i)
+          (l .inv .listed D H wf) in
+          ap (λ (v : ℕ). set (l .counts) (l .i) v) (a .0)
+          ∙ counted-action D (l .i) _ h (H .says .bounded .actions) (l .inv .counted D H wf z);
     }
 
 same-length : tie.Need-same-length Inv-loop μ-loop
@@ -197,14 +173,16 @@ same-length-2 c = c .before .loop .inv .room
 
 returns : tie.Need-returns Inv-loop μ-loop
 returns c =
+    let back8 = c .before .before .before .before .before .before .before .before in
     let l = c .before .loop in
     let n = c .before .before .actions-in .ensures in
-    let H = c .before .before .before .before .before .before .before .before .before .before .pre .0 .1 in
+    let H = back8 .before .before .pre .0 .1 in
     let m = H .says .actions in (
       names-few H (l .i) _ (omega arith) (l .inv .few _ H),
       (
         λ D H wf. let m = H .says .actions in numbered-all D (l .i) _ (omega arith) (l .inv .numbered D H wf),
-        λ D H wf z. let m = H .says .actions in naming-done D (l .i) (omega arith) (l .inv .listed D H wf) (l .inv .noted D H wf) (l .inv .counted D H wf z),
+        λ D H wf z. let m = H .says .actions in
+            naming-done D (l .i) (omega arith) (l .inv .listed D H wf) (l .inv .noted D H wf) (l .inv .counted D H wf z),
       ),
     )
 
@@ -214,29 +192,29 @@ name-all-spec =
     (tie.spec
     Inv-loop
     μ-loop
-    slice-aggregate-put-places
-    put-places-requires
-    new-requires
-    actions-in-requires
+    (λ c. search needs)  -- slice-aggregate-put-places
+    (λ c κs. search needs)  -- put-places-requires
+    (λ c κs. search needs)  -- new-requires
+    (λ c κs. search needs)  -- actions-in-requires
     loop-holds
-    rows-of-requires
-    mul-from
-    mul-to
-    sub-name-action
-    part-name-action-start
-    part-name-action-end
-    sub-name-action-2
+    (λ c κs. search needs)  -- rows-of-requires
+    (λ c. search needs)  -- mul-from
+    (λ c. search needs)  -- mul-to
+    (λ c. search needs)  -- sub-name-action
+    (λ c. search needs)  -- part-name-action-start
+    (λ c. search needs)  -- part-name-action-end
+    (λ c. search needs)  -- sub-name-action-2
     part-name-action-start-2
     part-name-action-end-2
     slice-aggregate-name-action
-    is-lasting-requires
+    (λ c κs. search needs)  -- is-lasting-requires
     name-action-requires
     cast-counts
     element-write-counts
     cast-with
-    with-requires
+    (λ c κs. search needs)  -- with-requires
     add-i
-    loop-less
+    (λ c. search needs)  -- loop-less
     loop-again
     same-length
     same-length-2

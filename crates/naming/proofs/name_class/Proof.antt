@@ -10,30 +10,12 @@ use Rattle.classes.proofs.Decides.{asked-at-start}
 use Rattle.naming.proofs.name_class.Statement.{statement}
 use Rattle.naming.proofs.name_class.Tie as tie
 
-cast-number : tie.Need-cast-number
-cast-number c = omega arith
-
-sole-in-requires : tie.Need-sole-in-requires
-sole-in-requires c κs = (omega arith, omega arith)
-
 name-at-requires : tie.Need-name-at-requires
 name-at-requires c κs =
     let k = c .before .before .before .args .class in
     let h : k < 64 = omega arith in
     let p = c .before .before .before .pre in
     (p .0, c .sole-in .ensures ∙ p .1 .0 k h)
-
-sole-in-requires-2 : tie.Need-sole-in-requires-2
-sole-in-requires-2 c κs = (omega arith, omega arith)
-
-mul-asked : tie.Need-mul-asked
-mul-asked c = omega arith
-
-add-asked : tie.Need-add-asked
-add-asked c = omega arith
-
-element-copy-out-asked : tie.Need-element-copy-out-asked
-element-copy-out-asked c = omega arith
 
 name-at-requires-2 : tie.Need-name-at-requires-2
 name-at-requires-2 c κs =
@@ -44,16 +26,18 @@ name-at-requires-2 c κs =
 
 is-journey-requires : tie.Need-is-journey-requires
 is-journey-requires c κs =
-    let k = c .before .before .before .before .before .before .before .before .args .class in
+    let back8 = c .before .before .before .before .before .before .before .before in
+    let k = back8 .args .class in
     let h : k < 64 = omega arith in
-    let p = c .before .before .before .before .before .before .before .before .pre in
+    let p = back8 .pre in
     (p .0, c .before .before .before .before .before .sole-in .ensures ∙ p .1 .0 k h)
 
 returns : tie.Need-returns
 returns c =
-    let k = c .before .before .before .before .before .before .before .before .before .args .class in
+    let back8 = c .before .before .before .before .before .before .before .before in
+    let k = back8 .before .args .class in
     let h : k < 64 = omega arith in
-    let p = c .before .before .before .before .before .before .before .before .before .pre in
+    let p = back8 .before .pre in
     let first = c .before .before .before .before .before .before .sole-in .ensures ∙ p .1 .0 k h in (
       λ D a M f. c .before .before .before .before .before .name-at .ensures D a Start M f (asked-at-start M k first),
       λ D a M E f t l. (
@@ -77,13 +61,13 @@ pub name-class-spec : {M : Type 1} → statement M
 name-class-spec =
     tie.close
     (tie.spec
-    cast-number
-    sole-in-requires
+    (λ c. omega arith)  -- cast-number
+    (λ c κs. (omega arith, omega arith))  -- sole-in-requires
     name-at-requires
-    sole-in-requires-2
-    mul-asked
-    add-asked
-    element-copy-out-asked
+    (λ c κs. (omega arith, omega arith))  -- sole-in-requires-2
+    (λ c. omega arith)  -- mul-asked
+    (λ c. omega arith)  -- add-asked
+    (λ c. omega arith)  -- element-copy-out-asked
     name-at-requires-2
     is-journey-requires
     returns

@@ -12,33 +12,9 @@ returns : tie.Need-returns
 unfolding recordAt
 returns c = simp (le-leb _ _ (c .if1 .taken))
 
-sub-if2 : tie.Need-sub-if2
-sub-if2 c = search needs
-
 returns-2 : tie.Need-returns-2
 unfolding recordAt
 returns-2 c = simp (lt-leb _ _ (c .before .if1 .left), lt-ltb _ _ (c .if2 .taken))
-
-word-at-requires : tie.Need-word-at-requires
-word-at-requires c κs = search needs
-
-cast-len : tie.Need-cast-len
-cast-len c = search needs
-
-add-word-at : tie.Need-add-word-at
-add-word-at c = search needs
-
-word-at-requires-2 : tie.Need-word-at-requires-2
-word-at-requires-2 c κs = search needs
-
-sub-if3 : tie.Need-sub-if3
-sub-if3 c = search needs
-
-sub-if3-2 : tie.Need-sub-if3-2
-sub-if3-2 c = search needs
-
-add-t11 : tie.Need-add-t11
-add-t11 c = search needs
 
 returns-3 : tie.Need-returns-3
 unfolding recordAt
@@ -67,14 +43,14 @@ found-at-spec =
     tie.close
     (tie.spec
     returns
-    sub-if2
+    (λ c. search needs)  -- sub-if2
     returns-2
-    word-at-requires
-    cast-len
-    add-word-at
-    word-at-requires-2
-    sub-if3
-    sub-if3-2
-    add-t11
+    (λ c κs. search needs)  -- word-at-requires
+    (λ c. search needs)  -- cast-len
+    (λ c. search needs)  -- add-word-at
+    (λ c κs. search needs)  -- word-at-requires-2
+    (λ c. search needs)  -- sub-if3
+    (λ c. search needs)  -- sub-if3-2
+    (λ c. search needs)  -- add-t11
     returns-3
     returns-4)

@@ -16,55 +16,42 @@ returns-2 c = fact-late _ _ _ _ (c .before .if1 .left) (c .if2 .taken)
 returns-3 : tie.Need-returns-3
 returns-3 c = fact-short _ _ _ _ (c .before .before .if1 .left) (c .before .if2 .left) (c .if3 .taken)
 
-shared-slice-read-wide : tie.Need-shared-slice-read-wide
-shared-slice-read-wide c = search needs
-
-wide-requires : tie.Need-wide-requires
-wide-requires c κs = search needs
-
-relations-in-requires : tie.Need-relations-in-requires
-relations-in-requires c κs = search needs
-
 returns-4 : tie.Need-returns-4
 returns-4 c =
     let n = c .before .relations-in .ensures .0 in
     let t = c .if4 .taken in
     fact-unknown _ _ _ _ (c .before .before .before .before .before .before .if1 .left) (c .before .before .before .before .before .if2 .left) (c .before .before .before .before .if3 .left) _ (c .before .before .wide .ensures .0) (omega arith)
 
-shared-slice-read-arity-of : tie.Need-shared-slice-read-arity-of
-shared-slice-read-arity-of c = search needs
-
-arity-of-requires : tie.Need-arity-of-requires
-arity-of-requires c κs = search needs
-
-wide-requires-2 : tie.Need-wide-requires-2
-wide-requires-2 c κs = search needs
-
-add-if5 : tie.Need-add-if5
-add-if5 c = search needs
-
 returns-5 : tie.Need-returns-5
 returns-5 c =
+    let back8 = c .before .before .before .before .before .before .before .before in
     let n = c .before .before .before .before .before .relations-in .ensures .0 in
     let t = c .before .before .before .before .if4 .left in
-    fact-length _ _ _ _ (c .before .before .before .before .before .before .before .before .before .before .if1 .left) (c .before .before .before .before .before .before .before .before .before .if2 .left) (c .before .before .before .before .before .before .before .before .if3 .left) _ (c .before .before .before .before .before .before .wide .ensures .0) (omega arith) _ (c .before .wide2 .ensures .0 ∙ c .before .before .arity-of .ensures .0) (c .if5 .taken)
-
-any-from-requires : tie.Need-any-from-requires
-any-from-requires c κs = search needs
+    fact-length _ _ _ _ (back8 .before .before .if1 .left) (back8 .before .if2 .left) (back8 .if3 .left) _
+    (c .before .before .before .before .before .before .wide .ensures .0) (omega arith) _
+    (c .before .wide2 .ensures .0 ∙ c .before .before .arity-of .ensures .0) (c .if5 .taken)
 
 returns-6 : tie.Need-returns-6
 returns-6 c =
+    let back8 = c .before .before .before .before .before .before .before .before in
     let n = c .before .before .before .before .before .before .before .relations-in .ensures .0 in
     let t = c .before .before .before .before .before .before .if4 .left in
     sym (ap (λ out. cond out 51 0) (c .if6 .taken))
-    ∙ fact-objects _ _ _ _ (c .before .before .before .before .before .before .before .before .before .before .before .before .if1 .left) (c .before .before .before .before .before .before .before .before .before .before .before .if2 .left) (c .before .before .before .before .before .before .before .before .before .before .if3 .left) _ (c .before .before .before .before .before .before .before .before .wide .ensures .0) (omega arith) _ (c .before .before .before .wide2 .ensures .0 ∙ c .before .before .before .before .arity-of .ensures .0) (c .before .before .if5 .left) _ (c .before .any-from .ensures)
+    ∙ fact-objects _ _ _ _ (back8 .before .before .before .before .if1 .left) (back8 .before .before .before .if2 .left)
+    (back8 .before .before .if3 .left) _ (back8 .wide .ensures .0) (omega arith) _
+    (c .before .before .before .wide2 .ensures .0 ∙ c .before .before .before .before .arity-of .ensures .0)
+    (c .before .before .if5 .left) _ (c .before .any-from .ensures)
 
 returns-7 : tie.Need-returns-7
 returns-7 c =
+    let back8 = c .before .before .before .before .before .before .before .before in
     let n = c .before .before .before .before .before .before .before .relations-in .ensures .0 in
     let t = c .before .before .before .before .before .before .if4 .left in
     sym (ap (λ out. cond out 51 0) (c .if6 .left))
-    ∙ fact-objects _ _ _ _ (c .before .before .before .before .before .before .before .before .before .before .before .before .if1 .left) (c .before .before .before .before .before .before .before .before .before .before .before .if2 .left) (c .before .before .before .before .before .before .before .before .before .before .if3 .left) _ (c .before .before .before .before .before .before .before .before .wide .ensures .0) (omega arith) _ (c .before .before .before .wide2 .ensures .0 ∙ c .before .before .before .before .arity-of .ensures .0) (c .before .before .if5 .left) _ (c .before .any-from .ensures)
+    ∙ fact-objects _ _ _ _ (back8 .before .before .before .before .if1 .left) (back8 .before .before .before .if2 .left)
+    (back8 .before .before .if3 .left) _ (back8 .wide .ensures .0) (omega arith) _
+    (c .before .before .before .wide2 .ensures .0 ∙ c .before .before .before .before .arity-of .ensures .0)
+    (c .before .before .if5 .left) _ (c .before .any-from .ensures)
 
 pub fact-fields-spec : {M : Type 1} → statement M
 fact-fields-spec =
@@ -73,15 +60,15 @@ fact-fields-spec =
     returns
     returns-2
     returns-3
-    shared-slice-read-wide
-    wide-requires
-    relations-in-requires
+    (λ c. search needs)  -- shared-slice-read-wide
+    (λ c κs. search needs)  -- wide-requires
+    (λ c κs. search needs)  -- relations-in-requires
     returns-4
-    shared-slice-read-arity-of
-    arity-of-requires
-    wide-requires-2
-    add-if5
+    (λ c. search needs)  -- shared-slice-read-arity-of
+    (λ c κs. search needs)  -- arity-of-requires
+    (λ c κs. search needs)  -- wide-requires-2
+    (λ c. search needs)  -- add-if5
     returns-5
-    any-from-requires
+    (λ c κs. search needs)  -- any-from-requires
     returns-6
     returns-7)

@@ -19,9 +19,6 @@ abbrev μ-loop : tie.MeasureT-loop
 loop-holds : tie.Need-loop-holds Inv-loop μ-loop
 loop-holds c = let a = c .before .before .args in (omega arith, ap (any (waitsAt (a .moments .now) (a .rows .now) (a .moment) (a .t5))) (left-all (a .count)))
 
-slice-aggregate-waits-at : tie.Need-slice-aggregate-waits-at Inv-loop μ-loop
-slice-aggregate-waits-at c = search needs
-
 waits-at-requires : tie.Need-waits-at-requires Inv-loop μ-loop
 waits-at-requires c κs =
     let p = c .before .before .before .before .before .pre in
@@ -32,12 +29,6 @@ returns : tie.Need-returns Inv-loop μ-loop
 returns c =
     let l = c .before .before .before .before .loop in
     sym (any-hit _ _ (l .i) (c .before .before .before .loop-test .taken) (sym (c .before .waits-at .ensures) ∙ c .if1 .taken)) ∙ l .inv .1
-
-add-i : tie.Need-add-i Inv-loop μ-loop
-add-i c = omega arith
-
-loop-less : tie.Need-loop-less Inv-loop μ-loop
-loop-less c = omega arith
 
 loop-again : tie.Need-loop-again Inv-loop μ-loop
 loop-again c =
@@ -56,10 +47,10 @@ is-waiting-spec =
     Inv-loop
     μ-loop
     loop-holds
-    slice-aggregate-waits-at
+    (λ c. search needs)  -- slice-aggregate-waits-at
     waits-at-requires
     returns
-    add-i
-    loop-less
+    (λ c. omega arith)  -- add-i
+    (λ c. omega arith)  -- loop-less
     loop-again
     returns-2)

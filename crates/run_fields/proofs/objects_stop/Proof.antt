@@ -17,20 +17,11 @@ returns-2 c =
     let a = c .before .before .args in
     (simp (eq-eqb (a .objects) 0 (c .before .if1 .left), ne-eqb (length (a .p .now)) 1 (c .if2 .taken)), λ z. absurd (omega arith))
 
-shared-slice-read-if3 : tie.Need-shared-slice-read-if3
-shared-slice-read-if3 c = search needs
-
 returns-3 : tie.Need-returns-3
 unfolding objectsStop
 returns-3 c =
     let a = c .before .before .before .before .args in
     (simp (eq-eqb (a .objects) 0 (c .before .before .before .if1 .left), eq-eqb (length (a .p .now)) 1 (c .before .before .if2 .left), eq-eqb (getD (a .p .now) 0 0) 0 (c .if3 .taken)), λ z. absurd (omega arith))
-
-cast-if4 : tie.Need-cast-if4
-cast-if4 c = search needs
-
-shared-slice-read-if4 : tie.Need-shared-slice-read-if4
-shared-slice-read-if4 c = search needs
 
 returns-4 : tie.Need-returns-4
 unfolding objectsStop
@@ -66,9 +57,9 @@ objects-stop-spec =
     (tie.spec
     returns
     returns-2
-    shared-slice-read-if3
+    (λ c. search needs)  -- shared-slice-read-if3
     returns-3
-    cast-if4
-    shared-slice-read-if4
+    (λ c. search needs)  -- cast-if4
+    (λ c. search needs)  -- shared-slice-read-if4
     returns-4
     returns-5)

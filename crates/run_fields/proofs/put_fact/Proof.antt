@@ -7,18 +7,6 @@ use lib.Seq.{paste}
 use Rattle.run_fields.proofs.put_fact.Statement.{statement}
 use Rattle.run_fields.proofs.put_fact.Tie as tie
 
-mul-put-bytes : tie.Need-mul-put-bytes
-mul-put-bytes c = search needs
-
-slice-aggregate-put-bytes : tie.Need-slice-aggregate-put-bytes
-slice-aggregate-put-bytes c = search needs
-
-put-bytes-requires : tie.Need-put-bytes-requires
-put-bytes-requires c κs = search needs
-
-same-length : tie.Need-same-length
-same-length c = search needs
-
 returns : tie.Need-returns
 returns c =
     let a = c .before .before .before .before .before .before .args in
@@ -28,4 +16,9 @@ returns c =
 pub put-fact-spec : {M : Type 1} → statement M
 put-fact-spec =
     tie.close
-    (tie.spec mul-put-bytes slice-aggregate-put-bytes put-bytes-requires same-length returns)
+    (tie.spec
+    (λ c. search needs)  -- mul-put-bytes
+    (λ c. search needs)  -- slice-aggregate-put-bytes
+    (λ c κs. search needs)  -- put-bytes-requires
+    (λ c. search needs)  -- same-length
+    returns)

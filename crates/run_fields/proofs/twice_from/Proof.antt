@@ -17,28 +17,10 @@ Inv-loop p from i₀ i = not (distinct eqb (drop i p)) ≡ not (distinct eqb (dr
 abbrev μ-loop : tie.MeasureT-loop
 μ-loop p from i₀ i = length p - i
 
-loop-holds : tie.Need-loop-holds Inv-loop μ-loop
-loop-holds c = refl
-
-add-count-from : tie.Need-add-count-from Inv-loop μ-loop
-add-count-from c = omega arith
-
-shared-slice-read-count-from : tie.Need-shared-slice-read-count-from Inv-loop μ-loop
-shared-slice-read-count-from c = omega arith
-
-count-from-requires : tie.Need-count-from-requires Inv-loop μ-loop
-count-from-requires c κs = search needs
-
 returns : tie.Need-returns Inv-loop μ-loop
 returns c =
     let turn = c .before .before .before .before in
     sym (twice-hit (turn .before .before .args .p .now) (turn .loop .i) _ (omega arith) (c .before .count-from .ensures) (c .if1 .taken)) ∙ turn .loop .inv
-
-add-i : tie.Need-add-i Inv-loop μ-loop
-add-i c = omega arith
-
-loop-less : tie.Need-loop-less Inv-loop μ-loop
-loop-less c = omega arith
 
 loop-again : tie.Need-loop-again Inv-loop μ-loop
 loop-again c =
@@ -54,12 +36,12 @@ twice-from-spec =
     (tie.spec
     Inv-loop
     μ-loop
-    loop-holds
-    add-count-from
-    shared-slice-read-count-from
-    count-from-requires
+    (λ c. refl)  -- loop-holds
+    (λ c. omega arith)  -- add-count-from
+    (λ c. omega arith)  -- shared-slice-read-count-from
+    (λ c κs. search needs)  -- count-from-requires
     returns
-    add-i
-    loop-less
+    (λ c. omega arith)  -- add-i
+    (λ c. omega arith)  -- loop-less
     loop-again
     returns-2)

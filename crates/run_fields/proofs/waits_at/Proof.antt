@@ -5,15 +5,6 @@ use Rattle.run_fields.specs.Held.{waitsAt}
 use Rattle.run_fields.proofs.waits_at.Statement.{statement}
 use Rattle.run_fields.proofs.waits_at.Tie as tie
 
-shared-slice-read-if1 : tie.Need-shared-slice-read-if1
-shared-slice-read-if1 c = search needs
-
-mul-same-ground : tie.Need-mul-same-ground
-mul-same-ground c = search needs
-
-same-ground-requires : tie.Need-same-ground-requires
-same-ground-requires c κs = search needs
-
 returns : tie.Need-returns
 unfolding waitsAt
 returns c = simp (eq-eqb _ _ (c .before .if1 .taken)) (c .same-ground .ensures)
@@ -26,8 +17,8 @@ pub waits-at-spec : {M : Type 1} → statement M
 waits-at-spec =
     tie.close
     (tie.spec
-    shared-slice-read-if1
-    mul-same-ground
-    same-ground-requires
+    (λ c. search needs)  -- shared-slice-read-if1
+    (λ c. search needs)  -- mul-same-ground
+    (λ c κs. search needs)  -- same-ground-requires
     returns
     returns-2)

@@ -10,9 +10,6 @@ use borrow.Author.Needs.{needs}
 use Rattle.templates.proofs.list_file.Statement.{statement}
 use Rattle.templates.proofs.list_file.Tie as tie
 
-slice-aggregate-read-domain : tie.Need-slice-aggregate-read-domain
-slice-aggregate-read-domain c = search needs
-
 read-domain-requires : tie.Need-read-domain-requires
 read-domain-requires c κs = (refl, inl (omega arith))
 
@@ -23,25 +20,21 @@ returns c =
     let out = c .before .before .before .before .before .before .before .args .list .now in
     answers-refused listBytes f out _ (refusal-is f _ _ _ (c .before .before .read-domain .ensures .0) (c .if1 .taken))
 
-slice-aggregate-list-domain : tie.Need-slice-aggregate-list-domain
-slice-aggregate-list-domain c = search needs
-
 list-domain-requires : tie.Need-list-domain-requires
 list-domain-requires c κs =
-    let o = opened (c .before .before .before .before .before .before .before .before .before .before .before .args .file .now) _ _ _
+    let back8 = c .before .before .before .before .before .before .before .before in
+    let o = opened (back8 .before .before .before .args .file .now) _ _ _
     (c .before .before .before .before .before .before .read-domain .ensures .0) (c .before .before .before .before .if1 .left) in
     ((o .said, o .held), o .whole)
-
-same-length : tie.Need-same-length
-same-length c = search needs
 
 returns-2 : tie.Need-returns-2
 unfolding listFile listAfter
 returns-2 c =
-    let entry = c .before .before .before .before .before .before .before .before .before .before .before .before .before .before .args in
+    let back8 = c .before .before .before .before .before .before .before .before in
+    let entry = back8 .before .before .before .before .before .before .args in
     let f = entry .file .now in
     let left = c .before .before .before .before .before .before .before .if1 .left in
-    let o = opened f _ _ _ (c .before .before .before .before .before .before .before .before .before .read-domain .ensures .0) left in
+    let o = opened f _ _ _ (back8 .before .read-domain .ensures .0) left in
     let made = c .before .before .list-domain .ensures (o .said) (o .held) (decoded-well-formed f (o .said) (o .decoded)) in
     answers-read listBytes f (entry .list .now) (o .said) (o .decoded) made
 
@@ -49,10 +42,10 @@ pub list-file-spec : {M : Type 1} → statement M
 list-file-spec =
     tie.close
     (tie.spec
-    slice-aggregate-read-domain
+    (λ c. search needs)  -- slice-aggregate-read-domain
     read-domain-requires
     returns
-    slice-aggregate-list-domain
+    (λ c. search needs)  -- slice-aggregate-list-domain
     list-domain-requires
-    same-length
+    (λ c. search needs)  -- same-length
     returns-2)

@@ -4,12 +4,6 @@ use borrow.Author.Needs.{needs}
 use Rattle.templates.proofs.list_templates.Statement.{statement}
 use Rattle.templates.proofs.list_templates.Tie as tie
 
-list-file-requires : tie.Need-list-file-requires
-list-file-requires c κs = search needs
-
-same-length : tie.Need-same-length
-same-length c = search needs
-
 returns : tie.Need-returns
 returns c =
     let f = c .before .before .before .before .before .before .before .args .file .now in
@@ -20,4 +14,9 @@ returns c =
     (number, (first, (list, (entries-safe f out _ _ _ number first list, nothing-missing f out _ _ _ number first list))))
 
 pub list-templates-spec : {M : Type 1} → statement M
-list-templates-spec = tie.close (tie.spec list-file-requires same-length returns)
+list-templates-spec =
+    tie.close
+    (tie.spec
+    (λ c κs. search needs)  -- list-file-requires
+    (λ c. search needs)  -- same-length
+    returns)

@@ -7,12 +7,6 @@ use borrow.Author.Needs.{needs}
 use Rattle.totals.proofs.count_box.Statement.{statement}
 use Rattle.totals.proofs.count_box.Tie as tie
 
-count-opened-requires : tie.Need-count-opened-requires
-count-opened-requires c κs = search needs
-
-same-length : tie.Need-same-length
-same-length c = search needs
-
 returns : tie.Need-returns
 returns c =
     let (number, (place, memory)) = c .before .before .count-opened .ensures in
@@ -22,4 +16,9 @@ returns c =
     (number, (place, (memory, (counts-files b out small number memory, adds-up b out small number memory))))
 
 pub count-box-spec : {M : Type 1} → statement M
-count-box-spec = tie.close (tie.spec count-opened-requires same-length returns)
+count-box-spec =
+    tie.close
+    (tie.spec
+    (λ c κs. search needs)  -- count-opened-requires
+    (λ c. search needs)  -- same-length
+    returns)

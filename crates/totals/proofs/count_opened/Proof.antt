@@ -5,23 +5,11 @@ use borrow.Author.Needs.{needs}
 use Rattle.totals.proofs.count_opened.Statement.{statement}
 use Rattle.totals.proofs.count_opened.Tie as tie
 
-open-box-requires : tie.Need-open-box-requires
-open-box-requires c κs = search needs
-
-enum-known-opening : tie.Need-enum-known-opening
-enum-known-opening c = search needs
-
-enum-told : tie.Need-enum-told
-enum-told c = search needs
-
 count-whole-requires : tie.Need-count-whole-requires
 count-whole-requires c κs = opened-whole (c .before .before .before .before .before .before .before .args .packed .now) (c .before .before .before .before .before .before .before .args .totals .now) (sym (c .before .before .enum-told .given .1) ∙ c .before .before .before .before .open-box .ensures)
 
 returns : tie.Need-returns
 returns c = cut-is (c .before .before .before .before .before .before .args .packed .now) (c .before .before .before .before .before .before .args .totals .now) _ (sym (c .before .opening .given .1) ∙ c .before .before .before .open-box .ensures)
-
-same-length : tie.Need-same-length
-same-length c = search needs
 
 returns-2 : tie.Need-returns-2
 returns-2 c = c .before .before .count-whole .ensures
@@ -30,10 +18,10 @@ pub count-opened-spec : {M : Type 1} → statement M
 count-opened-spec =
     tie.close
     (tie.spec
-    open-box-requires
-    enum-known-opening
-    enum-told
+    (λ c κs. search needs)  -- open-box-requires
+    (λ c. search needs)  -- enum-known-opening
+    (λ c. search needs)  -- enum-told
     count-whole-requires
     returns
-    same-length
+    (λ c. search needs)  -- same-length
     returns-2)

@@ -9,32 +9,27 @@ use Rattle.totals.proofs.count_whole.Tie as tie
 returns : tie.Need-returns
 returns c = short-is (c .before .before .before .args .packed .now) (c .before .before .before .args .totals .now) (c .before .before .before .pre) (omega arith)
 
-slice-aggregate-count-files : tie.Need-slice-aggregate-count-files
-slice-aggregate-count-files c = search needs
-
 count-files-requires : tie.Need-count-files-requires
 count-files-requires c κs = (c .before .before .before .before .pre, refl)
-
-slice-aggregate-put-totals : tie.Need-slice-aggregate-put-totals
-slice-aggregate-put-totals c = search needs
 
 put-totals-requires : tie.Need-put-totals-requires
 put-totals-requires c κs = let l = c .before .before .before .count-files .kept .1 .0 in omega arith
 
-same-length : tie.Need-same-length
-same-length c = search needs
-
 returns-2 : tie.Need-returns-2
-returns-2 c = done-is (c .before .before .before .before .before .before .before .before .before .before .before .args .packed .now) (c .before .before .before .before .before .before .before .before .before .before .before .args .totals .now) (c .before .before .before .before .before .before .before .before .before .before .before .pre) (omega arith) (c .before .before .before .before .before .before .count-files .ensures) (c .before .before .put-totals .ensures)
+returns-2 c =
+    let back8 = c .before .before .before .before .before .before .before .before in
+    let args = back8 .before .before .before .args in
+    done-is (args .packed .now) (args .totals .now) (back8 .before .before .before .pre) (omega arith)
+    (c .before .before .before .before .before .before .count-files .ensures) (c .before .before .put-totals .ensures)
 
 pub count-whole-spec : {M : Type 1} → statement M
 count-whole-spec =
     tie.close
     (tie.spec
     returns
-    slice-aggregate-count-files
+    (λ c. search needs)  -- slice-aggregate-count-files
     count-files-requires
-    slice-aggregate-put-totals
+    (λ c. search needs)  -- slice-aggregate-put-totals
     put-totals-requires
-    same-length
+    (λ c. search needs)  -- same-length
     returns-2)

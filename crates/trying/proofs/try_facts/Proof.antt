@@ -4,12 +4,6 @@ use borrow.Author.Needs.{needs}
 use Rattle.trying.proofs.try_facts.Statement.{statement}
 use Rattle.trying.proofs.try_facts.Tie as tie
 
-try-file-requires : tie.Need-try-file-requires
-try-file-requires c κs = search needs
-
-same-length : tie.Need-same-length
-same-length c = search needs
-
 returns : tie.Need-returns
 returns c =
     let f = c .before .before .before .before .before .before .before .args .file .now in
@@ -20,4 +14,9 @@ returns c =
     (number, (first, (memory, agrees-with-names f out _ _ _ number first memory)))
 
 pub try-facts-spec : {M : Type 1} → statement M
-try-facts-spec = tie.close (tie.spec try-file-requires same-length returns)
+try-facts-spec =
+    tie.close
+    (tie.spec
+    (λ c κs. search needs)  -- try-file-requires
+    (λ c. search needs)  -- same-length
+    returns)

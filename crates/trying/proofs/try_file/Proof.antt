@@ -10,9 +10,6 @@ use borrow.Author.Needs.{needs}
 use Rattle.trying.proofs.try_file.Statement.{statement}
 use Rattle.trying.proofs.try_file.Tie as tie
 
-slice-aggregate-read-domain : tie.Need-slice-aggregate-read-domain
-slice-aggregate-read-domain c = search needs
-
 read-domain-requires : tie.Need-read-domain-requires
 read-domain-requires c κs = (refl, inl (omega arith))
 
@@ -23,38 +20,33 @@ returns c =
     let out = c .before .before .before .before .before .before .before .args .tried .now in
     answers-refused tried f out _ (refusal-is f _ _ _ (c .before .before .read-domain .ensures .0) (c .if1 .taken))
 
-slice-aggregate-try-domain : tie.Need-slice-aggregate-try-domain
-slice-aggregate-try-domain c = search needs
-
 try-domain-requires : tie.Need-try-domain-requires
 try-domain-requires c κs =
-    let f = c .before .before .before .before .before .before .before .before .before .before .before .args .file .now in
-    let o = opened f _ _ _ (c .before .before .before .before .before .before .read-domain .ensures .0) (c .before .before .before .before .if1
-    .left) in
+    let back8 = c .before .before .before .before .before .before .before .before in
+    let f = back8 .before .before .before .args .file .now in
+    let o = opened f _ _ _ (c .before .before .before .before .before .before .read-domain .ensures .0)
+    (c .before .before .before .before .if1 .left) in
     (o .said, o .held, decoded-well-formed f (o .said) (o .decoded))
-
-same-length : tie.Need-same-length
-same-length c = search needs
 
 returns-2 : tie.Need-returns-2
 unfolding triedFile triedAfter
 returns-2 c =
-    let f = c .before .before .before .before .before .before .before .before .before .before .before .before .before .before .args .file
-    .now in
-    let o = opened f _ _ _ (c .before .before .before .before .before .before .before .before .before .read-domain .ensures .0) (c .before
-    .before .before .before .before .before .before .if1 .left) in
+    let back8 = c .before .before .before .before .before .before .before .before in
+    let args = back8 .before .before .before .before .before .before .args in
+    let f = args .file .now in
+    let o = opened f _ _ _ (back8 .before .read-domain .ensures .0)
+    (c .before .before .before .before .before .before .before .if1 .left) in
     let made = c .before .before .try-domain .ensures (o .said) (o .held) (decoded-well-formed f (o .said) (o .decoded)) in
-    answers-read tried f (c .before .before .before .before .before .before .before .before .before .before .before .before .before .before
-    .args .tried .now) (o .said) (o .decoded) made
+    answers-read tried f (args .tried .now) (o .said) (o .decoded) made
 
 pub try-file-spec : {M : Type 1} → statement M
 try-file-spec =
     tie.close
     (tie.spec
-    slice-aggregate-read-domain
+    (λ c. search needs)  -- slice-aggregate-read-domain
     read-domain-requires
     returns
-    slice-aggregate-try-domain
+    (λ c. search needs)  -- slice-aggregate-try-domain
     try-domain-requires
-    same-length
+    (λ c. search needs)  -- same-length
     returns-2)

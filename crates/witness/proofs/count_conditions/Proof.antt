@@ -16,21 +16,6 @@ Inv-loop usages n k₀ j₀ k j = (j ≤ n) × (k ≤ j) × (k ≡ countBy isCon
 abbrev μ-loop : tie.MeasureT-loop
 μ-loop usages n k₀ j₀ k j = n - j
 
-loop-holds : tie.Need-loop-holds Inv-loop μ-loop
-loop-holds c = (omega arith, omega arith, refl)
-
-element-copy-out-if1 : tie.Need-element-copy-out-if1 Inv-loop μ-loop
-element-copy-out-if1 c = omega arith
-
-add-k : tie.Need-add-k Inv-loop μ-loop
-add-k c = omega arith
-
-add-j : tie.Need-add-j Inv-loop μ-loop
-add-j c = omega arith
-
-loop-less : tie.Need-loop-less Inv-loop μ-loop
-loop-less c = omega arith
-
 loop-again : tie.Need-loop-again Inv-loop μ-loop
 loop-again c =
     let a = c .before .before .before .before .args in
@@ -51,10 +36,10 @@ count-conditions-spec =
     (tie.spec
     Inv-loop
     μ-loop
-    loop-holds
-    element-copy-out-if1
-    add-k
-    add-j
-    loop-less
+    (λ c. (omega arith, omega arith, refl))  -- loop-holds
+    (λ c. omega arith)  -- element-copy-out-if1
+    (λ c. omega arith)  -- add-k
+    (λ c. omega arith)  -- add-j
+    (λ c. omega arith)  -- loop-less
     loop-again
     returns)

@@ -20,20 +20,8 @@ abbrev μ-loop : tie.MeasureT-loop
 loop-holds : tie.Need-loop-holds Inv-loop μ-loop
 loop-holds c = let a = c .before .before .args in (omega arith, paste-zero (a .out .now) (a .at) (conditionBytes (a .arity) (take 8 (drop (a .row) (a .rows .now)))))
 
-condition-byte-requires : tie.Need-condition-byte-requires Inv-loop μ-loop
-condition-byte-requires c κs = search needs
-
-add-out : tie.Need-add-out Inv-loop μ-loop
-add-out c = search needs
-
 slice-write-out : tie.Need-slice-write-out Inv-loop μ-loop
 slice-write-out c = let a = c .before .before .before .before .before .args in let l = paste-length (conditionBytes (a .arity) (take 8 (drop (a .row) (a .rows .now)))) (a .out .now) (c .before .before .loop .out) (a .at) (c .before .before .loop .i) 8 (omega arith) (length-condition-at (a .arity) (a .rows .now) (a .row) (omega arith)) (c .before .before .loop .inv .1) (omega arith) in omega arith
-
-add-i : tie.Need-add-i Inv-loop μ-loop
-add-i c = omega arith
-
-loop-less : tie.Need-loop-less Inv-loop μ-loop
-loop-less c = omega arith
 
 loop-again : tie.Need-loop-again Inv-loop μ-loop
 loop-again c = let a = c .before .before .before .before .before .args in (omega arith, paste-more (conditionBytes (a .arity) (take 8 (drop (a .row) (a .rows .now)))) (a .out .now) (c .before .before .loop .out) (a .at) (c .before .before .loop .i) 8 (omega arith) (length-condition-at (a .arity) (a .rows .now) (a .row) (omega arith)) (c .before .before .loop .inv .1) (c .condition-byte .result) (omega arith) (c .condition-byte .ensures))
@@ -51,11 +39,11 @@ put-condition-spec =
     Inv-loop
     μ-loop
     loop-holds
-    condition-byte-requires
-    add-out
+    (λ c κs. search needs)  -- condition-byte-requires
+    (λ c. search needs)  -- add-out
     slice-write-out
-    add-i
-    loop-less
+    (λ c. omega arith)  -- add-i
+    (λ c. omega arith)  -- loop-less
     loop-again
     same-length
     returns)

@@ -20,12 +20,6 @@ loop-holds : tie.Need-loop-holds Inv-loop μ-loop
 unfolding conditionsOf flatMap over
 loop-holds c = (omega arith, refl, refl)
 
-mul-put-if : tie.Need-mul-put-if Inv-loop μ-loop
-mul-put-if c = omega arith
-
-element-copy-out-put-if : tie.Need-element-copy-out-put-if Inv-loop μ-loop
-element-copy-out-put-if c = omega arith
-
 put-if-requires : tie.Need-put-if-requires Inv-loop μ-loop
 put-if-requires c κs =
     let a = c .before .before .before .before .before .before .args in
@@ -33,21 +27,18 @@ put-if-requires c κs =
     let l = c .before .before .before .loop in
     (omega arith, λ e. conditions-room (a .head .now) (a .usages .now) (a .rows .now) (a .n) (a .out .now) (p .1 .0) (p .1 .1) (l .j) (l .at) (l .out) (l .inv .0) (l .inv .1) (l .inv .2) (omega arith) e)
 
-add-j : tie.Need-add-j Inv-loop μ-loop
-add-j c = omega arith
-
-loop-less : tie.Need-loop-less Inv-loop μ-loop
-loop-less c = omega arith
-
 loop-again : tie.Need-loop-again Inv-loop μ-loop
 loop-again c =
-    let a = c .before .before .before .before .before .before .before .before .before .args in
-    let p = c .before .before .before .before .before .before .before .before .before .pre in
+    let back8 = c .before .before .before .before .before .before .before .before in
+    let a = back8 .before .args in
+    let p = back8 .before .pre in
     let l = c .before .before .before .before .before .before .loop in
     let r = c .before .before .put-if in (
       omega arith,
-      conditions-at (a .head .now) (a .usages .now) (a .rows .now) (a .n) (a .out .now) (p .1 .0) (p .1 .1) (l .j) (l .at) (l .out) (l .inv .0) (l .inv .1) (l .inv .2) (omega arith) (r .result) (r .ensures .1),
-      conditions-out (a .head .now) (a .usages .now) (a .rows .now) (a .n) (a .out .now) (p .1 .0) (p .1 .1) (l .j) (l .at) (l .out) (l .inv .0) (l .inv .1) (l .inv .2) (omega arith) (r .last .0) (r .ensures .0),
+      conditions-at (a .head .now) (a .usages .now) (a .rows .now) (a .n) (a .out .now) (p .1 .0) (p .1 .1) (l .j) (l .at) (l .out)
+          (l .inv .0) (l .inv .1) (l .inv .2) (omega arith) (r .result) (r .ensures .1),
+      conditions-out (a .head .now) (a .usages .now) (a .rows .now) (a .n) (a .out .now) (p .1 .0) (p .1 .1) (l .j) (l .at) (l .out)
+          (l .inv .0) (l .inv .1) (l .inv .2) (omega arith) (r .last .0) (r .ensures .0),
     )
 
 same-length : tie.Need-same-length Inv-loop μ-loop
@@ -71,11 +62,11 @@ put-conditions-spec =
     Inv-loop
     μ-loop
     loop-holds
-    mul-put-if
-    element-copy-out-put-if
+    (λ c. omega arith)  -- mul-put-if
+    (λ c. omega arith)  -- element-copy-out-put-if
     put-if-requires
-    add-j
-    loop-less
+    (λ c. omega arith)  -- add-j
+    (λ c. omega arith)  -- loop-less
     loop-again
     same-length
     returns)

@@ -6,15 +6,6 @@ use borrow.Author.Needs.{needs}
 use Rattle.witness.proofs.put_if.Statement.{statement}
 use Rattle.witness.proofs.put_if.Tie as tie
 
-add-arity-of : tie.Need-add-arity-of
-add-arity-of c = search needs
-
-shared-slice-read-arity-of : tie.Need-shared-slice-read-arity-of
-shared-slice-read-arity-of c = search needs
-
-arity-of-requires : tie.Need-arity-of-requires
-arity-of-requires c κs = search needs
-
 put-condition-requires : tie.Need-put-condition-requires
 put-condition-requires c κs =
     let e : c .before .before .before .before .before .before .args .usage ≡ 1 = omega arith in
@@ -23,21 +14,22 @@ put-condition-requires c κs =
 
 add-result : tie.Need-add-result
 add-result c =
-    let e : c .before .before .before .before .before .before .before .before .before .args .usage ≡ 1 = omega arith in
-    let r = c .before .before .before .before .before .before .before .before .before .pre .1 e in
+    let back8 = c .before .before .before .before .before .before .before .before in
+    let e : back8 .before .args .usage ≡ 1 = omega arith in
+    let r = back8 .before .pre .1 e in
     omega arith
-
-same-length : tie.Need-same-length
-same-length c = search needs
 
 returns : tie.Need-returns
 returns c =
-    let a = c .before .before .before .before .before .before .before .before .before .args in
+    let back8 = c .before .before .before .before .before .before .before .before in
+    let pre = back8 .before .pre in
+    let a = back8 .before .args in
     let e : a .usage ≡ 1 = omega arith in
     let q = c .before .before .before .arity-of in
     let w = c .before .before .put-condition in (
-      put-in (a .head .now) (a .rows .now) (a .out .now) (a .at) (a .row) (a .usage) (q .result) (c .before .before .before .before .before .before .before .before .before .pre .0) e (q .ensures .0) (w .last .0) (w .ensures),
-      put-behind (a .head .now) (a .rows .now) (a .out .now) (a .at) (a .row) (a .usage) (q .result) (c .before .before .before .before .before .before .before .before .before .pre .0) e (q .ensures .0),
+      put-in (a .head .now) (a .rows .now) (a .out .now) (a .at) (a .row) (a .usage) (q .result) (pre .0) e (q .ensures .0) (w .last .0)
+          (w .ensures),
+      put-behind (a .head .now) (a .rows .now) (a .out .now) (a .at) (a .row) (a .usage) (q .result) (pre .0) e (q .ensures .0),
     )
 
 returns-2 : tie.Need-returns-2
@@ -49,11 +41,11 @@ pub put-if-spec : {M : Type 1} → statement M
 put-if-spec =
     tie.close
     (tie.spec
-    add-arity-of
-    shared-slice-read-arity-of
-    arity-of-requires
+    (λ c. search needs)  -- add-arity-of
+    (λ c. search needs)  -- shared-slice-read-arity-of
+    (λ c κs. search needs)  -- arity-of-requires
     put-condition-requires
     add-result
-    same-length
+    (λ c. search needs)  -- same-length
     returns
     returns-2)

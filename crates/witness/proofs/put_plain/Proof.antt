@@ -5,15 +5,6 @@ use borrow.Author.Needs.{needs}
 use Rattle.witness.proofs.put_plain.Statement.{statement}
 use Rattle.witness.proofs.put_plain.Tie as tie
 
-usages-at-requires : tie.Need-usages-at-requires
-usages-at-requires c κs = search needs
-
-count-conditions-requires : tie.Need-count-conditions-requires
-count-conditions-requires c κs = search needs
-
-mul-if1 : tie.Need-mul-if1
-mul-if1 c = search needs
-
 returns : tie.Need-returns
 returns c D a j number A R t =
     let s = c .before .before .before .before .before .before .before in
@@ -21,28 +12,23 @@ returns c D a j number A R t =
     plain-short (given (s .args .m) A (s .pre .1) (c .before .before .before .usages-at .ensures .1)) R (k .result) (k .ensures .0)
     (s .args .out .now) t (omega arith)
 
-put-conditions-requires : tie.Need-put-conditions-requires
-put-conditions-requires c κs = search needs
-
-same-length : tie.Need-same-length
-same-length c = search needs
-
 returns-2 : tie.Need-returns-2
 returns-2 c D a j number A R t =
-    let s = c .before .before .before .before .before .before .before .before .before .before .before .before in
+    let back8 = c .before .before .before .before .before .before .before .before in
+    let s = back8 .before .before .before .before in
     let k = c .before .before .before .before .before .before .count-conditions in
     let w = c .before .before .put-conditions in
-    plain-shown (given (s .args .m) A (s .pre .1) (c .before .before .before .before .before .before .before .before .usages-at .ensures
-    .1)) R (k .result) (k .ensures .0) (s .args .out .now) t (omega arith) (w .last .0) (w .ensures)
+    plain-shown (given (s .args .m) A (s .pre .1) (back8 .usages-at .ensures .1)) R (k .result) (k .ensures .0) (s .args .out .now) t
+    (omega arith) (w .last .0) (w .ensures)
 
 pub put-plain-spec : {M : Type 1} → statement M
 put-plain-spec =
     tie.close
     (tie.spec
-    usages-at-requires
-    count-conditions-requires
-    mul-if1
+    (λ c κs. search needs)  -- usages-at-requires
+    (λ c κs. search needs)  -- count-conditions-requires
+    (λ c. search needs)  -- mul-if1
     returns
-    put-conditions-requires
-    same-length
+    (λ c κs. search needs)  -- put-conditions-requires
+    (λ c. search needs)  -- same-length
     returns-2)

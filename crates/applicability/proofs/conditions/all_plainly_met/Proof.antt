@@ -43,12 +43,6 @@ returns c head I S =
     (ground-test (a .memory .now) (a .total) (l .i) h test (c .before .plainly-met .result) e ∙ not-true _ (c .if1 .taken)))
     ∙ l .inv .1 head I S
 
-add-i : tie.Need-add-i Inv-loop μ-loop
-add-i c = omega arith
-
-loop-less : tie.Need-loop-less Inv-loop μ-loop
-loop-less c = omega arith
-
 loop-again : tie.Need-loop-again Inv-loop μ-loop
 loop-again c =
     let a = c .before .before .before .before .before .before .args in
@@ -81,7 +75,7 @@ all-plainly-met-spec =
     loop-holds
     plainly-met-requires
     returns
-    add-i
-    loop-less
+    (λ c. omega arith)  -- add-i
+    (λ c. omega arith)  -- loop-less
     loop-again
     returns-2)

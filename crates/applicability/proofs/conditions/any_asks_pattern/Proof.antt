@@ -17,9 +17,6 @@ Inv-loop memory total i₀ i = any (asksPattern) (drop i (groundIn total memory)
 abbrev μ-loop : tie.MeasureT-loop
 μ-loop memory total i₀ i = total - i
 
-loop-holds : tie.Need-loop-holds Inv-loop μ-loop
-loop-holds c = refl
-
 asks-pattern-requires : tie.Need-asks-pattern-requires Inv-loop μ-loop
 asks-pattern-requires c κs = (c .before .before .before .pre .0, omega arith)
 
@@ -33,12 +30,6 @@ returns c =
     sym (any-hit (groundIn (a .total) (a .memory .now)) (l .i) noLiteral (omega arith) test
     (ground-test (a .memory .now) (a .total) (l .i) h test (c .before .asks-pattern .result) (c .before .asks-pattern .ensures) ∙ c .if1 .taken))
     ∙ l .inv
-
-add-i : tie.Need-add-i Inv-loop μ-loop
-add-i c = omega arith
-
-loop-less : tie.Need-loop-less Inv-loop μ-loop
-loop-less c = omega arith
 
 loop-again : tie.Need-loop-again Inv-loop μ-loop
 loop-again c =
@@ -64,10 +55,10 @@ any-asks-pattern-spec =
     (tie.spec
     Inv-loop
     μ-loop
-    loop-holds
+    (λ c. refl)  -- loop-holds
     asks-pattern-requires
     returns
-    add-i
-    loop-less
+    (λ c. omega arith)  -- add-i
+    (λ c. omega arith)  -- loop-less
     loop-again
     returns-2)

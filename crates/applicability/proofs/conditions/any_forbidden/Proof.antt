@@ -26,9 +26,6 @@ abbrev μ-loop : tie.MeasureT-loop
 loop-holds : tie.Need-loop-holds Inv-loop μ-loop
 loop-holds c = let a = c .before .before .args in (omega arith, any-first (anyForbids (a .memory .now) (a .total)) (a .work .now) (a .n))
 
-mul-is-forbidden : tie.Need-mul-is-forbidden Inv-loop μ-loop
-mul-is-forbidden c = omega arith
-
 is-forbidden-requires : tie.Need-is-forbidden-requires Inv-loop μ-loop
 is-forbidden-requires c κs = let p = c .before .before .before .before .pre in (p .0, (p .1 .0, omega arith))
 
@@ -38,12 +35,6 @@ returns c =
     let l = c .before .before .before .loop in
     sym (any-hit (anyForbids (a .memory .now) (a .total)) (a .work .now) (a .n) (l .i) (omega arith)
     (sym (c .before .is-forbidden .ensures) ∙ c .if1 .taken)) ∙ l .inv .1
-
-add-i : tie.Need-add-i Inv-loop μ-loop
-add-i c = omega arith
-
-loop-less : tie.Need-loop-less Inv-loop μ-loop
-loop-less c = omega arith
 
 loop-again : tie.Need-loop-again Inv-loop μ-loop
 loop-again c =
@@ -67,10 +58,10 @@ any-forbidden-spec =
     Inv-loop
     μ-loop
     loop-holds
-    mul-is-forbidden
+    (λ c. omega arith)  -- mul-is-forbidden
     is-forbidden-requires
     returns
-    add-i
-    loop-less
+    (λ c. omega arith)  -- add-i
+    (λ c. omega arith)  -- loop-less
     loop-again
     returns-2)

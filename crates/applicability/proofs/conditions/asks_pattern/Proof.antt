@@ -5,20 +5,8 @@ use Rattle.applicability.proofs.Forbidden.{asks-none, asks-row}
 use Rattle.applicability.proofs.conditions.asks_pattern.Statement.{statement}
 use Rattle.applicability.proofs.conditions.asks_pattern.Tie as tie
 
-add-if1 : tie.Need-add-if1
-add-if1 c = search needs
-
-shared-slice-read-if1 : tie.Need-shared-slice-read-if1
-shared-slice-read-if1 c = search needs
-
 returns : tie.Need-returns
 returns c = let a = c .before .before .before .args in asks-none (groundAt (a .memory .now) (a .i)) (c .if1 .taken)
-
-mul-is-pattern : tie.Need-mul-is-pattern
-mul-is-pattern c = search needs
-
-is-pattern-requires : tie.Need-is-pattern-requires
-is-pattern-requires c κs = search needs
 
 returns-2 : tie.Need-returns-2
 returns-2 c = let a = c .before .before .before .before .args in asks-row (groundAt (a .memory .now) (a .i)) (c .before .if1 .left) (c .is-pattern .ensures)
@@ -27,9 +15,9 @@ pub asks-pattern-spec : {M : Type 1} → statement M
 asks-pattern-spec =
     tie.close
     (tie.spec
-    add-if1
-    shared-slice-read-if1
+    (λ c. search needs)  -- add-if1
+    (λ c. search needs)  -- shared-slice-read-if1
     returns
-    mul-is-pattern
-    is-pattern-requires
+    (λ c. search needs)  -- mul-is-pattern
+    (λ c κs. search needs)  -- is-pattern-requires
     returns-2)

@@ -9,17 +9,11 @@ use Rattle.applicability.proofs.Forbidden.{fails-plainly, plainly-clear
 use Rattle.applicability.proofs.conditions.conditions_met.Statement.{statement}
 use Rattle.applicability.proofs.conditions.conditions_met.Tie as tie
 
-all-plainly-met-requires : tie.Need-all-plainly-met-requires
-all-plainly-met-requires c κs = search needs
-
 returns : tie.Need-returns
 returns c head I S M =
     let a = c .before .before .before .before .args in
     fails-plainly (rowsIn (a .n) (a .work .now)) (groundIn (a .total) (a .memory .now))
     (sym (c .before .all-plainly-met .ensures head I S) ∙ not-true _ (c .if1 .taken))
-
-any-asks-pattern-requires : tie.Need-any-asks-pattern-requires
-any-asks-pattern-requires c κs = search needs
 
 returns-2 : tie.Need-returns-2
 returns-2 c head I S M =
@@ -27,9 +21,6 @@ returns-2 c head I S M =
     plainly-clear (rowsIn (a .n) (a .work .now)) (groundIn (a .total) (a .memory .now)) M
     (sym (c .before .before .before .all-plainly-met .ensures head I S) ∙ not-false _ (c .before .before .if1 .left))
     (sym (c .before .any-asks-pattern .ensures) ∙ not-true _ (c .if2 .taken))
-
-any-forbidden-requires : tie.Need-any-forbidden-requires
-any-forbidden-requires c κs = search needs
 
 returns-3 : tie.Need-returns-3
 returns-3 c head I S M =
@@ -41,9 +32,9 @@ pub conditions-met-spec : {M : Type 1} → statement M
 conditions-met-spec =
     tie.close
     (tie.spec
-    all-plainly-met-requires
+    (λ c κs. search needs)  -- all-plainly-met-requires
     returns
-    any-asks-pattern-requires
+    (λ c κs. search needs)  -- any-asks-pattern-requires
     returns-2
-    any-forbidden-requires
+    (λ c κs. search needs)  -- any-forbidden-requires
     returns-3)

@@ -10,9 +10,6 @@ use Rattle.applicability.proofs.Asked.{step-asks}
 use Rattle.applicability.proofs.conditions.events_met.Statement.{statement}
 use Rattle.applicability.proofs.conditions.events_met.Tie as tie
 
-conditions-met-requires : tie.Need-conditions-met-requires
-conditions-met-requires c κs = search needs
-
 returns : tie.Need-returns
 returns c D head es fs G f I objs C =
     let a = c .before .before .before .args in
@@ -24,5 +21,5 @@ pub events-met-spec : {M : Type 1} → statement M
 events-met-spec =
     tie.close
     (tie.spec
-    conditions-met-requires
+    (λ c κs. search needs)  -- conditions-met-requires
     returns)

@@ -6,22 +6,10 @@ use Rattle.applicability.proofs.Forbidden.{forbids-none, forbids-row}
 use Rattle.applicability.proofs.conditions.forbids.Statement.{statement}
 use Rattle.applicability.proofs.conditions.forbids.Tie as tie
 
-add-if1 : tie.Need-add-if1
-add-if1 c = search needs
-
-shared-slice-read-if1 : tie.Need-shared-slice-read-if1
-shared-slice-read-if1 c = search needs
-
 returns : tie.Need-returns
 returns c =
     let a = c .before .before .before .before .args in
     forbids-none (groundAt (a .memory .now) (a .i)) (take 8 (drop (a .at) (a .work .now))) (c .if1 .taken)
-
-mul-patterns-meet : tie.Need-mul-patterns-meet
-mul-patterns-meet c = search needs
-
-patterns-meet-requires : tie.Need-patterns-meet-requires
-patterns-meet-requires c κs = search needs
 
 returns-2 : tie.Need-returns-2
 returns-2 c =
@@ -32,9 +20,9 @@ pub forbids-spec : {M : Type 1} → statement M
 forbids-spec =
     tie.close
     (tie.spec
-    add-if1
-    shared-slice-read-if1
+    (λ c. search needs)  -- add-if1
+    (λ c. search needs)  -- shared-slice-read-if1
     returns
-    mul-patterns-meet
-    patterns-meet-requires
+    (λ c. search needs)  -- mul-patterns-meet
+    (λ c κs. search needs)  -- patterns-meet-requires
     returns-2)

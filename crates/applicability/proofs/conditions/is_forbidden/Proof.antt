@@ -17,9 +17,6 @@ Inv-loop memory total work at i₀ i = any (forbids (take 8 (drop at work))) (dr
 abbrev μ-loop : tie.MeasureT-loop
 μ-loop memory total work at i₀ i = total - i
 
-loop-holds : tie.Need-loop-holds Inv-loop μ-loop
-loop-holds c = refl
-
 forbids-requires : tie.Need-forbids-requires Inv-loop μ-loop
 forbids-requires c κs = let p = c .before .before .before .before .pre in (p .0, (omega arith, p .1 .1))
 
@@ -33,12 +30,6 @@ returns c =
     sym (any-hit (groundIn (a .total) (a .memory .now)) (l .i) noLiteral (omega arith) test
     (ground-test (a .memory .now) (a .total) (l .i) h test (c .before .forbids .result) (c .before .forbids .ensures) ∙ c .if1 .taken))
     ∙ l .inv
-
-add-i : tie.Need-add-i Inv-loop μ-loop
-add-i c = omega arith
-
-loop-less : tie.Need-loop-less Inv-loop μ-loop
-loop-less c = omega arith
 
 loop-again : tie.Need-loop-again Inv-loop μ-loop
 loop-again c =
@@ -64,10 +55,10 @@ is-forbidden-spec =
     (tie.spec
     Inv-loop
     μ-loop
-    loop-holds
+    (λ c. refl)  -- loop-holds
     forbids-requires
     returns
-    add-i
-    loop-less
+    (λ c. omega arith)  -- add-i
+    (λ c. omega arith)  -- loop-less
     loop-again
     returns-2)

@@ -28,7 +28,8 @@ loop-holds c = record { reach = omega arith; sized = refl; rest = λ D gs fs L o
 
 entry-met-requires : tie.Need-entry-met-requires Inv-loop μ-loop
 entry-met-requires c κs =
-    let p = c .before .before .before .before .before .before .before .before .pre in
+    let back8 = c .before .before .before .before .before .before .before .before in
+    let p = back8 .pre in
     let s = c .before .before .loop .inv .sized in
     (p .0, (omega arith, (omega arith, p .1 .1)))
 
@@ -38,27 +39,26 @@ same-length c = c .before .before .before .entry-met .kept .1 .1 .1 .1 .0 ∙ c 
 
 returns-2 : tie.Need-returns-2 Inv-loop μ-loop
 returns-2 c D gs fs L o F h f I objs C =
-    let a = c .before .before .before .before .before .before .before .before .before .before .before .before .args in
+    let back8 = c .before .before .before .before .before .before .before .before in
+    let a = back8 .before .before .before .before .args in
     let l = c .before .before .before .before .before .before .loop in
-    let e = entry-turn _ (a .work .now) (a .n) (l .i) (c .before .before .before .entry-met .ensures) (omega arith) D gs fs L o F f I objs C in
-    sym (all-miss gs (l .i) noGround (e .0) (overAllHold D objs fs) (sym (e .1) ∙ not-true _ (c .if2 .taken))) ∙ l .inv .rest D gs fs L o F f I objs C
-
-add-i : tie.Need-add-i Inv-loop μ-loop
-add-i c = omega arith
-
-loop-less : tie.Need-loop-less Inv-loop μ-loop
-loop-less c = omega arith
+    let e = entry-turn _ (a .work .now) (a .n) (l .i) (c .before .before .before .entry-met .ensures)
+    (omega arith) D gs fs L o F f I objs C in
+    sym (all-miss gs (l .i) noGround (e .0) (overAllHold D objs fs) (sym (e .1) ∙ not-true _ (c .if2 .taken)))
+    ∙ l .inv .rest D gs fs L o F f I objs C
 
 loop-again : tie.Need-loop-again Inv-loop μ-loop
 loop-again c =
-    let a = c .before .before .before .before .before .before .before .before .before .before .before .before .args in
+    let back8 = c .before .before .before .before .before .before .before .before in
+    let entry-met = c .before .before .before .entry-met in
+    let a = back8 .before .before .before .before .args in
     let l = c .before .before .before .before .before .before .loop in
     record {
       reach = omega arith;
-      sized = c .before .before .before .entry-met .kept .1 .1 .1 .1 .0 ∙ l .inv .sized;
+      sized = entry-met .kept .1 .1 .1 .1 .0 ∙ l .inv .sized;
       rest =
           λ D gs fs L o F f I objs C.
-          let e = entry-turn _ (a .work .now) (a .n) (l .i) (c .before .before .before .entry-met .ensures)
+          let e = entry-turn _ (a .work .now) (a .n) (l .i) (entry-met .ensures)
           (omega arith) D gs fs L o F f I objs C in
           sym (all-hit gs (l .i) noGround (e .0) (overAllHold D objs fs) (sym (e .1) ∙ not-false _ (c .if2 .left)))
           ∙ l .inv .rest D gs fs L o F f I objs C;
@@ -85,8 +85,8 @@ open-met-spec =
     entry-met-requires
     same-length
     returns-2
-    add-i
-    loop-less
+    (λ c. omega arith)  -- add-i
+    (λ c. omega arith)  -- loop-less
     loop-again
     same-length-2
     returns-3)

@@ -6,21 +6,6 @@ use Rattle.applicability.proofs.Asked.{met-true, met-false, met-none, r
 use Rattle.applicability.proofs.conditions.plainly_met.Statement.{statement}
 use Rattle.applicability.proofs.conditions.plainly_met.Tie as tie
 
-add-usage : tie.Need-add-usage
-add-usage c = search needs
-
-shared-slice-read-usage : tie.Need-shared-slice-read-usage
-shared-slice-read-usage c = search needs
-
-mul-row-at : tie.Need-mul-row-at
-mul-row-at c = search needs
-
-row-at-requires : tie.Need-row-at-requires
-row-at-requires c κs = search needs
-
-is-held-requires : tie.Need-is-held-requires
-is-held-requires c κs = search needs
-
 returns : tie.Need-returns
 returns c head I s =
     let a = c .before .before .before .before .before .before .args in
@@ -28,15 +13,6 @@ returns c head I s =
     let row = c .before .row-at in
     met-true (rowsIn (a .n) (a .work .now)) l (c .before .before .if1 .taken) (row .result) _ (row .ensures)
     (c .is-held .ensures head I (read-sized head (row .result) (l .row) (row .ensures) s))
-
-mul-row-at-2 : tie.Need-mul-row-at-2
-mul-row-at-2 c = search needs
-
-row-at-requires-2 : tie.Need-row-at-requires-2
-row-at-requires-2 c κs = search needs
-
-is-held-requires-2 : tie.Need-is-held-requires-2
-is-held-requires-2 c κs = search needs
 
 returns-2 : tie.Need-returns-2
 returns-2 c head I s =
@@ -56,14 +32,14 @@ pub plainly-met-spec : {M : Type 1} → statement M
 plainly-met-spec =
     tie.close
     (tie.spec
-    add-usage
-    shared-slice-read-usage
-    mul-row-at
-    row-at-requires
-    is-held-requires
+    (λ c. search needs)  -- add-usage
+    (λ c. search needs)  -- shared-slice-read-usage
+    (λ c. search needs)  -- mul-row-at
+    (λ c κs. search needs)  -- row-at-requires
+    (λ c κs. search needs)  -- is-held-requires
     returns
-    mul-row-at-2
-    row-at-requires-2
-    is-held-requires-2
+    (λ c. search needs)  -- mul-row-at-2
+    (λ c κs. search needs)  -- row-at-requires-2
+    (λ c κs. search needs)  -- is-held-requires-2
     returns-2
     returns-3)

@@ -28,15 +28,6 @@ abbrev μ-loop : tie.MeasureT-loop
 loop-holds : tie.Need-loop-holds Inv-loop μ-loop
 loop-holds c = (omega arith, omega arith, λ parts e L T. (before-first parts, refl))
 
-add-wide : tie.Need-add-wide Inv-loop μ-loop
-add-wide c = omega arith
-
-shared-slice-read-wide : tie.Need-shared-slice-read-wide Inv-loop μ-loop
-shared-slice-read-wide c = omega arith
-
-wide-requires : tie.Need-wide-requires Inv-loop μ-loop
-wide-requires c κs = search needs
-
 add-to : tie.Need-add-to Inv-loop μ-loop
 add-to c = let w = c .wide .ensures .1 in let g = c .before .before .before .loop .inv .1 in omega arith
 
@@ -57,23 +48,19 @@ literals-clash-requires c κs =
 
 returns-2 : tie.Need-returns-2 Inv-loop μ-loop
 returns-2 c parts e L T =
+    let back8 = c .before .before .before .before .before .before .before .before in
     let l = c .before .before .before .before .before .before .loop in
     let n = c .before .before .before .wide in
     let v = l .inv .2 parts e L T in
     let clash = c .before .literals-clash in
-    let q : length parts ≡ c .before .before .before .before .before .before .before .before .args .count = e in
+    let q : length parts ≡ back8 .args .count = e in
     let h : l .i < length parts = omega arith in
     let z = laid-clash L (l .i) h (l .from) (v .0) (n .result) (n .ensures .0) (clash .result) (clash .ensures T) in
     sym (pairwise-miss parts (l .i) [] h (λ first later. not (literalsClash first later)) (z ∙ ap not (c .if2 .taken))) ∙ v .1
 
-add-i : tie.Need-add-i Inv-loop μ-loop
-add-i c = omega arith
-
-loop-less : tie.Need-loop-less Inv-loop μ-loop
-loop-less c = omega arith
-
 loop-again : tie.Need-loop-again Inv-loop μ-loop
 loop-again c =
+    let back8 = c .before .before .before .before .before .before .before .before in
     let l = c .before .before .before .before .before .before .loop in
     let n = c .before .before .before .wide in
     let clash = c .before .literals-clash in (
@@ -81,7 +68,7 @@ loop-again c =
       c .before .before .if1 .left,
       λ parts e L T.
           let v = l .inv .2 parts e L T in
-          let q : length parts ≡ c .before .before .before .before .before .before .before .before .args .count = e in
+          let q : length parts ≡ back8 .args .count = e in
           let h : l .i < length parts = omega arith in
           let z = laid-clash L (l .i) h (l .from) (v .0) (n .result) (n .ensures .0) (clash .result) (clash .ensures T) in (
             laid-end L (l .i) h (l .from) (v .0) (n .result) (n .ensures .0),
@@ -102,14 +89,14 @@ all-apart-spec =
     Inv-loop
     μ-loop
     loop-holds
-    add-wide
-    shared-slice-read-wide
-    wide-requires
+    (λ c. omega arith)  -- add-wide
+    (λ c. omega arith)  -- shared-slice-read-wide
+    (λ c κs. search needs)  -- wide-requires
     add-to
     returns
     literals-clash-requires
     returns-2
-    add-i
-    loop-less
+    (λ c. omega arith)  -- add-i
+    (λ c. omega arith)  -- loop-less
     loop-again
     returns-3)

@@ -15,21 +15,6 @@ returns c T =
     clash-apart (groundAt (a .memory .now) (a .i)) (groundAt (a .memory .now) (a .j)) (c .before .literals-meet .ensures T)
     (not-true _ (c .if1 .taken))
 
-add-clashing : tie.Need-add-clashing
-add-clashing c = search needs
-
-shared-slice-read-clashing : tie.Need-shared-slice-read-clashing
-shared-slice-read-clashing c = search needs
-
-add-clashing-2 : tie.Need-add-clashing-2
-add-clashing-2 c = search needs
-
-shared-slice-read-clashing-2 : tie.Need-shared-slice-read-clashing-2
-shared-slice-read-clashing-2 c = search needs
-
-clashing-requires : tie.Need-clashing-requires
-clashing-requires c κs = search needs
-
 returns-2 : tie.Need-returns-2
 returns-2 c T =
     let a = c .before .before .before .before .before .before .args in
@@ -42,9 +27,9 @@ clashes-at-spec =
     (tie.spec
     literals-meet-requires
     returns
-    add-clashing
-    shared-slice-read-clashing
-    add-clashing-2
-    shared-slice-read-clashing-2
-    clashing-requires
+    (λ c. search needs)  -- add-clashing
+    (λ c. search needs)  -- shared-slice-read-clashing
+    (λ c. search needs)  -- add-clashing-2
+    (λ c. search needs)  -- shared-slice-read-clashing-2
+    (λ c κs. search needs)  -- clashing-requires
     returns-2)

@@ -19,9 +19,6 @@ Inv-loop memory words patterns i from to j₀ j =
 abbrev μ-loop : tie.MeasureT-loop
 μ-loop memory words patterns i from to j₀ j = to - j
 
-loop-holds : tie.Need-loop-holds Inv-loop μ-loop
-loop-holds c T = refl
-
 clashes-at-requires : tie.Need-clashes-at-requires Inv-loop μ-loop
 clashes-at-requires c κs =
     let p = c .before .before .before .pre in
@@ -39,12 +36,6 @@ returns c T =
     sym (any-hit (groundIn (a .to) (a .memory .now)) (l .j) noLiteral (omega arith) test
     (ground-test (a .memory .now) (a .to) (l .j) h test (c .before .clashes-at .result) e ∙ c .if1 .taken))
     ∙ l .inv T
-
-add-j : tie.Need-add-j Inv-loop μ-loop
-add-j c = omega arith
-
-loop-less : tie.Need-loop-less Inv-loop μ-loop
-loop-less c = omega arith
 
 loop-again : tie.Need-loop-again Inv-loop μ-loop
 loop-again c T =
@@ -71,10 +62,10 @@ clashes-from-spec =
     (tie.spec
     Inv-loop
     μ-loop
-    loop-holds
+    (λ c T. refl)  -- loop-holds
     clashes-at-requires
     returns
-    add-j
-    loop-less
+    (λ c. omega arith)  -- add-j
+    (λ c. omega arith)  -- loop-less
     loop-again
     returns-2)

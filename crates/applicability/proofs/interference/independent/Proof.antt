@@ -16,18 +16,13 @@ returns c D head es G k h objs some C = let t = c .if1 .taken in absurd (omega a
 returns-2 : tie.Need-returns-2
 returns-2 c D head es G k h objs some C = let t = c .if2 .taken in few-independent D objs es (omega arith)
 
-slice-aggregate-put-words : tie.Need-slice-aggregate-put-words
-slice-aggregate-put-words c = search needs
-
-put-words-requires : tie.Need-put-words-requires
-put-words-requires c κs = search needs
-
 has-pattern-requires : tie.Need-has-pattern-requires
 has-pattern-requires c κs = let p = c .before .before .before .before .before .before .pre in omega arith
 
 all-apart-requires : tie.Need-all-apart-requires
 all-apart-requires c κs =
-    let p = c .before .before .before .before .before .before .before .before .pre in
+    let back8 = c .before .before .before .before .before .before .before .before in
+    let p = back8 .pre in
     let t = c .before .before .before .before .before .before .if1 .left in
     (p .0, (omega arith, (p .1, c .before .before .before .put-words .ensures)))
 
@@ -43,8 +38,8 @@ independent-spec =
     (tie.spec
     returns
     returns-2
-    slice-aggregate-put-words
-    put-words-requires
+    (λ c. search needs)  -- slice-aggregate-put-words
+    (λ c κs. search needs)  -- put-words-requires
     has-pattern-requires
     all-apart-requires
     returns-3)

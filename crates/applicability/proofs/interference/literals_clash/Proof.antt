@@ -21,9 +21,6 @@ Inv-loop memory words patterns from to total i₀ i =
 abbrev μ-loop : tie.MeasureT-loop
 μ-loop memory words patterns from to total i₀ i = to - i
 
-loop-holds : tie.Need-loop-holds Inv-loop μ-loop
-loop-holds c T = refl
-
 clashes-from-requires : tie.Need-clashes-from-requires Inv-loop μ-loop
 clashes-from-requires c κs =
     let p = c .before .before .before .pre in
@@ -40,12 +37,6 @@ returns c T =
     sym (any-hit (groundIn (a .to) (a .memory .now)) (l .i) noLiteral (omega arith) test
     (ground-test (a .memory .now) (a .to) (l .i) h test (c .before .clashes-from .result) (c .before .clashes-from .ensures T) ∙ c .if1 .taken))
     ∙ l .inv T
-
-add-i : tie.Need-add-i Inv-loop μ-loop
-add-i c = omega arith
-
-loop-less : tie.Need-loop-less Inv-loop μ-loop
-loop-less c = omega arith
 
 loop-again : tie.Need-loop-again Inv-loop μ-loop
 loop-again c T =
@@ -73,10 +64,10 @@ literals-clash-spec =
     (tie.spec
     Inv-loop
     μ-loop
-    loop-holds
+    (λ c T. refl)  -- loop-holds
     clashes-from-requires
     returns
-    add-i
-    loop-less
+    (λ c. omega arith)  -- add-i
+    (λ c. omega arith)  -- loop-less
     loop-again
     returns-2)

@@ -5,32 +5,11 @@ use Rattle.applicability.proofs.Clashes.{words-meet, words-apart}
 use Rattle.applicability.proofs.interference.literals_meet.Statement.{statement}
 use Rattle.applicability.proofs.interference.literals_meet.Tie as tie
 
-mul-if1 : tie.Need-mul-if1
-mul-if1 c = search needs
-
-element-copy-out-if1 : tie.Need-element-copy-out-if1
-element-copy-out-if1 c = search needs
-
-mul-if1-2 : tie.Need-mul-if1-2
-mul-if1-2 c = search needs
-
-element-copy-out-if1-2 : tie.Need-element-copy-out-if1-2
-element-copy-out-if1-2 c = search needs
-
 returns : tie.Need-returns
 returns c T = let p = c .before .before .before .before .pre .1 .1 .1 in words-meet T (p .0) (p .1) (c .if1 .taken)
 
 returns-2 : tie.Need-returns-2
 returns-2 c T = let p = c .before .before .before .before .before .pre .1 .1 .1 in words-apart T (p .0) (p .1) (c .before .if1 .left) (not-true _ (c .if2 .taken))
-
-mul-patterns-meet : tie.Need-mul-patterns-meet
-mul-patterns-meet c = search needs
-
-mul-patterns-meet-2 : tie.Need-mul-patterns-meet-2
-mul-patterns-meet-2 c = search needs
-
-patterns-meet-requires : tie.Need-patterns-meet-requires
-patterns-meet-requires c κs = search needs
 
 returns-3 : tie.Need-returns-3
 returns-3 c T = c .patterns-meet .ensures
@@ -39,13 +18,13 @@ pub literals-meet-spec : {M : Type 1} → statement M
 literals-meet-spec =
     tie.close
     (tie.spec
-    mul-if1
-    element-copy-out-if1
-    mul-if1-2
-    element-copy-out-if1-2
+    (λ c. search needs)  -- mul-if1
+    (λ c. search needs)  -- element-copy-out-if1
+    (λ c. search needs)  -- mul-if1-2
+    (λ c. search needs)  -- element-copy-out-if1-2
     returns
     returns-2
-    mul-patterns-meet
-    mul-patterns-meet-2
-    patterns-meet-requires
+    (λ c. search needs)  -- mul-patterns-meet
+    (λ c. search needs)  -- mul-patterns-meet-2
+    (λ c κs. search needs)  -- patterns-meet-requires
     returns-3)

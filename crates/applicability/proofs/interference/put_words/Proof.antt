@@ -18,26 +18,8 @@ abbrev μ-loop : tie.MeasureT-loop
 loop-holds : tie.Need-loop-holds Inv-loop μ-loop
 loop-holds c = (omega arith, refl, λ i h. absurd (omega arith))
 
-mul-row-at : tie.Need-mul-row-at Inv-loop μ-loop
-mul-row-at c = omega arith
-
-row-at-requires : tie.Need-row-at-requires Inv-loop μ-loop
-row-at-requires c κs = omega arith
-
-word-of-requires : tie.Need-word-of-requires Inv-loop μ-loop
-word-of-requires c κs = search needs
-
-mul-words : tie.Need-mul-words Inv-loop μ-loop
-mul-words c = omega arith
-
 slice-write-words : tie.Need-slice-write-words Inv-loop μ-loop
 slice-write-words c = let k = c .before .before .before .loop .inv .1 in let p = c .before .before .before .before .before .before .pre in omega arith
-
-add-i : tie.Need-add-i Inv-loop μ-loop
-add-i c = omega arith
-
-loop-less : tie.Need-loop-less Inv-loop μ-loop
-loop-less c = omega arith
 
 loop-again : tie.Need-loop-again Inv-loop μ-loop
 loop-again c =
@@ -66,13 +48,13 @@ put-words-spec =
     Inv-loop
     μ-loop
     loop-holds
-    mul-row-at
-    row-at-requires
-    word-of-requires
-    mul-words
+    (λ c. omega arith)  -- mul-row-at
+    (λ c κs. omega arith)  -- row-at-requires
+    (λ c κs. search needs)  -- word-of-requires
+    (λ c. omega arith)  -- mul-words
     slice-write-words
-    add-i
-    loop-less
+    (λ c. omega arith)  -- add-i
+    (λ c. omega arith)  -- loop-less
     loop-again
     same-length
     returns)

@@ -21,18 +21,6 @@ abbrev μ-loop : tie.MeasureT-loop
 loop-holds : tie.Need-loop-holds Inv-loop μ-loop
 loop-holds c = let a = c .args in (omega arith, ap (any (countedAt (a .head .now) (a .c))) (left-all (a .n)))
 
-add-component-byte : tie.Need-add-component-byte Inv-loop μ-loop
-add-component-byte c = omega arith
-
-component-byte-requires : tie.Need-component-byte-requires Inv-loop μ-loop
-component-byte-requires c κs = (omega arith, omega arith)
-
-label-of-requires : tie.Need-label-of-requires Inv-loop μ-loop
-label-of-requires c κs = search needs
-
-is-counted-requires : tie.Need-is-counted-requires Inv-loop μ-loop
-is-counted-requires c κs = search needs
-
 returns : tie.Need-returns Inv-loop μ-loop
 returns c =
     let a = c .before .before .before .before .before .before .args in
@@ -40,12 +28,6 @@ returns c =
     let e = ap isCounted (c .before .before .label-of .ensures ∙ ap labelOf (c .before .before .before .component-byte .ensures)) in
     sym (any-hit (countedAt (a .head .now) (a .c)) (a .n) (l .i) (omega arith) (sym e ∙ sym (c .before .is-counted .ensures) ∙ c .if1 .taken))
     ∙ l .inv .1
-
-add-i : tie.Need-add-i Inv-loop μ-loop
-add-i c = omega arith
-
-loop-less : tie.Need-loop-less Inv-loop μ-loop
-loop-less c = omega arith
 
 loop-again : tie.Need-loop-again Inv-loop μ-loop
 loop-again c =
@@ -70,12 +52,12 @@ any-counted-spec =
     Inv-loop
     μ-loop
     loop-holds
-    add-component-byte
-    component-byte-requires
-    label-of-requires
-    is-counted-requires
+    (λ c. omega arith)  -- add-component-byte
+    (λ c κs. (omega arith, omega arith))  -- component-byte-requires
+    (λ c κs. search needs)  -- label-of-requires
+    (λ c κs. search needs)  -- is-counted-requires
     returns
-    add-i
-    loop-less
+    (λ c. omega arith)  -- add-i
+    (λ c. omega arith)  -- loop-less
     loop-again
     returns-2)

@@ -24,21 +24,12 @@ loop-holds c =
     ap (any (coversAt (a .head .now) (a .rows .now) (a .numbers .now) (a .usages .now) (a .class) (a .c)))
     (left-all (length (a .numbers .now)))
 
-covers-by-requires : tie.Need-covers-by-requires Inv-loop μ-loop
-covers-by-requires c κs = search needs
-
 returns : tie.Need-returns Inv-loop μ-loop
 returns c =
     let a = c .before .before .before .before .before .before .args in
     sym (any-hit (coversAt (a .head .now) (a .rows .now) (a .numbers .now) (a .usages .now) (a .class) (a .c)) (length (a .numbers .now))
     (c .before .before .before .loop .j) (omega arith) (sym (c .before .covers-by .ensures) ∙ c .if1 .taken))
     ∙ c .before .before .before .loop .inv
-
-add-j : tie.Need-add-j Inv-loop μ-loop
-add-j c = omega arith
-
-loop-less : tie.Need-loop-less Inv-loop μ-loop
-loop-less c = omega arith
 
 loop-again : tie.Need-loop-again Inv-loop μ-loop
 loop-again c =
@@ -60,9 +51,9 @@ any-covers-spec =
     Inv-loop
     μ-loop
     loop-holds
-    covers-by-requires
+    (λ c κs. search needs)  -- covers-by-requires
     returns
-    add-j
-    loop-less
+    (λ c. omega arith)  -- add-j
+    (λ c. omega arith)  -- loop-less
     loop-again
     returns-2)

@@ -22,21 +22,12 @@ loop-holds c =
     let a = c .before .before .args in
     ap (any (lastsAt (a .rows .now) (a .numbers .now) (a .class))) (left-all (length (a .numbers .now)))
 
-is-lasting-at-requires : tie.Need-is-lasting-at-requires Inv-loop μ-loop
-is-lasting-at-requires c κs = search needs
-
 returns : tie.Need-returns Inv-loop μ-loop
 returns c =
     let turn = c .before .before .before in
     let a = turn .before .before .before .args in
     sym (any-hit (lastsAt (a .rows .now) (a .numbers .now) (a .class)) (length (a .numbers .now)) (turn .loop .j) (omega arith) (sym (c .before .is-lasting-at .ensures) ∙ c .if1 .taken))
     ∙ turn .loop .inv
-
-add-j : tie.Need-add-j Inv-loop μ-loop
-add-j c = omega arith
-
-loop-less : tie.Need-loop-less Inv-loop μ-loop
-loop-less c = omega arith
 
 loop-again : tie.Need-loop-again Inv-loop μ-loop
 loop-again c =
@@ -58,9 +49,9 @@ any-lasting-spec =
     Inv-loop
     μ-loop
     loop-holds
-    is-lasting-at-requires
+    (λ c κs. search needs)  -- is-lasting-at-requires
     returns
-    add-j
-    loop-less
+    (λ c. omega arith)  -- add-j
+    (λ c. omega arith)  -- loop-less
     loop-again
     returns-2)

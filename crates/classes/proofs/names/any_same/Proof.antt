@@ -23,21 +23,12 @@ loop-holds c =
     let a = c .before .before .args in
     ap (any (isSameAt (a .rows .now) (a .numbers .now) (a .usages .now) (a .class) (a .usage) (a .i))) (left-all (length (a .numbers .now)))
 
-is-same-at-requires : tie.Need-is-same-at-requires Inv-loop μ-loop
-is-same-at-requires c κs = search needs
-
 returns : tie.Need-returns Inv-loop μ-loop
 returns c =
     let turn = c .before .before .before in
     let a = turn .before .before .before .args in
     sym (any-hit (isSameAt (a .rows .now) (a .numbers .now) (a .usages .now) (a .class) (a .usage) (a .i)) (length (a .numbers .now)) (turn .loop .j) (omega arith) (sym (c .before .is-same-at .ensures) ∙ c .if1 .taken))
     ∙ turn .loop .inv
-
-add-j : tie.Need-add-j Inv-loop μ-loop
-add-j c = omega arith
-
-loop-less : tie.Need-loop-less Inv-loop μ-loop
-loop-less c = omega arith
 
 loop-again : tie.Need-loop-again Inv-loop μ-loop
 loop-again c =
@@ -59,9 +50,9 @@ any-same-spec =
     Inv-loop
     μ-loop
     loop-holds
-    is-same-at-requires
+    (λ c κs. search needs)  -- is-same-at-requires
     returns
-    add-j
-    loop-less
+    (λ c. omega arith)  -- add-j
+    (λ c. omega arith)  -- loop-less
     loop-again
     returns-2)

@@ -20,27 +20,6 @@ abbrev μ-loop : tie.MeasureT-loop
 loop-holds : tie.Need-loop-holds Inv-loop μ-loop
 loop-holds c = let a = c .before .args in (omega arith, ap (all (clearedAt (a .head .now) (a .rows .now) (a .c) (a .j))) (left-all (a .n)))
 
-add-component-byte : tie.Need-add-component-byte Inv-loop μ-loop
-add-component-byte c = omega arith
-
-component-byte-requires : tie.Need-component-byte-requires Inv-loop μ-loop
-component-byte-requires c κs = (omega arith, omega arith)
-
-mul-is-cleared : tie.Need-mul-is-cleared Inv-loop μ-loop
-mul-is-cleared c = omega arith
-
-add-is-cleared : tie.Need-add-is-cleared Inv-loop μ-loop
-add-is-cleared c = omega arith
-
-add-is-cleared-2 : tie.Need-add-is-cleared-2 Inv-loop μ-loop
-add-is-cleared-2 c = omega arith
-
-shared-slice-read-is-cleared : tie.Need-shared-slice-read-is-cleared Inv-loop μ-loop
-shared-slice-read-is-cleared c = omega arith
-
-is-cleared-requires : tie.Need-is-cleared-requires Inv-loop μ-loop
-is-cleared-requires c κs = search needs
-
 returns : tie.Need-returns Inv-loop μ-loop
 returns c =
     let a = c .before .before .before .before .before .before .before .args in
@@ -50,12 +29,6 @@ returns c =
     (omega arith)
     (sym e ∙ sym (c .before .is-cleared .ensures) ∙ not-true _ (c .if1 .taken)))
     ∙ c .before .before .before .before .before .loop .inv .1
-
-add-i : tie.Need-add-i Inv-loop μ-loop
-add-i c = omega arith
-
-loop-less : tie.Need-loop-less Inv-loop μ-loop
-loop-less c = omega arith
 
 loop-again : tie.Need-loop-again Inv-loop μ-loop
 loop-again c =
@@ -82,15 +55,15 @@ clears-spec =
     Inv-loop
     μ-loop
     loop-holds
-    add-component-byte
-    component-byte-requires
-    mul-is-cleared
-    add-is-cleared
-    add-is-cleared-2
-    shared-slice-read-is-cleared
-    is-cleared-requires
+    (λ c. omega arith)  -- add-component-byte
+    (λ c κs. (omega arith, omega arith))  -- component-byte-requires
+    (λ c. omega arith)  -- mul-is-cleared
+    (λ c. omega arith)  -- add-is-cleared
+    (λ c. omega arith)  -- add-is-cleared-2
+    (λ c. omega arith)  -- shared-slice-read-is-cleared
+    (λ c κs. search needs)  -- is-cleared-requires
     returns
-    add-i
-    loop-less
+    (λ c. omega arith)  -- add-i
+    (λ c. omega arith)  -- loop-less
     loop-again
     returns-2)

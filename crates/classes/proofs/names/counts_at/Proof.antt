@@ -6,18 +6,6 @@ use borrow.Author.Needs.{needs}
 use Rattle.classes.proofs.names.counts_at.Statement.{statement}
 use Rattle.classes.proofs.names.counts_at.Tie as tie
 
-enum-told : tie.Need-enum-told
-enum-told c = search needs
-
-same-time-requires : tie.Need-same-time-requires
-same-time-requires c κs = search needs
-
-enum-told-2 : tie.Need-enum-told-2
-enum-told-2 c = search needs
-
-counts-at-end-requires : tie.Need-counts-at-end-requires
-counts-at-end-requires c κs = search needs
-
 returns : tie.Need-returns
 returns c = let a = c .before .before .before .args in c .same-time .ensures ∙ sym (ap (λ (m : Moment). timed (a .wide) m (a .time)) (c .before .enum-told .given .1))
 
@@ -27,4 +15,10 @@ returns-2 c = let a = c .before .before .before .args in c .counts-at-end .ensur
 pub counts-at-spec : {M : Type 1} → statement M
 counts-at-spec =
     tie.close
-    (tie.spec enum-told same-time-requires enum-told-2 counts-at-end-requires returns returns-2)
+    (tie.spec
+    (λ c. search needs)  -- enum-told
+    (λ c κs. search needs)  -- same-time-requires
+    (λ c. search needs)  -- enum-told-2
+    (λ c κs. search needs)  -- counts-at-end-requires
+    returns
+    returns-2)

@@ -28,21 +28,6 @@ module _ (head rows numbers usages : List ℕ) (class c j relation : ℕ) (r : r
   unfolding coversAt
   apart t = sym (ap (λ (b : Bool). b && clearsAt head rows c j) (excluding ∙ t))
 
-component-byte-requires : tie.Need-component-byte-requires
-component-byte-requires c κs = search needs
-
-excludes-requires : tie.Need-excludes-requires
-excludes-requires c κs = search needs
-
-arity-of-requires : tie.Need-arity-of-requires
-arity-of-requires c κs = search needs
-
-wide-requires : tie.Need-wide-requires
-wide-requires c κs = search needs
-
-clears-requires : tie.Need-clears-requires
-clears-requires c κs = search needs
-
 returns : tie.Need-returns
 returns c =
     covering _ _ _ _ _ _ _ _ (c .before .before .before .before .before .component-byte .ensures)
@@ -56,10 +41,10 @@ pub covers-by-spec : {M : Type 1} → statement M
 covers-by-spec =
     tie.close
     (tie.spec
-    component-byte-requires
-    excludes-requires
-    arity-of-requires
-    wide-requires
-    clears-requires
+    (λ c κs. search needs)  -- component-byte-requires
+    (λ c κs. search needs)  -- excludes-requires
+    (λ c κs. search needs)  -- arity-of-requires
+    (λ c κs. search needs)  -- wide-requires
+    (λ c κs. search needs)  -- clears-requires
     returns
     returns-2)

@@ -20,21 +20,12 @@ loop-holds c =
     let a = c .before .args in
     ap (any (saysAt (a .wide) (a .rows .now) (a .m) (a .usage) (a .j))) (left-all (a .j))
 
-says-requires : tie.Need-says-requires Inv-loop μ-loop
-says-requires c κs = (omega arith, omega arith)
-
 returns : tie.Need-returns Inv-loop μ-loop
 returns c =
     let turn = c .before .before .before in
     let a = turn .before .before .args in
     sym (any-hit (saysAt (a .wide) (a .rows .now) (a .m) (a .usage) (a .j)) (a .j) (turn .loop .i) (omega arith) (sym (c .before .says .ensures) ∙ c .if1 .taken))
     ∙ turn .loop .inv
-
-add-i : tie.Need-add-i Inv-loop μ-loop
-add-i c = omega arith
-
-loop-less : tie.Need-loop-less Inv-loop μ-loop
-loop-less c = omega arith
 
 loop-again : tie.Need-loop-again Inv-loop μ-loop
 loop-again c =
@@ -56,9 +47,9 @@ earlier-same-spec =
     Inv-loop
     μ-loop
     loop-holds
-    says-requires
+    (λ c κs. (omega arith, omega arith))  -- says-requires
     returns
-    add-i
-    loop-less
+    (λ c. omega arith)  -- add-i
+    (λ c. omega arith)  -- loop-less
     loop-again
     returns-2)

@@ -28,9 +28,6 @@ Inv-loop head rows numbers usages class n c₀ c =
 abbrev μ-loop : tie.MeasureT-loop
 μ-loop head rows numbers usages class n c₀ c = n - c
 
-components-in-requires : tie.Need-components-in-requires Inv-loop μ-loop
-components-in-requires c κs = search needs
-
 loop-holds : tie.Need-loop-holds Inv-loop μ-loop
 unfolding lackingAt
 loop-holds c =
@@ -39,9 +36,6 @@ loop-holds c =
     let p = lacks (a .head .now) (a .rows .now) (a .numbers .now) (a .usages .now) (a .class) in
     let e = ap (position p) (left-all (c .components-in .result)) ∙ ap (λ (k : ℕ). position p (below k)) (n .0) in
     (omega arith, n .1, n .0, λ D b m M h. omega arith)
-
-covers-requires : tie.Need-covers-requires Inv-loop μ-loop
-covers-requires c κs = search needs
 
 returns : tie.Need-returns Inv-loop μ-loop
 returns c =
@@ -53,12 +47,6 @@ returns c =
     let e = position-hit (lacks (a .head .now) (a .rows .now) (a .numbers .now) (a .usages .now) (a .class)) (turn .before .components-in .result) (turn .loop .c) (omega arith) (ap not (sym (c .before .covers .ensures D b m M h (omega arith))) ∙ c .if1 .taken) in
     let i = turn .loop .inv .3 D b m M h in
     omega arith
-
-add-c : tie.Need-add-c Inv-loop μ-loop
-add-c c = omega arith
-
-loop-less : tie.Need-loop-less Inv-loop μ-loop
-loop-less c = omega arith
 
 loop-again : tie.Need-loop-again Inv-loop μ-loop
 loop-again c =
@@ -90,11 +78,11 @@ first-lacking-spec =
     (tie.spec
     Inv-loop
     μ-loop
-    components-in-requires
+    (λ c κs. search needs)  -- components-in-requires
     loop-holds
-    covers-requires
+    (λ c κs. search needs)  -- covers-requires
     returns
-    add-c
-    loop-less
+    (λ c. omega arith)  -- add-c
+    (λ c. omega arith)  -- loop-less
     loop-again
     returns-2)

@@ -8,18 +8,6 @@ use borrow.Author.Needs.{needs}
 use Rattle.classes.proofs.names.has_counted.Statement.{statement}
 use Rattle.classes.proofs.names.has_counted.Tie as tie
 
-component-byte-requires : tie.Need-component-byte-requires
-component-byte-requires c κs = search needs
-
-arity-of-requires : tie.Need-arity-of-requires
-arity-of-requires c κs = search needs
-
-wide-requires : tie.Need-wide-requires
-wide-requires c κs = search needs
-
-any-counted-requires : tie.Need-any-counted-requires
-any-counted-requires c κs = search needs
-
 returns : tie.Need-returns
 unfolding hasCounted
 returns c =
@@ -31,4 +19,9 @@ returns c =
 pub has-counted-spec : {M : Type 1} → statement M
 has-counted-spec =
     tie.close
-    (tie.spec component-byte-requires arity-of-requires wide-requires any-counted-requires returns)
+    (tie.spec
+    (λ c κs. search needs)  -- component-byte-requires
+    (λ c κs. search needs)  -- arity-of-requires
+    (λ c κs. search needs)  -- wide-requires
+    (λ c κs. search needs)  -- any-counted-requires
+    returns)

@@ -5,18 +5,6 @@ use Rattle.literals.specs.Domain.{isEvery, isCounted}
 use Rattle.classes.proofs.names.is_cleared.Statement.{statement}
 use Rattle.classes.proofs.names.is_cleared.Tie as tie
 
-label-of-requires : tie.Need-label-of-requires
-label-of-requires c κs = search needs
-
-is-counted-requires : tie.Need-is-counted-requires
-is-counted-requires c κs = search needs
-
-argument-of-requires : tie.Need-argument-of-requires
-argument-of-requires c κs = search needs
-
-is-every-requires : tie.Need-is-every-requires
-is-every-requires c κs = search needs
-
 returns : tie.Need-returns
 returns c =
     rw (sym (c .before .before .before .is-counted .ensures ∙ ap isCounted (c .before .before .before .before .label-of .ensures))
@@ -30,9 +18,9 @@ pub is-cleared-spec : {M : Type 1} → statement M
 is-cleared-spec =
     tie.close
     (tie.spec
-    label-of-requires
-    is-counted-requires
-    argument-of-requires
-    is-every-requires
+    (λ c κs. search needs)  -- label-of-requires
+    (λ c κs. search needs)  -- is-counted-requires
+    (λ c κs. search needs)  -- argument-of-requires
+    (λ c κs. search needs)  -- is-every-requires
     returns
     returns-2)

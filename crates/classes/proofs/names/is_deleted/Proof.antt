@@ -23,21 +23,12 @@ loop-holds c =
     let a = c .before .before .args in
     ap (any (isDeleteAt (a .rows .now) (a .numbers .now) (a .usages .now) (a .class) (a .i))) (left-all (length (a .numbers .now)))
 
-is-delete-at-requires : tie.Need-is-delete-at-requires Inv-loop μ-loop
-is-delete-at-requires c κs = search needs
-
 returns : tie.Need-returns Inv-loop μ-loop
 returns c =
     let a = c .before .before .before .before .before .before .args in
     sym (any-hit (isDeleteAt (a .rows .now) (a .numbers .now) (a .usages .now) (a .class) (a .i)) (length (a .numbers .now))
     (c .before .before .before .loop .j) (omega arith) (sym (c .before .is-delete-at .ensures) ∙ c .if1 .taken))
     ∙ c .before .before .before .loop .inv
-
-add-j : tie.Need-add-j Inv-loop μ-loop
-add-j c = omega arith
-
-loop-less : tie.Need-loop-less Inv-loop μ-loop
-loop-less c = omega arith
 
 loop-again : tie.Need-loop-again Inv-loop μ-loop
 loop-again c =
@@ -59,9 +50,9 @@ is-deleted-spec =
     Inv-loop
     μ-loop
     loop-holds
-    is-delete-at-requires
+    (λ c κs. search needs)  -- is-delete-at-requires
     returns
-    add-j
-    loop-less
+    (λ c. omega arith)  -- add-j
+    (λ c. omega arith)  -- loop-less
     loop-again
     returns-2)

@@ -25,23 +25,20 @@ returns-5 c D a head M l z h = not-one-add D a _ (λ o. let n = no-adds (moment-
 returns-6 : tie.Need-returns-6
 returns-6 c D a head M l z h = not-one-add D a _ (λ o. let n = many-adds (moment-of M End) h z (c .if6 .taken) in omega arith)
 
-cast-is-deleted : tie.Need-cast-is-deleted
-cast-is-deleted c = search needs
-
-sub-is-deleted : tie.Need-sub-is-deleted
-sub-is-deleted c = search needs
-
 is-deleted-requires : tie.Need-is-deleted-requires
 is-deleted-requires c κs =
-    let s = c .before .before .before .before .before .before .before .before .before .before .before .before in
+    let back8 = c .before .before .before .before .before .before .before .before in
+    let s = back8 .before .before .before .before in
     (s .pre .0, sole-inside (s .args .numbers .now) (s .args .usages .now) (s .args .class) (s .pre .0 .few) (s .pre .1) (c .before .before .before .before .before .before .before .if2 .left) (c .before .before .before .before .before .before .if3 .left))
 
 returns-7 : tie.Need-returns-7
 returns-7 c D a head M l z h =
-    let s = c .before .before .before .before .before .before .before .before .before .before .before .before .before .pre .1 in
-    let some = c .before .before .before .before .before .before .before .before .if2 .left in
+    let back8 = c .before .before .before .before .before .before .before .before in
+    let s = back8 .before .before .before .before .before .pre .1 in
+    let some = back8 .if2 .left in
     let few = c .before .before .before .before .before .before .before .if3 .left in
-    journey-deletes D a _ l (no-adds M h s (c .before .before .before .before .before .before .before .before .before .if1 .left)) (one-condition M h s some few) (no-conditions (moment-of M End) h z (c .before .before .before .before .before .if4 .left))
+    journey-deletes D a _ l (no-adds M h s (back8 .before .if1 .left)) (one-condition M h s some few)
+    (no-conditions (moment-of M End) h z (c .before .before .before .before .before .if4 .left))
     (one-add (moment-of M End) h z (c .before .before .before .if5 .left) (c .before .if6 .left)) (c .is-deleted .result)
     (c .is-deleted .ensures ∙ deleted-held M h s some few)
 
@@ -55,7 +52,7 @@ is-journey-spec =
     returns-4
     returns-5
     returns-6
-    cast-is-deleted
-    sub-is-deleted
+    (λ c. search needs)  -- cast-is-deleted
+    (λ c. search needs)  -- sub-is-deleted
     is-deleted-requires
     returns-7)

@@ -13,9 +13,6 @@ use borrow.Author.Needs.{needs}
 use Rattle.classes.proofs.names.is_lasting_at.Statement.{statement}
 use Rattle.classes.proofs.names.is_lasting_at.Tie as tie
 
-shared-slice-read-if1 : tie.Need-shared-slice-read-if1
-shared-slice-read-if1 c = search needs
-
 of-class : (rows numbers : List ℕ) (class j : ℕ) {b : Bool} {r : Role} → getD numbers j 0 ≡ class → r ≡ roleOf (getD rows (8 * j) 0) → b ≡ sameTime OverAll (r .time) → b ≡ lastsAt rows numbers class j
 unfolding lastsAt
 of-class rows numbers class j e f h =
@@ -25,18 +22,6 @@ returns : tie.Need-returns
 unfolding lastsAt
 returns c = simp (ne-eqb _ _ (c .if1 .taken))
 
-mul-role-of : tie.Need-mul-role-of
-mul-role-of c = search needs
-
-shared-slice-read-role-of : tie.Need-shared-slice-read-role-of
-shared-slice-read-role-of c = search needs
-
-role-of-requires : tie.Need-role-of-requires
-role-of-requires c κs = search needs
-
-same-time-requires : tie.Need-same-time-requires
-same-time-requires c κs = search needs
-
 returns-2 : tie.Need-returns-2
 returns-2 c = of-class _ _ _ _ (c .before .before .before .if1 .left) (c .before .role-of .ensures) (c .same-time .ensures)
 
@@ -44,10 +29,10 @@ pub is-lasting-at-spec : {M : Type 1} → statement M
 is-lasting-at-spec =
     tie.close
     (tie.spec
-    shared-slice-read-if1
+    (λ c. search needs)  -- shared-slice-read-if1
     returns
-    mul-role-of
-    shared-slice-read-role-of
-    role-of-requires
-    same-time-requires
+    (λ c. search needs)  -- mul-role-of
+    (λ c. search needs)  -- shared-slice-read-role-of
+    (λ c κs. search needs)  -- role-of-requires
+    (λ c κs. search needs)  -- same-time-requires
     returns-2)

@@ -19,27 +19,23 @@ returns-3 c D a m M h r = irrelevant-named M h (c .before .before .before .befor
 returns-4 : tie.Need-returns-4
 returns-4 c D a m M h r = heavy-named M h (c .before .before .before .before .before .before .pre .1) r (c .before .before .before .if1 .left) (c .before .before .if2 .left) (c .if4 .taken)
 
-first-uncovered-requires : tie.Need-first-uncovered-requires
-first-uncovered-requires c κs = search needs
-
-components-in-requires : tie.Need-components-in-requires
-components-in-requires c κs = search needs
-
 returns-5 : tie.Need-returns-5
 returns-5 c D a m M h r =
-    covered-named M h (c .before .before .before .before .before .before .before .before .before .before .pre .1) r (c .before .before .before .before .before .before .before .if1 .left) (c .before .before .before .before .before .before .if2 .left) (c .before .before .before .before .before .if3 .left) (c .before .before .before .before .if4 .left) (c .before .before .before .if5 .taken) _ _
-    (c .before .before .first-uncovered .ensures D a m M h) (c .before .components-in .ensures .0 ∙ M .whole .says .components) true (eq-eqb _ _ (c .if6 .taken))
+    let back8 = c .before .before .before .before .before .before .before .before in
+    covered-named M h (back8 .before .before .pre .1) r (c .before .before .before .before .before .before .before .if1 .left)
+    (c .before .before .before .before .before .before .if2 .left) (c .before .before .before .before .before .if3 .left)
+    (c .before .before .before .before .if4 .left) (c .before .before .before .if5 .taken) _ _
+    (c .before .before .first-uncovered .ensures D a m M h) (c .before .components-in .ensures .0 ∙ M .whole .says .components) true
+    (eq-eqb _ _ (c .if6 .taken))
 
 returns-6 : tie.Need-returns-6
 returns-6 c D a m M h r =
-    covered-named M h (c .before .before .before .before .before .before .before .before .before .before .pre .1) r (c .before .before .before .before .before .before .before .if1 .left) (c .before .before .before .before .before .before .if2 .left) (c .before .before .before .before .before .if3 .left) (c .before .before .before .before .if4 .left) (c .before .before .before .if5 .taken) _ _
-    (c .before .before .first-uncovered .ensures D a m M h) (c .before .components-in .ensures .0 ∙ M .whole .says .components) false (ne-eqb _ _ (c .if6 .left))
-
-cast-is-changed : tie.Need-cast-is-changed
-cast-is-changed c = search needs
-
-sub-is-changed : tie.Need-sub-is-changed
-sub-is-changed c = search needs
+    let back8 = c .before .before .before .before .before .before .before .before in
+    covered-named M h (back8 .before .before .pre .1) r (c .before .before .before .before .before .before .before .if1 .left)
+    (c .before .before .before .before .before .before .if2 .left) (c .before .before .before .before .before .if3 .left)
+    (c .before .before .before .before .if4 .left) (c .before .before .before .if5 .taken) _ _
+    (c .before .before .first-uncovered .ensures D a m M h) (c .before .components-in .ensures .0 ∙ M .whole .says .components) false
+    (ne-eqb _ _ (c .if6 .left))
 
 is-changed-requires : tie.Need-is-changed-requires
 is-changed-requires c κs =
@@ -48,11 +44,17 @@ is-changed-requires c κs =
 
 returns-7 : tie.Need-returns-7
 returns-7 c D a m M h r =
-    changed-named M h (c .before .before .before .before .before .before .before .before .before .pre .1) r (c .before .before .before .before .before .before .if1 .left) (c .before .before .before .before .before .if2 .left) (c .before .before .before .before .if3 .left) (c .before .before .before .if4 .left) (c .before .before .if5 .left) true (sym (c .before .is-changed .ensures) ∙ c .if7 .taken)
+    let back8 = c .before .before .before .before .before .before .before .before in
+    changed-named M h (back8 .before .pre .1) r (c .before .before .before .before .before .before .if1 .left)
+    (c .before .before .before .before .before .if2 .left) (c .before .before .before .before .if3 .left)
+    (c .before .before .before .if4 .left) (c .before .before .if5 .left) true (sym (c .before .is-changed .ensures) ∙ c .if7 .taken)
 
 returns-8 : tie.Need-returns-8
 returns-8 c D a m M h r =
-    changed-named M h (c .before .before .before .before .before .before .before .before .before .pre .1) r (c .before .before .before .before .before .before .if1 .left) (c .before .before .before .before .before .if2 .left) (c .before .before .before .before .if3 .left) (c .before .before .before .if4 .left) (c .before .before .if5 .left) false (sym (c .before .is-changed .ensures) ∙ c .if7 .left)
+    let back8 = c .before .before .before .before .before .before .before .before in
+    changed-named M h (back8 .before .pre .1) r (c .before .before .before .before .before .before .if1 .left)
+    (c .before .before .before .before .before .if2 .left) (c .before .before .before .before .if3 .left)
+    (c .before .before .before .if4 .left) (c .before .before .if5 .left) false (sym (c .before .is-changed .ensures) ∙ c .if7 .left)
 
 pub name-at-spec : {M : Type 1} → statement M
 name-at-spec =
@@ -62,12 +64,12 @@ name-at-spec =
     returns-2
     returns-3
     returns-4
-    first-uncovered-requires
-    components-in-requires
+    (λ c κs. search needs)  -- first-uncovered-requires
+    (λ c κs. search needs)  -- components-in-requires
     returns-5
     returns-6
-    cast-is-changed
-    sub-is-changed
+    (λ c. search needs)  -- cast-is-changed
+    (λ c. search needs)  -- sub-is-changed
     is-changed-requires
     returns-7
     returns-8)

@@ -24,29 +24,19 @@ loop-holds : tie.Need-loop-holds Inv-loop μ-loop
 loop-holds c = let a = c .before .before .before .args in
     (omega arith, refl, λ e. tallied-none (a .rows .now) (a .numbers .now) (a .soles .now) e)
 
-shared-slice-read-wide : tie.Need-shared-slice-read-wide Inv-loop μ-loop
-shared-slice-read-wide c = omega arith
-
-wide-requires : tie.Need-wide-requires Inv-loop μ-loop
-wide-requires c κs = search needs
-
 note-literal-requires : tie.Need-note-literal-requires Inv-loop μ-loop
 note-literal-requires c κs =
-    let p = c .before .before .before .before .before .before .before .before .pre in
+    let back8 = c .before .before .before .before .before .before .before .before in
+    let p = back8 .pre in
     let l = c .before .before .before .before .loop in
     let w = p .0 .rowed in
     let f = p .0 .few in
     (omega arith, (omega arith, l .inv .1 ∙ p .1))
 
-add-j : tie.Need-add-j Inv-loop μ-loop
-add-j c = omega arith
-
-loop-less : tie.Need-loop-less Inv-loop μ-loop
-loop-less c = omega arith
-
 loop-again : tie.Need-loop-again Inv-loop μ-loop
 loop-again c =
-    let a = c .before .before .before .before .before .before .before .before .before .before .before .args in
+    let back8 = c .before .before .before .before .before .before .before .before in
+    let a = back8 .before .before .before .args in
     let l = c .before .before .before .before .before .before .before .loop in
     let t = c .before .before .note-literal in (
       omega arith,
@@ -73,11 +63,11 @@ note-soles-spec =
     Inv-loop
     μ-loop
     loop-holds
-    shared-slice-read-wide
-    wide-requires
+    (λ c. omega arith)  -- shared-slice-read-wide
+    (λ c κs. search needs)  -- wide-requires
     note-literal-requires
-    add-j
-    loop-less
+    (λ c. omega arith)  -- add-j
+    (λ c. omega arith)  -- loop-less
     loop-again
     same-length
     returns)

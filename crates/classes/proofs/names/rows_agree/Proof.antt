@@ -6,36 +6,6 @@ use Rattle.classes.proofs.Rows.{agree-same, agree-other}
 use Rattle.classes.proofs.names.rows_agree.Statement.{statement}
 use Rattle.classes.proofs.names.rows_agree.Tie as tie
 
-mul-same-four : tie.Need-mul-same-four
-mul-same-four c = search needs
-
-add-same-four : tie.Need-add-same-four
-add-same-four c = search needs
-
-mul-same-four-2 : tie.Need-mul-same-four-2
-mul-same-four-2 c = search needs
-
-add-same-four-2 : tie.Need-add-same-four-2
-add-same-four-2 c = search needs
-
-same-four-requires : tie.Need-same-four-requires
-same-four-requires c κs = search needs
-
-mul-same-four-3 : tie.Need-mul-same-four-3
-mul-same-four-3 c = search needs
-
-add-same-four-3 : tie.Need-add-same-four-3
-add-same-four-3 c = search needs
-
-mul-same-four-4 : tie.Need-mul-same-four-4
-mul-same-four-4 c = search needs
-
-add-same-four-4 : tie.Need-add-same-four-4
-add-same-four-4 c = search needs
-
-same-four-requires-2 : tie.Need-same-four-requires-2
-same-four-requires-2 c κs = search needs
-
 returns : tie.Need-returns
 returns c = let a = c .before .before .before .before .args in
     agree-same (a .rows .now) (a .i) (a .j) (omega arith) (omega arith) (sym (c .before .before .same-four .ensures) ∙ c .before .if1 .taken) (c .same-four2 .ensures)
@@ -48,15 +18,15 @@ pub rows-agree-spec : {M : Type 1} → statement M
 rows-agree-spec =
     tie.close
     (tie.spec
-    mul-same-four
-    add-same-four
-    mul-same-four-2
-    add-same-four-2
-    same-four-requires
-    mul-same-four-3
-    add-same-four-3
-    mul-same-four-4
-    add-same-four-4
-    same-four-requires-2
+    (λ c. search needs)  -- mul-same-four
+    (λ c. search needs)  -- add-same-four
+    (λ c. search needs)  -- mul-same-four-2
+    (λ c. search needs)  -- add-same-four-2
+    (λ c κs. search needs)  -- same-four-requires
+    (λ c. search needs)  -- mul-same-four-3
+    (λ c. search needs)  -- add-same-four-3
+    (λ c. search needs)  -- mul-same-four-4
+    (λ c. search needs)  -- add-same-four-4
+    (λ c κs. search needs)  -- same-four-requires-2
     returns
     returns-2)

@@ -10,18 +10,6 @@ use Rattle.classes.proofs.Soles.{by-second}
 use Rattle.classes.proofs.names.says.Statement.{statement}
 use Rattle.classes.proofs.names.says.Tie as tie
 
-rows-agree-requires : tie.Need-rows-agree-requires
-rows-agree-requires c κs = search needs
-
-mul-usage-at : tie.Need-mul-usage-at
-mul-usage-at c = search needs
-
-shared-slice-read-usage-at : tie.Need-shared-slice-read-usage-at
-shared-slice-read-usage-at c = search needs
-
-usage-at-requires : tie.Need-usage-at-requires
-usage-at-requires c κs = search needs
-
 returns : tie.Need-returns
 unfolding saysAt
 returns c = ap (λ (n : ℕ). eqb n (c .before .before .before .before .before .args .usage)) (c .usage-at .ensures)
@@ -38,9 +26,9 @@ pub says-spec : {M : Type 1} → statement M
 says-spec =
     tie.close
     (tie.spec
-    rows-agree-requires
-    mul-usage-at
-    shared-slice-read-usage-at
-    usage-at-requires
+    (λ c κs. search needs)  -- rows-agree-requires
+    (λ c. search needs)  -- mul-usage-at
+    (λ c. search needs)  -- shared-slice-read-usage-at
+    (λ c κs. search needs)  -- usage-at-requires
     returns
     returns-2)

@@ -13,27 +13,6 @@ by-time : (r : Role) (role : ℕ) (t : Time) → r ≡ roleOf role → r .time �
     → n ≡ sectionOf (roleOf role)
 by-time r role t e f q = q ∙ ap (λ (u : Time). sectionBy u (r .usage)) (sym f) ∙ ap sectionOf e
 
-role-of-requires : tie.Need-role-of-requires
-role-of-requires c κs = search needs
-
-enum-told : tie.Need-enum-told
-enum-told c = search needs
-
-start-section-requires : tie.Need-start-section-requires
-start-section-requires c κs = search needs
-
-enum-told-2 : tie.Need-enum-told-2
-enum-told-2 c = search needs
-
-over-all-section-requires : tie.Need-over-all-section-requires
-over-all-section-requires c κs = search needs
-
-enum-told-3 : tie.Need-enum-told-3
-enum-told-3 c = search needs
-
-end-section-requires : tie.Need-end-section-requires
-end-section-requires c κs = search needs
-
 returns : tie.Need-returns
 returns c = let r = c .before .before .before .role-of in
     by-time (r .result) (c .before .before .before .before .args .role) _ (r .ensures) (c .before .enum-told .given .1)
@@ -53,13 +32,13 @@ pub section-of-spec : {M : Type 1} → statement M
 section-of-spec =
     tie.close
     (tie.spec
-    role-of-requires
-    enum-told
-    start-section-requires
-    enum-told-2
-    over-all-section-requires
-    enum-told-3
-    end-section-requires
+    (λ c κs. search needs)  -- role-of-requires
+    (λ c. search needs)  -- enum-told
+    (λ c κs. search needs)  -- start-section-requires
+    (λ c. search needs)  -- enum-told-2
+    (λ c κs. search needs)  -- over-all-section-requires
+    (λ c. search needs)  -- enum-told-3
+    (λ c κs. search needs)  -- end-section-requires
     returns
     returns-2
     returns-3)

@@ -22,18 +22,6 @@ module _ (wide : Bool) (m : Moment) (role : ℕ) (r : Role) (e : r ≡ roleOf ro
   unfolding usageByte
   passed h = sym (ap (λ (b : Bool). cond b (suc (usageNumber (r .usage))) 0) h) ∙ sym (usage-timed wide m r) ∙ ap (usageAt wide m) e
 
-role-of-requires : tie.Need-role-of-requires
-role-of-requires c κs = search needs
-
-counts-at-requires : tie.Need-counts-at-requires
-counts-at-requires c κs = search needs
-
-usage-number-requires : tie.Need-usage-number-requires
-usage-number-requires c κs = search needs
-
-add-result : tie.Need-add-result
-add-result c = search needs
-
 returns : tie.Need-returns
 returns c = counted _ _ _ (c .before .before .before .role-of .result) (c .before .before .before .role-of .ensures) _ (sym (c .before .before .counts-at .ensures) ∙ c .before .if1 .taken) (c .usage-number .ensures .0)
 
@@ -44,9 +32,9 @@ pub usage-at-spec : {M : Type 1} → statement M
 usage-at-spec =
     tie.close
     (tie.spec
-    role-of-requires
-    counts-at-requires
-    usage-number-requires
-    add-result
+    (λ c κs. search needs)  -- role-of-requires
+    (λ c κs. search needs)  -- counts-at-requires
+    (λ c κs. search needs)  -- usage-number-requires
+    (λ c. search needs)  -- add-result
     returns
     returns-2)

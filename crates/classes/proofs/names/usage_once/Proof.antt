@@ -26,25 +26,10 @@ module _ (wide : Bool) (rows : List ℕ) (m : Moment) (j usage : ℕ) (e : usage
   new : mayMeet wide m usage ≡ true → any (saysAt wide rows m usage j) (below j) ≡ false → usage ≡ usageIn wide rows m j
   new g h = sym (ap₂ (λ (b d : Bool). cond (b && d) 0 usage) g h) ∙ by-test
 
-mul-usage-at : tie.Need-mul-usage-at
-mul-usage-at c = search needs
-
-shared-slice-read-usage-at : tie.Need-shared-slice-read-usage-at
-shared-slice-read-usage-at c = search needs
-
-usage-at-requires : tie.Need-usage-at-requires
-usage-at-requires c κs = search needs
-
-may-meet-requires : tie.Need-may-meet-requires
-may-meet-requires c κs = search needs
-
 returns : tie.Need-returns
 returns c =
     let a = c .before .before .before .before .before .args in
     apart (a .wide) (a .rows .now) (a .m) (a .j) (c .before .before .usage-at .result) (c .before .before .usage-at .ensures) (sym (c .before .may-meet .ensures) ∙ not-true _ (c .if1 .taken))
-
-earlier-same-requires : tie.Need-earlier-same-requires
-earlier-same-requires c κs = search needs
 
 returns-2 : tie.Need-returns-2
 returns-2 c =
@@ -60,11 +45,11 @@ pub usage-once-spec : {M : Type 1} → statement M
 usage-once-spec =
     tie.close
     (tie.spec
-    mul-usage-at
-    shared-slice-read-usage-at
-    usage-at-requires
-    may-meet-requires
+    (λ c. search needs)  -- mul-usage-at
+    (λ c. search needs)  -- shared-slice-read-usage-at
+    (λ c κs. search needs)  -- usage-at-requires
+    (λ c κs. search needs)  -- may-meet-requires
     returns
-    earlier-same-requires
+    (λ c κs. search needs)  -- earlier-same-requires
     returns-2
     returns-3)

@@ -20,18 +20,6 @@ abbrev μ-loop : tie.MeasureT-loop
 loop-holds : tie.Need-loop-holds Inv-loop μ-loop
 loop-holds c = (omega arith, λ e. e)
 
-usage-once-requires : tie.Need-usage-once-requires Inv-loop μ-loop
-usage-once-requires c κs = omega arith
-
-element-write-usages : tie.Need-element-write-usages Inv-loop μ-loop
-element-write-usages c = omega arith
-
-add-j : tie.Need-add-j Inv-loop μ-loop
-add-j c = omega arith
-
-loop-less : tie.Need-loop-less Inv-loop μ-loop
-loop-less c = omega arith
-
 loop-again : tie.Need-loop-again Inv-loop μ-loop
 loop-again c =
     let a = c .before .before .before .before .args in
@@ -62,9 +50,9 @@ usages-at-spec =
     Inv-loop
     μ-loop
     loop-holds
-    usage-once-requires
-    element-write-usages
-    add-j
-    loop-less
+    (λ c κs. omega arith)  -- usage-once-requires
+    (λ c. omega arith)  -- element-write-usages
+    (λ c. omega arith)  -- add-j
+    (λ c. omega arith)  -- loop-less
     loop-again
     returns)

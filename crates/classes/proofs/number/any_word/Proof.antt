@@ -17,24 +17,6 @@ Inv-loop words n word found₀ c₀ found c = (c ≤ n) × ((found || any (eqb w
 abbrev μ-loop : tie.MeasureT-loop
 μ-loop words n word found₀ c₀ found c = n - c
 
-loop-holds : tie.Need-loop-holds Inv-loop μ-loop
-loop-holds c = (omega arith, refl)
-
-mul-found-or-equal : tie.Need-mul-found-or-equal Inv-loop μ-loop
-mul-found-or-equal c = omega arith
-
-shared-slice-read-found-or-equal : tie.Need-shared-slice-read-found-or-equal Inv-loop μ-loop
-shared-slice-read-found-or-equal c = omega arith
-
-found-or-equal-requires : tie.Need-found-or-equal-requires Inv-loop μ-loop
-found-or-equal-requires c κs = search needs
-
-add-c : tie.Need-add-c Inv-loop μ-loop
-add-c c = omega arith
-
-loop-less : tie.Need-loop-less Inv-loop μ-loop
-loop-less c = omega arith
-
 loop-again : tie.Need-loop-again Inv-loop μ-loop
 loop-again c =
     let a = c .before .before .before .before .before .args in
@@ -54,11 +36,11 @@ any-word-spec =
     (tie.spec
     Inv-loop
     μ-loop
-    loop-holds
-    mul-found-or-equal
-    shared-slice-read-found-or-equal
-    found-or-equal-requires
-    add-c
-    loop-less
+    (λ c. (omega arith, refl))  -- loop-holds
+    (λ c. omega arith)  -- mul-found-or-equal
+    (λ c. omega arith)  -- shared-slice-read-found-or-equal
+    (λ c κs. search needs)  -- found-or-equal-requires
+    (λ c. omega arith)  -- add-c
+    (λ c. omega arith)  -- loop-less
     loop-again
     returns)

@@ -19,35 +19,17 @@ Inv-loop words n word c₀ c = (c ≤ n) × (c + position (eqb word) (drop c (ta
 abbrev μ-loop : tie.MeasureT-loop
 μ-loop words n word c₀ c = n - c
 
-any-word-requires : tie.Need-any-word-requires Inv-loop μ-loop
-any-word-requires c κs = search needs
-
 returns : tie.Need-returns Inv-loop μ-loop
 returns c =
     let a = c .before .before .before .args in
     let none = none-found (eqb (a .word)) (take (a .n) (a .words .now)) (sym (c .before .any-word .ensures) ∙ not-true _ (c .if2 .taken)) in
     sym (none ∙ length-take-le (a .n) (a .words .now) (c .before .before .before .pre .0))
 
-loop-holds : tie.Need-loop-holds Inv-loop μ-loop
-loop-holds c = (omega arith, omega arith)
-
-mul-if3 : tie.Need-mul-if3 Inv-loop μ-loop
-mul-if3 c = omega arith
-
-shared-slice-read-if3 : tie.Need-shared-slice-read-if3 Inv-loop μ-loop
-shared-slice-read-if3 c = omega arith
-
 returns-2 : tie.Need-returns-2 Inv-loop μ-loop
 returns-2 c =
     let a = c .before .before .before .before .before .before .before .args in
     let l = c .before .before .before .loop in
     sym (first-hit (eqb (a .word)) (a .words .now) (a .n) (c .before .before .before .before .before .before .before .pre .0) (l .c) (omega arith) (eq-eqb _ _ (sym (c .if3 .taken)))) ∙ l .inv .1
-
-add-c : tie.Need-add-c Inv-loop μ-loop
-add-c c = omega arith
-
-loop-less : tie.Need-loop-less Inv-loop μ-loop
-loop-less c = omega arith
 
 loop-again : tie.Need-loop-again Inv-loop μ-loop
 loop-again c =
@@ -69,13 +51,13 @@ class-of-spec =
     (tie.spec
     Inv-loop
     μ-loop
-    any-word-requires
+    (λ c κs. search needs)  -- any-word-requires
     returns
-    loop-holds
-    mul-if3
-    shared-slice-read-if3
+    (λ c. (omega arith, omega arith))  -- loop-holds
+    (λ c. omega arith)  -- mul-if3
+    (λ c. omega arith)  -- shared-slice-read-if3
     returns-2
-    add-c
-    loop-less
+    (λ c. omega arith)  -- add-c
+    (λ c. omega arith)  -- loop-less
     loop-again
     returns-3)

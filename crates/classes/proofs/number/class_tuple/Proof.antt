@@ -19,9 +19,6 @@ abbrev μ-loop : tie.MeasureT-loop
 loop-holds : tie.Need-loop-holds Inv-loop μ-loop
 loop-holds c = (omega arith, λ i h. absurd (omega arith))
 
-shared-slice-read-if1 : tie.Need-shared-slice-read-if1 Inv-loop μ-loop
-shared-slice-read-if1 c = omega arith
-
 mul-literal-tuple : tie.Need-mul-literal-tuple Inv-loop μ-loop
 mul-literal-tuple c = let s = c .before .before .before .before .before .before .pre in let r = s .rowed in let f = s .few in omega arith
 
@@ -32,12 +29,6 @@ returns : tie.Need-returns Inv-loop μ-loop
 returns c D a A e h =
     let r = c .before .before .before .before .before .before .before .pre .rowed in
     c .literal-tuple .ensures ∙ tuple-found A e h (c .before .before .before .before .loop .j) (omega arith) (c .before .if1 .taken)
-
-add-j : tie.Need-add-j Inv-loop μ-loop
-add-j c = omega arith
-
-loop-less : tie.Need-loop-less Inv-loop μ-loop
-loop-less c = omega arith
 
 loop-again : tie.Need-loop-again Inv-loop μ-loop
 loop-again c = (omega arith, none-more (c .before .before .before .before .before .before .args .numbers .now) (c .before .before .before .before .before .before .args .class) (c .before .before .before .loop .j) (c .before .before .before .loop .inv .1) (ne-eqb _ _ (c .if1 .left)))
@@ -54,11 +45,11 @@ class-tuple-spec =
     Inv-loop
     μ-loop
     loop-holds
-    shared-slice-read-if1
+    (λ c. omega arith)  -- shared-slice-read-if1
     mul-literal-tuple
     literal-tuple-requires
     returns
-    add-j
-    loop-less
+    (λ c. omega arith)  -- add-j
+    (λ c. omega arith)  -- loop-less
     loop-again
     returns-2)

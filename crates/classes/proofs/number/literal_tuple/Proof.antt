@@ -6,18 +6,6 @@ use Rattle.classes.proofs.NewClasses.{component-le, unmatched-tuple, ma
 use Rattle.classes.proofs.number.literal_tuple.Statement.{statement}
 use Rattle.classes.proofs.number.literal_tuple.Tie as tie
 
-add-component-of : tie.Need-add-component-of
-add-component-of c = search needs
-
-shared-slice-read-component-of : tie.Need-shared-slice-read-component-of
-shared-slice-read-component-of c = search needs
-
-component-of-requires : tie.Need-component-of-requires
-component-of-requires c κs = search needs
-
-components-in-requires : tie.Need-components-in-requires
-components-in-requires c κs = search needs
-
 returns : tie.Need-returns
 returns c =
     let a = c .before .before .before .before .before .args in
@@ -41,10 +29,10 @@ pub literal-tuple-spec : {M : Type 1} → statement M
 literal-tuple-spec =
     tie.close
     (tie.spec
-    add-component-of
-    shared-slice-read-component-of
-    component-of-requires
-    components-in-requires
+    (λ c. search needs)  -- add-component-of
+    (λ c. search needs)  -- shared-slice-read-component-of
+    (λ c κs. search needs)  -- component-of-requires
+    (λ c κs. search needs)  -- components-in-requires
     returns
     key-tuple-requires
     returns-2)

@@ -14,14 +14,8 @@ Inv-loop head places rows numbers₀ words₀ keys count₀ j₀ j-end numbers w
 abbrev μ-loop : tie.MeasureT-loop
 μ-loop head places rows numbers₀ words₀ keys count₀ j₀ j-end numbers words count j = length numbers₀ - j
 
-keys-in-requires : tie.Need-keys-in-requires Inv-loop μ-loop
-keys-in-requires c κs = search needs
-
 loop-holds : tie.Need-loop-holds Inv-loop μ-loop
 loop-holds c = let a = c .before .before .before .args in so-far-none (a .head .now) (a .rows .now) (a .numbers .now) (a .words .now)
-
-mul-number-literal : tie.Need-mul-number-literal Inv-loop μ-loop
-mul-number-literal c = omega arith
 
 number-literal-requires : tie.Need-number-literal-requires Inv-loop μ-loop
 number-literal-requires c κs =
@@ -32,21 +26,17 @@ number-literal-requires c κs =
 slice-write-numbers : tie.Need-slice-write-numbers Inv-loop μ-loop
 slice-write-numbers c = let w = c .before .before .before .before .before .loop .inv .whole in omega arith
 
-add-j : tie.Need-add-j Inv-loop μ-loop
-add-j c = omega arith
-
-loop-less : tie.Need-loop-less Inv-loop μ-loop
-loop-less c = omega arith
-
 loop-again : tie.Need-loop-again Inv-loop μ-loop
 loop-again c =
-    let a = c .before .before .before .before .before .before .before .before .before .args in
-    let p = c .before .before .before .before .before .before .before .before .before .pre in
+    let back8 = c .before .before .before .before .before .before .before .before in
+    let number-literal = c .before .before .number-literal in
+    let a = back8 .before .args in
+    let p = back8 .before .pre in
     let l = c .before .before .before .before .before .loop in
     so-far-more (a .head .now) (a .rows .now) (a .numbers .now) (l .numbers) (a .words .now) (l .words) _ (l .count) (l .j)
-    (c .before .before .number-literal .result) (c .before .before .number-literal .kept .1 .1 .1 .1 .0) (p .1 .0) (omega arith)
+    (number-literal .result) (number-literal .kept .1 .1 .1 .1 .0) (p .1 .0) (omega arith)
     (l .inv) (omega arith)
-    (c .before .before .number-literal .ensures .0) (c .before .before .number-literal .ensures .1)
+    (number-literal .ensures .0) (number-literal .ensures .1)
 
 same-length : tie.Need-same-length Inv-loop μ-loop
 same-length c = c .before .loop .inv .whole
@@ -72,13 +62,13 @@ number-classes-spec =
     (tie.spec
     Inv-loop
     μ-loop
-    keys-in-requires
+    (λ c κs. search needs)  -- keys-in-requires
     loop-holds
-    mul-number-literal
+    (λ c. omega arith)  -- mul-number-literal
     number-literal-requires
     slice-write-numbers
-    add-j
-    loop-less
+    (λ c. omega arith)  -- add-j
+    (λ c. omega arith)  -- loop-less
     loop-again
     same-length
     same-length-2

@@ -9,15 +9,6 @@ use Rattle.events.proofs.RowLoops.{argument-stays}
 use Rattle.events.proofs.facts.bound_argument.Statement.{statement}
 use Rattle.events.proofs.facts.bound_argument.Tie as tie
 
-enum-known-argument : tie.Need-enum-known-argument
-enum-known-argument c = search needs
-
-object-of-requires : tie.Need-object-of-requires
-object-of-requires c κs = search needs
-
-enum-told : tie.Need-enum-told
-enum-told c = search needs
-
 returns : tie.Need-returns
 returns c =
     let a = c .before .before .before .before .before .args in
@@ -31,4 +22,10 @@ returns-2 c =
 
 pub bound-argument-spec : {M : Type 1} → statement M
 bound-argument-spec =
-    tie.close (tie.spec enum-known-argument object-of-requires enum-told returns returns-2)
+    tie.close
+    (tie.spec
+    (λ c. search needs)  -- enum-known-argument
+    (λ c κs. search needs)  -- object-of-requires
+    (λ c. search needs)  -- enum-told
+    returns
+    returns-2)

@@ -12,38 +12,17 @@ use Rattle.events.proofs.RowLoops.{bound-first, bound-object, bound-fil
 use Rattle.events.proofs.facts.bound_byte.Statement.{statement}
 use Rattle.events.proofs.facts.bound_byte.Tie as tie
 
-add-result : tie.Need-add-result
-add-result c = search needs
-
-shared-slice-read-result : tie.Need-shared-slice-read-result
-shared-slice-read-result c = search needs
-
 returns : tie.Need-returns
 returns c = let a = c .before .before .before .before .args in bound-first (a .arity) (a .ground .now) (a .rows .now) (a .row) (omega arith) (omega arith) (a .i) (omega arith)
 
-returns-2 : tie.Need-returns-2
-returns-2 c = search needs
-
-add-if3 : tie.Need-add-if3
-add-if3 c = search needs
-
-add-argument-of : tie.Need-add-argument-of
-add-argument-of c = search needs
-
-shared-slice-read-argument-of : tie.Need-shared-slice-read-argument-of
-shared-slice-read-argument-of c = search needs
-
-argument-of-requires : tie.Need-argument-of-requires
-argument-of-requires c κs = search needs
-
-bound-argument-requires : tie.Need-bound-argument-requires
-bound-argument-requires c κs = search needs
-
 returns-3 : tie.Need-returns-3
-returns-3 c = let a = c .before .before .before .before .before .before .before .before .args in
+returns-3 c =
+    let back8 = c .before .before .before .before .before .before .before .before in
+    let a = back8 .args in
     bound-object (a .arity) (a .ground .now) (a .rows .now) (a .row) (omega arith) (omega arith) (a .i) _
     (λ e. omega arith) (λ e. omega arith) (omega arith) (c .bound-argument .ensures
-    ∙ ap (boundArgument (a .ground .now)) (ap argumentNumber (c .before .argument-of .ensures) ∙ argument-back (getD (a .rows .now) (a .row + a .i) 0)))
+    ∙ ap (boundArgument (a .ground .now))
+    (ap argumentNumber (c .before .argument-of .ensures) ∙ argument-back (getD (a .rows .now) (a .row + a .i) 0)))
 
 returns-4 : tie.Need-returns-4
 returns-4 c = let a = c .before .before .before .before .before .args in bound-fill (a .arity) (a .ground .now) (a .rows .now) (a .row) (omega arith) (omega arith) (a .i) (omega arith) (λ e. omega arith) (λ e. omega arith) (omega arith)
@@ -52,14 +31,14 @@ pub bound-byte-spec : {M : Type 1} → statement M
 bound-byte-spec =
     tie.close
     (tie.spec
-    add-result
-    shared-slice-read-result
+    (λ c. search needs)  -- add-result
+    (λ c. search needs)  -- shared-slice-read-result
     returns
-    returns-2
-    add-if3
-    add-argument-of
-    shared-slice-read-argument-of
-    argument-of-requires
-    bound-argument-requires
+    (λ c. search needs)  -- returns-2
+    (λ c. search needs)  -- add-if3
+    (λ c. search needs)  -- add-argument-of
+    (λ c. search needs)  -- shared-slice-read-argument-of
+    (λ c κs. search needs)  -- argument-of-requires
+    (λ c κs. search needs)  -- bound-argument-requires
     returns-3
     returns-4)

@@ -16,29 +16,11 @@ Inv-loop head ground rows row arity fact₀ i₀ fact i = (i ≤ 8) × (fact ≡
 abbrev μ-loop : tie.MeasureT-loop
 μ-loop head ground rows row arity fact₀ i₀ fact i = 8 - i
 
-add-arity-of : tie.Need-add-arity-of Inv-loop μ-loop
-add-arity-of c = search needs
-
-shared-slice-read-arity-of : tie.Need-shared-slice-read-arity-of Inv-loop μ-loop
-shared-slice-read-arity-of c = search needs
-
-arity-of-requires : tie.Need-arity-of-requires Inv-loop μ-loop
-arity-of-requires c κs = search needs
-
 loop-holds : tie.Need-loop-holds Inv-loop μ-loop
 loop-holds c = let a = c .before .before .before .before .args in (omega arith, paste-zero (replicate 8 255) 0 (boundBytes (c .arity-of .result) (a .ground .now) (take 8 (drop (a .row) (a .rows .now)))))
 
 bound-byte-requires : tie.Need-bound-byte-requires Inv-loop μ-loop
 bound-byte-requires c κs = let f = c .before .before .arity-of .ensures .1 in omega arith
-
-array-write-fact : tie.Need-array-write-fact Inv-loop μ-loop
-array-write-fact c = omega arith
-
-add-i : tie.Need-add-i Inv-loop μ-loop
-add-i c = omega arith
-
-loop-less : tie.Need-loop-less Inv-loop μ-loop
-loop-less c = omega arith
 
 loop-again : tie.Need-loop-again Inv-loop μ-loop
 loop-again c = let a = c .before .before .before .before .before .before .before .args in
@@ -56,13 +38,13 @@ bound-row-spec =
     (tie.spec
     Inv-loop
     μ-loop
-    add-arity-of
-    shared-slice-read-arity-of
-    arity-of-requires
+    (λ c. search needs)  -- add-arity-of
+    (λ c. search needs)  -- shared-slice-read-arity-of
+    (λ c κs. search needs)  -- arity-of-requires
     loop-holds
     bound-byte-requires
-    array-write-fact
-    add-i
-    loop-less
+    (λ c. omega arith)  -- array-write-fact
+    (λ c. omega arith)  -- add-i
+    (λ c. omega arith)  -- loop-less
     loop-again
     returns)

@@ -19,23 +19,11 @@ abbrev μ-loop : tie.MeasureT-loop
 loop-holds : tie.Need-loop-holds Inv-loop μ-loop
 loop-holds c = (omega arith, any-first isPattern (c .before .args .rows .now) (c .before .args .n))
 
-mul-is-pattern : tie.Need-mul-is-pattern Inv-loop μ-loop
-mul-is-pattern c = omega arith
-
-is-pattern-requires : tie.Need-is-pattern-requires Inv-loop μ-loop
-is-pattern-requires c κs = omega arith
-
 returns : tie.Need-returns Inv-loop μ-loop
 returns c =
     let a = c .before .before .before .before .before .args in
     let l = c .before .before .before .loop in
     sym (any-hit isPattern (a .rows .now) (a .n) (l .i) (omega arith) (sym (c .before .is-pattern .ensures) ∙ c .if1 .taken)) ∙ l .inv .1
-
-add-i : tie.Need-add-i Inv-loop μ-loop
-add-i c = omega arith
-
-loop-less : tie.Need-loop-less Inv-loop μ-loop
-loop-less c = omega arith
 
 loop-again : tie.Need-loop-again Inv-loop μ-loop
 loop-again c =
@@ -58,10 +46,10 @@ has-pattern-spec =
     Inv-loop
     μ-loop
     loop-holds
-    mul-is-pattern
-    is-pattern-requires
+    (λ c. omega arith)  -- mul-is-pattern
+    (λ c κs. omega arith)  -- is-pattern-requires
     returns
-    add-i
-    loop-less
+    (λ c. omega arith)  -- add-i
+    (λ c. omega arith)  -- loop-less
     loop-again
     returns-2)

@@ -18,15 +18,6 @@ Inv-loop rows at end k₀ k =
 abbrev μ-loop : tie.MeasureT-loop
 μ-loop rows at end k₀ k = 8 - k
 
-add-wide : tie.Need-add-wide Inv-loop μ-loop
-add-wide c = search needs
-
-shared-slice-read-wide : tie.Need-shared-slice-read-wide Inv-loop μ-loop
-shared-slice-read-wide c = search needs
-
-wide-requires : tie.Need-wide-requires Inv-loop μ-loop
-wide-requires c κs = search needs
-
 add-end : tie.Need-add-end Inv-loop μ-loop
 add-end c = let w = c .wide .ensures .1 in omega arith
 
@@ -41,32 +32,26 @@ returns c =
     let l = c .before .before .loop in
     sym (pattern-end (a .rows .now) (a .at) (c .before .before .before .before .before .before .pre) (2 + c .before .before .before .wide .result) (ap (λ (n : ℕ). 2 + n) (c .before .before .before .wide .ensures .0)) (l .k) (c .if1 .taken)) ∙ l .inv .2
 
-add-if2 : tie.Need-add-if2 Inv-loop μ-loop
-add-if2 c = omega arith
-
-shared-slice-read-if2 : tie.Need-shared-slice-read-if2 Inv-loop μ-loop
-shared-slice-read-if2 c = omega arith
-
 returns-2 : tie.Need-returns-2 Inv-loop μ-loop
 returns-2 c =
-    let a = c .before .before .before .before .before .before .before .before .args in
+    let back8 = c .before .before .before .before .before .before .before .before in
+    let wide = c .before .before .before .before .before .wide in
+    let a = back8 .args in
     let l = c .before .before .before .before .loop in
-    sym (pattern-hit (a .rows .now) (a .at) (c .before .before .before .before .before .before .before .before .pre) (2 + c .before .before .before .before .before .wide .result) (ap (λ (n : ℕ). 2 + n) (c .before .before .before .before .before .wide .ensures .0)) (l .k) (omega arith) (omega arith)
+    sym (pattern-hit (a .rows .now) (a .at) (back8 .pre) (2 + wide .result) (ap (λ (n : ℕ). 2 + n) (wide .ensures .0)) (l .k) (omega arith)
+    (omega arith)
     (c .if2 .taken)) ∙ l .inv .2
-
-add-k : tie.Need-add-k Inv-loop μ-loop
-add-k c = omega arith
-
-loop-less : tie.Need-loop-less Inv-loop μ-loop
-loop-less c = omega arith
 
 loop-again : tie.Need-loop-again Inv-loop μ-loop
 loop-again c =
-    let a = c .before .before .before .before .before .before .before .before .args in
+    let back8 = c .before .before .before .before .before .before .before .before in
+    let wide = c .before .before .before .before .before .wide in
+    let a = back8 .args in
     let l = c .before .before .before .before .loop in (
       omega arith,
       omega arith,
-      sym (pattern-miss (a .rows .now) (a .at) (c .before .before .before .before .before .before .before .before .pre) (2 + c .before .before .before .before .before .wide .result) (ap (λ (n : ℕ). 2 + n) (c .before .before .before .before .before .wide .ensures .0)) (l .k) (omega arith) (omega arith)
+      sym (pattern-miss (a .rows .now) (a .at) (back8 .pre) (2 + wide .result) (ap (λ (n : ℕ). 2 + n) (wide .ensures .0)) (l .k)
+          (omega arith) (omega arith)
           (c .if2 .left)) ∙ l .inv .2,
     )
 
@@ -82,16 +67,16 @@ is-pattern-spec =
     (tie.spec
     Inv-loop
     μ-loop
-    add-wide
-    shared-slice-read-wide
-    wide-requires
+    (λ c. search needs)  -- add-wide
+    (λ c. search needs)  -- shared-slice-read-wide
+    (λ c κs. search needs)  -- wide-requires
     add-end
     loop-holds
     returns
-    add-if2
-    shared-slice-read-if2
+    (λ c. omega arith)  -- add-if2
+    (λ c. omega arith)  -- shared-slice-read-if2
     returns-2
-    add-k
-    loop-less
+    (λ c. omega arith)  -- add-k
+    (λ c. omega arith)  -- loop-less
     loop-again
     returns-3)

@@ -5,15 +5,6 @@ use Rattle.events.proofs.Meeting.{patterns-meeting, patterns-apart}
 use Rattle.events.proofs.facts.patterns_meet.Statement.{statement}
 use Rattle.events.proofs.facts.patterns_meet.Tie as tie
 
-shared-slice-read-if1 : tie.Need-shared-slice-read-if1
-shared-slice-read-if1 c = search needs
-
-shared-slice-read-if1-2 : tie.Need-shared-slice-read-if1-2
-shared-slice-read-if1-2 c = search needs
-
-arguments-meet-requires : tie.Need-arguments-meet-requires
-arguments-meet-requires c κs = search needs
-
 returns : tie.Need-returns
 returns c =
     let a = c .before .before .before .before .before .before .args in
@@ -28,8 +19,8 @@ pub patterns-meet-spec : {M : Type 1} → statement M
 patterns-meet-spec =
     tie.close
     (tie.spec
-    shared-slice-read-if1
-    shared-slice-read-if1-2
-    arguments-meet-requires
+    (λ c. search needs)  -- shared-slice-read-if1
+    (λ c. search needs)  -- shared-slice-read-if1-2
+    (λ c κs. search needs)  -- arguments-meet-requires
     returns
     returns-2)

@@ -13,15 +13,6 @@ use Rattle.events.proofs.GroundLiterals.{rows-few, held-ground}
 use Rattle.events.proofs.grounding.ground_action.Statement.{statement}
 use Rattle.events.proofs.grounding.ground_action.Tie as tie
 
-shared-slice-read-wide : tie.Need-shared-slice-read-wide
-shared-slice-read-wide c = search needs
-
-wide-requires : tie.Need-wide-requires
-wide-requires c κs = search needs
-
-actions-in-requires : tie.Need-actions-in-requires
-actions-in-requires c κs = search needs
-
 returns : tie.Need-returns
 returns c = (
   (omega arith, omega arith),
@@ -35,9 +26,6 @@ returns c = (
     refl,
   ),
 )
-
-rows-of-requires : tie.Need-rows-of-requires
-rows-of-requires c κs = search needs
 
 mul-from : tie.Need-mul-from
 mul-from c = let g = c .before .rows-of .ensures .0 .room in let o = c .before .rows-of .ensures .0 .order in search needs
@@ -59,36 +47,37 @@ sub-ground-literals-2 c = let g = c .before .before .before .before .before .row
 
 ground-literals-requires : tie.Need-ground-literals-requires
 ground-literals-requires c κs =
-    let a = c .before .before .before .before .before .before .before .before .before .before .before .before .before .args in
-    let p = c .before .before .before .before .before .before .before .before .before .before .before .before .before .pre in
+    let back8 = c .before .before .before .before .before .before .before .before in
+    let a = back8 .before .before .before .before .before .args in
+    let p = back8 .before .before .before .before .before .pre in
     let r = c .before .before .before .before .before .rows-of in
     let l = part-length (a .table .now) (r .result .from) (r .result .to) (r .ensures .0 .order) (r .ensures .0 .room) in
     let f = r .ensures .0 .few in
     (p .1 .0, (omega arith, (p .0, omega arith)))
 
-same-length : tie.Need-same-length
-same-length c = search needs
-
 returns-2 : tie.Need-returns-2
 returns-2 c =
-    let a = c .before .before .before .before .before .before .before .before .before .before .before .before .before .before .before
-    .before .args in
-    let s = c .before .before .before .before .before .before .before .before .rows-of in
+    let back8 = c .before .before .before .before .before .before .before .before in
+    let back16 = back8 .before .before .before .before .before .before .before .before in
+    let ground-literals = c .before .before .ground-literals in
+    let wide = back8 .before .before .before .wide in
+    let a = back16 .args in
+    let s = back8 .rows-of in
     let m = s .ensures .0 .few in
     let o = s .ensures .0 .order in
-    let r = c .before .before .ground-literals .ensures in
+    let r = ground-literals .ensures in
     let from = s .result .from in
     let to = s .result .to in
     let part = take (8 * to - 8 * from) (drop (8 * from) (a .table .now)) in
     let k = rows-few (a .time) (a .head .now) (a .ground .now) part (to - from) (a .n) (a .memory .now) _
-    (c .before .before .ground-literals .result) (r .0) in
+    (ground-literals .result) (r .0) in
     let below = k .0 in
     let few = k .1 in (
       (omega arith, omega arith),
       (
         λ D g H F f.
-            let w : c .before .before .before .before .before .before .before .before .before .before .before .wide .result ≡ g
-            .action = c .before .before .before .before .before .before .before .before .before .before .before .wide .ensures .0
+            let w : wide .result ≡ g
+            .action = wide .ensures .0
             ∙ ap (λ (x : List ℕ). getD x 0 0) f in
             let h : g .action < length (D .actions) = F .listed in
             let S = subst (λ (i : ℕ). SpanOf D i (a .table .now) (s .result)) w (s .ensures .1 D H (omega arith)) in
@@ -101,11 +90,11 @@ pub ground-action-spec : {M : Type 1} → statement M
 ground-action-spec =
     tie.close
     (tie.spec
-    shared-slice-read-wide
-    wide-requires
-    actions-in-requires
+    (λ c. search needs)  -- shared-slice-read-wide
+    (λ c κs. search needs)  -- wide-requires
+    (λ c κs. search needs)  -- actions-in-requires
     returns
-    rows-of-requires
+    (λ c κs. search needs)  -- rows-of-requires
     mul-from
     mul-to
     sub-ground-literals
@@ -113,5 +102,5 @@ ground-action-spec =
     part-ground-literals-end
     sub-ground-literals-2
     ground-literals-requires
-    same-length
+    (λ c. search needs)  -- same-length
     returns-2)

@@ -10,36 +10,10 @@ use Rattle.events.proofs.GroundRows.{part-ground}
 use Rattle.events.proofs.grounding.ground_event.Statement.{statement}
 use Rattle.events.proofs.grounding.ground_event.Tie as tie
 
-mul-at : tie.Need-mul-at
-mul-at c = search needs
-
-add-end : tie.Need-add-end
-add-end c = search needs
-
-shared-slice-read-time-at : tie.Need-shared-slice-read-time-at
-shared-slice-read-time-at c = search needs
-
-time-at-requires : tie.Need-time-at-requires
-time-at-requires c κs = search needs
-
-sub-ground-action : tie.Need-sub-ground-action
-sub-ground-action c = search needs
-
-part-ground-action-start : tie.Need-part-ground-action-start
-part-ground-action-start c = search needs
-
-part-ground-action-end : tie.Need-part-ground-action-end
-part-ground-action-end c = search needs
-
-ground-action-requires : tie.Need-ground-action-requires
-ground-action-requires c κs = search needs
-
-same-length : tie.Need-same-length
-same-length c = search needs
-
 returns : tie.Need-returns
 returns c =
-    let a = c .before .before .before .before .before .before .before .before .before .before .before .args in
+    let back8 = c .before .before .before .before .before .before .before .before in
+    let a = back8 .before .before .before .args in
     let t = c .before .before .before .before .before .time-at .ensures in
     let r = c .before .before .ground-action .ensures in (
       r .0,
@@ -55,13 +29,13 @@ pub ground-event-spec : {M : Type 1} → statement M
 ground-event-spec =
     tie.close
     (tie.spec
-    mul-at
-    add-end
-    shared-slice-read-time-at
-    time-at-requires
-    sub-ground-action
-    part-ground-action-start
-    part-ground-action-end
-    ground-action-requires
-    same-length
+    (λ c. search needs)  -- mul-at
+    (λ c. search needs)  -- add-end
+    (λ c. search needs)  -- shared-slice-read-time-at
+    (λ c κs. search needs)  -- time-at-requires
+    (λ c. search needs)  -- sub-ground-action
+    (λ c. search needs)  -- part-ground-action-start
+    (λ c. search needs)  -- part-ground-action-end
+    (λ c κs. search needs)  -- ground-action-requires
+    (λ c. search needs)  -- same-length
     returns)

@@ -6,12 +6,6 @@ use Rattle.events.proofs.GroundLiterals.{row-none, row-one}
 use Rattle.events.proofs.grounding.ground_literal.Statement.{statement}
 use Rattle.events.proofs.grounding.ground_literal.Tie as tie
 
-shared-slice-read-usage-for : tie.Need-shared-slice-read-usage-for
-shared-slice-read-usage-for c = search needs
-
-usage-for-requires : tie.Need-usage-for-requires
-usage-for-requires c κs = search needs
-
 returns : tie.Need-returns
 returns c =
     let a = c .before .before .before .before .before .before .args in
@@ -19,21 +13,10 @@ returns c =
     let e = c .before .usage-for .ensures in
     (row-none (a .time) (a .head .now) (a .ground .now) (a .rows .now) (a .row) _ e first (c .if1 .taken), refl)
 
-bound-row-requires : tie.Need-bound-row-requires
-bound-row-requires c κs = search needs
-
-put-literal-requires : tie.Need-put-literal-requires
-put-literal-requires c κs = search needs
-
-add-result : tie.Need-add-result
-add-result c = search needs
-
-same-length : tie.Need-same-length
-same-length c = search needs
-
 returns-2 : tie.Need-returns-2
 returns-2 c =
-    let a = c .before .before .before .before .before .before .before .before .before .before .before .args in
+    let back8 = c .before .before .before .before .before .before .before .before in
+    let a = back8 .before .before .before .args in
     let first = groundIn (a .n) (a .memory .now) in
     let e = c .before .before .before .before .before .before .usage-for .ensures in
     let row = c .before .before .before .bound-row in
@@ -47,11 +30,11 @@ pub ground-literal-spec : {M : Type 1} → statement M
 ground-literal-spec =
     tie.close
     (tie.spec
-    shared-slice-read-usage-for
-    usage-for-requires
+    (λ c. search needs)  -- shared-slice-read-usage-for
+    (λ c κs. search needs)  -- usage-for-requires
     returns
-    bound-row-requires
-    put-literal-requires
-    add-result
-    same-length
+    (λ c κs. search needs)  -- bound-row-requires
+    (λ c κs. search needs)  -- put-literal-requires
+    (λ c. search needs)  -- add-result
+    (λ c. search needs)  -- same-length
     returns-2)

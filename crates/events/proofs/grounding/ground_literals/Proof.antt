@@ -26,9 +26,6 @@ loop-holds c =
       counts = refl;
     }
 
-mul-ground-literal : tie.Need-mul-ground-literal Inv-loop μ-loop
-mul-ground-literal c = omega arith
-
 ground-literal-requires : tie.Need-ground-literal-requires Inv-loop μ-loop
 ground-literal-requires c κs =
     let a = c .before .before .before .before .before .before .args in
@@ -39,21 +36,17 @@ ground-literal-requires c κs =
     let s = l .inv .sized in
     (omega arith, (omega arith, (p .1 .1 .0, omega arith)))
 
-add-i : tie.Need-add-i Inv-loop μ-loop
-add-i c = omega arith
-
-loop-less : tie.Need-loop-less Inv-loop μ-loop
-loop-less c = omega arith
-
 loop-again : tie.Need-loop-again Inv-loop μ-loop
 loop-again c =
-    let a = c .before .before .before .before .before .before .before .before .before .args in
+    let back8 = c .before .before .before .before .before .before .before .before in
+    let ground-literal = c .before .before .ground-literal in
+    let a = back8 .before .args in
     let l = c .before .before .before .before .before .loop in
     let first = groundIn (a .at) (a .memory .now) in
-    let r = c .before .before .ground-literal .ensures in
+    let r = ground-literal .ensures in
     record {
       reach = omega arith;
-      sized = c .before .before .ground-literal .kept .0 ∙ l .inv .sized;
+      sized = ground-literal .kept .0 ∙ l .inv .sized;
       literals = rows-more (a .time) (a .head .now) (a .ground .now) first (a .rows .now) (l .i) (l .inv .literals) (r .0);
       counts = r .1 ∙ l .inv .counts;
     }
@@ -79,10 +72,10 @@ ground-literals-spec =
     Inv-loop
     μ-loop
     loop-holds
-    mul-ground-literal
+    (λ c. omega arith)  -- mul-ground-literal
     ground-literal-requires
-    add-i
-    loop-less
+    (λ c. omega arith)  -- add-i
+    (λ c. omega arith)  -- loop-less
     loop-again
     same-length
     returns)

@@ -37,7 +37,8 @@ loop-holds c = record {
 
 ground-event-requires : tie.Need-ground-event-requires Inv-loop μ-loop
 ground-event-requires c κs =
-    let p = c .before .before .before .before .before .before .before .before .pre in
+    let back8 = c .before .before .before .before .before .before .before .before in
+    let p = back8 .pre in
     let v = c .before .before .loop .inv in
     let k = v .few in
     let s = v .sized in
@@ -49,34 +50,28 @@ sub-memory c = let f = c .before .before .ground-event .ensures .0 .0 in omega a
 cast-memory : tie.Need-cast-memory Inv-loop μ-loop
 cast-memory c = let f = c .before .before .ground-event .ensures .0 .1 in omega arith
 
-add-memory : tie.Need-add-memory Inv-loop μ-loop
-add-memory c = omega arith
-
 slice-write-memory : tie.Need-slice-write-memory Inv-loop μ-loop
 slice-write-memory c =
+    let back8 = c .before .before .before .before .before .before .before .before in
     let s = c .before .before .before .before .before .loop .inv .sized in
     let k = c .before .before .ground-event .kept .1 .1 .1 .1 .1 .0 in
-    let p = c .before .before .before .before .before .before .before .before .before .before .before .pre in
+    let p = back8 .before .before .before .pre in
     omega arith
-
-add-i : tie.Need-add-i Inv-loop μ-loop
-add-i c = omega arith
-
-loop-less : tie.Need-loop-less Inv-loop μ-loop
-loop-less c = omega arith
 
 loop-again : tie.Need-loop-again Inv-loop μ-loop
 loop-again c =
-    let a = c .before .before .before .before .before .before .before .before .before .before .before .args in
-    let p = c .before .before .before .before .before .before .before .before .before .before .before .pre in
+    let back8 = c .before .before .before .before .before .before .before .before in
+    let ground-event = c .before .before .ground-event in
+    let a = back8 .before .before .before .args in
+    let p = back8 .before .before .before .pre in
     let l = c .before .before .before .before .before .loop in
     let v = l .inv in
-    let r = c .before .before .ground-event .ensures in
-    let end = c .before .before .ground-event .result in
-    let next = c .before .before .ground-event .last .1 .1 .1 .1 .1 .0 in
+    let r = ground-event .ensures in
+    let end = ground-event .result in
+    let next = ground-event .last .1 .1 .1 .1 .1 .0 in
     let few = v .few in
     let s = v .sized in
-    let k = c .before .before .ground-event .kept .1 .1 .1 .1 .1 .0 in
+    let k = ground-event .kept .1 .1 .1 .1 .1 .0 in
     let above = r .0 .0 in
     let most = r .0 .1 in
     record {
@@ -118,10 +113,10 @@ ground-step-spec =
     ground-event-requires
     sub-memory
     cast-memory
-    add-memory
+    (λ c. omega arith)  -- add-memory
     slice-write-memory
-    add-i
-    loop-less
+    (λ c. omega arith)  -- add-i
+    (λ c. omega arith)  -- loop-less
     loop-again
     same-length
     returns-2)

@@ -5,24 +5,6 @@ use Rattle.events.proofs.GroundLiterals.{put-ground}
 use Rattle.events.proofs.grounding.put_literal.Statement.{statement}
 use Rattle.events.proofs.grounding.put_literal.Tie as tie
 
-mul-put-bytes : tie.Need-mul-put-bytes
-mul-put-bytes c = search needs
-
-slice-aggregate-put-bytes : tie.Need-slice-aggregate-put-bytes
-slice-aggregate-put-bytes c = search needs
-
-put-bytes-requires : tie.Need-put-bytes-requires
-put-bytes-requires c κs = search needs
-
-add-memory : tie.Need-add-memory
-add-memory c = search needs
-
-slice-write-memory : tie.Need-slice-write-memory
-slice-write-memory c = search needs
-
-same-length : tie.Need-same-length
-same-length c = search needs
-
 returns : tie.Need-returns
 returns c =
     let a = c .before .before .before .before .before .before .args in
@@ -33,10 +15,10 @@ pub put-literal-spec : {M : Type 1} → statement M
 put-literal-spec =
     tie.close
     (tie.spec
-    mul-put-bytes
-    slice-aggregate-put-bytes
-    put-bytes-requires
-    add-memory
-    slice-write-memory
-    same-length
+    (λ c. search needs)  -- mul-put-bytes
+    (λ c. search needs)  -- slice-aggregate-put-bytes
+    (λ c κs. search needs)  -- put-bytes-requires
+    (λ c. search needs)  -- add-memory
+    (λ c. search needs)  -- slice-write-memory
+    (λ c. search needs)  -- same-length
     returns)

@@ -30,12 +30,6 @@ returns c = let a = c .before .before .before .before .before .before .before .a
     let o = c .before .end-open in
     sym (ends-miss (a .moments .now) (a .events .now) (a .count) (l .i) (endOpen (groundsIn (a .n) (a .rows .now))) (omega arith) (o .result) (o .ensures) (not-true (o .result) (c .if1 .taken))) ∙ l .inv .1
 
-add-i : tie.Need-add-i Inv-loop μ-loop
-add-i c = omega arith
-
-loop-less : tie.Need-loop-less Inv-loop μ-loop
-loop-less c = omega arith
-
 loop-again : tie.Need-loop-again Inv-loop μ-loop
 loop-again c = let a = c .before .before .before .before .before .before .before .args in
     let l = c .before .before .before .loop in
@@ -56,7 +50,7 @@ all-open-spec =
     loop-holds
     end-open-requires
     returns
-    add-i
-    loop-less
+    (λ c. omega arith)  -- add-i
+    (λ c. omega arith)  -- loop-less
     loop-again
     returns-2)

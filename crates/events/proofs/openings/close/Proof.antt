@@ -5,12 +5,6 @@ use borrow.Author.Needs.{needs}
 use Rattle.events.proofs.openings.close.Statement.{statement}
 use Rattle.events.proofs.openings.close.Tie as tie
 
-entry-of-requires : tie.Need-entry-of-requires
-entry-of-requires c κs = search needs
-
-same-length : tie.Need-same-length
-same-length c = search needs
-
 returns : tie.Need-returns
 returns c = let a = c .before .before .before .before .before .args in close-none (record { count = a .n; rows = a .rows .now }) (a .ground .now) (c .before .entry-of .result) (c .before .entry-of .ensures) (c .if1 .taken)
 
@@ -23,27 +17,30 @@ without-requires c κs =
 
 sub-result : tie.Need-sub-result
 sub-result c =
-    let a = c .before .before .before .before .before .before .before .before .before .args in
-    let h = entry-le (a .ground .now) (a .rows .now) (a .n) (c .before .before .before .before .before .entry-of .result) (c .before .before .before .before .before .entry-of .ensures) in
+    let back8 = c .before .before .before .before .before .before .before .before in
+    let entry-of = c .before .before .before .before .before .entry-of in
+    let a = back8 .before .args in
+    let h = entry-le (a .ground .now) (a .rows .now) (a .n) (entry-of .result) (entry-of .ensures) in
     let g = c .before .before .before .before .if1 .left in
     omega arith
 
-same-length-2 : tie.Need-same-length-2
-same-length-2 c = search needs
-
 returns-2 : tie.Need-returns-2
 returns-2 c =
-    let a = c .before .before .before .before .before .before .before .before .before .args in
-    close-some (record { count = a .n; rows = a .rows .now }) (a .ground .now) (c .before .before .before .before .before .entry-of .result) (c .before .before .before .before .before .entry-of .ensures) (c .before .before .before .before .if1 .left) (c .before .before .without .last .0) (c .before .before .without .ensures)
+    let back8 = c .before .before .before .before .before .before .before .before in
+    let entry-of = c .before .before .before .before .before .entry-of in
+    let without = c .before .before .without in
+    let a = back8 .before .args in
+    close-some (record { count = a .n; rows = a .rows .now }) (a .ground .now) (entry-of .result) (entry-of .ensures)
+    (c .before .before .before .before .if1 .left) (without .last .0) (without .ensures)
 
 pub close-spec : {M : Type 1} → statement M
 close-spec =
     tie.close
     (tie.spec
-    entry-of-requires
-    same-length
+    (λ c κs. search needs)  -- entry-of-requires
+    (λ c. search needs)  -- same-length
     returns
     without-requires
     sub-result
-    same-length-2
+    (λ c. search needs)  -- same-length-2
     returns-2)

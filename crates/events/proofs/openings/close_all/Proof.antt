@@ -25,15 +25,10 @@ loop-holds c =
 close-event-requires : tie.Need-close-event-requires Inv-loop μ-loop
 close-event-requires c κs = (c .before .before .loop .inv .2 ∙ c .before .before .before .before .before .before .pre .0, (omega arith, (omega arith, omega arith)))
 
-add-i : tie.Need-add-i Inv-loop μ-loop
-add-i c = omega arith
-
-loop-less : tie.Need-loop-less Inv-loop μ-loop
-loop-less c = omega arith
-
 loop-again : tie.Need-loop-again Inv-loop μ-loop
 loop-again c =
-    let a = c .before .before .before .before .before .before .before .before .before .args in
+    let back8 = c .before .before .before .before .before .before .before .before in
+    let a = back8 .before .args in
     let l = c .before .before .before .before .before .loop in
     let o : Open = record { count = l .left; rows = l .rows } in
     let s = c .before .before .close-event in
@@ -62,8 +57,8 @@ close-all-spec =
     μ-loop
     loop-holds
     close-event-requires
-    add-i
-    loop-less
+    (λ c. omega arith)  -- add-i
+    (λ c. omega arith)  -- loop-less
     loop-again
     same-length
     returns)

@@ -9,30 +9,9 @@ use borrow.Author.Needs.{needs}
 use Rattle.events.proofs.openings.end_open.Statement.{statement}
 use Rattle.events.proofs.openings.end_open.Tie as tie
 
-shared-slice-read-if1 : tie.Need-shared-slice-read-if1
-shared-slice-read-if1 c = search needs
-
 returns : tie.Need-returns
 returns c = let a = c .before .before .before .before .before .args in
     open-start (groundsIn (a .n) (a .rows .now)) (eventAt (a .moments .now) (a .events .now) (a .i)) (c .if1 .taken)
-
-mul-at : tie.Need-mul-at
-mul-at c = search needs
-
-add-end : tie.Need-add-end
-add-end c = search needs
-
-sub-is-open : tie.Need-sub-is-open
-sub-is-open c = search needs
-
-part-is-open-start : tie.Need-part-is-open-start
-part-is-open-start c = search needs
-
-part-is-open-end : tie.Need-part-is-open-end
-part-is-open-end c = search needs
-
-is-open-requires : tie.Need-is-open-requires
-is-open-requires c κs = search needs
 
 returns-2 : tie.Need-returns-2
 returns-2 c = let a = c .before .before .before .before .before .before .before .args in
@@ -43,12 +22,12 @@ pub end-open-spec : {M : Type 1} → statement M
 end-open-spec =
     tie.close
     (tie.spec
-    shared-slice-read-if1
+    (λ c. search needs)  -- shared-slice-read-if1
     returns
-    mul-at
-    add-end
-    sub-is-open
-    part-is-open-start
-    part-is-open-end
-    is-open-requires
+    (λ c. search needs)  -- mul-at
+    (λ c. search needs)  -- add-end
+    (λ c. search needs)  -- sub-is-open
+    (λ c. search needs)  -- part-is-open-start
+    (λ c. search needs)  -- part-is-open-end
+    (λ c κs. search needs)  -- is-open-requires
     returns-2)

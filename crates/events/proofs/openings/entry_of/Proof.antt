@@ -19,22 +19,10 @@ abbrev μ-loop : tie.MeasureT-loop
 loop-holds : tie.Need-loop-holds Inv-loop μ-loop
 loop-holds c = let a = c .before .before .args in (omega arith, place-first 17 (sameList eqb (a .ground .now)) (a .rows .now) (a .n))
 
-mul-same-ground : tie.Need-mul-same-ground Inv-loop μ-loop
-mul-same-ground c = omega arith
-
-same-ground-requires : tie.Need-same-ground-requires Inv-loop μ-loop
-same-ground-requires c κs = (omega arith, omega arith)
-
 returns : tie.Need-returns Inv-loop μ-loop
 returns c = let a = c .before .before .before .before .before .before .args in
     let l = c .before .before .before .loop in
     sym (place-hit 17 (sameList eqb (a .ground .now)) (a .rows .now) (a .n) (l .k) (omega arith) (sym (c .before .same-ground .ensures) ∙ c .if1 .taken)) ∙ l .inv .1
-
-add-k : tie.Need-add-k Inv-loop μ-loop
-add-k c = omega arith
-
-loop-less : tie.Need-loop-less Inv-loop μ-loop
-loop-less c = omega arith
 
 loop-again : tie.Need-loop-again Inv-loop μ-loop
 loop-again c = let a = c .before .before .before .before .before .before .args in
@@ -54,10 +42,10 @@ entry-of-spec =
     Inv-loop
     μ-loop
     loop-holds
-    mul-same-ground
-    same-ground-requires
+    (λ c. omega arith)  -- mul-same-ground
+    (λ c κs. (omega arith, omega arith))  -- same-ground-requires
     returns
-    add-k
-    loop-less
+    (λ c. omega arith)  -- add-k
+    (λ c. omega arith)  -- loop-less
     loop-again
     returns-2)

@@ -5,15 +5,6 @@ use borrow.Author.Needs.{needs}
 use Rattle.events.proofs.openings.join.Statement.{statement}
 use Rattle.events.proofs.openings.join.Tie as tie
 
-mul-put-bytes : tie.Need-mul-put-bytes
-mul-put-bytes c = search needs
-
-put-bytes-requires : tie.Need-put-bytes-requires
-put-bytes-requires c κs = search needs
-
-same-length : tie.Need-same-length
-same-length c = search needs
-
 returns : tie.Need-returns
 returns c =
     let a = c .before .before .before .before .before .before .args in
@@ -21,9 +12,10 @@ returns c =
     join-is (record { count = a .n; rows = a .rows .now }) (a .ground .now) (s .last .0) (length (a .ground .now)) (c .before .before .before .before .before .before .pre .1 .1) (s .ensures)
 
 pub join-spec : {M : Type 1} → statement M
-join-spec = tie.close
+join-spec =
+    tie.close
     (tie.spec
-    mul-put-bytes
-    put-bytes-requires
-    same-length
+    (λ c. search needs)  -- mul-put-bytes
+    (λ c κs. search needs)  -- put-bytes-requires
+    (λ c. search needs)  -- same-length
     returns)

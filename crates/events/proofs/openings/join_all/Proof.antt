@@ -32,21 +32,18 @@ same-length c = c .before .before .before .before .join-event .kept .1 .0 ∙ c 
 
 returns : tie.Need-returns Inv-loop μ-loop
 returns c =
-    let a = c .before .before .before .before .before .before .before .before .before .before .before .args in
+    let back8 = c .before .before .before .before .before .before .before .before in
+    let a = back8 .before .before .before .args in
     let l = c .before .before .before .before .before .before .before .loop in
     let j = c .before .before .before .before .join-event in
-    sym (joins-full (a .moments .now) (a .events .now) (a .count) (l .i) (a .head .now) (record { count = l .held; rows = l .rows }) (record { fits = j .result .fits; running = record { count = j .result .count; rows = j .last .1 .0 } })
+    sym (joins-full (a .moments .now) (a .events .now) (a .count) (l .i) (a .head .now) (record { count = l .held; rows = l .rows })
+    (record { fits = j .result .fits; running = record { count = j .result .count; rows = j .last .1 .0 } })
     (j .ensures) (omega arith) (not-true (j .result .fits) (c .if1 .taken))) ∙ l .inv .3
-
-add-i : tie.Need-add-i Inv-loop μ-loop
-add-i c = omega arith
-
-loop-less : tie.Need-loop-less Inv-loop μ-loop
-loop-less c = omega arith
 
 loop-again : tie.Need-loop-again Inv-loop μ-loop
 loop-again c =
-    let a = c .before .before .before .before .before .before .before .before .before .before .before .args in
+    let back8 = c .before .before .before .before .before .before .before .before in
+    let a = back8 .before .before .before .args in
     let l = c .before .before .before .before .before .before .before .loop in
     let o : Open = record { count = l .held; rows = l .rows } in
     let j = c .before .before .before .before .join-event in
@@ -54,7 +51,8 @@ loop-again c =
       omega arith,
       joins-few (a .head .now) (eventAt (a .moments .now) (a .events .now) (l .i)) o (omega arith) r (j .ensures),
       j .kept .1 .0 ∙ l .inv .2,
-      sym (joins-more (a .moments .now) (a .events .now) (a .count) (l .i) (a .head .now) o r (j .ensures) (omega arith) (not-false (j .result .fits) (c .if1 .left))) ∙ l .inv .3,
+      sym (joins-more (a .moments .now) (a .events .now) (a .count) (l .i) (a .head .now) o r (j .ensures) (omega arith)
+          (not-false (j .result .fits) (c .if1 .left))) ∙ l .inv .3,
     )
 
 same-length-2 : tie.Need-same-length-2 Inv-loop μ-loop
@@ -76,8 +74,8 @@ join-all-spec =
     join-event-requires
     same-length
     returns
-    add-i
-    loop-less
+    (λ c. omega arith)  -- add-i
+    (λ c. omega arith)  -- loop-less
     loop-again
     same-length-2
     returns-2)

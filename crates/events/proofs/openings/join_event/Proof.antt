@@ -10,18 +10,6 @@ use borrow.Author.Needs.{needs}
 use Rattle.events.proofs.openings.join_event.Statement.{statement}
 use Rattle.events.proofs.openings.join_event.Tie as tie
 
-mul-at : tie.Need-mul-at
-mul-at c = search needs
-
-shared-slice-read-opens-entry : tie.Need-shared-slice-read-opens-entry
-shared-slice-read-opens-entry c = search needs
-
-shared-slice-read-opens-entry-2 : tie.Need-shared-slice-read-opens-entry-2
-shared-slice-read-opens-entry-2 c = search needs
-
-opens-entry-requires : tie.Need-opens-entry-requires
-opens-entry-requires c κs = search needs
-
 returns : tie.Need-returns
 returns c =
     let a = c .before .before .before .before .before .before .before .args in
@@ -30,54 +18,39 @@ returns c =
 
 returns-2 : tie.Need-returns-2
 returns-2 c =
-    let a = c .before .before .before .before .before .before .before .before .args in
+    let back8 = c .before .before .before .before .before .before .before .before in
+    let a = back8 .args in
     let o = c .before .before .opens-entry in
-    joins-no-room (a .head .now) (a .moments .now) (a .events .now) (a .i) (record { count = a .n; rows = a .rows .now }) (o .result) (o .ensures) (not-false (o .result) (c .before .if1 .left)) (omega arith)
-
-add-end : tie.Need-add-end
-add-end c = search needs
-
-sub-join : tie.Need-sub-join
-sub-join c = search needs
-
-part-join-start : tie.Need-part-join-start
-part-join-start c = search needs
-
-part-join-end : tie.Need-part-join-end
-part-join-end c = search needs
-
-join-requires : tie.Need-join-requires
-join-requires c κs = search needs
-
-same-length : tie.Need-same-length
-same-length c = search needs
+    joins-no-room (a .head .now) (a .moments .now) (a .events .now) (a .i) (record { count = a .n; rows = a .rows .now }) (o .result)
+    (o .ensures) (not-false (o .result) (c .before .if1 .left)) (omega arith)
 
 returns-3 : tie.Need-returns-3
 returns-3 c =
-    let a = c .before .before .before .before .before .before .before .before .before .before .before .before .before .args in
+    let back8 = c .before .before .before .before .before .before .before .before in
+    let a = back8 .before .before .before .before .before .args in
     let o = c .before .before .before .before .before .before .before .opens-entry in
     let s = c .before .before .join in
-    joins-one (a .head .now) (a .moments .now) (a .events .now) (a .i) (record { count = a .n; rows = a .rows .now }) (o .result) (o .ensures) (not-false (o .result) (c .before .before .before .before .before .before .if1 .left)) (omega arith) (record { count = a .n + 1; rows = s .last .0 })
-    (s .ensures ∙ ap (λ (t : List ℕ). joinEntry t (record { count = a .n; rows = a .rows .now })) (part-ground (a .events .now) (17 * a .i)))
-
-add-t19 : tie.Need-add-t19
-add-t19 c = search needs
+    joins-one (a .head .now) (a .moments .now) (a .events .now) (a .i) (record { count = a .n; rows = a .rows .now }) (o .result)
+    (o .ensures) (not-false (o .result) (c .before .before .before .before .before .before .if1 .left)) (omega arith)
+    (record { count = a .n + 1; rows = s .last .0 })
+    (s .ensures ∙ ap (λ (t : List ℕ). joinEntry t (record { count = a .n; rows = a .rows .now }))
+    (part-ground (a .events .now) (17 * a .i)))
 
 pub join-event-spec : {M : Type 1} → statement M
 join-event-spec =
     tie.close
     (tie.spec
-    mul-at
-    shared-slice-read-opens-entry
-    shared-slice-read-opens-entry-2
-    opens-entry-requires
+    (λ c. search needs)  -- mul-at
+    (λ c. search needs)  -- shared-slice-read-opens-entry
+    (λ c. search needs)  -- shared-slice-read-opens-entry-2
+    (λ c κs. search needs)  -- opens-entry-requires
     returns
     returns-2
-    add-end
-    sub-join
-    part-join-start
-    part-join-end
-    join-requires
-    add-t19
-    same-length
+    (λ c. search needs)  -- add-end
+    (λ c. search needs)  -- sub-join
+    (λ c. search needs)  -- part-join-start
+    (λ c. search needs)  -- part-join-end
+    (λ c κs. search needs)  -- join-requires
+    (λ c. search needs)  -- add-t19
+    (λ c. search needs)  -- same-length
     returns-3)

@@ -25,21 +25,22 @@ close-all-requires c κs = let p = c .before .before .before .before .before .be
 
 join-all-requires : tie.Need-join-all-requires
 join-all-requires c κs =
-    let a = c .before .before .before .before .before .before .before .before .before .before .args in
-    let p = c .before .before .before .before .before .before .before .before .before .before .pre in
+    let back8 = c .before .before .before .before .before .before .before .before in
+    let a = back8 .before .before .args in
+    let p = back8 .before .before .pre in
     let o = c .before .before .before .close-all in
-    let z = closes-fewer (eventsIn (a .count) (a .moments .now) (a .events .now)) (record { count = a .n; rows = a .rows .now }) (record { count = o .result; rows = o .last .0 }) (o .ensures) in
+    let z = closes-fewer (eventsIn (a .count) (a .moments .now) (a .events .now)) (record { count = a .n; rows = a .rows .now })
+    (record { count = o .result; rows = o .last .0 }) (o .ensures) in
     (o .kept .0 ∙ p .0, (omega arith, (omega arith, omega arith)))
-
-same-length : tie.Need-same-length
-same-length c = search needs
 
 returns-3 : tie.Need-returns-3
 returns-3 c D gs es h k l few small e f =
-    let a = c .before .before .before .before .before .before .before .before .before .before .before .before .before .args in
+    let back8 = c .before .before .before .before .before .before .before .before in
+    let a = back8 .before .before .before .before .before .args in
     let o = c .before .before .before .before .before .before .close-all in
     let j = c .before .before .join-all in
-    after-held h gs es k l few (record { count = a .n; rows = a .rows .now }) (record { count = a .count; moments = a .moments .now; rows = a .events .now }) e f
+    after-held h gs es k l few (record { count = a .n; rows = a .rows .now })
+    (record { count = a .count; moments = a .moments .now; rows = a .events .now }) e f
     (record { count = o .result; rows = o .last .0 }) (o .ensures)
     (record { fits = j .result .fits; running = record { count = j .result .count; rows = j .last .1 .0 } }) (j .ensures)
 
@@ -51,5 +52,5 @@ open-after-spec =
     returns-2
     close-all-requires
     join-all-requires
-    same-length
+    (λ c. search needs)  -- same-length
     returns-3)

@@ -11,12 +11,6 @@ use Rattle.events.proofs.openings.opens_entry.Tie as tie
 returns : tie.Need-returns
 returns c = let a = c .before .args in opens-end (a .head .now) (a .moment) (a .action) (c .if1 .taken)
 
-wide-requires : tie.Need-wide-requires
-wide-requires c κs = search needs
-
-actions-in-requires : tie.Need-actions-in-requires
-actions-in-requires c κs = search needs
-
 returns-2 : tie.Need-returns-2
 returns-2 c =
     let a = c .before .before .before .before .args in
@@ -25,9 +19,6 @@ returns-2 c =
     let t = c .if2 .taken in
     let h : actionsIn (a .head .now) ≤ a .action = omega arith in
     opens-unlisted (a .head .now) (a .moment) (a .action) (c .before .before .before .if1 .left) h
-
-is-lasting-requires : tie.Need-is-lasting-requires
-is-lasting-requires c κs = search needs
 
 returns-3 : tie.Need-returns-3
 returns-3 c =
@@ -43,8 +34,8 @@ opens-entry-spec =
     tie.close
     (tie.spec
     returns
-    wide-requires
-    actions-in-requires
+    (λ c κs. search needs)  -- wide-requires
+    (λ c κs. search needs)  -- actions-in-requires
     returns-2
-    is-lasting-requires
+    (λ c κs. search needs)  -- is-lasting-requires
     returns-3)

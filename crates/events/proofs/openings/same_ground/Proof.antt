@@ -15,28 +15,10 @@ Inv-loop memory at ground i₀ i = (i ≤ 17) × (sameList eqb (drop i ground) (
 abbrev μ-loop : tie.MeasureT-loop
 μ-loop memory at ground i₀ i = 17 - i
 
-loop-holds : tie.Need-loop-holds Inv-loop μ-loop
-loop-holds c = (omega arith, refl)
-
-shared-slice-read-if1 : tie.Need-shared-slice-read-if1 Inv-loop μ-loop
-shared-slice-read-if1 c = omega arith
-
-add-if1 : tie.Need-add-if1 Inv-loop μ-loop
-add-if1 c = omega arith
-
-shared-slice-read-if1-2 : tie.Need-shared-slice-read-if1-2 Inv-loop μ-loop
-shared-slice-read-if1-2 c = omega arith
-
 returns : tie.Need-returns Inv-loop μ-loop
 returns c = let a = c .before .before .before .before .before .args in
     let l = c .before .before .before .before .loop in
     sym (row-miss 17 (a .ground .now) (a .memory .now) (a .at) (l .i) (omega arith) (omega arith) (omega arith) (c .if1 .taken)) ∙ l .inv .1
-
-add-i : tie.Need-add-i Inv-loop μ-loop
-add-i c = omega arith
-
-loop-less : tie.Need-loop-less Inv-loop μ-loop
-loop-less c = omega arith
 
 loop-again : tie.Need-loop-again Inv-loop μ-loop
 loop-again c = let a = c .before .before .before .before .before .args in
@@ -54,12 +36,12 @@ same-ground-spec =
     (tie.spec
     Inv-loop
     μ-loop
-    loop-holds
-    shared-slice-read-if1
-    add-if1
-    shared-slice-read-if1-2
+    (λ c. (omega arith, refl))  -- loop-holds
+    (λ c. omega arith)  -- shared-slice-read-if1
+    (λ c. omega arith)  -- add-if1
+    (λ c. omega arith)  -- shared-slice-read-if1-2
     returns
-    add-i
-    loop-less
+    (λ c. omega arith)  -- add-i
+    (λ c. omega arith)  -- loop-less
     loop-again
     returns-2)

@@ -6,29 +6,8 @@ use borrow.Author.Needs.{needs}
 use Rattle.events.proofs.waits.wait.Statement.{statement}
 use Rattle.events.proofs.waits.wait.Tie as tie
 
-add-agenda : tie.Need-add-agenda
-add-agenda c = search needs
-
-slice-write-agenda : tie.Need-slice-write-agenda
-slice-write-agenda c = search needs
-
-sub-put-bytes : tie.Need-sub-put-bytes
-sub-put-bytes c = search needs
-
-part-put-bytes-start : tie.Need-part-put-bytes-start
-part-put-bytes-start c = search needs
-
 part-put-bytes-end : tie.Need-part-put-bytes-end
 part-put-bytes-end c = simp length-set (omega arith)
-
-mul-put-bytes : tie.Need-mul-put-bytes
-mul-put-bytes c = search needs
-
-slice-aggregate-put-bytes : tie.Need-slice-aggregate-put-bytes
-slice-aggregate-put-bytes c = search needs
-
-put-bytes-requires : tie.Need-put-bytes-requires
-put-bytes-requires c κs = search needs
 
 same-length : tie.Need-same-length
 same-length c = let a = c .before .before .before .before .before .before .args in let p = c .before .before .before .before .before .before .pre in more-length (a .agenda .now) (a .n) (a .moment) (p .1) (p .0) (c .before .before .put-bytes .last .0) (c .before .before .put-bytes .kept .0)
@@ -46,13 +25,13 @@ pub wait-spec : {M : Type 1} → statement M
 wait-spec =
     tie.close
     (tie.spec
-    add-agenda
-    slice-write-agenda
-    sub-put-bytes
-    part-put-bytes-start
+    (λ c. search needs)  -- add-agenda
+    (λ c. search needs)  -- slice-write-agenda
+    (λ c. search needs)  -- sub-put-bytes
+    (λ c. search needs)  -- part-put-bytes-start
     part-put-bytes-end
-    mul-put-bytes
-    slice-aggregate-put-bytes
-    put-bytes-requires
+    (λ c. search needs)  -- mul-put-bytes
+    (λ c. search needs)  -- slice-aggregate-put-bytes
+    (λ c κs. search needs)  -- put-bytes-requires
     same-length
     returns)

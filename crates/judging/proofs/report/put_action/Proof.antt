@@ -27,18 +27,10 @@ loop-holds c =
     let start = c .before .before .args in
     (omega arith, omega arith, refl, λ D a xs rs rest old given l e R. classes-begin D a (start .action) xs rs rest R)
 
-put-class-requires : tie.Need-put-class-requires Inv-loop μ-loop
-put-class-requires c κs = omega arith
-
-add-class : tie.Need-add-class Inv-loop μ-loop
-add-class c = omega arith
-
-loop-less : tie.Need-loop-less Inv-loop μ-loop
-loop-less c = omega arith
-
 loop-again : tie.Need-loop-again Inv-loop μ-loop
 loop-again c =
-    let start = c .before .before .before .before .before .before .before .before .args in
+    let back8 = c .before .before .before .before .before .before .before .before in
+    let start = back8 .args in
     let turn = c .before .before .before .before .before .loop in
     let called = c .before .before .put-class in (
       omega arith,
@@ -48,7 +40,8 @@ loop-again c =
           let k = turn .class in
           let h : k < length xs = omega arith in
           classes-close D a (start .action) xs rs rest k h
-          (called .ensures .1 D a (getD xs k []) (rs ++ rowsOfClasses D a (start .action) 0 (take k xs)) (rowsOfClasses D a (start .action) (k + 1) (drop (k + 1) xs) ++ rest) old given l
+          (called .ensures .1 D a (getD xs k []) (rs ++ rowsOfClasses D a (start .action) 0 (take k xs))
+          (rowsOfClasses D a (start .action) (k + 1) (drop (k + 1) xs) ++ rest) old given l
           (classes-open D a (start .action) xs rs rest k h (turn .inv .3 D a xs rs rest old given l e R))),
     )
 
@@ -71,9 +64,9 @@ put-action-spec =
     Inv-loop
     μ-loop
     loop-holds
-    put-class-requires
-    add-class
-    loop-less
+    (λ c κs. omega arith)  -- put-class-requires
+    (λ c. omega arith)  -- add-class
+    (λ c. omega arith)  -- loop-less
     loop-again
     same-length
     returns)

@@ -9,24 +9,10 @@ use Rattle.judging.proofs.Reported.{once-first, once-all, lasting-first
 use Rattle.judging.proofs.report.put_class.Statement.{statement}
 use Rattle.judging.proofs.report.put_class.Tie as tie
 
-put-moment-requires : tie.Need-put-moment-requires
-put-moment-requires c κs = search needs
-
-add-put-moment : tie.Need-add-put-moment
-add-put-moment c = search needs
-
-put-moment-requires-2 : tie.Need-put-moment-requires-2
-put-moment-requires-2 c κs = search needs
-
-add-result : tie.Need-add-result
-add-result c = search needs
-
-same-length : tie.Need-same-length
-same-length c = search needs
-
 returns : tie.Need-returns
 returns c =
-    let start = c .before .before .before .before .before .before .before .before .before .before .before .args in (
+    let back8 = c .before .before .before .before .before .before .before .before in
+    let start = back8 .before .before .before .args in (
       omega arith,
       λ D a x rs rest old given l R.
           let t = l ∙ c .before .before .before .before .if1 .taken in
@@ -34,15 +20,10 @@ returns c =
           let second = rowAt D a (start .action) (start .class) x End in
           lasting-all D a (start .action) (start .class) x rs t (omega arith)
           (c .before .before .put-moment2 .ensures (rs ++ (first ∷ [])) rest second old given
-          (c .before .before .before .before .before .before .before .put-moment .ensures rs (second ∷ rest) first old given (lasting-first D a (start .action) (start .class) x rs t R) refl refl refl)
+          (c .before .before .before .before .before .before .before .put-moment .ensures rs (second ∷ rest) first old given
+          (lasting-first D a (start .action) (start .class) x rs t R) refl refl refl)
           refl refl refl),
     )
-
-add-result-2 : tie.Need-add-result-2
-add-result-2 c = search needs
-
-same-length-2 : tie.Need-same-length-2
-same-length-2 c = search needs
 
 returns-2 : tie.Need-returns-2
 returns-2 c =
@@ -59,12 +40,12 @@ pub put-class-spec : {M : Type 1} → statement M
 put-class-spec =
     tie.close
     (tie.spec
-    put-moment-requires
-    add-put-moment
-    put-moment-requires-2
-    add-result
-    same-length
+    (λ c κs. search needs)  -- put-moment-requires
+    (λ c. search needs)  -- add-put-moment
+    (λ c κs. search needs)  -- put-moment-requires-2
+    (λ c. search needs)  -- add-result
+    (λ c. search needs)  -- same-length
     returns
-    add-result-2
-    same-length-2
+    (λ c. search needs)  -- add-result-2
+    (λ c. search needs)  -- same-length-2
     returns-2)

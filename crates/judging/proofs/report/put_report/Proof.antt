@@ -26,33 +26,13 @@ Inv-loop head counts names report₀ at₀ i₀ i-end report at i =
 abbrev μ-loop : tie.MeasureT-loop
 μ-loop head counts names report₀ at₀ i₀ i-end report at i = i-end - i
 
-actions-in-requires : tie.Need-actions-in-requires Inv-loop μ-loop
-actions-in-requires c κs = search needs
-
 loop-holds : tie.Need-loop-holds Inv-loop μ-loop
 loop-holds c = let n = c .actions-in .ensures in (omega arith, n .1, n .0, omega arith, refl, λ D given H k n h. actions-begin D n h)
 
-cast-put-action : tie.Need-cast-put-action Inv-loop μ-loop
-cast-put-action c = omega arith
-
-element-copy-out-put-action : tie.Need-element-copy-out-put-action Inv-loop μ-loop
-element-copy-out-put-action c = omega arith
-
-is-lasting-requires : tie.Need-is-lasting-requires Inv-loop μ-loop
-is-lasting-requires c κs = search needs
-
-put-action-requires : tie.Need-put-action-requires Inv-loop μ-loop
-put-action-requires c κs = omega arith
-
-add-i : tie.Need-add-i Inv-loop μ-loop
-add-i c = omega arith
-
-loop-less : tie.Need-loop-less Inv-loop μ-loop
-loop-less c = omega arith
-
 loop-again : tie.Need-loop-again Inv-loop μ-loop
 loop-again c =
-    let start = c .before .before .before .before .before .before .before .before .before .before .before .args in
+    let back8 = c .before .before .before .before .before .before .before .before in
+    let start = back8 .before .before .before .args in
     let turn = c .before .before .before .before .before .before .before .loop in
     let called = c .before .before .put-action in (
       omega arith,
@@ -67,7 +47,8 @@ loop-again c =
           let e = turn .inv .2 in
           let l : i < length (D .actions) = omega arith in
           actions-close D i l
-          (called .ensures .1 D a (classes D a) (rowsFrom D 0 (take i (D .actions))) (rowsFrom D (i + 1) (drop (i + 1) (D .actions))) (start .report .now) given
+          (called .ensures .1 D a (classes D a) (rowsFrom D 0 (take i (D .actions))) (rowsFrom D (i + 1) (drop (i + 1) (D .actions)))
+          (start .report .now) given
           (lasting-is H i l ∙ sym (c .before .before .before .is-lasting .ensures)) (count-is D (start .counts .now) i k)
           (actions-open D i l (turn .inv .5 D given H k n h))),
     )
@@ -88,14 +69,14 @@ put-report-spec =
     (tie.spec
     Inv-loop
     μ-loop
-    actions-in-requires
+    (λ c κs. search needs)  -- actions-in-requires
     loop-holds
-    cast-put-action
-    element-copy-out-put-action
-    is-lasting-requires
-    put-action-requires
-    add-i
-    loop-less
+    (λ c. omega arith)  -- cast-put-action
+    (λ c. omega arith)  -- element-copy-out-put-action
+    (λ c κs. search needs)  -- is-lasting-requires
+    (λ c κs. omega arith)  -- put-action-requires
+    (λ c. omega arith)  -- add-i
+    (λ c. omega arith)  -- loop-less
     loop-again
     same-length
     returns)

@@ -7,18 +7,9 @@ use Rattle.literals.specs.Decode.{actionStop}
 use Rattle.literals.proofs.fields.action_fields.Statement.{statement}
 use Rattle.literals.proofs.fields.action_fields.Tie as tie
 
-cast-if2 : tie.Need-cast-if2
-cast-if2 c = search needs
-
-shared-slice-read-if2 : tie.Need-shared-slice-read-if2
-shared-slice-read-if2 c = search needs
-
 returns : tie.Need-returns
 unfolding actionStop
 returns c = let p = c .before .before .before .args .p .now in simp (eq-eqb (length p) 2 (omega arith), lt-ltb 16 (getD p 0 0) (omega arith))
-
-shared-slice-read-if3 : tie.Need-shared-slice-read-if3
-shared-slice-read-if3 c = search needs
 
 returns-2 : tie.Need-returns-2
 unfolding actionStop
@@ -39,5 +30,11 @@ returns-4 c = simp (ne-eqb (length (c .before .args .p .now)) 2 (omega arith))
 pub action-fields-spec : {M : Type 1} → statement M
 action-fields-spec =
     tie.close
-    (tie.spec cast-if2
-    shared-slice-read-if2 returns shared-slice-read-if3 returns-2 returns-3 returns-4)
+    (tie.spec
+    (λ c. search needs)  -- cast-if2
+    (λ c. search needs)  -- shared-slice-read-if2
+    returns
+    (λ c. search needs)  -- shared-slice-read-if3
+    returns-2
+    returns-3
+    returns-4)

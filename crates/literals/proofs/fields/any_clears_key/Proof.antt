@@ -19,9 +19,6 @@ abbrev μ-loop : tie.MeasureT-loop
 loop-holds : tie.Need-loop-holds Inv-loop μ-loop
 loop-holds c = let a = c .before .before .args in (omega arith, any-first (keyClearedIn (a .p .now)) (a .table .now) (a .n))
 
-mul-clears-key : tie.Need-mul-clears-key Inv-loop μ-loop
-mul-clears-key c = omega arith
-
 clears-key-requires : tie.Need-clears-key-requires Inv-loop μ-loop
 clears-key-requires c κs = let h = c .before .before .before .before .pre in (omega arith, h .1)
 
@@ -32,12 +29,6 @@ returns c =
     sym (any-hit (keyClearedIn (a .p .now)) (a .table .now) (a .n) (l .i) (omega arith)
     (sym (c .before .clears-key .ensures) ∙ c .if1 .taken))
     ∙ l .inv .1
-
-add-i : tie.Need-add-i Inv-loop μ-loop
-add-i c = omega arith
-
-loop-less : tie.Need-loop-less Inv-loop μ-loop
-loop-less c = omega arith
 
 loop-again : tie.Need-loop-again Inv-loop μ-loop
 loop-again c =
@@ -62,10 +53,10 @@ any-clears-key-spec =
     Inv-loop
     μ-loop
     loop-holds
-    mul-clears-key
+    (λ c. omega arith)  -- mul-clears-key
     clears-key-requires
     returns
-    add-i
-    loop-less
+    (λ c. omega arith)  -- add-i
+    (λ c. omega arith)  -- loop-less
     loop-again
     returns-2)

@@ -19,18 +19,6 @@ Inv-loop p n i₀ i = any (noVariable n) (drop i p) ≡ any (noVariable n) (drop
 abbrev μ-loop : tie.MeasureT-loop
 μ-loop p n i₀ i = length p - i
 
-loop-holds : tie.Need-loop-holds Inv-loop μ-loop
-loop-holds c = refl
-
-shared-slice-read-argument-of : tie.Need-shared-slice-read-argument-of Inv-loop μ-loop
-shared-slice-read-argument-of c = omega arith
-
-argument-of-requires : tie.Need-argument-of-requires Inv-loop μ-loop
-argument-of-requires c κs = search needs
-
-variable-below-requires : tie.Need-variable-below-requires Inv-loop μ-loop
-variable-below-requires c κs = search needs
-
 returns : tie.Need-returns Inv-loop μ-loop
 returns c =
     let start = c .before .before .before .before .before .before .before .args in
@@ -38,12 +26,6 @@ returns c =
     sym (any-hit (start .p .now) (c .before .before .before .before .before .loop .i) 0 (omega arith) _
     (ap not (sym e ∙ sym (c .before .variable-below .ensures) ∙ not-true _ (c .if1 .taken))))
     ∙ c .before .before .before .before .before .loop .inv
-
-add-i : tie.Need-add-i Inv-loop μ-loop
-add-i c = omega arith
-
-loop-less : tie.Need-loop-less Inv-loop μ-loop
-loop-less c = omega arith
 
 loop-again : tie.Need-loop-again Inv-loop μ-loop
 loop-again c =
@@ -62,12 +44,12 @@ any-unknown-spec =
     (tie.spec
     Inv-loop
     μ-loop
-    loop-holds
-    shared-slice-read-argument-of
-    argument-of-requires
-    variable-below-requires
+    (λ c. refl)  -- loop-holds
+    (λ c. omega arith)  -- shared-slice-read-argument-of
+    (λ c κs. search needs)  -- argument-of-requires
+    (λ c κs. search needs)  -- variable-below-requires
     returns
-    add-i
-    loop-less
+    (λ c. omega arith)  -- add-i
+    (λ c. omega arith)  -- loop-less
     loop-again
     returns-2)

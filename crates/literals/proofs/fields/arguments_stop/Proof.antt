@@ -6,23 +6,8 @@ use borrow.Author.Needs.{needs}
 use Rattle.literals.proofs.fields.arguments_stop.Statement.{statement}
 use Rattle.literals.proofs.fields.arguments_stop.Tie as tie
 
-relations-in-requires : tie.Need-relations-in-requires
-relations-in-requires c κs = search needs
-
-wide-requires : tie.Need-wide-requires
-wide-requires c κs = search needs
-
 returns : tie.Need-returns
 returns c = let n = c .before .before .relations-in .ensures .0 in sym (unknown _ _ _ _ (omega arith))
-
-arity-of-requires : tie.Need-arity-of-requires
-arity-of-requires c κs = search needs
-
-wide-requires-2 : tie.Need-wide-requires-2
-wide-requires-2 c κs = search needs
-
-add-if2 : tie.Need-add-if2
-add-if2 c = search needs
 
 returns-2 : tie.Need-returns-2
 returns-2 c = let n = c .before .before .before .before .before .relations-in .ensures .0 in let a = c .before .before .arity-of .ensures .0 in sym (fit _ _ _ _ (omega arith) (omega arith))
@@ -34,11 +19,11 @@ pub arguments-stop-spec : {M : Type 1} → statement M
 arguments-stop-spec =
     tie.close
     (tie.spec
-    relations-in-requires
-    wide-requires
+    (λ c κs. search needs)  -- relations-in-requires
+    (λ c κs. search needs)  -- wide-requires
     returns
-    arity-of-requires
-    wide-requires-2
-    add-if2
+    (λ c κs. search needs)  -- arity-of-requires
+    (λ c κs. search needs)  -- wide-requires-2
+    (λ c. search needs)  -- add-if2
     returns-2
     returns-3)

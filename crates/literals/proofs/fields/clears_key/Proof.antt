@@ -5,18 +5,6 @@ use Rattle.literals.proofs.Rows.{clears-same, clears-other}
 use Rattle.literals.proofs.fields.clears_key.Statement.{statement}
 use Rattle.literals.proofs.fields.clears_key.Tie as tie
 
-shared-slice-read-if1 : tie.Need-shared-slice-read-if1
-shared-slice-read-if1 c = search needs
-
-add-if1 : tie.Need-add-if1
-add-if1 c = search needs
-
-shared-slice-read-if1-2 : tie.Need-shared-slice-read-if1-2
-shared-slice-read-if1-2 c = search needs
-
-keys-beside-requires : tie.Need-keys-beside-requires
-keys-beside-requires c κs = search needs
-
 returns : tie.Need-returns
 returns c =
     let a = c .before .before .before .before .before .before .args in
@@ -31,9 +19,9 @@ pub clears-key-spec : {M : Type 1} → statement M
 clears-key-spec =
     tie.close
     (tie.spec
-    shared-slice-read-if1
-    add-if1
-    shared-slice-read-if1-2
-    keys-beside-requires
+    (λ c. search needs)  -- shared-slice-read-if1
+    (λ c. search needs)  -- add-if1
+    (λ c. search needs)  -- shared-slice-read-if1-2
+    (λ c κs. search needs)  -- keys-beside-requires
     returns
     returns-2)

@@ -8,20 +8,8 @@ use Rattle.literals.proofs.Arguments.{clears-none, clears-may, clears-n
 use Rattle.literals.proofs.fields.clears_once.Statement.{statement}
 use Rattle.literals.proofs.fields.clears_once.Tie as tie
 
-count-from-requires : tie.Need-count-from-requires
-count-from-requires c κs = search needs
-
 returns : tie.Need-returns
 returns c = clears-none (c .before .before .before .args .p .now) (c .before .count-from .ensures) (omega arith)
-
-shared-slice-read-role-of : tie.Need-shared-slice-read-role-of
-shared-slice-read-role-of c = search needs
-
-role-of-requires : tie.Need-role-of-requires
-role-of-requires c κs = search needs
-
-may-clear-requires : tie.Need-may-clear-requires
-may-clear-requires c κs = search needs
 
 returns-2 : tie.Need-returns-2
 returns-2 c =
@@ -41,10 +29,10 @@ pub clears-once-spec : {M : Type 1} → statement M
 clears-once-spec =
     tie.close
     (tie.spec
-    count-from-requires
+    (λ c κs. search needs)  -- count-from-requires
     returns
-    shared-slice-read-role-of
-    role-of-requires
-    may-clear-requires
+    (λ c. search needs)  -- shared-slice-read-role-of
+    (λ c κs. search needs)  -- role-of-requires
+    (λ c κs. search needs)  -- may-clear-requires
     returns-2
     returns-3)

@@ -17,26 +17,11 @@ Inv-loop p n k₀ k = (k ≤ n) × (eachOnce k (drop 1 p) ≡ true)
 abbrev μ-loop : tie.MeasureT-loop
 μ-loop p n k₀ k = n - k
 
-loop-holds : tie.Need-loop-holds Inv-loop μ-loop
-loop-holds c = (omega arith, refl)
-
-cast-count-from : tie.Need-cast-count-from Inv-loop μ-loop
-cast-count-from c = omega arith
-
-count-from-requires : tie.Need-count-from-requires Inv-loop μ-loop
-count-from-requires c κs = search needs
-
 returns : tie.Need-returns Inv-loop μ-loop
 returns c =
     let turn = c .before .before .before in
     let start = turn .before .before .args in
     sym (off _ (λ t. c .if1 .taken (c .before .count-from .ensures ∙ once-at (turn .loop .k) (start .n) (drop 1 (start .p .now)) (omega arith) t)))
-
-add-k : tie.Need-add-k Inv-loop μ-loop
-add-k c = omega arith
-
-loop-less : tie.Need-loop-less Inv-loop μ-loop
-loop-less c = omega arith
 
 loop-again : tie.Need-loop-again Inv-loop μ-loop
 loop-again c =
@@ -55,11 +40,11 @@ each-once-spec =
     (tie.spec
     Inv-loop
     μ-loop
-    loop-holds
-    cast-count-from
-    count-from-requires
+    (λ c. (omega arith, refl))  -- loop-holds
+    (λ c. omega arith)  -- cast-count-from
+    (λ c κs. search needs)  -- count-from-requires
     returns
-    add-k
-    loop-less
+    (λ c. omega arith)  -- add-k
+    (λ c. omega arith)  -- loop-less
     loop-again
     returns-2)

@@ -26,23 +26,11 @@ slice-aggregate-is-again c =
     let turn = c .before .before in
     sym (length-take-le (turn .loop .i) (turn .before .before .args .p .now) (omega arith))
 
-shared-slice-read-is-again : tie.Need-shared-slice-read-is-again Inv-loop μ-loop
-shared-slice-read-is-again c = omega arith
-
-is-again-requires : tie.Need-is-again-requires Inv-loop μ-loop
-is-again-requires c κs = search needs
-
 returns : tie.Need-returns Inv-loop μ-loop
 returns c =
     let turn = c .before .before .before .before .before in
     let start = turn .before .before .args in
     search-hit (again (start .counted)) (start .p .now) (turn .loop .i) (omega arith) (turn .loop .inv .1) (sym (c .before .is-again .ensures) ∙ c .if1 .taken)
-
-add-i : tie.Need-add-i Inv-loop μ-loop
-add-i c = omega arith
-
-loop-less : tie.Need-loop-less Inv-loop μ-loop
-loop-less c = omega arith
 
 loop-again : tie.Need-loop-again Inv-loop μ-loop
 loop-again c =
@@ -63,10 +51,10 @@ first-again-spec =
     μ-loop
     loop-holds
     slice-aggregate-is-again
-    shared-slice-read-is-again
-    is-again-requires
+    (λ c. omega arith)  -- shared-slice-read-is-again
+    (λ c κs. search needs)  -- is-again-requires
     returns
-    add-i
-    loop-less
+    (λ c. omega arith)  -- add-i
+    (λ c. omega arith)  -- loop-less
     loop-again
     returns-2)

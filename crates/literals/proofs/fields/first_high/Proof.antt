@@ -22,23 +22,11 @@ abbrev μ-loop : tie.MeasureT-loop
 loop-holds : tie.Need-loop-holds Inv-loop μ-loop
 loop-holds c = let start = c .before .args in (omega arith, search-start (highKey (start .n)) (start .p .now))
 
-shared-slice-read-label-below : tie.Need-shared-slice-read-label-below Inv-loop μ-loop
-shared-slice-read-label-below c = omega arith
-
-label-below-requires : tie.Need-label-below-requires Inv-loop μ-loop
-label-below-requires c κs = search needs
-
 returns : tie.Need-returns Inv-loop μ-loop
 returns c =
     let turn = c .before .before .before .before in
     let start = turn .before .before .args in
     search-hit (highKey (start .n)) (start .p .now) (turn .loop .i) (omega arith) (turn .loop .inv .1) (ap not (sym (c .before .label-below .ensures) ∙ not-true _ (c .if1 .taken)))
-
-add-i : tie.Need-add-i Inv-loop μ-loop
-add-i c = omega arith
-
-loop-less : tie.Need-loop-less Inv-loop μ-loop
-loop-less c = omega arith
 
 loop-again : tie.Need-loop-again Inv-loop μ-loop
 loop-again c =
@@ -58,10 +46,10 @@ first-high-spec =
     Inv-loop
     μ-loop
     loop-holds
-    shared-slice-read-label-below
-    label-below-requires
+    (λ c. omega arith)  -- shared-slice-read-label-below
+    (λ c κs. search needs)  -- label-below-requires
     returns
-    add-i
-    loop-less
+    (λ c. omega arith)  -- add-i
+    (λ c. omega arith)  -- loop-less
     loop-again
     returns-2)

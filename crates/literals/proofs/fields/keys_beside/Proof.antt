@@ -20,33 +20,10 @@ Inv-loop p table at i₀ i =
 abbrev μ-loop : tie.MeasureT-loop
 μ-loop p table at i₀ i = length p - i
 
-loop-holds : tie.Need-loop-holds Inv-loop μ-loop
-loop-holds c = refl
-
-shared-slice-read-label-of : tie.Need-shared-slice-read-label-of Inv-loop μ-loop
-shared-slice-read-label-of c = omega arith
-
-label-of-requires : tie.Need-label-of-requires Inv-loop μ-loop
-label-of-requires c κs = search needs
-
-add-argument-of : tie.Need-add-argument-of Inv-loop μ-loop
-add-argument-of c = omega arith
-
-add-argument-of-2 : tie.Need-add-argument-of-2 Inv-loop μ-loop
-add-argument-of-2 c = omega arith
-
-shared-slice-read-argument-of : tie.Need-shared-slice-read-argument-of Inv-loop μ-loop
-shared-slice-read-argument-of c = omega arith
-
-argument-of-requires : tie.Need-argument-of-requires Inv-loop μ-loop
-argument-of-requires c κs = search needs
-
-may-stand-requires : tie.Need-may-stand-requires Inv-loop μ-loop
-may-stand-requires c κs = search needs
-
 returns : tie.Need-returns Inv-loop μ-loop
 returns c =
-    let a = c .before .before .before .before .before .before .before .before .before .before .args in
+    let back8 = c .before .before .before .before .before .before .before .before in
+    let a = back8 .before .before .args in
     let l = c .before .before .before .before .before .before .before .loop in
     let e =
     beside-bytes (getD (a .p .now) (l .i) 0) (getD (a .table .now) (a .at + 1 + l .i) 0)
@@ -56,15 +33,10 @@ returns c =
     (e ∙ not-true _ (c .if1 .taken)))
     ∙ l .inv
 
-add-i : tie.Need-add-i Inv-loop μ-loop
-add-i c = omega arith
-
-loop-less : tie.Need-loop-less Inv-loop μ-loop
-loop-less c = omega arith
-
 loop-again : tie.Need-loop-again Inv-loop μ-loop
 loop-again c =
-    let a = c .before .before .before .before .before .before .before .before .before .before .args in
+    let back8 = c .before .before .before .before .before .before .before .before in
+    let a = back8 .before .before .args in
     let l = c .before .before .before .before .before .before .before .loop in
     let e =
     beside-bytes (getD (a .p .now) (l .i) 0) (getD (a .table .now) (a .at + 1 + l .i) 0)
@@ -86,16 +58,16 @@ keys-beside-spec =
     (tie.spec
     Inv-loop
     μ-loop
-    loop-holds
-    shared-slice-read-label-of
-    label-of-requires
-    add-argument-of
-    add-argument-of-2
-    shared-slice-read-argument-of
-    argument-of-requires
-    may-stand-requires
+    (λ c. refl)  -- loop-holds
+    (λ c. omega arith)  -- shared-slice-read-label-of
+    (λ c κs. search needs)  -- label-of-requires
+    (λ c. omega arith)  -- add-argument-of
+    (λ c. omega arith)  -- add-argument-of-2
+    (λ c. omega arith)  -- shared-slice-read-argument-of
+    (λ c κs. search needs)  -- argument-of-requires
+    (λ c κs. search needs)  -- may-stand-requires
     returns
-    add-i
-    loop-less
+    (λ c. omega arith)  -- add-i
+    (λ c. omega arith)  -- loop-less
     loop-again
     returns-2)

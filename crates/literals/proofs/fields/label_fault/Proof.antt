@@ -6,43 +6,16 @@ use Rattle.literals.proofs.Bytes.{second-counted, repeated-key, first-h
 use Rattle.literals.proofs.fields.label_fault.Statement.{statement}
 use Rattle.literals.proofs.fields.label_fault.Tie as tie
 
-first-again-requires : tie.Need-first-again-requires
-first-again-requires c κs = search needs
-
-cast-t8 : tie.Need-cast-t8
-cast-t8 c = search needs
-
-add-t9 : tie.Need-add-t9
-add-t9 c = search needs
-
 returns : tie.Need-returns
 returns c =
     let start = c .before .before .before .args in
     second-counted (start .n) (start .p .now) (c .before .first-again .ensures) (c .if1 .taken)
-
-first-again-requires-2 : tie.Need-first-again-requires-2
-first-again-requires-2 c κs = search needs
-
-cast-t10 : tie.Need-cast-t10
-cast-t10 c = search needs
-
-add-t11 : tie.Need-add-t11
-add-t11 c = search needs
 
 returns-2 : tie.Need-returns-2
 returns-2 c =
     let first = c .before .before .before in
     let start = first .before .before .args in
     repeated-key (start .n) (start .p .now) (first .first-again .ensures) (c .before .before .if1 .left) (c .before .first-again2 .ensures) (c .if2 .taken)
-
-first-high-requires : tie.Need-first-high-requires
-first-high-requires c κs = search needs
-
-cast-t12 : tie.Need-cast-t12
-cast-t12 c = search needs
-
-add-t13 : tie.Need-add-t13
-add-t13 c = search needs
 
 returns-3 : tie.Need-returns-3
 returns-3 c =
@@ -63,16 +36,16 @@ pub label-fault-spec : {M : Type 1} → statement M
 label-fault-spec =
     tie.close
     (tie.spec
-    first-again-requires
-    cast-t8
-    add-t9
+    (λ c κs. search needs)  -- first-again-requires
+    (λ c. search needs)  -- cast-t8
+    (λ c. search needs)  -- add-t9
     returns
-    first-again-requires-2
-    cast-t10
-    add-t11
+    (λ c κs. search needs)  -- first-again-requires-2
+    (λ c. search needs)  -- cast-t10
+    (λ c. search needs)  -- add-t11
     returns-2
-    first-high-requires
-    cast-t12
-    add-t13
+    (λ c κs. search needs)  -- first-high-requires
+    (λ c. search needs)  -- cast-t12
+    (λ c. search needs)  -- add-t13
     returns-3
     returns-4)

@@ -21,32 +21,19 @@ returns c =
     let a = c .before .before .args in
     shape-told (a .head .now) (a .i) (a .p .now) (lt-ltb (length (a .p .now)) 2 (omega arith)) refl refl
 
-is-lasting-requires : tie.Need-is-lasting-requires
-is-lasting-requires c κs = search needs
-
-shared-slice-read-no-role : tie.Need-shared-slice-read-no-role
-shared-slice-read-no-role c = search needs
-
-no-role-requires : tie.Need-no-role-requires
-no-role-requires c κs = search needs
-
 returns-2 : tie.Need-returns-2
 returns-2 c =
     let a = c .before .before .before .before .before .before .args in
     shape-told (a .head .now) (a .i) (a .p .now) (le-ltb (length (a .p .now)) 2 (omega arith))
     (role (getD (a .p .now) 0 0) (c .before .no-role .ensures) (c .before .before .before .is-lasting .ensures) (c .if2 .taken)) refl
 
-shared-slice-read-arguments-stop : tie.Need-shared-slice-read-arguments-stop
-shared-slice-read-arguments-stop c = search needs
-
-arguments-stop-requires : tie.Need-arguments-stop-requires
-arguments-stop-requires c κs = search needs
-
 returns-3 : tie.Need-returns-3
 returns-3 c =
-    let a = c .before .before .before .before .before .before .before .before .args in
+    let back8 = c .before .before .before .before .before .before .before .before in
+    let a = back8 .args in
     shape-told (a .head .now) (a .i) (a .p .now) (le-ltb (length (a .p .now)) 2 (omega arith))
-    (role (getD (a .p .now) 0 0) (c .before .before .before .no-role .ensures) (c .before .before .before .before .before .is-lasting .ensures)
+    (role (getD (a .p .now) 0 0) (c .before .before .before .no-role .ensures)
+    (c .before .before .before .before .before .is-lasting .ensures)
     (c .before .before .if2 .left)) (c .arguments-stop .ensures)
 
 pub literal-shape-spec : {M : Type 1} → statement M
@@ -54,10 +41,10 @@ literal-shape-spec =
     tie.close
     (tie.spec
     returns
-    is-lasting-requires
-    shared-slice-read-no-role
-    no-role-requires
+    (λ c κs. search needs)  -- is-lasting-requires
+    (λ c. search needs)  -- shared-slice-read-no-role
+    (λ c κs. search needs)  -- no-role-requires
     returns-2
-    shared-slice-read-arguments-stop
-    arguments-stop-requires
+    (λ c. search needs)  -- shared-slice-read-arguments-stop
+    (λ c κs. search needs)  -- arguments-stop-requires
     returns-3)

@@ -8,15 +8,6 @@ use Rattle.literals.proofs.Arguments.{or-true, or-false}
 use Rattle.literals.proofs.fields.may_stand.Statement.{statement}
 use Rattle.literals.proofs.fields.may_stand.Tie as tie
 
-enum-told : tie.Need-enum-told
-enum-told c = search needs
-
-enum-told-2 : tie.Need-enum-told-2
-enum-told-2 c = search needs
-
-is-counted-requires : tie.Need-is-counted-requires
-is-counted-requires c κs = search needs
-
 returns : tie.Need-returns
 returns c =
     let l = c .before .before .args .label in
@@ -29,4 +20,11 @@ returns-2 c =
     ∙ sym (ap (λ (a : Argument). isCounted l || not (isEvery a)) (c .before .enum-told2 .given .1) ∙ or-false (isCounted l))
 
 pub may-stand-spec : {M : Type 1} → statement M
-may-stand-spec = tie.close (tie.spec enum-told enum-told-2 is-counted-requires returns returns-2)
+may-stand-spec =
+    tie.close
+    (tie.spec
+    (λ c. search needs)  -- enum-told
+    (λ c. search needs)  -- enum-told-2
+    (λ c κs. search needs)  -- is-counted-requires
+    returns
+    returns-2)

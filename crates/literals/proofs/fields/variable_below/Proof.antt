@@ -5,17 +5,14 @@ use Rattle.literals.specs.Domain.{variableBelow}
 use Rattle.literals.proofs.fields.variable_below.Statement.{statement}
 use Rattle.literals.proofs.fields.variable_below.Tie as tie
 
-enum-known-argument : tie.Need-enum-known-argument
-enum-known-argument c = search needs
-
-enum-told : tie.Need-enum-told
-enum-told c = search needs
-
 returns : tie.Need-returns
 returns c = sym (ap (variableBelow (c .before .before .before .before .args .n)) (c .before .before .argument .given .1))
 
-returns-2 : tie.Need-returns-2
-returns-2 c = search needs
-
 pub variable-below-spec : {M : Type 1} → statement M
-variable-below-spec = tie.close (tie.spec enum-known-argument enum-told returns returns-2)
+variable-below-spec =
+    tie.close
+    (tie.spec
+    (λ c. search needs)  -- enum-known-argument
+    (λ c. search needs)  -- enum-told
+    returns
+    (λ c. search needs))  -- returns-2

@@ -10,23 +10,8 @@ use borrow.Author.Needs.{needs}
 use Rattle.literals.proofs.head.add_literal.Statement.{statement}
 use Rattle.literals.proofs.head.add_literal.Tie as tie
 
-cast-head : tie.Need-cast-head
-cast-head c = search needs
-
-add-head : tie.Need-add-head
-add-head c = search needs
-
-add-head-2 : tie.Need-add-head-2
-add-head-2 c = search needs
-
-element-write-head : tie.Need-element-write-head
-element-write-head c = search needs
-
 returns : tie.Need-returns
 returns c p t D F e = let r = c .before .pre in fills-plain F p _ _ (r .0) (r .1 .0) (r .1 .1 .1) (sym (not-true _ (c .if1 .taken)) ∙ t) e
-
-element-write-head-2 : tie.Need-element-write-head-2
-element-write-head-2 c = search needs
 
 returns-2 : tie.Need-returns-2
 returns-2 c p t D F e = let r = c .before .pre in fills-literal F p _ _ (r .0) (r .1 .0) t 1 (sym (ap (λ (b : Bool). cond {A = ℕ} b 1 (getD (c .before .args .head .now) atClears 0)) (not-false (c .before .args .clears) (c .if1 .left)))) e
@@ -35,10 +20,10 @@ pub add-literal-spec : {M : Type 1} → statement M
 add-literal-spec =
     tie.close
     (tie.spec
-    cast-head
-    add-head
-    add-head-2
-    element-write-head
+    (λ c. search needs)  -- cast-head
+    (λ c. search needs)  -- add-head
+    (λ c. search needs)  -- add-head-2
+    (λ c. search needs)  -- element-write-head
     returns
-    element-write-head-2
+    (λ c. search needs)  -- element-write-head-2
     returns-2)

@@ -5,21 +5,6 @@ use borrow.Author.Needs.{needs}
 use Rattle.literals.proofs.head.arity_of.Statement.{statement}
 use Rattle.literals.proofs.head.arity_of.Tie as tie
 
-wide-requires : tie.Need-wide-requires
-wide-requires c κs = search needs
-
-add-limited : tie.Need-add-limited
-add-limited c = search needs
-
-element-copy-out-limited : tie.Need-element-copy-out-limited
-element-copy-out-limited c = search needs
-
-cast-limited : tie.Need-cast-limited
-cast-limited c = search needs
-
-limited-requires : tie.Need-limited-requires
-limited-requires c κs = search needs
-
 returns : tie.Need-returns
 returns c =
     let l = c .limited .ensures in
@@ -33,10 +18,10 @@ pub arity-of-spec : {M : Type 1} → statement M
 arity-of-spec =
     tie.close
     (tie.spec
-    wide-requires
-    add-limited
-    element-copy-out-limited
-    cast-limited
-    limited-requires
+    (λ c κs. search needs)  -- wide-requires
+    (λ c. search needs)  -- add-limited
+    (λ c. search needs)  -- element-copy-out-limited
+    (λ c. search needs)  -- cast-limited
+    (λ c κs. search needs)  -- limited-requires
     returns
     returns-2)

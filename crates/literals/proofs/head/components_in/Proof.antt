@@ -6,23 +6,16 @@ use borrow.Author.Needs.{needs}
 use Rattle.literals.proofs.head.components_in.Statement.{statement}
 use Rattle.literals.proofs.head.components_in.Tie as tie
 
-element-copy-out-limited : tie.Need-element-copy-out-limited
-element-copy-out-limited c = search needs
-
-cast-limited : tie.Need-cast-limited
-cast-limited c = search needs
-
-limited-requires : tie.Need-limited-requires
-limited-requires c κs = search needs
-
-wide-requires : tie.Need-wide-requires
-wide-requires c κs = search needs
-
 returns : tie.Need-returns
 unfolding componentsIn
 returns c = let l = c .before .limited .ensures in (c .wide .ensures .0 ∙ l .0, omega arith)
 
 pub components-in-spec : {M : Type 1} → statement M
 components-in-spec =
-    tie.close (tie.spec element-copy-out-limited cast-limited
-    limited-requires wide-requires returns)
+    tie.close
+    (tie.spec
+    (λ c. search needs)  -- element-copy-out-limited
+    (λ c. search needs)  -- cast-limited
+    (λ c κs. search needs)  -- limited-requires
+    (λ c κs. search needs)  -- wide-requires
+    returns)

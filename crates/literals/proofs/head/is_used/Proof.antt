@@ -19,9 +19,6 @@ Inv-loop head relation n c₀ c = (c ≤ n) × (any (λ (row : List ℕ). eqb re
 abbrev μ-loop : tie.MeasureT-loop
 μ-loop head relation n c₀ c = n - c
 
-components-in-requires : tie.Need-components-in-requires Inv-loop μ-loop
-components-in-requires c κs = search needs
-
 loop-holds : tie.Need-loop-holds Inv-loop μ-loop
 unfolding componentRowsIn
 loop-holds c =
@@ -41,9 +38,6 @@ returns c =
 add-c : tie.Need-add-c Inv-loop μ-loop
 add-c c = let m = c .before .before .before .before .components-in .ensures .1 in omega arith
 
-loop-less : tie.Need-loop-less Inv-loop μ-loop
-loop-less c = omega arith
-
 loop-again : tie.Need-loop-again Inv-loop μ-loop
 loop-again c =
     let a = c .before .before .before .before .before .args in
@@ -62,11 +56,11 @@ is-used-spec =
     (tie.spec
     Inv-loop
     μ-loop
-    components-in-requires
+    (λ c κs. search needs)  -- components-in-requires
     loop-holds
     component-byte-requires
     returns
     add-c
-    loop-less
+    (λ c. omega arith)  -- loop-less
     loop-again
     returns-2)

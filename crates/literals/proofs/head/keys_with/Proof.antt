@@ -7,17 +7,8 @@ use borrow.Author.Needs.{needs}
 use Rattle.literals.proofs.head.keys_with.Statement.{statement}
 use Rattle.literals.proofs.head.keys_with.Tie as tie
 
-components-in-requires : tie.Need-components-in-requires
-components-in-requires c κs = search needs
-
-count-keys-requires : tie.Need-count-keys-requires
-count-keys-requires c κs = search needs
-
 returns : tie.Need-returns
 returns c = let k = c .count-keys .ensures in let p = c .before .before .before .before .args .p .now in let s = keys-short p (c .before .before .before .before .pre) in (λ D H. k ∙ keys-first H (componentOf p) (sym (c .before .before .components-in .ensures .0) ∙ c .before .if1 .taken), omega arith)
-
-keys-in-requires : tie.Need-keys-in-requires
-keys-in-requires c κs = search needs
 
 returns-2 : tie.Need-returns-2
 returns-2 c = let k = c .keys-in .ensures in (λ D H. k .0 ∙ keys-later H _ (λ z. c .before .if1 .left (c .before .before .components-in .ensures .0 ∙ z)), k .1)
@@ -25,4 +16,9 @@ returns-2 c = let k = c .keys-in .ensures in (λ D H. k .0 ∙ keys-later H _ (�
 pub keys-with-spec : {M : Type 1} → statement M
 keys-with-spec =
     tie.close
-    (tie.spec components-in-requires count-keys-requires returns keys-in-requires returns-2)
+    (tie.spec
+    (λ c κs. search needs)  -- components-in-requires
+    (λ c κs. search needs)  -- count-keys-requires
+    returns
+    (λ c κs. search needs)  -- keys-in-requires
+    returns-2)

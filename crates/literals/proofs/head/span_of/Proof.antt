@@ -7,18 +7,6 @@ use borrow.Author.Needs.{needs}
 use Rattle.literals.proofs.head.span_of.Statement.{statement}
 use Rattle.literals.proofs.head.span_of.Tie as tie
 
-first-of-requires : tie.Need-first-of-requires
-first-of-requires c κs = search needs
-
-size-of-requires : tie.Need-size-of-requires
-size-of-requires c κs = search needs
-
-wide-requires : tie.Need-wide-requires
-wide-requires c κs = search needs
-
-add-to : tie.Need-add-to
-add-to c = search needs
-
 returns : tie.Need-returns
 returns c =
     let f = c .before .before .first-of in
@@ -31,4 +19,11 @@ returns c =
     )
 
 pub span-of-spec : {M : Type 1} → statement M
-span-of-spec = tie.close (tie.spec first-of-requires size-of-requires wide-requires add-to returns)
+span-of-spec =
+    tie.close
+    (tie.spec
+    (λ c κs. search needs)  -- first-of-requires
+    (λ c κs. search needs)  -- size-of-requires
+    (λ c κs. search needs)  -- wide-requires
+    (λ c. search needs)  -- add-to
+    returns)

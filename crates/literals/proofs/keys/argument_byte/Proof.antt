@@ -4,15 +4,6 @@ use borrow.Author.Needs.{needs}
 use Rattle.literals.proofs.keys.argument_byte.Statement.{statement}
 use Rattle.literals.proofs.keys.argument_byte.Tie as tie
 
-add-result : tie.Need-add-result
-add-result c = search needs
-
-add-result-2 : tie.Need-add-result-2
-add-result-2 c = search needs
-
-shared-slice-read-result : tie.Need-shared-slice-read-result
-shared-slice-read-result c = search needs
-
 returns : tie.Need-returns
 returns c = simp (lt-ltb _ _ (c .before .if1 .taken))
 
@@ -21,4 +12,10 @@ returns-2 c = simp (le-ltb _ _ (c .if1 .left))
 
 pub argument-byte-spec : {M : Type 1} → statement M
 argument-byte-spec =
-    tie.close (tie.spec add-result add-result-2 shared-slice-read-result returns returns-2)
+    tie.close
+    (tie.spec
+    (λ c. search needs)  -- add-result
+    (λ c. search needs)  -- add-result-2
+    (λ c. search needs)  -- shared-slice-read-result
+    returns
+    returns-2)

@@ -21,9 +21,6 @@ Inv-loop head relation n c₀ c =
 abbrev μ-loop : tie.MeasureT-loop
 μ-loop head relation n c₀ c = n - c
 
-components-in-requires : tie.Need-components-in-requires Inv-loop μ-loop
-components-in-requires c κs = search needs
-
 loop-holds : tie.Need-loop-holds Inv-loop μ-loop
 unfolding componentRowsIn
 loop-holds c =
@@ -31,9 +28,6 @@ loop-holds c =
     let n = c .components-in .ensures in
     let e = ap (λ (k : ℕ). position (starts (a .relation)) (componentRowsFrom (a .head .now) 0 k)) (let z : c .components-in .result - 0 ≡ c .components-in .result = omega arith in z ∙ n .0) in
     (omega arith, n .1, omega arith)
-
-component-byte-requires : tie.Need-component-byte-requires Inv-loop μ-loop
-component-byte-requires c κs = search needs
 
 returns : tie.Need-returns Inv-loop μ-loop
 returns c =
@@ -43,12 +37,6 @@ returns c =
     (eq-eqb _ _ (sym (sym (c .before .component-byte .ensures) ∙ c .if1 .taken))) in
     let i = t .loop .inv .2 in
     omega arith
-
-add-c : tie.Need-add-c Inv-loop μ-loop
-add-c c = omega arith
-
-loop-less : tie.Need-loop-less Inv-loop μ-loop
-loop-less c = omega arith
 
 loop-again : tie.Need-loop-again Inv-loop μ-loop
 loop-again c =
@@ -73,11 +61,11 @@ component-of-spec =
     (tie.spec
     Inv-loop
     μ-loop
-    components-in-requires
+    (λ c κs. search needs)  -- components-in-requires
     loop-holds
-    component-byte-requires
+    (λ c κs. search needs)  -- component-byte-requires
     returns
-    add-c
-    loop-less
+    (λ c. omega arith)  -- add-c
+    (λ c. omega arith)  -- loop-less
     loop-again
     returns-2)

@@ -8,15 +8,6 @@ use Rattle.literals.proofs.KeyRows.{under-place}
 use Rattle.literals.proofs.keys.key_digit.Statement.{statement}
 use Rattle.literals.proofs.keys.key_digit.Tie as tie
 
-place-under-requires : tie.Need-place-under-requires
-place-under-requires c κs = search needs
-
-argument-byte-requires : tie.Need-argument-byte-requires
-argument-byte-requires c κs = search needs
-
-wide-requires : tie.Need-wide-requires
-wide-requires c κs = search needs
-
 returns : tie.Need-returns
 returns c =
     let a = c .before .before .before .before .args in
@@ -25,4 +16,9 @@ returns c =
 
 pub key-digit-spec : {M : Type 1} → statement M
 key-digit-spec =
-    tie.close (tie.spec place-under-requires argument-byte-requires wide-requires returns)
+    tie.close
+    (tie.spec
+    (λ c κs. search needs)  -- place-under-requires
+    (λ c κs. search needs)  -- argument-byte-requires
+    (λ c κs. search needs)  -- wide-requires
+    returns)

@@ -15,20 +15,11 @@ Inv-loop head c rows at word₀ k₀ word k =
 abbrev μ-loop : tie.MeasureT-loop
 μ-loop head c rows at word₀ k₀ word k = k
 
-keys-in-requires : tie.Need-keys-in-requires Inv-loop μ-loop
-keys-in-requires c κs = search needs
-
 loop-holds : tie.Need-loop-holds Inv-loop μ-loop
 loop-holds c =
     let e = c .keys-in .ensures .0 in
     let l = c .keys-in .ensures .1 in
     (omega arith, omega arith, number-none _ _ _ (c .keys-in .result) (omega arith) e)
-
-sub-k : tie.Need-sub-k Inv-loop μ-loop
-sub-k c = omega arith
-
-mul-word : tie.Need-mul-word Inv-loop μ-loop
-mul-word c = omega arith
 
 cast-key-digit : tie.Need-cast-key-digit Inv-loop μ-loop
 cast-key-digit c = let i = c .before .loop .inv in omega arith
@@ -38,9 +29,6 @@ key-digit-requires c κs = let i = c .before .loop .inv in (omega arith, (omega 
 
 add-word : tie.Need-add-word Inv-loop μ-loop
 add-word c = let d = c .key-digit .ensures .1 in omega arith
-
-loop-less : tie.Need-loop-less Inv-loop μ-loop
-loop-less c = omega arith
 
 loop-again : tie.Need-loop-again Inv-loop μ-loop
 loop-again c =
@@ -57,13 +45,13 @@ key-number-spec =
     (tie.spec
     Inv-loop
     μ-loop
-    keys-in-requires
+    (λ c κs. search needs)  -- keys-in-requires
     loop-holds
-    sub-k
-    mul-word
+    (λ c. omega arith)  -- sub-k
+    (λ c. omega arith)  -- mul-word
     cast-key-digit
     key-digit-requires
     add-word
-    loop-less
+    (λ c. omega arith)  -- loop-less
     loop-again
     returns)

@@ -3,14 +3,13 @@ use borrow.Author.Needs.{needs}
 use Rattle.literals.proofs.keys.key_tuple.Statement.{statement}
 use Rattle.literals.proofs.keys.key_tuple.Tie as tie
 
-key-number-requires : tie.Need-key-number-requires
-key-number-requires c κs = search needs
-
-word-row-requires : tie.Need-word-row-requires
-word-row-requires c κs = search needs
-
 returns : tie.Need-returns
 returns c = c .word-row .ensures _ (c .before .key-number .ensures)
 
 pub key-tuple-spec : {M : Type 1} → statement M
-key-tuple-spec = tie.close (tie.spec key-number-requires word-row-requires returns)
+key-tuple-spec =
+    tie.close
+    (tie.spec
+    (λ c κs. search needs)  -- key-number-requires
+    (λ c κs. search needs)  -- word-row-requires
+    returns)

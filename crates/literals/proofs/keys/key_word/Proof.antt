@@ -34,15 +34,6 @@ add-wide-2 c = let f = components-few (c .before .before .before .args .head .no
 element-copy-out-wide : tie.Need-element-copy-out-wide Inv-loop μ-loop
 element-copy-out-wide c = let f = components-few (c .before .before .before .args .head .now) in omega arith
 
-wide-requires : tie.Need-wide-requires Inv-loop μ-loop
-wide-requires c κs = search needs
-
-argument-byte-requires : tie.Need-argument-byte-requires Inv-loop μ-loop
-argument-byte-requires c κs = omega arith
-
-wide-requires-2 : tie.Need-wide-requires-2 Inv-loop μ-loop
-wide-requires-2 c κs = search needs
-
 mul-word : tie.Need-mul-word Inv-loop μ-loop
 mul-word c = let i = c .before .before .before .before .before .loop .inv in
     let f = limit-few (c .before .before .before .before .before .loop .k) (omega arith) in omega arith
@@ -50,12 +41,6 @@ mul-word c = let i = c .before .before .before .before .before .loop .inv in
 add-word : tie.Need-add-word Inv-loop μ-loop
 add-word c = let i = c .before .before .before .before .before .loop .inv in
     let f = limit-few (c .before .before .before .before .before .loop .k) (omega arith) in let w = c .wide2 .ensures .1 in omega arith
-
-add-k : tie.Need-add-k Inv-loop μ-loop
-add-k c = omega arith
-
-loop-less : tie.Need-loop-less Inv-loop μ-loop
-loop-less c = omega arith
 
 loop-again : tie.Need-loop-again Inv-loop μ-loop
 loop-again c =
@@ -98,12 +83,12 @@ key-word-spec =
     add-wide
     add-wide-2
     element-copy-out-wide
-    wide-requires
-    argument-byte-requires
-    wide-requires-2
+    (λ c κs. search needs)  -- wide-requires
+    (λ c κs. omega arith)  -- argument-byte-requires
+    (λ c κs. search needs)  -- wide-requires-2
     mul-word
     add-word
-    add-k
-    loop-less
+    (λ c. omega arith)  -- add-k
+    (λ c. omega arith)  -- loop-less
     loop-again
     returns)

@@ -11,27 +11,12 @@ use borrow.Author.Needs.{needs}
 use Rattle.literals.proofs.keys.marked_by.Statement.{statement}
 use Rattle.literals.proofs.keys.marked_by.Tie as tie
 
-wide-requires : tie.Need-wide-requires
-wide-requires c κs = search needs
-
-element-copy-out-wide : tie.Need-element-copy-out-wide
-element-copy-out-wide c = search needs
-
-wide-requires-2 : tie.Need-wide-requires-2
-wide-requires-2 c κs = search needs
-
 returns : tie.Need-returns
 returns c =
     let a = c .before .before .before .before .args in
     let w = c .before .before .before .wide .ensures .0 in
     let l = c .before .before .if1 .taken in
     c .wide2 .ensures .0 ∙ ap (λ (i : ℕ). getD (a .places .now) i 0) w ∙ c .before .before .before .before .pre .components (a .relation) (omega arith)
-
-component-of-requires : tie.Need-component-of-requires
-component-of-requires c κs = search needs
-
-components-in-requires : tie.Need-components-in-requires
-components-in-requires c κs = search needs
 
 returns-2 : tie.Need-returns-2
 returns-2 c = marks-none _ _ _ _ (c .before .before .component-of .ensures) (c .before .components-in .ensures .0) (c .if2 .taken)
@@ -52,12 +37,12 @@ pub marked-by-spec : {M : Type 1} → statement M
 marked-by-spec =
     tie.close
     (tie.spec
-    wide-requires
-    element-copy-out-wide
-    wide-requires-2
+    (λ c κs. search needs)  -- wide-requires
+    (λ c. search needs)  -- element-copy-out-wide
+    (λ c κs. search needs)  -- wide-requires-2
     returns
-    component-of-requires
-    components-in-requires
+    (λ c κs. search needs)  -- component-of-requires
+    (λ c κs. search needs)  -- components-in-requires
     returns-2
     add-result
     returns-3)

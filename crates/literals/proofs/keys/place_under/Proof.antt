@@ -29,18 +29,6 @@ loop-holds : tie.Need-loop-holds Inv-loop μ-loop
 unfolding placeUnder
 loop-holds c = (omega arith, omega arith)
 
-add-component-byte : tie.Need-add-component-byte Inv-loop μ-loop
-add-component-byte c = omega arith
-
-component-byte-requires : tie.Need-component-byte-requires Inv-loop μ-loop
-component-byte-requires c κs = (omega arith, omega arith)
-
-label-of-requires : tie.Need-label-of-requires Inv-loop μ-loop
-label-of-requires c κs = search needs
-
-is-key-requires : tie.Need-is-key-requires Inv-loop μ-loop
-is-key-requires c κs = search needs
-
 returns : tie.Need-returns Inv-loop μ-loop
 returns c =
     let a = c .before .before .before .before .before .before .args in
@@ -48,12 +36,6 @@ returns c =
     let e = position-hit (stands (a .head .now) (a .c) (a .k)) 6 (l .i) (omega arith) (sym (c .before .is-key .ensures ∙ ap (isKey (c .before .before .before .before .before .before .args .k)) (c .before .before .label-of .ensures ∙ ap labelOf (c .before .before .before .component-byte .ensures))) ∙ c .if1 .taken) in
     let i = l .inv .1 in
     omega arith
-
-add-i : tie.Need-add-i Inv-loop μ-loop
-add-i c = omega arith
-
-loop-less : tie.Need-loop-less Inv-loop μ-loop
-loop-less c = omega arith
 
 loop-again : tie.Need-loop-again Inv-loop μ-loop
 loop-again c =
@@ -78,12 +60,12 @@ place-under-spec =
     Inv-loop
     μ-loop
     loop-holds
-    add-component-byte
-    component-byte-requires
-    label-of-requires
-    is-key-requires
+    (λ c. omega arith)  -- add-component-byte
+    (λ c κs. (omega arith, omega arith))  -- component-byte-requires
+    (λ c κs. search needs)  -- label-of-requires
+    (λ c κs. search needs)  -- is-key-requires
     returns
-    add-i
-    loop-less
+    (λ c. omega arith)  -- add-i
+    (λ c. omega arith)  -- loop-less
     loop-again
     returns-2)

@@ -15,9 +15,6 @@ Inv-loop head c places₀ k₀ k-end places k = (k ≤ k-end) × (k-end ≤ 6) �
 abbrev μ-loop : tie.MeasureT-loop
 μ-loop head c places₀ k₀ k-end places k = k-end - k
 
-keys-in-requires : tie.Need-keys-in-requires Inv-loop μ-loop
-keys-in-requires c κs = search needs
-
 loop-holds : tie.Need-loop-holds Inv-loop μ-loop
 loop-holds c = let a = c .before .before .args in (
   omega arith,
@@ -25,12 +22,6 @@ loop-holds c = let a = c .before .before .args in (
   c .keys-in .ensures .0,
   own-none (a .head .now) (a .c) (a .places .now),
 )
-
-cast-places : tie.Need-cast-places Inv-loop μ-loop
-cast-places c = omega arith
-
-place-under-requires : tie.Need-place-under-requires Inv-loop μ-loop
-place-under-requires c κs = omega arith
 
 cast-places-2 : tie.Need-cast-places-2 Inv-loop μ-loop
 cast-places-2 c =
@@ -40,23 +31,8 @@ cast-places-2 c =
     let e = c .place-under .ensures in
     omega arith
 
-mul-places : tie.Need-mul-places Inv-loop μ-loop
-mul-places c = omega arith
-
-add-places : tie.Need-add-places Inv-loop μ-loop
-add-places c = omega arith
-
-add-places-2 : tie.Need-add-places-2 Inv-loop μ-loop
-add-places-2 c = omega arith
-
 slice-write-places : tie.Need-slice-write-places Inv-loop μ-loop
 slice-write-places c = let w = c .before .before .loop .inv .3 .room in omega arith
-
-add-k : tie.Need-add-k Inv-loop μ-loop
-add-k c = omega arith
-
-loop-less : tie.Need-loop-less Inv-loop μ-loop
-loop-less c = omega arith
 
 loop-again : tie.Need-loop-again Inv-loop μ-loop
 loop-again c =
@@ -85,17 +61,17 @@ put-component-places-spec =
     (tie.spec
     Inv-loop
     μ-loop
-    keys-in-requires
+    (λ c κs. search needs)  -- keys-in-requires
     loop-holds
-    cast-places
-    place-under-requires
+    (λ c. omega arith)  -- cast-places
+    (λ c κs. omega arith)  -- place-under-requires
     cast-places-2
-    mul-places
-    add-places
-    add-places-2
+    (λ c. omega arith)  -- mul-places
+    (λ c. omega arith)  -- add-places
+    (λ c. omega arith)  -- add-places-2
     slice-write-places
-    add-k
-    loop-less
+    (λ c. omega arith)  -- add-k
+    (λ c. omega arith)  -- loop-less
     loop-again
     same-length
     returns)

@@ -14,17 +14,11 @@ Inv-loop head places₀ c₀ places c = (c ≤ componentsIn head) × Marked head
 abbrev μ-loop : tie.MeasureT-loop
 μ-loop head places₀ c₀ places c = c
 
-components-in-requires : tie.Need-components-in-requires Inv-loop μ-loop
-components-in-requires c κs = search needs
-
 loop-holds : tie.Need-loop-holds Inv-loop μ-loop
 loop-holds c =
     let a = c .before .before .args in
     let n = c .components-in .ensures .0 in
     (omega arith, marked-none (a .head .now) (componentsIn (a .head .now)) (c .components-in .result) (a .places .now) n)
-
-sub-c : tie.Need-sub-c Inv-loop μ-loop
-sub-c c = omega arith
 
 put-component-requires : tie.Need-put-component-requires Inv-loop μ-loop
 put-component-requires c κs =
@@ -34,18 +28,17 @@ put-component-requires c κs =
     let i = l .inv .0 in
     (omega arith, l .inv .1 .room ∙ c .before .before .before .before .before .pre)
 
-loop-less : tie.Need-loop-less Inv-loop μ-loop
-loop-less c = omega arith
-
 loop-again : tie.Need-loop-again Inv-loop μ-loop
 loop-again c =
-    let a = c .before .before .before .before .before .before .before .before .args in
+    let back8 = c .before .before .before .before .before .before .before .before in
+    let a = back8 .args in
     let l = c .before .before .before .before .before .loop in
     let p = c .before .before .put-component in
     let i = l .inv .0 in
     let t = c .before .before .before .before .loop-test .taken in (
       omega arith,
-      marked-more (a .head .now) (componentsIn (a .head .now)) (l .c - 1) (l .c) (a .places .now) (l .places) (p .last .1 .1 .0) (omega arith)
+      marked-more (a .head .now) (componentsIn (a .head .now)) (l .c - 1) (l .c) (a .places .now) (l .places) (p .last .1 .1 .0)
+          (omega arith)
           (omega arith) (l .inv .1) (p .kept .1 .1 .0) (p .ensures),
     )
 
@@ -64,11 +57,11 @@ put-components-spec =
     (tie.spec
     Inv-loop
     μ-loop
-    components-in-requires
+    (λ c κs. search needs)  -- components-in-requires
     loop-holds
-    sub-c
+    (λ c. omega arith)  -- sub-c
     put-component-requires
-    loop-less
+    (λ c. omega arith)  -- loop-less
     loop-again
     same-length
     returns)

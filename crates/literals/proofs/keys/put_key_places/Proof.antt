@@ -17,9 +17,6 @@ Inv-loop head places₀ c₀ c-end places c =
 abbrev μ-loop : tie.MeasureT-loop
 μ-loop head places₀ c₀ c-end places c = c-end - c
 
-components-in-requires : tie.Need-components-in-requires Inv-loop μ-loop
-components-in-requires c κs = search needs
-
 loop-holds : tie.Need-loop-holds Inv-loop μ-loop
 loop-holds c =
     let a = c .before .before .args in
@@ -30,15 +27,10 @@ put-component-places-requires : tie.Need-put-component-places-requires Inv-loop 
 put-component-places-requires c κs = let l = c .before .before .loop .inv in
     (omega arith, l .3 ∙ c .before .before .before .before .before .pre)
 
-add-c : tie.Need-add-c Inv-loop μ-loop
-add-c c = omega arith
-
-loop-less : tie.Need-loop-less Inv-loop μ-loop
-loop-less c = omega arith
-
 loop-again : tie.Need-loop-again Inv-loop μ-loop
 loop-again c =
-    let a = c .before .before .before .before .before .before .before .before .args in
+    let back8 = c .before .before .before .before .before .before .before .before in
+    let a = back8 .args in
     let l = c .before .before .before .before .before .loop in
     let w = c .before .before .put-component-places in (
       omega arith,
@@ -61,11 +53,11 @@ put-key-places-spec =
     (tie.spec
     Inv-loop
     μ-loop
-    components-in-requires
+    (λ c κs. search needs)  -- components-in-requires
     loop-holds
     put-component-places-requires
-    add-c
-    loop-less
+    (λ c. omega arith)  -- add-c
+    (λ c. omega arith)  -- loop-less
     loop-again
     same-length
     returns)

@@ -4,15 +4,6 @@ use borrow.Author.Needs.{needs}
 use Rattle.literals.proofs.keys.put_places.Statement.{statement}
 use Rattle.literals.proofs.keys.put_places.Tie as tie
 
-put-components-requires : tie.Need-put-components-requires
-put-components-requires c κs = search needs
-
-put-key-places-requires : tie.Need-put-key-places-requires
-put-key-places-requires c κs = search needs
-
-same-length : tie.Need-same-length
-same-length c = search needs
-
 returns : tie.Need-returns
 returns c e =
     let k = c .before .before .put-key-places .ensures in
@@ -20,4 +11,9 @@ returns c e =
 
 pub put-places-spec : {M : Type 1} → statement M
 put-places-spec =
-    tie.close (tie.spec put-components-requires put-key-places-requires same-length returns)
+    tie.close
+    (tie.spec
+    (λ c κs. search needs)  -- put-components-requires
+    (λ c κs. search needs)  -- put-key-places-requires
+    (λ c. search needs)  -- same-length
+    returns)

@@ -9,27 +9,6 @@ use borrow.Author.Needs.{needs}
 use Rattle.literals.proofs.row.any_contradicts.Statement.{statement}
 use Rattle.literals.proofs.row.any_contradicts.Tie as tie
 
-shared-slice-read-match : tie.Need-shared-slice-read-match
-shared-slice-read-match c = search needs
-
-any-meets-requires : tie.Need-any-meets-requires
-any-meets-requires c κs = search needs
-
-any-meets-requires-2 : tie.Need-any-meets-requires-2
-any-meets-requires-2 c κs = search needs
-
-any-meets-requires-3 : tie.Need-any-meets-requires-3
-any-meets-requires-3 c κs = search needs
-
-any-meets-requires-4 : tie.Need-any-meets-requires-4
-any-meets-requires-4 c κs = search needs
-
-any-meets-requires-5 : tie.Need-any-meets-requires-5
-any-meets-requires-5 c κs = search needs
-
-any-meets-requires-6 : tie.Need-any-meets-requires-6
-any-meets-requires-6 c κs = search needs
-
 returns : tie.Need-returns
 returns c =
     let a = c .before .before .before .before .before .args in
@@ -69,13 +48,13 @@ pub any-contradicts-spec : {M : Type 1} → statement M
 any-contradicts-spec =
     tie.close
     (tie.spec
-    shared-slice-read-match
-    any-meets-requires
-    any-meets-requires-2
-    any-meets-requires-3
-    any-meets-requires-4
-    any-meets-requires-5
-    any-meets-requires-6
+    (λ c. search needs)  -- shared-slice-read-match
+    (λ c κs. search needs)  -- any-meets-requires
+    (λ c κs. search needs)  -- any-meets-requires-2
+    (λ c κs. search needs)  -- any-meets-requires-3
+    (λ c κs. search needs)  -- any-meets-requires-4
+    (λ c κs. search needs)  -- any-meets-requires-5
+    (λ c κs. search needs)  -- any-meets-requires-6
     returns
     returns-2
     returns-3

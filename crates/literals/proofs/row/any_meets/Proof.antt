@@ -17,12 +17,6 @@ Inv-loop p table from to first second i₀ i =
 abbrev μ-loop : tie.MeasureT-loop
 μ-loop p table from to first second i₀ i = to - i
 
-loop-holds : tie.Need-loop-holds Inv-loop μ-loop
-loop-holds c = (omega arith, refl)
-
-mul-meets-as : tie.Need-mul-meets-as Inv-loop μ-loop
-mul-meets-as c = omega arith
-
 meets-as-requires : tie.Need-meets-as-requires Inv-loop μ-loop
 meets-as-requires c κs = let h = c .before .before .before .before .pre in (h .0, (h .1 .0, omega arith))
 
@@ -33,12 +27,6 @@ returns c =
     sym (any-hit (meetsAs (a .first) (a .second) (rowOf (a .p .now))) (a .table .now) (a .to) (l .i) (omega arith)
     (sym (c .before .meets-as .ensures) ∙ c .if1 .taken))
     ∙ l .inv .1
-
-add-i : tie.Need-add-i Inv-loop μ-loop
-add-i c = omega arith
-
-loop-less : tie.Need-loop-less Inv-loop μ-loop
-loop-less c = omega arith
 
 loop-again : tie.Need-loop-again Inv-loop μ-loop
 loop-again c =
@@ -62,11 +50,11 @@ any-meets-spec =
     (tie.spec
     Inv-loop
     μ-loop
-    loop-holds
-    mul-meets-as
+    (λ c. (omega arith, refl))  -- loop-holds
+    (λ c. omega arith)  -- mul-meets-as
     meets-as-requires
     returns
-    add-i
-    loop-less
+    (λ c. omega arith)  -- add-i
+    (λ c. omega arith)  -- loop-less
     loop-again
     returns-2)

@@ -24,21 +24,6 @@ abbrev μ-loop : tie.MeasureT-loop
 loop-holds : tie.Need-loop-holds Inv-loop μ-loop
 loop-holds c = (omega arith, λ row W. refl)
 
-mul-eight-at : tie.Need-mul-eight-at Inv-loop μ-loop
-mul-eight-at c = omega arith
-
-eight-at-requires : tie.Need-eight-at-requires Inv-loop μ-loop
-eight-at-requires c κs = omega arith
-
-found-or-equal-requires : tie.Need-found-or-equal-requires Inv-loop μ-loop
-found-or-equal-requires c κs = search needs
-
-add-i : tie.Need-add-i Inv-loop μ-loop
-add-i c = omega arith
-
-loop-less : tie.Need-loop-less Inv-loop μ-loop
-loop-less c = omega arith
-
 loop-again : tie.Need-loop-again Inv-loop μ-loop
 loop-again c =
     let a = c .before .before .before .before .before .args in
@@ -64,10 +49,10 @@ any-same-spec =
     Inv-loop
     μ-loop
     loop-holds
-    mul-eight-at
-    eight-at-requires
-    found-or-equal-requires
-    add-i
-    loop-less
+    (λ c. omega arith)  -- mul-eight-at
+    (λ c κs. omega arith)  -- eight-at-requires
+    (λ c κs. search needs)  -- found-or-equal-requires
+    (λ c. omega arith)  -- add-i
+    (λ c. omega arith)  -- loop-less
     loop-again
     returns)

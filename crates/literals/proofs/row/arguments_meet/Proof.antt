@@ -19,46 +19,26 @@ Inv-loop x i y j k₀ k =
 abbrev μ-loop : tie.MeasureT-loop
 μ-loop x i y j k₀ k = 8 - k
 
-loop-holds : tie.Need-loop-holds Inv-loop μ-loop
-loop-holds c = (omega arith, refl)
-
-add-bytes-meet : tie.Need-add-bytes-meet Inv-loop μ-loop
-add-bytes-meet c = omega arith
-
-shared-slice-read-bytes-meet : tie.Need-shared-slice-read-bytes-meet Inv-loop μ-loop
-shared-slice-read-bytes-meet c = omega arith
-
-add-bytes-meet-2 : tie.Need-add-bytes-meet-2 Inv-loop μ-loop
-add-bytes-meet-2 c = omega arith
-
-shared-slice-read-bytes-meet-2 : tie.Need-shared-slice-read-bytes-meet-2 Inv-loop μ-loop
-shared-slice-read-bytes-meet-2 c = omega arith
-
-bytes-meet-requires : tie.Need-bytes-meet-requires Inv-loop μ-loop
-bytes-meet-requires c κs = search needs
-
 returns : tie.Need-returns Inv-loop μ-loop
 returns c =
-    let a = c .before .before .before .before .before .before .before .before .args in
-    sym (meet-miss (a .x .now) (a .y .now) (a .i) (a .j) (c .before .before .before .before .before .loop .k) (omega arith) (omega arith)
+    let back8 = c .before .before .before .before .before .before .before .before in
+    let loop = c .before .before .before .before .before .loop in
+    let a = back8 .args in
+    sym (meet-miss (a .x .now) (a .y .now) (a .i) (a .j) (loop .k) (omega arith) (omega arith)
     (omega arith)
     (sym (c .before .bytes-meet .ensures) ∙ not-true _ (c .if1 .taken)))
-    ∙ c .before .before .before .before .before .loop .inv .1
-
-add-k : tie.Need-add-k Inv-loop μ-loop
-add-k c = omega arith
-
-loop-less : tie.Need-loop-less Inv-loop μ-loop
-loop-less c = omega arith
+    ∙ loop .inv .1
 
 loop-again : tie.Need-loop-again Inv-loop μ-loop
 loop-again c =
-    let a = c .before .before .before .before .before .before .before .before .args in (
+    let back8 = c .before .before .before .before .before .before .before .before in
+    let loop = c .before .before .before .before .before .loop in
+    let a = back8 .args in (
       omega arith,
-      sym (meet-hit (a .x .now) (a .y .now) (a .i) (a .j) (c .before .before .before .before .before .loop .k) (omega arith) (omega arith)
+      sym (meet-hit (a .x .now) (a .y .now) (a .i) (a .j) (loop .k) (omega arith) (omega arith)
           (omega arith)
           (sym (c .before .bytes-meet .ensures) ∙ not-false _ (c .if1 .left)))
-          ∙ c .before .before .before .before .before .loop .inv .1,
+          ∙ loop .inv .1,
     )
 
 returns-2 : tie.Need-returns-2 Inv-loop μ-loop
@@ -73,14 +53,14 @@ arguments-meet-spec =
     (tie.spec
     Inv-loop
     μ-loop
-    loop-holds
-    add-bytes-meet
-    shared-slice-read-bytes-meet
-    add-bytes-meet-2
-    shared-slice-read-bytes-meet-2
-    bytes-meet-requires
+    (λ c. (omega arith, refl))  -- loop-holds
+    (λ c. omega arith)  -- add-bytes-meet
+    (λ c. omega arith)  -- shared-slice-read-bytes-meet
+    (λ c. omega arith)  -- add-bytes-meet-2
+    (λ c. omega arith)  -- shared-slice-read-bytes-meet-2
+    (λ c κs. search needs)  -- bytes-meet-requires
     returns
-    add-k
-    loop-less
+    (λ c. omega arith)  -- add-k
+    (λ c. omega arith)  -- loop-less
     loop-again
     returns-2)

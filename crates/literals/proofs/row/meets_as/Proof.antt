@@ -6,22 +6,10 @@ use borrow.Author.Needs.{needs}
 use Rattle.literals.proofs.row.meets_as.Statement.{statement}
 use Rattle.literals.proofs.row.meets_as.Tie as tie
 
-shared-slice-read-if1 : tie.Need-shared-slice-read-if1
-shared-slice-read-if1 c = search needs
-
-meets-row-requires : tie.Need-meets-row-requires
-meets-row-requires c κs = search needs
-
 returns : tie.Need-returns
 returns c =
     let a = c .before .before .before .before .before .args in
     as-first (rowOf (a .p .now)) (a .table .now) (a .at) (a .first) (a .second) (omega arith) (c .meets-row .ensures)
-
-shared-slice-read-if2 : tie.Need-shared-slice-read-if2
-shared-slice-read-if2 c = search needs
-
-meets-row-requires-2 : tie.Need-meets-row-requires-2
-meets-row-requires-2 c κs = search needs
 
 returns-2 : tie.Need-returns-2
 returns-2 c =
@@ -37,10 +25,10 @@ pub meets-as-spec : {M : Type 1} → statement M
 meets-as-spec =
     tie.close
     (tie.spec
-    shared-slice-read-if1
-    meets-row-requires
+    (λ c. search needs)  -- shared-slice-read-if1
+    (λ c κs. search needs)  -- meets-row-requires
     returns
-    shared-slice-read-if2
-    meets-row-requires-2
+    (λ c. search needs)  -- shared-slice-read-if2
+    (λ c κs. search needs)  -- meets-row-requires-2
     returns-2
     returns-3)

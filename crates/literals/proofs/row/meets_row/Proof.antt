@@ -5,18 +5,6 @@ use borrow.Author.Needs.{needs}
 use Rattle.literals.proofs.row.meets_row.Statement.{statement}
 use Rattle.literals.proofs.row.meets_row.Tie as tie
 
-shared-slice-read-if1 : tie.Need-shared-slice-read-if1
-shared-slice-read-if1 c = search needs
-
-add-if1 : tie.Need-add-if1
-add-if1 c = search needs
-
-shared-slice-read-if1-2 : tie.Need-shared-slice-read-if1-2
-shared-slice-read-if1-2 c = search needs
-
-payload-meets-requires : tie.Need-payload-meets-requires
-payload-meets-requires c κs = search needs
-
 returns : tie.Need-returns
 returns c =
     let a = c .before .before .before .before .before .before .args in
@@ -31,9 +19,9 @@ pub meets-row-spec : {M : Type 1} → statement M
 meets-row-spec =
     tie.close
     (tie.spec
-    shared-slice-read-if1
-    add-if1
-    shared-slice-read-if1-2
-    payload-meets-requires
+    (λ c. search needs)  -- shared-slice-read-if1
+    (λ c. search needs)  -- add-if1
+    (λ c. search needs)  -- shared-slice-read-if1-2
+    (λ c κs. search needs)  -- payload-meets-requires
     returns
     returns-2)

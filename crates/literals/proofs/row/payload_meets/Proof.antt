@@ -18,38 +18,19 @@ Inv-loop p table at i₀ i =
 abbrev μ-loop : tie.MeasureT-loop
 μ-loop p table at i₀ i = length p - i
 
-loop-holds : tie.Need-loop-holds Inv-loop μ-loop
-loop-holds c = (omega arith, refl)
-
-shared-slice-read-bytes-meet : tie.Need-shared-slice-read-bytes-meet Inv-loop μ-loop
-shared-slice-read-bytes-meet c = omega arith
-
-add-bytes-meet : tie.Need-add-bytes-meet Inv-loop μ-loop
-add-bytes-meet c = omega arith
-
-shared-slice-read-bytes-meet-2 : tie.Need-shared-slice-read-bytes-meet-2 Inv-loop μ-loop
-shared-slice-read-bytes-meet-2 c = omega arith
-
-bytes-meet-requires : tie.Need-bytes-meet-requires Inv-loop μ-loop
-bytes-meet-requires c κs = search needs
-
 returns : tie.Need-returns Inv-loop μ-loop
 returns c =
-    let a = c .before .before .before .before .before .before .before .before .args in
+    let back8 = c .before .before .before .before .before .before .before .before in
+    let a = back8 .args in
     let l = c .before .before .before .before .before .loop in
     sym (payload-miss (a .p .now) (a .table .now) (a .at) (omega arith) (omega arith) (l .i) (omega arith)
     (sym (c .before .bytes-meet .ensures) ∙ not-true _ (c .if1 .taken)))
     ∙ l .inv .1
 
-add-i : tie.Need-add-i Inv-loop μ-loop
-add-i c = omega arith
-
-loop-less : tie.Need-loop-less Inv-loop μ-loop
-loop-less c = omega arith
-
 loop-again : tie.Need-loop-again Inv-loop μ-loop
 loop-again c =
-    let a = c .before .before .before .before .before .before .before .before .args in
+    let back8 = c .before .before .before .before .before .before .before .before in
+    let a = back8 .args in
     let l = c .before .before .before .before .before .loop in (
       omega arith,
       sym (payload-hit (a .p .now) (a .table .now) (a .at) (omega arith) (omega arith) (l .i) (omega arith)
@@ -69,13 +50,13 @@ payload-meets-spec =
     (tie.spec
     Inv-loop
     μ-loop
-    loop-holds
-    shared-slice-read-bytes-meet
-    add-bytes-meet
-    shared-slice-read-bytes-meet-2
-    bytes-meet-requires
+    (λ c. (omega arith, refl))  -- loop-holds
+    (λ c. omega arith)  -- shared-slice-read-bytes-meet
+    (λ c. omega arith)  -- add-bytes-meet
+    (λ c. omega arith)  -- shared-slice-read-bytes-meet-2
+    (λ c κs. search needs)  -- bytes-meet-requires
     returns
-    add-i
-    loop-less
+    (λ c. omega arith)  -- add-i
+    (λ c. omega arith)  -- loop-less
     loop-again
     returns-2)

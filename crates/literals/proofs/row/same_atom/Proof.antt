@@ -6,18 +6,6 @@ use Rattle.literals.proofs.Rows.{atom-same, atom-other}
 use Rattle.literals.proofs.row.same_atom.Statement.{statement}
 use Rattle.literals.proofs.row.same_atom.Tie as tie
 
-add-same-four : tie.Need-add-same-four
-add-same-four c = search needs
-
-same-four-requires : tie.Need-same-four-requires
-same-four-requires c κs = search needs
-
-add-same-four-2 : tie.Need-add-same-four-2
-add-same-four-2 c = search needs
-
-same-four-requires-2 : tie.Need-same-four-requires-2
-same-four-requires-2 c κs = search needs
-
 returns : tie.Need-returns
 returns c = let a = c .before .before .before .before .before .args in
     atom-same (a .row .now) (a .table .now) (a .at) (omega arith) (omega arith) (sym (c .before .before .same-four .ensures) ∙ c .before .if1 .taken) (c .same-four2 .ensures)
@@ -30,9 +18,9 @@ pub same-atom-spec : {M : Type 1} → statement M
 same-atom-spec =
     tie.close
     (tie.spec
-    add-same-four
-    same-four-requires
-    add-same-four-2
-    same-four-requires-2
+    (λ c. search needs)  -- add-same-four
+    (λ c κs. search needs)  -- same-four-requires
+    (λ c. search needs)  -- add-same-four-2
+    (λ c κs. search needs)  -- same-four-requires-2
     returns
     returns-2)

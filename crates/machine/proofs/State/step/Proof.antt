@@ -16,33 +16,10 @@ use Rattle.machine.proofs.Resting.{indexed-set, noted-anew, unset}
 use Rattle.machine.proofs.State.step.Statement.{statement}
 use Rattle.machine.proofs.State.step.Tie as tie
 
-element-write-index : tie.Need-element-write-index
-element-write-index c = search needs
-
-sub-forbidden : tie.Need-sub-forbidden
-sub-forbidden c = search needs
-
-part-forbidden-start : tie.Need-part-forbidden-start
-part-forbidden-start c = search needs
-
-part-forbidden-end : tie.Need-part-forbidden-end
-part-forbidden-end c = search needs
-
-forbidden-requires : tie.Need-forbidden-requires
-forbidden-requires c κs = search needs
-
-same-length : tie.Need-same-length
-same-length c = search needs
-
-same-length-2 : tie.Need-same-length-2
-same-length-2 c = search needs
-
-same-length-3 : tie.Need-same-length-3
-same-length-3 c = search needs
-
 returns : tie.Need-returns
 returns c =
-    let a = c .before .before .before .before .before .before .before .before .before .before .before .before .before .args in
+    let back8 = c .before .before .before .before .before .before .before .before in
+    let a = back8 .before .before .before .before .before .args in
     let state = stateIn (a .self) (a .agenda .now) in
     let asks = c .before .before .before .before .forbidden in
     let some = c .if1 .taken in (
@@ -67,27 +44,24 @@ scratch-length b =
 
 advance-requires : tie.Need-advance-requires
 advance-requires c κs =
-    let asks = c .before .before .before .before .before .before .before .before .forbidden in
-    let p = c .before .before .before .before .before .before .before .before .before .before .before .before .before .before .before .before .before .pre in
-    (p .0, (p .1 .0, (scratch-length (c .before .before .before .before .before .before .before .before), asks .ensures .0)))
-
-same-length-4 : tie.Need-same-length-4
-same-length-4 c = search needs
-
-same-length-5 : tie.Need-same-length-5
-same-length-5 c = search needs
-
-same-length-6 : tie.Need-same-length-6
-same-length-6 c = search needs
+    let back8 = c .before .before .before .before .before .before .before .before in
+    let back16 = back8 .before .before .before .before .before .before .before .before in
+    let asks = back8 .forbidden in
+    let p = back16 .before .pre in
+    (p .0, (p .1 .0, (scratch-length (back8), asks .ensures .0)))
 
 returns-2 : tie.Need-returns-2
 returns-2 c =
-    let a = c .before .before .before .before .before .before .before .before .before .before .before .before .before .before .before .before .before .before .before .before .before .before .before .before .args in
+    let back8 = c .before .before .before .before .before .before .before .before in
+    let back16 = back8 .before .before .before .before .before .before .before .before in
+    let back24 = back16 .before .before .before .before .before .before .before .before in
+    let a = back24 .args in
     let state = stateIn (a .self) (a .agenda .now) in
-    let asks = c .before .before .before .before .before .before .before .before .before .before .before .before .before .before .before .forbidden in
-    let nothing = c .before .before .before .before .before .before .before .before .before .before .before .if1 .left in
+    let asks = back8 .before .before .before .before .before .before .before .forbidden in
+    let nothing = back8 .before .before .before .if1 .left in
     let x = c .before .before .before .before .before .before .advance in
-    let put = literals-put (asks .last .1 .1 .1 .1 .0) _ (ground-length (c .before .before .before .before .before .before .before .before .before .before .before .before .before .before .before)) in (
+    let put = literals-put (asks .last .1 .1 .1 .1 .0) _
+    (ground-length (back8 .before .before .before .before .before .before .before)) in (
       λ D objs s es old S under noted.
           let is = S .state-is in
           let rows = state-rows D (S .domain .says .bounded) s es (S .kept) state is (a .work .now) old (S .facts-are) in
@@ -114,17 +88,17 @@ pub step-spec : {M : Type 1} → statement M
 step-spec =
     tie.close
     (tie.spec
-    element-write-index
-    sub-forbidden
-    part-forbidden-start
-    part-forbidden-end
-    forbidden-requires
-    same-length
-    same-length-2
-    same-length-3
+    (λ c. search needs)  -- element-write-index
+    (λ c. search needs)  -- sub-forbidden
+    (λ c. search needs)  -- part-forbidden-start
+    (λ c. search needs)  -- part-forbidden-end
+    (λ c κs. search needs)  -- forbidden-requires
+    (λ c. search needs)  -- same-length
+    (λ c. search needs)  -- same-length-2
+    (λ c. search needs)  -- same-length-3
     returns
     advance-requires
-    same-length-4
-    same-length-5
-    same-length-6
+    (λ c. search needs)  -- same-length-4
+    (λ c. search needs)  -- same-length-5
+    (λ c. search needs)  -- same-length-6
     returns-2)

@@ -20,15 +20,10 @@ facts-after-requires c κs =
     let f = q .facts-few in
     (f, (omega arith, (p .1 .1 .0, (q .facts-once, p .1 .1 .1))))
 
-same-length : tie.Need-same-length
-same-length c = search needs
-
-same-length-2 : tie.Need-same-length-2
-same-length-2 c = search needs
-
 returns : tie.Need-returns
 returns c =
-    let a = c .before .before .before .before .before .before .before .before .before .before .args in
+    let back8 = c .before .before .before .before .before .before .before .before in
+    let a = back8 .before .before .args in
     let before = stateIn (a .state) (a .agenda .now) in
     let x = c .before .before .before .facts-after in (
       λ D objs s es table old S G under free held.
@@ -44,21 +39,11 @@ returns c =
       (λ D objs s es table old S G free held z. absurd (omega arith), (x .ensures .1 .1, λ z. refl)),
     )
 
-agenda-after-requires : tie.Need-agenda-after-requires
-agenda-after-requires c κs = search needs
-
-same-length-3 : tie.Need-same-length-3
-same-length-3 c = search needs
-
-same-length-4 : tie.Need-same-length-4
-same-length-4 c = search needs
-
-same-length-5 : tie.Need-same-length-5
-same-length-5 c = search needs
-
 returns-2 : tie.Need-returns-2
 returns-2 c =
-    let a = c .before .before .before .before .before .before .before .before .before .before .before .before .before .before .before .before .args in
+    let back8 = c .before .before .before .before .before .before .before .before in
+    let back16 = back8 .before .before .before .before .before .before .before .before in
+    let a = back16 .args in
     let before = stateIn (a .state) (a .agenda .now) in
     let o = c .before .before .before .before .agenda-after in
     let no = not-true _ (c .if2 .taken) in (
@@ -74,36 +59,29 @@ returns-2 c =
           (stateIn (a .state) (o .last .1 .0)) (ap (stateIn (a .state)) (o .ensures .1 .1 no) ∙ is) (a .work .now) (S .facts-are),
       (
         λ D objs s es table old S G free held z. absurd (omega arith),
-        (c .before .before .before .before .before .before .before .before .before .facts-after .ensures .1 .1, λ z. o .ensures .1 .1 no),
+        (back8 .before .facts-after .ensures .1 .1, λ z. o .ensures .1 .1 no),
       ),
     )
 
-settle-requires : tie.Need-settle-requires
-settle-requires c κs = search needs
-
 top-from-requires : tie.Need-top-from-requires
 top-from-requires c κs =
-    let r = c .before .before .before .before .before .before .before .before .before .before .before .before .before .before .before .before .before .before .before .before .before .before .before .pre .0 .room in
-    let n = c .before .before .before .before .before .before .before .before .before .before .before .before .before .if1 .left in
+    let back8 = c .before .before .before .before .before .before .before .before in
+    let back16 = back8 .before .before .before .before .before .before .before .before in
+    let r = back16 .before .before .before .before .before .before .before .pre .0 .room in
+    let n = back8 .before .before .before .before .before .if1 .left in
     (omega arith, omega arith)
-
-same-length-6 : tie.Need-same-length-6
-same-length-6 c = search needs
-
-same-length-7 : tie.Need-same-length-7
-same-length-7 c = search needs
-
-same-length-8 : tie.Need-same-length-8
-same-length-8 c = search needs
 
 returns-3 : tie.Need-returns-3
 returns-3 c =
-    let a = c .before .before .before .before .before .before .before .before .before .before .before .before .before .before .before .before .before .before .before .before .before .before .before .before .args in
+    let back8 = c .before .before .before .before .before .before .before .before in
+    let back16 = back8 .before .before .before .before .before .before .before .before in
+    let back24 = back16 .before .before .before .before .before .before .before .before in
+    let a = back24 .args in
     let before = stateIn (a .state) (a .agenda .now) in
-    let x = c .before .before .before .before .before .before .before .before .before .before .before .before .before .before .before .before .before .facts-after in
-    let small = c .before .before .before .before .before .before .before .before .before .before .before .before .before .before .if1 .left in
-    let o = c .before .before .before .before .before .before .before .before .before .before .before .before .agenda-after in
-    let yes = not-false _ (c .before .before .before .before .before .before .before .before .if2 .left) in
+    let x = back16 .before .facts-after in
+    let small = back8 .before .before .before .before .before .before .if1 .left in
+    let o = back8 .before .before .before .before .agenda-after in
+    let yes = not-false _ (back8 .if2 .left) in
     let t = c .before .before .before .before .before .settle in
     let m = c .top-from in (
       λ D objs s es table old S G under free held.
@@ -151,17 +129,17 @@ advance-spec =
     tie.close
     (tie.spec
     facts-after-requires
-    same-length
-    same-length-2
+    (λ c. search needs)  -- same-length
+    (λ c. search needs)  -- same-length-2
     returns
-    agenda-after-requires
-    same-length-3
-    same-length-4
-    same-length-5
+    (λ c κs. search needs)  -- agenda-after-requires
+    (λ c. search needs)  -- same-length-3
+    (λ c. search needs)  -- same-length-4
+    (λ c. search needs)  -- same-length-5
     returns-2
-    settle-requires
+    (λ c κs. search needs)  -- settle-requires
     top-from-requires
-    same-length-6
-    same-length-7
-    same-length-8
+    (λ c. search needs)  -- same-length-6
+    (λ c. search needs)  -- same-length-7
+    (λ c. search needs)  -- same-length-8
     returns-3)

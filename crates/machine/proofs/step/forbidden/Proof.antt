@@ -10,36 +10,6 @@ use Rattle.machine.proofs.Closing.{not-open, not-met, not-kept, not-apa
 use Rattle.machine.proofs.step.forbidden.Statement.{statement}
 use Rattle.machine.proofs.step.forbidden.Tie as tie
 
-sub-entries : tie.Need-sub-entries
-sub-entries c = search needs
-
-part-entries-start : tie.Need-part-entries-start
-part-entries-start c = search needs
-
-part-entries-end : tie.Need-part-entries-end
-part-entries-end c = search needs
-
-sub-moments : tie.Need-sub-moments
-sub-moments c = search needs
-
-part-moments-start : tie.Need-part-moments-start
-part-moments-start c = search needs
-
-part-moments-end : tie.Need-part-moments-end
-part-moments-end c = search needs
-
-sub-events : tie.Need-sub-events
-sub-events c = search needs
-
-part-events-start : tie.Need-part-events-start
-part-events-start c = search needs
-
-part-events-end : tie.Need-part-events-end
-part-events-end c = search needs
-
-ends-open-requires : tie.Need-ends-open-requires
-ends-open-requires c κs = search needs
-
 returns : tie.Need-returns
 returns c =
     let opens = c .before .ends-open in
@@ -52,12 +22,6 @@ returns c =
           (kept .waiting-few) r w in
           (not-open D objs s es (sym ends ∙ not-true _ fails), λ z. absurd (omega arith)),
     )
-
-open-met-requires : tie.Need-open-met-requires
-open-met-requires c κs = search needs
-
-same-length : tie.Need-same-length
-same-length c = search needs
 
 returns-2 : tie.Need-returns-2
 returns-2 c =
@@ -75,21 +39,13 @@ returns-2 c =
           (not-kept D objs s es (sym ends ∙ not-false _ all-open) (sym keep ∙ not-true _ fails), λ z. absurd (omega arith)),
     )
 
-ground-step-requires : tie.Need-ground-step-requires
-ground-step-requires c κs = search needs
-
-events-met-requires : tie.Need-events-met-requires
-events-met-requires c κs = search needs
-
-same-length-2 : tie.Need-same-length-2
-same-length-2 c = search needs
-
 returns-3 : tie.Need-returns-3
 returns-3 c =
-    let opens = c .before .before .before .before .before .before .before .before .before .before .before .before .before .ends-open in
+    let back8 = c .before .before .before .before .before .before .before .before in
+    let opens = back8 .before .before .before .before .before .ends-open in
     let grounds = c .before .before .before .before .before .ground-step in
     let mets = c .before .events-met in
-    let all-open = c .before .before .before .before .before .before .before .before .before .before .before .before .if1 .left in
+    let all-open = back8 .before .before .before .before .if1 .left in
     let fails = c .if3 .taken in (
       omega arith,
       λ D objs s es lent some kept is rows held.
@@ -104,25 +60,25 @@ returns-3 c =
 
 independent-requires : tie.Need-independent-requires
 independent-requires c κs =
-    let keeps = c .before .before .before .before .before .before .before .before .before .before .before .open-met in
+    let back8 = c .before .before .before .before .before .before .before .before in
+    let back16 = back8 .before .before .before .before .before .before .before .before in
+    let keeps = back8 .before .before .before .open-met in
     let grounds = c .before .before .before .before .before .before .ground-step in (
-      grounds .kept .1 .1 .1 .1 .1 .0 ∙ keeps .kept .1 .1 .1 .1 .0 ∙ c .before .before .before .before .before .before .before .before .before .before .before .before .before .before .before .before .before .before .before .before .before .before .pre .1
-          .0,
+      grounds .kept .1 .1 .1 .1 .1 .0 ∙ keeps .kept .1 .1 .1 .1 .0 ∙ back16 .before .before .before .before .before .before .pre .1 .0,
       grounds .ensures .0,
     )
 
-same-length-3 : tie.Need-same-length-3
-same-length-3 c = search needs
-
 returns-4 : tie.Need-returns-4
 returns-4 c =
-    let opens = c .before .before .before .before .before .before .before .before .before .before .before .before .before .before .before .before .ends-open in
-    let keeps = c .before .before .before .before .before .before .before .before .before .before .before .before .before .open-met in
-    let grounds = c .before .before .before .before .before .before .before .before .ground-step in
+    let back8 = c .before .before .before .before .before .before .before .before in
+    let back16 = back8 .before .before .before .before .before .before .before .before in
+    let opens = back16 .ends-open in
+    let keeps = back8 .before .before .before .before .before .open-met in
+    let grounds = back8 .ground-step in
     let mets = c .before .before .before .before .events-met in
     let aparts = c .before .independent in
-    let all-open = c .before .before .before .before .before .before .before .before .before .before .before .before .before .before .before .if1 .left in
-    let all-kept = c .before .before .before .before .before .before .before .before .before .before .if2 .left in
+    let all-open = back8 .before .before .before .before .before .before .before .if1 .left in
+    let all-kept = back8 .before .before .if2 .left in
     let all-met = c .before .before .before .if3 .left in
     let fails = c .if4 .taken in (
       omega arith,
@@ -141,18 +97,17 @@ returns-4 c =
           ),
     )
 
-same-length-4 : tie.Need-same-length-4
-same-length-4 c = search needs
-
 returns-5 : tie.Need-returns-5
 returns-5 c =
-    let opens = c .before .before .before .before .before .before .before .before .before .before .before .before .before .before .before .before .ends-open in
-    let keeps = c .before .before .before .before .before .before .before .before .before .before .before .before .before .open-met in
-    let grounds = c .before .before .before .before .before .before .before .before .ground-step in
+    let back8 = c .before .before .before .before .before .before .before .before in
+    let back16 = back8 .before .before .before .before .before .before .before .before in
+    let opens = back16 .ends-open in
+    let keeps = back8 .before .before .before .before .before .open-met in
+    let grounds = back8 .ground-step in
     let mets = c .before .before .before .before .events-met in
     let aparts = c .before .independent in
-    let all-open = c .before .before .before .before .before .before .before .before .before .before .before .before .before .before .before .if1 .left in
-    let all-kept = c .before .before .before .before .before .before .before .before .before .before .if2 .left in
+    let all-open = back8 .before .before .before .before .before .before .before .if1 .left in
+    let all-kept = back8 .before .before .if2 .left in
     let all-met = c .before .before .before .if3 .left in
     let all-apart = c .if4 .left in (
       grounds .ensures .0,
@@ -175,26 +130,26 @@ pub forbidden-spec : {M : Type 1} → statement M
 forbidden-spec =
     tie.close
     (tie.spec
-    sub-entries
-    part-entries-start
-    part-entries-end
-    sub-moments
-    part-moments-start
-    part-moments-end
-    sub-events
-    part-events-start
-    part-events-end
-    ends-open-requires
+    (λ c. search needs)  -- sub-entries
+    (λ c. search needs)  -- part-entries-start
+    (λ c. search needs)  -- part-entries-end
+    (λ c. search needs)  -- sub-moments
+    (λ c. search needs)  -- part-moments-start
+    (λ c. search needs)  -- part-moments-end
+    (λ c. search needs)  -- sub-events
+    (λ c. search needs)  -- part-events-start
+    (λ c. search needs)  -- part-events-end
+    (λ c κs. search needs)  -- ends-open-requires
     returns
-    open-met-requires
-    same-length
+    (λ c κs. search needs)  -- open-met-requires
+    (λ c. search needs)  -- same-length
     returns-2
-    ground-step-requires
-    events-met-requires
-    same-length-2
+    (λ c κs. search needs)  -- ground-step-requires
+    (λ c κs. search needs)  -- events-met-requires
+    (λ c. search needs)  -- same-length-2
     returns-3
     independent-requires
-    same-length-3
+    (λ c. search needs)  -- same-length-3
     returns-4
-    same-length-4
+    (λ c. search needs)  -- same-length-4
     returns-5)

@@ -7,39 +7,16 @@ use Rattle.machine.proofs.Resting.{unrest, rests, noted-rest, noted-set
 use Rattle.machine.proofs.step.rest.Statement.{statement}
 use Rattle.machine.proofs.step.rest.Tie as tie
 
-element-copy-out-if1 : tie.Need-element-copy-out-if1
-element-copy-out-if1 c = search needs
-
-sub-open-met : tie.Need-sub-open-met
-sub-open-met c = search needs
-
-part-open-met-start : tie.Need-part-open-met-start
-part-open-met-start c = search needs
-
-part-open-met-end : tie.Need-part-open-met-end
-part-open-met-end c = search needs
-
-open-met-requires : tie.Need-open-met-requires
-open-met-requires c κs = search needs
-
-same-length : tie.Need-same-length
-same-length c = search needs
-
 returns : tie.Need-returns
 returns c D objs s lent kept entries rows noted =
     let met = c .before .before .before .open-met .ensures D (s .running) (s .facts) lent entries (kept .running) (kept .running-few) rows
     (noted .indexed) objs (kept .chosen) in
     (unrest D objs s (sym met ∙ not-true _ (c .if2 .taken)), λ z. absurd (omega arith))
 
-element-write-index : tie.Need-element-write-index
-element-write-index c = search needs
-
-same-length-2 : tie.Need-same-length-2
-same-length-2 c = search needs
-
 returns-2 : tie.Need-returns-2
 returns-2 c D objs s lent kept entries rows noted =
-    let a = c .before .before .before .before .before .before .before .before .before .before .before .before .before .args in
+    let back8 = c .before .before .before .before .before .before .before .before in
+    let a = back8 .before .before .before .before .before .args in
     let met = c .before .before .before .open-met .ensures D (s .running) (s .facts) lent entries (kept .running) (kept .running-few) rows
     (noted .indexed) objs (kept .chosen) in
     let all-hold = sym met ∙ not-false _ (c .if2 .left) in
@@ -54,14 +31,14 @@ pub rest-spec : {M : Type 1} → statement M
 rest-spec =
     tie.close
     (tie.spec
-    element-copy-out-if1
-    sub-open-met
-    part-open-met-start
-    part-open-met-end
-    open-met-requires
-    same-length
+    (λ c. search needs)  -- element-copy-out-if1
+    (λ c. search needs)  -- sub-open-met
+    (λ c. search needs)  -- part-open-met-start
+    (λ c. search needs)  -- part-open-met-end
+    (λ c κs. search needs)  -- open-met-requires
+    (λ c. search needs)  -- same-length
     returns
-    element-write-index
-    same-length-2
+    (λ c. search needs)  -- element-write-index
+    (λ c. search needs)  -- same-length-2
     returns-2
     returns-3)

@@ -11,9 +11,6 @@ use Rattle.records.proofs.Memory.{over-paste, paste-front}
 use Rattle.machine.proofs.step.settle.Statement.{statement}
 use Rattle.machine.proofs.step.settle.Tie as tie
 
-mul-end : tie.Need-mul-end
-mul-end c = omega arith
-
 slice-aggregate-put-bytes : tie.Need-slice-aggregate-put-bytes
 slice-aggregate-put-bytes c =
     let a = c .before .before .before .before .args in
@@ -29,35 +26,23 @@ put-bytes-requires c κs =
     let r = p .1 .1 .1 .0 in
     omega arith
 
-mul-put-zeros : tie.Need-mul-put-zeros
-mul-put-zeros c = omega arith
-
-sub-put-zeros : tie.Need-sub-put-zeros
-sub-put-zeros c = omega arith
-
-put-zeros-requires : tie.Need-put-zeros-requires
-put-zeros-requires c κs = search needs
-
-same-length : tie.Need-same-length
-same-length c = search needs
-
 returns : tie.Need-returns
 returns c =
-    let a = c .before .before .before .before .before .before .before .before .before .before .before .before .args in
-    let p = c .before .before .before .before .before .before .before .before .before .before .before .before .pre in
+    let back8 = c .before .before .before .before .before .before .before .before in
+    let a = back8 .before .before .before .before .args in
+    let p = back8 .before .before .before .before .pre in
     let rows : List ℕ = take (8 * a .n) (a .rows .now) in
     let more : ℕ = 8 * a .held - 8 * a .n in
     let l = length-take-le (8 * a .n) (a .rows .now) (p .1 .1 .1 .1) in
     c .before .before .put-zeros .ensures
-    ∙ ap (λ (w : List ℕ). paste w (8 * a .n) (replicate more 0) more) (c .before .before .before .before .before .before .before .put-bytes .ensures ∙ paste-front rows (a .work .now) _ refl)
+    ∙ ap (λ (w : List ℕ). paste w (8 * a .n) (replicate more 0) more)
+    (c .before .before .before .before .before .before .before .put-bytes .ensures ∙ paste-front rows (a .work .now) _ refl)
     ∙ over-paste rows (a .work .now) (replicate more 0) (8 * a .n) more l (length-replicate more 0)
-
-same-length-2 : tie.Need-same-length-2
-same-length-2 c = search needs
 
 returns-2 : tie.Need-returns-2
 returns-2 c =
-    let a = c .before .before .before .before .before .before .before .before .args in
+    let back8 = c .before .before .before .before .before .before .before .before in
+    let a = back8 .args in
     let rows : List ℕ = take (8 * a .n) (a .rows .now) in
     let none : 0 ≡ 8 * a .held - 8 * a .n = omega arith in
     c .before .before .before .put-bytes .ensures ∙ paste-front rows (a .work .now) _ refl
@@ -67,13 +52,13 @@ pub settle-spec : {M : Type 1} → statement M
 settle-spec =
     tie.close
     (tie.spec
-    mul-end
+    (λ c. omega arith)  -- mul-end
     slice-aggregate-put-bytes
     put-bytes-requires
-    mul-put-zeros
-    sub-put-zeros
-    put-zeros-requires
-    same-length
+    (λ c. omega arith)  -- mul-put-zeros
+    (λ c. omega arith)  -- sub-put-zeros
+    (λ c κs. search needs)  -- put-zeros-requires
+    (λ c. search needs)  -- same-length
     returns
-    same-length-2
+    (λ c. search needs)  -- same-length-2
     returns-2)

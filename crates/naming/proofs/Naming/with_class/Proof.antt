@@ -6,24 +6,12 @@ use Rattle.naming.proofs.NamedRows.{named-once, named-lasting}
 use Rattle.naming.proofs.Naming.with_class.Statement.{statement}
 use Rattle.naming.proofs.Naming.with_class.Tie as tie
 
-with-row-requires : tie.Need-with-row-requires
-with-row-requires c κs = search needs
-
-with-row-requires-2 : tie.Need-with-row-requires-2
-with-row-requires-2 c κs = search needs
-
-same-length : tie.Need-same-length
-same-length c = search needs
-
 returns : tie.Need-returns
 returns c =
     let t = c .before .before .before .before .if1 .taken in (
       omega arith,
       λ before rs old D a i N l s e. named-lasting D a i _ _ before rs _ _ _ (l ∙ t) s (e t .0) (e t .1) (c .before .before .with-row2 .ensures .1 before _ old i (c .before .before .before .before .before .before .before .with-row .ensures .1 before rs old i N)),
     )
-
-same-length-2 : tie.Need-same-length-2
-same-length-2 c = search needs
 
 returns-2 : tie.Need-returns-2
 returns-2 c = (
@@ -34,4 +22,10 @@ returns-2 c = (
 pub with-class-spec : {M : Type 1} → statement M
 with-class-spec =
     tie.close
-    (tie.spec with-row-requires with-row-requires-2 same-length returns same-length-2 returns-2)
+    (tie.spec
+    (λ c κs. search needs)  -- with-row-requires
+    (λ c κs. search needs)  -- with-row-requires-2
+    (λ c. search needs)  -- same-length
+    returns
+    (λ c. search needs)  -- same-length-2
+    returns-2)

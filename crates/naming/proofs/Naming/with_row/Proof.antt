@@ -5,21 +5,6 @@ use Rattle.naming.proofs.NamedRows.{named-more}
 use Rattle.naming.proofs.Naming.with_row.Statement.{statement}
 use Rattle.naming.proofs.Naming.with_row.Tie as tie
 
-add-rows : tie.Need-add-rows
-add-rows c = search needs
-
-name-number-requires : tie.Need-name-number-requires
-name-number-requires c κs = search needs
-
-slice-write-names : tie.Need-slice-write-names
-slice-write-names c = search needs
-
-with-requires : tie.Need-with-requires
-with-requires c κs = search needs
-
-same-length : tie.Need-same-length
-same-length c = search needs
-
 returns : tie.Need-returns
 returns c =
     let start = c .before .before .before .before .args in (
@@ -30,4 +15,10 @@ returns c =
 pub with-row-spec : {M : Type 1} → statement M
 with-row-spec =
     tie.close
-    (tie.spec add-rows name-number-requires slice-write-names with-requires same-length returns)
+    (tie.spec
+    (λ c. search needs)  -- add-rows
+    (λ c κs. search needs)  -- name-number-requires
+    (λ c. search needs)  -- slice-write-names
+    (λ c κs. search needs)  -- with-requires
+    (λ c. search needs)  -- same-length
+    returns)

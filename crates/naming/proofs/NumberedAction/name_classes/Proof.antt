@@ -12,20 +12,12 @@ use borrow.Author.Needs.{needs}
 use Rattle.naming.proofs.NumberedAction.name_classes.Statement.{statement}
 use Rattle.naming.proofs.NumberedAction.name_classes.Tie as tie
 
-slice-aggregate-note-soles : tie.Need-slice-aggregate-note-soles
-slice-aggregate-note-soles c = search needs
-
-note-soles-requires : tie.Need-note-soles-requires
-note-soles-requires c κs = search needs
-
-usages-at-requires : tie.Need-usages-at-requires
-usages-at-requires c κs = search needs
-
 name-each-requires : tie.Need-name-each-requires
 name-each-requires c κs =
-    let a = c .before .before .before .before .before .before .before .before .before .before .before .before .before .before .args in
-    let p = c .before .before .before .before .before .before .before .before .before .before .before .before .before .before .pre in
-    let soles = c .before .before .before .before .before .before .before .before .before .note-soles .ensures refl in
+    let back8 = c .before .before .before .before .before .before .before .before in
+    let a = back8 .before .before .before .before .before .before .args in
+    let p = back8 .before .before .before .before .before .before .pre in
+    let soles = back8 .before .note-soles .ensures refl in
     let first = start-soles (a .rows .now) (a .numbers .now) _ _ soles
     (c .before .before .before .before .before .before .usages-at .ensures .0 refl) in (
       record { rowed = omega arith; few = p .1 .0 },
@@ -35,36 +27,29 @@ name-each-requires c κs =
       ),
     )
 
-same-length : tie.Need-same-length
-same-length c = search needs
-
 returns : tie.Need-returns
 returns c =
+    let back8 = c .before .before .before .before .before .before .before .before in
     let w = c .before .before .name-each .ensures in (
       w .0,
       λ before old D a i N A t f g.
           w .1 before old D a i N (record {
             whole = A;
             numbers-are = f;
-            usages-are = c .before .before .before .before .before .before .before .before .before .usages-at .ensures .1 D a _ A refl;
+            usages-are = back8 .before .usages-at .ensures .1 D a _ A refl;
           }) t
           (λ k. absurd (clash k (not-true _ (c .before .before .before .before .before .before .before .if1 .taken)))) g,
     )
 
-usages-at-requires-2 : tie.Need-usages-at-requires-2
-usages-at-requires-2 c κs = search needs
-
 name-each-requires-2 : tie.Need-name-each-requires-2
 name-each-requires-2 c κs =
-    let a = c .before .before .before .before .before .before .before .before .before .before .before .before .before .before .before
-    .before .args
-    in
-    let p = c .before .before .before .before .before .before .before .before .before .before .before .before .before .before .before
-    .before .pre
-    in
-    let soles = c .before .before .before .before .before .before .before .before .before .before .before .note-soles .ensures refl in
+    let back8 = c .before .before .before .before .before .before .before .before in
+    let back16 = back8 .before .before .before .before .before .before .before .before in
+    let a = back16 .args in
+    let p = back16 .pre in
+    let soles = back8 .before .before .before .note-soles .ensures refl in
     let first = start-soles (a .rows .now) (a .numbers .now) _ _ soles
-    (c .before .before .before .before .before .before .before .before .usages-at .ensures .0 refl) in (
+    (back8 .usages-at .ensures .0 refl) in (
       record { rowed = omega arith; few = p .1 .0 },
       (
         first,
@@ -75,37 +60,30 @@ name-each-requires-2 c κs =
       ),
     )
 
-same-length-2 : tie.Need-same-length-2
-same-length-2 c = search needs
-
 returns-2 : tie.Need-returns-2
 returns-2 c =
+    let back8 = c .before .before .before .before .before .before .before .before in
+    let back16 = back8 .before .before .before .before .before .before .before .before in
     let w = c .before .before .name-each2 .ensures in
-    let b = c .before .before .before .before .before .before .before .before .before .before .before .before .before .before .before
-    .before .before .before .before .args in
-    let p = c .before .before .before .before .before .before .before .before .before .before .before .before .before .before .before
-    .before .before .before .before .pre in (
+    let b = back16 .before .before .before .args in
+    let p = back16 .before .before .before .pre in (
       w .0,
       λ before old D a i N A t f g.
           w .1 before old D a i N (record {
             whole = A;
             numbers-are = f;
-            usages-are = c .before .before .before .before .before .before .before .before .before .before .before .usages-at .ensures
-                .1 D a _ A refl;
+            usages-are = back8 .before .before .before .usages-at .ensures .1 D a _ A refl;
           }) t
           (λ k. record {
             own = record {
               whole = A;
               numbers-are = f;
-              usages-are = c .before .before .before .before .before .before .before .usages-at2
-                  .ensures .1 D a _ A refl;
+              usages-are = c .before .before .before .before .before .before .before .usages-at2 .ensures .1 D a _ A refl;
             };
             reaches =
                 λ j h.
                 asked-soles (b .rows .now) (b .numbers .now) _ _
-                (c .before .before .before .before .before .before .before .before .before .before .before .before .before .before
-                .note-soles
-                .ensures refl) refl j h
+                (back8 .before .before .before .before .before .before .note-soles .ensures refl) refl j h
                 ∙ reach-is D a f (ap (pad 64) (usages-held true End (b .rows .now) _ (A .says .bounded) (A .listed) (A .apart)
                 (A .literals) (p .0))) j;
           }) g,
@@ -115,13 +93,13 @@ pub name-classes-spec : {M : Type 1} → statement M
 name-classes-spec =
     tie.close
     (tie.spec
-    slice-aggregate-note-soles
-    note-soles-requires
-    usages-at-requires
+    (λ c. search needs)  -- slice-aggregate-note-soles
+    (λ c κs. search needs)  -- note-soles-requires
+    (λ c κs. search needs)  -- usages-at-requires
     name-each-requires
-    same-length
+    (λ c. search needs)  -- same-length
     returns
-    usages-at-requires-2
+    (λ c κs. search needs)  -- usages-at-requires-2
     name-each-requires-2
-    same-length-2
+    (λ c. search needs)  -- same-length-2
     returns-2)

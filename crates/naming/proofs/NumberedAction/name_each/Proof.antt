@@ -18,9 +18,6 @@ Inv-loop head rows numbers at-start at-end soles names₀ count lasting next₀ 
 abbrev μ-loop : tie.MeasureT-loop
 μ-loop head rows numbers at-start at-end soles names₀ count lasting next₀ class₀ names next class = count - class
 
-new-requires : tie.Need-new-requires Inv-loop μ-loop
-new-requires c κs = search needs
-
 loop-holds : tie.Need-loop-holds Inv-loop μ-loop
 loop-holds c =
     record {
@@ -47,23 +44,23 @@ cast-with-class c =
 
 with-class-requires : tie.Need-with-class-requires Inv-loop μ-loop
 with-class-requires c κs =
+    let back8 = c .before .before .before .before .before .before .before .before in
+    let loop = c .before .before .before .loop in
     let t = c .before .before .loop-test .taken in
-    let w = c .before .before .before .loop .inv .few in
-    let r = c .before .before .before .loop .inv .room in
+    let w = loop .inv .few in
+    let r = loop .inv .room in
     let z = c .before .before .before .before .new .ensures .0 in
-    let m = c .before .before .before .before .before .before .before .before .pre .1 .1 .1 .1 in
+    let m = back8 .pre .1 .1 .1 .1 in
     omega arith
 
 add-class : tie.Need-add-class Inv-loop μ-loop
 add-class c =
+    let back8 = c .before .before .before .before .before .before .before .before in
     let t = c .before .before .before .before .before .loop-test .taken in
-    let p = c .before .before .before .before .before .before .before .before .before .before .before .pre in
+    let p = back8 .before .before .before .pre in
     let m = p .1 .1 .1 .0 in
     let s = p .0 .few in
     omega arith
-
-loop-less : tie.Need-loop-less Inv-loop μ-loop
-loop-less c = omega arith
 
 loop-again : tie.Need-loop-again Inv-loop μ-loop
 loop-again c =
@@ -105,13 +102,13 @@ name-each-spec =
     (tie.spec
     Inv-loop
     μ-loop
-    new-requires
+    (λ c κs. search needs)  -- new-requires
     loop-holds
     name-class-requires
     cast-with-class
     with-class-requires
     add-class
-    loop-less
+    (λ c. omega arith)  -- loop-less
     loop-again
     same-length
     returns)

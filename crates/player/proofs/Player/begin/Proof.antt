@@ -16,9 +16,6 @@ returns c D p agenda old H st noted =
     let player = wholeIn (a .self) agenda in
     begun-player D p player (a .work .now) old st _ (begun-already D p player _ old st (c .if1 .taken))
 
-top-from-requires : tie.Need-top-from-requires
-top-from-requires c κs = search needs
-
 returns-2 : tie.Need-returns-2
 returns-2 c D p agenda old H st noted =
     let a = c .before .before .before .before .args in
@@ -31,7 +28,9 @@ returns-2 c D p agenda old H st noted =
     (begun-now D p player (a .work .now) old st (c .before .before .if1 .left) (top .result) (t ∙ ap (max 0) (top-all D (p .state .facts)) ∙ z))
 
 pub begin-spec : {M : Type 1} → statement M
-begin-spec = tie.close (tie.spec
+begin-spec =
+    tie.close
+    (tie.spec
     returns
-    top-from-requires
+    (λ c κs. search needs)  -- top-from-requires
     returns-2)

@@ -35,40 +35,30 @@ returns-2 c =
           (turn-end D (a .run .now) q player (a .work .now) old st (c .before .if1 .taken) (c .if2 .left)) (λ z. omega arith),
     )
 
-record-at-requires : tie.Need-record-at-requires
-record-at-requires c κs = search needs
-
-enum-known-kind : tie.Need-enum-known-kind
-enum-known-kind c = search needs
-
 add-end : tie.Need-add-end
-add-end c = let f = c .before .before .before .before .before .before .before .before .before .before .good .1 .1 .1 .0 in let w = whole-within _ _ (sym (c .before .before .before .record-at .ensures) ∙ c .before .kind .given .1) in omega arith
-
-sub-p : tie.Need-sub-p
-sub-p c = search needs
-
-part-p-start : tie.Need-part-p-start
-part-p-start c = search needs
+add-end c =
+    let back8 = c .before .before .before .before .before .before .before .before in
+    let f = back8 .before .before .good .1 .1 .1 .0 in
+    let w = whole-within _ _ (sym (c .before .before .before .record-at .ensures) ∙ c .before .kind .given .1) in omega arith
 
 part-p-end : tie.Need-part-p-end
 part-p-end c = let w = whole-within _ _ (sym (c .before .before .before .record-at .ensures) ∙ c .before .kind .given .1) in omega arith
 
 take-record-requires : tie.Need-take-record-requires
-take-record-requires c κs = let p = c .before .before .before .before .before .before .before .before .before .before .before .before .before .before .before .pre in (p .0, (p .1 .agenda-length, c .before .before .before .if3 .taken))
-
-same-length : tie.Need-same-length
-same-length c = search needs
-
-same-length-2 : tie.Need-same-length-2
-same-length-2 c = search needs
+take-record-requires c κs =
+    let back8 = c .before .before .before .before .before .before .before .before in
+    let p = back8 .before .before .before .before .before .before .before .pre in
+    (p .0, (p .1 .agenda-length, c .before .before .before .if3 .taken))
 
 returns-3 : tie.Need-returns-3
 returns-3 c =
-    let a = c .before .before .before .before .before .before .before .before .before .before .before .before .before .before .before .before .before .before .before .before .args in
+    let back8 = c .before .before .before .before .before .before .before .before in
+    let back16 = back8 .before .before .before .before .before .before .before .before in
+    let a = back16 .before .before .before .before .args in
     let player = wholeIn (a .self) (a .agenda .now) in
     let l = c .before .before .before .before .take-record in
-    let found = sym (c .before .before .before .before .before .before .before .before .before .before .before .before .before .record-at .ensures) ∙ c .before .before .before .before .before .before .before .before .before .before .before .kind .given .1 in
-    let going = c .before .before .before .before .before .before .before .before .before .before .before .before .before .before .if1 .left in (
+    let found = sym (back8 .before .before .before .before .before .record-at .ensures) ∙ back8 .before .before .before .kind .given .1 in
+    let going = back8 .before .before .before .before .before .before .if1 .left in (
       λ D q old H st noted.
           turn-whole D (a .run .now) q player (a .work .now) old st going _ _ _ found _ _ _ refl (l .ensures .0 D q old (H .says) st noted),
       λ D q old H st noted.
@@ -77,25 +67,24 @@ returns-3 c =
     )
 
 begin-requires : tie.Need-begin-requires
-begin-requires c κs = let p = c .before .before .before .before .before .before .before .before .before .before .before .before .before .before .pre in (facts-held (p .0), facts-room (p .0))
-
-step-stop-requires : tie.Need-step-stop-requires
-step-stop-requires c κs = search needs
-
-same-length-3 : tie.Need-same-length-3
-same-length-3 c = search needs
+begin-requires c κs =
+    let back8 = c .before .before .before .before .before .before .before .before in
+    let p = back8 .before .before .before .before .before .before .pre in (facts-held (p .0), facts-room (p .0))
 
 returns-4 : tie.Need-returns-4
 returns-4 c =
-    let a = c .before .before .before .before .before .before .before .before .before .before .before .before .before .before .before .before .before .args in
-    let p = c .before .before .before .before .before .before .before .before .before .before .before .before .before .before .before .before .before .pre in
+    let back8 = c .before .before .before .before .before .before .before .before in
+    let back16 = back8 .before .before .before .before .before .before .before .before in
+    let kind = back8 .kind in
+    let a = back16 .before .args in
+    let p = back16 .before .pre in
     let player = wholeIn (a .self) (a .agenda .now) in
     let b = c .before .before .begin in
     let begun = wholeIn (b .result) (a .agenda .now) in
     let x = c .before .step-stop in
-    let found = sym (c .before .before .before .before .before .before .before .before .before .before .record-at .ensures) ∙ c .before .before .before .before .before .before .before .before .kind .given .1 in
-    let going = c .before .before .before .before .before .before .before .before .before .before .before .if1 .left in
-    let w = c .before .before .before .before .before .before .before .before .kind .given .0 in
+    let found = sym (back8 .before .before .record-at .ensures) ∙ kind .given .1 in
+    let going = back8 .before .before .before .if1 .left in
+    let w = kind .given .0 in
     let k = kind-19 (w .0) (c .before .before .before .before .before .if3 .left) in (
       λ D q old H st noted.
           let s = stands-begun (p .0) begun (λ D p old. b .ensures D p (a .agenda .now) old) D (H .says) q old st noted in
@@ -104,79 +93,89 @@ returns-4 c =
       λ D q old H st noted.
           let s = stands-begun (p .0) begun (λ D p old. b .ensures D p (a .agenda .now) old) D (H .says) q old st noted in
           turn-noted D (a .run .now) q player (a .work .now) old st going _ _ _ found _ refl (a .head .now) _
-          (noted-ended D _ _ (playRecord D q (runKindOf (w .0)) _ (w .1 .0 + w .1 .1 .0)) (record { number = x .result; player = begun }) (a .work .now) old
+          (noted-ended D _ _ (playRecord D q (runKindOf (w .0)) _ (w .1 .0 + w .1 .1 .0)) (record { number = x .result; player = begun })
+          (a .work .now) old
           (step-refused D q begun (a .work .now) old s _ (x .result) (x .ensures) (w .0) k (w .1 .0 + w .1 .1 .0) (c .if4 .taken))
           (c .if4 .taken)),
     )
 
 take-step-requires : tie.Need-take-step-requires
 take-step-requires c κs =
-    let a = c .before .before .before .before .before .before .before .before .before .before .before .before .before .before .before .before .before .before .before .before .before .args in
-    let p = c .before .before .before .before .before .before .before .before .before .before .before .before .before .before .before .before .before .before .before .before .before .pre in
+    let back8 = c .before .before .before .before .before .before .before .before in
+    let back16 = back8 .before .before .before .before .before .before .before .before in
+    let a = back16 .before .before .before .before .before .args in
+    let p = back16 .before .before .before .before .before .pre in
     let b = c .before .before .before .before .before .before .begin in
-    let w = whole-within _ _ (sym (c .before .before .before .before .before .before .before .before .before .before .before .before .before .before .record-at .ensures) ∙ c .before .before .before .before .before .before .before .before .before .before .before .before .kind .given .1) in
+    let w = whole-within _ _ (sym (back8 .before .before .before .before .before .before .record-at .ensures)
+    ∙ back8 .before .before .before .before .kind .given .1) in
     let q = step-shape (p .0) (wholeIn (b .result) (a .agenda .now)) (λ D p old. b .ensures D p (a .agenda .now) old) in
     let at = q .2 in
     (q .0, (q .1, (omega arith, p .1)))
 
-enum-told : tie.Need-enum-told
-enum-told c = search needs
-
-enum-told-2 : tie.Need-enum-told-2
-enum-told-2 c = search needs
-
-same-length-4 : tie.Need-same-length-4
-same-length-4 c = search needs
-
-same-length-5 : tie.Need-same-length-5
-same-length-5 c = search needs
-
-same-length-6 : tie.Need-same-length-6
-same-length-6 c = search needs
-
 returns-5 : tie.Need-returns-5
 returns-5 c =
-    let a = c .before .before .before .before .before .before .before .before .before .before .before .before .before .before .before .before .before .before .before .before .before .before .before .before .before .before .before .before .args in
-    let p = c .before .before .before .before .before .before .before .before .before .before .before .before .before .before .before .before .before .before .before .before .before .before .before .before .before .before .before .before .pre in
+    let back8 = c .before .before .before .before .before .before .before .before in
+    let back16 = back8 .before .before .before .before .before .before .before .before in
+    let back24 = back16 .before .before .before .before .before .before .before .before in
+    let kind = back16 .before .before .before .kind in
+    let if4 = back8 .before .before .before .if4 in
+    let a = back24 .before .before .before .before .args in
+    let p = back24 .before .before .before .before .pre in
     let player = wholeIn (a .self) (a .agenda .now) in
-    let b = c .before .before .before .before .before .before .before .before .before .before .before .before .before .begin in
+    let b = back8 .before .before .before .before .before .begin in
     let begun = wholeIn (b .result) (a .agenda .now) in
-    let x = c .before .before .before .before .before .before .before .before .before .before .before .before .step-stop in
-    let found = sym (c .before .before .before .before .before .before .before .before .before .before .before .before .before .before .before .before .before .before .before .before .before .record-at .ensures) ∙ c .before .before .before .before .before .before .before .before .before .before .before .before .before .before .before .before .before .before .before .kind .given .1 in
-    let going = c .before .before .before .before .before .before .before .before .before .before .before .before .before .before .before .before .before .before .before .before .before .before .if1 .left in
-    let w = c .before .before .before .before .before .before .before .before .before .before .before .before .before .before .before .before .before .before .before .kind .given .0 in
-    let k = kind-19 (w .0) (c .before .before .before .before .before .before .before .before .before .before .before .before .before .before .before .before .if3 .left) in
+    let x = back8 .before .before .before .before .step-stop in
+    let found = sym (back16 .before .before .before .before .before .record-at .ensures) ∙ kind .given .1 in
+    let going = back16 .before .before .before .before .before .before .if1 .left in
+    let w = kind .given .0 in
+    let k = kind-19 (w .0) (back16 .if3 .left) in
     let l = c .before .before .before .before .before .before .take-step in (
       λ D q old H st noted.
           let s = stands-begun (p .0) begun (λ D p old. b .ensures D p (a .agenda .now) old) D (H .says) q old st noted in
           turn-whole D (a .run .now) q player (a .work .now) old st going _ _ _ found _ _ _ refl
-          (step-passed D q begun (a .work .now) old s _ (x .result) (x .ensures) (w .0) k (w .1 .0 + w .1 .1 .0) (c .before .before .before .before .before .before .before .before .before .before .before .if4 .left) _ _
-          (l .ensures .0 D (begin D q) old H s (step-some D q begun (a .work .now) old s _ (x .result) (x .ensures) (w .0) k (w .1 .0 + w .1 .1 .0) (c .before .before .before .before .before .before .before .before .before .before .before .if4 .left)) (begun-tally D q) (noted-begun D _ _ q noted))),
+          (step-passed D q begun (a .work .now) old s _ (x .result) (x .ensures) (w .0) k (w .1 .0 + w .1 .1 .0) (if4 .left) _ _
+          (l .ensures .0 D (begin D q) old H s
+          (step-some D q begun (a .work .now) old s _ (x .result) (x .ensures) (w .0) k (w .1 .0 + w .1 .1 .0) (if4 .left))
+          (begun-tally D q) (noted-begun D _ _ q noted))),
       λ D q old H st noted.
           let s = stands-begun (p .0) begun (λ D p old. b .ensures D p (a .agenda .now) old) D (H .says) q old st noted in
           turn-noted D (a .run .now) q player (a .work .now) old st going _ _ _ found _ refl (a .head .now) _
           (noted-of D _ _ q _ (w .1 .0 + w .1 .1 .0) (w .0) stepRecord k
-          (noted-step-record D _ _ q _ _ (l .ensures .1 D (begin D q) old H s (step-some D q begun (a .work .now) old s _ (x .result) (x .ensures) (w .0) k (w .1 .0 + w .1 .1 .0) (c .before .before .before .before .before .before .before .before .before .before .before .if4 .left)) (begun-tally D q) (noted-begun D _ _ q noted)))),
+          (noted-step-record D _ _ q _ _ (l .ensures .1 D (begin D q) old H s
+          (step-some D q begun (a .work .now) old s _ (x .result) (x .ensures) (w .0) k (w .1 .0 + w .1 .1 .0) (if4 .left))
+          (begun-tally D q) (noted-begun D _ _ q noted)))),
     )
 
 returns-6 : tie.Need-returns-6
 returns-6 c =
-    let a = c .before .before .before .before .before .before .before .before .before .args in
+    let back8 = c .before .before .before .before .before .before .before .before in
+    let if1 = c .before .before .before .if1 in
+    let record-at = c .before .before .record-at in
+    let a = back8 .before .args in
     let player = wholeIn (a .self) (a .agenda .now) in (
-      λ D q old H st noted. turn-cut D (a .run .now) q player (a .work .now) old st (c .before .before .before .if1 .left) (sym (c .before .before .record-at .ensures) ∙ c .enum-told .given .1),
+      λ D q old H st noted. turn-cut D (a .run .now) q player (a .work .now) old st (if1 .left)
+          (sym (record-at .ensures) ∙ c .enum-told .given .1),
       λ D q old H st noted.
-          noted-ended D (a .head .now) (a .index .now) (playStep D (a .run .now) q) (record { number = 50; player = player }) (a .work .now) old
-          (turn-cut D (a .run .now) q player (a .work .now) old st (c .before .before .before .if1 .left) (sym (c .before .before .record-at .ensures) ∙ c .enum-told .given .1)) (λ z. omega arith),
+          noted-ended D (a .head .now) (a .index .now) (playStep D (a .run .now) q) (record { number = 50; player = player })
+          (a .work .now) old
+          (turn-cut D (a .run .now) q player (a .work .now) old st (if1 .left) (sym (record-at .ensures) ∙ c .enum-told .given .1))
+          (λ z. omega arith),
     )
 
 returns-7 : tie.Need-returns-7
 returns-7 c =
-    let a = c .before .before .before .before .before .before .before .before .before .args in
+    let back8 = c .before .before .before .before .before .before .before .before in
+    let if1 = c .before .before .before .if1 in
+    let record-at = c .before .before .record-at in
+    let a = back8 .before .args in
     let player = wholeIn (a .self) (a .agenda .now) in (
-      λ D q old H st noted. turn-none D (a .run .now) q player (a .work .now) old st (c .before .before .before .if1 .left) (sym (c .before .before .record-at .ensures) ∙ c .enum-told2 .given .1),
+      λ D q old H st noted. turn-none D (a .run .now) q player (a .work .now) old st (if1 .left)
+          (sym (record-at .ensures) ∙ c .enum-told2 .given .1),
       λ D q old H st noted.
-          noted-ended D (a .head .now) (a .index .now) (playStep D (a .run .now) q) (record { number = 50; player = player }) (a .work .now) old
-          (turn-none D (a .run .now) q player (a .work .now) old st (c .before .before .before .if1 .left) (sym (c .before .before .record-at .ensures) ∙ c .enum-told2 .given .1)) (λ z. omega arith),
+          noted-ended D (a .head .now) (a .index .now) (playStep D (a .run .now) q) (record { number = 50; player = player })
+          (a .work .now) old
+          (turn-none D (a .run .now) q player (a .work .now) old st (if1 .left) (sym (record-at .ensures) ∙ c .enum-told2 .given .1))
+          (λ z. omega arith),
     )
 
 pub step-spec : {M : Type 1} → statement M
@@ -185,26 +184,26 @@ step-spec =
     (tie.spec
     returns
     returns-2
-    record-at-requires
-    enum-known-kind
+    (λ c κs. search needs)  -- record-at-requires
+    (λ c. search needs)  -- enum-known-kind
     add-end
-    sub-p
-    part-p-start
+    (λ c. search needs)  -- sub-p
+    (λ c. search needs)  -- part-p-start
     part-p-end
     take-record-requires
-    same-length
-    same-length-2
+    (λ c. search needs)  -- same-length
+    (λ c. search needs)  -- same-length-2
     returns-3
     begin-requires
-    step-stop-requires
-    same-length-3
+    (λ c κs. search needs)  -- step-stop-requires
+    (λ c. search needs)  -- same-length-3
     returns-4
     take-step-requires
-    enum-told
-    enum-told-2
-    same-length-4
-    same-length-5
-    same-length-6
+    (λ c. search needs)  -- enum-told
+    (λ c. search needs)  -- enum-told-2
+    (λ c. search needs)  -- same-length-4
+    (λ c. search needs)  -- same-length-5
+    (λ c. search needs)  -- same-length-6
     returns-5
     returns-6
     returns-7)

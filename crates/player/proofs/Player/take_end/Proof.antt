@@ -9,9 +9,6 @@ use Rattle.player.specs.Held.{wholeIn}
 use Rattle.player.proofs.Player.take_end.Statement.{statement}
 use Rattle.player.proofs.Player.take_end.Tie as tie
 
-end-stop-requires : tie.Need-end-stop-requires
-end-stop-requires c κs = search needs
-
 returns : tie.Need-returns
 returns c D q agenda work old st =
     let a = c .before .before .before .before .before .args in
@@ -24,7 +21,9 @@ returns-2 c D q agenda work old st =
     (end-on D q (wholeIn (a .self) agenda) work old st (a .behind))
 
 pub take-end-spec : {M : Type 1} → statement M
-take-end-spec = tie.close (tie.spec
-    end-stop-requires
+take-end-spec =
+    tie.close
+    (tie.spec
+    (λ c κs. search needs)  -- end-stop-requires
     returns
     returns-2)

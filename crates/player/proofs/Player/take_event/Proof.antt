@@ -11,33 +11,10 @@ use Rattle.player.proofs.PlayTurns.{gone-on, event-waits, stops, passes
 use Rattle.player.proofs.Player.take_event.Statement.{statement}
 use Rattle.player.proofs.Player.take_event.Tie as tie
 
-sub-event-stop : tie.Need-sub-event-stop
-sub-event-stop c = search needs
-
-part-event-stop-start : tie.Need-part-event-stop-start
-part-event-stop-start c = search needs
-
-part-event-stop-end : tie.Need-part-event-stop-end
-part-event-stop-end c = search needs
-
-sub-event-stop-2 : tie.Need-sub-event-stop-2
-sub-event-stop-2 c = search needs
-
-part-event-stop-start-2 : tie.Need-part-event-stop-start-2
-part-event-stop-start-2 c = search needs
-
-part-event-stop-end-2 : tie.Need-part-event-stop-end-2
-part-event-stop-end-2 c = search needs
-
-event-stop-requires : tie.Need-event-stop-requires
-event-stop-requires c κs = search needs
-
-same-length : tie.Need-same-length
-same-length c = search needs
-
 returns : tie.Need-returns
 returns c D q work old H st =
-    let a = c .before .before .before .before .before .before .before .before .args in
+    let back8 = c .before .before .before .before .before .before .before .before in
+    let a = back8 .args in
     let x = c .before .event-stop in
     let e = x .ensures .0 D (q .waiting) H (objects-low D q st) (waiting-is D q st) (st .sound .kept .waiting)
     ∙ ap (λ (n : ℕ). eventStop D n (q .waiting) (a .p .now)) (sym (objects-are D q st)) in
@@ -51,23 +28,17 @@ ground-row-requires : tie.Need-ground-row-requires
 ground-row-requires c κs = let f = c .before .before .before .event-stop .ensures .1 (c .before .before .if1 .left) in (f .0, f .1)
 
 wait-requires : tie.Need-wait-requires
-wait-requires c κs = (c .before .before .before .before .event-stop .ensures .1 (c .before .before .before .if1 .left) .2, c .before .before .before .before .before .before .before .before .before .before .before .pre .1)
-
-add-onward : tie.Need-add-onward
-add-onward c = search needs
-
-onward-requires : tie.Need-onward-requires
-onward-requires c κs = search needs
-
-same-length-2 : tie.Need-same-length-2
-same-length-2 c = search needs
+wait-requires c κs =
+    let back8 = c .before .before .before .before .before .before .before .before in
+    (c .before .before .before .before .event-stop .ensures .1 (c .before .before .before .if1 .left) .2, back8 .before .before .before .pre .1)
 
 returns-2 : tie.Need-returns-2
 returns-2 c D q work old H st =
-    let a = c .before .before .before .before .before .before .before .before .before .before .before .before .before .before .before .args in
+    let back8 = c .before .before .before .before .before .before .before .before in
+    let a = back8 .before .before .before .before .before .before .before .args in
     let w = c .before .before .before .wait in
     let left = c .before .before .before .before .before .before .before .if1 .left in
-    let x = c .before .before .before .before .before .before .before .before .event-stop in
+    let x = back8 .event-stop in
     let e = x .ensures .0 D (q .waiting) H (objects-low D q st) (waiting-is D q st) (st .sound .kept .waiting)
     ∙ ap (λ (n : ℕ). eventStop D n (q .waiting) (a .p .now)) (sym (objects-are D q st)) in
     let t = event-taken D q (a .p .now) (st .sound .objects) (sym e ∙ left) in
@@ -86,19 +57,19 @@ pub take-event-spec : {M : Type 1} → statement M
 take-event-spec =
     tie.close
     (tie.spec
-    sub-event-stop
-    part-event-stop-start
-    part-event-stop-end
-    sub-event-stop-2
-    part-event-stop-start-2
-    part-event-stop-end-2
-    event-stop-requires
-    same-length
+    (λ c. search needs)  -- sub-event-stop
+    (λ c. search needs)  -- part-event-stop-start
+    (λ c. search needs)  -- part-event-stop-end
+    (λ c. search needs)  -- sub-event-stop-2
+    (λ c. search needs)  -- part-event-stop-start-2
+    (λ c. search needs)  -- part-event-stop-end-2
+    (λ c κs. search needs)  -- event-stop-requires
+    (λ c. search needs)  -- same-length
     returns
     shared-slice-read-wait
     ground-row-requires
     wait-requires
-    add-onward
-    onward-requires
-    same-length-2
+    (λ c. search needs)  -- add-onward
+    (λ c κs. search needs)  -- onward-requires
+    (λ c. search needs)  -- same-length-2
     returns-2)

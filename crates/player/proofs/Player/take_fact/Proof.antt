@@ -17,12 +17,6 @@ use Rattle.player.proofs.NotedTurns.{noted-ended, noted-unless, fact-si
 use Rattle.player.proofs.Player.take_fact.Statement.{statement}
 use Rattle.player.proofs.Player.take_fact.Tie as tie
 
-fact-stop-requires : tie.Need-fact-stop-requires
-fact-stop-requires c κs = search needs
-
-same-length : tie.Need-same-length
-same-length c = search needs
-
 returns : tie.Need-returns
 returns c =
     let a = c .before .before .before .before .before .before .before .args in
@@ -44,18 +38,11 @@ returns c =
 fact-row-requires : tie.Need-fact-row-requires
 fact-row-requires c κs = c .before .fact-stop .ensures .1 (c .if1 .left)
 
-is-held-requires : tie.Need-is-held-requires
-is-held-requires c κs = search needs
-
-onward-requires : tie.Need-onward-requires
-onward-requires c κs = search needs
-
-same-length-2 : tie.Need-same-length-2
-same-length-2 c = search needs
-
 returns-2 : tie.Need-returns-2
 returns-2 c =
-    let a = c .before .before .before .before .before .before .before .before .before .before .before .before .before .args in
+    let back8 = c .before .before .before .before .before .before .before .before in
+    let if2 = c .before .if2 in
+    let a = back8 .before .before .before .before .before .args in
     let f = c .before .before .before .before .before .before .before .fact-stop in
     let row = c .before .before .before .before .before .fact-row in
     let found = c .before .before .is-held in
@@ -63,31 +50,39 @@ returns-2 c =
       λ D q agenda old H st noted.
           let player = wholeIn (a .self) agenda in
           let rows = facts-rows D q player (a .work .now) old st (H .bounded) in
-          let stop = f .ensures .0 D (q .state .facts) H rows (facts-count D (H .bounded) q player (a .work .now) old st (a .p .now) (a .behind)) (few-facts D (H .bounded) q player (a .work .now) old st (a .p .now) (a .behind))
+          let stop = f .ensures .0 D (q .state .facts) H rows
+          (facts-count D (H .bounded) q player (a .work .now) old st (a .p .now) (a .behind))
+          (few-facts D (H .bounded) q player (a .work .now) old st (a .p .now) (a .behind))
           ∙ ap₂ (λ (n : ℕ) (b : Bool). factStop D n b (q .state .facts) (a .p .now)) (sym (objects-are D q st)) (sym (begun-is D q st)) in
           let zero = sym stop ∙ passed in
           let sized = fact-sized D (a .head .now) H q (a .p .now) (st .sound .kept .facts-few) zero (row .result) (row .ensures) in
           let is = found .ensures (a .head .now) (rw rows (noted .indexed)) sized in
-          passes D q (factStop D (q .objects) (q .tally .begun) (q .state .facts) (a .p .now)) (f .result) (goOn (withFact q (factOf (a .p .now)) (a .behind))) _ (a .work .now) old stop passed
-          (fact-again D (H .bounded) q player (a .work .now) old st (a .p .now) (a .behind) zero (row .result) (row .ensures) (found .result) is (c .before .if2 .taken) (wholeIn (c .onward .result) agenda) (gone-on (a .self) (c .onward .result) (a .behind) (a .self .state .facts) (a .self .state .waits) agenda (c .onward .ensures))),
+          passes D q (factStop D (q .objects) (q .tally .begun) (q .state .facts) (a .p .now)) (f .result)
+          (goOn (withFact q (factOf (a .p .now)) (a .behind))) _ (a .work .now) old stop passed
+          (fact-again D (H .bounded) q player (a .work .now) old st (a .p .now) (a .behind) zero (row .result) (row .ensures)
+          (found .result) is (if2 .taken) (wholeIn (c .onward .result) agenda)
+          (gone-on (a .self) (c .onward .result) (a .behind) (a .self .state .facts) (a .self .state .waits) agenda (c .onward .ensures))),
       λ D q agenda old H st noted.
           let player = wholeIn (a .self) agenda in
           let rows = facts-rows D q player (a .work .now) old st (H .bounded) in
-          let stop = f .ensures .0 D (q .state .facts) H rows (facts-count D (H .bounded) q player (a .work .now) old st (a .p .now) (a .behind)) (few-facts D (H .bounded) q player (a .work .now) old st (a .p .now) (a .behind))
+          let stop = f .ensures .0 D (q .state .facts) H rows
+          (facts-count D (H .bounded) q player (a .work .now) old st (a .p .now) (a .behind))
+          (few-facts D (H .bounded) q player (a .work .now) old st (a .p .now) (a .behind))
           ∙ ap₂ (λ (n : ℕ) (b : Bool). factStop D n b (q .state .facts) (a .p .now)) (sym (objects-are D q st)) (sym (begun-is D q st)) in
           let zero = sym stop ∙ passed in
           let sized = fact-sized D (a .head .now) H q (a .p .now) (st .sound .kept .facts-few) zero (row .result) (row .ensures) in
           let is = found .ensures (a .head .now) (rw rows (noted .indexed)) sized in
-          noted-unless D _ _ (factStop D (q .objects) (q .tally .begun) (q .state .facts) (a .p .now)) q (goOn (withFact q (factOf (a .p .now)) (a .behind)))
-          (noted-again D _ q (factOf (a .p .now)) (a .behind) _ (fact-found (factOf (a .p .now)) (q .state .facts) (row .result) _ (found .result) (row .ensures) rows is ∙ c .before .if2 .taken) noted),
+          noted-unless D _ _ (factStop D (q .objects) (q .tally .begun) (q .state .facts) (a .p .now)) q
+          (goOn (withFact q (factOf (a .p .now)) (a .behind)))
+          (noted-again D _ q (factOf (a .p .now)) (a .behind) _
+          (fact-found (factOf (a .p .now)) (q .state .facts) (row .result) _ (found .result) (row .ensures) rows is ∙ if2 .taken) noted),
     )
-
-same-length-3 : tie.Need-same-length-3
-same-length-3 c = search needs
 
 returns-3 : tie.Need-returns-3
 returns-3 c =
-    let a = c .before .before .before .before .before .before .before .before .before .before .before .before .before .args in
+    let back8 = c .before .before .before .before .before .before .before .before in
+    let if2 = c .before .if2 in
+    let a = back8 .before .before .before .before .before .args in
     let f = c .before .before .before .before .before .before .before .fact-stop in
     let row = c .before .before .before .before .before .fact-row in
     let found = c .before .before .is-held in
@@ -95,68 +90,64 @@ returns-3 c =
       λ D q agenda old H st noted.
           let player = wholeIn (a .self) agenda in
           let rows = facts-rows D q player (a .work .now) old st (H .bounded) in
-          let stop = f .ensures .0 D (q .state .facts) H rows (facts-count D (H .bounded) q player (a .work .now) old st (a .p .now) (a .behind)) (few-facts D (H .bounded) q player (a .work .now) old st (a .p .now) (a .behind))
+          let stop = f .ensures .0 D (q .state .facts) H rows
+          (facts-count D (H .bounded) q player (a .work .now) old st (a .p .now) (a .behind))
+          (few-facts D (H .bounded) q player (a .work .now) old st (a .p .now) (a .behind))
           ∙ ap₂ (λ (n : ℕ) (b : Bool). factStop D n b (q .state .facts) (a .p .now)) (sym (objects-are D q st)) (sym (begun-is D q st)) in
           let zero = sym stop ∙ passed in
           let sized = fact-sized D (a .head .now) H q (a .p .now) (st .sound .kept .facts-few) zero (row .result) (row .ensures) in
           let is = found .ensures (a .head .now) (rw rows (noted .indexed)) sized in
-          let l = fact-room D (H .bounded) q player (a .work .now) old st (a .p .now) (a .behind) zero (row .result) (row .ensures) (found .result) is (c .before .if2 .left) in
+          let l = fact-room D (H .bounded) q player (a .work .now) old st (a .p .now) (a .behind) zero (row .result) (row .ensures)
+          (found .result) is (if2 .left) in
           absurd (omega arith),
       λ D q agenda old H st noted.
           let player = wholeIn (a .self) agenda in
           let rows = facts-rows D q player (a .work .now) old st (H .bounded) in
-          let stop = f .ensures .0 D (q .state .facts) H rows (facts-count D (H .bounded) q player (a .work .now) old st (a .p .now) (a .behind)) (few-facts D (H .bounded) q player (a .work .now) old st (a .p .now) (a .behind))
+          let stop = f .ensures .0 D (q .state .facts) H rows
+          (facts-count D (H .bounded) q player (a .work .now) old st (a .p .now) (a .behind))
+          (few-facts D (H .bounded) q player (a .work .now) old st (a .p .now) (a .behind))
           ∙ ap₂ (λ (n : ℕ) (b : Bool). factStop D n b (q .state .facts) (a .p .now)) (sym (objects-are D q st)) (sym (begun-is D q st)) in
           let zero = sym stop ∙ passed in
           let sized = fact-sized D (a .head .now) H q (a .p .now) (st .sound .kept .facts-few) zero (row .result) (row .ensures) in
           let is = found .ensures (a .head .now) (rw rows (noted .indexed)) sized in
-          let l = fact-room D (H .bounded) q player (a .work .now) old st (a .p .now) (a .behind) zero (row .result) (row .ensures) (found .result) is (c .before .if2 .left) in
+          let l = fact-room D (H .bounded) q player (a .work .now) old st (a .p .now) (a .behind) zero (row .result) (row .ensures)
+          (found .result) is (if2 .left) in
           absurd (omega arith),
     )
 
-put-fact-requires : tie.Need-put-fact-requires
-put-fact-requires c κs = search needs
-
-slice-aggregate-enter : tie.Need-slice-aggregate-enter
-slice-aggregate-enter c = search needs
-
-enter-requires : tie.Need-enter-requires
-enter-requires c κs = search needs
-
-element-write-index : tie.Need-element-write-index
-element-write-index c = search needs
-
-add-onward : tie.Need-add-onward
-add-onward c = search needs
-
-onward-requires-2 : tie.Need-onward-requires-2
-onward-requires-2 c κs = search needs
-
-same-length-4 : tie.Need-same-length-4
-same-length-4 c = search needs
-
 returns-4 : tie.Need-returns-4
 returns-4 c =
-    let a = c .before .before .before .before .before .before .before .before .before .before .before .before .before .before .before .before .before .before .before .before .before .args in
-    let f = c .before .before .before .before .before .before .before .before .before .before .before .before .before .before .before .fact-stop in
-    let row = c .before .before .before .before .before .before .before .before .before .before .before .before .before .fact-row in
-    let found = c .before .before .before .before .before .before .before .before .before .before .is-held in
-    let passed = c .before .before .before .before .before .before .before .before .before .before .before .before .before .before .if1 .left in
+    let back8 = c .before .before .before .before .before .before .before .before in
+    let back16 = back8 .before .before .before .before .before .before .before .before in
+    let if2 = back8 .before .if2 in
+    let a = back16 .before .before .before .before .before .args in
+    let f = back8 .before .before .before .before .before .before .before .fact-stop in
+    let row = back8 .before .before .before .before .before .fact-row in
+    let found = back8 .before .before .is-held in
+    let passed = back8 .before .before .before .before .before .before .if1 .left in
     let entered = c .before .enter in (
       λ D q agenda old H st noted.
           let player = wholeIn (a .self) agenda in
           let rows = facts-rows D q player (a .work .now) old st (H .bounded) in
-          let stop = f .ensures .0 D (q .state .facts) H rows (facts-count D (H .bounded) q player (a .work .now) old st (a .p .now) (a .behind)) (few-facts D (H .bounded) q player (a .work .now) old st (a .p .now) (a .behind))
+          let stop = f .ensures .0 D (q .state .facts) H rows
+          (facts-count D (H .bounded) q player (a .work .now) old st (a .p .now) (a .behind))
+          (few-facts D (H .bounded) q player (a .work .now) old st (a .p .now) (a .behind))
           ∙ ap₂ (λ (n : ℕ) (b : Bool). factStop D n b (q .state .facts) (a .p .now)) (sym (objects-are D q st)) (sym (begun-is D q st)) in
           let zero = sym stop ∙ passed in
           let sized = fact-sized D (a .head .now) H q (a .p .now) (st .sound .kept .facts-few) zero (row .result) (row .ensures) in
           let is = found .ensures (a .head .now) (rw rows (noted .indexed)) sized in
-          passes D q (factStop D (q .objects) (q .tally .begun) (q .state .facts) (a .p .now)) (f .result) (goOn (withFact q (factOf (a .p .now)) (a .behind))) _ _ old stop passed
-          (fact-new D (H .bounded) q player (a .work .now) old st (a .p .now) (a .behind) zero (row .result) (row .ensures) (found .result) is (c .before .before .before .before .before .before .before .before .before .if2 .left) (wholeIn (c .onward2 .result) agenda) _ refl (gone-on (a .self) (c .onward2 .result) (a .behind) (a .self .state .facts + 1) (a .self .state .waits) agenda (c .onward2 .ensures)) _ (c .before .before .before .before .before .before .put-fact .ensures)),
+          passes D q (factStop D (q .objects) (q .tally .begun) (q .state .facts) (a .p .now)) (f .result)
+          (goOn (withFact q (factOf (a .p .now)) (a .behind))) _ _ old stop passed
+          (fact-new D (H .bounded) q player (a .work .now) old st (a .p .now) (a .behind) zero (row .result) (row .ensures)
+          (found .result) is (if2 .left) (wholeIn (c .onward2 .result) agenda) _ refl
+          (gone-on (a .self) (c .onward2 .result) (a .behind) (a .self .state .facts + 1) (a .self .state .waits) agenda
+          (c .onward2 .ensures)) _ (c .before .before .before .before .before .before .put-fact .ensures)),
       λ D q agenda old H st noted.
           let player = wholeIn (a .self) agenda in
           let rows = facts-rows D q player (a .work .now) old st (H .bounded) in
-          let stop = f .ensures .0 D (q .state .facts) H rows (facts-count D (H .bounded) q player (a .work .now) old st (a .p .now) (a .behind)) (few-facts D (H .bounded) q player (a .work .now) old st (a .p .now) (a .behind))
+          let stop = f .ensures .0 D (q .state .facts) H rows
+          (facts-count D (H .bounded) q player (a .work .now) old st (a .p .now) (a .behind))
+          (few-facts D (H .bounded) q player (a .work .now) old st (a .p .now) (a .behind))
           ∙ ap₂ (λ (n : ℕ) (b : Bool). factStop D n b (q .state .facts) (a .p .now)) (sym (objects-are D q st)) (sym (begun-is D q st)) in
           let zero = sym stop ∙ passed in
           let sized = fact-sized D (a .head .now) H q (a .p .now) (st .sound .kept .facts-few) zero (row .result) (row .ensures) in
@@ -165,29 +156,31 @@ returns-4 c =
           let whole : take 8 (drop 0 (row .result)) ≡ row .result = take-all 8 (row .result) (omega arith) in
           let more = entered .ensures .0 (map factRow (q .state .facts)) (noted .indexed) (rw whole sized) in
           let now = rw (whole, row .ensures) at more in
-          noted-unless D _ _ (factStop D (q .objects) (q .tally .begun) (q .state .facts) (a .p .now)) q (goOn (withFact q (factOf (a .p .now)) (a .behind)))
-          (noted-fact D _ q (factOf (a .p .now)) (a .behind) _ (fact-found (factOf (a .p .now)) (q .state .facts) (row .result) _ (found .result) (row .ensures) rows is ∙ c .before .before .before .before .before .before .before .before .before .if2 .left) now),
+          noted-unless D _ _ (factStop D (q .objects) (q .tally .begun) (q .state .facts) (a .p .now)) q
+          (goOn (withFact q (factOf (a .p .now)) (a .behind)))
+          (noted-fact D _ q (factOf (a .p .now)) (a .behind) _
+          (fact-found (factOf (a .p .now)) (q .state .facts) (row .result) _ (found .result) (row .ensures) rows is ∙ if2 .left) now),
     )
 
 pub take-fact-spec : {M : Type 1} → statement M
 take-fact-spec =
     tie.close
     (tie.spec
-    fact-stop-requires
-    same-length
+    (λ c κs. search needs)  -- fact-stop-requires
+    (λ c. search needs)  -- same-length
     returns
     fact-row-requires
-    is-held-requires
-    onward-requires
-    same-length-2
+    (λ c κs. search needs)  -- is-held-requires
+    (λ c κs. search needs)  -- onward-requires
+    (λ c. search needs)  -- same-length-2
     returns-2
-    same-length-3
+    (λ c. search needs)  -- same-length-3
     returns-3
-    put-fact-requires
-    slice-aggregate-enter
-    enter-requires
-    element-write-index
-    add-onward
-    onward-requires-2
-    same-length-4
+    (λ c κs. search needs)  -- put-fact-requires
+    (λ c. search needs)  -- slice-aggregate-enter
+    (λ c κs. search needs)  -- enter-requires
+    (λ c. search needs)  -- element-write-index
+    (λ c. search needs)  -- add-onward
+    (λ c κs. search needs)  -- onward-requires-2
+    (λ c. search needs)  -- same-length-4
     returns-4)

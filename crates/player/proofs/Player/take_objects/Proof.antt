@@ -11,9 +11,6 @@ use Rattle.run_semantics.specs.Play.{goOn, withObjects}
 use Rattle.player.proofs.Player.take_objects.Statement.{statement}
 use Rattle.player.proofs.Player.take_objects.Tie as tie
 
-objects-stop-requires : tie.Need-objects-stop-requires
-objects-stop-requires c κs = search needs
-
 returns : tie.Need-returns
 returns c D q agenda work old st =
     let a = c .before .before .before .args in
@@ -30,8 +27,9 @@ returns-2 c D q agenda work old st =
 
 pub take-objects-spec : {M : Type 1} → statement M
 take-objects-spec =
-    tie.close (tie.spec
-    objects-stop-requires
+    tie.close
+    (tie.spec
+    (λ c κs. search needs)  -- objects-stop-requires
     returns
     shared-slice-read-t9
     returns-2)

@@ -12,9 +12,6 @@ use Rattle.player.proofs.Readied.{facts-held, facts-room, room-now, wai
 use Rattle.player.proofs.Player.take_record.Statement.{statement}
 use Rattle.player.proofs.Player.take_record.Tie as tie
 
-take-objects-requires : tie.Need-take-objects-requires
-take-objects-requires c κs = search needs
-
 take-fact-requires : tie.Need-take-fact-requires
 take-fact-requires c κs = let p = c .before .before .before .before .before .before .pre in (facts-held (p .0), room-now (p .0))
 
@@ -23,16 +20,14 @@ begin-requires c κs = let p = c .before .before .before .before .before .before
 
 take-event-requires : tie.Need-take-event-requires
 take-event-requires c κs =
-    let a = c .before .before .before .before .before .before .before .before .args in
-    let p = c .before .before .before .before .before .before .before .before .pre in
+    let back8 = c .before .before .before .before .before .before .before .before in
+    let a = back8 .args in
+    let p = back8 .pre in
     let b = c .before .begin in
     (waits-few (p .0) (wholeIn (b .result) (a .agenda .now)) (λ D p old. b .ensures D p (a .agenda .now) old), p .1 .0)
 
 begin-requires-2 : tie.Need-begin-requires-2
 begin-requires-2 c κs = let p = c .before .before .before .before .before .before .pre in (facts-held (p .0), facts-room (p .0))
-
-take-end-requires : tie.Need-take-end-requires
-take-end-requires c κs = search needs
 
 returns : tie.Need-returns
 returns c =
@@ -44,12 +39,10 @@ returns c =
           noted-of D _ _ q (a .p .now) (a .behind) (a .kind) objectsRecord k (noted-objects D _ _ q (a .p .now) (a .behind) (st .sound) noted),
     )
 
-same-length : tie.Need-same-length
-same-length c = search needs
-
 returns-2 : tie.Need-returns-2
 returns-2 c =
-    let a = c .before .before .before .before .before .before .before .before .before .args in
+    let back8 = c .before .before .before .before .before .before .before .before in
+    let a = back8 .before .args in
     let l = c .before .before .take-fact in
     let k = kind-17 (a .kind) (c .before .before .before .before .before .match .keys2) in (
       λ D q old H st noted.
@@ -59,16 +52,11 @@ returns-2 c =
           (noted-fact-record D _ _ q (a .p .now) (a .behind) (l .ensures .1 D q (a .agenda .now) old H st noted)),
     )
 
-same-length-2 : tie.Need-same-length-2
-same-length-2 c = search needs
-
-same-length-3 : tie.Need-same-length-3
-same-length-3 c = search needs
-
 returns-3 : tie.Need-returns-3
 returns-3 c =
-    let a = c .before .before .before .before .before .before .before .before .before .before .before .args in
-    let p = c .before .before .before .before .before .before .before .before .before .before .before .pre in
+    let back8 = c .before .before .before .before .before .before .before .before in
+    let a = back8 .before .before .before .args in
+    let p = back8 .before .before .before .pre in
     let b = c .before .before .before .before .begin in
     let k = kind-18 (a .kind) (c .before .before .before .before .before .before .before .match .keys3) in (
       λ D q old H st noted.
@@ -79,13 +67,11 @@ returns-3 c =
           noted-of D _ _ q (a .p .now) (a .behind) (a .kind) eventRecord k (noted-event D _ _ q (a .p .now) (a .behind) noted),
     )
 
-same-length-4 : tie.Need-same-length-4
-same-length-4 c = search needs
-
 returns-4 : tie.Need-returns-4
 returns-4 c =
-    let a = c .before .before .before .before .before .before .before .before .args in
-    let p = c .before .before .before .before .before .before .before .before .pre in
+    let back8 = c .before .before .before .before .before .before .before .before in
+    let a = back8 .args in
+    let p = back8 .pre in
     let b = c .before .begin2 in
     let k = kind-20 (a .kind) (c .before .before .before .before .match .keys4) in (
       λ D q old H st noted.
@@ -111,18 +97,18 @@ pub take-record-spec : {M : Type 1} → statement M
 take-record-spec =
     tie.close
     (tie.spec
-    take-objects-requires
+    (λ c κs. search needs)  -- take-objects-requires
     take-fact-requires
     begin-requires
     take-event-requires
     begin-requires-2
-    take-end-requires
+    (λ c κs. search needs)  -- take-end-requires
     returns
-    same-length
+    (λ c. search needs)  -- same-length
     returns-2
-    same-length-2
-    same-length-3
+    (λ c. search needs)  -- same-length-2
+    (λ c. search needs)  -- same-length-3
     returns-3
-    same-length-4
+    (λ c. search needs)  -- same-length-4
     returns-4
     returns-5)

@@ -11,16 +11,10 @@ use Rattle.player.proofs.Player.take_step.Statement.{statement}
 use Rattle.player.proofs.Player.take_step.Tie as tie
 
 take-rest-requires : tie.Need-take-rest-requires
-take-rest-requires c κs = let p = c .before .before .before .before .before .before .before .before .before .before .before .pre in (p .0, (p .1 .0, (p .1 .1 .0, (p .1 .1 .1, c .before .before .before .before .if1 .taken))))
-
-same-length : tie.Need-same-length
-same-length c = search needs
-
-same-length-2 : tie.Need-same-length-2
-same-length-2 c = search needs
-
-same-length-3 : tie.Need-same-length-3
-same-length-3 c = search needs
+take-rest-requires c κs =
+    let back8 = c .before .before .before .before .before .before .before .before in
+    let p = back8 .before .before .before .pre in
+    (p .0, (p .1 .0, (p .1 .1 .0, (p .1 .1 .1, c .before .before .before .before .if1 .taken))))
 
 returns : tie.Need-returns
 returns c =
@@ -28,20 +22,15 @@ returns c =
     (λ D q old H st n b noted. e .0 D q old H st b noted, λ D q old H st n b noted. e .1 D q old H st b noted)
 
 step-requires : tie.Need-step-requires
-step-requires c κs = let p = c .before .before .before .before .before .before .before .before .before .before .before .before .pre in (p .0, (p .1 .1 .1 .agenda-length, p .1 .1 .1 .scratch-length))
-
-same-length-4 : tie.Need-same-length-4
-same-length-4 c = search needs
-
-same-length-5 : tie.Need-same-length-5
-same-length-5 c = search needs
-
-same-length-6 : tie.Need-same-length-6
-same-length-6 c = search needs
+step-requires c κs =
+    let back8 = c .before .before .before .before .before .before .before .before in
+    let p = back8 .before .before .before .before .pre in (p .0, (p .1 .1 .1 .agenda-length, p .1 .1 .1 .scratch-length))
 
 returns-2 : tie.Need-returns-2
 returns-2 c =
-    let a = c .before .before .before .before .before .before .before .before .before .before .before .before .before .before .before .before .before .before .before .before .args in
+    let back8 = c .before .before .before .before .before .before .before .before in
+    let back16 = back8 .before .before .before .before .before .before .before .before in
+    let a = back16 .before .before .before .before .args in
     let player = wholeIn (a .self) (a .agenda .now) in
     let l = c .before .before .before .before .before .before .before .step in (
       λ D q old H st n b noted.
@@ -60,22 +49,18 @@ returns-2 c =
     )
 
 stepped-requires : tie.Need-stepped-requires
-stepped-requires c κs = let p = c .before .before .before .before .before .before .before .before .before .before .before .before .before .before .before .before .before .before .before .before .pre in (p .1 .0, p .1 .1 .0)
-
-same-length-7 : tie.Need-same-length-7
-same-length-7 c = search needs
-
-same-length-8 : tie.Need-same-length-8
-same-length-8 c = search needs
-
-same-length-9 : tie.Need-same-length-9
-same-length-9 c = search needs
+stepped-requires c κs =
+    let back8 = c .before .before .before .before .before .before .before .before in
+    let back16 = back8 .before .before .before .before .before .before .before .before in
+    let p = back16 .before .before .before .before .pre in (p .1 .0, p .1 .1 .0)
 
 returns-3 : tie.Need-returns-3
 returns-3 c =
-    let a = c .before .before .before .before .before .before .before .before .before .before .before .before .before .before .before .before .before .before .before .before .before .args in
+    let back8 = c .before .before .before .before .before .before .before .before in
+    let back16 = back8 .before .before .before .before .before .before .before .before in
+    let a = back16 .before .before .before .before .before .args in
     let player = wholeIn (a .self) (a .agenda .now) in
-    let l = c .before .before .before .before .before .before .before .before .step in (
+    let l = back8 .step in (
       λ D q old H st n b noted.
           let leaves = l .ensures .0 D (runObjects q) (q .state) (q .waiting) old
           (record { domain = H; some = some-object q n; kept = st .sound .kept; state-is = state-is D q st; facts-are = st .memory })
@@ -96,17 +81,17 @@ take-step-spec =
     tie.close
     (tie.spec
     take-rest-requires
-    same-length
-    same-length-2
-    same-length-3
+    (λ c. search needs)  -- same-length
+    (λ c. search needs)  -- same-length-2
+    (λ c. search needs)  -- same-length-3
     returns
     step-requires
-    same-length-4
-    same-length-5
-    same-length-6
+    (λ c. search needs)  -- same-length-4
+    (λ c. search needs)  -- same-length-5
+    (λ c. search needs)  -- same-length-6
     returns-2
     stepped-requires
-    same-length-7
-    same-length-8
-    same-length-9
+    (λ c. search needs)  -- same-length-7
+    (λ c. search needs)  -- same-length-8
+    (λ c. search needs)  -- same-length-9
     returns-3)

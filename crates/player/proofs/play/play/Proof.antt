@@ -5,26 +5,13 @@ use Rattle.player.proofs.PlayCalls.{number-is, place-is, steps-is, weig
 use Rattle.player.proofs.play.play.Statement.{statement}
 use Rattle.player.proofs.play.play.Tie as tie
 
-play-files-requires : tie.Need-play-files-requires
-play-files-requires c κs = search needs
-
-file-of-requires : tie.Need-file-of-requires
-file-of-requires c κs = search needs
-
-offset-of-requires : tie.Need-offset-of-requires
-offset-of-requires c κs = search needs
-
-part-requires : tie.Need-part-requires
-part-requires c κs = search needs
-
-same-length : tie.Need-same-length
-same-length c = search needs
-
 returns : tie.Need-returns
 returns c =
-    let d = c .before .before .before .before .before .before .before .before .before .before .before .args .domain .now in
-    let r = c .before .before .before .before .before .before .before .before .before .before .before .args .run .now in
-    let w = c .before .before .before .before .before .before .before .before .before .before .before .args .work .now in
+    let back8 = c .before .before .before .before .before .before .before .before in
+    let args = back8 .before .before .before .args in
+    let d = args .domain .now in
+    let r = args .run .now in
+    let w = args .work .now in
     let f = c .before .before .before .before .before .before .play-files in
     let e = f .ensures .0 in
     let number = number-is d r w (f .result) e in
@@ -60,9 +47,9 @@ pub play-spec : {M : Type 1} → statement M
 play-spec =
     tie.close
     (tie.spec
-    play-files-requires
-    file-of-requires
-    offset-of-requires
-    part-requires
-    same-length
+    (λ c κs. search needs)  -- play-files-requires
+    (λ c κs. search needs)  -- file-of-requires
+    (λ c κs. search needs)  -- offset-of-requires
+    (λ c κs. search needs)  -- part-requires
+    (λ c. search needs)  -- same-length
     returns)

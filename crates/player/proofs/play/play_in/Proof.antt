@@ -11,85 +11,68 @@ use Rattle.player.proofs.play.play_in.Tie as tie
 read-domain-requires : tie.Need-read-domain-requires
 read-domain-requires c κs = (refl, c .before .before .before .before .before .before .before .pre)
 
-unplayed-requires : tie.Need-unplayed-requires
-unplayed-requires c κs = search needs
-
-same-length : tie.Need-same-length
-same-length c = search needs
-
 returns : tie.Need-returns
 returns c =
-    let a = c .before .before .before .before .before .before .before .before .before .before .before .before .args in
+    let back8 = c .before .before .before .before .before .before .before .before in
+    let a = back8 .before .before .before .before .args in
     let read = c .before .before .before .before .read-domain in
     let e = with-refused (a .domain .now) (a .instance .now) (a .run .now) (a .work .now) (a .given) _
     (refusal-is (a .domain .now) (read .result) _ _ (read .ensures .0) (c .before .if1 .taken)) in
     ((λ i. record { played = c .unplayed .ensures i; total = 0 }) ∙ e .0, e .1)
 
-unplayed-requires-2 : tie.Need-unplayed-requires-2
-unplayed-requires-2 c κs = search needs
-
-same-length-2 : tie.Need-same-length-2
-same-length-2 c = search needs
-
 returns-2 : tie.Need-returns-2
 returns-2 c =
-    let a = c .before .before .before .before .before .before .before .before .before .before .before .before .before .args in
+    let back8 = c .before .before .before .before .before .before .before .before in
+    let a = back8 .before .before .before .before .before .args in
     let read = c .before .before .before .before .before .read-domain in
     let o = opened (a .domain .now) (read .result) _ _ (read .ensures .0) (c .before .before .if1 .left) in
-    let e = with-small (a .domain .now) (a .instance .now) (a .run .now) (a .work .now) (o .said) (o .decoded) (a .given) (c .before .if2
-    .taken) in
+    let e = with-small (a .domain .now) (a .instance .now) (a .run .now) (a .work .now) (o .said) (o .decoded) (a .given)
+    (c .before .if2 .taken) in
     ((λ i. record { played = c .unplayed2 .ensures i; total = 0 }) ∙ e .0, e .1)
 
 track-run-requires : tie.Need-track-run-requires
 track-run-requires c κs =
-    let a = c .before .before .before .before .before .before .before .before .before .before .before .before .before .before .before .before .args in
-    let read = c .before .before .before .before .before .before .before .before .read-domain in
+    let back8 = c .before .before .before .before .before .before .before .before in
+    let back16 = back8 .before .before .before .before .before .before .before .before in
+    let a = back16 .args in
+    let read = back8 .read-domain in
     let o = opened (a .domain .now) (read .result) _ _ (read .ensures .0) (c .before .before .before .before .before .if1 .left) in
     ((o .said, o .held), c .before .before .before .before .if2 .left)
 
-same-length-3 : tie.Need-same-length-3
-same-length-3 c = search needs
-
-same-length-4 : tie.Need-same-length-4
-same-length-4 c = search needs
-
 returns-3 : tie.Need-returns-3
 returns-3 c =
-    let a = c .before .before .before .before .before .before .before .before .before .before .before .before .before .before .before .before .before .before .before .args in
-    let read = c .before .before .before .before .before .before .before .before .before .before .before .read-domain in
-    let o = opened (a .domain .now) (read .result) _ _ (read .ensures .0) (c .before .before .before .before .before .before .before .before .if1 .left) in
-    let e = c .before .before .track-run .ensures (o .said) (o .held) (decoded-well-formed (a .domain .now) (o .said) (o .decoded)) in
-    with-one (a .domain .now) (a .instance .now) (a .run .now) (a .work .now) (o .said) (o .decoded) (c .before .before .before .before .before .before .before .if2 .left) (a .given) (c .before .before .before .before .before .before .if3 .taken)
-    (c .before .before .track-run .result) (e .0) _ (e .1)
-
-slice-aggregate-play-run : tie.Need-slice-aggregate-play-run
-slice-aggregate-play-run c = search needs
+    let back8 = c .before .before .before .before .before .before .before .before in
+    let back16 = back8 .before .before .before .before .before .before .before .before in
+    let track-run = c .before .before .track-run in
+    let a = back16 .before .before .before .args in
+    let read = back8 .before .before .before .read-domain in
+    let o = opened (a .domain .now) (read .result) _ _ (read .ensures .0) (back8 .if1 .left) in
+    let e = track-run .ensures (o .said) (o .held) (decoded-well-formed (a .domain .now) (o .said) (o .decoded)) in
+    with-one (a .domain .now) (a .instance .now) (a .run .now) (a .work .now) (o .said) (o .decoded)
+    (c .before .before .before .before .before .before .before .if2 .left) (a .given)
+    (c .before .before .before .before .before .before .if3 .taken)
+    (track-run .result) (e .0) _ (e .1)
 
 play-run-requires : tie.Need-play-run-requires
 play-run-requires c κs =
-    let a = c .before .before .before .before .before .before .before .before .before .before .before .before .before .before .before .before .before .args
-    in
-    let read = c .before .before .before .before .before .before .before .before .before .read-domain in
+    let back8 = c .before .before .before .before .before .before .before .before in
+    let back16 = back8 .before .before .before .before .before .before .before .before in
+    let a = back16 .before .args in
+    let read = back8 .before .read-domain in
     let o = opened (a .domain .now) (read .result) _ _ (read .ensures .0) (c .before .before .before .before .before .before .if1 .left) in
     ((o .said, o .held), (c .before .before .before .before .before .if2 .left, refl))
 
-answer-by-requires : tie.Need-answer-by-requires
-answer-by-requires c κs = search needs
-
-same-length-5 : tie.Need-same-length-5
-same-length-5 c = search needs
-
-same-length-6 : tie.Need-same-length-6
-same-length-6 c = search needs
-
 returns-4 : tie.Need-returns-4
 returns-4 c =
-    let a = c .before .before .before .before .before .before .before .before .before .before .before .before .before .before .before .before .before .before .before .before .before .before .args in
-    let read = c .before .before .before .before .before .before .before .before .before .before .before .before .before .before .read-domain in
-    let o = opened (a .domain .now) (read .result) _ _ (read .ensures .0) (c .before .before .before .before .before .before .before .before .before .before .before .if1 .left) in
+    let back8 = c .before .before .before .before .before .before .before .before in
+    let back16 = back8 .before .before .before .before .before .before .before .before in
+    let a = back16 .before .before .before .before .before .before .args in
+    let read = back8 .before .before .before .before .before .before .read-domain in
+    let o = opened (a .domain .now) (read .result) _ _ (read .ensures .0) (back8 .before .before .before .if1 .left) in
     let e = c .before .before .before .before .play-run .ensures (o .said) (o .held) in
     let b = c .answer-by in
-    with-none (a .domain .now) (a .instance .now) (a .run .now) (a .work .now) (o .said) (o .decoded) (c .before .before .before .before .before .before .before .before .before .before .if2 .left) (a .given) (c .before .before .before .before .before .before .before .before .before .if3 .left)
+    with-none (a .domain .now) (a .instance .now) (a .run .now) (a .work .now) (o .said) (o .decoded) (back8 .before .before .if2 .left)
+    (a .given) (back8 .before .if3 .left)
     (b .result) (b .ensures (playRun (o .said) (a .run .now)) (e .0)) _ (e .1)
 
 pub play-in-spec : {M : Type 1} → statement M
@@ -97,19 +80,19 @@ play-in-spec =
     tie.close
     (tie.spec
     read-domain-requires
-    unplayed-requires
-    same-length
+    (λ c κs. search needs)  -- unplayed-requires
+    (λ c. search needs)  -- same-length
     returns
-    unplayed-requires-2
-    same-length-2
+    (λ c κs. search needs)  -- unplayed-requires-2
+    (λ c. search needs)  -- same-length-2
     returns-2
     track-run-requires
-    same-length-3
-    same-length-4
+    (λ c. search needs)  -- same-length-3
+    (λ c. search needs)  -- same-length-4
     returns-3
-    slice-aggregate-play-run
+    (λ c. search needs)  -- slice-aggregate-play-run
     play-run-requires
-    answer-by-requires
-    same-length-5
-    same-length-6
+    (λ c κs. search needs)  -- answer-by-requires
+    (λ c. search needs)  -- same-length-5
+    (λ c. search needs)  -- same-length-6
     returns-4)

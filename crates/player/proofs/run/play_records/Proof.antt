@@ -26,9 +26,6 @@ Inv-loop head table run work₀ index₀ agenda₀ scratch₀ turn₀ work index
 abbrev μ-loop : tie.MeasureT-loop
 μ-loop head table run work₀ index₀ agenda₀ scratch₀ turn₀ work index agenda scratch turn = length run - turn .player .at
 
-new-requires : tie.Need-new-requires Inv-loop μ-loop
-new-requires c κs = search needs
-
 loop-holds : tie.Need-loop-holds Inv-loop μ-loop
 loop-holds c =
     let a = c .before .before .before .before .before .before .args in (
@@ -42,8 +39,9 @@ loop-holds c =
 
 step-requires : tie.Need-step-requires Inv-loop μ-loop
 step-requires c κs =
-    let p = c .before .before .before .before .before .before .before .before .before .before .before .before .pre in
-    let a = c .before .before .before .before .before .before .before .before .before .before .before .before .args in
+    let back8 = c .before .before .before .before .before .before .before .before in
+    let p = back8 .before .before .before .before .pre in
+    let a = back8 .before .before .before .before .args in
     let l = c .before .before .before .before .before .loop in (
       playable (p .0) (p .1 .0) (a .run .now) (wholeIn (l .turn .player) (l .agenda)) (l .work) (l .index)
           (l .inv .3 (p .0 .0) (a .work .now) (p .0 .1) (p .1 .1 .0) (p .1 .1 .1 .0) (p .1 .1 .1 .1 .0)),
@@ -55,9 +53,11 @@ step-requires c κs =
 
 loop-less : tie.Need-loop-less Inv-loop μ-loop
 loop-less c =
-    let p = c .before .before .before .before .before .before .before .before .before .before .before .before .before .before .before .before .before .before .before .before .pre in
-    let a = c .before .before .before .before .before .before .before .before .before .before .before .before .before .before .before .before .before .before .before .before .args in
-    let l = c .before .before .before .before .before .before .before .before .before .before .before .before .before .loop in
+    let back8 = c .before .before .before .before .before .before .before .before in
+    let back16 = back8 .before .before .before .before .before .before .before .before in
+    let p = back16 .before .before .before .before .pre in
+    let a = back16 .before .before .before .before .args in
+    let l = back8 .before .before .before .before .before .loop in
     let s = c .before .before .before .before .before .before .before .step in
     loop-falls (p .0 .0) (p .0 .1 .says .bounded) (a .run .now) (a .work .now) (wholeIn (l .turn .player) (l .agenda)) (l .work)
     (l .inv .3 (p .0 .0) (a .work .now) (p .0 .1) (p .1 .1 .0) (p .1 .1 .1 .0) (p .1 .1 .1 .1 .0))
@@ -66,8 +66,10 @@ loop-less c =
 
 loop-again : tie.Need-loop-again Inv-loop μ-loop
 loop-again c =
-    let a = c .before .before .before .before .before .before .before .before .before .before .before .before .before .before .before .before .before .before .before .before .args in
-    let l = c .before .before .before .before .before .before .before .before .before .before .before .before .before .loop in
+    let back8 = c .before .before .before .before .before .before .before .before in
+    let back16 = back8 .before .before .before .before .before .before .before .before in
+    let a = back16 .before .before .before .before .args in
+    let l = back8 .before .before .before .before .before .loop in
     let s = c .before .before .before .before .before .before .before .step in (
       s .kept .1 .1 .1 .1 .0 ∙ l .inv .0,
       s .kept .1 .1 .1 .1 .1 .1 .0 ∙ l .inv .1,
@@ -78,28 +80,34 @@ loop-again c =
           (λ q o st noted. s .ensures .0 D q o H st noted) (λ q o st noted. s .ensures .1 D q o H st noted) (c .if1 .taken),
     )
 
-ended-by-requires : tie.Need-ended-by-requires Inv-loop μ-loop
-ended-by-requires c κs = search needs
-
 same-length : tie.Need-same-length Inv-loop μ-loop
-same-length c = c .before .before .before .before .before .before .before .before .before .step .kept .1 .1 .1 .1 .0 ∙ c .before .before .before .before .before .before .before .before .before .before .before .before .before .before .before .loop .inv .0
+same-length c =
+    let back8 = c .before .before .before .before .before .before .before .before in
+    back8 .before .step .kept .1 .1 .1 .1 .0 ∙ back8 .before .before .before .before .before .before .before .loop .inv .0
 
 same-length-2 : tie.Need-same-length-2 Inv-loop μ-loop
-same-length-2 c = c .before .before .before .before .before .before .before .before .before .step .kept .1 .1 .1 .1 .1 .1 .0 ∙ c .before .before .before .before .before .before .before .before .before .before .before .before .before .before .before .loop .inv .1
+same-length-2 c =
+    let back8 = c .before .before .before .before .before .before .before .before in
+    back8 .before .step .kept .1 .1 .1 .1 .1 .1 .0 ∙ back8 .before .before .before .before .before .before .before .loop .inv .1
 
 same-length-3 : tie.Need-same-length-3 Inv-loop μ-loop
-same-length-3 c = c .before .before .before .before .before .before .before .before .before .step .kept .1 .1 .1 .1 .1 .1 .1 .0 ∙ c .before .before .before .before .before .before .before .before .before .before .before .before .before .before .before .loop .inv .2
+same-length-3 c =
+    let back8 = c .before .before .before .before .before .before .before .before in
+    back8 .before .step .kept .1 .1 .1 .1 .1 .1 .1 .0 ∙ back8 .before .before .before .before .before .before .before .loop .inv .2
 
 returns : tie.Need-returns Inv-loop μ-loop
 returns c D old H clear =
-    let p = c .before .before .before .before .before .before .before .before .before .before .before .before .before .before .before .before .before .before .before .before .before .before .pre in
-    let a = c .before .before .before .before .before .before .before .before .before .before .before .before .before .before .before .before .before .before .before .before .before .before .args in
-    let l = c .before .before .before .before .before .before .before .before .before .before .before .before .before .before .before .loop in
-    let s = c .before .before .before .before .before .before .before .before .before .step in
+    let back8 = c .before .before .before .before .before .before .before .before in
+    let back16 = back8 .before .before .before .before .before .before .before .before in
+    let p = back16 .before .before .before .before .before .before .pre in
+    let a = back16 .before .before .before .before .before .before .args in
+    let l = back8 .before .before .before .before .before .before .before .loop in
+    let s = back8 .before .step in
     let b = c .ended-by in
     let e = loop-ends D (H .says .bounded) (a .run .now) old (wholeIn (l .turn .player) (l .agenda)) (l .work)
     (l .inv .3 D old H clear (p .1 .1 .1 .0) (p .1 .1 .1 .1 .0)) (turnIn (s .result) (s .last .1 .1 .1 .1 .1 .1 .0)) _ _
-    (λ q o st noted. s .ensures .0 D q o H st noted) (λ q o st noted. s .ensures .1 D q o H st noted) (c .before .before .if1 .left) (b .result)
+    (λ q o st noted. s .ensures .0 D q o H st noted) (λ q o st noted. s .ensures .1 D q o H st noted) (c .before .before .if1 .left)
+    (b .result)
     (b .ensures) in
     (e .0, e .1, ap (λ (x : Ended). agendaOpen (x .opened) (s .last .1 .1 .1 .1 .1 .1 .0)) (b .ensures) ∙ e .2)
 
@@ -109,12 +117,12 @@ play-records-spec =
     (tie.spec
     Inv-loop
     μ-loop
-    new-requires
+    (λ c κs. search needs)  -- new-requires
     loop-holds
     step-requires
     loop-less
     loop-again
-    ended-by-requires
+    (λ c κs. search needs)  -- ended-by-requires
     same-length
     same-length-2
     same-length-3

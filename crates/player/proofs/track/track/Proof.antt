@@ -6,28 +6,14 @@ use Rattle.player.proofs.TrackCalls.{told-number, told-place, told-step
 use Rattle.player.proofs.track.track.Statement.{statement}
 use Rattle.player.proofs.track.track.Tie as tie
 
-track-files-requires : tie.Need-track-files-requires
-track-files-requires c κs = search needs
-
-file-of-requires : tie.Need-file-of-requires
-file-of-requires c κs = search needs
-
-offset-of-requires : tie.Need-offset-of-requires
-offset-of-requires c κs = search needs
-
-part-requires : tie.Need-part-requires
-part-requires c κs = search needs
-
-same-length : tie.Need-same-length
-same-length c = search needs
-
 returns : tie.Need-returns
 returns c =
-    let d = c .before .before .before .before .before .before .before .before .before .before .before .before .before .args .domain .now in
-    let y = c .before .before .before .before .before .before .before .before .before .before .before .before .before .args .instance .now
-    in
-    let r = c .before .before .before .before .before .before .before .before .before .before .before .before .before .args .run .now in
-    let w = c .before .before .before .before .before .before .before .before .before .before .before .before .before .args .work .now in
+    let back8 = c .before .before .before .before .before .before .before .before in
+    let args = back8 .before .before .before .before .before .args in
+    let d = args .domain .now in
+    let y = args .instance .now in
+    let r = args .run .now in
+    let w = args .work .now in
     let f = c .before .before .before .before .before .before .before .track-files in
     let t = f .result in
     let e = f .ensures .0 in
@@ -61,9 +47,9 @@ pub track-spec : {M : Type 1} → statement M
 track-spec =
     tie.close
     (tie.spec
-    track-files-requires
-    file-of-requires
-    offset-of-requires
-    part-requires
-    same-length
+    (λ c κs. search needs)  -- track-files-requires
+    (λ c κs. search needs)  -- file-of-requires
+    (λ c κs. search needs)  -- offset-of-requires
+    (λ c κs. search needs)  -- part-requires
+    (λ c. search needs)  -- same-length
     returns)

@@ -14,82 +14,74 @@ use Rattle.player.proofs.TrackCalls.{stopped-answer, early-answer, tota
 use Rattle.player.proofs.track.track_run.Statement.{statement}
 use Rattle.player.proofs.track.track_run.Tie as tie
 
-instance-stop-requires : tie.Need-instance-stop-requires
-instance-stop-requires c κs = search needs
-
 put-zeros-requires : tie.Need-put-zeros-requires
 put-zeros-requires c κs = let r = c .before .before .before .before .before .before .before .pre .1 in omega arith
 
-same-length : tie.Need-same-length
-same-length c = search needs
-
 returns : tie.Need-returns
 returns c D H wf =
-    let a = c .before .before .before .before .before .before .before .before .before .before .args in
-    stopped-answer D (a .instance .now) (a .run .now) (c .before .before .before .before .before .instance-stop .result) (c .before .before .before .before .before .instance-stop .ensures D (H .says)) (c .before .before .before .before .if1 .taken) _
+    let back8 = c .before .before .before .before .before .before .before .before in
+    let instance-stop = c .before .before .before .before .before .instance-stop in
+    let a = back8 .before .before .args in
+    stopped-answer D (a .instance .now) (a .run .now) (instance-stop .result) (instance-stop .ensures D (H .says))
+    (c .before .before .before .before .if1 .taken) _
     (a .work .now) (cleared (a .work .now) _ (c .before .before .put-zeros .ensures))
 
-slice-aggregate-play-run : tie.Need-slice-aggregate-play-run
-slice-aggregate-play-run c = search needs
-
 play-run-requires : tie.Need-play-run-requires
-play-run-requires c κs = let p = c .before .before .before .before .before .before .before .before .pre in (p .0, (p .1, refl))
-
-answer-by-requires : tie.Need-answer-by-requires
-answer-by-requires c κs = search needs
-
-same-length-2 : tie.Need-same-length-2
-same-length-2 c = search needs
+play-run-requires c κs =
+    let back8 = c .before .before .before .before .before .before .before .before in
+    let p = back8 .pre in (p .0, (p .1, refl))
 
 returns-2 : tie.Need-returns-2
 returns-2 c D H wf =
-    let a = c .before .before .before .before .before .before .before .before .before .before .before .before .before .before .before .args in
-    let e = c .before .before .before .before .before .before .play-run .ensures D H in
-    let z = sym (c .before .before .before .before .before .before .before .before .before .before .instance-stop .ensures D (H
-    .says)) ∙ c .before .before .before .before .before .before .before .before .before .if1 .left in
-    early-answer D (a .instance .now) (a .run .now) z (c .before .before .before .before .before .before .play-run .result) (e .0)
+    let back8 = c .before .before .before .before .before .before .before .before in
+    let play-run = c .before .before .before .before .before .before .play-run in
+    let a = back8 .before .before .before .before .before .before .before .args in
+    let e = play-run .ensures D H in
+    let z = sym (back8 .before .before .instance-stop .ensures D (H
+    .says)) ∙ back8 .before .if1 .left in
+    early-answer D (a .instance .now) (a .run .now) z (play-run .result) (e .0)
     (not-true _ (c .before .if2 .taken)) (c .answer-by .result)
     (c .answer-by .ensures (playRun D (a .run .now)) (e .0)) _ (a .work .now) (e .1)
 
-slice-aggregate-total-of : tie.Need-slice-aggregate-total-of
-slice-aggregate-total-of c = search needs
-
 total-of-requires : tie.Need-total-of-requires
 total-of-requires c κs =
-    let a = c .before .before .before .before .before .before .before .before .before .before .before .before .before .before .before .before .args in
-    let p = c .before .before .before .before .before .before .before .before .before .before .before .before .before .before .before .before .pre in
+    let back8 = c .before .before .before .before .before .before .before .before in
+    let back16 = back8 .before .before .before .before .before .before .before .before in
+    let play-run = c .before .before .before .before .before .before .before .play-run in
+    let a = back16 .args in
+    let p = back16 .pre in
     let D = p .0 .0 in
     let H = p .0 .1 in
-    let e = c .before .before .before .before .before .before .before .play-run .ensures D H in
+    let e = play-run .ensures D H in
     let n = ap (λ (x : Ended). x .facts) (e .0) in
     let k = kept-run D (H .says .bounded) (a .run .now) .1 .facts-few in
     let room = p .1 in
-    let l = c .before .before .before .before .before .before .before .play-run .kept .1 .1 .1 .0 in (
+    let l = play-run .kept .1 .1 .1 .0 in (
       omega arith,
       (
         omega arith,
-        c .before .before .before .before .before .before .before .play-run .kept .1 .1 .1 .1 .0 ∙
+        play-run .kept .1 .1 .1 .1 .0 ∙
             length-replicate {A = ℕ} agendaBytes 0,
       ),
     )
 
-answer-by-requires-2 : tie.Need-answer-by-requires-2
-answer-by-requires-2 c κs = search needs
-
-same-length-3 : tie.Need-same-length-3
-same-length-3 c = search needs
-
 returns-3 : tie.Need-returns-3
 returns-3 c D H wf =
-    let a = c .before .before .before .before .before .before .before .before .before .before .before .before .before .before .before .before .before .before .args in
-    let e = c .before .before .before .before .before .before .before .before .before .play-run .ensures D H in
+    let back8 = c .before .before .before .before .before .before .before .before in
+    let back16 = back8 .before .before .before .before .before .before .before .before in
+    let play-run = back8 .before .play-run in
+    let total-of = c .before .total-of in
+    let a = back16 .before .before .args in
+    let e = play-run .ensures D H in
     let o = playRun D (a .run .now) in
-    let z = sym (c .before .before .before .before .before .before .before .before .before .before .before .before .before .instance-stop .ensures D (H .says)) ∙ c .before .before .before .before .before .before .before .before .before .before .before .before .if1 .left in
+    let z = sym (back8 .before .before .before .before .before .instance-stop .ensures D (H .says))
+    ∙ back8 .before .before .before .before .if1 .left in
     let k = kept-run D (H .says .bounded) (a .run .now) .1 in
     let n = ap (λ (x : Ended). x .facts) (e .0) in
-    total-answer D (a .instance .now) (a .run .now) z (c .before .before .before .before .before .before .before .before .before .play-run .result) (e .0) (not-false _ (c .before .before .before .before .if2 .left)) (c .answer-by2 .result)
-    (c .answer-by2 .ensures o (e .0)) (c .before .total-of .result)
-    (c .before .total-of .ensures D (record { facts = o .facts; running = o .running }) H wf
+    total-answer D (a .instance .now) (a .run .now) z (play-run .result) (e .0) (not-false _ (c .before .before .before .before .if2 .left))
+    (c .answer-by2 .result)
+    (c .answer-by2 .ensures o (e .0)) (total-of .result)
+    (total-of .ensures D (record { facts = o .facts; running = o .running }) H wf
     (end-rows D (H .says .bounded) (o .facts) (k .facts) (k .facts-few) _ n _ (a .work .now) (e .1)) (k .facts) (e .2) (k .running) (k
     .running-few))
     _ (a .work .now) (e .1)
@@ -98,17 +90,17 @@ pub track-run-spec : {M : Type 1} → statement M
 track-run-spec =
     tie.close
     (tie.spec
-    instance-stop-requires
+    (λ c κs. search needs)  -- instance-stop-requires
     put-zeros-requires
-    same-length
+    (λ c. search needs)  -- same-length
     returns
-    slice-aggregate-play-run
+    (λ c. search needs)  -- slice-aggregate-play-run
     play-run-requires
-    answer-by-requires
-    same-length-2
+    (λ c κs. search needs)  -- answer-by-requires
+    (λ c. search needs)  -- same-length-2
     returns-2
-    slice-aggregate-total-of
+    (λ c. search needs)  -- slice-aggregate-total-of
     total-of-requires
-    answer-by-requires-2
-    same-length-3
+    (λ c κs. search needs)  -- answer-by-requires-2
+    (λ c. search needs)  -- same-length-3
     returns-3)

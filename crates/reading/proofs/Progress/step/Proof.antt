@@ -14,60 +14,41 @@ returns c q old S = step-behind _ _ S (c .before .if1 .taken) (c .if2 .taken)
 returns-2 : tie.Need-returns-2
 returns-2 c q old S = step-end _ _ S (c .before .if1 .taken) (c .if2 .left)
 
-record-at-requires : tie.Need-record-at-requires
-record-at-requires c κs = search needs
-
-enum-known-kind : tie.Need-enum-known-kind
-enum-known-kind c = search needs
-
 add-end : tie.Need-add-end
 add-end c = let w = whole-within _ _ (sym (c .before .before .before .record-at .ensures) ∙ c .before .kind .given .1) in omega arith
-
-sub-take-record : tie.Need-sub-take-record
-sub-take-record c = search needs
-
-part-take-record-start : tie.Need-part-take-record-start
-part-take-record-start c = search needs
 
 part-take-record-end : tie.Need-part-take-record-end
 part-take-record-end c = let w = whole-within _ _ (sym (c .before .before .before .before .before .record-at .ensures) ∙ c .before .before .before .kind .given .1) in omega arith
 
 take-record-requires : tie.Need-take-record-requires
-take-record-requires c κs = record-ready (c .before .before .before .before .before .before .before .before .before .before .pre) (sym (c .before .before .before .before .before .before .record-at .ensures) ∙ c .before .before .before .before .kind .given .1)
-
-same-length : tie.Need-same-length
-same-length c = search needs
+take-record-requires c κs =
+    let back8 = c .before .before .before .before .before .before .before .before in
+    record-ready (back8 .before .before .pre)
+    (sym (c .before .before .before .before .before .before .record-at .ensures) ∙ c .before .before .before .before .kind .given .1)
 
 returns-3 : tie.Need-returns-3
 returns-3 c q old S =
+    let back8 = c .before .before .before .before .before .before .before .before in
     let t = c .before .before .before .take-record in
-    step-on _ _ S (c .before .before .before .before .before .before .before .before .before .before .before .if1 .left)
-    (sym (c .before .before .before .before .before .before .before .before .before .before .record-at .ensures)
-    ∙ c .before .before .before .before .before .before .before .before .kind .given .1)
+    step-on _ _ S (back8 .before .before .before .if1 .left)
+    (sym (back8 .before .before .record-at .ensures)
+    ∙ back8 .kind .given .1)
     (t .result) (t .ensures .0 (q .sofar) old (S .holds))
     (t .ensures .1 (q .sofar) (held-over (S .holds))) (c .if3 .taken)
 
-wide-requires : tie.Need-wide-requires
-wide-requires c κs = search needs
-
 add-t29 : tie.Need-add-t29
-add-t29 c = let w = whole-within _ _ (sym (c .before .before .before .before .before .before .before .before .before .before .before .record-at .ensures) ∙ c .before .before .before .before .before .before .before .before .before .kind .given .1) in omega (arith, c .wide .ensures .1, c .before .before .before .before .before .before .before .before .before .before .before .before .before .before .before .pre .short)
-
-enum-told : tie.Need-enum-told
-enum-told c = search needs
-
-enum-told-2 : tie.Need-enum-told-2
-enum-told-2 c = search needs
-
-same-length-2 : tie.Need-same-length-2
-same-length-2 c = search needs
+add-t29 c =
+    let back8 = c .before .before .before .before .before .before .before .before in
+    let w = whole-within _ _ (sym (back8 .before .before .before .record-at .ensures) ∙ back8 .before .kind .given .1) in
+    omega (arith, c .wide .ensures .1, back8 .before .before .before .before .before .before .before .pre .short)
 
 returns-4 : tie.Need-returns-4
 returns-4 c q old S =
+    let back8 = c .before .before .before .before .before .before .before .before in
     let t = c .before .before .before .before .take-record in
-    step-stop _ _ S (c .before .before .before .before .before .before .before .before .before .before .before .before .if1 .left)
-    (sym (c .before .before .before .before .before .before .before .before .before .before .before .record-at .ensures)
-    ∙ c .before .before .before .before .before .before .before .before .before .kind .given .1)
+    step-stop _ _ S (back8 .before .before .before .before .if1 .left)
+    (sym (back8 .before .before .before .record-at .ensures)
+    ∙ back8 .before .kind .given .1)
     (t .result) (t .ensures .0 (q .sofar) old (S .holds))
     (t .ensures .1 (q .sofar) (held-over (S .holds))) (c .before .if3 .left) (c .wide .ensures .0)
 
@@ -83,20 +64,20 @@ step-spec =
     (tie.spec
     returns
     returns-2
-    record-at-requires
-    enum-known-kind
+    (λ c κs. search needs)  -- record-at-requires
+    (λ c. search needs)  -- enum-known-kind
     add-end
-    sub-take-record
-    part-take-record-start
+    (λ c. search needs)  -- sub-take-record
+    (λ c. search needs)  -- part-take-record-start
     part-take-record-end
     take-record-requires
-    same-length
+    (λ c. search needs)  -- same-length
     returns-3
-    wide-requires
+    (λ c κs. search needs)  -- wide-requires
     add-t29
-    enum-told
-    enum-told-2
-    same-length-2
+    (λ c. search needs)  -- enum-told
+    (λ c. search needs)  -- enum-told-2
+    (λ c. search needs)  -- same-length-2
     returns-4
     returns-5
     returns-6)

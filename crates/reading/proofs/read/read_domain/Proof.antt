@@ -13,9 +13,6 @@ Inv-loop s head₀ table₀ progress₀ head table progress = Loop s table₀ pr
 abbrev μ-loop : tie.MeasureT-loop
 μ-loop s head₀ table₀ progress₀ head table progress = length s - progress .at
 
-new-requires : tie.Need-new-requires Inv-loop μ-loop
-new-requires c κs = search needs
-
 returns : tie.Need-returns Inv-loop μ-loop
 returns c = too-long _ _ _ (c .if1 .taken)
 
@@ -31,11 +28,11 @@ loop-less c = loop-falls _ _ _ _ _ (c .before .before .before .before .before .b
 loop-again : tie.Need-loop-again Inv-loop μ-loop
 loop-again c = loop-on _ _ _ _ _ (c .before .before .before .before .before .before .before .loop .inv) _ _ _ (c .before .before .before .before .step .ensures) (c .before .if2 .taken)
 
-end-of-requires : tie.Need-end-of-requires Inv-loop μ-loop
-end-of-requires c κs = search needs
-
 same-length : tie.Need-same-length Inv-loop μ-loop
-same-length c = c .before .before .before .before .step .kept .1 .1 .1 .0 ∙ loop-table (c .before .before .before .before .before .before .before .loop .inv) (c .before .before .before .before .before .before .before .before .before .before .before .before .pre .1)
+same-length c =
+    let back8 = c .before .before .before .before .before .before .before .before in
+    c .before .before .before .before .step .kept .1 .1 .1 .0
+    ∙ loop-table (c .before .before .before .before .before .before .before .loop .inv) (back8 .before .before .before .before .pre .1)
 
 returns-2 : tie.Need-returns-2 Inv-loop μ-loop
 returns-2 c = loop-answer _ _ _ _ _ (c .before .before .before .before .before .before .before .loop .inv) _ _ _ (c .before .before .before .before .step .ensures) (c .before .if2 .left) _ (c .end-of .ensures)
@@ -46,12 +43,12 @@ read-domain-spec =
     (tie.spec
     Inv-loop
     μ-loop
-    new-requires
+    (λ c κs. search needs)  -- new-requires
     returns
     loop-holds
     step-requires
     loop-less
     loop-again
-    end-of-requires
+    (λ c κs. search needs)  -- end-of-requires
     same-length
     returns-2)

@@ -8,9 +8,6 @@ use borrow.Author.Tests.{not-true}
 use Rattle.reading.proofs.take.component_fault.Statement.{statement}
 use Rattle.reading.proofs.take.component_fault.Tie as tie
 
-component-fields-requires : tie.Need-component-fields-requires
-component-fields-requires c κs = search needs
-
 returns : tie.Need-returns
 returns c = (
   λ D K. component-fields-stop K _ (c .before .component-fields .ensures) (λ z. c .if1 .taken z),
@@ -21,9 +18,6 @@ shared-slice-read-is-used : tie.Need-shared-slice-read-is-used
 shared-slice-read-is-used c =
     let f = component-short _ _ (c .before .before .component-fields .ensures) (omega arith) in
     omega (arith, f .0)
-
-is-used-requires : tie.Need-is-used-requires
-is-used-requires c κs = search needs
 
 returns-2 : tie.Need-returns-2
 returns-2 c = (
@@ -52,71 +46,72 @@ returns-3 c = (
   λ z. absurd (omega arith),
 )
 
-clears-in-requires : tie.Need-clears-in-requires
-clears-in-requires c κs = search needs
-
 returns-4 : tie.Need-returns-4
-returns-4 c = (
-  λ D K.
-      let f = c .before .before .before .before .before .before .before .before .before .component-fields .ensures in
-      let u = c .before .before .before .before .before .before .is-used .ensures in
-      let k = c .before .before .before .before .keys-with .ensures .0 D (K .says) in
-      component-plain K _ f (omega arith) u (c .before .before .before .before .before .if2 .left) k (c .before .before .before .label-fields .ensures) (omega arith)
-      (sym (c .before .clears-in .ensures) ∙ not-true _ (c .if4 .taken)),
-  λ z. component-short _ _ (c .before .before .before .before .before .before .before .before .before .component-fields .ensures) (omega arith) .1,
-)
-
-all-rows-requires : tie.Need-all-rows-requires
-all-rows-requires c κs = search needs
+returns-4 c =
+    let back8 = c .before .before .before .before .before .before .before .before in
+    let component-fields = back8 .before .component-fields in (
+      λ D K.
+          let f = component-fields .ensures in
+          let u = c .before .before .before .before .before .before .is-used .ensures in
+          let k = c .before .before .before .before .keys-with .ensures .0 D (K .says) in
+          component-plain K _ f (omega arith) u (c .before .before .before .before .before .if2 .left) k
+          (c .before .before .before .label-fields .ensures) (omega arith)
+          (sym (c .before .clears-in .ensures) ∙ not-true _ (c .if4 .taken)),
+      λ z. component-short _ _ (component-fields .ensures) (omega arith) .1,
+    )
 
 any-clears-key-requires : tie.Need-any-clears-key-requires
 any-clears-key-requires c κs =
-    let f = component-short _ _ (c .before .before .before .before .before .before .before .before .before .before .component-fields .ensures)
+    let back8 = c .before .before .before .before .before .before .before .before in
+    let f = component-short _ _ (back8 .before .before .component-fields .ensures)
     (omega arith) in
     (c .all-rows .ensures .0, (omega (arith, f .0), f .1))
 
 returns-5 : tie.Need-returns-5
-returns-5 c = (
-  λ D K.
-      let f = c .before .before .before .before .before .before .before .before .before .before .before .before .component-fields .ensures in
-      let u = c .before .before .before .before .before .before .before .before .before .is-used .ensures in
-      let k = c .before .before .before .before .before .before .before .keys-with .ensures .0 D (K .says) in
-      let r = c .before .before .all-rows .ensures .1 D K in
-      let a = c .before .any-clears-key .ensures in
-      component-cleared K _ f (omega arith) u (c .before .before .before .before .before .before .before .before .if2 .left) k
-      (c .before .before .before .before .before .before .label-fields .ensures) (omega arith) r a (c .if5 .taken),
-  λ z. absurd (omega arith),
-)
+returns-5 c =
+    let back8 = c .before .before .before .before .before .before .before .before in (
+      λ D K.
+          let f = back8 .before .before .before .before .component-fields .ensures in
+          let u = back8 .before .is-used .ensures in
+          let k = c .before .before .before .before .before .before .before .keys-with .ensures .0 D (K .says) in
+          let r = c .before .before .all-rows .ensures .1 D K in
+          let a = c .before .any-clears-key .ensures in
+          component-cleared K _ f (omega arith) u (back8 .if2 .left) k
+          (c .before .before .before .before .before .before .label-fields .ensures) (omega arith) r a (c .if5 .taken),
+      λ z. absurd (omega arith),
+    )
 
 returns-6 : tie.Need-returns-6
-returns-6 c = (
-  λ D K.
-      let f = c .before .before .before .before .before .before .before .before .before .before .before .before .component-fields .ensures in
-      let u = c .before .before .before .before .before .before .before .before .before .is-used .ensures in
-      let k = c .before .before .before .before .before .before .before .keys-with .ensures .0 D (K .says) in
-      let r = c .before .before .all-rows .ensures .1 D K in
-      let a = c .before .any-clears-key .ensures in
-      component-kept K _ f (omega arith) u (c .before .before .before .before .before .before .before .before .if2 .left) k
-      (c .before .before .before .before .before .before .label-fields .ensures) (omega arith) r a (c .if5 .left),
-  λ z. component-short _ _ (c .before .before .before .before .before .before .before .before .before .before .before .before .component-fields .ensures)
-      (omega arith) .1,
-)
+returns-6 c =
+    let back8 = c .before .before .before .before .before .before .before .before in
+    let component-fields = back8 .before .before .before .before .component-fields in (
+      λ D K.
+          let f = component-fields .ensures in
+          let u = back8 .before .is-used .ensures in
+          let k = c .before .before .before .before .before .before .before .keys-with .ensures .0 D (K .says) in
+          let r = c .before .before .all-rows .ensures .1 D K in
+          let a = c .before .any-clears-key .ensures in
+          component-kept K _ f (omega arith) u (back8 .if2 .left) k
+          (c .before .before .before .before .before .before .label-fields .ensures) (omega arith) r a (c .if5 .left),
+      λ z. component-short _ _ (component-fields .ensures)
+          (omega arith) .1,
+    )
 
 pub component-fault-spec : {M : Type 1} → statement M
 component-fault-spec =
     tie.close
     (tie.spec
-    component-fields-requires
+    (λ c κs. search needs)  -- component-fields-requires
     returns
     shared-slice-read-is-used
-    is-used-requires
+    (λ c κs. search needs)  -- is-used-requires
     returns-2
     keys-with-requires
     label-fields-requires
     returns-3
-    clears-in-requires
+    (λ c κs. search needs)  -- clears-in-requires
     returns-4
-    all-rows-requires
+    (λ c κs. search needs)  -- all-rows-requires
     any-clears-key-requires
     returns-5
     returns-6)

@@ -8,29 +8,22 @@ use borrow.Author.Needs.{needs}
 use Rattle.reading.proofs.take.take_action.Statement.{statement}
 use Rattle.reading.proofs.take.take_action.Tie as tie
 
-components-in-requires : tie.Need-components-in-requires
-components-in-requires c κs = search needs
-
 returns : tie.Need-returns
 returns c D F = let b = c .before .components-in .ensures .0 in take-stop F actionRecord _ (action-behind-components (F .says) _ (omega arith)) (not-zero 12)
 
-actions-in-requires : tie.Need-actions-in-requires
-actions-in-requires c κs = search needs
-
 returns-2 : tie.Need-returns-2
 returns-2 c D F = let a = c .before .actions-in .ensures .0 in let b = c .before .before .before .before .components-in .ensures .0 in take-stop F actionRecord _ (action-full (F .says) _ (omega arith) (omega arith)) (not-zero 13)
-
-action-fields-requires : tie.Need-action-fields-requires
-action-fields-requires c κs = search needs
 
 add-action-requires : tie.Need-add-action-requires
 add-action-requires c κs = let a = c .before .before .before .before .actions-in .ensures .0 in let q = action-passes _ (sym (c .before .before .action-fields .ensures) ∙ c .before .if3 .taken) .0 in (omega arith, omega arith)
 
 returns-3 : tie.Need-returns-3
 returns-3 c D F =
+    let back8 = c .before .before .before .before .before .before .before .before in
     let a = c .before .before .before .before .before .actions-in .ensures .0 in
-    let b = c .before .before .before .before .before .before .before .before .components-in .ensures .0 in
-    let n = action-number (F .says) _ (omega arith) (omega arith) (c .before .before .before .action-fields .ensures) ∙ c .before .before .if3 .taken in
+    let b = back8 .components-in .ensures .0 in
+    let n = action-number (F .says) _ (omega arith) (omega arith) (c .before .before .before .action-fields .ensures)
+    ∙ c .before .before .if3 .taken in
     take-done D actionRecord _ n refl (c .add-action .ensures D F n)
 
 returns-4 : tie.Need-returns-4
@@ -40,11 +33,11 @@ pub take-action-spec : {M : Type 1} → statement M
 take-action-spec =
     tie.close
     (tie.spec
-    components-in-requires
+    (λ c κs. search needs)  -- components-in-requires
     returns
-    actions-in-requires
+    (λ c κs. search needs)  -- actions-in-requires
     returns-2
-    action-fields-requires
+    (λ c κs. search needs)  -- action-fields-requires
     add-action-requires
     returns-3
     returns-4)

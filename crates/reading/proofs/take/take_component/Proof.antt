@@ -9,9 +9,6 @@ use borrow.Author.Needs.{needs}
 use Rattle.reading.proofs.take.take_component.Statement.{statement}
 use Rattle.reading.proofs.take.take_component.Tie as tie
 
-components-in-requires : tie.Need-components-in-requires
-components-in-requires c κs = search needs
-
 returns : tie.Need-returns
 returns c =
     let b = c .before .components-in .ensures .0 in (
@@ -21,14 +18,12 @@ returns c =
       λ D K. component-full-place (K .says) _ (omega arith),
     )
 
-component-fault-requires : tie.Need-component-fault-requires
-component-fault-requires c κs = search needs
-
 add-component-requires : tie.Need-add-component-requires
 add-component-requires c κs =
+    let back8 = c .before .before .before .before .before .before .before .before in
     let b = c .before .before .before .before .before .components-in .ensures .0 in
     let f = c .before .before .component-fault .ensures .1 (c .before .if2 .taken) in
-    (c .before .before .before .before .before .before .before .before .before .pre, (omega arith, f))
+    (back8 .before .pre, (omega arith, f))
 
 returns-2 : tie.Need-returns-2
 returns-2 c =
@@ -56,9 +51,9 @@ pub take-component-spec : {M : Type 1} → statement M
 take-component-spec =
     tie.close
     (tie.spec
-    components-in-requires
+    (λ c κs. search needs)  -- components-in-requires
     returns
-    component-fault-requires
+    (λ c κs. search needs)  -- component-fault-requires
     add-component-requires
     returns-2
     returns-3)

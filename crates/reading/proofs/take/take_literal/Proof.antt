@@ -11,62 +11,42 @@ use borrow.Author.Needs.{needs}
 use Rattle.reading.proofs.take.take_literal.Statement.{statement}
 use Rattle.reading.proofs.take.take_literal.Tie as tie
 
-actions-in-requires : tie.Need-actions-in-requires
-actions-in-requires c κs = search needs
-
 returns : tie.Need-returns
 returns c =
     λ D old K. row-stop K literalRecord _ (literal-early (K .filled .says) _ (sym (c .before .actions-in .ensures .0) ∙ c .if1 .taken)) (not-zero 12)
-
-components-in-requires : tie.Need-components-in-requires
-components-in-requires c κs = search needs
 
 returns-2 : tie.Need-returns-2
 returns-2 c =
     let b = c .before .components-in .ensures .0 in
     λ D old K. row-stop K literalRecord _ (literal-late (K .filled .says) _ (omega arith)) (not-zero 12)
 
-sub-last : tie.Need-sub-last
-sub-last c = search needs
-
-span-of-requires : tie.Need-span-of-requires
-span-of-requires c κs = search needs
-
-sub-if3 : tie.Need-sub-if3
-sub-if3 c = search needs
-
 returns-3 : tie.Need-returns-3
 returns-3 c =
-    let a = c .before .before .before .before .before .before .before .before .actions-in .ensures .0 in
+    let back8 = c .before .before .before .before .before .before .before .before in
+    let actions-in = back8 .actions-in in
+    let a = actions-in .ensures .0 in
     let b = c .before .before .before .before .before .components-in .ensures .0 in
     let s = c .before .before .span-of .ensures in
     λ D old K.
     let l = K .filled .says .actions in
-    let w : c .before .before .before .before .before .before .before .before .actions-in .result - 1 + 1 ≡ length (D .actions) = omega arith in
+    let w : actions-in .result - 1 + 1 ≡ length (D .actions) = omega arith in
     let S = s .1 .0 D _ (held-over K) (omega arith) .1 in
     let z = span-size w S in
     row-stop K literalRecord _ (literal-full (K .filled .says) _ (omega arith) (omega arith) (omega arith)) (not-zero 13)
 
-literal-shape-requires : tie.Need-literal-shape-requires
-literal-shape-requires c κs = search needs
-
 returns-4 : tie.Need-returns-4
 returns-4 c =
-    let a = c .before .before .before .before .before .before .before .before .before .before .before .actions-in .ensures .0 in
-    let b = c .before .before .before .before .before .before .before .before .components-in .ensures .0 in
+    let back8 = c .before .before .before .before .before .before .before .before in
+    let actions-in = back8 .before .before .before .actions-in in
+    let a = actions-in .ensures .0 in
+    let b = back8 .components-in .ensures .0 in
     let s = c .before .before .before .before .before .span-of .ensures in
     λ D old K.
     let l = K .filled .says .actions in
-    let w : c .before .before .before .before .before .before .before .before .before .before .before .actions-in .result - 1 + 1 ≡ length (D .actions) = omega arith in
+    let w : actions-in .result - 1 + 1 ≡ length (D .actions) = omega arith in
     let S = s .1 .0 D _ (held-over K) (omega arith) .1 in
     literal-stopped K _ _ w (omega arith) (omega arith) S (omega arith)
     (shape-stop (held-over K) _ _ w (c .before .literal-shape .ensures) (λ z. c .if4 .taken z)) (λ z. c .if4 .taken z)
-
-variables-of-requires : tie.Need-variables-of-requires
-variables-of-requires c κs = search needs
-
-any-from-requires : tie.Need-any-from-requires
-any-from-requires c κs = search needs
 
 arguments-fault-requires : tie.Need-arguments-fault-requires
 arguments-fault-requires c κs =
@@ -75,15 +55,19 @@ arguments-fault-requires c κs =
 
 returns-5 : tie.Need-returns-5
 returns-5 c =
-    let a = c .before .before .before .before .before .before .before .before .before .before .before .before .before .before .before .before .actions-in .ensures .0 in
-    let b = c .before .before .before .before .before .before .before .before .before .before .before .before .before .components-in .ensures .0 in
-    let s = c .before .before .before .before .before .before .before .before .before .before .span-of .ensures in
+    let back8 = c .before .before .before .before .before .before .before .before in
+    let back16 = back8 .before .before .before .before .before .before .before .before in
+    let actions-in = back16 .actions-in in
+    let a = actions-in .ensures .0 in
+    let b = back8 .before .before .before .before .before .components-in .ensures .0 in
+    let s = back8 .before .before .span-of .ensures in
     λ D old K.
     let l = K .filled .says .actions in
-    let w : c .before .before .before .before .before .before .before .before .before .before .before .before .before .before .before .before .actions-in .result - 1 + 1 ≡ length (D .actions) = omega arith in
+    let w : actions-in .result - 1 + 1 ≡ length (D .actions) = omega arith in
     let S = s .1 .0 D _ (held-over K) (omega arith) .1 in
     literal-stopped K _ _ w (omega arith) (omega arith) S (omega arith)
-    (arguments-stop (held-over K) _ _ w (c .before .before .before .before .before .before .literal-shape .ensures) (omega arith) (c .before .before .before .variables-of .ensures .0) (c .before .arguments-fault .ensures) (λ z. c .if5 .taken z))
+    (arguments-stop (held-over K) _ _ w (c .before .before .before .before .before .before .literal-shape .ensures) (omega arith)
+    (c .before .before .before .variables-of .ensures .0) (c .before .arguments-fault .ensures) (λ z. c .if5 .taken z))
     (λ z. c .if5 .taken z)
 
 place-literal-requires : tie.Need-place-literal-requires
@@ -105,39 +89,40 @@ place-literal-requires c κs =
     let e = told-every _ _ (omega arith) (c .before .before .before .before .any-from .result) (c .before .before .before .before .any-from .ensures) (sym (c .before .before .before .arguments-fault .ensures) ∙ y) in
     (omega arith, (omega arith, (s .1 .1, (omega arith, (omega arith, (f .0, (f .1, e)))))))
 
-same-length : tie.Need-same-length
-same-length c = search needs
-
 returns-6 : tie.Need-returns-6
 returns-6 c =
-    let a = c .before .before .before .before .before .before .before .before .before .before .before .before .before .before .before .before .before .before .before .before .before .actions-in .ensures .0 in
-    let b = c .before .before .before .before .before .before .before .before .before .before .before .before .before .before .before .before .before .before .components-in .ensures .0 in
-    let s = c .before .before .before .before .before .before .before .before .before .before .before .before .before .before .before .span-of .ensures in
+    let back8 = c .before .before .before .before .before .before .before .before in
+    let back16 = back8 .before .before .before .before .before .before .before .before in
+    let actions-in = back16 .before .before .before .before .before .actions-in in
+    let a = actions-in .ensures .0 in
+    let b = back16 .before .before .components-in .ensures .0 in
+    let s = back8 .before .before .before .before .before .before .before .span-of .ensures in
     λ D old K.
     let l = K .filled .says .actions in
-    let w : c .before .before .before .before .before .before .before .before .before .before .before .before .before .before .before .before .before .before .before .before .before .actions-in .result - 1 + 1 ≡ length (D .actions) = omega arith in
+    let w : actions-in .result - 1 + 1 ≡ length (D .actions) = omega arith in
     let S = s .1 .0 D _ (held-over K) (omega arith) .1 in
-    literal-placed K _ _ w (omega arith) (omega arith) S (omega arith) (c .before .before .before .before .before .before .before .before .before .before .before .literal-shape .ensures) (omega arith)
-    (c .before .before .before .before .before .before .before .before .variables-of .ensures .0) (c .before .before .before .before .before .before .arguments-fault .ensures) (omega arith) (c .before .before .place-literal .ensures)
+    literal-placed K _ _ w (omega arith) (omega arith) S (omega arith) (back8 .before .before .before .literal-shape .ensures) (omega arith)
+    (back8 .variables-of .ensures .0) (c .before .before .before .before .before .before .arguments-fault .ensures) (omega arith)
+    (c .before .before .place-literal .ensures)
 
 pub take-literal-spec : {M : Type 1} → statement M
 take-literal-spec =
     tie.close
     (tie.spec
-    actions-in-requires
+    (λ c κs. search needs)  -- actions-in-requires
     returns
-    components-in-requires
+    (λ c κs. search needs)  -- components-in-requires
     returns-2
-    sub-last
-    span-of-requires
-    sub-if3
+    (λ c. search needs)  -- sub-last
+    (λ c κs. search needs)  -- span-of-requires
+    (λ c. search needs)  -- sub-if3
     returns-3
-    literal-shape-requires
+    (λ c κs. search needs)  -- literal-shape-requires
     returns-4
-    variables-of-requires
-    any-from-requires
+    (λ c κs. search needs)  -- variables-of-requires
+    (λ c κs. search needs)  -- any-from-requires
     arguments-fault-requires
     returns-5
     place-literal-requires
-    same-length
+    (λ c. search needs)  -- same-length
     returns-6)

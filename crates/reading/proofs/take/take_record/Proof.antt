@@ -10,21 +10,6 @@ use borrow.Author.Needs.{needs}
 use Rattle.reading.proofs.take.take_record.Statement.{statement}
 use Rattle.reading.proofs.take.take_record.Tie as tie
 
-take-relation-requires : tie.Need-take-relation-requires
-take-relation-requires c κs = search needs
-
-take-action-requires : tie.Need-take-action-requires
-take-action-requires c κs = search needs
-
-take-literal-requires : tie.Need-take-literal-requires
-take-literal-requires c κs = search needs
-
-take-component-requires : tie.Need-take-component-requires
-take-component-requires c κs = search needs
-
-take-closing-requires : tie.Need-take-closing-requires
-take-closing-requires c κs = search needs
-
 returns : tie.Need-returns
 returns c =
     let a = c .before .before .before .before .before .args in
@@ -41,19 +26,14 @@ returns-2 c =
       λ D H. place-by D (a .p .now) (a .kind) actionRecord e (sym (place-record D actionRecord _ refl)),
     )
 
-same-length : tie.Need-same-length
-same-length c = search needs
-
 returns-3 : tie.Need-returns-3
 returns-3 c =
-    let a = c .before .before .before .before .before .before .before .before .args in
+    let back8 = c .before .before .before .before .before .before .before .before in
+    let a = back8 .args in
     let e = kind-3 (a .kind) (omega arith) in (
       λ D old K. by-kind D (a .p .now) (a .kind) literalRecord e (c .before .before .take-literal .ensures D old K),
       λ D H. place-by D (a .p .now) (a .kind) literalRecord e (sym (place-record D literalRecord _ refl)),
     )
-
-same-length-2 : tie.Need-same-length-2
-same-length-2 c = search needs
 
 returns-4 : tie.Need-returns-4
 returns-4 c =
@@ -83,16 +63,16 @@ pub take-record-spec : {M : Type 1} → statement M
 take-record-spec =
     tie.close
     (tie.spec
-    take-relation-requires
-    take-action-requires
-    take-literal-requires
-    take-component-requires
-    take-closing-requires
+    (λ c κs. search needs)  -- take-relation-requires
+    (λ c κs. search needs)  -- take-action-requires
+    (λ c κs. search needs)  -- take-literal-requires
+    (λ c κs. search needs)  -- take-component-requires
+    (λ c κs. search needs)  -- take-closing-requires
     returns
     returns-2
-    same-length
+    (λ c. search needs)  -- same-length
     returns-3
-    same-length-2
+    (λ c. search needs)  -- same-length-2
     returns-4
     returns-5
     returns-6)

@@ -18,21 +18,12 @@ abbrev μ-loop : tie.MeasureT-loop
 loop-holds : tie.Need-loop-holds Inv-loop μ-loop
 loop-holds c = let a = c .args in (omega arith, paste-zero (a .out .now) (a .at) (replicate (a .n) 0))
 
-add-out : tie.Need-add-out Inv-loop μ-loop
-add-out c = omega arith
-
 slice-write-out : tie.Need-slice-write-out Inv-loop μ-loop
 slice-write-out c =
     let a = c .before .before .args in
     let l = c .before .loop in
     let e = paste-length (replicate (a .n) 0) (a .out .now) (l .out) (a .at) (l .i) (a .n) (omega arith) (length-replicate (a .n) 0) (l .inv .1) (l .inv .0) in
     omega arith
-
-add-i : tie.Need-add-i Inv-loop μ-loop
-add-i c = omega arith
-
-loop-less : tie.Need-loop-less Inv-loop μ-loop
-loop-less c = omega arith
 
 loop-again : tie.Need-loop-again Inv-loop μ-loop
 loop-again c =
@@ -59,10 +50,10 @@ put-zeros-spec =
     Inv-loop
     μ-loop
     loop-holds
-    add-out
+    (λ c. omega arith)  -- add-out
     slice-write-out
-    add-i
-    loop-less
+    (λ c. omega arith)  -- add-i
+    (λ c. omega arith)  -- loop-less
     loop-again
     same-length
     returns)

@@ -11,32 +11,11 @@ use Rattle.store.proofs.Totals.{Bytes, rows-eight, held-none, held-one}
 use Rattle.store.proofs.index.is_held.Statement.{statement}
 use Rattle.store.proofs.index.is_held.Tie as tie
 
-slot-of-requires : tie.Need-slot-of-requires
-slot-of-requires c κs = search needs
-
-mul-count : tie.Need-mul-count
-mul-count c = search needs
-
-element-copy-out-count : tie.Need-element-copy-out-count
-element-copy-out-count c = search needs
-
 returns : tie.Need-returns
 returns c = let a = c .before .before .before .before .args in
     let o = c .before .before .slot-of in
     λ head i z.
     held-none (a .index .now) (rowsIn (a .n) (a .memory .now)) i (omega (arith, length-rows 8 (a .n) (a .memory .now))) (a .row) (o .result) (o .ensures .0) (c .if1 .taken)
-
-add-result : tie.Need-add-result
-add-result c = search needs
-
-mul-result : tie.Need-mul-result
-mul-result c = search needs
-
-element-copy-out-result : tie.Need-element-copy-out-result
-element-copy-out-result c = search needs
-
-word-of-requires : tie.Need-word-of-requires
-word-of-requires c κs = search needs
 
 returns-2 : tie.Need-returns-2
 returns-2 c = let a = c .before .before .before .before .before .before .before .args in
@@ -48,24 +27,18 @@ returns-2 c = let a = c .before .before .before .before .before .before .before 
     held-one (a .index .now) (rowsIn (a .n) (a .memory .now)) i (omega (arith, length-rows 8 (a .n) (a .memory .now))) (a .row) (o .result) (o .ensures .0)
     (c .before .before .if2 .taken) (c .word-of .result) (c .word-of .ensures .0) (l, b) (rows-eight (a .n) (a .memory .now) (omega arith) m) z
 
-has-row-requires : tie.Need-has-row-requires
-has-row-requires c κs = search needs
-
-returns-3 : tie.Need-returns-3
-returns-3 c = search needs
-
 pub is-held-spec : {M : Type 1} → statement M
 is-held-spec =
     tie.close
     (tie.spec
-    slot-of-requires
-    mul-count
-    element-copy-out-count
+    (λ c κs. search needs)  -- slot-of-requires
+    (λ c. search needs)  -- mul-count
+    (λ c. search needs)  -- element-copy-out-count
     returns
-    add-result
-    mul-result
-    element-copy-out-result
-    word-of-requires
+    (λ c. search needs)  -- add-result
+    (λ c. search needs)  -- mul-result
+    (λ c. search needs)  -- element-copy-out-result
+    (λ c κs. search needs)  -- word-of-requires
     returns-2
-    has-row-requires
-    returns-3)
+    (λ c κs. search needs)  -- has-row-requires
+    (λ c. search needs))  -- returns-3

@@ -12,32 +12,11 @@ use borrow.Author.Needs.{needs}
 use Rattle.store.proofs.instances.instance_byte.Statement.{statement}
 use Rattle.store.proofs.instances.instance_byte.Tie as tie
 
-component-byte-requires : tie.Need-component-byte-requires
-component-byte-requires c κs = search needs
-
 returns : tie.Need-returns
 returns c =
     let a = c .before .before .before .args in
     instance-first (a .arity) (a .counted .0) (take 8 (a .instance .now)) (a .head .now) (a .c) (c .before .before .before .pre .1 .0)
     (a .i) _ (omega arith) (c .component-byte .ensures)
-
-returns-2 : tie.Need-returns-2
-returns-2 c = search needs
-
-add-if3 : tie.Need-add-if3
-add-if3 c = search needs
-
-sub-component-byte : tie.Need-sub-component-byte
-sub-component-byte c = search needs
-
-component-byte-requires-2 : tie.Need-component-byte-requires-2
-component-byte-requires-2 c κs = search needs
-
-label-of-requires : tie.Need-label-of-requires
-label-of-requires c κs = search needs
-
-object-under-requires : tie.Need-object-under-requires
-object-under-requires c κs = search needs
 
 returns-3 : tie.Need-returns-3
 returns-3 c =
@@ -61,13 +40,13 @@ pub instance-byte-spec : {M : Type 1} → statement M
 instance-byte-spec =
     tie.close
     (tie.spec
-    component-byte-requires
+    (λ c κs. search needs)  -- component-byte-requires
     returns
-    returns-2
-    add-if3
-    sub-component-byte
-    component-byte-requires-2
-    label-of-requires
-    object-under-requires
+    (λ c. search needs)  -- returns-2
+    (λ c. search needs)  -- add-if3
+    (λ c. search needs)  -- sub-component-byte
+    (λ c κs. search needs)  -- component-byte-requires-2
+    (λ c κs. search needs)  -- label-of-requires
+    (λ c κs. search needs)  -- object-under-requires
     returns-3
     returns-4)

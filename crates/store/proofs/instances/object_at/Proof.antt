@@ -5,12 +5,6 @@ use borrow.Author.Needs.{needs}
 use Rattle.store.proofs.instances.object_at.Statement.{statement}
 use Rattle.store.proofs.instances.object_at.Tie as tie
 
-cast-o : tie.Need-cast-o
-cast-o c = search needs
-
-shared-slice-read-o : tie.Need-shared-slice-read-o
-shared-slice-read-o c = search needs
-
 returns : tie.Need-returns
 returns c = let a = c .before .before .before .before .args in object-key (a .k .0) (a .instance .now) (omega arith)
 
@@ -20,4 +14,8 @@ returns-2 c = let a = c .before .before .args in object-none (a .k .0) (a .insta
 pub object-at-spec : {M : Type 1} → statement M
 object-at-spec =
     tie.close
-    (tie.spec cast-o shared-slice-read-o returns returns-2)
+    (tie.spec
+    (λ c. search needs)  -- cast-o
+    (λ c. search needs)  -- shared-slice-read-o
+    returns
+    returns-2)

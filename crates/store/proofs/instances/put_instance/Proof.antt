@@ -28,12 +28,6 @@ Inv-loop out₀ at head c instance counted arity i₀ out i =
 abbrev μ-loop : tie.MeasureT-loop
 μ-loop out₀ at head c instance counted arity i₀ out i = 8 - i
 
-component-byte-requires : tie.Need-component-byte-requires Inv-loop μ-loop
-component-byte-requires c κs = search needs
-
-arity-of-requires : tie.Need-arity-of-requires Inv-loop μ-loop
-arity-of-requires c κs = search needs
-
 loop-holds : tie.Need-loop-holds Inv-loop μ-loop
 loop-holds c =
     let a = c .before .before .before .before .args in
@@ -45,12 +39,6 @@ loop-holds c =
       paste-zero (a .out .now) (a .at) f,
     )
 
-instance-byte-requires : tie.Need-instance-byte-requires Inv-loop μ-loop
-instance-byte-requires c κs = search needs
-
-add-out : tie.Need-add-out Inv-loop μ-loop
-add-out c = search needs
-
 slice-write-out : tie.Need-slice-write-out Inv-loop μ-loop
 slice-write-out c =
     let a = c .before .before .before .before .before .before .before .args in
@@ -60,12 +48,6 @@ slice-write-out c =
     let n = length-fact r (a .counted .0) (a .instance .now) (a .head .now) (a .c) (l .inv .1) in
     let z = paste-length f (a .out .now) (l .out) (a .at) (l .i) 8 (omega arith) n (l .inv .3) (omega arith) in
     omega arith
-
-add-i : tie.Need-add-i Inv-loop μ-loop
-add-i c = omega arith
-
-loop-less : tie.Need-loop-less Inv-loop μ-loop
-loop-less c = omega arith
 
 loop-again : tie.Need-loop-again Inv-loop μ-loop
 loop-again c =
@@ -104,14 +86,14 @@ put-instance-spec =
     (tie.spec
     Inv-loop
     μ-loop
-    component-byte-requires
-    arity-of-requires
+    (λ c κs. search needs)  -- component-byte-requires
+    (λ c κs. search needs)  -- arity-of-requires
     loop-holds
-    instance-byte-requires
-    add-out
+    (λ c κs. search needs)  -- instance-byte-requires
+    (λ c. search needs)  -- add-out
     slice-write-out
-    add-i
-    loop-less
+    (λ c. omega arith)  -- add-i
+    (λ c. omega arith)  -- loop-less
     loop-again
     same-length
     returns)

@@ -6,15 +6,6 @@ use Rattle.store.proofs.InstanceRows.{component-le, unmatched, matched}
 use Rattle.store.proofs.keys.key_of.Statement.{statement}
 use Rattle.store.proofs.keys.key_of.Tie as tie
 
-shared-slice-read-component-of : tie.Need-shared-slice-read-component-of
-shared-slice-read-component-of c = search needs
-
-component-of-requires : tie.Need-component-of-requires
-component-of-requires c κs = search needs
-
-components-in-requires : tie.Need-components-in-requires
-components-in-requires c κs = search needs
-
 returns : tie.Need-returns
 returns c =
     let a = c .before .before .before .before .before .args in
@@ -37,9 +28,9 @@ pub key-of-spec : {M : Type 1} → statement M
 key-of-spec =
     tie.close
     (tie.spec
-    shared-slice-read-component-of
-    component-of-requires
-    components-in-requires
+    (λ c. search needs)  -- shared-slice-read-component-of
+    (λ c κs. search needs)  -- component-of-requires
+    (λ c κs. search needs)  -- components-in-requires
     returns
     key-tuple-requires
     returns-2)

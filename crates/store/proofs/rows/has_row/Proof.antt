@@ -20,22 +20,10 @@ abbrev μ-loop : tie.MeasureT-loop
 loop-holds : tie.Need-loop-holds Inv-loop μ-loop
 loop-holds c = (omega arith, any-first (sameList eqb (c .before .args .row)) (c .before .args .memory .now) (c .before .args .n))
 
-mul-same-row : tie.Need-mul-same-row Inv-loop μ-loop
-mul-same-row c = omega arith
-
-same-row-requires : tie.Need-same-row-requires Inv-loop μ-loop
-same-row-requires c κs = omega arith
-
 returns : tie.Need-returns Inv-loop μ-loop
 returns c = let a = c .before .before .before .before .before .args in
     let l = c .before .before .before .loop in
     sym (any-hit (sameList eqb (a .row)) (a .memory .now) (a .n) (l .i) (omega arith) (sym (c .before .same-row .ensures) ∙ c .if1 .taken)) ∙ l .inv .1
-
-add-i : tie.Need-add-i Inv-loop μ-loop
-add-i c = omega arith
-
-loop-less : tie.Need-loop-less Inv-loop μ-loop
-loop-less c = omega arith
 
 loop-again : tie.Need-loop-again Inv-loop μ-loop
 loop-again c = let a = c .before .before .before .before .before .args in
@@ -54,10 +42,10 @@ has-row-spec =
     Inv-loop
     μ-loop
     loop-holds
-    mul-same-row
-    same-row-requires
+    (λ c. omega arith)  -- mul-same-row
+    (λ c κs. omega arith)  -- same-row-requires
     returns
-    add-i
-    loop-less
+    (λ c. omega arith)  -- add-i
+    (λ c. omega arith)  -- loop-less
     loop-again
     returns-2)

@@ -17,21 +17,6 @@ abbrev μ-loop : tie.MeasureT-loop
 loop-holds : tie.Need-loop-holds Inv-loop μ-loop
 loop-holds c = let a = c .args in (omega arith, paste-zero (replicate 8 0) 0 (take 8 (drop (a .at) (a .memory .now))))
 
-add-row : tie.Need-add-row Inv-loop μ-loop
-add-row c = omega arith
-
-shared-slice-read-row : tie.Need-shared-slice-read-row Inv-loop μ-loop
-shared-slice-read-row c = omega arith
-
-array-write-row : tie.Need-array-write-row Inv-loop μ-loop
-array-write-row c = omega arith
-
-add-i : tie.Need-add-i Inv-loop μ-loop
-add-i c = omega arith
-
-loop-less : tie.Need-loop-less Inv-loop μ-loop
-loop-less c = omega arith
-
 loop-again : tie.Need-loop-again Inv-loop μ-loop
 loop-again c =
     let a = c .before .before .before .args in
@@ -51,10 +36,10 @@ row-at-spec =
     Inv-loop
     μ-loop
     loop-holds
-    add-row
-    shared-slice-read-row
-    array-write-row
-    add-i
-    loop-less
+    (λ c. omega arith)  -- add-row
+    (λ c. omega arith)  -- shared-slice-read-row
+    (λ c. omega arith)  -- array-write-row
+    (λ c. omega arith)  -- add-i
+    (λ c. omega arith)  -- loop-less
     loop-again
     returns)

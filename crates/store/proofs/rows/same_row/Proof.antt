@@ -16,28 +16,10 @@ Inv-loop memory at row i₀ i = (i ≤ 8) × (sameList eqb (drop i row) (drop i 
 abbrev μ-loop : tie.MeasureT-loop
 μ-loop memory at row i₀ i = 8 - i
 
-loop-holds : tie.Need-loop-holds Inv-loop μ-loop
-loop-holds c = (omega arith, refl)
-
-array-read-if1 : tie.Need-array-read-if1 Inv-loop μ-loop
-array-read-if1 c = search needs
-
-add-if1 : tie.Need-add-if1 Inv-loop μ-loop
-add-if1 c = omega arith
-
-shared-slice-read-if1 : tie.Need-shared-slice-read-if1 Inv-loop μ-loop
-shared-slice-read-if1 c = omega arith
-
 returns : tie.Need-returns Inv-loop μ-loop
 returns c = let a = c .before .before .before .before .args in
     let l = c .before .before .before .loop in
     sym (row-miss 8 (a .t3) (a .memory .now) (a .at) (l .i) (omega arith) (omega arith) (omega arith) (c .if1 .taken)) ∙ l .inv .1
-
-add-i : tie.Need-add-i Inv-loop μ-loop
-add-i c = omega arith
-
-loop-less : tie.Need-loop-less Inv-loop μ-loop
-loop-less c = omega arith
 
 loop-again : tie.Need-loop-again Inv-loop μ-loop
 loop-again c = let a = c .before .before .before .before .args in
@@ -55,12 +37,12 @@ same-row-spec =
     (tie.spec
     Inv-loop
     μ-loop
-    loop-holds
-    array-read-if1
-    add-if1
-    shared-slice-read-if1
+    (λ c. (omega arith, refl))  -- loop-holds
+    (λ c. search needs)  -- array-read-if1
+    (λ c. omega arith)  -- add-if1
+    (λ c. omega arith)  -- shared-slice-read-if1
     returns
-    add-i
-    loop-less
+    (λ c. omega arith)  -- add-i
+    (λ c. omega arith)  -- loop-less
     loop-again
     returns-2)

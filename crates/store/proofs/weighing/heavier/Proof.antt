@@ -12,9 +12,6 @@ use Rattle.store.proofs.Totals.{weight-most}
 use Rattle.store.proofs.weighing.heavier.Statement.{statement}
 use Rattle.store.proofs.weighing.heavier.Tie as tie
 
-key-of-requires : tie.Need-key-of-requires
-key-of-requires c κs = search needs
-
 returns : tie.Need-returns
 returns c = let a = c .before .before .before .before .args in
     let k = c .before .before .key-of in
@@ -23,58 +20,61 @@ returns c = let a = c .before .before .before .before .args in
     let fact = take 8 (drop (a .at) (a .memory .now)) in
     λ i. higher-none (keysIn (a .head .now)) ps rows fact (a .least) (keyed-none (k .result) (keysIn (a .head .now)) ps fact (k .ensures) (not-true (k .result .matched) (c .if1 .taken)))
 
-key-slot-requires : tie.Need-key-slot-requires
-key-slot-requires c κs = search needs
-
-add-if2 : tie.Need-add-if2
-add-if2 c = search needs
-
-mul-if2 : tie.Need-mul-if2
-mul-if2 c = search needs
-
-element-copy-out-if2 : tie.Need-element-copy-out-if2
-element-copy-out-if2 c = search needs
-
 returns-2 : tie.Need-returns-2
-returns-2 c = let a = c .before .before .before .before .before .before .before .before .args in
+returns-2 c =
+    let back8 = c .before .before .before .before .before .before .before .before in
+    let a = back8 .args in
     let k = c .before .before .before .before .before .before .key-of in
     let ps = componentRowsIn (a .head .now) in
     let rows = rowsIn (a .n) (a .memory .now) in
     let fact = take 8 (drop (a .at) (a .memory .now)) in
     let g = c .before .before .key-slot in
-    λ i. higher-old (keysIn (a .head .now)) ps rows fact (a .least) (k .result .row) (keyed-one (k .result) (keysIn (a .head .now)) ps fact (k .ensures) (not-false (k .result .matched) (c .before .before .before .before .if1 .left))) (rowWeight (keysIn (a .head .now)) ps rows (k .result .row)) refl
-    (let w = weight-most (a .index .now) rows i (omega (arith, length-rows 8 (a .n) (a .memory .now))) (k .result .row) (g .result) (g .ensures .0) in omega (arith, c .if2 .taken))
-
-weigh-requires : tie.Need-weigh-requires
-weigh-requires c κs = search needs
+    λ i. higher-old (keysIn (a .head .now)) ps rows fact (a .least) (k .result .row)
+    (keyed-one (k .result) (keysIn (a .head .now)) ps fact (k .ensures)
+    (not-false (k .result .matched) (c .before .before .before .before .if1 .left)))
+    (rowWeight (keysIn (a .head .now)) ps rows (k .result .row)) refl
+    (let w = weight-most (a .index .now) rows i (omega (arith, length-rows 8 (a .n) (a .memory .now))) (k .result .row) (g .result)
+    (g .ensures .0) in omega (arith, c .if2 .taken))
 
 returns-3 : tie.Need-returns-3
-returns-3 c = let a = c .before .before .before .before .before .before .before .before .before .before .args in
-    let k = c .before .before .before .before .before .before .before .before .key-of in
+returns-3 c =
+    let back8 = c .before .before .before .before .before .before .before .before in
+    let weigh = c .before .weigh in
+    let a = back8 .before .before .args in
+    let k = back8 .key-of in
     let ps = componentRowsIn (a .head .now) in
     let rows = rowsIn (a .n) (a .memory .now) in
     let fact = take 8 (drop (a .at) (a .memory .now)) in
-    λ i. higher-new (keysIn (a .head .now)) ps rows fact (a .least) (k .result .row) (keyed-one (k .result) (keysIn (a .head .now)) ps fact (k .ensures) (not-false (k .result .matched) (c .before .before .before .before .before .before .if1 .left))) (c .before .weigh .result) (c .before .weigh .ensures) (c .if3 .taken)
+    λ i. higher-new (keysIn (a .head .now)) ps rows fact (a .least) (k .result .row)
+    (keyed-one (k .result) (keysIn (a .head .now)) ps fact (k .ensures)
+    (not-false (k .result .matched) (c .before .before .before .before .before .before .if1 .left))) (weigh .result) (weigh .ensures)
+    (c .if3 .taken)
 
 returns-4 : tie.Need-returns-4
-returns-4 c = let a = c .before .before .before .before .before .before .before .before .before .before .args in
-    let k = c .before .before .before .before .before .before .before .before .key-of in
+returns-4 c =
+    let back8 = c .before .before .before .before .before .before .before .before in
+    let weigh = c .before .weigh in
+    let a = back8 .before .before .args in
+    let k = back8 .key-of in
     let ps = componentRowsIn (a .head .now) in
     let rows = rowsIn (a .n) (a .memory .now) in
     let fact = take 8 (drop (a .at) (a .memory .now)) in
-    λ i. higher-old (keysIn (a .head .now)) ps rows fact (a .least) (k .result .row) (keyed-one (k .result) (keysIn (a .head .now)) ps fact (k .ensures) (not-false (k .result .matched) (c .before .before .before .before .before .before .if1 .left))) (c .before .weigh .result) (c .before .weigh .ensures) (c .if3 .left)
+    λ i. higher-old (keysIn (a .head .now)) ps rows fact (a .least) (k .result .row)
+    (keyed-one (k .result) (keysIn (a .head .now)) ps fact (k .ensures)
+    (not-false (k .result .matched) (c .before .before .before .before .before .before .if1 .left))) (weigh .result) (weigh .ensures)
+    (c .if3 .left)
 
 pub heavier-spec : {M : Type 1} → statement M
 heavier-spec =
     tie.close
     (tie.spec
-    key-of-requires
+    (λ c κs. search needs)  -- key-of-requires
     returns
-    key-slot-requires
-    add-if2
-    mul-if2
-    element-copy-out-if2
+    (λ c κs. search needs)  -- key-slot-requires
+    (λ c. search needs)  -- add-if2
+    (λ c. search needs)  -- mul-if2
+    (λ c. search needs)  -- element-copy-out-if2
     returns-2
-    weigh-requires
+    (λ c κs. search needs)  -- weigh-requires
     returns-3
     returns-4)

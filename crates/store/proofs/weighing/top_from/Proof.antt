@@ -22,17 +22,8 @@ abbrev μ-loop : tie.MeasureT-loop
 loop-holds : tie.Need-loop-holds Inv-loop μ-loop
 loop-holds c = λ h. refl
 
-mul-heavier : tie.Need-mul-heavier Inv-loop μ-loop
-mul-heavier c = omega arith
-
 heavier-requires : tie.Need-heavier-requires Inv-loop μ-loop
 heavier-requires c κs = (omega arith, (omega arith, omega arith))
-
-add-i : tie.Need-add-i Inv-loop μ-loop
-add-i c = omega arith
-
-loop-less : tie.Need-loop-less Inv-loop μ-loop
-loop-less c = omega arith
 
 loop-again : tie.Need-loop-again Inv-loop μ-loop
 loop-again c = let a = c .before .before .before .before .args in
@@ -55,9 +46,9 @@ top-from-spec =
     Inv-loop
     μ-loop
     loop-holds
-    mul-heavier
+    (λ c. omega arith)  -- mul-heavier
     heavier-requires
-    add-i
-    loop-less
+    (λ c. omega arith)  -- add-i
+    (λ c. omega arith)  -- loop-less
     loop-again
     returns)

@@ -22,23 +22,11 @@ loop-holds : tie.Need-loop-holds Inv-loop μ-loop
 loop-holds c = let a = c .before .args in
     (omega arith, omega arith, weigh-none (keysIn (a .head .now)) (componentRowsIn (a .head .now)) (a .memory .now) (a .row) (a .n))
 
-mul-weight-at : tie.Need-mul-weight-at Inv-loop μ-loop
-mul-weight-at c = omega arith
-
-weight-at-requires : tie.Need-weight-at-requires Inv-loop μ-loop
-weight-at-requires c κs = omega arith
-
 add-weight : tie.Need-add-weight Inv-loop μ-loop
 add-weight c = let a = c .before .before .before .before .args in
     let l = c .before .before .loop in
     let h = adds-few (any (sameList eqb (a .row)) (instanceRows (keysIn (a .head .now)) (componentRowsIn (a .head .now)) (take 8 (drop (8 * l .i) (a .memory .now))))) (c .weight-at .result) (c .weight-at .ensures) in
     omega arith
-
-add-i : tie.Need-add-i Inv-loop μ-loop
-add-i c = omega arith
-
-loop-less : tie.Need-loop-less Inv-loop μ-loop
-loop-less c = omega arith
 
 loop-again : tie.Need-loop-again Inv-loop μ-loop
 loop-again c = let a = c .before .before .before .before .args in
@@ -58,10 +46,10 @@ weigh-spec =
     Inv-loop
     μ-loop
     loop-holds
-    mul-weight-at
-    weight-at-requires
+    (λ c. omega arith)  -- mul-weight-at
+    (λ c κs. omega arith)  -- weight-at-requires
     add-weight
-    add-i
-    loop-less
+    (λ c. omega arith)  -- add-i
+    (λ c. omega arith)  -- loop-less
     loop-again
     returns)

@@ -9,16 +9,10 @@ use Rattle.store.proofs.InstanceRows.{adds-none, adds-one, adds-other}
 use Rattle.store.proofs.weighing.weight_at.Statement.{statement}
 use Rattle.store.proofs.weighing.weight_at.Tie as tie
 
-key-of-requires : tie.Need-key-of-requires
-key-of-requires c κs = search needs
-
 returns : tie.Need-returns
 returns c = let a = c .before .before .before .before .args in
     let k = c .before .before .key-of in
     adds-none (k .result) (keysIn (a .head .now)) (componentRowsIn (a .head .now)) (take 8 (drop (a .at) (a .memory .now))) (a .row) (k .ensures) (not-true (k .result .matched) (c .if1 .taken))
-
-slice-aggregate-same-row : tie.Need-slice-aggregate-same-row
-slice-aggregate-same-row c = search needs
 
 same-row-requires : tie.Need-same-row-requires
 same-row-requires c κs = let a = c .before .before .before .before .before .before .args in
@@ -27,26 +21,34 @@ same-row-requires c κs = let a = c .before .before .before .before .before .bef
     omega arith
 
 returns-2 : tie.Need-returns-2
-returns-2 c = let a = c .before .before .before .before .before .before .before .before .args in
+returns-2 c =
+    let back8 = c .before .before .before .before .before .before .before .before in
+    let same-row = c .before .same-row in
+    let a = back8 .args in
     let k = c .before .before .before .before .before .before .key-of in
     let h : length (k .result .row) ≡ 8 = search needs in
-    adds-one (k .result) (keysIn (a .head .now)) (componentRowsIn (a .head .now)) (take 8 (drop (a .at) (a .memory .now))) (a .row) (k .ensures) (not-false (k .result .matched) (c .before .before .before .before .if1 .left)) h
-    (c .before .same-row .result) (c .before .same-row .ensures) (c .if2 .taken)
+    adds-one (k .result) (keysIn (a .head .now)) (componentRowsIn (a .head .now)) (take 8 (drop (a .at) (a .memory .now))) (a .row)
+    (k .ensures) (not-false (k .result .matched) (c .before .before .before .before .if1 .left)) h
+    (same-row .result) (same-row .ensures) (c .if2 .taken)
 
 returns-3 : tie.Need-returns-3
-returns-3 c = let a = c .before .before .before .before .before .before .before .before .args in
+returns-3 c =
+    let back8 = c .before .before .before .before .before .before .before .before in
+    let same-row = c .before .same-row in
+    let a = back8 .args in
     let k = c .before .before .before .before .before .before .key-of in
     let h : length (k .result .row) ≡ 8 = search needs in
-    adds-other (k .result) (keysIn (a .head .now)) (componentRowsIn (a .head .now)) (take 8 (drop (a .at) (a .memory .now))) (a .row) (k .ensures) (not-false (k .result .matched) (c .before .before .before .before .if1 .left)) h
-    (c .before .same-row .result) (c .before .same-row .ensures) (c .if2 .left)
+    adds-other (k .result) (keysIn (a .head .now)) (componentRowsIn (a .head .now)) (take 8 (drop (a .at) (a .memory .now))) (a .row)
+    (k .ensures) (not-false (k .result .matched) (c .before .before .before .before .if1 .left)) h
+    (same-row .result) (same-row .ensures) (c .if2 .left)
 
 pub weight-at-spec : {M : Type 1} → statement M
 weight-at-spec =
     tie.close
     (tie.spec
-    key-of-requires
+    (λ c κs. search needs)  -- key-of-requires
     returns
-    slice-aggregate-same-row
+    (λ c. search needs)  -- slice-aggregate-same-row
     same-row-requires
     returns-2
     returns-3)

@@ -15,18 +15,6 @@ Inv-loop head table relation places₀ notes₀ i₀ i-end notes i = Deciding he
 abbrev μ-loop : tie.MeasureT-loop
 μ-loop head table relation places₀ notes₀ i₀ i-end notes i = i-end - i
 
-slice-aggregate-put-places : tie.Need-slice-aggregate-put-places Inv-loop μ-loop
-slice-aggregate-put-places c = search needs
-
-put-places-requires : tie.Need-put-places-requires Inv-loop μ-loop
-put-places-requires c κs = search needs
-
-new-requires : tie.Need-new-requires Inv-loop μ-loop
-new-requires c κs = search needs
-
-actions-in-requires : tie.Need-actions-in-requires Inv-loop μ-loop
-actions-in-requires c κs = search needs
-
 loop-holds : tie.Need-loop-holds Inv-loop μ-loop
 loop-holds c = record { reach = omega arith; noted = λ D H wf only. c .before .new .ensures }
 
@@ -37,15 +25,6 @@ summary-of-requires c κs =
 
 cast-with : tie.Need-cast-with Inv-loop μ-loop
 cast-with c = let n = c .actions-in .ensures .1 in let t = c .loop-test .taken in omega arith
-
-with-requires : tie.Need-with-requires Inv-loop μ-loop
-with-requires c κs = search needs
-
-add-i : tie.Need-add-i Inv-loop μ-loop
-add-i c = search needs
-
-loop-less : tie.Need-loop-less Inv-loop μ-loop
-loop-less c = omega arith
 
 loop-again : tie.Need-loop-again Inv-loop μ-loop
 loop-again c =
@@ -59,9 +38,6 @@ loop-again c =
           let h : l .i < length (D .actions) = omega arith in
           noted-action D (l .i) h (l .inv .noted D H wf only) (c .before .summary-of .ensures D H wf h only) (c .with .ensures);
     }
-
-decide-requires : tie.Need-decide-requires Inv-loop μ-loop
-decide-requires c κs = search needs
 
 returns : tie.Need-returns Inv-loop μ-loop
 returns c =
@@ -78,16 +54,16 @@ decide-alone-spec =
     (tie.spec
     Inv-loop
     μ-loop
-    slice-aggregate-put-places
-    put-places-requires
-    new-requires
-    actions-in-requires
+    (λ c. search needs)  -- slice-aggregate-put-places
+    (λ c κs. search needs)  -- put-places-requires
+    (λ c κs. search needs)  -- new-requires
+    (λ c κs. search needs)  -- actions-in-requires
     loop-holds
     summary-of-requires
     cast-with
-    with-requires
-    add-i
-    loop-less
+    (λ c κs. search needs)  -- with-requires
+    (λ c. search needs)  -- add-i
+    (λ c. omega arith)  -- loop-less
     loop-again
-    decide-requires
+    (λ c κs. search needs)  -- decide-requires
     returns)

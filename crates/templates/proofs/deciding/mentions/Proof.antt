@@ -21,27 +21,12 @@ loop-holds c =
     let a = c .args in
     ap (any (mentionedAt (a .rows .now) (a .relation))) (left-all (a .n))
 
-mul-if1 : tie.Need-mul-if1 Inv-loop μ-loop
-mul-if1 c = search needs
-
-add-if1 : tie.Need-add-if1 Inv-loop μ-loop
-add-if1 c = search needs
-
-shared-slice-read-if1 : tie.Need-shared-slice-read-if1 Inv-loop μ-loop
-shared-slice-read-if1 c = search needs
-
 returns : tie.Need-returns Inv-loop μ-loop
 returns c =
     let a = c .before .before .before .before .args in
     sym (any-hit (mentionedAt (a .rows .now) (a .relation)) (a .n) (c .before .before .before .loop .j) (omega arith)
     (eq-eqb _ _ (c .if1 .taken)))
     ∙ c .before .before .before .loop .inv
-
-add-j : tie.Need-add-j Inv-loop μ-loop
-add-j c = search needs
-
-loop-less : tie.Need-loop-less Inv-loop μ-loop
-loop-less c = omega arith
 
 loop-again : tie.Need-loop-again Inv-loop μ-loop
 loop-again c =
@@ -62,11 +47,11 @@ mentions-spec =
     Inv-loop
     μ-loop
     loop-holds
-    mul-if1
-    add-if1
-    shared-slice-read-if1
+    (λ c. search needs)  -- mul-if1
+    (λ c. search needs)  -- add-if1
+    (λ c. search needs)  -- shared-slice-read-if1
     returns
-    add-j
-    loop-less
+    (λ c. search needs)  -- add-j
+    (λ c. omega arith)  -- loop-less
     loop-again
     returns-2)

@@ -25,16 +25,11 @@ keep-row-requires c κs =
     let q = keeping-length (l .inv .1) (omega arith) in
     (omega arith, omega arith)
 
-add-j : tie.Need-add-j Inv-loop μ-loop
-add-j c = search needs
-
-loop-less : tie.Need-loop-less Inv-loop μ-loop
-loop-less c = omega arith
-
 loop-again : tie.Need-loop-again Inv-loop μ-loop
 loop-again c =
+    let back8 = c .before .before .before .before .before .before .before .before in
     let k = c .before .before .keep-row .ensures in
-    let p = c .before .before .before .before .before .before .before .before .pre in
+    let p = back8 .pre in
     (omega arith, keeping-more (c .before .before .before .before .before .loop .inv .1) (omega arith) (k .0) (k .1))
 
 same-length : tie.Need-same-length Inv-loop μ-loop
@@ -62,8 +57,8 @@ rows-of-relation-spec =
     μ-loop
     loop-holds
     keep-row-requires
-    add-j
-    loop-less
+    (λ c. search needs)  -- add-j
+    (λ c. omega arith)  -- loop-less
     loop-again
     same-length
     returns)

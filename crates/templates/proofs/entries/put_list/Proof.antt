@@ -14,9 +14,6 @@ Inv-loop head table list₀ end₀ relation₀ relation-end list end relation = 
 abbrev μ-loop : tie.MeasureT-loop
 μ-loop head table list₀ end₀ relation₀ relation-end list end relation = relation-end - relation
 
-relations-in-requires : tie.Need-relations-in-requires Inv-loop μ-loop
-relations-in-requires c κs = search needs
-
 loop-holds : tie.Need-loop-holds Inv-loop μ-loop
 loop-holds c =
     record {
@@ -36,12 +33,6 @@ put-relation-requires c κs =
     let s = l .inv .same in
     let m = c .before .before .before .relations-in .ensures .1 in
     (c .before .before .before .before .before .before .pre .0, omega arith)
-
-add-relation : tie.Need-add-relation Inv-loop μ-loop
-add-relation c = search needs
-
-loop-less : tie.Need-loop-less Inv-loop μ-loop
-loop-less c = omega arith
 
 loop-again : tie.Need-loop-again Inv-loop μ-loop
 loop-again c =
@@ -78,12 +69,12 @@ put-list-spec =
     (tie.spec
     Inv-loop
     μ-loop
-    relations-in-requires
+    (λ c κs. search needs)  -- relations-in-requires
     loop-holds
     cast-put-relation
     put-relation-requires
-    add-relation
-    loop-less
+    (λ c. search needs)  -- add-relation
+    (λ c. omega arith)  -- loop-less
     loop-again
     same-length
     returns)

@@ -17,12 +17,6 @@ Inv-loop head table relation list₀ at end₀ place₀ place-end list end place
 abbrev μ-loop : tie.MeasureT-loop
 μ-loop head table relation list₀ at end₀ place₀ place-end list end place = place-end - place
 
-put-entry-requires : tie.Need-put-entry-requires Inv-loop μ-loop
-put-entry-requires c κs = search needs
-
-arity-of-requires : tie.Need-arity-of-requires Inv-loop μ-loop
-arity-of-requires c κs = search needs
-
 loop-holds : tie.Need-loop-holds Inv-loop μ-loop
 loop-holds c =
     record {
@@ -34,19 +28,15 @@ loop-holds c =
 
 put-entry-requires-2 : tie.Need-put-entry-requires-2 Inv-loop μ-loop
 put-entry-requires-2 c κs =
+    let back8 = c .before .before .before .before .before .before .before .before in
+    let put-entry = c .before .before .before .before .before .before .put-entry in
     let l = c .before .before .loop in
     let f = l .inv .few in
     let s = l .inv .same in
-    let k = c .before .before .before .before .before .before .put-entry .kept .1 .1 .1 .1 .0 in
-    let e = c .before .before .before .before .before .before .put-entry .ensures .0 in
+    let k = put-entry .kept .1 .1 .1 .1 .0 in
+    let e = put-entry .ensures .0 in
     let a = c .before .before .before .arity-of .ensures .1 in
-    (c .before .before .before .before .before .before .before .before .before .before .pre .0, omega arith)
-
-add-place : tie.Need-add-place Inv-loop μ-loop
-add-place c = search needs
-
-loop-less : tie.Need-loop-less Inv-loop μ-loop
-loop-less c = omega arith
+    (back8 .before .before .pre .0, omega arith)
 
 loop-again : tie.Need-loop-again Inv-loop μ-loop
 loop-again c =
@@ -72,11 +62,13 @@ same-length c = c .before .loop .inv .same ∙ c .before .before .before .before
 
 returns : tie.Need-returns Inv-loop μ-loop
 returns c =
+    let back8 = c .before .before .before .before .before .before .before .before in
+    let arity-of = c .before .before .arity-of in
     let l = c .before .loop in
-    let n = c .before .before .arity-of .ensures .0 in
-    let m = c .before .before .arity-of .ensures .1 in
+    let n = arity-of .ensures .0 in
+    let m = arity-of .ensures .1 in
     let first = c .before .before .before .before .before .put-entry in
-    let r = c .before .before .before .before .before .before .before .before .before .args .relation in (
+    let r = back8 .before .args .relation in (
       (let f = l .inv .few in let e = first .ensures .0 in let q = l .inv .reach in omega arith),
       λ D ss old B h L.
           let a = n ∙ B .holds .filled .says .arities r in
@@ -91,12 +83,12 @@ put-relation-spec =
     (tie.spec
     Inv-loop
     μ-loop
-    put-entry-requires
-    arity-of-requires
+    (λ c κs. search needs)  -- put-entry-requires
+    (λ c κs. search needs)  -- arity-of-requires
     loop-holds
     put-entry-requires-2
-    add-place
-    loop-less
+    (λ c. search needs)  -- add-place
+    (λ c. omega arith)  -- loop-less
     loop-again
     same-length
     returns)

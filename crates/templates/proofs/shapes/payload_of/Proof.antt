@@ -5,24 +5,6 @@ use borrow.Author.Needs.{needs}
 use Rattle.templates.proofs.shapes.payload_of.Statement.{statement}
 use Rattle.templates.proofs.shapes.payload_of.Tie as tie
 
-label-at-requires : tie.Need-label-at-requires
-label-at-requires c κs = search needs
-
-label-at-requires-2 : tie.Need-label-at-requires-2
-label-at-requires-2 c κs = search needs
-
-label-at-requires-3 : tie.Need-label-at-requires-3
-label-at-requires-3 c κs = search needs
-
-label-at-requires-4 : tie.Need-label-at-requires-4
-label-at-requires-4 c κs = search needs
-
-label-at-requires-5 : tie.Need-label-at-requires-5
-label-at-requires-5 c κs = search needs
-
-label-at-requires-6 : tie.Need-label-at-requires-6
-label-at-requires-6 c κs = search needs
-
 returns : tie.Need-returns
 returns c =
     let d = c .before .before .before in
@@ -33,10 +15,10 @@ pub payload-of-spec : {M : Type 1} → statement M
 payload-of-spec =
     tie.close
     (tie.spec
-    label-at-requires
-    label-at-requires-2
-    label-at-requires-3
-    label-at-requires-4
-    label-at-requires-5
-    label-at-requires-6
+    (λ c κs. search needs)  -- label-at-requires
+    (λ c κs. search needs)  -- label-at-requires-2
+    (λ c κs. search needs)  -- label-at-requires-3
+    (λ c κs. search needs)  -- label-at-requires-4
+    (λ c κs. search needs)  -- label-at-requires-5
+    (λ c κs. search needs)  -- label-at-requires-6
     returns)

@@ -16,9 +16,6 @@ abbrev μ-loop : tie.MeasureT-loop
 loop-holds : tie.Need-loop-holds Inv-loop μ-loop
 loop-holds c = pass-none (c .before .args .packed .now)
 
-whole-at-requires : tie.Need-whole-at-requires Inv-loop μ-loop
-whole-at-requires c κs = omega arith
-
 returns : tie.Need-returns Inv-loop μ-loop
 returns c = pass-cut (c .before .before .before .loop .inv) (omega arith) (sym (c .before .whole-at .ensures) ∙ c .if1 .left)
 
@@ -47,7 +44,7 @@ open-box-spec =
     Inv-loop
     μ-loop
     loop-holds
-    whole-at-requires
+    (λ c κs. omega arith)  -- whole-at-requires
     add-at
     length-at-requires
     add-at-2

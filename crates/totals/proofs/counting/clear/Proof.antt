@@ -21,12 +21,6 @@ loop-holds c = (omega arith, c .pre, sym (over-none _))
 slice-write-report : tie.Need-slice-write-report Inv-loop μ-loop
 slice-write-report c = let e = ap length (c .before .loop .inv .2) ∙ cleared-length (c .before .before .args .report .now) (c .before .loop .i) (omega arith) in omega arith
 
-add-i : tie.Need-add-i Inv-loop μ-loop
-add-i c = omega arith
-
-loop-less : tie.Need-loop-less Inv-loop μ-loop
-loop-less c = omega arith
-
 loop-again : tie.Need-loop-again Inv-loop μ-loop
 loop-again c = (omega arith, c .before .loop .inv .1, ap (λ (l : List ℕ). set l (c .before .loop .i) 0) (c .before .loop .inv .2) ∙ cleared-more (c .before .before .args .report .now) (c .before .loop .i) (omega arith))
 
@@ -44,8 +38,8 @@ clear-spec =
     μ-loop
     loop-holds
     slice-write-report
-    add-i
-    loop-less
+    (λ c. omega arith)  -- add-i
+    (λ c. omega arith)  -- loop-less
     loop-again
     same-length
     returns)

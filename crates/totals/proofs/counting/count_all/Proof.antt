@@ -25,27 +25,24 @@ length-at-requires c κs = let w = file-fits (c .before .before .before .before 
 add-end : tie.Need-add-end Inv-loop μ-loop
 add-end c = let w = file-fits (c .before .before .before .before .before .before .before .pre .0) (c .before .before .loop .inv .0) (omega arith) in let e = c .length-at .ensures .0 in omega arith
 
-sub-count-file : tie.Need-sub-count-file Inv-loop μ-loop
-sub-count-file c = omega arith
-
-part-count-file-start : tie.Need-part-count-file-start Inv-loop μ-loop
-part-count-file-start c = omega arith
-
 part-count-file-end : tie.Need-part-count-file-end Inv-loop μ-loop
 part-count-file-end c = let w = file-fits (c .before .before .before .before .before .before .before .pre .0) (c .before .before .loop .inv .0) (omega arith) in let e = c .length-at .ensures .0 in omega arith
 
 count-file-requires : tie.Need-count-file-requires Inv-loop μ-loop
 count-file-requires c κs =
+    let back8 = c .before .before .before .before .before .before .before .before in
+    let pre = back8 .before .before .before .pre in
+    let length-at = c .before .before .before .before .length-at in
     let at = c .before .before .before .before .before .before .loop .inv .0 in
     let r = at .rows in
     let f = at .facts in (
-      walked-sized (c .before .before .before .before .before .before .before .before .before .before .before .pre .0) at,
+      walked-sized (pre .0) at,
       (
-        file-room (c .before .before .before .before .before .before .before .before .before .before .before .pre .0) at (omega arith) (c .before .before .before .before .length-at .result) (c .before .before .before .before .length-at .ensures .0) (omega arith),
+        file-room (pre .0) at (omega arith) (length-at .result) (length-at .ensures .0) (omega arith),
         (
-          (let p = c .before .before .before .before .before .before .before .before .before .before .before .pre .1 .0 in omega arith),
+          (let p = pre .1 .0 in omega arith),
           (
-            (let p = c .before .before .before .before .before .before .before .before .before .before .before .pre .1 .1 .0 in omega arith),
+            (let p = pre .1 .1 .0 in omega arith),
             at .clear,
           ),
         ),
@@ -53,13 +50,22 @@ count-file-requires c κs =
     )
 
 loop-less : tie.Need-loop-less Inv-loop μ-loop
-loop-less c = let w = file-fits (c .before .before .before .before .before .before .before .before .before .before .before .before .before .before .before .before .before .before .pre .0) (c .before .before .before .before .before .before .before .before .before .before .before .before .before .loop .inv .0) (omega arith) in let e = c .before .before .before .before .before .before .before .before .before .before .before .length-at .ensures .0 in omega arith
+loop-less c =
+    let back8 = c .before .before .before .before .before .before .before .before in
+    let back16 = back8 .before .before .before .before .before .before .before .before in
+    let w = file-fits (back16 .before .before .pre .0) (back8 .before .before .before .before .before .loop .inv .0) (omega arith) in
+    let e = back8 .before .before .before .length-at .ensures .0 in omega arith
 
 loop-again : tie.Need-loop-again Inv-loop μ-loop
 loop-again c =
+    let back8 = c .before .before .before .before .before .before .before .before in
+    let back16 = back8 .before .before .before .before .before .before .before .before in
+    let loop = back8 .before .before .before .before .before .loop in
+    let length-at = back8 .before .before .before .length-at in
     let called = c .before .before .before .before .before .before .count-file in (
-      walked-more (c .before .before .before .before .before .before .before .before .before .before .before .before .before .before .before .before .before .before .pre .0) (c .before .before .before .before .before .before .before .before .before .before .before .before .before .loop .inv .0) (omega arith) (c .before .before .before .before .before .before .before .before .before .before .before .length-at .result) (c .before .before .before .before .before .before .before .before .before .before .before .length-at .ensures .0) (called .ensures .0) (called .ensures .1) (called .kept .1 .0) (called .kept .1 .1 .0),
-      called .kept .1 .1 .1 .0 ∙ c .before .before .before .before .before .before .before .before .before .before .before .before .before .loop .inv .1,
+      walked-more (back16 .before .before .pre .0) (loop .inv .0) (omega arith) (length-at .result) (length-at .ensures .0)
+          (called .ensures .0) (called .ensures .1) (called .kept .1 .0) (called .kept .1 .1 .0),
+      called .kept .1 .1 .1 .0 ∙ loop .inv .1,
     )
 
 same-length : tie.Need-same-length Inv-loop μ-loop
@@ -84,8 +90,8 @@ count-all-spec =
     add-start
     length-at-requires
     add-end
-    sub-count-file
-    part-count-file-start
+    (λ c. omega arith)  -- sub-count-file
+    (λ c. omega arith)  -- part-count-file-start
     part-count-file-end
     count-file-requires
     loop-less

@@ -16,20 +16,8 @@ abbrev μ-loop : tie.MeasureT-loop
 loop-holds : tie.Need-loop-holds Inv-loop μ-loop
 loop-holds c = writing-none (c .args .out .now) (c .args .at) (c .args .total)
 
-cast-out : tie.Need-cast-out Inv-loop μ-loop
-cast-out c = search needs
-
-add-out : tie.Need-add-out Inv-loop μ-loop
-add-out c = search needs
-
 slice-write-out : tie.Need-slice-write-out Inv-loop μ-loop
 slice-write-out c = let h = c .before .loop .inv .kept in let p = c .before .before .pre in omega arith
-
-add-k : tie.Need-add-k Inv-loop μ-loop
-add-k c = omega arith
-
-loop-less : tie.Need-loop-less Inv-loop μ-loop
-loop-less c = omega arith
 
 loop-again : tie.Need-loop-again Inv-loop μ-loop
 loop-again c = writing-more (c .before .loop .inv) (omega arith) (c .before .before .pre) _ refl
@@ -47,11 +35,11 @@ put-total-spec =
     Inv-loop
     μ-loop
     loop-holds
-    cast-out
-    add-out
+    (λ c. search needs)  -- cast-out
+    (λ c. search needs)  -- add-out
     slice-write-out
-    add-k
-    loop-less
+    (λ c. omega arith)  -- add-k
+    (λ c. omega arith)  -- loop-less
     loop-again
     same-length
     returns)

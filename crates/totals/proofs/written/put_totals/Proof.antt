@@ -26,27 +26,22 @@ mul-put-total c = let p = c .before .before .before .before .before .pre in omeg
 mul-put-total-2 : tie.Need-mul-put-total-2 Inv-loop μ-loop
 mul-put-total-2 c = let p = c .before .before .before .before .before .pre in omega arith
 
-shared-slice-read-put-total : tie.Need-shared-slice-read-put-total Inv-loop μ-loop
-shared-slice-read-put-total c = omega arith
-
 put-total-requires : tie.Need-put-total-requires Inv-loop μ-loop
 put-total-requires c κs = let p = c .before .before .before .before .before .before .pre in let l = c .before .before .before .loop .inv .2 in omega arith
 
-add-n : tie.Need-add-n Inv-loop μ-loop
-add-n c = omega arith
-
-loop-less : tie.Need-loop-less Inv-loop μ-loop
-loop-less c = omega arith
-
 loop-again : tie.Need-loop-again Inv-loop μ-loop
 loop-again c =
-    let ts = c .before .before .before .before .before .before .before .before .before .args .totals .now in
-    let out₀ = c .before .before .before .before .before .before .before .before .before .args .out .now in
-    let n = c .before .before .before .before .before .before .loop .n in (
+    let back8 = c .before .before .before .before .before .before .before .before in
+    let args = back8 .before .args in
+    let loop = c .before .before .before .before .before .before .loop in
+    let put-total = c .before .before .put-total in
+    let ts = args .totals .now in
+    let out₀ = args .out .now in
+    let n = loop .n in (
       omega arith,
-      c .before .before .before .before .before .before .loop .inv .1,
-      c .before .before .put-total .kept .0 ∙ c .before .before .before .before .before .before .loop .inv .2,
-      c .before .before .put-total .ensures (totalBytes (take n ts)) out₀ (bytes-of ts n (omega arith)) (sym (c .before .before .before .before .before .before .loop .inv .2)) (c .before .before .before .before .before .before .loop .inv .3)
+      loop .inv .1,
+      put-total .kept .0 ∙ loop .inv .2,
+      put-total .ensures (totalBytes (take n ts)) out₀ (bytes-of ts n (omega arith)) (sym (loop .inv .2)) (loop .inv .3)
           ∙ ap (λ (l : List ℕ). over l out₀) (sym (bytes-more ts n (omega arith))),
     )
 
@@ -65,10 +60,10 @@ put-totals-spec =
     loop-holds
     mul-put-total
     mul-put-total-2
-    shared-slice-read-put-total
+    (λ c. omega arith)  -- shared-slice-read-put-total
     put-total-requires
-    add-n
-    loop-less
+    (λ c. omega arith)  -- add-n
+    (λ c. omega arith)  -- loop-less
     loop-again
     same-length
     returns)

@@ -6,9 +6,6 @@ use borrow.Author.Needs.{needs}
 use Rattle.trying.proofs.actions.try_action.Statement.{statement}
 use Rattle.trying.proofs.actions.try_action.Tie as tie
 
-is-lasting-requires : tie.Need-is-lasting-requires
-is-lasting-requires c κs = search needs
-
 returns : tie.Need-returns
 returns c =
     let a = c .before .before .before .before .args in (
@@ -17,21 +14,23 @@ returns c =
           M,
     )
 
-try-at-once-requires : tie.Need-try-at-once-requires
-try-at-once-requires c κs = search needs
-
-same-length : tie.Need-same-length
-same-length c = search needs
-
 returns-2 : tie.Need-returns-2
 returns-2 c =
-    let a = c .before .before .before .before .before .before .before .before .args in
+    let back8 = c .before .before .before .before .before .before .before .before in
+    let a = back8 .args in
     let t = c .before .before .try-at-once .ensures in (
       t .0,
-      λ D old H wf h M. t .1 D old H wf h M (sym (H .says .lasting (a .i) h) ∙ sym (c .before .before .before .before .before .is-lasting
-          .ensures) ∙ c .before .before .before .before .if1 .left),
+      λ D old H wf h M. t .1 D old H wf h M
+          (sym (H .says .lasting (a .i) h) ∙ sym (c .before .before .before .before .before .is-lasting .ensures)
+          ∙ c .before .before .before .before .if1 .left),
     )
 
 pub try-action-spec : {M : Type 1} → statement M
 try-action-spec =
-    tie.close (tie.spec is-lasting-requires returns try-at-once-requires same-length returns-2)
+    tie.close
+    (tie.spec
+    (λ c κs. search needs)  -- is-lasting-requires
+    returns
+    (λ c κs. search needs)  -- try-at-once-requires
+    (λ c. search needs)  -- same-length
+    returns-2)

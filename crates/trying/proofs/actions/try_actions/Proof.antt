@@ -15,15 +15,6 @@ Inv-loop head table made₀ places end₀ i₀ i-end made end i = InActions head
 abbrev μ-loop : tie.MeasureT-loop
 μ-loop head table made₀ places end₀ i₀ i-end made end i = i-end - i
 
-slice-aggregate-put-places : tie.Need-slice-aggregate-put-places Inv-loop μ-loop
-slice-aggregate-put-places c = search needs
-
-put-places-requires : tie.Need-put-places-requires Inv-loop μ-loop
-put-places-requires c κs = search needs
-
-actions-in-requires : tie.Need-actions-in-requires Inv-loop μ-loop
-actions-in-requires c κs = search needs
-
 loop-holds : tie.Need-loop-holds Inv-loop μ-loop
 loop-holds c =
     record {
@@ -35,12 +26,14 @@ loop-holds c =
 
 try-action-requires : tie.Need-try-action-requires Inv-loop μ-loop
 try-action-requires c κs =
-    let p = c .before .before .before .before .before .before .before .before .before .before .pre in
+    let back8 = c .before .before .before .before .before .before .before .before in
+    let actions-in = c .before .before .before .before .actions-in in
+    let p = back8 .before .before .pre in
     let l = c .before .before .before .loop in
     let D = p .0 .0 in
     let H = p .0 .1 in
-    let n = c .before .before .before .before .actions-in .ensures .0 ∙ H .says .actions in
-    let m = c .before .before .before .before .actions-in .ensures .1 in
+    let n = actions-in .ensures .0 ∙ H .says .actions in
+    let m = actions-in .ensures .1 in
     let f = l .inv .few in
     let s = l .inv .same in
     let placed = c .before .before .before .before .before .before .put-places .ensures refl in
@@ -48,9 +41,6 @@ try-action-requires c κs =
 
 add-i : tie.Need-add-i Inv-loop μ-loop
 add-i c = let m = c .before .before .before .before .before .before .before .actions-in .ensures .1 in omega arith
-
-loop-less : tie.Need-loop-less Inv-loop μ-loop
-loop-less c = omega arith
 
 loop-again : tie.Need-loop-again Inv-loop μ-loop
 loop-again c =
@@ -91,13 +81,13 @@ try-actions-spec =
     (tie.spec
     Inv-loop
     μ-loop
-    slice-aggregate-put-places
-    put-places-requires
-    actions-in-requires
+    (λ c. search needs)  -- slice-aggregate-put-places
+    (λ c κs. search needs)  -- put-places-requires
+    (λ c κs. search needs)  -- actions-in-requires
     loop-holds
     try-action-requires
     add-i
-    loop-less
+    (λ c. omega arith)  -- loop-less
     loop-again
     same-length
     returns)

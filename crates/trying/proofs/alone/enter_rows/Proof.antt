@@ -16,18 +16,6 @@ abbrev μ-loop : tie.MeasureT-loop
 loop-holds : tie.Need-loop-holds Inv-loop μ-loop
 loop-holds c = (omega arith, λ z S. z)
 
-mul-enter : tie.Need-mul-enter Inv-loop μ-loop
-mul-enter c = search needs
-
-enter-requires : tie.Need-enter-requires Inv-loop μ-loop
-enter-requires c κs = omega arith
-
-add-i : tie.Need-add-i Inv-loop μ-loop
-add-i c = omega arith
-
-loop-less : tie.Need-loop-less Inv-loop μ-loop
-loop-less c = omega arith
-
 loop-again : tie.Need-loop-again Inv-loop μ-loop
 loop-again c =
     let a = c .before .before .before .before .before .args in
@@ -49,9 +37,9 @@ enter-rows-spec =
     Inv-loop
     μ-loop
     loop-holds
-    mul-enter
-    enter-requires
-    add-i
-    loop-less
+    (λ c. search needs)  -- mul-enter
+    (λ c κs. omega arith)  -- enter-requires
+    (λ c. omega arith)  -- add-i
+    (λ c. omega arith)  -- loop-less
     loop-again
     returns)

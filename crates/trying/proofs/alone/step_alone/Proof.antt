@@ -8,13 +8,11 @@ use borrow.Author.Needs.{needs}
 use Rattle.trying.proofs.alone.step_alone.Statement.{statement}
 use Rattle.trying.proofs.alone.step_alone.Tie as tie
 
-ground-base-requires : tie.Need-ground-base-requires
-ground-base-requires c κs = search needs
-
 step-base-requires : tie.Need-step-base-requires
 step-base-requires c κs =
-    let a = c .before .before .before .before .before .before .before .before .before .args in
-    let p = c .before .before .before .before .before .before .before .before .before .pre in
+    let back8 = c .before .before .before .before .before .before .before .before in
+    let a = back8 .before .args in
+    let p = back8 .before .pre in
     let g = c .before .before .before .before .ground-base in
     let D = p .1 .0 .0 in
     let B = g .ensures .1 D (p .1 .0 .1) (p .1 .0 .2) (p .1 .0 .3) in (
@@ -31,18 +29,19 @@ step-base-requires c κs =
       ),
     )
 
-same-length : tie.Need-same-length
-same-length c = search needs
-
-same-length-2 : tie.Need-same-length-2
-same-length-2 c = search needs
-
 returns : tie.Need-returns
 returns c =
-    let a = c .before .before .before .before .before .before .before .before .before .before .before .before .args in
+    let back8 = c .before .before .before .before .before .before .before .before in
+    let a = back8 .before .before .before .before .args in
     let s = c .before .before .step-base .ensures in
     (s .0, λ D H wf h. s .1 D (a .i) wf h (c .before .before .before .before .before .before .before .ground-base .ensures .1 D H wf h))
 
 pub step-alone-spec : {M : Type 1} → statement M
 step-alone-spec =
-    tie.close (tie.spec ground-base-requires step-base-requires same-length same-length-2 returns)
+    tie.close
+    (tie.spec
+    (λ c κs. search needs)  -- ground-base-requires
+    step-base-requires
+    (λ c. search needs)  -- same-length
+    (λ c. search needs)  -- same-length-2
+    returns)

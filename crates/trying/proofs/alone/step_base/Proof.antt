@@ -15,34 +15,11 @@ use borrow.Author.Needs.{needs}
 use Rattle.trying.proofs.alone.step_base.Statement.{statement}
 use Rattle.trying.proofs.alone.step_base.Tie as tie
 
-sub-literals : tie.Need-sub-literals
-sub-literals c = search needs
-
-part-literals-start : tie.Need-part-literals-start
-part-literals-start c = search needs
-
-part-literals-end : tie.Need-part-literals-end
-part-literals-end c = search needs
-
-sub-held : tie.Need-sub-held
-sub-held c = search needs
-
-part-held-start : tie.Need-part-held-start
-part-held-start c = search needs
-
-part-held-end : tie.Need-part-held-end
-part-held-end c = search needs
-
-put-bytes-requires : tie.Need-put-bytes-requires
-put-bytes-requires c κs = search needs
-
-enter-rows-requires : tie.Need-enter-rows-requires
-enter-rows-requires c κs = search needs
-
 events-met-requires : tie.Need-events-met-requires
 events-met-requires c κs =
-    let a = c .before .before .before .before .before .before .before .before .before .before .before .args in
-    let p = c .before .before .before .before .before .before .before .before .before .before .before .pre in
+    let back8 = c .before .before .before .before .before .before .before .before in
+    let a = back8 .before .before .before .args in
+    let p = back8 .before .before .before .pre in
     let few = p .1 .0 in
     let held = p .1 .1 .0 in
     let l = effects-length (a .base .now) (p .1 .1 .1 .0) in
@@ -50,8 +27,9 @@ events-met-requires c κs =
 
 facts-after-requires : tie.Need-facts-after-requires
 facts-after-requires c κs =
-    let a = c .before .before .before .before .before .before .before .before .before .before .before .before .before .before .args in
-    let p = c .before .before .before .before .before .before .before .before .before .before .before .before .before .before .pre in
+    let back8 = c .before .before .before .before .before .before .before .before in
+    let a = back8 .before .before .before .before .before .before .args in
+    let p = back8 .before .before .before .before .before .before .pre in
     let few = p .1 .0 in
     let held = p .1 .1 .0 in
     let l = effects-length (a .base .now) (p .1 .1 .1 .0) in (
@@ -59,7 +37,7 @@ facts-after-requires c κs =
       (
         omega arith,
         (
-          c .before .before .before .before .before .before .before .before .put-bytes .kept .0 ∙ p .1 .1 .1 .1 .0,
+          back8 .put-bytes .kept .0 ∙ p .1 .1 .1 .1 .0,
           (
             p .1 .1 .1 .1 .1,
             omega arith,
@@ -68,17 +46,14 @@ facts-after-requires c κs =
       ),
     )
 
-same-length : tie.Need-same-length
-same-length c = search needs
-
 returns : tie.Need-returns
 returns c =
-    let a = c .before .before .before .before .before .before .before .before .before .before .before .before .before .before .before
-    .before .before .args in
-    let p = c .before .before .before .before .before .before .before .before .before .before .before .before .before .before .before
-    .before .before .pre in
+    let back8 = c .before .before .before .before .before .before .before .before in
+    let back16 = back8 .before .before .before .before .before .before .before .before in
+    let a = back16 .before .args in
+    let p = back16 .before .pre in
     let x = c .before .before .facts-after in
-    let copy = c .before .before .before .before .before .before .before .before .before .before .before .put-bytes in
+    let copy = back8 .before .before .before .put-bytes in
     let same = copied (a .base .now) (a .after .now) (copy .last .0) (p .1 .1 .1 .0) (p .1 .1 .1 .1 .0) (copy .ensures) in
     let long = x .kept .1 .1 .1 .0 ∙ copy .kept .0 ∙ p .1 .1 .1 .1 .0 in (
       record { variables = p .0; literals = p .1 .0; held = p .1 .1 .0; left = x .ensures .0 .2 },
@@ -106,15 +81,15 @@ pub step-base-spec : {M : Type 1} → statement M
 step-base-spec =
     tie.close
     (tie.spec
-    sub-literals
-    part-literals-start
-    part-literals-end
-    sub-held
-    part-held-start
-    part-held-end
-    put-bytes-requires
-    enter-rows-requires
+    (λ c. search needs)  -- sub-literals
+    (λ c. search needs)  -- part-literals-start
+    (λ c. search needs)  -- part-literals-end
+    (λ c. search needs)  -- sub-held
+    (λ c. search needs)  -- part-held-start
+    (λ c. search needs)  -- part-held-end
+    (λ c κs. search needs)  -- put-bytes-requires
+    (λ c κs. search needs)  -- enter-rows-requires
     events-met-requires
     facts-after-requires
-    same-length
+    (λ c. search needs)  -- same-length
     returns)

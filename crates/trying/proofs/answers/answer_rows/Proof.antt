@@ -9,37 +9,13 @@ use borrow.Author.Needs.{needs}
 use Rattle.trying.proofs.answers.answer_rows.Statement.{statement}
 use Rattle.trying.proofs.answers.answer_rows.Tie as tie
 
-slice-aggregate-number-classes : tie.Need-slice-aggregate-number-classes
-slice-aggregate-number-classes c = search needs
-
-number-classes-requires : tie.Need-number-classes-requires
-number-classes-requires c κs = search needs
-
-sub-put-answers : tie.Need-sub-put-answers
-sub-put-answers c = search needs
-
-part-put-answers-start : tie.Need-part-put-answers-start
-part-put-answers-start c = search needs
-
-part-put-answers-end : tie.Need-part-put-answers-end
-part-put-answers-end c = search needs
-
-put-answers-requires : tie.Need-put-answers-requires
-put-answers-requires c κs = search needs
-
-same-length : tie.Need-same-length
-same-length c = search needs
-
-same-length-2 : tie.Need-same-length-2
-same-length-2 c = search needs
-
 returns : tie.Need-returns
 returns c =
-    let a = c .before .before .before .before .before .before .before .before .before .before .before .before .before .before .before
-    .before .args in
-    let p = c .before .before .before .before .before .before .before .before .before .before .before .before .before .before .before
-    .before .pre .1 .1 .1 .1 in
-    let n = c .before .before .before .before .before .before .before .before .number-classes in
+    let back8 = c .before .before .before .before .before .before .before .before in
+    let back16 = back8 .before .before .before .before .before .before .before .before in
+    let a = back16 .args in
+    let p = back16 .pre .1 .1 .1 .1 in
+    let n = back8 .number-classes in
     let k = n .ensures .0 in
     let few : n .result ≤ length (a .made .now) = omega arith in (
       omega arith,
@@ -58,12 +34,12 @@ pub answer-rows-spec : {M : Type 1} → statement M
 answer-rows-spec =
     tie.close
     (tie.spec
-    slice-aggregate-number-classes
-    number-classes-requires
-    sub-put-answers
-    part-put-answers-start
-    part-put-answers-end
-    put-answers-requires
-    same-length
-    same-length-2
+    (λ c. search needs)  -- slice-aggregate-number-classes
+    (λ c κs. search needs)  -- number-classes-requires
+    (λ c. search needs)  -- sub-put-answers
+    (λ c. search needs)  -- part-put-answers-start
+    (λ c. search needs)  -- part-put-answers-end
+    (λ c κs. search needs)  -- put-answers-requires
+    (λ c. search needs)  -- same-length
+    (λ c. search needs)  -- same-length-2
     returns)

@@ -40,35 +40,22 @@ loop-holds c =
 cast-class-tuple : tie.Need-cast-class-tuple Inv-loop μ-loop
 cast-class-tuple c = let m = c .before .before .before .before .before .before .before .pre .1 .1 .1 .1 in omega arith
 
-class-tuple-requires : tie.Need-class-tuple-requires Inv-loop μ-loop
-class-tuple-requires c κs = search needs
-
-try-class-requires : tie.Need-try-class-requires Inv-loop μ-loop
-try-class-requires c κs = search needs
-
-answer-byte-requires : tie.Need-answer-byte-requires Inv-loop μ-loop
-answer-byte-requires c κs = search needs
-
 slice-write-made : tie.Need-slice-write-made Inv-loop μ-loop
 slice-write-made c = let l = c .before .before .before .before .loop .inv .2 in omega arith
 
-add-j : tie.Need-add-j Inv-loop μ-loop
-add-j c = omega arith
-
-loop-less : tie.Need-loop-less Inv-loop μ-loop
-loop-less c = omega arith
-
 loop-again : tie.Need-loop-again Inv-loop μ-loop
 loop-again c =
-    let a = c .before .before .before .before .before .before .before .before .before .before .args in
+    let back8 = c .before .before .before .before .before .before .before .before in
+    let class-tuple = c .before .before .class-tuple in
+    let try-class = c .before .try-class in
+    let a = back8 .before .before .args in
     let l = c .before .before .before .before .loop in (
       refl,
       omega arith,
       length-set (l .made) (l .j) (c .answer-byte .result) ∙ l .inv .2,
       λ D i C s.
-          answers-more C (a .made .now) s (l .made) (l .j) (omega arith) (l .inv .3 D i C s) (c .before .before .class-tuple .result)
-          (λ h. c .before .before .class-tuple .ensures D (action D i) (C .whole) (C .numbers-are) h) (c .before .try-class .result) (c
-          .before .try-class .ensures)
+          answers-more C (a .made .now) s (l .made) (l .j) (omega arith) (l .inv .3 D i C s) (class-tuple .result)
+          (λ h. class-tuple .ensures D (action D i) (C .whole) (C .numbers-are) h) (try-class .result) (try-class .ensures)
           (c .answer-byte .result) (c .answer-byte .ensures),
     )
 
@@ -89,12 +76,12 @@ put-answers-spec =
     μ-loop
     loop-holds
     cast-class-tuple
-    class-tuple-requires
-    try-class-requires
-    answer-byte-requires
+    (λ c κs. search needs)  -- class-tuple-requires
+    (λ c κs. search needs)  -- try-class-requires
+    (λ c κs. search needs)  -- answer-byte-requires
     slice-write-made
-    add-j
-    loop-less
+    (λ c. omega arith)  -- add-j
+    (λ c. omega arith)  -- loop-less
     loop-again
     same-length
     returns)

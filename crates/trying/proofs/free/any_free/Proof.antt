@@ -19,9 +19,6 @@ Inv-loop head instance n memory total c₀ c-end c =
 abbrev μ-loop : tie.MeasureT-loop
 μ-loop head instance n memory total c₀ c-end c = c-end - c
 
-components-in-requires : tie.Need-components-in-requires Inv-loop μ-loop
-components-in-requires c κs = search needs
-
 loop-holds : tie.Need-loop-holds Inv-loop μ-loop
 unfolding anyFree
 loop-holds c =
@@ -47,12 +44,6 @@ returns c =
     .before .components-in .result) (l .c) (omega arith)
     (sym (c .before .component-free .ensures) ∙ c .if1 .taken))
     ∙ l .inv .2
-
-add-c : tie.Need-add-c Inv-loop μ-loop
-add-c c = omega arith
-
-loop-less : tie.Need-loop-less Inv-loop μ-loop
-loop-less c = omega arith
 
 loop-again : tie.Need-loop-again Inv-loop μ-loop
 loop-again c =
@@ -80,11 +71,11 @@ any-free-spec =
     (tie.spec
     Inv-loop
     μ-loop
-    components-in-requires
+    (λ c κs. search needs)  -- components-in-requires
     loop-holds
     component-free-requires
     returns
-    add-c
-    loop-less
+    (λ c. omega arith)  -- add-c
+    (λ c. omega arith)  -- loop-less
     loop-again
     returns-2)

@@ -34,45 +34,31 @@ loop-holds c =
       ap (any (free (a .head .now) (a .c) (a .instance .now) (groundIn (a .total) (a .memory .now)))) (left-all (a .n)),
     )
 
-slice-aggregate-put-instance : tie.Need-slice-aggregate-put-instance Inv-loop μ-loop
-slice-aggregate-put-instance c = search needs
-
-put-instance-requires : tie.Need-put-instance-requires Inv-loop μ-loop
-put-instance-requires c κs = search needs
-
-slice-aggregate-is-about : tie.Need-slice-aggregate-is-about Inv-loop μ-loop
-slice-aggregate-is-about c = search needs
-
-is-about-requires : tie.Need-is-about-requires Inv-loop μ-loop
-is-about-requires c κs = search needs
-
 returns : tie.Need-returns Inv-loop μ-loop
 returns c =
-    let a = c .before .before .before .before .before .before .before .before .before .before .args in
+    let back8 = c .before .before .before .before .before .before .before .before in
+    let put-instance = c .before .before .before .before .put-instance in
+    let a = back8 .before .before .args in
     let l = c .before .before .before .before .before .before .before .loop in
     let ls = groundIn (a .total) (a .memory .now) in
-    let fact = c .before .before .before .before .put-instance .last .0 in
-    let same = instance-put (a .head .now) (a .c) (l .o) (a .instance .now) (l .fact) fact (omega arith) (l .inv .0) (c .before .before
-    .before .before .put-instance .ensures) in
+    let fact = put-instance .last .0 in
+    let same = instance-put (a .head .now) (a .c) (l .o) (a .instance .now) (l .fact) fact (omega arith) (l .inv .0)
+    (put-instance .ensures) in
     sym (any-hit (free (a .head .now) (a .c) (a .instance .now) ls) (a .n) (l .o) (omega arith)
     (ap not (sym (c .before .is-about .ensures ∙ ap (isAbout ls) same)) ∙ c .if1 .taken))
     ∙ l .inv .1
 
-add-o : tie.Need-add-o Inv-loop μ-loop
-add-o c = omega arith
-
-loop-less : tie.Need-loop-less Inv-loop μ-loop
-loop-less c = omega arith
-
 loop-again : tie.Need-loop-again Inv-loop μ-loop
 loop-again c =
-    let a = c .before .before .before .before .before .before .before .before .before .before .args in
+    let back8 = c .before .before .before .before .before .before .before .before in
+    let put-instance = c .before .before .before .before .put-instance in
+    let a = back8 .before .before .args in
     let l = c .before .before .before .before .before .before .before .loop in
     let ls = groundIn (a .total) (a .memory .now) in
-    let fact = c .before .before .before .before .put-instance .last .0 in
-    let same = instance-put (a .head .now) (a .c) (l .o) (a .instance .now) (l .fact) fact (omega arith) (l .inv .0) (c .before .before
-    .before .before .put-instance .ensures) in (
-      c .before .before .before .before .put-instance .kept .0 ∙ l .inv .0,
+    let fact = put-instance .last .0 in
+    let same = instance-put (a .head .now) (a .c) (l .o) (a .instance .now) (l .fact) fact (omega arith) (l .inv .0)
+    (put-instance .ensures) in (
+      put-instance .kept .0 ∙ l .inv .0,
       sym (any-miss (free (a .head .now) (a .c) (a .instance .now) ls) (a .n) (l .o) (omega arith)
           (ap not (sym (c .before .is-about .ensures ∙ ap (isAbout ls) same)) ∙ c .if1 .left))
           ∙ l .inv .1,
@@ -92,12 +78,12 @@ component-free-spec =
     Inv-loop
     μ-loop
     loop-holds
-    slice-aggregate-put-instance
-    put-instance-requires
-    slice-aggregate-is-about
-    is-about-requires
+    (λ c. search needs)  -- slice-aggregate-put-instance
+    (λ c κs. search needs)  -- put-instance-requires
+    (λ c. search needs)  -- slice-aggregate-is-about
+    (λ c κs. search needs)  -- is-about-requires
     returns
-    add-o
-    loop-less
+    (λ c. omega arith)  -- add-o
+    (λ c. omega arith)  -- loop-less
     loop-again
     returns-2)

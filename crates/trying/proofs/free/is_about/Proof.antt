@@ -24,15 +24,6 @@ Inv-loop memory total fact i₀ i = any (test fact) (drop i (groundIn total memo
 abbrev μ-loop : tie.MeasureT-loop
 μ-loop memory total fact i₀ i = total - i
 
-loop-holds : tie.Need-loop-holds Inv-loop μ-loop
-loop-holds c = refl
-
-mul-patterns-meet : tie.Need-mul-patterns-meet Inv-loop μ-loop
-mul-patterns-meet c = search needs
-
-patterns-meet-requires : tie.Need-patterns-meet-requires Inv-loop μ-loop
-patterns-meet-requires c κs = (omega arith, omega arith)
-
 returns : tie.Need-returns Inv-loop μ-loop
 returns c =
     let a = c .before .before .before .before .before .before .args in
@@ -45,12 +36,6 @@ returns c =
     arith)))
     ∙ c .if1 .taken))
     ∙ l .inv
-
-add-i : tie.Need-add-i Inv-loop μ-loop
-add-i c = omega arith
-
-loop-less : tie.Need-loop-less Inv-loop μ-loop
-loop-less c = omega arith
 
 loop-again : tie.Need-loop-again Inv-loop μ-loop
 loop-again c =
@@ -78,11 +63,11 @@ is-about-spec =
     (tie.spec
     Inv-loop
     μ-loop
-    loop-holds
-    mul-patterns-meet
-    patterns-meet-requires
+    (λ c. refl)  -- loop-holds
+    (λ c. search needs)  -- mul-patterns-meet
+    (λ c κs. (omega arith, omega arith))  -- patterns-meet-requires
     returns
-    add-i
-    loop-less
+    (λ c. omega arith)  -- add-i
+    (λ c. omega arith)  -- loop-less
     loop-again
     returns-2)

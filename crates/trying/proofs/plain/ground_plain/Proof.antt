@@ -10,41 +10,18 @@ use borrow.Author.Needs.{needs}
 use Rattle.trying.proofs.plain.ground_plain.Statement.{statement}
 use Rattle.trying.proofs.plain.ground_plain.Tie as tie
 
-cast-plain-row : tie.Need-cast-plain-row
-cast-plain-row c = search needs
-
-variables-of-requires : tie.Need-variables-of-requires
-variables-of-requires c κs = search needs
-
-plain-row-requires : tie.Need-plain-row-requires
-plain-row-requires c κs = search needs
-
-slice-aggregate-ground-action : tie.Need-slice-aggregate-ground-action
-slice-aggregate-ground-action c = search needs
-
-ground-action-requires : tie.Need-ground-action-requires
-ground-action-requires c κs = search needs
-
-cast-memory : tie.Need-cast-memory
-cast-memory c = search needs
-
-slice-write-memory : tie.Need-slice-write-memory
-slice-write-memory c = search needs
-
-same-length : tie.Need-same-length
-same-length c = search needs
-
 returns : tie.Need-returns
 returns c =
-    let a = c .before .before .before .before .before .before .before .before .before .args in
+    let back8 = c .before .before .before .before .before .before .before .before in
+    let a = back8 .before .args in
     let g = c .before .before .ground-action in
     let row = c .before .before .before .before .before .plain-row in
     let few = g .ensures .0 .1 in (
       omega arith,
       λ D H h.
           let v = c .before .before .before .before .before .before .variables-of .ensures .0 ∙ H .says .variables (a .i) h in
-          plain-grounded (H .says) (a .i) h (a .memory .now) (g .last .1 .1 .1 .1 .0) (g .result) (c .before .before .before .before .before
-          .before .before .before .before .pre .1) (g .kept .1 .1 .1 .1 .0) few
+          plain-grounded (H .says) (a .i) h (a .memory .now) (g .last .1 .1 .1 .1 .0) (g .result) (back8 .before .pre .1)
+          (g .kept .1 .1 .1 .1 .0) few
           (g .ensures .1 .0 D (plainGround (a .i) (action D (a .i) .vars)) H (plain-fits (H .says .bounded) (a .i) h)
           (row .ensures ∙ ap (λ (n : ℕ). groundRow (plainGround (a .i) n)) v))
           (g .ensures .1 .1),
@@ -54,12 +31,12 @@ pub ground-plain-spec : {M : Type 1} → statement M
 ground-plain-spec =
     tie.close
     (tie.spec
-    cast-plain-row
-    variables-of-requires
-    plain-row-requires
-    slice-aggregate-ground-action
-    ground-action-requires
-    cast-memory
-    slice-write-memory
-    same-length
+    (λ c. search needs)  -- cast-plain-row
+    (λ c κs. search needs)  -- variables-of-requires
+    (λ c κs. search needs)  -- plain-row-requires
+    (λ c. search needs)  -- slice-aggregate-ground-action
+    (λ c κs. search needs)  -- ground-action-requires
+    (λ c. search needs)  -- cast-memory
+    (λ c. search needs)  -- slice-write-memory
+    (λ c. search needs)  -- same-length
     returns)

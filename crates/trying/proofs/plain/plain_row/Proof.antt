@@ -13,27 +13,6 @@ Inv-loop i variables row₀ k₀ row k = (k ≤ variables) × (row ≡ rowUpTo i
 abbrev μ-loop : tie.MeasureT-loop
 μ-loop i variables row₀ k₀ row k = variables - k
 
-array-write-row : tie.Need-array-write-row Inv-loop μ-loop
-array-write-row c = search needs
-
-loop-holds : tie.Need-loop-holds Inv-loop μ-loop
-loop-holds c = (omega arith, refl)
-
-cast-row : tie.Need-cast-row Inv-loop μ-loop
-cast-row c = search needs
-
-add-row : tie.Need-add-row Inv-loop μ-loop
-add-row c = search needs
-
-array-write-row-2 : tie.Need-array-write-row-2 Inv-loop μ-loop
-array-write-row-2 c = omega arith
-
-add-k : tie.Need-add-k Inv-loop μ-loop
-add-k c = omega arith
-
-loop-less : tie.Need-loop-less Inv-loop μ-loop
-loop-less c = omega arith
-
 loop-again : tie.Need-loop-again Inv-loop μ-loop
 loop-again c =
     let a = c .before .before .args in
@@ -53,12 +32,12 @@ plain-row-spec =
     (tie.spec
     Inv-loop
     μ-loop
-    array-write-row
-    loop-holds
-    cast-row
-    add-row
-    array-write-row-2
-    add-k
-    loop-less
+    (λ c. search needs)  -- array-write-row
+    (λ c. (omega arith, refl))  -- loop-holds
+    (λ c. search needs)  -- cast-row
+    (λ c. search needs)  -- add-row
+    (λ c. omega arith)  -- array-write-row-2
+    (λ c. omega arith)  -- add-k
+    (λ c. omega arith)  -- loop-less
     loop-again
     returns)

@@ -4,18 +4,6 @@ use borrow.Author.Needs.{needs}
 use Rattle.verdict.proofs.Notes.decide.Statement.{statement}
 use Rattle.verdict.proofs.Notes.decide.Tie as tie
 
-decide-faultless-requires : tie.Need-decide-faultless-requires
-decide-faultless-requires c κs = search needs
-
-refuse-requires : tie.Need-refuse-requires
-refuse-requires c κs = search needs
-
-refuse-requires-2 : tie.Need-refuse-requires-2
-refuse-requires-2 c κs = search needs
-
-refuse-requires-3 : tie.Need-refuse-requires-3
-refuse-requires-3 c κs = search needs
-
 returns : tie.Need-returns
 unfolding decideNotes
 returns c = c .refuse3 .ensures _ (c .before .refuse2 .ensures _ (c .before .before .refuse .ensures _ (c .before .before .before .decide-faultless .ensures)))
@@ -24,8 +12,8 @@ pub decide-spec : {M : Type 1} → statement M
 decide-spec =
     tie.close
     (tie.spec
-    decide-faultless-requires
-    refuse-requires
-    refuse-requires-2
-    refuse-requires-3
+    (λ c κs. search needs)  -- decide-faultless-requires
+    (λ c κs. search needs)  -- refuse-requires
+    (λ c κs. search needs)  -- refuse-requires-2
+    (λ c κs. search needs)  -- refuse-requires-3
     returns)

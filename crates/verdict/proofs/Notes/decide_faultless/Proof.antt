@@ -4,21 +4,18 @@ use borrow.Author.Needs.{needs}
 use Rattle.verdict.proofs.Notes.decide_faultless.Statement.{statement}
 use Rattle.verdict.proofs.Notes.decide_faultless.Tie as tie
 
-accept-requires : tie.Need-accept-requires
-accept-requires c κs = search needs
-
-refuse-requires : tie.Need-refuse-requires
-refuse-requires c κs = search needs
-
 returns : tie.Need-returns
 returns c = decides-endless (c .before .before .before .args .self) (c .before .before .if1 .taken) (c .before .accept .ensures) (c .refuse .ensures)
-
-accept-requires-2 : tie.Need-accept-requires-2
-accept-requires-2 c κs = search needs
 
 returns-2 : tie.Need-returns-2
 returns-2 c = decides-ended (c .before .before .args .self) (c .before .if1 .left) (c .accept2 .ensures)
 
 pub decide-faultless-spec : {M : Type 1} → statement M
 decide-faultless-spec =
-    tie.close (tie.spec accept-requires refuse-requires returns accept-requires-2 returns-2)
+    tie.close
+    (tie.spec
+    (λ c κs. search needs)  -- accept-requires
+    (λ c κs. search needs)  -- refuse-requires
+    returns
+    (λ c κs. search needs)  -- accept-requires-2
+    returns-2)

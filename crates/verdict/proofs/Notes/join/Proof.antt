@@ -5,18 +5,6 @@ use borrow.Author.Needs.{needs}
 use Rattle.verdict.proofs.Notes.join.Statement.{statement}
 use Rattle.verdict.proofs.Notes.join.Tie as tie
 
-or-in-requires : tie.Need-or-in-requires
-or-in-requires c κs = search needs
-
-or-in-requires-2 : tie.Need-or-in-requires-2
-or-in-requires-2 c κs = search needs
-
-or-in-requires-3 : tie.Need-or-in-requires-3
-or-in-requires-3 c κs = search needs
-
-or-in-requires-4 : tie.Need-or-in-requires-4
-or-in-requires-4 c κs = search needs
-
 returns : tie.Need-returns
 returns c ss l e =
     let a = c .before .before .before .before .before .args in
@@ -30,4 +18,10 @@ returns-2 c ss l e =
 pub join-spec : {M : Type 1} → statement M
 join-spec =
     tie.close
-    (tie.spec or-in-requires or-in-requires-2 or-in-requires-3 or-in-requires-4 returns returns-2)
+    (tie.spec
+    (λ c κs. search needs)  -- or-in-requires
+    (λ c κs. search needs)  -- or-in-requires-2
+    (λ c κs. search needs)  -- or-in-requires-3
+    (λ c κs. search needs)  -- or-in-requires-4
+    returns
+    returns-2)

@@ -5,17 +5,14 @@ use borrow.Author.Needs.{needs}
 use Rattle.verdict.proofs.Notes.with.Statement.{statement}
 use Rattle.verdict.proofs.Notes.with.Tie as tie
 
-is-silent-requires : tie.Need-is-silent-requires
-is-silent-requires c κs = search needs
-
 returns : tie.Need-returns
 returns c ss l e = let a = c .before .before .args in notes-silent (a .self) (a .i) (a .summary) (sym (c .before .is-silent .ensures) ∙ c .if1 .taken) ∙ notes-more (a .self) (a .i) (a .summary) ss l e
 
-join-requires : tie.Need-join-requires
-join-requires c κs = search needs
-
-returns-2 : tie.Need-returns-2
-returns-2 c = search needs
-
 pub with-spec : {M : Type 1} → statement M
-with-spec = tie.close (tie.spec is-silent-requires returns join-requires returns-2)
+with-spec =
+    tie.close
+    (tie.spec
+    (λ c κs. search needs)  -- is-silent-requires
+    returns
+    (λ c κs. search needs)  -- join-requires
+    (λ c. search needs))  -- returns-2

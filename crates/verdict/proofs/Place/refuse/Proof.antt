@@ -4,24 +4,6 @@ use borrow.Author.Needs.{needs}
 use Rattle.verdict.proofs.Place.refuse.Statement.{statement}
 use Rattle.verdict.proofs.Place.refuse.Tie as tie
 
-enum-known-self : tie.Need-enum-known-self
-enum-known-self c = search needs
-
-cast-t8 : tie.Need-cast-t8
-cast-t8 c = search needs
-
-cast-t9 : tie.Need-cast-t9
-cast-t9 c = search needs
-
-moment-number-requires : tie.Need-moment-number-requires
-moment-number-requires c κs = search needs
-
-cast-t11 : tie.Need-cast-t11
-cast-t11 c = search needs
-
-enum-told : tie.Need-enum-told
-enum-told c = search needs
-
 returns : tie.Need-returns
 returns c a e = refused-at _ _ a (c .before .before .self .given .1) (c .moment-number .ensures)
 
@@ -31,4 +13,12 @@ returns-2 c a e = refused-not _ _ a (c .enum-told .given .1) e
 pub refuse-spec : {M : Type 1} → statement M
 refuse-spec =
     tie.close
-    (tie.spec enum-known-self cast-t8 cast-t9 moment-number-requires cast-t11 enum-told returns returns-2)
+    (tie.spec
+    (λ c. search needs)  -- enum-known-self
+    (λ c. search needs)  -- cast-t8
+    (λ c. search needs)  -- cast-t9
+    (λ c κs. search needs)  -- moment-number-requires
+    (λ c. search needs)  -- cast-t11
+    (λ c. search needs)  -- enum-told
+    returns
+    returns-2)

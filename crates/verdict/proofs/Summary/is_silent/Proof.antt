@@ -6,47 +6,38 @@ use borrow.Author.Needs.{needs}
 use Rattle.verdict.proofs.Summary.is_silent.Statement.{statement}
 use Rattle.verdict.proofs.Summary.is_silent.Tie as tie
 
-returns : tie.Need-returns
-returns c = search needs
-
-is-nowhere-requires : tie.Need-is-nowhere-requires
-is-nowhere-requires c κs = search needs
-
 returns-2 : tie.Need-returns-2
 returns-2 c = heavy-said (c .before .before .before .args .self) (c .before .before .if1 .left) (sym (c .before .is-nowhere .ensures) ∙ not-true (c .before .is-nowhere .result) (c .if2 .taken))
 
-is-nowhere-requires-2 : tie.Need-is-nowhere-requires-2
-is-nowhere-requires-2 c κs = search needs
-
 returns-3 : tie.Need-returns-3
 returns-3 c = unbalanced-said (c .before .before .before .before .before .args .self) (c .before .before .before .before .if1 .left) (sym (c .before .before .before .is-nowhere .ensures) ∙ not-false (c .before .before .before .is-nowhere .result) (c .before .before .if2 .left)) (sym (c .before .is-nowhere2 .ensures) ∙ not-true (c .before .is-nowhere2 .result) (c .if3 .taken))
-
-is-nowhere-requires-3 : tie.Need-is-nowhere-requires-3
-is-nowhere-requires-3 c κs = search needs
 
 returns-4 : tie.Need-returns-4
 returns-4 c =
     unbounded-said (c .before .before .before .before .before .before .before .args .self) (c .before .before .before .before .before .before .if1 .left) (sym (c .before .before .before .before .before .is-nowhere .ensures) ∙ not-false (c .before .before .before .before .before .is-nowhere .result) (c .before .before .before .before .if2 .left))
     (sym (c .before .before .before .is-nowhere2 .ensures) ∙ not-false (c .before .before .before .is-nowhere2 .result) (c .before .before .if3 .left)) (sym (c .before .is-nowhere3 .ensures) ∙ not-true (c .before .is-nowhere3 .result) (c .if4 .taken))
 
-is-nowhere-requires-4 : tie.Need-is-nowhere-requires-4
-is-nowhere-requires-4 c κs = search needs
-
 returns-5 : tie.Need-returns-5
 returns-5 c =
-    bounded-said (c .before .before .before .before .before .before .before .before .args .self) (c .before .before .before .before .before .before .before .if1 .left) (sym (c .before .before .before .before .before .before .is-nowhere .ensures) ∙ not-false (c .before .before .before .before .before .before .is-nowhere .result) (c .before .before .before .before .before .if2 .left))
-    (sym (c .before .before .before .before .is-nowhere2 .ensures) ∙ not-false (c .before .before .before .before .is-nowhere2 .result) (c .before .before .before .if3 .left)) (sym (c .before .before .is-nowhere3 .ensures) ∙ not-false (c .before .before .is-nowhere3 .result) (c .before .if4 .left)) (c .is-nowhere4 .ensures)
+    let back8 = c .before .before .before .before .before .before .before .before in
+    let is-nowhere = c .before .before .before .before .before .before .is-nowhere in
+    let is-nowhere2 = c .before .before .before .before .is-nowhere2 in
+    let is-nowhere3 = c .before .before .is-nowhere3 in
+    bounded-said (back8 .args .self) (c .before .before .before .before .before .before .before .if1 .left)
+    (sym (is-nowhere .ensures) ∙ not-false (is-nowhere .result) (c .before .before .before .before .before .if2 .left))
+    (sym (is-nowhere2 .ensures) ∙ not-false (is-nowhere2 .result) (c .before .before .before .if3 .left))
+    (sym (is-nowhere3 .ensures) ∙ not-false (is-nowhere3 .result) (c .before .if4 .left)) (c .is-nowhere4 .ensures)
 
 pub is-silent-spec : {M : Type 1} → statement M
 is-silent-spec =
     tie.close
     (tie.spec
-    returns
-    is-nowhere-requires
+    (λ c. search needs)  -- returns
+    (λ c κs. search needs)  -- is-nowhere-requires
     returns-2
-    is-nowhere-requires-2
+    (λ c κs. search needs)  -- is-nowhere-requires-2
     returns-3
-    is-nowhere-requires-3
+    (λ c κs. search needs)  -- is-nowhere-requires-3
     returns-4
-    is-nowhere-requires-4
+    (λ c κs. search needs)  -- is-nowhere-requires-4
     returns-5)

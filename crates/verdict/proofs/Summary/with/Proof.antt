@@ -4,44 +4,11 @@ use borrow.Author.Needs.{needs}
 use Rattle.verdict.proofs.Summary.with.Statement.{statement}
 use Rattle.verdict.proofs.Summary.with.Tie as tie
 
-enum-told : tie.Need-enum-told
-enum-told c = search needs
-
-or-requires : tie.Need-or-requires
-or-requires c κs = search needs
-
-enum-told-2 : tie.Need-enum-told-2
-enum-told-2 c = search needs
-
-or-requires-2 : tie.Need-or-requires-2
-or-requires-2 c κs = search needs
-
-enum-told-3 : tie.Need-enum-told-3
-enum-told-3 c = search needs
-
 returns : tie.Need-returns
 returns c rs i e = sums-ended _ _ _ _ _ rs i e (c .before .enum-told3 .given .1) (c .if1 .taken)
 
-or-requires-3 : tie.Need-or-requires-3
-or-requires-3 c κs = search needs
-
-enum-told-4 : tie.Need-enum-told-4
-enum-told-4 c = search needs
-
 returns-2 : tie.Need-returns-2
 returns-2 c rs i e = sums-ended-bounded _ _ _ _ _ rs i e (c .before .enum-told4 .given .1) (c .if2 .taken)
-
-or-requires-4 : tie.Need-or-requires-4
-or-requires-4 c κs = search needs
-
-enum-told-5 : tie.Need-enum-told-5
-enum-told-5 c = search needs
-
-enum-told-6 : tie.Need-enum-told-6
-enum-told-6 c = search needs
-
-enum-told-7 : tie.Need-enum-told-7
-enum-told-7 c = search needs
 
 returns-3 : tie.Need-returns-3
 returns-3 c rs i e = sums-heavy _ _ _ _ _ rs i e (c .before .enum-told .given .1) (c .or .ensures)
@@ -68,19 +35,19 @@ pub with-spec : {M : Type 1} → statement M
 with-spec =
     tie.close
     (tie.spec
-    enum-told
-    or-requires
-    enum-told-2
-    or-requires-2
-    enum-told-3
+    (λ c. search needs)  -- enum-told
+    (λ c κs. search needs)  -- or-requires
+    (λ c. search needs)  -- enum-told-2
+    (λ c κs. search needs)  -- or-requires-2
+    (λ c. search needs)  -- enum-told-3
     returns
-    or-requires-3
-    enum-told-4
+    (λ c κs. search needs)  -- or-requires-3
+    (λ c. search needs)  -- enum-told-4
     returns-2
-    or-requires-4
-    enum-told-5
-    enum-told-6
-    enum-told-7
+    (λ c κs. search needs)  -- or-requires-4
+    (λ c. search needs)  -- enum-told-5
+    (λ c. search needs)  -- enum-told-6
+    (λ c. search needs)  -- enum-told-7
     returns-3
     returns-4
     returns-5
