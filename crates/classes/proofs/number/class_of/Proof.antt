@@ -21,29 +21,29 @@ abbrev μ-loop : tie.MeasureT-loop
 
 returns : tie.Need-returns Inv-loop μ-loop
 returns c =
-    let a = c .before .before .before .args in
+    let a = c .before .before .before .before .args in
     let none = none-found (eqb (a .word)) (take (a .n) (a .words .now)) (sym (c .before .any-word .ensures) ∙ not-true _ (c .if2 .taken)) in
-    sym (none ∙ length-take-le (a .n) (a .words .now) (c .before .before .before .pre .0))
+    sym (none ∙ length-take-le (a .n) (a .words .now) (c .before .before .before .before .pre .0))
 
 returns-2 : tie.Need-returns-2 Inv-loop μ-loop
 returns-2 c =
-    let a = c .before .before .before .before .before .before .before .args in
+    let a = c .before .before .before .before .before .before .args in
     let l = c .before .before .before .loop in
-    sym (first-hit (eqb (a .word)) (a .words .now) (a .n) (c .before .before .before .before .before .before .before .pre .0) (l .c) (omega arith) (eq-eqb _ _ (sym (c .if3 .taken)))) ∙ l .inv .1
+    sym (first-hit (eqb (a .word)) (a .words .now) (a .n) (c .before .before .before .before .before .before .pre .0) (l .c) (omega arith) (eq-eqb _ _ (sym (c .if3 .taken)))) ∙ l .inv .1
 
 loop-again : tie.Need-loop-again Inv-loop μ-loop
 loop-again c =
-    let a = c .before .before .before .before .before .before .before .args in
+    let a = c .before .before .before .before .before .before .args in
     let l = c .before .before .before .loop in
-    let next = first-miss (eqb (a .word)) (a .words .now) (a .n) (c .before .before .before .before .before .before .before .pre .0) (l .c) (omega arith) (ne-eqb _ _ (λ e. c .if3 .left (sym e))) in
+    let next = first-miss (eqb (a .word)) (a .words .now) (a .n) (c .before .before .before .before .before .before .pre .0) (l .c) (omega arith) (ne-eqb _ _ (λ e. c .if3 .left (sym e))) in
     (omega arith, next ∙ l .inv .1)
 
 returns-3 : tie.Need-returns-3 Inv-loop μ-loop
 returns-3 c =
-    let a = c .before .before .before .before .before .args in
+    let a = c .before .before .before .before .args in
     let l = c .before .loop in
     let e : l .c ≡ a .n = omega arith in
-    sym e ∙ sym (first-end (eqb (a .word)) (a .words .now) (a .n) (c .before .before .before .before .before .pre .0) (l .c) (omega arith)) ∙ l .inv .1
+    sym e ∙ sym (first-end (eqb (a .word)) (a .words .now) (a .n) (c .before .before .before .before .pre .0) (l .c) (omega arith)) ∙ l .inv .1
 
 pub class-of-spec : {M : Type 1} → statement M
 class-of-spec =

@@ -15,13 +15,13 @@ abbrev μ-loop : tie.MeasureT-loop
 μ-loop head places rows numbers₀ words₀ keys count₀ j₀ j-end numbers words count j = length numbers₀ - j
 
 loop-holds : tie.Need-loop-holds Inv-loop μ-loop
-loop-holds c = let a = c .before .before .before .args in so-far-none (a .head .now) (a .rows .now) (a .numbers .now) (a .words .now)
+loop-holds c = let a = c .before .before .before .before .args in so-far-none (a .head .now) (a .rows .now) (a .numbers .now) (a .words .now)
 
 number-literal-requires : tie.Need-number-literal-requires Inv-loop μ-loop
 number-literal-requires c κs =
     let w = c .before .before .loop .inv .few in
     let r = c .before .before .loop .inv .room in
-    (c .keys-in .ensures .0, (c .pre .0, (omega arith, omega arith, omega arith)))
+    (c .before .before .before .keys-in .ensures .0, (c .before .before .before .before .before .before .before .pre .0, (omega arith, omega arith, omega arith)))
 
 slice-write-numbers : tie.Need-slice-write-numbers Inv-loop μ-loop
 slice-write-numbers c = let w = c .before .before .before .before .before .loop .inv .whole in omega arith
@@ -30,11 +30,11 @@ loop-again : tie.Need-loop-again Inv-loop μ-loop
 loop-again c =
     let back8 = c .before .before .before .before .before .before .before .before in
     let number-literal = c .before .before .number-literal in
-    let a = back8 .before .args in
-    let p = back8 .before .pre in
+    let a = back8 .before .before .args in
+    let p = back8 .before .before .pre in
     let l = c .before .before .before .before .before .loop in
     so-far-more (a .head .now) (a .rows .now) (a .numbers .now) (l .numbers) (a .words .now) (l .words) _ (l .count) (l .j)
-    (number-literal .result) (number-literal .kept .1 .1 .1 .1 .0) (p .1 .0) (omega arith)
+    (number-literal .result) (number-literal .kept .1 .1 .1 .1 .1 .0) (p .1 .0) (omega arith)
     (l .inv) (omega arith)
     (number-literal .ensures .0) (number-literal .ensures .1)
 
@@ -46,8 +46,8 @@ same-length-2 c = c .before .loop .inv .room
 
 returns : tie.Need-returns Inv-loop μ-loop
 returns c =
-    let a = c .before .before .before .before .before .args in
-    let p = c .before .before .before .before .before .pre in
+    let a = c .before .before .before .before .before .before .args in
+    let p = c .before .before .before .before .before .before .pre in
     let l = c .before .loop in
     let w = l .inv .few in
     let r = l .inv .reach in (
