@@ -1,5 +1,6 @@
 // Lists each domain file that its arguments name.
 use libc::STDOUT_FILENO;
+use print_verdict::files::DOMAIN_ROOM;
 
 fn list_one(i: usize) {
     let mut path = io::buffer();
@@ -11,7 +12,7 @@ fn list_one(i: usize) {
     }
     io::write_all(STDOUT_FILENO, &path[..length]);
     io::write_all(STDOUT_FILENO, b"\n");
-    let mut file = [0u8; 65536];
+    let mut file = [0u8; DOMAIN_ROOM];
     let n = io::read_full(fd, &mut file);
     libc::close(fd);
     print_verdict::list(&file[..n]);

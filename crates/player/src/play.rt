@@ -17,6 +17,9 @@ ghost use Rattle.player.specs.Held.{endedOf};
 ghost use Rattle.player.specs.Called.{fileOf, offsetOf};
 ghost use Rattle.player.specs.Held.{faultFile, faultOffset, partAt, answerOf, answerBy, answerUnplayed, trackedIf, trackedOf};
 
+// How many literals the table of a small domain file has room for. A literal takes at least 6 bytes of the file, and 8 of the table.
+const SMALL: usize = 512;
+
 // Where the record at fault starts: an offset of the domain file, or of the run file.
 pub enum Fault {
     Domain(usize),
@@ -174,8 +177,8 @@ pub fn play_with(
     ensures work { λ _. ⌜ now (work .exit) ≡ trackedIf given (now («domain» .entry)) (now (instance .entry)) (now (run .entry))
         (now (work .entry)) .call .memory ⌝ }
 {
-    if domain.len() <= 3072 {
-        let mut table = [0u8; 4096];
+    if domain.len() <= 6 * SMALL {
+        let mut table = [0u8; 8 * SMALL];
         return play_in(domain, run, instance, given, &mut table, work);
     }
     let mut table = [0u8; 8 * MAX_LITERALS * MAX_ACTIONS];

@@ -380,7 +380,7 @@ impl Player {
     }
 
     // A record of any kind but 19, which alone needs the domain's literals; the start is over once one of kind 18 or 20 is met.
-    fn take_record(
+    fn take_run_record(
         self,
         head: &Head,
         work: &mut [u8],
@@ -461,7 +461,7 @@ impl Player {
                 let end = start + len;
                 let p = &run[start..end];
                 if kind != 19 {
-                    return self.take_record(head, work, index, agenda, kind, p, end);
+                    return self.take_run_record(head, work, index, agenda, kind, p, end);
                 }
                 let begun = self.begin(head, work, index);
                 let number = step_stop(begun.objects, p);

@@ -1,5 +1,6 @@
 // Prints the facts held in work memory: 8 bytes each, relation, arity, objects, FF to fill; zeros behind the last fact.
 use libc::STDOUT_FILENO;
+use literals::limits::MAX_ARGUMENTS;
 use print_verdict::put_byte;
 ghost use Prim.Native.Nat.{_+_, _≤_};
 ghost use lib.ListN.{length};
@@ -13,12 +14,12 @@ fn is_unused(arity: u8, last: u8) -> bool {
     last == 0
 }
 
-// The objects of the fact that starts at this byte, at most 6.
+// The objects of the fact that starts at this byte.
 fn objects(work: &[u8], at: usize)
     requires { ⌜ at + 8 ≤ length (now work) ⌝ }
 {
     let arity = work[at + 1];
-    for i in 0..6 {
+    for i in 0..MAX_ARGUMENTS {
         if i as u8 >= arity {
             return;
         }

@@ -1,6 +1,10 @@
 // Reads a file by name, or says on standard error why a program does nothing with it.
 use libc::STDERR_FILENO;
+use literals::limits::MAX_FILE;
 ghost use Rattle.io.specs.Counts.{Counts};
+
+// Room for a domain file, and for one byte more than it may have, so that a longer one gets its 9.
+pub const DOMAIN_ROOM: usize = MAX_FILE + 1;
 
 // Whether a file was read, and how many bytes of it: all, or as many as there was room for.
 pub struct FileRead {
@@ -9,7 +13,7 @@ pub struct FileRead {
 }
 
 // One line: the program, why, and the file's name.
-pub fn refuse(program: &[u8], why: &[u8], name: &[u8]) {
+pub fn print_error(program: &[u8], why: &[u8], name: &[u8]) {
     io::write_all(STDERR_FILENO, program);
     io::write_all(STDERR_FILENO, why);
     io::write_all(STDERR_FILENO, name);
@@ -17,12 +21,12 @@ pub fn refuse(program: &[u8], why: &[u8], name: &[u8]) {
 }
 
 // That a file cannot be opened. An argument that is too long for a name comes as an empty one.
-fn refuse_name(program: &[u8], name: &[u8]) {
+fn print_open_error(program: &[u8], name: &[u8]) {
     if name.len() == 0 {
-        refuse(program, b": a file name is empty or too long", name);
+        print_error(program, b": a file name is empty or too long", name);
         return;
     }
-    refuse(program, b": cannot open ", name);
+    print_error(program, b": cannot open ", name);
 }
 
 // Whether reading can go on, at the end of a file too. `read_full` stops at a read that fails (of a directory, say) as it does at the
@@ -38,7 +42,7 @@ pub fn read_named(program: &[u8], name: &[u8], file: &mut [u8]) -> FileRead
 {
     let fd = os::open_read(name);
     if fd < 0 {
-        refuse_name(program, name);
+        print_open_error(program, name);
         return FileRead {
             is_read: false,
             count: 0,
@@ -48,7 +52,7 @@ pub fn read_named(program: &[u8], name: &[u8], file: &mut [u8]) -> FileRead
     let is_read = is_readable(fd);
     libc::close(fd);
     if !is_read {
-        refuse(program, b": cannot read ", name);
+        print_error(program, b": cannot read ", name);
     }
     FileRead { is_read, count }
 }

@@ -3,6 +3,8 @@
 pub mod files;
 
 use libc::STDOUT_FILENO;
+use literals::limits::MAX_ACTIONS;
+use literals::limits::MAX_LITERALS;
 
 // A word, then a number.
 pub fn put(word: &[u8], n: u64) {
@@ -56,10 +58,11 @@ fn rows(report: &[u8]) {
     }
 }
 
-// The verdict line, then each row (9 to 31: the first line alone).
+// The verdict line, then each row (9 to 31: the first line alone). The memories are enough for every file: 4 bytes for each moment, and 8
+// for each true condition of an action and for one fact more.
 pub fn list(file: &[u8]) {
-    let mut report = [255u8; 32768];
-    let mut witness = [255u8; 1024];
+    let mut report = [255u8; 4 * 2 * MAX_LITERALS * MAX_ACTIONS];
+    let mut witness = [255u8; 8 * (MAX_LITERALS + 1)];
     let v = judging::judge(file, &mut report, &mut witness);
     put(b"verdict ", v.number);
     put(b" ", v.first);

@@ -44,8 +44,8 @@ add-end c =
 part-p-end : tie.Need-part-p-end
 part-p-end c = let w = whole-within _ _ (sym (c .before .before .before .record-at .ensures) ∙ c .before .kind .given .1) in omega arith
 
-take-record-requires : tie.Need-take-record-requires
-take-record-requires c κs =
+take-run-record-requires : tie.Need-take-run-record-requires
+take-run-record-requires c κs =
     let back8 = c .before .before .before .before .before .before .before .before in
     let p = back8 .before .before .before .before .before .before .before .pre in
     (p .0, (p .1 .agenda-length, c .before .before .before .if3 .taken))
@@ -56,7 +56,7 @@ returns-3 c =
     let back16 = back8 .before .before .before .before .before .before .before .before in
     let a = back16 .before .before .before .before .args in
     let player = wholeIn (a .self) (a .agenda .now) in
-    let l = c .before .before .before .before .take-record in
+    let l = c .before .before .before .before .take-run-record in
     let found = sym (back8 .before .before .before .before .before .record-at .ensures) ∙ back8 .before .before .before .kind .given .1 in
     let going = back8 .before .before .before .before .before .before .if1 .left in (
       λ D q old H st noted.
@@ -190,7 +190,7 @@ step-spec =
     (λ c. search needs)  -- sub-p
     (λ c. search needs)  -- part-p-start
     part-p-end
-    take-record-requires
+    take-run-record-requires
     (λ c. search needs)  -- same-length
     (λ c. search needs)  -- same-length-2
     returns-3

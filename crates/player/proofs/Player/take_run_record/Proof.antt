@@ -1,4 +1,4 @@
--- `Player::take_record` meets its contract: each kind by its function. Assumes nothing.
+-- `Player::take_run_record` meets its contract: each kind by its function. Assumes nothing.
 use borrow.Author.Needs.{needs}
 use mathlib.Core.Path.{refl}
 use native.Mathlib.Omega.{arith}
@@ -9,8 +9,8 @@ use Rattle.player.proofs.PlayTurns.{stops-at, kind-16, kind-17, kind-18
 use Rattle.player.proofs.PlayTurns.{of-objects, of-fact, of-event, of-end, of-other}
 use Rattle.player.proofs.NotedTurns.{noted-of, noted-objects, noted-fact-record, noted-event, noted-end, noted-other}
 use Rattle.player.proofs.Readied.{facts-held, facts-room, room-now, waits-few, stands-begun}
-use Rattle.player.proofs.Player.take_record.Statement.{statement}
-use Rattle.player.proofs.Player.take_record.Tie as tie
+use Rattle.player.proofs.Player.take_run_record.Statement.{statement}
+use Rattle.player.proofs.Player.take_run_record.Tie as tie
 
 take-fact-requires : tie.Need-take-fact-requires
 take-fact-requires c κs = let p = c .before .before .before .before .before .before .pre in (facts-held (p .0), room-now (p .0))
@@ -93,8 +93,8 @@ returns-5 c =
       λ D q old H st noted. noted-of D _ _ q (a .p .now) (a .behind) (a .kind) otherRecord k (noted-other D _ _ q (a .p .now) (a .behind)),
     )
 
-pub take-record-spec : {M : Type 1} → statement M
-take-record-spec =
+pub take-run-record-spec : {M : Type 1} → statement M
+take-run-record-spec =
     tie.close
     (tie.spec
     (λ c κs. search needs)  -- take-objects-requires

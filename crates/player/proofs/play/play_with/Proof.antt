@@ -15,6 +15,7 @@ pub play-with-spec : {M : Type 1} → statement M
 play-with-spec =
     tie.close
     (tie.spec
+    (λ c. search needs)  -- mul-if1
     (λ c. search needs)  -- slice-aggregate-play-in
     play-in-requires
     (λ c. search needs)  -- same-length
